@@ -1,0 +1,39 @@
+-- Numbers in bytes, pages, and lists of tests.
+use Rattle.std.specs.Prelude.{ℕ, zero, suc, ◌+◌, ◌-◌, ◌*◌, ◌/◌, ◌%◌, ◌^◌, Bool, cond, Option, Some, None, List, [], ◌∷◌, ◌++◌, length, take, drop, replicate}
+
+-- the little-endian number of the first n bytes
+unfoldable pub number : List ℕ → ℕ → ℕ
+number bs zero = 0
+number [] (suc n) = 0
+number (b ∷ bs) (suc n) = b + 2 ^ 8 * number bs n
+
+-- the n lowest bytes of a number, the lowest first
+unfoldable pub low_bytes : ℕ → ℕ → List ℕ
+low_bytes v zero = []
+low_bytes v (suc n) = (v % 2 ^ 8) ∷ low_bytes (v / 2 ^ 8) n
+
+-- the bytes with others in their place from index o on
+abbrev pub write_bytes : List ℕ → ℕ → List ℕ → List ℕ
+write_bytes bs o vs = take o bs ++ vs ++ drop (o + length vs) bs
+
+-- the first n of the bytes, with zeros where they end
+abbrev pub padded : ℕ → List ℕ → List ℕ
+padded n bs = let front = take n bs in front ++ replicate (n - length front) 0
+
+-- a page has 4,096 bytes (4.3 of the standard)
+abbrev pub page_of : ℕ → ℕ
+page_of address = address / 4096
+
+-- how many pages hold n bytes
+abbrev pub pages_for : ℕ → ℕ
+pages_for n = (n + 4095) / 4096
+
+-- n numbers in a row, from one on
+abbrev pub numbers_from : ℕ → ℕ → List ℕ
+numbers_from first zero = []
+numbers_from first (suc n) = first ∷ numbers_from (first + 1) n
+
+-- the first of the answers whose test is true
+abbrev pub first_true : {A : Type 0} → List (Bool × A) → Option A
+first_true [] = None
+first_true (t ∷ ts) = cond t.0 (Some t.1) (first_true ts)

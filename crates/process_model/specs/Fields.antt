@@ -1,0 +1,95 @@
+-- The words of the lines, and what the fields behind a word say.
+use Rattle.std.specs.Prelude.{ℕ, Bool, true, false, List, [], ◌∷◌, Option, Some, None, Result, Ok, Err, codes, ◌++◌, ◌||◌, length, ◌==◌, if◌then◌else◌}
+use Rattle.std.specs.Str.{bytes_eq}
+use Rattle.process_model.specs.Lines.{pieces_of}
+use Rattle.process_model.specs.Numbers.{number_of, hex_of}
+use Rattle.process_model.specs.declared.image.OwnedSegment.{OwnedSegment}
+use Rattle.process_model.specs.declared.script.Cause.{Cause}
+use Rattle.process_model.specs.declared.script.Cause.TheVariants as cause
+use Rattle.process_model.specs.declared.script.Kind.{Kind}
+use Rattle.process_model.specs.declared.script.Kind.TheVariants as kind
+use Rattle.process_model.specs.declared.script.Policy.TheVariants as policy
+use Rattle.process_model.specs.declared.script.Value.{Value}
+use Rattle.process_model.specs.declared.script.Value.TheVariants as value
+use Rattle.process_model.specs.declared.script.Word.{Word}
+use Rattle.process_model.specs.declared.script.Word.TheVariants as word
+
+-- a word, as it is written, and the kinds of the fields behind it
+pub record Row : Type 0 where
+  pub text : List ℕ
+  pub word : Word
+  pub kinds : List Kind
+
+abbrev pub row : List ℕ → Word → List Kind → Row
+row text w kinds = record { text = text; word = w; kinds = kinds }
+
+abbrev pub table : List Row
+table =
+    row (codes "image") word.Image (kind.Segment ∷ [])
+    ∷ row (codes "boot") word.Boot (kind.Number ∷ kind.Number ∷ kind.Number ∷ kind.Policy ∷ [])
+    ∷ row (codes "start") word.Start (kind.Number ∷ [])
+    ∷ row (codes "on") word.On (kind.Number ∷ kind.Number ∷ [])
+    ∷ row (codes "load") word.Load (kind.Number ∷ kind.Number ∷ kind.Number ∷ [])
+    ∷ row (codes "store") word.Store (kind.Number ∷ kind.Number ∷ kind.Number ∷ kind.Number ∷ [])
+    ∷ []
+
+abbrev pub row_among : List Row → List ℕ → Option Row
+row_among [] text = None
+row_among (r ∷ rows) text = if bytes_eq r.text text then Some r else row_among rows text
+
+-- the row of a word
+abbrev pub row_of : List ℕ → Option Row
+row_of text = row_among table text
+
+-- what a field says, by its kind
+
+abbrev pub number_value : Option ℕ → Result Value Cause
+number_value None = Err cause.Number
+number_value (Some n) = Ok (value.Number n)
+
+abbrev pub policy_value : List ℕ → Result Value Cause
+policy_value field = if bytes_eq field (codes "full") then Ok (value.Policy policy.Full) else Err cause.Field
+
+-- the letters of reading and writing, in either order; reading is always granted, and no other rights can be asked yet
+abbrev pub are_flags : List ℕ → Bool
+are_flags text = bytes_eq text (codes "rw") || bytes_eq text (codes "wr")
+
+abbrev pub segment_with : Option ℕ → Option ℕ → Bool → Option (List ℕ) → Option OwnedSegment
+segment_with (Some address) (Some memory_size) true (Some bytes) = Some (record { address = address; memory_size = memory_size; writes = true; executes = false; bytes = bytes })
+segment_with _ _ _ _ = None
+
+-- VADDR:MEMSZ:FLAGS:HEX
+abbrev pub segment_in : List (List ℕ) → Option OwnedSegment
+segment_in (address ∷ memory_size ∷ flags ∷ bytes ∷ []) = segment_with (number_of address) (number_of memory_size) (are_flags flags) (hex_of bytes)
+segment_in _ = None
+
+abbrev pub segment_value : Option OwnedSegment → Result Value Cause
+segment_value None = Err cause.Field
+segment_value (Some s) = Ok (value.Segment s)
+
+abbrev pub value_of : Kind → List ℕ → Result Value Cause
+value_of kind.Number field = number_value (number_of field)
+value_of kind.Policy field = policy_value field
+value_of kind.Segment field = segment_value (segment_in (pieces_of field))
+
+-- which of two causes of fields is tried first
+abbrev pub first_cause : Cause → Cause → Cause
+first_cause cause.Number d = cause.Number
+first_cause c d = d
+
+-- A fault of a number comes before one of another form, wherever they stand.
+abbrev pub and_then : Result (List Value) Cause → Result Value Cause → Result (List Value) Cause
+and_then (Ok vs) (Ok v) = Ok (vs ++ v ∷ [])
+and_then (Ok vs) (Err c) = Err c
+and_then (Err c) (Ok v) = Err c
+and_then (Err c) (Err d) = Err (first_cause c d)
+
+-- the values of fields, each read by its kind, behind those so far
+abbrev pub values_from : Result (List Value) Cause → List Kind → List (List ℕ) → Result (List Value) Cause
+values_from so_far [] fields = so_far
+values_from so_far (k ∷ ks) [] = so_far
+values_from so_far (k ∷ ks) (field ∷ fields) = values_from (and_then so_far (value_of k field)) ks fields
+
+-- as many fields as kinds, and their values
+abbrev pub values_of : List Kind → List (List ℕ) → Result (List Value) Cause
+values_of kinds fields = if length fields == length kinds then values_from (Ok []) kinds fields else Err cause.Count

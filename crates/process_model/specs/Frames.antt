@@ -1,0 +1,22 @@
+-- How many frames things take.
+use Rattle.std.specs.Prelude.{ℕ, ◌+◌, ◌-◌, ◌/◌, ◌^◌, nat_le, Option, List, length, map, sum_by, filter_map, if◌then◌else◌}
+use Rattle.process_model.specs.PageMap.{keys, numbers, count}
+use Rattle.process_model.specs.Process.{Process}
+
+-- the page tables for a set of pages: the root, one for each gigabyte and one for each two megabytes (4.4 of the standard)
+abbrev pub tables_needed : List ℕ → ℕ
+tables_needed pages = 1 + count (numbers (map (λ n. n / 2 ^ 18) pages)) + count (numbers (map (λ n. n / 2 ^ 9) pages))
+
+-- a frame for each page, and the tables
+abbrev pub frames_needed : List ℕ → ℕ
+frames_needed pages = length pages + tables_needed pages
+
+-- what boot takes: the trampoline page, the tables of the kernel, and one stack a slot
+abbrev pub kernel_frames : ℕ → ℕ → ℕ
+kernel_frames frames slots = (if nat_le frames 512 then 6 else 7) + slots
+
+abbrev pub live : List (Option Process) → List Process
+live slots = filter_map (λ p. p) slots
+
+abbrev pub free_frames : ℕ → List (Option Process) → ℕ
+free_frames frames slots = frames - kernel_frames frames (length slots) - sum_by (λ p. frames_needed (keys p.settled)) (live slots)

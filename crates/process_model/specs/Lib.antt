@@ -1,0 +1,12 @@
+pub mod Bytes
+pub mod PageMap
+pub mod Process
+pub mod Residence
+pub mod Loading
+pub mod Frames
+pub mod World
+pub mod Lines
+pub mod Numbers
+pub mod Fields
+pub mod Script
+pub mod Text

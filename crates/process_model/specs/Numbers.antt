@@ -1,0 +1,60 @@
+-- What a field says as a number or as bytes.
+use Rattle.std.specs.Prelude.{ℕ, ◌+◌, ◌-◌, ◌*◌, ◌^◌, ◌==◌, ◌&&◌, nat_lt, nat_le, List, [], ◌∷◌, Option, Some, None, if◌then◌else◌}
+
+-- the value of a digit in a base up to 16, of either case
+abbrev pub digit_of : ℕ → ℕ → Option ℕ
+digit_of base b =
+    if nat_le 48 b && nat_le b 57 && nat_lt (b - 48) base then Some (b - 48)
+    else (if nat_le 97 b && nat_le b 102 && nat_lt (b - 87) base then Some (b - 87)
+    else (if nat_le 65 b && nat_le b 70 && nat_lt (b - 55) base then Some (b - 55) else None))
+
+-- the number that a next digit makes of the digits before it
+abbrev pub one_more : ℕ → Option ℕ → Option ℕ → Option ℕ
+one_more base None d = None
+one_more base (Some n) None = None
+one_more base (Some n) (Some d) = Some (n * base + d)
+
+-- the number that the digits go on to say, from what those before them said
+abbrev pub digits_from : ℕ → Option ℕ → List ℕ → Option ℕ
+digits_from base so_far [] = so_far
+digits_from base so_far (b ∷ digits) = digits_from base (one_more base so_far (digit_of base b)) digits
+
+-- at least one digit
+abbrev pub digits_in : ℕ → List ℕ → Option ℕ
+digits_in base [] = None
+digits_in base (b ∷ digits) = digits_from base (Some 0) (b ∷ digits)
+
+-- decimal, or hexadecimal behind 0x, of any size
+abbrev pub whole_of : List ℕ → Option ℕ
+whole_of [] = None
+whole_of (a ∷ []) = digits_in 10 (a ∷ [])
+whole_of (a ∷ b ∷ digits) = if a == 48 && b == 120 then digits_in 16 digits else digits_in 10 (a ∷ b ∷ digits)
+
+abbrev pub if_below : ℕ → Option ℕ → Option ℕ
+if_below limit None = None
+if_below limit (Some n) = if nat_lt n limit then Some n else None
+
+-- a number is below 2^64
+abbrev pub number_of : List ℕ → Option ℕ
+number_of field = if_below (2 ^ 64) (whole_of field)
+
+-- two digits a byte
+abbrev pub byte_of : Option ℕ → Option ℕ → Option ℕ
+byte_of high low = one_more 16 high low
+
+abbrev pub then_bytes : Option ℕ → Option (List ℕ) → Option (List ℕ)
+then_bytes None bytes = None
+then_bytes (Some b) None = None
+then_bytes (Some b) (Some bytes) = Some (b ∷ bytes)
+
+-- an even number of hexadecimal digits
+abbrev pub pairs_of : List ℕ → Option (List ℕ)
+pairs_of [] = Some []
+pairs_of (a ∷ []) = None
+pairs_of (a ∷ b ∷ digits) = then_bytes (byte_of (digit_of 16 a) (digit_of 16 b)) (pairs_of digits)
+
+-- the bytes that a field says: - for none; nothing at all is no field
+abbrev pub hex_of : List ℕ → Option (List ℕ)
+hex_of [] = None
+hex_of (a ∷ []) = if a == 45 then Some [] else None
+hex_of (a ∷ b ∷ digits) = pairs_of (a ∷ b ∷ digits)

@@ -1,0 +1,113 @@
+-- A process as its regions and pages, and the first rule that denies an access.
+use Rattle.std.specs.Prelude.{ℕ, Bool, true, false, not, ◌+◌, ◌-◌, ◌*◌, ◌/◌, ◌%◌, ◌^◌, nat_le, nat_lt, ◌==◌, ◌&&◌, ◌||◌, Option, None, Some, is_none, List, [], ◌∷◌, if◌then◌else◌}
+use Rattle.process_model.specs.Bytes.{page_of, first_true}
+use Rattle.process_model.specs.PageMap.{PageMap}
+use Rattle.process_model.specs.declared.access.Access.{Access}
+use Rattle.process_model.specs.declared.access.Access.TheVariants.{Fetch, Load, Store}
+use Rattle.process_model.specs.declared.access.Rule.{Rule}
+use Rattle.process_model.specs.declared.access.Rule.TheVariants.{Misaligned, BeyondMax, KernelPage, GuardPage, NoRegion, NoRead, NoWrite, NoExec}
+
+-- addresses of a process end below 2^38 (xv6's MAXVA); the two pages below it are the trampoline's and the trapframe's
+abbrev pub maxva : ℕ
+maxva = 2 ^ 38
+
+abbrev pub trampoline_page : ℕ
+trampoline_page = 2 ^ 26 - 1
+
+abbrev pub trapframe_page : ℕ
+trapframe_page = 2 ^ 26 - 2
+
+pub data RegionKind : Type 0 where
+  segment : RegionKind
+  guard : RegionKind
+  stack : RegionKind
+  heap : RegionKind
+  mapping : RegionKind
+
+-- a run of pages and what it grants
+pub record Region : Type 0 where
+  pub first : ℕ
+  pub pages : ℕ
+  pub reads : Bool
+  pub writes : Bool
+  pub executes : Bool
+  pub kind : RegionKind
+
+-- the page behind the last one
+abbrev pub behind : Region → ℕ
+behind r = r.first + r.pages
+
+abbrev pub holds_page : Region → ℕ → Bool
+holds_page r page = nat_le r.first page && nat_lt page (behind r)
+
+-- a settled page: it has bytes of its own
+pub record Page : Type 0 where
+  pub bytes : List ℕ
+
+-- an access that faulted
+pub record Pending : Type 0 where
+  pub access : Access
+  pub address : ℕ
+  pub width : ℕ
+
+pub record Process : Type 0 where
+  -- no page is in two of them
+  pub regions : List Region
+  pub settled : PageMap Page
+  pub pending : Option Pending
+
+abbrev pub region_among : List Region → ℕ → Option Region
+region_among [] page = None
+region_among (r ∷ rs) page = if holds_page r page then Some r else region_among rs page
+
+abbrev pub region_at : Process → ℕ → Option Region
+region_at p page = region_among p.regions page
+
+abbrev pub is_guard_kind : RegionKind → Bool
+is_guard_kind guard = true
+is_guard_kind _ = false
+
+abbrev pub is_guard : Option Region → Bool
+is_guard None = false
+is_guard (Some r) = is_guard_kind r.kind
+
+-- whether the region lacks the right that the access needs
+abbrev pub lacks_right : Access → Option Region → Bool
+lacks_right access None = true
+lacks_right Fetch (Some r) = not r.executes
+lacks_right Load (Some r) = not r.reads
+lacks_right Store (Some r) = not r.writes
+
+abbrev pub right_rule : Access → Rule
+right_rule Fetch = NoExec
+right_rule Load = NoRead
+right_rule Store = NoWrite
+
+-- the first rule that denies an access of that width at that address; None where it is granted
+abbrev pub first_rule : Process → Access → ℕ → ℕ → Option Rule
+first_rule p access address width =
+    let page = page_of address in
+    let region = region_at p page in
+    first_true (
+        (not (address % width == 0), Misaligned)
+      ∷ (nat_le maxva address, BeyondMax)
+      ∷ (page == trampoline_page || page == trapframe_page, KernelPage)
+      ∷ (is_guard region, GuardPage)
+      ∷ (is_none region, NoRegion)
+      ∷ (lacks_right access region, right_rule access)
+      ∷ [])
+
+-- the causes of exceptions (table 4.2 of the standard); a misaligned access is told before any other fault
+abbrev pub misaligned_cause : Access → ℕ
+misaligned_cause Fetch = 0
+misaligned_cause Load = 4
+misaligned_cause Store = 6
+
+abbrev pub page_fault_cause : Access → ℕ
+page_fault_cause Fetch = 12
+page_fault_cause Load = 13
+page_fault_cause Store = 15
+
+abbrev pub fault_cause : Access → Rule → ℕ
+fault_cause access Misaligned = misaligned_cause access
+fault_cause access _ = page_fault_cause access

@@ -1,0 +1,18 @@
+//! The model of whole processes: what a step, a reply, a refusal and a script are, and in `specs/` what they mean.
+//!
+//! There are data types here and their printed form, and no machinery: nothing of this crate walks a table, counts a
+//! frame or keeps a buffer. Each crate above is proved against the definitions in `specs/`.
+#![tactic(auto)]
+
+mod access;
+mod bytes;
+mod image;
+mod script;
+mod step;
+mod text;
+
+pub use access::{Access, Phase, Rule};
+pub use bytes::Bytes;
+pub use image::{BadImage, OwnedSegment, Segment};
+pub use script::{Cause, Command, Config, Item, Kind, Policy, Value, Word};
+pub use step::{Refusal, Reply, Step};

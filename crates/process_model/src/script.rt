@@ -1,0 +1,90 @@
+// What a script says, line by line.
+
+use crate::image::OwnedSegment;
+
+/// What is wrong with a line of a script, in the order in which the causes are tried.
+#[derive(Clone, Copy, PartialEq, Eq, Debug)]
+pub enum Cause {
+    /// The line or the whole script is too long.
+    TooLong,
+    /// A byte is above 127.
+    NotAscii,
+    /// The first field is no command.
+    Word,
+    /// A declaration after `boot`, a step before it, a second `boot`, or none.
+    Order,
+    /// The number of fields is wrong.
+    Count,
+    /// A field that should be a number is none, or too large.
+    Number,
+    /// Another field has a wrong form.
+    Field,
+    /// A value is outside its limits.
+    Limits,
+    /// There are too many lines of this sort.
+    TooMany,
+}
+
+/// How the kernel keeps old translations out of the buffers: by fences that empty them.
+#[derive(Clone, Copy, PartialEq, Eq, Debug)]
+pub enum Policy {
+    Full,
+}
+
+/// What the machine is booted with.
+#[derive(Clone, Copy, PartialEq, Eq, Debug)]
+pub struct Config {
+    pub harts: usize,
+    /// How many frames of 4,096 bytes the memory has.
+    pub frames: usize,
+    /// How many processes there may be.
+    pub slots: usize,
+    pub policy: Policy,
+}
+
+/// The first field of a line.
+#[derive(Clone, Copy, PartialEq, Eq, Debug)]
+pub enum Word {
+    Image,
+    Boot,
+    Start,
+    On,
+    Load,
+    Store,
+}
+
+/// How a further field is read.
+#[derive(Clone, Copy, PartialEq, Eq, Debug)]
+pub enum Kind {
+    Number,
+    Policy,
+    /// `VADDR:MEMSZ:FLAGS:HEX`.
+    Segment,
+}
+
+/// What a field says.
+#[derive(Drop)]
+pub enum Value {
+    Number(u64),
+    Policy(Policy),
+    Segment(OwnedSegment),
+}
+
+/// A line behind `boot`.
+#[derive(Clone, Copy, PartialEq, Eq, Debug)]
+pub enum Command {
+    /// The number of the image, from 0.
+    Start { image: usize },
+    /// A process comes on a hart and runs.
+    On { hart: usize, slot: usize },
+    Load { hart: usize, address: u64, width: u64 },
+    Store { hart: usize, address: u64, width: u64, value: u64 },
+}
+
+/// What a line says that is no comment.
+#[derive(Drop)]
+pub enum Item {
+    Image(OwnedSegment),
+    Boot(Config),
+    Command(Command),
+}
