@@ -7,7 +7,7 @@ use Rattle.process_model.specs.World.{on_hart, with_its_process}
 use Rattle.process_model.specs.Script.{script_of, Script, item_line, line_of}
 use Rattle.process_model.specs.Text.{text_of, line_text}
 use Rattle.process_model.specs.declared.script.Cause.{Cause}
-use Rattle.process_model.specs.declared.script.Cause.TheVariants.{NotAscii, Word, Order, Count, Number, Field, Limits, TooMany}
+use Rattle.process_model.specs.declared.script.Cause.TheVariants.{Word, Order, Count, Number, Field, Limits, TooMany}
 
 abbrev text_or : Result Script (ℕ × Cause) → Result (List ℕ) (ℕ × Cause)
 text_or (Ok s) = Ok (text_of s)

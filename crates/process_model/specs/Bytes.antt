@@ -1,5 +1,5 @@
 -- Numbers in bytes, pages, and lists of tests.
-use Rattle.std.specs.Prelude.{ℕ, zero, suc, ◌+◌, ◌-◌, ◌*◌, ◌/◌, ◌%◌, ◌^◌, Bool, cond, Option, Some, None, List, [], ◌∷◌, ◌++◌, length, take, drop, replicate}
+use Rattle.std.specs.Prelude.{ℕ, zero, suc, ◌+◌, ◌-◌, ◌*◌, ◌/◌, ◌%◌, ◌^◌, ◌==◌, ◌||◌, Bool, cond, Option, Some, None, List, [], ◌∷◌, ◌++◌, length, take, drop, replicate}
 
 -- the little-endian number of the first n bytes
 unfoldable pub number : List ℕ → ℕ → ℕ
@@ -27,6 +27,10 @@ page_of address = address / 4096
 -- how many pages hold n bytes
 abbrev pub pages_for : ℕ → ℕ
 pages_for n = (n + 4095) / 4096
+
+-- how many bytes a load or a store has
+abbrev pub is_width : ℕ → Bool
+is_width w = w == 1 || w == 2 || w == 4 || w == 8
 
 -- n numbers in a row, from one on
 abbrev pub numbers_from : ℕ → ℕ → List ℕ

@@ -8,7 +8,7 @@ use Rattle.process_model.specs.declared.script.Cause.{Cause}
 use Rattle.process_model.specs.declared.script.Cause.TheVariants as cause
 use Rattle.process_model.specs.declared.script.Kind.{Kind}
 use Rattle.process_model.specs.declared.script.Kind.TheVariants as kind
-use Rattle.process_model.specs.declared.script.Policy.TheVariants as policy
+use Rattle.process_model.specs.declared.config.Policy.TheVariants as policy
 use Rattle.process_model.specs.declared.script.Value.{Value}
 use Rattle.process_model.specs.declared.script.Value.TheVariants as value
 use Rattle.process_model.specs.declared.script.Word.{Word}

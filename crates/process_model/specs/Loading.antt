@@ -1,5 +1,5 @@
 -- Images: the checks over them, and the process that an accepted one makes.
-use Rattle.std.specs.Prelude.{ℕ, zero, suc, true, false, not, ◌+◌, ◌*◌, ◌%◌, ◌^◌, nat_le, nat_lt, ◌==◌, Option, None, Some, List, [], ◌∷◌, length, map}
+use Rattle.std.specs.Prelude.{ℕ, zero, suc, true, not, ◌+◌, ◌%◌, ◌^◌, nat_le, nat_lt, ◌==◌, Option, None, List, [], ◌∷◌, length}
 use Rattle.process_model.specs.Bytes.{page_of, pages_for, numbers_from, first_true}
 use Rattle.process_model.specs.PageMap.{from_list}
 use Rattle.process_model.specs.Process.{Process, Page, Region, segment, trapframe_page}
@@ -13,11 +13,11 @@ use Rattle.process_model.specs.declared.image.Segment.{Segment}
 abbrev pub image_fault : Segment → Option BadImage
 image_fault s = first_true (
     (nat_lt s.memory_size (length s.bytes.now), Sizes)
-  ∷ (nat_le (2 ^ 64) (s.address + s.memory_size), Wraps)
-  ∷ (not (s.address % 4096 == 0), Align)
-  ∷ (s.memory_size == 0, NoLoad)
-  ∷ (nat_lt trapframe_page (pages_for (s.address + s.memory_size) + 2), TooHigh)
-  ∷ [])
+    ∷ (nat_le (2 ^ 64) (s.address + s.memory_size), Wraps)
+    ∷ (not (s.address % 4096 == 0), Align)
+    ∷ (s.memory_size == 0, NoLoad)
+    ∷ (nat_lt trapframe_page (pages_for (s.address + s.memory_size) + 2), TooHigh)
+    ∷ [])
 
 abbrev pub image_region : Segment → Region
 image_region s = record { first = page_of s.address; pages = pages_for s.memory_size; reads = true; writes = s.writes; executes = s.executes; kind = segment }
@@ -37,5 +37,5 @@ process_of s =
     record {
       regions = r ∷ [];
       settled = from_list (page_run r.first 0 r.pages s.bytes.now);
-      pending = None
+      pending = None;
     }

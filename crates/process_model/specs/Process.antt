@@ -1,5 +1,5 @@
 -- A process as its regions and pages, and the first rule that denies an access.
-use Rattle.std.specs.Prelude.{ℕ, Bool, true, false, not, ◌+◌, ◌-◌, ◌*◌, ◌/◌, ◌%◌, ◌^◌, nat_le, nat_lt, ◌==◌, ◌&&◌, ◌||◌, Option, None, Some, is_none, List, [], ◌∷◌, if◌then◌else◌}
+use Rattle.std.specs.Prelude.{ℕ, Bool, true, false, not, ◌+◌, ◌-◌, ◌%◌, ◌^◌, nat_le, nat_lt, ◌==◌, ◌&&◌, ◌||◌, Option, None, Some, is_none, List, [], ◌∷◌, if◌then◌else◌}
 use Rattle.process_model.specs.Bytes.{page_of, first_true}
 use Rattle.process_model.specs.PageMap.{PageMap}
 use Rattle.process_model.specs.declared.access.Access.{Access}
@@ -89,13 +89,13 @@ first_rule p access address width =
     let page = page_of address in
     let region = region_at p page in
     first_true (
-        (not (address % width == 0), Misaligned)
-      ∷ (nat_le maxva address, BeyondMax)
-      ∷ (page == trampoline_page || page == trapframe_page, KernelPage)
-      ∷ (is_guard region, GuardPage)
-      ∷ (is_none region, NoRegion)
-      ∷ (lacks_right access region, right_rule access)
-      ∷ [])
+    (not (address % width == 0), Misaligned)
+    ∷ (nat_le maxva address, BeyondMax)
+    ∷ (page == trampoline_page || page == trapframe_page, KernelPage)
+    ∷ (is_guard region, GuardPage)
+    ∷ (is_none region, NoRegion)
+    ∷ (lacks_right access region, right_rule access)
+    ∷ [])
 
 -- the causes of exceptions (table 4.2 of the standard); a misaligned access is told before any other fault
 abbrev pub misaligned_cause : Access → ℕ

@@ -1,10 +1,10 @@
 -- Pages of a process that stand in memory, and what an access does to one.
-use Rattle.std.specs.Prelude.{ℕ, Bool, ◌*◌, ◌%◌, Option, None, Some, is_some, List, [], drop}
-use Rattle.process_model.specs.Bytes.{page_of, padded, number, low_bytes, write_bytes}
+use Rattle.std.specs.Prelude.{ℕ, Bool, ◌*◌, is_some, List, drop}
+use Rattle.process_model.specs.Bytes.{padded, number, low_bytes, write_bytes}
 use Rattle.process_model.specs.PageMap.{get, insert}
 use Rattle.process_model.specs.Process.{Process, Page}
 use Rattle.process_model.specs.declared.access.Access.{Access}
-use Rattle.process_model.specs.declared.access.Access.TheVariants.{Fetch, Load, Store}
+use Rattle.process_model.specs.declared.access.Access.TheVariants.{Store}
 use Rattle.process_model.specs.declared.step.Reply.{Reply}
 use Rattle.process_model.specs.declared.step.Reply.TheVariants.{Value, Stored}
 

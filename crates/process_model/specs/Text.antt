@@ -1,5 +1,5 @@
 -- What playing a script writes.
-use Rattle.std.specs.Prelude.{ℕ, true, false, Bool, Option, None, Some, unwrap_or, List, [], ◌∷◌, ◌++◌, slice_get, codes}
+use Rattle.std.specs.Prelude.{ℕ, true, false, Bool, Some, unwrap_or, List, [], ◌∷◌, ◌++◌, slice_get, codes}
 use Rattle.std.specs.Fmt.{decimal, digits}
 use Rattle.process_model.specs.Script.{Script, no_segment}
 use Rattle.process_model.specs.World.{World, Outcome, step, booted}
@@ -13,7 +13,6 @@ use Rattle.process_model.specs.declared.script.Cause.{Cause}
 use Rattle.process_model.specs.declared.script.Cause.TheVariants as cause
 use Rattle.process_model.specs.declared.script.Command.{Command}
 use Rattle.process_model.specs.declared.script.Command.TheVariants as command
-use Rattle.process_model.specs.declared.script.Config.{Config}
 use Rattle.process_model.specs.declared.step.Refusal.{Refusal}
 use Rattle.process_model.specs.declared.step.Refusal.TheVariants as refusal
 use Rattle.process_model.specs.declared.step.Reply.{Reply}
@@ -105,10 +104,6 @@ abbrev pub commands_text : List OwnedSegment → World → List Command → List
 commands_text images w [] = []
 commands_text images w (c ∷ cs) = let o = command_outcome images w c in line_text (reply_text o.reply) ++ commands_text images o.world cs
 
-abbrev pub boot_text : List OwnedSegment → Option Config → List Command → List ℕ
-boot_text images None commands = []
-boot_text images (Some c) commands = line_text (codes "ok") ++ commands_text images (booted c) commands
-
 -- what `play` writes for a script: a line for `boot`, and one for each line behind it
 abbrev pub text_of : Script → List ℕ
-text_of s = boot_text s.images s.config s.commands
+text_of s = line_text (codes "ok") ++ commands_text s.images (booted s.config) s.commands

@@ -1,12 +1,12 @@
 -- The machine as processes and harts, and what each step does.
-use Rattle.std.specs.Prelude.{ℕ, Bool, true, false, not, ◌+◌, ◌-◌, ◌%◌, nat_le, nat_lt, ◌==◌, ◌&&◌, ◌||◌, Option, None, Some, is_some, unwrap_or, List, [], ◌∷◌, length, slice_get, slice_set, replicate}
+use Rattle.std.specs.Prelude.{ℕ, Bool, true, false, not, ◌+◌, ◌%◌, nat_lt, ◌==◌, ◌&&◌, Option, None, Some, is_some, unwrap_or, List, [], ◌∷◌, slice_get, slice_set, replicate}
 use Rattle.std.specs.List.{list_any}
-use Rattle.process_model.specs.Bytes.{page_of, first_true}
+use Rattle.process_model.specs.Bytes.{page_of, is_width, first_true}
 use Rattle.process_model.specs.PageMap.{get}
-use Rattle.process_model.specs.Process.{Process, Page, Pending, first_rule, page_fault_cause, fault_cause}
+use Rattle.process_model.specs.Process.{Process, Page, first_rule, page_fault_cause, fault_cause}
 use Rattle.process_model.specs.Residence.{with_page, access_answer}
 use Rattle.process_model.specs.Loading.{image_fault, image_region, pages_of, process_of}
-use Rattle.process_model.specs.Frames.{free_frames, frames_needed, kernel_frames}
+use Rattle.process_model.specs.Frames.{free_frames, frames_needed}
 use Rattle.process_model.specs.declared.access.Access.{Access}
 use Rattle.process_model.specs.declared.access.Access.TheVariants as access
 use Rattle.process_model.specs.declared.access.Rule.{Rule}
@@ -14,7 +14,7 @@ use Rattle.process_model.specs.declared.access.Phase.{Phase}
 use Rattle.process_model.specs.declared.access.Phase.TheVariants.{Idle, User, Enter0, Kernel, Leave1, Leave2}
 use Rattle.process_model.specs.declared.image.BadImage.{BadImage}
 use Rattle.process_model.specs.declared.image.Segment.{Segment}
-use Rattle.process_model.specs.declared.script.Config.{Config}
+use Rattle.process_model.specs.declared.config.Config.{Config}
 use Rattle.process_model.specs.declared.step.Refusal.{Refusal}
 use Rattle.process_model.specs.declared.step.Refusal.TheVariants.{NoFrame, NoSlot, Image, BadArgument, Impossible}
 use Rattle.process_model.specs.declared.step.Reply.{Reply}
@@ -71,8 +71,8 @@ lowest_free n (Some p ∷ slots) = lowest_free (n + 1) slots
 abbrev pub gate_refusal : Hart → Bool → (Hart → Bool) → Option Refusal
 gate_refusal hart proper possible = first_true (
     (not proper, BadArgument)
-  ∷ (not (possible hart), Impossible hart.phase)
-  ∷ [])
+    ∷ (not (possible hart), Impossible hart.phase)
+    ∷ [])
 
 abbrev pub unless_refused : World → (Hart → Outcome) → Hart → Option Refusal → Outcome
 unless_refused w run hart (Some r) = refuses w r
@@ -129,9 +129,6 @@ phase_for None = Idle
 phase_for (Some s) = Kernel
 
 -- accesses of the user
-
-abbrev pub is_width : ℕ → Bool
-is_width w = w == 1 || w == 2 || w == 4 || w == 8
 
 -- what is asked, and of whom
 pub record Asked : Type 0 where
@@ -207,17 +204,6 @@ run w [] = record { replies = []; world = w }
 run w (s ∷ ss) = let o = step w s in replied o.reply (run o.world ss)
 
 -- boot
-
--- how many harts and slots a machine may have
-abbrev pub most_harts : ℕ
-most_harts = 1
-
-abbrev pub most_slots : ℕ
-most_slots = 1
-
-abbrev pub can_boot : ℕ → ℕ → ℕ → Bool
-can_boot harts frames slots =
-    nat_le 1 harts && nat_le harts most_harts && nat_le 16 frames && nat_le frames 1024 && nat_le 1 slots && nat_le slots most_slots && nat_le (kernel_frames frames slots) frames
 
 abbrev pub idle_hart : Hart
 idle_hart = record { phase = Idle; slot = None }

@@ -1,5 +1,8 @@
 // Accesses, the rules that deny them, and where a hart is.
 
+ghost use Rattle.std.specs.Prelude.{◌≡◌};
+ghost use Rattle.process_model.specs.Bytes.{is_width};
+
 /// What an instruction asks of memory (RISC-V Privileged Architecture 20211203, 4.3.1).
 #[derive(Clone, Copy, PartialEq, Eq, Debug)]
 pub enum Access {
@@ -49,4 +52,11 @@ pub enum Phase {
     Leave1,
     /// The process's table is on.
     Leave2,
+}
+
+/// Whether loads and stores have this width, in bytes.
+pub fn is_width(width: u64) -> bool
+    ensures { result ≡ is_width width }
+{
+    matches!(width, 1 | 2 | 4 | 8)
 }

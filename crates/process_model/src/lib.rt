@@ -6,13 +6,15 @@
 
 mod access;
 mod bytes;
+mod config;
 mod image;
 mod script;
 mod step;
 mod text;
 
-pub use access::{Access, Phase, Rule};
+pub use access::{Access, Phase, Rule, is_width};
 pub use bytes::Bytes;
+pub use config::{Config, Policy};
 pub use image::{BadImage, OwnedSegment, Segment};
-pub use script::{Cause, Command, Config, Item, Kind, Policy, Value, Word};
+pub use script::{Cause, Command, Item, Kind, Value, Word};
 pub use step::{Refusal, Reply, Step};

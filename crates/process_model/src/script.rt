@@ -1,5 +1,6 @@
 // What a script says, line by line.
 
+use crate::config::{Config, Policy};
 use crate::image::OwnedSegment;
 
 /// What is wrong with a line of a script, in the order in which the causes are tried.
@@ -23,23 +24,6 @@ pub enum Cause {
     Limits,
     /// There are too many lines of this sort.
     TooMany,
-}
-
-/// How the kernel keeps old translations out of the buffers: by fences that empty them.
-#[derive(Clone, Copy, PartialEq, Eq, Debug)]
-pub enum Policy {
-    Full,
-}
-
-/// What the machine is booted with.
-#[derive(Clone, Copy, PartialEq, Eq, Debug)]
-pub struct Config {
-    pub harts: usize,
-    /// How many frames of 4,096 bytes the memory has.
-    pub frames: usize,
-    /// How many processes there may be.
-    pub slots: usize,
-    pub policy: Policy,
 }
 
 /// The first field of a line.
@@ -70,15 +54,35 @@ pub enum Value {
     Segment(OwnedSegment),
 }
 
+impl Default for Value {
+    fn default() -> Value {
+        Value::Number(0)
+    }
+}
+
 /// A line behind `boot`.
 #[derive(Clone, Copy, PartialEq, Eq, Debug)]
 pub enum Command {
     /// The number of the image, from 0.
-    Start { image: usize },
+    Start {
+        image: usize,
+    },
     /// A process comes on a hart and runs.
-    On { hart: usize, slot: usize },
-    Load { hart: usize, address: u64, width: u64 },
-    Store { hart: usize, address: u64, width: u64, value: u64 },
+    On {
+        hart: usize,
+        slot: usize,
+    },
+    Load {
+        hart: usize,
+        address: u64,
+        width: u64,
+    },
+    Store {
+        hart: usize,
+        address: u64,
+        width: u64,
+        value: u64,
+    },
 }
 
 /// What a line says that is no comment.

@@ -1,0 +1,9 @@
+pub mod Colons
+pub mod Cutting
+pub mod Digits
+pub mod Pairs
+pub mod ReadValues
+pub mod Faults
+pub mod Parts
+pub mod Playable
+pub mod Played

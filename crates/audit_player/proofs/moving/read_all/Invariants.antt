@@ -1,0 +1,12 @@
+use Rattle.std.proofs.Common.{◌≡◌, ◌-◌, ◌+◌, false, vec_len}
+use Rattle.std.specs.Io.KnownBytes.{Consumes}
+use Rattle.audit_player.proofs.moving.read_all.Given as goal
+
+abbrev pub invariant-reading : goal.invariant-reading
+invariant-reading g l = record {
+  fine : g.S.Source.broken l.source ≡ false;
+  took : Consumes (g.S.Source.remaining l.fn.source) (g.S.Source.remaining l.source) l.bytes.items;
+}
+
+abbrev pub decreases-reading : goal.decreases-reading
+decreases-reading g l = l.limit + 1 - vec_len l.bytes

@@ -1,0 +1,11 @@
+-- The number and the name of what keeps a script from being played.
+use Rattle.std.specs.Prelude.{ℕ, List, ◌++◌, codes}
+use Rattle.std.specs.Fmt.{decimal}
+use Rattle.process_model.specs.Text.{cause_text}
+use Rattle.audit_player.specs.declared.fault.PlayError.{PlayError}
+use Rattle.audit_player.specs.declared.fault.PlayError.TheVariants as error
+
+abbrev pub error_text : PlayError → List ℕ
+error_text error.Memory = codes "refused 21 Memory"
+error_text (error.Script line cause) = codes "refused 23 Script line " ++ (decimal line ++ (codes " " ++ cause_text cause))
+error_text error.Io = codes "refused 24 Io"

@@ -1,0 +1,62 @@
+// Where bytes come from.
+
+ghost use Rattle.std.specs.Prelude.{◌≡◌, ◌≤◌, ◌<◌, false, ◌||◌, ℕ, Bool, List, Option, length, take, IfSome, is_none};
+ghost use Rattle.std.specs.Io.KnownBytes.{Consumes, IsAtEnd};
+
+use std::io::Read;
+
+pub trait Source {
+    /// The bytes that reads give from here on, where they are known.
+    ghost remaining: { Self → Option (List ℕ) };
+
+    /// Whether a read has failed.
+    ghost broken: { Self → Bool };
+
+    fn failed(&self) -> bool
+        ensures { result ≡ broken self.now };
+
+    /// Reads bytes to the front of `buffer`: none only at the end. Nothing where the read failed.
+    fn read(&mut self, buffer: &mut [u8]) -> Option<usize>
+        ensures failed { broken self.new ≡ (broken self.old || is_none result) }
+        ensures bound { IfSome result (λ n. n ≤ length buffer.new) }
+        ensures bytes { IfSome result (λ n. Consumes (remaining self.old) (remaining self.new) (take n buffer.new)) }
+        ensures end { IfSome result (λ n. n ≡ 0 → 0 < length buffer.new → IsAtEnd (remaining self.new)) };
+}
+
+/// A reader of std, over memory or a file, and whether it has failed.
+#[derive(Drop)]
+pub struct Reader<R> {
+    inner: R,
+    failed: bool,
+}
+
+impl<R: Read> Reader<R> {
+    pub fn new(inner: R) -> Reader<R>
+        ensures { result ≡ record { inner = inner; failed = false } }
+    {
+        Reader {
+            inner,
+            failed: false,
+        }
+    }
+}
+
+impl<R: Read> Source for Reader<R> {
+    ghost remaining = { λ r. R.remaining r.inner };
+
+    ghost broken = { λ r. r.failed };
+
+    fn failed(&self) -> bool {
+        self.failed
+    }
+
+    fn read(&mut self, buffer: &mut [u8]) -> Option<usize> {
+        match self.inner.read(buffer) {
+            Ok(count) => Some(count),
+            Err(_) => {
+                self.failed = true;
+                None
+            }
+        }
+    }
+}

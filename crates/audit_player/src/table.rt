@@ -1,0 +1,76 @@
+// The table of the words that lines begin with: a new word is one row.
+
+ghost use Rattle.std.specs.Prelude.{◌≡◌, ◌≤◌, length, map};
+ghost use Rattle.std.specs.Option.{option_map};
+ghost use Rattle.process_model.specs.Fields.{table, row_among, row_of};
+
+use process_model::Kind::{Number, Policy, Segment};
+use process_model::{Kind, Word};
+
+/// A word, as it is written, and the kinds of the fields behind it.
+#[derive(Clone, Copy)]
+pub struct Row {
+    pub text: &'static [u8],
+    pub word: Word,
+    pub kinds: &'static [Kind],
+    pub ghost few: { length kinds.now ≤ 4 },
+}
+
+impl Row {
+    ghost use Rattle.audit_player.specs.Rows.{seen};
+
+    fn all() -> [Row; 6]
+        ensures { map seen result ≡ table }
+    {
+        [
+            Row {
+                text: b"image",
+                word: Word::Image,
+                kinds: &[Segment],
+            },
+            Row {
+                text: b"boot",
+                word: Word::Boot,
+                kinds: &[Number, Number, Number, Policy],
+            },
+            Row {
+                text: b"start",
+                word: Word::Start,
+                kinds: &[Number],
+            },
+            Row {
+                text: b"on",
+                word: Word::On,
+                kinds: &[Number, Number],
+            },
+            Row {
+                text: b"load",
+                word: Word::Load,
+                kinds: &[Number, Number, Number],
+            },
+            Row {
+                text: b"store",
+                word: Word::Store,
+                kinds: &[Number, Number, Number, Number],
+            },
+        ]
+    }
+
+    fn find_among(rows: &[Row], text: &[u8]) -> Option<Row>
+        ensures { option_map seen result ≡ row_among (map seen rows.now) text.now }
+    {
+        for row in rows {
+            if row.text == text {
+                return Some(*row);
+            }
+        }
+        None
+    }
+
+    /// The row of a word.
+    pub fn find(text: &[u8]) -> Option<Row>
+        ensures { option_map seen result ≡ row_of text.now }
+    {
+        Row::find_among(&Row::all(), text)
+    }
+}

@@ -1,0 +1,6 @@
+mod Accesses
+mod Entries
+mod Groups
+mod OneHart
+mod PageRuns
+mod Words

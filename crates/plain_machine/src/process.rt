@@ -1,0 +1,82 @@
+// The process, but for its bytes.
+
+ghost use Rattle.std.specs.Prelude.{◌≡◌, ◌<◌, ℕ, List, if◌then◌else◌};
+ghost use Rattle.process_model.specs.Process as model;
+
+use crate::image::TRAPFRAME_PAGE;
+use process_model::{Access, Rule};
+
+/// The page of the trampoline, the last below `MAXVA` (the xv6 book, "Kernel address space").
+const TRAMPOLINE_PAGE: u64 = 0x3ff_ffff;
+
+/// Addresses of a process end below this one (xv6's `MAXVA`).
+const MAXVA: u64 = 1 << 38;
+
+/// An access that faulted.
+#[derive(Clone, Copy)]
+pub struct Pending {
+    pub access: Access,
+    pub address: u64,
+    pub width: u64,
+}
+
+/// One region of pages that stand in a row in memory, from the first page of memory on.
+#[derive(Clone, Copy)]
+pub struct Process {
+    /// The number of the first page.
+    pub first: u64,
+    pub pages: u64,
+    pub writes: bool,
+    pub executes: bool,
+    pub pending: Option<Pending>,
+}
+
+impl Process {
+    ghost use Rattle.plain_machine.specs.Seen.{process_seen, region_seen};
+
+    /// The first rule that denies an access, or none where it is granted.
+    pub fn first_rule(&self, access: Access, address: u64, width: u64) -> Option<Rule>
+        requires { 0 < width }
+        ensures { (memory : List (List ℕ)) → result ≡ model.first_rule (process_seen memory self.now) access address width }
+    {
+        let page = address / 4096;
+        if address % width != 0 {
+            return Some(Rule::Misaligned);
+        }
+        if address >= MAXVA {
+            return Some(Rule::BeyondMax);
+        }
+        if page == TRAMPOLINE_PAGE || page == TRAPFRAME_PAGE {
+            return Some(Rule::KernelPage);
+        }
+        if page < self.first || page - self.first >= self.pages {
+            return Some(Rule::NoRegion);
+        }
+        self.right_rule(access)
+    }
+
+    /// The rule of the right that the region lacks.
+    fn right_rule(&self, access: Access) -> Option<Rule>
+        ensures { result ≡ (if model.lacks_right access (Some (region_seen self.now)) then Some (model.right_rule access) else None) }
+    {
+        match access {
+            Access::Fetch if !self.executes => Some(Rule::NoExec),
+            Access::Store if !self.writes => Some(Rule::NoWrite),
+            _ => None,
+        }
+    }
+}
+
+/// The cause of the exception that tells of a denial.
+pub fn fault_cause(access: Access, rule: Rule) -> u64
+    ensures { result ≡ model.fault_cause access rule }
+{
+    match (rule, access) {
+        (Rule::Misaligned, Access::Fetch) => 0,
+        (Rule::Misaligned, Access::Load) => 4,
+        (Rule::Misaligned, Access::Store) => 6,
+        (_, Access::Fetch) => 12,
+        (_, Access::Load) => 13,
+        (_, Access::Store) => 15,
+    }
+}
