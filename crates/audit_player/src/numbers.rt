@@ -1,7 +1,7 @@
 // Numbers, as fields spell them.
 
-ghost use Rattle.std.specs.Prelude.{◌≡◌, ◌<◌, ◌≤◌, ◌^◌};
-ghost use Rattle.process_model.specs.Numbers.{digit_of, digits_in, if_below, number_of};
+ghost use Rattle.std.specs.Prelude.{◌≡◌, ◌≤◌, ◌^◌, Some};
+ghost use Rattle.process_model.specs.Numbers.{digit_of, digits_in, if_below, number_of, signed_of, as_negative};
 
 /// The value of a digit in a base.
 pub fn digit(base: u64, byte: u8) -> Option<u64>
@@ -45,4 +45,20 @@ pub fn number(field: &[u8]) -> Option<u64>
         [b'0', b'x', hex @ ..] => digits(16, hex),
         _ => digits(10, field),
     }
+}
+
+/// The same, where `-` may stand in front: from -2^63 to 2^63 - 1.
+pub fn signed(field: &[u8]) -> Option<i64>
+    ensures { result ≡ signed_of field.now }
+{
+    match field {
+        [b'-', magnitude @ ..] => negative(number(magnitude)?),
+        _ => i64::try_from(number(field)?).ok(),
+    }
+}
+
+fn negative(magnitude: u64) -> Option<i64>
+    ensures { result ≡ as_negative (Some magnitude) }
+{
+    0i64.checked_sub_unsigned(magnitude)
 }

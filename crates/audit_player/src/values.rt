@@ -7,7 +7,7 @@ ghost use Rattle.process_model.specs.Fields.{value_of, values_of, and_then};
 ghost use Rattle.audit_player.specs.Listed.{listed};
 
 use crate::lines::first_field;
-use crate::numbers::number;
+use crate::numbers::{number, signed};
 use crate::segments::read_segment;
 use arrayvec::ArrayVec;
 use process_model::{Cause, Kind, Policy, Value};
@@ -28,6 +28,7 @@ fn read_value(alloc: Global, kind: Kind, field: &[u8]) -> Result<Result<Value, C
 {
     let value = match kind {
         Kind::Number => number(field).map(Value::Number).ok_or(Cause::Number),
+        Kind::Signed => signed(field).map(Value::Signed).ok_or(Cause::Number),
         Kind::Policy => read_policy(field),
         Kind::Segment => read_segment(alloc, field)?
             .map(Value::Segment)

@@ -1,8 +1,8 @@
 -- The words of the lines, and what the fields behind a word say.
-use Rattle.std.specs.Prelude.{ℕ, Bool, true, false, List, [], ◌∷◌, Option, Some, None, Result, Ok, Err, codes, ◌++◌, ◌||◌, length, ◌==◌, if◌then◌else◌}
+use Rattle.std.specs.Prelude.{ℕ, ℤ, Bool, true, false, List, [], ◌∷◌, Option, Some, None, Result, Ok, Err, codes, ◌++◌, ◌||◌, length, ◌==◌, if◌then◌else◌}
 use Rattle.std.specs.Str.{bytes_eq}
 use Rattle.process_model.specs.Lines.{pieces_of}
-use Rattle.process_model.specs.Numbers.{number_of, hex_of}
+use Rattle.process_model.specs.Numbers.{number_of, signed_of, hex_of}
 use Rattle.process_model.specs.declared.image.OwnedSegment.{OwnedSegment}
 use Rattle.process_model.specs.declared.script.Cause.{Cause}
 use Rattle.process_model.specs.declared.script.Cause.TheVariants as cause
@@ -47,6 +47,10 @@ abbrev pub number_value : Option ℕ → Result Value Cause
 number_value None = Err cause.Number
 number_value (Some n) = Ok (value.Number n)
 
+abbrev pub signed_value : Option ℤ → Result Value Cause
+signed_value None = Err cause.Number
+signed_value (Some z) = Ok (value.Signed z)
+
 abbrev pub policy_value : List ℕ → Result Value Cause
 policy_value field = if bytes_eq field (codes "full") then Ok (value.Policy policy.Full) else Err cause.Field
 
@@ -69,6 +73,7 @@ segment_value (Some s) = Ok (value.Segment s)
 
 abbrev pub value_of : Kind → List ℕ → Result Value Cause
 value_of kind.Number field = number_value (number_of field)
+value_of kind.Signed field = signed_value (signed_of field)
 value_of kind.Policy field = policy_value field
 value_of kind.Segment field = segment_value (segment_in (pieces_of field))
 

@@ -1,5 +1,5 @@
 -- What a field says as a number or as bytes.
-use Rattle.std.specs.Prelude.{ℕ, ◌+◌, ◌-◌, ◌*◌, ◌^◌, ◌==◌, ◌&&◌, nat_lt, nat_le, List, [], ◌∷◌, Option, Some, None, if◌then◌else◌}
+use Rattle.std.specs.Prelude.{ℕ, zero, suc, ℤ, pos, negsuc, ◌+◌, ◌-◌, ◌*◌, ◌^◌, ◌==◌, ◌&&◌, nat_lt, nat_le, List, [], ◌∷◌, Option, Some, None, if◌then◌else◌}
 
 -- the value of a digit in a base up to 16, of either case
 abbrev pub digit_of : ℕ → ℕ → Option ℕ
@@ -37,6 +37,23 @@ if_below limit (Some n) = if nat_lt n limit then Some n else None
 -- a number is below 2^64
 abbrev pub number_of : List ℕ → Option ℕ
 number_of field = if_below (2 ^ 64) (whole_of field)
+
+abbrev pub negated : ℕ → ℤ
+negated zero = pos 0
+negated (suc n) = negsuc n
+
+abbrev pub as_negative : Option ℕ → Option ℤ
+as_negative None = None
+as_negative (Some n) = if nat_le n (2 ^ 63) then Some (negated n) else None
+
+abbrev pub as_positive : Option ℕ → Option ℤ
+as_positive None = None
+as_positive (Some n) = if nat_lt n (2 ^ 63) then Some (pos n) else None
+
+-- a signed number may have - in front, and lies from -2^63 to 2^63 - 1
+abbrev pub signed_of : List ℕ → Option ℤ
+signed_of [] = None
+signed_of (a ∷ field) = if a == 45 then as_negative (number_of field) else as_positive (number_of (a ∷ field))
 
 -- two digits a byte
 abbrev pub byte_of : Option ℕ → Option ℕ → Option ℕ

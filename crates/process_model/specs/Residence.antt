@@ -1,6 +1,6 @@
 -- Pages of a process that stand in memory, and what an access does to one.
-use Rattle.std.specs.Prelude.{ℕ, Bool, ◌*◌, is_some, List, drop}
-use Rattle.process_model.specs.Bytes.{padded, number, low_bytes, write_bytes}
+use Rattle.std.specs.Prelude.{ℕ, ◌*◌, Option, List, drop}
+use Rattle.process_model.specs.Bytes.{page_of, padded, number, low_bytes, write_bytes}
 use Rattle.process_model.specs.PageMap.{get, insert}
 use Rattle.process_model.specs.Process.{Process, Page}
 use Rattle.process_model.specs.declared.access.Access.{Access}
@@ -12,9 +12,9 @@ use Rattle.process_model.specs.declared.step.Reply.TheVariants.{Value, Stored}
 abbrev pub initial_page : List ℕ → ℕ → List ℕ
 initial_page bytes k = padded 4096 (drop (4096 * k) bytes)
 
--- whether a granted access finds its page settled
-abbrev pub is_resident : Process → ℕ → Bool
-is_resident p page = is_some (get p.settled page)
+-- a granted access is resident where its page is settled; this is the page
+abbrev pub resident_page : Process → ℕ → Option Page
+resident_page p address = get p.settled (page_of address)
 
 abbrev pub with_page : Process → ℕ → Page → Process
 with_page p n page = record p { settled = insert p.settled n page }

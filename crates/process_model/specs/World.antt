@@ -2,9 +2,8 @@
 use Rattle.std.specs.Prelude.{ℕ, Bool, true, false, not, ◌+◌, ◌%◌, nat_lt, ◌==◌, ◌&&◌, Option, None, Some, is_some, unwrap_or, List, [], ◌∷◌, slice_get, slice_set, replicate}
 use Rattle.std.specs.List.{list_any}
 use Rattle.process_model.specs.Bytes.{page_of, is_width, first_true}
-use Rattle.process_model.specs.PageMap.{get}
 use Rattle.process_model.specs.Process.{Process, Page, first_rule, page_fault_cause, fault_cause}
-use Rattle.process_model.specs.Residence.{with_page, access_answer}
+use Rattle.process_model.specs.Residence.{resident_page, with_page, access_answer}
 use Rattle.process_model.specs.Loading.{image_fault, image_region, pages_of, process_of}
 use Rattle.process_model.specs.Frames.{free_frames, frames_needed}
 use Rattle.process_model.specs.declared.access.Access.{Access}
@@ -151,13 +150,14 @@ settles_pending p = record p { pending = None }
 abbrev pub answered : World → ℕ → Process → ℕ → Reply × Page → Outcome
 answered w s p page a = answers (with_process w s (settles_pending (with_page p page a.1))) a.0
 
-abbrev pub on_page : World → Asked → ℕ → Process → Option Page → Outcome
-on_page w a s p None = faulted w a s p (page_fault_cause a.access)
-on_page w a s p (Some page) = answered w s p (page_of a.address) (access_answer a.access page (a.address % 4096) a.width a.value)
+-- a fault where the access is not resident, and else its answer
+abbrev pub if_resident : World → Asked → ℕ → Process → Option Page → Outcome
+if_resident w a s p None = faulted w a s p (page_fault_cause a.access)
+if_resident w a s p (Some page) = answered w s p (page_of a.address) (access_answer a.access page (a.address % 4096) a.width a.value)
 
 abbrev pub unless_denied : World → Asked → ℕ → Process → Option Rule → Outcome
 unless_denied w a s p (Some r) = faulted w a s p (fault_cause a.access r)
-unless_denied w a s p None = on_page w a s p (get p.settled (page_of a.address))
+unless_denied w a s p None = if_resident w a s p (resident_page p a.address)
 
 -- denied, or not resident: a fault; else the answer
 abbrev pub user_access : World → Asked → ℕ → Process → Outcome

@@ -40,7 +40,10 @@ pub enum Word {
 /// How a further field is read.
 #[derive(Clone, Copy, PartialEq, Eq, Debug)]
 pub enum Kind {
+    /// From 0 to 2^64 - 1.
     Number,
+    /// From -2^63 to 2^63 - 1; no line has such a field yet.
+    Signed,
     Policy,
     /// `VADDR:MEMSZ:FLAGS:HEX`.
     Segment,
@@ -50,11 +53,18 @@ pub enum Kind {
 #[derive(Drop)]
 pub enum Value {
     Number(u64),
+    Signed(i64),
     Policy(Policy),
     Segment(OwnedSegment),
 }
 
+/// Room in a fixed list is filled with zeros.
 impl Default for Value {
+    ghost use Rattle.std.specs.Prelude.{◌≡◌};
+    ghost use Rattle.process_model.specs.declared.script.Value.TheVariants.{Number};
+
+    ghost is_default = { λ v. v ≡ Number 0 };
+
     fn default() -> Value {
         Value::Number(0)
     }
