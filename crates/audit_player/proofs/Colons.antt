@@ -4,7 +4,7 @@ use Rattle.std.specs.List.{position_or_len, onto_first}
 use Rattle.process_model.specs.Fields.{segment_in}
 use Rattle.process_model.specs.Lines.{is_colon, pieces_of}
 
--- the pieces behind one that ends where this begins
+-- the pieces after one that ends where this begins
 abbrev pub pieces_after : List ℕ → List (List ℕ)
 pieces_after [] = []
 pieces_after (b ∷ rest) = pieces_of rest
@@ -19,7 +19,7 @@ pub piece_first : (field : List ℕ) → pieces_of field ≡ take (position_or_l
 piece_first [] = refl
 piece_first (b ∷ field) = piece_step b field (is_colon b) (position_or_len is_colon field) (ap (onto_first b) (piece_first field))
 
--- where a colon stands, the pieces behind it follow
+-- where a colon stands, the pieces after it follow
 pub behind_colon : (rest : List ℕ) → 1 ≤ length rest → pieces_after rest ≡ pieces_of (drop 1 rest)
 behind_colon [] some = absurd (omega arith)
 behind_colon (b ∷ rest) some = refl

@@ -34,7 +34,7 @@ blanks_first (b ∷ line) =
           ap (λ (n : ℕ). fields_of (drop n (b ∷ line))) (sym k)
     ]
 
--- what stands behind the blanks in front is no blank
+-- what stands after the blanks in front is no blank
 pub field_starts : (line : List ℕ) (b : ℕ) (rest : List ℕ) → drop (prefix_len is_blank line) line ≡ b ∷ rest → is_blank b ≡ false
 field_starts [] b rest e = absurd cc
 field_starts (a ∷ line) b rest e =

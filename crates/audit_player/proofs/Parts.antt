@@ -15,7 +15,7 @@ appends_more (Some xs) None new a b p q = absurd p
 appends_more (Some xs) (Some ys) None a b p q = absurd q
 appends_more (Some xs) (Some ys) (Some zs) a b p q = q ∙ ap (λ (l : List ℕ). l ++ b) p ∙ append_assoc xs a b
 
--- what a further call wrote comes behind
+-- what a further call wrote comes after
 pub wrote_more : (old mid new : Option (List ℕ)) (text rest after : List ℕ) (n : ℕ) → WroteUpTo old mid text rest → Appends mid new (take n rest) → after ≡ drop n rest → WroteUpTo old new text after
 wrote_more old mid new text rest after n w q e = (
   w.0 ++ take n rest,

@@ -10,16 +10,16 @@ use Rattle.process_model.specs.declared.script.Command.TheVariants as command
 use Rattle.process_model.specs.declared.config.Config.{Config}
 use Rattle.process_model.specs.declared.script.Item.{Item}
 use Rattle.process_model.specs.declared.script.Item.TheVariants as item
-use Rattle.process_model.specs.declared.script.Value.{Value}
-use Rattle.process_model.specs.declared.script.Word.{Word}
-use Rattle.process_model.specs.declared.script.Word.TheVariants as word
+use Rattle.process_model.specs.declared.script.FieldValue.{FieldValue}
+use Rattle.process_model.specs.declared.script.Keyword.{Keyword}
+use Rattle.process_model.specs.declared.script.Keyword.TheVariants as word
 use Rattle.process_model.specs.Fields.{row_of, values_of}
 use Rattle.process_model.specs.Lines.{raw_lines, without_return, fields_of}
 use Rattle.process_model.specs.Script.{Draft, Script, Read, ◌>>=◌, with_item, row_named, test, in_order, item_of, in_limits, has_room, item_line, is_comment, is_ascii, some_item, fields_line, line_of, with_line, next_line, read_lines, whole_with, whole, longest_script, script_of, no_lines, HasImage, CanBoot, IsPlayable}
 use Rattle.audit_player.specs.declared.fault.ScriptError.{ScriptError}
 use Rattle.audit_player.specs.Gives.{Answers}
 
--- what holds of the lines so far, of an item behind them, and of what a line says
+-- what holds of the lines so far, of an item after them, and of what a line says
 abbrev CanBootIf : Option Config → Type 0
 CanBootIf None = Unit {0}
 CanBootIf (Some c) = CanBoot c
@@ -76,7 +76,7 @@ below : (a b : ℕ) → nat_lt a b ≡ true → a < b
 below a b e = grind arith
 
 -- an item fits the lines before it
-item_fits : (d : Draft) (w : Word) (vs : List Value) → IfOk (item_of d w vs) (Fits d)
+item_fits : (d : Draft) (w : Keyword) (vs : List FieldValue) → IfOk (item_of d w vs) (Fits d)
 item_fits d word.Image vs = tt
 item_fits d word.Boot vs = limited d _ _ (λ e. e)
 item_fits d word.Start vs = limited d _ _ (λ e. below _ _ e)

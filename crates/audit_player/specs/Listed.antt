@@ -2,8 +2,8 @@
 use Rattle.std.specs.Prelude.{List, Result, Ok, Err}
 use Rattle.arrayvec.specs.ArrayVec.{ArrayVec}
 use Rattle.process_model.specs.declared.script.Cause.{Cause}
-use Rattle.process_model.specs.declared.script.Value.{Value}
+use Rattle.process_model.specs.declared.script.FieldValue.{FieldValue}
 
-abbrev pub listed : Result (ArrayVec Value) Cause → Result (List Value) Cause
+abbrev pub listed : Result (ArrayVec FieldValue) Cause → Result (List FieldValue) Cause
 listed (Ok values) = Ok values.items
 listed (Err c) = Err c

@@ -25,14 +25,12 @@ Refuses old new (error.Script n c) script = (script ≡ Err (n, c)) × Keeps old
 Refuses old new error.Memory script = Keeps old new
 Refuses old new error.Io script = WroteSome old new (text_or_none script)
 
--- of bytes that are not known, only that nothing was written
-abbrev pub RefusesUnread : Option (List ℕ) → Option (List ℕ) → PlayError → Type 0
-RefusesUnread old new error.Io = Unit {0}
-RefusesUnread old new e = Keeps old new
+abbrev pub PlaysScript : Option (List ℕ) → Option (List ℕ) → Result (Unit {0}) PlayError → Result Script (ℕ × Cause) → Type 0
+PlaysScript old new (Ok u) script = Writes old new script
+PlaysScript old new (Err e) script = Refuses old new e script
 
--- the bytes that the reader has, where they are known, and what the writer holds before and after
+-- The bytes that the reader has, and what the writer holds before and after; where the reader does not tell its bytes,
+-- there are some of which the same holds.
 abbrev pub Plays : Option (List ℕ) → Option (List ℕ) → Option (List ℕ) → Result (Unit {0}) PlayError → Type 0
-Plays None old new (Ok u) = Unit {0}
-Plays None old new (Err e) = RefusesUnread old new e
-Plays (Some bytes) old new (Ok u) = Writes old new (script_of bytes)
-Plays (Some bytes) old new (Err e) = Refuses old new e (script_of bytes)
+Plays None old new result = (bytes : List ℕ) × PlaysScript old new result (script_of bytes)
+Plays (Some bytes) old new result = PlaysScript old new result (script_of bytes)

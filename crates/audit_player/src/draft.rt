@@ -3,14 +3,14 @@
 ghost use Rattle.std.specs.Prelude.{◌≡◌, OnOk, OnErr, nat_lt, length};
 ghost use Rattle.process_model.specs.Script as words;
 
-use process_model::{Command, Config, Item, OwnedSegment, Word};
+use process_model::{Command, Config, Item, Keyword, OwnedSegment};
 use std::alloc::{AllocError, Global};
 use std::marker::Model;
 
 /// How many images a script may declare.
 const MOST_IMAGES: usize = 1;
 
-/// How many lines may stand behind `boot`.
+/// How many lines may stand after `boot`.
 const MOST_COMMANDS: usize = 100_000;
 
 /// What the lines so far say.
@@ -30,10 +30,10 @@ impl Model for Draft {
 }
 
 /// Whether a word belongs before the steps.
-fn comes_first(word: Word) -> bool
+fn comes_first(word: Keyword) -> bool
     ensures { result ≡ words.comes_first word }
 {
-    matches!(word, Word::Image | Word::Boot)
+    matches!(word, Keyword::Image | Keyword::Boot)
 }
 
 impl Draft {
@@ -48,7 +48,7 @@ impl Draft {
     }
 
     /// Whether a line with this word may stand next.
-    pub fn in_order(&self, word: Word) -> bool
+    pub fn in_order(&self, word: Keyword) -> bool
         ensures { result ≡ words.in_order self.now word }
     {
         comes_first(word) != self.config.is_some()
@@ -72,7 +72,7 @@ impl Draft {
         }
     }
 
-    /// Puts what a line says behind what the lines before it say. Where memory is refused, nothing changes.
+    /// Puts what a line says after what the lines before it say. Where memory is refused, nothing changes.
     pub fn add(&mut self, item: Item) -> Result<(), AllocError>
         ensures added { OnOk result (self.new ≡ words.with_item self.old item) }
         ensures kept { OnErr result (self.new ≡ self.old) }

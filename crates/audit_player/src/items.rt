@@ -7,34 +7,34 @@ ghost use Rattle.process_model.specs.Frames.{can_boot};
 use crate::draft::Draft;
 use arrayvec::ArrayVec;
 use process_model::{
-    Bytes, Cause, Command, Config, Item, OwnedSegment, Policy, Value, Word, is_width,
+    Bytes, Cause, Command, Config, FieldValue, Item, Keyword, OwnedSegment, Policy, is_width,
 };
 use std::alloc::Global;
 
-fn number_at(values: &[Value], place: usize) -> u64
+fn number_at(values: &[FieldValue], place: usize) -> u64
     ensures { result ≡ words.number_at values.now place }
 {
     match values.get(place) {
-        Some(Value::Number(number)) => *number,
+        Some(FieldValue::Number(number)) => *number,
         _ => 0,
     }
 }
 
-fn policy_at(values: &[Value], place: usize) -> Policy
+fn policy_at(values: &[FieldValue], place: usize) -> Policy
     ensures { result ≡ words.as_policy (slice_get values.now place) }
 {
     match values.get(place) {
-        Some(Value::Policy(policy)) => *policy,
+        Some(FieldValue::Policy(policy)) => *policy,
         _ => Policy::Full,
     }
 }
 
-fn segment_of(alloc: Global, mut values: ArrayVec<Value, 4>) -> OwnedSegment
+fn segment_of(alloc: Global, mut values: ArrayVec<FieldValue, 4>) -> OwnedSegment
     ensures { result ≡ words.as_segment (slice_get values.items 0) }
 {
     values.truncate(1);
     match values.pop() {
-        Some(Value::Segment(segment)) => segment,
+        Some(FieldValue::Segment(segment)) => segment,
         _ => OwnedSegment {
             address: 0,
             memory_size: 0,
@@ -51,7 +51,7 @@ fn in_limits(within: bool, item: Item) -> Result<Item, Cause>
     if within { Ok(item) } else { Err(Cause::Limits) }
 }
 
-fn boot_item(values: &[Value]) -> Result<Item, Cause>
+fn boot_item(values: &[FieldValue]) -> Result<Item, Cause>
     ensures { result ≡ words.in_limits (can_boot (words.number_at values.now 0) (words.number_at values.now 1) (words.number_at values.now 2)) (Item.Boot (words.config_of values.now)) }
 {
     let config = Config {
@@ -63,30 +63,30 @@ fn boot_item(values: &[Value]) -> Result<Item, Cause>
     in_limits(config.is_bootable(), Item::Boot(config))
 }
 
-/// The item that the values behind a word make.
+/// The item that the values after a word make.
 pub fn make_item(
     alloc: Global,
     draft: &Draft,
-    word: Word,
-    values: ArrayVec<Value, 4>,
+    word: Keyword,
+    values: ArrayVec<FieldValue, 4>,
 ) -> Result<Item, Cause>
     ensures { result ≡ words.item_of draft.now word values.items }
 {
     let v = values.as_slice();
     match word {
-        Word::Image => Ok(Item::Image(segment_of(alloc, values))),
-        Word::Boot => boot_item(v),
-        Word::Start => in_limits(
+        Keyword::Image => Ok(Item::Image(segment_of(alloc, values))),
+        Keyword::Boot => boot_item(v),
+        Keyword::Start => in_limits(
             draft.has_image(number_at(v, 0)),
             Item::Command(Command::Start {
                 image: number_at(v, 0) as usize,
             }),
         ),
-        Word::On => Ok(Item::Command(Command::On {
+        Keyword::On => Ok(Item::Command(Command::On {
             hart: number_at(v, 0) as usize,
             slot: number_at(v, 1) as usize,
         })),
-        Word::Load => in_limits(
+        Keyword::Load => in_limits(
             is_width(number_at(v, 2)),
             Item::Command(Command::Load {
                 hart: number_at(v, 0) as usize,
@@ -94,7 +94,7 @@ pub fn make_item(
                 width: number_at(v, 2),
             }),
         ),
-        Word::Store => in_limits(
+        Keyword::Store => in_limits(
             is_width(number_at(v, 2)),
             Item::Command(Command::Store {
                 hart: number_at(v, 0) as usize,

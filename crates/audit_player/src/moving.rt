@@ -26,8 +26,7 @@ impl From<AllocError> for ReadError {
 
 /// Writes a text, by a loop over `write`.
 pub fn write_all<S: Sink>(sink: &mut S, text: &[u8]) -> bool
-    requires { S.broken sink.old ≡ false }
-    ensures io { result ≡ not (S.broken sink.new) }
+    ensures io { S.broken sink.old ≡ false → result ≡ not (S.broken sink.new) }
     ensures whole { result ≡ true → Appends (S.contents sink.old) (S.contents sink.new) text.now }
     ensures part { WroteSome (S.contents sink.old) (S.contents sink.new) text.now }
 {
@@ -48,9 +47,8 @@ pub fn read_all<S: Source>(
     source: &mut S,
     limit: usize,
 ) -> Result<Vec<u8>, ReadError>
-    requires fine { S.broken source.old ≡ false }
-    requires small { limit < 2 ^ 32 }
-    ensures io { IsErrOf result ReadError.Io ↔ IsTrue (S.broken source.new) }
+    requires { limit < 2 ^ 32 }
+    ensures io { S.broken source.old ≡ false → (IsErrOf result ReadError.Io ↔ IsTrue (S.broken source.new)) }
     ensures bytes { IfOk result (λ bytes. IsInput limit (S.remaining source.old) bytes.items) }
 {
     let mut bytes = Vec::new(alloc);

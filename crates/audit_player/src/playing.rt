@@ -45,7 +45,7 @@ fn start(machine: &mut Machine, image: &OwnedSegment) -> Reply
     machine.step(Step::Start(lend(image)))
 }
 
-/// Makes several steps that have one reply: that of the first which is refused, and none is made behind it.
+/// Makes several steps that have one reply: that of the first which is refused, and none is made after it.
 fn series(machine: &mut Machine, steps: &[Step<'_>]) -> Reply
     ensures reply { result ≡ (words.series_of (world_of machine.old) steps.now Done).reply }
     ensures world { world_of machine.new ≡ (words.series_of (world_of machine.old) steps.now Done).world }
@@ -72,7 +72,7 @@ fn put_on(machine: &mut Machine, hart: usize, slot: usize) -> Reply
     series(machine, &[switch, next, next, next])
 }
 
-/// What a line behind `boot` does.
+/// What a line after `boot` does.
 fn make(machine: &mut Machine, images: &[OwnedSegment], command: Command) -> Reply
     requires { HasImage images.now command }
     ensures reply { result ≡ (words.command_outcome images.now (world_of machine.old) command).reply }
@@ -142,10 +142,9 @@ pub fn play<R: Source, W: Sink>(
     reader: &mut R,
     writer: &mut W,
 ) -> Result<(), PlayError>
-    requires reads { R.broken reader.old ≡ false }
-    requires writes { W.broken writer.old ≡ false }
     ensures plays { Plays (R.remaining reader.old) (W.contents writer.old) (W.contents writer.new) result }
-    ensures io { IsErrOf result PlayError.Io ↔ IsTrue (R.broken reader.new || W.broken writer.new) }
+    ensures io { R.broken reader.old ≡ false → W.broken writer.old ≡ false
+        → (IsErrOf result PlayError.Io ↔ IsTrue (R.broken reader.new || W.broken writer.new)) }
 {
     let bytes = match read_all(alloc, reader, LONGEST_SCRIPT) {
         Ok(bytes) => bytes,

@@ -111,7 +111,7 @@ fn read_lines(alloc: Global, bytes: &[u8]) -> Result<(Draft, u64), ScriptError>
     Ok((draft, number))
 }
 
-/// A script: images, what the machine is booted with, and the lines behind `boot`.
+/// A script: images, what the machine is booted with, and the lines after `boot`.
 #[derive(Drop)]
 pub struct Script {
     images: Vec<OwnedSegment>,
@@ -167,7 +167,7 @@ impl Script {
         self.config
     }
 
-    /// The lines behind `boot`.
+    /// The lines after `boot`.
     pub fn commands(&self) -> &[Command]
         ensures { result.now ≡ (self.now).commands }
     {

@@ -5,6 +5,7 @@ ghost use Rattle.std.specs.Io.KnownBytes.{Appends, Keeps};
 
 use std::io::Write;
 
+/// A writer that says whether it has failed.
 pub trait Sink {
     /// The bytes that were written, where they are known.
     ghost contents: { Self → Option (List ℕ) };

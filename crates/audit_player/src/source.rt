@@ -1,10 +1,11 @@
 // Where bytes come from.
 
-ghost use Rattle.std.specs.Prelude.{◌≡◌, ◌≤◌, ◌<◌, false, ◌||◌, ℕ, Bool, List, Option, length, take, IfSome, is_none};
-ghost use Rattle.std.specs.Io.KnownBytes.{Consumes, IsAtEnd};
+ghost use Rattle.std.specs.Prelude.{◌≡◌, ◌≤◌, ◌<◌, false, ◌||◌, ℕ, Bool, List, Option, length, take, IfSome, MatchOption, is_none};
+ghost use Rattle.std.specs.Io.KnownBytes.{Consumes, IsAtEnd, Keeps};
 
 use std::io::Read;
 
+/// A reader that says whether it has failed.
 pub trait Source {
     /// The bytes that reads give from here on, where they are known.
     ghost remaining: { Self → Option (List ℕ) };
@@ -19,7 +20,7 @@ pub trait Source {
     fn read(&mut self, buffer: &mut [u8]) -> Option<usize>
         ensures failed { broken self.new ≡ (broken self.old || is_none result) }
         ensures bound { IfSome result (λ n. n ≤ length buffer.new) }
-        ensures bytes { IfSome result (λ n. Consumes (remaining self.old) (remaining self.new) (take n buffer.new)) }
+        ensures bytes { MatchOption result (Keeps (remaining self.old) (remaining self.new)) (λ n. Consumes (remaining self.old) (remaining self.new) (take n buffer.new)) }
         ensures end { IfSome result (λ n. n ≡ 0 → 0 < length buffer.new → IsAtEnd (remaining self.new)) };
 }
 

@@ -4,15 +4,15 @@ ghost use Rattle.std.specs.Prelude.{◌≡◌, ◌≤◌, length, map};
 ghost use Rattle.std.specs.Option.{option_map};
 ghost use Rattle.process_model.specs.Fields.{table, row_among, row_of};
 
-use process_model::Kind::{Number, Policy, Segment};
-use process_model::{Kind, Word};
+use process_model::FieldKind::{Number, Policy, Segment};
+use process_model::{FieldKind, Keyword};
 
-/// A word, as it is written, and the kinds of the fields behind it.
+/// A word, as it is written, and the kinds of the fields after it.
 #[derive(Clone, Copy)]
 pub struct Row {
     pub text: &'static [u8],
-    pub word: Word,
-    pub kinds: &'static [Kind],
+    pub word: Keyword,
+    pub kinds: &'static [FieldKind],
     pub ghost few: { length kinds.now ≤ 4 },
 }
 
@@ -25,32 +25,32 @@ impl Row {
         [
             Row {
                 text: b"image",
-                word: Word::Image,
+                word: Keyword::Image,
                 kinds: &[Segment],
             },
             Row {
                 text: b"boot",
-                word: Word::Boot,
+                word: Keyword::Boot,
                 kinds: &[Number, Number, Number, Policy],
             },
             Row {
                 text: b"start",
-                word: Word::Start,
+                word: Keyword::Start,
                 kinds: &[Number],
             },
             Row {
                 text: b"on",
-                word: Word::On,
+                word: Keyword::On,
                 kinds: &[Number, Number],
             },
             Row {
                 text: b"load",
-                word: Word::Load,
+                word: Keyword::Load,
                 kinds: &[Number, Number, Number],
             },
             Row {
                 text: b"store",
-                word: Word::Store,
+                word: Keyword::Store,
                 kinds: &[Number, Number, Number, Number],
             },
         ]

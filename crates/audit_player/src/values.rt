@@ -1,4 +1,4 @@
-// The fields behind a word.
+// The fields after a word.
 
 ghost use Rattle.std.specs.Prelude.{◌≡◌, ◌<◌, ◌≤◌, IfOk, length};
 ghost use Rattle.arrayvec.specs.ArrayVec.{array_vec_len};
@@ -10,28 +10,32 @@ use crate::lines::first_field;
 use crate::numbers::{number, signed};
 use crate::segments::read_segment;
 use arrayvec::ArrayVec;
-use process_model::{Cause, Kind, Policy, Value};
+use process_model::{Cause, FieldKind, FieldValue, Policy};
 use std::alloc::{AllocError, Global};
 
-fn read_policy(field: &[u8]) -> Result<Value, Cause>
-    ensures { result ≡ value_of Kind.Policy field.now }
+fn read_policy(field: &[u8]) -> Result<FieldValue, Cause>
+    ensures { result ≡ value_of FieldKind.Policy field.now }
 {
     match field {
-        b"full" => Ok(Value::Policy(Policy::Full)),
+        b"full" => Ok(FieldValue::Policy(Policy::Full)),
         _ => Err(Cause::Field),
     }
 }
 
 /// What a field of a kind says.
-fn read_value(alloc: Global, kind: Kind, field: &[u8]) -> Result<Result<Value, Cause>, AllocError>
+fn read_value(
+    alloc: Global,
+    kind: FieldKind,
+    field: &[u8],
+) -> Result<Result<FieldValue, Cause>, AllocError>
     ensures { IfOk result (λ read. read ≡ value_of kind field.now) }
 {
     let value = match kind {
-        Kind::Number => number(field).map(Value::Number).ok_or(Cause::Number),
-        Kind::Signed => signed(field).map(Value::Signed).ok_or(Cause::Number),
-        Kind::Policy => read_policy(field),
-        Kind::Segment => read_segment(alloc, field)?
-            .map(Value::Segment)
+        FieldKind::Number => number(field).map(FieldValue::Number).ok_or(Cause::Number),
+        FieldKind::Signed => signed(field).map(FieldValue::Signed).ok_or(Cause::Number),
+        FieldKind::Policy => read_policy(field),
+        FieldKind::Segment => read_segment(alloc, field)?
+            .map(FieldValue::Segment)
             .ok_or(Cause::Field),
     };
     Ok(value)
@@ -39,9 +43,9 @@ fn read_value(alloc: Global, kind: Kind, field: &[u8]) -> Result<Result<Value, C
 
 /// The values so far, and one more. A number that is none counts before a field of another wrong form.
 fn and_then(
-    so_far: Result<ArrayVec<Value, 4>, Cause>,
-    next: Result<Value, Cause>,
-) -> Result<ArrayVec<Value, 4>, Cause>
+    so_far: Result<ArrayVec<FieldValue, 4>, Cause>,
+    next: Result<FieldValue, Cause>,
+) -> Result<ArrayVec<FieldValue, 4>, Cause>
     requires { IfOk so_far (λ values. array_vec_len values < 4) }
     ensures { listed result ≡ and_then (listed so_far) next }
 {
@@ -73,9 +77,9 @@ fn count_fields(fields: &[u8]) -> usize
 /// The values of fields by their kinds, as many as there are kinds.
 pub fn read_values(
     alloc: Global,
-    kinds: &[Kind],
+    kinds: &[FieldKind],
     fields: &[u8],
-) -> Result<Result<ArrayVec<Value, 4>, Cause>, AllocError>
+) -> Result<Result<ArrayVec<FieldValue, 4>, Cause>, AllocError>
     requires { length kinds.now ≤ 4 }
     ensures { IfOk result (λ read. listed read ≡ values_of kinds.now (fields_of fields.now)) }
 {

@@ -11,7 +11,7 @@ zeros_are_zero m zero = refl
 zeros_are_zero zero (suc n) = refl
 zeros_are_zero (suc m) (suc n) = omega (arith, zeros_are_zero m n)
 
--- zeros behind a number's bytes add nothing
+-- zeros after a number's bytes add nothing
 number_padded : (w m n : ℕ) (bs : List ℕ) → w ≤ length bs → w ≤ n → number (take w bs ++ replicate m 0) n ≡ number bs w
 unfolding number
 number_padded zero m n bs h le = zeros_are_zero m n
@@ -62,11 +62,11 @@ unfolding low_bytes
 length_low zero v = refl
 length_low (suc w) v = ap suc (length_low w (v / 2 ^ 8))
 
--- zeros, with the front of what stands behind the first k bytes put over them
+-- zeros, with the front of what stands after the first k bytes put over them
 pub put_over_zeros : (n k from m : ℕ) (bytes rest front part : List ℕ) → from ≡ min k (length bytes) → rest ≡ drop from bytes → m ≡ min (length rest) n → front ≡ take m rest → part ≡ front
     → part ++ drop (length front) (replicate n 0) ≡ padded n (drop k bytes)
 put_over_zeros n k from m bytes rest front part from_is rest_is m_is front_is part_is =
-    let behind : rest ≡ drop k bytes = rest_is ∙ ap (λ i. drop i bytes) from_is ∙ drop_min k bytes in
+    let after : rest ≡ drop k bytes = rest_is ∙ ap (λ i. drop i bytes) from_is ∙ drop_min k bytes in
     let least : m ≡ min n (length rest) = omega arith in
-    let is : front ≡ take n (drop k bytes) = front_is ∙ ap (λ i. take i rest) least ∙ take_min n rest ∙ ap (take n) behind in
+    let is : front ≡ take n (drop k bytes) = front_is ∙ ap (λ i. take i rest) least ∙ take_min n rest ∙ ap (take n) after in
     rw (part_is, is, drop-replicate {X = ℕ} (length (take n (drop k bytes))) n 0)

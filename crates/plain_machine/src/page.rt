@@ -6,13 +6,13 @@ ghost use Rattle.process_model.specs.Loading.{page_run};
 ghost use Rattle.process_model.specs.Residence.{initial_page};
 ghost use Rattle.plain_machine.specs.Seen.{pages_from};
 
-/// How many bytes a page and a frame have (RISC-V Privileged Architecture 20211203, 4.3).
+/// How many bytes a page and a frame have (RISC-V Privileged Architecture 20211203, 4.4.1).
 pub const PAGE_SIZE: usize = 4096;
 
 /// A page of bytes.
 pub type Page = [u8; 4096];
 
-/// The page with number `k` of a run that begins with these bytes, zeros behind them.
+/// The page with number `k` of a run that begins with these bytes, zeros after them.
 fn initial(bytes: &[u8], k: usize) -> Page
     requires { k < 2 ^ 32 }
     ensures { result ≡ initial_page bytes.now k }

@@ -39,7 +39,7 @@ misaligned : played (one_page ∷ boot ∷ codes "start 0" ∷ codes "on 0 0" �
 unfolding number low_bytes on_hart with_its_process digits item_line line_of
 misaligned = refl
 
--- no region holds the page behind the last one
+-- no region holds the page after the last one
 past_the_end : played (one_page ∷ boot ∷ codes "start 0" ∷ codes "on 0 0" ∷ codes "store 0 0x2000 1 1" ∷ [])
     ≡ writes (codes "ok" ∷ codes "slot 0" ∷ codes "ok" ∷ codes "fault 15" ∷ [])
 unfolding number low_bytes on_hart with_its_process digits item_line line_of
@@ -69,7 +69,7 @@ no_slot : played (one_page ∷ boot ∷ codes "start 0" ∷ codes "start 0" ∷ 
 unfolding number low_bytes on_hart with_its_process digits item_line line_of
 no_slot = refl
 
--- the image's bytes, zeros behind them to the page's end
+-- the image's bytes, zeros after them to the page's end
 initial_bytes : played (codes "image 0x1000:0x1001:rw:0102" ∷ boot ∷ codes "start 0" ∷ codes "on 0 0" ∷ codes "load 0 0x1000 4" ∷ codes "load 0 0x2ff8 8" ∷ codes "load 0 0x3000 1" ∷ [])
     ≡ writes (codes "ok" ∷ codes "slot 0" ∷ codes "ok" ∷ codes "value 0x201" ∷ codes "value 0x0" ∷ codes "fault 13" ∷ [])
 unfolding number low_bytes on_hart with_its_process digits item_line line_of
@@ -141,7 +141,7 @@ word : played (boot ∷ codes "audit" ∷ [])
 unfolding number low_bytes on_hart with_its_process digits item_line line_of
 word = refl
 
--- an image behind boot
+-- an image after boot
 order_of_declarations : played (boot ∷ one_page ∷ [])
     ≡ Err (2, Order)
 unfolding number low_bytes on_hart with_its_process digits item_line line_of
@@ -218,6 +218,84 @@ too_many : played (one_page ∷ codes "image 0x1000:0x1000:wr:-" ∷ boot ∷ []
     ≡ Err (2, TooMany)
 unfolding number low_bytes on_hart with_its_process digits item_line line_of
 too_many = refl
+
+-- a misaligned load
+misaligned_load : played (codes "image 0x1000:0x1000:rw:-" ∷ codes "boot 1 64 1 full" ∷ codes "start 0" ∷ codes "on 0 0" ∷ codes "load 0 0x1002 4" ∷ [])
+    ≡ writes (codes "ok" ∷ codes "slot 0" ∷ codes "ok" ∷ codes "fault 4" ∷ [])
+unfolding number low_bytes on_hart with_its_process digits item_line line_of
+misaligned_load = refl
+
+-- the trampoline's page is the kernel's
+trampoline : played (codes "image 0x1000:0x1000:rw:-" ∷ codes "boot 1 64 1 full" ∷ codes "start 0" ∷ codes "on 0 0" ∷ codes "load 0 0x3ffffff000 1" ∷ [])
+    ≡ writes (codes "ok" ∷ codes "slot 0" ∷ codes "ok" ∷ codes "fault 13" ∷ [])
+unfolding number low_bytes on_hart with_its_process digits item_line line_of
+trampoline = refl
+
+-- and the trapframe's
+trapframe : played (codes "image 0x1000:0x1000:rw:-" ∷ codes "boot 1 64 1 full" ∷ codes "start 0" ∷ codes "on 0 0" ∷ codes "store 0 0x3fffffe000 8 1" ∷ [])
+    ≡ writes (codes "ok" ∷ codes "slot 0" ∷ codes "ok" ∷ codes "fault 15" ∷ [])
+unfolding number low_bytes on_hart with_its_process digits item_line line_of
+trapframe = refl
+
+-- a store puts just its low bytes in place
+low_bytes_stored : played (codes "image 0x1000:0x1000:rw:-" ∷ codes "boot 1 64 1 full" ∷ codes "start 0" ∷ codes "on 0 0" ∷ codes "store 0 0x1000 8 0x8877665544332211" ∷ codes "store 0 0x1002 2 0xaabbccdd" ∷ codes "load 0 0x1000 8" ∷ [])
+    ≡ writes (codes "ok" ∷ codes "slot 0" ∷ codes "ok" ∷ codes "stored" ∷ codes "stored" ∷ codes "value 0x88776655ccdd2211" ∷ [])
+unfolding number low_bytes on_hart with_its_process digits item_line line_of
+low_bytes_stored = refl
+
+-- 1,008 pages and four tables, of 1,020 frames less eight
+large_memory : played (codes "image 0x1000:0x3f0000:rw:-" ∷ codes "boot 1 1020 1 full" ∷ codes "start 0" ∷ [])
+    ≡ writes (codes "ok" ∷ codes "slot 0" ∷ [])
+unfolding number low_bytes on_hart with_its_process digits item_line line_of
+large_memory = refl
+
+-- one frame too few
+large_memory_less_one : played (codes "image 0x1000:0x3f0000:rw:-" ∷ codes "boot 1 1019 1 full" ∷ codes "start 0" ∷ [])
+    ≡ writes (codes "ok" ∷ codes "refused 9 NoFrame" ∷ [])
+unfolding number low_bytes on_hart with_its_process digits item_line line_of
+large_memory_less_one = refl
+
+-- five pages across two megabytes: a root and three tables, and nine frames are free
+two_tables : played (codes "image 0x1fd000:0x5000:rw:-" ∷ codes "boot 1 16 1 full" ∷ codes "start 0" ∷ [])
+    ≡ writes (codes "ok" ∷ codes "slot 0" ∷ [])
+unfolding number low_bytes on_hart with_its_process digits item_line line_of
+two_tables = refl
+
+-- four pages across a gigabyte: a root and four tables, and nine frames are free
+two_gigabytes : played (codes "image 0x3fffe000:0x4000:rw:-" ∷ codes "boot 1 16 1 full" ∷ codes "start 0" ∷ [])
+    ≡ writes (codes "ok" ∷ codes "slot 0" ∷ [])
+unfolding number low_bytes on_hart with_its_process digits item_line line_of
+two_gigabytes = refl
+
+-- one page more
+two_tables_and_one_page_more : played (codes "image 0x1fd000:0x6000:rw:-" ∷ codes "boot 1 16 1 full" ∷ codes "start 0" ∷ [])
+    ≡ writes (codes "ok" ∷ codes "refused 9 NoFrame" ∷ [])
+unfolding number low_bytes on_hart with_its_process digits item_line line_of
+two_tables_and_one_page_more = refl
+
+-- one page more
+two_gigabytes_and_one_page_more : played (codes "image 0x3fffe000:0x5000:rw:-" ∷ codes "boot 1 16 1 full" ∷ codes "start 0" ∷ [])
+    ≡ writes (codes "ok" ∷ codes "refused 9 NoFrame" ∷ [])
+unfolding number low_bytes on_hart with_its_process digits item_line line_of
+two_gigabytes_and_one_page_more = refl
+
+-- a carriage return before the line's end is dropped
+carriage_returns : played (codes "image 0x1000:0x1000:rw:-\r" ∷ codes "boot 1 64 1 full\r" ∷ codes "start 0\r" ∷ [])
+    ≡ writes (codes "ok" ∷ codes "slot 0" ∷ [])
+unfolding number low_bytes on_hart with_its_process digits item_line line_of
+carriage_returns = refl
+
+-- sixteen frames at the least
+frames_at_least : played (codes "boot 1 15 1 full" ∷ [])
+    ≡ Err (1, Limits)
+unfolding number low_bytes on_hart with_its_process digits item_line line_of
+frames_at_least = refl
+
+-- 1,024 frames at the most
+frames_at_most : played (codes "boot 1 1025 1 full" ∷ [])
+    ≡ Err (1, Limits)
+unfolding number low_bytes on_hart with_its_process digits item_line line_of
+frames_at_most = refl
 
 -- how numbers are written
 

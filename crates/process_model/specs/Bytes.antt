@@ -20,7 +20,7 @@ write_bytes bs o vs = take o bs ++ vs ++ drop (o + length vs) bs
 abbrev pub padded : ℕ → List ℕ → List ℕ
 padded n bs = let front = take n bs in front ++ replicate (n - length front) 0
 
--- a page has 4,096 bytes (4.3 of the standard)
+-- a page has 4,096 bytes (4.4 of the standard)
 abbrev pub page_of : ℕ → ℕ
 page_of address = address / 4096
 

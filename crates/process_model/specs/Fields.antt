@@ -1,4 +1,4 @@
--- The words of the lines, and what the fields behind a word say.
+-- The words of the lines, and what the fields after a word say.
 use Rattle.std.specs.Prelude.{ℕ, ℤ, Bool, true, false, List, [], ◌∷◌, Option, Some, None, Result, Ok, Err, codes, ◌++◌, ◌||◌, length, ◌==◌, if◌then◌else◌}
 use Rattle.std.specs.Str.{bytes_eq}
 use Rattle.process_model.specs.Lines.{pieces_of}
@@ -6,21 +6,21 @@ use Rattle.process_model.specs.Numbers.{number_of, signed_of, hex_of}
 use Rattle.process_model.specs.declared.image.OwnedSegment.{OwnedSegment}
 use Rattle.process_model.specs.declared.script.Cause.{Cause}
 use Rattle.process_model.specs.declared.script.Cause.TheVariants as cause
-use Rattle.process_model.specs.declared.script.Kind.{Kind}
-use Rattle.process_model.specs.declared.script.Kind.TheVariants as kind
+use Rattle.process_model.specs.declared.script.FieldKind.{FieldKind}
+use Rattle.process_model.specs.declared.script.FieldKind.TheVariants as kind
 use Rattle.process_model.specs.declared.config.Policy.TheVariants as policy
-use Rattle.process_model.specs.declared.script.Value.{Value}
-use Rattle.process_model.specs.declared.script.Value.TheVariants as value
-use Rattle.process_model.specs.declared.script.Word.{Word}
-use Rattle.process_model.specs.declared.script.Word.TheVariants as word
+use Rattle.process_model.specs.declared.script.FieldValue.{FieldValue}
+use Rattle.process_model.specs.declared.script.FieldValue.TheVariants as value
+use Rattle.process_model.specs.declared.script.Keyword.{Keyword}
+use Rattle.process_model.specs.declared.script.Keyword.TheVariants as word
 
--- a word, as it is written, and the kinds of the fields behind it
+-- a word, as it is written, and the kinds of the fields after it
 pub record Row : Type 0 where
   pub text : List ℕ
-  pub word : Word
-  pub kinds : List Kind
+  pub word : Keyword
+  pub kinds : List FieldKind
 
-abbrev pub row : List ℕ → Word → List Kind → Row
+abbrev pub row : List ℕ → Keyword → List FieldKind → Row
 row text w kinds = record { text = text; word = w; kinds = kinds }
 
 abbrev pub table : List Row
@@ -43,18 +43,18 @@ row_of text = row_among table text
 
 -- what a field says, by its kind
 
-abbrev pub number_value : Option ℕ → Result Value Cause
+abbrev pub number_value : Option ℕ → Result FieldValue Cause
 number_value None = Err cause.Number
 number_value (Some n) = Ok (value.Number n)
 
-abbrev pub signed_value : Option ℤ → Result Value Cause
+abbrev pub signed_value : Option ℤ → Result FieldValue Cause
 signed_value None = Err cause.Number
 signed_value (Some z) = Ok (value.Signed z)
 
-abbrev pub policy_value : List ℕ → Result Value Cause
+abbrev pub policy_value : List ℕ → Result FieldValue Cause
 policy_value field = if bytes_eq field (codes "full") then Ok (value.Policy policy.Full) else Err cause.Field
 
--- the letters of reading and writing, in either order; reading is always granted, and no other rights can be asked yet
+-- the letters of reading and writing, in either order
 abbrev pub are_flags : List ℕ → Bool
 are_flags text = bytes_eq text (codes "rw") || bytes_eq text (codes "wr")
 
@@ -67,11 +67,11 @@ abbrev pub segment_in : List (List ℕ) → Option OwnedSegment
 segment_in (address ∷ memory_size ∷ flags ∷ bytes ∷ []) = segment_with (number_of address) (number_of memory_size) (are_flags flags) (hex_of bytes)
 segment_in _ = None
 
-abbrev pub segment_value : Option OwnedSegment → Result Value Cause
+abbrev pub segment_value : Option OwnedSegment → Result FieldValue Cause
 segment_value None = Err cause.Field
 segment_value (Some s) = Ok (value.Segment s)
 
-abbrev pub value_of : Kind → List ℕ → Result Value Cause
+abbrev pub value_of : FieldKind → List ℕ → Result FieldValue Cause
 value_of kind.Number field = number_value (number_of field)
 value_of kind.Signed field = signed_value (signed_of field)
 value_of kind.Policy field = policy_value field
@@ -83,18 +83,18 @@ first_cause cause.Number d = cause.Number
 first_cause c d = d
 
 -- A fault of a number comes before one of another form, wherever they stand.
-abbrev pub and_then : Result (List Value) Cause → Result Value Cause → Result (List Value) Cause
+abbrev pub and_then : Result (List FieldValue) Cause → Result FieldValue Cause → Result (List FieldValue) Cause
 and_then (Ok vs) (Ok v) = Ok (vs ++ v ∷ [])
 and_then (Ok vs) (Err c) = Err c
 and_then (Err c) (Ok v) = Err c
 and_then (Err c) (Err d) = Err (first_cause c d)
 
--- the values of fields, each read by its kind, behind those so far
-abbrev pub values_from : Result (List Value) Cause → List Kind → List (List ℕ) → Result (List Value) Cause
+-- the values of fields, each read by its kind, after those so far
+abbrev pub values_from : Result (List FieldValue) Cause → List FieldKind → List (List ℕ) → Result (List FieldValue) Cause
 values_from so_far [] fields = so_far
 values_from so_far (k ∷ ks) [] = so_far
 values_from so_far (k ∷ ks) (field ∷ fields) = values_from (and_then so_far (value_of k field)) ks fields
 
 -- as many fields as kinds, and their values
-abbrev pub values_of : List Kind → List (List ℕ) → Result (List Value) Cause
+abbrev pub values_of : List FieldKind → List (List ℕ) → Result (List FieldValue) Cause
 values_of kinds fields = if length fields == length kinds then values_from (Ok []) kinds fields else Err cause.Count

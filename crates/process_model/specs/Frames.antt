@@ -11,7 +11,8 @@ tables_needed pages = 1 + count (numbers (map (λ n. n / 2 ^ 18) pages)) + count
 abbrev pub frames_needed : List ℕ → ℕ
 frames_needed pages = length pages + tables_needed pages
 
--- what boot takes: the trampoline page, the tables of the kernel, and one stack a slot
+-- what boot takes: the trampoline page, five tables of the kernel, six where the direct map passes two megabytes, and one
+-- stack a slot (own choice: no device is mapped)
 abbrev pub kernel_frames : ℕ → ℕ → ℕ
 kernel_frames frames slots = (if nat_le frames 512 then 6 else 7) + slots
 

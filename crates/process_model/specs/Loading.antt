@@ -8,8 +8,8 @@ use Rattle.process_model.specs.declared.image.BadImage.{BadImage}
 use Rattle.process_model.specs.declared.image.BadImage.TheVariants.{Sizes, Wraps, Align, TooHigh, NoLoad}
 use Rattle.process_model.specs.declared.image.Segment.{Segment}
 
--- the first check that the image fails: the sizes and the place of its segment, room for a guard and a stack page
--- below the trapframe, and that there is a page at all
+-- the first check that the image fails: its sizes, its place, that there is a page at all, and room for a guard and a stack
+-- page below the trapframe (own choice)
 abbrev pub image_fault : Segment → Option BadImage
 image_fault s = first_true (
     (nat_lt s.memory_size (length s.bytes.now), Sizes)

@@ -24,7 +24,7 @@ abbrev pub digits_in : ℕ → List ℕ → Option ℕ
 digits_in base [] = None
 digits_in base (b ∷ digits) = digits_from base (Some 0) (b ∷ digits)
 
--- decimal, or hexadecimal behind 0x, of any size
+-- decimal, or hexadecimal after 0x, of any size
 abbrev pub whole_of : List ℕ → Option ℕ
 whole_of [] = None
 whole_of (a ∷ []) = digits_in 10 (a ∷ [])

@@ -1,8 +1,8 @@
 -- A finite map from page numbers that computes: its entries in ascending order, so two maps that answer alike are equal.
-use Rattle.std.specs.Prelude.{◌≡◌, ℕ, cond, T, List, [], ◌∷◌, map, length, Option, Some}
-use Rattle.std.specs.Ordering.{nat_cmp, eq_by_cmp}
+use Rattle.std.specs.Prelude.{ℕ, T, List, [], ◌∷◌, map, length, Option}
+use Rattle.std.specs.Ordering.{nat_cmp}
 use Rattle.std.specs.Cmp.{nat_cmp_total}
-use Rattle.std.specs.FinMap.Entries.{put, find, is_sorted, is_sorted-put, find-put}
+use Rattle.std.specs.FinMap.Entries.{put, find, is_sorted, is_sorted-put}
 
 pub record PageMap (X : Type 0) : Type 0 where
   pub entries : List (ℕ × X)
@@ -17,9 +17,6 @@ module _ {X : Type 0} where
 
   abbrev pub keys : PageMap X → List ℕ
   keys m = map (λ e. e.0) m.entries
-
-  pub get-insert : (m : PageMap X) (k : ℕ) (v : X) (q : ℕ) → get (insert m k v) q ≡ cond (eq_by_cmp nat_cmp q k) (Some v) (get m q)
-  get-insert m k v q = find-put nat_cmp nat_cmp_total q k v m.entries
 
 abbrev pub empty : (X : Type 0) → PageMap X
 empty X = record { entries = []; sorted = tt }

@@ -33,12 +33,12 @@ pub record Region : Type 0 where
   pub executes : Bool
   pub kind : RegionKind
 
--- the page behind the last one
-abbrev pub behind : Region → ℕ
-behind r = r.first + r.pages
+-- the page after the last one
+abbrev pub end_of : Region → ℕ
+end_of r = r.first + r.pages
 
 abbrev pub holds_page : Region → ℕ → Bool
-holds_page r page = nat_le r.first page && nat_lt page (behind r)
+holds_page r page = nat_le r.first page && nat_lt page (end_of r)
 
 -- a settled page: it has bytes of its own
 pub record Page : Type 0 where
@@ -83,7 +83,7 @@ right_rule Fetch = NoExec
 right_rule Load = NoRead
 right_rule Store = NoWrite
 
--- the first rule that denies an access of that width at that address; None where it is granted
+-- the first rule that denies an access of that width at that address, in an order of our own; None where it is granted
 abbrev pub first_rule : Process → Access → ℕ → ℕ → Option Rule
 first_rule p access address width =
     let page = page_of address in

@@ -8,7 +8,7 @@ use Rattle.process_model.specs.declared.access.Access.TheVariants.{Store}
 use Rattle.process_model.specs.declared.step.Reply.{Reply}
 use Rattle.process_model.specs.declared.step.Reply.TheVariants.{Value, Stored}
 
--- what the page with number k of a run has when it is settled: the run's bytes in their place, zeros behind them
+-- what the page with number k of a run has when it is settled: the run's bytes in their place, zeros after them
 abbrev pub initial_page : List ℕ → ℕ → List ℕ
 initial_page bytes k = padded 4096 (drop (4096 * k) bytes)
 

@@ -15,10 +15,10 @@ use Rattle.process_model.specs.declared.script.Item.{Item}
 use Rattle.process_model.specs.declared.script.Item.TheVariants as item
 use Rattle.process_model.specs.declared.config.Policy.{Policy}
 use Rattle.process_model.specs.declared.config.Policy.TheVariants as policy
-use Rattle.process_model.specs.declared.script.Value.{Value}
-use Rattle.process_model.specs.declared.script.Value.TheVariants as value
-use Rattle.process_model.specs.declared.script.Word.{Word}
-use Rattle.process_model.specs.declared.script.Word.TheVariants as word
+use Rattle.process_model.specs.declared.script.FieldValue.{FieldValue}
+use Rattle.process_model.specs.declared.script.FieldValue.TheVariants as value
+use Rattle.process_model.specs.declared.script.Keyword.{Keyword}
+use Rattle.process_model.specs.declared.script.Keyword.TheVariants as word
 
 -- what the lines so far say
 pub record Draft : Type 0 where
@@ -56,41 +56,41 @@ row_named (Some r) = Ok r
 
 -- the order of lines: declarations, one boot, steps
 
-abbrev pub comes_first : Word → Bool
+abbrev pub comes_first : Keyword → Bool
 comes_first word.Image = true
 comes_first word.Boot = true
 comes_first _ = false
 
-abbrev pub in_order : Draft → Word → Bool
+abbrev pub in_order : Draft → Keyword → Bool
 in_order s w = if is_some s.config then not (comes_first w) else comes_first w
 
--- the item that the values behind a word make
+-- the item that the values after a word make
 
-abbrev pub as_number : Option Value → ℕ
+abbrev pub as_number : Option FieldValue → ℕ
 as_number (Some (value.Number n)) = n
 as_number v = 0
 
-abbrev pub number_at : List Value → ℕ → ℕ
+abbrev pub number_at : List FieldValue → ℕ → ℕ
 number_at vs k = as_number (slice_get vs k)
 
-abbrev pub as_policy : Option Value → Policy
+abbrev pub as_policy : Option FieldValue → Policy
 as_policy (Some (value.Policy p)) = p
 as_policy v = policy.Full
 
 abbrev pub no_segment : OwnedSegment
 no_segment = record { address = 0; memory_size = 0; writes = false; executes = false; bytes = [] }
 
-abbrev pub as_segment : Option Value → OwnedSegment
+abbrev pub as_segment : Option FieldValue → OwnedSegment
 as_segment (Some (value.Segment s)) = s
 as_segment v = no_segment
 
-abbrev pub config_of : List Value → Config
+abbrev pub config_of : List FieldValue → Config
 config_of vs = record { harts = number_at vs 0; frames = number_at vs 1; slots = number_at vs 2; policy = as_policy (slice_get vs 3) }
 
 abbrev pub in_limits : Bool → Item → Result Item Cause
 in_limits within i = if within then Ok i else Err cause.Limits
 
-abbrev pub item_of : Draft → Word → List Value → Result Item Cause
+abbrev pub item_of : Draft → Keyword → List FieldValue → Result Item Cause
 item_of s word.Image vs = Ok (item.Image (as_segment (slice_get vs 0)))
 item_of s word.Boot vs = in_limits (can_boot (number_at vs 0) (number_at vs 1) (number_at vs 2)) (item.Boot (config_of vs))
 item_of s word.Start vs = in_limits (nat_lt (number_at vs 0) (length s.images)) (item.Command (command.Start (number_at vs 0)))
@@ -98,7 +98,7 @@ item_of s word.On vs = Ok (item.Command (command.On (number_at vs 0) (number_at 
 item_of s word.Load vs = in_limits (is_width (number_at vs 2)) (item.Command (command.Load (number_at vs 0) (number_at vs 1) (number_at vs 2)))
 item_of s word.Store vs = in_limits (is_width (number_at vs 2)) (item.Command (command.Store (number_at vs 0) (number_at vs 1) (number_at vs 2) (number_at vs 3)))
 
--- how many images there may be, and how many lines behind boot
+-- how many images there may be, and how many lines after boot
 abbrev pub most_images : ℕ
 most_images = 1
 
@@ -166,7 +166,7 @@ abbrev pub read_lines : Read → List (List ℕ) → Read
 read_lines read [] = read
 read_lines read (line ∷ lines) = read_lines (next_line read line) lines
 
--- a script has a boot; where there is none, the fault is in the line behind the last
+-- a script has a boot; where there is none, the fault is in the line after the last
 abbrev pub whole_with : Draft → ℕ → Option Config → Result Script (ℕ × Cause)
 whole_with s n None = Err (n + 1, cause.Order)
 whole_with s n (Some c) = Ok (record { images = s.images; config = c; commands = s.commands })

@@ -104,6 +104,6 @@ abbrev pub commands_text : List OwnedSegment → World → List Command → List
 commands_text images w [] = []
 commands_text images w (c ∷ cs) = let o = command_outcome images w c in line_text (reply_text o.reply) ++ commands_text images o.world cs
 
--- what `play` writes for a script: a line for `boot`, and one for each line behind it
+-- what `play` writes for a script: a line for `boot`, and one for each line after it
 abbrev pub text_of : Script → List ℕ
 text_of s = line_text (codes "ok") ++ commands_text s.images (booted s.config) s.commands

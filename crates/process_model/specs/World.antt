@@ -67,8 +67,8 @@ lowest_free n (Some p ∷ slots) = lowest_free (n + 1) slots
 -- when a step is possible
 
 -- the refusals that every step on a hart has, in their order
-abbrev pub gate_refusal : Hart → Bool → (Hart → Bool) → Option Refusal
-gate_refusal hart proper possible = first_true (
+abbrev pub common_refusal : Hart → Bool → (Hart → Bool) → Option Refusal
+common_refusal hart proper possible = first_true (
     (not proper, BadArgument)
     ∷ (not (possible hart), Impossible hart.phase)
     ∷ [])
@@ -79,7 +79,7 @@ unless_refused w run hart None = run hart
 
 abbrev pub on_hart_at : World → Bool → (Hart → Bool) → (Hart → Outcome) → Option Hart → Outcome
 on_hart_at w proper possible run None = refuses w BadArgument
-on_hart_at w proper possible run (Some hart) = unless_refused w run hart (gate_refusal hart proper possible)
+on_hart_at w proper possible run (Some hart) = unless_refused w run hart (common_refusal hart proper possible)
 
 unfoldable pub on_hart : World → ℕ → Bool → (Hart → Bool) → (Hart → Outcome) → Outcome
 on_hart w h proper possible run = on_hart_at w proper possible run (slice_get w.harts h)
@@ -96,7 +96,7 @@ with_slot_of w phase run (Some s) = with_process_of w phase s run (process_in w 
 unfoldable pub with_its_process : World → Hart → (ℕ → Process → Outcome) → Outcome
 with_its_process w hart run = with_slot_of w hart.phase run hart.slot
 
--- the stages of the return to the user; nothing leads out of a trap yet
+-- the stages of the return to the user
 abbrev pub next_phase : Phase → Option Phase
 next_phase Kernel = Some Leave1
 next_phase Leave1 = Some Leave2
@@ -144,11 +144,11 @@ faulted w a s p cause = answers
     (with_hart (with_process w s (record p { pending = Some (record { access = a.access; address = a.address; width = a.width }) })) a.hart_number (record a.hart { phase = Enter0 }))
     (Fault cause)
 
-abbrev pub settles_pending : Process → Process
-settles_pending p = record p { pending = None }
+abbrev pub without_pending : Process → Process
+without_pending p = record p { pending = None }
 
 abbrev pub answered : World → ℕ → Process → ℕ → Reply × Page → Outcome
-answered w s p page a = answers (with_process w s (settles_pending (with_page p page a.1))) a.0
+answered w s p page a = answers (with_process w s (without_pending (with_page p page a.1))) a.0
 
 -- a fault where the access is not resident, and else its answer
 abbrev pub if_resident : World → Asked → ℕ → Process → Option Page → Outcome

@@ -11,7 +11,7 @@ pub struct Segment<'a> {
     pub memory_size: u64,
     pub writes: bool,
     pub executes: bool,
-    /// What the range begins with; zeros stand behind.
+    /// What the range begins with; zeros stand after.
     pub bytes: &'a [u8],
 }
 
@@ -25,7 +25,7 @@ pub struct OwnedSegment {
     pub bytes: Bytes,
 }
 
-/// The check that an image failed, in the order of the checks.
+/// The check that an image failed.
 #[derive(Clone, Copy, PartialEq, Eq, Debug)]
 pub enum BadImage {
     /// There are more bytes than the range has.
@@ -34,8 +34,8 @@ pub enum BadImage {
     Wraps,
     /// The range does not begin on a page.
     Align,
-    /// Two pages behind the range, the trapframe is reached.
-    TooHigh,
     /// There is no segment with pages.
     NoLoad,
+    /// The range, rounded up to a page, and two pages more end above the trapframe's address.
+    TooHigh,
 }

@@ -16,5 +16,5 @@ pub use access::{Access, Phase, Rule, is_width};
 pub use bytes::Bytes;
 pub use config::{Config, Policy};
 pub use image::{BadImage, OwnedSegment, Segment};
-pub use script::{Cause, Command, Item, Kind, Value, Word};
+pub use script::{Cause, Command, FieldKind, FieldValue, Item, Keyword};
 pub use step::{Refusal, Reply, Step};

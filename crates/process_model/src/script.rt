@@ -28,7 +28,7 @@ pub enum Cause {
 
 /// The first field of a line.
 #[derive(Clone, Copy, PartialEq, Eq, Debug)]
-pub enum Word {
+pub enum Keyword {
     Image,
     Boot,
     Start,
@@ -39,10 +39,10 @@ pub enum Word {
 
 /// How a further field is read.
 #[derive(Clone, Copy, PartialEq, Eq, Debug)]
-pub enum Kind {
+pub enum FieldKind {
     /// From 0 to 2^64 - 1.
     Number,
-    /// From -2^63 to 2^63 - 1; no line has such a field yet.
+    /// From -2^63 to 2^63 - 1.
     Signed,
     Policy,
     /// `VADDR:MEMSZ:FLAGS:HEX`.
@@ -51,7 +51,7 @@ pub enum Kind {
 
 /// What a field says.
 #[derive(Drop)]
-pub enum Value {
+pub enum FieldValue {
     Number(u64),
     Signed(i64),
     Policy(Policy),
@@ -59,18 +59,18 @@ pub enum Value {
 }
 
 /// Room in a fixed list is filled with zeros.
-impl Default for Value {
+impl Default for FieldValue {
     ghost use Rattle.std.specs.Prelude.{◌≡◌};
-    ghost use Rattle.process_model.specs.declared.script.Value.TheVariants.{Number};
+    ghost use Rattle.process_model.specs.declared.script.FieldValue.TheVariants.{Number};
 
     ghost is_default = { λ v. v ≡ Number 0 };
 
-    fn default() -> Value {
-        Value::Number(0)
+    fn default() -> FieldValue {
+        FieldValue::Number(0)
     }
 }
 
-/// A line behind `boot`.
+/// A line after `boot`.
 #[derive(Clone, Copy, PartialEq, Eq, Debug)]
 pub enum Command {
     /// The number of the image, from 0.

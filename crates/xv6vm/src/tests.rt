@@ -3,7 +3,8 @@
 use crate::fault::Fault;
 use crate::words::Words;
 use audit_player::{PlayError, Reader, Writer, play};
-use process_model::Cause;
+use plain_machine::Machine;
+use process_model::{Cause, Config, Policy, Reply, Segment, Step};
 use std::alloc::{AllocError, Global};
 use std::io;
 use std::io::{Read, Write};
@@ -40,6 +41,15 @@ fn plays_worked_rows(rt: HostRuntime) -> Result<(), Fail> {
         ),
         ("load 1 0x1000 8\n", "refused 15 BadArgument\n"),
         ("start 0\n", "refused 10 NoSlot\n"),
+        ("on 0 0\n", "refused 19 Impossible user\n"),
+        ("load 0 0x1002 4\n", "fault 4\n"),
+        ("load 0 0x4000000000 1\n", "fault 13\n"),
+        ("load 0 0x3ffffff000 1\n", "fault 13\n"),
+        ("store 0 0x3fffffe000 8 1\n", "fault 15\n"),
+        (
+            "store 0 0x1000 8 0x8877665544332211\nstore 0 0x1002 2 0xaabbccdd\nload 0 0x1000 8\n",
+            "stored\nstored\nvalue 0x88776655ccdd2211\n",
+        ),
     ];
     for (lines, want) in rows {
         let script = with_one_page(rt.alloc(), lines)?;
@@ -48,6 +58,113 @@ fn plays_worked_rows(rt: HostRuntime) -> Result<(), Fail> {
         assert_eq!(rt; result, Ok(()), "at {lines}");
         assert_eq!(rt; text.as_slice(), want.as_bytes(), "at {lines}");
     }
+    Ok(())
+}
+
+#[test]
+fn plays_whole_scripts(rt: HostRuntime) -> Result<(), Fail> {
+    let image = "image 0x1000:0x1000:rw:-\n";
+    let rows = [
+        (
+            "boot 1 64 1 full\non 0 0\non 0 1\n",
+            "ok\nrefused 19 Impossible idle\nrefused 19 Impossible idle\n",
+        ),
+        ("\t# x\n\n \t\nboot 1 64 1 full ", "ok\n"),
+        ("boot\t1 0x40 1 full\r\n# x\r\nstart 0\r", "ok\nslot 0\n"),
+    ];
+    for (lines, want) in rows {
+        let script = format!(in rt.alloc(); "{image}{lines}")?;
+        let (result, text) = played(rt.alloc(), script.as_bytes());
+        assert_eq!(rt; result, Ok(()), "at {lines}");
+        assert_eq!(rt; text.as_slice(), want.as_bytes(), "at {lines}");
+    }
+    let long =
+        "image 0x1000:0x1001:rw:01Ff\nboot 1 64 1 full\nstart 0\non 0 0\nload 0 0x1000 4\nload 0 0x2ff8 8\nload 0 0x3000 1\n";
+    let (_, text) = played(rt.alloc(), long.as_bytes());
+    assert_eq!(rt;
+        text.as_slice(),
+        b"ok\nslot 0\nok\nvalue 0xff01\nvalue 0x0\nfault 13\n".as_slice()
+    );
+    Ok(())
+}
+
+#[test]
+fn takes_just_the_frames_needed(rt: HostRuntime) -> Result<(), Fail> {
+    let rows = [
+        ("0x1000:0x3f0000", 1020, "slot 0"),
+        ("0x1000:0x3f0000", 1019, "refused 9 NoFrame"),
+        ("0x1fd000:0x5000", 16, "slot 0"),
+        ("0x1fd000:0x6000", 16, "refused 9 NoFrame"),
+        ("0x3fffe000:0x4000", 16, "slot 0"),
+        ("0x3fffe000:0x5000", 16, "refused 9 NoFrame"),
+    ];
+    for (image, frames, want) in rows {
+        let script = format!(in rt.alloc();
+            "image {image}:rw:-\nboot 1 {frames} 1 full\nstart 0\n"
+        )?;
+        let want = format!(in rt.alloc(); "ok\n{want}\n")?;
+        let (result, text) = played(rt.alloc(), script.as_bytes());
+        assert_eq!(rt; result, Ok(()), "at {image}");
+        assert_eq!(rt; text.as_slice(), want.as_bytes(), "at {image} {frames}");
+    }
+    Ok(())
+}
+
+#[test]
+fn runs_steps(rt: HostRuntime) -> Result<(), Fail> {
+    let config = Config {
+        harts: 1,
+        frames: 64,
+        slots: 1,
+        policy: Policy::Full,
+    };
+    let image = Segment {
+        address: 0x1000,
+        memory_size: 0x1000,
+        writes: true,
+        executes: false,
+        bytes: &[],
+    };
+    let next = Step::Next { hart: 0 };
+    let mut machine = Machine::boot(rt.alloc(), config).ok().ok_or("memory")?;
+    let steps = [
+        Step::Start(image),
+        Step::Switch {
+            hart: 0,
+            slot: Some(0),
+        },
+        next,
+        next,
+        next,
+        Step::Store {
+            hart: 0,
+            address: 0x1000,
+            width: 8,
+            value: 0x1122334455667788,
+        },
+        Step::Load {
+            hart: 0,
+            address: 0x1000,
+            width: 8,
+        },
+        Step::Load {
+            hart: 0,
+            address: 0x1004,
+            width: 2,
+        },
+    ];
+    let want = [
+        Reply::Started(0),
+        Reply::Done,
+        Reply::Done,
+        Reply::Done,
+        Reply::Done,
+        Reply::Stored,
+        Reply::Value(0x1122334455667788),
+        Reply::Value(0x3344),
+    ];
+    let replies = machine.run(rt.alloc(), steps.as_slice())?;
+    assert_eq!(rt; replies.as_slice(), want.as_slice());
     Ok(())
 }
 
@@ -86,6 +203,17 @@ fn refuses_scripts(rt: HostRuntime) -> Result<(), Fail> {
         ("boot 2 64 1 full", 1, Cause::Limits),
         ("boot 1 64 2 full", 1, Cause::Limits),
         ("boot 1 15 1 full", 1, Cause::Limits),
+        ("boot 1 1025 1 full", 1, Cause::Limits),
+        ("boot 1 18446744073709551616 1 fast", 1, Cause::Number),
+        ("on 0 0\nboot 1 64 1 full", 1, Cause::Order),
+        ("image 0x1000:0x1000:rw:-", 2, Cause::Order),
+        (
+            "boot 1 64 1 full\nimage 0x1000:0x1000:rw:-",
+            2,
+            Cause::Order,
+        ),
+        ("boot 1 64 1 full\nload 0 0 3", 2, Cause::Limits),
+        ("boot 1 64 1 full\nstart 0", 2, Cause::Limits),
         ("boot 1 64 1 full\naudit", 2, Cause::Word),
         ("boot 1 64 1 full\nload 0 0x1000 8 @0", 2, Cause::Count),
         ("boot 1 64 1 full\nload 0 0 @1", 2, Cause::Number),
@@ -107,6 +235,26 @@ fn refuses_scripts(rt: HostRuntime) -> Result<(), Fail> {
     let twice = format!(in rt.alloc(); "{image}{image}boot 1 64 1 full\n")?;
     let (result, _) = played(rt.alloc(), twice.as_bytes());
     assert_eq!(rt; result, Err(PlayError::Script(2, Cause::TooMany)));
+    Ok(())
+}
+
+#[test]
+fn takes_a_hundred_thousand_lines(rt: HostRuntime) -> Result<(), Fail> {
+    let mut script = String::new(rt.alloc());
+    script.push_str("boot 1 16 1 full\n")?;
+    for _ in 0..100_000 {
+        script.push_str("on 0 0\n\n#\n")?;
+    }
+    let (result, text) = played(rt.alloc(), script.as_bytes());
+    assert_eq!(rt; result, Ok(()));
+    assert_eq!(rt;
+        text.len(),
+        3 + 100_000 * "refused 19 Impossible idle\n".len()
+    );
+    script.push_str("on 0 0")?;
+    let (result, text) = played(rt.alloc(), script.as_bytes());
+    assert_eq!(rt; result, Err(PlayError::Script(300_002, Cause::TooMany)));
+    assert!(rt; text.is_empty());
     Ok(())
 }
 
@@ -276,5 +424,10 @@ fn prints_what_ended_it(rt: HostRuntime) -> Result<(), Fail> {
         assert_eq!(rt; said.as_str(), text);
         assert_eq!(rt; fault.status(), status);
     }
+    // A word that is no text, and want of memory for one.
+    let no_text = Fault::from(io::Error::from(io::ErrorKind::InvalidData));
+    assert_eq!(rt; no_text.status(), 2);
+    let no_memory = Fault::from(io::Error::from(io::ErrorKind::OutOfMemory));
+    assert_eq!(rt; no_memory.status(), 1);
     Ok(())
 }

@@ -5,7 +5,7 @@ use audit_player::PlayError;
 use clap::error::ErrorKind;
 use clap::{Arg, ArgAction, Command, Error};
 use std::alloc::{AllocError, Global};
-use std::env;
+use std::{env, io};
 
 /// What the words ask for: `play FILE`.
 #[derive(Debug, Drop)]
@@ -16,6 +16,16 @@ pub struct Words {
 impl From<AllocError> for Fault {
     fn from(_e: AllocError) -> Fault {
         Fault::Play(PlayError::Memory)
+    }
+}
+
+/// A word that is no text is a word that the parse refuses.
+impl From<io::Error> for Fault {
+    fn from(error: io::Error) -> Fault {
+        match error.kind() {
+            io::ErrorKind::OutOfMemory => Fault::Play(PlayError::Memory),
+            _ => Fault::Usage,
+        }
     }
 }
 
@@ -42,9 +52,7 @@ fn command<'a>(alloc: Global) -> Result<Command<'a>, AllocError> {
 impl Words {
     /// Reads the words that the program was called with.
     pub fn from_env(rt: &HostRuntime) -> Result<Words, Fault> {
-        let Ok(all) = env::args(rt) else {
-            return Err(Fault::Play(PlayError::Memory));
-        };
+        let all = env::args(rt)?;
         let words: Vec<String> = all.collect(rt.alloc())?;
         Words::parse(rt.alloc(), words.as_slice())
     }

@@ -4,7 +4,7 @@ use Rattle.audit_player.proofs.moving.read_all.Given as goal
 
 abbrev pub invariant-reading : goal.invariant-reading
 invariant-reading g l = record {
-  fine : g.S.Source.broken l.source ≡ false;
+  fine : g.S.Source.broken l.fn.source ≡ false → g.S.Source.broken l.source ≡ false;
   took : Consumes (g.S.Source.remaining l.fn.source) (g.S.Source.remaining l.source) l.bytes.items;
 }
 

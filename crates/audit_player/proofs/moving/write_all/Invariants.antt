@@ -4,7 +4,7 @@ use Rattle.audit_player.proofs.moving.write_all.Given as goal
 
 abbrev pub invariant-writing : goal.invariant-writing
 invariant-writing g l = record {
-  fine : g.S.Sink.broken l.sink ≡ false;
+  fine : g.S.Sink.broken l.fn.sink ≡ false → g.S.Sink.broken l.sink ≡ false;
   wrote : WroteUpTo (g.S.Sink.contents l.fn.sink) (g.S.Sink.contents l.sink) l.text l.rest;
 }
 
