@@ -3,14 +3,15 @@ use Rattle.std.proofs.Common.{◌≡◌, ◌≢◌, ℕ, ◌+◌, ◌-◌, ◌/�
 use Rattle.std.proofs.Math.Seq.{take-set-lt}
 use Rattle.std.proofs.lemmas.List.{set-get_or}
 use Rattle.std.proofs.lemmas.Bool.Decides.{nat_tests}
-use Rattle.process_model.specs.Bytes.{page_of, number, low_bytes, write_bytes}
+use Rattle.process_model.specs.Bytes.{number, low_bytes, write_bytes}
+use Rattle.sv39_entry.specs.Address.{page_of}
 use Rattle.process_model.specs.PageMap.{get, insert, from_list}
 use Rattle.process_model.specs.Process.{Page, first_rule}
 use Rattle.process_model.specs.Residence.{loaded, access_answer}
 use Rattle.process_model.specs.World.{World, answers, answered, with_process, user_access}
 use Rattle.process_model.specs.World as model
-use Rattle.process_model.specs.declared.access.Access.{Access}
-use Rattle.process_model.specs.declared.access.Access.TheVariants.{Fetch, Load, Store}
+use Rattle.sv39_entry.specs.declared.access.Access.{Access}
+use Rattle.sv39_entry.specs.declared.access.Access.TheVariants.{Fetch, Load, Store}
 use Rattle.process_model.specs.declared.step.Reply.TheVariants.{Value, Stored}
 use Rattle.plain_machine.specs.Seen.{pages_from, process_seen}
 use Rattle.plain_machine.specs.declared.machine.Machine.{Machine}

@@ -4,9 +4,9 @@ use Rattle.std.specs.Prelude.{slice_get, is_some}
 use Rattle.process_model.specs.Process.{first_rule, fault_cause}
 use Rattle.process_model.specs.Bytes.{is_width}
 use Rattle.process_model.specs.World.{refuses, faulted, unless_denied, on_hart, with_its_process, can_run, user_access, access_step}
-use Rattle.process_model.specs.declared.access.Rule.{Rule}
-use Rattle.process_model.specs.declared.access.Phase.{Phase}
-use Rattle.process_model.specs.declared.access.Phase.TheVariants.{Idle, User, Enter0, Enter1, Enter2, Kernel, Leave1, Leave2}
+use Rattle.sv39_entry.specs.declared.rule.Rule.{Rule}
+use Rattle.process_model.specs.declared.phase.Phase.{Phase}
+use Rattle.process_model.specs.declared.phase.Phase.TheVariants.{Idle, User, Enter0, Enter1, Enter2, Kernel, Leave1, Leave2}
 use Rattle.process_model.specs.declared.step.Refusal.TheVariants.{Impossible}
 use Rattle.plain_machine.specs.Seen.{world_of, slot_seen, asked_of, process_seen, running}
 use Rattle.plain_machine.specs.declared.machine.Asked.{Asked}

@@ -3,8 +3,8 @@ use Rattle.std.specs.Prelude.{ℕ, true, false, ◌+◌, Bool, List, [], ◌∷�
 use Rattle.process_model.specs.PageMap.{from_list}
 use Rattle.process_model.specs.Process as model
 use Rattle.process_model.specs.World as world
-use Rattle.process_model.specs.declared.access.Phase.{Phase}
-use Rattle.process_model.specs.declared.access.Phase.TheVariants.{User}
+use Rattle.process_model.specs.declared.phase.Phase.{Phase}
+use Rattle.process_model.specs.declared.phase.Phase.TheVariants.{User}
 use Rattle.plain_machine.specs.declared.machine.Asked.{Asked}
 use Rattle.plain_machine.specs.declared.machine.Machine.{Machine}
 use Rattle.plain_machine.specs.declared.process.Pending.{Pending}

@@ -6,9 +6,10 @@ ghost use Rattle.process_model.specs.Frames as frames;
 ghost use Rattle.process_model.specs.Loading as loading;
 
 use process_model::{BadImage, Segment};
+use sv39_entry::{PAGE_SIZE, TRAPFRAME};
 
-/// The page of the trapframe, the second below `MAXVA` (the xv6 book, "Kernel address space").
-pub const TRAPFRAME_PAGE: u64 = 0x3ff_fffe;
+/// The page of the trapframe.
+pub const TRAPFRAME_PAGE: u64 = TRAPFRAME.0 / PAGE_SIZE;
 
 /// How many pages hold this many bytes.
 pub fn pages_for(bytes: u64) -> u64

@@ -10,8 +10,9 @@ ghost use Rattle.process_model.specs.World as model;
 use crate::image::{fault, frames_needed, pages_for};
 use crate::page::{Page, fill, load, store};
 use crate::process::{Pending, Process, fault_cause};
-use process_model::{Access, Config, Phase, Refusal, Reply, Segment, Step, is_width};
+use process_model::{Config, Phase, Refusal, Reply, Segment, Step, is_width};
 use std::alloc::{AllocError, AllocFailed, Global};
+use sv39_entry::Access;
 
 /// Why a machine was not booted.
 #[derive(Clone, Copy, PartialEq, Eq, Debug)]

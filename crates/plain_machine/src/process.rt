@@ -4,13 +4,10 @@ ghost use Rattle.std.specs.Prelude.{◌≡◌, ◌<◌, ℕ, List, if◌then◌e
 ghost use Rattle.process_model.specs.Process as model;
 
 use crate::image::TRAPFRAME_PAGE;
-use process_model::{Access, Rule};
+use sv39_entry::{Access, MAXVA, PAGE_SIZE, Rule, TRAMPOLINE};
 
-/// The page of the trampoline, the last below `MAXVA` (the xv6 book, "Kernel address space").
-const TRAMPOLINE_PAGE: u64 = 0x3ff_ffff;
-
-/// Addresses of a process end below this one (xv6's `MAXVA`).
-const MAXVA: u64 = 1 << 38;
+/// The page of the trampoline.
+const TRAMPOLINE_PAGE: u64 = TRAMPOLINE.0 / PAGE_SIZE;
 
 /// An access that faulted.
 #[derive(Clone, Copy)]
@@ -43,7 +40,7 @@ impl Process {
         if address % width != 0 {
             return Some(Rule::Misaligned);
         }
-        if address >= MAXVA {
+        if address >= MAXVA.0 {
             return Some(Rule::BeyondMax);
         }
         if page == TRAMPOLINE_PAGE || page == TRAPFRAME_PAGE {
@@ -71,12 +68,8 @@ impl Process {
 pub fn fault_cause(access: Access, rule: Rule) -> u64
     ensures { result ≡ model.fault_cause access rule }
 {
-    match (rule, access) {
-        (Rule::Misaligned, Access::Fetch) => 0,
-        (Rule::Misaligned, Access::Load) => 4,
-        (Rule::Misaligned, Access::Store) => 6,
-        (_, Access::Fetch) => 12,
-        (_, Access::Load) => 13,
-        (_, Access::Store) => 15,
+    match rule {
+        Rule::Misaligned => access.misaligned_cause(),
+        _ => access.page_fault_cause(),
     }
 }

@@ -20,10 +20,6 @@ write_bytes bs o vs = take o bs ++ vs ++ drop (o + length vs) bs
 abbrev pub padded : ℕ → List ℕ → List ℕ
 padded n bs = let front = take n bs in front ++ replicate (n - length front) 0
 
--- a page has 4,096 bytes (4.4 of the standard)
-abbrev pub page_of : ℕ → ℕ
-page_of address = address / 4096
-
 -- how many pages hold n bytes
 abbrev pub pages_for : ℕ → ℕ
 pages_for n = (n + 4095) / 4096

@@ -1,8 +1,9 @@
 -- Images: the checks over them, and the process that an accepted one makes.
 use Rattle.std.specs.Prelude.{ℕ, zero, suc, true, not, ◌+◌, ◌%◌, ◌^◌, nat_le, nat_lt, ◌==◌, Option, None, List, [], ◌∷◌, length}
-use Rattle.process_model.specs.Bytes.{page_of, pages_for, numbers_from, first_true}
+use Rattle.process_model.specs.Bytes.{pages_for, numbers_from, first_true}
 use Rattle.process_model.specs.PageMap.{from_list}
-use Rattle.process_model.specs.Process.{Process, Page, Region, segment, trapframe_page}
+use Rattle.process_model.specs.Process.{Process, Page, Region, segment}
+use Rattle.sv39_entry.specs.Address.{page_of, trapframe_page}
 use Rattle.process_model.specs.Residence.{initial_page}
 use Rattle.process_model.specs.declared.image.BadImage.{BadImage}
 use Rattle.process_model.specs.declared.image.BadImage.TheVariants.{Sizes, Wraps, Align, TooHigh, NoLoad}

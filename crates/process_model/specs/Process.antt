@@ -1,21 +1,13 @@
 -- A process as its regions and pages, and the first rule that denies an access.
-use Rattle.std.specs.Prelude.{ℕ, Bool, true, false, not, ◌+◌, ◌-◌, ◌%◌, ◌^◌, nat_le, nat_lt, ◌==◌, ◌&&◌, ◌||◌, Option, None, Some, is_none, List, [], ◌∷◌, if◌then◌else◌}
-use Rattle.process_model.specs.Bytes.{page_of, first_true}
+use Rattle.std.specs.Prelude.{ℕ, Bool, true, false, not, ◌+◌, ◌%◌, nat_le, nat_lt, ◌==◌, ◌&&◌, ◌||◌, Option, None, Some, is_none, List, [], ◌∷◌, if◌then◌else◌}
+use Rattle.process_model.specs.Bytes.{first_true}
 use Rattle.process_model.specs.PageMap.{PageMap}
-use Rattle.process_model.specs.declared.access.Access.{Access}
-use Rattle.process_model.specs.declared.access.Access.TheVariants.{Fetch, Load, Store}
-use Rattle.process_model.specs.declared.access.Rule.{Rule}
-use Rattle.process_model.specs.declared.access.Rule.TheVariants.{Misaligned, BeyondMax, KernelPage, GuardPage, NoRegion, NoRead, NoWrite, NoExec}
-
--- addresses of a process end below 2^38 (xv6's MAXVA); the two pages below it are the trampoline's and the trapframe's
-abbrev pub maxva : ℕ
-maxva = 2 ^ 38
-
-abbrev pub trampoline_page : ℕ
-trampoline_page = 2 ^ 26 - 1
-
-abbrev pub trapframe_page : ℕ
-trapframe_page = 2 ^ 26 - 2
+use Rattle.sv39_entry.specs.Address.{page_of, maxva, trampoline_page, trapframe_page}
+use Rattle.sv39_entry.specs.Causes.{misaligned_cause, page_fault_cause}
+use Rattle.sv39_entry.specs.declared.access.Access.{Access}
+use Rattle.sv39_entry.specs.declared.access.Access.TheVariants.{Fetch, Load, Store}
+use Rattle.sv39_entry.specs.declared.rule.Rule.{Rule}
+use Rattle.sv39_entry.specs.declared.rule.Rule.TheVariants.{Misaligned, BeyondMax, KernelPage, GuardPage, NoRegion, NoRead, NoWrite, NoExec}
 
 pub data RegionKind : Type 0 where
   segment : RegionKind
@@ -97,17 +89,7 @@ first_rule p access address width =
     ∷ (lacks_right access region, right_rule access)
     ∷ [])
 
--- the causes of exceptions (table 4.2 of the standard); a misaligned access is told before any other fault
-abbrev pub misaligned_cause : Access → ℕ
-misaligned_cause Fetch = 0
-misaligned_cause Load = 4
-misaligned_cause Store = 6
-
-abbrev pub page_fault_cause : Access → ℕ
-page_fault_cause Fetch = 12
-page_fault_cause Load = 13
-page_fault_cause Store = 15
-
+-- a misaligned access is told before any other fault
 abbrev pub fault_cause : Access → Rule → ℕ
 fault_cause access Misaligned = misaligned_cause access
 fault_cause access _ = page_fault_cause access

@@ -1,10 +1,11 @@
 -- Pages of a process that stand in memory, and what an access does to one.
 use Rattle.std.specs.Prelude.{ℕ, ◌*◌, Option, List, drop}
-use Rattle.process_model.specs.Bytes.{page_of, padded, number, low_bytes, write_bytes}
+use Rattle.process_model.specs.Bytes.{padded, number, low_bytes, write_bytes}
 use Rattle.process_model.specs.PageMap.{get, insert}
+use Rattle.sv39_entry.specs.Address.{page_of}
 use Rattle.process_model.specs.Process.{Process, Page}
-use Rattle.process_model.specs.declared.access.Access.{Access}
-use Rattle.process_model.specs.declared.access.Access.TheVariants.{Store}
+use Rattle.sv39_entry.specs.declared.access.Access.{Access}
+use Rattle.sv39_entry.specs.declared.access.Access.TheVariants.{Store}
 use Rattle.process_model.specs.declared.step.Reply.{Reply}
 use Rattle.process_model.specs.declared.step.Reply.TheVariants.{Value, Stored}
 

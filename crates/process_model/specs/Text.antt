@@ -3,8 +3,8 @@ use Rattle.std.specs.Prelude.{ℕ, true, false, Bool, Some, unwrap_or, List, [],
 use Rattle.std.specs.Fmt.{decimal, digits}
 use Rattle.process_model.specs.Script.{Script, no_segment}
 use Rattle.process_model.specs.World.{World, Outcome, step, booted}
-use Rattle.process_model.specs.declared.access.Phase.{Phase}
-use Rattle.process_model.specs.declared.access.Phase.TheVariants as phase
+use Rattle.process_model.specs.declared.phase.Phase.{Phase}
+use Rattle.process_model.specs.declared.phase.Phase.TheVariants as phase
 use Rattle.process_model.specs.declared.image.BadImage.{BadImage}
 use Rattle.process_model.specs.declared.image.BadImage.TheVariants as part
 use Rattle.process_model.specs.declared.image.OwnedSegment.{OwnedSegment}

@@ -1,16 +1,18 @@
 -- The machine as processes and harts, and what each step does.
 use Rattle.std.specs.Prelude.{ℕ, Bool, true, false, not, ◌+◌, ◌%◌, nat_lt, ◌==◌, ◌&&◌, Option, None, Some, is_some, unwrap_or, List, [], ◌∷◌, slice_get, slice_set, replicate}
 use Rattle.std.specs.List.{list_any}
-use Rattle.process_model.specs.Bytes.{page_of, is_width, first_true}
-use Rattle.process_model.specs.Process.{Process, Page, first_rule, page_fault_cause, fault_cause}
+use Rattle.process_model.specs.Bytes.{is_width, first_true}
+use Rattle.process_model.specs.Process.{Process, Page, first_rule, fault_cause}
+use Rattle.sv39_entry.specs.Address.{page_of}
+use Rattle.sv39_entry.specs.Causes.{page_fault_cause}
 use Rattle.process_model.specs.Residence.{resident_page, with_page, access_answer}
 use Rattle.process_model.specs.Loading.{image_fault, image_region, pages_of, process_of}
 use Rattle.process_model.specs.Frames.{free_frames, frames_needed}
-use Rattle.process_model.specs.declared.access.Access.{Access}
-use Rattle.process_model.specs.declared.access.Access.TheVariants as access
-use Rattle.process_model.specs.declared.access.Rule.{Rule}
-use Rattle.process_model.specs.declared.access.Phase.{Phase}
-use Rattle.process_model.specs.declared.access.Phase.TheVariants.{Idle, User, Enter0, Kernel, Leave1, Leave2}
+use Rattle.sv39_entry.specs.declared.access.Access.{Access}
+use Rattle.sv39_entry.specs.declared.access.Access.TheVariants as access
+use Rattle.sv39_entry.specs.declared.rule.Rule.{Rule}
+use Rattle.process_model.specs.declared.phase.Phase.{Phase}
+use Rattle.process_model.specs.declared.phase.Phase.TheVariants.{Idle, User, Enter0, Kernel, Leave1, Leave2}
 use Rattle.process_model.specs.declared.image.BadImage.{BadImage}
 use Rattle.process_model.specs.declared.image.Segment.{Segment}
 use Rattle.process_model.specs.declared.config.Config.{Config}

@@ -4,17 +4,17 @@
 //! frame or keeps a buffer. Each crate above is proved against the definitions in `specs/`.
 #![tactic(auto)]
 
-mod access;
 mod bytes;
 mod config;
 mod image;
+mod phase;
 mod script;
 mod step;
 mod text;
 
-pub use access::{Access, Phase, Rule, is_width};
 pub use bytes::Bytes;
 pub use config::{Config, Policy};
 pub use image::{BadImage, OwnedSegment, Segment};
+pub use phase::Phase;
 pub use script::{Cause, Command, FieldKind, FieldValue, Item, Keyword};
-pub use step::{Refusal, Reply, Step};
+pub use step::{Refusal, Reply, Step, is_width};

@@ -1,7 +1,10 @@
 // The steps of the machine and their replies.
 
-use crate::access::Phase;
+ghost use Rattle.std.specs.Prelude.{◌≡◌};
+ghost use Rattle.process_model.specs.Bytes.{is_width};
+
 use crate::image::{BadImage, Segment};
+use crate::phase::Phase;
 
 /// One event of the machine: one instruction of the trampoline, one access, or one kernel call.
 #[derive(Clone, Copy)]
@@ -59,4 +62,11 @@ pub enum Reply {
     /// The cause of the exception (RISC-V Privileged Architecture 20211203, table 4.2).
     Fault(u64),
     Refused(Refusal),
+}
+
+/// Whether loads and stores have this width, in bytes.
+pub fn is_width(width: u64) -> bool
+    ensures { result ≡ is_width width }
+{
+    matches!(width, 1 | 2 | 4 | 8)
 }

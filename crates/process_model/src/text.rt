@@ -3,8 +3,8 @@
 ghost use Rattle.std.specs.Prelude.{Some};
 ghost use Rattle.process_model.specs.Text as words;
 
-use crate::access::Phase;
 use crate::image::BadImage;
+use crate::phase::Phase;
 use crate::script::Cause;
 use crate::step::{Refusal, Reply};
 use std::fmt;

@@ -1,0 +1,37 @@
+-- A flag by `&` and by digits.
+use Rattle.std.proofs.Common.{◌≡◌, ℕ, ◌/◌, ◌%◌, ◌^◌, inl, inr, sym, ◌∙◌, arith}
+use Rattle.std.proofs.lemmas.Bool.{cases_eq, eq-eqb, ne_eqb}
+use Rattle.std.proofs.lemmas.Nat.{pow_pos}
+use Rattle.std.proofs.lemmas.Nat.Bits.{and_pow}
+use Rattle.sv39_entry.specs.Address.{has}
+use Rattle.sv39_entry.specs.Word.{has_flag}
+
+-- `n & (1 << k) == 1 << k` is bit k
+pub has_flag_is : (n k : ℕ) → has_flag n (2 ^ k) ≡ has n k
+has_flag_is n k = rw and_pow (elim (cases_eq (n / 2 ^ k % 2) 1) [
+  | inl e ↦ eq-eqb _ _ (rw e (omega arith)) ∙ sym (eq-eqb _ 1 e)
+  | inr ne ↦ let zero : n / 2 ^ k % 2 ≡ 0 = omega arith in ne_eqb _ _ (λ h. let none = rw zero at h in omega (arith, none, pow_pos k)) ∙ sym (ne_eqb _ 1 ne)
+])
+
+pub flag0 : (n : ℕ) → has_flag n 1 ≡ has n 0
+flag0 n = has_flag_is n 0
+
+pub flag1 : (n : ℕ) → has_flag n 2 ≡ has n 1
+flag1 n = has_flag_is n 1
+
+pub flag2 : (n : ℕ) → has_flag n 4 ≡ has n 2
+flag2 n = has_flag_is n 2
+
+pub flag3 : (n : ℕ) → has_flag n 8 ≡ has n 3
+flag3 n = has_flag_is n 3
+
+pub flag4 : (n : ℕ) → has_flag n 16 ≡ has n 4
+flag4 n = has_flag_is n 4
+
+pub flag6 : (n : ℕ) → has_flag n 64 ≡ has n 6
+flag6 n = has_flag_is n 6
+
+pub flag7 : (n : ℕ) → has_flag n 128 ≡ has n 7
+flag7 n = has_flag_is n 7
+
+pub ruleset flags = (flag0, flag1, flag2, flag3, flag4, flag6, flag7)

@@ -1,0 +1,7 @@
+pub mod Address
+pub mod Causes
+pub mod Frame
+pub mod Rights
+pub mod RuleText
+pub mod Satp
+pub mod Word

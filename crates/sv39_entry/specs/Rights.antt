@@ -1,0 +1,20 @@
+-- Rights as a set of bits: reading 0, writing 1, execution 2.
+use Rattle.std.specs.Prelude.{ℕ, Bool}
+use Rattle.sv39_entry.specs.Address.{has}
+use Rattle.sv39_entry.specs.declared.access.Access.{Access}
+use Rattle.sv39_entry.specs.declared.access.Access.TheVariants.{Fetch, Load, Store}
+
+abbrev pub reads : ℕ → Bool
+reads rights = has rights 0
+
+abbrev pub writes : ℕ → Bool
+writes rights = has rights 1
+
+abbrev pub executes : ℕ → Bool
+executes rights = has rights 2
+
+-- the right that an access needs is there
+abbrev pub grants : ℕ → Access → Bool
+grants rights Fetch = executes rights
+grants rights Load = reads rights
+grants rights Store = writes rights

@@ -1,0 +1,79 @@
+-- Words of page table entries (the standard, figure 4.18): V 0, R 1, W 2, X 3, U 4, G 5, A 6, D 7, RSW 9-8, PPN 53-10.
+-- RSW bit 8 marks copy-on-write (own choice).
+use Rattle.std.specs.Prelude.{◌≡◌, ℕ, Bool, true, false, ◌+◌, bit_and, ◌*◌, ◌/◌, ◌%◌, ◌^◌, ◌==◌, ◌&&◌, ◌||◌, not, if◌then◌else◌, cond}
+use Rattle.sv39_entry.specs.Address.{has}
+use Rattle.sv39_entry.specs.Frame.{ppn_of}
+use Rattle.sv39_entry.specs.Rights.{reads, writes, executes}
+use Rattle.sv39_entry.specs.declared.access.Access.{Access}
+use Rattle.sv39_entry.specs.declared.access.Access.TheVariants.{Fetch, Load, Store}
+use Rattle.sv39_entry.specs.declared.access.Mode.{Mode}
+use Rattle.sv39_entry.specs.declared.access.Mode.TheVariants.{User, Supervisor}
+use Rattle.sv39_entry.specs.declared.entry.Kind.{Kind}
+use Rattle.sv39_entry.specs.declared.entry.Kind.TheVariants.{Invalid, Pointer, Leaf}
+
+-- the flag of value 2 ^ i, as a set of bits has it
+abbrev pub has_flag : ℕ → ℕ → Bool
+has_flag word flag = bit_and word flag == flag
+
+-- Without its upper bits, which have to be clear: V is needed; W without R is reserved; a leaf has one of R, W, X; and a
+-- pointer none of A, D, U.
+abbrev pub flags_kind : ℕ → Kind
+flags_kind w =
+    if not (has w 0) || (has w 2 && not (has w 1)) then Invalid
+    else (if has w 1 || has w 2 || has w 3 then Leaf
+    else (if has w 4 || has w 6 || has w 7 then Invalid else Pointer))
+
+unfoldable pub kind_of : ℕ → Kind
+kind_of w = if w / 2 ^ 54 == 0 then flags_kind w else Invalid
+
+abbrev pub ppn : ℕ → ℕ
+ppn w = w / 2 ^ 10 % 2 ^ 44
+
+-- which pages a mode may use: the user those with U, the kernel those without (SUM and MXR are 0)
+abbrev pub mode_allows : Mode → ℕ → Bool
+mode_allows User w = has w 4
+mode_allows Supervisor w = not (has w 4)
+
+-- the right that an access needs; a clear A, or a clear D on a store, is a fault (the standard permits it; own choice)
+abbrev pub access_allowed : Access → ℕ → Bool
+access_allowed Fetch w = has w 3 && has w 6
+access_allowed Load w = has w 1 && has w 6
+access_allowed Store w = has w 2 && has w 6 && has w 7
+
+-- the table of rights by mode and access (the standard, 4.3.1 and 4.3.2, step 5)
+abbrev pub permits : Mode → Access → ℕ → Bool
+permits mode access w = mode_allows mode w && access_allowed access w
+
+abbrev pub if_set : Bool → ℕ → ℕ
+if_set b n = cond b n 0
+
+-- A always, D where the rights hold W, W but under copy-on-write
+abbrev pub leaf_flags : Bool → Bool → Bool → Bool → Bool → ℕ
+leaf_flags read write execute user cow =
+    if_set cow 256 + if_set write 128 + 64 + if_set user 16 + if_set execute 8 + if_set (if cow then false else write) 4 + if_set read 2 + 1
+
+-- a leaf as the kernel writes it; G is never set
+abbrev pub leaf_word : ℕ → ℕ → Bool → Bool → ℕ
+leaf_word frame rights user cow = ppn_of frame * 2 ^ 10 + leaf_flags (reads rights) (writes rights) (executes rights) user cow
+
+abbrev pub pointer_word : ℕ → ℕ
+pointer_word frame = ppn_of frame * 2 ^ 10 + 1
+
+-- what is read back from the word of a leaf that the kernel writes
+pub record IsLeafOf (w frame rights : ℕ) (user cow : Bool) : Type 0 where
+  pub names : ppn w ≡ ppn_of frame
+  pub valid : has w 0 ≡ true
+  pub read : has w 1 ≡ reads rights
+  pub write : has w 2 ≡ (writes rights && not cow)
+  pub execute : has w 3 ≡ executes rights
+  pub for_user : has w 4 ≡ user
+  pub global : has w 5 ≡ false
+  pub accessed : has w 6 ≡ true
+  pub dirty : has w 7 ≡ writes rights
+  pub copy_on_write : has w 8 ≡ cow
+  pub readable : reads rights ≡ true → kind_of w ≡ Leaf
+
+-- and from that of a pointer
+pub record IsPointerTo (w frame : ℕ) : Type 0 where
+  pub names : ppn w ≡ ppn_of frame
+  pub kind : kind_of w ≡ Pointer

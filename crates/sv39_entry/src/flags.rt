@@ -1,0 +1,56 @@
+// The low ten bits of a page table entry.
+
+ghost use Rattle.std.specs.Prelude.{⊤, ◌≡◌, [], ◌∷◌, codes};
+ghost use Rattle.sv39_entry.specs.Word.{if_set};
+
+use bitflags::{Flag, Flags, bitflag_items};
+
+/// The flags of a page table entry (RISC-V Privileged Architecture 20211203, figure 4.18), and the bit of those for
+/// software (RSW) that marks copy-on-write.
+#[derive(Clone, Copy, PartialEq, Eq, Debug)]
+pub struct EntryFlags(u64);
+
+bitflag_items! {
+    impl EntryFlags: u64 {
+        const VALID = 1;
+        const READ = 2;
+        const WRITE = 4;
+        const EXECUTE = 8;
+        const USER = 16;
+        const GLOBAL = 32;
+        const ACCESSED = 64;
+        const DIRTY = 128;
+        const COPY_ON_WRITE = 256;
+    }
+}
+
+impl Flags for EntryFlags {
+    type Bits = u64;
+
+    ghost exact = { ⊤ };
+
+    ghost table = { (codes "VALID", 1) ∷ (codes "READ", 2) ∷ (codes "WRITE", 4) ∷ (codes "EXECUTE", 8) ∷ (codes "USER", 16) ∷ (codes "GLOBAL", 32) ∷ (codes "ACCESSED", 64) ∷ (codes "DIRTY", 128) ∷ (codes "COPY_ON_WRITE", 256) ∷ [] };
+
+    ghost set_of = { λ flags. flags.0 };
+
+    fn flags<'a>() -> &'a [Flag<EntryFlags>] {
+        EntryFlags::FLAGS
+    }
+
+    fn bits(&self) -> u64 {
+        self.0
+    }
+
+    fn from_bits_retain(bits: u64) -> EntryFlags {
+        EntryFlags(bits)
+    }
+}
+
+impl EntryFlags {
+    /// The flag's bits where it is wanted, else 0.
+    pub fn only_if(self, wanted: bool) -> u64
+        ensures { result ≡ if_set wanted self.0 }
+    {
+        if wanted { self.0 } else { 0 }
+    }
+}

@@ -1,0 +1,23 @@
+//! Addresses, page table entries and rights of Sv39, as the standard has them (RISC-V Privileged Architecture 20211203,
+//! 4.2 to 4.4), and the addresses at which xv6 keeps things.
+#![tactic(auto)]
+
+mod access;
+mod address;
+mod entry;
+mod flags;
+mod frame;
+mod rights;
+mod rule;
+mod satp;
+#[cfg(test)]
+mod tests;
+
+pub use access::{Access, Mode};
+pub use address::{MAXVA, PAGE_SIZE, TRAMPOLINE, TRAPFRAME, Va, Vpn, kernel_stack};
+pub use entry::{Entry, Kind};
+pub use flags::EntryFlags;
+pub use frame::{FrameNo, KERNBASE};
+pub use rights::Rights;
+pub use rule::Rule;
+pub use satp::{SATP_MODE_SV39, Satp};
