@@ -135,7 +135,7 @@ blanks_and_comments : played (codes "\t# x" ∷ codes "" ∷ one_page ∷ codes 
 unfolding number low_bytes on_hart with_its_process digits item_line line_of
 blanks_and_comments = refl
 
--- no such command yet
+-- no such command
 word : played (boot ∷ codes "audit" ∷ [])
     ≡ Err (2, Word)
 unfolding number low_bytes on_hart with_its_process digits item_line line_of
@@ -183,13 +183,13 @@ numbers_first : played (codes "boot 1 18446744073709551616 1 fast" ∷ [])
 unfolding number low_bytes on_hart with_its_process digits item_line line_of
 numbers_first = refl
 
--- no such policy yet
+-- no such policy
 field : played (codes "boot 1 64 1 asid" ∷ [])
     ≡ Err (1, Field)
 unfolding number low_bytes on_hart with_its_process digits item_line line_of
 field = refl
 
--- no other rights yet
+-- no other rights
 flags : played (codes "image 0x1000:0x1000:rx:-" ∷ boot ∷ [])
     ≡ Err (1, Field)
 unfolding number low_bytes on_hart with_its_process digits item_line line_of

@@ -2,7 +2,7 @@
 
 use crate::bytes::Bytes;
 
-/// A segment of an image, not judged yet: an address range, its rights beside reading, and the bytes it begins with.
+/// A segment of an image, before it is judged: an address range, its rights beside reading, and the bytes it begins with.
 #[derive(Clone, Copy)]
 pub struct Segment<'a> {
     /// The first address, in bytes.

@@ -59,7 +59,7 @@ pub enum Reply {
     /// What was loaded, without sign.
     Value(u64),
     Stored,
-    /// The cause of the exception (RISC-V Privileged Architecture 20211203, table 4.2).
+    /// The cause of the exception (RISC-V Privileged Architecture 20211203, 4.1.8).
     Fault(u64),
     Refused(Refusal),
 }

@@ -1,4 +1,4 @@
--- Virtual addresses of Sv39 (the standard, figure 4.16): the page offset in bits 11 to 0, VPN[0], VPN[1] and VPN[2] above
+-- Virtual addresses of Sv39 (the standard, 4.4.1): the page offset in bits 11 to 0, VPN[0], VPN[1] and VPN[2] above
 -- it, nine bits each.
 use Rattle.std.specs.Prelude.{◌≡◌, ℕ, Bool, ◌+◌, ◌*◌, ◌/◌, ◌%◌, ◌^◌, ◌-◌, ◌<◌, ◌≤◌, ◌==◌, ◌||◌, nat_lt, if◌then◌else◌}
 

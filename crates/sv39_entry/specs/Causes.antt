@@ -1,4 +1,4 @@
--- The causes of exceptions, by the kind of access (the standard, table 4.2).
+-- The causes of exceptions, by the kind of access (the standard, 4.1.8).
 use Rattle.std.specs.Prelude.{ℕ}
 use Rattle.sv39_entry.specs.declared.access.Access.{Access}
 use Rattle.sv39_entry.specs.declared.access.Access.TheVariants.{Fetch, Load, Store}

@@ -1,4 +1,4 @@
--- Words of satp (the standard, figure 4.12): MODE in bits 63 to 60, ASID in 59 to 44, PPN in 43 to 0.
+-- Words of satp (the standard, 4.1.11): MODE in bits 63 to 60, ASID in 59 to 44, PPN in 43 to 0.
 use Rattle.std.specs.Prelude.{ℕ, ◌+◌, ◌*◌, ◌/◌, ◌%◌, ◌^◌}
 use Rattle.sv39_entry.specs.Frame.{ppn_of}
 

@@ -1,4 +1,4 @@
--- Words of page table entries (the standard, figure 4.18): V 0, R 1, W 2, X 3, U 4, G 5, A 6, D 7, RSW 9-8, PPN 53-10.
+-- Words of page table entries (the standard, 4.4.1): V 0, R 1, W 2, X 3, U 4, G 5, A 6, D 7, RSW 9-8, PPN 53-10.
 -- RSW bit 8 marks copy-on-write (own choice).
 use Rattle.std.specs.Prelude.{◌≡◌, ℕ, Bool, true, false, ◌+◌, bit_and, ◌*◌, ◌/◌, ◌%◌, ◌^◌, ◌==◌, ◌&&◌, ◌||◌, not, if◌then◌else◌, cond}
 use Rattle.sv39_entry.specs.Address.{has}

@@ -19,7 +19,7 @@ pub enum Mode {
 }
 
 impl Access {
-    /// The cause of the exception where the address is not a multiple of the width (the standard, table 4.2).
+    /// The cause of the exception where the address is not a multiple of the width (the standard, 4.1.8).
     pub fn misaligned_cause(self) -> u64
         ensures { result ≡ causes.misaligned_cause self }
     {
@@ -30,7 +30,7 @@ impl Access {
         }
     }
 
-    /// The cause of the exception where a word or a byte lies outside memory (the standard, table 4.2).
+    /// The cause of the exception where a word or a byte lies outside memory (the standard, 4.1.8).
     pub fn access_fault_cause(self) -> u64
         ensures { result ≡ causes.access_fault_cause self }
     {
@@ -41,7 +41,7 @@ impl Access {
         }
     }
 
-    /// The cause of the exception where the translation fails (the standard, table 4.2).
+    /// The cause of the exception where the translation fails (the standard, 4.1.8).
     pub fn page_fault_cause(self) -> u64
         ensures { result ≡ causes.page_fault_cause self }
     {

@@ -104,7 +104,7 @@ impl Vpn {
         Va((self.number << 12) + offset % PAGE_SIZE)
     }
 
-    /// VPN[level] of each address of the page: which entry a table of that level has for it (the standard, figure 4.16).
+    /// VPN[level] of each address of the page: which entry a table of that level has for it (the standard, 4.4.1).
     /// Levels above the highest have 0.
     pub fn index(self, level: u32) -> usize
         ensures value { result ≡ words.vpn self level }

@@ -18,7 +18,7 @@ pub enum Kind {
     Leaf,
 }
 
-/// A page table entry: a word of 64 bits (RISC-V Privileged Architecture 20211203, figure 4.18).
+/// A page table entry: a word of 64 bits (RISC-V Privileged Architecture 20211203, 4.4.1).
 #[derive(Clone, Copy, PartialEq, Eq, Debug)]
 pub struct Entry {
     word: u64,

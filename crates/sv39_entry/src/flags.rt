@@ -5,7 +5,7 @@ ghost use Rattle.sv39_entry.specs.Word.{if_set};
 
 use bitflags::{Flag, Flags, bitflag_items};
 
-/// The flags of a page table entry (RISC-V Privileged Architecture 20211203, figure 4.18), and the bit of those for
+/// The flags of a page table entry (RISC-V Privileged Architecture 20211203, 4.4.1), and the bit of those for
 /// software (RSW) that marks copy-on-write.
 #[derive(Clone, Copy, PartialEq, Eq, Debug)]
 pub struct EntryFlags(u64);

@@ -1,5 +1,5 @@
 //! Addresses, page table entries and rights of Sv39, as the standard has them (RISC-V Privileged Architecture 20211203,
-//! 4.2 to 4.4), and the addresses at which xv6 keeps things.
+//! chapter 4), and the addresses at which xv6 keeps things.
 #![tactic(auto)]
 
 mod access;

@@ -7,10 +7,10 @@ ghost use Rattle.sv39_entry.specs.Satp as words;
 use crate::frame::FrameNo;
 use std::marker::Model;
 
-/// The MODE of satp for Sv39 (RISC-V Privileged Architecture 20211203, table 4.4).
+/// The MODE of satp for Sv39 (RISC-V Privileged Architecture 20211203, 4.1.11).
 pub const SATP_MODE_SV39: u64 = 8;
 
-/// The supervisor address translation and protection register (the standard, figure 4.12).
+/// The supervisor address translation and protection register (the standard, 4.1.11).
 #[derive(Clone, Copy, PartialEq, Eq, Debug)]
 pub struct Satp {
     word: u64,
