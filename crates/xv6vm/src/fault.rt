@@ -13,8 +13,13 @@ pub enum Fault {
 }
 
 impl Fault {
+    ghost use Rattle.std.specs.Prelude.{◌≡◌};
+    ghost use Rattle.xv6vm.specs.Status.{status_of};
+
     /// The exit status of the program.
-    pub fn status(&self) -> u8 {
+    pub fn status(&self) -> u8
+        ensures { result ≡ status_of self.now }
+    {
         match self {
             Fault::Usage => 2,
             Fault::Play(_) => 1,

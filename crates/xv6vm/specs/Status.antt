@@ -1,0 +1,8 @@
+-- The exit status that a fault gives.
+use Rattle.std.specs.Prelude.{ℕ}
+use Rattle.xv6vm.specs.declared.fault.Fault.{Fault}
+use Rattle.xv6vm.specs.declared.fault.Fault.TheVariants.{Usage, Play}
+
+abbrev pub status_of : Fault → ℕ
+status_of Usage = 2
+status_of (Play e) = 1
