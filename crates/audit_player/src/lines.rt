@@ -1,6 +1,6 @@
 // Lines, fields and pieces, without a copy.
 
-ghost use Rattle.std.specs.Prelude.{◌≡◌, ◌<◌, ◌≤◌, ◌+◌, ◌∷◌, [], length, not, MatchOption};
+ghost use Rattle.std.specs.Prelude.{◌≡◌, ◌<◌, ◌∷◌, [], length, MatchOption};
 ghost use Rattle.std.specs.List.{position_or_len, prefix_len};
 ghost use Rattle.process_model.specs.Lines as words;
 

@@ -1,6 +1,6 @@
 // All of what is read, and all of what is written.
 
-ghost use Rattle.std.specs.Prelude.{◌≡◌, ◌↔◌, ◌<◌, ◌^◌, false, true, not, IsTrue, IfOk, OnOk, OnErr, IsErrOf, is_err, length};
+ghost use Rattle.std.specs.Prelude.{◌≡◌, ◌↔◌, ◌<◌, ◌^◌, false, true, not, IsTrue, IfOk, IsErrOf};
 ghost use Rattle.std.specs.Io.KnownBytes.{Appends};
 ghost use Rattle.audit_player.specs.Taken.{IsInput, WroteSome};
 ghost use Rattle.audit_player.specs.declared.moving.ReadError.TheVariants as errors;

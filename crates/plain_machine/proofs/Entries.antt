@@ -35,6 +35,6 @@ module _ {X : Type 0} where
   pub put_here : (k : ℕ) (v : X) (e : ℕ × X) (es : List (ℕ × X)) → k ≡ e.0 → put nat_cmp k v (e ∷ es) ≡ (e.0, v) ∷ es
   put_here k v e es h = ap (λ r. by_order r ((k, v) ∷ e ∷ es) ((e.0, v) ∷ es) (e ∷ put nat_cmp k v es)) (tied k e.0 h)
 
-  -- and one with a larger key goes further after
+  -- and one with a larger key goes further back
   pub put_later : (k : ℕ) (v : X) (e : ℕ × X) (es : List (ℕ × X)) → e.0 < k → put nat_cmp k v (e ∷ es) ≡ e ∷ put nat_cmp k v es
   put_later k v e es h = ap (λ r. by_order r ((k, v) ∷ e ∷ es) ((e.0, v) ∷ es) (e ∷ put nat_cmp k v es)) (after k e.0 h)

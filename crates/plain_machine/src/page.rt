@@ -6,8 +6,8 @@ ghost use Rattle.process_model.specs.Loading.{page_run};
 ghost use Rattle.process_model.specs.Residence.{initial_page};
 ghost use Rattle.plain_machine.specs.Seen.{pages_from};
 
-/// How many bytes a page and a frame have (RISC-V Privileged Architecture 20211203, 4.4.1).
-pub const PAGE_SIZE: usize = 4096;
+/// How many bytes a page has, as a length.
+const PAGE_SIZE: usize = sv39_entry::PAGE_SIZE as usize;
 
 /// A page of bytes.
 pub type Page = [u8; 4096];
