@@ -1,7 +1,7 @@
 -- The first piece of a field.
 use Rattle.std.proofs.Common.{◌≡◌, ℕ, suc, ◌+◌, Bool, true, false, not, cond, List, [], ◌∷◌, length, ◌≤◌, take, drop, refl, ap, arith, None}
 use Rattle.std.specs.List.{position_or_len, onto_first}
-use Rattle.process_model.specs.Fields.{segment_in}
+use Rattle.first_path.specs.Fields.{segment_in}
 use Rattle.process_model.specs.Lines.{is_colon, pieces_of}
 
 -- the pieces after one that ends where this begins

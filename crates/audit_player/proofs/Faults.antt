@@ -1,7 +1,7 @@
 -- A fault stays the first one.
 use Rattle.std.proofs.Common.{◌≡◌, ℕ, List, [], ◌∷◌, Err, refl, sym, ap, ◌∙◌}
 use Rattle.process_model.specs.declared.script.Cause.{Cause}
-use Rattle.process_model.specs.Script.{Read, read_lines}
+use Rattle.first_path.specs.Script.{Read, read_lines}
 use Rattle.audit_player.specs.declared.fault.ScriptError.{ScriptError}
 use Rattle.audit_player.specs.declared.fault.ScriptError.TheVariants as script
 use Rattle.audit_player.specs.Gives.{Refuses}

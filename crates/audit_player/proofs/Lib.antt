@@ -4,6 +4,7 @@ pub mod Digits
 pub mod Pairs
 pub mod ReadValues
 pub mod Faults
+pub mod Lending
 pub mod Parts
 pub mod Playable
 pub mod Played

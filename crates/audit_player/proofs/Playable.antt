@@ -2,20 +2,20 @@
 use Rattle.std.proofs.Common.{◌≡◌, ℕ, ◌+◌, ◌<◌, Bool, true, false, List, [], ◌∷◌, ◌++◌, length, Option, Some, None, Result, Ok, Err, refl, sym, subst, arith, get_or, length-append}
 use Rattle.std.specs.Prelude.{IfOk, All, nat_lt, nat_le, if◌then◌else◌}
 use Rattle.std.proofs.lemmas.List.Elements.{All-nil, All-cons, All-append}
-use Rattle.process_model.specs.declared.image.OwnedSegment.{OwnedSegment}
+use Rattle.process_model.specs.declared.image.Segment.{Segment}
 use Rattle.process_model.specs.declared.script.Cause.{Cause}
 use Rattle.process_model.specs.declared.script.Cause.TheVariants as cause
-use Rattle.process_model.specs.declared.script.Command.{Command}
-use Rattle.process_model.specs.declared.script.Command.TheVariants as command
+use Rattle.first_path.specs.declared.script.Command.{Command}
+use Rattle.first_path.specs.declared.script.Command.TheVariants as command
 use Rattle.process_model.specs.declared.config.Config.{Config}
-use Rattle.process_model.specs.declared.script.Item.{Item}
-use Rattle.process_model.specs.declared.script.Item.TheVariants as item
-use Rattle.process_model.specs.declared.script.FieldValue.{FieldValue}
-use Rattle.process_model.specs.declared.script.Keyword.{Keyword}
-use Rattle.process_model.specs.declared.script.Keyword.TheVariants as word
-use Rattle.process_model.specs.Fields.{row_of, values_of}
+use Rattle.first_path.specs.declared.script.Item.{Item}
+use Rattle.first_path.specs.declared.script.Item.TheVariants as item
+use Rattle.first_path.specs.declared.script.FieldValue.{FieldValue}
+use Rattle.first_path.specs.declared.script.Keyword.{Keyword}
+use Rattle.first_path.specs.declared.script.Keyword.TheVariants as word
+use Rattle.first_path.specs.Fields.{row_of, values_of}
 use Rattle.process_model.specs.Lines.{raw_lines, without_return, fields_of}
-use Rattle.process_model.specs.Script.{Draft, Script, Read, ◌>>=◌, with_item, row_named, test, in_order, item_of, in_limits, has_room, item_line, is_comment, is_ascii, some_item, fields_line, line_of, with_line, next_line, read_lines, whole_with, whole, longest_script, script_of, no_lines, HasImage, CanBoot, IsPlayable}
+use Rattle.first_path.specs.Script.{Draft, Script, Read, ◌>>=◌, with_item, row_named, test, in_order, item_of, in_limits, has_room, item_line, is_comment, is_ascii, some_item, fields_line, line_of, with_line, next_line, read_lines, whole_with, whole, longest_script, script_of, no_lines, HasImage, CanBoot, IsPlayable}
 use Rattle.audit_player.specs.declared.fault.ScriptError.{ScriptError}
 use Rattle.audit_player.specs.Gives.{Answers}
 
@@ -41,16 +41,16 @@ IsSoundRead (Ok x) = IsSound x.0
 IsSoundRead (Err f) = Unit {0}
 
 -- more images keep what is said of them
-has_more : (images : List OwnedSegment) (i : OwnedSegment) (c : Command) → HasImage images c → HasImage (images ++ i ∷ []) c
+has_more : (images : List Segment) (i : Segment) (c : Command) → HasImage images c → HasImage (images ++ i ∷ []) c
 has_more images i (command.Start n) h = omega (arith, length-append images (i ∷ []))
 has_more images i (command.On h s) has = tt
 has_more images i (command.Load h a w) has = tt
 has_more images i (command.Store h a w v) has = tt
 
-all_have_more : (images : List OwnedSegment) (i : OwnedSegment) (cs : List Command) → All (HasImage images) cs → All (HasImage (images ++ i ∷ [])) cs
+all_have_more : (images : List Segment) (i : Segment) (cs : List Command) → All (HasImage images) cs → All (HasImage (images ++ i ∷ [])) cs
 all_have_more images i cs h = λ k d lt. has_more images i (get_or cs k d) (h k d lt)
 
-all_and_one : (images : List OwnedSegment) (cs : List Command) (c : Command) → All (HasImage images) cs → HasImage images c → All (HasImage images) (cs ++ c ∷ [])
+all_and_one : (images : List Segment) (cs : List Command) (c : Command) → All (HasImage images) cs → HasImage images c → All (HasImage images) (cs ++ c ∷ [])
 all_and_one images cs c h one = All-append (HasImage images) cs (c ∷ []) h (All-cons (HasImage images) c [] one (All-nil (HasImage images)))
 
 item_kept : (d : Draft) (i : Item) → IsSound d → Fits d i → IsSound (with_item d i)

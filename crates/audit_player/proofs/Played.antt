@@ -2,7 +2,7 @@
 use Rattle.std.proofs.Common.{◌≡◌, ℕ, ◌<◌, false, List, [], ◌++◌, length, length-append, Option, None, Some, Result, Err, inl, inr, refl, sym, ap, subst, ◌∙◌, arith}
 use Rattle.std.specs.Prelude.{nat_le}
 use Rattle.process_model.specs.declared.script.Cause.TheVariants as cause
-use Rattle.process_model.specs.Script.{script_of, longest_script}
+use Rattle.first_path.specs.Script.{script_of, longest_script}
 use Rattle.audit_player.proofs.Parts.{appends_nothing}
 use Rattle.audit_player.specs.declared.fault.PlayError.{PlayError}
 use Rattle.audit_player.specs.declared.fault.PlayError.TheVariants as error

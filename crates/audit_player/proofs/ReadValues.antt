@@ -1,9 +1,9 @@
 -- Values where no field is left.
 use Rattle.std.proofs.Common.{◌≡◌, ℕ, List, [], ◌∷◌, true, length, eqb, eq-eqb, Result, Ok, refl, sym, ap, ◌∙◌}
 use Rattle.process_model.specs.declared.script.Cause.{Cause}
-use Rattle.process_model.specs.declared.script.FieldKind.{FieldKind}
-use Rattle.process_model.specs.declared.script.FieldValue.{FieldValue}
-use Rattle.process_model.specs.Fields.{values_from, values_of}
+use Rattle.first_path.specs.declared.script.FieldKind.{FieldKind}
+use Rattle.first_path.specs.declared.script.FieldValue.{FieldValue}
+use Rattle.first_path.specs.Fields.{values_from, values_of}
 
 none_left : (so_far : Result (List FieldValue) Cause) (kinds : List FieldKind) → values_from so_far kinds [] ≡ so_far
 none_left so_far [] = refl

@@ -1,7 +1,7 @@
 -- The number and the name of what keeps a script from being played.
 use Rattle.std.specs.Prelude.{ℕ, List, ◌++◌, codes}
 use Rattle.std.specs.Fmt.{decimal}
-use Rattle.process_model.specs.Text.{cause_text}
+use Rattle.process_model.specs.Words.{cause_text}
 use Rattle.audit_player.specs.declared.fault.PlayError.{PlayError}
 use Rattle.audit_player.specs.declared.fault.PlayError.TheVariants as error
 

@@ -1,6 +1,6 @@
 -- The pieces of a segment's field.
 use Rattle.std.specs.Prelude.{◌≡◌, ℕ, List, [], ◌∷◌, Option, Some, None}
-use Rattle.process_model.specs.Fields.{segment_in}
+use Rattle.first_path.specs.Fields.{segment_in}
 use Rattle.audit_player.specs.declared.segments.Pieces.{Pieces}
 
 -- just four pieces, or no segment at all

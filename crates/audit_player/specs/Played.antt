@@ -1,8 +1,8 @@
 -- What playing a script answers and writes.
 use Rattle.std.specs.Prelude.{◌≡◌, ℕ, List, [], Option, None, Some, Result, Ok, Err}
 use Rattle.std.specs.Io.KnownBytes.{Appends, Keeps}
-use Rattle.process_model.specs.Script.{Script, script_of}
-use Rattle.process_model.specs.Text.{text_of}
+use Rattle.first_path.specs.Script.{Script, script_of}
+use Rattle.first_path.specs.Text.{text_of}
 use Rattle.process_model.specs.declared.script.Cause.{Cause}
 use Rattle.audit_player.specs.Taken.{WroteSome}
 use Rattle.audit_player.specs.declared.fault.PlayError.{PlayError}

@@ -1,5 +1,5 @@
 -- A row of the code's table, as the definition has it.
-use Rattle.process_model.specs.Fields as words
+use Rattle.first_path.specs.Fields as words
 use Rattle.audit_player.specs.declared.table.Row.{Row}
 
 abbrev pub seen : Row → words.Row

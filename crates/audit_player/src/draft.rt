@@ -1,9 +1,10 @@
 // What the lines so far say.
 
 ghost use Rattle.std.specs.Prelude.{◌≡◌, OnOk, OnErr, nat_lt, length};
-ghost use Rattle.process_model.specs.Script as words;
+ghost use Rattle.first_path.specs.Script as words;
 
-use process_model::{Command, Config, Item, Keyword, OwnedSegment};
+use first_path::{Command, Item, Keyword};
+use process_model::{Config, Segment};
 use std::alloc::{AllocError, Global};
 use std::marker::Model;
 
@@ -16,13 +17,13 @@ const MOST_COMMANDS: usize = 100_000;
 /// What the lines so far say.
 #[derive(Drop)]
 pub struct Draft {
-    images: Vec<OwnedSegment>,
+    images: Vec<Segment>,
     config: Option<Config>,
     commands: Vec<Command>,
 }
 
 impl Model for Draft {
-    ghost use Rattle.process_model.specs.Script as words;
+    ghost use Rattle.first_path.specs.Script as words;
 
     ghost Value = { words.Draft };
 
@@ -85,7 +86,7 @@ impl Draft {
         Ok(())
     }
 
-    pub fn into_parts(self) -> (Vec<OwnedSegment>, Option<Config>, Vec<Command>)
+    pub fn into_parts(self) -> (Vec<Segment>, Option<Config>, Vec<Command>)
         ensures images { result.0.items ≡ self.images }
         ensures config { result.1 ≡ self.config }
         ensures commands { result.2.items ≡ self.commands }

@@ -1,14 +1,13 @@
 // What a line says, by its word and its values.
 
 ghost use Rattle.std.specs.Prelude.{◌≡◌, slice_get};
-ghost use Rattle.process_model.specs.Script as words;
-ghost use Rattle.process_model.specs.Frames.{can_boot};
+ghost use Rattle.first_path.specs.Script as words;
+ghost use Rattle.first_path.specs.Frames.{can_boot};
 
 use crate::draft::Draft;
 use arrayvec::ArrayVec;
-use process_model::{
-    Bytes, Cause, Command, Config, FieldValue, Item, Keyword, OwnedSegment, Policy, is_width,
-};
+use first_path::{Command, FieldValue, Item, Keyword, is_bootable};
+use process_model::{Bytes, Cause, Config, Policy, Segment, is_width};
 use std::alloc::Global;
 
 fn number_at(values: &[FieldValue], place: usize) -> u64
@@ -29,13 +28,13 @@ fn policy_at(values: &[FieldValue], place: usize) -> Policy
     }
 }
 
-fn segment_of(alloc: Global, mut values: ArrayVec<FieldValue, 4>) -> OwnedSegment
+fn segment_of(alloc: Global, mut values: ArrayVec<FieldValue, 4>) -> Segment
     ensures { result ≡ words.as_segment (slice_get values.items 0) }
 {
     values.truncate(1);
     match values.pop() {
         Some(FieldValue::Segment(segment)) => segment,
-        _ => OwnedSegment {
+        _ => Segment {
             address: 0,
             memory_size: 0,
             writes: false,
@@ -60,7 +59,7 @@ fn boot_item(values: &[FieldValue]) -> Result<Item, Cause>
         slots: number_at(values, 2) as usize,
         policy: policy_at(values, 3),
     };
-    in_limits(config.is_bootable(), Item::Boot(config))
+    in_limits(is_bootable(&config), Item::Boot(config))
 }
 
 /// The item that the values after a word make.

@@ -2,11 +2,11 @@
 
 ghost use Rattle.std.specs.Prelude.{◌≡◌, ◌↔◌, ◌||◌, false, IfOk, IsTrue, IsErrOf};
 ghost use Rattle.std.specs.String.{string_bytes};
-ghost use Rattle.process_model.specs.Script.{CanBoot, HasImage, IsPlayable};
-ghost use Rattle.process_model.specs.Text as words;
-ghost use Rattle.process_model.specs.World.{booted, step};
+ghost use Rattle.first_path.specs.Script.{CanBoot, HasImage, IsPlayable};
+ghost use Rattle.first_path.specs.Text as words;
+ghost use Rattle.first_path.specs.World.{booted, step};
 ghost use Rattle.process_model.specs.declared.step.Reply.TheVariants.{Done};
-ghost use Rattle.process_model.specs.declared.step.Step.TheVariants.{Start};
+ghost use Rattle.first_path.specs.declared.step.Step.TheVariants.{Start};
 ghost use Rattle.plain_machine.specs.Seen.{world_of};
 ghost use Rattle.audit_player.specs.Played.{Plays};
 
@@ -15,20 +15,21 @@ use crate::moving::{ReadError, read_all, write_all};
 use crate::script::{LONGEST_SCRIPT, Script};
 use crate::sink::Sink;
 use crate::source::Source;
+use first_path::{Command, LentSegment, Step};
 use plain_machine::{BootError, Machine};
-use process_model::{Command, Config, OwnedSegment, Reply, Segment, Step};
+use process_model::{Config, Reply, Segment};
 use std::alloc::{AllocError, Global};
 use std::fmt::Write;
 
 /// A segment of a script, as a step brings it.
-fn lend(segment: &OwnedSegment) -> Segment<'_>
+fn lend(segment: &Segment) -> LentSegment<'_>
     ensures address { result.address ≡ segment.now.address }
     ensures memory_size { result.memory_size ≡ segment.now.memory_size }
     ensures writes { result.writes ≡ segment.now.writes }
     ensures executes { result.executes ≡ segment.now.executes }
     ensures bytes { result.bytes.now ≡ segment.now.bytes }
 {
-    Segment {
+    LentSegment {
         address: segment.address,
         memory_size: segment.memory_size,
         writes: segment.writes,
@@ -38,7 +39,7 @@ fn lend(segment: &OwnedSegment) -> Segment<'_>
 }
 
 /// Starts a process of an image.
-fn start(machine: &mut Machine, image: &OwnedSegment) -> Reply
+fn start(machine: &mut Machine, image: &Segment) -> Reply
     ensures reply { result ≡ (step (world_of machine.old) (Start (words.lent image.now))).reply }
     ensures world { world_of machine.new ≡ (step (world_of machine.old) (Start (words.lent image.now))).world }
 {
@@ -73,7 +74,7 @@ fn put_on(machine: &mut Machine, hart: usize, slot: usize) -> Reply
 }
 
 /// What a line after `boot` does.
-fn make(machine: &mut Machine, images: &[OwnedSegment], command: Command) -> Reply
+fn make(machine: &mut Machine, images: &[Segment], command: Command) -> Reply
     requires { HasImage images.now command }
     ensures reply { result ≡ (words.command_outcome images.now (world_of machine.old) command).reply }
     ensures world { world_of machine.new ≡ (words.command_outcome images.now (world_of machine.old) command).world }

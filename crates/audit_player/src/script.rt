@@ -2,7 +2,7 @@
 
 ghost use Rattle.std.specs.Prelude.{◌≡◌, ◌≤◌, length, IfOk};
 ghost use Rattle.process_model.specs.Lines.{fields_of, raw_lines};
-ghost use Rattle.process_model.specs.Script as words;
+ghost use Rattle.first_path.specs.Script as words;
 ghost use Rattle.audit_player.specs.Gives.{Gives, Answers};
 
 use crate::draft::Draft;
@@ -11,7 +11,8 @@ use crate::items::make_item;
 use crate::lines::{first_field, first_line, trim_return};
 use crate::table::Row;
 use crate::values::read_values;
-use process_model::{Cause, Command, Config, Item, OwnedSegment};
+use first_path::{Command, Item};
+use process_model::{Cause, Config, Segment};
 use std::alloc::Global;
 use std::marker::Model;
 
@@ -32,7 +33,7 @@ fn test(holds: bool, cause: Cause) -> Result<(), LineFault>
 }
 
 /// What a line with a word says.
-#[tactic(auto, unfolding(process_model::specs::Script::item_line))]
+#[tactic(auto, unfolding(first_path::specs::Script::item_line))]
 fn item_line(alloc: Global, draft: &Draft, text: &[u8], fields: &[u8]) -> Result<Item, LineFault>
     ensures { Gives (λ x. x) result (words.item_line draft.now text.now (fields_of fields.now)) }
 {
@@ -70,7 +71,7 @@ fn fields_line(alloc: Global, draft: &Draft, line: &[u8]) -> Result<Option<Item>
     Ok(Some(item))
 }
 
-#[tactic(auto, unfolding(process_model::specs::Script::line_of))]
+#[tactic(auto, unfolding(first_path::specs::Script::line_of))]
 fn read_line(alloc: Global, draft: &Draft, line: &[u8]) -> Result<Option<Item>, LineFault>
     ensures { Gives (λ x. x) result (words.line_of draft.now line.now) }
 {
@@ -114,13 +115,13 @@ fn read_lines(alloc: Global, bytes: &[u8]) -> Result<(Draft, u64), ScriptError>
 /// A script: images, what the machine is booted with, and the lines after `boot`.
 #[derive(Drop)]
 pub struct Script {
-    images: Vec<OwnedSegment>,
+    images: Vec<Segment>,
     config: Config,
     commands: Vec<Command>,
 }
 
 impl Model for Script {
-    ghost use Rattle.process_model.specs.Script as words;
+    ghost use Rattle.first_path.specs.Script as words;
 
     ghost Value = { words.Script };
 
@@ -155,7 +156,7 @@ impl Script {
     }
 
     /// The images, in the order of their numbers.
-    pub fn images(&self) -> &[OwnedSegment]
+    pub fn images(&self) -> &[Segment]
         ensures { result.now ≡ (self.now).images }
     {
         self.images.as_slice()

@@ -1,7 +1,7 @@
 // Segments, as fields spell them.
 
 ghost use Rattle.std.specs.Prelude.{◌≡◌, IfOk};
-ghost use Rattle.process_model.specs.Fields.{are_flags, segment_in, segment_with};
+ghost use Rattle.first_path.specs.Fields.{are_flags, segment_in, segment_with};
 ghost use Rattle.process_model.specs.Lines.{pieces_of};
 ghost use Rattle.process_model.specs.Numbers.{number_of, hex_of};
 ghost use Rattle.audit_player.specs.Pieces.{FourPieces};
@@ -9,7 +9,7 @@ ghost use Rattle.audit_player.specs.Pieces.{FourPieces};
 use crate::hex::hex;
 use crate::lines::first_piece;
 use crate::numbers::number;
-use process_model::OwnedSegment;
+use process_model::Segment;
 use std::alloc::{AllocError, Global};
 
 /// The pieces of a segment's field.
@@ -48,7 +48,7 @@ fn are_flags(flags: &[u8]) -> bool
 }
 
 /// The segment that a field `VADDR:MEMSZ:FLAGS:HEX` says, or nothing where it has another form.
-pub fn read_segment(alloc: Global, field: &[u8]) -> Result<Option<OwnedSegment>, AllocError>
+pub fn read_segment(alloc: Global, field: &[u8]) -> Result<Option<Segment>, AllocError>
     ensures { IfOk result (λ segment. segment ≡ segment_in (pieces_of field.now)) }
 {
     match four_pieces(field) {
@@ -57,7 +57,7 @@ pub fn read_segment(alloc: Global, field: &[u8]) -> Result<Option<OwnedSegment>,
     }
 }
 
-fn from_pieces(alloc: Global, pieces: Pieces<'_>) -> Result<Option<OwnedSegment>, AllocError>
+fn from_pieces(alloc: Global, pieces: Pieces<'_>) -> Result<Option<Segment>, AllocError>
     ensures { IfOk result (λ segment. segment ≡ segment_with (number_of pieces.entry.address.now) (number_of pieces.entry.memory_size.now) (are_flags pieces.entry.flags.now) (hex_of pieces.entry.bytes.now)) }
 {
     let (Some(address), Some(memory_size)) = (number(pieces.address), number(pieces.memory_size))
@@ -70,7 +70,7 @@ fn from_pieces(alloc: Global, pieces: Pieces<'_>) -> Result<Option<OwnedSegment>
     let Some(bytes) = hex(alloc, pieces.bytes)? else {
         return Ok(None);
     };
-    Ok(Some(OwnedSegment {
+    Ok(Some(Segment {
         address,
         memory_size,
         writes: true,

@@ -2,10 +2,10 @@
 
 ghost use Rattle.std.specs.Prelude.{◌≡◌, ◌≤◌, length, map};
 ghost use Rattle.std.specs.Option.{option_map};
-ghost use Rattle.process_model.specs.Fields.{table, row_among, row_of};
+ghost use Rattle.first_path.specs.Fields.{table, row_among, row_of};
 
-use process_model::FieldKind::{Number, Policy, Segment};
-use process_model::{FieldKind, Keyword};
+use first_path::FieldKind::{Number, Policy, Segment};
+use first_path::{FieldKind, Keyword};
 
 /// A word, as it is written, and the kinds of the fields after it.
 #[derive(Clone, Copy)]

@@ -3,14 +3,15 @@
 ghost use Rattle.std.specs.Prelude.{◌≡◌, ◌<◌, ◌≤◌, IfOk, length};
 ghost use Rattle.arrayvec.specs.ArrayVec.{array_vec_len};
 ghost use Rattle.process_model.specs.Lines.{fields_of};
-ghost use Rattle.process_model.specs.Fields.{value_of, values_of, and_then};
+ghost use Rattle.first_path.specs.Fields.{value_of, values_of, and_then};
 ghost use Rattle.audit_player.specs.Listed.{listed};
 
 use crate::lines::first_field;
 use crate::numbers::{number, signed};
 use crate::segments::read_segment;
 use arrayvec::ArrayVec;
-use process_model::{Cause, FieldKind, FieldValue, Policy};
+use first_path::{FieldKind, FieldValue};
+use process_model::{Cause, Policy};
 use std::alloc::{AllocError, Global};
 
 fn read_policy(field: &[u8]) -> Result<FieldValue, Cause>

@@ -4,7 +4,7 @@ use Rattle.std.proofs.lemmas.Bool.{cases_eq}
 use Rattle.std.specs.FinMap.Entries.{put}
 use Rattle.std.specs.Ordering.{nat_cmp}
 use Rattle.process_model.specs.Bytes.{numbers_from}
-use Rattle.process_model.specs.Frames.{frames_needed}
+use Rattle.first_path.specs.Frames.{frames_needed}
 use Rattle.process_model.specs.PageMap.{numbers, count}
 use Rattle.plain_machine.proofs.Entries.{put_first, put_here}
 

@@ -1,14 +1,14 @@
 -- Steps on a world with one hart and one slot.
 use Rattle.std.proofs.Common.{◌≡◌, ◌≢◌, ℕ, zero, suc, Bool, ◌&&◌, true, false, [], ◌∷◌, Option, None, Some, refl, ◌∙◌, ap}
 use Rattle.std.specs.Prelude.{slice_get, is_some}
-use Rattle.process_model.specs.Process.{first_rule, fault_cause}
+use Rattle.process_model.specs.Regions.{first_rule, fault_cause}
 use Rattle.process_model.specs.Bytes.{is_width}
-use Rattle.process_model.specs.World.{refuses, faulted, unless_denied, on_hart, with_its_process, can_run, user_access, access_step}
+use Rattle.first_path.specs.World.{refuses, faulted, unless_denied, on_hart, with_its_process, can_run, user_access, access_step}
 use Rattle.sv39_entry.specs.declared.rule.Rule.{Rule}
 use Rattle.process_model.specs.declared.phase.Phase.{Phase}
 use Rattle.process_model.specs.declared.phase.Phase.TheVariants.{Idle, User, Enter0, Enter1, Enter2, Kernel, Leave1, Leave2}
 use Rattle.process_model.specs.declared.step.Refusal.TheVariants.{Impossible}
-use Rattle.plain_machine.specs.Seen.{world_of, slot_seen, asked_of, process_seen, running}
+use Rattle.plain_machine.specs.Seen.{world_of, slot_seen, asked_of, process_seen, region_seen, running}
 use Rattle.plain_machine.specs.declared.machine.Asked.{Asked}
 use Rattle.plain_machine.specs.declared.machine.Machine.{Machine}
 use Rattle.plain_machine.specs.declared.process.Process.{Process}
@@ -63,6 +63,6 @@ module _ (m : Machine) (a : Asked) where
       access_running = rw zero_is (running_at _ _ _ p refl refl refl is width)
 
       -- and a fault where a rule denies it
-      pub access_denied : (r : Rule) → first_rule (process_seen m.memory.items p) a.access a.address a.width ≡ Some r
+      pub access_denied : (r : Rule) → first_rule (region_seen p ∷ []) a.access a.address a.width ≡ Some r
           → access_step (world_of m) h a.access a.address a.width a.value ≡ faulted (world_of m) (asked_of m a) 0 (process_seen m.memory.items p) (fault_cause a.access r)
       access_denied r denied = access_running ∙ ap (unless_denied (world_of m) (asked_of m a) 0 (process_seen m.memory.items p)) denied

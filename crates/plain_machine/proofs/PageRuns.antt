@@ -3,10 +3,10 @@ use Rattle.std.proofs.Common.{◌≡◌, ℕ, zero, suc, ◌+◌, ◌<◌, ◌�
 use Rattle.std.specs.FinMap.Entries.{put, find}
 use Rattle.std.specs.Ordering.{nat_cmp, is_eq}
 use Rattle.std.specs.Prelude.{Some, cond}
-use Rattle.process_model.specs.Loading.{page_run}
+use Rattle.first_path.specs.Loading.{page_run}
 use Rattle.process_model.specs.PageMap.{get, insert, from_list}
-use Rattle.process_model.specs.Process.{Page}
-use Rattle.process_model.specs.Residence.{initial_page}
+use Rattle.first_path.specs.Process.{Page}
+use Rattle.first_path.specs.Residence.{initial_page}
 use Rattle.plain_machine.specs.Seen.{pages_from}
 use Rattle.plain_machine.proofs.Entries.{same_entries, tied, after, put_first, put_here, put_later}
 

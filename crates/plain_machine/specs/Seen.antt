@@ -1,8 +1,9 @@
 -- The world that a machine stands for.
 use Rattle.std.specs.Prelude.{ℕ, true, false, ◌+◌, Bool, List, [], ◌∷◌, Option, Some, None, option_map, take}
 use Rattle.process_model.specs.PageMap.{from_list}
-use Rattle.process_model.specs.Process as model
-use Rattle.process_model.specs.World as world
+use Rattle.process_model.specs.Regions.{Region, segment, image}
+use Rattle.first_path.specs.Process as model
+use Rattle.first_path.specs.World as world
 use Rattle.process_model.specs.declared.phase.Phase.{Phase}
 use Rattle.process_model.specs.declared.phase.Phase.TheVariants.{User}
 use Rattle.plain_machine.specs.declared.machine.Asked.{Asked}
@@ -13,8 +14,8 @@ use Rattle.plain_machine.specs.declared.process.Process.{Process}
 abbrev pub pending_seen : Pending → model.Pending
 pending_seen a = record { access = a.access; address = a.address; width = a.width }
 
-abbrev pub region_seen : Process → model.Region
-region_seen p = record { first = p.first; pages = p.pages; reads = true; writes = p.writes; executes = p.executes; kind = model.segment }
+abbrev pub region_seen : Process → Region
+region_seen p = record { first = p.first; pages = p.pages; reads = true; writes = p.writes; executes = p.executes; kind = segment; source = image }
 
 -- pages by their numbers, from one on
 abbrev pub pages_from : ℕ → List (List ℕ) → List (ℕ × model.Page)

@@ -2,10 +2,11 @@
 
 ghost use Rattle.std.specs.Prelude.{◌≡◌, ◌<◌, ◌+◌, ◌-◌, ◌/◌, ◌^◌};
 ghost use Rattle.process_model.specs.Bytes.{numbers_from, pages_for};
-ghost use Rattle.process_model.specs.Frames as frames;
-ghost use Rattle.process_model.specs.Loading as loading;
+ghost use Rattle.first_path.specs.Frames as frames;
+ghost use Rattle.first_path.specs.Loading as loading;
 
-use process_model::{BadImage, Segment};
+use first_path::LentSegment;
+use process_model::BadImage;
 use sv39_entry::{PAGE_SIZE, TRAPFRAME};
 
 /// The page of the trapframe.
@@ -19,7 +20,7 @@ pub fn pages_for(bytes: u64) -> u64
 }
 
 /// The first check that the image fails.
-pub fn fault(image: &Segment<'_>) -> Option<BadImage>
+pub fn fault(image: &LentSegment<'_>) -> Option<BadImage>
     ensures { result ≡ loading.image_fault image.now }
 {
     if image.memory_size < image.bytes.len() as u64 {

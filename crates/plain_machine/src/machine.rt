@@ -1,16 +1,18 @@
 // The machine and its steps.
 
-ghost use Rattle.std.specs.Prelude.{◌≡◌, ◌≤◌, ◌-◌, ◌↔◌, ◌&&◌, false, OnErr, OnOk, IfOk, IsErrOf, IsTrue, vec_len};
+ghost use Rattle.std.specs.Prelude.{◌≡◌, ◌≤◌, ◌-◌, ◌↔◌, ◌&&◌, ◌∷◌, [], false, OnErr, OnOk, IfOk, IsErrOf, IsTrue, vec_len};
 ghost use Rattle.process_model.specs.Bytes.{is_width};
-ghost use Rattle.process_model.specs.Frames.{can_boot, kernel_frames};
+ghost use Rattle.process_model.specs.Frames.{kernel_frames};
+ghost use Rattle.process_model.specs.Regions.{first_rule};
 ghost use Rattle.std.specs.Option.{ForSome};
-ghost use Rattle.process_model.specs.Process.{first_rule};
-ghost use Rattle.process_model.specs.World as model;
+ghost use Rattle.first_path.specs.Frames.{can_boot};
+ghost use Rattle.first_path.specs.World as model;
 
 use crate::image::{fault, frames_needed, pages_for};
 use crate::page::{Page, fill, load, store};
 use crate::process::{Pending, Process, fault_cause};
-use process_model::{Config, Phase, Refusal, Reply, Segment, Step, is_width};
+use first_path::{LentSegment, Step, is_bootable};
+use process_model::{Config, Phase, Refusal, Reply, is_width};
 use std::alloc::{AllocError, AllocFailed, Global};
 use sv39_entry::Access;
 
@@ -97,14 +99,14 @@ fn phase_for(slot: Option<usize>) -> Phase
 }
 
 impl Machine {
-    ghost use Rattle.plain_machine.specs.Seen.{world_of, asked_of, process_seen, running};
+    ghost use Rattle.plain_machine.specs.Seen.{world_of, asked_of, process_seen, region_seen, running};
 
     /// A machine of these sizes, its hart idle and its slot empty.
     pub fn boot(alloc: Global, config: Config) -> Result<Machine, BootError>
         ensures booted { IfOk result (λ machine. world_of machine ≡ model.booted config) }
         ensures limits { IsErrOf result BootError.BadArgument ↔ (can_boot config.harts config.frames config.slots ≡ false) }
     {
-        if !config.is_bootable() {
+        if !is_bootable(&config) {
             return Err(BootError::BadArgument);
         }
         let room = config.frames - kernel_frames(config.frames);
@@ -173,7 +175,7 @@ impl Machine {
         Ok(replies)
     }
 
-    fn start(&mut self, image: Segment<'_>) -> Reply
+    fn start(&mut self, image: LentSegment<'_>) -> Reply
         ensures reply { result ≡ (model.step (world_of self.old) (Step.Start image.entry)).reply }
         ensures world { world_of self.new ≡ (model.step (world_of self.old) (Step.Start image.entry)).world }
     {
@@ -181,7 +183,7 @@ impl Machine {
             return Reply::Refused(Refusal::NoSlot);
         }
         if let Some(part) = fault(&image) {
-            return Reply::Refused(Refusal::Image(part));
+            return Reply::Refused(Refusal::BadImage(part));
         }
         let first = image.address / 4096;
         let pages = pages_for(image.memory_size);
@@ -290,7 +292,7 @@ impl Machine {
     /// A granted access: every page of the region is settled.
     fn answer(&mut self, process: Process, asked: Asked) -> Reply
         requires here { self.old.process ≡ Some process }
-        requires granted { first_rule (process_seen self.old.memory.items process) asked.access asked.address asked.width ≡ None }
+        requires granted { first_rule (region_seen process ∷ []) asked.access asked.address asked.width ≡ None }
         requires width { IsTrue (is_width asked.width) }
         ensures reply { result ≡ (model.user_access (world_of self.old) (asked_of self.old asked) 0 (process_seen self.old.memory.items process)).reply }
         ensures world { world_of self.new ≡ (model.user_access (world_of self.old) (asked_of self.old asked) 0 (process_seen self.old.memory.items process)).world }

@@ -2,8 +2,8 @@
 
 ghost use Rattle.std.specs.Prelude.{◌≡◌, ◌≤◌, ◌<◌, ◌+◌, ◌^◌, ℕ, length, take, drop};
 ghost use Rattle.process_model.specs.Bytes.{number, low_bytes, write_bytes};
-ghost use Rattle.process_model.specs.Loading.{page_run};
-ghost use Rattle.process_model.specs.Residence.{initial_page};
+ghost use Rattle.first_path.specs.Loading.{page_run};
+ghost use Rattle.first_path.specs.Residence.{initial_page};
 ghost use Rattle.plain_machine.specs.Seen.{pages_from};
 
 /// How many bytes a page has, as a length.

@@ -1,7 +1,7 @@
 // The process, but for its bytes.
 
-ghost use Rattle.std.specs.Prelude.{◌≡◌, ◌<◌, ℕ, List, if◌then◌else◌};
-ghost use Rattle.process_model.specs.Process as model;
+ghost use Rattle.std.specs.Prelude.{◌≡◌, ◌<◌, ◌∷◌, [], if◌then◌else◌};
+ghost use Rattle.process_model.specs.Regions as model;
 
 use crate::image::TRAPFRAME_PAGE;
 use sv39_entry::{Access, MAXVA, PAGE_SIZE, Rule, TRAMPOLINE};
@@ -29,12 +29,12 @@ pub struct Process {
 }
 
 impl Process {
-    ghost use Rattle.plain_machine.specs.Seen.{process_seen, region_seen};
+    ghost use Rattle.plain_machine.specs.Seen.{region_seen};
 
     /// The first rule that denies an access, or none where it is granted.
     pub fn first_rule(&self, access: Access, address: u64, width: u64) -> Option<Rule>
         requires { 0 < width }
-        ensures { (memory : List (List ℕ)) → result ≡ model.first_rule (process_seen memory self.now) access address width }
+        ensures { result ≡ model.first_rule (region_seen self.now ∷ []) access address width }
     {
         let page = address / 4096;
         if address % width != 0 {

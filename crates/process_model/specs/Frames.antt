@@ -1,34 +1,113 @@
--- How many frames things take.
-use Rattle.std.specs.Prelude.{ℕ, ◌+◌, ◌-◌, ◌/◌, ◌^◌, nat_le, Bool, ◌&&◌, Option, List, length, map, sum_by, filter_map, if◌then◌else◌}
-use Rattle.process_model.specs.PageMap.{keys, numbers, count}
-use Rattle.process_model.specs.Process.{Process}
+-- How many frames things take, and the accounts of a machine.
+use Rattle.std.specs.Prelude.{ℕ, Bool, true, false, ◌+◌, ◌-◌, ◌/◌, ◌^◌, ◌==◌, nat_le, nat_lt, ◌&&◌, Option, None, Some, List, ◌∷◌, length, map, filter, filter_map, flat_map, sum_by, if◌then◌else◌}
+use Rattle.std.specs.List.{list_any}
+use Rattle.process_model.specs.PageMap.{get, keys, numbers, count}
+use Rattle.process_model.specs.Process.{Process, Page}
+use Rattle.process_model.specs.Residence.{goes_through}
+use Rattle.process_model.specs.Images.{LoadSegment}
+use Rattle.process_model.specs.Loading.{page_numbers}
+use Rattle.sv39_entry.specs.Address.{trampoline_page, trapframe_page}
+use Rattle.sv39_entry.specs.declared.access.Access.{Access}
+use Rattle.process_model.specs.declared.step.Report.{Report}
 
--- the page tables for a set of pages: the root, one for each gigabyte and one for each two megabytes (4.4 of the standard)
-abbrev pub tables_needed : List ℕ → ℕ
-tables_needed pages = 1 + count (numbers (map (λ n. n / 2 ^ 18) pages)) + count (numbers (map (λ n. n / 2 ^ 9) pages))
+-- tables
 
--- a frame for each page, and the tables
-abbrev pub frames_needed : List ℕ → ℕ
-frames_needed pages = length pages + tables_needed pages
+-- the page tables for a set of pages (the standard, 4.4): the root, one for each gigabyte and one for each two megabytes. The
+-- trampoline's page and the trapframe's are always among them
+unfoldable pub tables_needed : List ℕ → ℕ
+tables_needed pages =
+    let all = trampoline_page ∷ trapframe_page ∷ pages in
+    1 + count (numbers (map (λ n. n / 2 ^ 18) all)) + count (numbers (map (λ n. n / 2 ^ 9) all))
+
+-- tables stay until exec or the end, so they are those of all pages that were ever settled
+abbrev pub tables_of : Process → ℕ
+tables_of p = tables_needed (keys p.tabled)
+
+-- what a step takes
+
+-- a page is settled: one frame for its bytes, and the tables that are missing
+abbrev pub settle_need : Process → ℕ → ℕ
+settle_need p page = 1 + (tables_needed (page ∷ keys p.tabled) - tables_of p)
+
+-- a page loses its fork mark: one frame where another process still has it too
+abbrev pub part_need : Bool → ℕ
+part_need shared = if shared then 1 else 0
+
+abbrev pub unless_through : Bool → Bool → ℕ
+unless_through shared true = 0
+unless_through shared false = part_need shared
+
+abbrev pub resident_need_of : Bool → Process → Access → ℕ → Option Page → ℕ
+resident_need_of shared p access page None = settle_need p page
+resident_need_of shared p access page (Some s) = unless_through shared (goes_through access s)
+
+-- a page is made resident for an access; `shared` says whether another process has its copy number
+abbrev pub resident_need : Bool → Process → Access → ℕ → ℕ
+resident_need shared p access page = resident_need_of shared p access page (get p.settled page)
+
+-- the child's trapframe and its tables, and no page
+abbrev pub fork_need : Process → ℕ
+fork_need p = 1 + tables_needed (keys p.settled)
+
+-- the pages of the image, guard and stack among them, and their tables
+abbrev pub exec_need : List LoadSegment → ℕ
+exec_need ls = let pages = page_numbers ls in length pages + tables_needed pages
+
+-- and the trapframe
+abbrev pub start_need : List LoadSegment → ℕ
+start_need ls = 1 + exec_need ls
 
 -- what boot takes: the trampoline page, five tables of the kernel, six where the direct map passes two megabytes, and one
 -- stack a slot (own choice: no device is mapped)
 abbrev pub kernel_frames : ℕ → ℕ → ℕ
 kernel_frames frames slots = (if nat_le frames 512 then 6 else 7) + slots
 
+abbrev pub can_boot : ℕ → ℕ → ℕ → Bool
+can_boot harts frames slots =
+    nat_le 1 harts && nat_le harts 8 && nat_le 16 frames && nat_le frames 1024 && nat_le 1 slots && nat_le slots 64 && nat_le (kernel_frames frames slots) frames
+
+-- accounts
+
 abbrev pub live : List (Option Process) → List Process
 live slots = filter_map (λ p. p) slots
 
+abbrev pub copies_of : Process → List ℕ
+copies_of p = map (λ e. (e.1).copy) p.settled.entries
+
+-- the different copy numbers of processes: each stands for one frame
+abbrev pub copies_in : List Process → List ℕ
+copies_in ps = keys (numbers (flat_map copies_of ps))
+
+abbrev pub has_copy : ℕ → Process → Bool
+has_copy copy p = list_any (λ n. n == copy) (copies_of p)
+
+-- whether two processes or more have the copy number
+abbrev pub is_shared_copy : List Process → ℕ → Bool
+is_shared_copy ps copy = nat_le 2 (length (filter (has_copy copy) ps))
+
+-- the trapframe and the tables of a process
+abbrev pub own_frames : Process → ℕ
+own_frames p = 1 + tables_of p
+
 abbrev pub free_frames : ℕ → List (Option Process) → ℕ
-free_frames frames slots = frames - kernel_frames frames (length slots) - sum_by (λ p. frames_needed (keys p.settled)) (live slots)
+free_frames frames slots =
+    frames - kernel_frames frames (length slots) - length (copies_in (live slots)) - sum_by own_frames (live slots)
 
--- how many harts and slots a machine may have
-abbrev pub most_harts : ℕ
-most_harts = 1
+-- what names a frame of a process: the leaves of TRAMPOLINE and TRAPFRAME, the root and the pointers to its other tables, and the
+-- leaf of each settled page
+abbrev pub references_of : Process → ℕ
+references_of p = 2 + tables_of p + length p.settled.entries
 
-abbrev pub most_slots : ℕ
-most_slots = 1
+-- the trampoline page is shared where a process lives
+abbrev pub shared_frames : List Process → ℕ
+shared_frames ps = length (filter (is_shared_copy ps) (copies_in ps)) + (if nat_lt 0 (length ps) then 1 else 0)
 
-abbrev pub can_boot : ℕ → ℕ → ℕ → Bool
-can_boot harts frames slots =
-    nat_le 1 harts && nat_le harts most_harts && nat_le 16 frames && nat_le frames 1024 && nat_le 1 slots && nat_le slots most_slots && nat_le (kernel_frames frames slots) frames
+abbrev pub accounts : ℕ → List (Option Process) → Report
+accounts frames slots =
+    let free = free_frames frames slots in
+    record {
+      free = free;
+      held = frames - free;
+      shared = shared_frames (live slots);
+      references = kernel_frames frames (length slots) + sum_by references_of (live slots);
+    }

@@ -1,42 +1,65 @@
--- Images: the checks over them, and the process that an accepted one makes.
-use Rattle.std.specs.Prelude.{ℕ, zero, suc, true, not, ◌+◌, ◌%◌, ◌^◌, nat_le, nat_lt, ◌==◌, Option, None, List, [], ◌∷◌, length}
-use Rattle.process_model.specs.Bytes.{pages_for, numbers_from, first_true}
-use Rattle.process_model.specs.PageMap.{from_list}
-use Rattle.process_model.specs.Process.{Process, Page, Region, segment}
-use Rattle.sv39_entry.specs.Address.{page_of, trapframe_page}
-use Rattle.process_model.specs.Residence.{initial_page}
-use Rattle.process_model.specs.declared.image.BadImage.{BadImage}
-use Rattle.process_model.specs.declared.image.BadImage.TheVariants.{Sizes, Wraps, Align, TooHigh, NoLoad}
-use Rattle.process_model.specs.declared.image.Segment.{Segment}
+-- The process that an accepted image makes.
+use Rattle.std.specs.Prelude.{ℕ, zero, suc, true, false, ◌+◌, ◌*◌, None, List, [], ◌∷◌, ◌++◌, drop, map, flat_map}
+use Rattle.process_model.specs.Bytes.{pages_for, padded}
+use Rattle.process_model.specs.PageMap.{from_list, numbers}
+use Rattle.process_model.specs.Regions.{Region, segment, guard, stack, zeros, image}
+use Rattle.process_model.specs.Process.{Process, Page}
+use Rattle.process_model.specs.Images.{LoadSegment, end_of_loads}
+use Rattle.sv39_entry.specs.Address.{page_of}
 
--- the first check that the image fails: its sizes, its place, that there is a page at all, and room for a guard and a stack
--- page below the trapframe (own choice)
-abbrev pub image_fault : Segment → Option BadImage
-image_fault s = first_true (
-    (nat_lt s.memory_size (length s.bytes.now), Sizes)
-    ∷ (nat_le (2 ^ 64) (s.address + s.memory_size), Wraps)
-    ∷ (not (s.address % 4096 == 0), Align)
-    ∷ (s.memory_size == 0, NoLoad)
-    ∷ (nat_lt trapframe_page (pages_for (s.address + s.memory_size) + 2), TooHigh)
-    ∷ [])
+-- a segment may always be read
+abbrev pub segment_region : LoadSegment → Region
+segment_region l = record {
+  first = page_of l.address;
+  pages = pages_for l.memory_size;
+  reads = true;
+  writes = l.writes;
+  executes = l.executes;
+  kind = segment;
+  source = image;
+}
 
-abbrev pub image_region : Segment → Region
-image_region s = record { first = page_of s.address; pages = pages_for s.memory_size; reads = true; writes = s.writes; executes = s.executes; kind = segment }
+abbrev pub guard_at : ℕ → Region
+guard_at first = record { first = first; pages = 1; reads = false; writes = false; executes = false; kind = guard; source = zeros }
 
--- the pages of a region, by their numbers
-abbrev pub pages_of : Region → List ℕ
-pages_of r = numbers_from r.first r.pages
+abbrev pub stack_at : ℕ → Region
+stack_at first = record { first = first; pages = 1; reads = true; writes = true; executes = false; kind = stack; source = zeros }
 
--- n pages from a page on, the first of which has the number k in its run
-abbrev pub page_run : ℕ → ℕ → ℕ → List ℕ → List (ℕ × Page)
-page_run first k zero bytes = []
-page_run first k (suc n) bytes = (first, record { bytes = initial_page bytes k }) ∷ page_run (first + 1) (k + 1) n bytes
+-- after the segments come one guard page and one stack page (the xv6 book, "Code: exec"; gaps between segments are granted to
+-- nobody, by our own choice)
+abbrev pub parts_of : List LoadSegment → List Region
+parts_of ls = let end = end_of_loads 0 ls in map segment_region ls ++ guard_at end ∷ stack_at (end + 1) ∷ []
 
-abbrev pub process_of : Segment → Process
-process_of s =
-    let r = image_region s in
+-- n pages from a page on, with these bytes and zeros after them
+abbrev pub page_run : ℕ → List ℕ → ℕ → List (ℕ × List ℕ)
+page_run first bytes zero = []
+page_run first bytes (suc n) = (first, padded 4096 bytes) ∷ page_run (first + 1) (drop 4096 bytes) n
+
+abbrev pub load_pages : LoadSegment → List (ℕ × List ℕ)
+load_pages l = page_run (page_of l.address) l.bytes (pages_for l.memory_size)
+
+-- all pages of the process, guard and stack among them, with their bytes
+abbrev pub image_pages : List LoadSegment → List (ℕ × List ℕ)
+image_pages ls = flat_map load_pages ls ++ page_run (end_of_loads 0 ls) [] 2
+
+abbrev pub page_numbers : List LoadSegment → List ℕ
+page_numbers ls = map (λ e. e.0) (image_pages ls)
+
+-- each page gets a copy number of its own
+abbrev pub numbered : ℕ → List (ℕ × List ℕ) → List (ℕ × Page)
+numbered fresh [] = []
+numbered fresh (e ∷ es) = (e.0, record { bytes = e.1; copy = fresh; fork_mark = false }) ∷ numbered (fresh + 1) es
+
+-- heap and stack meet at the top of the stack page, and the heap is empty
+unfoldable pub process_of : ℕ → List LoadSegment → Process
+process_of fresh ls =
+    let top = 4096 * (end_of_loads 0 ls + 2) in
     record {
-      regions = r ∷ [];
-      settled = from_list (page_run r.first 0 r.pages s.bytes.now);
+      parts = parts_of ls;
+      mappings = [];
+      heap_base = top;
+      size = top;
+      settled = from_list (numbered fresh (image_pages ls));
+      tabled = numbers (page_numbers ls);
       pending = None;
     }

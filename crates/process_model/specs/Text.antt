@@ -1,73 +1,24 @@
 -- What playing a script writes.
-use Rattle.std.specs.Prelude.{ℕ, true, false, Bool, Some, unwrap_or, List, [], ◌∷◌, ◌++◌, slice_get, codes}
-use Rattle.std.specs.Fmt.{decimal, digits}
-use Rattle.process_model.specs.Script.{Script, no_segment}
-use Rattle.process_model.specs.World.{World, Outcome, step, booted}
-use Rattle.process_model.specs.declared.phase.Phase.{Phase}
-use Rattle.process_model.specs.declared.phase.Phase.TheVariants as phase
-use Rattle.process_model.specs.declared.image.BadImage.{BadImage}
-use Rattle.process_model.specs.declared.image.BadImage.TheVariants as part
-use Rattle.process_model.specs.declared.image.OwnedSegment.{OwnedSegment}
-use Rattle.process_model.specs.declared.image.Segment.{Segment}
-use Rattle.process_model.specs.declared.script.Cause.{Cause}
-use Rattle.process_model.specs.declared.script.Cause.TheVariants as cause
+use Rattle.std.specs.Prelude.{ℕ, true, false, Bool, Option, Some, None, List, [], ◌∷◌, ◌++◌, length, take, drop, map, slice_get, codes}
+use Rattle.std.specs.Fmt.{decimal}
+use Rattle.process_model.specs.Files.{bytes_of}
+use Rattle.process_model.specs.Script.{Script, file_of}
+use Rattle.process_model.specs.Steps.{step}
+use Rattle.process_model.specs.Words.{reply_text, report_text, bytes_text}
+use Rattle.process_model.specs.World.{World, Outcome, booted, report}
+use Rattle.process_model.specs.declared.image.Image.{Image}
+use Rattle.process_model.specs.declared.image.Image.TheVariants as image
+use Rattle.process_model.specs.declared.image.OwnedImage.{OwnedImage}
+use Rattle.process_model.specs.declared.image.OwnedImage.TheVariants as owned
 use Rattle.process_model.specs.declared.script.Command.{Command}
 use Rattle.process_model.specs.declared.script.Command.TheVariants as command
-use Rattle.process_model.specs.declared.step.Refusal.{Refusal}
-use Rattle.process_model.specs.declared.step.Refusal.TheVariants as refusal
 use Rattle.process_model.specs.declared.step.Reply.{Reply}
-use Rattle.process_model.specs.declared.step.Reply.TheVariants.{Done, Started, Value, Stored, Fault, Refused}
+use Rattle.process_model.specs.declared.step.Reply.TheVariants.{Done, Ready, Refused}
 use Rattle.process_model.specs.declared.step.Step.{Step}
-use Rattle.process_model.specs.declared.step.Step.TheVariants.{Start, Switch, Next, Load, Store}
+use Rattle.process_model.specs.declared.step.Step.TheVariants.{Start, Switch, Trap, Next, Serve, Exec, CopyOut}
 
-abbrev pub hexadecimal : ℕ → List ℕ
-hexadecimal n = codes "0x" ++ digits 16 false n
+-- lines that are several steps
 
-abbrev pub phase_text : Phase → List ℕ
-phase_text phase.Idle = codes "idle"
-phase_text phase.User = codes "user"
-phase_text phase.Enter0 = codes "enter0"
-phase_text phase.Enter1 = codes "enter1"
-phase_text phase.Enter2 = codes "enter2"
-phase_text phase.Kernel = codes "kernel"
-phase_text phase.Leave1 = codes "leave1"
-phase_text phase.Leave2 = codes "leave2"
-
-abbrev pub part_text : BadImage → List ℕ
-part_text part.Sizes = codes "Sizes"
-part_text part.Wraps = codes "Wraps"
-part_text part.Align = codes "Align"
-part_text part.TooHigh = codes "TooHigh"
-part_text part.NoLoad = codes "NoLoad"
-
-abbrev pub cause_text : Cause → List ℕ
-cause_text cause.TooLong = codes "TooLong"
-cause_text cause.NotAscii = codes "NotAscii"
-cause_text cause.Word = codes "Word"
-cause_text cause.Order = codes "Order"
-cause_text cause.Count = codes "Count"
-cause_text cause.Number = codes "Number"
-cause_text cause.Field = codes "Field"
-cause_text cause.Limits = codes "Limits"
-cause_text cause.TooMany = codes "TooMany"
-
--- the number and the name of a refusal
-abbrev pub refusal_text : Refusal → List ℕ
-refusal_text refusal.NoFrame = codes "9 NoFrame"
-refusal_text refusal.NoSlot = codes "10 NoSlot"
-refusal_text (refusal.Image p) = codes "12 BadImage " ++ part_text p
-refusal_text refusal.BadArgument = codes "15 BadArgument"
-refusal_text (refusal.Impossible p) = codes "19 Impossible " ++ phase_text p
-
-abbrev pub reply_text : Reply → List ℕ
-reply_text Done = codes "ok"
-reply_text (Started s) = codes "slot " ++ decimal s
-reply_text (Value v) = codes "value " ++ hexadecimal v
-reply_text Stored = codes "stored"
-reply_text (Fault c) = codes "fault " ++ decimal c
-reply_text (Refused r) = codes "refused " ++ refusal_text r
-
--- several steps with one reply: that of the first that is refused, else the one given
 abbrev pub is_refused : Reply → Bool
 is_refused (Refused r) = true
 is_refused _ = false
@@ -76,34 +27,89 @@ abbrev pub unless_stopped : Bool → Outcome → Outcome → Outcome
 unless_stopped true o rest = o
 unless_stopped false o rest = rest
 
+-- several steps with one reply: that of the first that is refused, and none is made after it; else the one given
 abbrev pub series_of : World → List Step → Reply → Outcome
 series_of w [] reply = record { reply = reply; world = w }
 series_of w (s ∷ ss) reply = let o = step w s in unless_stopped (is_refused o.reply) o (series_of o.world ss reply)
 
--- a process comes on a hart, and the return to the user runs through
+-- the return to the user, and the entry into the kernel after a trap or a fault
+abbrev pub three_next : ℕ → List Step
+three_next h = Next h ∷ Next h ∷ Next h ∷ []
+
 abbrev pub on_steps : ℕ → ℕ → List Step
-on_steps h s = Switch h (Some s) ∷ Next h ∷ Next h ∷ Next h ∷ []
+on_steps h s = Switch h (Some s) ∷ three_next h
 
--- a segment of a script, as a step brings it
-abbrev pub lent : OwnedSegment → Segment
-lent s = record { address = s.address; memory_size = s.memory_size; writes = s.writes; executes = s.executes; bytes = record { ref_ptr = (0, 0); now = s.bytes } }
+abbrev pub enter_steps : ℕ → List Step
+enter_steps h = Trap h ∷ three_next h
 
-abbrev pub image_at : List OwnedSegment → ℕ → OwnedSegment
-image_at images n = unwrap_or (slice_get images n) no_segment
+abbrev pub is_ready : Reply → Bool
+is_ready Ready = true
+is_ready _ = false
 
-abbrev pub command_outcome : List OwnedSegment → World → Command → Outcome
-command_outcome images w (command.Start n) = step w (Start (lent (image_at images n)))
-command_outcome images w (command.On h s) = series_of w (on_steps h s) Done
-command_outcome images w (command.Load h address width) = step w (Load h address width)
-command_outcome images w (command.Store h address width value) = step w (Store h address width value)
+-- after Ready the hart returns to user mode; all else ends the line
+abbrev pub back_if : ℕ → Outcome → Bool → Outcome
+back_if h o true = series_of o.world (three_next h) Ready
+back_if h o false = o
+
+abbrev pub after_service : ℕ → Outcome → Outcome
+after_service h o = back_if h o (is_ready o.reply)
+
+abbrev pub fixed_after : ℕ → Outcome → Bool → Outcome
+fixed_after h o true = o
+fixed_after h o false = after_service h (step o.world (Serve h))
+
+-- the entry after a fault, its service, and after Ready the return
+abbrev pub fixed : World → ℕ → Outcome
+fixed w h = let o = series_of w (three_next h) Done in fixed_after h o (is_refused o.reply)
+
+-- declared images as a step borrows them. A borrow has an address too, which no step reads
+
+abbrev pub lent : OwnedImage → Image
+lent (owned.Elf bytes) = image.Elf (record { ref_ptr = (0, 0); now = bytes })
+lent (owned.Segments segments) = image.Segments (record { ref_ptr = (0, 0); now = segments })
+
+abbrev pub no_image : OwnedImage
+no_image = owned.Elf []
+
+abbrev pub or_no_image : Option OwnedImage → OwnedImage
+or_no_image None = no_image
+or_no_image (Some i) = i
+
+abbrev pub image_at : List OwnedImage → ℕ → Image
+image_at images n = lent (or_no_image (slice_get images n))
+
+-- the text of each line
+
+-- a line's text, and the world after it
+pub record Played : Type 0 where
+  pub text : List ℕ
+  pub world : World
+
+abbrev pub told : Outcome → Played
+told o = record { text = reply_text o.reply; world = o.world }
+
+abbrev pub show_text : List ℕ → ℕ → ℕ → List ℕ
+show_text bytes offset n = codes "file " ++ decimal (length bytes) ++ codes " " ++ bytes_text (take n (drop offset bytes))
+
+abbrev pub played : List OwnedImage → World → Command → Played
+played images w (command.One s) = told (step w s)
+played images w (command.Start n) = told (step w (Start (image_at images n)))
+played images w (command.Exec h n) = told (step w (Exec h (image_at images n)))
+played images w (command.CopyOut h address bytes) = told (step w (CopyOut h address (record { ref_ptr = (0, 0); now = bytes })))
+played images w (command.On h s) = told (series_of w (on_steps h s) Done)
+played images w (command.Enter h) = told (series_of w (enter_steps h) Done)
+played images w (command.Leave h) = told (series_of w (three_next h) Done)
+played images w (command.Fix h) = told (fixed w h)
+played images w (command.Show f offset n) = record { text = show_text (bytes_of (slice_get w.files f)) offset n; world = w }
+played images w command.Audit = record { text = report_text (report w); world = w }
 
 abbrev pub line_text : List ℕ → List ℕ
 line_text t = t ++ 10 ∷ []
 
-abbrev pub commands_text : List OwnedSegment → World → List Command → List ℕ
+abbrev pub commands_text : List OwnedImage → World → List Command → List ℕ
 commands_text images w [] = []
-commands_text images w (c ∷ cs) = let o = command_outcome images w c in line_text (reply_text o.reply) ++ commands_text images o.world cs
+commands_text images w (c ∷ cs) = let p = played images w c in line_text p.text ++ commands_text images p.world cs
 
 -- what `play` writes for a script: a line for `boot`, and one for each line after it
 abbrev pub text_of : Script → List ℕ
-text_of s = line_text (codes "ok") ++ commands_text s.images (booted s.config) s.commands
+text_of s = line_text (codes "ok") ++ commands_text s.images (booted s.config (map file_of s.files)) s.commands

@@ -1,37 +1,41 @@
--- The machine as processes and harts, and what each step does.
-use Rattle.std.specs.Prelude.{ℕ, Bool, true, false, not, ◌+◌, ◌%◌, nat_lt, ◌==◌, ◌&&◌, Option, None, Some, is_some, unwrap_or, List, [], ◌∷◌, slice_get, slice_set, replicate}
+-- The machine as processes, files and harts, and when a step is possible.
+use Rattle.std.specs.Prelude.{ℕ, Bool, true, false, not, ◌+◌, ◌==◌, ◌&&◌, Option, None, Some, is_some, List, [], ◌∷◌, slice_get, slice_set, replicate}
 use Rattle.std.specs.List.{list_any}
-use Rattle.process_model.specs.Bytes.{is_width, first_true}
-use Rattle.process_model.specs.Process.{Process, Page, first_rule, fault_cause}
-use Rattle.sv39_entry.specs.Address.{page_of}
-use Rattle.sv39_entry.specs.Causes.{page_fault_cause}
-use Rattle.process_model.specs.Residence.{resident_page, with_page, access_answer}
-use Rattle.process_model.specs.Loading.{image_fault, image_region, pages_of, process_of}
-use Rattle.process_model.specs.Frames.{free_frames, frames_needed}
-use Rattle.sv39_entry.specs.declared.access.Access.{Access}
-use Rattle.sv39_entry.specs.declared.access.Access.TheVariants as access
-use Rattle.sv39_entry.specs.declared.rule.Rule.{Rule}
-use Rattle.process_model.specs.declared.phase.Phase.{Phase}
-use Rattle.process_model.specs.declared.phase.Phase.TheVariants.{Idle, User, Enter0, Kernel, Leave1, Leave2}
-use Rattle.process_model.specs.declared.image.BadImage.{BadImage}
-use Rattle.process_model.specs.declared.image.Segment.{Segment}
+use Rattle.process_model.specs.Bytes.{first_true}
+use Rattle.process_model.specs.Files.{File}
+use Rattle.process_model.specs.Process.{Process, Page, Pending}
+use Rattle.process_model.specs.Frames.{free_frames, accounts, live, has_copy}
+use Rattle.process_model.specs.Harts.{Hart, idle_hart, is_kernel, next_phase}
 use Rattle.process_model.specs.declared.config.Config.{Config}
+use Rattle.process_model.specs.declared.config.Policy.{Policy}
+use Rattle.process_model.specs.declared.phase.Phase.{Phase}
 use Rattle.process_model.specs.declared.step.Refusal.{Refusal}
-use Rattle.process_model.specs.declared.step.Refusal.TheVariants.{NoFrame, NoSlot, Image, BadArgument, Impossible}
+use Rattle.process_model.specs.declared.step.Refusal.TheVariants.{BadArgument, Impossible, NoEntry}
 use Rattle.process_model.specs.declared.step.Reply.{Reply}
-use Rattle.process_model.specs.declared.step.Reply.TheVariants.{Done, Started, Fault, Refused}
-use Rattle.process_model.specs.declared.step.Step.{Step}
-use Rattle.process_model.specs.declared.step.Step.TheVariants.{Start, Switch, Next, Load, Store}
-
-pub record Hart : Type 0 where
-  pub phase : Phase
-  pub slot : Option ℕ
+use Rattle.process_model.specs.declared.step.Reply.TheVariants.{Refused}
+use Rattle.process_model.specs.declared.step.Report.{Report}
 
 pub record World : Type 0 where
+  pub policy : Policy
+  -- how many the memory has
   pub frames : ℕ
   pub slots : List (Option Process)
+  pub files : List File
+  -- above every copy number that was given
+  pub counter : ℕ
   pub harts : List Hart
 
+abbrev pub booted : Config → List File → World
+booted c files = record {
+  policy = c.policy;
+  frames = c.frames;
+  slots = replicate c.slots None;
+  files = files;
+  counter = 0;
+  harts = replicate c.harts idle_hart;
+}
+
+-- what a step answers, and the world after it
 pub record Outcome : Type 0 where
   pub reply : Reply
   pub world : World
@@ -48,6 +52,9 @@ refuses w r = answers w (Refused r)
 abbrev pub free : World → ℕ
 free w = free_frames w.frames w.slots
 
+abbrev pub report : World → Report
+report w = accounts w.frames w.slots
+
 abbrev pub flat : Option (Option Process) → Option Process
 flat None = None
 flat (Some p) = p
@@ -58,6 +65,9 @@ process_in w s = flat (slice_get w.slots s)
 abbrev pub with_process : World → ℕ → Process → World
 with_process w s p = record w { slots = slice_set w.slots s (Some p) }
 
+abbrev pub without_process : World → ℕ → World
+without_process w s = record w { slots = slice_set w.slots s None }
+
 abbrev pub with_hart : World → ℕ → Hart → World
 with_hart w h hart = record w { harts = slice_set w.harts h hart }
 
@@ -66,149 +76,96 @@ lowest_free n [] = None
 lowest_free n (None ∷ slots) = Some n
 lowest_free n (Some p ∷ slots) = lowest_free (n + 1) slots
 
--- when a step is possible
+abbrev pub free_slot : World → Option ℕ
+free_slot w = lowest_free 0 w.slots
 
--- the refusals that every step on a hart has, in their order
-abbrev pub common_refusal : Hart → Bool → (Hart → Bool) → Option Refusal
-common_refusal hart proper possible = first_true (
+-- whether a process of another slot has the page's copy number
+abbrev pub others_have : World → ℕ → ℕ → Bool
+others_have w s copy = list_any (has_copy copy) (live (without_process w s).slots)
+
+abbrev pub is_shared_page : World → ℕ → Option Page → Bool
+is_shared_page w s None = false
+is_shared_page w s (Some page) = others_have w s page.copy
+
+-- the process of a hart
+
+abbrev pub process_of_slot : World → Option ℕ → Option Process
+process_of_slot w None = None
+process_of_slot w (Some s) = process_in w s
+
+abbrev pub process_on : World → Hart → Option Process
+process_on w hart = process_of_slot w hart.slot
+
+abbrev pub has_slot : ℕ → Option ℕ → Bool
+has_slot s None = false
+has_slot s (Some t) = t == s
+
+-- a process comes on one hart at a time
+abbrev pub can_run : World → Option ℕ → Bool
+can_run w None = true
+can_run w (Some s) = is_some (process_in w s) && not (list_any (λ hart. has_slot s hart.slot) w.harts)
+
+-- while an access that faulted waits for its service, the kernel makes no call for the process and does not return to it
+
+abbrev pub is_unserved_access : Option Pending → Bool
+is_unserved_access None = false
+is_unserved_access (Some a) = not a.served
+
+abbrev pub is_unserved : Option Process → Bool
+is_unserved None = false
+is_unserved (Some p) = is_unserved_access p.pending
+
+abbrev pub awaits_service : World → Hart → Bool
+awaits_service w hart = is_unserved (process_on w hart)
+
+-- the next instruction of the trampoline
+abbrev pub can_go_on : World → Hart → Bool
+can_go_on w hart = is_some (next_phase hart.phase) && not (is_kernel hart.phase && awaits_service w hart)
+
+abbrev pub can_call : World → Hart → Bool
+can_call w hart = is_kernel hart.phase && not (awaits_service w hart)
+
+abbrev pub can_serve : World → Hart → Bool
+can_serve w hart = is_kernel hart.phase && awaits_service w hart
+
+-- in every phase, and with any entry
+abbrev pub always : Hart → Bool
+always hart = true
+
+-- the refusals that every step on a hart has, in their order: what is asked is not proper, is not possible in this phase, or
+-- names an entry that is not there
+abbrev pub common_refusal : Hart → Bool → (Hart → Bool) → (Hart → Bool) → Option Refusal
+common_refusal hart proper possible entry = first_true (
     (not proper, BadArgument)
     ∷ (not (possible hart), Impossible hart.phase)
+    ∷ (not (entry hart), NoEntry)
     ∷ [])
 
 abbrev pub unless_refused : World → (Hart → Outcome) → Hart → Option Refusal → Outcome
 unless_refused w run hart (Some r) = refuses w r
 unless_refused w run hart None = run hart
 
-abbrev pub on_hart_at : World → Bool → (Hart → Bool) → (Hart → Outcome) → Option Hart → Outcome
-on_hart_at w proper possible run None = refuses w BadArgument
-on_hart_at w proper possible run (Some hart) = unless_refused w run hart (common_refusal hart proper possible)
+abbrev pub on_hart_at : World → Bool → (Hart → Bool) → (Hart → Bool) → (Hart → Outcome) → Option Hart → Outcome
+on_hart_at w proper possible entry run None = refuses w BadArgument
+on_hart_at w proper possible entry run (Some hart) = unless_refused w run hart (common_refusal hart proper possible entry)
 
-unfoldable pub on_hart : World → ℕ → Bool → (Hart → Bool) → (Hart → Outcome) → Outcome
-on_hart w h proper possible run = on_hart_at w proper possible run (slice_get w.harts h)
+-- a step on the hart with a number, or its refusal
+unfoldable pub on_hart : World → ℕ → Bool → (Hart → Bool) → (Hart → Bool) → (Hart → Outcome) → Outcome
+on_hart w h proper possible entry run = on_hart_at w proper possible entry run (slice_get w.harts h)
 
--- the slot and the process of a hart
-abbrev pub with_process_of : World → Phase → ℕ → (ℕ → Process → Outcome) → Option Process → Outcome
-with_process_of w phase s run None = refuses w (Impossible phase)
-with_process_of w phase s run (Some p) = run s p
+abbrev pub with_process_of : World → Phase → (ℕ → Process → Outcome) → ℕ → Option Process → Outcome
+with_process_of w phase run s None = refuses w (Impossible phase)
+with_process_of w phase run s (Some p) = run s p
 
 abbrev pub with_slot_of : World → Phase → (ℕ → Process → Outcome) → Option ℕ → Outcome
 with_slot_of w phase run None = refuses w (Impossible phase)
-with_slot_of w phase run (Some s) = with_process_of w phase s run (process_in w s)
+with_slot_of w phase run (Some s) = with_process_of w phase run s (process_in w s)
 
+-- what is done for the process of a hart; its slot comes with it. A hart that is not idle has a process, so the cases of none do not
+-- come
 unfoldable pub with_its_process : World → Hart → (ℕ → Process → Outcome) → Outcome
 with_its_process w hart run = with_slot_of w hart.phase run hart.slot
 
--- the stages of the return to the user
-abbrev pub next_phase : Phase → Option Phase
-next_phase Kernel = Some Leave1
-next_phase Leave1 = Some Leave2
-next_phase Leave2 = Some User
-next_phase _ = None
-
-abbrev pub is_user : Phase → Bool
-is_user User = true
-is_user _ = false
-
-abbrev pub may_switch : Phase → Bool
-may_switch Idle = true
-may_switch Kernel = true
-may_switch _ = false
-
--- harts
-
-abbrev pub same_slot : ℕ → Option ℕ → Bool
-same_slot s None = false
-same_slot s (Some t) = t == s
-
--- a process comes on one hart at a time
-abbrev pub can_run : World → Option ℕ → Bool
-can_run w None = true
-can_run w (Some s) = is_some (process_in w s) && not (list_any (λ hart. same_slot s hart.slot) w.harts)
-
-abbrev pub phase_for : Option ℕ → Phase
-phase_for None = Idle
-phase_for (Some s) = Kernel
-
--- accesses of the user
-
--- what is asked, and of whom
-pub record Asked : Type 0 where
-  pub hart_number : ℕ
-  pub hart : Hart
-  pub access : Access
-  pub address : ℕ
-  pub width : ℕ
-  pub value : ℕ
-
--- the access is pending, and nothing else of the process changes
-abbrev pub faulted : World → Asked → ℕ → Process → ℕ → Outcome
-faulted w a s p cause = answers
-    (with_hart (with_process w s (record p { pending = Some (record { access = a.access; address = a.address; width = a.width }) })) a.hart_number (record a.hart { phase = Enter0 }))
-    (Fault cause)
-
-abbrev pub without_pending : Process → Process
-without_pending p = record p { pending = None }
-
-abbrev pub answered : World → ℕ → Process → ℕ → Reply × Page → Outcome
-answered w s p page a = answers (with_process w s (without_pending (with_page p page a.1))) a.0
-
--- a fault where the access is not resident, and else its answer
-abbrev pub if_resident : World → Asked → ℕ → Process → Option Page → Outcome
-if_resident w a s p None = faulted w a s p (page_fault_cause a.access)
-if_resident w a s p (Some page) = answered w s p (page_of a.address) (access_answer a.access page (a.address % 4096) a.width a.value)
-
-abbrev pub unless_denied : World → Asked → ℕ → Process → Option Rule → Outcome
-unless_denied w a s p (Some r) = faulted w a s p (fault_cause a.access r)
-unless_denied w a s p None = if_resident w a s p (resident_page p a.address)
-
--- denied, or not resident: a fault; else the answer
-abbrev pub user_access : World → Asked → ℕ → Process → Outcome
-user_access w a s p = unless_denied w a s p (first_rule p a.access a.address a.width)
-
-abbrev pub access_step : World → ℕ → Access → ℕ → ℕ → ℕ → Outcome
-access_step w h access address width value =
-    on_hart w h (is_width width) (λ hart. is_user hart.phase)
-    (λ hart. with_its_process w hart (user_access w (record { hart_number = h; hart = hart; access = access; address = address; width = width; value = value })))
-
--- processes that begin
-
-abbrev pub started_if : World → ℕ → Segment → Bool → Outcome
-started_if w s image true = refuses w NoFrame
-started_if w s image false = answers (with_process w s (process_of image)) (Started s)
-
-abbrev pub started : World → ℕ → Segment → Option BadImage → Outcome
-started w s image (Some e) = refuses w (Image e)
-started w s image None = started_if w s image (nat_lt (free w) (frames_needed (pages_of (image_region image))))
-
-abbrev pub start_in : World → Segment → Option ℕ → Outcome
-start_in w image None = refuses w NoSlot
-start_in w image (Some s) = started w s image (image_fault image)
-
--- a step, and a list of steps
-
-abbrev pub step : World → Step → Outcome
-step w (Start image) = start_in w image (lowest_free 0 w.slots)
-step w (Switch h slot) = on_hart w h true (λ hart. may_switch hart.phase && can_run w slot) (λ hart. answers (with_hart w h (record hart { phase = phase_for slot; slot = slot })) Done)
-step w (Next h) = on_hart w h true (λ hart. is_some (next_phase hart.phase)) (λ hart. answers (with_hart w h (record hart { phase = unwrap_or (next_phase hart.phase) hart.phase })) Done)
-step w (Load h address width) = access_step w h access.Load address width 0
-step w (Store h address width value) = access_step w h access.Store address width value
-
--- the replies to a list of steps, and the world after it
-pub record Run : Type 0 where
-  pub replies : List Reply
-  pub world : World
-
-abbrev pub replied : Reply → Run → Run
-replied reply r = record r { replies = reply ∷ r.replies }
-
-abbrev pub run : World → List Step → Run
-run w [] = record { replies = []; world = w }
-run w (s ∷ ss) = let o = step w s in replied o.reply (run o.world ss)
-
--- boot
-
-abbrev pub idle_hart : Hart
-idle_hart = record { phase = Idle; slot = None }
-
-abbrev pub booted : Config → World
-booted c = record { frames = c.frames; slots = replicate c.slots None; harts = replicate c.harts idle_hart }
+-- a call of the kernel for the process of a hart
+abbrev pub kernel_call : World → ℕ → Bool → (Hart → ℕ → Process → Outcome) → Outcome
+kernel_call w h proper run = on_hart w h proper (can_call w) always (λ hart. with_its_process w hart (run hart))

@@ -2,10 +2,14 @@
 
 ghost use Rattle.std.specs.Prelude.{◌≡◌};
 
-/// How the kernel keeps old translations out of the buffers: by fences that empty them.
+/// How the kernel keeps old translations out of the buffers.
 #[derive(Clone, Copy, PartialEq, Eq, Debug)]
 pub enum Policy {
+    /// By fences that empty the buffer, before and after each write of satp (the standard, 4.2.1).
     Full,
+    /// By an address-space identifier (ASID) of its own for each process, and a fence on it only where old entries may
+    /// stand.
+    Asid,
 }
 
 /// What the machine is booted with.
@@ -26,6 +30,10 @@ impl Config {
     pub fn is_bootable(&self) -> bool
         ensures { result ≡ can_boot self.now.harts self.now.frames self.now.slots }
     {
-        self.harts == 1 && (16..=1024).contains(&self.frames) && self.slots == 1
+        let kernel = if self.frames <= 512 { 6 } else { 7 };
+        (1..=8).contains(&self.harts)
+            && (16..=1024).contains(&self.frames)
+            && (1..=64).contains(&self.slots)
+            && kernel + self.slots <= self.frames
     }
 }

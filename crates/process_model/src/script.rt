@@ -1,7 +1,10 @@
 // What a script says, line by line.
 
 use crate::config::{Config, Policy};
-use crate::image::OwnedSegment;
+use crate::file::FileText;
+use crate::image::{OwnedImage, Segment};
+use crate::sequence::Bytes;
+use crate::step::Step;
 
 /// What is wrong with a line of a script, in the order in which the causes are tried.
 #[derive(Clone, Copy, PartialEq, Eq, Debug)]
@@ -29,12 +32,35 @@ pub enum Cause {
 /// The first field of a line.
 #[derive(Clone, Copy, PartialEq, Eq, Debug)]
 pub enum Keyword {
+    File,
     Image,
+    Elf,
     Boot,
     Start,
-    On,
+    Switch,
+    Trap,
+    Next,
+    Fill,
+    Evict,
+    Fetch,
     Load,
     Store,
+    Tramp,
+    Serve,
+    Fork,
+    Exec,
+    Sbrk,
+    Mmap,
+    Munmap,
+    CopyIn,
+    CopyOut,
+    Exit,
+    Show,
+    Audit,
+    On,
+    Enter,
+    Leave,
+    Fix,
 }
 
 /// How a further field is read.
@@ -44,9 +70,28 @@ pub enum FieldKind {
     Number,
     /// From -2^63 to 2^63 - 1.
     Signed,
+    /// Two hexadecimal digits a byte, or `-` for none.
+    Hex,
+    /// A number, or `-` for none.
+    Slot,
+    /// `rw` or `ro`.
+    Mode,
+    /// `full` or `asid`.
     Policy,
     /// `VADDR:MEMSZ:FLAGS:HEX`.
     Segment,
+    /// `@N`.
+    Entry,
+}
+
+/// What may follow the fields that a line must have.
+#[derive(Clone, Copy, PartialEq, Eq, Debug)]
+pub enum Tail {
+    Nothing,
+    /// One field of this kind.
+    Perhaps(FieldKind),
+    /// Any number of fields of this kind.
+    More(FieldKind),
 }
 
 /// What a field says.
@@ -54,51 +99,65 @@ pub enum FieldKind {
 pub enum FieldValue {
     Number(u64),
     Signed(i64),
+    Hex(Bytes),
+    /// A slot or none, or the entry that is named.
+    Optional(Option<u64>),
+    /// Whether a file may be written.
+    Writable(bool),
     Policy(Policy),
-    Segment(OwnedSegment),
-}
-
-/// Room in a fixed list is filled with zeros.
-impl Default for FieldValue {
-    ghost use Rattle.std.specs.Prelude.{◌≡◌};
-    ghost use Rattle.process_model.specs.declared.script.FieldValue.TheVariants.{Number};
-
-    ghost is_default = { λ v. v ≡ Number 0 };
-
-    fn default() -> FieldValue {
-        FieldValue::Number(0)
-    }
+    Segment(Segment),
 }
 
 /// A line after `boot`.
-#[derive(Clone, Copy, PartialEq, Eq, Debug)]
+#[derive(Drop)]
 pub enum Command {
-    /// The number of the image, from 0.
+    /// A step that borrows nothing.
+    One(Step<'static>),
+    /// A process of an image, by the image's number from 0.
     Start {
         image: usize,
+    },
+    Exec {
+        hart: usize,
+        image: usize,
+    },
+    CopyOut {
+        hart: usize,
+        address: u64,
+        bytes: Bytes,
     },
     /// A process comes on a hart and runs.
     On {
         hart: usize,
         slot: usize,
     },
-    Load {
+    /// The process enters the kernel.
+    Enter {
         hart: usize,
-        address: u64,
-        width: u64,
     },
-    Store {
+    /// The process runs again.
+    Leave {
         hart: usize,
-        address: u64,
-        width: u64,
-        value: u64,
     },
+    /// The process enters the kernel after a fault, is served, and runs again.
+    Fix {
+        hart: usize,
+    },
+    /// The file's length, and its bytes from an offset, at most so many.
+    Show {
+        file: usize,
+        offset: u64,
+        count: usize,
+    },
+    /// The accounts of the frames.
+    Audit,
 }
 
 /// What a line says that is no comment.
 #[derive(Drop)]
 pub enum Item {
-    Image(OwnedSegment),
+    File(FileText),
+    Image(OwnedImage),
     Boot(Config),
     Command(Command),
 }

@@ -3,8 +3,9 @@
 use crate::fault::Fault;
 use crate::words::Words;
 use audit_player::{PlayError, Reader, Writer, play};
+use first_path::{LentSegment, Step};
 use plain_machine::Machine;
-use process_model::{Cause, Config, Policy, Reply, Segment, Step};
+use process_model::{Cause, Config, Policy, Reply};
 use std::alloc::{AllocError, Global};
 use std::io;
 use std::io::{Read, Write};
@@ -118,7 +119,7 @@ fn runs_steps(rt: HostRuntime) -> Result<(), Fail> {
         slots: 1,
         policy: Policy::Full,
     };
-    let image = Segment {
+    let image = LentSegment {
         address: 0x1000,
         memory_size: 0x1000,
         writes: true,

@@ -1,6 +1,6 @@
 use Rattle.std.proofs.Common.{◌≡◌, ◌++◌, drop}
 use Rattle.std.specs.String.{string_bytes}
-use Rattle.process_model.specs.Text.{commands_text, text_of}
+use Rattle.first_path.specs.Text.{commands_text, text_of}
 use Rattle.plain_machine.specs.Seen.{world_of}
 use Rattle.audit_player.proofs.playing.output.Given as goal
 

@@ -1,5 +1,5 @@
 use Rattle.std.proofs.Common.{◌≡◌, Ok, Err, sym, ap, subst, ◌∙◌}
-use Rattle.process_model.specs.Script.{script_of}
+use Rattle.first_path.specs.Script.{script_of}
 use Rattle.audit_player.specs.declared.fault.PlayError.TheVariants as error
 use Rattle.audit_player.specs.Played.{text_or_none}
 use Rattle.audit_player.specs.Taken.{WroteSome}

@@ -1,5 +1,5 @@
 use Rattle.std.proofs.Common.{◌≡◌, drop}
-use Rattle.process_model.specs.Text.{series_of}
+use Rattle.first_path.specs.Text.{series_of}
 use Rattle.process_model.specs.declared.step.Reply.TheVariants.{Done}
 use Rattle.plain_machine.specs.Seen.{world_of}
 use Rattle.audit_player.proofs.playing.series.Given as goal

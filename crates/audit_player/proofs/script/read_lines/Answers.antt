@@ -1,7 +1,7 @@
 use Rattle.std.proofs.Common.{◌≡◌, ◌+◌, sym, ap, ◌∙◌, Ok}
 use Rattle.std.proofs.lemmas.Result.{err_from_is_err_and}
 use Rattle.process_model.specs.Lines.{raw_lines}
-use Rattle.process_model.specs.Script as words
+use Rattle.first_path.specs.Script as words
 use Rattle.audit_player.proofs.Faults.{refused}
 use Rattle.audit_player.proofs.script.read_lines.Goals as goal
 

@@ -1,6 +1,6 @@
 use Rattle.std.proofs.Common.{◌≡◌, ◌+◌, ◌≤◌, length, Ok}
 use Rattle.process_model.specs.Lines.{raw_lines}
-use Rattle.process_model.specs.Script as words
+use Rattle.first_path.specs.Script as words
 use Rattle.audit_player.proofs.script.read_lines.Given as goal
 
 abbrev pub invariant-loop-rest : goal.invariant-loop-rest

@@ -2,7 +2,7 @@ use Rattle.std.proofs.Common.{◌≡◌, ◌≤◌, drop, Ok, []}
 use Rattle.std.specs.Prelude.{IfOk}
 use Rattle.arrayvec.specs.ArrayVec.{array_vec_len}
 use Rattle.process_model.specs.Lines.{fields_of}
-use Rattle.process_model.specs.Fields.{values_from}
+use Rattle.first_path.specs.Fields.{values_from}
 use Rattle.audit_player.specs.Listed.{listed}
 use Rattle.audit_player.proofs.values.read_values.Given as goal
 

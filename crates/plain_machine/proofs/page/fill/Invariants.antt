@@ -1,5 +1,5 @@
 use Rattle.std.proofs.Common.{◌≡◌, ℕ, ◌<◌, get_or, []}
-use Rattle.process_model.specs.Residence.{initial_page}
+use Rattle.first_path.specs.Residence.{initial_page}
 use Rattle.plain_machine.proofs.page.fill.Given as goal
 
 abbrev pub invariant-loop-k : goal.invariant-loop-k

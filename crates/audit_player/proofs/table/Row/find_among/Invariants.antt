@@ -1,5 +1,5 @@
 use Rattle.std.proofs.Common.{◌≡◌, drop, map}
-use Rattle.process_model.specs.Fields.{row_among}
+use Rattle.first_path.specs.Fields.{row_among}
 use Rattle.audit_player.specs.Rows.{seen}
 use Rattle.audit_player.proofs.table.Row.find_among.Given as goal
 

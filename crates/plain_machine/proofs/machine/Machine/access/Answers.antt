@@ -1,5 +1,5 @@
 use Rattle.std.proofs.Common.{sym, ap, ◌∙◌}
-use Rattle.process_model.specs.World.{on_hart, Outcome}
+use Rattle.first_path.specs.World.{on_hart, Outcome}
 use Rattle.process_model.specs.declared.step.Reply.TheVariants.{Fault}
 use Rattle.plain_machine.proofs.OneHart.{not_first, access_running, access_none, access_denied}
 use Rattle.plain_machine.proofs.machine.Machine.access.Goals as goal
@@ -30,18 +30,18 @@ returns-in_default-clause-world c =
     sym (ap (λ (o : Outcome). o.world) none)
 
 pub answer-requires-clause-granted : goal.answer-requires-clause-granted
-answer-requires-clause-granted c = sym (c.first_rule.ensures c.args.self.now.memory.items) ∙ c.in-None.is
+answer-requires-clause-granted c = sym c.first_rule.ensures ∙ c.in-None.is
 
 pub returns-in-Some-first_rule-clause-reply : goal.returns-in-Some-first_rule-clause-reply
 returns-in-Some-first_rule-clause-reply c =
     let width = sym c.is_width.ensures ∙ c.if-not-is_width.false in
-    let denied = access_denied c.args.self.now c.args.asked c.args.hart c.if-hart-ne0.false width c.in-Some.process (sym c.running.ensures ∙ c.in-Some.is) c.in-Some-first_rule.rule (sym (c.first_rule.ensures c.args.self.now.memory.items) ∙ c.in-Some-first_rule.is) in
+    let denied = access_denied c.args.self.now c.args.asked c.args.hart c.if-hart-ne0.false width c.in-Some.process (sym c.running.ensures ∙ c.in-Some.is) c.in-Some-first_rule.rule (sym c.first_rule.ensures ∙ c.in-Some-first_rule.is) in
     c.fault.ensures.reply ∙ ap Fault c.fault_cause.ensures ∙ sym (ap (λ (o : Outcome). o.reply) denied)
 
 pub returns-in-Some-first_rule-clause-world : goal.returns-in-Some-first_rule-clause-world
 returns-in-Some-first_rule-clause-world c =
     let width = sym c.is_width.ensures ∙ c.if-not-is_width.false in
-    let denied = access_denied c.args.self.now c.args.asked c.args.hart c.if-hart-ne0.false width c.in-Some.process (sym c.running.ensures ∙ c.in-Some.is) c.in-Some-first_rule.rule (sym (c.first_rule.ensures c.args.self.now.memory.items) ∙ c.in-Some-first_rule.is) in
+    let denied = access_denied c.args.self.now c.args.asked c.args.hart c.if-hart-ne0.false width c.in-Some.process (sym c.running.ensures ∙ c.in-Some.is) c.in-Some-first_rule.rule (sym c.first_rule.ensures ∙ c.in-Some-first_rule.is) in
     c.fault.ensures.world ∙ sym (ap (λ (o : Outcome). o.world) denied)
 
 pub returns-in-None-clause-reply : goal.returns-in-None-clause-reply

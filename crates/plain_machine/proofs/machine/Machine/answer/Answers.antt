@@ -1,6 +1,6 @@
 use Rattle.std.proofs.Common.{ℕ, refl, drop, ◌%◌, List, [], sym, ap, ◌∙◌}
 use Rattle.process_model.specs.Bytes.{number, low_bytes, write_bytes}
-use Rattle.process_model.specs.World.{Outcome}
+use Rattle.first_path.specs.World.{Outcome}
 use Rattle.process_model.specs.declared.step.Reply.TheVariants.{Value}
 use Rattle.plain_machine.specs.Seen.{world_of, asked_of}
 use Rattle.plain_machine.proofs.Accesses.{has_room, after_store, after_load}

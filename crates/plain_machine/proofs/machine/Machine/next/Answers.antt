@@ -1,4 +1,4 @@
-use Rattle.process_model.specs.World.{on_hart}
+use Rattle.first_path.specs.World.{on_hart}
 use Rattle.plain_machine.proofs.OneHart.{not_first}
 use Rattle.plain_machine.proofs.machine.Machine.next.Goals as goal
 

@@ -1,6 +1,6 @@
 use Rattle.std.proofs.Common.{◌≡◌, ◌≤◌, ◌++◌, drop, length, vec_len}
 use Rattle.std.specs.Vec.{vec_capacity}
-use Rattle.process_model.specs.World.{run}
+use Rattle.first_path.specs.World.{run}
 use Rattle.plain_machine.specs.Seen.{world_of}
 use Rattle.plain_machine.proofs.machine.Machine.run.Given as goal
 

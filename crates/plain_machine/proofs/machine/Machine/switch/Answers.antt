@@ -1,5 +1,5 @@
 use Rattle.std.proofs.Common.{sym, ◌∙◌}
-use Rattle.process_model.specs.World.{on_hart}
+use Rattle.first_path.specs.World.{on_hart}
 use Rattle.plain_machine.proofs.OneHart.{not_first, from_first}
 use Rattle.plain_machine.proofs.machine.Machine.switch.Goals as goal
 

@@ -1,12 +1,11 @@
 -- Worked rows, from script to text, by computation.
 use Rattle.std.proofs.Common.{◌≡◌, refl, List, [], ◌∷◌, ℕ}
-use Rattle.std.specs.Prelude.{Result, Ok, Err, Some, None, pos, negsuc, codes, flat_map}
+use Rattle.std.specs.Prelude.{Result, Ok, Err, codes, flat_map}
 use Rattle.std.specs.Fmt.{digits}
 use Rattle.process_model.specs.Bytes.{number, low_bytes}
-use Rattle.process_model.specs.Numbers.{number_of, signed_of, hex_of}
-use Rattle.process_model.specs.World.{on_hart, with_its_process}
-use Rattle.process_model.specs.Script.{script_of, Script, item_line, line_of}
-use Rattle.process_model.specs.Text.{text_of, line_text}
+use Rattle.first_path.specs.World.{on_hart, with_its_process}
+use Rattle.first_path.specs.Script.{script_of, Script, item_line, line_of}
+use Rattle.first_path.specs.Text.{text_of, line_text}
 use Rattle.process_model.specs.declared.script.Cause.{Cause}
 use Rattle.process_model.specs.declared.script.Cause.TheVariants.{Word, Order, Count, Number, Field, Limits, TooMany}
 
@@ -298,27 +297,3 @@ unfolding number low_bytes on_hart with_its_process digits item_line line_of
 frames_at_most = refl
 
 -- how numbers are written
-
-hexadecimal_number : number_of (codes "0xfF") ≡ Some 255
-hexadecimal_number = refl
-
-no_digit : number_of (codes "0x") ≡ None
-no_digit = refl
-
-largest_number : number_of (codes "18446744073709551615") ≡ Some 18446744073709551615
-largest_number = refl
-
-least_signed : signed_of (codes "-0x8000000000000000") ≡ Some (negsuc 9223372036854775807)
-least_signed = refl
-
-too_small : signed_of (codes "-9223372036854775809") ≡ None
-too_small = refl
-
-too_large : signed_of (codes "9223372036854775808") ≡ None
-too_large = refl
-
-signed_zero : signed_of (codes "-0") ≡ Some (pos 0)
-signed_zero = refl
-
-odd_digits : hex_of (codes "123") ≡ None
-odd_digits = refl

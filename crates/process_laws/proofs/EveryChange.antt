@@ -1,0 +1,475 @@
+-- What every step keeps: a property of processes that each kind of change of a process keeps. The property may speak of the
+-- counter, above which no copy number was given.
+use Rattle.std.proofs.Common.{◌≡◌, ◌≢◌, ℕ, zero, suc, ℤ, Bool, true, false, cond, not, ◌+◌, ◌%◌, ◌≤◌, ◌⊎◌, inl, inr, refl, sym, ap, subst, ◌∙◌, arith, List, [], ◌∷◌, ◌++◌, Option, None, Some, length}
+use Rattle.std.proofs.lemmas.Bool.{eqb-true, true≢false}
+use Rattle.std.proofs.lemmas.Bool.Decides.{nat_tests}
+use Rattle.std.proofs.lemmas.Grind.{common_steps}
+use Rattle.std.specs.Prelude.{◌/◌, ◌^◌, ◌&&◌, nat_le, unwrap_or, is_none, nat_abs, slice_get, slice_set, fold, zip, replicate, Result, Ok, Err}
+use Rattle.std.proofs.lemmas.Option.{same_Some}
+use Rattle.process_laws.specs.Apart.{EachProcess}
+use Rattle.process_model.specs.Bytes.{pages_for, first_true, is_width, low_bytes, write_bytes, numbers_from}
+use Rattle.process_model.specs.Files.{File, is_writable}
+use Rattle.process_model.specs.PageMap.{get}
+use Rattle.process_model.specs.Regions.{Region, copy_rule, first_rule, fault_cause, is_aligned}
+use Rattle.process_model.specs.Process.{Process, Page, Pending, regions, without_pending}
+use Rattle.process_model.specs.Residence.{goes_through, settled_anew, unmarked, unmarked_unless, made_resident_from, with_page, access_answer, marked, child_of}
+use Rattle.process_model.specs.Heap.{without_pages, size_refusal, resized, resized_unless, wanted_size, sbrk_result}
+use Rattle.process_model.specs.Mappings.{mapping_place, is_bad_mapping, is_shared, asks_write, most_mappings, map_refusal, mapping_of, with_mapping, Mapped, mapped_unless, mapped, mapping_around, leaves_hole, front_of, back_of, with_instead, Unmapped, unmapped_unless, unmapped_in, unmapped_if, unmapped}
+use Rattle.process_model.specs.Images.{LoadSegment, image_loads}
+use Rattle.process_model.specs.Loading.{image_pages, process_of}
+use Rattle.process_model.specs.Harts.{Hart}
+use Rattle.process_model.specs.World.{World, Outcome, flat, process_in, with_process, booted, common_refusal, unless_refused, on_hart_at, on_hart, with_process_of, with_slot_of, with_its_process, kernel_call, can_call, always}
+use Rattle.process_model.specs.Service.{Asked, access_step, faulted, if_resident, if_settled, unless_denied, user_access, unless_dry, unless_resident, resident_world, reached, ready, ended, served_or_ended, served}
+use Rattle.process_model.specs.Copies.{Copied, copy_begun, reached_by, with_byte_on, with_byte, one_in, next_in, one_out, next_out, copied_in, copied_out}
+use Rattle.process_model.specs.Calls.{with_image, started_unless, started_as, started, replaced_unless, replaced, forked_unless, forked, resized_to, mapped_to, unmapped_to}
+use Rattle.process_model.specs.Stale.{with_stale_slots}
+use Rattle.process_model.specs.Steps.{plain_step, step, run}
+use Rattle.sv39_entry.specs.Address.{page_of}
+use Rattle.sv39_entry.specs.Causes.{page_fault_cause}
+use Rattle.sv39_entry.specs.declared.access.Access.{Access}
+use Rattle.sv39_entry.specs.declared.access.Access.TheVariants as access
+use Rattle.sv39_entry.specs.declared.rule.Rule.{Rule}
+use Rattle.sv39_entry.specs.declared.rule.Rule.TheVariants.{Misaligned}
+use Rattle.process_model.specs.declared.config.Config.{Config}
+use Rattle.process_model.specs.declared.config.Policy.{Policy}
+use Rattle.process_model.specs.declared.config.Policy.TheVariants.{Full, Asid}
+use Rattle.process_model.specs.declared.phase.Phase.{Phase}
+use Rattle.process_model.specs.declared.image.BadImage.{BadImage}
+use Rattle.process_model.specs.declared.image.Image.{Image}
+use Rattle.process_model.specs.declared.step.Refusal.{Refusal}
+use Rattle.process_model.specs.declared.step.Refusal.TheVariants.{BadArgument, FileNotWritable, MappingsFull, NoRoom}
+use Rattle.process_model.specs.declared.step.Reply.{Reply}
+use Rattle.process_model.specs.declared.step.Reply.TheVariants.{Ended, Exited}
+use Rattle.process_model.specs.declared.step.Step.{Step}
+use Rattle.process_model.specs.declared.step.Step.TheVariants.{Start, Switch, Trap, Next, Fill, Evict, Fetch, Load as load_step, Store, TrampolineFetch, Serve, Fork, Exec, Sbrk, Mmap, Munmap, CopyIn, CopyOut, Exit}
+
+-- every kind of change keeps the property, where n is the counter
+pub record IsKept (P : ℕ → Process → Type 0) : Type 0 where
+  -- the counter rises
+  pub later : (n m : ℕ) (p : Process) → n ≤ m → P n p → P m p
+  -- an image's process is made
+  pub made : (n : ℕ) (image : Image) (ls : List LoadSegment) → image_loads image ≡ Ok ls → P (n + length (image_pages ls)) (process_of n ls)
+  -- a granted page is settled
+  pub settled : (n : ℕ) (files : List File) (p : Process) (access : Access) (address : ℕ) → copy_rule (regions p) access address ≡ None → get p.settled (page_of address) ≡ None
+      → P n p → P (n + 1) (settled_anew files n p (page_of address))
+  -- a marked page loses its mark
+  pub parted : (n : ℕ) (shared : Bool) (p : Process) (page : ℕ) (x : Page) → get p.settled page ≡ Some x → x.fork_mark ≡ true → P n p → P (n + 1) (with_page p page (unmarked n shared x))
+  -- a settled page has other bytes, as many
+  pub written : (n : ℕ) (p : Process) (page : ℕ) (x : Page) (bytes : List ℕ) → get p.settled page ≡ Some x → (length x.bytes ≡ 4096 → length bytes ≡ 4096)
+      → P n p → P n (with_page p page (record x { bytes = bytes }))
+  -- an access waits for its service, was served or is over
+  pub awaiting : (n : ℕ) (p : Process) (a : Option Pending) → P n p → P n (record p { pending = a })
+  -- the heap grows or shrinks
+  pub sized : (n : ℕ) (p : Process) (wanted : ℤ) → size_refusal p wanted ≡ None → P n p → P n (resized p (nat_abs wanted))
+  -- a mapping comes to its place
+  pub mapping : (n : ℕ) (files : List File) (p : Process) (len protection flags file first : ℕ) → map_refusal files p len protection flags file ≡ None → mapping_place p (pages_for len) ≡ Some first
+      → P n p → P n (record p { mappings = with_mapping (mapping_of first (pages_for len) protection flags file) p.mappings })
+  -- a run goes from a mapping that holds it, at its start or its end
+  pub unmapping : (n : ℕ) (p : Process) (m : Region) (first end : ℕ) → first ≤ end → mapping_around p.mappings first end ≡ Some m → leaves_hole m first end ≡ false
+      → P n p → P n (record (without_pages p first end) { mappings = with_instead p.mappings m.first (front_of m first ++ back_of m end) })
+  -- fork
+  pub parent : (n : ℕ) (p : Process) → P n p → P n (marked p)
+  pub child : (n : ℕ) (p : Process) → P n p → P n (child_of p)
+
+-- a slot has what it was set to, or what it had
+set_or_same : (slots : List (Option Process)) (i j : ℕ) (o : Option Process) (q : Process) → flat (slice_get (slice_set slots i o) j) ≡ Some q
+    → (o ≡ Some q) ⊎ (flat (slice_get slots j) ≡ Some q)
+set_or_same [] i j o q e = inr e
+set_or_same (p ∷ ps) zero zero o q e = inl e
+set_or_same (p ∷ ps) zero (suc j) o q e = inr e
+set_or_same (p ∷ ps) (suc i) zero o q e = inr e
+set_or_same (p ∷ ps) (suc i) (suc j) o q e = set_or_same ps i j o q e
+
+none_in_empty : (n s : ℕ) (q : Process) → flat (slice_get (replicate n None) s) ≡ Some q → ⊥
+none_in_empty zero s q e = cc
+none_in_empty (suc n) zero q e = cc
+none_in_empty (suc n) (suc s) q e = none_in_empty n s q e
+
+-- a step that is not refused is proper
+proper_of : (hart : Hart) (proper : Bool) (possible entry : Hart → Bool) → common_refusal hart proper possible entry ≡ None → proper ≡ true
+proper_of hart true possible entry e = refl
+proper_of hart false possible entry e = cc
+
+-- a granted access is aligned, and no rule denies a copy there
+granted_if : (b : Bool) (r : Option Rule) → cond b r (Some Misaligned) ≡ None → (b ≡ true) × (r ≡ None)
+granted_if true r e = (refl, e)
+granted_if false r e = cc
+
+granted : (rs : List Region) (access : Access) (address width : ℕ) → first_rule rs access address width ≡ None → (is_aligned address width ≡ true) × (copy_rule rs access address ≡ None)
+granted rs access address width e = granted_if (is_aligned address width) (copy_rule rs access address) e
+
+width_cases : (w : ℕ) → is_width w ≡ true → ((w ≡ 1) ⊎ (w ≡ 2)) ⊎ ((w ≡ 4) ⊎ (w ≡ 8))
+width_cases w e = grind (arith, nat_tests)
+
+-- an aligned access lies in its page
+aligned_fits : (address width : ℕ) → is_width width ≡ true → is_aligned address width ≡ true → address % 4096 + width ≤ 4096
+aligned_fits address width e a =
+    let multiple : address % width ≡ 0 = eqb-true (address % width) 0 a in
+    elim (width_cases width e) [
+      | inl (inl is) ↦ omega arith
+      | inl (inr is) ↦ let m : address % 2 ≡ 0 = rw is at multiple in omega arith
+      | inr (inl is) ↦ let m : address % 4 ≡ 0 = rw is at multiple in omega arith
+      | inr (inr is) ↦ let m : address % 8 ≡ 0 = rw is at multiple in omega arith
+    ]
+
+length_low_bytes : (v n : ℕ) → length (low_bytes v n) ≡ n
+unfolding low_bytes
+length_low_bytes v zero = refl
+length_low_bytes v (suc n) = ap suc (length_low_bytes (v / 2 ^ 8) n)
+
+-- as many bytes as before, where the new ones lie in the page
+length_written : (bs vs : List ℕ) (o : ℕ) → o + length vs ≤ 4096 → length bs ≡ 4096 → length (write_bytes bs o vs) ≡ 4096
+length_written bs vs o h e = grind (arith, common_steps)
+
+same_Ok : {A B : Type 0} (x y : A) → ◌≡◌ {A = Result A B} (Ok x) (Ok y) → x ≡ y
+same_Ok x y e = cc
+
+-- where no test of a list is true, each is false
+abbrev pub AllFalse : {A : Type 0} → List (Bool × A) → Type 0
+AllFalse [] = Unit {0}
+AllFalse (t ∷ ts) = (t.0 ≡ false) × AllFalse ts
+
+first_false : {A : Type 0} (b : Bool) (x : A) (o : Option A) → cond b (Some x) o ≡ None → (b ≡ false) × (o ≡ None)
+first_false true x o e = cc
+first_false false x o e = (refl, e)
+
+pub none_true : {A : Type 0} (ts : List (Bool × A)) → first_true ts ≡ None → AllFalse ts
+none_true [] e = tt
+none_true (t ∷ ts) e = let h = first_false t.0 t.1 (first_true ts) e in (h.0, none_true ts h.1)
+
+-- what is not refused is no bad mapping, and has a place
+pub map_granted : (files : List File) (p : Process) (len protection flags file : ℕ) → map_refusal files p len protection flags file ≡ None
+    → (is_bad_mapping files len protection flags file ≡ false) × (is_none (mapping_place p (pages_for len)) ≡ false)
+map_granted files p len protection flags file e =
+    let tests = none_true (
+    (is_bad_mapping files len protection flags file, BadArgument)
+    ∷ (is_shared flags && asks_write protection && not (is_writable (slice_get files file)), FileNotWritable)
+    ∷ (nat_le most_mappings (length p.mappings), MappingsFull)
+    ∷ (is_none (mapping_place p (pages_for len)), NoRoom)
+    ∷ []) e in
+    (tests.0, tests.1.1.1.0)
+
+has_place : (files : List File) (p : Process) (len protection flags file : ℕ) → map_refusal files p len protection flags file ≡ None → mapping_place p (pages_for len) ≢ None
+has_place files p len protection flags file e none = true≢false (sym (ap is_none none) ∙ (map_granted files p len protection flags file e).1)
+
+module _ (P : ℕ → Process → Type 0) where
+  -- each process of the world has the property
+  pub record Holds (w : World) : Type 0 where
+    pub each : EachProcess (P w.counter) w
+
+  data HoldsIfOk : Result World Rule → Type 0 where
+    stopped : {r : Rule} → HoldsIfOk (Err r)
+    went : {w : World} → Holds w → HoldsIfOk (Ok w)
+
+  module _ (k : IsKept P) where
+    -- the processes are as they were
+    same_slots : (w v : World) → v.slots ≡ w.slots → v.counter ≡ w.counter → Holds w → Holds v
+    same_slots w v slots counter h = record { each = λ s p e. subst (λ (n : ℕ). P n p) (sym counter) (h.each s p (ap (λ xs. flat (slice_get xs s)) (sym slots) ∙ e)) }
+
+    -- a slot is set, and the counter rises or stays
+    set_holds : (w v : World) (s : ℕ) (o : Option Process) → v.slots ≡ slice_set w.slots s o → w.counter ≤ v.counter → ((q : Process) → o ≡ Some q → P v.counter q) → Holds w → Holds v
+    set_holds w v s o slots counter f h = record {
+      each = λ t q e. elim (set_or_same w.slots s t o q (ap (λ xs. flat (slice_get xs t)) (sym slots) ∙ e)) [
+        | inl is ↦ f q is
+        | inr is ↦ k.later w.counter v.counter q counter (h.each t q is)
+      ];
+    }
+
+    -- a process is put into a slot
+    put_holds : (w v : World) (s : ℕ) (p : Process) → v.slots ≡ slice_set w.slots s (Some p) → w.counter ≤ v.counter → P v.counter p → Holds w → Holds v
+    put_holds w v s p slots counter f h = set_holds w v s (Some p) slots counter (λ q e. subst (P v.counter) (same_Some p q e) f) h
+
+    -- a slot is emptied
+    end_holds : (w v : World) (s : ℕ) → v.slots ≡ slice_set w.slots s None → v.counter ≡ w.counter → Holds w → Holds v
+    end_holds w v s slots counter h = set_holds w v s None slots (omega arith) (λ q e. cc) h
+
+    -- a process is put into a slot, and the counter stays
+    with_holds : (w : World) (s : ℕ) (p : Process) → P w.counter p → Holds w → Holds (with_process w s p)
+    with_holds w s p f h = put_holds w (with_process w s p) s p refl (omega arith) f h
+
+    -- a page is made resident
+    module _ (n : ℕ) (files : List File) (shared : Bool) (p : Process) (f : P n p) where
+      unmarked_kept : (page : ℕ) (x : Page) (access : Access) → get p.settled page ≡ Some x → P (n + 1) (unmarked_unless n shared p page x (goes_through access x))
+      unmarked_kept page x access.Fetch e = k.later n (n + 1) p (omega arith) f
+      unmarked_kept page x access.Load e = k.later n (n + 1) p (omega arith) f
+      unmarked_kept page x access.Store e =
+          elim x.fork_mark as (λ b. x.fork_mark ≡ b → P (n + 1) (unmarked_unless n shared p page x (not b))) [ true ↦ λ t. k.parted n shared p page x e t f | false ↦ λ _. k.later n (n + 1) p (omega arith) f ] refl
+
+      resident_kept : (access : Access) (address : ℕ) (o : Option Page) → get p.settled (page_of address) ≡ o → copy_rule (regions p) access address ≡ None
+          → P (n + 1) (made_resident_from files n shared p access (page_of address) o)
+      resident_kept access address None e granted = k.settled n files p access address granted e f
+      resident_kept access address (Some x) e granted = unmarked_kept (page_of address) x access e
+
+    -- changes of regions
+    module _ (n : ℕ) (p : Process) (f : P n p) where
+      resized_kept : (q : Process) (wanted : ℤ) (o : Option Refusal) → size_refusal p wanted ≡ o → resized_unless p (nat_abs wanted) o ≡ Ok q → P n q
+      resized_kept q wanted None none e = subst (P n) (same_Ok _ q e) (k.sized n p wanted none f)
+      resized_kept q wanted (Some r) none e = cc
+
+      sbrk_kept : (q : Process) (delta : ℤ) → sbrk_result p delta ≡ Ok q → P n q
+      unfolding sbrk_result
+      sbrk_kept q delta e = resized_kept q (wanted_size p delta) _ refl e
+
+      module _ (files : List File) (len protection flags file : ℕ) where
+        placed : (place : Option ℕ) → map_refusal files p len protection flags file ≡ None → mapping_place p (pages_for len) ≡ place → place ≢ None
+            → P n (record p { mappings = with_mapping (mapping_of (unwrap_or place 0) (pages_for len) protection flags file) p.mappings })
+        placed None none is ne = absurd (ne refl)
+        placed (Some first) none is ne = k.mapping n files p len protection flags file first none is f
+
+        mapped_kept : (m : Mapped) (o : Option Refusal) → map_refusal files p len protection flags file ≡ o
+            → mapped_unless p (mapping_of (unwrap_or (mapping_place p (pages_for len)) 0) (pages_for len) protection flags file) o ≡ Ok m → P n m.process
+        mapped_kept m None none e = subst (λ (u : Mapped). P n u.process) (same_Ok _ m e) (placed _ none refl (has_place files p len protection flags file none))
+        mapped_kept m (Some r) none e = cc
+
+        mmap_kept : (m : Mapped) → mapped files p len protection flags file ≡ Ok m → P n m.process
+        unfolding mapped
+        mmap_kept m e = mapped_kept m _ refl e
+
+      module _ (files : List File) (u : Unmapped) (first end : ℕ) (le : first ≤ end) where
+        hole_kept : (m : Region) (b : Bool) → mapping_around p.mappings first end ≡ Some m → leaves_hole m first end ≡ b → unmapped_unless files p m first end b ≡ Ok u → P n u.process
+        hole_kept m true around is e = cc
+        hole_kept m false around is e = subst (λ (v : Unmapped). P n v.process) (same_Ok _ u e) (k.unmapping n p m first end le around is f)
+
+        around_kept : (o : Option Region) → mapping_around p.mappings first end ≡ o → unmapped_in files p first end o ≡ Ok u → P n u.process
+        around_kept None around e = cc
+        around_kept (Some m) around e = hole_kept m _ around refl e
+
+        unmapped_kept : (b : Bool) → unmapped_if files p first end b ≡ Ok u → P n u.process
+        unmapped_kept false e = cc
+        unmapped_kept true e = around_kept _ refl e
+
+      munmap_kept : (files : List File) (address len : ℕ) (u : Unmapped) → unmapped files p address len ≡ Ok u → P n u.process
+      unfolding unmapped
+      munmap_kept files address len u e = unmapped_kept files u (page_of address) (page_of address + pages_for len) (omega arith) _ e
+
+    module _ (w : World) (h : Holds w) where
+      dry_holds : (s : ℕ) (p : Process) (access : Access) (address : ℕ) (shared dry : Bool) → P w.counter p → copy_rule (regions p) access address ≡ None
+          → HoldsIfOk (unless_dry w s p access (page_of address) shared dry)
+      dry_holds s p access address shared true f granted = stopped
+      dry_holds s p access address shared false f granted = went (put_holds w _ s _ refl (omega arith) (resident_kept w.counter w.files shared p f access address _ refl granted) h)
+
+      unless_holds : (s : ℕ) (p : Process) (access : Access) (address : ℕ) (shared there : Bool) → P w.counter p → copy_rule (regions p) access address ≡ None
+          → HoldsIfOk (unless_resident w s p access (page_of address) shared there)
+      unless_holds s p access address shared true f granted = went h
+      unless_holds s p access address shared false f granted = dry_holds s p access address shared _ f granted
+
+      world_holds : (s : ℕ) (p : Process) (access : Access) (address : ℕ) → P w.counter p → copy_rule (regions p) access address ≡ None → HoldsIfOk (resident_world w s p access (page_of address))
+      unfolding resident_world
+      world_holds s p access address f granted = unless_holds s p access address _ _ f granted
+
+      -- what no rule denies is made resident
+      reached_holds : (s : ℕ) (p : Process) (access : Access) (address : ℕ) (r : Option Rule) → P w.counter p → (r ≡ None → copy_rule (regions p) access address ≡ None)
+          → HoldsIfOk (reached w s p access address r)
+      reached_holds s p access address (Some r) f granted = stopped
+      reached_holds s p access address None f granted = world_holds s p access address f (granted refl)
+
+      by_holds : (s : ℕ) (access : Access) (address : ℕ) (o : Option Process) → process_in w s ≡ o → HoldsIfOk (reached_by w s access address o)
+      by_holds s access address None e = stopped
+      by_holds s access address (Some p) e = reached_holds s p access address _ (h.each s p e) (λ g. g)
+
+      -- a byte that a copy puts
+      byte_on_holds : (s : ℕ) (p : Process) (address b : ℕ) (o : Option Page) → P w.counter p → get p.settled (page_of address) ≡ o → Holds (with_byte_on w s p address b o)
+      byte_on_holds s p address b None f e = h
+      byte_on_holds s p address b (Some x) f e =
+          with_holds w s _ (k.written w.counter p (page_of address) x (write_bytes x.bytes (address % 4096) (b ∷ [])) e (length_written x.bytes (b ∷ []) (address % 4096) (omega arith)) f) h
+
+      byte_holds : (s address b : ℕ) (o : Option Process) → process_in w s ≡ o → Holds (with_byte w s address b o)
+      byte_holds s address b None e = h
+      byte_holds s address b (Some p) e = byte_on_holds s p address b _ (h.each s p e) refl
+
+      -- accesses of the user
+      module _ (a : Asked) (s : ℕ) (p : Process) (f : P w.counter p) where
+        faulted_holds : (cause : ℕ) → Holds (faulted w a s p cause).world
+        faulted_holds cause = put_holds w _ s _ refl (omega arith) (k.awaiting w.counter p _ f) h
+
+        answer_kept : (x : Page) (access : Access) (page offset : ℕ) → get p.settled page ≡ Some x → offset + a.width ≤ 4096
+            → P w.counter (with_page p page (access_answer access x offset a.width a.value).1)
+        answer_kept x access.Fetch page offset e fits = k.written w.counter p page x x.bytes e (λ l. l) f
+        answer_kept x access.Load page offset e fits = k.written w.counter p page x x.bytes e (λ l. l) f
+        answer_kept x access.Store page offset e fits = k.written w.counter p page x (write_bytes x.bytes offset (low_bytes a.value a.width)) e
+            (length_written x.bytes (low_bytes a.value a.width) offset (omega (arith, length_low_bytes a.value a.width, fits))) f
+
+        resident_holds : (x : Page) (b : Bool) → get p.settled (page_of a.address) ≡ Some x → a.address % 4096 + a.width ≤ 4096 → Holds (if_resident w a s p x b).world
+        resident_holds x true e fits = with_holds w s _ (k.awaiting w.counter _ None (answer_kept x a.access (page_of a.address) (a.address % 4096) e fits)) h
+        resident_holds x false e fits = faulted_holds (page_fault_cause a.access)
+
+        settled_holds : (o : Option Page) → get p.settled (page_of a.address) ≡ o → a.address % 4096 + a.width ≤ 4096 → Holds (if_settled w a s p o).world
+        settled_holds None e fits = faulted_holds (page_fault_cause a.access)
+        settled_holds (Some x) e fits = resident_holds x _ e fits
+
+        denied_holds : (o : Option Rule) → (o ≡ None → a.address % 4096 + a.width ≤ 4096) → Holds (unless_denied w a s p o).world
+        denied_holds (Some r) fits = faulted_holds (fault_cause a.access r)
+        denied_holds None fits = settled_holds _ refl (fits refl)
+
+        user_holds : is_width a.width ≡ true → Holds (user_access w a s p).world
+        user_holds e = denied_holds _ (λ g. aligned_fits a.address a.width e (granted (regions p) a.access a.address a.width g).0)
+
+      -- steps on a hart
+      unless_refused_holds : (run : Hart → Outcome) (hart : Hart) (r : Option Refusal) → (r ≡ None → Holds (run hart).world) → Holds (unless_refused w run hart r).world
+      unless_refused_holds run hart (Some r) f = h
+      unless_refused_holds run hart None f = f refl
+
+      hart_holds : (proper : Bool) (possible entry : Hart → Bool) (run : Hart → Outcome) (o : Option Hart) → ((hart : Hart) → proper ≡ true → Holds (run hart).world)
+          → Holds (on_hart_at w proper possible entry run o).world
+      hart_holds proper possible entry run None f = h
+      hart_holds proper possible entry run (Some hart) f = unless_refused_holds run hart _ (λ e. f hart (proper_of hart proper possible entry e))
+
+      on_hart_holds : (number : ℕ) (proper : Bool) (possible entry : Hart → Bool) (run : Hart → Outcome) → ((hart : Hart) → proper ≡ true → Holds (run hart).world)
+          → Holds (on_hart w number proper possible entry run).world
+      unfolding on_hart
+      on_hart_holds number proper possible entry run f = hart_holds proper possible entry run _ f
+
+      process_holds : (phase : Phase) (s : ℕ) (run : ℕ → Process → Outcome) (o : Option Process) → process_in w s ≡ o → ((p : Process) → P w.counter p → Holds (run s p).world)
+          → Holds (with_process_of w phase run s o).world
+      process_holds phase s run None e f = h
+      process_holds phase s run (Some p) e f = f p (h.each s p e)
+
+      slot_holds : (phase : Phase) (run : ℕ → Process → Outcome) (o : Option ℕ) → ((s : ℕ) (p : Process) → P w.counter p → Holds (run s p).world) → Holds (with_slot_of w phase run o).world
+      slot_holds phase run None f = h
+      slot_holds phase run (Some s) f = process_holds phase s run _ refl (f s)
+
+      its_holds : (hart : Hart) (run : ℕ → Process → Outcome) → ((s : ℕ) (p : Process) → P w.counter p → Holds (run s p).world) → Holds (with_its_process w hart run).world
+      unfolding with_its_process
+      its_holds hart run f = slot_holds hart.phase run hart.slot f
+
+      kernel_holds : (number : ℕ) (proper : Bool) (run : Hart → ℕ → Process → Outcome) → ((hart : Hart) (s : ℕ) (p : Process) → P w.counter p → Holds (run hart s p).world)
+          → Holds (kernel_call w number proper run).world
+      kernel_holds number proper run f = on_hart_holds number proper (can_call w) always _ (λ hart e. its_holds hart (run hart) (f hart))
+
+      access_holds : (number : ℕ) (access : Access) (address width value : ℕ) (via : Option ℕ) → Holds (access_step w number access address width value via).world
+      access_holds number access address width value via =
+          on_hart_holds number (is_width width) _ _ _ (λ hart e. its_holds hart _ (λ s p f. user_holds (record { hart_number = number; hart = hart; access = access; address = address; width = width; value = value }) s p f e))
+
+      -- processes that begin, and changes of regions
+      image_holds : (s : ℕ) (image : Image) (ls : List LoadSegment) → image_loads image ≡ Ok ls → Holds (with_image w s ls)
+      image_holds s image ls e = put_holds w _ s _ refl (omega arith) (k.made w.counter image ls e) h
+
+      started_unless_holds : (s : ℕ) (image : Image) (ls : List LoadSegment) (b : Bool) → image_loads image ≡ Ok ls → Holds (started_unless w s ls b).world
+      started_unless_holds s image ls true e = h
+      started_unless_holds s image ls false e = image_holds s image ls e
+
+      started_as_holds : (s : ℕ) (image : Image) (r : Result (List LoadSegment) BadImage) → image_loads image ≡ r → Holds (started_as w s r).world
+      started_as_holds s image (Err b) e = h
+      started_as_holds s image (Ok ls) e = started_unless_holds s image ls _ e
+
+      started_holds : (image : Image) (o : Option ℕ) → Holds (started w (image_loads image) o).world
+      started_holds image None = h
+      started_holds image (Some s) = started_as_holds s image _ refl
+
+      executed_unless_holds : (s : ℕ) (p : Process) (image : Image) (ls : List LoadSegment) (b : Bool) → image_loads image ≡ Ok ls → Holds (replaced_unless w s p ls b).world
+      executed_unless_holds s p image ls true e = h
+      executed_unless_holds s p image ls false e = same_slots (with_image w s ls) _ refl refl (image_holds s image ls e)
+
+      executed_holds : (s : ℕ) (p : Process) (image : Image) (r : Result (List LoadSegment) BadImage) → image_loads image ≡ r → Holds (replaced w s p r).world
+      executed_holds s p image (Err b) e = h
+      executed_holds s p image (Ok ls) e = executed_unless_holds s p image ls _ e
+
+      module _ (s : ℕ) (p : Process) (f : P w.counter p) where
+        forked_unless_holds : (child : ℕ) (b : Bool) → Holds (forked_unless w s p child b).world
+        forked_unless_holds child true = h
+        forked_unless_holds child false = with_holds (with_process w s (marked p)) child (child_of p) (k.child w.counter p f) (with_holds w s (marked p) (k.parent w.counter p f) h)
+
+        forked_holds : (o : Option ℕ) → Holds (forked w s p o).world
+        forked_holds None = h
+        forked_holds (Some child) = forked_unless_holds child _
+
+        settles_holds : Holds (with_process w s (without_pending p))
+        settles_holds = with_holds w s (without_pending p) (k.awaiting w.counter p None f) h
+
+        resized_holds : (delta : ℤ) (r : Result Process Refusal) → sbrk_result p delta ≡ r → Holds (resized_to w s p r).world
+        resized_holds delta (Err b) e = h
+        resized_holds delta (Ok q) e = with_holds w s (without_pending q) (k.awaiting w.counter q None (sbrk_kept w.counter p f q delta e)) h
+
+        mapped_holds : (len protection flags file : ℕ) (r : Result Mapped Refusal) → mapped w.files p len protection flags file ≡ r → Holds (mapped_to w s r).world
+        mapped_holds len protection flags file (Err b) e = h
+        mapped_holds len protection flags file (Ok m) e =
+            with_holds w s (without_pending m.process) (k.awaiting w.counter m.process None (mmap_kept w.counter p f w.files len protection flags file m e)) h
+
+        unmapped_holds : (address len : ℕ) (r : Result Unmapped Refusal) → unmapped w.files p address len ≡ r → Holds (unmapped_to w s r).world
+        unmapped_holds address len (Err b) e = h
+        unmapped_holds address len (Ok u) e =
+            same_slots (with_process w s (without_pending u.process)) _ refl refl (with_holds w s (without_pending u.process) (k.awaiting w.counter u.process None (munmap_kept w.counter p f w.files address len u e)) h)
+
+      ended_holds : (number : ℕ) (hart : Hart) (s : ℕ) (p : Process) (reply : Reply) → Holds (ended w number hart s p reply).world
+      ended_holds number hart s p reply = end_holds w _ s refl refl h
+
+      ready_holds : (s : ℕ) (a : Pending) (o : Option Process) → process_in w s ≡ o → Holds (ready w s a o).world
+      ready_holds s a None e = h
+      ready_holds s a (Some p) e = with_holds w s _ (k.awaiting w.counter p _ (h.each s p e)) h
+
+    served_or_ended_holds : (w : World) (number : ℕ) (hart : Hart) (s : ℕ) (p : Process) (a : Pending) (r : Result World Rule) → Holds w → HoldsIfOk r → Holds (served_or_ended w number hart s p a r).world
+    served_or_ended_holds w number hart s p a (Err r) h stopped = ended_holds w h number hart s p (Ended r)
+    served_or_ended_holds w number hart s p a (Ok after) h (went g) = ready_holds after g s a _ refl
+
+    served_holds : (w : World) (number : ℕ) (hart : Hart) (s : ℕ) (p : Process) (o : Option Pending) → P w.counter p → Holds w → Holds (served w number hart s p o).world
+    served_holds w number hart s p None f h = h
+    served_holds w number hart s p (Some a) f h =
+        served_or_ended_holds w number hart s p a _ h (reached_holds w h s p a.access a.address _ f (λ e. (granted (regions p) a.access a.address a.width e).1))
+
+    -- copies
+    one_in_holds : (c : Copied) (s address : ℕ) (r : Result World Rule) → Holds c.world → HoldsIfOk r → Holds (one_in c s address r).world
+    one_in_holds c s address (Err b) h stopped = h
+    one_in_holds c s address (Ok w) h (went g) = g
+
+    next_in_holds : (s : ℕ) (c : Copied) (address : ℕ) (o : Option Rule) → Holds c.world → Holds (next_in s c address o).world
+    next_in_holds s c address (Some r) h = h
+    next_in_holds s c address None h = one_in_holds c s address _ h (by_holds c.world h s access.Load address _ refl)
+
+    one_out_holds : (c : Copied) (s address b : ℕ) (r : Result World Rule) → Holds c.world → HoldsIfOk r → Holds (one_out c s address b r).world
+    one_out_holds c s address b (Err e) h stopped = h
+    one_out_holds c s address b (Ok w) h (went g) = byte_holds w g s address b _ refl
+
+    next_out_holds : (s : ℕ) (c : Copied) (x : ℕ × ℕ) (o : Option Rule) → Holds c.world → Holds (next_out s c x o).world
+    next_out_holds s c x (Some r) h = h
+    next_out_holds s c x None h = one_out_holds c s x.0 x.1 _ h (by_holds c.world h s access.Store x.0 _ refl)
+
+    -- what each step of a fold keeps, the fold keeps
+    fold_holds : {A : Type 0} (f : Copied → A → Copied) (xs : List A) (c : Copied) → ((d : Copied) (x : A) → Holds d.world → Holds (f d x).world) → Holds c.world → Holds (fold f c xs).world
+    fold_holds f [] c keep h = h
+    fold_holds f (x ∷ xs) c keep h = fold_holds f xs (f c x) keep (keep c x h)
+
+    copied_in_holds : (w : World) (s address n : ℕ) → Holds w → Holds (copied_in w s address n).world
+    unfolding copied_in
+    copied_in_holds w s address n h = fold_holds (λ c a. next_in s c a c.stop) (numbers_from address n) (copy_begun w) (λ c a g. next_in_holds s c a _ g) h
+
+    copied_out_holds : (w : World) (s address : ℕ) (bytes : List ℕ) → Holds w → Holds (copied_out w s address bytes).world
+    unfolding copied_out
+    copied_out_holds w s address bytes h = fold_holds (λ c x. next_out s c x c.stop) (zip (numbers_from address (length bytes)) bytes) (copy_begun w) (λ c x g. next_out_holds s c x _ g) h
+
+    -- what the step itself changes
+    plain_holds : (w : World) → Holds w → (s : Step) → Holds (plain_step w s).world
+    plain_holds w h (Start image) = started_holds w h image _
+    plain_holds w h (Switch n slot) = on_hart_holds w h n _ _ _ _ (λ hart e. same_slots w _ refl refl h)
+    plain_holds w h (Trap n) = on_hart_holds w h n _ _ _ _ (λ hart e. its_holds w h hart _ (λ s p f. same_slots (with_process w s (without_pending p)) _ refl refl (settles_holds w h s p f)))
+    plain_holds w h (Next n) = on_hart_holds w h n _ _ _ _ (λ hart e. same_slots w _ refl refl h)
+    plain_holds w h (Fill n address) = on_hart_holds w h n _ _ _ _ (λ hart e. same_slots w _ refl refl h)
+    plain_holds w h (Evict n entry) = on_hart_holds w h n _ _ _ _ (λ hart e. same_slots w _ refl refl h)
+    plain_holds w h (Fetch n address via) = access_holds w h n access.Fetch address 4 0 via
+    plain_holds w h (load_step n address width via) = access_holds w h n access.Load address width 0 via
+    plain_holds w h (Store n address width value via) = access_holds w h n access.Store address width value via
+    plain_holds w h (TrampolineFetch n offset via) = on_hart_holds w h n _ _ _ _ (λ hart e. h)
+    plain_holds w h (Serve n) = on_hart_holds w h n _ _ _ _ (λ hart e. its_holds w h hart _ (λ s p f. served_holds w n hart s p p.pending f h))
+    plain_holds w h (Fork n) = kernel_holds w h n _ _ (λ hart s p f. forked_holds w h s p f _)
+    plain_holds w h (Exec n image) = kernel_holds w h n _ _ (λ hart s p f. executed_holds w h s p image _ refl)
+    plain_holds w h (Sbrk n delta) = kernel_holds w h n _ _ (λ hart s p f. resized_holds w h s p f delta _ refl)
+    plain_holds w h (Mmap n len protection flags file) = kernel_holds w h n _ _ (λ hart s p f. mapped_holds w h s p f len protection flags file _ refl)
+    plain_holds w h (Munmap n address len) = kernel_holds w h n _ _ (λ hart s p f. unmapped_holds w h s p f address len _ refl)
+    plain_holds w h (CopyIn n address count) = kernel_holds w h n _ _ (λ hart s p f. copied_in_holds _ s address count (settles_holds w h s p f))
+    plain_holds w h (CopyOut n address bytes) = kernel_holds w h n _ _ (λ hart s p f. copied_out_holds _ s address bytes.now (settles_holds w h s p f))
+    plain_holds w h (Exit n status) = kernel_holds w h n _ _ (λ hart s p f. ended_holds w h n hart s p (Exited status))
+
+    marks_hold : (policy : Policy) (w : World) (o : Outcome) → Holds o.world → Holds (with_stale_slots policy w o).world
+    marks_hold Full w o h = h
+    marks_hold Asid w o h = same_slots o.world _ refl refl h
+
+    pub step_holds : (w : World) (s : Step) → Holds w → Holds (step w s).world
+    unfolding step
+    step_holds w s h = marks_hold w.policy w (plain_step w s) (plain_holds w h s)
+
+    run_holds : (w : World) (steps : List Step) → Holds w → Holds (run w steps).world
+    run_holds w [] h = h
+    run_holds w (s ∷ ss) h = run_holds (step w s).world ss (step_holds w s h)
+
+    -- in every run from boot each process has the property
+    pub always_holds : (c : Config) (files : List File) (steps : List Step) → Holds (run (booted c files) steps).world
+    always_holds c files steps = run_holds (booted c files) steps (record { each = λ s p e. absurd (none_in_empty c.slots s p e) })

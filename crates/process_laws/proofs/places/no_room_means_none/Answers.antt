@@ -1,0 +1,5 @@
+use Rattle.process_laws.proofs.Greatest.{none_fits}
+use Rattle.process_laws.proofs.places.no_room_means_none.Goals as goal
+
+pub returns : goal.returns
+returns c = none_fits

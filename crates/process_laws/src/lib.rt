@@ -1,0 +1,21 @@
+//! What the definitions of the model are worth: laws that say they are what they should be.
+//!
+//! Each function does nothing, and its contract is the law.
+#![tactic(auto)]
+
+mod accounts;
+mod latest;
+mod places;
+mod regions;
+mod service;
+mod worlds;
+
+pub use accounts::{
+    fork_shares_every_page, fork_takes_its_need, frames_add_up, service_takes_its_need,
+    start_takes_its_need,
+};
+pub use latest::{copy_reads_the_latest, fetch_reads_the_latest, load_reads_the_latest};
+pub use places::{no_room_means_none, place_is_the_greatest, unmapping_leaves_one_run};
+pub use regions::{first_rule_is_first, guard_grants_nothing, regions_never_meet};
+pub use service::{made_resident_is_resident, returned_page_is_initial, served_access_answers};
+pub use worlds::{copy_numbers_are_new, step_leaves_others};

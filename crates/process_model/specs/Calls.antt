@@ -1,0 +1,76 @@
+-- Processes that begin, fork, exec and change their regions.
+use Rattle.std.specs.Prelude.{ℕ, Bool, true, false, ◌+◌, ◌*◌, Option, None, Some, Result, Ok, Err, List, length}
+use Rattle.process_model.specs.Process.{Process, without_pending}
+use Rattle.process_model.specs.Residence.{marked, child_of}
+use Rattle.process_model.specs.Mappings.{Mapped, Unmapped, all_written_back}
+use Rattle.process_model.specs.Images.{LoadSegment}
+use Rattle.process_model.specs.Loading.{image_pages, process_of}
+use Rattle.process_model.specs.Frames.{start_need, exec_need, fork_need}
+use Rattle.process_model.specs.Copies.{Copied, in_reply, out_reply}
+use Rattle.process_model.specs.Service.{is_dry}
+use Rattle.process_model.specs.World.{World, Outcome, answers, refuses, with_process}
+use Rattle.process_model.specs.declared.image.BadImage.{BadImage}
+use Rattle.process_model.specs.declared.step.Refusal.{Refusal}
+use Rattle.process_model.specs.declared.step.Refusal.TheVariants as refusal
+use Rattle.process_model.specs.declared.step.Reply.TheVariants.{Done, Started, Forked, OldSize, MappedAt}
+
+-- the process of an image in a slot; its pages take copy numbers from the counter
+abbrev pub with_image : World → ℕ → List LoadSegment → World
+with_image w s ls = record (with_process w s (process_of w.counter ls)) { counter = w.counter + length (image_pages ls) }
+
+-- start: refused by NoSlot, BadImage and NoFrame, in this order
+
+abbrev pub started_unless : World → ℕ → List LoadSegment → Bool → Outcome
+started_unless w s ls true = refuses w refusal.NoFrame
+started_unless w s ls false = answers (with_image w s ls) (Started s)
+
+abbrev pub started_as : World → ℕ → Result (List LoadSegment) BadImage → Outcome
+started_as w s (Err e) = refuses w (refusal.BadImage e)
+started_as w s (Ok ls) = started_unless w s ls (is_dry w (start_need ls))
+
+abbrev pub started : World → Result (List LoadSegment) BadImage → Option ℕ → Outcome
+started w image None = refuses w refusal.NoSlot
+started w image (Some s) = started_as w s image
+
+-- exec (the xv6 book, "Code: exec"): refused by BadImage and NoFrame, in this order; the frames of the old process do not count as
+-- free
+
+abbrev pub replaced_unless : World → ℕ → Process → List LoadSegment → Bool → Outcome
+replaced_unless w s p ls true = refuses w refusal.NoFrame
+replaced_unless w s p ls false = answers (record (with_image w s ls) { files = all_written_back w.files p }) Done
+
+abbrev pub replaced : World → ℕ → Process → Result (List LoadSegment) BadImage → Outcome
+replaced w s p (Err e) = refuses w (refusal.BadImage e)
+replaced w s p (Ok ls) = replaced_unless w s p ls (is_dry w (exec_need ls))
+
+-- fork: refused by NoSlot and NoFrame, in this order; no frame has more sharers than there are slots, so SharersFull does not come
+
+abbrev pub forked_unless : World → ℕ → Process → ℕ → Bool → Outcome
+forked_unless w s p child true = refuses w refusal.NoFrame
+forked_unless w s p child false = answers (with_process (with_process w s (marked p)) child (child_of p)) (Forked child)
+
+abbrev pub forked : World → ℕ → Process → Option ℕ → Outcome
+forked w s p None = refuses w refusal.NoSlot
+forked w s p (Some child) = forked_unless w s p child (is_dry w (fork_need p))
+
+-- changes of regions
+
+abbrev pub resized_to : World → ℕ → Process → Result Process Refusal → Outcome
+resized_to w s p (Err r) = refuses w r
+resized_to w s p (Ok after) = answers (with_process w s (without_pending after)) (OldSize p.size)
+
+abbrev pub mapped_to : World → ℕ → Result Mapped Refusal → Outcome
+mapped_to w s (Err r) = refuses w r
+mapped_to w s (Ok m) = answers (with_process w s (without_pending m.process)) (MappedAt (4096 * m.first))
+
+abbrev pub unmapped_to : World → ℕ → Result Unmapped Refusal → Outcome
+unmapped_to w s (Err r) = refuses w r
+unmapped_to w s (Ok u) = answers (record (with_process w s (without_pending u.process)) { files = u.files }) Done
+
+-- copies
+
+abbrev pub told_in : Copied → Outcome
+told_in c = answers c.world (in_reply c.bytes c.stop)
+
+abbrev pub told_out : Copied → Outcome
+told_out c = answers c.world (out_reply c.bytes c.stop)

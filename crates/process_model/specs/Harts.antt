@@ -1,0 +1,135 @@
+-- Harts: the phases between user and kernel, and the keys of the translation buffer.
+use Rattle.std.specs.Prelude.{ℕ, Bool, true, false, not, ◌+◌, nat_lt, ◌==◌, ◌&&◌, Option, None, Some, List, [], ◌∷◌, ◌++◌, drop, length, filter, slice_get, if◌then◌else◌}
+use Rattle.process_model.specs.PageMap.{NumberSet, only, contains, empty}
+use Rattle.sv39_entry.specs.Address.{page_of}
+use Rattle.process_model.specs.declared.config.Policy.{Policy}
+use Rattle.process_model.specs.declared.config.Policy.TheVariants.{Full, Asid}
+use Rattle.process_model.specs.declared.phase.Phase.{Phase}
+use Rattle.process_model.specs.declared.phase.Phase.TheVariants.{Idle, User, Enter0, Enter1, Enter2, Kernel, Leave1, Leave2}
+
+-- what an access has to match in an entry of the buffer (the standard, 4.2.1): the page, and the address-space identifier (ASID) under
+-- which the entry was filled
+pub record Key : Type 0 where
+  pub page : ℕ
+  pub asid : ℕ
+
+pub record Hart : Type 0 where
+  pub phase : Phase
+  -- the slot of its process
+  pub slot : Option ℕ
+  -- one for each entry of the buffer, in the order of filling
+  pub keys : List Key
+  -- the slots of which old entries may stand in the buffer
+  pub stale : NumberSet
+
+abbrev pub idle_hart : Hart
+idle_hart = record { phase = Idle; slot = None; keys = []; stale = empty (Unit {0}) }
+
+-- phases (the xv6 book, "Traps from user space")
+
+-- the instructions of the entry are: fence, write satp, fence; those of the return are the same
+abbrev pub next_phase : Phase → Option Phase
+next_phase Enter0 = Some Enter1
+next_phase Enter1 = Some Enter2
+next_phase Enter2 = Some Kernel
+next_phase Kernel = Some Leave1
+next_phase Leave1 = Some Leave2
+next_phase Leave2 = Some User
+next_phase _ = None
+
+abbrev pub is_user : Phase → Bool
+is_user User = true
+is_user _ = false
+
+abbrev pub is_kernel : Phase → Bool
+is_kernel Kernel = true
+is_kernel _ = false
+
+abbrev pub may_switch : Phase → Bool
+may_switch Idle = true
+may_switch Kernel = true
+may_switch _ = false
+
+-- the kernel's code runs in the trampoline page
+abbrev pub in_trampoline : Phase → Bool
+in_trampoline Enter0 = true
+in_trampoline Enter1 = true
+in_trampoline Enter2 = true
+in_trampoline Leave1 = true
+in_trampoline Leave2 = true
+in_trampoline _ = false
+
+-- whether satp has the process's table; else it has the kernel's
+abbrev pub has_user_satp : Phase → Bool
+has_user_satp User = true
+has_user_satp Enter0 = true
+has_user_satp Enter1 = true
+has_user_satp Leave2 = true
+has_user_satp _ = false
+
+-- the hart with its process, or with none
+abbrev pub phase_for : Option ℕ → Phase
+phase_for None = Idle
+phase_for (Some s) = Kernel
+
+-- keys
+
+-- the process in slot s has the ASID s + 1, the kernel 0
+abbrev pub asid_of_slot : Option ℕ → ℕ
+asid_of_slot None = 0
+asid_of_slot (Some s) = s + 1
+
+-- the ASID in satp
+abbrev pub present_asid : Policy → Hart → ℕ
+present_asid Full hart = 0
+present_asid Asid hart = if has_user_satp hart.phase then asid_of_slot hart.slot else 0
+
+-- how many entries a buffer holds
+abbrev pub buffer_size : ℕ
+buffer_size = 32
+
+-- a key goes last; where the buffer is full, the first goes
+abbrev pub with_key : List Key → Key → List Key
+with_key keys key = (if nat_lt (length keys) buffer_size then keys else drop 1 keys) ++ key ∷ []
+
+abbrev pub is_key : ℕ → ℕ → Option Key → Bool
+is_key page asid None = false
+is_key page asid (Some k) = k.page == page && k.asid == asid
+
+-- no entry is named, or the one that is named is there and matches
+abbrev pub entry_serves : Policy → Hart → ℕ → Option ℕ → Bool
+entry_serves policy hart address None = true
+entry_serves policy hart address (Some n) = is_key (page_of address) (present_asid policy hart) (slice_get hart.keys n)
+
+-- fences
+
+-- with fences of everything: each fence of entry and return empties the buffer
+abbrev pub is_before_fence : Phase → Bool
+is_before_fence Enter0 = true
+is_before_fence Enter2 = true
+is_before_fence Kernel = true
+is_before_fence Leave2 = true
+is_before_fence _ = false
+
+abbrev pub emptied_if : Hart → Bool → Hart
+emptied_if hart true = record hart { keys = [] }
+emptied_if hart false = hart
+
+-- with address-space identifiers: the last fence of the return removes the slot's own entries where old ones may stand, and no
+-- other fence does anything
+abbrev pub cleaned_if : Hart → ℕ → Bool → Hart
+cleaned_if hart s true = record hart { keys = filter (λ k. not (k.asid == s + 1)) hart.keys; stale = only (λ n. not (n == s)) hart.stale }
+cleaned_if hart s false = hart
+
+abbrev pub cleaned_for : Hart → Option ℕ → Hart
+cleaned_for hart None = hart
+cleaned_for hart (Some s) = cleaned_if hart s (contains hart.stale s)
+
+abbrev pub cleaned_at : Hart → Phase → Hart
+cleaned_at hart Leave2 = cleaned_for hart hart.slot
+cleaned_at hart _ = hart
+
+-- what the next instruction of the trampoline does to the buffer
+abbrev pub fenced : Policy → Hart → Hart
+fenced Full hart = emptied_if hart (is_before_fence hart.phase)
+fenced Asid hart = cleaned_at hart hart.phase

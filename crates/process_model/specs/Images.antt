@@ -1,0 +1,161 @@
+-- The checks over an image, in their order: those of an ELF file (as xv6 reads one in exec), and those of a list of segments.
+use Rattle.std.specs.Prelude.{ℕ, Bool, true, false, not, ◌+◌, ◌*◌, ◌/◌, ◌%◌, ◌^◌, nat_le, nat_lt, ◌==◌, ◌&&◌, if◌then◌else◌, Option, None, Some, Result, Ok, Err, List, [], ◌∷◌, take, drop, length, map, fold, ◌++◌}
+use Rattle.process_model.specs.Bytes.{pages_for, number, numbers_from, first_true}
+use Rattle.sv39_entry.specs.Address.{page_of, trapframe_page}
+use Rattle.process_model.specs.declared.image.BadImage.{BadImage}
+use Rattle.process_model.specs.declared.image.BadImage.TheVariants as part
+use Rattle.process_model.specs.declared.image.Image.{Image}
+use Rattle.process_model.specs.declared.image.Image.TheVariants.{Elf, Segments}
+use Rattle.process_model.specs.declared.image.Segment.{Segment}
+
+-- a segment to load: where it stands in memory, and the bytes that the image has for it
+pub record LoadSegment : Type 0 where
+  pub address : ℕ
+  pub memory_size : ℕ
+  pub file_size : ℕ
+  pub writes : Bool
+  pub executes : Bool
+  -- whether its bytes lie inside the image
+  pub inside : Bool
+  pub bytes : List ℕ
+
+-- what a program header says: it lies outside the image, is of a type that exec passes over, or tells a segment to load
+pub data ProgramHeader : Type 0 where
+  outside : ProgramHeader
+  passed_over : ProgramHeader
+  load : LoadSegment → ProgramHeader
+
+abbrev pub has_pages : LoadSegment → Bool
+has_pages l = nat_lt 0 l.memory_size
+
+-- the page after its last one
+abbrev pub end_page : LoadSegment → ℕ
+end_page l = pages_for (l.address + l.memory_size)
+
+-- the page after the last of some segments, from the page after the one before them
+abbrev pub end_of_loads : ℕ → List LoadSegment → ℕ
+end_of_loads end [] = end
+end_of_loads end (l ∷ ls) = end_of_loads (end_page l) ls
+
+abbrev pub most_segments : ℕ
+most_segments = 16
+
+-- the first check that a segment fails, after the segments with pages before it; below the trapframe there has to be room for the
+-- guard and the stack
+abbrev pub load_fault : List LoadSegment → LoadSegment → Option BadImage
+load_fault before l = first_true (
+    (nat_lt l.memory_size l.file_size, part.Sizes)
+    ∷ (nat_le (2 ^ 64) (l.address + l.memory_size), part.Wraps)
+    ∷ (not (l.address % 4096 == 0), part.Align)
+    ∷ (has_pages l && not l.inside, part.Contents)
+    ∷ (has_pages l && nat_lt trapframe_page (end_page l + 2), part.TooHigh)
+    ∷ (has_pages l && nat_lt (page_of l.address) (end_of_loads 0 before), part.Order)
+    ∷ (has_pages l && nat_le most_segments (length before), part.TooMany)
+    ∷ [])
+
+-- a segment without pages is passed over
+abbrev pub with_load : List LoadSegment → LoadSegment → List LoadSegment
+with_load before l = if has_pages l then before ++ l ∷ [] else before
+
+abbrev pub unless_faulty : List LoadSegment → LoadSegment → Option BadImage → Result (List LoadSegment) BadImage
+unless_faulty before l (Some e) = Err e
+unless_faulty before l None = Ok (with_load before l)
+
+abbrev pub judged : List LoadSegment → ProgramHeader → Result (List LoadSegment) BadImage
+judged before outside = Err part.ProgramHeader
+judged before passed_over = Ok before
+judged before (load l) = unless_faulty before l (load_fault before l)
+
+-- the headers in a row, up to the first fault
+abbrev pub next_judged : Result (List LoadSegment) BadImage → ProgramHeader → Result (List LoadSegment) BadImage
+next_judged (Ok before) h = judged before h
+next_judged (Err e) h = Err e
+
+-- there has to be a segment with pages
+abbrev pub at_least_one : Result (List LoadSegment) BadImage → Result (List LoadSegment) BadImage
+at_least_one (Ok []) = Err part.NoLoad
+at_least_one (Ok (l ∷ ls)) = Ok (l ∷ ls)
+at_least_one (Err e) = Err e
+
+abbrev pub all_judged : List ProgramHeader → Result (List LoadSegment) BadImage
+all_judged hs = at_least_one (fold next_judged (Ok []) hs)
+
+-- the fields of an ELF file are little-endian
+
+abbrev pub field : List ℕ → ℕ → ℕ → ℕ
+field bytes at n = number (drop at bytes) n
+
+-- a program header has 56 bytes: type at 0, flags at 4 (execute 1, write 2), offset at 8, address at 16, size in the file at 32,
+-- size in memory at 40
+abbrev pub load_at : List ℕ → ℕ → LoadSegment
+load_at bytes at =
+    let flags = field bytes (at + 4) 4 in
+    let offset = field bytes (at + 8) 8 in
+    let file_size = field bytes (at + 32) 8 in
+    record {
+      address = field bytes (at + 16) 8;
+      memory_size = field bytes (at + 40) 8;
+      file_size = file_size;
+      writes = flags / 2 % 2 == 1;
+      executes = flags % 2 == 1;
+      inside = nat_le (offset + file_size) (length bytes);
+      bytes = take file_size (drop offset bytes);
+    }
+
+-- only headers of type 1 (LOAD) count
+abbrev pub header_if_load : List ℕ → ℕ → Bool → ProgramHeader
+header_if_load bytes at true = load (load_at bytes at)
+header_if_load bytes at false = passed_over
+
+abbrev pub header_if_inside : List ℕ → ℕ → Bool → ProgramHeader
+header_if_inside bytes at true = header_if_load bytes at (field bytes at 4 == 1)
+header_if_inside bytes at false = outside
+
+abbrev pub header_at : List ℕ → ℕ → ProgramHeader
+header_at bytes at = header_if_inside bytes at (nat_le (at + 56) (length bytes))
+
+-- so many headers in a row, from an offset on
+abbrev pub headers_from : List ℕ → ℕ → ℕ → List ProgramHeader
+headers_from bytes offset n = map (λ k. header_at bytes (offset + 56 * k)) (numbers_from 0 n)
+
+-- 1 MiB
+abbrev pub longest_image : ℕ
+longest_image = 2 ^ 20
+
+-- 7f 45 4c 46
+abbrev pub elf_magic : ℕ
+elf_magic = 0x464c457f
+
+abbrev pub file_fault : List ℕ → Option BadImage
+file_fault bytes = first_true (
+    (nat_lt longest_image (length bytes), part.TooLong)
+    ∷ (nat_lt (length bytes) 64, part.Header)
+    ∷ (not (field bytes 0 4 == elf_magic), part.Magic)
+    ∷ [])
+
+abbrev pub loads_unless : List ℕ → Option BadImage → Result (List LoadSegment) BadImage
+loads_unless bytes (Some e) = Err e
+loads_unless bytes None = all_judged (headers_from bytes (field bytes 32 8) (field bytes 56 2))
+
+-- the segments of an ELF file, or the first check that it fails: the table of program headers begins at the offset in the 8
+-- bytes at 32 of the file header, and has as many as the 2 bytes at 56 tell
+unfoldable pub elf_loads : List ℕ → Result (List LoadSegment) BadImage
+elf_loads bytes = loads_unless bytes (file_fault bytes)
+
+abbrev pub load_of : Segment → ProgramHeader
+load_of s = load (record {
+  address = s.address;
+  memory_size = s.memory_size;
+  file_size = length s.bytes;
+  writes = s.writes;
+  executes = s.executes;
+  inside = true;
+  bytes = s.bytes;
+})
+
+unfoldable pub segment_loads : List Segment → Result (List LoadSegment) BadImage
+segment_loads segments = all_judged (map load_of segments)
+
+abbrev pub image_loads : Image → Result (List LoadSegment) BadImage
+image_loads (Elf bytes) = elf_loads bytes.now
+image_loads (Segments segments) = segment_loads segments.now

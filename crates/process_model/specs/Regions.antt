@@ -1,0 +1,91 @@
+-- Regions of a process, and the first rule that denies an access.
+use Rattle.std.specs.Prelude.{ℕ, Bool, true, false, not, ◌+◌, ◌%◌, nat_le, nat_lt, ◌==◌, ◌||◌, ◌&&◌, Option, None, Some, is_none, List, [], ◌∷◌, if◌then◌else◌}
+use Rattle.process_model.specs.Bytes.{first_true}
+use Rattle.sv39_entry.specs.Address.{page_of, maxva, trampoline_page, trapframe_page}
+use Rattle.sv39_entry.specs.Causes.{misaligned_cause, page_fault_cause}
+use Rattle.sv39_entry.specs.declared.access.Access.{Access}
+use Rattle.sv39_entry.specs.declared.access.Access.TheVariants.{Fetch, Load, Store}
+use Rattle.sv39_entry.specs.declared.rule.Rule.{Rule}
+use Rattle.sv39_entry.specs.declared.rule.Rule.TheVariants.{Misaligned, BeyondMax, KernelPage, GuardPage, NoRegion, NoRead, NoWrite, NoExec}
+
+-- what a region is there for (the xv6 book, "Process address space"; mappings are those of the mmap lab)
+pub data RegionKind : Type 0 where
+  segment : RegionKind
+  guard : RegionKind
+  stack : RegionKind
+  heap : RegionKind
+  shared_mapping : RegionKind
+  private_mapping : RegionKind
+
+-- where the bytes of its pages come from: zeros, the image, or a file from an offset on
+pub data Source : Type 0 where
+  zeros : Source
+  image : Source
+  file : ℕ → ℕ → Source
+
+-- a run of pages with what it grants to the user
+pub record Region : Type 0 where
+  pub first : ℕ
+  pub pages : ℕ
+  pub reads : Bool
+  pub writes : Bool
+  pub executes : Bool
+  pub kind : RegionKind
+  pub source : Source
+
+-- the page after the last one
+abbrev pub end_of : Region → ℕ
+end_of r = r.first + r.pages
+
+abbrev pub holds_page : Region → ℕ → Bool
+holds_page r page = nat_le r.first page && nat_lt page (end_of r)
+
+-- the region that holds a page; no page is in two
+abbrev pub region_at : List Region → ℕ → Option Region
+region_at [] page = None
+region_at (r ∷ rs) page = if holds_page r page then Some r else region_at rs page
+
+abbrev pub is_guard_kind : RegionKind → Bool
+is_guard_kind guard = true
+is_guard_kind _ = false
+
+abbrev pub is_guard : Option Region → Bool
+is_guard None = false
+is_guard (Some r) = is_guard_kind r.kind
+
+-- whether the right is missing that the access needs
+abbrev pub lacks_right : Access → Option Region → Bool
+lacks_right access None = true
+lacks_right Fetch (Some r) = not r.executes
+lacks_right Load (Some r) = not r.reads
+lacks_right Store (Some r) = not r.writes
+
+abbrev pub right_rule : Access → Rule
+right_rule Fetch = NoExec
+right_rule Load = NoRead
+right_rule Store = NoWrite
+
+-- the first rule that denies a kernel copy at an address, in an order of our own; None where it is granted
+abbrev pub copy_rule : List Region → Access → ℕ → Option Rule
+copy_rule regions access address =
+    let page = page_of address in
+    let region = region_at regions page in
+    first_true (
+    (nat_le maxva address, BeyondMax)
+    ∷ (page == trampoline_page || page == trapframe_page, KernelPage)
+    ∷ (is_guard region, GuardPage)
+    ∷ (is_none region, NoRegion)
+    ∷ (lacks_right access region, right_rule access)
+    ∷ [])
+
+abbrev pub is_aligned : ℕ → ℕ → Bool
+is_aligned address width = address % width == 0
+
+-- the first rule that denies an access of the user: alignment comes first, and then what denies a copy
+abbrev pub first_rule : List Region → Access → ℕ → ℕ → Option Rule
+first_rule regions access address width = if is_aligned address width then copy_rule regions access address else Some Misaligned
+
+-- the cause of the fault of a denied access: a misaligned one is told before any other fault (own choice)
+abbrev pub fault_cause : Access → Rule → ℕ
+fault_cause access Misaligned = misaligned_cause access
+fault_cause access _ = page_fault_cause access

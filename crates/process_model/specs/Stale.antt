@@ -1,0 +1,41 @@
+-- With address-space identifiers: the slots of which the buffers may have old entries after a step.
+use Rattle.std.specs.Prelude.{ℕ, Bool, true, false, not, ◌+◌, ◌==◌, ◌&&◌, Option, None, Some, List, [], ◌∷◌, map, if◌then◌else◌}
+use Rattle.process_model.specs.PageMap.{with_numbers}
+use Rattle.process_model.specs.Process.{Process, Page}
+use Rattle.process_model.specs.Harts.{Hart}
+use Rattle.process_model.specs.World.{World, Outcome}
+use Rattle.process_model.specs.declared.config.Policy.{Policy}
+use Rattle.process_model.specs.declared.config.Policy.TheVariants.{Full, Asid}
+
+abbrev pub same_mark : Bool → Bool → Bool
+same_mark true b = b
+same_mark false b = not b
+
+-- the leaf of a page follows from its copy number and its fork mark, since the rights of its region stay
+abbrev pub same_leaf : ℕ × Page → ℕ × Page → Bool
+same_leaf a b = a.0 == b.0 && (a.1).copy == (b.1).copy && same_mark (a.1).fork_mark (b.1).fork_mark
+
+abbrev pub same_leaves : List (ℕ × Page) → List (ℕ × Page) → Bool
+same_leaves [] [] = true
+same_leaves (a ∷ rest) (b ∷ others) = same_leaf a b && same_leaves rest others
+same_leaves _ _ = false
+
+-- a process began in the slot, or its map from pages to copy numbers and fork marks changed. Exec is such a change: its pages, at
+-- least three, have new copy numbers
+abbrev pub is_changed : Option Process → Option Process → Bool
+is_changed before None = false
+is_changed None (Some q) = true
+is_changed (Some p) (Some q) = not (same_leaves p.settled.entries q.settled.entries)
+
+-- the numbers of the changed slots, the first slot having the number n
+abbrev pub changed_slots : ℕ → List (Option Process) → List (Option Process) → List ℕ
+changed_slots n (p ∷ ps) (q ∷ qs) = if is_changed p q then n ∷ changed_slots (n + 1) ps qs else changed_slots (n + 1) ps qs
+changed_slots n _ _ = []
+
+abbrev pub with_stale : List ℕ → Hart → Hart
+with_stale slots hart = record hart { stale = with_numbers hart.stale slots }
+
+-- every hart may have old entries of the changed slots
+abbrev pub with_stale_slots : Policy → World → Outcome → Outcome
+with_stale_slots Full before o = o
+with_stale_slots Asid before o = record o { world = record o.world { harts = map (with_stale (changed_slots 0 before.slots o.world.slots)) o.world.harts } }

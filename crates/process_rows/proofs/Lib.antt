@@ -1,0 +1,14 @@
+pub mod Playing
+pub mod Stores
+pub mod Buffers
+pub mod Rules
+pub mod Growth
+pub mod Forks
+pub mod Filed
+pub mod Copied
+pub mod Programs
+pub mod Whole
+pub mod Tagged
+pub mod Hostile
+pub mod Needs
+pub mod Faulty

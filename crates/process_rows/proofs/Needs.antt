@@ -1,0 +1,66 @@
+-- How many frames some things take, by computation.
+use Rattle.std.proofs.Common.{◌≡◌, refl, ℕ, true, false, List, [], ◌∷◌}
+use Rattle.std.specs.Prelude.{Result, Ok, Err, Option, None, Some, pos}
+use Rattle.process_model.specs.Frames.{start_need, exec_need, fork_need, settle_need, tables_needed, kernel_frames}
+use Rattle.process_model.specs.Heap.{sbrk_result}
+use Rattle.process_model.specs.Images.{LoadSegment, segment_loads}
+use Rattle.process_model.specs.Loading.{process_of}
+use Rattle.process_model.specs.Process.{Process}
+use Rattle.process_model.specs.declared.image.BadImage.{BadImage}
+use Rattle.process_model.specs.declared.image.Segment.{Segment}
+use Rattle.process_model.specs.declared.step.Refusal.{Refusal}
+
+-- one page of text, two of data; guard and stack come after them
+abbrev standard_image : List Segment
+standard_image =
+    record { address = 0; memory_size = 0x1000; writes = false; executes = true; bytes = 0x13 ∷ 0x05 ∷ 0 ∷ 0 ∷ [] }
+    ∷ record { address = 0x1000; memory_size = 0x1800; writes = true; executes = false; bytes = [] }
+    ∷ []
+
+abbrev loads_or_none : Result (List LoadSegment) BadImage → List LoadSegment
+loads_or_none (Ok ls) = ls
+loads_or_none (Err e) = []
+
+abbrev standard_loads : List LoadSegment
+standard_loads = loads_or_none (segment_loads standard_image)
+
+abbrev standard_process : Process
+standard_process = process_of 0 standard_loads
+
+abbrev settle_need_after : Result Process Refusal → ℕ → Option ℕ
+settle_need_after (Ok p) page = Some (settle_need p page)
+settle_need_after (Err r) page = None
+
+-- five tables, the trapframe and five pages
+start_takes_eleven : start_need standard_loads ≡ 11
+unfolding segment_loads tables_needed
+start_takes_eleven = refl
+
+exec_takes_ten : exec_need standard_loads ≡ 10
+unfolding segment_loads tables_needed
+exec_takes_ten = refl
+
+-- five tables and the trapframe
+fork_takes_six : fork_need standard_process ≡ 6
+unfolding segment_loads process_of tables_needed
+fork_takes_six = refl
+
+-- a page whose tables are there, one that needs the last table, and one that needs two
+page_takes_one : settle_need_after (sbrk_result standard_process (pos 0x40000000)) 5 ≡ Some 1
+unfolding segment_loads process_of tables_needed sbrk_result
+page_takes_one = refl
+
+page_takes_two : settle_need_after (sbrk_result standard_process (pos 0x40000000)) 0x200 ≡ Some 2
+unfolding segment_loads process_of tables_needed sbrk_result
+page_takes_two = refl
+
+page_takes_three : settle_need_after (sbrk_result standard_process (pos 0x40000000)) 0x40000 ≡ Some 3
+unfolding segment_loads process_of tables_needed sbrk_result
+page_takes_three = refl
+
+-- a memory of more than 512 frames needs one more table in the kernel
+kernel_takes_ten : kernel_frames 512 4 ≡ 10
+kernel_takes_ten = refl
+
+kernel_takes_eleven : kernel_frames 513 4 ≡ 11
+kernel_takes_eleven = refl
