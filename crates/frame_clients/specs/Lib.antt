@@ -1,0 +1,3 @@
+pub mod Filled
+pub mod Opened
+pub mod Places

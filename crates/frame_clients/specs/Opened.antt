@@ -1,0 +1,18 @@
+-- What two seats have once one has opened the other. A seat may claim frames only while it holds frame 0, so a new one holds that.
+use Rattle.std.proofs.Common.{◌<◌, false, sym, subst, lit<}
+use Rattle.frame_store.specs.View.{View, Hold, hold_of, IsHeld, with_hold, empty_view}
+use Rattle.frame_store.specs.Holds.{hold_of-with_hold_same}
+
+-- the seat that opens: it keeps its references, and is not the sole holder of frame 0
+abbrev pub opener : View → View
+opener v = with_hold 0 (record (hold_of v 0) { sole = false }) v
+
+-- the seat that is opened: one reference of frame 0, with the words that the opener knows there
+abbrev pub opened : View → View
+opened v = with_hold 0 record { references = 1; sole = false; words = (hold_of v 0).words } empty_view
+
+pub opener_held : (v : View) → IsHeld v 0 → IsHeld (opener v) 0
+opener_held v held = subst (λ (h : Hold). 0 < h.references) (sym (hold_of-with_hold_same 0 (record (hold_of v 0) { sole = false }) v)) held
+
+pub opened_held : (v : View) → IsHeld (opened v) 0
+opened_held v = subst (λ (h : Hold). 0 < h.references) (sym (hold_of-with_hold_same 0 record { references = 1; sole = false; words = (hold_of v 0).words } empty_view)) (lit< tt)

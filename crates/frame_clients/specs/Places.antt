@@ -1,0 +1,35 @@
+-- A pool, as contracts see it: how many frames are free beside all credits, and in each place the view of its seat, or nothing.
+use Rattle.std.specs.Prelude.{◌≡◌, ℕ, List, Option, None, Some, refl, slice_get}
+use Rattle.std.specs.Coded.{Coded, code_by, coded×, coded_ℕ, coded_list, coded_option}
+use Rattle.frame_store.specs.View.{View, view_code, IsHeld, empty_view}
+use Rattle.frame_store.specs.Plain.{Bank, BankRule}
+use Rattle.frame_store.specs.Seats.{present}
+
+pub record Holdings : Type 0 where
+  pub free : ℕ
+  pub seats : List (Option View)
+
+abbrev pub holdings_code : Coded Holdings
+holdings_code = code_by (ℕ × List (Option View)) (coded× coded_ℕ (coded_list (coded_option view_code))) (λ h. (h.free, h.seats)) (λ p. record { free = p.0; seats = p.1 }) (λ _. refl)
+
+abbrev pub view_or_empty : Option (Option View) → View
+view_or_empty (Some (Some v)) = v
+view_or_empty (Some None) = empty_view
+view_or_empty None = empty_view
+
+-- the view of the seat in a place
+abbrev pub view_at : List (Option View) → ℕ → View
+view_at places i = view_or_empty (slice_get places i)
+
+-- the place has a seat
+abbrev pub IsSeated : List (Option View) → ℕ → Type 0
+IsSeated places i = slice_get places i ≡ Some (Some (view_at places i))
+
+-- the place is there, and has none
+abbrev pub IsEmpty : List (Option View) → ℕ → Type 0
+IsEmpty places i = slice_get places i ≡ Some None
+
+-- what holds of a store and the places: the rule of the store over the seats that are there, each of which holds frame 0
+pub record PoolRule (bank : Bank) (places : List (Option View)) : Type 0 where
+  pub rule : BankRule bank (present places)
+  pub anchored : (i : ℕ) (v : View) → slice_get places i ≡ Some (Some v) → IsHeld v 0

@@ -1,0 +1,5 @@
+pub mod Joins
+pub mod PlainSteps
+pub mod Seating
+pub mod Tested
+pub mod Unused

@@ -1,0 +1,11 @@
+use Rattle.std.proofs.Common.{◌≡◌, arith, ap, ◌∙◌, slice_index}
+use Rattle.std.proofs.lemmas.Grind.{common_steps}
+use Rattle.frame_store.specs.Plain.{Bank}
+use Rattle.frame_store.proofs.PlainSteps.{rule-look}
+use Rattle.frame_store.proofs.plain.PlainFramesFrameAccess.look.Goals as goal
+
+pub returns-clause-keeps : goal.returns-clause-keeps
+returns-clause-keeps c = λ others r.
+    let here : c.index.result.now ≡ slice_index c.self.inside.counts.items c.args.frame.0 = grind (arith, common_steps, c.index.ensures) in
+    let before = rw (← c.seat.view_is) at r in
+    rw c.knowing-seat-inside.ensures (rule-look _ _ _ _ _ c.args.frame.0 before _ (here ∙ ap (λ (b : Bank). slice_index b.counts c.args.frame.0) c.self.view_is) (rw (← c.seat.view_is) at c.requires.held))

@@ -1,0 +1,5 @@
+pub mod View
+pub mod Holds
+pub mod Laws
+pub mod Seats
+pub mod Plain

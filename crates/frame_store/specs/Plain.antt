@@ -1,0 +1,107 @@
+-- The rule of plain frames: counts are the references of all views, what a view knows is so, a sole frame is one view's alone, and
+-- the frames of count 0 are the free number with all credits.
+use Rattle.std.proofs.Common.{sym, ap, ◌∙◌, arith}
+use Rattle.std.specs.Prelude.{◌≡◌, ◌≢◌, refl, ℕ, ◌+◌, ◌-◌, ◌*◌, ◌<◌, ◌≤◌, Bool, List, [], ◌∷◌, ◌++◌, length, replicate, slice_index, slice_set, count_by, nat_lt, sum, ◌==◌, Some, IsTrue}
+use Rattle.process_model.specs.declared.step.Report.{Report}
+use Rattle.std.specs.FinMap as finite
+use Rattle.frame_store.specs.View.{View, Hold, hold_of, references, not_held}
+
+abbrev pub total_references : ℕ → List View → ℕ
+total_references f [] = 0
+total_references f (v ∷ vs) = references v f + total_references f vs
+
+abbrev pub total_credits : List View → ℕ
+total_credits [] = 0
+total_credits (v ∷ vs) = v.credits + total_credits vs
+
+-- what plain frames are: all words in a row, 512 a frame, the counts, and how many frames of count 0 there are beside all credits
+pub record Bank : Type 0 where
+  pub words : List ℕ
+  pub counts : List ℕ
+  pub free : ℕ
+
+-- what a seat has of one frame is so
+pub record FrameAgrees (words counts : List ℕ) (f : ℕ) (h : Hold) : Type 0 where
+  pub known : (i w : ℕ) → finite.get h.words i ≡ Some w → (i < 512) × (slice_index words (512 * f + i) ≡ w)
+  pub sole : IsTrue h.sole → (0 < h.references) × (h.references ≡ slice_index counts f)
+  pub bare : h.references ≡ 0 → h ≡ not_held
+
+abbrev pub Agrees : List ℕ → List ℕ → View → Type 0
+Agrees words counts v = (f : ℕ) → FrameAgrees words counts f (hold_of v f)
+
+abbrev pub AllAgree : List ℕ → List ℕ → List View → Type 0
+AllAgree words counts [] = Unit {0}
+AllAgree words counts (v ∷ vs) = Agrees words counts v × AllAgree words counts vs
+
+abbrev pub is_zero : ℕ → Bool
+is_zero c = c == 0
+
+abbrev pub is_shared : ℕ → Bool
+is_shared c = nat_lt 1 c
+
+pub record PlainRule (words counts : List ℕ) (free : ℕ) (views : List View) : Type 0 where
+  pub few : length counts ≤ 1024
+  pub sized : length words ≡ 512 * length counts
+  pub counted : (f : ℕ) → total_references f views ≡ slice_index counts f
+  pub balanced : count_by is_zero counts ≡ free + total_credits views
+  pub agrees : AllAgree words counts views
+
+-- the list has each frame of count 0 once
+pub record ListsUnused (unused counts : List ℕ) : Type 0 where
+  pub few : length counts ≤ 1024
+  pub inside : (i : ℕ) → i < length unused → slice_index unused i < length counts
+  pub unused_ones : (i : ℕ) → i < length unused → slice_index counts (slice_index unused i) ≡ 0
+  pub once : (i j : ℕ) → i < j → j < length unused → slice_index unused i ≢ slice_index unused j
+  pub all : length unused ≡ count_by is_zero counts
+
+-- so many frames of zeros, of which frame 0 has one reference
+abbrev pub opening_bank : ℕ → Bank
+opening_bank frames = record { words = replicate (512 * frames) 0; counts = slice_set (replicate frames 0) 0 1; free = frames - 1 }
+
+-- free frames, held ones, those of two references or more, and all references
+abbrev pub report_of : List ℕ → Report
+report_of counts = record {
+  free = count_by is_zero counts;
+  held = length counts - count_by is_zero counts;
+  shared = count_by is_shared counts;
+  references = sum counts;
+}
+
+abbrev pub BankRule : Bank → List View → Type 0
+BankRule b views = PlainRule b.words b.counts b.free views
+
+-- the order of the views doesn't matter: one may come to the front, and go back
+total_references-move : (f : ℕ) (xs : List View) (a : View) (ys : List View) → total_references f (xs ++ a ∷ ys) ≡ references a f + total_references f (xs ++ ys)
+total_references-move f [] a ys = refl
+total_references-move f (x ∷ xs) a ys = omega (arith, total_references-move f xs a ys)
+
+total_credits-move : (xs : List View) (a : View) (ys : List View) → total_credits (xs ++ a ∷ ys) ≡ a.credits + total_credits (xs ++ ys)
+total_credits-move [] a ys = refl
+total_credits-move (x ∷ xs) a ys = omega (arith, total_credits-move xs a ys)
+
+all_agree-front : (words counts : List ℕ) (xs : List View) (a : View) (ys : List View) → AllAgree words counts (xs ++ a ∷ ys) → AllAgree words counts (a ∷ xs ++ ys)
+all_agree-front words counts [] a ys h = h
+all_agree-front words counts (x ∷ xs) a ys h = let t = all_agree-front words counts xs a ys h.1 in (t.0, (h.0, t.1))
+
+all_agree-back : (words counts : List ℕ) (xs : List View) (a : View) (ys : List View) → AllAgree words counts (a ∷ xs ++ ys) → AllAgree words counts (xs ++ a ∷ ys)
+all_agree-back words counts [] a ys h = h
+all_agree-back words counts (x ∷ xs) a ys h = (h.1.0, all_agree-back words counts xs a ys (h.0, h.1.1))
+
+module _ (words counts : List ℕ) (free : ℕ) (xs : List View) (a : View) (ys : List View) where
+  pub to_front : PlainRule words counts free (xs ++ a ∷ ys) → PlainRule words counts free (a ∷ xs ++ ys)
+  to_front r = record {
+    few = r.few;
+    sized = r.sized;
+    counted = λ f. sym (total_references-move f xs a ys) ∙ r.counted f;
+    balanced = r.balanced ∙ ap (λ n. free + n) (total_credits-move xs a ys);
+    agrees = all_agree-front words counts xs a ys r.agrees;
+  }
+
+  pub to_back : PlainRule words counts free (a ∷ xs ++ ys) → PlainRule words counts free (xs ++ a ∷ ys)
+  to_back r = record {
+    few = r.few;
+    sized = r.sized;
+    counted = λ f. total_references-move f xs a ys ∙ r.counted f;
+    balanced = r.balanced ∙ ap (λ n. free + n) (sym (total_credits-move xs a ys));
+    agrees = all_agree-back words counts xs a ys r.agrees;
+  }

@@ -1,0 +1,228 @@
+// Frames of one thread.
+
+ghost use Rattle.std.specs.Prelude.{◌≡◌, ◌<◌, ◌≤◌, ◌∷◌, [], count_by, IfOk, length, slice_index, sum};
+ghost use Rattle.frame_store.specs.Plain.{BankRule, is_shared, is_zero, opening_bank, report_of, to_back, to_front};
+ghost use Rattle.frame_store.specs.View.{opening_view};
+
+use crate::access::{FrameAccess, FrameSeat};
+use crate::knowledge::{Knowledge, knowing};
+use crate::refusal::{NoFrame, SharersFull};
+use crate::supply::FrameSupply;
+use arrayvec::ArrayVec;
+use process_model::Report;
+use std::alloc::{AllocError, Global};
+use std::marker::Model;
+use sv39_entry::FrameNo;
+
+/// How many words a frame has.
+const WORDS: usize = 512;
+
+/// As many references as a frame can have.
+const MOST_REFERENCES: u16 = u16::MAX;
+
+/// The frames of a machine of one thread, which contracts see as their words, their counts and the free number: how many
+/// frames of count 0 there are beside all credits.
+#[derive(Drop)]
+pub struct PlainFrames {
+    /// All words, frame by frame.
+    words: Vec<u64>,
+    counts: Vec<u16>,
+    free: usize,
+    /// The frames of count 0.
+    unused: ArrayVec<u16, 1024>,
+}
+
+impl Model for PlainFrames {
+    ghost use Rattle.frame_store.specs.Plain.{Bank, ListsUnused};
+
+    ghost Value = { Bank };
+
+    ghost view = { λ s. record { words = s.words.items; counts = s.counts.items; free = s.free } };
+
+    ghost invariant = { λ s. ListsUnused s.unused.items s.counts.items };
+}
+
+/// A seat at plain frames. It takes no memory for what it knows.
+#[derive(Drop)]
+pub struct PlainSeat {
+    known: Knowledge,
+}
+
+impl Model for PlainSeat {
+    ghost use Rattle.frame_store.specs.View.{View, view_code};
+
+    ghost Value = { View };
+
+    ghost coded = { view_code };
+
+    ghost view = { λ s. s.known.view };
+}
+
+impl FrameSeat for PlainSeat {
+    ghost view = { λ v. v };
+}
+
+impl PlainFrames {
+    /// So many frames, all of whose words are 0, and a seat that is the sole holder of frame 0. All else is free.
+    pub fn new(alloc: Global, frames: usize) -> Result<(PlainFrames, PlainSeat), AllocError>
+        requires some { 0 < frames }
+        requires few { frames ≤ 1024 }
+        ensures seat { IfOk result (λ r. r.1 ≡ opening_view) }
+        ensures store { IfOk result (λ r. r.0 ≡ opening_bank frames) }
+        ensures rule { IfOk result (λ r. BankRule r.0 (r.1 ∷ [])) }
+    {
+        let words = Vec::from_elem(alloc, 0, WORDS * frames)?;
+        let mut counts = Vec::from_elem(alloc, 0, frames)?;
+        let mut unused = ArrayVec::new();
+        for frame in 1..frames {
+            unused.push(frame as u16);
+        }
+        counts[0] = 1;
+        let store = PlainFrames {
+            words,
+            counts,
+            free: frames - 1,
+            unused,
+        };
+        let seat = PlainSeat {
+            known: knowing(&()),
+        };
+        Ok((store, seat))
+    }
+
+    /// The accounts of the frames.
+    pub fn report(&self) -> Report
+        ensures { result ≡ report_of self.now.counts }
+    {
+        let counts = self.counts.as_slice();
+        let free = unreferenced(counts);
+        Report {
+            free,
+            held: counts.len() - free,
+            shared: shared(counts),
+            references: total(counts),
+        }
+    }
+}
+
+/// How many frames have count 0.
+fn unreferenced(counts: &[u16]) -> usize
+    ensures { result ≡ count_by is_zero counts.now }
+{
+    counts.iter().filter(|count| **count == 0).count()
+}
+
+/// How many frames have count 2 or more.
+fn shared(counts: &[u16]) -> usize
+    ensures { result ≡ count_by is_shared counts.now }
+{
+    counts.iter().filter(|count| **count > 1).count()
+}
+
+/// The sum of all counts.
+fn total(counts: &[u16]) -> usize
+    requires few { length counts.now ≤ 1024 }
+    ensures { result ≡ sum counts.now }
+{
+    let mut total = 0;
+    for count in counts {
+        total += *count as usize;
+    }
+    total
+}
+
+impl FrameAccess for PlainFrames {
+    type Seat = PlainSeat;
+
+    ghost rule = { BankRule };
+
+    ghost alone = { Unit {0} };
+
+    ghost free = { λ s. s.free };
+
+    ghost count = { λ s f. slice_index s.counts f };
+
+    ghost comes_front = { λ s. to_front s.words s.counts s.free };
+
+    ghost goes_back = { λ s. to_back s.words s.counts s.free };
+
+    fn load(&mut self, _seat: &mut PlainSeat, frame: FrameNo, index: usize) -> u64 {
+        let place = WORDS * frame.0 as usize + index;
+        self.words[place]
+    }
+
+    fn store(&mut self, seat: &mut PlainSeat, frame: FrameNo, index: usize, value: u64) {
+        let place = WORDS * frame.0 as usize + index;
+        self.words[place] = value;
+        seat.known = knowing(&(&seat.known, frame, index, value));
+    }
+
+    fn look(&mut self, seat: &mut PlainSeat, frame: FrameNo) -> u32 {
+        let count = self.counts[frame.0 as usize] as u32;
+        seat.known = knowing(&(&seat.known, frame, count));
+        count
+    }
+
+    fn release(&mut self, seat: &mut PlainSeat, frame: FrameNo) {
+        let at = frame.0 as usize;
+        let count = self.counts[at];
+        self.counts[at] = count - 1;
+        seat.known = knowing(&(&seat.known, frame));
+        if count > 1 {
+            return;
+        }
+        self.unused.push(frame.0);
+        self.free += 1;
+    }
+
+    fn give_back(&mut self, seat: &mut PlainSeat, n: usize) {
+        self.free += n;
+        seat.known = knowing(&(&seat.known, n));
+    }
+
+    fn join(&mut self, seat: &mut PlainSeat, other: PlainSeat) {
+        seat.known = knowing(&(&seat.known, &other.known));
+    }
+}
+
+impl FrameSupply for PlainFrames {
+    fn reserve(&mut self, seat: &mut PlainSeat, n: usize) -> Result<(), NoFrame> {
+        let enough = n <= self.free;
+        seat.known = knowing(&(&seat.known, n, self.free, enough));
+        if !enough {
+            return Err(NoFrame);
+        }
+        self.free -= n;
+        Ok(())
+    }
+
+    fn claim(&mut self, seat: &mut PlainSeat) -> FrameNo {
+        let Some(number) = self.unused.pop() else {
+            unreachable!()
+        };
+        self.counts[number as usize] = 1;
+        let frame = FrameNo(number);
+        seat.known = knowing(&(&seat.known, frame));
+        frame
+    }
+
+    fn share(&mut self, seat: &mut PlainSeat, frame: FrameNo) -> Result<(), SharersFull> {
+        let at = frame.0 as usize;
+        let count = self.counts[at];
+        let room = count < MOST_REFERENCES;
+        seat.known = knowing(&(&seat.known, frame, room));
+        if !room {
+            return Err(SharersFull);
+        }
+        self.counts[at] = count + 1;
+        Ok(())
+    }
+
+    fn split(&mut self, seat: &mut PlainSeat, frames: &[FrameNo]) -> PlainSeat {
+        let right = PlainSeat {
+            known: knowing(&(&seat.known, frames, true)),
+        };
+        seat.known = knowing(&(&seat.known, frames));
+        right
+    }
+}
