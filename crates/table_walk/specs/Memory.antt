@@ -1,0 +1,21 @@
+-- Physical memory, as words of 64 bits in frames of 512.
+use Rattle.std.specs.Prelude.{ℕ, ◌+◌, ◌*◌, ◌/◌, ◌%◌, ◌^◌, Bool, Option, is_some, List, slice_get, option_and_then}
+use Rattle.sv39_entry.specs.Frame.{frame_at}
+use Rattle.sv39_entry.specs.Word.{ppn}
+
+-- the word at an index of the frame with a physical page number; None outside the memory
+abbrev pub Memory : Type 0
+Memory = ℕ → ℕ → Option ℕ
+
+-- the byte at a physical address is there
+abbrev pub has_byte : Memory → ℕ → Bool
+has_byte m address = is_some (m (address / 4096) (address % 4096 / 8))
+
+-- the physical address of a byte of a leaf at a level: its low 12 + 9 * level bits are those of the virtual address (the
+-- standard, 4.3.2, step 8)
+abbrev pub physical_address : ℕ → ℕ → ℕ → ℕ
+physical_address leaf level address = ppn leaf * 4096 + address % 2 ^ (12 + 9 * level)
+
+-- the words of the frames from frame 0 on, one after another
+abbrev pub plain_memory : List ℕ → Memory
+plain_memory words ppn index = option_and_then (λ frame. slice_get words (frame.0 * 512 + index)) (frame_at ppn)

@@ -1,0 +1,44 @@
+// A memory of words that are lent.
+
+ghost use Rattle.std.specs.Prelude.{◌≡◌};
+
+use crate::words::Words;
+use std::marker::Model;
+use sv39_entry::FrameNo;
+
+/// The words of the frames from frame 0 on, 512 of each, one frame after another. Beyond their end there is no memory.
+#[derive(Drop)]
+pub struct PlainWords<'a> {
+    words: &'a [u64],
+}
+
+/// Contracts see the words.
+impl<'a> Model for PlainWords<'a> {
+    ghost use Rattle.std.specs.Prelude.{ℕ, List};
+
+    ghost Value = { List ℕ };
+
+    ghost view = { λ plain. plain.words.now };
+}
+
+impl<'a> PlainWords<'a> {
+    pub fn new(words: &'a [u64]) -> PlainWords<'a>
+        ensures { result ≡ words.now }
+    {
+        PlainWords { words }
+    }
+}
+
+impl Words for PlainWords<'_> {
+    ghost use Rattle.std.specs.Prelude.{⊤};
+    ghost use Rattle.table_walk.specs.Memory.{plain_memory};
+
+    ghost memory = { plain_memory };
+
+    ghost readable = { λ words ppn. ⊤ };
+
+    fn word(&mut self, ppn: u64, index: usize) -> Option<u64> {
+        let frame = FrameNo::from_ppn(ppn)?;
+        self.words.get(usize::from(frame.0) * 512 + index).copied()
+    }
+}

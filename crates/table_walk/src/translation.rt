@@ -1,0 +1,50 @@
+// The translation of accesses.
+
+ghost use Rattle.std.specs.Prelude.{◌≡◌, ◌/◌};
+ghost use Rattle.sv39_entry.specs.Address.{page_of};
+ghost use Rattle.table_walk.specs.Memory as memory;
+ghost use Rattle.table_walk.specs.Walk.{CanReach, CanWalk, Translates};
+
+use crate::find::lookup;
+use crate::leaf::physical_address;
+use crate::walk::{Found, Walk};
+use crate::words::Words;
+use sv39_entry::{Access, Entry, Mode, PAGE_SIZE, Va};
+
+/// Translates the address of an access, whose bytes lie in one word (RISC-V Privileged Architecture 20211203, 4.3.2).
+pub fn translate<M: Words>(words: &mut M, root: u64, va: Va, access: Access, mode: Mode) -> Walk
+    requires walk { CanWalk (M.readable words.old) (M.memory words.old) root (page_of va.0) }
+    requires reach { CanReach (M.readable words.old) (M.memory words.old) root va.0 }
+    ensures outcome { Translates (M.memory words.old) root va.0 access mode result }
+    ensures same { words.new ≡ words.old }
+{
+    let (word, level) = match lookup(words, root, va) {
+        Found::Leaf { word, level } => (word, level),
+        Found::NoLeaf => return Walk::PageFault(access.page_fault_cause()),
+        Found::Outside => return Walk::AccessFault(access.access_fault_cause()),
+    };
+    let leaf = Entry::from_word(word);
+    if !leaf.permits(access, mode) {
+        return Walk::PageFault(access.page_fault_cause());
+    }
+    let address = physical_address(leaf, level, va);
+    if !has_byte(words, address) {
+        return Walk::AccessFault(access.access_fault_cause());
+    }
+    Walk::Leaf {
+        word,
+        level,
+        address,
+    }
+}
+
+/// Whether the byte at a physical address is there.
+fn has_byte<M: Words>(words: &mut M, address: u64) -> bool
+    requires { M.readable words.old (address / 4096) }
+    ensures there { result ≡ memory.has_byte (M.memory words.old) address }
+    ensures same { words.new ≡ words.old }
+{
+    words
+        .word(address / PAGE_SIZE, (address % PAGE_SIZE / 8) as usize)
+        .is_some()
+}

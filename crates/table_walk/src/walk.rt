@@ -1,0 +1,23 @@
+// What walks find.
+
+/// What a walk finds for an address, whatever the rights.
+#[derive(Clone, Copy, PartialEq, Eq, Debug)]
+pub enum Found {
+    /// The word of the leaf, and its level: 0 for a page of 4,096 bytes, 1 and 2 for superpages.
+    Leaf { word: u64, level: u32 },
+    /// There is no leaf.
+    NoLeaf,
+    /// A word on the way lies outside the memory.
+    Outside,
+}
+
+/// The outcome of a translation.
+#[derive(Clone, Copy, PartialEq, Eq, Debug)]
+pub enum Walk {
+    /// The word of the leaf, its level, and the physical address.
+    Leaf { word: u64, level: u32, address: u64 },
+    /// With the cause of the exception.
+    PageFault(u64),
+    /// With the cause of the exception.
+    AccessFault(u64),
+}
