@@ -12,3 +12,7 @@ pub mod Tagged
 pub mod Hostile
 pub mod Needs
 pub mod Faulty
+pub mod Fronts
+pub mod LongerFronts
+pub mod Started
+pub mod BadImages
