@@ -1,0 +1,136 @@
+-- The table at its start, and at its end.
+use Rattle.std.proofs.Common.{◌≡◌, ◌≢◌, inl, inr, ℕ, zero, suc, ◌+◌, ◌-◌, ◌*◌, ◌<◌, ◌≤◌, ◌==◌, List, [], ◌∷◌, length, get_or, slice_index, set, replicate, refl, sym, ap, ◌∙◌, subst, arith, get_or-set_same, get_or-set_other, length-set, Some, lit<}
+use Rattle.std.proofs.lemmas.Bool.Decides.{eqb_tells}
+use Rattle.std.proofs.lemmas.List.{get_or-replicate}
+use Rattle.std.specs.FinMap as map
+use Rattle.std.specs.Ordering.{nat_cmp}
+use mathlib.Core.Option.{some, some-ne-none, some-injective}
+use lib.ListN.{get_elem?, length-replicate}
+use Rattle.atomic_table.specs.Table.{Final, Seen}
+use Rattle.frame_store.specs.View.{View, Hold, hold_of, not_held, sole_hold, references, IsHeld, empty_view, opening_view}
+use Rattle.frame_store.specs.Holds.{hold_of-with_hold_same, hold_of-with_hold_other, hold_of-empty}
+use Rattle.shared_frames.specs.Rule.{count_at, memory_at, all_references, one_at_zero, zero_counts, FrameAgrees, ViewAgrees, IsKept, Kept}
+use Rattle.shared_frames.specs.Totals.{first_words, held_frames}
+use Rattle.shared_frames.specs.Fits.{FrameFits, IsWithin}
+use Rattle.shared_frames.proofs.Sums.{total-two, total-lone}
+use Rattle.shared_frames.proofs.Zeros.{one_at_zero-le, one_at_zero-zero, one_at_zero-more}
+use Rattle.shared_frames.proofs.Changes.{not_held_agrees}
+use Rattle.shared_frames.proofs.Within.{not_held_fits}
+
+-- ---- the first seat
+first_here : hold_of opening_view 0 ≡ sole_hold
+first_here = hold_of-with_hold_same 0 sole_hold empty_view
+
+first_apart : (f : ℕ) → f ≢ 0 → hold_of opening_view f ≡ not_held
+first_apart f ne = hold_of-with_hold_other 0 sole_hold empty_view f ne ∙ hold_of-empty f
+
+first_held : (f : ℕ) → IsHeld opening_view f → f ≡ 0
+first_held f h = elim (eqb_tells f 0) as (λ _. f ≡ 0) [ inl e ↦ e.1 | inr e ↦ absurd (let o = ap (λ (z : Hold). z.references) (first_apart f e.1) in omega (arith, o, h)) ]
+
+base_held : IsHeld opening_view 0
+base_held = subst (λ (z : Hold). 0 < z.references) (sym first_here) (lit< tt)
+
+pub within-opening : (words : ℕ) → 513 < words → IsWithin words opening_view
+within-opening words l f = elim (eqb_tells f 0) as (λ _. FrameFits words f (hold_of opening_view f)) [
+  | inl e ↦ subst (λ m. FrameFits words m (hold_of opening_view m)) (sym e.1) (subst (FrameFits words 0) (sym first_here) ((λ _. l), (λ _. lit< tt)))
+  | inr e ↦ subst (FrameFits words f) (sym (first_apart f e.1)) (not_held_fits words f)
+]
+
+sole_agrees : (words : List ℕ) (f : ℕ) → FrameAgrees words f 1 sole_hold
+sole_agrees words f = record {
+  known = λ i w e. let n = map.get-empty {X = ℕ} nat_cmp i in absurd (cc);
+  sole = λ _. (lit< tt, refl);
+  bare = λ q. absurd (omega arith);
+}
+
+module _ (n : ℕ) (some_frame : 1 ≤ n) (few : n ≤ 256) where
+  -- how many words there are
+  pub wide : length (first_words n) ≡ 513 * n + 1
+  wide = length-set (set (replicate (513 * n + 1) 0) 0 (n - 1)) 1 1 ∙ (length-set (replicate (513 * n + 1) 0) 0 (n - 1) ∙ length-replicate (513 * n + 1) 0)
+
+  at_zero : get_or (first_words n) 0 0 ≡ n - 1
+  at_zero = get_or-set_other (set (replicate (513 * n + 1) 0) 0 (n - 1)) 1 0 1 0 (λ e. omega arith)
+      ∙ get_or-set_same (replicate (513 * n + 1) 0) 0 (n - 1) 0 (let l = length-replicate {A = ℕ} (513 * n + 1) 0 in omega (arith, l))
+
+  at_one : get_or (first_words n) 1 0 ≡ 1
+  at_one = get_or-set_same (set (replicate (513 * n + 1) 0) 0 (n - 1)) 1 1 0 (let l = length-replicate {A = ℕ} (513 * n + 1) 0 in let s = length-set (replicate (513 * n + 1) 0) 0 (n - 1) in omega (arith, l, s))
+
+  at_more : (i : ℕ) → 1 < i → i < 513 * n + 1 → get_or (first_words n) i 0 ≡ 0
+  at_more i more l = get_or-set_other (set (replicate (513 * n + 1) 0) 0 (n - 1)) 1 i 1 0 (λ e. omega arith)
+      ∙ (get_or-set_other (replicate (513 * n + 1) 0) 0 i (n - 1) 0 (λ e. omega arith) ∙ get_or-replicate (513 * n + 1) i 0 0 l)
+
+  count : (f : ℕ) → f < n → get_or (first_words n) (count_at f) 0 ≡ references opening_view f
+  count f l = elim (eqb_tells f 0) as (λ _. get_or (first_words n) (count_at f) 0 ≡ references opening_view f) [
+    | inl e ↦ subst (λ m. get_or (first_words n) (count_at m) 0 ≡ references opening_view m) (sym e.1) (at_one ∙ sym (ap (λ (z : Hold). z.references) first_here))
+    | inr e ↦ let ne : f ≢ 0 = e.1 in at_more (count_at f) (omega (arith, ne)) (omega (arith, l)) ∙ sym (ap (λ (z : Hold). z.references) (first_apart f e.1))
+  ]
+
+  free : (m : ℕ) → m < n → zero_counts (first_words n) (suc m) ≡ m
+  free zero l = let b = ap one_at_zero at_one in omega (arith, b)
+  free (suc m) l = let r = free m (omega arith) in let b = ap one_at_zero (at_more (count_at (suc m)) (omega arith) (omega arith)) in omega (arith, r, b)
+
+  small : (f : ℕ) → references opening_view f ≤ 1
+  small f = elim (eqb_tells f 0) as (λ _. references opening_view f ≤ 1) [
+    | inl e ↦ subst (λ m. references opening_view m ≤ 1) (sym e.1) (let o = ap (λ (z : Hold). z.references) first_here in omega (arith, o))
+    | inr e ↦ let o = ap (λ (z : Hold). z.references) (first_apart f e.1) in omega (arith, o)
+  ]
+
+  lone : (P : View → Type 0) → P opening_view → (id : ℕ) (v : View) → get_elem? (opening_view ∷ []) id ≡ some v → P v
+  lone P p zero v e = subst P (some-injective opening_view v e) p
+  lone P p (suc id) v e = absurd (some-ne-none v (sym e))
+
+  agreed : (f : ℕ) → FrameAgrees (first_words n) f (all_references f (opening_view ∷ [])) (hold_of opening_view f)
+  agreed f = elim (eqb_tells f 0) as (λ _. FrameAgrees (first_words n) f (all_references f (opening_view ∷ [])) (hold_of opening_view f)) [
+    | inl e ↦ subst (λ m. FrameAgrees (first_words n) m (all_references m (opening_view ∷ [])) (hold_of opening_view m)) (sym e.1)
+        (subst (λ (h : Hold). FrameAgrees (first_words n) 0 (h.references + 0) h) (sym first_here) (sole_agrees (first_words n) 0))
+    | inr e ↦ subst (FrameAgrees (first_words n) f (all_references f (opening_view ∷ []))) (sym (first_apart f e.1)) (not_held_agrees (first_words n) f _)
+  ]
+
+  -- the rule holds at the start
+  pub begins : IsKept n (first_words n) (opening_view ∷ [])
+  begins = record {
+    narrow = few;
+    wide = wide;
+    counted = λ f l. let c = count f l in omega (arith, c);
+    few = λ f l. let s = small f in omega (arith, s);
+    balanced = let z = at_zero in let b = free (n - 1) (omega arith) in let s : suc (n - 1) ≡ n = omega arith in let c = ap (zero_counts (first_words n)) s in omega (arith, z, b, c);
+    agrees = lone (ViewAgrees n (first_words n) (λ f. all_references f (opening_view ∷ []))) record {
+      within = λ f h. let z = first_held f h in omega (arith, z);
+      anchored = λ f h. base_held;
+      frames = agreed;
+    };
+  }
+
+-- ---- the end
+module _ (n : ℕ) (words : List ℕ) (views : List View) (k : IsKept n words views) (id : ℕ) (v : View) (at : get_elem? views id ≡ some v) (own : get_or words 1 0 ≡ references v 0) where
+  -- no other seat has a reference of frame 0, so that none has any
+  alone : (f : ℕ) → all_references f views ≡ references v f
+  alone f = total-lone (λ u. references u f) views id v at (λ j u ne e.
+      elim (eqb_tells (references u f) 0) as (λ _. references u f ≡ 0) [
+        | inl z ↦ z.1
+        | inr z ↦ absurd (
+            let more : references u f ≢ 0 = z.1 in
+            let h = (k.agrees j u e).anchored f (omega (arith, more)) in
+            let two = total-two (λ x. references x 0) views j id u v ne e at in
+            let l = (k.agrees j u e).within 0 h in
+            let c = k.counted 0 l in omega (arith, h, two, c, own))
+      ])
+
+  ends : (m : ℕ) → m ≤ n → zero_counts words m + held_frames m v ≡ m
+  ends zero l = omega arith
+  ends (suc m) l =
+      let r = ends m (omega arith) in
+      let b : one_at_zero (get_or words (count_at m) 0) ≡ one_at_zero (references v m) = ap one_at_zero (k.counted m (omega arith) ∙ alone m) in
+      let s = one_at_zero-le (references v m) in omega (arith, r, b, s)
+
+pub final : (n : ℕ) (ws : List ℕ) (xs : List (Unit {0})) (id : ℕ) (v : View) → Final (Seen (Kept n) id v) ws xs → get_or ws 1 0 ≡ references v 0 → zero_counts ws n + held_frames n v ≡ n
+final n ws xs id v last own = let s = last.0 in let h = last.1 in let is = last.2 in
+    subst (λ (w : List ℕ). zero_counts w n + held_frames n v ≡ n) is (ends n s.words s.views h.0 id v h.1 (ap (λ (w : List ℕ). get_or w 1 0) is ∙ own) n (omega arith))
+
+pub at_get : (l : List ℕ) (i a : ℕ) → get_elem? l i ≡ some a → get_or l i 0 ≡ a
+at_get [] i a e = absurd (some-ne-none a (sym e))
+at_get (x ∷ xs) zero a e = some-injective x a e
+at_get (x ∷ xs) (suc i) a e = at_get xs i a e
+
+pub zero_counts-next : (ws : List ℕ) (f x : ℕ) → get_elem? ws (513 * f + 1) ≡ some x → zero_counts ws (f + 1) ≡ one_at_zero x + zero_counts ws f
+zero_counts-next ws f x e = let s : f + 1 ≡ suc f = omega arith in ap (zero_counts ws) s ∙ ap (λ (y : ℕ). one_at_zero y + zero_counts ws f) (at_get ws (513 * f + 1) x e)

@@ -1,0 +1,8 @@
+pub mod Sums
+pub mod Zeros
+pub mod Changes
+pub mod Moves
+pub mod Within
+pub mod Parts
+pub mod Ends
+pub mod Rounds

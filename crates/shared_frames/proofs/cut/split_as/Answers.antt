@@ -1,0 +1,25 @@
+use Rattle.std.proofs.Common.{rules, ◌≡◌, ℕ, ◌+◌, ◌*◌, ◌<◌, arith, refl, sym, ap, ◌∙◌, subst, List, [], map}
+use Rattle.frame_store.specs.Laws.{IsAnchored}
+use Rattle.frame_store.specs.View.{View, CanSplit, empty_view, split_off}
+use Rattle.shared_frames.specs.Fits.{IsWithin}
+use Rattle.shared_frames.proofs.Parts.{splits, within-split, within-empty}
+use Rattle.shared_frames.proofs.Within.{told}
+use Rattle.shared_frames.proofs.cut.split_as.Goals as goal
+
+pub split_seat-requires : goal.split_seat-requires
+split_seat-requires g c = (
+  c.requires.fits.0,
+  omega (arith, c.requires.sized.0),
+  rw c.requires.going (splits _ _ _ _ c.requires.held c.requires.left_anchored c.requires.right_anchored),
+)
+
+pub returns-clause-fits : goal.returns-clause-fits
+returns-clause-fits g c =
+    let e = c.split_seat.ensures in
+    let f = c.requires.fits in
+    let W = c.args.table.now.table_id.words in
+    let v = c.args.seat.now.seat.me.0 in
+    let p = within-split W _ v empty_view c.requires.held f.1 (within-empty W) in (
+      (e.0 ∙ f.0, told W _ _ _ e.2 (subst (λ (fs : List ℕ). IsWithin W (split_off fs v empty_view).0) (sym c.requires.going) p.0)),
+      (e.3 ∙ f.0, told W _ _ _ e.4 (subst (λ (fs : List ℕ). IsWithin W (split_off fs v empty_view).1) (sym c.requires.going) p.1)),
+    )

@@ -1,0 +1,5 @@
+use Rattle.std.proofs.Common.{◌≡◌, ◌<◌}
+use Rattle.shared_frames.proofs.retry.claim.Given as goal
+
+abbrev pub invariant-loop : goal.invariant-loop
+invariant-loop g l = (l.number < l.frames) × (l.seat.seat.table_id ≡ l.initial.seat.seat.table_id) × (l.seat.seat.me.0 ≡ l.initial.seat.seat.me.0)

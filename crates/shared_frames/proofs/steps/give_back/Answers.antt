@@ -1,0 +1,13 @@
+use Rattle.std.proofs.Common.{rules, ◌≡◌, ◌≢◌, ℕ, ◌+◌, ◌*◌, ◌<◌, ◌≤◌, ◌==◌, arith, refl, sym, ap, ◌∙◌, subst, cond, Bool, true, false}
+use Rattle.frame_store.specs.View.{View, references, claimed, shared, looked, with_word, released, without_credits, with_credits}
+use Rattle.shared_frames.specs.Fits.{IsWithin}
+use Rattle.shared_frames.specs.Telling.{let_go, saw_free, unshared}
+use Rattle.shared_frames.proofs.Moves as moves
+use Rattle.shared_frames.proofs.Within as within
+use Rattle.shared_frames.proofs.steps.give_back.Goals as goal
+
+pub fetch_add-requires : goal.fetch_add-requires
+fetch_add-requires c = (c.requires.fits.0, omega (arith, c.requires.sized.0), moves.gives_back _ _ _ _ _ c.requires.credits)
+
+pub returns-clause-fits : goal.returns-clause-fits
+returns-clause-fits c = let e = c.fetch_add.ensures in (e.0 ∙ c.requires.fits.0, within.told c.args.table.now.table_id.words _ _ _ (e.2) (within.within_same c.args.table.now.table_id.words c.args.seat.now.seat.me.0 _ refl c.requires.fits.1))

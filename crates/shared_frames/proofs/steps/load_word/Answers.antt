@@ -1,0 +1,16 @@
+use Rattle.std.proofs.Common.{rules, ◌≡◌, ◌≢◌, ℕ, ◌+◌, ◌*◌, ◌<◌, ◌≤◌, ◌==◌, arith, refl, sym, ap, ◌∙◌, subst, cond, Bool, true, false}
+use Rattle.frame_store.specs.View.{View, references, claimed, shared, looked, with_word, released, without_credits, with_credits}
+use Rattle.shared_frames.specs.Fits.{IsWithin}
+use Rattle.shared_frames.specs.Telling.{let_go, saw_free, unshared}
+use Rattle.shared_frames.proofs.Moves as moves
+use Rattle.shared_frames.proofs.Within as within
+use Rattle.shared_frames.proofs.steps.load_word.Goals as goal
+
+pub load-requires : goal.load-requires
+load-requires c = let place = (c.requires.fits.1 c.args.frame.0).0 c.requires.held in (c.requires.fits.0, omega (arith, place, c.requires.in_page), moves.loads _ _ _ _ _)
+
+pub returns-clause-known : goal.returns-clause-known
+returns-clause-known c = λ w e. c.load.ensures.2.1 c.args.frame.0 c.args.index w refl e
+
+pub returns-clause-fits : goal.returns-clause-fits
+returns-clause-fits c = let e = c.load.ensures in (e.0 ∙ c.requires.fits.0, within.told c.args.table.now.table_id.words _ _ _ (e.2.0) (c.requires.fits.1))

@@ -1,0 +1,13 @@
+use Rattle.std.proofs.Common.{rules, ◌≡◌, ◌≢◌, ℕ, ◌+◌, ◌*◌, ◌<◌, ◌≤◌, ◌==◌, arith, refl, sym, ap, ◌∙◌, subst, cond, Bool, true, false}
+use Rattle.frame_store.specs.View.{View, references, claimed, shared, looked, with_word, released, without_credits, with_credits}
+use Rattle.shared_frames.specs.Fits.{IsWithin}
+use Rattle.shared_frames.specs.Telling.{let_go, saw_free, unshared}
+use Rattle.shared_frames.proofs.Moves as moves
+use Rattle.shared_frames.proofs.Within as within
+use Rattle.shared_frames.proofs.steps.see_free.Goals as goal
+
+pub load-requires : goal.load-requires
+load-requires c = (c.requires.fits.0, omega (arith, c.requires.sized.0), moves.sees _ _ _ _)
+
+pub returns-clause-fits : goal.returns-clause-fits
+returns-clause-fits c = let e = c.load.ensures in (e.0 ∙ c.requires.fits.0, within.told c.args.table.now.table_id.words _ _ _ (e.2) (within.within_same c.args.table.now.table_id.words c.args.seat.now.seat.me.0 _ (moves.saw_free-frames c.load.result c.args.seat.now.seat.me.0) c.requires.fits.1))

@@ -1,0 +1,5 @@
+pub mod Rule
+pub mod Telling
+pub mod Fits
+pub mod Totals
+pub mod Pool

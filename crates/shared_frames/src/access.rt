@@ -1,0 +1,77 @@
+// The frames as one thread acts on them, with calls that wait for nobody.
+
+ghost use Rattle.std.specs.Prelude.{◌≡◌, ℕ, ◌+◌, ◌-◌, ◌<◌, ◌≤◌, ◌==◌, ◌++◌, ◌∷◌, List};
+ghost use Rattle.atomic_table.specs.Seated.{TableId};
+ghost use Rattle.shared_frames.specs.Fits.{IsSized};
+
+use crate::seat::SharedSeat;
+use crate::table::Words;
+use crate::{cut, steps};
+use frame_store::FrameAccess;
+use std::marker::Model;
+use sv39_entry::FrameNo;
+
+/// A store that any thread may have. Its calls wait for nobody. Contracts see it as the name of its table.
+#[derive(Drop)]
+pub struct SharedAccess<'a> {
+    table: &'a Words,
+}
+
+impl<'a> Model for SharedAccess<'a> {
+    ghost Value = { TableId };
+
+    ghost view = { λ a. a.table.now.table_id };
+
+    ghost invariant = { λ a. IsSized a.table.now.table_id.words a.table.now.key };
+}
+
+impl<'a> SharedAccess<'a> {
+    pub(crate) fn new(table: &'a Words) -> SharedAccess<'a>
+        requires { IsSized table.now.table_id.words table.now.key }
+        ensures { result ≡ table.now.table_id }
+    {
+        SharedAccess { table }
+    }
+}
+
+impl<'a> FrameAccess for SharedAccess<'a> {
+    type Seat = SharedSeat;
+
+    ghost use Rattle.shared_frames.specs.Fits.{AllFit, to_front, to_back};
+
+    ghost rule = { AllFit };
+
+    ghost alone = { ⊥ };
+
+    ghost free = { λ a. 0 };
+
+    ghost count = { λ a f. 0 };
+
+    ghost comes_front = { to_front };
+
+    ghost goes_back = { to_back };
+
+    fn load(&mut self, seat: &mut SharedSeat, frame: FrameNo, index: usize) -> u64 {
+        steps::load_word(self.table, seat, frame, index)
+    }
+
+    fn store(&mut self, seat: &mut SharedSeat, frame: FrameNo, index: usize, value: u64) {
+        steps::store_word(self.table, seat, frame, index, value);
+    }
+
+    fn look(&mut self, seat: &mut SharedSeat, frame: FrameNo) -> u32 {
+        steps::look(self.table, seat, frame) as u32
+    }
+
+    fn release(&mut self, seat: &mut SharedSeat, frame: FrameNo) {
+        steps::release(self.table, seat, frame);
+    }
+
+    fn give_back(&mut self, seat: &mut SharedSeat, n: usize) {
+        steps::give_back(self.table, seat, n as u64);
+    }
+
+    fn join(&mut self, seat: &mut SharedSeat, other: SharedSeat) {
+        cut::join(self.table, seat, other);
+    }
+}

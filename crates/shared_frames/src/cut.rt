@@ -1,0 +1,85 @@
+// A seat that is cut in two, and two that become one. The table charges a load for each.
+
+ghost use Rattle.std.specs.Prelude.{◌≡◌, ℕ, List, [], map};
+ghost use Rattle.frame_store.specs.Laws.{IsAnchored};
+ghost use Rattle.frame_store.specs.View.{CanSplit, empty_view, joined, split_off};
+ghost use Rattle.shared_frames.specs.Fits.{FitsIn, IsSized, view_of};
+
+use crate::seat::{Knowledge, SharedSeat};
+use crate::table::Words;
+use atomic_table::{Join, Split};
+use std::marker::{Brand, PhantomData};
+use sv39_entry::FrameNo;
+
+/// The frames of a split. Its caller's proof picks them.
+trait Going {
+    ghost frames: { List ℕ };
+}
+
+impl Going for Brand {
+    ghost frames = { [] };
+}
+
+struct Cut<G> {
+    going: PhantomData<G>,
+}
+
+impl<G: Going> Split<Knowledge> for Cut<G> {
+    ghost use Rattle.frame_store.specs.View.{empty_view, split_off};
+
+    ghost left = { λ v. (split_off G.frames v empty_view).0 };
+
+    ghost right = { λ v. (split_off G.frames v empty_view).1 };
+}
+
+struct Both;
+
+impl Join<Knowledge> for Both {
+    ghost use Rattle.frame_store.specs.View.{empty_view, joined};
+
+    ghost both = { joined };
+
+    ghost spent = { empty_view };
+}
+
+fn split_as<G: Going>(table: &Words, seat: &mut SharedSeat, frames: &[FrameNo]) -> SharedSeat
+    requires going { G.frames ≡ map (λ f. f.0) frames.now }
+    requires sized { IsSized table.now.table_id.words table.now.key }
+    requires fits { FitsIn table.now.table_id seat.old }
+    requires held { CanSplit (map (λ f. f.0) frames.now) (view_of seat.old) }
+    requires left_anchored { IsAnchored (split_off (map (λ f. f.0) frames.now) (view_of seat.old) empty_view).0 }
+    requires right_anchored { IsAnchored (split_off (map (λ f. f.0) frames.now) (view_of seat.old) empty_view).1 }
+    ensures fits { FitsIn table.now.table_id seat.new × FitsIn table.now.table_id result }
+    ensures left { view_of seat.new ≡ (split_off (map (λ f. f.0) frames.now) (view_of seat.old) empty_view).0 }
+    ensures right { view_of result ≡ (split_off (map (λ f. f.0) frames.now) (view_of seat.old) empty_view).1 }
+{
+    let _ = frames;
+    SharedSeat {
+        seat: table.split_seat::<Cut<G>>(&mut seat.seat),
+    }
+}
+
+/// Moves one reference of each listed frame to a new seat.
+pub fn split(table: &Words, seat: &mut SharedSeat, frames: &[FrameNo]) -> SharedSeat
+    requires sized { IsSized table.now.table_id.words table.now.key }
+    requires fits { FitsIn table.now.table_id seat.old }
+    requires held { CanSplit (map (λ f. f.0) frames.now) (view_of seat.old) }
+    requires left_anchored { IsAnchored (split_off (map (λ f. f.0) frames.now) (view_of seat.old) empty_view).0 }
+    requires right_anchored { IsAnchored (split_off (map (λ f. f.0) frames.now) (view_of seat.old) empty_view).1 }
+    ensures fits { FitsIn table.now.table_id seat.new × FitsIn table.now.table_id result }
+    ensures left { view_of seat.new ≡ (split_off (map (λ f. f.0) frames.now) (view_of seat.old) empty_view).0 }
+    ensures right { view_of result ≡ (split_off (map (λ f. f.0) frames.now) (view_of seat.old) empty_view).1 }
+{
+    split_as::<Brand>(table, seat, frames)
+}
+
+/// Ends a seat, and adds what it had.
+pub fn join(table: &Words, seat: &mut SharedSeat, other: SharedSeat)
+    requires sized { IsSized table.now.table_id.words table.now.key }
+    requires fits { FitsIn table.now.table_id seat.old × FitsIn table.now.table_id other }
+    ensures fits { FitsIn table.now.table_id seat.new }
+    ensures view { view_of seat.new ≡ joined (view_of seat.old) (view_of other) }
+{
+    let SharedSeat { seat: other } = other;
+    table.join_seat::<Both>(&mut seat.seat, other);
+}

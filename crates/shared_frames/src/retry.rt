@@ -1,0 +1,100 @@
+// The calls that try an exchange again until it succeeds.
+
+ghost use Rattle.std.specs.Prelude.{◌≡◌, ◌≢◌, ℕ, ◌+◌, ◌-◌, ◌<◌, ◌≤◌, ◌==◌, IfOk, IfErr};
+ghost use Rattle.frame_store.specs.Laws.{IsDry};
+ghost use Rattle.frame_store.specs.View.{IsHeld, claimed, read_full, references, shared, with_credits};
+ghost use Rattle.shared_frames.specs.Fits.{FitsIn, IsSized, view_of};
+
+use crate::seat::SharedSeat;
+use crate::steps;
+use crate::table::Words;
+use frame_store::{NoFrame, SharersFull};
+use std::sync::Wait;
+use sv39_entry::FrameNo;
+
+/// As many references as a frame can have.
+const MOST_REFERENCES: u64 = 65_535;
+
+/// Gathers so many credits, in one exchange or several. Where the free word is 0 before that, all go back.
+pub fn reserve<R: Wait>(
+    rt: &R,
+    table: &Words,
+    seat: &mut SharedSeat,
+    count: u64,
+) -> Result<(), NoFrame>
+    requires sized { IsSized table.now.table_id.words table.now.key }
+    requires fits { FitsIn table.now.table_id seat.old }
+    ensures fits { FitsIn table.now.table_id seat.new }
+    ensures ok { IfOk result (λ _. view_of seat.new ≡ with_credits count (view_of seat.old)) }
+    ensures err { IfErr result (λ _. IsDry count (view_of seat.old) (view_of seat.new)) }
+{
+    let mut got = 0;
+    for _ in rt.forever() {
+        if got == count {
+            return Ok(());
+        }
+        let free = steps::see_free(table, seat);
+        if free == 0 {
+            break;
+        }
+        let part = free.min(count - got);
+        if steps::try_reserve(table, seat, free, free - part) == free {
+            got += part;
+        }
+    }
+    steps::give_back(table, seat, got);
+    Err(NoFrame)
+}
+
+/// Spends a credit on the first frame that is found with count 0.
+pub fn claim<R: Wait>(rt: &R, table: &Words, frames: usize, seat: &mut SharedSeat) -> FrameNo
+    requires sized { IsSized table.now.table_id.words table.now.key }
+    requires frames { frames ≡ table.now.key }
+    requires fits { FitsIn table.now.table_id seat.old }
+    requires anchored { IsHeld (view_of seat.old) 0 }
+    requires credit { 0 < (view_of seat.old).credits }
+    ensures fits { FitsIn table.now.table_id seat.new }
+    ensures fresh { references (view_of seat.old) result.0 ≡ 0 }
+    ensures view { view_of seat.new ≡ claimed result.0 (view_of seat.old) }
+{
+    let mut number = 0;
+    for _ in rt.forever() {
+        let frame = FrameNo(number);
+        if steps::try_claim(table, seat, frame) == 0 {
+            return frame;
+        }
+        number += 1;
+        if number as usize == frames {
+            number = 0;
+        }
+    }
+    unreachable!()
+}
+
+/// Takes one more reference. Most frames that are shared have one before.
+pub fn share<R: Wait>(
+    rt: &R,
+    table: &Words,
+    seat: &mut SharedSeat,
+    frame: FrameNo,
+) -> Result<(), SharersFull>
+    requires sized { IsSized table.now.table_id.words table.now.key }
+    requires fits { FitsIn table.now.table_id seat.old }
+    requires held { IsHeld (view_of seat.old) frame.0 }
+    ensures fits { FitsIn table.now.table_id seat.new }
+    ensures ok { IfOk result (λ _. view_of seat.new ≡ shared frame.0 (view_of seat.old)) }
+    ensures err { IfErr result (λ _. view_of seat.new ≡ read_full (view_of seat.old)) }
+{
+    let mut expected = 1;
+    for _ in rt.forever() {
+        let found = steps::try_share(table, seat, frame, expected);
+        if found == expected {
+            return Ok(());
+        }
+        if found == MOST_REFERENCES {
+            return Err(SharersFull);
+        }
+        expected = found;
+    }
+    unreachable!()
+}

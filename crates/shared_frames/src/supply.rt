@@ -1,0 +1,100 @@
+// The frames as one thread acts on them, with the calls that take frames. These may try again and again.
+
+ghost use Rattle.std.specs.Prelude.{◌≡◌, ◌≢◌, ℕ, ◌+◌, ◌-◌, ◌<◌, ◌≤◌, ◌==◌, ◌++◌, ◌∷◌, List, map};
+ghost use Rattle.atomic_table.specs.Seated.{TableId};
+ghost use Rattle.shared_frames.specs.Fits.{IsSized};
+
+use crate::seat::SharedSeat;
+use crate::table::Words;
+use crate::{cut, retry, steps};
+use frame_store::{FrameAccess, FrameSupply, NoFrame, SharersFull};
+use std::marker::Model;
+use std::sync::Wait;
+use sv39_entry::FrameNo;
+
+/// A store that any thread may have. Its `reserve`, `claim` and `share` try again until an exchange succeeds. Contracts
+/// see it as the name of its table.
+#[derive(Drop)]
+pub struct SharedSupply<'a, R: Wait> {
+    rt: &'a R,
+    table: &'a Words,
+    frames: usize,
+}
+
+impl<'a, R: Wait> Model for SharedSupply<'a, R> {
+    ghost Value = { TableId };
+
+    ghost view = { λ a. a.table.now.table_id };
+
+    ghost invariant = { λ a. IsSized a.table.now.table_id.words a.table.now.key × (a.frames ≡ a.table.now.key) };
+}
+
+impl<'a, R: Wait> SharedSupply<'a, R> {
+    pub(crate) fn new(rt: &'a R, table: &'a Words, frames: usize) -> SharedSupply<'a, R>
+        requires sized { IsSized table.now.table_id.words table.now.key }
+        requires counted { frames ≡ table.now.key }
+        ensures { result ≡ table.now.table_id }
+    {
+        SharedSupply { rt, table, frames }
+    }
+}
+
+impl<'a, R: Wait> FrameAccess for SharedSupply<'a, R> {
+    type Seat = SharedSeat;
+
+    ghost use Rattle.shared_frames.specs.Fits.{AllFit, to_front, to_back};
+
+    ghost rule = { AllFit };
+
+    ghost alone = { ⊥ };
+
+    ghost free = { λ a. 0 };
+
+    ghost count = { λ a f. 0 };
+
+    ghost comes_front = { to_front };
+
+    ghost goes_back = { to_back };
+
+    fn load(&mut self, seat: &mut SharedSeat, frame: FrameNo, index: usize) -> u64 {
+        steps::load_word(self.table, seat, frame, index)
+    }
+
+    fn store(&mut self, seat: &mut SharedSeat, frame: FrameNo, index: usize, value: u64) {
+        steps::store_word(self.table, seat, frame, index, value);
+    }
+
+    fn look(&mut self, seat: &mut SharedSeat, frame: FrameNo) -> u32 {
+        steps::look(self.table, seat, frame) as u32
+    }
+
+    fn release(&mut self, seat: &mut SharedSeat, frame: FrameNo) {
+        steps::release(self.table, seat, frame);
+    }
+
+    fn give_back(&mut self, seat: &mut SharedSeat, n: usize) {
+        steps::give_back(self.table, seat, n as u64);
+    }
+
+    fn join(&mut self, seat: &mut SharedSeat, other: SharedSeat) {
+        cut::join(self.table, seat, other);
+    }
+}
+
+impl<'a, R: Wait> FrameSupply for SharedSupply<'a, R> {
+    fn reserve(&mut self, seat: &mut SharedSeat, n: usize) -> Result<(), NoFrame> {
+        retry::reserve(self.rt, self.table, seat, n as u64)
+    }
+
+    fn claim(&mut self, seat: &mut SharedSeat) -> FrameNo {
+        retry::claim(self.rt, self.table, self.frames, seat)
+    }
+
+    fn share(&mut self, seat: &mut SharedSeat, frame: FrameNo) -> Result<(), SharersFull> {
+        retry::share(self.rt, self.table, seat, frame)
+    }
+
+    fn split(&mut self, seat: &mut SharedSeat, frames: &[FrameNo]) -> SharedSeat {
+        cut::split(self.table, seat, frames)
+    }
+}
