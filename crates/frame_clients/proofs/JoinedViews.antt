@@ -4,7 +4,7 @@ use Rattle.std.specs.Prelude.{IsSome}
 use Rattle.std.proofs.lemmas.Bool.Decides.{eqb_tells}
 use Rattle.std.specs.FinMap as map
 use Rattle.frame_store.specs.View.{View, Hold, hold_of, IsHeld, known_word, added, either, joined}
-use Rattle.frame_store.proofs.Joins.{hold_of-joined, get-union}
+use Rattle.frame_store.specs.Joins.{hold_of-joined, get-union}
 
 added_first : (h k : Hold) → 0 < h.references → 0 < (added h k).references
 added_first h k some =

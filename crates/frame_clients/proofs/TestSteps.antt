@@ -1,12 +1,16 @@
--- The places of the first test, call by call.
+-- The steps of the tests, call by call.
 use Rattle.std.proofs.Common.{◌≡◌, ℕ, List, [], ◌∷◌, Option, None, Some, replicate, ap, sym, subst, ◌∙◌}
-use Rattle.std.specs.Prelude.{slice_get, slice_set, IsSome}
+use Rattle.std.specs.Prelude.{slice_get, slice_index, slice_set, IsSome}
+use Rattle.std.proofs.lemmas.Option.{get_or_from_slice_get}
 use Rattle.frame_store.specs.View.{View, IsHeld, joined, known_word, opening_view}
+use Rattle.frame_store.specs.Laws.{Fits, Keeps}
+use Rattle.frame_store.specs.Seats.{ComesFront, GoesBack}
 use Rattle.frame_clients.specs.Filled.{filled, filled_holds, known_word-filled}
 use Rattle.frame_clients.specs.Opened.{opener, opened}
 use Rattle.frame_clients.specs.Places.{view_at}
 use Rattle.frame_clients.proofs.JoinedViews.{joined_second, joined_knows}
 
+-- the places of the first test
 module _ (made two full : List (Option View)) (f : ℕ) (words : List ℕ)
     (making : made ≡ Some opening_view ∷ replicate 2 None)
     (opening : two ≡ slice_set (slice_set made 0 (Some (opener (view_at made 0)))) 2 (Some (opened (view_at made 0))))
@@ -40,3 +44,16 @@ module _ (made two full : List (Option View)) (f : ℕ) (words : List ℕ)
 
     pub known_on : (i : ℕ) → IsSome (slice_get words i) → IsSome (known_word (view_at last 0) f i)
     known_on i some = subst (λ v. IsSome (known_word v f i)) (sym taken_in) (joined_knows _ _ f i held_there (subst IsSome (sym (known_there i)) some))
+
+-- the word that is known in a frame just filled
+pub known_by_filling : (words : List ℕ) (i f x : ℕ) (v w : View) → w ≡ filled f words v → known_word w f i ≡ Some x → x ≡ slice_index words i
+known_by_filling words i f x v w is known = sym (get_or_from_slice_get words i x 0 (sym (ap (λ u. known_word u f i) is ∙ known_word-filled f words v i) ∙ known))
+
+-- a seat opens a second one, which steps beside it
+module _ {Store Seat : Type 0} (rule : Store → List Seat → Type 0) {s t : Store} {a b new : Seat} (front : ComesFront (rule t))
+    (opening : (others : List Seat) → rule s (a ∷ others) → rule t (b ∷ new ∷ others)) where
+  pub second_fits : Fits rule s a → Fits rule t new
+  second_fits fits = (b ∷ fits.0, front (b ∷ []) new fits.0 (opening fits.0 fits.1))
+
+  pub second_steps : {u : Store} {later : Seat} → GoesBack (rule u) → Keeps rule t new u later → (others : List Seat) → rule s (a ∷ others) → rule u (b ∷ later ∷ others)
+  second_steps {later} back stepping others r = back (b ∷ []) later others (stepping (b ∷ others) (front (b ∷ []) new others (opening others r)))

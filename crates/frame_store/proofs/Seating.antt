@@ -6,7 +6,7 @@ use Rattle.std.specs.FinMap as map
 use Rattle.frame_store.specs.View.{View, Hold, hold_of, with_hold, without_hold, not_held, references, IsHeld, empty_view, added, either, joined, moved_from, moved_to, split_off, CanSplit}
 use Rattle.frame_store.specs.Plain.{total_references, FrameAgrees, PlainRule}
 use Rattle.frame_store.specs.Holds.{hold_of-without_hold_same, hold_of-without_hold_other, hold_of-empty}
-use Rattle.frame_store.proofs.Joins.{get-union, hold_of-joined}
+use Rattle.frame_store.specs.Joins.{get-union, hold_of-joined}
 use Rattle.frame_store.proofs.PlainSteps.{Changes, not_held_agrees, changed, own, same_outside}
 
 module _ (words counts : List ℕ) (free : ℕ) where

@@ -1,18 +1,16 @@
 -- A step that changes what one seat has of one frame keeps the rule.
-use Rattle.std.proofs.Common.{◌≡◌, ◌≢◌, ◌⊎◌, inl, inr, ⊎_elim, ℕ, zero, suc, ◌+◌, ◌*◌, ◌<◌, ◌≤◌, List, [], ◌∷◌, ◌++◌, length, slice_index, get_or, set, refl, sym, ap, ◌∙◌, subst, arith, get_or-set_same, get_or-set_other, length-set, Some}
-use Rattle.std.specs.Prelude.{slice_set, IsTrue}
+use Rattle.std.proofs.Common.{◌≡◌, ◌≢◌, inl, inr, ⊎_elim, ℕ, ◌+◌, ◌<◌, ◌≤◌, List, length, slice_index, set, refl, sym, ap, ◌∙◌, subst, arith}
 use Rattle.std.proofs.lemmas.Bool.Decides.{eqb_tells}
-use Rattle.std.proofs.lemmas.List.{set-get_or}
 use Rattle.std.specs.FinMap as map
 use Rattle.std.specs.Ordering.{nat_cmp}
 use mathlib.Core.Option.{some}
 use lib.ListN.{get_elem?}
 use Rattle.atomic_table.proofs.Lists.{at_set}
 use Rattle.frame_store.specs.Laws.{IsAnchored}
-use Rattle.frame_store.specs.View.{View, Hold, hold_of, not_held, references, IsHeld}
+use Rattle.frame_store.specs.View.{View, Hold, hold_of, not_held, references}
 use Rattle.frame_store.specs.Holds.{hold_of-frames}
-use Rattle.shared_frames.specs.Rule.{count_at, memory_at, total, all_references, all_credits, zero_counts, FrameAgrees, ViewAgrees, IsKept}
-use Rattle.shared_frames.proofs.Sums.{total-set, total-one, total-two}
+use Rattle.shared_frames.specs.Rule.{count_at, memory_at, all_references, zero_counts, FrameAgrees, ViewAgrees, IsKept}
+use Rattle.shared_frames.proofs.Sums.{total-set, total-two}
 use Rattle.shared_frames.proofs.Zeros.{zero_counts-same}
 
 -- a fact of each view, after a change of one

@@ -1,5 +1,5 @@
 -- The table at its start, and at its end.
-use Rattle.std.proofs.Common.{◌≡◌, ◌≢◌, inl, inr, ℕ, zero, suc, ◌+◌, ◌-◌, ◌*◌, ◌<◌, ◌≤◌, ◌==◌, List, [], ◌∷◌, length, get_or, slice_index, set, replicate, refl, sym, ap, ◌∙◌, subst, arith, get_or-set_same, get_or-set_other, length-set, Some, lit<}
+use Rattle.std.proofs.Common.{◌≡◌, ◌≢◌, inl, inr, ℕ, zero, suc, ◌+◌, ◌-◌, ◌*◌, ◌<◌, ◌≤◌, List, [], ◌∷◌, length, get_or, set, replicate, refl, sym, ap, ◌∙◌, subst, arith, get_or-set_same, get_or-set_other, length-set, lit<}
 use Rattle.std.proofs.lemmas.Bool.Decides.{eqb_tells}
 use Rattle.std.proofs.lemmas.List.{get_or-replicate}
 use Rattle.std.specs.FinMap as map
@@ -9,11 +9,11 @@ use lib.ListN.{get_elem?, length-replicate}
 use Rattle.atomic_table.specs.Table.{Final, Seen}
 use Rattle.frame_store.specs.View.{View, Hold, hold_of, not_held, sole_hold, references, IsHeld, empty_view, opening_view}
 use Rattle.frame_store.specs.Holds.{hold_of-with_hold_same, hold_of-with_hold_other, hold_of-empty}
-use Rattle.shared_frames.specs.Rule.{count_at, memory_at, all_references, one_at_zero, zero_counts, FrameAgrees, ViewAgrees, IsKept, Kept}
-use Rattle.shared_frames.specs.Totals.{first_words, held_frames}
+use Rattle.shared_frames.specs.Rule.{count_at, all_references, one_at_zero, zero_counts, FrameAgrees, ViewAgrees, IsKept, Kept}
+use Rattle.shared_frames.specs.Totals.{AreTotals, first_words, held_frames}
 use Rattle.shared_frames.specs.Fits.{FrameFits, IsWithin}
 use Rattle.shared_frames.proofs.Sums.{total-two, total-lone}
-use Rattle.shared_frames.proofs.Zeros.{one_at_zero-le, one_at_zero-zero, one_at_zero-more}
+use Rattle.shared_frames.proofs.Zeros.{one_at_zero-le}
 use Rattle.shared_frames.proofs.Changes.{not_held_agrees}
 use Rattle.shared_frames.proofs.Within.{not_held_fits}
 
@@ -126,6 +126,18 @@ module _ (n : ℕ) (words : List ℕ) (views : List View) (k : IsKept n words vi
 pub final : (n : ℕ) (ws : List ℕ) (xs : List (Unit {0})) (id : ℕ) (v : View) → Final (Seen (Kept n) id v) ws xs → get_or ws 1 0 ≡ references v 0 → zero_counts ws n + held_frames n v ≡ n
 final n ws xs id v last own = let s = last.0 in let h = last.1 in let is = last.2 in
     subst (λ (w : List ℕ). zero_counts w n + held_frames n v ≡ n) is (ends n s.words s.views h.0 id v h.1 (ap (λ (w : List ℕ). get_or w 1 0) is ∙ own) n (omega arith))
+
+-- what is read of the last words are the totals, where the closing seat has the view v
+pub totals : (n : ℕ) (ws : List ℕ) (xs : List (Unit {0})) (id : ℕ) (v : View) (free trampoline : ℕ)
+    → Final (Seen (Kept n) id v) ws xs → free ≡ zero_counts ws n → get_or ws 1 0 ≡ trampoline → AreTotals n v free trampoline
+totals n ws xs id v free trampoline last counted read = let s = last.0 in let h = last.1 in let is = last.2 in record {
+  words = s.words;
+  views = s.views;
+  kept = h.0;
+  seated = (id, h.1);
+  unheld = counted ∙ sym (ap (λ (w : List ℕ). zero_counts w n) is);
+  base = sym read ∙ sym (ap (λ (w : List ℕ). get_or w 1 0) is);
+}
 
 pub at_get : (l : List ℕ) (i a : ℕ) → get_elem? l i ≡ some a → get_or l i 0 ≡ a
 at_get [] i a e = absurd (some-ne-none a (sym e))

@@ -1,8 +1,7 @@
 -- Each step keeps the rule.
-use Rattle.std.proofs.Common.{◌≡◌, ◌≢◌, ◌⊎◌, inl, inr, ⊎_elim, ℕ, zero, suc, ◌+◌, ◌-◌, ◌*◌, ◌%◌, ◌^◌, ◌<◌, ◌≤◌, ◌==◌, Bool, true, false, cond, List, [], ◌∷◌, ◌++◌, length, slice_index, get_or, set, refl, sym, ap, ◌∙◌, subst, arith, get_or-set_same, get_or-set_other, length-set, Some, lit<}
+use Rattle.std.proofs.Common.{◌≡◌, ◌≢◌, ◌⊎◌, inl, inr, ⊎_elim, ℕ, ◌+◌, ◌-◌, ◌%◌, ◌^◌, ◌<◌, ◌≤◌, ◌==◌, Bool, true, false, cond, List, [], ◌∷◌, ◌++◌, length, slice_index, get_or, set, refl, sym, ap, ◌∙◌, subst, arith, get_or-set_same, get_or-set_other, length-set, Some, lit<}
 use Rattle.std.specs.Prelude.{IsTrue}
 use Rattle.std.proofs.lemmas.Bool.Decides.{eqb_tells}
-use Rattle.std.proofs.lemmas.Bool.{ne_eqb, eq-eqb}
 use Rattle.std.proofs.lemmas.List.{set-get_or}
 use Rattle.std.specs.FinMap as map
 use Rattle.std.specs.Ordering.{nat_cmp}
@@ -10,16 +9,16 @@ use Rattle.std.specs.Cmp.{nat_cmp_total, unsigned_tied}
 use mathlib.Core.Option.{some, none}
 use lib.ListN.{get_elem?}
 use prog.Atomic.{either}
-use Rattle.atomic_table.specs.Table.{State, Me, step, keeps, stepped, Allows}
+use Rattle.atomic_table.specs.Table.{State, Me, step, keeps, Allows}
 use Rattle.atomic_table.proofs.Lists.{set_again}
 use Rattle.frame_store.specs.Laws.{IsAnchored}
-use Rattle.frame_store.specs.View.{View, Hold, hold_of, with_hold, without_hold, not_held, sole_hold, references, known_word, IsHeld, IsSole, with_word, with_credits, without_credits, saw_none, claimed, shared, looked, read_full, released}
+use Rattle.frame_store.specs.View.{View, Hold, hold_of, with_hold, without_hold, not_held, sole_hold, references, IsHeld, IsSole, with_word, with_credits, without_credits, saw_none, claimed, shared, looked, read_full, released}
 use Rattle.frame_store.specs.Holds.{hold_of-with_hold_same, hold_of-with_hold_other, hold_of-without_hold_same, hold_of-without_hold_other, hold_of-frames}
-use Rattle.shared_frames.specs.Rule.{count_at, memory_at, all_references, all_credits, one_at_zero, zero_counts, FrameAgrees, ViewAgrees, IsKept, Kept}
+use Rattle.shared_frames.specs.Rule.{count_at, memory_at, one_at_zero, FrameAgrees, IsKept, Kept}
 use Rattle.shared_frames.specs.Telling.{saw_free, let_go, unshared, Sees, GivesBack, Looks, Releases, Loads, Stores, Reserves, Claims, Shares}
 use Rattle.shared_frames.proofs.Sums.{total-one}
 use Rattle.shared_frames.proofs.Zeros.{one_at_zero-zero, one_at_zero-more, zero_counts-le, zero_counts-same, zero_counts-set}
-use Rattle.shared_frames.proofs.Changes.{Outside, FreeAlone, kept_step, kept_free, not_held_agrees, bare_agrees}
+use Rattle.shared_frames.proofs.Changes.{kept_step, kept_free, not_held_agrees, bare_agrees}
 
 abbrev M : Type 0
 M = Me (Unit {0}) View

@@ -1,16 +1,16 @@
 -- A view that is cut in two, and two views that become one, keep the rule.
-use Rattle.std.proofs.Common.{◌≡◌, ◌≢◌, ◌⊎◌, inl, inr, ⊎_elim, ℕ, zero, suc, ◌+◌, ◌-◌, ◌*◌, ◌<◌, ◌≤◌, ◌==◌, Bool, true, false, cond, List, [], ◌∷◌, ◌++◌, length, slice_index, set, refl, sym, ap, ◌∙◌, subst, arith, Option, Some, None}
+use Rattle.std.proofs.Common.{◌≡◌, ◌≢◌, ◌⊎◌, inl, inr, ⊎_elim, ℕ, zero, suc, ◌+◌, ◌-◌, ◌<◌, ◌≤◌, ◌==◌, Bool, true, false, cond, List, [], ◌∷◌, ◌++◌, slice_index, set, refl, sym, ap, ◌∙◌, subst, arith, Option, Some, None}
 use Rattle.std.specs.Prelude.{IsTrue, ◌||◌}
 use Rattle.std.proofs.lemmas.Bool.Decides.{eqb_tells}
 use Rattle.std.specs.FinMap as map
 use mathlib.Core.Option.{some}
 use lib.ListN.{get_elem?}
-use Rattle.atomic_table.specs.Table.{State, Splits, Joins}
+use Rattle.atomic_table.specs.Table.{Splits, Joins}
 use Rattle.atomic_table.proofs.Lists.{at_snoc, set_else}
 use Rattle.frame_store.specs.Laws.{IsAnchored}
 use Rattle.frame_store.specs.View.{View, Hold, hold_of, with_hold, without_hold, not_held, references, IsHeld, empty_view, added, either, joined, moved_from, moved_to, split_off, CanSplit}
 use Rattle.frame_store.specs.Holds.{hold_of-with_hold_same, hold_of-with_hold_other, hold_of-without_hold_same, hold_of-without_hold_other, hold_of-empty}
-use Rattle.frame_store.proofs.Joins.{get-union, hold_of-joined}
+use Rattle.frame_store.specs.Joins.{get-union, hold_of-joined}
 use Rattle.shared_frames.specs.Fits.{FrameFits, IsWithin}
 use Rattle.shared_frames.specs.Rule.{memory_at, all_references, FrameAgrees, ViewAgrees, IsKept, Kept}
 use Rattle.shared_frames.proofs.Sums.{total-set, total-snoc, total-one, total-two}

@@ -1,11 +1,11 @@
 -- What the seats of the tests hold, step by step.
-use Rattle.std.proofs.Common.{◌≡◌, ◌≢◌, inl, inr, ℕ, suc, ◌+◌, ◌-◌, ◌<◌, ◌==◌, true, false, cond, refl, ap, sym, ◌∙◌, subst, Result, Ok, Err, IfOk, IfErr, [], ◌∷◌, arith, lit<}
+use Rattle.std.proofs.Common.{◌≡◌, ◌≢◌, inl, inr, ℕ, ◌+◌, ◌-◌, ◌<◌, refl, ap, sym, ◌∙◌, subst, Result, Ok, Err, IfOk, IfErr, [], ◌∷◌, arith, lit<}
 use Rattle.std.proofs.lemmas.Bool.Decides.{eqb_tells}
 use Rattle.frame_store.specs.Laws.{IsAnchored, IsDry}
 use Rattle.frame_store.specs.View.{View, Hold, hold_of, references, IsHeld, IsSole, sole_hold, empty_view, with_credits, without_credits, with_word, claimed, shared, looked, read_full, released, split_off}
 use Rattle.frame_store.specs.Holds.{hold_of-frames, hold_of-empty}
 use Rattle.shared_frames.proofs.Moves.{Puts, puts, left_of, left-references, released-puts}
-use Rattle.shared_frames.proofs.Parts.{stays, goes, moved_from-puts, moved_to-puts}
+use Rattle.shared_frames.proofs.Parts.{stays, moved_from-puts, moved_to-puts}
 
 here : (f : ℕ) (h : Hold) (v w : View) → Puts f h v w → references w f ≡ h.references
 here f h v w p = ap (λ (z : Hold). z.references) p.here

@@ -1,5 +1,5 @@
 -- Which seats a table has.
-use Rattle.std.proofs.Common.{refl, sym, subst, ◌∙◌, arith, rules}
+use Rattle.std.proofs.Common.{refl, sym, subst, ◌∙◌, arith}
 use Rattle.std.specs.Prelude.{◌≡◌, ℕ, ◌+◌, ◌*◌, ◌<◌, ◌≤◌, List, [], ◌∷◌, ◌++◌, IsTrue}
 use Rattle.atomic_table.specs.Seated.{TableId}
 use Rattle.frame_store.specs.View.{View, Hold, hold_of, empty_view}
@@ -15,6 +15,7 @@ IsSized words n = (words ≡ 513 * n + 1) × (n ≤ 256) × (1 ≤ n)
 abbrev pub FrameFits : ℕ → ℕ → Hold → Type 0
 FrameFits words f h = (0 < h.references → 513 * f + 513 < words) × (IsTrue h.sole → 0 < h.references)
 
+-- what the rule says too, but of a seat alone: so a call knows its frames' words to be there before it makes its step
 abbrev pub IsWithin : ℕ → View → Type 0
 IsWithin words v = (f : ℕ) → FrameFits words f (hold_of v f)
 

@@ -6,7 +6,7 @@ ghost use Rattle.frame_store.specs.View.{opening_view, references};
 ghost use Rattle.shared_frames.specs.Fits.{FitsIn, IsSized, view_of};
 ghost use Rattle.shared_frames.specs.Pool.{Pool};
 ghost use Rattle.shared_frames.specs.Rule.{zero_counts};
-ghost use Rattle.shared_frames.specs.Totals.{first_words, held_frames};
+ghost use Rattle.shared_frames.specs.Totals.{AreTotals, first_words, held_frames};
 
 use crate::access::SharedAccess;
 use crate::seat::{Knowledge, SharedSeat};
@@ -41,7 +41,7 @@ pub struct Totals {
 }
 
 impl SharedFrames {
-    /// So many frames, all of whose words are 0, and a seat that is the sole holder of frame 0. All else is free.
+    /// So many frames, and a seat that is the sole holder of frame 0. All else is free.
     pub fn new(alloc: Global, frames: usize) -> Result<(SharedFrames, SharedSeat), AllocError>
         requires some { 1 ≤ frames }
         requires few { frames ≤ 256 }
@@ -71,6 +71,7 @@ impl SharedFrames {
     /// The totals of the counts. Where all references of frame 0 are the seat's own, no frame is held but by this seat.
     pub fn close(self, seat: SharedSeat) -> Totals
         requires { FitsIn self.table seat }
+        ensures totals { AreTotals self.frames (view_of seat) result.free result.trampoline }
         ensures all { result.free + result.held ≡ self.frames }
         ensures alone { result.trampoline ≡ references (view_of seat) 0 → result.held ≡ held_frames self.frames (view_of seat) }
     {

@@ -2,7 +2,8 @@
 //!
 //! The table has the free word, and of each frame its count and its 512 words. Each step is one exchange of one word.
 //! Between any two steps the rule of `specs/Rule.antt` holds of the words and of what all seats know, and a step changes
-//! what its own seat knows and no other.
+//! what its own seat knows and no other; `join` alone takes in another seat, and ends it. The rule is that of the table,
+//! so clauses of single calls say only that a seat is at this table (`specs/Fits.antt`).
 #![tactic(auto)]
 
 mod access;

@@ -102,7 +102,8 @@ pub fn drop_reference(table: &Words, seat: &mut SharedSeat, frame: FrameNo) -> u
     table.fetch_sub::<Release>(&mut seat.seat, FRAME_WORDS * frame.0 as usize + 1, 1)
 }
 
-/// Lets a reference go, and gives the frame back where it was the last one.
+/// Lets a reference go, and gives the frame back where it was the last one: two steps, between which the frame is not free,
+/// since the seat has a credit for it.
 pub fn release(table: &Words, seat: &mut SharedSeat, frame: FrameNo)
     requires sized { IsSized table.now.table_id.words table.now.key }
     requires fits { FitsIn table.now.table_id seat.old }

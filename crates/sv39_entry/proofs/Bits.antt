@@ -1,17 +1,8 @@
--- A flag by `&` and by digits.
-use Rattle.std.proofs.Common.{◌≡◌, ℕ, ◌/◌, ◌%◌, ◌^◌, inl, inr, sym, ◌∙◌, arith}
-use Rattle.std.proofs.lemmas.Bool.{cases_eq, eq-eqb, ne_eqb}
-use Rattle.std.proofs.lemmas.Nat.{pow_pos}
-use Rattle.std.proofs.lemmas.Nat.Bits.{and_pow}
+-- The flags of an entry, by digits.
+use Rattle.std.proofs.Common.{◌≡◌, ℕ}
 use Rattle.sv39_entry.specs.Address.{has}
+use Rattle.sv39_entry.specs.Flags.{has_flag_is}
 use Rattle.sv39_entry.specs.Word.{has_flag}
-
--- `n & (1 << k) == 1 << k` is bit k
-pub has_flag_is : (n k : ℕ) → has_flag n (2 ^ k) ≡ has n k
-has_flag_is n k = rw and_pow (elim (cases_eq (n / 2 ^ k % 2) 1) [
-  | inl e ↦ eq-eqb _ _ (rw e (omega arith)) ∙ sym (eq-eqb _ 1 e)
-  | inr ne ↦ let zero : n / 2 ^ k % 2 ≡ 0 = omega arith in ne_eqb _ _ (λ h. let none = rw zero at h in omega (arith, none, pow_pos k)) ∙ sym (ne_eqb _ 1 ne)
-])
 
 pub flag0 : (n : ℕ) → has_flag n 1 ≡ has n 0
 flag0 n = has_flag_is n 0

@@ -1,5 +1,6 @@
 pub mod Address
 pub mod Causes
+pub mod Flags
 pub mod Frame
 pub mod Rights
 pub mod RuleText

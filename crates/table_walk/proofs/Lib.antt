@@ -1,2 +1,13 @@
+pub mod Blank
+pub mod Children
+pub mod Counted
+pub mod Grown
+pub mod Images
+pub mod Keys
+pub mod LeafChanges
+pub mod Next
+pub mod Nodes
 pub mod Outcomes
+pub mod Tested
+pub mod Walks
 pub mod Ways

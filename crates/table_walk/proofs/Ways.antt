@@ -1,12 +1,12 @@
 -- A walk ends once, so what it finds for a page is one thing.
-use Rattle.std.proofs.Common.{◌≡◌, ℕ, zero, suc, ◌-◌, ◌*◌, ◌%◌, ◌^◌, ◌<◌, refl, ap, sym, ◌∙◌, inl, inr, arith, Option, Some, None}
-use Rattle.std.proofs.lemmas.Bool.{cases_eq, cases_order}
+use Rattle.std.proofs.Common.{◌≡◌, ◌↔◌, ◌||◌, IsTrue, Bool, true, false, ℕ, zero, suc, ◌-◌, ◌*◌, ◌%◌, ◌^◌, ◌<◌, refl, ap, sym, ◌∙◌, inl, inr, arith, Option, Some, None}
+use Rattle.std.proofs.lemmas.Bool.{cases_Bool, cases_eq, cases_order, false≢true}
 use Rattle.std.proofs.lemmas.Option.{same_Some}
-use Rattle.sv39_entry.specs.Address.{vpn}
+use Rattle.sv39_entry.specs.Address.{has, vpn}
 use Rattle.sv39_entry.specs.Word.{kind_of, ppn}
 use Rattle.sv39_entry.specs.declared.entry.Kind.TheVariants.{Invalid, Leaf, Pointer}
 use Rattle.table_walk.specs.Memory.{Memory}
-use Rattle.table_walk.specs.Walk.{top_level, IsAt, LeavesMemory, Maps, Reads}
+use Rattle.table_walk.specs.Walk.{top_level, IsAt, IsGlobal, LeavesMemory, Maps, Reads}
 
 -- a walk goes no further than this word
 EndsWalk : Option ℕ → Type 0
@@ -15,6 +15,18 @@ EndsWalk word = (pointer : ℕ) → word ≡ Some pointer → kind_of pointer �
 -- nothing is found for a page, and no word on the way lies outside the memory
 abbrev pub HasNoLeaf : Memory → ℕ → ℕ → Type 0
 HasNoLeaf m root page = ((leaf level : ℕ) → Maps m root page leaf level → ⊥) × (LeavesMemory m root page → ⊥)
+
+-- one of the first so many words on the way has G
+abbrev pub HasMark : Memory → ℕ → ℕ → ℕ → Type 0
+HasMark m root page n = (k table word : ℕ) × (k < n) × IsAt m root page k table × (m table (vpn page (top_level - k)) ≡ Some word) × (has word 5 ≡ true)
+
+or_left : (a b : Bool) → IsTrue a → IsTrue (a || b)
+or_left true b set = refl
+or_left false b set = absurd (false≢true set)
+
+or_right : (a b : Bool) → IsTrue b → IsTrue (a || b)
+or_right true b set = refl
+or_right false b set = set
 
 module _ (m : Memory) (root page : ℕ) where
   -- so many pointers lead to one table
@@ -106,4 +118,29 @@ module _ (m : Memory) (root page : ℕ) where
   too_far table way = (
     (λ leaf level maps. no_further (suc top_level) table level (Some leaf) way maps.reads (leaf_ends leaf maps.kind) (omega arith)),
     (λ out. no_further (suc top_level) table out.0 None way out.1 outside_ends (omega arith)),
+  )
+
+  -- the next word on the way, and the mark of all so far
+  pub marked_on : (level word : ℕ) (b : Bool) (table : ℕ) → IsAt m root page (top_level - level) table → Reads m root page level (Some word)
+      → (IsTrue b ↔ HasMark m root page (top_level - level)) → (IsTrue (b || has word 5) ↔ HasMark m root page (suc (top_level - level)))
+  marked_on level word b table way reads marked =
+      let low = reads.low in
+      let back : top_level - (top_level - level) ≡ level = omega arith in (
+        (λ set. elim (cases_Bool b) [
+          | inl had ↦ let h = marked.0 had in (h.0, h.1, h.2, omega (arith, h.3), h.4, h.5, h.6)
+          | inr new ↦ (top_level - level, reads.table, word, omega arith, reads.way, rw back reads.read, rw new at set)
+        ]),
+        (λ h. elim (cases_eq h.0 (top_level - level)) [
+          | inl same ↦
+              let tables = same_table (top_level - level) h.1 reads.table (rw same at h.4) reads.way in
+              let words : h.2 ≡ word = same_Some _ _ (sym (rw (same, back, tables) at h.5) ∙ reads.read) in
+              or_right b (has word 5) (rw words at h.6)
+          | inr ne ↦ or_left b (has word 5) (marked.1 (h.0, h.1, h.2, omega (arith, ne, h.3), h.4, h.5, h.6))
+        ]),
+      )
+
+  pub by_marks : (level : ℕ) {B : Type 0} → (B ↔ HasMark m root page (suc (top_level - level))) → (B ↔ IsGlobal m root page level)
+  by_marks level marked = (
+    (λ set. let h = marked.0 set in (h.0, h.1, h.2, omega (arith, h.3), h.4, h.5, h.6)),
+    (λ h. marked.1 (h.0, h.1, h.2, omega (arith, h.3), h.4, h.5, h.6)),
   )

@@ -1,6 +1,6 @@
 -- The walk of Sv39 (the standard, 4.3.2), as a relation over a whole memory.
-use Rattle.std.specs.Prelude.{◌≡◌, ◌⊎◌, ℕ, zero, suc, ◌-◌, ◌≤◌, ◌*◌, ◌/◌, ◌%◌, ◌^◌, true, false, Option, None, Some}
-use Rattle.sv39_entry.specs.Address.{is_canonical, page_of, vpn}
+use Rattle.std.specs.Prelude.{◌≡◌, ◌⊎◌, ◌↔◌, IsTrue, ℕ, zero, suc, ◌-◌, ◌≤◌, ◌*◌, ◌/◌, ◌%◌, ◌^◌, true, false, Option, None, Some}
+use Rattle.sv39_entry.specs.Address.{has, is_canonical, page_of, vpn}
 use Rattle.sv39_entry.specs.Causes.{access_fault_cause, page_fault_cause}
 use Rattle.sv39_entry.specs.Word.{kind_of, permits, ppn}
 use Rattle.sv39_entry.specs.declared.access.Access.{Access}
@@ -34,6 +34,11 @@ pub record Maps (m : Memory) (root page leaf level : ℕ) : Type 0 where
   pub kind : kind_of leaf ≡ Leaf
   pub aligned : ppn leaf % 2 ^ (9 * level) ≡ 0
 
+-- the leaf of a page at a level is global: it has G, or a pointer on the way to it has (the standard, 4.3.1)
+abbrev pub IsGlobal : Memory → ℕ → ℕ → ℕ → Type 0
+IsGlobal m root page level =
+    (k table word : ℕ) × (k ≤ top_level - level) × IsAt m root page k table × (m table (vpn page (top_level - k)) ≡ Some word) × (has word 5 ≡ true)
+
 -- a word on the way lies outside the memory
 abbrev pub LeavesMemory : Memory → ℕ → ℕ → Type 0
 LeavesMemory m root page = (level : ℕ) × Reads m root page level None
@@ -46,9 +51,13 @@ CanWalk readable m root page = (k table : ℕ) → k ≤ top_level → IsAt m ro
 abbrev pub CanReach : (ℕ → Type 0) → Memory → ℕ → ℕ → Type 0
 CanReach readable m root address = (leaf level : ℕ) → Maps m root (page_of address) leaf level → readable (physical_address leaf level address / 4096)
 
+-- the walk of an address comes to this leaf at a level
+abbrev pub FindsLeaf : Memory → ℕ → ℕ → ℕ → ℕ → Type 0
+FindsLeaf m root address leaf level = (is_canonical address ≡ true) × Maps m root (page_of address) leaf level
+
 -- what a walk finds for an address, whatever the rights
 abbrev pub Finds : Memory → ℕ → ℕ → Found → Type 0
-Finds m root address (found.Leaf leaf level) = (is_canonical address ≡ true) × Maps m root (page_of address) leaf level
+Finds m root address (found.Leaf leaf level global) = FindsLeaf m root address leaf level × (IsTrue global ↔ IsGlobal m root (page_of address) level)
 Finds m root address found.Outside = (is_canonical address ≡ true) × LeavesMemory m root (page_of address)
 Finds m root address found.NoLeaf =
     (is_canonical address ≡ false) ⊎ (((leaf level : ℕ) → Maps m root (page_of address) leaf level → ⊥) × (LeavesMemory m root (page_of address) → ⊥))
@@ -56,9 +65,9 @@ Finds m root address found.NoLeaf =
 -- what an access is translated to. Rights are judged before the byte that they lead to is looked for
 abbrev pub Translates : Memory → ℕ → ℕ → Access → Mode → Walk → Type 0
 Translates m root address access mode (walk.Leaf leaf level physical) =
-    Finds m root address (found.Leaf leaf level) × (permits mode access leaf ≡ true) × (physical ≡ physical_address leaf level address) × (has_byte m physical ≡ true)
+    FindsLeaf m root address leaf level × (permits mode access leaf ≡ true) × (physical ≡ physical_address leaf level address) × (has_byte m physical ≡ true)
 Translates m root address access mode (walk.PageFault cause) =
-    (cause ≡ page_fault_cause access) × (Finds m root address found.NoLeaf ⊎ ((leaf level : ℕ) × Finds m root address (found.Leaf leaf level) × (permits mode access leaf ≡ false)))
+    (cause ≡ page_fault_cause access) × (Finds m root address found.NoLeaf ⊎ ((leaf level : ℕ) × FindsLeaf m root address leaf level × (permits mode access leaf ≡ false)))
 Translates m root address access mode (walk.AccessFault cause) =
     (cause ≡ access_fault_cause access)
-    × (Finds m root address found.Outside ⊎ ((leaf level : ℕ) × Finds m root address (found.Leaf leaf level) × (permits mode access leaf ≡ true) × (has_byte m (physical_address leaf level address) ≡ false)))
+    × (Finds m root address found.Outside ⊎ ((leaf level : ℕ) × FindsLeaf m root address leaf level × (permits mode access leaf ≡ true) × (has_byte m (physical_address leaf level address) ≡ false)))

@@ -19,7 +19,7 @@ pub(crate) fn is_aligned(leaf: Entry, level: u32) -> bool
 
 /// Where an address is, by the leaf that maps it (the standard, 4.3.2, step 8).
 #[tactic(auto, using(std::proofs::lemmas::Nat::one_shl))]
-pub(crate) fn physical_address(leaf: Entry, level: u32, va: Va) -> u64
+pub fn physical_address(leaf: Entry, level: u32, va: Va) -> u64
     requires { level ≤ top_level }
     ensures { result ≡ memory.physical_address leaf level va.0 }
 {

@@ -1,19 +1,31 @@
 //! Three-level page tables: the walk of Sv39 (the standard, 4.3.2), and changes of tables.
 #![tactic(auto)]
 
+mod change;
+mod counting;
 mod find;
+mod growth;
+mod held;
 mod laws;
 mod leaf;
+mod leaves;
 mod plain;
+mod tables;
 #[cfg(test)]
 mod tests;
 mod translation;
 mod walk;
 mod words;
 
+pub use change::{map, protect, unmap};
+pub use counting::missing_is_growth;
 pub use find::lookup;
-pub use laws::{one_found, one_outcome};
+pub use held::HeldWords;
+pub use laws::{one_found, one_outcome, walks_of_tables};
+pub use leaf::physical_address;
+pub use leaves::next_leaf;
 pub use plain::PlainWords;
-pub use translation::translate;
+pub use tables::missing_tables;
+pub use translation::{has_byte, translate};
 pub use walk::{Found, Walk};
 pub use words::Words;

@@ -30,6 +30,7 @@ impl<'a> PlainWords<'a> {
 }
 
 impl Words for PlainWords<'_> {
+    ghost use Rattle.std.proofs.Common.{refl, ap, ◌∙◌};
     ghost use Rattle.std.specs.Prelude.{⊤};
     ghost use Rattle.table_walk.specs.Memory.{plain_memory};
 
@@ -37,8 +38,25 @@ impl Words for PlainWords<'_> {
 
     ghost readable = { λ words ppn. ⊤ };
 
+    ghost stays = { λ a b. b ≡ a };
+
+    ghost stays_itself = { λ a. refl };
+
+    ghost stays_on = { λ a b c p q. q ∙ p };
+
+    ghost same_memory = { λ a b p. ap plain_memory p };
+
+    ghost same_readable = { λ a b ppn p r. r };
+
     fn word(&mut self, ppn: u64, index: usize) -> Option<u64> {
         let frame = FrameNo::from_ppn(ppn)?;
-        self.words.get(usize::from(frame.0) * 512 + index).copied()
+        self.words.get(frame.0 as usize * 512 + index).copied()
+    }
+
+    fn has_word(&self, ppn: u64, index: usize) -> bool {
+        match FrameNo::from_ppn(ppn) {
+            Some(frame) => frame.0 as usize * 512 + index < self.words.len(),
+            None => false,
+        }
     }
 }

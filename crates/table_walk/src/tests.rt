@@ -1,11 +1,20 @@
-// Vectors from outside: walks over a memory of 1,024 frames with two tables.
+// Vectors from outside: walks over a memory of 1,024 frames with two tables, and changes of tables that a seat holds.
 
-ghost use Rattle.std.specs.Prelude.{◌≤◌, ◌<◌};
+ghost use Rattle.std.specs.Prelude.{◌≡◌, ◌+◌, ◌≤◌, ◌<◌, [], ◌∷◌, ℕ, IfOk};
+ghost use Rattle.frame_store.specs.Laws.{Fits, Keeps};
+ghost use Rattle.frame_store.specs.Plain.{BankRule};
+ghost use Rattle.frame_store.specs.View.{hold_of, IsHeld};
+ghost use Rattle.table_walk.specs.Image.{HasTables, Image};
 
-use crate::{Found, PlainWords, Walk, lookup, translate};
+use crate::growth::clear;
+use crate::{
+    Found, HeldWords, PlainWords, Walk, lookup, map, missing_tables, next_leaf, protect, translate,
+    unmap, walks_of_tables,
+};
+use frame_store::{FrameAccess, FrameSeat, FrameSupply, PlainFrames, PlainSeat};
 use std::alloc::{AllocError, Global};
 use std::test::Fail;
-use sv39_entry::{Access, FrameNo, Mode, Va};
+use sv39_entry::{Access, Entry, FrameNo, Mode, Rights, Va};
 
 /// Word 0 of frame 1: a pointer to frame 2.
 const POINTER: u64 = 0x20000801;
@@ -84,6 +93,7 @@ fn finds_leaves(rt: HostRuntime) -> Result<(), Fail> {
     let leaf = Found::Leaf {
         word: DATA,
         level: 1,
+        global: false,
     };
     assert_eq!(rt; lookup(&mut memory, root, Va(0x3fffff)), leaf);
     assert_eq!(rt; lookup(&mut memory, root, Va(0x400000)), Found::NoLeaf);
@@ -91,5 +101,120 @@ fn finds_leaves(rt: HostRuntime) -> Result<(), Fail> {
         lookup(&mut memory, FrameNo(3).ppn(), Va(0)),
         Found::Outside
     );
+    Ok(())
+}
+
+/// An address, the frame that its page is mapped to, and the word of the leaf.
+type Mapping = (Va, u16, u64);
+
+/// In ascending order. A user may load there.
+const MAPPINGS: [Mapping; 5] = [
+    (Va(0), 9, 0x20002453),
+    (Va(0x1000), 10, 0x20002853),
+    (Va(0x200000), 11, 0x20002c53),
+    (Va(0x40000000), 12, 0x20003053),
+    (Va(0x3ffffff000), 13, 0x20003453),
+];
+
+/// A claimed frame whose words are all 0.
+fn empty_root<F: FrameSupply>(store: &mut F, seat: &mut F::Seat) -> FrameNo
+    requires fits { Fits F.rule store.old seat.old }
+    requires anchored { IsHeld (F.Seat.view seat.old) 0 }
+    requires credit { 0 < (F.Seat.view seat.old).credits }
+    ensures tables { (t : Image) × HasTables (F.Seat.view seat.new) result.0 t }
+    ensures anchored { IsHeld (F.Seat.view seat.new) 0 }
+    ensures credits { (F.Seat.view seat.new).credits + 1 ≡ (F.Seat.view seat.old).credits }
+    ensures keeps { Keeps F.rule store.old seat.old store.new seat.new }
+{
+    let root = store.claim(seat);
+    clear(store, seat, root);
+    root
+}
+
+/// Leaves words in a free frame.
+fn leave_words<F: FrameSupply>(store: &mut F, seat: &mut F::Seat)
+    requires fits { Fits F.rule store.old seat.old }
+    requires anchored { IsHeld (F.Seat.view seat.old) 0 }
+    requires credit { 0 < (F.Seat.view seat.old).credits }
+    ensures kept { (f : ℕ) → IsHeld (F.Seat.view seat.old) f → hold_of (F.Seat.view seat.new) f ≡ hold_of (F.Seat.view seat.old) f }
+    ensures credits { (F.Seat.view seat.new).credits + 1 ≡ (F.Seat.view seat.old).credits }
+    ensures keeps { Keeps F.rule store.old seat.old store.new seat.new }
+{
+    let frame = store.claim(seat);
+    for index in 0..512 {
+        store.store(seat, frame, index, u64::MAX);
+    }
+    store.release(seat, frame);
+}
+
+/// Tables of `MAPPINGS` at a new store: its seat, the root, and how many tables were missing at each of them.
+fn mapped(alloc: Global) -> Result<(PlainFrames, PlainSeat, FrameNo, [usize; 5]), AllocError>
+    ensures rule { IfOk result (λ r. BankRule r.0 (r.1 ∷ [])) }
+    ensures tables { IfOk result (λ r. (t : Image) × HasTables r.1 r.2.0 t) }
+{
+    let (mut frames, mut seat) = PlainFrames::new(alloc, 16)?;
+    let reserved = frames.reserve(&mut seat, 12);
+    prove!(reserved.is_ok());
+    let root = empty_root(&mut frames, &mut seat);
+    leave_words(&mut frames, &mut seat);
+    let mut missing = [0; 5];
+    for (index, (va, frame, _)) in MAPPINGS.iter().enumerate() {
+        let leaf = Entry::leaf(FrameNo(*frame), Rights::READ, true, false);
+        missing[index] = missing_tables(&mut frames, &mut seat, root, va.page());
+        map(&mut frames, &mut seat, root, va.page(), leaf);
+    }
+    Ok((frames, seat, root, missing))
+}
+
+#[test]
+fn finds_what_is_mapped(rt: HostRuntime) -> Result<(), Fail> {
+    let (mut frames, mut seat, root, missing) = mapped(rt.alloc())?;
+    assert_eq!(rt; missing, [2, 0, 1, 2, 2]);
+    walks_of_tables();
+    let mut from = Va(0).page();
+    'found: for (va, _, word) in MAPPINGS {
+        let found = next_leaf(&mut frames, &mut seat, root, from);
+        assert_eq!(rt; found, Some((va.page(), Entry::from_word(word))));
+        from = Va(va.0.wrapping_add(4096)).page();
+    }
+    assert_eq!(rt; next_leaf(&mut frames, &mut seat, root, from), None);
+    let mut words = HeldWords {
+        store: &mut frames,
+        seat: &mut seat,
+    };
+    'walked: for (va, _, word) in MAPPINGS {
+        let leaf = Found::Leaf {
+            word,
+            level: 0,
+            global: false,
+        };
+        assert_eq!(rt; lookup(&mut words, root.ppn(), va), leaf);
+    }
+    Ok(())
+}
+
+#[test]
+fn changes_one_leaf(rt: HostRuntime) -> Result<(), Fail> {
+    let (mut frames, mut seat, root, _) = mapped(rt.alloc())?;
+    let gone = Va(0x200000);
+    let leaf = unmap(&mut frames, &mut seat, root, gone.page());
+    assert_eq!(rt; leaf, Some(Entry::from_word(0x20002c53)));
+    assert_eq!(rt; unmap(&mut frames, &mut seat, root, gone.page()), None);
+    let next = next_leaf(&mut frames, &mut seat, root, Va(0x2000).page());
+    let (page, _) = next.expect(&rt, "the next page is still mapped");
+    let leaf = Entry::leaf(FrameNo(12), Rights::READ, false, false);
+    protect(&mut frames, &mut seat, root, page, leaf);
+    walks_of_tables();
+    let mut words = HeldWords {
+        store: &mut frames,
+        seat: &mut seat,
+    };
+    assert_eq!(rt; lookup(&mut words, root.ppn(), gone), Found::NoLeaf);
+    let leaf = Found::Leaf {
+        word: 0x20003043,
+        level: 0,
+        global: false,
+    };
+    assert_eq!(rt; lookup(&mut words, root.ppn(), Va(0x40000123)), leaf);
     Ok(())
 }

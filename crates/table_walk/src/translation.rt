@@ -16,10 +16,10 @@ pub fn translate<M: Words>(words: &mut M, root: u64, va: Va, access: Access, mod
     requires walk { CanWalk (M.readable words.old) (M.memory words.old) root (page_of va.0) }
     requires reach { CanReach (M.readable words.old) (M.memory words.old) root va.0 }
     ensures outcome { Translates (M.memory words.old) root va.0 access mode result }
-    ensures same { words.new ≡ words.old }
+    ensures stays { M.stays words.old words.new }
 {
     let (word, level) = match lookup(words, root, va) {
-        Found::Leaf { word, level } => (word, level),
+        Found::Leaf { word, level, .. } => (word, level),
         Found::NoLeaf => return Walk::PageFault(access.page_fault_cause()),
         Found::Outside => return Walk::AccessFault(access.access_fault_cause()),
     };
@@ -39,12 +39,9 @@ pub fn translate<M: Words>(words: &mut M, root: u64, va: Va, access: Access, mod
 }
 
 /// Whether the byte at a physical address is there.
-fn has_byte<M: Words>(words: &mut M, address: u64) -> bool
-    requires { M.readable words.old (address / 4096) }
-    ensures there { result ≡ memory.has_byte (M.memory words.old) address }
-    ensures same { words.new ≡ words.old }
+pub fn has_byte<M: Words>(words: &M, address: u64) -> bool
+    requires { M.readable words.now (address / 4096) }
+    ensures { result ≡ memory.has_byte (M.memory words.now) address }
 {
-    words
-        .word(address / PAGE_SIZE, (address % PAGE_SIZE / 8) as usize)
-        .is_some()
+    words.has_word(address / PAGE_SIZE, (address % PAGE_SIZE / 8) as usize)
 }

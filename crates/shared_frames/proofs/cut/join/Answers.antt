@@ -1,5 +1,4 @@
-use Rattle.std.proofs.Common.{rules, ◌≡◌, ℕ, ◌+◌, ◌*◌, ◌<◌, arith, refl, sym, ap, ◌∙◌, subst}
-use Rattle.shared_frames.specs.Fits.{IsWithin}
+use Rattle.std.proofs.Common.{arith, ◌∙◌}
 use Rattle.shared_frames.proofs.Parts.{joins, within-joined}
 use Rattle.shared_frames.proofs.Within.{told}
 use Rattle.shared_frames.proofs.cut.join.Goals as goal

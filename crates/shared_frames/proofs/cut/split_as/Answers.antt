@@ -1,6 +1,5 @@
-use Rattle.std.proofs.Common.{rules, ◌≡◌, ℕ, ◌+◌, ◌*◌, ◌<◌, arith, refl, sym, ap, ◌∙◌, subst, List, [], map}
-use Rattle.frame_store.specs.Laws.{IsAnchored}
-use Rattle.frame_store.specs.View.{View, CanSplit, empty_view, split_off}
+use Rattle.std.proofs.Common.{ℕ, arith, sym, ◌∙◌, subst, List}
+use Rattle.frame_store.specs.View.{empty_view, split_off}
 use Rattle.shared_frames.specs.Fits.{IsWithin}
 use Rattle.shared_frames.proofs.Parts.{splits, within-split, within-empty}
 use Rattle.shared_frames.proofs.Within.{told}

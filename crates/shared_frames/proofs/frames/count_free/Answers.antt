@@ -1,4 +1,4 @@
-use Rattle.std.proofs.Common.{rules, ◌≡◌, ◌+◌, arith}
+use Rattle.std.proofs.Common.{rules, arith}
 use Rattle.std.specs.Slots.{slots_items}
 use Rattle.shared_frames.proofs.Ends.{zero_counts-next}
 use Rattle.shared_frames.proofs.Zeros.{one_at_zero-zero, one_at_zero-more}

@@ -1,5 +1,4 @@
 use Rattle.std.proofs.Common.{◌≡◌, ◌<◌}
-use Rattle.shared_frames.specs.Fits.{FitsIn}
 use Rattle.shared_frames.proofs.retry.share.Given as goal
 
 abbrev pub invariant-loop : goal.invariant-loop

@@ -1,7 +1,4 @@
-use Rattle.std.proofs.Common.{rules, ◌≡◌, ◌≢◌, ℕ, ◌+◌, ◌*◌, ◌<◌, ◌≤◌, ◌==◌, arith, refl, sym, ap, ◌∙◌, subst, cond, Bool, true, false}
-use Rattle.frame_store.specs.View.{View, references, claimed, shared, looked, with_word, released, without_credits, with_credits}
-use Rattle.shared_frames.specs.Fits.{IsWithin}
-use Rattle.shared_frames.specs.Telling.{let_go, saw_free, unshared}
+use Rattle.std.proofs.Common.{arith, refl, ap, ◌∙◌}
 use Rattle.shared_frames.proofs.Moves as moves
 use Rattle.shared_frames.proofs.Within as within
 use Rattle.shared_frames.proofs.steps.try_claim.Goals as goal

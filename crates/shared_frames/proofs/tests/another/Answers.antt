@@ -1,5 +1,4 @@
-use Rattle.std.proofs.Common.{◌≡◌, ℕ, ◌<◌, ◌∷◌, [], rules, refl}
-use Rattle.frame_store.specs.View.{View, IsHeld, empty_view, split_off}
+use Rattle.std.proofs.Common.{rules, refl}
 use Rattle.shared_frames.specs.Fits.{fits_still, may_step, fits_parted}
 use Rattle.shared_frames.proofs.Rounds.{share-wider, share-two, left-base, right-base}
 use Rattle.shared_frames.proofs.tests.another.Goals as goal

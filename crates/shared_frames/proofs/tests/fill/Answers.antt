@@ -1,4 +1,3 @@
-use Rattle.std.proofs.Common.{◌≡◌, ℕ, ◌<◌}
 use Rattle.shared_frames.specs.Fits.{fits_still, may_step}
 use Rattle.shared_frames.proofs.Rounds.{reserve-wider, claim-sole, store-wider}
 use Rattle.shared_frames.proofs.tests.fill.Goals as goal

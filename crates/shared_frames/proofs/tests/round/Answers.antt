@@ -1,6 +1,5 @@
-use Rattle.std.proofs.Common.{◌≡◌, ℕ, ◌<◌, refl, arith}
-use Rattle.frame_store.specs.View.{View, IsHeld, released}
-use Rattle.shared_frames.proofs.Rounds.{Round, reserve-wider, claim-wider, share-wider, given-wider, claims_two, shares_first, releases_first, releases_second}
+use Rattle.std.proofs.Common.{refl, arith}
+use Rattle.shared_frames.proofs.Rounds.{reserve-wider, claim-wider, share-wider, given-wider, claims_two, shares_first, releases_first, releases_second}
 use Rattle.shared_frames.proofs.tests.round.Goals as goal
 
 pub returns-in_err-reserve-clause-base : goal.returns-in_err-reserve-clause-base

@@ -1,4 +1,3 @@
-use Rattle.std.proofs.Common.{◌≡◌, refl, rules}
 use Rattle.shared_frames.specs.Fits.{fits_still, may_step}
 use Rattle.shared_frames.proofs.tests.work.Goals as goal
 

@@ -1,11 +1,13 @@
-use Rattle.std.proofs.Common.{◌≡◌, ◌-◌}
+use Rattle.std.proofs.Common.{◌-◌, ◌↔◌, IsTrue}
 use Rattle.sv39_entry.specs.Address.{page_of}
 use Rattle.table_walk.specs.Walk.{top_level, IsAt}
+use Rattle.table_walk.proofs.Ways.{HasMark}
 use Rattle.table_walk.proofs.find.lookup.Given as goal
 
 -- the walk has come to the table of this level
 abbrev pub invariant-levels : goal.invariant-levels
 invariant-levels g l = record {
-  same : l.words ≡ l.fn.words;
+  stays : g.M.Words.stays l.fn.words l.words;
   way : IsAt (g.M.Words.memory l.fn.words) l.root (page_of l.fn.va.0) (top_level - l.level) l.table;
+  marked : IsTrue l.global ↔ HasMark (g.M.Words.memory l.fn.words) l.root (page_of l.fn.va.0) (top_level - l.level);
 }

@@ -1,9 +1,9 @@
-use Rattle.std.proofs.Common.{rules, ◌≡◌, ◌+◌, ◌-◌, ◌≤◌, ◌∙◌, sym, ap, subst, arith, ℕ, List, [], get_or}
+use Rattle.std.proofs.Common.{◌≡◌, ◌+◌, ◌-◌, ◌∙◌, sym, ap, subst, arith}
 use Rattle.std.specs.Slots.{slots_items}
 use Rattle.shared_frames.specs.Pool.{Pool}
 use Rattle.shared_frames.specs.Rule.{zero_counts}
-use Rattle.shared_frames.specs.Totals.{held_frames}
-use Rattle.shared_frames.proofs.Ends.{final, at_get}
+use Rattle.shared_frames.specs.Totals.{AreTotals, held_frames}
+use Rattle.shared_frames.proofs.Ends.{final, totals, at_get}
 use Rattle.shared_frames.proofs.Zeros.{zero_counts-le}
 use Rattle.shared_frames.proofs.frames.SharedFrames.close.Goals as goal
 
@@ -12,6 +12,15 @@ word-trampoline-requires c = (let s = c.self.invariant.1 in let n = c.close_with
 
 pub overflow_sub-result : goal.overflow_sub-result
 overflow_sub-result c = let b = zero_counts-le (slots_items c.close_with-closed.result.words) c.self.inside.frames in let e = c.count_free-free.ensures in omega (arith, b, e)
+
+pub returns-clause-totals : goal.returns-clause-totals
+returns-clause-totals c =
+    let ws = slots_items c.close_with-closed.result.words in
+    let free : c.count_free-free.result ≡ zero_counts ws c.self.inside.table.shared.key = c.count_free-free.ensures ∙ ap (zero_counts ws) c.self.invariant.0 in
+    let read = at_get ws 1 c.word-trampoline.result c.word-trampoline.ensures in
+    let all = totals c.self.inside.table.shared.key ws _ _ _ _ _ c.close_with-closed.ensures.values.2 free read in
+    let n = sym c.self.invariant.0 ∙ ap (λ (p : Pool). p.frames) c.self.view_is in
+    subst (λ m. AreTotals m c.args.seat.seat.me.0 c.count_free-free.result c.word-trampoline.result) n all
 
 pub returns-clause-all : goal.returns-clause-all
 returns-clause-all c =

@@ -1,4 +1,4 @@
-use Rattle.std.proofs.Common.{rules, ◌≡◌, ℕ, ◌+◌, ◌*◌, ◌<◌, sym, ap, ◌∙◌, subst, List, [], ◌∷◌, arith, length}
+use Rattle.std.proofs.Common.{◌≡◌, ℕ, ◌+◌, ◌*◌, sym, ap, ◌∙◌, subst, List, [], ◌∷◌, arith, length}
 use Rattle.frame_store.specs.View.{opening_view}
 use Rattle.shared_frames.specs.Rule.{IsKept}
 use Rattle.shared_frames.proofs.Ends.{begins, wide, within-opening}

@@ -1,0 +1,35 @@
+-- Addresses of one page have one walk.
+use Rattle.std.proofs.Common.{◌≡◌, ℕ, ◌+◌, ◌*◌, ◌/◌, ◌%◌, ◌^◌, true, refl, ◌∙◌, arith}
+use Rattle.std.proofs.lemmas.Nat.{mod-pow-add}
+use Rattle.sv39_entry.specs.Address.{is_canonical, page_of}
+use Rattle.table_walk.specs.Memory.{Memory, has_byte, physical_address}
+use Rattle.table_walk.specs.Walk.{Finds}
+use Rattle.table_walk.specs.declared.walk.Found.{Found}
+use Rattle.table_walk.specs.declared.walk.Found.TheVariants as found
+use Rattle.hart_tlb.specs.Outcome.{IsWhole}
+
+module _ (a b : ℕ) (same : page_of a ≡ page_of b) where
+  canonical_on_page : is_canonical a ≡ is_canonical b
+  canonical_on_page = let upper : a / 2 ^ 38 ≡ b / 2 ^ 38 = omega arith in rw upper refl
+
+  pub finds_on_page : (m : Memory) (root : ℕ) (x : Found) → Finds m root a x → Finds m root b x
+  finds_on_page m root (found.Leaf leaf level global) p = rw (canonical_on_page, same) at p
+  finds_on_page m root found.Outside p = rw (canonical_on_page, same) at p
+  finds_on_page m root found.NoLeaf p = rw (canonical_on_page, same) at p
+
+  -- the low bits of a leaf's size, without the offset
+  page_low : (n : ℕ) → a % 2 ^ (12 + n) / 4096 ≡ b % 2 ^ (12 + n) / 4096
+  page_low n =
+      let other : 12 + n ≡ n + 12 = omega arith in
+      let of_a = mod-pow-add a n 12 in
+      let of_b = mod-pow-add b n 12 in
+      rw (other, of_a, of_b, same) (omega arith)
+
+  frame_on_page : (leaf level : ℕ) → physical_address leaf level a / 4096 ≡ physical_address leaf level b / 4096
+  frame_on_page leaf level = let low = page_low (9 * level) in omega arith
+
+  pub byte_on_page : (m : Memory) (leaf level : ℕ) → IsWhole m (physical_address leaf level b / 4096)
+      → has_byte m (physical_address leaf level a) ≡ true → has_byte m (physical_address leaf level b) ≡ true
+  byte_on_page m leaf level whole there =
+      let frame = frame_on_page leaf level in
+      whole (physical_address leaf level b % 4096 / 8) (physical_address leaf level a % 4096 / 8) (omega arith) (omega arith) ∙ (rw frame at there)

@@ -1,0 +1,4 @@
+pub mod Buffer
+pub mod Entries
+pub mod Leaf
+pub mod Outcome

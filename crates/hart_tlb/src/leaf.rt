@@ -1,0 +1,70 @@
+// Leaves that walks came to.
+
+ghost use Rattle.std.specs.Prelude.{◌≡◌, ◌≤◌};
+ghost use Rattle.hart_tlb.specs.Entries.{covers};
+ghost use Rattle.table_walk.specs.Memory as memory;
+ghost use Rattle.table_walk.specs.Walk.{top_level};
+
+use std::marker::Model;
+use sv39_entry::{Entry, Va, Vpn};
+use table_walk::physical_address;
+
+/// The leaf that a walk came to, at its level (0 for a page of 4,096 bytes, the others for superpages).
+#[derive(Clone, Copy, PartialEq, Eq, Debug)]
+pub struct TlbLeaf {
+    word: u64,
+    level: u32,
+}
+
+/// Contracts see the word and the level.
+impl Model for TlbLeaf {
+    ghost use Rattle.std.specs.Prelude.{◌≤◌};
+    ghost use Rattle.table_walk.specs.Walk.{top_level};
+    ghost use Rattle.hart_tlb.specs.Leaf.{Leaf};
+
+    ghost Value = { Leaf };
+
+    ghost view = { λ leaf. record { word = leaf.word; level = leaf.level } };
+
+    ghost invariant = { λ leaf. leaf.level ≤ top_level };
+
+    ghost inverse = { λ leaf. record { word = leaf.word; level = leaf.level } };
+}
+
+impl TlbLeaf {
+    pub(crate) fn new(word: u64, level: u32) -> TlbLeaf
+        requires { level ≤ top_level }
+        ensures word { result.word ≡ word }
+        ensures level { result.level ≡ level }
+    {
+        TlbLeaf { word, level }
+    }
+
+    pub fn word(self) -> u64
+        ensures { result ≡ self.word }
+    {
+        self.word
+    }
+
+    pub fn level(self) -> u32
+        ensures value { result ≡ self.level }
+        ensures low { result ≤ top_level }
+    {
+        self.level
+    }
+
+    /// The physical address of an address that the leaf maps (the standard, 4.3.2, step 8).
+    pub(crate) fn address(self, va: Va) -> u64
+        ensures { result ≡ memory.physical_address self.word self.level va.0 }
+    {
+        physical_address(Entry::from_word(self.word), self.level, va)
+    }
+
+    /// Whether the leaf, of a page, maps an address too: they agree in all bits above the offset of the leaf's size.
+    pub(crate) fn covers(self, page: Vpn, va: Va) -> bool
+        ensures { result ≡ covers page self va.0 }
+    {
+        let bits = 12 + 9 * self.level;
+        page.at(0).0 >> bits == va.0 >> bits
+    }
+}

@@ -1,0 +1,144 @@
+-- What the image of the tables that a seat has says of walks.
+use Rattle.std.proofs.Common.{◌≡◌, ◌↔◌, ℕ, zero, suc, ◌+◌, ◌-◌, ◌*◌, ◌^◌, ◌<◌, ◌≤◌, inl, inr, refl, ap, sym, subst, ◌∙◌, arith, Option, Some, None, IsSome, unwrap_or}
+use Rattle.std.specs.Prelude.{option_and_then}
+use Rattle.std.proofs.lemmas.Bool.{cases_eq, le-leb, lt-ltb}
+use Rattle.std.proofs.lemmas.Option.{same_Some}
+use Rattle.std.specs.FinMap.{get}
+use Rattle.frame_store.specs.View.{View, known_word}
+use Rattle.sv39_entry.specs.Address.{vpn}
+use Rattle.sv39_entry.specs.Frame.{frame_at, ppn_of}
+use Rattle.sv39_entry.specs.Word.{kind_of, pointer_word, ppn}
+use Rattle.sv39_entry.specs.declared.entry.Kind.TheVariants.{Leaf, Pointer}
+use Rattle.sv39_entry.specs.declared.frame.FrameNo.{FrameNo}
+use Rattle.table_walk.specs.Held.{held_memory, IsReadable}
+use Rattle.table_walk.specs.Image.{HasTables, Image, leaf_node, node, pointer_or_zero, word_in}
+use Rattle.table_walk.specs.Walk.{top_level, CanWalk, IsAt, LeavesMemory, Maps, Reads}
+use Rattle.table_walk.proofs.Children.{pointer_kind, pointer_ppn}
+use Rattle.table_walk.proofs.Images.{kind-zero, word_high, word_leaf}
+use Rattle.table_walk.proofs.Nodes.{above, leaf_number, node_from, power_next, power_some, table_number, vpn_low}
+
+-- what a word of a table that is a pointer or a leaf comes from
+
+from_pointer : (o : Option ℕ) (w : ℕ) → w ≡ pointer_or_zero o → kind_of w ≡ Pointer → (f : ℕ) × (o ≡ Some f) × (w ≡ pointer_word f)
+from_pointer None w is kind = absurd (let invalid = ap kind_of is ∙ kind-zero in cc)
+from_pointer (Some f) w is kind = (f, refl, is)
+
+no_leaf : (o : Option ℕ) (w : ℕ) → ((f : ℕ) → o ≡ Some f → f < 2 ^ 16) → w ≡ pointer_or_zero o → kind_of w ≡ Leaf → ⊥
+no_leaf None w low is kind = let invalid = ap kind_of is ∙ kind-zero in cc
+no_leaf (Some f) w low is kind = let pointer = ap kind_of is ∙ pointer_kind f (low f refl) in cc
+
+from_leaf : (o : Option ℕ) (w : ℕ) → w ≡ unwrap_or o 0 → kind_of w ≡ Leaf → o ≡ Some w
+from_leaf None w is kind = absurd (let invalid = ap kind_of is ∙ kind-zero in cc)
+from_leaf (Some x) w is kind = ap Some (sym is)
+
+-- ---- frames and their words
+
+frame_at-ppn_of : (f : ℕ) → f < 2 ^ 16 → frame_at (ppn_of f) ≡ Some (record { 0 = f })
+frame_at-ppn_of f low =
+    rw (le-leb 0x80000 (ppn_of f) (omega arith), lt-ltb (ppn_of f) (0x80000 + 2 ^ 16) (omega arith)) (ap (λ (n : ℕ). Some (record { 0 = n })) (omega arith))
+
+word_of : (v : View) (f i : ℕ) → f < 2 ^ 16 → held_memory v (ppn_of f) i ≡ known_word v f i
+word_of v f i low = ap (option_and_then (λ (frame : FrameNo). known_word v frame.0 i)) (frame_at-ppn_of f low)
+
+some_is : {X : Type 0} (o : Option X) (x : X) → o ≡ Some x → IsSome o
+some_is None x e = cc
+some_is (Some y) x e = refl
+
+module _ (v : View) (root : ℕ) (t : Image) (h : HasTables v root t) where
+  small : (k f : ℕ) → get t.tables k ≡ Some f → f < 2 ^ 16
+  small k f at = (h.image.below k f at).2
+
+  -- the word of a table that is read through the memory
+  word_there : (k f i : ℕ) → get t.tables k ≡ Some f → i < 512 → held_memory v (ppn_of f) i ≡ Some (word_in t (k * 512 + i))
+  word_there k f i at low = word_of v f i (small k f at) ∙ h.image.words k f i at low
+
+  -- the walk comes to tables of the image
+  table_at : (page k table : ℕ) → k ≤ top_level → IsAt (held_memory v) (ppn_of root) page k table
+      → (f : ℕ) × (get t.tables (node page k) ≡ Some f) × (table ≡ ppn_of f)
+  table_at page zero table low way = (root, h.image.rooted, way)
+  table_at page (suc k) table low way =
+      let up = table_at page k way.0 (omega arith) way.2 in
+      let i = vpn page (top_level - k) in
+      let word : way.1 ≡ word_in t (node page (suc k)) =
+      same_Some _ _ (sym (rw up.2 at way.3) ∙ word_there (node page k) up.0 i up.1 (vpn_low page (top_level - k))) in
+      let from = from_pointer _ way.1 (word ∙ word_high t _ (table_number page (suc k) low)) way.4 in
+      (from.0, from.1, way.5 ∙ ap ppn from.2 ∙ pointer_ppn from.0 (small _ from.0 from.1))
+
+  not_root : (page k : ℕ) → node page (suc k) ≡ 1 → ⊥
+  not_root page k same =
+      let high = node_from page (suc k) in
+      let next = power_next k in
+      let some = power_some k in
+      omega (arith, same, high, next, some)
+
+  -- and to each of them
+  way_to : (page k f : ℕ) → k ≤ top_level → get t.tables (node page k) ≡ Some f → IsAt (held_memory v) (ppn_of root) page k (ppn_of f)
+  way_to page zero f low at = ap ppn_of (same_Some f root (sym at ∙ h.image.rooted))
+  way_to page (suc k) f low at = elim (h.image.hung (node page (suc k)) f at) [
+    | inl one ↦ absurd (not_root page k one)
+    | inr up ↦
+        let table : get t.tables (node page k) ≡ Some up.0 = subst (λ n. get t.tables n ≡ Some up.0) (above page k) up.1 in
+        let word = word_there (node page k) up.0 (vpn page (top_level - k)) table (vpn_low page (top_level - k)) in
+        let pointer : word_in t (node page (suc k)) ≡ pointer_word f = word_high t _ (table_number page (suc k) low) ∙ ap pointer_or_zero at in
+        let low_frame = small _ f at in
+        (ppn_of up.0, pointer_word f, way_to page k up.0 (omega arith) table, word ∙ ap Some pointer, pointer_kind f low_frame, sym (pointer_ppn f low_frame))
+  ]
+
+  -- each word that a walk comes to is one of the image
+  at_depth : (page k table : ℕ) (word : Option ℕ) → k ≤ top_level → IsAt (held_memory v) (ppn_of root) page k table
+      → held_memory v table (vpn page (top_level - k)) ≡ word → word ≡ Some (word_in t (node page (suc k)))
+  at_depth page k table word low way is =
+      let at = table_at page k table low way in
+      let i = vpn page (top_level - k) in
+      sym is ∙ ap (λ (n : ℕ). held_memory v n i) at.2 ∙ word_there (node page k) at.0 i at.1 (vpn_low page (top_level - k))
+
+  reads_word : (page level : ℕ) (word : Option ℕ) → Reads (held_memory v) (ppn_of root) page level word
+      → word ≡ Some (word_in t (node page (suc (top_level - level))))
+  reads_word page level word r =
+      let low = r.low in
+      let back : top_level - (top_level - level) ≡ level = omega (arith, low) in
+      at_depth page (top_level - level) r.table word (omega (arith, low)) r.way (rw back r.read)
+
+  pub inside : (page : ℕ) → LeavesMemory (held_memory v) (ppn_of root) page → ⊥
+  inside page out = let word = reads_word page out.0 None out.1 in cc
+
+  -- the walk finds the leaves of the image alone
+  found : (page leaf level : ℕ) → Maps (held_memory v) (ppn_of root) page leaf level
+      → (level ≡ 0) × (get t.leaves (leaf_node page) ≡ Some leaf)
+  found page leaf level maps =
+      let word = same_Some _ _ (reads_word page level (Some leaf) maps.reads) in
+      elim (cases_eq level 0) [
+        | inl same ↦ (same, from_leaf _ leaf (rw same at word ∙ word_leaf t (leaf_node page) (leaf_number page)) maps.kind)
+        | inr ne ↦ absurd (
+            let low = maps.reads.low in
+            no_leaf _ leaf (λ f. small _ f) (word ∙ word_high t _ (table_number page (suc (top_level - level)) (omega (arith, low, ne)))) maps.kind)
+      ]
+
+  -- and all of them
+  finds : (page leaf : ℕ) → get t.leaves (leaf_node page) ≡ Some leaf → Maps (held_memory v) (ppn_of root) page leaf 0
+  finds page leaf is =
+      let hung = h.image.leaf_hung (leaf_node page) leaf is in
+      let table : get t.tables (node page top_level) ≡ Some hung.2.0 = subst (λ n. get t.tables n ≡ Some hung.2.0) (above page top_level) hung.2.1 in
+      let word = word_there (node page top_level) hung.2.0 (vpn page 0) table (vpn_low page 0) in
+      record {
+        reads = record {
+          low = omega arith;
+          table = ppn_of hung.2.0;
+          way = way_to page top_level hung.2.0 (omega arith) table;
+          read = word ∙ ap Some (word_leaf t (leaf_node page) (leaf_number page) ∙ ap (λ o. unwrap_or o 0) is);
+        };
+        kind = hung.0;
+        aligned = omega arith;
+      }
+
+  pub walk : (page leaf level : ℕ) →
+      Maps (held_memory v) (ppn_of root) page leaf level ↔ (level ≡ 0) × (get t.leaves (leaf_node page) ≡ Some leaf)
+  walk page leaf level = (found page leaf level, λ is. rw is.0 (finds page leaf is.1))
+
+  -- the tables on the way may be read
+  pub readable : (page : ℕ) → CanWalk (IsReadable v) (held_memory v) (ppn_of root) page
+  readable page k table low way = λ frame is.
+      let at = table_at page k table low way in
+      let named = sym is ∙ ap frame_at at.2 ∙ frame_at-ppn_of at.0 (small _ at.0 at.1) in
+      let same : frame.0 ≡ at.0 = ap (λ (f : FrameNo). f.0) (same_Some frame _ named) in
+      rw same ((h.own _ at.0 at.1).0, λ index small. some_is _ _ (h.image.words _ at.0 index at.1 small))

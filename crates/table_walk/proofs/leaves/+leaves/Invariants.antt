@@ -1,0 +1,24 @@
+use Rattle.std.proofs.Common.{◌≡◌, ℕ, ◌+◌, ◌*◌, ◌^◌, ◌<◌, ◌≤◌, Some}
+use Rattle.std.specs.FinMap.{get}
+use Rattle.frame_store.specs.Laws.{Keeps}
+use Rattle.table_walk.specs.Changed.{IsTableAt}
+use Rattle.table_walk.specs.Image.{HasTables, Image}
+use Rattle.table_walk.specs.Places.{IsBare}
+use Rattle.table_walk.proofs.leaves.+leaves.Given as goal
+
+abbrev pub decreases-next_below : goal.decreases-next_below
+decreases-next_below g l = 2 * l.level + 1
+
+abbrev pub decreases-next_at : goal.decreases-next_at
+decreases-next_at g l = 2 * l.level
+
+-- no leaf was passed
+abbrev pub invariant-next_below-indices : goal.invariant-next_below-indices
+invariant-next_below-indices g l = record {
+  view : g.F.Seat.FrameSeat.view l.seat ≡ g.F.Seat.FrameSeat.view l.initial.seat;
+  same : l.store ≡ l.initial.store;
+  keeps : Keeps g.F.FrameAccess.rule l.initial.store l.initial.seat l.store l.seat;
+  within : l.place < 512 ^ l.level;
+  on : l.fn.from ≤ l.index * 512 ^ l.level + l.place;
+  bare : (root k : ℕ) (t : Image) → HasTables (g.F.Seat.FrameSeat.view l.initial.seat) root t → get t.tables k ≡ Some l.table.0 → IsTableAt k l.level → IsBare t k (512 * 512 ^ l.level) l.fn.from (l.index * 512 ^ l.level + l.place);
+}

@@ -1,0 +1,7 @@
+use Rattle.std.proofs.Common.{◌*◌, ◌∙◌, arith}
+use Rattle.std.proofs.lemmas.Nat.{one_shl}
+use Rattle.table_walk.proofs.Next.{nine_bits}
+use Rattle.table_walk.proofs.leaves.index_places.Goals as goal
+
+pub returns-clause-value : goal.returns-clause-value
+returns-clause-value c = one_shl (9 * c.args.level) 64 (omega arith) ∙ nine_bits c.args.level

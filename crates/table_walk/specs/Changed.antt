@@ -1,0 +1,28 @@
+-- What a change of tables does to walks, and what an enumeration finds.
+use Rattle.std.specs.Prelude.{◌≡◌, ◌≢◌, ◌↔◌, ℕ, suc, ◌+◌, ◌-◌, ◌*◌, ◌^◌, ◌<◌, ◌≤◌, Option, None, Some}
+use Rattle.std.specs.FinMap.{get}
+use Rattle.table_walk.specs.Image.{Image, leaf_node}
+use Rattle.table_walk.specs.Memory.{Memory}
+use Rattle.table_walk.specs.Walk.{Maps, top_level}
+
+-- every page but one is mapped to what it was mapped to
+abbrev pub OthersStay : Memory → Memory → ℕ → ℕ → Type 0
+OthersStay before after root page = (other leaf level : ℕ) → leaf_node other ≢ leaf_node page → Maps after root other leaf level ↔ Maps before root other leaf level
+
+-- The places below a table of a level: at level 0 its indices, and above it each index has 512 times as many as one of the level below.
+abbrev pub places : ℕ → ℕ
+places level = 512 ^ suc level
+
+-- the number k is one of the tables of a level
+abbrev pub IsTableAt : ℕ → ℕ → Type 0
+IsTableAt k level = (512 ^ (top_level - level) ≤ k) × (k < 2 * 512 ^ (top_level - level))
+
+-- the first leaf from a place on below table k of a level
+abbrev pub IsNextLeafIn : Image → ℕ → ℕ → ℕ → Option (ℕ × ℕ) → Type 0
+IsNextLeafIn t k level from None = (n : ℕ) → from ≤ n → n < places level → get t.leaves (k * places level + n) ≡ None
+IsNextLeafIn t k level from (Some p) =
+    (from ≤ p.0) × (p.0 < places level) × (get t.leaves (k * places level + p.0) ≡ Some p.1) × ((n : ℕ) → from ≤ n → n < p.0 → get t.leaves (k * places level + n) ≡ None)
+
+-- the first leaf from a page on, and its page; the root is table 1
+abbrev pub IsNextLeaf : Image → ℕ → Option (ℕ × ℕ) → Type 0
+IsNextLeaf t from found = IsNextLeafIn t 1 top_level from found

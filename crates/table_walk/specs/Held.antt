@@ -1,0 +1,14 @@
+-- Memory as a seat knows it.
+use Rattle.std.specs.Prelude.{◌≡◌, ℕ, ◌<◌, Some, IsSome, option_and_then}
+use Rattle.frame_store.specs.View.{View, IsHeld, known_word}
+use Rattle.sv39_entry.specs.Frame.{frame_at}
+use Rattle.sv39_entry.specs.declared.frame.FrameNo.{FrameNo}
+use Rattle.table_walk.specs.Memory.{Memory}
+
+-- the words that a seat knows, by physical page number and index
+abbrev pub held_memory : View → Memory
+held_memory v ppn index = option_and_then (λ frame. known_word v frame.0 index) (frame_at ppn)
+
+-- where the page number names a frame, the seat holds it and knows each of its words
+abbrev pub IsReadable : View → ℕ → Type 0
+IsReadable v ppn = (frame : FrameNo) → frame_at ppn ≡ Some frame → IsHeld v frame.0 × ((index : ℕ) → index < 512 → IsSome (known_word v frame.0 index))

@@ -1,0 +1,102 @@
+-- The tables below a root as two finite maps, and the words that they are.
+-- Tables and leaves have numbers: the root is 1, and what stands at an index of table k has the number 512 * k + index.
+use Rattle.std.specs.Prelude.{◌≡◌, ℕ, zero, suc, ◌+◌, ◌-◌, ◌*◌, ◌/◌, ◌^◌, ◌<◌, ◌≤◌, ◌⊎◌, nat_lt, is_some, true, if◌then◌else◌, Option, None, Some, unwrap_or}
+use Rattle.std.specs.Ordering.{nat_cmp}
+use Rattle.std.specs.FinMap.{FinMap, empty, get, insert, remove}
+use Rattle.frame_store.specs.View.{Hold, View, hold_of, IsHeld, IsSole, known_word, references}
+use Rattle.sv39_entry.specs.Address.{vpn}
+use Rattle.sv39_entry.specs.Word.{kind_of, pointer_word}
+use Rattle.sv39_entry.specs.declared.entry.Kind.TheVariants.{Leaf}
+use Rattle.table_walk.specs.Walk.{top_level}
+
+-- the number of what a page has so many levels below the root: its tables, and below the last of them its leaf
+abbrev pub node : ℕ → ℕ → ℕ
+node page zero = 1
+node page (suc k) = node page k * 512 + vpn page (top_level - k)
+
+abbrev pub last_table : ℕ → ℕ
+last_table page = node page top_level
+
+abbrev pub leaf_node : ℕ → ℕ
+leaf_node page = node page (suc top_level)
+
+-- leaves have numbers from here on, and tables below it
+abbrev pub first_leaf : ℕ
+first_leaf = 512 ^ suc top_level
+
+-- the frame of each table, and the word of each leaf
+pub record Image : Type 0 where
+  pub tables : FinMap nat_cmp ℕ
+  pub leaves : FinMap nat_cmp ℕ
+
+abbrev pub pointer_or_zero : Option ℕ → ℕ
+pointer_or_zero None = 0
+pointer_or_zero (Some f) = pointer_word f
+
+-- the word of a number: where there is no table and no leaf it is 0
+abbrev pub word_in : Image → ℕ → ℕ
+word_in t n = if nat_lt n first_leaf then pointer_or_zero (get t.tables n) else unwrap_or (get t.leaves n) 0
+
+-- an image is that of the tables below a root, where these words of frames are known
+pub record IsImage (known : ℕ → ℕ → Option ℕ) (root : ℕ) (t : Image) : Type 0 where
+  pub rooted : get t.tables 1 ≡ Some root
+  -- every word of every table is what the image says
+  pub words : (k f i : ℕ) → get t.tables k ≡ Some f → i < 512 → known f i ≡ Some (word_in t (k * 512 + i))
+  -- no frame is two tables
+  pub apart : (j k f : ℕ) → get t.tables j ≡ Some f → get t.tables k ≡ Some f → j ≡ k
+  pub below : (k f : ℕ) → get t.tables k ≡ Some f → (1 ≤ k) × (k < first_leaf) × (f < 2 ^ 16)
+  -- each table but the root, and each leaf, stands in a table
+  pub hung : (k f : ℕ) → get t.tables k ≡ Some f → (k ≡ 1) ⊎ ((g : ℕ) × (get t.tables (k / 512) ≡ Some g))
+  pub leaf_hung : (n w : ℕ) → get t.leaves n ≡ Some w → (kind_of w ≡ Leaf) × (first_leaf ≤ n) × ((g : ℕ) × (get t.tables (n / 512) ≡ Some g))
+
+-- a seat knows the tables below a root, and is the sole holder of each
+pub record HasTables (v : View) (root : ℕ) (t : Image) : Type 0 where
+  pub image : IsImage (known_word v) root t
+  pub own : (k f : ℕ) → get t.tables k ≡ Some f → IsHeld v f × IsSole v f
+
+-- changes of images
+
+abbrev pub with_leaf : Image → ℕ → ℕ → Image
+with_leaf t n w = record t { leaves = insert t.leaves n w }
+
+abbrev pub with_table : Image → ℕ → ℕ → Image
+with_table t k f = record t { tables = insert t.tables k f }
+
+abbrev pub without_leaf : Image → ℕ → Image
+without_leaf t n = record t { leaves = remove t.leaves n }
+
+-- how many of the first so many tables below the root are missing on the way to a page
+abbrev pub missing_to : Image → ℕ → ℕ → ℕ
+missing_to t page zero = 0
+missing_to t page (suc k) = missing_to t page k + (if is_some (get t.tables (node page (suc k))) then 0 else 1)
+
+abbrev pub missing : Image → ℕ → ℕ
+missing t page = missing_to t page top_level
+
+-- of the tables on the way to a page those down to a depth are there, and no others are new
+pub record IsGrown (t u : Image) (page depth : ℕ) : Type 0 where
+  pub leaves : u.leaves ≡ t.leaves
+  pub kept : (k f : ℕ) → get t.tables k ≡ Some f → get u.tables k ≡ Some f
+  pub new : (k f : ℕ) → get u.tables k ≡ Some f → (get t.tables k ≡ Some f) ⊎ ((get t.tables k ≡ None) × ((i : ℕ) × (i ≤ depth) × (k ≡ node page i)))
+  pub whole : (i : ℕ) → i ≤ depth → (f : ℕ) × (get u.tables (node page i) ≡ Some f)
+
+-- what a change of tables does to a seat: so many credits became new tables, each held once; the references of the others are as they
+-- were; and of each frame that is no table the seat has what it had
+pub record ChangesTables (v w : View) (t u : Image) (n : ℕ) : Type 0 where
+  pub apart : (f : ℕ) → ((k : ℕ) → get u.tables k ≡ Some f → ⊥) → hold_of w f ≡ hold_of v f
+  pub old : (k f : ℕ) → get t.tables k ≡ Some f → references w f ≡ references v f
+  pub new : (k f : ℕ) → get u.tables k ≡ Some f → get t.tables k ≡ None → (references v f ≡ 0) × (references w f ≡ 1)
+  pub credits : w.credits ≡ v.credits - n
+  pub claims : w.claims ≡ v.claims + n
+  pub zeros : w.zeros ≡ v.zeros
+  pub short : w.short ≡ v.short
+  pub looks : w.looks ≡ v.looks
+
+-- an empty table: the seat knows that each of its words is 0
+
+abbrev pub zeros_to : ℕ → FinMap nat_cmp ℕ
+zeros_to zero = empty
+zeros_to (suc n) = insert (zeros_to n) n 0
+
+abbrev pub blank_hold : Hold
+blank_hold = record { references = 1; sole = true; words = zeros_to 512 }

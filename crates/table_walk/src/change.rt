@@ -1,0 +1,88 @@
+// Changes of tables, each at one page.
+
+ghost use Rattle.std.specs.FinMap.{get};
+ghost use Rattle.std.specs.Prelude.{◌≡◌, ◌≤◌, ℕ, IsSome, None, Some};
+ghost use Rattle.frame_store.specs.Laws.{Fits, Keeps};
+ghost use Rattle.frame_store.specs.View.{IsHeld, with_word};
+ghost use Rattle.sv39_entry.specs.Address.{vpn};
+ghost use Rattle.sv39_entry.specs.Frame.{ppn_of};
+ghost use Rattle.sv39_entry.specs.Word.{kind_of};
+ghost use Rattle.sv39_entry.specs.declared.entry.Kind.TheVariants.{Leaf};
+ghost use Rattle.table_walk.specs.Changed.{OthersStay};
+ghost use Rattle.table_walk.specs.Held.{held_memory};
+ghost use Rattle.table_walk.specs.Image.{ChangesTables, HasTables, Image, IsGrown, last_table, leaf_node, missing, with_leaf, without_leaf};
+ghost use Rattle.table_walk.specs.Walk.{Maps, top_level};
+
+use crate::growth::grown_table;
+use crate::tables::table_of;
+use frame_store::{FrameAccess, FrameSeat, FrameSupply};
+use sv39_entry::{Entry, FrameNo, Vpn};
+
+/// Maps a page to a leaf. Tables that are missing on the way are made of credits: `missing_tables` says of how many.
+pub fn map<F: FrameSupply>(store: &mut F, seat: &mut F::Seat, root: FrameNo, page: Vpn, leaf: Entry)
+    requires fits { Fits F.rule store.old seat.old }
+    requires anchored { IsHeld (F.Seat.view seat.old) 0 }
+    requires leaf { kind_of leaf ≡ Leaf }
+    requires tables { (t : Image) × HasTables (F.Seat.view seat.old) root.0 t × (missing t page ≤ (F.Seat.view seat.old).credits) }
+    ensures image { (t : Image) → HasTables (F.Seat.view seat.old) root.0 t → (u : Image) × IsGrown t u page top_level × HasTables (F.Seat.view seat.new) root.0 (with_leaf u (leaf_node page) leaf) × ChangesTables (F.Seat.view seat.old) (F.Seat.view seat.new) t u (missing t page) }
+    ensures here { Maps (held_memory (F.Seat.view seat.new)) (ppn_of root.0) page leaf 0 }
+    ensures others { OthersStay (held_memory (F.Seat.view seat.old)) (held_memory (F.Seat.view seat.new)) (ppn_of root.0) page }
+    ensures keeps { Keeps F.rule store.old seat.old store.new seat.new }
+    ensures free { F.alone → F.free store.new ≡ F.free store.old }
+{
+    let table = grown_table(store, seat, root, page);
+    store.store(seat, table, page.index(0), leaf.to_word());
+}
+
+/// Puts another leaf in the place of a page's leaf.
+pub fn protect<F: FrameAccess>(
+    store: &mut F,
+    seat: &mut F::Seat,
+    root: FrameNo,
+    page: Vpn,
+    leaf: Entry,
+)
+    requires fits { Fits F.rule store.old seat.old }
+    requires leaf { kind_of leaf ≡ Leaf }
+    requires mapped { (t : Image) × HasTables (F.Seat.view seat.old) root.0 t × IsSome (get t.leaves (leaf_node page)) }
+    ensures word { (t : Image) (f : ℕ) → HasTables (F.Seat.view seat.old) root.0 t → get t.tables (last_table page) ≡ Some f → F.Seat.view seat.new ≡ with_word f (vpn page 0) leaf (F.Seat.view seat.old) }
+    ensures image { (t : Image) → HasTables (F.Seat.view seat.old) root.0 t → HasTables (F.Seat.view seat.new) root.0 (with_leaf t (leaf_node page) leaf) × ChangesTables (F.Seat.view seat.old) (F.Seat.view seat.new) t t 0 }
+    ensures here { Maps (held_memory (F.Seat.view seat.new)) (ppn_of root.0) page leaf 0 }
+    ensures others { OthersStay (held_memory (F.Seat.view seat.old)) (held_memory (F.Seat.view seat.new)) (ppn_of root.0) page }
+    ensures keeps { Keeps F.rule store.old seat.old store.new seat.new }
+    ensures free { F.alone → F.free store.new ≡ F.free store.old }
+    ensures counts { F.alone → (f : ℕ) → F.count store.new f ≡ F.count store.old f }
+{
+    if let Some(table) = table_of(store, seat, root, page) {
+        store.store(seat, table, page.index(0), leaf.to_word());
+    }
+}
+
+/// Takes a page's leaf away, and answers what it was. The tables stay.
+pub fn unmap<F: FrameAccess>(
+    store: &mut F,
+    seat: &mut F::Seat,
+    root: FrameNo,
+    page: Vpn,
+) -> Option<Entry>
+    requires fits { Fits F.rule store.old seat.old }
+    requires held { (t : Image) × HasTables (F.Seat.view seat.old) root.0 t }
+    ensures leaf { (t : Image) → HasTables (F.Seat.view seat.old) root.0 t → result ≡ get t.leaves (leaf_node page) }
+    ensures word { (t : Image) (f : ℕ) → HasTables (F.Seat.view seat.old) root.0 t → get t.tables (last_table page) ≡ Some f → IsSome result → F.Seat.view seat.new ≡ with_word f (vpn page 0) 0 (F.Seat.view seat.old) }
+    ensures none { result ≡ None → F.Seat.view seat.new ≡ F.Seat.view seat.old }
+    ensures image { (t : Image) → HasTables (F.Seat.view seat.old) root.0 t → HasTables (F.Seat.view seat.new) root.0 (without_leaf t (leaf_node page)) × ChangesTables (F.Seat.view seat.old) (F.Seat.view seat.new) t t 0 }
+    ensures here { (leaf level : ℕ) → Maps (held_memory (F.Seat.view seat.new)) (ppn_of root.0) page leaf level → ⊥ }
+    ensures others { OthersStay (held_memory (F.Seat.view seat.old)) (held_memory (F.Seat.view seat.new)) (ppn_of root.0) page }
+    ensures keeps { Keeps F.rule store.old seat.old store.new seat.new }
+    ensures free { F.alone → F.free store.new ≡ F.free store.old }
+    ensures counts { F.alone → (f : ℕ) → F.count store.new f ≡ F.count store.old f }
+{
+    let table = table_of(store, seat, root, page)?;
+    let index = page.index(0);
+    let word = store.load(seat, table, index);
+    if word == 0 {
+        return None;
+    }
+    store.store(seat, table, index, 0);
+    Some(Entry::from_word(word))
+}

@@ -1,0 +1,76 @@
+// Tables that are added on the way to a page.
+
+ghost use Rattle.std.specs.FinMap.{get};
+ghost use Rattle.std.specs.Prelude.{◌≡◌, ◌<◌, ◌≤◌, ℕ, Some};
+ghost use Rattle.frame_store.specs.Laws.{Fits, Keeps};
+ghost use Rattle.frame_store.specs.View.{claimed, hold_of, IsHeld, IsSole, references, sole_hold, with_hold, with_word};
+ghost use Rattle.sv39_entry.specs.Word.{pointer_word};
+ghost use Rattle.table_walk.specs.Image.{blank_hold, ChangesTables, HasTables, Image, IsGrown, last_table, missing};
+ghost use Rattle.table_walk.specs.Walk.{top_level};
+
+use crate::find::TOP_LEVEL;
+use crate::tables::child;
+use frame_store::{FrameAccess, FrameSeat, FrameSupply};
+use sv39_entry::{Entry, FrameNo, Vpn};
+
+/// The last table on the way to a page, after those that were missing were made.
+pub(crate) fn grown_table<F: FrameSupply>(
+    store: &mut F,
+    seat: &mut F::Seat,
+    root: FrameNo,
+    page: Vpn,
+) -> FrameNo
+    requires fits { Fits F.rule store.old seat.old }
+    requires anchored { IsHeld (F.Seat.view seat.old) 0 }
+    requires tables { (t : Image) × HasTables (F.Seat.view seat.old) root.0 t × (missing t page ≤ (F.Seat.view seat.old).credits) }
+    ensures image { (t : Image) → HasTables (F.Seat.view seat.old) root.0 t → (u : Image) × IsGrown t u page top_level × HasTables (F.Seat.view seat.new) root.0 u × ChangesTables (F.Seat.view seat.old) (F.Seat.view seat.new) t u (missing t page) × (get u.tables (last_table page) ≡ Some result.0) }
+    ensures keeps { Keeps F.rule store.old seat.old store.new seat.new }
+    ensures free { F.alone → F.free store.new ≡ F.free store.old }
+{
+    let mut table = root;
+    'levels: for level in (1..=TOP_LEVEL).rev() {
+        let index = page.index(level);
+        table = match child(store, seat, table, index) {
+            Some(next) => next,
+            None => new_child(store, seat, table, index),
+        };
+    }
+    table
+}
+
+/// Makes an empty table at an index of a table. Its words are 0 before the pointer to it is written.
+fn new_child<F: FrameSupply>(
+    store: &mut F,
+    seat: &mut F::Seat,
+    table: FrameNo,
+    index: usize,
+) -> FrameNo
+    requires fits { Fits F.rule store.old seat.old }
+    requires anchored { IsHeld (F.Seat.view seat.old) 0 }
+    requires credit { 0 < (F.Seat.view seat.old).credits }
+    requires held { IsHeld (F.Seat.view seat.old) table.0 }
+    requires sole { IsSole (F.Seat.view seat.old) table.0 }
+    requires in_table { index < 512 }
+    ensures fresh { references (F.Seat.view seat.old) result.0 ≡ 0 }
+    ensures view { F.Seat.view seat.new ≡ with_word table.0 index (pointer_word result.0) (with_hold result.0 blank_hold (claimed result.0 (F.Seat.view seat.old))) }
+    ensures keeps { Keeps F.rule store.old seat.old store.new seat.new }
+    ensures free { F.alone → F.free store.new ≡ F.free store.old }
+{
+    let child = store.claim(seat);
+    clear(store, seat, child);
+    store.store(seat, table, index, Entry::pointer(child).to_word());
+    child
+}
+
+/// Makes each word of a frame 0 that was just claimed.
+pub(crate) fn clear<F: FrameAccess>(store: &mut F, seat: &mut F::Seat, frame: FrameNo)
+    requires fits { Fits F.rule store.old seat.old }
+    requires claimed { hold_of (F.Seat.view seat.old) frame.0 ≡ sole_hold }
+    ensures view { F.Seat.view seat.new ≡ with_hold frame.0 blank_hold (F.Seat.view seat.old) }
+    ensures keeps { Keeps F.rule store.old seat.old store.new seat.new }
+    ensures free { F.alone → F.free store.new ≡ F.free store.old }
+{
+    for index in 0..512 {
+        store.store(seat, frame, index, 0);
+    }
+}

@@ -1,0 +1,42 @@
+// The words of the frames that a seat holds.
+
+use crate::words::Words;
+use frame_store::{FrameAccess, FrameSeat};
+use sv39_entry::FrameNo;
+
+/// A store and a seat at it, both lent. The memory is what the seat knows of the frames that it holds.
+#[derive(Drop)]
+pub struct HeldWords<'a, F: FrameAccess> {
+    pub store: &'a mut F,
+    pub seat: &'a mut F::Seat,
+}
+
+impl<F: FrameAccess> Words for HeldWords<'_, F> {
+    ghost use Rattle.std.proofs.Common.{◌≡◌, refl, ap, ◌∙◌};
+    ghost use Rattle.frame_store.specs.Laws.{fits_after};
+    ghost use Rattle.frame_store.specs.Laws.{Fits, Keeps};
+    ghost use Rattle.table_walk.specs.Held.{held_memory, IsReadable};
+
+    ghost memory = { λ w. held_memory (F.Seat.view w.seat.now) };
+
+    ghost readable = { λ w ppn. Fits F.rule w.store.now w.seat.now × IsReadable (F.Seat.view w.seat.now) ppn };
+
+    ghost stays = { λ a b. (b.store.ghost_name ≡ a.store.ghost_name) × (b.seat.ghost_name ≡ a.seat.ghost_name) × (b.store.now ≡ a.store.now) × (F.Seat.view b.seat.now ≡ F.Seat.view a.seat.now) × Keeps F.rule a.store.now a.seat.now b.store.now b.seat.now };
+
+    ghost stays_itself = { λ a. (refl, refl, refl, refl, λ others h. h) };
+
+    ghost stays_on = { λ a b c p q. (q.0 ∙ p.0, q.1 ∙ p.1, q.2 ∙ p.2, q.3 ∙ p.3, λ others h. q.4 others (p.4 others h)) };
+
+    ghost same_memory = { λ a b p. ap held_memory p.3 };
+
+    ghost same_readable = { λ a b ppn p r. (fits_after F.rule p.4 r.0, rw p.3 r.1) };
+
+    fn word(&mut self, ppn: u64, index: usize) -> Option<u64> {
+        let frame = FrameNo::from_ppn(ppn)?;
+        Some(self.store.load(&mut *self.seat, frame, index))
+    }
+
+    fn has_word(&self, ppn: u64, index: usize) -> bool {
+        FrameNo::from_ppn(ppn).is_some()
+    }
+}

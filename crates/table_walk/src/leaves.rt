@@ -1,0 +1,101 @@
+// The leaves below a root, in ascending order of page.
+
+ghost use Rattle.std.specs.FinMap.{get};
+ghost use Rattle.std.specs.Prelude.{◌≡◌, ◌+◌, ◌*◌, ◌^◌, ◌<◌, ◌≤◌, ℕ, Some};
+ghost use Rattle.frame_store.specs.Laws.{Fits, Keeps};
+ghost use Rattle.table_walk.specs.Changed.{IsNextLeaf, IsNextLeafIn, IsTableAt};
+ghost use Rattle.table_walk.specs.Image.{HasTables, Image};
+ghost use Rattle.table_walk.specs.Places.{IsFirstLeaf};
+ghost use Rattle.table_walk.specs.Walk.{top_level};
+
+use crate::find::TOP_LEVEL;
+use crate::tables::child;
+use frame_store::{FrameAccess, FrameSeat};
+use sv39_entry::{Entry, FrameNo, Vpn};
+
+/// The first leaf at or after a page, and its page. A page is numbered by its indices alone, from the lowest index of the
+/// lowest table on: below half of all pages that is its page number. Reads no table that is not there.
+pub fn next_leaf<F: FrameAccess>(
+    store: &mut F,
+    seat: &mut F::Seat,
+    root: FrameNo,
+    from: Vpn,
+) -> Option<(Vpn, Entry)>
+    requires fits { Fits F.rule store.old seat.old }
+    requires held { (t : Image) × HasTables (F.Seat.view seat.old) root.0 t }
+    ensures leaf { (t : Image) → HasTables (F.Seat.view seat.old) root.0 t → IsNextLeaf t from result }
+    ensures view { F.Seat.view seat.new ≡ F.Seat.view seat.old }
+    ensures same { store.new ≡ store.old }
+    ensures keeps { Keeps F.rule store.old seat.old store.new seat.new }
+{
+    let (number, word) = next_below(store, seat, root, TOP_LEVEL, from.number())?;
+    Some((Vpn::new(number)?, Entry::from_word(word)))
+}
+
+/// The same below a table of a level, by places: at level 0 those are the indices, and above it each index has 512 times as
+/// many as those of the level below.
+#[cycle(leaves)]
+fn next_below<F: FrameAccess>(
+    store: &mut F,
+    seat: &mut F::Seat,
+    table: FrameNo,
+    level: u32,
+    from: u64,
+) -> Option<(u64, u64)>
+    requires fits { Fits F.rule store.old seat.old }
+    requires low { level ≤ top_level }
+    requires held { (root k : ℕ) × (t : Image) × HasTables (F.Seat.view seat.old) root t × (get t.tables k ≡ Some table.0) × IsTableAt k level }
+    ensures leaf { (root k : ℕ) (t : Image) → HasTables (F.Seat.view seat.old) root t → get t.tables k ≡ Some table.0 → IsTableAt k level → IsNextLeafIn t k level from result }
+    ensures view { F.Seat.view seat.new ≡ F.Seat.view seat.old }
+    ensures same { store.new ≡ store.old }
+    ensures keeps { Keeps F.rule store.old seat.old store.new seat.new }
+{
+    let width = index_places(level);
+    let mut place = from % width;
+    'indices: for index in from / width..512 {
+        if let Some((found, word)) = next_at(store, seat, table, level, index as usize, place) {
+            return Some((index * width + found, word));
+        }
+        place = 0;
+    }
+    None
+}
+
+/// The same below an index of a table of a level.
+#[cycle(leaves)]
+fn next_at<F: FrameAccess>(
+    store: &mut F,
+    seat: &mut F::Seat,
+    table: FrameNo,
+    level: u32,
+    index: usize,
+    from: u64,
+) -> Option<(u64, u64)>
+    requires fits { Fits F.rule store.old seat.old }
+    requires low { level ≤ top_level }
+    requires in_table { index < 512 }
+    requires within { from < 512 ^ level }
+    requires held { (root k : ℕ) × (t : Image) × HasTables (F.Seat.view seat.old) root t × (get t.tables k ≡ Some table.0) × IsTableAt k level }
+    ensures leaf { (root k : ℕ) (t : Image) → HasTables (F.Seat.view seat.old) root t → get t.tables k ≡ Some table.0 → IsTableAt k level → IsFirstLeaf t (k * 512 + index) (512 ^ level) from result }
+    ensures view { F.Seat.view seat.new ≡ F.Seat.view seat.old }
+    ensures same { store.new ≡ store.old }
+    ensures keeps { Keeps F.rule store.old seat.old store.new seat.new }
+{
+    if level == 0 {
+        let word = store.load(seat, table, index);
+        return if word == 0 { None } else { Some((0, word)) };
+    }
+    let next = child(store, seat, table, index)?;
+    next_below(store, seat, next, level - 1, from)
+}
+
+/// The places of each index of a table of a level.
+#[tactic(auto, using(std::proofs::lemmas::Nat::one_shl))]
+fn index_places(level: u32) -> u64
+    requires { level ≤ top_level }
+    ensures value { result ≡ 512 ^ level }
+    ensures some { 0 < result }
+    ensures few { result ≤ 2 ^ 18 }
+{
+    1 << (9 * level)
+}

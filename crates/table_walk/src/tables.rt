@@ -1,0 +1,79 @@
+// The tables below a root that a seat holds.
+
+ghost use Rattle.std.specs.FinMap.{get};
+ghost use Rattle.std.specs.Prelude.{◌≡◌, ◌+◌, ◌*◌, ◌<◌, ◌≤◌, ℕ, option_map, Some};
+ghost use Rattle.frame_store.specs.Laws.{Fits, Keeps};
+ghost use Rattle.table_walk.specs.Image.{first_leaf, HasTables, Image, last_table, missing};
+ghost use Rattle.table_walk.specs.Walk.{top_level};
+
+use crate::find::TOP_LEVEL;
+use frame_store::{FrameAccess, FrameSeat};
+use sv39_entry::{Entry, FrameNo, Kind, Vpn};
+
+/// The table that stands at an index of a table.
+pub(crate) fn child<F: FrameAccess>(
+    store: &mut F,
+    seat: &mut F::Seat,
+    table: FrameNo,
+    index: usize,
+) -> Option<FrameNo>
+    requires fits { Fits F.rule store.old seat.old }
+    requires held { (root k : ℕ) × (t : Image) × HasTables (F.Seat.view seat.old) root t × (get t.tables k ≡ Some table.0) × (k * 512 + index < first_leaf) }
+    requires in_table { index < 512 }
+    ensures child { (root k : ℕ) (t : Image) → HasTables (F.Seat.view seat.old) root t → get t.tables k ≡ Some table.0 → k * 512 + index < first_leaf → option_map (λ f. f.0) result ≡ get t.tables (k * 512 + index) }
+    ensures view { F.Seat.view seat.new ≡ F.Seat.view seat.old }
+    ensures same { store.new ≡ store.old }
+    ensures keeps { Keeps F.rule store.old seat.old store.new seat.new }
+{
+    let entry = Entry::from_word(store.load(seat, table, index));
+    if entry.kind() == Kind::Pointer {
+        return FrameNo::from_ppn(entry.ppn());
+    }
+    None
+}
+
+/// The last table on the way to a page, which has the page's leaf at the page's lowest index.
+pub(crate) fn table_of<F: FrameAccess>(
+    store: &mut F,
+    seat: &mut F::Seat,
+    root: FrameNo,
+    page: Vpn,
+) -> Option<FrameNo>
+    requires fits { Fits F.rule store.old seat.old }
+    requires held { (t : Image) × HasTables (F.Seat.view seat.old) root.0 t }
+    ensures table { (t : Image) → HasTables (F.Seat.view seat.old) root.0 t → option_map (λ f. f.0) result ≡ get t.tables (last_table page) }
+    ensures view { F.Seat.view seat.new ≡ F.Seat.view seat.old }
+    ensures same { store.new ≡ store.old }
+    ensures keeps { Keeps F.rule store.old seat.old store.new seat.new }
+{
+    let mut table = root;
+    'levels: for level in (1..=TOP_LEVEL).rev() {
+        table = child(store, seat, table, page.index(level))?;
+    }
+    Some(table)
+}
+
+/// How many tables are missing on the way to a page.
+pub fn missing_tables<F: FrameAccess>(
+    store: &mut F,
+    seat: &mut F::Seat,
+    root: FrameNo,
+    page: Vpn,
+) -> usize
+    requires fits { Fits F.rule store.old seat.old }
+    requires held { (t : Image) × HasTables (F.Seat.view seat.old) root.0 t }
+    ensures missing { (t : Image) → HasTables (F.Seat.view seat.old) root.0 t → result ≡ missing t page }
+    ensures few { result ≤ top_level }
+    ensures view { F.Seat.view seat.new ≡ F.Seat.view seat.old }
+    ensures same { store.new ≡ store.old }
+    ensures keeps { Keeps F.rule store.old seat.old store.new seat.new }
+{
+    let mut table = root;
+    'levels: for level in (1..=TOP_LEVEL).rev() {
+        match child(store, seat, table, page.index(level)) {
+            Some(next) => table = next,
+            None => return level as usize,
+        }
+    }
+    0
+}

@@ -1,0 +1,52 @@
+// The tables that are walked, and the order of the walks.
+
+use std::alloc::{AllocError, Global};
+use sv39_entry::{Entry, FrameNo, Rights};
+
+/// How many pages are mapped, from page 0 on.
+pub const PAGES: usize = 1000;
+
+/// The frame of the root. The table below it, and the two last tables, are in the frames after it.
+pub const ROOT: u16 = 1;
+
+/// The words of all frames. Page n is mapped to frame 5 + n.
+pub fn words(alloc: Global) -> Result<Vec<u64>, AllocError> {
+    let mut words = Vec::new(alloc);
+    for frame in 0..1024 {
+        for index in 0..512 {
+            words.push(word(frame, index).to_word())?;
+        }
+    }
+    Ok(words)
+}
+
+/// The entry at an index of a frame: of the root, the table below it, and the last tables.
+fn word(frame: u16, index: u16) -> Entry {
+    match (frame, index) {
+        (ROOT, 0) => Entry::pointer(FrameNo(2)),
+        (2, 0) => Entry::pointer(FrameNo(3)),
+        (2, 1) => Entry::pointer(FrameNo(4)),
+        (3, 0..512) => data(5 + index),
+        (4, 0..488) => data(517 + index),
+        _ => Entry::from_word(0),
+    }
+}
+
+/// A leaf that a user may load and store.
+fn data(frame: u16) -> Entry {
+    Entry::leaf(FrameNo(frame), Rights::READ | Rights::WRITE, true, false)
+}
+
+/// An address on each page, in an order that looks random: that of a linear generator of full period, of those numbers
+/// below 1,024 that are pages.
+pub fn addresses(alloc: Global) -> Result<Vec<u64>, AllocError> {
+    let mut addresses = Vec::new(alloc);
+    let mut number = 1u64;
+    for _ in 0..1024 {
+        number = number.wrapping_mul(421).wrapping_add(647) % 1024;
+        if number < PAGES as u64 {
+            addresses.push((number << 12) + number % 512 * 8)?;
+        }
+    }
+    Ok(addresses)
+}
