@@ -4,9 +4,8 @@ use Rattle.std.specs.Prelude.{slice_get, IsTrue}
 use Rattle.std.proofs.lemmas.Bool.Decides.{eqb_tells}
 use Rattle.std.specs.FinMap as map
 use Rattle.frame_store.specs.View.{View, Hold, hold_of, IsSole, sole_hold, with_hold, with_word, with_credits, claimed}
-use Rattle.frame_store.specs.Holds.{hold_of-with_hold_same}
 use Rattle.frame_clients.specs.Filled.{words_by_index, get-words_by_index, page_hold, filled}
-use Rattle.frame_clients.proofs.Views.{get-insert_at, same_answers, with_hold-with_hold, with_hold_back}
+use Rattle.frame_store.specs.Holds.{get-insert_at, hold_of-with_hold_same, same_answers, with_hold-with_hold, with_hold_back}
 
 -- what a longer front of the words has at each index
 slice_get-take_same : (words : List ℕ) (n : ℕ) → n < length words → slice_get (take (suc n) words) n ≡ Some (slice_index words n)

@@ -2,10 +2,9 @@
 use Rattle.std.proofs.Common.{◌≡◌, ◌+◌, ◌-◌, ◌<◌, ◌==◌, false, cond, [], ◌∷◌, ap, sym, subst, ◌∙◌, arith}
 use Rattle.std.proofs.lemmas.Bool.{ne_eqb}
 use Rattle.frame_store.specs.View.{View, Hold, hold_of, IsHeld, with_hold, without_hold, shared, split_off, empty_view, references, CanSplit}
-use Rattle.frame_store.specs.Holds.{hold_of-with_hold_same, hold_of-empty}
+use Rattle.frame_store.specs.Holds.{hold_of-with_hold_same, hold_of-empty, with_hold-with_hold}
 use Rattle.frame_store.specs.Laws.{IsAnchored}
 use Rattle.frame_clients.specs.Opened.{opener, opened, opener_held, opened_held}
-use Rattle.frame_clients.proofs.Views.{with_hold-with_hold}
 
 -- one more reference
 abbrev one_more : Hold → Hold

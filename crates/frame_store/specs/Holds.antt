@@ -1,11 +1,12 @@
 -- What a view has of a frame after a step: at the frame that changed, and at every other. These carry all reasoning of the crates
 -- above.
-use Rattle.std.proofs.Common.{◌≡◌, ℕ, ◌<◌, true, cond, refl, ap, sym, ◌∙◌, None, Some, subst, lit<}
+use Rattle.std.proofs.Common.{◌≡◌, ℕ, ◌<◌, ◌==◌, Bool, true, false, cond, refl, ap, sym, ◌∙◌, Option, None, Some, IsTrue, inl, inr, subst, arith, lit<}
 use Rattle.std.proofs.lemmas.Bool.{ne_eqb, eq-eqb}
+use Rattle.std.proofs.lemmas.Bool.Decides.{eqb_tells}
 use Rattle.std.specs.Cmp.{nat_cmp_total, unsigned_tied}
 use Rattle.std.specs.Ordering.{nat_cmp}
 use Rattle.std.specs.FinMap as map
-use Rattle.frame_store.specs.View.{View, Hold, hold_of, with_hold, without_hold, or_not_held, not_held, empty_view, opening_view, IsHeld}
+use Rattle.frame_store.specs.View.{View, Hold, hold_of, with_hold, without_hold, or_not_held, not_held, empty_view, opening_view, IsHeld, IsSole}
 
 module _ (f : ℕ) (h : Hold) (v : View) where
   pub hold_of-with_hold_same : hold_of (with_hold f h v) f ≡ h
@@ -36,3 +37,47 @@ hold_of-empty g = ap or_not_held (map.get-empty {X = Hold} nat_cmp g)
 
 pub opening_holds : (v : View) → v ≡ opening_view → IsHeld v 0
 opening_holds v e = subst (λ (k : Hold). 0 < k.references) (sym (ap (λ w. hold_of w 0) e ∙ hold_of-with_hold_same 0 record { references = 1; sole = true; words = map.empty } empty_view)) (lit< tt)
+
+-- what a map of numbers answers after an insertion
+pub get-insert_at : {X : Type 0} (m : map.FinMap nat_cmp X) (k : ℕ) (x : X) (q : ℕ) → map.get (map.insert m k x) q ≡ cond (q == k) (Some x) (map.get m q)
+get-insert_at m k x q = map.get-insert nat_cmp_total m k x q ∙ ap (λ b. cond b (Some x) (map.get m q)) (unsigned_tied q k)
+
+-- two maps of numbers that answer alike are equal
+pub same_answers : {X : Type 0} (m n : map.FinMap nat_cmp X) → ((q : ℕ) → map.get m q ≡ map.get n q) → m ≡ n
+same_answers m n is = map.same_map nat_cmp_total map.nat_cmp-IsAntisymmetric m n is
+
+either_way : {A : Type 0} (b : Bool) (x y z : A) → cond b x (cond b y z) ≡ cond b x z
+either_way true x y z = refl
+either_way false x y z = refl
+
+-- the later hold of a frame stands
+pub with_hold-with_hold : (f : ℕ) (h k : Hold) (v : View) → with_hold f h (with_hold f k v) ≡ with_hold f h v
+with_hold-with_hold f h k v =
+    ap (λ m. record v { frames = m }) (same_answers _ _ (λ q.
+    get-insert_at (map.insert v.frames f k) f h q ∙ ap (cond (q == f) (Some h)) (get-insert_at v.frames f k q)
+    ∙ either_way (q == f) (Some h) (Some k) (map.get v.frames q) ∙ sym (get-insert_at v.frames f h q)))
+
+put_back : (f : ℕ) (h : Hold) (v : View) → map.get v.frames f ≡ Some h → with_hold f h v ≡ v
+put_back f h v is =
+    ap (λ m. record v { frames = m }) (same_answers _ _ (λ q. get-insert_at v.frames f h q ∙
+    elim (eqb_tells q f) as (λ _. cond (q == f) (Some h) (map.get v.frames q) ≡ map.get v.frames q) [
+      | inl t ↦ rw (t.0, t.1) (sym is)
+      | inr t ↦ rw t.0 refl
+    ]))
+
+held_there : (o : Option Hold) (h : Hold) → or_not_held o ≡ h → 0 < h.references → o ≡ Some h
+held_there None h e lt = absurd (let none : 0 ≡ h.references = ap (λ (k : Hold). k.references) e in omega arith)
+held_there (Some k) h e lt = ap (λ x. Some x) e
+
+sole_there : (o : Option Hold) → IsTrue (or_not_held o).sole → o ≡ Some (or_not_held o)
+sole_there None sole = absurd (cc)
+sole_there (Some k) sole = refl
+
+-- the hold that a view has, put back, changes nothing
+pub with_hold_back : (f : ℕ) (h : Hold) (v : View) → hold_of v f ≡ h → 0 < h.references → with_hold f h v ≡ v
+unfolding hold_of
+with_hold_back f h v e lt = put_back f h v (held_there _ h e lt)
+
+pub with_sole_hold_back : (f : ℕ) (v : View) → IsSole v f → with_hold f (hold_of v f) v ≡ v
+unfolding hold_of
+with_sole_hold_back f v sole = put_back f (hold_of v f) v (sole_there _ sole)

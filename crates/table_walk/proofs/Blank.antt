@@ -1,46 +1,12 @@
 -- A frame is claimed, and each of its words made 0.
-use Rattle.std.proofs.Common.{◌≡◌, ℕ, zero, suc, ◌+◌, ◌-◌, ◌<◌, ◌==◌, cond, Bool, true, false, refl, ap, sym, subst, ◌∙◌, Option, None, Some, IsTrue, inl, inr, arith}
+use Rattle.std.proofs.Common.{◌≡◌, ℕ, zero, suc, ◌+◌, ◌-◌, ◌<◌, refl, ap, sym, subst, ◌∙◌, Some, IsTrue, inl, inr, arith}
 use Rattle.std.proofs.lemmas.Bool.{cases_eq}
-use Rattle.std.proofs.lemmas.Bool.Decides.{eqb_tells}
-use Rattle.std.specs.Cmp.{nat_cmp_total, unsigned_tied}
-use Rattle.std.specs.Ordering.{nat_cmp}
 use Rattle.std.specs.FinMap as map
 use Rattle.std.specs.FinMap.{get}
-use Rattle.frame_store.specs.Holds.{hold_of-frames, hold_of-with_hold_other, hold_of-with_hold_same}
-use Rattle.frame_store.specs.View.{Hold, View, claimed, hold_of, or_not_held, IsHeld, IsSole, known_word, references, sole_hold, with_hold, with_word}
+use Rattle.frame_store.specs.Holds.{hold_of-frames, hold_of-with_hold_other, hold_of-with_hold_same, with_hold-with_hold, with_hold_back}
+use Rattle.frame_store.specs.View.{Hold, View, claimed, hold_of, IsHeld, IsSole, known_word, references, sole_hold, with_hold, with_word}
 use Rattle.table_walk.specs.Image.{blank_hold, zeros_to}
 use Rattle.table_walk.proofs.Keys.{insert_other, insert_same}
-
--- ---- a hold is written twice, or written back
-
-get_inserted : {X : Type 0} (m : map.FinMap nat_cmp X) (k : ℕ) (x : X) (q : ℕ) → get (map.insert m k x) q ≡ cond (q == k) (Some x) (get m q)
-get_inserted m k x q = map.get-insert nat_cmp_total m k x q ∙ ap (λ b. cond b (Some x) (get m q)) (unsigned_tied q k)
-
-same_answers : {X : Type 0} (m n : map.FinMap nat_cmp X) → ((q : ℕ) → get m q ≡ get n q) → m ≡ n
-same_answers m n is = map.same_map nat_cmp_total map.nat_cmp-IsAntisymmetric m n is
-
-either_way : {A : Type 0} (b : Bool) (x y z : A) → cond b x (cond b y z) ≡ cond b x z
-either_way true x y z = refl
-either_way false x y z = refl
-
-held_twice : (f : ℕ) (h k : Hold) (v : View) → with_hold f h (with_hold f k v) ≡ with_hold f h v
-held_twice f h k v =
-    ap (λ m. record v { frames = m }) (same_answers _ _ (λ q.
-    get_inserted (map.insert v.frames f k) f h q ∙ ap (cond (q == f) (Some h)) (get_inserted v.frames f k q)
-    ∙ either_way (q == f) (Some h) (Some k) (get v.frames q) ∙ sym (get_inserted v.frames f h q)))
-
-there : (o : Option Hold) (h : Hold) → or_not_held o ≡ h → 0 < h.references → o ≡ Some h
-there None h e lt = absurd (let none : 0 ≡ h.references = ap (λ (k : Hold). k.references) e in omega arith)
-there (Some k) h e lt = ap (λ x. Some x) e
-
-held_back : (f : ℕ) (h : Hold) (v : View) → hold_of v f ≡ h → 0 < h.references → with_hold f h v ≡ v
-unfolding hold_of
-held_back f h v e lt =
-    ap (λ m. record v { frames = m }) (same_answers _ _ (λ q. get_inserted v.frames f h q ∙
-    elim (eqb_tells q f) as (λ _. cond (q == f) (Some h) (get v.frames q) ≡ get v.frames q) [
-      | inl t ↦ rw (t.0, t.1) (sym (there _ h e lt))
-      | inr t ↦ rw t.0 refl
-    ]))
 
 -- ---- the words that are 0 so far
 
@@ -58,7 +24,7 @@ zeros_next : (n : ℕ) → map.insert (zeros_to n) n 0 ≡ zeros_to (n + 1)
 zeros_next n = let next : n + 1 ≡ suc n = omega arith in rw next refl
 
 pub zeros_none : (f : ℕ) (v : View) → hold_of v f ≡ sole_hold → v ≡ with_hold f (zeros_hold 0) v
-zeros_none f v is = sym (held_back f sole_hold v is (omega arith))
+zeros_none f v is = sym (with_hold_back f sole_hold v is (omega arith))
 
 module _ (f n : ℕ) (v w : View) (is : w ≡ with_hold f (zeros_hold n) v) where
   zeros_so_far : hold_of w f ≡ zeros_hold n
@@ -72,7 +38,7 @@ module _ (f n : ℕ) (v w : View) (is : w ≡ with_hold f (zeros_hold n) v) wher
       stored ∙ ap (λ (h : Hold). with_hold f (record h { words = map.insert h.words n 0 }) w) zeros_so_far
       ∙ ap (λ ws. with_hold f (record sole_hold { words = ws }) w) (zeros_next n)
       ∙ ap (with_hold f (zeros_hold (n + 1))) is
-      ∙ held_twice f (zeros_hold (n + 1)) (zeros_hold n) v
+      ∙ with_hold-with_hold f (zeros_hold (n + 1)) (zeros_hold n) v
 
 -- ---- a claimed frame
 

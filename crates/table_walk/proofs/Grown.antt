@@ -384,3 +384,13 @@ module _ (v w : View) (root : ℕ) (t : Image) (page level table : ℕ) (one : 1
         let up = rw whole at (missing_up t page (suc depth) (top_level - suc depth)) in
         let spent = h.1.changes.credits in
         omega (arith, more, up, spent, enough)
+
+-- frame 0 is held still
+pub still_anchored : (v w : View) (t u : Image) (n : ℕ) → ChangesTables v w t u n → ((k f : ℕ) → get u.tables k ≡ Some f → IsHeld w f × IsSole w f) → IsHeld v 0 → IsHeld w 0
+still_anchored v w t u n changes own held = elim (cases_eq (references w 0) 0) [
+  | inl none ↦
+      let free : (k : ℕ) → get u.tables k ≡ Some 0 → ⊥ = λ k at. (let there = (own k 0 at).0 in omega (arith, none, there)) in
+      let same = ap (λ (h : Hold). h.references) (changes.apart 0 free) in
+      absurd (omega (arith, none, same, held))
+  | inr some ↦ omega (arith, some)
+]

@@ -8,6 +8,7 @@ pub mod LeafChanges
 pub mod Next
 pub mod Nodes
 pub mod Outcomes
+pub mod Roots
 pub mod Tested
 pub mod Walks
 pub mod Ways

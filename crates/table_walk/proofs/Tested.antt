@@ -1,19 +1,13 @@
 -- What the seats of the tests hold, step by step.
-use Rattle.std.proofs.Common.{◌≡◌, ℕ, ◌+◌, ◌-◌, ◌*◌, ◌^◌, ◌<◌, ◌≤◌, ◌==◌, Bool, true, false, cond, refl, ap, sym, subst, ◌∙◌, arith, inl, inr, Option, None, Some, Result, Ok, Err, lit<}
-use Rattle.std.proofs.lemmas.Bool.{cases_eq}
+use Rattle.std.proofs.Common.{◌≡◌, ℕ, ◌+◌, ◌-◌, ◌*◌, ◌<◌, ◌≤◌, ◌==◌, Bool, true, false, cond, refl, ap, sym, subst, ◌∙◌, arith, Option, Some, Result, Ok, Err, lit<}
 use Rattle.std.specs.Prelude.{if◌then◌else◌, is_ok, is_some, IfOk, IsSome}
-use Rattle.std.proofs.lemmas.Option.{same_Some}
 use Rattle.std.specs.FinMap as map
 use Rattle.std.specs.FinMap.{get}
-use Rattle.std.specs.Ordering.{nat_cmp}
 use Rattle.frame_store.specs.Holds.{hold_of-frames, hold_of-with_hold_other, hold_of-with_hold_same, hold_of-without_hold_other}
-use Rattle.frame_store.specs.View.{Hold, View, claimed, hold_of, IsHeld, IsSole, known_word, references, released, sole_hold, with_hold, with_word, without_hold}
+use Rattle.frame_store.specs.View.{Hold, View, claimed, hold_of, IsHeld, IsSole, references, released, sole_hold, with_hold, with_word, without_hold}
 use Rattle.table_walk.specs.Changed.{IsNextLeaf, places}
-use Rattle.table_walk.specs.Image.{blank_hold, HasTables, Image, pointer_or_zero, word_in, ChangesTables, leaf_node, missing, node}
+use Rattle.table_walk.specs.Image.{HasTables, Image, ChangesTables, leaf_node, missing, node}
 use Rattle.table_walk.specs.Walk.{top_level}
-use Rattle.table_walk.proofs.Blank.{zero_word}
-use Rattle.table_walk.proofs.Images.{word_high}
-use Rattle.table_walk.proofs.Keys.{insert_other, insert_same}
 use Rattle.table_walk.proofs.Nodes.{leaf_node_is}
 
 -- ---- a frame is claimed, written and let go
@@ -52,48 +46,6 @@ module _ (f : ℕ) (v : View) where
 pub same_held : (v w : View) (f : ℕ) → hold_of w f ≡ hold_of v f → IsHeld v f → IsHeld w f
 same_held v w f same held = subst (λ (h : Hold). 0 < h.references) (sym same) held
 
--- ---- an empty root
-
-abbrev pub root_alone : ℕ → Image
-root_alone root = record { tables = map.insert map.empty 1 root; leaves = map.empty }
-
-module _ (root : ℕ) where
-  one_table : (k f : ℕ) → get (root_alone root).tables k ≡ Some f → (k ≡ 1) × (f ≡ root)
-  one_table k f is = elim (cases_eq k 1) [
-    | inl same ↦ (same, same_Some f root (sym is ∙ insert_same map.empty 1 root k same))
-    | inr ne ↦ absurd (let none : ◌≡◌ {A = Option ℕ} (Some f) None = sym is ∙ insert_other map.empty 1 root k ne ∙ map.get-empty {X = ℕ} nat_cmp k in cc)
-  ]
-
-  no_leaf : (n x : ℕ) → get (root_alone root).leaves n ≡ Some x → ⊥
-  no_leaf n x is = let none : ◌≡◌ {A = Option ℕ} (Some x) None = sym is ∙ map.get-empty {X = ℕ} nat_cmp n in absurd (cc)
-
-  no_word : (i : ℕ) → i < 512 → word_in (root_alone root) (1 * 512 + i) ≡ 0
-  no_word i low = word_high (root_alone root) (1 * 512 + i) (omega (arith, low)) ∙ ap pointer_or_zero (insert_other map.empty 1 root (1 * 512 + i) (λ e. omega (arith, e)) ∙ map.get-empty {X = ℕ} nat_cmp (1 * 512 + i))
-
-  module _ (w : View) (small : root < 2 ^ 16) (blank : hold_of w root ≡ blank_hold) where
-    zero_known : (i : ℕ) → i < 512 → known_word w root i ≡ Some 0
-    zero_known i low = ap (λ (h : Hold). get h.words i) blank ∙ zero_word 512 i low
-
-    root_words : (k f i : ℕ) → get (root_alone root).tables k ≡ Some f → i < 512 → known_word w f i ≡ Some (word_in (root_alone root) (k * 512 + i))
-    root_words k f i at low =
-        let one = one_table k f at in
-        ap (λ (g : ℕ). known_word w g i) one.1 ∙ zero_known i low ∙ ap Some (sym (no_word i low)) ∙ ap (λ (n : ℕ). Some (word_in (root_alone root) (n * 512 + i))) (sym one.0)
-
-    pub root_tables : HasTables w root (root_alone root)
-    root_tables = record {
-      image = record {
-        rooted = insert_same map.empty 1 root 1 refl;
-        words = root_words;
-        apart = λ j k f a b. (one_table j f a).0 ∙ sym (one_table k f b).0;
-        below = λ k f at. let one = one_table k f at in (omega (arith, one.0), omega (arith, one.0), omega (arith, one.1, small));
-        hung = λ k f at. inl (one_table k f at).0;
-        leaf_hung = λ n x at. absurd (no_leaf n x at);
-      };
-      own = λ k f at.
-          let here : hold_of w f ≡ blank_hold = ap (hold_of w) (one_table k f at).1 ∙ blank in
-          (subst (λ (h : Hold). 0 < h.references) (sym here) (lit< tt), ap (λ (h : Hold). h.sole) here);
-    }
-
 -- ---- tables of which no frame changed
 
 pub same_tables : (v w : View) (root : ℕ) (t : Image) → ((f : ℕ) → IsHeld v f → hold_of w f ≡ hold_of v f) → HasTables v root t → HasTables w root t
@@ -122,16 +74,6 @@ missing_low t page =
     let one = one_or_none (is_some (get t.tables (node page 1))) in
     let two = one_or_none (is_some (get t.tables (node page 2))) in
     omega (arith, one, two)
-
--- frame 0 is held still
-pub still_anchored : (v w : View) (t u : Image) (n : ℕ) → ChangesTables v w t u n → ((k f : ℕ) → get u.tables k ≡ Some f → IsHeld w f × IsSole w f) → IsHeld v 0 → IsHeld w 0
-still_anchored v w t u n changes own held = elim (cases_eq (references w 0) 0) [
-  | inl none ↦
-      let free : (k : ℕ) → get u.tables k ≡ Some 0 → ⊥ = λ k at. (let there = (own k 0 at).0 in omega (arith, none, there)) in
-      let same = ap (λ (h : Hold). h.references) (changes.apart 0 free) in
-      absurd (omega (arith, none, same, held))
-  | inr some ↦ omega (arith, some)
-]
 
 -- as many credits as the pages that are left may need
 pub enough_left : (v w : View) (t u : Image) (page i : ℕ) → ChangesTables v w t u (missing t page) → 2 * (5 - i) ≤ v.credits → 2 * (5 - (i + 1)) ≤ w.credits

@@ -54,6 +54,10 @@ pub record HasTables (v : View) (root : ℕ) (t : Image) : Type 0 where
   pub image : IsImage (known_word v) root t
   pub own : (k f : ℕ) → get t.tables k ≡ Some f → IsHeld v f × IsSole v f
 
+-- a root without entries
+abbrev pub bare_root : ℕ → Image
+bare_root root = record { tables = insert empty 1 root; leaves = empty }
+
 -- changes of images
 
 abbrev pub with_leaf : Image → ℕ → ℕ → Image

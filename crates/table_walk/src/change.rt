@@ -27,6 +27,7 @@ pub fn map<F: FrameSupply>(store: &mut F, seat: &mut F::Seat, root: FrameNo, pag
     ensures image { (t : Image) → HasTables (F.Seat.view seat.old) root.0 t → (u : Image) × IsGrown t u page top_level × HasTables (F.Seat.view seat.new) root.0 (with_leaf u (leaf_node page) leaf) × ChangesTables (F.Seat.view seat.old) (F.Seat.view seat.new) t u (missing t page) }
     ensures here { Maps (held_memory (F.Seat.view seat.new)) (ppn_of root.0) page leaf 0 }
     ensures others { OthersStay (held_memory (F.Seat.view seat.old)) (held_memory (F.Seat.view seat.new)) (ppn_of root.0) page }
+    ensures anchored { IsHeld (F.Seat.view seat.new) 0 }
     ensures keeps { Keeps F.rule store.old seat.old store.new seat.new }
     ensures free { F.alone → F.free store.new ≡ F.free store.old }
 {

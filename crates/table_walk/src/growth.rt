@@ -5,7 +5,7 @@ ghost use Rattle.std.specs.Prelude.{◌≡◌, ◌<◌, ◌≤◌, ℕ, Some};
 ghost use Rattle.frame_store.specs.Laws.{Fits, Keeps};
 ghost use Rattle.frame_store.specs.View.{claimed, hold_of, IsHeld, IsSole, references, sole_hold, with_hold, with_word};
 ghost use Rattle.sv39_entry.specs.Word.{pointer_word};
-ghost use Rattle.table_walk.specs.Image.{blank_hold, ChangesTables, HasTables, Image, IsGrown, last_table, missing};
+ghost use Rattle.table_walk.specs.Image.{bare_root, blank_hold, ChangesTables, HasTables, Image, IsGrown, last_table, missing};
 ghost use Rattle.table_walk.specs.Walk.{top_level};
 
 use crate::find::TOP_LEVEL;
@@ -38,6 +38,23 @@ pub(crate) fn grown_table<F: FrameSupply>(
     table
 }
 
+/// Makes an empty table of a credit: a root of its own, until a pointer to it is written.
+pub fn new_table<F: FrameSupply>(store: &mut F, seat: &mut F::Seat) -> FrameNo
+    requires fits { Fits F.rule store.old seat.old }
+    requires anchored { IsHeld (F.Seat.view seat.old) 0 }
+    requires credit { 0 < (F.Seat.view seat.old).credits }
+    ensures fresh { references (F.Seat.view seat.old) result.0 ≡ 0 }
+    ensures view { F.Seat.view seat.new ≡ with_hold result.0 blank_hold (claimed result.0 (F.Seat.view seat.old)) }
+    ensures root { HasTables (F.Seat.view seat.new) result.0 (bare_root result.0) }
+    ensures anchored { IsHeld (F.Seat.view seat.new) 0 }
+    ensures keeps { Keeps F.rule store.old seat.old store.new seat.new }
+    ensures free { F.alone → F.free store.new ≡ F.free store.old }
+{
+    let table = store.claim(seat);
+    clear(store, seat, table);
+    table
+}
+
 /// Makes an empty table at an index of a table. Its words are 0 before the pointer to it is written.
 fn new_child<F: FrameSupply>(
     store: &mut F,
@@ -56,14 +73,13 @@ fn new_child<F: FrameSupply>(
     ensures keeps { Keeps F.rule store.old seat.old store.new seat.new }
     ensures free { F.alone → F.free store.new ≡ F.free store.old }
 {
-    let child = store.claim(seat);
-    clear(store, seat, child);
+    let child = new_table(store, seat);
     store.store(seat, table, index, Entry::pointer(child).to_word());
     child
 }
 
 /// Makes each word of a frame 0 that was just claimed.
-pub(crate) fn clear<F: FrameAccess>(store: &mut F, seat: &mut F::Seat, frame: FrameNo)
+fn clear<F: FrameAccess>(store: &mut F, seat: &mut F::Seat, frame: FrameNo)
     requires fits { Fits F.rule store.old seat.old }
     requires claimed { hold_of (F.Seat.view seat.old) frame.0 ≡ sole_hold }
     ensures view { F.Seat.view seat.new ≡ with_hold frame.0 blank_hold (F.Seat.view seat.old) }

@@ -20,6 +20,7 @@ mod words;
 pub use change::{map, protect, unmap};
 pub use counting::missing_is_growth;
 pub use find::lookup;
+pub use growth::new_table;
 pub use held::HeldWords;
 pub use laws::{one_found, one_outcome, walks_of_tables};
 pub use leaf::physical_address;

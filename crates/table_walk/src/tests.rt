@@ -6,10 +6,9 @@ ghost use Rattle.frame_store.specs.Plain.{BankRule};
 ghost use Rattle.frame_store.specs.View.{hold_of, IsHeld};
 ghost use Rattle.table_walk.specs.Image.{HasTables, Image};
 
-use crate::growth::clear;
 use crate::{
-    Found, HeldWords, PlainWords, Walk, lookup, map, missing_tables, next_leaf, protect, translate,
-    unmap, walks_of_tables,
+    Found, HeldWords, PlainWords, Walk, lookup, map, missing_tables, new_table, next_leaf, protect,
+    translate, unmap, walks_of_tables,
 };
 use frame_store::{FrameAccess, FrameSeat, FrameSupply, PlainFrames, PlainSeat};
 use std::alloc::{AllocError, Global};
@@ -116,21 +115,6 @@ const MAPPINGS: [Mapping; 5] = [
     (Va(0x3ffffff000), 13, 0x20003453),
 ];
 
-/// A claimed frame whose words are all 0.
-fn empty_root<F: FrameSupply>(store: &mut F, seat: &mut F::Seat) -> FrameNo
-    requires fits { Fits F.rule store.old seat.old }
-    requires anchored { IsHeld (F.Seat.view seat.old) 0 }
-    requires credit { 0 < (F.Seat.view seat.old).credits }
-    ensures tables { (t : Image) × HasTables (F.Seat.view seat.new) result.0 t }
-    ensures anchored { IsHeld (F.Seat.view seat.new) 0 }
-    ensures credits { (F.Seat.view seat.new).credits + 1 ≡ (F.Seat.view seat.old).credits }
-    ensures keeps { Keeps F.rule store.old seat.old store.new seat.new }
-{
-    let root = store.claim(seat);
-    clear(store, seat, root);
-    root
-}
-
 /// Leaves words in a free frame.
 fn leave_words<F: FrameSupply>(store: &mut F, seat: &mut F::Seat)
     requires fits { Fits F.rule store.old seat.old }
@@ -155,7 +139,7 @@ fn mapped(alloc: Global) -> Result<(PlainFrames, PlainSeat, FrameNo, [usize; 5])
     let (mut frames, mut seat) = PlainFrames::new(alloc, 16)?;
     let reserved = frames.reserve(&mut seat, 12);
     prove!(reserved.is_ok());
-    let root = empty_root(&mut frames, &mut seat);
+    let root = new_table(&mut frames, &mut seat);
     leave_words(&mut frames, &mut seat);
     let mut missing = [0; 5];
     for (index, (va, frame, _)) in MAPPINGS.iter().enumerate() {

@@ -4,6 +4,7 @@ use Rattle.frame_store.specs.View.{with_word}
 use Rattle.sv39_entry.specs.Address.{vpn}
 use Rattle.table_walk.specs.Image.{ChangesTables, HasTables, Image, IsGrown, last_table, leaf_node, missing, with_leaf}
 use Rattle.table_walk.specs.Walk.{top_level}
+use Rattle.table_walk.proofs.Grown.{still_anchored}
 use Rattle.table_walk.proofs.Keys.{insert_same, insert_other}
 use Rattle.table_walk.proofs.LeafChanges.{maps_leaf, others_stay, put_page, word_changes}
 use Rattle.table_walk.proofs.change.map.Given as given
@@ -42,3 +43,8 @@ returns-clause-others g c =
     let x = changed g c t c.requires.tables.1 in
     others_stay _ _ _ t _ c.requires.tables.1 x.2 c.args.page
     (λ n ne. insert_other x.0.leaves _ c.args.leaf n ne ∙ ap (λ leaves. get leaves n) x.1.leaves)
+
+pub returns-clause-anchored : goal.returns-clause-anchored
+returns-clause-anchored g c =
+    let x = changed g c c.requires.tables.0 c.requires.tables.1 in
+    still_anchored _ _ _ _ _ x.3 (λ k f at. x.2.own k f at) c.requires.anchored

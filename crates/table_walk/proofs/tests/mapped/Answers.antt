@@ -3,32 +3,33 @@ use Rattle.frame_store.specs.Laws.{fits_after}
 use Rattle.frame_store.specs.Plain.{BankRule}
 use Rattle.frame_store.specs.Holds.{hold_of-frames, opening_holds}
 use Rattle.frame_store.specs.View.{View, IsHeld, with_credits}
-use Rattle.table_walk.proofs.Tested.{enough_left, enough_now, of_ok, same_held, same_tables, same_view, still_anchored}
+use Rattle.table_walk.proofs.Tested.{enough_left, enough_now, of_ok, same_held, same_tables, same_view}
 use Rattle.table_walk.proofs.tests.mapped.Goals as goal
 
-pub empty_root-root-requires-clause-fits : goal.empty_root-root-requires-clause-fits
-empty_root-root-requires-clause-fits c = fits_after BankRule c.reserve-reserved.ensures.keeps ([], c.in_ok-frames.ensures.rule)
+pub new_table-root-requires-clause-fits : goal.new_table-root-requires-clause-fits
+new_table-root-requires-clause-fits c = fits_after BankRule c.reserve-reserved.ensures.keeps ([], c.in_ok-frames.ensures.rule)
 
-pub empty_root-root-requires-clause-anchored : goal.empty_root-root-requires-clause-anchored
-empty_root-root-requires-clause-anchored c =
+pub new_table-root-requires-clause-anchored : goal.new_table-root-requires-clause-anchored
+new_table-root-requires-clause-anchored c =
     let reserved = of_ok _ (sym c.is_ok.ensures.value ∙ c.if-prove.false) c.reserve-reserved.ensures.ok in
     let opened = opening_holds _ c.in_ok-frames.ensures.seat in
     subst (λ v. IsHeld v 0) (sym reserved) (same_held _ (with_credits 12 _) 0 (hold_of-frames (with_credits 12 _) _ refl 0) opened)
 
 pub leave_words-requires-clause-fits : goal.leave_words-requires-clause-fits
-leave_words-requires-clause-fits c = fits_after BankRule c.empty_root-root.ensures.keeps (fits_after BankRule c.reserve-reserved.ensures.keeps ([], c.in_ok-frames.ensures.rule))
+leave_words-requires-clause-fits c = fits_after BankRule c.new_table-root.ensures.keeps (fits_after BankRule c.reserve-reserved.ensures.keeps ([], c.in_ok-frames.ensures.rule))
 
 pub loop-index-init : goal.loop-index-init
 loop-index-init c =
     let reserved = of_ok _ (sym c.is_ok.ensures.value ∙ c.if-prove.false) c.reserve-reserved.ensures.ok in
     let opened = ap (λ (v : View). v.credits) c.in_ok-frames.ensures.seat in
     let had = ap (λ (v : View). v.credits) reserved in
-    let root = c.empty_root-root.ensures in
+    let root = c.new_table-root.ensures in
+    let spent = ap (λ (v : View). v.credits) root.view in
     let left = c.leave_words.ensures in
     record {
       rule = left.keeps [] (root.keeps [] (c.reserve-reserved.ensures.keeps [] c.in_ok-frames.ensures.rule));
       anchored = same_held _ _ 0 (left.kept 0 root.anchored) root.anchored;
-      tables = (root.tables.0, same_tables _ _ _ _ left.kept root.tables.1, omega (arith, opened, had, root.credits, left.credits));
+      tables = (_, same_tables _ _ _ _ left.kept root.root, omega (arith, opened, had, spent, left.credits));
     }
 
 pub map-requires-clause-tables : goal.map-requires-clause-tables
@@ -48,6 +49,6 @@ loop-index-preserved c =
     let after = c.map.ensures.image i.tables.0 (same_view _ _ _ _ view i.tables.1) in
     record {
       rule = c.map.ensures.keeps [] (c.missing_tables.ensures.keeps [] i.rule);
-      anchored = still_anchored _ _ _ _ _ after.3 (λ k f at. after.2.own k f at) (subst (λ v. IsHeld v 0) (sym view) i.anchored);
+      anchored = c.map.ensures.anchored;
       tables = (_, after.2, enough_left _ _ _ _ _ _ after.3 enough);
     }

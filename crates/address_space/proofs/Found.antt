@@ -1,0 +1,92 @@
+-- The region of a page in lists that are put together.
+use Rattle.std.proofs.Common.{◌≡◌, ℕ, zero, suc, ◌+◌, ◌<◌, ◌≤◌, length, get_or, take, arith, ◌%◌, min, true, false, List, [], ◌∷◌, ◌++◌, map, drop, refl, ap, sym, ◌∙◌, inl, inr, Option, Some, None}
+use Rattle.std.proofs.lemmas.Bool.{cases_Bool, cases_eq}
+use Rattle.std.specs.Int.{div_ceil}
+use Rattle.process_model.specs.Bytes.{pages_for}
+use Rattle.address_space.specs.Layouts.{last_page, region_of}
+use Rattle.address_space.specs.declared.region.Region.{Region as Run}
+use Rattle.process_model.specs.Process.{Process, heap_of, regions}
+use Rattle.process_model.specs.Regions.{Region, end_of, holds_page, region_at}
+
+first_found : (r : Region) (rs : List Region) (page : ℕ) → holds_page r page ≡ true → region_at (r ∷ rs) page ≡ Some r
+first_found r rs page held = rw held refl
+
+first_passed : (r : Region) (rs : List Region) (page : ℕ) → holds_page r page ≡ false → region_at (r ∷ rs) page ≡ region_at rs page
+first_passed r rs page other = rw other refl
+
+pub in_front : (rs ss : List Region) (page : ℕ) (r : Region) → region_at rs page ≡ Some r → region_at (rs ++ ss) page ≡ Some r
+in_front [] ss page r is = absurd (cc)
+in_front (x ∷ rs) ss page r is = elim (cases_Bool (holds_page x page)) [
+  | inl held ↦ rw held (rw held at is)
+  | inr other ↦ rw other (in_front rs ss page r (rw other at is))
+]
+
+pub behind : (rs ss : List Region) (page : ℕ) → region_at rs page ≡ None → region_at (rs ++ ss) page ≡ region_at ss page
+behind [] ss page none = refl
+behind (x ∷ rs) ss page none = elim (cases_Bool (holds_page x page)) [
+  | inl held ↦ absurd (let both = rw held at none in cc)
+  | inr other ↦ rw other (behind rs ss page (rw other at none))
+]
+
+-- the region of a page of a process, by where it stands
+module _ (p : Process) (parts : List Region) (page : ℕ) (is : p.parts ≡ parts) where
+  pub part_found : (r : Region) → region_at parts page ≡ Some r → Some r ≡ region_at (regions p) page
+  part_found r found = sym (rw is (in_front parts (heap_of p ∷ p.mappings) page r found))
+
+  module _ (none : region_at parts page ≡ None) (h : Region) (heap : h ≡ heap_of p) where
+    after_parts : region_at (regions p) page ≡ region_at (heap_of p ∷ p.mappings) page
+    after_parts = rw is (behind parts (heap_of p ∷ p.mappings) page none)
+
+    pub heap_found : holds_page h page ≡ true → Some h ≡ region_at (regions p) page
+    heap_found held = sym (after_parts ∙ first_found (heap_of p) p.mappings page (ap (λ r. holds_page r page) (sym heap) ∙ held) ∙ ap Some (sym heap))
+
+    pub mapping_found : (o : Option Region) → holds_page h page ≡ false → o ≡ region_at p.mappings page → o ≡ region_at (regions p) page
+    mapping_found o other found = found ∙ sym (after_parts ∙ first_passed (heap_of p) p.mappings page (ap (λ r. holds_page r page) (sym heap) ∙ other))
+
+-- whole pages
+pub pages_for_is : (n : ℕ) → div_ceil n 4096 ≡ pages_for n
+pages_for_is n = elim (cases_eq (n % 4096) 0) [
+  | inl whole ↦ rw whole (omega (arith, whole))
+  | inr part ↦ let one : min 1 (n % 4096) ≡ 1 = omega (arith, part) in rw one (omega (arith, part))
+]
+
+-- a region that does not hold the page is passed by
+pub passed : (rs : List Run) (i page : ℕ) (d : Run) → i < length rs → holds_page (region_of (get_or rs i d)) page ≡ false
+    → region_at (map region_of (drop i rs)) page ≡ region_at (map region_of (drop (suc i) rs)) page
+passed [] i page d less other = absurd (omega arith)
+passed (r ∷ rs) zero page d less other = rw other refl
+passed (r ∷ rs) (suc i) page d less other = passed rs i page d (omega arith) other
+
+pub met : (rs : List Run) (i page : ℕ) (d : Run) → i < length rs → holds_page (region_of (get_or rs i d)) page ≡ true
+    → region_at (map region_of (drop i rs)) page ≡ Some (region_of (get_or rs i d))
+met [] i page d less held = absurd (omega arith)
+met (r ∷ rs) zero page d less held = rw held refl
+met (r ∷ rs) (suc i) page d less held = met rs i page d (omega arith) held
+
+pub none_left : (rs : List Run) (i page : ℕ) → length rs ≤ i → region_at (map region_of (drop i rs)) page ≡ None
+none_left [] zero page past = refl
+none_left [] (suc i) page past = refl
+none_left (r ∷ rs) zero page past = absurd (omega arith)
+none_left (r ∷ rs) (suc i) page past = none_left rs i page (omega arith)
+
+-- ---- parts one after another
+
+pub take_next : (rs : List Run) (i : ℕ) (d : Run) → i < length rs → take (suc i) rs ≡ take i rs ++ get_or rs i d ∷ []
+take_next [] i d less = absurd (omega arith)
+take_next (r ∷ rs) zero d less = refl
+take_next (r ∷ rs) (suc i) d less = ap (λ xs. r ∷ xs) (take_next rs i d (omega arith))
+
+pub last_of : (end : ℕ) (rs : List Run) (r : Run) → last_page end (map region_of (rs ++ r ∷ [])) ≡ end_of (region_of r)
+last_of end [] r = refl
+last_of end (x ∷ rs) r = last_of (end_of (region_of x)) rs r
+
+-- a list with one more part
+pub part_more : (rs xs ys : List Run) (i : ℕ) (d : Run) → i < length rs → xs ≡ take i rs → ys ≡ xs ++ get_or rs i d ∷ [] → ys ≡ take (i + 1) rs
+part_more rs xs ys i d less is more =
+    let next : i + 1 ≡ suc i = omega arith in
+    more ∙ ap (λ zs. zs ++ get_or rs i d ∷ []) is ∙ sym (take_next rs i d less) ∙ ap (λ n. take n rs) (sym next)
+
+pub last_more : (rs : List Run) (i : ℕ) (d : Run) → i < length rs → end_of (region_of (get_or rs i d)) ≡ last_page 0 (map region_of (take (i + 1) rs))
+last_more rs i d less =
+    let next : i + 1 ≡ suc i = omega arith in
+    sym (ap (λ zs. last_page 0 (map region_of zs)) (ap (λ n. take n rs) next ∙ take_next rs i d less) ∙ last_of 0 (take i rs) (get_or rs i d))

@@ -1,0 +1,10 @@
+//! Address spaces of processes: regions, pages and their frames, and the table of the kernel.
+#![tactic(auto)]
+
+mod layout;
+mod region;
+#[cfg(test)]
+mod tests;
+
+pub use layout::Layout;
+pub use region::{Region, RegionKind, Source};

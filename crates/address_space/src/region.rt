@@ -1,0 +1,71 @@
+// Runs of pages with what they grant.
+
+ghost use Rattle.std.specs.Prelude.{◌≡◌, Some};
+ghost use Rattle.address_space.specs.Layouts.{region_of};
+ghost use Rattle.process_model.specs.Regions as model;
+
+use sv39_entry::{Access, Rights};
+
+/// What a region is there for (the xv6 book, "Process address space"; mappings are those of the mmap lab).
+#[derive(Clone, Copy, PartialEq, Eq, Debug)]
+pub enum RegionKind {
+    Segment,
+    Guard,
+    Stack,
+    Heap,
+    SharedMapping,
+    PrivateMapping,
+}
+
+/// Where the bytes come from that a page has when it gets its frame.
+#[derive(Clone, Copy, PartialEq, Eq, Debug)]
+pub enum Source {
+    Zeros,
+    /// The image that the process was started with.
+    Image,
+    /// A file, by its number, and the offset of the region's first byte in it.
+    File { file: u64, offset: u64 },
+}
+
+/// A run of pages, by the number of its first page, with what it grants to the user.
+#[derive(Clone, Copy, PartialEq, Eq, Debug)]
+pub struct Region {
+    pub first: u64,
+    pub pages: u64,
+    pub rights: Rights,
+    pub kind: RegionKind,
+    pub source: Source,
+}
+
+/// What stands in a place that no region has.
+impl Default for Region {
+    ghost use Rattle.std.specs.Prelude.{⊤};
+
+    ghost is_default = { λ r. ⊤ };
+
+    fn default() -> Region {
+        Region {
+            first: 0,
+            pages: 0,
+            rights: Rights::READ,
+            kind: RegionKind::Segment,
+            source: Source::Zeros,
+        }
+    }
+}
+
+impl Region {
+    /// Whether a page is one of the run.
+    pub fn holds_page(&self, page: u64) -> bool
+        ensures { result ≡ model.holds_page (region_of self.now) page }
+    {
+        self.first <= page && page - self.first < self.pages
+    }
+
+    /// Whether the right is missing that an access needs.
+    pub fn lacks_right(&self, access: Access) -> bool
+        ensures { result ≡ model.lacks_right access (Some (region_of self.now)) }
+    {
+        !self.rights.grants(access)
+    }
+}

@@ -1,0 +1,66 @@
+// The first rule on the pages of a process with text, data, guard and stack.
+
+ghost use Rattle.std.specs.Prelude.{◌≡◌};
+
+use crate::{Layout, Region, RegionKind, Source};
+use bitflags::Flags;
+use std::test::Fail;
+use sv39_entry::{Access, Rights, Rule, Va};
+
+/// An access to an address by so many bytes, and the rule that denies it.
+type Row = (Access, u64, u64, Option<Rule>);
+
+fn part(first: u64, pages: u64, rights: Rights, kind: RegionKind) -> Region
+    ensures first { result.first ≡ first }
+    ensures pages { result.pages ≡ pages }
+{
+    Region {
+        first,
+        pages,
+        rights,
+        kind,
+        source: Source::Image,
+    }
+}
+
+#[test]
+fn tells_the_first_rule(rt: HostRuntime) -> Result<(), Fail> {
+    let (mut code, mut data) = (Rights::READ, Rights::READ);
+    code.insert(Rights::EXECUTE);
+    data.insert(Rights::WRITE);
+    let parts = [
+        part(0, 1, code, RegionKind::Segment),
+        part(1, 2, data, RegionKind::Segment),
+        part(5, 1, Rights::READ, RegionKind::Guard),
+        part(6, 1, data, RegionKind::Stack),
+    ];
+    let layout = Layout::new(&parts);
+    let rows: [Row; 14] = [
+        (Access::Fetch, 0x0, 4, None),
+        (Access::Store, 0xff8, 8, Some(Rule::NoWrite)),
+        (Access::Load, 0x1000, 8, None),
+        (Access::Store, 0x2ff8, 8, None),
+        (Access::Fetch, 0x1000, 4, Some(Rule::NoExec)),
+        (Access::Load, 0x3000, 1, Some(Rule::NoRegion)),
+        (Access::Load, 0x5000, 1, Some(Rule::GuardPage)),
+        (Access::Store, 0x6000, 4, None),
+        (Access::Load, 0x7000, 1, Some(Rule::NoRegion)),
+        (Access::Load, 0x3fffffe000, 1, Some(Rule::KernelPage)),
+        (Access::Fetch, 0x3ffffff000, 4, Some(Rule::KernelPage)),
+        (Access::Load, 0x4000000000, 8, Some(Rule::BeyondMax)),
+        (Access::Load, 0x4000000001, 8, Some(Rule::Misaligned)),
+        (Access::Load, u64::MAX, 1, Some(Rule::BeyondMax)),
+    ];
+    for (access, address, width, rule) in rows {
+        let told = match rule {
+            Some(rule) => Err(rule),
+            None => Ok(()),
+        };
+        assert_eq!(rt;
+            layout.grant(access, Va(address), width.max(1)),
+            told,
+            "{access:?} {address:x}"
+        );
+    }
+    Ok(())
+}

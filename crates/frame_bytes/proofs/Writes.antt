@@ -1,0 +1,91 @@
+-- What a list of bytes has after a write, and the word there.
+use Rattle.std.proofs.Common.{◌≡◌, ℕ, zero, suc, ◌+◌, ◌-◌, ◌*◌, ◌/◌, ◌%◌, ◌^◌, ◌<◌, ◌≤◌, inl, inr, List, [], ◌∷◌, ◌++◌, length, take, drop, slice_index, refl, ap, sym, ◌∙◌, arith, replicate, length-append}
+use Rattle.std.proofs.lemmas.Nat.{shr-shr}
+use Rattle.std.proofs.lemmas.Bool.{cases_lt}
+use Rattle.std.proofs.lemmas.Grind.{common_steps}
+use Rattle.std.proofs.lemmas.List.{get_or_append_left, get_or-append_right, length-replicate, take_all}
+use Rattle.std.specs.Int.{w64, to_le_bytes, from_le_bytes}
+use Rattle.process_model.specs.Bytes.{number, low_bytes, write_bytes, padded}
+use Rattle.frame_bytes.proofs.Numbers.{number_suc, number-zero}
+
+pub length-low_bytes : (v n : ℕ) → length (low_bytes v n) ≡ n
+unfolding low_bytes
+length-low_bytes v zero = refl
+length-low_bytes v (suc n) = ap suc (length-low_bytes (v / 2 ^ 8) n)
+
+pub slice_index-low_bytes : (n v k : ℕ) → k < n → slice_index (low_bytes v n) k ≡ v / 2 ^ (8 * k) % 2 ^ 8
+unfolding low_bytes
+slice_index-low_bytes zero v k h = absurd (omega arith)
+slice_index-low_bytes (suc n) v zero h = omega arith
+slice_index-low_bytes (suc n) v (suc k) h =
+    slice_index-low_bytes n (v / 2 ^ 8) k (omega arith) ∙ rw shr-shr (let e : 8 + 8 * k ≡ 8 * suc k = omega arith in rw e refl)
+
+module _ (bs vs : List ℕ) (o : ℕ) (room : o + length vs ≤ length bs) where
+  pub at_before : (k : ℕ) → k < o → slice_index (write_bytes bs o vs) k ≡ slice_index bs k
+  at_before k h = grind (arith, common_steps)
+
+  pub at_inside : (k : ℕ) → k < length vs → slice_index (write_bytes bs o vs) (o + k) ≡ slice_index vs k
+  at_inside k h = grind (arith, common_steps)
+
+  pub at_after : (k : ℕ) → o + length vs ≤ k → slice_index (write_bytes bs o vs) k ≡ slice_index bs k
+  at_after k h = grind (arith, common_steps)
+
+  pub length-write_bytes : length (write_bytes bs o vs) ≡ length bs
+  length-write_bytes = grind (arith, common_steps)
+
+-- equal bytes are equal numbers, wherever they lie
+pub number_same : (n o p : ℕ) (bs cs : List ℕ) → ((k : ℕ) → k < n → slice_index bs (o + k) ≡ slice_index cs (p + k))
+    → number (drop o bs) n ≡ number (drop p cs) n
+number_same zero o p bs cs same = number-zero (drop o bs) ∙ sym (number-zero (drop p cs))
+number_same (suc n) o p bs cs same =
+    let first : slice_index bs o ≡ slice_index cs p
+    = (let a : o + 0 ≡ o = omega arith in let b : p + 0 ≡ p = omega arith in rw (a, b) at (same 0 (omega arith))) in
+    let rest = number_same n (o + 1) (p + 1) bs cs (λ k h.
+    let a : o + 1 + k ≡ o + (k + 1) = omega arith in let b : p + 1 + k ≡ p + (k + 1) = omega arith in rw (a, b) (same (k + 1) (omega arith))) in
+    omega (arith, first, rest, number_suc bs o n, number_suc cs p n)
+
+-- the bytes of a word as std has them
+pub from_le : (bs : List ℕ) → length bs ≡ 8 → from_le_bytes w64 bs ≡ number bs 8
+unfolding number
+from_le (a ∷ b ∷ c ∷ d ∷ e ∷ f ∷ g ∷ h ∷ []) long = omega arith
+from_le _ long = absurd (omega arith)
+
+pub to_le : (n k : ℕ) → k < 8 → slice_index (to_le_bytes w64 n) k ≡ n / 2 ^ (8 * k) % 2 ^ 8
+to_le n zero h = omega arith
+to_le n (suc zero) h = refl
+to_le n (suc (suc zero)) h = refl
+to_le n (suc (suc (suc zero))) h = refl
+to_le n (suc (suc (suc (suc zero)))) h = refl
+to_le n (suc (suc (suc (suc (suc zero))))) h = refl
+to_le n (suc (suc (suc (suc (suc (suc zero)))))) h = refl
+to_le n (suc (suc (suc (suc (suc (suc (suc zero))))))) h = refl
+to_le n (suc (suc (suc (suc (suc (suc (suc (suc k)))))))) h = absurd (omega arith)
+
+pub from_le_is : (word bs : List ℕ) (start : ℕ) → length word ≡ 8 → ((k : ℕ) → k < 8 → slice_index word k ≡ slice_index bs (start + k))
+    → from_le_bytes w64 word ≡ number (drop start bs) 8
+from_le_is word bs start long same = from_le word long ∙ number_same 8 0 start word bs (λ k h. let none : 0 + k ≡ k = omega arith in rw none (same k h))
+
+zeros : (n k : ℕ) → slice_index (replicate n 0) k ≡ 0
+zeros zero k = refl
+zeros (suc n) zero = refl
+zeros (suc n) (suc k) = zeros n k
+
+pub past : (bs : List ℕ) (k : ℕ) → length bs ≤ k → slice_index bs k ≡ 0
+past [] k h = refl
+past (b ∷ bs) zero h = absurd (omega arith)
+past (b ∷ bs) (suc k) h = past bs k (omega arith)
+
+module _ (n : ℕ) (bs : List ℕ) (short : length bs ≤ n) where
+  padded_is : padded n bs ≡ bs ++ replicate (n - length bs) 0
+  padded_is = let e : take n bs ≡ bs = take_all n bs short in rw e refl
+
+  pub length-padded : length (padded n bs) ≡ n
+  length-padded =
+      ap length padded_is ∙ length-append bs _
+      ∙ (let e : length (replicate {A = ℕ} (n - length bs) 0) ≡ n - length bs = length-replicate (n - length bs) 0 in omega (arith, e))
+
+  pub slice_index-padded : (k : ℕ) → slice_index (padded n bs) k ≡ slice_index bs k
+  slice_index-padded k = ap (λ cs. slice_index cs k) padded_is ∙ elim (cases_lt k (length bs)) [
+    | inl h ↦ get_or_append_left bs _ 0 k h
+    | inr h ↦ get_or-append_right bs _ (length bs) k 0 refl h ∙ zeros (n - length bs) (k - length bs) ∙ sym (past bs k h)
+  ]

@@ -1,0 +1,34 @@
+use Rattle.std.proofs.Common.{◌≡◌, ℕ, ◌*◌, ◌∙◌, Option, Some, drop, refl, ap, arith}
+use Rattle.process_model.specs.Bytes.{number}
+use Rattle.frame_bytes.proofs.Changed.{changes_none, changes_one, changes_both, changed_sole, known_more}
+use Rattle.frame_bytes.proofs.Filled.{filled}
+use Rattle.frame_bytes.proofs.contents.fill_frame.Goals as goal
+
+pub loop-index-init : goal.loop-index-init
+loop-index-init g c = record {
+  fits = c.requires.fits;
+  words = λ i h. absurd (omega arith);
+  others = changes_none _ _ c.requires.sole;
+  keeps = λ others r. r;
+  free = λ a. refl;
+  counts = λ a f. refl;
+}
+
+pub store-requires-clause-sole : goal.store-requires-clause-sole
+store-requires-clause-sole g c = changed_sole _ _ _ c.loop-index.invariant.others _ c.requires.sole
+
+pub loop-index-preserved : goal.loop-index-preserved
+loop-index-preserved g c =
+    let i = c.loop-index.invariant in
+    let word : ℕ → Option ℕ → Type 0 = λ q k. k ≡ Some (number (drop (8 * q) c.args.bytes.now) 8) in
+    record {
+      fits = (i.fits.0, c.store.ensures.keeps i.fits.0 i.fits.1);
+      words = known_more _ _ _ _ _ c.store.ensures.view word i.words (ap (λ w. Some w) c.word_from.ensures);
+      others = changes_both _ _ _ _ i.others (changes_one _ _ _ _ _ c.store.ensures.view);
+      keeps = λ others r. c.store.ensures.keeps others (i.keeps others r);
+      free = λ a. c.store.ensures.free a ∙ i.free a;
+      counts = λ a f. c.store.ensures.counts a f ∙ i.counts a f;
+    }
+
+pub returns-clause-bytes : goal.returns-clause-bytes
+returns-clause-bytes g c = filled _ _ _ c.requires.inside (λ k. omega (arith, c.type_inv.bytes k)) (λ i h. c.loop-index.invariant.words i (omega arith))

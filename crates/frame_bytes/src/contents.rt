@@ -1,0 +1,136 @@
+// A page of 4,096 bytes in the 512 words of a frame. The lowest byte of a word comes first, as loads and stores of RV64
+// have it.
+
+ghost use Rattle.std.specs.Prelude.{◌≡◌, ◌≢◌, ◌+◌, ◌*◌, ◌%◌, ◌^◌, ◌<◌, ◌≤◌, ℕ, drop, IsTrue, length, List};
+ghost use Rattle.frame_bytes.specs.Contents.{ChangesWords, HasBytes};
+ghost use Rattle.frame_store.specs.Laws.{Fits, Keeps};
+ghost use Rattle.frame_store.specs.View.{IsHeld, IsSole};
+ghost use Rattle.process_model.specs.Bytes.{is_width, low_bytes, number, padded, write_bytes};
+
+use frame_store::{FrameAccess, FrameSeat};
+use sv39_entry::FrameNo;
+
+/// The little-endian number in 1, 2, 4 or 8 bytes of a frame, `width` of them from `offset` on, which is a multiple of
+/// the width. So the bytes lie in one word.
+pub fn load_bytes<F: FrameAccess>(
+    store: &mut F,
+    seat: &mut F::Seat,
+    frame: FrameNo,
+    offset: usize,
+    width: usize,
+) -> u64
+    requires fits { Fits F.rule store.old seat.old }
+    requires held { IsHeld (F.Seat.view seat.old) frame.0 }
+    requires known { (bytes : List ℕ) × HasBytes (F.Seat.view seat.old) frame.0 bytes }
+    requires width { IsTrue (is_width width) }
+    requires inside { offset < 4096 }
+    requires aligned { offset % width ≡ 0 }
+    ensures number { (bytes : List ℕ) → HasBytes (F.Seat.view seat.old) frame.0 bytes → result ≡ number (drop offset bytes) width }
+    ensures view { F.Seat.view seat.new ≡ F.Seat.view seat.old }
+    ensures same { store.new ≡ store.old }
+    ensures keeps { Keeps F.rule store.old seat.old store.new seat.new }
+{
+    let word = store.load(seat, frame, offset / 8);
+    low_bytes_of(word >> (8 * (offset % 8)), width)
+}
+
+/// The lowest bytes of a word.
+fn low_bytes_of(word: u64, width: usize) -> u64
+    requires { IsTrue (is_width width) }
+    ensures { result ≡ word % 2 ^ (8 * width) }
+{
+    if width == 8 {
+        word
+    } else {
+        word % (1 << (8 * width))
+    }
+}
+
+/// Puts the `width` lowest bytes of a value, 1, 2, 4 or 8, into a frame from `offset` on, which is a multiple of the
+/// width. What else the value has is dropped, and the bytes beside them stay.
+pub fn store_bytes<F: FrameAccess>(
+    store: &mut F,
+    seat: &mut F::Seat,
+    frame: FrameNo,
+    offset: usize,
+    width: usize,
+    value: u64,
+)
+    requires fits { Fits F.rule store.old seat.old }
+    requires held { IsHeld (F.Seat.view seat.old) frame.0 }
+    requires sole { IsSole (F.Seat.view seat.old) frame.0 }
+    requires known { (bytes : List ℕ) × HasBytes (F.Seat.view seat.old) frame.0 bytes }
+    requires width { IsTrue (is_width width) }
+    requires inside { offset < 4096 }
+    requires aligned { offset % width ≡ 0 }
+    ensures bytes { (bytes : List ℕ) → HasBytes (F.Seat.view seat.old) frame.0 bytes →
+        HasBytes (F.Seat.view seat.new) frame.0 (write_bytes bytes offset (low_bytes value width)) }
+    ensures others { ChangesWords frame.0 (F.Seat.view seat.old) (F.Seat.view seat.new) }
+    ensures keeps { Keeps F.rule store.old seat.old store.new seat.new }
+    ensures free { F.alone → F.free store.new ≡ F.free store.old }
+    ensures counts { F.alone → (f : ℕ) → F.count store.new f ≡ F.count store.old f }
+{
+    let index = offset / 8;
+    let mut word = store.load(seat, frame, index).to_le_bytes();
+    let value = value.to_le_bytes();
+    overwrite(&mut word, offset % 8, &value[..width]);
+    store.store(seat, frame, index, u64::from_le_bytes(word));
+}
+
+/// Puts bytes at an index.
+fn overwrite(bytes: &mut [u8], at: usize, part: &[u8])
+    requires { at + length part.now ≤ length bytes.old }
+    ensures { bytes.new ≡ write_bytes bytes.old at part.now }
+{
+    bytes[at..at + part.len()].copy_from_slice(part);
+}
+
+/// Fills a frame with at most 4,096 bytes, and with zeros behind them. What it had before need not be known.
+pub fn fill_frame<F: FrameAccess>(store: &mut F, seat: &mut F::Seat, frame: FrameNo, bytes: &[u8])
+    requires fits { Fits F.rule store.old seat.old }
+    requires sole { IsSole (F.Seat.view seat.old) frame.0 }
+    requires inside { length bytes.now ≤ 4096 }
+    ensures bytes { HasBytes (F.Seat.view seat.new) frame.0 (padded 4096 bytes.now) }
+    ensures others { ChangesWords frame.0 (F.Seat.view seat.old) (F.Seat.view seat.new) }
+    ensures keeps { Keeps F.rule store.old seat.old store.new seat.new }
+    ensures free { F.alone → F.free store.new ≡ F.free store.old }
+    ensures counts { F.alone → (f : ℕ) → F.count store.new f ≡ F.count store.old f }
+{
+    for index in 0..512 {
+        store.store(seat, frame, index, word_from(bytes, 8 * index));
+    }
+}
+
+/// The word of the eight bytes from an index on, with zeros where the bytes end.
+fn word_from(bytes: &[u8], start: usize) -> u64
+    requires { start < 4096 }
+    ensures { result ≡ number (drop start bytes.now) 8 }
+{
+    let mut word = [0; 8];
+    for k in 0..8 {
+        if let Some(byte) = bytes.get(start + k) {
+            word[k] = *byte;
+        }
+    }
+    u64::from_le_bytes(word)
+}
+
+/// Copies the 4,096 bytes of a frame into another one, word by word.
+pub fn copy_frame<F: FrameAccess>(store: &mut F, seat: &mut F::Seat, from: FrameNo, to: FrameNo)
+    requires fits { Fits F.rule store.old seat.old }
+    requires held { IsHeld (F.Seat.view seat.old) from.0 }
+    requires known { (bytes : List ℕ) × HasBytes (F.Seat.view seat.old) from.0 bytes }
+    requires sole { IsSole (F.Seat.view seat.old) to.0 }
+    requires apart { from.0 ≢ to.0 }
+    ensures bytes { (bytes : List ℕ) → HasBytes (F.Seat.view seat.old) from.0 bytes →
+        HasBytes (F.Seat.view seat.new) to.0 bytes }
+    ensures others { ChangesWords to.0 (F.Seat.view seat.old) (F.Seat.view seat.new) }
+    ensures keeps { Keeps F.rule store.old seat.old store.new seat.new }
+    ensures free { F.alone → F.free store.new ≡ F.free store.old }
+    ensures counts { F.alone → (f : ℕ) → F.count store.new f ≡ F.count store.old f }
+{
+    for at in 0..512 {
+        let word = store.load(seat, from, at);
+        store.store(seat, to, at, word);
+    }
+}

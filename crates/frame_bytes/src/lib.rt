@@ -1,0 +1,8 @@
+//! Bytes of frames: pages of 4,096 bytes in the 512 words of a frame, over any store of frames.
+#![tactic(auto)]
+
+mod contents;
+#[cfg(test)]
+mod tests;
+
+pub use contents::{copy_frame, fill_frame, load_bytes, store_bytes};
