@@ -2,7 +2,7 @@
 use Rattle.std.proofs.Common.{◌≡◌, ℕ, ◌+◌, ◌*◌, ◌/◌, ◌%◌, ◌^◌, true, refl, ◌∙◌, arith}
 use Rattle.std.proofs.lemmas.Nat.{mod-pow-add}
 use Rattle.sv39_entry.specs.Address.{is_canonical, page_of}
-use Rattle.table_walk.specs.Memory.{Memory, has_byte, physical_address}
+use Rattle.table_walk.specs.Memory.{Extent, Memory, has_byte, physical_address}
 use Rattle.table_walk.specs.Walk.{Finds}
 use Rattle.table_walk.specs.declared.walk.Found.{Found}
 use Rattle.table_walk.specs.declared.walk.Found.TheVariants as found
@@ -28,8 +28,8 @@ module _ (a b : ℕ) (same : page_of a ≡ page_of b) where
   frame_on_page : (leaf level : ℕ) → physical_address leaf level a / 4096 ≡ physical_address leaf level b / 4096
   frame_on_page leaf level = let low = page_low (9 * level) in omega arith
 
-  pub byte_on_page : (m : Memory) (leaf level : ℕ) → IsWhole m (physical_address leaf level b / 4096)
-      → has_byte m (physical_address leaf level a) ≡ true → has_byte m (physical_address leaf level b) ≡ true
-  byte_on_page m leaf level whole there =
+  pub byte_on_page : (there : Extent) (leaf level : ℕ) → IsWhole there (physical_address leaf level b / 4096)
+      → has_byte there (physical_address leaf level a) ≡ true → has_byte there (physical_address leaf level b) ≡ true
+  byte_on_page there leaf level whole byte =
       let frame = frame_on_page leaf level in
-      whole (physical_address leaf level b % 4096 / 8) (physical_address leaf level a % 4096 / 8) (omega arith) (omega arith) ∙ (rw frame at there)
+      whole (physical_address leaf level b % 4096 / 8) (physical_address leaf level a % 4096 / 8) (omega arith) (omega arith) ∙ (rw frame at byte)

@@ -22,7 +22,7 @@ abbrev pub is_match : ℕ → ℕ → Option TlbEntry → Bool
 is_match address asid None = false
 is_match address asid (Some e) = matches address asid e
 
--- what an access comes to by the leaf of an entry, or by its having none (the standard, 4.3.2, steps 2, 5 and 8)
+-- what an access comes to by the leaf of an entry, or by its having none (the standard, 4.3.2, steps 3 to 8)
 abbrev pub answer : Option Leaf → ℕ → Access → Mode → Walk
 answer None address access mode = walk.PageFault (page_fault_cause access)
 answer (Some leaf) address access mode =

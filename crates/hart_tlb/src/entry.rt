@@ -10,6 +10,7 @@ use table_walk::Walk;
 /// What a walk found for one page of 4,096 bytes, also where its leaf is a superpage.
 #[derive(Clone, Copy, PartialEq, Eq, Debug)]
 pub struct TlbEntry {
+    /// Bits 63 to 12 of the addresses that it serves.
     pub page: Vpn,
     /// The address space number that satp had.
     pub asid: u16,

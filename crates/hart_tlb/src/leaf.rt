@@ -40,12 +40,14 @@ impl TlbLeaf {
         TlbLeaf { word, level }
     }
 
+    /// The leaf's word.
     pub fn word(self) -> u64
         ensures { result ≡ self.word }
     {
         self.word
     }
 
+    /// The level at which the walk found it.
     pub fn level(self) -> u32
         ensures value { result ≡ self.level }
         ensures low { result ≤ top_level }

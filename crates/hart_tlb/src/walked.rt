@@ -4,7 +4,7 @@ ghost use Rattle.std.specs.Prelude.{◌≡◌, IfSome, IfNone};
 ghost use Rattle.hart_tlb.specs.Outcome.{EndsInAccessFault, IsOutcome};
 ghost use Rattle.sv39_entry.specs.Address.{page_of};
 ghost use Rattle.sv39_entry.specs.Satp.{asid, root_ppn};
-ghost use Rattle.table_walk.specs.Walk.{CanReach, CanWalk};
+ghost use Rattle.table_walk.specs.Walk.{CanWalk};
 
 use crate::entry::TlbEntry;
 use crate::leaf::TlbLeaf;
@@ -13,10 +13,9 @@ use table_walk::{Found, Words, has_byte, lookup};
 
 /// The outcome of a walk under satp; `None` where it ends in an access fault.
 pub(crate) fn outcome<M: Words>(words: &mut M, satp: Satp, va: Va) -> Option<TlbEntry>
-    requires walk { CanWalk (M.readable words.old) (M.memory words.old) (root_ppn satp) (page_of va.0) }
-    requires reach { CanReach (M.readable words.old) (M.memory words.old) (root_ppn satp) va.0 }
-    ensures entry { IfSome result (λ e. IsOutcome (M.memory words.old) (root_ppn satp) (asid satp) va.0 e) }
-    ensures fault { IfNone result (EndsInAccessFault (M.memory words.old) (root_ppn satp) va.0) }
+    requires { CanWalk (M.readable words.old) (M.memory words.old) (root_ppn satp) (page_of va.0) }
+    ensures entry { IfSome result (λ e. IsOutcome (M.memory words.old) (M.there words.old) (root_ppn satp) (asid satp) va.0 e) }
+    ensures fault { IfNone result (EndsInAccessFault (M.memory words.old) (M.there words.old) (root_ppn satp) va.0) }
     ensures stays { M.stays words.old words.new }
 {
     let (leaf, global) = match lookup(words, satp.ppn(), va) {

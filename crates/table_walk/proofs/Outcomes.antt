@@ -8,7 +8,7 @@ use Rattle.sv39_entry.specs.declared.access.Access.{Access}
 use Rattle.sv39_entry.specs.declared.access.Mode.{Mode}
 use Rattle.sv39_entry.specs.declared.entry.Kind.{Kind}
 use Rattle.sv39_entry.specs.declared.entry.Kind.TheVariants.{Invalid, Leaf, Pointer}
-use Rattle.table_walk.specs.Memory.{Memory, has_byte, physical_address}
+use Rattle.table_walk.specs.Memory.{Extent, Memory, has_byte, physical_address}
 use Rattle.table_walk.specs.Walk.{top_level, Finds, FindsLeaf, IsAt, Reads, Translates}
 use Rattle.table_walk.specs.declared.walk.Found.{Found}
 use Rattle.table_walk.specs.declared.walk.Found.TheVariants as found
@@ -90,22 +90,22 @@ module _ (m : Memory) (root address : ℕ) where
     | inr bad ↦ (found.NoLeaf, inl bad)
   ]
 
-  module _ (access : Access) (mode : Mode) where
+  module _ (there : Extent) (access : Access) (mode : Mode) where
     -- what an access is translated to, by what the walk finds
     outcome : Found → Walk
     outcome found.NoLeaf = walk.PageFault (page_fault_cause access)
     outcome found.Outside = walk.AccessFault (access_fault_cause access)
     outcome (found.Leaf leaf level global) =
-        cond (permits mode access leaf) (cond (has_byte m (physical_address leaf level address)) (walk.Leaf leaf level (physical_address leaf level address)) (walk.AccessFault (access_fault_cause access))) (walk.PageFault (page_fault_cause access))
+        cond (permits mode access leaf) (cond (has_byte there (physical_address leaf level address)) (walk.Leaf leaf level (physical_address leaf level address)) (walk.AccessFault (access_fault_cause access))) (walk.PageFault (page_fault_cause access))
 
-    by_finding : (x : Found) → Finds m root address x → Translates m root address access mode (outcome x)
+    by_finding : (x : Found) → Finds m root address x → Translates m there root address access mode (outcome x)
     unfolding outcome
     by_finding found.NoLeaf p = (refl, inl p)
     by_finding found.Outside p = (refl, inl p)
     by_finding (found.Leaf leaf level global) p = elim (cases_Bool (permits mode access leaf)) [
       | inr denied ↦ rw denied (refl, inr (leaf, level, p.0, denied))
-      | inl permitted ↦ elim (cases_Bool (has_byte m (physical_address leaf level address))) [
-        | inl there ↦ rw (permitted, there) (p.0, permitted, refl, there)
+      | inl permitted ↦ elim (cases_Bool (has_byte there (physical_address leaf level address))) [
+        | inl byte ↦ rw (permitted, byte) (p.0, permitted, refl, byte)
         | inr gone ↦ rw (permitted, gone) (refl, inr (leaf, level, p.0, permitted, gone))
       ]
     ]
@@ -119,19 +119,19 @@ module _ (m : Memory) (root address : ℕ) where
       of_finding found.Outside out = absurd (leaf_inside m root (page_of address) leaf level is.1 out.1)
       of_finding (found.Leaf other high global) p = let same = one_leaf m root (page_of address) leaf level other high is.1 p.0.1 in (global, (is, rw same.1 p.1))
 
-    is_outcome : (w : Walk) → Translates m root address access mode w → (x : Found) × Finds m root address x × (w ≡ outcome x)
+    is_outcome : (w : Walk) → Translates m there root address access mode w → (x : Found) × Finds m root address x × (w ≡ outcome x)
     unfolding outcome
-    is_outcome (walk.Leaf leaf level physical) t = let there = rw t.2 at t.3 in let x = whole leaf level t.0 in (found.Leaf leaf level x.0, x.1, rw (t.1, there, t.2) refl)
+    is_outcome (walk.Leaf leaf level physical) t = let byte = rw t.2 at t.3 in let x = whole leaf level t.0 in (found.Leaf leaf level x.0, x.1, rw (t.1, byte, t.2) refl)
     is_outcome (walk.PageFault cause) (same, inl none) = (found.NoLeaf, none, ap walk.PageFault same)
     is_outcome (walk.PageFault cause) (same, inr denied) = let x = whole denied.0 denied.1 denied.2 in (found.Leaf denied.0 denied.1 x.0, x.1, rw (denied.3, same) refl)
     is_outcome (walk.AccessFault cause) (same, inl out) = (found.Outside, out, ap walk.AccessFault same)
     is_outcome (walk.AccessFault cause) (same, inr gone) = let x = whole gone.0 gone.1 gone.2 in (found.Leaf gone.0 gone.1 x.0, x.1, rw (gone.3, gone.4, same) refl)
 
-    pub one_translation : (v w : Walk) → Translates m root address access mode v → Translates m root address access mode w → v ≡ w
+    pub one_translation : (v w : Walk) → Translates m there root address access mode v → Translates m there root address access mode w → v ≡ w
     one_translation v w p q =
         let x = is_outcome v p in
         let y = is_outcome w q in
         x.2 ∙ ap outcome (one_finding x.0 y.0 x.1 y.1) ∙ sym y.2
 
-    pub some_translation : (w : Walk) × Translates m root address access mode w
+    pub some_translation : (w : Walk) × Translates m there root address access mode w
     some_translation = (outcome some_finding.0, by_finding some_finding.0 some_finding.1)

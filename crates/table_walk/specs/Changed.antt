@@ -1,8 +1,8 @@
 -- What a change of tables does to walks, and what an enumeration finds.
-use Rattle.std.specs.Prelude.{◌≡◌, ◌≢◌, ◌↔◌, ℕ, suc, ◌+◌, ◌-◌, ◌*◌, ◌^◌, ◌<◌, ◌≤◌, Option, None, Some}
-use Rattle.std.specs.FinMap.{get}
+use Rattle.std.specs.Prelude.{◌≢◌, ◌↔◌, ℕ, suc, ◌-◌, ◌*◌, ◌^◌, ◌<◌, ◌≤◌, Option}
 use Rattle.table_walk.specs.Image.{Image, leaf_node}
 use Rattle.table_walk.specs.Memory.{Memory}
+use Rattle.table_walk.specs.Places.{IsFirstLeaf}
 use Rattle.table_walk.specs.Walk.{Maps, top_level}
 
 -- every page but one is mapped to what it was mapped to
@@ -19,9 +19,7 @@ IsTableAt k level = (512 ^ (top_level - level) ≤ k) × (k < 2 * 512 ^ (top_lev
 
 -- the first leaf from a place on below table k of a level
 abbrev pub IsNextLeafIn : Image → ℕ → ℕ → ℕ → Option (ℕ × ℕ) → Type 0
-IsNextLeafIn t k level from None = (n : ℕ) → from ≤ n → n < places level → get t.leaves (k * places level + n) ≡ None
-IsNextLeafIn t k level from (Some p) =
-    (from ≤ p.0) × (p.0 < places level) × (get t.leaves (k * places level + p.0) ≡ Some p.1) × ((n : ℕ) → from ≤ n → n < p.0 → get t.leaves (k * places level + n) ≡ None)
+IsNextLeafIn t k level from found = IsFirstLeaf t k (places level) from found
 
 -- the first leaf from a page on, and its page; the root is table 1
 abbrev pub IsNextLeaf : Image → ℕ → Option (ℕ × ℕ) → Type 0

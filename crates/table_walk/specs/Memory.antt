@@ -7,9 +7,13 @@ use Rattle.sv39_entry.specs.Word.{ppn}
 abbrev pub Memory : Type 0
 Memory = ℕ → ℕ → Option ℕ
 
+-- which words the memory has, known or not
+abbrev pub Extent : Type 0
+Extent = ℕ → ℕ → Bool
+
 -- the byte at a physical address is there
-abbrev pub has_byte : Memory → ℕ → Bool
-has_byte m address = is_some (m (address / 4096) (address % 4096 / 8))
+abbrev pub has_byte : Extent → ℕ → Bool
+has_byte there address = there (address / 4096) (address % 4096 / 8)
 
 -- the physical address of a byte of a leaf at a level: its low 12 + 9 * level bits are those of the virtual address (the
 -- standard, 4.3.2, step 8)
@@ -19,3 +23,6 @@ physical_address leaf level address = ppn leaf * 4096 + address % 2 ^ (12 + 9 * 
 -- the words of the frames from frame 0 on, one after another
 abbrev pub plain_memory : List ℕ → Memory
 plain_memory words ppn index = option_and_then (λ frame. slice_get words (frame.0 * 512 + index)) (frame_at ppn)
+
+abbrev pub plain_extent : List ℕ → Extent
+plain_extent words ppn index = is_some (plain_memory words ppn index)

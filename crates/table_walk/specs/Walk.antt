@@ -1,12 +1,12 @@
 -- The walk of Sv39 (the standard, 4.3.2), as a relation over a whole memory.
-use Rattle.std.specs.Prelude.{◌≡◌, ◌⊎◌, ◌↔◌, IsTrue, ℕ, zero, suc, ◌-◌, ◌≤◌, ◌*◌, ◌/◌, ◌%◌, ◌^◌, true, false, Option, None, Some}
+use Rattle.std.specs.Prelude.{◌≡◌, ◌⊎◌, ◌↔◌, IsTrue, ℕ, zero, suc, ◌-◌, ◌≤◌, ◌*◌, ◌%◌, ◌^◌, true, false, Option, None, Some}
 use Rattle.sv39_entry.specs.Address.{has, is_canonical, page_of, vpn}
 use Rattle.sv39_entry.specs.Causes.{access_fault_cause, page_fault_cause}
 use Rattle.sv39_entry.specs.Word.{kind_of, permits, ppn}
 use Rattle.sv39_entry.specs.declared.access.Access.{Access}
 use Rattle.sv39_entry.specs.declared.access.Mode.{Mode}
 use Rattle.sv39_entry.specs.declared.entry.Kind.TheVariants.{Leaf, Pointer}
-use Rattle.table_walk.specs.Memory.{Memory, has_byte, physical_address}
+use Rattle.table_walk.specs.Memory.{Extent, Memory, has_byte, physical_address}
 use Rattle.table_walk.specs.declared.walk.Found.{Found}
 use Rattle.table_walk.specs.declared.walk.Found.TheVariants as found
 use Rattle.table_walk.specs.declared.walk.Walk.{Walk}
@@ -43,13 +43,9 @@ IsGlobal m root page level =
 abbrev pub LeavesMemory : Memory → ℕ → ℕ → Type 0
 LeavesMemory m root page = (level : ℕ) × Reads m root page level None
 
--- the condition of a walk: every table on the way to a page may be read
+-- the condition of a walk, and of a translation: every table on the way to a page may be read
 abbrev pub CanWalk : (ℕ → Type 0) → Memory → ℕ → ℕ → Type 0
 CanWalk readable m root page = (k table : ℕ) → k ≤ top_level → IsAt m root page k table → readable table
-
--- and of a translation: so may the frame of the byte that a leaf leads to
-abbrev pub CanReach : (ℕ → Type 0) → Memory → ℕ → ℕ → Type 0
-CanReach readable m root address = (leaf level : ℕ) → Maps m root (page_of address) leaf level → readable (physical_address leaf level address / 4096)
 
 -- the walk of an address comes to this leaf at a level
 abbrev pub FindsLeaf : Memory → ℕ → ℕ → ℕ → ℕ → Type 0
@@ -63,11 +59,11 @@ Finds m root address found.NoLeaf =
     (is_canonical address ≡ false) ⊎ (((leaf level : ℕ) → Maps m root (page_of address) leaf level → ⊥) × (LeavesMemory m root (page_of address) → ⊥))
 
 -- what an access is translated to. Rights are judged before the byte that they lead to is looked for
-abbrev pub Translates : Memory → ℕ → ℕ → Access → Mode → Walk → Type 0
-Translates m root address access mode (walk.Leaf leaf level physical) =
-    FindsLeaf m root address leaf level × (permits mode access leaf ≡ true) × (physical ≡ physical_address leaf level address) × (has_byte m physical ≡ true)
-Translates m root address access mode (walk.PageFault cause) =
+abbrev pub Translates : Memory → Extent → ℕ → ℕ → Access → Mode → Walk → Type 0
+Translates m there root address access mode (walk.Leaf leaf level physical) =
+    FindsLeaf m root address leaf level × (permits mode access leaf ≡ true) × (physical ≡ physical_address leaf level address) × (has_byte there physical ≡ true)
+Translates m there root address access mode (walk.PageFault cause) =
     (cause ≡ page_fault_cause access) × (Finds m root address found.NoLeaf ⊎ ((leaf level : ℕ) × FindsLeaf m root address leaf level × (permits mode access leaf ≡ false)))
-Translates m root address access mode (walk.AccessFault cause) =
+Translates m there root address access mode (walk.AccessFault cause) =
     (cause ≡ access_fault_cause access)
-    × (Finds m root address found.Outside ⊎ ((leaf level : ℕ) × FindsLeaf m root address leaf level × (permits mode access leaf ≡ true) × (has_byte m (physical_address leaf level address) ≡ false)))
+    × (Finds m root address found.Outside ⊎ ((leaf level : ℕ) × FindsLeaf m root address leaf level × (permits mode access leaf ≡ true) × (has_byte there (physical_address leaf level address) ≡ false)))

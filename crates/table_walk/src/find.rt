@@ -8,7 +8,7 @@ use crate::walk::Found;
 use crate::words::Words;
 use sv39_entry::{Entry, EntryFlags, Kind, Va};
 
-/// The level of the root's entries (RISC-V Privileged Architecture 20211203, 4.4.1).
+/// The level of the root's entries, one less than LEVELS (RISC-V Privileged Architecture 20211203, 4.4.1).
 pub(crate) const TOP_LEVEL: u32 = 2;
 
 /// Walks the tables below a root, which is given by its physical page number, to the leaf of an address (the standard,

@@ -4,22 +4,29 @@ use crate::words::Words;
 use frame_store::{FrameAccess, FrameSeat};
 use sv39_entry::FrameNo;
 
-/// A store and a seat at it, both lent. The memory is what the seat knows of the frames that it holds.
+/// A store and a seat at it, both lent. The memory is what the seat knows of the frames that it holds. Each page number
+/// that names a frame is taken to be there: a kernel writes no other into its tables.
 #[derive(Drop)]
 pub struct HeldWords<'a, F: FrameAccess> {
+    /// The store whose frames they are.
     pub store: &'a mut F,
+    /// The seat that knows them.
     pub seat: &'a mut F::Seat,
 }
 
 impl<F: FrameAccess> Words for HeldWords<'_, F> {
-    ghost use Rattle.std.proofs.Common.{◌≡◌, refl, ap, ◌∙◌};
+    ghost use Rattle.std.proofs.Common.{◌≡◌, refl, ap, sym, ◌∙◌};
     ghost use Rattle.frame_store.specs.Laws.{fits_after};
+    ghost use Rattle.std.specs.Prelude.{is_some};
+    ghost use Rattle.sv39_entry.specs.Frame.{frame_at};
     ghost use Rattle.frame_store.specs.Laws.{Fits, Keeps};
-    ghost use Rattle.table_walk.specs.Held.{held_memory, IsReadable};
+    ghost use Rattle.table_walk.specs.Held.{held_memory, IsReadable, known_there};
 
     ghost memory = { λ w. held_memory (F.Seat.view w.seat.now) };
 
     ghost readable = { λ w ppn. Fits F.rule w.store.now w.seat.now × IsReadable (F.Seat.view w.seat.now) ppn };
+
+    ghost there = { λ w ppn index. is_some (frame_at ppn) };
 
     ghost stays = { λ a b. (b.store.ghost_name ≡ a.store.ghost_name) × (b.seat.ghost_name ≡ a.seat.ghost_name) × (b.store.now ≡ a.store.now) × (F.Seat.view b.seat.now ≡ F.Seat.view a.seat.now) × Keeps F.rule a.store.now a.seat.now b.store.now b.seat.now };
 
@@ -28,6 +35,10 @@ impl<F: FrameAccess> Words for HeldWords<'_, F> {
     ghost stays_on = { λ a b c p q. (q.0 ∙ p.0, q.1 ∙ p.1, q.2 ∙ p.2, q.3 ∙ p.3, λ others h. q.4 others (p.4 others h)) };
 
     ghost same_memory = { λ a b p. ap held_memory p.3 };
+
+    ghost same_there = { λ a b p. refl };
+
+    ghost one_memory = { λ a ppn index r low. sym (known_there _ ppn index r.1 low) };
 
     ghost same_readable = { λ a b ppn p r. (fits_after F.rule p.4 r.0, rw p.3 r.1) };
 

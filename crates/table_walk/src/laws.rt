@@ -8,7 +8,7 @@ ghost use Rattle.sv39_entry.specs.declared.access.Access.{Access};
 ghost use Rattle.sv39_entry.specs.declared.access.Mode.{Mode};
 ghost use Rattle.table_walk.specs.Held.{held_memory, IsReadable};
 ghost use Rattle.table_walk.specs.Image.{HasTables, Image, leaf_node};
-ghost use Rattle.table_walk.specs.Memory.{Memory};
+ghost use Rattle.table_walk.specs.Memory.{Extent, Memory};
 ghost use Rattle.table_walk.specs.Walk.{CanWalk, Finds, LeavesMemory, Maps, Translates};
 ghost use Rattle.table_walk.specs.declared.walk.Found.{Found};
 ghost use Rattle.table_walk.specs.declared.walk.Walk.{Walk};
@@ -21,8 +21,8 @@ pub fn one_found()
 
 /// An access is translated to one outcome.
 pub fn one_outcome()
-    ensures at_least { (m : Memory) (root address : ℕ) (access : Access) (mode : Mode) → (x : Walk) × Translates m root address access mode x }
-    ensures at_most { (m : Memory) (root address : ℕ) (access : Access) (mode : Mode) (x y : Walk) → Translates m root address access mode x → Translates m root address access mode y → x ≡ y }
+    ensures at_least { (m : Memory) (there : Extent) (root address : ℕ) (access : Access) (mode : Mode) → (x : Walk) × Translates m there root address access mode x }
+    ensures at_most { (m : Memory) (there : Extent) (root address : ℕ) (access : Access) (mode : Mode) (x y : Walk) → Translates m there root address access mode x → Translates m there root address access mode y → x ≡ y }
 {}
 
 /// Where a seat has the tables below a root, each page may be walked, no walk leaves the memory, and walks find the leaves of

@@ -13,8 +13,9 @@ use crate::tables::child;
 use frame_store::{FrameAccess, FrameSeat};
 use sv39_entry::{Entry, FrameNo, Vpn};
 
-/// The first leaf at or after a page, and its page. A page is numbered by its indices alone, from the lowest index of the
-/// lowest table on: below half of all pages that is its page number. Reads no table that is not there.
+/// The first leaf at or after a page, and its page. Pages are numbered by their indices alone, which is the page number
+/// below 2^26: of the pages above, which no process has, the answer's number has the indices and not the upper bits.
+/// Reads no table that is not there.
 pub fn next_leaf<F: FrameAccess>(
     store: &mut F,
     seat: &mut F::Seat,

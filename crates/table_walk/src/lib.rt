@@ -1,4 +1,5 @@
-//! Three-level page tables: the walk of Sv39 (the standard, 4.3.2), and changes of tables.
+//! Three-level page tables: the walk of Sv39 (RISC-V Privileged Architecture 20211203, 4.3.2, "the standard"), and
+//! changes of tables.
 #![tactic(auto)]
 
 mod change;

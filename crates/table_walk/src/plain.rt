@@ -22,6 +22,7 @@ impl<'a> Model for PlainWords<'a> {
 }
 
 impl<'a> PlainWords<'a> {
+    /// The memory of these words.
     pub fn new(words: &'a [u64]) -> PlainWords<'a>
         ensures { result ≡ words.now }
     {
@@ -32,11 +33,13 @@ impl<'a> PlainWords<'a> {
 impl Words for PlainWords<'_> {
     ghost use Rattle.std.proofs.Common.{refl, ap, ◌∙◌};
     ghost use Rattle.std.specs.Prelude.{⊤};
-    ghost use Rattle.table_walk.specs.Memory.{plain_memory};
+    ghost use Rattle.table_walk.specs.Memory.{plain_extent, plain_memory};
 
     ghost memory = { plain_memory };
 
     ghost readable = { λ words ppn. ⊤ };
+
+    ghost there = { plain_extent };
 
     ghost stays = { λ a b. b ≡ a };
 
@@ -45,6 +48,10 @@ impl Words for PlainWords<'_> {
     ghost stays_on = { λ a b c p q. q ∙ p };
 
     ghost same_memory = { λ a b p. ap plain_memory p };
+
+    ghost same_there = { λ a b p. ap plain_extent p };
+
+    ghost one_memory = { λ a ppn index r low. refl };
 
     ghost same_readable = { λ a b ppn p r. r };
 

@@ -14,8 +14,8 @@ finds g c = rw (c.new.ensures.word, c.new.ensures.level, ← c.ppn.ensures) c.in
 
 -- whether its byte is there
 byte : (g : given.Over) (c : After-has_byte g)
-    → has_byte (g.M.Words.memory c.args.words.now) (physical_address c.new.result.word c.new.result.level c.args.va.0) ≡ c.has_byte.result
-byte g c = let same = g.met.M.Words.same_memory _ _ c.lookup.ensures.stays in rw (← same, ← c.address.ensures) (sym c.has_byte.ensures)
+    → has_byte (g.M.Words.there c.args.words.now) (physical_address c.new.result.word c.new.result.level c.args.va.0) ≡ c.has_byte.result
+byte g c = let same = g.met.M.Words.same_there _ _ c.lookup.ensures.stays in rw (← same, ← c.address.ensures) (sym c.has_byte.ensures)
 
 pub returns-then-not-has_byte-clause-fault : goal.returns-then-not-has_byte-clause-fault
 returns-then-not-has_byte-clause-fault g c =

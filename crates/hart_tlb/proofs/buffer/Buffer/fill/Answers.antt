@@ -6,23 +6,25 @@ use Rattle.hart_tlb.proofs.buffer.Buffer.fill.Goals as goal
 pub returns-in-Some-clause-fills : goal.returns-in-Some-clause-fills
 returns-in-Some-clause-fills g c =
     let m = g.M.Words.memory c.args.words.now in
+    let there = g.M.Words.there c.args.words.now in
     let root = satps.root_ppn c.args.satp in
     let one = c.one_found.ensures.at_most m root c.args.va.0 in
     let outcome = c.in-Some.ensures.entry in
     record {
-      adds = λ e other. rw (← one_outcome m root c.args.va.0 one _ c.in-Some.entry e outcome other) c.add.ensures;
-      adds_nothing = λ fault. absurd (outcome_or_fault m root c.args.va.0 one _ c.in-Some.entry outcome fault);
+      adds = λ e other. rw (← one_outcome m there root c.args.va.0 one _ c.in-Some.entry e outcome other) c.add.ensures;
+      adds_nothing = λ fault. absurd (outcome_or_fault m there root c.args.va.0 one _ c.in-Some.entry outcome fault);
       either = inr (c.in-Some.entry, outcome);
     }
 
 pub returns-in_default-clause-fills : goal.returns-in_default-clause-fills
 returns-in_default-clause-fills g c =
     let m = g.M.Words.memory c.args.words.now in
+    let there = g.M.Words.there c.args.words.now in
     let root = satps.root_ppn c.args.satp in
     let one = c.one_found.ensures.at_most m root c.args.va.0 in
     let fault = c.in_default.ensures.fault in
     record {
-      adds = λ e outcome. absurd (outcome_or_fault m root c.args.va.0 one _ e outcome fault);
+      adds = λ e outcome. absurd (outcome_or_fault m there root c.args.va.0 one _ e outcome fault);
       adds_nothing = λ _. refl;
       either = inl fault;
     }
