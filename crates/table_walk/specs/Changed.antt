@@ -5,7 +5,7 @@ use Rattle.table_walk.specs.Memory.{Memory}
 use Rattle.table_walk.specs.Places.{IsFirstLeaf}
 use Rattle.table_walk.specs.Walk.{Maps, top_level}
 
--- every page but one is mapped to what it was mapped to
+-- every page with other indices than one page has is mapped to what it was mapped to
 abbrev pub OthersStay : Memory → Memory → ℕ → ℕ → Type 0
 OthersStay before after root page = (other leaf level : ℕ) → leaf_node other ≢ leaf_node page → Maps after root other leaf level ↔ Maps before root other leaf level
 

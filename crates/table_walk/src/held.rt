@@ -16,10 +16,9 @@ pub struct HeldWords<'a, F: FrameAccess> {
 
 impl<F: FrameAccess> Words for HeldWords<'_, F> {
     ghost use Rattle.std.proofs.Common.{◌≡◌, refl, ap, sym, ◌∙◌};
-    ghost use Rattle.frame_store.specs.Laws.{fits_after};
     ghost use Rattle.std.specs.Prelude.{is_some};
     ghost use Rattle.sv39_entry.specs.Frame.{frame_at};
-    ghost use Rattle.frame_store.specs.Laws.{Fits, Keeps};
+    ghost use Rattle.frame_store.specs.Laws.{Fits, Keeps, fits_after};
     ghost use Rattle.table_walk.specs.Held.{held_memory, IsReadable, known_there};
 
     ghost memory = { λ w. held_memory (F.Seat.view w.seat.now) };

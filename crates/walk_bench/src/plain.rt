@@ -1,7 +1,7 @@
 // The walk of Sv39 in plain code, for loads of the user.
 
 /// The physical address that an address is translated to.
-pub fn plain_walk(words: &[u64], root: u64, address: u64) -> Option<u64> {
+pub(crate) fn plain_walk(words: &[u64], root: u64, address: u64) -> Option<u64> {
     let high = address >> 38;
     if high != 0 && high != 0x3ffffff {
         return None;

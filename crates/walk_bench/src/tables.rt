@@ -4,13 +4,13 @@ use std::alloc::{AllocError, Global};
 use sv39_entry::{Entry, FrameNo, Rights};
 
 /// How many pages are mapped, from page 0 on.
-pub const PAGES: usize = 1000;
+pub(crate) const PAGES: usize = 1000;
 
 /// The frame of the root. The table below it, and the two last tables, are in the frames after it.
-pub const ROOT: u16 = 1;
+pub(crate) const ROOT: u16 = 1;
 
 /// The words of all frames. Page n is mapped to frame 5 + n.
-pub fn words(alloc: Global) -> Result<Vec<u64>, AllocError> {
+pub(crate) fn words(alloc: Global) -> Result<Vec<u64>, AllocError> {
     let mut words = Vec::new(alloc);
     for frame in 0..1024 {
         for index in 0..512 {
@@ -39,7 +39,7 @@ fn data(frame: u16) -> Entry {
 
 /// An address on each page, in an order that looks random: that of a linear generator of full period, of those numbers
 /// below 1,024 that are pages.
-pub fn addresses(alloc: Global) -> Result<Vec<u64>, AllocError> {
+pub(crate) fn addresses(alloc: Global) -> Result<Vec<u64>, AllocError> {
     let mut addresses = Vec::new(alloc);
     let mut number = 1u64;
     for _ in 0..1024 {
