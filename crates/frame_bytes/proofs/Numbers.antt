@@ -9,7 +9,7 @@ use Rattle.frame_bytes.proofs.Widths.{within_word}
 pow-suc8 : (n : ℕ) → 2 ^ (8 * suc n) ≡ 2 ^ 8 * 2 ^ (8 * n)
 pow-suc8 n = (let e : 8 * suc n ≡ 8 + 8 * n = omega arith in ap (λ k. 2 ^ k) e) ∙ pow-add 2 8 (8 * n)
 
-number-nil : (n : ℕ) → number [] n ≡ 0
+pub number-nil : (n : ℕ) → number [] n ≡ 0
 unfolding number
 number-nil zero = refl
 number-nil (suc n) = refl

@@ -1,12 +1,12 @@
 -- What a list of bytes has after a write, and the word there.
-use Rattle.std.proofs.Common.{◌≡◌, ℕ, zero, suc, ◌+◌, ◌-◌, ◌*◌, ◌/◌, ◌%◌, ◌^◌, ◌<◌, ◌≤◌, inl, inr, List, [], ◌∷◌, ◌++◌, length, take, drop, slice_index, refl, ap, sym, ◌∙◌, arith, replicate, length-append}
+use Rattle.std.proofs.Common.{◌≡◌, ℕ, zero, suc, ◌+◌, ◌-◌, ◌*◌, ◌/◌, ◌%◌, ◌^◌, ◌<◌, ◌≤◌, inl, inr, List, [], ◌∷◌, ◌++◌, length, take, drop, slice_index, refl, ap, sym, ◌∙◌, arith, replicate, length-append, length-drop}
 use Rattle.std.proofs.lemmas.Nat.{shr-shr}
 use Rattle.std.proofs.lemmas.Bool.{cases_lt}
 use Rattle.std.proofs.lemmas.Grind.{common_steps}
-use Rattle.std.proofs.lemmas.List.{get_or_append_left, get_or-append_right, length-replicate, take_all}
+use Rattle.std.proofs.lemmas.List.{get_or_append_left, get_or-append_right, get_or-drop, get_or-take, length-replicate, length-take-le, take_all}
 use Rattle.std.specs.Int.{w64, to_le_bytes, from_le_bytes}
 use Rattle.process_model.specs.Bytes.{number, low_bytes, write_bytes, padded}
-use Rattle.frame_bytes.proofs.Numbers.{number_suc, number-zero}
+use Rattle.frame_bytes.proofs.Numbers.{number-nil, number_suc, number-zero}
 
 pub length-low_bytes : (v n : ℕ) → length (low_bytes v n) ≡ n
 unfolding low_bytes
@@ -74,6 +74,27 @@ pub past : (bs : List ℕ) (k : ℕ) → length bs ≤ k → slice_index bs k �
 past [] k h = refl
 past (b ∷ bs) zero h = absurd (omega arith)
 past (b ∷ bs) (suc k) h = past bs k (omega arith)
+
+-- ---- the word from an index on
+
+pub past_end : (bs : List ℕ) (start : ℕ) → length bs ≤ start → number (drop start bs) 8 ≡ 0
+past_end bs start over = number_same 8 start 0 bs [] (λ k h. past bs (start + k) (omega (arith, over))) ∙ number-nil 8
+
+pub whole_word : (bs word : List ℕ) (start : ℕ) → start + 8 ≤ length bs → word ≡ take 8 (drop start bs) → from_le_bytes w64 word ≡ number (drop start bs) 8
+whole_word bs word start room is =
+    let left : 8 ≤ length (drop start bs) = rw (length-drop start bs) (omega (arith, room)) in
+    from_le_is word bs start (ap length is ∙ length-take-le 8 (drop start bs) left)
+    (λ k h. ap (λ cs. slice_index cs k) is ∙ get_or-take 8 (drop start bs) k 0 h ∙ get_or-drop start bs k 0)
+
+pub part_word : (bs word : List ℕ) → length bs < 8 → word ≡ write_bytes (replicate 8 0) 0 bs → from_le_bytes w64 word ≡ number bs 8
+part_word bs word short is =
+    let room : 0 + length bs ≤ length (replicate {A = ℕ} 8 0) = omega (arith, short) in
+    from_le_is word bs 0 (ap length is ∙ length-write_bytes (replicate 8 0) bs 0 room) (λ k h.
+    let none : 0 + k ≡ k = omega arith in
+    ap (λ cs. slice_index cs k) is ∙ elim (cases_lt k (length bs)) [
+      | inl less ↦ rw none at (at_inside (replicate 8 0) bs 0 room k less)
+      | inr more ↦ at_after (replicate 8 0) bs 0 room k (omega (arith, more)) ∙ zeros 8 k ∙ sym (past bs k more)
+    ] ∙ ap (slice_index bs) (sym none))
 
 module _ (n : ℕ) (bs : List ℕ) (short : length bs ≤ n) where
   padded_is : padded n bs ≡ bs ++ replicate (n - length bs) 0

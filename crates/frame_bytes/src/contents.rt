@@ -103,15 +103,27 @@ pub fn fill_frame<F: FrameAccess>(store: &mut F, seat: &mut F::Seat, frame: Fram
 
 /// The word of the eight bytes from an index on, with zeros where the bytes end.
 fn word_from(bytes: &[u8], start: usize) -> u64
-    requires { start < 4096 }
     ensures { result ≡ number (drop start bytes.now) 8 }
 {
-    let mut word = [0; 8];
-    for k in 0..8 {
-        if let Some(byte) = bytes.get(start + k) {
-            word[k] = *byte;
-        }
+    if bytes.len() <= start {
+        return 0;
     }
+    let rest = &bytes[start..];
+    if rest.len() < 8 {
+        return last_word(rest);
+    }
+    let mut word = [0; 8];
+    word.copy_from_slice(&rest[..8]);
+    u64::from_le_bytes(word)
+}
+
+/// The word of fewer than eight bytes, with zeros behind them.
+fn last_word(bytes: &[u8]) -> u64
+    requires { length bytes.now < 8 }
+    ensures { result ≡ number bytes.now 8 }
+{
+    let mut word = [0; 8];
+    overwrite(&mut word, 0, bytes);
     u64::from_le_bytes(word)
 }
 

@@ -69,6 +69,10 @@ readable : (r w x u c : Bool) → r ≡ true → flags_kind (leaf_flags r w x u 
 readable r w x u c e =
     rw e (leaf_from (flags_kind (leaf_flags true w x u c)) (always (λ r w x u c. is_leaf (flags_kind (leaf_flags true w x u c))) refl r w x u c))
 
+executable : (r w x u c : Bool) → x ≡ true → w ≡ false → flags_kind (leaf_flags r w x u c) ≡ Leaf
+executable r w x u c e none =
+    rw (e, none) (leaf_from (flags_kind (leaf_flags r false true u c)) (always (λ r w x u c. is_leaf (flags_kind (leaf_flags r false true u c))) refl r w x u c))
+
 -- the low ten bits of a word stand beside the frame
 
 low : (f s i : ℕ) → i < 10 → has (f * 2 ^ 10 + s) i ≡ has s i
@@ -100,6 +104,7 @@ leaf_read frame rights u c lt =
       dirty = low f s 7 (omega arith) ∙ alike (flag 7) (λ r w x u c. w) refl r w x u c;
       copy_on_write = low f s 8 (omega arith) ∙ alike (flag 8) (λ r w x u c. c) refl r w x u c;
       readable = λ e. kind_split f s (omega arith) small ∙ readable r w x u c e;
+      executable = λ e none. kind_split f s (omega arith) small ∙ executable r w x u c e none;
     }
 
 pub pointer_read : (frame : ℕ) → frame < 2 ^ 16 → IsPointerTo (pointer_word frame) frame

@@ -72,6 +72,7 @@ pub record IsLeafOf (w frame rights : ℕ) (user cow : Bool) : Type 0 where
   pub dirty : has w 7 ≡ writes rights
   pub copy_on_write : has w 8 ≡ cow
   pub readable : reads rights ≡ true → kind_of w ≡ Leaf
+  pub executable : executes rights ≡ true → writes rights ≡ false → kind_of w ≡ Leaf
 
 -- and from that of a pointer
 pub record IsPointerTo (w frame : ℕ) : Type 0 where

@@ -1,5 +1,5 @@
 -- The tables on the way to a page, and what the words that lead to them say.
-use Rattle.std.proofs.Common.{◌≡◌, ℕ, zero, suc, ◌+◌, ◌-◌, ◌*◌, ◌/◌, ◌%◌, ◌^◌, ◌<◌, ◌≤◌, inl, inr, refl, ap, ◌∙◌, arith, Option, None, Some}
+use Rattle.std.proofs.Common.{◌≡◌, ℕ, zero, suc, ◌+◌, ◌-◌, ◌*◌, ◌/◌, ◌%◌, ◌^◌, ◌<◌, ◌≤◌, inl, inr, refl, ap, sym, ◌∙◌, arith, Option, None, Some}
 use Rattle.std.specs.Prelude.{option_map}
 use Rattle.std.specs.FinMap.{get}
 use Rattle.std.proofs.lemmas.Bool.{le-leb, lt-ltb}
@@ -12,7 +12,7 @@ use Rattle.sv39_entry.specs.declared.frame.FrameNo.{FrameNo}
 use Rattle.table_walk.specs.Image.{Image, IsImage, HasTables, first_leaf, missing_to, node, pointer_or_zero}
 use Rattle.table_walk.specs.Walk.{top_level}
 use Rattle.table_walk.proofs.Images.{kind-zero, word_high}
-use Rattle.table_walk.proofs.Nodes.{above, node_from, power_next, power_some, table_number}
+use Rattle.table_walk.specs.Nodes.{above, node_from, power_next, power_some, table_number}
 
 -- ---- words of pointers
 
@@ -117,6 +117,14 @@ module _ (m : ℕ → ℕ → Option ℕ) (root : ℕ) (t : Image) (h : IsImage 
   count_missing k f low is none =
       let whole : k + (top_level - k) ≡ top_level = omega arith in
       rw whole at (missing_so_far k f (top_level - k) is none)
+
+  -- the same by the level of that last one's entries
+  pub deepest_missing : (level f : ℕ) → level ≤ top_level → get t.tables (node page (top_level - level)) ≡ Some f
+      → (0 < level → get t.tables (node page (suc (top_level - level))) ≡ None) → level ≡ missing_to t page top_level
+  deepest_missing zero f low is none = sym (none_missing top_level f is)
+  deepest_missing (suc n) f low is none =
+      let missing = count_missing (top_level - suc n) f (omega arith) is (none (omega arith)) in
+      omega (arith, missing, low)
 
 -- ---- the table of the next level
 

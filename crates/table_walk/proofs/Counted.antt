@@ -10,9 +10,10 @@ use Rattle.process_model.specs.Frames.{tables_needed}
 use Rattle.process_model.specs.PageMap.{NumberSet, contains, count, numbers}
 use Rattle.sv39_entry.specs.Address.{trampoline_page, trapframe_page}
 use Rattle.table_walk.specs.Counted.{AreTablesOf}
-use Rattle.table_walk.specs.Image.{Image, IsGrown, missing, node}
+use Rattle.table_walk.specs.Image.{Image, IsGrown, bare_root, missing, node}
 use Rattle.table_walk.specs.Walk.{top_level}
-use Rattle.table_walk.proofs.Nodes.{one_depth}
+use Rattle.table_walk.proofs.Roots.{no_table, one_table}
+use Rattle.table_walk.specs.Nodes.{one_depth}
 
 -- ---- members of lists
 
@@ -154,6 +155,10 @@ module _ (t : Image) (pages : List ℕ) (page : ℕ) (are : AreTablesOf t pages)
       let two = there 2 (2 ^ 18) (λ n. n / 2 ^ 9) (omega arith) second_number in
       rw (large, little, one, two) (omega arith)
 
+value : {A : Type 0} (o : Option A) → IsSome o → (x : A) × (o ≡ Some x)
+value None some = absurd (cc)
+value (Some x) some = (x, refl)
+
 -- the tables that are grown are those of the page too
 module _ (t u : Image) (pages : List ℕ) (page : ℕ) (are : AreTablesOf t pages) (grown : IsGrown t u page top_level) where
   put_third : (x : ℕ) → Contains (trampoline_page ∷ trapframe_page ∷ pages) x → Contains (trampoline_page ∷ trapframe_page ∷ page ∷ pages) x
@@ -161,10 +166,6 @@ module _ (t u : Image) (pages : List ℕ) (page : ℕ) (are : AreTablesOf t page
 
   itself : Contains (trampoline_page ∷ trapframe_page ∷ page ∷ pages) page
   itself = behind trampoline_page page (trapframe_page ∷ page ∷ pages) (behind trapframe_page page (page ∷ pages) (in_front page pages))
-
-  value : {A : Type 0} (o : Option A) → IsSome o → (x : A) × (o ≡ Some x)
-  value None some = absurd (cc)
-  value (Some x) some = (x, refl)
 
   pub grown_tables : AreTablesOf u (page ∷ pages)
   grown_tables k = (
@@ -181,3 +182,57 @@ module _ (t u : Image) (pages : List ℕ) (page : ℕ) (are : AreTablesOf t page
           ap is_some (grown.kept k f.0 f.1)
     ]),
   )
+
+-- a page that is counted already
+module _ (t : Image) (pages : List ℕ) (page : ℕ) (are : AreTablesOf t pages) (has : Contains (trampoline_page ∷ trapframe_page ∷ pages) page) where
+  pub none_missing : missing t page ≡ 0
+  none_missing =
+      let one = (are (node page 1)).1 (page, 1, has, omega arith, refl) in
+      let two = (are (node page 2)).1 (page, 2, has, omega arith, refl) in
+      rw (one, two) refl
+
+pub same_tables : (t u : Image) (pages : List ℕ) (page : ℕ) → AreTablesOf t pages → Contains (trampoline_page ∷ trapframe_page ∷ pages) page
+    → IsGrown t u page top_level → AreTablesOf u pages
+same_tables t u pages page are has grown k = (
+  (λ some.
+      let f = value (get u.tables k) some in
+      elim (grown.new k f.0 f.1) [
+        | inl old ↦ (are k).0 (ap is_some old)
+        | inr new ↦ (page, new.1.0, has, new.1.1, new.1.2)
+      ]),
+  (λ way. let f = value (get t.tables k) ((are k).1 way) in ap is_some (grown.kept k f.0 f.1)),
+)
+
+-- ---- the first tables, which TRAMPOLINE's and TRAPFRAME's page share
+
+shared_way : (depth : ℕ) → depth ≤ top_level → node trapframe_page depth ≡ node trampoline_page depth
+shared_way zero low = refl
+shared_way (suc zero) low = refl
+shared_way (suc (suc zero)) low = refl
+shared_way (suc (suc (suc depth))) low = absurd (omega (arith, low))
+
+pub first_missing : (t : Image) (root : ℕ) → t ≡ bare_root root → missing t trampoline_page ≡ tables_needed [] - 1
+unfolding tables_needed
+first_missing t root is =
+    let one = no_table root (node trampoline_page 1) (λ e. omega (arith, e)) in
+    let two = no_table root (node trampoline_page 2) (λ e. omega (arith, e)) in
+    rw (is, one, two) refl
+
+pub first_tables : (t u : Image) (root : ℕ) → t ≡ bare_root root → IsGrown t u trampoline_page top_level → AreTablesOf u []
+first_tables t u root is grown k = (
+  (λ some.
+      let f = value (get u.tables k) some in
+      elim (grown.new k f.0 f.1) [
+        | inl old ↦ (trampoline_page, 0, in_front trampoline_page (trapframe_page ∷ []), omega arith, (one_table root k f.0 (rw is at old)).0)
+        | inr new ↦ (trampoline_page, new.1.0, in_front trampoline_page (trapframe_page ∷ []), new.1.1, new.1.2)
+      ]),
+  (λ way.
+      let there = grown.whole way.1 way.3 in
+      elim (first_or trampoline_page way.0 (trapframe_page ∷ []) way.2) [
+        | inl e ↦ ap is_some (ap (get u.tables) (way.4 ∙ ap (λ (p : ℕ). node p way.1) (sym e)) ∙ there.1)
+        | inr i ↦ elim (first_or trapframe_page way.0 [] i) [
+          | inl e ↦ ap is_some (ap (get u.tables) (way.4 ∙ ap (λ (p : ℕ). node p way.1) (sym e) ∙ shared_way way.1 way.3) ∙ there.1)
+          | inr j ↦ absurd (none_in way.0 j)
+        ]
+      ]),
+)

@@ -12,9 +12,9 @@ use Rattle.table_walk.specs.Image.{ChangesTables, HasTables, Image, IsGrown, IsI
 use Rattle.table_walk.specs.Walk.{top_level}
 use Rattle.table_walk.proofs.Blank.{blanked, blank_known, hold_of-blanked_other, hold_of-blanked_same, not_fresh, others_known}
 use Rattle.table_walk.proofs.Images.{Writes, rewritten, with_word-writes, word_high, word_leaf}
-use Rattle.table_walk.proofs.Keys.{insert_other, insert_same, is_none}
+use Rattle.table_walk.specs.Keys.{insert_other, insert_same, is_none}
 use Rattle.table_walk.proofs.Children.{back, next_depth}
-use Rattle.table_walk.proofs.Nodes.{one_depth, table_number, vpn_low}
+use Rattle.table_walk.specs.Nodes.{one_depth, table_number, vpn_low}
 
 -- ---- an image, where the words of other frames change, and where a table of zeros is added
 

@@ -10,7 +10,7 @@ use Rattle.frame_store.specs.View.{Hold, View, hold_of, known_word, with_word}
 use Rattle.sv39_entry.specs.Word.{kind_of}
 use Rattle.sv39_entry.specs.declared.entry.Kind.TheVariants.{Invalid}
 use Rattle.table_walk.specs.Image.{Image, IsImage, first_leaf, pointer_or_zero, word_in}
-use Rattle.table_walk.proofs.Keys.{insert_same, insert_other}
+use Rattle.table_walk.specs.Keys.{insert_same, insert_other}
 
 -- ---- one word of a table
 

@@ -14,8 +14,8 @@ use Rattle.table_walk.specs.Held.{held_memory}
 use Rattle.table_walk.specs.Image.{ChangesTables, HasTables, Image, IsImage, first_leaf, last_table, leaf_node, with_leaf, without_leaf, word_in}
 use Rattle.table_walk.specs.Walk.{top_level, Maps}
 use Rattle.table_walk.proofs.Images.{Writes, kind-zero, rewritten, with_word-writes, word_high, word_leaf}
-use Rattle.table_walk.proofs.Keys.{insert_same, insert_other, is_none, remove_same, remove_other}
-use Rattle.table_walk.proofs.Nodes.{above, leaf_number, vpn_low}
+use Rattle.table_walk.specs.Keys.{insert_same, insert_other, is_none, remove_same, remove_other}
+use Rattle.table_walk.specs.Nodes.{above, leaf_number, vpn_low}
 use Rattle.table_walk.proofs.Walks.{walk}
 
 -- a word that is read and is not 0 is there
@@ -82,10 +82,10 @@ module _ (f i w : ℕ) (v : View) where
   hold_here : hold_of (with_word f i w v) f ≡ new_hold
   hold_here = hold_of-with_hold_same f new_hold v
 
-  hold_elsewhere : (g : ℕ) → (g ≡ f → ⊥) → hold_of (with_word f i w v) g ≡ hold_of v g
+  pub hold_elsewhere : (g : ℕ) → (g ≡ f → ⊥) → hold_of (with_word f i w v) g ≡ hold_of v g
   hold_elsewhere g ne = hold_of-with_hold_other f new_hold v g ne
 
-  same_references : (g : ℕ) → references (with_word f i w v) g ≡ references v g
+  pub same_references : (g : ℕ) → references (with_word f i w v) g ≡ references v g
   same_references g = elim (cases_eq g f) [
     | inl same ↦ rw same (ap (λ (k : Hold). k.references) hold_here)
     | inr ne ↦ ap (λ (k : Hold). k.references) (hold_elsewhere g ne)
@@ -97,7 +97,7 @@ module _ (f i w : ℕ) (v : View) where
     | inr ne ↦ ap (λ (k : Hold). k.sole) (hold_elsewhere g ne) ∙ sole
   ]
 
-  still_own : (g : ℕ) → IsHeld v g × IsSole v g → IsHeld (with_word f i w v) g × IsSole (with_word f i w v) g
+  pub still_own : (g : ℕ) → IsHeld v g × IsSole v g → IsHeld (with_word f i w v) g × IsSole (with_word f i w v) g
   still_own g own = (rw (same_references g) own.0, still_sole g own.1)
 
 -- a word of a table is no further change

@@ -3,12 +3,11 @@ pub mod Children
 pub mod Counted
 pub mod Grown
 pub mod Images
-pub mod Keys
 pub mod LeafChanges
 pub mod Next
-pub mod Nodes
 pub mod Outcomes
 pub mod Roots
+pub mod Shed
 pub mod Tested
 pub mod Walks
 pub mod Ways

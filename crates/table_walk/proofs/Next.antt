@@ -11,7 +11,7 @@ use Rattle.table_walk.specs.Image.{Image, IsImage, first_leaf}
 use Rattle.table_walk.specs.Places.{IsBare, IsFirstLeaf}
 use Rattle.table_walk.specs.Walk.{top_level}
 use Rattle.table_walk.proofs.Images.{kind-zero, word_leaf}
-use Rattle.table_walk.proofs.Nodes.{power_next, power_up}
+use Rattle.table_walk.specs.Nodes.{power_next, power_up}
 
 -- so many times nine bits
 pub nine_bits : (k : ℕ) → 2 ^ (9 * k) ≡ 512 ^ k
@@ -81,7 +81,7 @@ pub in_level : (t : Image) (k level width from : ℕ) (o : Option (ℕ × ℕ)) 
 in_level t k level width from None same first = subst (λ (w : ℕ). IsFirstLeaf t k w from None) (sym same) first
 in_level t k level width from (Some p) same first = subst (λ (w : ℕ). IsFirstLeaf t k w from (Some p)) (sym same) first
 
-pub fits_word : (w i found : ℕ) → w ≤ 2 ^ 18 → i < 512 → found < w → i * w + found < 2 ^ 64
+pub fits_word : (w i found : ℕ) → w ≤ 512 ^ top_level → i < 512 → found < w → i * w + found < 2 ^ 64
 fits_word w i found few low less = let row = mul-le-mul_right {m = suc i} {n = 512} w (omega (arith, low)) in omega (arith, few, less, row)
 
 -- ---- one index

@@ -10,20 +10,23 @@ use Rattle.frame_store.specs.View.{Hold, View, claimed, hold_of, IsHeld, known_w
 use Rattle.table_walk.specs.Image.{bare_root, blank_hold, HasTables, pointer_or_zero, word_in}
 use Rattle.table_walk.proofs.Blank.{zero_word}
 use Rattle.table_walk.proofs.Images.{word_high}
-use Rattle.table_walk.proofs.Keys.{insert_other, insert_same}
+use Rattle.table_walk.specs.Keys.{insert_other, insert_same}
 
 module _ (root : ℕ) where
-  one_table : (k f : ℕ) → get (bare_root root).tables k ≡ Some f → (k ≡ 1) × (f ≡ root)
+  pub no_table : (k : ℕ) → (k ≡ 1 → ⊥) → get (bare_root root).tables k ≡ None
+  no_table k ne = insert_other map.empty 1 root k ne ∙ map.get-empty {X = ℕ} nat_cmp k
+
+  pub one_table : (k f : ℕ) → get (bare_root root).tables k ≡ Some f → (k ≡ 1) × (f ≡ root)
   one_table k f is = elim (cases_eq k 1) [
     | inl same ↦ (same, same_Some f root (sym is ∙ insert_same map.empty 1 root k same))
-    | inr ne ↦ absurd (let none : ◌≡◌ {A = Option ℕ} (Some f) None = sym is ∙ insert_other map.empty 1 root k ne ∙ map.get-empty {X = ℕ} nat_cmp k in cc)
+    | inr ne ↦ absurd (let none : ◌≡◌ {A = Option ℕ} (Some f) None = sym is ∙ no_table k ne in cc)
   ]
 
   no_leaf : (n x : ℕ) → get (bare_root root).leaves n ≡ Some x → ⊥
   no_leaf n x is = let none : ◌≡◌ {A = Option ℕ} (Some x) None = sym is ∙ map.get-empty {X = ℕ} nat_cmp n in absurd (cc)
 
   no_word : (i : ℕ) → i < 512 → word_in (bare_root root) (1 * 512 + i) ≡ 0
-  no_word i low = word_high (bare_root root) (1 * 512 + i) (omega (arith, low)) ∙ ap pointer_or_zero (insert_other map.empty 1 root (1 * 512 + i) (λ e. omega (arith, e)) ∙ map.get-empty {X = ℕ} nat_cmp (1 * 512 + i))
+  no_word i low = word_high (bare_root root) (1 * 512 + i) (omega (arith, low)) ∙ ap pointer_or_zero (no_table (1 * 512 + i) (λ e. omega (arith, e)))
 
   module _ (w : View) (small : root < 2 ^ 16) (blank : hold_of w root ≡ blank_hold) where
     zero_known : (i : ℕ) → i < 512 → known_word w root i ≡ Some 0

@@ -1,14 +1,21 @@
 -- What the seats of the tests hold, step by step.
-use Rattle.std.proofs.Common.{◌≡◌, ℕ, ◌+◌, ◌-◌, ◌*◌, ◌<◌, ◌≤◌, ◌==◌, Bool, true, false, cond, refl, ap, sym, subst, ◌∙◌, arith, Option, Some, Result, Ok, Err, lit<}
+use Rattle.std.proofs.Common.{◌≡◌, ℕ, ◌+◌, ◌-◌, ◌*◌, ◌<◌, ◌≤◌, ◌==◌, Bool, true, false, cond, refl, ap, sym, subst, ◌∙◌, arith, Option, Some, Result, Ok, Err, lit<, inl, inr}
 use Rattle.std.specs.Prelude.{if◌then◌else◌, is_ok, is_some, IfOk, IsSome}
 use Rattle.std.specs.FinMap as map
-use Rattle.std.specs.FinMap.{get}
-use Rattle.frame_store.specs.Holds.{hold_of-frames, hold_of-with_hold_other, hold_of-with_hold_same, hold_of-without_hold_other}
-use Rattle.frame_store.specs.View.{Hold, View, claimed, hold_of, IsHeld, IsSole, references, released, sole_hold, with_hold, with_word, without_hold}
+use Rattle.std.specs.FinMap.{get, insert}
+use Rattle.std.specs.Ordering.{nat_cmp}
+use Rattle.std.proofs.lemmas.Bool.{cases_eq}
+use Rattle.std.proofs.lemmas.Option.{same_Some}
+use Rattle.frame_store.specs.Holds.{opening_holds, hold_of-frames, hold_of-with_hold_other, hold_of-with_hold_same, hold_of-without_hold_other}
+use Rattle.frame_store.specs.View.{Hold, View, opening_view, with_credits, claimed, hold_of, IsHeld, IsSole, references, released, sole_hold, with_hold, with_word, without_hold}
 use Rattle.table_walk.specs.Changed.{IsNextLeaf, places}
-use Rattle.table_walk.specs.Image.{HasTables, Image, ChangesTables, leaf_node, missing, node}
+use Rattle.table_walk.specs.Image.{HasTables, Image, IsGrown, ChangesTables, bare_root, blank_hold, leaf_node, missing, node, with_leaf, without_leaf}
+use Rattle.table_walk.specs.Keys.{insert_other, insert_same, remove_other, remove_same}
+use Rattle.table_walk.specs.Same.{same_held}
+use Rattle.table_walk.specs.Released.{AreLast}
+use Rattle.table_walk.proofs.Roots.{no_table}
 use Rattle.table_walk.specs.Walk.{top_level}
-use Rattle.table_walk.proofs.Nodes.{leaf_node_is}
+use Rattle.table_walk.specs.Nodes.{leaf_node_is}
 
 -- ---- a frame is claimed, written and let go
 
@@ -42,26 +49,6 @@ module _ (f : ℕ) (v : View) where
   -- it was not held before
   pub fresh_apart : (g : ℕ) → references v f ≡ 0 → IsHeld v g → g ≡ f → ⊥
   fresh_apart g none held e = let no : references v g ≡ 0 = ap (references v) e ∙ none in omega (arith, no, held)
-
-pub same_held : (v w : View) (f : ℕ) → hold_of w f ≡ hold_of v f → IsHeld v f → IsHeld w f
-same_held v w f same held = subst (λ (h : Hold). 0 < h.references) (sym same) held
-
--- ---- tables of which no frame changed
-
-pub same_tables : (v w : View) (root : ℕ) (t : Image) → ((f : ℕ) → IsHeld v f → hold_of w f ≡ hold_of v f) → HasTables v root t → HasTables w root t
-same_tables v w root t same has = record {
-  image = record {
-    rooted = has.image.rooted;
-    words = λ k f i at low. ap (λ (h : Hold). get h.words i) (same f (has.own k f at).0) ∙ has.image.words k f i at low;
-    apart = has.image.apart;
-    below = has.image.below;
-    hung = has.image.hung;
-    leaf_hung = has.image.leaf_hung;
-  };
-  own = λ k f at.
-      let own = has.own k f at in
-      (same_held v w f (same f own.0) own.0, ap (λ (h : Hold). h.sole) (same f own.0) ∙ own.1);
-}
 
 -- ---- tables that changed
 
@@ -98,3 +85,44 @@ found_leaf t from o p is found =
     let number = leaf_node_is p.0 in
     let same : leaf_node p.0 ≡ 1 * places top_level + p.0 = omega (arith, number, leaf.1) in
     ap is_some (ap (get t.leaves) same ∙ leaf.2)
+
+-- ---- frames are reserved at a new store
+
+pub reserved_held : (v w : View) (n : ℕ) → v ≡ opening_view → w ≡ with_credits n v → IsHeld w 0
+reserved_held v w n opened reserved = same_held v w 0 (ap (λ u. hold_of u 0) reserved ∙ hold_of-frames (with_credits n v) v refl 0) (opening_holds v opened)
+
+-- ---- a page is mapped below a new root, and unmapped
+
+module _ (v w x y : View) (root page leaf n : ℕ) (u : Image) (held : IsHeld v 0) (fresh : references v root ≡ 0) (made : w ≡ with_hold root blank_hold (claimed root v))
+    (still_held : IsHeld w 0) (grown : IsGrown (bare_root root) u page top_level) (mapped : ChangesTables w x (bare_root root) u n) (anchored : IsHeld x 0)
+    (unmapped : ChangesTables x y (with_leaf u (leaf_node page) leaf) (with_leaf u (leaf_node page) leaf) 0) where
+  root_at : get (bare_root root).tables 1 ≡ Some root
+  root_at = insert_same map.empty 1 root 1 refl
+
+  the_root : (k f : ℕ) → get u.tables k ≡ Some f → k ≡ 1 → f ≡ root
+  the_root k f at e = same_Some f root (sym at ∙ ap (get u.tables) e ∙ grown.kept 1 root root_at)
+
+  made_once : (k f : ℕ) → get u.tables k ≡ Some f → references x f ≡ 1
+  made_once k f at = elim (cases_eq k 1) [
+    | inl e ↦ rw (the_root k f at e) (mapped.old 1 root root_at ∙ ap (λ (h : Hold). h.references) (ap (λ z. hold_of z root) made ∙ hold_of-with_hold_same root blank_hold (claimed root v)))
+    | inr ne ↦ (mapped.new k f at (no_table root k ne)).1
+  ]
+
+  not_anchor : (k : ℕ) → get u.tables k ≡ Some 0 → ⊥
+  not_anchor k at = elim (cases_eq k 1) [
+    | inl e ↦ (let same = the_root k 0 at e in let none = rw (← same) at fresh in omega (arith, none, held))
+    | inr ne ↦ (let none = (mapped.new k 0 at (no_table root k ne)).0 in omega (arith, none, still_held))
+  ]
+
+  pub left_last : AreLast y (without_leaf (with_leaf u (leaf_node page) leaf) (leaf_node page))
+  left_last = record {
+    bare = λ m. elim (cases_eq m (leaf_node page)) [
+      | inl e ↦ remove_same (insert u.leaves (leaf_node page) leaf) (leaf_node page) m e
+      | inr ne ↦
+          remove_other (insert u.leaves (leaf_node page) leaf) (leaf_node page) m ne
+          ∙ insert_other u.leaves (leaf_node page) leaf m ne ∙ ap (λ leaves. get leaves m) grown.leaves ∙ map.get-empty {X = ℕ} nat_cmp m
+    ];
+    once = λ k f at. unmapped.old k f at ∙ made_once k f at;
+    anchored = same_held x y 0 (unmapped.apart 0 not_anchor) anchored;
+    apart = not_anchor;
+  }

@@ -1,21 +1,21 @@
 -- What the image of the tables that a seat has says of walks.
-use Rattle.std.proofs.Common.{◌≡◌, ◌↔◌, ℕ, zero, suc, ◌+◌, ◌-◌, ◌*◌, ◌^◌, ◌<◌, ◌≤◌, inl, inr, refl, ap, sym, subst, ◌∙◌, arith, Option, Some, None, IsSome, unwrap_or}
+use Rattle.std.proofs.Common.{◌≡◌, ◌↔◌, ℕ, zero, suc, ◌+◌, ◌-◌, ◌*◌, ◌/◌, ◌%◌, ◌^◌, ◌<◌, ◌≤◌, inl, inr, refl, ap, sym, subst, ◌∙◌, arith, true, false, Option, Some, None, IsSome, unwrap_or}
 use Rattle.std.specs.Prelude.{option_and_then}
 use Rattle.std.proofs.lemmas.Bool.{cases_eq, le-leb, lt-ltb}
 use Rattle.std.proofs.lemmas.Option.{same_Some}
 use Rattle.std.specs.FinMap.{get}
 use Rattle.frame_store.specs.View.{View, known_word}
-use Rattle.sv39_entry.specs.Address.{vpn}
+use Rattle.sv39_entry.specs.Address.{has, vpn}
 use Rattle.sv39_entry.specs.Frame.{frame_at, ppn_of}
 use Rattle.sv39_entry.specs.Word.{kind_of, pointer_word, ppn}
 use Rattle.sv39_entry.specs.declared.entry.Kind.TheVariants.{Leaf, Pointer}
 use Rattle.sv39_entry.specs.declared.frame.FrameNo.{FrameNo}
 use Rattle.table_walk.specs.Held.{held_memory, IsReadable}
 use Rattle.table_walk.specs.Image.{HasTables, Image, leaf_node, node, pointer_or_zero, word_in}
-use Rattle.table_walk.specs.Walk.{top_level, CanWalk, IsAt, LeavesMemory, Maps, Reads}
+use Rattle.table_walk.specs.Walk.{top_level, CanWalk, IsAt, IsGlobal, LeavesMemory, Maps, Reads}
 use Rattle.table_walk.proofs.Children.{pointer_kind, pointer_ppn}
 use Rattle.table_walk.proofs.Images.{kind-zero, word_high, word_leaf}
-use Rattle.table_walk.proofs.Nodes.{above, leaf_number, node_from, power_next, power_some, table_number, vpn_low}
+use Rattle.table_walk.specs.Nodes.{above, leaf_number, node_from, power_next, power_some, table_number, vpn_low}
 
 -- what a word of a table that is a pointer or a leaf comes from
 
@@ -134,6 +134,28 @@ module _ (v : View) (root : ℕ) (t : Image) (h : HasTables v root t) where
   pub walk : (page leaf level : ℕ) →
       Maps (held_memory v) (ppn_of root) page leaf level ↔ (level ≡ 0) × (get t.leaves (leaf_node page) ≡ Some leaf)
   walk page leaf level = (found page leaf level, λ is. rw is.0 (finds page leaf is.1))
+
+  -- a word above the last table has no G
+  unmarked : (o : Option ℕ) → has (pointer_or_zero o) 5 ≡ false
+  unmarked None = refl
+  unmarked (Some f) = let clear : pointer_word f / 2 ^ 5 % 2 ≡ 0 = omega arith in rw clear refl
+
+  pub global : (page leaf : ℕ) → get t.leaves (leaf_node page) ≡ Some leaf → IsGlobal (held_memory v) (ppn_of root) page 0 ↔ (has leaf 5 ≡ true)
+  global page leaf is = (
+    (λ g.
+        let word = same_Some _ _ (at_depth page g.0 g.1 (Some g.2) g.3 g.4 g.5) in
+        elim (cases_eq g.0 top_level) [
+          | inl last ↦
+              let same : g.2 ≡ leaf = rw last at word ∙ word_leaf t (leaf_node page) (leaf_number page) ∙ ap (λ o. unwrap_or o 0) is in
+              rw same at g.6
+          | inr ne ↦
+              let high = table_number page (suc g.0) (omega (arith, ne, g.3)) in
+              let clear = unmarked (get t.tables (node page (suc g.0))) in
+              let pointer : g.2 ≡ pointer_or_zero (get t.tables (node page (suc g.0))) = word ∙ word_high t _ high in
+              absurd (let set = rw pointer at g.6 in cc)
+        ]),
+    (λ set. let found = finds page leaf is in (top_level, found.reads.table, leaf, omega arith, found.reads.way, found.reads.read, set)),
+  )
 
   -- the tables on the way may be read
   pub readable : (page : ℕ) → CanWalk (IsReadable v) (held_memory v) (ppn_of root) page

@@ -2,6 +2,10 @@ pub mod Changed
 pub mod Counted
 pub mod Held
 pub mod Image
+pub mod Keys
 pub mod Memory
+pub mod Nodes
 pub mod Places
+pub mod Released
+pub mod Same
 pub mod Walk

@@ -1,7 +1,7 @@
-// Changes of tables, each at one page.
+// The leaf of one page: what it is, and its changes.
 
 ghost use Rattle.std.specs.FinMap.{get};
-ghost use Rattle.std.specs.Prelude.{◌≡◌, ◌≤◌, ℕ, IsSome, None, Some};
+ghost use Rattle.std.specs.Prelude.{◌≡◌, ◌≤◌, ℕ, option_map, IfSome, IsSome, None, Some};
 ghost use Rattle.frame_store.specs.Laws.{Fits, Keeps};
 ghost use Rattle.frame_store.specs.View.{IsHeld, with_word};
 ghost use Rattle.sv39_entry.specs.Address.{vpn};
@@ -59,6 +59,24 @@ pub fn protect<F: FrameAccess>(
     }
 }
 
+/// The leaf of a page, where it has one.
+pub fn leaf_of<F: FrameAccess>(
+    store: &mut F,
+    seat: &mut F::Seat,
+    root: FrameNo,
+    page: Vpn,
+) -> Option<Entry>
+    requires fits { Fits F.rule store.old seat.old }
+    requires held { (t : Image) × HasTables (F.Seat.view seat.old) root.0 t }
+    ensures leaf { (t : Image) → HasTables (F.Seat.view seat.old) root.0 t → result ≡ get t.leaves (leaf_node page) }
+    ensures view { F.Seat.view seat.new ≡ F.Seat.view seat.old }
+    ensures same { store.new ≡ store.old }
+    ensures keeps { Keeps F.rule store.old seat.old store.new seat.new }
+{
+    let (_, leaf) = leaf_in_table(store, seat, root, page)?;
+    Some(leaf)
+}
+
 /// Takes a page's leaf away, and answers what it was. The tables stay.
 pub fn unmap<F: FrameAccess>(
     store: &mut F,
@@ -78,12 +96,30 @@ pub fn unmap<F: FrameAccess>(
     ensures free { F.alone → F.free store.new ≡ F.free store.old }
     ensures counts { F.alone → (f : ℕ) → F.count store.new f ≡ F.count store.old f }
 {
+    let (table, leaf) = leaf_in_table(store, seat, root, page)?;
+    store.store(seat, table, page.index(0), 0);
+    Some(leaf)
+}
+
+/// The last table on the way to a page, and the page's leaf in it, where it has one.
+fn leaf_in_table<F: FrameAccess>(
+    store: &mut F,
+    seat: &mut F::Seat,
+    root: FrameNo,
+    page: Vpn,
+) -> Option<(FrameNo, Entry)>
+    requires fits { Fits F.rule store.old seat.old }
+    requires held { (t : Image) × HasTables (F.Seat.view seat.old) root.0 t }
+    ensures leaf { (t : Image) → HasTables (F.Seat.view seat.old) root.0 t → option_map (λ p. p.1) result ≡ get t.leaves (leaf_node page) }
+    ensures table { (t : Image) → HasTables (F.Seat.view seat.old) root.0 t → IfSome result (λ p. get t.tables (last_table page) ≡ Some p.0.0) }
+    ensures view { F.Seat.view seat.new ≡ F.Seat.view seat.old }
+    ensures same { store.new ≡ store.old }
+    ensures keeps { Keeps F.rule store.old seat.old store.new seat.new }
+{
     let table = table_of(store, seat, root, page)?;
-    let index = page.index(0);
-    let word = store.load(seat, table, index);
+    let word = store.load(seat, table, page.index(0));
     if word == 0 {
         return None;
     }
-    store.store(seat, table, index, 0);
-    Some(Entry::from_word(word))
+    Some((table, Entry::from_word(word)))
 }

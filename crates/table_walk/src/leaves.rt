@@ -96,7 +96,7 @@ fn index_places(level: u32) -> u64
     requires { level ≤ top_level }
     ensures value { result ≡ 512 ^ level }
     ensures some { 0 < result }
-    ensures few { result ≤ 2 ^ 18 }
+    ensures few { result ≤ 512 ^ top_level }
 {
     1 << (9 * level)
 }

@@ -11,6 +11,7 @@ mod laws;
 mod leaf;
 mod leaves;
 mod plain;
+mod release;
 mod tables;
 #[cfg(test)]
 mod tests;
@@ -18,7 +19,7 @@ mod translation;
 mod walk;
 mod words;
 
-pub use change::{map, protect, unmap};
+pub use change::{leaf_of, map, protect, unmap};
 pub use counting::missing_is_growth;
 pub use find::lookup;
 pub use growth::new_table;
@@ -27,6 +28,7 @@ pub use laws::{one_found, one_outcome, walks_of_tables};
 pub use leaf::physical_address;
 pub use leaves::next_leaf;
 pub use plain::PlainWords;
+pub use release::release_tables;
 pub use tables::missing_tables;
 pub use translation::{has_byte, translate};
 pub use walk::{Found, Walk};

@@ -1,9 +1,9 @@
 // The tables below a root that a seat holds.
 
 ghost use Rattle.std.specs.FinMap.{get};
-ghost use Rattle.std.specs.Prelude.{◌≡◌, ◌+◌, ◌*◌, ◌<◌, ◌≤◌, ℕ, option_map, Some};
+ghost use Rattle.std.specs.Prelude.{◌≡◌, ◌+◌, ◌-◌, ◌*◌, ◌<◌, ◌≤◌, ℕ, suc, option_map, None, Some};
 ghost use Rattle.frame_store.specs.Laws.{Fits, Keeps};
-ghost use Rattle.table_walk.specs.Image.{first_leaf, HasTables, Image, last_table, missing};
+ghost use Rattle.table_walk.specs.Image.{first_leaf, HasTables, Image, last_table, missing, node};
 ghost use Rattle.table_walk.specs.Walk.{top_level};
 
 use crate::find::TOP_LEVEL;
@@ -32,6 +32,32 @@ pub(crate) fn child<F: FrameAccess>(
     None
 }
 
+/// The last table on the way to a page that is there, and the level of its entries.
+fn deepest_table<F: FrameAccess>(
+    store: &mut F,
+    seat: &mut F::Seat,
+    root: FrameNo,
+    page: Vpn,
+) -> (FrameNo, u32)
+    requires fits { Fits F.rule store.old seat.old }
+    requires held { (t : Image) × HasTables (F.Seat.view seat.old) root.0 t }
+    ensures there { (t : Image) → HasTables (F.Seat.view seat.old) root.0 t → get t.tables (node page (top_level - result.1)) ≡ Some result.0.0 }
+    ensures last { (t : Image) → HasTables (F.Seat.view seat.old) root.0 t → 0 < result.1 → get t.tables (node page (suc (top_level - result.1))) ≡ None }
+    ensures low { result.1 ≤ top_level }
+    ensures view { F.Seat.view seat.new ≡ F.Seat.view seat.old }
+    ensures same { store.new ≡ store.old }
+    ensures keeps { Keeps F.rule store.old seat.old store.new seat.new }
+{
+    let mut table = root;
+    'levels: for level in (1..=TOP_LEVEL).rev() {
+        match child(store, seat, table, page.index(level)) {
+            Some(next) => table = next,
+            None => return (table, level),
+        }
+    }
+    (table, 0)
+}
+
 /// The last table on the way to a page, which has the page's leaf at the page's lowest index.
 pub(crate) fn table_of<F: FrameAccess>(
     store: &mut F,
@@ -46,11 +72,8 @@ pub(crate) fn table_of<F: FrameAccess>(
     ensures same { store.new ≡ store.old }
     ensures keeps { Keeps F.rule store.old seat.old store.new seat.new }
 {
-    let mut table = root;
-    'levels: for level in (1..=TOP_LEVEL).rev() {
-        table = child(store, seat, table, page.index(level))?;
-    }
-    Some(table)
+    let (table, level) = deepest_table(store, seat, root, page);
+    if level == 0 { Some(table) } else { None }
 }
 
 /// How many tables are missing on the way to a page.
@@ -68,12 +91,6 @@ pub fn missing_tables<F: FrameAccess>(
     ensures same { store.new ≡ store.old }
     ensures keeps { Keeps F.rule store.old seat.old store.new seat.new }
 {
-    let mut table = root;
-    'levels: for level in (1..=TOP_LEVEL).rev() {
-        match child(store, seat, table, page.index(level)) {
-            Some(next) => table = next,
-            None => return level as usize,
-        }
-    }
-    0
+    let (_, level) = deepest_table(store, seat, root, page);
+    level as usize
 }

@@ -8,7 +8,7 @@ ghost use Rattle.table_walk.specs.Image.{HasTables, Image};
 
 use crate::{
     Found, HeldWords, PlainWords, Walk, lookup, map, missing_tables, new_table, next_leaf, protect,
-    translate, unmap, walks_of_tables,
+    release_tables, translate, unmap, walks_of_tables,
 };
 use frame_store::{FrameAccess, FrameSeat, FrameSupply, PlainFrames, PlainSeat};
 use std::alloc::{AllocError, Global};
@@ -200,5 +200,21 @@ fn changes_one_leaf(rt: HostRuntime) -> Result<(), Fail> {
         global: false,
     };
     assert_eq!(rt; lookup(&mut words, root.ppn(), Va(0x40000123)), leaf);
+    Ok(())
+}
+
+#[test]
+fn releases_what_was_made(rt: HostRuntime) -> Result<(), Fail> {
+    let (mut frames, mut seat) = PlainFrames::new(rt.alloc(), 16)?;
+    let reserved = frames.reserve(&mut seat, 3);
+    prove!(reserved.is_ok());
+    let root = new_table(&mut frames, &mut seat);
+    let page = Va(0x200000).page();
+    let leaf = Entry::leaf(FrameNo(9), Rights::READ, true, false);
+    map(&mut frames, &mut seat, root, page, leaf);
+    unmap(&mut frames, &mut seat, root, page);
+    assert_eq!(rt; frames.report().held, 4);
+    release_tables(&mut frames, &mut seat, root);
+    assert_eq!(rt; frames.report().held, 1);
     Ok(())
 }

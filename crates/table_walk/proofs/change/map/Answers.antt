@@ -5,7 +5,7 @@ use Rattle.sv39_entry.specs.Address.{vpn}
 use Rattle.table_walk.specs.Image.{ChangesTables, HasTables, Image, IsGrown, last_table, leaf_node, missing, with_leaf}
 use Rattle.table_walk.specs.Walk.{top_level}
 use Rattle.table_walk.proofs.Grown.{still_anchored}
-use Rattle.table_walk.proofs.Keys.{insert_same, insert_other}
+use Rattle.table_walk.specs.Keys.{insert_same, insert_other}
 use Rattle.table_walk.proofs.LeafChanges.{maps_leaf, others_stay, put_page, word_changes}
 use Rattle.table_walk.proofs.change.map.Given as given
 use Rattle.table_walk.proofs.change.map.Goals as goal

@@ -3,7 +3,7 @@ use Rattle.std.specs.FinMap.{get}
 use Rattle.frame_store.specs.View.{with_word}
 use Rattle.sv39_entry.specs.Address.{vpn}
 use Rattle.table_walk.specs.Image.{ChangesTables, HasTables, Image, last_table, leaf_node, with_leaf}
-use Rattle.table_walk.proofs.Keys.{insert_same, insert_other}
+use Rattle.table_walk.specs.Keys.{insert_same, insert_other}
 use Rattle.table_walk.proofs.Grown.{no_change}
 use Rattle.table_walk.proofs.LeafChanges.{maps_leaf, no_table, others_stay, put_page, word_changes}
 use Rattle.table_walk.proofs.change.protect.Given as given

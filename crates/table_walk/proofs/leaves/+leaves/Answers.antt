@@ -7,7 +7,7 @@ use Rattle.table_walk.specs.Image.{HasTables, Image}
 use Rattle.table_walk.specs.Places.{IsBare, IsFirstLeaf}
 use Rattle.table_walk.specs.Walk.{top_level}
 use Rattle.table_walk.proofs.Next.{bare_more, bare_none, first_more, no_table, bare_word, leaf_word, split_at, table_child, first_in, in_level, fits_word}
-use Rattle.table_walk.proofs.Nodes.{power_next, power_some}
+use Rattle.table_walk.specs.Nodes.{power_next, power_some}
 use Rattle.table_walk.proofs.leaves.+leaves.Goals as goal
 
 -- ---- below an index

@@ -1,76 +1,11 @@
-use Rattle.std.proofs.Common.{◌≡◌, ◌-◌, refl, ap, sym, ◌∙◌, arith, None}
-use Rattle.std.specs.FinMap.{get}
-use Rattle.std.specs.Prelude.{option_map}
-use Rattle.frame_store.specs.Laws.{fits_after}
-use Rattle.table_walk.specs.Image.{HasTables, Image, node}
+use Rattle.std.proofs.Common.{◌-◌, suc, ◌<◌, sym, arith}
 use Rattle.table_walk.specs.Walk.{top_level}
-use Rattle.table_walk.proofs.Children.{last_missing, next_is_table, next_node}
-use Rattle.table_walk.proofs.tables.table_of.Given as given
+use Rattle.table_walk.proofs.Children.{last_missing}
 use Rattle.table_walk.proofs.tables.table_of.Goals as goal
-use Rattle.table_walk.proofs.tables.table_of.Goals.{After-child}
 
--- the table of the next level, in each image
-found : (g : given.Over) (c : After-child g) (t : Image) → HasTables (g.F.Seat.FrameSeat.view c.args.seat.now) c.args.root.0 t
-    → option_map (λ f. f.0) c.child.result ≡ get t.tables (node c.args.page (top_level - (c.levels.level - 1)))
-found g c t h =
-    let i = c.levels.invariant in
-    c.child.ensures.child c.args.root.0 (node c.args.page (top_level - c.levels.level)) t (rw i.view h) (i.way t h)
-    (rw c.index.ensures.value (next_is_table c.levels.level c.levels-test.true c.levels.auto.level c.args.page))
-    ∙ ap (get t.tables) (rw c.index.ensures.value (next_node c.levels.level c.levels-test.true c.levels.auto.level c.args.page))
-
-pub levels-init : goal.levels-init
-levels-init g c = record { view = refl; same = refl; keeps = λ others r. r; way = λ t h. h.image.rooted }
-
-pub child-requires-clause-fits : goal.child-requires-clause-fits
-child-requires-clause-fits g c = fits_after g.F.FrameAccess.rule c.levels.invariant.keeps c.requires.fits
-
-pub child-requires-clause-held : goal.child-requires-clause-held
-child-requires-clause-held g c =
-    let h = c.requires.held in
-    let i = c.levels.invariant in (
-      c.args.root.0,
-      node c.args.page (top_level - c.levels.level),
-      h.0,
-      rw i.view h.1,
-      i.way h.0 h.1,
-      rw c.index.ensures.value (next_is_table c.levels.level c.levels-test.true c.levels.auto.level c.args.page),
-    )
-
-pub returns-in_err-table-clause-table : goal.returns-in_err-table-clause-table
-returns-in_err-table-clause-table g c t h =
-    let child = found g (goal.at.returns-in_err-table-clause-table g c).After-child t h in
-    let none : None ≡ get t.tables (node c.args.page (top_level - (c.levels.level - 1))) = rw c.in_err-table.was at child in
-    rw c.from_residual.ensures (sym (last_missing _ _ t h.image c.args.page (top_level - (c.levels.level - 1)) (omega arith) (sym none)))
-
-pub returns-in_err-table-clause-view : goal.returns-in_err-table-clause-view
-returns-in_err-table-clause-view g c = c.child.ensures.view ∙ c.levels.invariant.view
-
-pub returns-in_err-table-clause-same : goal.returns-in_err-table-clause-same
-returns-in_err-table-clause-same g c = c.child.ensures.same ∙ c.levels.invariant.same
-
-pub returns-in_err-table-clause-keeps : goal.returns-in_err-table-clause-keeps
-returns-in_err-table-clause-keeps g c others r = c.child.ensures.keeps others (c.levels.invariant.keeps others r)
-
-pub levels-preserved : goal.levels-preserved
-levels-preserved g c =
-    let i = c.levels.invariant in
-    record {
-      view = c.child.ensures.view ∙ i.view;
-      same = c.child.ensures.same ∙ i.same;
-      keeps = λ others r. c.child.ensures.keeps others (i.keeps others r);
-      way = λ t h. sym (rw c.in_ok-table.was at (found g (goal.at.levels-preserved g c).After-child t h));
-    }
-
-pub returns-clause-table : goal.returns-clause-table
-returns-clause-table g c t h =
-    let low : c.levels.level ≡ 0 = omega (arith, c.levels-test.false) in
-    sym (rw low at (c.levels.invariant.way t h))
-
-pub returns-clause-view : goal.returns-clause-view
-returns-clause-view g c = c.levels.invariant.view
-
-pub returns-clause-same : goal.returns-clause-same
-returns-clause-same g c = c.levels.invariant.same
-
-pub returns-clause-keeps : goal.returns-clause-keeps
-returns-clause-keeps g c = c.levels.invariant.keeps
+pub returns-else-level-eq0-clause-table : goal.returns-else-level-eq0-clause-table
+returns-else-level-eq0-clause-table g c t h =
+    let deepest = c.deepest_table-level.ensures in
+    let level = c.deepest_table-level.result.1 in
+    let some : 0 < level = omega (arith, c.if-level-eq0.false) in
+    sym (last_missing _ _ t h.image c.args.page (suc (top_level - level)) (omega (arith, some)) (deepest.last t h some))

@@ -1,9 +1,9 @@
-use Rattle.std.proofs.Common.{◌≤◌, ◌*◌, ◌-◌, [], ap, arith, refl, sym, subst, ◌∙◌}
+use Rattle.std.proofs.Common.{◌≤◌, ◌*◌, ◌-◌, [], ap, arith, sym, ◌∙◌}
 use Rattle.frame_store.specs.Laws.{fits_after}
 use Rattle.frame_store.specs.Plain.{BankRule}
-use Rattle.frame_store.specs.Holds.{hold_of-frames, opening_holds}
-use Rattle.frame_store.specs.View.{View, IsHeld, with_credits}
-use Rattle.table_walk.proofs.Tested.{enough_left, enough_now, of_ok, same_held, same_tables, same_view}
+use Rattle.frame_store.specs.View.{View}
+use Rattle.table_walk.proofs.Tested.{enough_left, enough_now, of_ok, reserved_held, same_view}
+use Rattle.table_walk.specs.Same.{same_held, same_tables}
 use Rattle.table_walk.proofs.tests.mapped.Goals as goal
 
 pub new_table-root-requires-clause-fits : goal.new_table-root-requires-clause-fits
@@ -12,8 +12,7 @@ new_table-root-requires-clause-fits c = fits_after BankRule c.reserve-reserved.e
 pub new_table-root-requires-clause-anchored : goal.new_table-root-requires-clause-anchored
 new_table-root-requires-clause-anchored c =
     let reserved = of_ok _ (sym c.is_ok.ensures.value ∙ c.if-prove.false) c.reserve-reserved.ensures.ok in
-    let opened = opening_holds _ c.in_ok-frames.ensures.seat in
-    subst (λ v. IsHeld v 0) (sym reserved) (same_held _ (with_credits 12 _) 0 (hold_of-frames (with_credits 12 _) _ refl 0) opened)
+    reserved_held _ _ 12 c.in_ok-frames.ensures.seat reserved
 
 pub leave_words-requires-clause-fits : goal.leave_words-requires-clause-fits
 leave_words-requires-clause-fits c = fits_after BankRule c.new_table-root.ensures.keeps (fits_after BankRule c.reserve-reserved.ensures.keeps ([], c.in_ok-frames.ensures.rule))

@@ -3,7 +3,7 @@ use Rattle.std.specs.FinMap.{get}
 use Rattle.frame_store.specs.Laws.{Keeps}
 use Rattle.table_walk.specs.Image.{HasTables, Image, node}
 use Rattle.table_walk.specs.Walk.{top_level}
-use Rattle.table_walk.proofs.tables.table_of.Given as goal
+use Rattle.table_walk.proofs.tables.deepest_table.Given as goal
 
 -- nothing changes, and the table is the one on the way to the page whose entries have this level
 abbrev pub invariant-levels : goal.invariant-levels

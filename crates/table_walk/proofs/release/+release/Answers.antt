@@ -1,0 +1,99 @@
+use Rattle.std.proofs.Common.{◌≡◌, ℕ, ◌+◌, ◌-◌, ◌*◌, ◌<◌, Some, refl, sym, subst, ◌∙◌, arith, rules}
+use Rattle.std.specs.FinMap.{get}
+use Rattle.frame_store.specs.Laws.{Fits, fits_after}
+use Rattle.table_walk.specs.Changed.{IsTableAt}
+use Rattle.table_walk.specs.Image.{HasTables, Image}
+use Rattle.table_walk.specs.Released.{AreLast}
+use Rattle.table_walk.proofs.Next.{table_child}
+use Rattle.table_walk.proofs.Shed.{above_sole, at_index, index_anchored, index_held, lets_index, lets_last, lets_next, lets_none, some_level, still_last}
+use Rattle.table_walk.proofs.release.+release.Goals as goal
+
+-- ---- the table at an index
+
+pub release_at-child-requires-clause-held : goal.release_at-child-requires-clause-held
+release_at-child-requires-clause-held g u c =
+    let h = c.requires.bare in
+    (h.0, h.1, h.2, h.3, h.5, (table_child h.1 c.args.level c.args.index h.6 c.requires.low c.requires.in_table (some_level c.args.level c.requires.above)).0)
+
+pub release_at-release_below-requires : goal.release_at-release_below-requires
+release_at-release_below-requires g u c =
+    let h = c.requires.bare in
+    let below = table_child h.1 c.args.level c.args.index h.6 c.requires.low c.requires.in_table (some_level c.args.level c.requires.above) in
+    let fits : Fits g.F.FrameAccess.rule c.child.new.store c.child.new.seat = fits_after g.F.FrameAccess.rule c.child.ensures.keeps c.requires.fits in
+    let bare : (root k : ℕ) × (t : Image) × HasTables (g.F.Seat.FrameSeat.view c.child.new.seat) root t × AreLast (g.F.Seat.FrameSeat.view c.child.new.seat) t × (get t.tables k ≡ Some c.in-Some.next.0) × IsTableAt k (c.args.level - 1) =
+    (h.0, h.1 * 512 + c.args.index, h.2, rw c.child.ensures.view h.3, rw c.child.ensures.view h.4, sym (c.in-Some.ensures.child h.0 h.1 h.2 h.3 h.5 below.0), below.1) in
+    search (rules, fits, bare)
+
+pub release_at-store-requires-clause-sole : goal.release_at-store-requires-clause-sole
+release_at-store-requires-clause-sole g u c =
+    let h = c.requires.bare in
+    let at = at_index _ _ _ h.0 h.1 _ _ c.args.index _ h.2 c.child.ensures.view h.3 h.4 h.5 h.6 c.requires.low c.requires.above c.requires.in_table c.in-Some.ensures.child c.release_below.ensures.below in
+    above_sole _ _ _ _ _ _ _ _ at
+
+pub release_at-release-requires-clause-held : goal.release_at-release-requires-clause-held
+release_at-release-requires-clause-held g u c =
+    let h = c.requires.bare in
+    let at = at_index _ _ _ h.0 h.1 _ _ c.args.index _ h.2 c.child.ensures.view h.3 h.4 h.5 h.6 c.requires.low c.requires.above c.requires.in_table c.in-Some.ensures.child c.release_below.ensures.below in
+    rw c.store.ensures.view (index_held _ _ _ _ _ _ _ _ at)
+
+pub release_at-release-requires-clause-anchored : goal.release_at-release-requires-clause-anchored
+release_at-release-requires-clause-anchored g u c =
+    let h = c.requires.bare in
+    let at = at_index _ _ _ h.0 h.1 _ _ c.args.index _ h.2 c.child.ensures.view h.3 h.4 h.5 h.6 c.requires.low c.requires.above c.requires.in_table c.in-Some.ensures.child c.release_below.ensures.below in
+    rw c.store.ensures.view (index_anchored _ _ _ _ _ _ _ _ at)
+
+pub release_at-returns-in-Some-clause-here : goal.release_at-returns-in-Some-clause-here
+release_at-returns-in-Some-clause-here g u c root k t has last at is =
+    let at = at_index _ _ _ root k _ _ c.args.index _ t c.child.ensures.view has last at is c.requires.low c.requires.above c.requires.in_table c.in-Some.ensures.child c.release_below.ensures.below in
+    rw (c.release.ensures.view, c.store.ensures.view) (lets_index _ _ _ _ _ _ _ _ at)
+
+pub release_at-returns-in_default-clause-here : goal.release_at-returns-in_default-clause-here
+release_at-returns-in_default-clause-here g u c root k t has last at is =
+    let child = table_child k c.args.level c.args.index is c.requires.low c.requires.in_table (some_level c.args.level c.requires.above) in
+    (t, rw c.child.ensures.view (lets_none _ root k t has), sym (c.child.ensures.child root k t has at child.0) ∙ rw c.in_default.is refl)
+
+-- ---- the tables below a table
+
+pub release_below-returns-then-level-eq0-clause-below : goal.release_below-returns-then-level-eq0-clause-below
+release_below-returns-then-level-eq0-clause-below g u c root k t has last at is =
+    lets_last _ root k c.args.table.0 t has (subst (IsTableAt k) c.if-level-eq0.true is)
+
+pub release_below-indices-init : goal.release_below-indices-init
+release_below-indices-init g u c = record {
+  keeps = λ others r. r;
+  free = λ alone. omega arith;
+  below = λ root k t has last at is. (t, lets_none _ root k t has, λ i less. absurd (omega (arith, less)));
+}
+
+pub release_below-release_at-requires : goal.release_below-release_at-requires
+release_below-release_at-requires g u c =
+    let i = c.indices.invariant in
+    let h = c.requires.bare in
+    let so_far = i.below h.0 h.1 h.2 h.3 h.4 h.5 h.6 in
+    let fits : Fits g.F.FrameAccess.rule c.indices.store c.indices.seat = fits_after g.F.FrameAccess.rule i.keeps c.requires.fits in
+    let some : 0 < c.args.level = omega (arith, c.if-level-eq0.false) in
+    let bare : (root k : ℕ) × (t : Image) × HasTables (g.F.Seat.FrameSeat.view c.indices.seat) root t × AreLast (g.F.Seat.FrameSeat.view c.indices.seat) t × (get t.tables k ≡ Some c.args.table.0) × IsTableAt k c.args.level =
+    (h.0, h.1, so_far.0, so_far.1.tables, still_last _ _ h.0 h.1 h.2 so_far.0 so_far.1 h.4, so_far.1.stay h.1 _ (omega arith) h.5, h.6) in
+    search (rules, fits, some, bare)
+
+pub release_below-indices-preserved : goal.release_below-indices-preserved
+release_below-indices-preserved g u c =
+    let i = c.indices.invariant in
+    record {
+      keeps = λ others r. c.release_at.ensures.keeps others (i.keeps others r);
+      free = λ alone. (let first = i.free alone in let next = c.release_at.ensures.free alone in omega (arith, first, next));
+      below = λ root k t has last at is.
+          let so_far = i.below root k t has last at is in
+          lets_next _ _ _ root k c.indices.index t has so_far (c.release_at.ensures.here root k so_far.0 so_far.1.tables (still_last _ _ root k t so_far.0 so_far.1 last) (so_far.1.stay k _ (omega arith) at) is);
+    }
+
+pub release_below-returns-clause-below : goal.release_below-returns-clause-below
+release_below-returns-clause-below g u c root k t has last at is =
+    let low : c.indices.index ≡ 512 = omega (arith, c.indices-test.false) in
+    rw low at (c.indices.invariant.below root k t has last at is)
+
+pub release_below-returns-clause-keeps : goal.release_below-returns-clause-keeps
+release_below-returns-clause-keeps g u c = c.indices.invariant.keeps
+
+pub release_below-returns-clause-free : goal.release_below-returns-clause-free
+release_below-returns-clause-free g u c = c.indices.invariant.free
