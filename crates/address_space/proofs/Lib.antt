@@ -1,1 +1,10 @@
+pub mod AddingFrames
+pub mod AddingPages
+pub mod AddingReserved
 pub mod Found
+pub mod Owned
+pub mod Owning
+pub mod OwningCounts
+pub mod OwningSteps
+pub mod PageMaps
+pub mod Writing

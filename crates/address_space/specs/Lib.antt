@@ -1,1 +1,4 @@
+pub mod Agreement
 pub mod Layouts
+pub mod Parting
+pub mod Steps

@@ -2,9 +2,13 @@
 #![tactic(auto)]
 
 mod layout;
+mod own;
+mod pages;
 mod region;
+mod space;
 #[cfg(test)]
 mod tests;
 
 pub use layout::Layout;
 pub use region::{Region, RegionKind, Source};
+pub use space::Space;

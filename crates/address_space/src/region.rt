@@ -1,10 +1,14 @@
 // Runs of pages with what they grant.
 
-ghost use Rattle.std.specs.Prelude.{◌≡◌, Some};
+ghost use Rattle.std.specs.Prelude.{◌≡◌, Some, true};
+ghost use Rattle.address_space.specs.Agreement.{IsPageLeaf, makes_leaf};
 ghost use Rattle.address_space.specs.Layouts.{region_of};
 ghost use Rattle.process_model.specs.Regions as model;
+ghost use Rattle.sv39_entry.specs.Word.{kind_of};
+ghost use Rattle.sv39_entry.specs.declared.entry.Kind.TheVariants.{Leaf};
 
-use sv39_entry::{Access, Rights};
+use bitflags::Flags;
+use sv39_entry::{Access, Entry, FrameNo, Rights};
 
 /// What a region is there for (the xv6 book, "Process address space"; mappings are those of the mmap lab).
 #[derive(Clone, Copy, PartialEq, Eq, Debug)]
@@ -61,6 +65,19 @@ impl Region {
         ensures { result ≡ model.holds_page (region_of self.now) page }
     {
         self.first <= page && page - self.first < self.pages
+    }
+
+    /// The leaf of a page over a frame: with a fork mark it may not be written. The guard's is the kernel's alone.
+    pub(crate) fn leaf(&self, frame: FrameNo, mark: bool) -> Entry
+        requires leafy { makes_leaf (region_of self.now) ≡ true }
+        ensures leaf { IsPageLeaf result frame.0 (region_of self.now) mark }
+        ensures kind { kind_of result ≡ Leaf }
+    {
+        if self.kind == RegionKind::Guard {
+            return Entry::leaf(frame, Rights::READ, false, false);
+        }
+        let cow = mark && self.rights.contains(Rights::WRITE);
+        Entry::leaf(frame, self.rights, true, cow)
     }
 
     /// Whether the right is missing that an access needs.

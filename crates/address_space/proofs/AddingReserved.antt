@@ -1,0 +1,106 @@
+-- Frames for a page are reserved together, and then the page is added.
+use Rattle.std.proofs.Common.{◌≡◌, ℕ, ◌+◌, ◌-◌, ◌<◌, ◌≤◌, Option, None, Some, List, ◌∷◌, append-nil, Result, Ok, Err, IsOk, IsErr, IfErr, is_ok, if◌then◌else◌, true, false, ap, sym, ◌∙◌, arith}
+use Rattle.std.specs.Prelude.{◌^◌, All}
+use Rattle.std.proofs.lemmas.Option.{same_Some}
+use Rattle.frame_store.specs.Holds.{hold_of-frames}
+use Rattle.frame_store.specs.Laws.{IsDry}
+use Rattle.frame_store.specs.View.{View, hold_of, with_credits}
+use Rattle.process_model.specs.Frames.{settle_need, tables_needed}
+use Rattle.process_model.specs.PageMap as pages
+use Rattle.process_model.specs.Process.{Process, regions}
+use Rattle.process_model.specs.Regions.{Region, region_at}
+use Rattle.table_walk.specs.Counted.{AreTablesOf}
+use Rattle.table_walk.specs.Image.{HasTables, Image, missing}
+use Rattle.address_space.specs.Agreement.{Agrees, makes_leaf}
+use Rattle.address_space.specs.Layouts.{Layout}
+use Rattle.address_space.specs.Steps.{Adds, CanAdd, CanSettle, RunsDry, Settles}
+use Rattle.address_space.proofs.Owned.{same_references, same_stands}
+
+-- an error of a reservation
+
+pub if_err : {A E : Type 0} (r : Result A E) (P : Type 0) → P → IfErr r (λ _. P)
+if_err (Ok x) P h = tt
+if_err (Err e) P h = h
+
+pub not_enough : {A E : Type 0} (r : Result A E) (n m a b : ℕ) → IsErr r → n ≡ m → a ≡ b → (n ≤ a → false ≡ true) → (IsOk r → m ≤ b) × (m ≤ b → IsOk r)
+not_enough (Ok x) n m a b err same free exact = absurd (cc)
+not_enough (Err e) n m a b err same free exact = (λ ok. absurd (cc), λ le. exact (omega (arith, same, free, le)))
+
+pub none_taken : {A E : Type 0} (r : Result A E) (n a b c : ℕ) → IsErr r → a ≡ b - 0 → b ≡ c → a ≡ c - (if is_ok r then n else 0)
+none_taken (Ok x) n a b c err left free = absurd (cc)
+none_taken (Err e) n a b c err left free = omega (arith, left, free)
+
+-- the tables that are missing on the way to a page are those that it needs beside the tables of others
+abbrev pub CountsGrowth : Type 0
+CountsGrowth = (t : Image) (others : List ℕ) (page : ℕ) → AreTablesOf t others → All (λ n. n < 2 ^ 27) others → page < 2 ^ 27
+    → missing t page ≡ tables_needed (page ∷ others) - tables_needed others
+
+pub need_is : (v : View) (root trapframe : ℕ) (l : Layout) (t : Image) (p : Process) (page : ℕ) → CanSettle v root trapframe l t p page → CountsGrowth
+    → settle_need p page ≡ 1 + missing t page
+need_is v root trapframe l t p page can law =
+    let low = can.add.low in
+    let all : All (λ n. n < 2 ^ 27) (pages.keys p.tabled) = λ k d less. let one = can.agrees.stands.tabled_low k d less in omega (arith, one) in
+    ap (λ n. 1 + n) (sym (law t (pages.keys p.tabled) page can.agrees.stands.tabled all (omega (arith, low))))
+
+-- a reservation of n credits was refused
+module _ (v u w : View) (n : ℕ) (is : u ≡ v) (dry : IsDry n u w) where
+  pub runs_dry : (root trapframe : ℕ) (l : Layout) (page : ℕ) → CountsGrowth → ((t : Image) → HasTables v root t → n ≡ 1 + missing t page)
+      → (t : Image) (p : Process) → CanSettle v root trapframe l t p page → RunsDry v w (settle_need p page)
+  runs_dry root trapframe l page law enough t p can =
+      let need = need_is v root trapframe l t p page can law in
+      let n_is = enough t can.agrees.stands.tables in
+      record {
+        claims = dry.claims ∙ ap (λ (x : View). x.claims) is;
+        zeros = let old = ap (λ (x : View). x.zeros) is in omega (arith, dry.zeros, old);
+        short = let old = ap (λ (x : View). x.credits) is in omega (arith, dry.short, old, can.agrees.credits, need, n_is);
+      }
+
+  pub agrees_still : (root trapframe : ℕ) (l : Layout) (t : Image) (p : Process) → Agrees v root trapframe l t p → Agrees w root trapframe l t p
+  agrees_still root trapframe l t p a = record {
+    lays = a.lays;
+    stands = same_stands v w root trapframe None t p (hold_of-frames w v (dry.frames ∙ ap (λ (x : View). x.frames) is)) a.stands;
+    credits = dry.credits ∙ ap (λ (x : View). x.credits) is ∙ a.credits;
+  }
+
+module _ (v : View) (root trapframe : ℕ) (l : Layout) (t : Image) (p : Process) (page : ℕ) (can : CanSettle v root trapframe l t p page) where
+  -- n credits were reserved
+  module _ (u w : View) (n : ℕ) (is : u ≡ v) (reserved : w ≡ with_credits n u) where
+    reserved_same : (f : ℕ) → hold_of w f ≡ hold_of v f
+    reserved_same f = ap (λ (x : View). hold_of x f) reserved ∙ hold_of-frames (with_credits n u) v (ap (λ (x : View). x.frames) is) f
+
+    pub reserved_credits : w.credits ≡ n
+    reserved_credits =
+        let more = ap (λ (x : View). x.credits) reserved in
+        let old = ap (λ (x : View). x.credits) is in
+        omega (arith, more, old, can.agrees.credits)
+
+    pub can_add : (o : Option Region) (r : Region) → o ≡ region_at (regions p) page → o ≡ Some r → CanAdd w root trapframe t p page r
+    can_add o r at some =
+        let same : can.region ≡ r = same_Some can.region r (sym can.add.in_region ∙ sym at ∙ some) in
+        record {
+          stands = same_stands v w root trapframe None t p reserved_same can.add.stands;
+          unsettled = can.add.unsettled;
+          in_region = sym at ∙ some;
+          leafy = ap makes_leaf (sym same) ∙ can.add.leafy;
+          low = can.add.low;
+        }
+
+    pub settles : (x : View) (s : Image) (bytes : List ℕ) (f : ℕ) → n ≡ 1 + missing t page → settle_need p page ≡ 1 + missing t page
+        → Adds w x root trapframe t s p page bytes f → Settles v x root trapframe l t s p page bytes f
+    settles x s bytes f enough need a = record {
+      agrees = λ fresh. record {
+        lays = record { parts = can.agrees.lays.parts; mappings = can.agrees.lays.mappings; heap_base = can.agrees.lays.heap_base; size = can.agrees.lays.size };
+        stands = a.stands fresh;
+        credits = omega (arith, a.spends.credits, reserved_credits, enough);
+      };
+      on = a.on;
+      fresh = sym (same_references v w f (reserved_same f)) ∙ a.fresh;
+      sole = a.sole;
+      others = a.others;
+      takes = record {
+        claims = let old : w.claims ≡ v.claims = ap (λ (y : View). y.claims) reserved ∙ ap (λ (y : View). y.claims) is in omega (arith, a.spends.claims, old, need);
+        zeros = a.spends.zeros ∙ ap (λ (y : View). y.zeros) reserved ∙ ap (λ (y : View). y.zeros) is;
+        short = a.spends.short ∙ ap (λ (y : View). y.short) reserved ∙ ap (λ (y : View). y.short) is;
+        looks = a.spends.looks ∙ ap (λ (y : View). y.looks) reserved ∙ ap (λ (y : View). y.looks) is ∙ sym (append-nil v.looks);
+      };
+    }

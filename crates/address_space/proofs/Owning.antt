@@ -1,0 +1,171 @@
+-- The leaf of a page is turned to a frame that the seat has alone: the one that it names, or a spare one.
+use Rattle.std.proofs.Common.{◌≡◌, ℕ, Option, None, Some, Bool, false, refl, ap, sym, subst, ◌∙◌, inl, inr, arith}
+use Rattle.std.proofs.lemmas.Bool.{cases_eq}
+use Rattle.std.proofs.lemmas.Option.{same_Some}
+use Rattle.std.specs.FinMap.{get, insert}
+use Rattle.frame_bytes.specs.Contents.{ChangesWords, HasBytes}
+use Rattle.frame_store.specs.View.{View, hold_of, IsSole, references, with_word}
+use Rattle.process_model.specs.PageMap as pages
+use Rattle.process_model.specs.Process.{Page, Process, regions}
+use Rattle.process_model.specs.Regions.{Region, region_at}
+use Rattle.process_model.specs.Residence.{unmarked, with_page}
+use Rattle.sv39_entry.specs.Address.{vpn}
+use Rattle.sv39_entry.specs.Frame.{ppn_of}
+use Rattle.sv39_entry.specs.Word.{ppn}
+use Rattle.table_walk.specs.Image.{HasTables, Image, last_table, leaf_node, with_leaf}
+use Rattle.table_walk.specs.Keys.{insert_other, insert_same}
+use Rattle.table_walk.specs.Nodes.{above, leaf_number}
+use Rattle.table_walk.specs.Walk.{top_level}
+use Rattle.address_space.specs.Agreement.{IsPageLeaf, Names, Owns, Stands}
+use Rattle.address_space.proofs.Owned.{no_table, one_frame, same_bytes, same_owns}
+use Rattle.address_space.proofs.Writing.{page_stands, words_other, words_references, words_sole}
+
+-- what is named
+
+module _ (v : View) (root : ℕ) (t : Image) (h : HasTables v root t) (page old leaf f g : ℕ) (was : get t.leaves (leaf_node page) ≡ Some old)
+    (names_old : ppn old ≡ ppn_of f) (names : ppn leaf ≡ ppn_of g) where
+  -- no table has the number of a leaf
+  not_table : (x k : ℕ) → k ≡ leaf_node page → get t.tables k ≡ Some x → ⊥
+  not_table x k at table = let low = (h.image.below k x table).1 in let high = leaf_number page in omega (arith, low, high, at)
+
+  stays : (x k : ℕ) → (k ≡ leaf_node page → ⊥) → Names t x k → Names (with_leaf t (leaf_node page) leaf) x k
+  stays x k ne (inl table) = inl table
+  stays x k ne (inr y) = inr (y.0, insert_other t.leaves (leaf_node page) leaf k ne ∙ y.1, y.2)
+
+  stayed : (x k : ℕ) → (k ≡ leaf_node page → ⊥) → Names (with_leaf t (leaf_node page) leaf) x k → Names t x k
+  stayed x k ne (inl table) = inl table
+  stayed x k ne (inr y) = inr (y.0, sym (insert_other t.leaves (leaf_node page) leaf k ne) ∙ y.1, y.2)
+
+  named_here : (x k : ℕ) → k ≡ leaf_node page → Names (with_leaf t (leaf_node page) leaf) x k → x ≡ g
+  named_here x k at (inl table) = absurd (not_table x k at table)
+  named_here x k at (inr y) =
+      one_frame x g (sym y.2 ∙ ap ppn (same_Some y.0 leaf (sym y.1 ∙ insert_same t.leaves (leaf_node page) leaf k at)) ∙ names)
+
+  was_here : (x k : ℕ) → k ≡ leaf_node page → Names t x k → x ≡ f
+  was_here x k at (inl table) = absurd (not_table x k at table)
+  was_here x k at (inr y) = one_frame x f (sym y.2 ∙ ap ppn (same_Some y.0 old (sym y.1 ∙ ap (get t.leaves) at ∙ was)) ∙ names_old)
+
+  here : (k : ℕ) → k ≡ leaf_node page → Names (with_leaf t (leaf_node page) leaf) g k
+  here k at = inr (leaf, insert_same t.leaves (leaf_node page) leaf k at, names)
+
+  before : (k : ℕ) → k ≡ leaf_node page → Names t f k
+  before k at = inr (old, ap (get t.leaves) at ∙ was, names_old)
+
+  written : (x k y : ℕ) → (k ≡ leaf_node page → IsSole v x) → ((ne : k ≡ leaf_node page → ⊥) → get t.leaves k ≡ Some y → IsSole v x)
+      → get (insert t.leaves (leaf_node page) leaf) k ≡ Some y → IsSole v x
+  written x k y on off at = elim (cases_eq k (leaf_node page)) [
+    | inl is ↦ on is
+    | inr ne ↦ off ne (sym (insert_other t.leaves (leaf_node page) leaf k ne) ∙ at)
+  ]
+
+  -- the frame stays
+  module _ (same : g ≡ f) where
+    on : (x k : ℕ) → Names t x k → Names (with_leaf t (leaf_node page) leaf) x k
+    on x k name = elim (cases_eq k (leaf_node page)) [
+      | inl at ↦ subst (λ y. Names (with_leaf t (leaf_node page) leaf) y k) (same ∙ sym (was_here x k at name)) (here k at)
+      | inr ne ↦ stays x k ne name
+    ]
+
+    back : (x k : ℕ) → Names (with_leaf t (leaf_node page) leaf) x k → Names t x k
+    back x k name = elim (cases_eq k (leaf_node page)) [
+      | inl at ↦ subst (λ y. Names t y k) (sym (named_here x k at name ∙ same)) (before k at)
+      | inr ne ↦ stayed x k ne name
+    ]
+
+    pub owns_same : IsSole v g → Owns v t None → Owns v (with_leaf t (leaf_node page) leaf) None
+    owns_same sole o = record {
+      once = λ x j k a b. o.once x j k (back x j a) (back x k b);
+      named = λ x k name. o.named x k (back x k name);
+      ready = λ x is. absurd (cc);
+      bare = λ x none ne. o.bare x (λ k name. none k (on x k name)) ne;
+      writable = λ x k y at name writes.
+          written x k y (λ is. subst (IsSole v) (sym (named_here x k is (inr (y, at, name)))) sole) (λ ne was. o.writable x k y was name writes) at;
+    }
+
+  -- the spare frame takes the place of the one that was named
+  module _ (o : Owns v t (Some g)) where
+    unready : (k : ℕ) → Names t g k → ⊥
+    unready k name = (o.ready g refl).1 k name
+
+    once : (x j k : ℕ) → Names (with_leaf t (leaf_node page) leaf) x j → Names (with_leaf t (leaf_node page) leaf) x k → j ≡ k
+    once x j k a b = elim (cases_eq j (leaf_node page)) [
+      | inl first ↦ elim (cases_eq k (leaf_node page)) [
+        | inl second ↦ first ∙ sym second
+        | inr ne ↦ absurd (unready k (subst (λ y. Names t y k) (named_here x j first a) (stayed x k ne b)))
+      ]
+      | inr apart ↦ elim (cases_eq k (leaf_node page)) [
+        | inl second ↦ absurd (unready j (subst (λ y. Names t y j) (named_here x k second b) (stayed x j apart a)))
+        | inr ne ↦ o.once x j k (stayed x j apart a) (stayed x k ne b)
+      ]
+    ]
+
+    named : (x k : ℕ) → Names (with_leaf t (leaf_node page) leaf) x k → references v x ≡ 1
+    named x k name = elim (cases_eq k (leaf_node page)) [
+      | inl at ↦ ap (references v) (named_here x k at name) ∙ (o.ready g refl).0
+      | inr ne ↦ o.named x k (stayed x k ne name)
+    ]
+
+    nameless : (k : ℕ) → Names (with_leaf t (leaf_node page) leaf) f k → ⊥
+    nameless k name = elim (cases_eq k (leaf_node page)) [
+      | inl at ↦ unready k (subst (λ y. Names t y k) (named_here f k at name) (before k at))
+      | inr ne ↦ ne (o.once f k (leaf_node page) (stayed f k ne name) (before (leaf_node page) refl))
+    ]
+
+    bare : (x : ℕ) → ((k : ℕ) → Names (with_leaf t (leaf_node page) leaf) x k → ⊥) → (Some f ≡ Some x → ⊥) → references v x ≡ 0
+    bare x none ne = o.bare x
+        (λ k name. elim (cases_eq k (leaf_node page)) [
+          | inl at ↦ ne (ap Some (sym (was_here x k at name)))
+          | inr apart ↦ none k (stays x k apart name)
+        ])
+        (λ is. none (leaf_node page) (subst (λ y. Names (with_leaf t (leaf_node page) leaf) y (leaf_node page)) (same_Some g x is) (here (leaf_node page) refl)))
+
+    pub owns_other : IsSole v g → Owns v (with_leaf t (leaf_node page) leaf) (Some f)
+    owns_other sole = record {
+      once = once;
+      named = named;
+      ready = λ x is.
+          let same = same_Some f x is in
+          (ap (references v) (sym same) ∙ o.named f (leaf_node page) (before (leaf_node page) refl), λ k name. nameless k (subst (λ y. Names (with_leaf t (leaf_node page) leaf) y k) (sym same) name));
+      bare = bare;
+      writable = λ x k y at name writes.
+          written x k y (λ is. subst (IsSole v) (sym (named_here x k is (inr (y, at, name)))) sole) (λ ne was. o.writable x k y was name writes) at;
+    }
+
+-- the leaf is put in the place of the one that was there
+
+module _ (v w : View) (root trapframe : ℕ) (spare : Option ℕ) (t : Image) (p : Process) (page : ℕ) (s : Page) (r : Region) (g leaf : ℕ)
+    (stands : Stands v root trapframe spare t p) (settled : pages.get p.settled page ≡ Some s) (in_region : region_at (regions p) page ≡ Some r)
+    (made : IsPageLeaf leaf g r false) (tables : HasTables w root (with_leaf t (leaf_node page) leaf))
+    (word : (x : ℕ) → get t.tables (last_table page) ≡ Some x → w ≡ with_word x (vpn page 0) leaf v) where
+  table : (x : ℕ) × (get t.tables (last_table page) ≡ Some x)
+  table =
+      let shown = stands.shows.settled page s settled in
+      let hung = (stands.tables.image.leaf_hung _ _ shown.mapped).2 in
+      (hung.0, ap (get t.tables) (sym (above page top_level)) ∙ hung.1)
+
+  pub turned_words : (x : ℕ) × ChangesWords x v w
+  turned_words = let x = table in (x.0, (_, word x.0 x.1))
+
+  pub turned_sole : (x : ℕ) → IsSole v x → IsSole w x
+  turned_sole x sole = let y = turned_words in words_sole y.0 v w y.1 x sole
+
+  turned_references : (x : ℕ) → references w x ≡ references v x
+  turned_references x = let y = turned_words in words_references y.0 v w y.1 x
+
+  turned_other : (x : ℕ) → ((k : ℕ) → get t.tables k ≡ Some x → ⊥) → hold_of w x ≡ hold_of v x
+  turned_other x apart =
+      let y = table in
+      words_other y.0 v w (_, word y.0 y.1) x (λ same. apart (last_table page) (y.1 ∙ ap Some (sym same)))
+
+  pub turned_stands : (after : Option ℕ) → ((k : ℕ) → get t.tables k ≡ Some g → ⊥) → HasBytes v g s.bytes
+      → Owns v (with_leaf t (leaf_node page) leaf) after → (fresh : ℕ) (shared : Bool)
+      → Stands w root trapframe after (with_leaf t (leaf_node page) leaf) (with_page p page (unmarked fresh shared s))
+  turned_stands after apart bytes owns fresh shared =
+      page_stands v w trapframe t (with_leaf t (leaf_node page) leaf) p page (unmarked fresh shared s) leaf g r
+      (stands.shows.low page s settled) (λ k ne. insert_other t.leaves (leaf_node page) leaf k ne)
+      (insert_same t.leaves (leaf_node page) leaf (leaf_node page) refl) made in_region
+      (same_bytes v w g s.bytes (turned_other g apart) bytes)
+      (λ k x f ne at names. turned_other f (no_table v t root spare stands.tables stands.owns k x f at names))
+      root spare after stands tables
+      (same_owns v (with_leaf t (leaf_node page) leaf) w after turned_references turned_sole owns)
+      stands.tabled

@@ -1,0 +1,159 @@
+-- The steps by which a page leaves a frame: another one is claimed and gets its bytes, the leaf is turned to it, and the first is
+-- released.
+use Rattle.std.proofs.Common.{◌≡◌, ℕ, None, Some, Bool, false, refl, ap, sym, subst, ◌∙◌, inl, inr, arith, List}
+use Rattle.std.proofs.lemmas.Option.{same_Some}
+use Rattle.std.specs.FinMap.{get}
+use Rattle.frame_bytes.specs.Contents.{ChangesWords, HasBytes}
+use Rattle.frame_store.specs.Laws.{IsAnchored}
+use Rattle.frame_store.specs.View.{Hold, View, claimed, hold_of, IsSole, references, released, with_word}
+use Rattle.process_model.specs.Process.{Page, Process}
+use Rattle.process_model.specs.Regions.{Region}
+use Rattle.process_model.specs.Residence.{unmarked, with_page}
+use Rattle.sv39_entry.specs.Address.{vpn}
+use Rattle.sv39_entry.specs.Frame.{ppn_of}
+use Rattle.sv39_entry.specs.Word.{ppn}
+use Rattle.table_walk.specs.Image.{HasTables, Image, last_table, leaf_node, with_leaf}
+use Rattle.table_walk.specs.Keys.{insert_other, insert_same}
+use Rattle.table_walk.specs.Same.{same_tables}
+use Rattle.address_space.specs.Agreement.{IsPageLeaf, Stands}
+use Rattle.address_space.specs.Parting.{CanPart, Parts}
+use Rattle.address_space.specs.Steps.{Spends}
+use Rattle.address_space.proofs.Owned.{anchored, apart_by, claimed_here, claimed_other, one_frame, released_here, released_once, released_other, same_bytes, same_owns, same_references, same_shows, same_sole, spare_comes, spare_goes}
+use Rattle.address_space.proofs.Owning.{owns_other, turned_sole, turned_stands, turned_words}
+use Rattle.address_space.proofs.Writing.{HasPage, page_here, tables_hold, words_other, words_references, words_sole}
+
+-- what is spent
+
+claimed_spends : (f : ℕ) (v : View) → Spends v (claimed f v) 1
+claimed_spends f v = record { credits = refl; claims = refl; zeros = refl; short = refl; looks = refl }
+
+pub words_spend : (f n : ℕ) (u v w : View) → ChangesWords f v w → Spends u v n → Spends u w n
+words_spend f n u v w changes first = record {
+  credits = ap (λ (x : View). x.credits) changes.1 ∙ first.credits;
+  claims = ap (λ (x : View). x.claims) changes.1 ∙ first.claims;
+  zeros = ap (λ (x : View). x.zeros) changes.1 ∙ first.zeros;
+  short = ap (λ (x : View). x.short) changes.1 ∙ first.short;
+  looks = ap (λ (x : View). x.looks) changes.1 ∙ first.looks;
+}
+
+released_spends : (f n : ℕ) (u v : View) → references v f ≡ 1 → Spends u v n → Spends u (released f v) n
+released_spends f n u v one first = record {
+  credits = ap (λ (x : View). x.credits) (released_once f v one) ∙ first.credits;
+  claims = ap (λ (x : View). x.claims) (released_once f v one) ∙ first.claims;
+  zeros = ap (λ (x : View). x.zeros) (released_once f v one) ∙ first.zeros;
+  short = ap (λ (x : View). x.short) (released_once f v one) ∙ first.short;
+  looks = ap (λ (x : View). x.looks) (released_once f v one) ∙ first.looks;
+}
+
+-- what stands after each step
+
+pub claimed_stands : (v : View) (root trapframe : ℕ) (t : Image) (p : Process) (g : ℕ) → references v g ≡ 0
+    → Stands v root trapframe None t p → Stands (claimed g v) root trapframe (Some g) t p
+claimed_stands v root trapframe t p g none s = record {
+  tables = same_tables v (claimed g v) root t
+      (λ x held. claimed_other g x v (λ same. let no : references v x ≡ 0 = ap (references v) same ∙ none in omega (arith, no, held))) s.tables;
+  owns = spare_comes v t (claimed g v) g none (ap (λ (h : Hold). h.references) (claimed_here g v)) (λ x ne. claimed_other g x v ne) s.owns;
+  shows = same_shows v (claimed g v) trapframe t p
+      (λ n x f leaf names. claimed_other g f v (apart_by v g f none (s.owns.named f n (inr (x, leaf, names))))) s.shows;
+  tabled = s.tabled;
+  tabled_low = s.tabled_low;
+}
+
+-- words of the spare frame
+pub filled_stands : (v w : View) (root trapframe : ℕ) (t : Image) (p : Process) (g : ℕ) → ChangesWords g v w
+    → Stands v root trapframe (Some g) t p → Stands w root trapframe (Some g) t p
+filled_stands v w root trapframe t p g changes s =
+    let bare = (s.owns.ready g refl).1 in
+    record {
+      tables = tables_hold v w root t (λ k x table. words_other g v w changes x (λ same. bare k (inl (table ∙ ap Some same)))) s.tables;
+      owns = same_owns v t w (Some g) (words_references g v w changes) (words_sole g v w changes) s.owns;
+      shows = same_shows v w trapframe t p
+          (λ n x f leaf names. words_other g v w changes f (λ same. bare n (inr (x, leaf, names ∙ ap ppn_of same)))) s.shows;
+      tabled = s.tabled;
+      tabled_low = s.tabled_low;
+    }
+
+pub released_stands : (v : View) (root trapframe : ℕ) (t : Image) (p : Process) (f : ℕ)
+    → Stands v root trapframe (Some f) t p → Stands (released f v) root trapframe None t p
+released_stands v root trapframe t p f s =
+    let one = (s.owns.ready f refl).0 in
+    let bare = (s.owns.ready f refl).1 in
+    record {
+      tables = tables_hold v (released f v) root t
+          (λ k x table. released_other f x v one (λ same. bare k (inl (table ∙ ap Some same)))) s.tables;
+      owns = spare_goes v t (released f v) f (released_here f v one) (λ g ne. released_other f g v one ne) s.owns;
+      shows = same_shows v (released f v) trapframe t p
+          (λ n x g leaf names. released_other f g v one (λ same. bare n (inr (x, leaf, names ∙ ap ppn_of same)))) s.shows;
+      tabled = s.tabled;
+      tabled_low = s.tabled_low;
+    }
+
+-- the frame of a page that may leave it
+pub parting_page : (v : View) (root trapframe : ℕ) (t : Image) (p : Process) (page : ℕ) (s : Page) (r : Region) (f : ℕ)
+    → CanPart v root trapframe t p page s r f → HasPage v t p page s f
+parting_page v root trapframe t p page s r f can =
+    let here = page_here v root trapframe None t p page s can.stands can.settled in
+    let leaf = same_Some here.1.leaf can.on.0 (sym here.1.mapped ∙ can.on.1) in
+    subst (HasPage v t p page s) (one_frame here.0 f (sym here.1.made.names ∙ ap ppn leaf ∙ can.on.2)) here.1
+
+-- `a` is the view after the claim of frame g, `b` after its words were copied, `d` after the leaf was turned.
+module _ {v : View} {root trapframe : ℕ} {t : Image} {p : Process} {page : ℕ} {s : Page} {r : Region} {f : ℕ} (can : CanPart v root trapframe t p page s r f)
+    (g : ℕ) (fresh : references v g ≡ 0) where
+  here : HasPage v t p page s f
+  here = parting_page v root trapframe t p page s r f can
+
+  pub part_apart : f ≡ g → ⊥
+  part_apart same = apart_by v g f fresh here.one same
+
+  module _ (a : View) (claim : a ≡ claimed g v) where
+    other : hold_of a f ≡ hold_of v f
+    other = ap (λ x. hold_of x f) claim ∙ claimed_other g f v part_apart
+
+    pub part_one : references a f ≡ 1
+    part_one = same_references v a f other ∙ here.one
+
+    pub part_bytes : HasBytes a f s.bytes
+    part_bytes = same_bytes v a f s.bytes other here.bytes
+
+    pub part_sole : IsSole a g
+    part_sole = ap (λ x. (hold_of x g).sole) claim ∙ ap (λ (h : Hold). h.sole) (claimed_here g v)
+
+    spends : Spends v a 1
+    spends = subst (λ x. Spends v x 1) (sym claim) (claimed_spends g v)
+
+    module _ (b : View) (copied : ChangesWords g a b) (bytes : (bs : List ℕ) → HasBytes a f bs → HasBytes b g bs) where
+      pub part_copied : Stands b root trapframe (Some g) t p
+      part_copied =
+          filled_stands a b root trapframe t p g copied
+          (subst (λ x. Stands x root trapframe (Some g) t p) (sym claim) (claimed_stands v root trapframe t p g fresh can.stands))
+
+      module _ (d : View) (leaf : ℕ) (made : IsPageLeaf leaf g r false) (tables : HasTables d root (with_leaf t (leaf_node page) leaf))
+          (word : (x : ℕ) → get t.tables (last_table page) ≡ Some x → d ≡ with_word x (vpn page 0) leaf b) where
+        sole : IsSole b g
+        sole = words_sole g a b copied g part_sole
+
+        turned : (new : ℕ) (shared : Bool) → Stands d root trapframe (Some f) (with_leaf t (leaf_node page) leaf) (with_page p page (unmarked new shared s))
+        turned =
+            turned_stands b d root trapframe (Some g) t p page s r g leaf part_copied can.settled can.in_region made tables word
+            (Some f) (λ k table. (part_copied.owns.ready g refl).1 k (inl table)) (bytes s.bytes part_bytes)
+            (owns_other b root t part_copied.tables page can.on.0 leaf f g can.on.1 can.on.2 made.names part_copied.owns sole)
+
+        pub part_held : references d f ≡ 1
+        part_held = ((turned 0 false).owns.ready f refl).0
+
+        pub part_anchored : IsAnchored (released f d)
+        part_anchored x held = anchored _ root trapframe None _ _ (released_stands d root trapframe _ _ f (turned 0 false))
+
+        pub part_done : (e : View) → e ≡ released f d → Parts v e root trapframe t (with_leaf t (leaf_node page) leaf) p page s g
+        part_done e release =
+            let changes = turned_words b d root trapframe (Some g) t p page s r g leaf part_copied can.settled can.in_region made tables word in
+            subst (λ x. Parts v x root trapframe t (with_leaf t (leaf_node page) leaf) p page s g) (sym release)
+            (record {
+              stands = λ new shared. released_stands d root trapframe _ _ f (turned new shared);
+              on = (leaf, insert_same t.leaves (leaf_node page) leaf (leaf_node page) refl, made.names);
+              fresh = fresh;
+              sole = same_sole d (released f d) g (released_other f g d part_held (λ same. part_apart (sym same)))
+                  (turned_sole b d root trapframe (Some g) t p page s r g leaf part_copied can.settled can.in_region made tables word g sole);
+              others = λ k ne. insert_other t.leaves (leaf_node page) leaf k ne;
+              spends = released_spends f 1 v d part_held (words_spend changes.0 1 v b d changes.1 (words_spend g 1 v a b copied spends));
+            })

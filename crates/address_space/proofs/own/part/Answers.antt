@@ -1,0 +1,78 @@
+use Rattle.std.proofs.Common.{refl, arith, ◌∙◌}
+use Rattle.frame_store.specs.Laws.{fits_after}
+use Rattle.address_space.proofs.Owned.{anchored}
+use Rattle.address_space.proofs.OwningSteps.{part_anchored, part_apart, part_bytes, part_copied, part_done, part_held, part_one, part_sole}
+use Rattle.address_space.proofs.own.part.Goals as goal
+
+pub claim-own-requires-clause-anchored : goal.claim-own-requires-clause-anchored
+claim-own-requires-clause-anchored g c = let r = c.requires.ready in anchored _ _ r.0 _ r.1 r.2 r.4.stands
+
+pub copy_frame-requires-clause-fits : goal.copy_frame-requires-clause-fits
+copy_frame-requires-clause-fits g c = fits_after g.F.FrameAccess.rule c.claim-own.ensures.keeps c.requires.fits
+
+pub copy_frame-requires-clause-held : goal.copy_frame-requires-clause-held
+copy_frame-requires-clause-held g c =
+    let one = part_one c.requires.ready.4 _ c.claim-own.ensures.fresh _ c.claim-own.ensures.view in
+    omega (arith, one)
+
+pub copy_frame-requires-clause-known : goal.copy_frame-requires-clause-known
+copy_frame-requires-clause-known g c = let r = c.requires.ready in ((r.3).bytes, part_bytes r.4 _ c.claim-own.ensures.fresh _ c.claim-own.ensures.view)
+
+pub copy_frame-requires-clause-sole : goal.copy_frame-requires-clause-sole
+copy_frame-requires-clause-sole g c = part_sole c.requires.ready.4 _ c.claim-own.ensures.fresh _ c.claim-own.ensures.view
+
+pub copy_frame-requires-clause-apart : goal.copy_frame-requires-clause-apart
+copy_frame-requires-clause-apart g c = part_apart c.requires.ready.4 _ c.claim-own.ensures.fresh
+
+pub protect-requires-clause-fits : goal.protect-requires-clause-fits
+protect-requires-clause-fits g c =
+    let rule = g.F.FrameAccess.rule in
+    fits_after rule c.copy_frame.ensures.keeps (fits_after rule c.claim-own.ensures.keeps c.requires.fits)
+
+pub protect-requires-clause-mapped : goal.protect-requires-clause-mapped
+protect-requires-clause-mapped g c =
+    let r = c.requires.ready in
+    let stands = part_copied r.4 _ c.claim-own.ensures.fresh _ c.claim-own.ensures.view _ c.copy_frame.ensures.others c.copy_frame.ensures.bytes in
+    (r.1, stands.tables, rw r.4.on.1 refl)
+
+pub release-requires-clause-fits : goal.release-requires-clause-fits
+release-requires-clause-fits g c =
+    let rule = g.F.FrameAccess.rule in
+    fits_after rule c.protect.ensures.keeps (fits_after rule c.copy_frame.ensures.keeps (fits_after rule c.claim-own.ensures.keeps c.requires.fits))
+
+pub release-requires-clause-held : goal.release-requires-clause-held
+release-requires-clause-held g c =
+    let r = c.requires.ready in
+    let stands = part_copied r.4 _ c.claim-own.ensures.fresh _ c.claim-own.ensures.view _ c.copy_frame.ensures.others c.copy_frame.ensures.bytes in
+    let one = part_held r.4 _ c.claim-own.ensures.fresh _ c.claim-own.ensures.view _ c.copy_frame.ensures.others c.copy_frame.ensures.bytes
+    _ _ c.leaf.ensures.leaf (c.protect.ensures.image r.1 stands.tables).0 (λ x at. c.protect.ensures.word r.1 x stands.tables at) in
+    omega (arith, one)
+
+pub release-requires-clause-anchored : goal.release-requires-clause-anchored
+release-requires-clause-anchored g c =
+    let r = c.requires.ready in
+    let stands = part_copied r.4 _ c.claim-own.ensures.fresh _ c.claim-own.ensures.view _ c.copy_frame.ensures.others c.copy_frame.ensures.bytes in
+    part_anchored r.4 _ c.claim-own.ensures.fresh _ c.claim-own.ensures.view _ c.copy_frame.ensures.others c.copy_frame.ensures.bytes
+    _ _ c.leaf.ensures.leaf (c.protect.ensures.image r.1 stands.tables).0 (λ x at. c.protect.ensures.word r.1 x stands.tables at)
+
+pub returns-clause-parted : goal.returns-clause-parted
+returns-clause-parted g c trapframe t p s can =
+    let stands = part_copied can _ c.claim-own.ensures.fresh _ c.claim-own.ensures.view _ c.copy_frame.ensures.others c.copy_frame.ensures.bytes in (
+      _,
+      _,
+      part_done can _ c.claim-own.ensures.fresh _ c.claim-own.ensures.view _ c.copy_frame.ensures.others c.copy_frame.ensures.bytes
+          _ _ c.leaf.ensures.leaf (c.protect.ensures.image t stands.tables).0 (λ x at. c.protect.ensures.word t x stands.tables at)
+          _ c.release.ensures.view,
+    )
+
+pub returns-clause-keeps : goal.returns-clause-keeps
+returns-clause-keeps g c = λ others r.
+    c.release.ensures.keeps others (c.protect.ensures.keeps others (c.copy_frame.ensures.keeps others (c.claim-own.ensures.keeps others r)))
+
+pub returns-clause-free : goal.returns-clause-free
+returns-clause-free g c alone =
+    let shared = c.args.shared.0 in
+    let claimed = (c.claim-own.ensures.counts alone).apart shared (part_apart c.requires.ready.4 _ c.claim-own.ensures.fresh) in
+    let same = c.protect.ensures.counts alone shared ∙ c.copy_frame.ensures.counts alone shared ∙ claimed in
+    let free = c.protect.ensures.free alone ∙ c.copy_frame.ensures.free alone ∙ c.claim-own.ensures.free alone in
+    rw (same, free) at (c.release.ensures.free alone)

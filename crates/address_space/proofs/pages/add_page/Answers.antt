@@ -1,0 +1,50 @@
+use Rattle.std.proofs.Common.{None, arith}
+use Rattle.frame_store.specs.Laws.{fits_after}
+use Rattle.process_model.specs.PageMap as pages
+use Rattle.table_walk.specs.Image.{leaf_node, with_leaf}
+use Rattle.address_space.proofs.AddingFrames.{Comes, claimed_comes, come_held, come_tables, filled_comes}
+use Rattle.address_space.proofs.AddingPages.{adds}
+use Rattle.address_space.proofs.Owned.{anchored}
+use Rattle.address_space.proofs.pages.add_page.Given as given
+use Rattle.address_space.proofs.pages.add_page.Goals as goal
+use Rattle.address_space.proofs.pages.add_page.Goals.{After-fill_frame}
+
+comes : (g : given.Over) (c : After-fill_frame g) → Comes (g.F.Seat.FrameSeat.view c.args.seat.now) (g.F.Seat.FrameSeat.view c.fill_frame.new.seat) c.claim-frame.result.0
+comes g c = filled_comes _ _ _ _ (claimed_comes _ _ _ c.claim-frame.ensures.fresh c.claim-frame.ensures.view) c.fill_frame.ensures.others
+
+pub claim-frame-requires-clause-anchored : goal.claim-frame-requires-clause-anchored
+claim-frame-requires-clause-anchored g c = anchored _ c.args.root.0 c.requires.ready.0 None c.requires.ready.1 c.requires.ready.2 c.requires.ready.3.stands
+
+pub fill_frame-requires-clause-fits : goal.fill_frame-requires-clause-fits
+fill_frame-requires-clause-fits g c = fits_after g.F.FrameAccess.rule c.claim-frame.ensures.keeps c.requires.fits
+
+pub fill_frame-requires-clause-sole : goal.fill_frame-requires-clause-sole
+fill_frame-requires-clause-sole g c = (claimed_comes _ _ _ c.claim-frame.ensures.fresh c.claim-frame.ensures.view).sole
+
+pub map-requires-clause-fits : goal.map-requires-clause-fits
+map-requires-clause-fits g c = fits_after g.F.FrameAccess.rule c.fill_frame.ensures.keeps (fits_after g.F.FrameAccess.rule c.claim-frame.ensures.keeps c.requires.fits)
+
+pub map-requires-clause-anchored : goal.map-requires-clause-anchored
+map-requires-clause-anchored g c =
+    let after = (goal.at.map-requires-clause-anchored g c).After-fill_frame in
+    let ready = c.requires.ready in
+    come_held _ _ _ (comes g after) 0 (anchored _ c.args.root.0 ready.0 None ready.1 ready.2 ready.3.stands)
+
+pub map-requires-clause-tables : goal.map-requires-clause-tables
+map-requires-clause-tables g c =
+    let come = comes g (goal.at.map-requires-clause-tables g c).After-fill_frame in
+    let ready = c.requires.ready in
+    (ready.1, come_tables _ _ _ come c.args.root.0 ready.1 ready.3.stands.tables, omega (arith, ready.4, come.spends.credits))
+
+pub returns-clause-added : goal.returns-clause-added
+returns-clause-added g c trapframe t p can =
+    let come = comes g (goal.at.returns-clause-added g c).After-fill_frame in
+    let x = c.map.ensures.image t (come_tables _ _ _ come c.args.root.0 t can.stands.tables) in (
+      with_leaf x.0 (leaf_node c.args.page) c.leaf.result,
+      c.claim-frame.result.0,
+      adds _ _ trapframe t p c.args.page _ can _ _ x.0 c.leaf.result _ c.args.bytes.now come c.fill_frame.ensures.bytes c.leaf.ensures.leaf x.1 x.2 x.3
+          (c.missing_is_growth.ensures.grown t x.0 (pages.keys p.tabled) c.args.page can.stands.tabled x.1),
+    )
+
+pub returns-clause-keeps : goal.returns-clause-keeps
+returns-clause-keeps g c = λ others r. c.map.ensures.keeps others (c.fill_frame.ensures.keeps others (c.claim-frame.ensures.keeps others r))

@@ -1,0 +1,108 @@
+-- A space and a process of the model: the tables and frames of the one are the regions and pages of the other.
+use Rattle.std.specs.Prelude.{◌≡◌, ◌⊎◌, ℕ, Bool, true, false, not, ◌&&◌, ◌||◌, ◌^◌, ◌<◌, Option, None, Some, List, All}
+use Rattle.std.specs.FinMap.{get}
+use Rattle.frame_bytes.specs.Contents.{HasBytes}
+use Rattle.frame_store.specs.View.{View, IsSole, references}
+use Rattle.process_model.specs.PageMap as pages
+use Rattle.process_model.specs.Process.{Page, Process, regions}
+use Rattle.process_model.specs.Regions.{Region, is_guard_kind, region_at}
+use Rattle.sv39_entry.specs.Address.{has, trampoline_page, trapframe_page}
+use Rattle.sv39_entry.specs.Frame.{ppn_of}
+use Rattle.sv39_entry.specs.Word.{IsLeafOf, ppn}
+use Rattle.table_walk.specs.Counted.{AreTablesOf}
+use Rattle.table_walk.specs.Image.{HasTables, Image, leaf_node}
+use Rattle.address_space.specs.Layouts.{Layout, LaysOut}
+
+-- frames
+
+-- a table or a leaf, by its number, names a frame
+abbrev pub Names : Image → ℕ → ℕ → Type 0
+Names t f k = (get t.tables k ≡ Some f) ⊎ ((w : ℕ) × (get t.leaves k ≡ Some w) × (ppn w ≡ ppn_of f))
+
+-- The seat has one reference of each frame that is named, and no other but of a spare frame: one that stands ready to be named, or
+-- that is named no longer. Of a frame that may be written it is the sole holder.
+pub record Owns (v : View) (t : Image) (spare : Option ℕ) : Type 0 where
+  pub once : (f j k : ℕ) → Names t f j → Names t f k → j ≡ k
+  pub named : (f k : ℕ) → Names t f k → references v f ≡ 1
+  pub ready : (f : ℕ) → spare ≡ Some f → (references v f ≡ 1) × ((k : ℕ) → Names t f k → ⊥)
+  pub bare : (f : ℕ) → ((k : ℕ) → Names t f k → ⊥) → (spare ≡ Some f → ⊥) → references v f ≡ 0
+  pub writable : (f n w : ℕ) → get t.leaves n ≡ Some w → ppn w ≡ ppn_of f → has w 2 ≡ true → IsSole v f
+
+-- leaves
+
+-- The leaf of a page of a region over a frame (flags as the standard has them, 4.4.1; bit 8 is copy-on-write, our own choice). The
+-- guard's grants nothing to the user, and may be read by the kernel alone.
+pub record IsPageLeaf (w f : ℕ) (r : Region) (mark : Bool) : Type 0 where
+  pub names : ppn w ≡ ppn_of f
+  pub small : f < 2 ^ 16
+  pub read : has w 1 ≡ (is_guard_kind r.kind || r.reads)
+  pub write : has w 2 ≡ (r.writes && not mark)
+  pub execute : has w 3 ≡ r.executes
+  pub for_user : has w 4 ≡ not (is_guard_kind r.kind)
+  pub global : has w 5 ≡ false
+  pub accessed : has w 6 ≡ true
+  pub dirty : has w 7 ≡ r.writes
+  pub copy_on_write : has w 8 ≡ (r.writes && mark)
+
+-- a region whose pages can have leaves: the guard grants nothing, and any other grants reading, or execution alone
+abbrev pub makes_leaf : Region → Bool
+makes_leaf r =
+    (is_guard_kind r.kind && not r.reads && not r.writes && not r.executes) || (not (is_guard_kind r.kind) && (r.reads || (r.executes && not r.writes)))
+
+-- read and execute, and read and write
+abbrev pub trampoline_rights : ℕ
+trampoline_rights = 5
+
+abbrev pub trapframe_rights : ℕ
+trapframe_rights = 3
+
+-- the kernel's own pages in each space (the xv6 book, "Process address space"): not for the user
+abbrev pub HasKernelLeaf : Image → ℕ → ℕ → ℕ → Type 0
+HasKernelLeaf t page f rights = (w : ℕ) × (get t.leaves (leaf_node page) ≡ Some w) × IsLeafOf w f rights false false
+
+-- a settled page has a leaf by its region, over a frame that has its bytes
+pub record IsShown (v : View) (t : Image) (p : Process) (n : ℕ) (s : Page) : Type 0 where
+  pub region : Region
+  pub frame : ℕ
+  pub leaf : ℕ
+  pub in_region : region_at (regions p) n ≡ Some region
+  pub mapped : get t.leaves (leaf_node n) ≡ Some leaf
+  pub made : IsPageLeaf leaf frame region s.fork_mark
+  pub bytes : HasBytes v frame s.bytes
+
+-- the number of a leaf that a process has
+abbrev pub IsLeafNumber : Process → ℕ → Type 0
+IsLeafNumber p k =
+    (k ≡ leaf_node trampoline_page) ⊎ ((k ≡ leaf_node trapframe_page) ⊎ ((n : ℕ) × (s : Page) × (k ≡ leaf_node n) × (pages.get p.settled n ≡ Some s)))
+
+-- the leaves are those of the settled pages, of TRAMPOLINE and of TRAPFRAME
+pub record Shows (v : View) (trapframe : ℕ) (t : Image) (p : Process) : Type 0 where
+  pub on_trampoline : HasKernelLeaf t trampoline_page 0 trampoline_rights
+  pub on_trapframe : HasKernelLeaf t trapframe_page trapframe trapframe_rights
+  pub settled : (n : ℕ) (s : Page) → pages.get p.settled n ≡ Some s → IsShown v t p n s
+  pub only : (k w : ℕ) → get t.leaves k ≡ Some w → IsLeafNumber p k
+  pub low : (n : ℕ) (s : Page) → pages.get p.settled n ≡ Some s → n < trapframe_page
+
+-- a process that stands in memory: credits are free, and one more frame may be held
+pub record Stands (v : View) (root trapframe : ℕ) (spare : Option ℕ) (t : Image) (p : Process) : Type 0 where
+  pub tables : HasTables v root t
+  pub owns : Owns v t spare
+  pub shows : Shows v trapframe t p
+  pub tabled : AreTablesOf t (pages.keys p.tabled)
+  pub tabled_low : All (λ n. n < trapframe_page) (pages.keys p.tabled)
+
+-- agreement of a space with a process
+pub record Agrees (v : View) (root trapframe : ℕ) (l : Layout) (t : Image) (p : Process) : Type 0 where
+  pub lays : LaysOut l p
+  pub stands : Stands v root trapframe None t p
+  pub credits : v.credits ≡ 0
+
+-- steps
+
+-- the frame of a page
+abbrev pub IsOn : Image → ℕ → ℕ → Type 0
+IsOn t n f = (w : ℕ) × (get t.leaves (leaf_node n) ≡ Some w) × (ppn w ≡ ppn_of f)
+
+-- every page but one keeps its leaf
+abbrev pub OthersKeep : Image → Image → ℕ → Type 0
+OthersKeep t u page = (k : ℕ) → (k ≡ leaf_node page → ⊥) → get u.leaves k ≡ get t.leaves k

@@ -1,0 +1,119 @@
+-- What the calls of a space ask for, and what they do.
+use Rattle.std.specs.Prelude.{◌≡◌, ◌≢◌, ℕ, Bool, true, false, not, ◌==◌, ◌+◌, ◌-◌, ◌<◌, ◌≤◌, Option, None, Some, List, []}
+use Rattle.std.specs.Prelude.{◌∷◌, ◌++◌}
+use Rattle.std.specs.FinMap.{get}
+use Rattle.frame_store.specs.View.{View, IsSole, references}
+use Rattle.process_model.specs.Bytes.{padded}
+use Rattle.process_model.specs.Frames.{part_need, settle_need}
+use Rattle.process_model.specs.PageMap as pages
+use Rattle.process_model.specs.Process.{Page, Process, regions}
+use Rattle.process_model.specs.Regions.{Region, region_at}
+use Rattle.process_model.specs.Residence.{unmarked, with_page}
+use Rattle.sv39_entry.specs.Address.{trapframe_page}
+use Rattle.table_walk.specs.Image.{Image, missing}
+use Rattle.address_space.specs.Agreement.{Agrees, IsOn, makes_leaf, OthersKeep, Stands}
+use Rattle.address_space.specs.Layouts.{Layout}
+
+-- so many credits became frames, and no count was read
+pub record Spends (v w : View) (n : ℕ) : Type 0 where
+  pub credits : w.credits ≡ v.credits - n
+  pub claims : w.claims ≡ v.claims + n
+  pub zeros : w.zeros ≡ v.zeros
+  pub short : w.short ≡ v.short
+  pub looks : w.looks ≡ v.looks
+
+-- so many free frames were taken, with credits that were reserved at once, and these counts were read
+pub record Takes (v w : View) (n : ℕ) (counts : List ℕ) : Type 0 where
+  pub claims : w.claims ≡ v.claims + n
+  pub zeros : w.zeros ≡ v.zeros
+  pub short : w.short ≡ v.short
+  pub looks : w.looks ≡ v.looks ++ counts
+
+-- no frame was taken: the free number was read as 0 while fewer than n credits were reserved for it
+pub record RunsDry (v w : View) (n : ℕ) : Type 0 where
+  pub claims : w.claims ≡ v.claims
+  pub zeros : v.zeros < w.zeros
+  pub short : w.short < n
+
+-- a page is settled
+
+-- a page of a region that has no frame yet
+pub record CanAdd (v : View) (root trapframe : ℕ) (t : Image) (p : Process) (page : ℕ) (r : Region) : Type 0 where
+  pub stands : Stands v root trapframe None t p
+  pub unsettled : pages.get p.settled page ≡ None
+  pub in_region : region_at (regions p) page ≡ Some r
+  pub leafy : makes_leaf r ≡ true
+  pub low : page < trapframe_page
+
+-- the process with one more page, of these bytes with zeros behind them
+abbrev pub settled_with : ℕ → List ℕ → Process → ℕ → Process
+settled_with fresh bytes p page = record p {
+  settled = pages.insert p.settled page (record { bytes = padded 4096 bytes; copy = fresh; fork_mark = false });
+  tabled = pages.insert p.tabled page tt;
+}
+
+-- the page stands on a frame that was not held before
+pub record Adds (v w : View) (root trapframe : ℕ) (t u : Image) (p : Process) (page : ℕ) (bytes : List ℕ) (f : ℕ) : Type 0 where
+  pub stands : (fresh : ℕ) → Stands w root trapframe None u (settled_with fresh bytes p page)
+  pub on : IsOn u page f
+  pub fresh : references v f ≡ 0
+  pub sole : IsSole w f
+  pub others : OthersKeep t u page
+  pub spends : Spends v w (1 + missing t page)
+
+pub record CanSettle (v : View) (root trapframe : ℕ) (l : Layout) (t : Image) (p : Process) (page : ℕ) : Type 0 where
+  pub agrees : Agrees v root trapframe l t p
+  pub region : Region
+  pub add : CanAdd v root trapframe t p page region
+
+pub record Settles (v w : View) (root trapframe : ℕ) (l : Layout) (t u : Image) (p : Process) (page : ℕ) (bytes : List ℕ) (f : ℕ) : Type 0 where
+  pub agrees : (fresh : ℕ) → Agrees w root trapframe l u (settled_with fresh bytes p page)
+  pub on : IsOn u page f
+  pub fresh : references v f ≡ 0
+  pub sole : IsSole w f
+  pub others : OthersKeep t u page
+  pub takes : Takes v w (settle_need p page) []
+
+-- a page is made the process's own
+
+-- a settled page with a fork mark
+pub record CanOwn (v : View) (root trapframe : ℕ) (l : Layout) (t : Image) (p : Process) (page : ℕ) (s : Page) (f : ℕ) : Type 0 where
+  pub agrees : Agrees v root trapframe l t p
+  pub settled : pages.get p.settled page ≡ Some s
+  pub marked : s.fork_mark ≡ true
+  pub region : Region
+  pub in_region : region_at (regions p) page ≡ Some region
+  pub writes : region.writes ≡ true
+  pub leafy : makes_leaf region ≡ true
+  pub on : IsOn t page f
+
+-- where the count that was read was 1 the page keeps its frame; else it stands on another one, with the same bytes
+pub record Owned (v w : View) (root trapframe : ℕ) (l : Layout) (t u : Image) (p : Process) (page : ℕ) (s : Page) (f g c : ℕ) : Type 0 where
+  pub agrees : (fresh : ℕ) → Agrees w root trapframe l u (with_page p page (unmarked fresh (not (c == 1)) s))
+  pub on : IsOn u page g
+  pub same : c ≡ 1 → g ≡ f
+  pub fresh : c ≢ 1 → references v g ≡ 0
+  pub sole : IsSole w g
+  pub others : OthersKeep t u page
+  pub takes : Takes v w (part_need (not (c == 1))) (c ∷ [])
+
+-- a page is read and written
+
+pub record CanRead (v : View) (root trapframe : ℕ) (l : Layout) (t : Image) (p : Process) (page : ℕ) (s : Page) : Type 0 where
+  pub agrees : Agrees v root trapframe l t p
+  pub settled : pages.get p.settled page ≡ Some s
+
+-- no other process has the page, and its region grants writing
+pub record CanWrite (v : View) (root trapframe : ℕ) (l : Layout) (t : Image) (p : Process) (page : ℕ) (s : Page) : Type 0 where
+  pub read : CanRead v root trapframe l t p page s
+  pub unmarked : s.fork_mark ≡ false
+  pub region : Region
+  pub in_region : region_at (regions p) page ≡ Some region
+  pub writes : region.writes ≡ true
+
+-- a space ends
+
+-- the seat holds nothing
+pub record IsBare (v : View) : Type 0 where
+  pub none : (f : ℕ) → references v f ≡ 0
+  pub credits : v.credits ≡ 0

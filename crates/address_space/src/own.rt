@@ -1,0 +1,91 @@
+// A page that a fork shared becomes the process's own.
+
+ghost use Rattle.std.specs.Prelude.{◌≡◌, ◌+◌, ◌-◌, ◌<◌, ◌≤◌, ◌↔◌, ◌==◌, cond, if◌then◌else◌, IfErr, IfOk, is_ok, IsOk, not, ℕ};
+ghost use Rattle.address_space.specs.Agreement.{Agrees};
+ghost use Rattle.address_space.specs.Layouts.{region_of};
+ghost use Rattle.address_space.specs.Parting.{CanPart, Parts};
+ghost use Rattle.address_space.specs.Steps.{CanOwn, Owned, RunsDry};
+ghost use Rattle.frame_store.specs.Laws.{Fits, Keeps};
+ghost use Rattle.process_model.specs.Frames.{part_need};
+ghost use Rattle.process_model.specs.Process.{Page, Process};
+ghost use Rattle.table_walk.specs.Image.{Image};
+
+use crate::pages::frame_of;
+use crate::region::Region;
+use crate::space::Space;
+use frame_bytes::copy_frame;
+use frame_store::{FrameAccess, FrameSeat, FrameSupply, NoFrame};
+use sv39_entry::{FrameNo, Vpn};
+use table_walk::protect;
+
+impl<S: FrameSeat> Space<S> {
+    /// Makes the frame of a page with a fork mark the process's own. Where no other process has it, W is set in place;
+    /// else the page gets a frame of its own with the same bytes, and the reference of the other one goes.
+    pub fn own<F: FrameSupply<Seat = S>>(&mut self, store: &mut F, page: Vpn) -> Result<(), NoFrame>
+        requires fits { Fits F.rule store.old self.old.seat }
+        requires ready { (t : Image) × (p : Process) × (s : Page) × (f : ℕ) × CanOwn (S.view self.old.seat) self.old.root.0 self.old.trapframe.0 self.old.layout t p page s f }
+        ensures owned { IfOk result (λ _. (t : Image) (p : Process) (s : Page) (f : ℕ) →
+            CanOwn (S.view self.old.seat) self.old.root.0 self.old.trapframe.0 self.old.layout t p page s f →
+            (u : Image) × (g c : ℕ) × Owned (S.view self.old.seat) (S.view self.new.seat) self.new.root.0 self.new.trapframe.0 self.new.layout t u p page s f g c × (F.alone → c ≡ F.count store.old f)) }
+        ensures dry { IfErr result (λ _. RunsDry (S.view self.old.seat) (S.view self.new.seat) 1) }
+        ensures whole { IfErr result (λ _. (t : Image) (p : Process) →
+            Agrees (S.view self.old.seat) self.old.root.0 self.old.trapframe.0 self.old.layout t p →
+            Agrees (S.view self.new.seat) self.new.root.0 self.new.trapframe.0 self.new.layout t p) }
+        ensures exact { F.alone → (t : Image) (p : Process) (s : Page) (f : ℕ) →
+            CanOwn (S.view self.old.seat) self.old.root.0 self.old.trapframe.0 self.old.layout t p page s f →
+            IsOk result ↔ (part_need (not (F.count store.old f == 1)) ≤ F.free store.old) }
+        ensures free { F.alone → (t : Image) (p : Process) (s : Page) (f : ℕ) →
+            CanOwn (S.view self.old.seat) self.old.root.0 self.old.trapframe.0 self.old.layout t p page s f →
+            F.free store.new ≡ F.free store.old - (if is_ok result then part_need (not (F.count store.old f == 1)) else 0) }
+        ensures root { self.new.root ≡ self.old.root }
+        ensures trapframe { self.new.trapframe ≡ self.old.trapframe }
+        ensures layout { self.new.layout ≡ self.old.layout }
+        ensures keeps { Keeps F.rule store.old self.old.seat store.new self.new.seat }
+    {
+        let Some(region) = self.layout.region_at(page.number()) else {
+            unreachable!()
+        };
+        let Some(shared) = frame_of(store, &mut self.seat, self.root, page) else {
+            unreachable!()
+        };
+        let sole = store.look(&mut self.seat, shared) == 1;
+        if sole {
+            protect(
+                store,
+                &mut self.seat,
+                self.root,
+                page,
+                region.leaf(shared, false),
+            );
+            return Ok(());
+        }
+        store.reserve(&mut self.seat, 1)?;
+        part(store, &mut self.seat, self.root, page, &region, shared);
+        Ok(())
+    }
+}
+
+/// Puts a page on a frame of its own, made of a credit, with the bytes of the frame that it had. The bytes are there
+/// before the leaf names the new frame, and the leaf before the reference of the old one goes.
+fn part<F: FrameSupply>(
+    store: &mut F,
+    seat: &mut F::Seat,
+    root: FrameNo,
+    page: Vpn,
+    region: &Region,
+    shared: FrameNo,
+)
+    requires fits { Fits F.rule store.old seat.old }
+    requires ready { (trapframe : ℕ) × (t : Image) × (p : Process) × (s : Page) × CanPart (F.Seat.view seat.old) root.0 trapframe t p page s (region_of region.now) shared.0 }
+    requires credit { 0 < (F.Seat.view seat.old).credits }
+    ensures parted { (trapframe : ℕ) (t : Image) (p : Process) (s : Page) →
+        CanPart (F.Seat.view seat.old) root.0 trapframe t p page s (region_of region.now) shared.0 →
+        (u : Image) × (g : ℕ) × Parts (F.Seat.view seat.old) (F.Seat.view seat.new) root.0 trapframe t u p page s g }
+    ensures keeps { Keeps F.rule store.old seat.old store.new seat.new }
+    ensures free { F.alone → F.free store.new ≡ F.free store.old + cond (F.count store.old shared.0 == 1) 1 0 }
+{
+    let own = store.claim(seat);
+    copy_frame(store, seat, shared, own);
+    protect(store, seat, root, page, region.leaf(own, false));
+    store.release(seat, shared);
+}

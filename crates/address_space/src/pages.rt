@@ -1,0 +1,111 @@
+// Pages that get frames.
+
+ghost use Rattle.std.specs.FinMap.{get};
+ghost use Rattle.std.specs.Prelude.{[], ◌≡◌, ◌+◌, ◌-◌, ◌^◌, ◌<◌, ◌≤◌, ◌↔◌, ◌==◌, false, if◌then◌else◌, IfErr, IfOk, is_ok, IsOk, length, not, option_and_then, Some, true, ℕ};
+ghost use Rattle.address_space.specs.Agreement.{Agrees, IsPageLeaf, IsOn, makes_leaf};
+ghost use Rattle.address_space.specs.Layouts.{region_of};
+ghost use Rattle.address_space.specs.Steps.{Adds, CanAdd, CanSettle, RunsDry, Settles};
+ghost use Rattle.frame_store.specs.Laws.{Fits, Keeps};
+ghost use Rattle.frame_store.specs.View.{IsHeld};
+ghost use Rattle.process_model.specs.Frames.{settle_need};
+ghost use Rattle.process_model.specs.Process.{Process};
+ghost use Rattle.process_model.specs.Regions as model;
+ghost use Rattle.sv39_entry.specs.Frame.{frame_at};
+ghost use Rattle.sv39_entry.specs.Word as word;
+ghost use Rattle.sv39_entry.specs.declared.entry.Kind.TheVariants.{Leaf};
+ghost use Rattle.table_walk.specs.Image.{HasTables, Image, leaf_node, missing};
+
+use crate::region::Region;
+use crate::space::Space;
+use frame_bytes::fill_frame;
+use frame_store::{FrameAccess, FrameSeat, FrameSupply, NoFrame};
+use sv39_entry::{Entry, FrameNo, Vpn};
+use table_walk::{leaf_of, map, missing_is_growth, missing_tables};
+
+/// The frame that the leaf of a page names.
+pub(crate) fn frame_of<F: FrameAccess>(
+    store: &mut F,
+    seat: &mut F::Seat,
+    root: FrameNo,
+    page: Vpn,
+) -> Option<FrameNo>
+    requires fits { Fits F.rule store.old seat.old }
+    requires held { (t : Image) × HasTables (F.Seat.view seat.old) root.0 t }
+    ensures frame { (t : Image) → HasTables (F.Seat.view seat.old) root.0 t →
+        result ≡ option_and_then (λ w. frame_at (word.ppn w)) (get t.leaves (leaf_node page)) }
+    ensures view { F.Seat.view seat.new ≡ F.Seat.view seat.old }
+    ensures same { store.new ≡ store.old }
+    ensures keeps { Keeps F.rule store.old seat.old store.new seat.new }
+{
+    let leaf = leaf_of(store, seat, root, page)?;
+    FrameNo::from_ppn(leaf.ppn())
+}
+
+/// Gives a page a frame with these bytes, and zeros behind them. The frame and the tables that are missing are made of
+/// credits. The frame's words are there before the leaf that names it.
+pub(crate) fn add_page<F: FrameSupply>(
+    store: &mut F,
+    seat: &mut F::Seat,
+    root: FrameNo,
+    page: Vpn,
+    region: &Region,
+    bytes: &[u8],
+)
+    requires fits { Fits F.rule store.old seat.old }
+    requires ready { (trapframe : ℕ) × (t : Image) × (p : Process) × CanAdd (F.Seat.view seat.old) root.0 trapframe t p page (region_of region.now) × (1 + missing t page ≤ (F.Seat.view seat.old).credits) }
+    requires inside { length bytes.now ≤ 4096 }
+    ensures added { (trapframe : ℕ) (t : Image) (p : Process) → CanAdd (F.Seat.view seat.old) root.0 trapframe t p page (region_of region.now) →
+        (u : Image) × (f : ℕ) × Adds (F.Seat.view seat.old) (F.Seat.view seat.new) root.0 trapframe t u p page bytes.now f }
+    ensures keeps { Keeps F.rule store.old seat.old store.new seat.new }
+    ensures free { F.alone → F.free store.new ≡ F.free store.old }
+{
+    let frame = store.claim(seat);
+    fill_frame(store, seat, frame, bytes);
+    map(store, seat, root, page, region.leaf(frame, false));
+    // by its law the tables are those of this page too
+    missing_is_growth();
+}
+
+impl<S: FrameSeat> Space<S> {
+    /// Gives a page of a region a frame with these bytes, and zeros behind them. The frame and the tables that are
+    /// missing are reserved together.
+    pub fn settle<F: FrameSupply<Seat = S>>(
+        &mut self,
+        store: &mut F,
+        page: Vpn,
+        bytes: &[u8],
+    ) -> Result<(), NoFrame>
+        requires fits { Fits F.rule store.old self.old.seat }
+        requires ready { (t : Image) × (p : Process) × CanSettle (S.view self.old.seat) self.old.root.0 self.old.trapframe.0 self.old.layout t p page }
+        requires inside { length bytes.now ≤ 4096 }
+        ensures settled { IfOk result (λ _. (t : Image) (p : Process) →
+            CanSettle (S.view self.old.seat) self.old.root.0 self.old.trapframe.0 self.old.layout t p page →
+            (u : Image) × (f : ℕ) × Settles (S.view self.old.seat) (S.view self.new.seat) self.new.root.0 self.new.trapframe.0 self.new.layout t u p page bytes.now f) }
+        ensures dry { IfErr result (λ _. (t : Image) (p : Process) →
+            CanSettle (S.view self.old.seat) self.old.root.0 self.old.trapframe.0 self.old.layout t p page →
+            RunsDry (S.view self.old.seat) (S.view self.new.seat) (settle_need p page)) }
+        ensures whole { IfErr result (λ _. (t : Image) (p : Process) →
+            Agrees (S.view self.old.seat) self.old.root.0 self.old.trapframe.0 self.old.layout t p →
+            Agrees (S.view self.new.seat) self.new.root.0 self.new.trapframe.0 self.new.layout t p) }
+        ensures exact { F.alone → (t : Image) (p : Process) →
+            CanSettle (S.view self.old.seat) self.old.root.0 self.old.trapframe.0 self.old.layout t p page →
+            IsOk result ↔ (settle_need p page ≤ F.free store.old) }
+        ensures free { F.alone → (t : Image) (p : Process) →
+            CanSettle (S.view self.old.seat) self.old.root.0 self.old.trapframe.0 self.old.layout t p page →
+            F.free store.new ≡ F.free store.old - (if is_ok result then settle_need p page else 0) }
+        ensures root { self.new.root ≡ self.old.root }
+        ensures trapframe { self.new.trapframe ≡ self.old.trapframe }
+        ensures layout { self.new.layout ≡ self.old.layout }
+        ensures keeps { Keeps F.rule store.old self.old.seat store.new self.new.seat }
+    {
+        let Some(region) = self.layout.region_at(page.number()) else {
+            unreachable!()
+        };
+        let missing = missing_tables(store, &mut self.seat, self.root, page);
+        // by its law these are the tables that the page needs beside those of others
+        missing_is_growth();
+        store.reserve(&mut self.seat, 1 + missing)?;
+        add_page(store, &mut self.seat, self.root, page, &region, bytes);
+        Ok(())
+    }
+}

@@ -1,0 +1,99 @@
+// A process in memory.
+
+ghost use Rattle.std.specs.Prelude.{◌≡◌, ◌%◌, ◌<◌, ℕ, IsTrue};
+ghost use Rattle.address_space.specs.Agreement.{Agrees};
+ghost use Rattle.address_space.specs.Layouts.{granted_unless};
+ghost use Rattle.address_space.specs.Steps.{CanRead, CanWrite};
+ghost use Rattle.frame_store.specs.Laws.{Fits, Keeps};
+ghost use Rattle.process_model.specs.Bytes.{is_width, low_bytes};
+ghost use Rattle.process_model.specs.Process.{Page, Process, regions};
+ghost use Rattle.process_model.specs.Regions as model;
+ghost use Rattle.process_model.specs.Residence.{loaded, stored, with_page};
+ghost use Rattle.sv39_entry.specs.Address.{page_of};
+ghost use Rattle.table_walk.specs.Image.{Image};
+
+use crate::layout::Layout;
+use crate::pages::frame_of;
+use frame_bytes::{load_bytes, store_bytes};
+use frame_store::{FrameAccess, FrameSeat};
+use sv39_entry::{Access, FrameNo, Rule, Va};
+
+/// The address space of a process. It owns its seat, and a call takes any store whose seats are of that type.
+#[derive(Drop)]
+pub struct Space<S: FrameSeat> {
+    pub seat: S,
+    /// The root of the page tables.
+    pub root: FrameNo,
+    /// The frame of the trapframe's page.
+    pub trapframe: FrameNo,
+    pub layout: Layout,
+}
+
+impl<S: FrameSeat> Space<S> {
+    /// Whether the user may make an access, or the first rule that denies it. `width` is in bytes.
+    pub fn grant(&self, access: Access, va: Va, width: u64) -> Result<(), Rule>
+        requires { 0 < width }
+        ensures { (t : Image) (p : Process) → Agrees (S.view self.now.seat) self.now.root.0 self.now.trapframe.0 self.now.layout t p →
+            result ≡ granted_unless (model.first_rule (regions p) access va.0 width) }
+    {
+        self.layout.grant(access, va, width)
+    }
+
+    /// The number in `width` bytes of a settled page, the lowest byte first.
+    pub fn read<F: FrameAccess<Seat = S>>(&mut self, store: &mut F, va: Va, width: u64) -> u64
+        requires fits { Fits F.rule store.old self.old.seat }
+        requires ready { (t : Image) × (p : Process) × (s : Page) × CanRead (S.view self.old.seat) self.old.root.0 self.old.trapframe.0 self.old.layout t p (page_of va.0) s }
+        requires width { IsTrue (is_width width) }
+        requires aligned { va.0 % width ≡ 0 }
+        ensures value { (t : Image) (p : Process) (s : Page) →
+            CanRead (S.view self.old.seat) self.old.root.0 self.old.trapframe.0 self.old.layout t p (page_of va.0) s →
+            result ≡ loaded s (va.0 % 4096) width }
+        ensures view { S.view self.new.seat ≡ S.view self.old.seat }
+        ensures root { self.new.root ≡ self.old.root }
+        ensures trapframe { self.new.trapframe ≡ self.old.trapframe }
+        ensures layout { self.new.layout ≡ self.old.layout }
+        ensures same { store.new ≡ store.old }
+        ensures keeps { Keeps F.rule store.old self.old.seat store.new self.new.seat }
+    {
+        let Some(frame) = frame_of(store, &mut self.seat, self.root, va.page()) else {
+            unreachable!()
+        };
+        load_bytes(
+            store,
+            &mut self.seat,
+            frame,
+            va.offset() as usize,
+            width as usize,
+        )
+    }
+
+    /// Puts the `width` lowest bytes of a value into a settled page that the process has alone.
+    pub fn write<F: FrameAccess<Seat = S>>(&mut self, store: &mut F, va: Va, width: u64, value: u64)
+        requires fits { Fits F.rule store.old self.old.seat }
+        requires ready { (t : Image) × (p : Process) × (s : Page) × CanWrite (S.view self.old.seat) self.old.root.0 self.old.trapframe.0 self.old.layout t p (page_of va.0) s }
+        requires width { IsTrue (is_width width) }
+        requires aligned { va.0 % width ≡ 0 }
+        ensures agrees { (t : Image) (p : Process) (s : Page) →
+            CanWrite (S.view self.old.seat) self.old.root.0 self.old.trapframe.0 self.old.layout t p (page_of va.0) s →
+            Agrees (S.view self.new.seat) self.new.root.0 self.new.trapframe.0 self.new.layout t
+            (with_page p (page_of va.0) (stored s (va.0 % 4096) (low_bytes value width))) }
+        ensures root { self.new.root ≡ self.old.root }
+        ensures trapframe { self.new.trapframe ≡ self.old.trapframe }
+        ensures layout { self.new.layout ≡ self.old.layout }
+        ensures keeps { Keeps F.rule store.old self.old.seat store.new self.new.seat }
+        ensures free { F.alone → F.free store.new ≡ F.free store.old }
+        ensures counts { F.alone → (f : ℕ) → F.count store.new f ≡ F.count store.old f }
+    {
+        let Some(frame) = frame_of(store, &mut self.seat, self.root, va.page()) else {
+            unreachable!()
+        };
+        store_bytes(
+            store,
+            &mut self.seat,
+            frame,
+            va.offset() as usize,
+            width as usize,
+            value,
+        );
+    }
+}
