@@ -22,10 +22,10 @@ use Rattle.sv39_entry.specs.Word.{ppn}
 use Rattle.sv39_entry.specs.declared.frame.FrameNo.{FrameNo}
 use Rattle.table_walk.specs.Counted.{AreTablesOf}
 use Rattle.table_walk.specs.Image.{HasTables, Image, leaf_node}
-use Rattle.address_space.specs.Agreement.{Agrees, IsPageLeaf, IsLeafNumber, IsShown, Names, OthersKeep, Owns, Shows, Stands}
+use Rattle.address_space.specs.Agreement.{Agrees, IsPageLeaf, IsLeafNumber, IsOn, IsShown, Names, OthersKeep, Owns, Shows, Stands}
 use Rattle.address_space.specs.Layouts.{Layout, LaysOut}
 use Rattle.address_space.specs.Steps.{CanRead, CanWrite}
-use Rattle.address_space.proofs.Owned.{no_table, one_page, same_bytes, same_owns}
+use Rattle.address_space.proofs.Owned.{no_table, one_frame, one_page, same_bytes, same_owns}
 
 -- words of one frame
 
@@ -104,6 +104,14 @@ module _ (v : View) (t : Image) (p : Process) (page : ℕ) (s : Page) (f : ℕ) 
 
   pub page_on : (frame : FrameNo) → o ≡ Some frame → HasPage v t p page s frame.0
   page_on frame found = subst (HasPage v t p page s) (ap (λ (x : FrameNo). x.0) (same_Some _ frame (sym page_found ∙ found))) here
+
+-- the frame of the leaf is the page's
+pub on_page : (v : View) (root trapframe : ℕ) (l : Layout) (t : Image) (p : Process) (page : ℕ) (s : Page) (f : ℕ) → CanRead v root trapframe l t p page s
+    → IsOn t page f → HasPage v t p page s f
+on_page v root trapframe l t p page s f can on =
+    let here = page_here v root trapframe None t p page s can.agrees.stands can.settled in
+    let same : here.0 ≡ f = one_frame here.0 f (sym here.1.made.names ∙ ap ppn (same_Some here.1.leaf on.0 (sym here.1.mapped ∙ on.1)) ∙ on.2) in
+    subst (HasPage v t p page s) same here.1
 
 -- pages of a process after one was put
 

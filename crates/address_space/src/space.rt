@@ -1,7 +1,7 @@
 // A process in memory.
 
 ghost use Rattle.std.specs.Prelude.{◌≡◌, ◌%◌, ◌<◌, ℕ, IsTrue};
-ghost use Rattle.address_space.specs.Agreement.{Agrees};
+ghost use Rattle.address_space.specs.Agreement.{Agrees, IsOn};
 ghost use Rattle.address_space.specs.Layouts.{granted_unless};
 ghost use Rattle.address_space.specs.Steps.{CanRead, CanWrite};
 ghost use Rattle.frame_store.specs.Laws.{Fits, Keeps};
@@ -45,26 +45,39 @@ impl<S: FrameSeat> Space<S> {
         requires ready { (t : Image) × (p : Process) × (s : Page) × CanRead (S.view self.old.seat) self.old.root.0 self.old.trapframe.0 self.old.layout t p (page_of va.0) s }
         requires width { IsTrue (is_width width) }
         requires aligned { va.0 % width ≡ 0 }
-        ensures value { (t : Image) (p : Process) (s : Page) →
-            CanRead (S.view self.old.seat) self.old.root.0 self.old.trapframe.0 self.old.layout t p (page_of va.0) s →
-            result ≡ loaded s (va.0 % 4096) width }
-        ensures view { S.view self.new.seat ≡ S.view self.old.seat }
+        ensures value { (t : Image) (p : Process) (s : Page) → CanRead (S.view self.old.seat) self.old.root.0 self.old.trapframe.0 self.old.layout t p (page_of va.0) s → result ≡ loaded s (va.0 % 4096) width }
         ensures root { self.new.root ≡ self.old.root }
         ensures trapframe { self.new.trapframe ≡ self.old.trapframe }
         ensures layout { self.new.layout ≡ self.old.layout }
+        ensures view { S.view self.new.seat ≡ S.view self.old.seat }
         ensures same { store.new ≡ store.old }
         ensures keeps { Keeps F.rule store.old self.old.seat store.new self.new.seat }
     {
-        let Some(frame) = frame_of(store, &mut self.seat, self.root, va.page()) else {
-            unreachable!()
-        };
-        load_bytes(
-            store,
-            &mut self.seat,
-            frame,
-            va.offset() as usize,
-            width as usize,
-        )
+        let frame = self.page_frame(store, va);
+        self.read_at(store, frame, va, width)
+    }
+
+    /// The same, where the page's frame is known from a translation.
+    pub fn read_at<F: FrameAccess<Seat = S>>(
+        &mut self,
+        store: &mut F,
+        frame: FrameNo,
+        va: Va,
+        width: u64,
+    ) -> u64
+        requires fits { Fits F.rule store.old self.old.seat }
+        requires ready { (t : Image) × (p : Process) × (s : Page) × CanRead (S.view self.old.seat) self.old.root.0 self.old.trapframe.0 self.old.layout t p (page_of va.0) s × IsOn t (page_of va.0) frame.0 }
+        requires width { IsTrue (is_width width) }
+        requires aligned { va.0 % width ≡ 0 }
+        ensures value { (t : Image) (p : Process) (s : Page) → CanRead (S.view self.old.seat) self.old.root.0 self.old.trapframe.0 self.old.layout t p (page_of va.0) s → IsOn t (page_of va.0) frame.0 → result ≡ loaded s (va.0 % 4096) width }
+        ensures root { self.new.root ≡ self.old.root }
+        ensures trapframe { self.new.trapframe ≡ self.old.trapframe }
+        ensures layout { self.new.layout ≡ self.old.layout }
+        ensures view { S.view self.new.seat ≡ S.view self.old.seat }
+        ensures same { store.new ≡ store.old }
+        ensures keeps { Keeps F.rule store.old self.old.seat store.new self.new.seat }
+    {
+        load_bytes(store, &mut self.seat, frame, va.offset() as usize, width as usize)
     }
 
     /// Puts the `width` lowest bytes of a value into a settled page that the process has alone.
@@ -73,10 +86,9 @@ impl<S: FrameSeat> Space<S> {
         requires ready { (t : Image) × (p : Process) × (s : Page) × CanWrite (S.view self.old.seat) self.old.root.0 self.old.trapframe.0 self.old.layout t p (page_of va.0) s }
         requires width { IsTrue (is_width width) }
         requires aligned { va.0 % width ≡ 0 }
-        ensures agrees { (t : Image) (p : Process) (s : Page) →
-            CanWrite (S.view self.old.seat) self.old.root.0 self.old.trapframe.0 self.old.layout t p (page_of va.0) s →
+        ensures agrees { (t : Image) (p : Process) (s : Page) → CanWrite (S.view self.old.seat) self.old.root.0 self.old.trapframe.0 self.old.layout t p (page_of va.0) s →
             Agrees (S.view self.new.seat) self.new.root.0 self.new.trapframe.0 self.new.layout t
-            (with_page p (page_of va.0) (stored s (va.0 % 4096) (low_bytes value width))) }
+                (with_page p (page_of va.0) (stored s (va.0 % 4096) (low_bytes value width))) }
         ensures root { self.new.root ≡ self.old.root }
         ensures trapframe { self.new.trapframe ≡ self.old.trapframe }
         ensures layout { self.new.layout ≡ self.old.layout }
@@ -84,9 +96,33 @@ impl<S: FrameSeat> Space<S> {
         ensures free { F.alone → F.free store.new ≡ F.free store.old }
         ensures counts { F.alone → (f : ℕ) → F.count store.new f ≡ F.count store.old f }
     {
-        let Some(frame) = frame_of(store, &mut self.seat, self.root, va.page()) else {
-            unreachable!()
-        };
+        let frame = self.page_frame(store, va);
+        self.write_at(store, frame, va, width, value);
+    }
+
+    /// The same, where the page's frame is known from a translation.
+    pub fn write_at<F: FrameAccess<Seat = S>>(
+        &mut self,
+        store: &mut F,
+        frame: FrameNo,
+        va: Va,
+        width: u64,
+        value: u64,
+    )
+        requires fits { Fits F.rule store.old self.old.seat }
+        requires ready { (t : Image) × (p : Process) × (s : Page) × CanWrite (S.view self.old.seat) self.old.root.0 self.old.trapframe.0 self.old.layout t p (page_of va.0) s × IsOn t (page_of va.0) frame.0 }
+        requires width { IsTrue (is_width width) }
+        requires aligned { va.0 % width ≡ 0 }
+        ensures agrees { (t : Image) (p : Process) (s : Page) → CanWrite (S.view self.old.seat) self.old.root.0 self.old.trapframe.0 self.old.layout t p (page_of va.0) s → IsOn t (page_of va.0) frame.0 →
+            Agrees (S.view self.new.seat) self.new.root.0 self.new.trapframe.0 self.new.layout t
+                (with_page p (page_of va.0) (stored s (va.0 % 4096) (low_bytes value width))) }
+        ensures root { self.new.root ≡ self.old.root }
+        ensures trapframe { self.new.trapframe ≡ self.old.trapframe }
+        ensures layout { self.new.layout ≡ self.old.layout }
+        ensures keeps { Keeps F.rule store.old self.old.seat store.new self.new.seat }
+        ensures free { F.alone → F.free store.new ≡ F.free store.old }
+        ensures counts { F.alone → (f : ℕ) → F.count store.new f ≡ F.count store.old f }
+    {
         store_bytes(
             store,
             &mut self.seat,
@@ -95,5 +131,23 @@ impl<S: FrameSeat> Space<S> {
             width as usize,
             value,
         );
+    }
+
+    /// The frame of the page of an address.
+    fn page_frame<F: FrameAccess<Seat = S>>(&mut self, store: &mut F, va: Va) -> FrameNo
+        requires fits { Fits F.rule store.old self.old.seat }
+        requires ready { (t : Image) × (p : Process) × (s : Page) × CanRead (S.view self.old.seat) self.old.root.0 self.old.trapframe.0 self.old.layout t p (page_of va.0) s }
+        ensures frame { (t : Image) (p : Process) (s : Page) → CanRead (S.view self.old.seat) self.old.root.0 self.old.trapframe.0 self.old.layout t p (page_of va.0) s → IsOn t (page_of va.0) result.0 }
+        ensures root { self.new.root ≡ self.old.root }
+        ensures trapframe { self.new.trapframe ≡ self.old.trapframe }
+        ensures layout { self.new.layout ≡ self.old.layout }
+        ensures view { S.view self.new.seat ≡ S.view self.old.seat }
+        ensures same { store.new ≡ store.old }
+        ensures keeps { Keeps F.rule store.old self.old.seat store.new self.new.seat }
+    {
+        let Some(frame) = frame_of(store, &mut self.seat, self.root, va.page()) else {
+            unreachable!()
+        };
+        frame
     }
 }
