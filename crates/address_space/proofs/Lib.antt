@@ -1,6 +1,9 @@
 pub mod AddingFrames
 pub mod AddingPages
 pub mod AddingReserved
+pub mod DroppedLeaf
+pub mod DroppedPages
+pub mod EndingSteps
 pub mod Found
 pub mod Owned
 pub mod Owning

@@ -1,4 +1,5 @@
 pub mod Agreement
+pub mod Ending
 pub mod Layouts
 pub mod Parting
 pub mod Steps

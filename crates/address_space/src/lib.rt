@@ -1,6 +1,7 @@
 //! Address spaces of processes: regions, pages and their frames, and the table of the kernel.
 #![tactic(auto)]
 
+mod ending;
 mod layout;
 mod own;
 mod pages;

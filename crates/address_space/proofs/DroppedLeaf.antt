@@ -1,0 +1,186 @@
+-- A leaf that goes, and the frame that it named.
+use Rattle.std.proofs.Common.{◌≡◌, ℕ, Bool, true, false, ◌+◌, ◌-◌, ◌≤◌, ◌^◌, ◌&&◌, cond, Option, None, Some, refl, ap, sym, subst, ◌∙◌, inl, inr, arith, append-nil}
+use Rattle.std.specs.Prelude.{nat_le, nat_lt, []}
+use Rattle.std.proofs.lemmas.Bool.{cases_eq}
+use Rattle.std.specs.FinMap.{get}
+use Rattle.frame_store.specs.Laws.{IsAnchored}
+use Rattle.frame_store.specs.View.{Hold, View, hold_of, IsHeld, references, released}
+use Rattle.sv39_entry.specs.Address.{trampoline_page}
+use Rattle.sv39_entry.specs.Frame.{frame_at, ppn_of}
+use Rattle.sv39_entry.specs.Word.{ppn}
+use Rattle.sv39_entry.specs.declared.frame.FrameNo.{FrameNo}
+use Rattle.table_walk.specs.Image.{ChangesTables, HasTables, Image, leaf_node, without_leaf}
+use Rattle.table_walk.specs.Keys.{remove_same, remove_other}
+use Rattle.table_walk.specs.Same.{same_held}
+use Rattle.address_space.specs.Agreement.{Names, Owns}
+use Rattle.address_space.specs.Ending.{CanDrop, DropsLeaf}
+use Rattle.address_space.specs.Steps.{Takes}
+use Rattle.address_space.proofs.Owned.{no_table, one_frame, released_here, released_once, released_other, same_references, same_sole, spare_goes}
+
+frame_if : (b : Bool) (fr x : FrameNo) → cond b (Some x) None ≡ Some fr → (b ≡ true) × (x ≡ fr)
+frame_if true fr x is = (refl, cc)
+frame_if false fr x is = absurd (cc)
+
+-- the frame of a leaf's page number
+pub frame_named : (w p : ℕ) (o : Option FrameNo) (fr : FrameNo) → p ≡ ppn w → o ≡ frame_at p → o ≡ Some fr → ppn w ≡ ppn_of fr.0
+frame_named w p o fr number at is =
+    let found = frame_if (nat_le 0x80000 p && nat_lt p (0x80000 + 2 ^ 16)) fr (record { 0 = p - 0x80000 }) (sym at ∙ is) in
+    let same : p - 0x80000 ≡ fr.0 = ap (λ (x : FrameNo). x.0) found.1 in
+    let low : 0x80000 ≤ p = grind (arith, found.0) in
+    omega (arith, number, same, low)
+
+-- tables of which no frame changed
+tables_stay : (v w : View) (root : ℕ) (t : Image) → ((k f : ℕ) → get t.tables k ≡ Some f → hold_of w f ≡ hold_of v f) → HasTables v root t → HasTables w root t
+tables_stay v w root t same has = record {
+  image = record {
+    rooted = has.image.rooted;
+    words = λ k f i at low. ap (λ (h : Hold). get h.words i) (same k f at) ∙ has.image.words k f i at low;
+    apart = has.image.apart;
+    below = has.image.below;
+    hung = has.image.hung;
+    leaf_hung = has.image.leaf_hung;
+  };
+  own = λ k f at.
+      let own = has.own k f at in
+      (same_held v w f (same k f at) own.0, ap (λ (h : Hold). h.sole) (same k f at) ∙ own.1);
+}
+
+-- what is left is what was there, but for the leaf that went
+pub left : (t : Image) (n m y : ℕ) → get (without_leaf t n).leaves m ≡ Some y → (get t.leaves m ≡ Some y) × (m ≡ n → ⊥)
+left t n m y at = elim (cases_eq m n) [
+  | inl same ↦ absurd (let none = remove_same t.leaves n m same in cc)
+  | inr other ↦ (sym (remove_other t.leaves n m other) ∙ at, other)
+]
+
+named_before : (t : Image) (n f k : ℕ) → Names (without_leaf t n) f k → Names t f k
+named_before t n f k names = elim names as (λ _. Names t f k) [
+  | inl table ↦ inl table
+  | inr leaf ↦ inr (leaf.0, (left t n k leaf.0 leaf.1).0, leaf.2)
+]
+
+-- a leaf of a space, and the frame that it names
+module _ (v : View) (root : ℕ) (t : Image) (n x f : ℕ) (h : HasTables v root t) (o : Owns v t None) (leaf : get t.leaves n ≡ Some x) (names : ppn x ≡ ppn_of f) where
+  -- nothing else names the frame
+  no_name : (k : ℕ) → Names (without_leaf t n) f k → ⊥
+  no_name k still = elim still as (λ _. ⊥) [
+    | inl table ↦ no_table v t root None h o n x f leaf names k table
+    | inr other ↦
+        let was = left t n k other.0 other.1 in
+        was.1 (o.once f k n (inr (other.0, was.0, other.2)) (inr (x, leaf, names)))
+  ]
+
+  -- the leaf goes
+  module _ (w : View) (c : ChangesTables v w t t 0) where
+    same_count : (g : ℕ) → references v g ≡ 1 → (k : ℕ) → Names t g k → references w g ≡ references v g
+    same_count g one k known = elim known as (λ _. references w g ≡ references v g) [
+      | inl table ↦ c.old k g table
+      | inr other ↦ same_references v w g (c.apart g (no_table v t root None h o k other.0 g other.1 other.2))
+    ]
+
+    pub leaf_goes : Owns w (without_leaf t n) (Some f)
+    leaf_goes = record {
+      once = λ g j k first second. o.once g j k (named_before t n g j first) (named_before t n g k second);
+      named = λ g k known.
+          let was = named_before t n g k known in
+          let one = o.named g k was in
+          same_count g one k was ∙ one;
+      ready = λ g is. (
+        let one = o.named f n (inr (x, leaf, names)) in
+            let is_f : f ≡ g = cc in
+            subst (λ (y : ℕ). references w y ≡ 1) is_f (same_count f one n (inr (x, leaf, names)) ∙ one),
+        let is_f : f ≡ g = cc in
+            subst (λ (y : ℕ). (k : ℕ) → Names (without_leaf t n) y k → ⊥) is_f no_name,
+      );
+      bare = λ g none ne.
+          let was : references v g ≡ 0 = o.bare g (λ k known. elim known as (λ _. ⊥) [
+            | inl table ↦ none k (inl table)
+            | inr other ↦ elim (cases_eq k n) [
+              | inl same ↦
+                  let is : Some x ≡ Some other.0 = sym leaf ∙ ap (get t.leaves) (sym same) ∙ other.1 in
+                  let word : x ≡ other.0 = cc in
+                  ne (ap Some (one_frame f g (sym names ∙ ap ppn word ∙ other.2)))
+              | inr differ ↦ none k (inr (other.0, remove_other t.leaves n k differ ∙ other.1, other.2))
+            ]
+          ]) (λ is. absurd (cc)) in
+          same_references v w g (c.apart g (λ k table. none k (inl table))) ∙ was;
+      writable = λ g m y at is writes.
+          let was = left t n m y at in
+          same_sole v w g (c.apart g (no_table v t root None h o m y g was.0 is)) (o.writable g m y was.0 is writes);
+    }
+
+    -- and then its frame
+    module _ (after : View) (is : after ≡ released f w) where
+      once_held : references w f ≡ 1
+      once_held = (leaf_goes.ready f refl).0
+
+      away : (g : ℕ) → (g ≡ f → ⊥) → hold_of after g ≡ hold_of w g
+      away g apart = ap (λ u. hold_of u g) is ∙ released_other f g w once_held apart
+
+      frame_goes : Owns after (without_leaf t n) None
+      frame_goes = spare_goes w (without_leaf t n) after f (ap (λ u. references u f) is ∙ released_here f w once_held) away leaf_goes
+
+      tables_left : HasTables w root (without_leaf t n) → HasTables after root (without_leaf t n)
+      tables_left has = tables_stay w after root (without_leaf t n) (λ k g at. away g (λ same. no_name k (inl (at ∙ ap Some same)))) has
+
+      others_left : (m y g : ℕ) → get (without_leaf t n).leaves m ≡ Some y → ppn y ≡ ppn_of g → hold_of after g ≡ hold_of v g
+      others_left m y g at is_g =
+          let was = left t n m y at in
+          away g (λ same. no_name m (inr (y, at, is_g ∙ ap ppn_of same))) ∙ c.apart g (no_table v t root None h o m y g was.0 is_g)
+
+-- tallies that no call changes
+
+pub takes_none : (v w : View) → w.claims ≡ v.claims → w.zeros ≡ v.zeros → w.short ≡ v.short → w.looks ≡ v.looks → Takes v w 0 []
+takes_none v w claims zeros short looks = record { claims = omega (arith, claims); zeros = zeros; short = short; looks = looks ∙ sym (append-nil v.looks) }
+
+pub takes_then : (u v w : View) → Takes u v 0 [] → Takes v w 0 [] → Takes u w 0 []
+takes_then u v w first second =
+    let before = first.claims in
+    let after = second.claims in
+    record {
+      claims = omega (arith, before, after);
+      zeros = second.zeros ∙ first.zeros;
+      short = second.short ∙ first.short;
+      looks = second.looks ∙ append-nil v.looks ∙ first.looks;
+    }
+
+pub changes_take : (v w : View) (t u : Image) → ChangesTables v w t u 0 → Takes v w 0 []
+changes_take v w t u c = let claims = c.claims in takes_none v w (omega (arith, claims)) c.zeros c.short c.looks
+
+pub released_credits : (f : ℕ) (v : View) → references v f ≡ 1 → (released f v).credits ≡ v.credits
+released_credits f v one = ap (λ (u : View). u.credits) (released_once f v one)
+
+pub released_takes : (f : ℕ) (v : View) → references v f ≡ 1 → Takes v (released f v) 0 []
+released_takes f v one =
+    let there = released_once f v one in
+    takes_none v (released f v) (ap (λ (u : View). u.claims) there) (ap (λ (u : View). u.zeros) there) (ap (λ (u : View). u.short) there)
+    (ap (λ (u : View). u.looks) there)
+
+-- a page is unmapped, and its frame let go
+module _ (v w : View) (root : ℕ) (t : Image) (page x f : ℕ) (d : CanDrop v root t page) (leaf : get t.leaves (leaf_node page) ≡ Some x) (names : ppn x ≡ ppn_of f) (c : ChangesTables v w t t 0) where
+  unmapped : Owns w (without_leaf t (leaf_node page)) (Some f)
+  unmapped = leaf_goes v root t (leaf_node page) x f d.tables d.owns leaf names w c
+
+  pub held_yet : IsHeld w f
+  held_yet = let one = (unmapped.ready f refl).0 in omega (arith, one)
+
+  anchor : Names (without_leaf t (leaf_node page)) 0 (leaf_node trampoline_page)
+  anchor = inr (d.anchor.0, remove_other t.leaves (leaf_node page) (leaf_node trampoline_page) (λ same. d.apart (sym same)) ∙ d.anchor.1, d.anchor.2)
+
+  pub anchored_yet : IsAnchored (released f w)
+  anchored_yet g held =
+      let one = (unmapped.ready f refl).0 in
+      let apart = λ (same : 0 ≡ f). (unmapped.ready f refl).1 (leaf_node trampoline_page) (subst (λ (y : ℕ). Names (without_leaf t (leaf_node page)) y (leaf_node trampoline_page)) same anchor) in
+      let still = same_references w (released f w) 0 (released_other f 0 w one apart) ∙ unmapped.named 0 (leaf_node trampoline_page) anchor in
+      omega (arith, still)
+
+  pub drops_leaf : (after : View) → HasTables w root (without_leaf t (leaf_node page)) → after ≡ released f w → DropsLeaf v after root t page
+  drops_leaf after has is =
+      let one = (unmapped.ready f refl).0 in
+      let credits = c.credits in
+      record {
+        tables = tables_left v root t (leaf_node page) x f d.tables d.owns leaf names w c after is has;
+        owns = frame_goes v root t (leaf_node page) x f d.tables d.owns leaf names w c after is;
+        others = others_left v root t (leaf_node page) x f d.tables d.owns leaf names w c after is;
+        credits = ap (λ (u : View). u.credits) is ∙ released_credits f w one ∙ omega (arith, credits);
+        takes = takes_then v w after (changes_take v w t t c) (subst (λ u. Takes w u 0 []) (sym is) (released_takes f w one));
+      }

@@ -1,0 +1,325 @@
+-- Pages of a run that go one after another.
+use Rattle.std.proofs.Common.{◌≡◌, ℕ, Bool, true, false, suc, ◌+◌, ◌*◌, ◌^◌, ◌<◌, ◌≤◌, ◌||◌, ◌⊎◌, cond, max, Option, None, Some, refl, ap, sym, ◌∙◌, inl, inr, arith}
+use Rattle.std.specs.Prelude.{nat_le, nat_lt, IsSome}
+use Rattle.std.proofs.lemmas.Bool.{cases_eq, cases_lt}
+use Rattle.std.proofs.lemmas.Map.Lookups.{exact_unsigned}
+use Rattle.std.specs.FinMap.{get}
+use Rattle.std.specs.FinMap.Entries.{find-where_key}
+use Rattle.std.specs.Ordering.{nat_cmp}
+use Rattle.frame_store.specs.View.{View}
+use Rattle.process_model.specs.Heap.{without_pages}
+use Rattle.process_model.specs.PageMap as pages
+use Rattle.process_model.specs.PageMap.{PageMap}
+use Rattle.process_model.specs.Process.{Page, Process}
+use Rattle.sv39_entry.specs.Address.{trampoline_page, trapframe_page}
+use Rattle.table_walk.specs.Changed.{IsNextLeaf}
+use Rattle.table_walk.specs.Image.{Image, leaf_node, without_leaf}
+use Rattle.table_walk.specs.Keys.{remove_same, remove_other}
+use Rattle.table_walk.specs.Nodes.{leaf_node_is}
+use Rattle.table_walk.specs.Places.{IsBare}
+use Rattle.address_space.specs.Agreement.{Agrees, IsLeafNumber, IsOn, Shows, Stands}
+use Rattle.address_space.specs.Ending.{AreUnmapped, CanDrop, Drops, DropsLeaf, IsFirstMapped}
+use Rattle.address_space.specs.Layouts.{Layout}
+use Rattle.address_space.proofs.DroppedLeaf.{left}
+use Rattle.address_space.proofs.Owned.{one_page, same_bytes}
+
+-- places below the root, and pages
+
+leaf_place : (n : ℕ) → n < 2 ^ 27 → leaf_node n ≡ 1 * 512 ^ suc 2 + n
+leaf_place n low = let at = leaf_node_is n in omega (arith, at, low)
+
+unmapped_to : (t : Image) (first place end : ℕ) → IsBare t 1 (512 ^ suc 2) first place → end ≤ 2 ^ 27 → end ≤ place → AreUnmapped t first end
+unmapped_to t first place end bare low le n from less = ap (get t.leaves) (leaf_place n (omega arith)) ∙ bare n from (omega arith)
+
+pub none_mapped : (t : Image) (first end : ℕ) → IsNextLeaf t first None → end ≤ 2 ^ 27 → IsFirstMapped t first end None
+none_mapped t first end bare low = unmapped_to t first (2 ^ 27) end bare low low
+
+pub none_before : (t : Image) (first end page w : ℕ) → IsNextLeaf t first (Some (page, w)) → end ≤ 2 ^ 27 → end ≤ page → IsFirstMapped t first end None
+none_before t first end page w next low past = unmapped_to t first page end next.3 low past
+
+pub one_mapped : (t : Image) (first end page w : ℕ) → IsNextLeaf t first (Some (page, w)) → end ≤ 2 ^ 27 → page < end → IsFirstMapped t first end (Some page)
+one_mapped t first end page w next low before =
+    let some : get t.leaves (leaf_node page) ≡ Some w = ap (get t.leaves) (leaf_place page (omega arith)) ∙ next.2 in
+    (next.0, before, rw some refl, unmapped_to t first page page next.3 (omega arith) (omega arith))
+
+-- settled pages outside a run
+
+only_get : {X : Type 0} (m : PageMap X) (p : ℕ → Bool) (k : ℕ) → pages.get (pages.only p m) k ≡ cond (p k) (pages.get m k) None
+only_get m p k = find-where_key nat_cmp p k (λ x same. ap p (sym (exact_unsigned k x same))) m.entries
+
+outside : (first end n : ℕ) → (n < first) ⊎ (end ≤ n) → (nat_lt n first || nat_le end n) ≡ true
+outside first end n (inl before) = grind (arith, before)
+outside first end n (inr after) = grind (arith, after)
+
+cases_outside : (first end n : ℕ) → ((n < first) ⊎ (end ≤ n)) ⊎ ((first ≤ n) × (n < end))
+cases_outside first end n = elim (cases_lt n first) [
+  | inl before ↦ inl (inl before)
+  | inr from ↦ elim (cases_lt n end) [
+    | inl inside ↦ inr (omega arith, inside)
+    | inr after ↦ inl (inr (omega arith))
+  ]
+]
+
+everywhere : (first n : ℕ) → (n < first) ⊎ (first ≤ n)
+everywhere first n = elim (cases_lt n first) [ inl before ↦ inl before | inr after ↦ inr (omega (arith, after)) ]
+
+still_settled : (p : Process) (first end n : ℕ) (s : Page) → pages.get p.settled n ≡ Some s → (n < first) ⊎ (end ≤ n)
+    → pages.get (without_pages p first end).settled n ≡ Some s
+still_settled p first end n s at out = only_get p.settled (λ page. nat_lt page first || nat_le end page) n ∙ rw (outside first end n out) at
+
+pub was_settled : (p : Process) (first end n : ℕ) (s : Page) → pages.get (without_pages p first end).settled n ≡ Some s
+    → (pages.get p.settled n ≡ Some s) × ((n < first) ⊎ (end ≤ n))
+was_settled p first end n s at =
+    let got = sym (only_get p.settled (λ page. nat_lt page first || nat_le end page) n) ∙ at in
+    elim (cases_outside first end n) [
+      | inl out ↦ (rw (outside first end n out) at got, out)
+      | inr inside ↦ absurd (
+          let passed : (nat_lt n first || nat_le end n) ≡ false = grind (arith, inside.0, inside.1) in
+          let none = rw passed at got in
+          cc)
+    ]
+
+-- a process with fewer settled pages, of which the others have no leaf
+module _ (v : View) (root trapframe : ℕ) (l : Layout) (u : Image) (p : Process) (old new : PageMap Page)
+    (fewer : (n : ℕ) (s : Page) → pages.get new n ≡ Some s → pages.get old n ≡ Some s)
+    (numbers : (k w n : ℕ) (s : Page) → get u.leaves k ≡ Some w → k ≡ leaf_node n → pages.get old n ≡ Some s → pages.get new n ≡ Some s) where
+  number_left : (k w : ℕ) → get u.leaves k ≡ Some w → IsLeafNumber (record p { settled = old }) k → IsLeafNumber (record p { settled = new }) k
+  number_left k w leaf number = elim number as (λ _. IsLeafNumber (record p { settled = new }) k) [
+    | inl trampoline ↦ inl trampoline
+    | inr rest ↦ elim rest as (λ _. IsLeafNumber (record p { settled = new }) k) [
+      | inl frame ↦ inr (inl frame)
+      | inr there ↦ inr (inr (there.0, there.1, there.2, numbers k w there.0 there.1 leaf there.2 there.3))
+    ]
+  ]
+
+  agrees_fewer : Agrees v root trapframe l u (record p { settled = old }) → Agrees v root trapframe l u (record p { settled = new })
+  agrees_fewer a = record {
+    lays = record { parts = a.lays.parts; mappings = a.lays.mappings; heap_base = a.lays.heap_base; size = a.lays.size };
+    stands = record {
+      tables = a.stands.tables;
+      owns = a.stands.owns;
+      shows = record {
+        on_trampoline = a.stands.shows.on_trampoline;
+        on_trapframe = a.stands.shows.on_trapframe;
+        settled = λ n page at.
+            let shown = a.stands.shows.settled n page (fewer n page at) in
+            record {
+              region = shown.region;
+              frame = shown.frame;
+              leaf = shown.leaf;
+              in_region = shown.in_region;
+              mapped = shown.mapped;
+              made = shown.made;
+              bytes = shown.bytes;
+            };
+        only = λ k w leaf. number_left k w leaf (a.stands.shows.only k w leaf);
+        low = λ n page at. a.stands.shows.low n page (fewer n page at);
+      };
+      tabled = a.stands.tabled;
+      tabled_low = a.stands.tabled_low;
+    };
+    credits = a.credits;
+  }
+
+-- a run with no leaf behind it is as good as a longer one
+module _ (first from end : ℕ) (within : from ≤ max first end) where
+  short_run : (n : ℕ) → (n < first) ⊎ (end ≤ n) → (n < first) ⊎ (from ≤ n)
+  short_run n (inl before) = inl before
+  short_run n (inr after) = elim (cases_lt n first) [
+    | inl before ↦ inl before
+    | inr late ↦ inr (omega (arith, within, after, late))
+  ]
+
+  module _ (u : Image) (none : AreUnmapped u from end) where
+    long_run : (n w : ℕ) → get u.leaves (leaf_node n) ≡ Some w → (n < first) ⊎ (from ≤ n) → (n < first) ⊎ (end ≤ n)
+    long_run n w leaf (inl before) = inl before
+    long_run n w leaf (inr after) = elim (cases_lt n end) [
+      | inl inside ↦ absurd (let gone = none n after inside in cc)
+      | inr late ↦ inr (omega (arith, late))
+    ]
+
+    drops_longer : (t : Image) → Drops t u first from → Drops t u first end
+    drops_longer t d = record {
+      tables = d.tables;
+      gone = λ n low high. elim (cases_lt n from) [
+        | inl inside ↦ d.gone n low inside
+        | inr late ↦ none n (omega (arith, late)) high
+      ];
+      others = λ k apart. d.others k (λ n low high. apart n low (omega (arith, within, low, high)));
+    }
+
+    agrees_longer : (v : View) (root trapframe : ℕ) (l : Layout) (p : Process)
+        → Agrees v root trapframe l u (without_pages p first from) → Agrees v root trapframe l u (without_pages p first end)
+    agrees_longer v root trapframe l p =
+        agrees_fewer v root trapframe l u p (without_pages p first from).settled (without_pages p first end).settled
+        (λ n s at. let was = was_settled p first end n s at in still_settled p first from n s was.0 (short_run n was.1))
+        (λ k w n s leaf is at.
+        let was = was_settled p first from n s at in
+        still_settled p first end n s was.0 (long_run n w (ap (get u.leaves) (sym is) ∙ leaf) was.1))
+
+-- the page behind a run goes
+module _ (first page : ℕ) (from : first ≤ page) (low : page < trapframe_page) where
+  one_less : (n : ℕ) → (n < first) ⊎ (page + 1 ≤ n) → (n < first) ⊎ (page ≤ n)
+  one_less n (inl before) = inl before
+  one_less n (inr after) = inr (omega (arith, after))
+
+  one_more : (n : ℕ) → (n ≡ page → ⊥) → (n < first) ⊎ (page ≤ n) → (n < first) ⊎ (page + 1 ≤ n)
+  one_more n apart (inl before) = inl before
+  one_more n apart (inr after) = inr (omega (arith, after, apart))
+
+  other_page : (n : ℕ) → n < 2 ^ 27 → (n ≡ page → ⊥) → leaf_node n ≡ leaf_node page → ⊥
+  other_page n small apart same = apart (one_page n page small (omega (arith, low)) same)
+
+  drops_more : (t u : Image) → Drops t u first page → Drops t (without_leaf u (leaf_node page)) first (page + 1)
+  drops_more t u d = record {
+    tables = d.tables;
+    gone = λ n after before. elim (cases_eq n page) [
+      | inl same ↦ remove_same u.leaves (leaf_node page) (leaf_node n) (ap leaf_node same)
+      | inr apart ↦
+          remove_other u.leaves (leaf_node page) (leaf_node n) (other_page n (omega (arith, low, before)) apart)
+          ∙ d.gone n after (omega (arith, before, apart))
+    ];
+    others = λ k apart.
+        remove_other u.leaves (leaf_node page) k (apart page from (omega arith)) ∙ d.others k (λ n after before. apart n after (omega (arith, before)));
+  }
+
+  module _ (v w : View) (root trapframe : ℕ) (u : Image) (p : Process) (d : DropsLeaf v w root u page) where
+    kept : (n x : ℕ) → n < 2 ^ 27 → (n ≡ page → ⊥) → get u.leaves (leaf_node n) ≡ Some x → get (without_leaf u (leaf_node page)).leaves (leaf_node n) ≡ Some x
+    kept n x small apart leaf = remove_other u.leaves (leaf_node page) (leaf_node n) (other_page n small apart) ∙ leaf
+
+    before_that : (n : ℕ) (s : Page) → pages.get (without_pages p first (page + 1)).settled n ≡ Some s
+        → (pages.get (without_pages p first page).settled n ≡ Some s) × (n ≡ page → ⊥)
+    before_that n s at =
+        let was = was_settled p first (page + 1) n s at in (
+          still_settled p first page n s was.0 (one_less n was.1),
+          λ same. elim was.1 as (λ _. ⊥) [
+            | inl before ↦ omega (arith, before, same, from)
+            | inr after ↦ omega (arith, after, same)
+          ],
+        )
+
+    number_more : (k : ℕ) → (k ≡ leaf_node page → ⊥) → IsLeafNumber (without_pages p first page) k → IsLeafNumber (without_pages p first (page + 1)) k
+    number_more k apart number = elim number as (λ _. IsLeafNumber (without_pages p first (page + 1)) k) [
+      | inl trampoline ↦ inl trampoline
+      | inr rest ↦ elim rest as (λ _. IsLeafNumber (without_pages p first (page + 1)) k) [
+        | inl frame ↦ inr (inl frame)
+        | inr there ↦
+            let was = was_settled p first page there.0 there.1 there.3 in
+            let out = one_more there.0 (λ same. apart (there.2 ∙ ap leaf_node same)) was.1 in
+            inr (inr (there.0, there.1, there.2, still_settled p first (page + 1) there.0 there.1 was.0 out))
+      ]
+    ]
+
+    shows_more : Shows v trapframe u (without_pages p first page) → Shows w trapframe (without_leaf u (leaf_node page)) (without_pages p first (page + 1))
+    shows_more s = record {
+      on_trampoline =
+          let t = s.on_trampoline in
+          (t.0, kept trampoline_page t.0 (omega arith) (λ same. omega (arith, same, low)) t.1, t.2);
+      on_trapframe =
+          let t = s.on_trapframe in
+          (t.0, kept trapframe_page t.0 (omega arith) (λ same. omega (arith, same, low)) t.1, t.2);
+      settled = λ n page_there at.
+          let was = before_that n page_there at in
+          let shown = s.settled n page_there was.0 in
+          let small = s.low n page_there was.0 in
+          let still = kept n shown.leaf (omega (arith, small)) was.1 shown.mapped in
+          record {
+            region = shown.region;
+            frame = shown.frame;
+            leaf = shown.leaf;
+            in_region = shown.in_region;
+            mapped = still;
+            made = shown.made;
+            bytes = same_bytes v w shown.frame page_there.bytes (d.others (leaf_node n) shown.leaf shown.frame still shown.made.names) shown.bytes;
+          };
+      only = λ k x leaf.
+          let was = left u (leaf_node page) k x leaf in
+          number_more k was.1 (s.only k x was.0);
+      low = λ n page_there at. s.low n page_there (before_that n page_there at).0;
+    }
+
+    agrees_more : (l : Layout) → Agrees v root trapframe l u (without_pages p first page)
+        → Agrees w root trapframe l (without_leaf u (leaf_node page)) (without_pages p first (page + 1))
+    agrees_more l a = record {
+      lays = record { parts = a.lays.parts; mappings = a.lays.mappings; heap_base = a.lays.heap_base; size = a.lays.size };
+      stands = record {
+        tables = d.tables;
+        owns = d.owns;
+        shows = shows_more a.stands.shows;
+        tabled = a.stands.tabled;
+        tabled_low = a.stands.tabled_low;
+      };
+      credits = d.credits ∙ a.credits;
+    }
+
+-- a page below TRAPFRAME's that has a leaf
+
+some_leaf : (o : Option ℕ) → IsSome o → (w : ℕ) × (o ≡ Some w)
+some_leaf None some = absurd (cc)
+some_leaf (Some w) some = (w, refl)
+
+may_drop : (v : View) (root trapframe : ℕ) (u : Image) (q : Process) → Stands v root trapframe None u q → (page : ℕ) → page < trapframe_page
+    → IsSome (get u.leaves (leaf_node page)) → CanDrop v root u page
+may_drop v root trapframe u q s page low some =
+    let leaf = some_leaf (get u.leaves (leaf_node page)) some in
+    let of_trampoline : leaf_node page ≡ leaf_node trampoline_page → ⊥ = λ same. omega (arith, low, one_page page trampoline_page (omega (arith, low)) (omega arith) same) in
+    let of_trapframe : leaf_node page ≡ leaf_node trapframe_page → ⊥ = λ same. omega (arith, low, one_page page trapframe_page (omega (arith, low)) (omega arith) same) in
+    let on : (f : ℕ) × IsOn u page f × (f < 2 ^ 16) =
+    elim (s.shows.only (leaf_node page) leaf.0 leaf.1) as (λ _. (f : ℕ) × IsOn u page f × (f < 2 ^ 16)) [
+      | inl same ↦ absurd (of_trampoline same)
+      | inr rest ↦ elim rest as (λ _. (f : ℕ) × IsOn u page f × (f < 2 ^ 16)) [
+        | inl same ↦ absurd (of_trapframe same)
+        | inr there ↦
+            let shown = s.shows.settled there.0 there.1 there.3 in
+            (shown.frame, (shown.leaf, ap (get u.leaves) there.2 ∙ shown.mapped, shown.made.names), shown.made.small)
+      ]
+    ] in
+    let anchor = s.shows.on_trampoline in
+    record {
+      tables = s.tables;
+      owns = s.owns;
+      anchor = (anchor.0, anchor.1, anchor.2.names);
+      apart = of_trampoline;
+      frame = on.0;
+      on = on.1;
+      small = on.2;
+    }
+
+drops_none : (t : Image) (first : ℕ) → Drops t t first first
+drops_none t first = record { tables = refl; gone = λ n from before. absurd (omega arith); others = λ k apart. refl }
+
+-- before the first page
+agrees_first : (v : View) (root trapframe : ℕ) (l : Layout) (t : Image) (p : Process) (first : ℕ)
+    → Agrees v root trapframe l t p → Agrees v root trapframe l t (without_pages p first first)
+agrees_first v root trapframe l t p first =
+    agrees_fewer v root trapframe l t p p.settled (without_pages p first first).settled
+    (λ n s at. (was_settled p first first n s at).0)
+    (λ k w n s leaf is at. still_settled p first first n s at (everywhere first n))
+
+-- pages of a run were dropped
+abbrev pub HasDropped : View → ℕ → ℕ → Layout → Image → Process → ℕ → ℕ → Type 0
+HasDropped v root trapframe l t p first end = (u : Image) × Agrees v root trapframe l u (without_pages p first end) × Drops t u first end
+
+module _ (v : View) (root trapframe : ℕ) (l : Layout) (t : Image) (p : Process) where
+  pub dropped_none : (first : ℕ) → Agrees v root trapframe l t p → HasDropped v root trapframe l t p first first
+  dropped_none first a = (t, agrees_first v root trapframe l t p first a, drops_none t first)
+
+  module _ (first from end : ℕ) (so_far : HasDropped v root trapframe l t p first from) where
+    pub dropped_all : from ≤ max first end → IsFirstMapped so_far.0 from end None → HasDropped v root trapframe l t p first end
+    dropped_all within none =
+        (so_far.0, agrees_longer first from end within so_far.0 none v root trapframe l p so_far.1, drops_longer first from end within so_far.0 none t so_far.2)
+
+    module _ (page : ℕ) (found : IsFirstMapped so_far.0 from end (Some page)) (low : end ≤ trapframe_page) where
+      pub next_may_drop : CanDrop v root so_far.0 page
+      next_may_drop = may_drop v root trapframe so_far.0 (without_pages p first from) so_far.1.stands page (omega (arith, low, found.1)) found.2
+
+      pub dropped_next : first ≤ from → (w : View) → DropsLeaf v w root so_far.0 page → HasDropped w root trapframe l t p first (page + 1)
+      dropped_next after w d =
+          let near = found.0 in
+          let before = found.1 in
+          let within : from ≤ max first page = omega (arith, near) in
+          let till = agrees_longer first from page within so_far.0 found.3 v root trapframe l p so_far.1 in
+          let less = drops_longer first from page within so_far.0 found.3 t so_far.2 in
+          let behind : first ≤ page = omega (arith, after, near) in
+          let inside : page < trapframe_page = omega (arith, before, low) in
+          (without_leaf so_far.0 (leaf_node page), agrees_more first page behind inside v w root trapframe so_far.0 p d l till, drops_more first page behind inside t so_far.0 less)
