@@ -65,7 +65,7 @@ module _ (v w : View) (f : ℕ) (c : Comes v w f) where
   not_held_before g held same = let none : references v g ≡ 0 = ap (references v) same ∙ c.fresh in omega (arith, none, held)
 
   pub come_tables : (root : ℕ) (t : Image) → HasTables v root t → HasTables w root t
-  come_tables root t h = same_tables v w root t (λ g held. c.others g (not_held_before g held)) h
+  come_tables root t h = same_tables v w root t (λ k g at. c.others g (not_held_before g (h.own k g at).0)) h
 
   pub come_held : (g : ℕ) → IsHeld v g → IsHeld w g
   come_held g held = subst (λ (h : Hold). 0 < h.references) (sym (c.others g (not_held_before g held))) held

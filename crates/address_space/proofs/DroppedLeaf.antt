@@ -4,14 +4,14 @@ use Rattle.std.specs.Prelude.{nat_le, nat_lt, []}
 use Rattle.std.proofs.lemmas.Bool.{cases_eq}
 use Rattle.std.specs.FinMap.{get}
 use Rattle.frame_store.specs.Laws.{IsAnchored}
-use Rattle.frame_store.specs.View.{Hold, View, hold_of, IsHeld, references, released}
+use Rattle.frame_store.specs.View.{View, hold_of, IsHeld, references, released}
 use Rattle.sv39_entry.specs.Address.{trampoline_page}
 use Rattle.sv39_entry.specs.Frame.{frame_at, ppn_of}
 use Rattle.sv39_entry.specs.Word.{ppn}
 use Rattle.sv39_entry.specs.declared.frame.FrameNo.{FrameNo}
 use Rattle.table_walk.specs.Image.{ChangesTables, HasTables, Image, leaf_node, without_leaf}
 use Rattle.table_walk.specs.Keys.{remove_same, remove_other}
-use Rattle.table_walk.specs.Same.{same_held}
+use Rattle.table_walk.specs.Same.{same_tables}
 use Rattle.address_space.specs.Agreement.{Names, Owns}
 use Rattle.address_space.specs.Ending.{CanDrop, DropsLeaf}
 use Rattle.address_space.specs.Steps.{Takes}
@@ -28,22 +28,6 @@ frame_named w p o fr number at is =
     let same : p - 0x80000 ≡ fr.0 = ap (λ (x : FrameNo). x.0) found.1 in
     let low : 0x80000 ≤ p = grind (arith, found.0) in
     omega (arith, number, same, low)
-
--- tables of which no frame changed
-tables_stay : (v w : View) (root : ℕ) (t : Image) → ((k f : ℕ) → get t.tables k ≡ Some f → hold_of w f ≡ hold_of v f) → HasTables v root t → HasTables w root t
-tables_stay v w root t same has = record {
-  image = record {
-    rooted = has.image.rooted;
-    words = λ k f i at low. ap (λ (h : Hold). get h.words i) (same k f at) ∙ has.image.words k f i at low;
-    apart = has.image.apart;
-    below = has.image.below;
-    hung = has.image.hung;
-    leaf_hung = has.image.leaf_hung;
-  };
-  own = λ k f at.
-      let own = has.own k f at in
-      (same_held v w f (same k f at) own.0, ap (λ (h : Hold). h.sole) (same k f at) ∙ own.1);
-}
 
 -- what is left is what was there, but for the leaf that went
 pub left : (t : Image) (n m y : ℕ) → get (without_leaf t n).leaves m ≡ Some y → (get t.leaves m ≡ Some y) × (m ≡ n → ⊥)
@@ -120,7 +104,7 @@ module _ (v : View) (root : ℕ) (t : Image) (n x f : ℕ) (h : HasTables v root
       frame_goes = spare_goes w (without_leaf t n) after f (ap (λ u. references u f) is ∙ released_here f w once_held) away leaf_goes
 
       tables_left : HasTables w root (without_leaf t n) → HasTables after root (without_leaf t n)
-      tables_left has = tables_stay w after root (without_leaf t n) (λ k g at. away g (λ same. no_name k (inl (at ∙ ap Some same)))) has
+      tables_left has = same_tables w after root (without_leaf t n) (λ k g at. away g (λ same. no_name k (inl (at ∙ ap Some same)))) has
 
       others_left : (m y g : ℕ) → get (without_leaf t n).leaves m ≡ Some y → ppn y ≡ ppn_of g → hold_of after g ≡ hold_of v g
       others_left m y g at is_g =

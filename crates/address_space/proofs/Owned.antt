@@ -1,19 +1,18 @@
 -- Frames that an image names, and a spare one.
-use Rattle.std.proofs.Common.{◌≡◌, ℕ, ◌+◌, ◌<◌, ◌≤◌, ◌^◌, Option, None, Some, IsTrue, true, refl, ap, sym, subst, ◌∙◌, inl, inr, arith, cond, ◌==◌, ◌-◌}
+use Rattle.std.proofs.Common.{◌≡◌, ℕ, ◌+◌, ◌<◌, ◌^◌, Option, None, Some, refl, ap, sym, subst, ◌∙◌, inl, inr, arith, cond, ◌-◌}
 use Rattle.std.proofs.lemmas.Bool.{cases_eq, eq-eqb}
 use Rattle.std.proofs.lemmas.Option.{same_Some}
 use Rattle.std.specs.FinMap.{get}
 use Rattle.frame_bytes.specs.Contents.{HasBytes}
 use Rattle.frame_store.specs.Holds.{hold_of-with_hold_same, hold_of-with_hold_other, hold_of-without_hold_same, hold_of-without_hold_other, hold_of-frames}
 use Rattle.frame_store.specs.View.{Hold, View, claimed, hold_of, IsHeld, IsSole, references, released, sole_hold, with_hold, without_hold}
-use Rattle.process_model.specs.PageMap as pages
-use Rattle.process_model.specs.Process.{Page, Process}
+use Rattle.process_model.specs.Process.{Process}
 use Rattle.sv39_entry.specs.Frame.{ppn_of}
 use Rattle.sv39_entry.specs.Word.{ppn}
-use Rattle.table_walk.specs.Image.{HasTables, Image, first_leaf, leaf_node}
+use Rattle.table_walk.specs.Image.{HasTables, Image, leaf_node}
 use Rattle.table_walk.specs.Nodes.{leaf_node_is}
 use Rattle.table_walk.specs.Same.{same_tables}
-use Rattle.address_space.specs.Agreement.{Agrees, IsShown, Names, Owns, Shows, Stands}
+use Rattle.address_space.specs.Agreement.{Names, Owns, Shows, Stands}
 
 -- numbers
 
@@ -147,7 +146,7 @@ same_shows v w trapframe t p same s = record {
 pub same_stands : (v w : View) (root trapframe : ℕ) (spare : Option ℕ) (t : Image) (p : Process) → ((f : ℕ) → hold_of w f ≡ hold_of v f)
     → Stands v root trapframe spare t p → Stands w root trapframe spare t p
 same_stands v w root trapframe spare t p same s = record {
-  tables = same_tables v w root t (λ f held. same f) s.tables;
+  tables = same_tables v w root t (λ k f at. same f) s.tables;
   owns = same_owns v t w spare (λ f. same_references v w f (same f)) (λ f. same_sole v w f (same f)) s.owns;
   shows = same_shows v w trapframe t p (λ n x f leaf names. same f) s.shows;
   tabled = s.tabled;

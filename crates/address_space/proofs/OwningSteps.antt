@@ -1,6 +1,6 @@
 -- The steps by which a page leaves a frame: another one is claimed and gets its bytes, the leaf is turned to it, and the first is
 -- released.
-use Rattle.std.proofs.Common.{◌≡◌, ℕ, None, Some, Bool, false, refl, ap, sym, subst, ◌∙◌, inl, inr, arith, List}
+use Rattle.std.proofs.Common.{◌≡◌, ℕ, None, Some, Bool, false, refl, ap, sym, subst, ◌∙◌, inl, inr, List}
 use Rattle.std.proofs.lemmas.Option.{same_Some}
 use Rattle.std.specs.FinMap.{get}
 use Rattle.frame_bytes.specs.Contents.{ChangesWords, HasBytes}
@@ -20,7 +20,7 @@ use Rattle.address_space.specs.Parting.{CanPart, Parts}
 use Rattle.address_space.specs.Steps.{Spends}
 use Rattle.address_space.proofs.Owned.{anchored, apart_by, claimed_here, claimed_other, one_frame, released_here, released_once, released_other, same_bytes, same_owns, same_references, same_shows, same_sole, spare_comes, spare_goes}
 use Rattle.address_space.proofs.Owning.{owns_other, turned_sole, turned_stands, turned_words}
-use Rattle.address_space.proofs.Writing.{HasPage, page_here, tables_hold, words_other, words_references, words_sole}
+use Rattle.address_space.proofs.Writing.{HasPage, page_here, words_other, words_references, words_sole}
 
 -- what is spent
 
@@ -51,7 +51,7 @@ pub claimed_stands : (v : View) (root trapframe : ℕ) (t : Image) (p : Process)
     → Stands v root trapframe None t p → Stands (claimed g v) root trapframe (Some g) t p
 claimed_stands v root trapframe t p g none s = record {
   tables = same_tables v (claimed g v) root t
-      (λ x held. claimed_other g x v (λ same. let no : references v x ≡ 0 = ap (references v) same ∙ none in omega (arith, no, held))) s.tables;
+      (λ k x at. claimed_other g x v (apart_by v g x none (s.owns.named x k (inl at)))) s.tables;
   owns = spare_comes v t (claimed g v) g none (ap (λ (h : Hold). h.references) (claimed_here g v)) (λ x ne. claimed_other g x v ne) s.owns;
   shows = same_shows v (claimed g v) trapframe t p
       (λ n x f leaf names. claimed_other g f v (apart_by v g f none (s.owns.named f n (inr (x, leaf, names))))) s.shows;
@@ -65,7 +65,7 @@ pub filled_stands : (v w : View) (root trapframe : ℕ) (t : Image) (p : Process
 filled_stands v w root trapframe t p g changes s =
     let bare = (s.owns.ready g refl).1 in
     record {
-      tables = tables_hold v w root t (λ k x table. words_other g v w changes x (λ same. bare k (inl (table ∙ ap Some same)))) s.tables;
+      tables = same_tables v w root t (λ k x table. words_other g v w changes x (λ same. bare k (inl (table ∙ ap Some same)))) s.tables;
       owns = same_owns v t w (Some g) (words_references g v w changes) (words_sole g v w changes) s.owns;
       shows = same_shows v w trapframe t p
           (λ n x f leaf names. words_other g v w changes f (λ same. bare n (inr (x, leaf, names ∙ ap ppn_of same)))) s.shows;
@@ -79,7 +79,7 @@ released_stands v root trapframe t p f s =
     let one = (s.owns.ready f refl).0 in
     let bare = (s.owns.ready f refl).1 in
     record {
-      tables = tables_hold v (released f v) root t
+      tables = same_tables v (released f v) root t
           (λ k x table. released_other f x v one (λ same. bare k (inl (table ∙ ap Some same)))) s.tables;
       owns = spare_goes v t (released f v) f (released_here f v one) (λ g ne. released_other f g v one ne) s.owns;
       shows = same_shows v (released f v) trapframe t p

@@ -22,6 +22,7 @@ use Rattle.sv39_entry.specs.Word.{ppn}
 use Rattle.sv39_entry.specs.declared.frame.FrameNo.{FrameNo}
 use Rattle.table_walk.specs.Counted.{AreTablesOf}
 use Rattle.table_walk.specs.Image.{HasTables, Image, leaf_node}
+use Rattle.table_walk.specs.Same.{same_tables}
 use Rattle.address_space.specs.Agreement.{Agrees, IsPageLeaf, IsLeafNumber, IsOn, IsShown, Names, OthersKeep, Owns, Shows, Stands}
 use Rattle.address_space.specs.Layouts.{Layout, LaysOut}
 use Rattle.address_space.specs.Steps.{CanRead, CanWrite}
@@ -47,22 +48,6 @@ module _ (f : ℕ) (v w : View) (changes : ChangesWords f v w) where
     | inl same ↦ ap (λ k. (hold_of w k).sole) same ∙ ap (λ (h : Hold). h.sole) words_here ∙ ap (λ k. (hold_of v k).sole) (sym same) ∙ sole
     | inr apart ↦ ap (λ (h : Hold). h.sole) (words_other g apart) ∙ sole
   ]
-
--- tables of which no frame changed
-pub tables_hold : (v w : View) (root : ℕ) (t : Image) → ((k f : ℕ) → get t.tables k ≡ Some f → hold_of w f ≡ hold_of v f) → HasTables v root t → HasTables w root t
-tables_hold v w root t same has = record {
-  image = record {
-    rooted = has.image.rooted;
-    words = λ k f i at low. ap (λ (h : Hold). get h.words i) (same k f at) ∙ has.image.words k f i at low;
-    apart = has.image.apart;
-    below = has.image.below;
-    hung = has.image.hung;
-    leaf_hung = has.image.leaf_hung;
-  };
-  own = λ k f at.
-      let own = has.own k f at in
-      (subst (λ (h : Hold). 0 < h.references) (sym (same k f at)) own.0, ap (λ (h : Hold). h.sole) (same k f at) ∙ own.1);
-}
 
 -- the frame of a settled page
 
@@ -220,7 +205,7 @@ page_written v w root trapframe l t p page s f bytes can here changes has =
       lays = lays_with l p page _ can.agrees.lays;
       stands = page_stands v w trapframe t t p page (record s { bytes = bytes }) here.leaf f here.region here.low (λ k ne. refl) here.mapped here.made here.in_region has
           (λ k x g ne at names. words_other f v w changes g (apart k x g ne at names)) root None None stands
-          (tables_hold v w root t (λ k g at. words_other f v w changes g (λ same. no k (at ∙ ap Some same))) stands.tables)
+          (same_tables v w root t (λ k g at. words_other f v w changes g (λ same. no k (at ∙ ap Some same))) stands.tables)
           (same_owns v t w None (words_references f v w changes) (words_sole f v w changes) stands.owns)
           stands.tabled;
       credits = ap (λ (x : View). x.credits) changes.1 ∙ can.agrees.credits;

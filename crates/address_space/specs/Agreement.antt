@@ -1,5 +1,5 @@
 -- A space and a process of the model: the tables and frames of the one are the regions and pages of the other.
-use Rattle.std.specs.Prelude.{◌≡◌, ◌⊎◌, ℕ, Bool, true, false, not, ◌&&◌, ◌||◌, ◌^◌, ◌<◌, Option, None, Some, List, All}
+use Rattle.std.specs.Prelude.{◌≡◌, ◌⊎◌, ℕ, Bool, true, false, not, ◌&&◌, ◌||◌, ◌^◌, ◌<◌, Option, None, Some, All}
 use Rattle.std.specs.FinMap.{get}
 use Rattle.frame_bytes.specs.Contents.{HasBytes}
 use Rattle.frame_store.specs.View.{View, IsSole, references}

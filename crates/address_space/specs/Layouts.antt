@@ -11,13 +11,13 @@ use Rattle.address_space.specs.declared.region.RegionKind.TheVariants as kind
 use Rattle.address_space.specs.declared.region.Source.{Source as From}
 use Rattle.address_space.specs.declared.region.Source.TheVariants as from
 
-abbrev pub kind_of : Kind → RegionKind
-kind_of kind.Segment = segment
-kind_of kind.Guard = guard
-kind_of kind.Stack = stack
-kind_of kind.Heap = heap
-kind_of kind.SharedMapping = shared_mapping
-kind_of kind.PrivateMapping = private_mapping
+abbrev pub region_kind : Kind → RegionKind
+region_kind kind.Segment = segment
+region_kind kind.Guard = guard
+region_kind kind.Stack = stack
+region_kind kind.Heap = heap
+region_kind kind.SharedMapping = shared_mapping
+region_kind kind.PrivateMapping = private_mapping
 
 abbrev pub source_of : From → Source
 source_of from.Zeros = zeros
@@ -32,7 +32,7 @@ region_of r = record {
   reads = reads r.rights.0;
   writes = writes r.rights.0;
   executes = executes r.rights.0;
-  kind = kind_of r.kind;
+  kind = region_kind r.kind;
   source = source_of r.source;
 }
 

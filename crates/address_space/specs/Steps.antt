@@ -1,7 +1,6 @@
 -- What the calls of a space ask for, and what they do.
-use Rattle.std.specs.Prelude.{◌≡◌, ◌≢◌, ℕ, Bool, true, false, not, ◌==◌, ◌+◌, ◌-◌, ◌<◌, ◌≤◌, Option, None, Some, List, []}
+use Rattle.std.specs.Prelude.{◌≡◌, ◌≢◌, ℕ, true, false, not, ◌==◌, ◌+◌, ◌-◌, ◌<◌, None, Some, List, []}
 use Rattle.std.specs.Prelude.{◌∷◌, ◌++◌}
-use Rattle.std.specs.FinMap.{get}
 use Rattle.frame_store.specs.View.{View, IsSole, references}
 use Rattle.process_model.specs.Bytes.{padded}
 use Rattle.process_model.specs.Frames.{part_need, settle_need}

@@ -28,7 +28,7 @@ loop-index-init c =
     record {
       rule = left.keeps [] (root.keeps [] (c.reserve-reserved.ensures.keeps [] c.in_ok-frames.ensures.rule));
       anchored = same_held _ _ 0 (left.kept 0 root.anchored) root.anchored;
-      tables = (_, same_tables _ _ _ _ left.kept root.root, omega (arith, opened, had, spent, left.credits));
+      tables = (_, same_tables _ _ _ _ (λ k f at. left.kept f (root.root.own k f at).0) root.root, omega (arith, opened, had, spent, left.credits));
     }
 
 pub map-requires-clause-tables : goal.map-requires-clause-tables

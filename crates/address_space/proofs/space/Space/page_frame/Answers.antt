@@ -1,4 +1,3 @@
-use Rattle.std.proofs.Common.{◌≡◌}
 use Rattle.address_space.proofs.Writing.{page_found, page_here, page_on}
 use Rattle.address_space.proofs.space.Space.page_frame.Goals as goal
 
