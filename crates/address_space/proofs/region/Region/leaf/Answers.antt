@@ -1,7 +1,7 @@
 use Rattle.std.proofs.Common.{◌≡◌, Bool, true, false, ◌&&◌, ℕ, ◌^◌, ◌<◌, refl, ap, sym, ◌∙◌, rules}
 use Rattle.std.specs.Prelude.{not}
 use Rattle.address_space.specs.Agreement.{IsPageLeaf}
-use Rattle.address_space.specs.Layouts.{kind_of, region_of}
+use Rattle.address_space.specs.Layouts.{region_kind, region_of}
 use Rattle.address_space.specs.declared.region.Region.{Region as Run}
 use Rattle.process_model.specs.Regions.{is_guard_kind}
 use Rattle.sv39_entry.specs.Flags.{has_flag_is}
@@ -16,7 +16,7 @@ cleared true mark cow is = ap not is
 cleared false mark cow is = refl
 
 -- the leaf of a page that the user may have
-ordinary : (w f : ℕ) (r : Run) (mark cow : Bool) → f < 2 ^ 16 → is_guard_kind (kind_of r.kind) ≡ false → cow ≡ (writes r.rights.0 && mark)
+ordinary : (w f : ℕ) (r : Run) (mark cow : Bool) → f < 2 ^ 16 → is_guard_kind (region_kind r.kind) ≡ false → cow ≡ (writes r.rights.0 && mark)
     → IsLeafOf w f r.rights.0 true cow → IsPageLeaf w f (region_of r) mark
 ordinary w f r mark cow small plain is made = record {
   names = made.names;
@@ -41,7 +41,7 @@ unmarked false mark is = refl
 
 pub returns-clause-leaf : goal.returns-clause-leaf
 returns-clause-leaf c =
-    let plain : is_guard_kind (kind_of c.args.self.now.kind) ≡ false = search rules in
+    let plain : is_guard_kind (region_kind c.args.self.now.kind) ≡ false = search rules in
     let is : c.if-mark.cow ≡ (writes c.args.self.now.rights.0 && c.args.mark) = elim c.if-mark.branch [
       | then-mark w ↦ w.cow-is ∙ w.contains-cow.ensures tt ∙ has_flag_is c.args.self.now.rights.0 1 ∙ marked (writes c.args.self.now.rights.0) c.args.mark w.if-mark.true
       | else-mark w ↦ w.cow-is ∙ w.if-mark.false ∙ unmarked (writes c.args.self.now.rights.0) c.args.mark w.if-mark.false
