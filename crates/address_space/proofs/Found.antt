@@ -1,17 +1,17 @@
 -- The region of a page in lists that are put together.
-use Rattle.std.proofs.Common.{◌≡◌, ℕ, zero, suc, ◌+◌, ◌<◌, ◌≤◌, length, get_or, take, arith, ◌%◌, min, true, false, List, [], ◌∷◌, ◌++◌, map, drop, refl, ap, sym, ◌∙◌, inl, inr, Option, Some, None}
+use Rattle.std.proofs.Common.{◌≡◌, ℕ, zero, suc, ◌<◌, ◌≤◌, length, get_or, arith, ◌%◌, min, true, false, List, [], ◌∷◌, ◌++◌, map, drop, refl, ap, sym, ◌∙◌, inl, inr, Option, Some, None}
 use Rattle.std.proofs.lemmas.Bool.{cases_Bool, cases_eq}
 use Rattle.std.specs.Int.{div_ceil}
 use Rattle.process_model.specs.Bytes.{pages_for}
-use Rattle.address_space.specs.Layouts.{last_page, region_of}
+use Rattle.address_space.specs.Layouts.{region_of}
 use Rattle.address_space.specs.declared.region.Region.{Region as Run}
 use Rattle.process_model.specs.Process.{Process, heap_of, regions}
-use Rattle.process_model.specs.Regions.{Region, end_of, holds_page, region_at}
+use Rattle.process_model.specs.Regions.{Region, holds_page, region_at}
 
-first_found : (r : Region) (rs : List Region) (page : ℕ) → holds_page r page ≡ true → region_at (r ∷ rs) page ≡ Some r
+pub first_found : (r : Region) (rs : List Region) (page : ℕ) → holds_page r page ≡ true → region_at (r ∷ rs) page ≡ Some r
 first_found r rs page held = rw held refl
 
-first_passed : (r : Region) (rs : List Region) (page : ℕ) → holds_page r page ≡ false → region_at (r ∷ rs) page ≡ region_at rs page
+pub first_passed : (r : Region) (rs : List Region) (page : ℕ) → holds_page r page ≡ false → region_at (r ∷ rs) page ≡ region_at rs page
 first_passed r rs page other = rw other refl
 
 pub in_front : (rs ss : List Region) (page : ℕ) (r : Region) → region_at rs page ≡ Some r → region_at (rs ++ ss) page ≡ Some r
@@ -68,25 +68,3 @@ none_left [] zero page past = refl
 none_left [] (suc i) page past = refl
 none_left (r ∷ rs) zero page past = absurd (omega arith)
 none_left (r ∷ rs) (suc i) page past = none_left rs i page (omega arith)
-
--- ---- parts one after another
-
-pub take_next : (rs : List Run) (i : ℕ) (d : Run) → i < length rs → take (suc i) rs ≡ take i rs ++ get_or rs i d ∷ []
-take_next [] i d less = absurd (omega arith)
-take_next (r ∷ rs) zero d less = refl
-take_next (r ∷ rs) (suc i) d less = ap (λ xs. r ∷ xs) (take_next rs i d (omega arith))
-
-pub last_of : (end : ℕ) (rs : List Run) (r : Run) → last_page end (map region_of (rs ++ r ∷ [])) ≡ end_of (region_of r)
-last_of end [] r = refl
-last_of end (x ∷ rs) r = last_of (end_of (region_of x)) rs r
-
--- a list with one more part
-pub part_more : (rs xs ys : List Run) (i : ℕ) (d : Run) → i < length rs → xs ≡ take i rs → ys ≡ xs ++ get_or rs i d ∷ [] → ys ≡ take (i + 1) rs
-part_more rs xs ys i d less is more =
-    let next : i + 1 ≡ suc i = omega arith in
-    more ∙ ap (λ zs. zs ++ get_or rs i d ∷ []) is ∙ sym (take_next rs i d less) ∙ ap (λ n. take n rs) (sym next)
-
-pub last_more : (rs : List Run) (i : ℕ) (d : Run) → i < length rs → end_of (region_of (get_or rs i d)) ≡ last_page 0 (map region_of (take (i + 1) rs))
-last_more rs i d less =
-    let next : i + 1 ≡ suc i = omega arith in
-    sym (ap (λ zs. last_page 0 (map region_of zs)) (ap (λ n. take n rs) next ∙ take_next rs i d less) ∙ last_of 0 (take i rs) (get_or rs i d))

@@ -1,5 +1,5 @@
 -- A space and a process of the model: the tables and frames of the one are the regions and pages of the other.
-use Rattle.std.specs.Prelude.{◌≡◌, ◌⊎◌, ℕ, Bool, true, false, not, ◌&&◌, ◌||◌, ◌^◌, ◌<◌, Option, None, Some, All}
+use Rattle.std.specs.Prelude.{◌≡◌, ◌≢◌, ◌⊎◌, ℕ, Bool, true, false, not, ◌&&◌, ◌||◌, ◌^◌, ◌<◌, Option, None, Some, All}
 use Rattle.std.specs.FinMap.{get}
 use Rattle.frame_bytes.specs.Contents.{HasBytes}
 use Rattle.frame_store.specs.View.{View, IsSole, references}
@@ -27,6 +27,12 @@ pub record Owns (v : View) (t : Image) (spare : Option ℕ) : Type 0 where
   pub ready : (f : ℕ) → spare ≡ Some f → (references v f ≡ 1) × ((k : ℕ) → Names t f k → ⊥)
   pub bare : (f : ℕ) → ((k : ℕ) → Names t f k → ⊥) → (spare ≡ Some f → ⊥) → references v f ≡ 0
   pub writable : (f n w : ℕ) → get t.leaves n ≡ Some w → ppn w ≡ ppn_of f → has w 2 ≡ true → IsSole v f
+
+-- before a space or the kernel's table is built: the seat holds frame 0 once, for TRAMPOLINE, and nothing else
+pub record HoldsTrampoline (v : View) : Type 0 where
+  pub once : references v 0 ≡ 1
+  pub others : (f : ℕ) → f ≢ 0 → references v f ≡ 0
+  pub credits : v.credits ≡ 0
 
 -- leaves
 

@@ -5,7 +5,9 @@ ghost use Rattle.sv39_entry.specs.Address.{trapframe_page};
 ghost use Rattle.process_model.specs.Process.{heap_of, Process, regions};
 ghost use Rattle.process_model.specs.Regions as model;
 ghost use Rattle.address_space.specs.Layouts.{granted_unless, last_page, LaysOut, region_of};
+ghost use Rattle.address_space.specs.Parts.{regions_in};
 
+use crate::part::Part;
 use crate::region::{Region, RegionKind, Source};
 use arrayvec::ArrayVec;
 use bitflags::Flags;
@@ -35,19 +37,19 @@ impl Model for Layout {
 impl Layout {
     /// The regions of a process that begins: its parts, in ascending order, with an empty heap at the end of the last of
     /// them.
-    pub fn new(parts: &[Region]) -> Layout
+    pub fn new(parts: &[Part]) -> Layout
         requires few { length parts.now ≤ 18 }
-        requires low { All (λ r. r.first + r.pages ≤ trapframe_page) parts.now }
-        ensures parts { result.parts ≡ map region_of parts.now }
+        requires low { All (λ p. p.region.first + p.region.pages ≤ trapframe_page) parts.now }
+        ensures parts { result.parts ≡ regions_in parts.now }
         ensures mappings { result.mappings ≡ [] }
-        ensures heap_base { result.heap_base ≡ 4096 * last_page 0 (map region_of parts.now) }
+        ensures heap_base { result.heap_base ≡ 4096 * last_page 0 (regions_in parts.now) }
         ensures size { result.size ≡ result.heap_base }
     {
         let mut list = ArrayVec::new();
         let mut end = 0;
         'parts: for part in parts {
-            list.push(*part);
-            end = part.first + part.pages;
+            list.push(part.region);
+            end = part.region.first + part.region.pages;
         }
         Layout {
             parts: list,

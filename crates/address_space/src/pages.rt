@@ -6,7 +6,7 @@ ghost use Rattle.address_space.specs.Agreement.{Agrees, IsPageLeaf, IsOn, makes_
 ghost use Rattle.address_space.specs.Layouts.{region_of};
 ghost use Rattle.address_space.specs.Steps.{Adds, CanAdd, CanSettle, RunsDry, Settles};
 ghost use Rattle.frame_store.specs.Laws.{Fits, Keeps};
-ghost use Rattle.frame_store.specs.View.{IsHeld};
+ghost use Rattle.frame_store.specs.View.{IsHeld, IsSole};
 ghost use Rattle.process_model.specs.Frames.{settle_need};
 ghost use Rattle.process_model.specs.Process.{Process};
 ghost use Rattle.process_model.specs.Regions as model;
@@ -56,6 +56,7 @@ pub(crate) fn add_page<F: FrameSupply>(
     requires inside { length bytes.now ≤ 4096 }
     ensures added { (trapframe : ℕ) (t : Image) (p : Process) → CanAdd (F.Seat.view seat.old) root.0 trapframe t p page (region_of region.now) →
         (u : Image) × (f : ℕ) × Adds (F.Seat.view seat.old) (F.Seat.view seat.new) root.0 trapframe t u p page bytes.now f }
+    ensures soles { (f : ℕ) → IsSole (F.Seat.view seat.old) f → IsSole (F.Seat.view seat.new) f }
     ensures keeps { Keeps F.rule store.old seat.old store.new seat.new }
     ensures free { F.alone → F.free store.new ≡ F.free store.old }
 {

@@ -2,7 +2,7 @@
 
 ghost use Rattle.std.specs.Prelude.{◌≡◌};
 
-use crate::{Layout, Region, RegionKind, Source};
+use crate::{Layout, Part, Region, RegionKind, Source};
 use bitflags::Flags;
 use std::test::Fail;
 use sv39_entry::{Access, Rights, Rule, Va};
@@ -10,17 +10,18 @@ use sv39_entry::{Access, Rights, Rule, Va};
 /// An access to an address by so many bytes, and the rule that denies it.
 type Row = (Access, u64, u64, Option<Rule>);
 
-fn part(first: u64, pages: u64, rights: Rights, kind: RegionKind) -> Region
-    ensures first { result.first ≡ first }
-    ensures pages { result.pages ≡ pages }
+fn part<'a>(first: u64, pages: u64, rights: Rights, kind: RegionKind) -> Part<'a>
+    ensures first { result.region.first ≡ first }
+    ensures pages { result.region.pages ≡ pages }
 {
-    Region {
+    let region = Region {
         first,
         pages,
         rights,
         kind,
         source: Source::Image,
-    }
+    };
+    Part { region, bytes: &[] }
 }
 
 #[test]

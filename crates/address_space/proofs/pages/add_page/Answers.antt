@@ -4,6 +4,7 @@ use Rattle.process_model.specs.PageMap as pages
 use Rattle.table_walk.specs.Image.{leaf_node, with_leaf}
 use Rattle.address_space.proofs.AddingFrames.{Comes, claimed_comes, come_held, come_tables, filled_comes}
 use Rattle.address_space.proofs.AddingPages.{adds}
+use Rattle.address_space.proofs.BuildSoles.{soles_stay}
 use Rattle.address_space.proofs.Owned.{anchored}
 use Rattle.address_space.proofs.pages.add_page.Given as given
 use Rattle.address_space.proofs.pages.add_page.Goals as goal
@@ -48,3 +49,10 @@ returns-clause-added g c trapframe t p can =
 
 pub returns-clause-keeps : goal.returns-clause-keeps
 returns-clause-keeps g c = λ others r. c.map.ensures.keeps others (c.fill_frame.ensures.keeps others (c.claim-frame.ensures.keeps others r))
+
+pub returns-clause-soles : goal.returns-clause-soles
+returns-clause-soles g c =
+    let come = comes g (goal.at.returns-clause-soles g c).After-fill_frame in
+    let ready = c.requires.ready in
+    let x = c.map.ensures.image ready.1 (come_tables _ _ _ come c.args.root.0 ready.1 ready.3.stands.tables) in
+    soles_stay _ _ _ _ c.args.root.0 _ _ _ ready.1 x.0 come x.2 x.3

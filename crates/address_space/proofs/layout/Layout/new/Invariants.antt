@@ -1,12 +1,14 @@
-use Rattle.std.proofs.Common.{◌≡◌, ◌≤◌, map, take}
+use Rattle.std.proofs.Common.{◌≡◌, ◌≤◌, length, map, take}
 use Rattle.sv39_entry.specs.Address.{trapframe_page}
 use Rattle.address_space.specs.Layouts.{last_page, region_of}
+use Rattle.address_space.specs.Parts.{regions_in}
 use Rattle.address_space.proofs.layout.Layout.new.Given as goal
 
--- so many parts are in the list
+-- so many regions are in the list
 abbrev pub invariant-parts : goal.invariant-parts
 invariant-parts l = record {
-  list : l.list.items ≡ take l.part-index l.fn.parts;
-  last : l.end ≡ last_page 0 (map region_of (take l.part-index l.fn.parts));
+  list : map region_of l.list.items ≡ regions_in (take l.part-index l.fn.parts);
+  count : length l.list.items ≡ l.part-index;
+  last : l.end ≡ last_page 0 (regions_in (take l.part-index l.fn.parts));
   low : l.end ≤ trapframe_page;
 }

@@ -1,0 +1,20 @@
+-- Frames that no other seat has, while a page is added.
+use Rattle.std.proofs.Common.{ℕ, inl, inr}
+use Rattle.std.proofs.lemmas.Bool.{cases_Bool, cases_eq}
+use Rattle.frame_store.specs.View.{View, hold_of, IsSole}
+use Rattle.table_walk.specs.Image.{ChangesTables, HasTables, Image, with_leaf}
+use Rattle.address_space.proofs.AddingFrames.{Comes}
+use Rattle.address_space.proofs.Owned.{same_sole}
+
+-- a frame of which the seat is the sole holder is no new table, and it is not shared by a change of tables
+pub soles_stay : (v r w : View) (f root n k x : ℕ) (t u : Image) → Comes v r f → HasTables w root (with_leaf u k x) → ChangesTables r w t u n
+    → (g : ℕ) → IsSole v g → IsSole w g
+soles_stay v r w f root n k x t u come tables changes g sole =
+    let ready : IsSole r g = elim (cases_eq g f) [
+      | inl same ↦ rw same come.sole
+      | inr apart ↦ same_sole v r g (come.others g apart) sole
+    ] in
+    elim (cases_Bool (hold_of w g).sole) [
+      | inl is ↦ is
+      | inr none ↦ same_sole r w g (changes.apart g (λ j table. let own : IsSole w g = (tables.own j g table).1 in let both = rw none at own in cc)) ready
+    ]

@@ -1,0 +1,199 @@
+-- The first tables of a space, with the two pages of the kernel.
+use Rattle.std.proofs.Common.{◌≡◌, ℕ, false, ◌-◌, ◌≤◌, ◌⊎◌, Some, None, inl, inr, refl, ap, sym, ◌∙◌, arith, [], ◌∷◌}
+use Rattle.std.proofs.lemmas.Bool.{cases_eq}
+use Rattle.std.proofs.lemmas.Option.{same_Some}
+use Rattle.std.specs.FinMap.{empty, get, get-empty}
+use Rattle.std.specs.Ordering.{nat_cmp}
+use Rattle.std.specs.Prelude.{Contains}
+use Rattle.frame_store.specs.Holds.{hold_of-with_hold_other, hold_of-with_hold_same}
+use Rattle.frame_store.specs.View.{Hold, View, claimed, hold_of, references, with_hold}
+use Rattle.process_model.specs.Frames.{tables_needed}
+use Rattle.process_model.specs.PageMap as pages
+use Rattle.process_model.specs.Process.{Page, Process}
+use Rattle.sv39_entry.specs.Address.{trampoline_page, trapframe_page}
+use Rattle.sv39_entry.specs.Word.{IsLeafOf, ppn}
+use Rattle.table_walk.specs.Counted.{AreTablesOf}
+use Rattle.table_walk.specs.Image.{bare_root, blank_hold, ChangesTables, HasTables, Image, IsGrown, leaf_node, missing, with_leaf}
+use Rattle.table_walk.specs.Keys.{insert_other, insert_same, is_none}
+use Rattle.table_walk.specs.Walk.{top_level}
+use Rattle.address_space.specs.Agreement.{HasKernelLeaf, Names, Owns, Shows, Stands, trampoline_rights, trapframe_rights}
+use Rattle.address_space.specs.Parts.{CanOpen, Opens, OwnsAlone}
+use Rattle.address_space.specs.Steps.{Spends}
+use Rattle.address_space.proofs.AddingFrames.{Comes, come_owns, come_tables, f_same, leaf_owns}
+use Rattle.address_space.proofs.Owned.{apart_by, claimed_other, one_frame, same_references, same_sole}
+
+-- ---- the root
+
+bare_table : (root k f : ℕ) → get (bare_root root).tables k ≡ Some f → (k ≡ 1) × (f ≡ root)
+bare_table root k f at = elim (cases_eq k 1) [
+  | inl is ↦ (is, sym (same_Some root f (sym (insert_same empty 1 root k is) ∙ at)))
+  | inr ne ↦ absurd (let none = sym (insert_other empty 1 root k ne ∙ get-empty {X = ℕ} nat_cmp k) ∙ at in cc)
+]
+
+bare_leaf : (root k y : ℕ) → get (bare_root root).leaves k ≡ Some y → ⊥
+bare_leaf root k y at = let none = sym (get-empty {X = ℕ} nat_cmp k) ∙ at in cc
+
+bare_name : (root f k : ℕ) → Names (bare_root root) f k → (k ≡ 1) × (f ≡ root)
+bare_name root f k (inl table) = bare_table root k f table
+bare_name root f k (inr (y, leaf, names)) = absurd (bare_leaf root k y leaf)
+
+module _ (v w : View) (root : ℕ) (can : CanOpen v) (fresh : references v root ≡ 0) (is : w ≡ with_hold root blank_hold (claimed root v)) where
+  other_hold : (f : ℕ) → (f ≡ root → ⊥) → hold_of w f ≡ hold_of v f
+  other_hold f apart = ap (λ (u : View). hold_of u f) is ∙ hold_of-with_hold_other root blank_hold (claimed root v) f apart ∙ claimed_other root f v apart
+
+  root_held : references w root ≡ 1
+  root_held = ap (λ (u : View). references u root) is ∙ ap (λ (h : Hold). h.references) (hold_of-with_hold_same root blank_hold (claimed root v))
+
+  root_not_zero : 0 ≡ root → ⊥
+  root_not_zero same = apart_by v root 0 fresh can.once same
+
+  pub root_owns : Owns w (bare_root root) (Some 0)
+  root_owns = record {
+    once = λ f j k first second. (bare_name root f j first).0 ∙ sym (bare_name root f k second).0;
+    named = λ f k names. ap (references w) (bare_name root f k names).1 ∙ root_held;
+    ready = λ f same.
+        let zero_is : 0 ≡ f = same_Some 0 f same in (
+          ap (references w) (sym zero_is) ∙ same_references v w 0 (other_hold 0 root_not_zero) ∙ can.once,
+          λ k names. root_not_zero (zero_is ∙ (bare_name root f k names).1),
+        );
+    bare = λ f free ne.
+        let apart : f ≡ root → ⊥ = λ same. free 1 (inl (insert_same empty 1 root 1 refl ∙ ap Some (sym same))) in
+        same_references v w f (other_hold f apart) ∙ can.others f (λ same. ne (ap Some (sym same)));
+    writable = λ f n y leaf names writes. absurd (bare_leaf root n y leaf);
+  }
+
+  pub root_spends : Spends v w 1
+  root_spends = record {
+    credits = ap (λ (u : View). u.credits) is;
+    claims = ap (λ (u : View). u.claims) is;
+    zeros = ap (λ (u : View). u.zeros) is;
+    short = ap (λ (u : View). u.short) is;
+    looks = ap (λ (u : View). u.looks) is;
+  }
+
+-- ---- TRAMPOLINE, over a frame that all processes share
+
+pub record HasTrampoline (w : View) (root : ℕ) (t : Image) : Type 0 where
+  pub tables : HasTables w root t
+  pub owns : Owns w t None
+  pub leaf : HasKernelLeaf t trampoline_page 0 trampoline_rights
+  pub only : (k y : ℕ) → get t.leaves k ≡ Some y → k ≡ leaf_node trampoline_page
+  pub tabled : AreTablesOf t []
+
+module _ (v w : View) (root x n : ℕ) (u : Image) (o : Owns v (bare_root root) (Some 0)) (bare : HasTables v root (bare_root root)) (grown : IsGrown (bare_root root) u trampoline_page top_level)
+    (tables : HasTables w root (with_leaf u (leaf_node trampoline_page) x)) (changes : ChangesTables v w (bare_root root) u n)
+    (made : IsLeafOf x 0 trampoline_rights false false) (are : AreTablesOf u []) where
+  abbrev image : Image
+  image = with_leaf u (leaf_node trampoline_page) x
+
+  no_leaf : get (bare_root root).leaves (leaf_node trampoline_page) ≡ None
+  no_leaf = is_none (get (bare_root root).leaves (leaf_node trampoline_page)) (bare_leaf root (leaf_node trampoline_page))
+
+  one_leaf : (k y : ℕ) → get image.leaves k ≡ Some y → k ≡ leaf_node trampoline_page
+  one_leaf k y leaf = elim (cases_eq k (leaf_node trampoline_page)) [
+    | inl here ↦ here
+    | inr apart ↦ absurd (bare_leaf root k y (ap (λ leaves. get leaves k) (sym grown.leaves) ∙ sym (insert_other u.leaves (leaf_node trampoline_page) x k apart) ∙ leaf))
+  ]
+
+  pub has_trampoline : HasTrampoline w root image
+  has_trampoline = record {
+    tables = tables;
+    owns = leaf_owns v w (bare_root root) u n root trampoline_page x 0 o bare grown changes tables made.names no_leaf (λ writes. absurd (let both = sym made.write ∙ writes in cc));
+    leaf = (x, insert_same u.leaves (leaf_node trampoline_page) x (leaf_node trampoline_page) refl, made);
+    only = one_leaf;
+    tabled = are;
+  }
+
+-- ---- and TRAPFRAME
+
+kernel_apart : leaf_node trapframe_page ≡ leaf_node trampoline_page → ⊥
+kernel_apart same = omega (arith, same)
+
+pub trapframe_shares : Contains (trampoline_page ∷ trapframe_page ∷ []) trapframe_page
+trapframe_shares = (1, omega arith, refl)
+
+-- TRAMPOLINE's tables beside the root
+pub two_missing : (root : ℕ) → missing (bare_root root) trampoline_page ≡ tables_needed [] - 1 → missing (bare_root root) trampoline_page ≡ 2
+unfolding tables_needed
+two_missing root law = law
+
+module _ (v r w : View) (root x f n : ℕ) (t u : Image) (before : HasTrampoline v root t) (come : Comes v r f) (grown : IsGrown t u trapframe_page top_level)
+    (tables : HasTables w root (with_leaf u (leaf_node trapframe_page) x)) (changes : ChangesTables r w t u n)
+    (made : IsLeafOf x f trapframe_rights false false) (are : AreTablesOf u []) where
+  unmapped : get t.leaves (leaf_node trapframe_page) ≡ None
+  unmapped = is_none (get t.leaves (leaf_node trapframe_page)) (λ y leaf. kernel_apart (before.only (leaf_node trapframe_page) y leaf))
+
+  abbrev last : Image
+  last = with_leaf u (leaf_node trapframe_page) x
+
+  keeps : (k : ℕ) → (k ≡ leaf_node trapframe_page → ⊥) → get last.leaves k ≡ get t.leaves k
+  keeps k apart = insert_other u.leaves (leaf_node trapframe_page) x k apart ∙ ap (λ leaves. get leaves k) grown.leaves
+
+  here : get last.leaves (leaf_node trapframe_page) ≡ Some x
+  here = insert_same u.leaves (leaf_node trapframe_page) x (leaf_node trapframe_page) refl
+
+  frame_same : hold_of w f ≡ hold_of r f
+  frame_same = f_same r w t u n root trapframe_page x f (come_owns v r f come t before.owns) (come_tables v r f come root t before.tables) grown changes tables made.names unmapped (λ _. come.sole)
+
+  pub opens_owns : Owns w last None
+  opens_owns = leaf_owns r w t u n root trapframe_page x f (come_owns v r f come t before.owns) (come_tables v r f come root t before.tables) grown changes tables made.names unmapped (λ _. come.sole)
+
+  two_leaves : (k y : ℕ) → get last.leaves k ≡ Some y → ((k ≡ leaf_node trampoline_page) × (get t.leaves k ≡ Some y)) ⊎ ((k ≡ leaf_node trapframe_page) × (y ≡ x))
+  two_leaves k y leaf = elim (cases_eq k (leaf_node trapframe_page)) [
+    | inl is ↦ inr (is, same_Some y x (sym leaf ∙ insert_same u.leaves (leaf_node trapframe_page) x k is))
+    | inr apart ↦ let old = sym (keeps k apart) ∙ leaf in inl (before.only k y old, old)
+  ]
+
+  opens_alone : OwnsAlone w last
+  opens_alone g k (inl table) other = (tables.own k g table).1
+  opens_alone g k (inr (y, leaf, names)) other = elim (two_leaves k y leaf) [
+    | inl old ↦
+        let first = before.leaf in
+        let same : y ≡ first.0 = same_Some y first.0 (sym (rw old.0 at old.1) ∙ first.1) in
+        absurd (other (one_frame g 0 (sym names ∙ ap ppn same ∙ first.2.names)))
+    | inr new ↦ rw (one_frame g f (sym names ∙ ap ppn new.1 ∙ made.names)) (same_sole r w f frame_same come.sole)
+  ]
+
+  module _ (p : Process) (settled : p.settled ≡ pages.empty Page) (tabled : p.tabled ≡ pages.empty (Unit {0})) where
+    none_settled : (k : ℕ) (s : Page) → pages.get p.settled k ≡ Some s → ⊥
+    none_settled k s found = let none = rw settled at found in cc
+
+    opens_shows : Shows w f last p
+    opens_shows = record {
+      on_trampoline = (before.leaf.0, keeps (leaf_node trampoline_page) (λ same. kernel_apart (sym same)) ∙ before.leaf.1, before.leaf.2);
+      on_trapframe = (x, here, made);
+      settled = λ k s found. absurd (none_settled k s found);
+      only = λ k y leaf. elim (two_leaves k y leaf) [ inl old ↦ inl old.0 | inr new ↦ inr (inl new.0) ];
+      low = λ k s found. absurd (none_settled k s found);
+    }
+
+    opens_stands : Stands w root f None last p
+    opens_stands = record {
+      tables = tables;
+      owns = opens_owns;
+      shows = opens_shows;
+      tabled = rw tabled are;
+      tabled_low = rw tabled (λ i d less. absurd (omega (arith, less)));
+    }
+
+  pub opens : (o : View) → Spends o w 4 → Opens o w root f last
+  opens o spends = record { stands = opens_stands; alone = opens_alone; spends = spends }
+
+-- ---- what it takes: the root, two tables below it, and the trapframe
+pub open_spends : (o a v r w : View) (f : ℕ) (t u t2 u2 : Image) (m n : ℕ) → Spends o a 1 → m ≡ 2 → ChangesTables a v t u m → Comes v r f → n ≡ 0 → ChangesTables r w t2 u2 n → Spends o w 4
+open_spends o a v r w f t u t2 u2 m n first two second third none last = record {
+  credits = omega (arith, first.credits, two, second.credits, third.spends.credits, none, last.credits);
+  claims = omega (arith, first.claims, two, second.claims, third.spends.claims, none, last.claims);
+  zeros = last.zeros ∙ third.spends.zeros ∙ second.zeros ∙ first.zeros;
+  short = last.short ∙ third.spends.short ∙ second.short ∙ first.short;
+  looks = last.looks ∙ third.spends.looks ∙ second.looks ∙ first.looks;
+}
+
+-- the credits that each of the two takes are there
+pub first_enough : (o v : View) (root page : ℕ) → page ≡ trampoline_page → missing (bare_root root) trampoline_page ≡ 2 → Spends o v 1 → 4 ≤ o.credits → missing (bare_root root) page ≤ v.credits
+first_enough o v root page is two spent enough =
+    let same = ap (missing (bare_root root)) is in
+    omega (arith, same, two, spent.credits, enough)
+
+pub second_enough : (credits : ℕ) (t : Image) (page : ℕ) → page ≡ trapframe_page → missing t trapframe_page ≡ 0 → missing t page ≤ credits
+second_enough credits t page is none = let same = ap (missing t) is in omega (arith, same, none)

@@ -1,0 +1,70 @@
+-- A space is built: what was reserved, and what stands in the end.
+use Rattle.std.proofs.Common.{◌≡◌, ℕ, ◌+◌, ◌*◌, ◌≤◌, refl, ap, sym, ◌∙◌, arith, List, [], None}
+use Rattle.std.proofs.lemmas.List.{append-nil}
+use Rattle.frame_store.specs.Holds.{hold_of-frames}
+use Rattle.frame_store.specs.View.{View, references, with_credits}
+use Rattle.table_walk.specs.Image.{Image}
+use Rattle.address_space.specs.Agreement.{Agrees, HoldsTrampoline}
+use Rattle.address_space.specs.Layouts.{last_page, Layout}
+use Rattle.address_space.specs.Parts.{AreParts, bare_process, build_need, CanOpen, Fills, Opens, pages_need, pages_of, process_of_parts, regions_in, StandsAlone, with_pages}
+use Rattle.address_space.specs.Steps.{Takes}
+use Rattle.address_space.specs.declared.part.Part.{Part}
+use Rattle.address_space.proofs.BuildPages.{tables_up_to}
+use Rattle.address_space.proofs.BuildProcess.{bare_tables, stands_like, whole_process, whole_tables}
+use Rattle.address_space.proofs.Owned.{same_references}
+
+module _ (ps : List Part) where
+  need_pages : pages_need (bare_process ps) (pages_of ps) + 4 ≡ build_need ps
+  need_pages =
+      let bare = bare_tables ps in
+      let whole = whole_tables ps in
+      let up = tables_up_to (pages_of ps) (bare_process ps) in
+      omega (arith, bare, whole, up)
+
+  module _ (v w : View) (n : ℕ) (holds : HoldsTrampoline v) (reserved : w ≡ with_credits n v) (need : n ≡ build_need ps) where
+    same : (f : ℕ) → references w f ≡ references v f
+    same f = ap (λ (u : View). references u f) reserved ∙ same_references v (with_credits n v) f (hold_of-frames (with_credits n v) v refl f)
+
+    credits_is : w.credits ≡ build_need ps
+    credits_is = let credits = ap (λ (u : View). u.credits) reserved in let none = holds.credits in omega (arith, credits, none, need)
+
+    pub can_open : CanOpen w
+    can_open = record {
+      once = same 0 ∙ holds.once;
+      others = λ f apart. same f ∙ holds.others f apart;
+      credits = let credits = credits_is in let pages = need_pages in omega (arith, credits, pages);
+    }
+
+    module _ (x : View) (root trapframe : ℕ) (t : Image) (opens : Opens w x root trapframe t) where
+      pub stands_bare : StandsAlone x root trapframe t (bare_process ps)
+      stands_bare = record { stands = opens.stands (bare_process ps) refl refl; alone = opens.alone }
+
+      pub credits_left : pages_need (bare_process ps) (pages_of ps) ≤ x.credits
+      credits_left = let credits = credits_is in let pages = need_pages in let spent = opens.spends.credits in omega (arith, credits, pages, spent)
+
+      module _ (y : View) (u : Image) (fills : Fills x y root trapframe u (bare_process ps) (pages_of ps)) where
+        pub agrees_whole : AreParts ps → (l : Layout) → l.parts ≡ regions_in ps → l.mappings ≡ [] → l.heap_base ≡ 4096 * last_page 0 (regions_in ps) → l.size ≡ l.heap_base
+            → (fresh : ℕ) → Agrees y root trapframe l u (process_of_parts fresh ps)
+        agrees_whole are l parts mappings base size fresh = record {
+          lays = record { parts = sym parts; mappings = sym mappings; heap_base = sym base; size = sym (size ∙ base) };
+          stands = stands_like (with_pages (bare_process ps) (pages_of ps)) (process_of_parts fresh ps) (whole_process ps are.ascending fresh) y root trapframe None u fills.after.stands;
+          credits =
+              let credits = credits_is in
+              let pages = need_pages in
+              let first = opens.spends.credits in
+              let second = fills.spends.credits in
+              omega (arith, credits, pages, first, second);
+        }
+
+        pub takes_whole : Takes v y (build_need ps) []
+        takes_whole =
+            let pages = need_pages in
+            let claims = ap (λ (u : View). u.claims) reserved in
+            let first = opens.spends in
+            let second = fills.spends in
+            record {
+              claims = omega (arith, pages, claims, first.claims, second.claims);
+              zeros = second.zeros ∙ first.zeros ∙ ap (λ (u : View). u.zeros) reserved;
+              short = second.short ∙ first.short ∙ ap (λ (u : View). u.short) reserved;
+              looks = second.looks ∙ first.looks ∙ ap (λ (u : View). u.looks) reserved ∙ sym (append-nil v.looks);
+            }

@@ -1,0 +1,67 @@
+use Rattle.std.proofs.Common.{◌≡◌, ◌+◌, ◌-◌, refl, ◌∙◌, arith}
+use Rattle.frame_store.specs.Laws.{fits_after}
+use Rattle.process_model.specs.Loading.{page_run}
+use Rattle.address_space.specs.Parts.{with_pages}
+use Rattle.address_space.proofs.BuildPages.{bytes_behind, bytes_here}
+use Rattle.address_space.proofs.BuildSteps.{can_add, enough_left, fills_none, next_fills, place}
+use Rattle.address_space.proofs.build.fill_part.Goals as goal
+
+pub pages-init : goal.pages-init
+pages-init g c =
+    let none : c.args.part.now.region.first - c.args.part.now.region.first ≡ 0 = omega arith in
+    record {
+      rest = rw none refl;
+      filled = λ trapframe t p can. (t, rw none (fills_none _ c.args.root.0 trapframe t p c.args.part.now can));
+      keeps = λ others r. r;
+      free = λ a. refl;
+    }
+
+pub add_page-requires-clause-fits : goal.add_page-requires-clause-fits
+add_page-requires-clause-fits g c = fits_after g.F.FrameAccess.rule c.pages.invariant.keeps c.requires.fits
+
+pub add_page-requires-clause-ready : goal.add_page-requires-clause-ready
+add_page-requires-clause-ready g c =
+    let here = place _ c.args.part.now.region.pages _ _ c.pages-test.true c.pages.auto.number c.page-page.ensures.number in
+    let r = c.requires.ready in
+    let so_far = c.pages.invariant.filled r.0 r.1 r.2 r.3 in (
+      r.0,
+      so_far.0,
+      with_pages r.2 (page_run c.args.part.now.region.first c.args.part.now.bytes.now (c.pages.number - c.args.part.now.region.first)),
+      can_add _ c.args.root.0 r.0 r.1 r.2 c.args.part.now r.3 _ here.0 _ so_far.0 so_far.1 c.page-page.result here.1,
+      enough_left _ c.args.root.0 r.0 r.1 r.2 c.args.part.now r.3 _ here.0 _ so_far.0 so_far.1 c.page-page.result here.1 c.missing_is_growth.ensures.missing r.4,
+    )
+
+pub pages-preserved : goal.pages-preserved
+pages-preserved g c =
+    let i = c.pages.invariant in
+    let here = place _ c.args.part.now.region.pages _ _ c.pages-test.true c.pages.auto.number c.page-page.ensures.number in
+    let k = c.pages.number - c.args.part.now.region.first in
+    let next : c.pages.number + 1 - c.args.part.now.region.first ≡ k + 1 = omega (arith, c.pages.auto.number) in
+    let whole = c.args.part.now.bytes.now in
+    let bytes = bytes_here k c.min.result c.pages.rest.now whole i.rest c.min.ensures c.split_at.result.0.now c.split_at.ensures.front in
+    let behind = bytes_behind k c.min.result c.pages.rest.now whole i.rest c.min.ensures c.split_at.result.1.now c.split_at.ensures.back in
+    record {
+      rest = rw next behind;
+      filled = λ trapframe t p can.
+          let so_far = i.filled trapframe t p can in
+          let can_now = can_add _ c.args.root.0 trapframe t p c.args.part.now can k here.0 _ so_far.0 so_far.1 c.page-page.result here.1 in
+          let added = c.add_page.ensures.added trapframe so_far.0 (with_pages p (page_run c.args.part.now.region.first whole k)) can_now in (
+            added.0,
+            rw next (next_fills _ c.args.root.0 trapframe t p c.args.part.now can k here.0 _ so_far.0 so_far.1 c.page-page.result here.1
+                c.missing_is_growth.ensures.missing _ added.0 c.split_at.result.0.now added.1 bytes added.2 c.add_page.ensures.soles),
+          );
+      keeps = λ others r. c.add_page.ensures.keeps others (i.keeps others r);
+      free = λ a. c.add_page.ensures.free a ∙ i.free a;
+    }
+
+pub returns-clause-filled : goal.returns-clause-filled
+returns-clause-filled g c trapframe t p can =
+    let so_far = c.pages.invariant.filled trapframe t p can in
+    let all : c.pages.number - c.args.part.now.region.first ≡ c.args.part.now.region.pages = omega (arith, c.pages-test.false, c.pages.auto.number, c.pages.auto.number-end) in
+    (so_far.0, rw all at so_far.1)
+
+pub returns-clause-keeps : goal.returns-clause-keeps
+returns-clause-keeps g c = c.pages.invariant.keeps
+
+pub returns-clause-free : goal.returns-clause-free
+returns-clause-free g c = c.pages.invariant.free

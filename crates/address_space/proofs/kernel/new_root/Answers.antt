@@ -1,0 +1,22 @@
+use Rattle.std.proofs.Common.{ap, arith}
+use Rattle.frame_store.specs.View.{View}
+use Rattle.table_walk.specs.Image.{bare_root}
+use Rattle.address_space.proofs.KernelSteps.{root_maps, root_missing, root_spends}
+use Rattle.address_space.proofs.kernel.new_root.Goals as goal
+
+pub map-requires-clause-tables : goal.map-requires-clause-tables
+map-requires-clause-tables g c =
+    let root = c.new_table-root.ensures in
+    let short = root_missing c.new_table-root.result.0 c.page.result c.page.ensures.number in
+    let spent = ap (λ (v : View). v.credits) root.view in
+    (bare_root c.new_table-root.result.0, root.root, omega (arith, short, spent, c.requires.credits))
+
+pub returns-clause-mapped : goal.returns-clause-mapped
+returns-clause-mapped g c =
+    let root = c.new_table-root.ensures in
+    (_, root_maps _ _ _ _ _ _ root.view root.fresh c.requires.once c.requires.bare c.page.ensures.number c.leaf_of.ensures.word (c.map.ensures.image _ root.root))
+
+pub returns-clause-spends : goal.returns-clause-spends
+returns-clause-spends g c =
+    let root = c.new_table-root.ensures in
+    root_spends _ _ _ _ _ _ root.view root.fresh c.requires.once c.requires.bare c.page.ensures.number c.leaf_of.ensures.word (c.map.ensures.image _ root.root)

@@ -1,0 +1,100 @@
+-- The page table of the kernel (the xv6 book, "Kernel address space"; no device is mapped): the frames of the memory at their own
+-- addresses, the trampoline, and a stack for each slot. No leaf is for the user.
+use Rattle.std.specs.Prelude.{◌≡◌, ℕ, Bool, false, ◌+◌, ◌-◌, ◌*◌, ◌/◌, ◌%◌, ◌^◌, ◌<◌, ◌≤◌, ◌==◌, ◌&&◌, ◌||◌, nat_le, nat_lt, if◌then◌else◌, Option, None, Some, option_map, is_some, List, length, slice_get}
+use Rattle.std.specs.FinMap.{FinMap, get}
+use Rattle.std.specs.Ordering.{nat_cmp}
+use Rattle.frame_store.specs.View.{View, IsSole, references}
+use Rattle.sv39_entry.specs.Address.{page_of, page_offset, trampoline_page}
+use Rattle.sv39_entry.specs.Causes.{page_fault_cause}
+use Rattle.sv39_entry.specs.Frame.{ppn_of}
+use Rattle.sv39_entry.specs.Rights.{grants}
+use Rattle.sv39_entry.specs.Word.{leaf_word}
+use Rattle.sv39_entry.specs.declared.access.Access.{Access}
+use Rattle.table_walk.specs.Image.{HasTables, Image, leaf_node, node}
+use Rattle.table_walk.specs.declared.walk.Walk.{Walk}
+use Rattle.table_walk.specs.declared.walk.Walk.TheVariants as walk
+
+-- what is mapped
+
+-- read and execute, and read and write
+abbrev pub code_rights : ℕ
+code_rights = 5
+
+abbrev pub data_rights : ℕ
+data_rights = 3
+
+-- frame 0 has the trampoline's code, and no other has code
+abbrev pub frame_rights : ℕ → ℕ
+frame_rights frame = if frame == 0 then code_rights else data_rights
+
+-- the page whose address is that of frame 0
+abbrev pub first_direct : ℕ
+first_direct = ppn_of 0
+
+-- the page of KSTACK of a slot: the one above it is not mapped
+abbrev pub stack_page : ℕ → ℕ
+stack_page slot = trampoline_page - (slot + 1) * 2
+
+-- the frame that a page is mapped to and its rights, where so many frames and these stacks are mapped
+abbrev pub kernel_page : ℕ → List ℕ → ℕ → Option (ℕ × ℕ)
+kernel_page frames stacks page =
+    if page == trampoline_page then Some (0, code_rights)
+    else (if nat_le first_direct page && nat_lt page (first_direct + frames) then Some (page - first_direct, frame_rights (page - first_direct))
+    else (if nat_lt page trampoline_page && ((trampoline_page - page) % 2 == 0) then option_map (λ frame. (frame, data_rights)) (slice_get stacks ((trampoline_page - page) / 2 - 1))
+    else None))
+
+-- the word of the leaf
+abbrev pub kernel_leaf : Option (ℕ × ℕ) → Option ℕ
+kernel_leaf None = None
+kernel_leaf (Some p) = Some (leaf_word p.0 p.1 false false)
+
+-- what the kernel's access to an address leads to
+abbrev pub walk_to : ℕ → Access → Option (ℕ × ℕ) → Walk
+walk_to address access None = walk.PageFault (page_fault_cause access)
+walk_to address access (Some p) =
+    if grants p.1 access then walk.Leaf (leaf_word p.0 p.1 false false) 0 (4096 * ppn_of p.0 + page_offset address)
+    else walk.PageFault (page_fault_cause access)
+
+abbrev pub kernel_walk : ℕ → List ℕ → ℕ → Access → Walk
+kernel_walk frames stacks address access = walk_to address access (kernel_page frames stacks (page_of address))
+
+-- what is held
+
+-- k is the number of a table that the trampoline, the stacks and so many frames need: the root, the two on the way to the trampoline,
+-- which the stacks share, and for each two megabytes of frames one, below one of their gigabyte
+abbrev pub is_kernel_table : ℕ → ℕ → Bool
+is_kernel_table frames k =
+    k == 1 || k == node trampoline_page 1 || k == node trampoline_page 2
+    || (nat_lt 0 frames && (k == node first_direct 1 || k == node first_direct 2))
+    || (nat_lt 512 frames && (k == node (first_direct + 512) 2))
+
+-- how many of these tables the frames need
+abbrev pub direct_tables : ℕ → ℕ
+direct_tables frames = if frames == 0 then 0 else (if nat_le frames 512 then 2 else 3)
+
+-- the references that a seat has: one of frame 0, of each stack and of each table, and no other. No frame is two of these
+pub record HoldsKernel (v : View) (stacks : List ℕ) (tables : FinMap nat_cmp ℕ) : Type 0 where
+  pub code : references v 0 ≡ 1
+  pub stack : (slot f : ℕ) → slice_get stacks slot ≡ Some f → (references v f ≡ 1) × IsSole v f × (f < 2 ^ 16)
+  pub table : (k f : ℕ) → get tables k ≡ Some f → references v f ≡ 1
+  pub bare : (f : ℕ) → (f ≡ 0 → ⊥) → ((slot : ℕ) → slice_get stacks slot ≡ Some f → ⊥) → ((k : ℕ) → get tables k ≡ Some f → ⊥) → references v f ≡ 0
+  pub stacks_apart : (i j f : ℕ) → slice_get stacks i ≡ Some f → slice_get stacks j ≡ Some f → i ≡ j
+  pub stack_no_table : (slot k f : ℕ) → slice_get stacks slot ≡ Some f → get tables k ≡ Some f → ⊥
+  pub stack_no_code : (slot f : ℕ) → slice_get stacks slot ≡ Some f → f ≡ 0 → ⊥
+  pub table_no_code : (k f : ℕ) → get tables k ≡ Some f → f ≡ 0 → ⊥
+
+-- the tables below a root map the trampoline, so many frames and these stacks, and nothing else. Leaves are numbered by the lowest 27
+-- bits of a page's number
+pub record MapsKernel (v : View) (root frames : ℕ) (stacks : List ℕ) (t : Image) : Type 0 where
+  pub tables : HasTables v root t
+  pub leaves : (page : ℕ) → page < 2 ^ 27 → get t.leaves (leaf_node page) ≡ kernel_leaf (kernel_page frames stacks page)
+  pub numbers : (k : ℕ) → is_some (get t.tables k) ≡ is_kernel_table frames k
+  pub holds : HoldsKernel v stacks t.tables
+
+-- the whole table of the kernel
+pub record IsKernelTable (v : View) (root frames slots : ℕ) (stacks : List ℕ) (t : Image) : Type 0 where
+  pub maps : MapsKernel v root frames stacks t
+  pub stacked : length stacks ≡ slots
+  pub few_frames : frames ≤ 1024
+  pub few_slots : slots ≤ 64
+  pub credits : v.credits ≡ 0

@@ -1,0 +1,111 @@
+-- The parts that a process begins with, and the process that they make.
+use Rattle.std.specs.Prelude.{◌≡◌, ◌≢◌, ℕ, ◌+◌, ◌-◌, ◌*◌, ◌<◌, ◌≤◌, false, true, All, None, Some, List, [], ◌∷◌, flat_map, length, map}
+use Rattle.frame_store.specs.View.{View, IsSole, references}
+use Rattle.process_model.specs.Frames.{tables_needed, tables_of}
+use Rattle.process_model.specs.Loading.{numbered, page_run}
+use Rattle.process_model.specs.PageMap as pages
+use Rattle.process_model.specs.PageMap.{PageMap, NumberSet, empty, from_list, numbers}
+use Rattle.process_model.specs.Process.{Page, Process, regions}
+use Rattle.process_model.specs.Regions.{Region, end_of, region_at}
+use Rattle.sv39_entry.specs.Address.{trapframe_page}
+use Rattle.table_walk.specs.Image.{Image}
+use Rattle.address_space.specs.Agreement.{makes_leaf, Names, Stands}
+use Rattle.address_space.specs.Layouts.{last_page, region_of}
+use Rattle.address_space.specs.Steps.{Spends}
+use Rattle.address_space.specs.declared.part.Part.{Part}
+
+abbrev pub region_in : Part → Region
+region_in p = region_of p.region
+
+abbrev pub regions_in : List Part → List Region
+regions_in ps = map region_in ps
+
+-- the pages of a part, with their bytes and zeros behind them
+abbrev pub part_pages : Part → List (ℕ × List ℕ)
+part_pages p = page_run p.region.first p.bytes.now p.region.pages
+
+abbrev pub pages_of : List Part → List (ℕ × List ℕ)
+pages_of ps = flat_map part_pages ps
+
+abbrev pub numbers_of : List Part → List ℕ
+numbers_of ps = map (λ (e : ℕ × List ℕ). e.0) (pages_of ps)
+
+-- the trapframe, the pages, and their tables
+abbrev pub build_need : List Part → ℕ
+build_need ps = 1 + length (pages_of ps) + tables_needed (numbers_of ps)
+
+-- each part begins where the one before it ends, or later
+abbrev pub IsAscending : ℕ → List Part → Type 0
+IsAscending end [] = Unit {0}
+IsAscending end (p ∷ ps) = (end ≤ p.region.first) × IsAscending (end_of (region_in p)) ps
+
+pub record AreParts (ps : List Part) : Type 0 where
+  pub few : length ps ≤ 18
+  pub ascending : IsAscending 0 ps
+  pub low : All (λ p. p.region.first + p.region.pages ≤ trapframe_page) ps
+  pub leafy : All (λ p. makes_leaf (region_in p) ≡ true) ps
+
+-- the process with these pages and an empty heap
+abbrev pub settled_process : List Part → PageMap Page → NumberSet → Process
+settled_process ps settled tabled =
+    let end = 4096 * last_page 0 (regions_in ps) in
+    record { parts = regions_in ps; mappings = []; heap_base = end; size = end; settled = settled; tabled = tabled; pending = None }
+
+-- all pages are settled, each with a copy number of its own
+abbrev pub process_of_parts : ℕ → List Part → Process
+process_of_parts fresh ps = settled_process ps (from_list (numbered fresh (pages_of ps))) (numbers (numbers_of ps))
+
+-- the frames of a space are its own, but for TRAMPOLINE's
+abbrev pub OwnsAlone : View → Image → Type 0
+OwnsAlone v t = (f k : ℕ) → Names t f k → f ≢ 0 → IsSole v f
+
+-- while a space is built
+
+-- no page is settled
+abbrev pub bare_process : List Part → Process
+bare_process ps = settled_process ps (empty Page) (empty (Unit {0}))
+
+-- pages are settled one after another
+abbrev pub with_settled : Process → ℕ × List ℕ → Process
+with_settled p e = record p {
+  settled = pages.insert p.settled e.0 (record { bytes = e.1; copy = 0; fork_mark = false });
+  tabled = pages.insert p.tabled e.0 tt;
+}
+
+abbrev pub with_pages : Process → List (ℕ × List ℕ) → Process
+with_pages p [] = p
+with_pages p (e ∷ es) = with_pages (with_settled p e) es
+
+-- a frame for each page, and the tables that are missing
+abbrev pub pages_need : Process → List (ℕ × List ℕ) → ℕ
+pages_need p es = length es + (tables_of (with_pages p es) - tables_of p)
+
+-- a process stands, and no other seat has its frames
+pub record StandsAlone (v : View) (root trapframe : ℕ) (t : Image) (p : Process) : Type 0 where
+  pub stands : Stands v root trapframe None t p
+  pub alone : OwnsAlone v t
+
+-- frame 0 is held once, and four credits are there
+pub record CanOpen (v : View) : Type 0 where
+  pub once : references v 0 ≡ 1
+  pub others : (f : ℕ) → f ≢ 0 → references v f ≡ 0
+  pub credits : 4 ≤ v.credits
+
+-- the pages of the kernel are there, and no others
+pub record Opens (v w : View) (root trapframe : ℕ) (t : Image) : Type 0 where
+  pub stands : (p : Process) → p.settled ≡ empty Page → p.tabled ≡ empty (Unit {0}) → Stands w root trapframe None t p
+  pub alone : OwnsAlone w t
+  pub spends : Spends v w 4
+
+-- a part whose pages have no frame yet
+pub record CanFill (v : View) (root trapframe : ℕ) (t : Image) (p : Process) (part : Part) : Type 0 where
+  pub before : StandsAlone v root trapframe t p
+  pub unsettled : (page : ℕ) → part.region.first ≤ page → pages.get p.settled page ≡ None
+  pub in_region : (page : ℕ) → part.region.first ≤ page → page < end_of (region_in part) → region_at (regions p) page ≡ Some (region_in part)
+  pub leafy : makes_leaf (region_in part) ≡ true
+  pub low : end_of (region_in part) ≤ trapframe_page
+
+-- pages stand on frames that were not held before
+pub record Fills (v w : View) (root trapframe : ℕ) (u : Image) (p : Process) (es : List (ℕ × List ℕ)) : Type 0 where
+  pub after : StandsAlone w root trapframe u (with_pages p es)
+  pub spends : Spends v w (pages_need p es)

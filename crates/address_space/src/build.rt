@@ -1,0 +1,116 @@
+// A space is built.
+
+ghost use Rattle.std.specs.Prelude.{[], ◌≡◌, ◌-◌, ◌≤◌, ◌↔◌, if◌then◌else◌, IfErr, IfOk, is_ok, IsOk, ℕ};
+ghost use Rattle.address_space.specs.Agreement.{Agrees, HoldsTrampoline};
+ghost use Rattle.address_space.specs.Parts.{AreParts, bare_process, build_need, CanFill, CanOpen, Fills, Opens, OwnsAlone, pages_need, pages_of, part_pages, process_of_parts, StandsAlone};
+ghost use Rattle.address_space.specs.Steps.{Takes};
+ghost use Rattle.frame_store.specs.Laws.{Fits, IsDry, Keeps};
+ghost use Rattle.process_model.specs.Process.{Process};
+ghost use Rattle.table_walk.specs.Image.{Image};
+
+use crate::layout::Layout;
+use crate::needed::frames_needed;
+use crate::pages::add_page;
+use crate::part::Part;
+use crate::space::Space;
+use bitflags::Flags;
+use frame_bytes::fill_frame;
+use frame_store::{FrameAccess, FrameSeat, FrameSupply, NoFrame};
+use sv39_entry::{Entry, FrameNo, PAGE_SIZE, Rights, TRAMPOLINE, TRAPFRAME, Va};
+use table_walk::{map, missing_is_growth, new_table};
+
+/// Frame 0 has the trampoline's code, for all address spaces.
+const TRAMPOLINE_FRAME: FrameNo = FrameNo(0);
+
+impl<S: FrameSeat> Space<S> {
+    /// The space of a process that begins with these parts. All frames are reserved together, before anything is built.
+    /// Where too few are free the seat comes back, and holds what it held.
+    pub fn build<F: FrameSupply<Seat = S>>(
+        store: &mut F,
+        mut seat: S,
+        parts: &[Part],
+    ) -> Result<Space<S>, (NoFrame, S)>
+        requires fits { Fits F.rule store.old seat }
+        requires parts { AreParts parts.now }
+        requires seat { HoldsTrampoline (S.view seat) }
+        ensures built { IfOk result (λ s. (t : Image) × ((fresh : ℕ) → Agrees (S.view s.seat) s.root.0 s.trapframe.0 s.layout t (process_of_parts fresh parts.now)) × OwnsAlone (S.view s.seat) t) }
+        ensures takes { IfOk result (λ s. Takes (S.view seat) (S.view s.seat) (build_need parts.now) []) }
+        ensures refused { IfErr result (λ e. IsDry (build_need parts.now) (S.view seat) (S.view e.1)) }
+        ensures exact { F.alone → IsOk result ↔ (build_need parts.now ≤ F.free store.old) }
+        ensures free { F.alone → F.free store.new ≡ F.free store.old - (if is_ok result then build_need parts.now else 0) }
+        ensures keeps { IfOk result (λ s. Keeps F.rule store.old seat store.new s.seat) }
+        ensures keeps_refused { IfErr result (λ e. Keeps F.rule store.old seat store.new e.1) }
+    {
+        if let Err(none) = store.reserve(&mut seat, frames_needed(parts)) {
+            return Err((none, seat));
+        }
+        let (root, trapframe) = open_tables(store, &mut seat);
+        fill_parts(store, &mut seat, root, parts);
+        Ok(Space {
+            seat,
+            root,
+            trapframe,
+            layout: Layout::new(parts),
+        })
+    }
+}
+
+/// Maps TRAMPOLINE and TRAPFRAME, and answers the root and the trapframe's frame. These two and two more tables take four
+/// credits.
+fn open_tables<F: FrameSupply>(store: &mut F, seat: &mut F::Seat) -> (FrameNo, FrameNo)
+    requires fits { Fits F.rule store.old seat.old }
+    requires ready { CanOpen (F.Seat.view seat.old) }
+    ensures opened { (t : Image) × Opens (F.Seat.view seat.old) (F.Seat.view seat.new) result.0.0 result.1.0 t }
+    ensures keeps { Keeps F.rule store.old seat.old store.new seat.new }
+    ensures free { F.alone → F.free store.new ≡ F.free store.old }
+{
+    missing_is_growth();
+    let root = new_table(store, seat);
+    let mut code = Rights::READ;
+    code.insert(Rights::EXECUTE);
+    let trampoline = Entry::leaf(TRAMPOLINE_FRAME, code, false, false);
+    map(store, seat, root, TRAMPOLINE.page(), trampoline);
+    let frame = store.claim(seat);
+    fill_frame(store, seat, frame, &[]);
+    let mut data = Rights::READ;
+    data.insert(Rights::WRITE);
+    let trapframe = Entry::leaf(frame, data, false, false);
+    map(store, seat, root, TRAPFRAME.page(), trapframe);
+    (root, frame)
+}
+
+/// Gives each page of the parts a frame with its bytes.
+fn fill_parts<F: FrameSupply>(store: &mut F, seat: &mut F::Seat, root: FrameNo, parts: &[Part])
+    requires fits { Fits F.rule store.old seat.old }
+    requires parts { AreParts parts.now }
+    requires ready { (trapframe : ℕ) × (t : Image) × StandsAlone (F.Seat.view seat.old) root.0 trapframe t (bare_process parts.now) }
+    requires credits { pages_need (bare_process parts.now) (pages_of parts.now) ≤ (F.Seat.view seat.old).credits }
+    ensures filled { (trapframe : ℕ) (t : Image) → StandsAlone (F.Seat.view seat.old) root.0 trapframe t (bare_process parts.now) →
+        (u : Image) × Fills (F.Seat.view seat.old) (F.Seat.view seat.new) root.0 trapframe u (bare_process parts.now) (pages_of parts.now) }
+    ensures keeps { Keeps F.rule store.old seat.old store.new seat.new }
+    ensures free { F.alone → F.free store.new ≡ F.free store.old }
+{
+    'parts: for part in parts {
+        fill_part(store, seat, root, part);
+    }
+}
+
+/// Gives each page of a part a frame with its bytes.
+fn fill_part<F: FrameSupply>(store: &mut F, seat: &mut F::Seat, root: FrameNo, part: &Part)
+    requires fits { Fits F.rule store.old seat.old }
+    requires ready { (trapframe : ℕ) × (t : Image) × (p : Process) × CanFill (F.Seat.view seat.old) root.0 trapframe t p part.now × (pages_need p (part_pages part.now) ≤ (F.Seat.view seat.old).credits) }
+    ensures filled { (trapframe : ℕ) (t : Image) (p : Process) → CanFill (F.Seat.view seat.old) root.0 trapframe t p part.now →
+        (u : Image) × Fills (F.Seat.view seat.old) (F.Seat.view seat.new) root.0 trapframe u p (part_pages part.now) }
+    ensures keeps { Keeps F.rule store.old seat.old store.new seat.new }
+    ensures free { F.alone → F.free store.new ≡ F.free store.old }
+{
+    missing_is_growth();
+    let region = part.region;
+    let mut rest = part.bytes;
+    'pages: for number in region.first..region.first + region.pages {
+        let page = Va(number * PAGE_SIZE).page();
+        let (bytes, behind) = rest.split_at((PAGE_SIZE as usize).min(rest.len()));
+        add_page(store, seat, root, page, &region, bytes);
+        rest = behind;
+    }
+}

@@ -1,0 +1,162 @@
+// The page table of the kernel.
+
+ghost use Rattle.std.specs.Prelude.{[], ◌≡◌, ◌+◌, ◌-◌, ◌<◌, ◌≤◌, ◌↔◌, false, if◌then◌else◌, IfErr, IfOk, is_ok, IsOk, length, List, ℕ};
+ghost use Rattle.address_space.specs.Agreement.{HoldsTrampoline};
+ghost use Rattle.address_space.specs.Kernel.{code_rights, direct_tables, frame_rights, IsKernelTable, kernel_walk, MapsKernel, stack_page};
+ghost use Rattle.address_space.specs.Steps.{Spends};
+ghost use Rattle.frame_store.specs.Laws.{Fits, IsDry, Keeps};
+ghost use Rattle.frame_store.specs.View.{references};
+ghost use Rattle.process_model.specs.Frames.{kernel_frames};
+ghost use Rattle.sv39_entry.specs.Word.{kind_of, leaf_word};
+ghost use Rattle.sv39_entry.specs.declared.entry.Kind.TheVariants.{Leaf};
+ghost use Rattle.table_walk.specs.Image.{Image};
+
+use bitflags::Flags;
+use frame_store::{FrameAccess, FrameSeat, FrameSupply, NoFrame};
+use sv39_entry::{Access, Entry, FrameNo, Mode, Rights, TRAMPOLINE, Va, kernel_stack};
+use table_walk::{HeldWords, Walk, map, new_table, one_outcome, translate, walks_of_tables};
+
+/// The page table of the kernel (the xv6 book, "Kernel address space"), without devices: each frame of the memory at its
+/// own address, the trampoline, and a stack for each slot. It never changes, and it owns its seat.
+#[derive(Drop)]
+pub struct KernelTable<S: FrameSeat> {
+    pub seat: S,
+    pub root: FrameNo,
+}
+
+impl<S: FrameSeat> KernelTable<S> {
+    /// The table of a memory of so many frames, with so many stacks, by a seat that holds frame 0. All that it takes is
+    /// reserved at once, before anything is built; where too few frames are free, the seat comes back.
+    pub fn build<F: FrameSupply<Seat = S>>(
+        store: &mut F,
+        seat: S,
+        frames: u16,
+        slots: u16,
+    ) -> Result<KernelTable<S>, (NoFrame, S)>
+        requires fits { Fits F.rule store.old seat }
+        requires opening { HoldsTrampoline (S.view seat) }
+        requires some_frames { 16 ≤ frames }
+        requires few_frames { frames ≤ 1024 }
+        requires some_slots { 1 ≤ slots }
+        requires few_slots { slots ≤ 64 }
+        ensures built { IfOk result (λ k. (stacks : List ℕ) × (t : Image) × IsKernelTable (S.view k.seat) k.root.0 frames slots stacks t) }
+        ensures claims { IfOk result (λ k. (S.view k.seat).claims ≡ (S.view seat).claims + (kernel_frames frames slots - 1)) }
+        ensures zeros { IfOk result (λ k. (S.view k.seat).zeros ≡ (S.view seat).zeros) }
+        ensures short { IfOk result (λ k. (S.view k.seat).short ≡ (S.view seat).short) }
+        ensures looks { IfOk result (λ k. (S.view k.seat).looks ≡ (S.view seat).looks) }
+        ensures dry { IfErr result (λ e. IsDry (kernel_frames frames slots - 1) (S.view seat) (S.view e.1)) }
+        ensures exact { F.alone → IsOk result ↔ (kernel_frames frames slots - 1 ≤ F.free store.old) }
+        ensures free { F.alone → F.free store.new ≡ F.free store.old - (if is_ok result then kernel_frames frames slots - 1 else 0) }
+        ensures keeps { IfOk result (λ k. Keeps F.rule store.old seat store.new k.seat) }
+        ensures keeps_dry { IfErr result (λ e. Keeps F.rule store.old seat store.new e.1) }
+    {
+        let mut seat = seat;
+        if let Err(refusal) = store.reserve(&mut seat, need(frames, slots)) {
+            return Err((refusal, seat));
+        }
+        let root = new_root(store, &mut seat);
+        map_stacks(store, &mut seat, root, slots);
+        map_frames(store, &mut seat, root, frames);
+        Ok(KernelTable { seat, root })
+    }
+
+    /// What the kernel's access to an address leads to.
+    pub fn translate<F: FrameAccess<Seat = S>>(
+        &mut self,
+        store: &mut F,
+        va: Va,
+        access: Access,
+    ) -> Walk
+        requires fits { Fits F.rule store.old self.old.seat }
+        requires built { (frames slots : ℕ) × (stacks : List ℕ) × (t : Image) × IsKernelTable (S.view self.old.seat) self.old.root.0 frames slots stacks t }
+        ensures walk { (frames slots : ℕ) (stacks : List ℕ) (t : Image) → IsKernelTable (S.view self.old.seat) self.old.root.0 frames slots stacks t → result ≡ kernel_walk frames stacks va.0 access }
+        ensures view { S.view self.new.seat ≡ S.view self.old.seat }
+        ensures root { self.new.root ≡ self.old.root }
+        ensures same { store.new ≡ store.old }
+        ensures keeps { Keeps F.rule store.old self.old.seat store.new self.new.seat }
+    {
+        walks_of_tables();
+        one_outcome();
+        let mut words = HeldWords {
+            store,
+            seat: &mut self.seat,
+        };
+        translate(&mut words, self.root.ppn(), va, access, Mode::Supervisor)
+    }
+}
+
+/// How many free frames the table takes: five tables, six where the frames fill more than two megabytes, and the stacks.
+fn need(frames: u16, slots: u16) -> usize
+    ensures { result ≡ kernel_frames frames slots - 1 }
+{
+    let tables = if frames <= 512 { 5 } else { 6 };
+    tables + usize::from(slots)
+}
+
+/// The leaf of a frame, for the kernel alone. Frame 0 has the trampoline's code, which nothing may write.
+fn leaf_of(frame: FrameNo) -> Entry
+    ensures word { result ≡ leaf_word frame.0 (frame_rights frame.0) false false }
+    ensures kind { kind_of result ≡ Leaf }
+{
+    let mut rights = Rights::READ;
+    if frame.0 == 0 {
+        rights.insert(Rights::EXECUTE);
+    } else {
+        rights.insert(Rights::WRITE);
+    }
+    Entry::leaf(frame, rights, false, false)
+}
+
+/// A root of three credits that maps the trampoline.
+fn new_root<F: FrameSupply>(store: &mut F, seat: &mut F::Seat) -> FrameNo
+    requires fits { Fits F.rule store.old seat.old }
+    requires once { references (F.Seat.view seat.old) 0 ≡ 1 }
+    requires bare { (f : ℕ) → (f ≡ 0 → ⊥) → references (F.Seat.view seat.old) f ≡ 0 }
+    requires credits { 3 ≤ (F.Seat.view seat.old).credits }
+    ensures mapped { (t : Image) × MapsKernel (F.Seat.view seat.new) result.0 0 [] t }
+    ensures spends { Spends (F.Seat.view seat.old) (F.Seat.view seat.new) 3 }
+    ensures keeps { Keeps F.rule store.old seat.old store.new seat.new }
+    ensures free { F.alone → F.free store.new ≡ F.free store.old }
+{
+    let root = new_table(store, seat);
+    map(store, seat, root, TRAMPOLINE.page(), leaf_of(FrameNo(0)));
+    root
+}
+
+/// Gives each slot a stack, of a credit.
+fn map_stacks<F: FrameSupply>(store: &mut F, seat: &mut F::Seat, root: FrameNo, slots: u16)
+    requires fits { Fits F.rule store.old seat.old }
+    requires few { slots ≤ 64 }
+    requires ready { (t : Image) × MapsKernel (F.Seat.view seat.old) root.0 0 [] t × (slots ≤ (F.Seat.view seat.old).credits) }
+    ensures mapped { (t : Image) → MapsKernel (F.Seat.view seat.old) root.0 0 [] t → (stacks : List ℕ) × (u : Image) × MapsKernel (F.Seat.view seat.new) root.0 0 stacks u × (length stacks ≡ slots) }
+    ensures spends { Spends (F.Seat.view seat.old) (F.Seat.view seat.new) slots }
+    ensures keeps { Keeps F.rule store.old seat.old store.new seat.new }
+    ensures free { F.alone → F.free store.new ≡ F.free store.old }
+{
+    for slot in 0..slots {
+        let frame = store.claim(seat);
+        map(store, seat, root, kernel_stack(slot).page(), leaf_of(frame));
+    }
+}
+
+/// Maps each frame at its own address. The tables that this takes are made of credits.
+fn map_frames<F: FrameSupply>(store: &mut F, seat: &mut F::Seat, root: FrameNo, frames: u16)
+    requires fits { Fits F.rule store.old seat.old }
+    requires few { frames ≤ 1024 }
+    requires ready { (stacks : List ℕ) × (t : Image) × MapsKernel (F.Seat.view seat.old) root.0 0 stacks t × (direct_tables frames ≤ (F.Seat.view seat.old).credits) }
+    ensures mapped { (stacks : List ℕ) (t : Image) → MapsKernel (F.Seat.view seat.old) root.0 0 stacks t → (u : Image) × MapsKernel (F.Seat.view seat.new) root.0 frames stacks u }
+    ensures spends { Spends (F.Seat.view seat.old) (F.Seat.view seat.new) (direct_tables frames) }
+    ensures keeps { Keeps F.rule store.old seat.old store.new seat.new }
+    ensures free { F.alone → F.free store.new ≡ F.free store.old }
+{
+    for number in 0..frames {
+        let frame = FrameNo(number);
+        map(
+            store,
+            seat,
+            root,
+            Va(frame.address()).page(),
+            leaf_of(frame),
+        );
+    }
+}
