@@ -24,6 +24,10 @@ source_of from.Zeros = zeros
 source_of from.Image = image
 source_of (from.File n offset) = file n offset
 
+-- what stands in a place that no region has
+abbrev pub no_region : Run
+no_region = record { first = 0; pages = 0; rights = record { 0 = 1 }; kind = kind.Segment; source = from.Zeros }
+
 -- a run of pages, as the model has it
 abbrev pub region_of : Run → Region
 region_of r = record {

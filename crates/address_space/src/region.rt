@@ -43,10 +43,9 @@ pub struct Region {
 
 /// What stands in a place that no region has.
 impl Default for Region {
-    ghost use Rattle.address_space.specs.declared.region.RegionKind.TheVariants as kind;
-    ghost use Rattle.address_space.specs.declared.region.Source.TheVariants as source;
+    ghost use Rattle.address_space.specs.Layouts.{no_region};
 
-    ghost is_default = { λ r. r ≡ record { first = 0; pages = 0; rights = record { 0 = 1 }; kind = kind.Segment; source = source.Zeros } };
+    ghost is_default = { λ r. r ≡ no_region };
 
     fn default() -> Region {
         Region {
