@@ -72,13 +72,10 @@ command_table =
     ∷ row (codes "fix") word.Fix one_number tail.Nothing
     ∷ []
 
+-- the row of a word
 abbrev pub row_among : List Row → List ℕ → Option Row
 row_among [] text = None
 row_among (r ∷ rows) text = if bytes_eq r.text text then Some r else row_among rows text
-
--- the row of a word
-abbrev pub row_of : List ℕ → Option Row
-row_of text = row_among command_table text
 
 -- the kinds of so many fields after a word; there are as many kinds as fields just where the number is right
 abbrev pub kinds_for : List FieldKind → Tail → ℕ → List FieldKind

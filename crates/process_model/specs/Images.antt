@@ -40,10 +40,10 @@ end_of_loads end (l ∷ ls) = end_of_loads (end_page l) ls
 abbrev pub most_segments : ℕ
 most_segments = 16
 
--- the first check that a segment fails, after the segments with pages before it; below the trapframe there has to be room for the
+-- the checks that a segment may fail, after the segments with pages before it; below the trapframe there has to be room for the
 -- guard and the stack
-abbrev pub load_fault : List LoadSegment → LoadSegment → Option BadImage
-load_fault before l = first_true (
+abbrev pub load_checks : List LoadSegment → LoadSegment → List (Bool × BadImage)
+load_checks before l =
     (nat_lt l.memory_size l.file_size, part.Sizes)
     ∷ (nat_le (2 ^ 64) (l.address + l.memory_size), part.Wraps)
     ∷ (not (l.address % 4096 == 0), part.Align)
@@ -51,7 +51,11 @@ load_fault before l = first_true (
     ∷ (has_pages l && nat_lt trapframe_page (end_page l + 2), part.TooHigh)
     ∷ (has_pages l && nat_lt (page_of l.address) (end_of_loads 0 before), part.Order)
     ∷ (has_pages l && nat_le most_segments (length before), part.TooMany)
-    ∷ [])
+    ∷ []
+
+-- the first that it fails
+abbrev pub load_fault : List LoadSegment → LoadSegment → Option BadImage
+load_fault before l = first_true (load_checks before l)
 
 -- a segment without pages is passed over
 abbrev pub with_load : List LoadSegment → LoadSegment → List LoadSegment

@@ -65,18 +65,21 @@ right_rule Fetch = NoExec
 right_rule Load = NoRead
 right_rule Store = NoWrite
 
--- the first rule that denies a kernel copy at an address, in an order of our own; None where it is granted
-abbrev pub copy_rule : List Region → Access → ℕ → Option Rule
-copy_rule regions access address =
+-- the rules that may deny a kernel copy at an address, in an order of our own
+abbrev pub copy_tests : List Region → Access → ℕ → List (Bool × Rule)
+copy_tests regions access address =
     let page = page_of address in
     let region = region_at regions page in
-    first_true (
     (nat_le maxva address, BeyondMax)
     ∷ (page == trampoline_page || page == trapframe_page, KernelPage)
     ∷ (is_guard region, GuardPage)
     ∷ (is_none region, NoRegion)
     ∷ (lacks_right access region, right_rule access)
-    ∷ [])
+    ∷ []
+
+-- the first of them; None where it is granted
+abbrev pub copy_rule : List Region → Access → ℕ → Option Rule
+copy_rule regions access address = first_true (copy_tests regions access address)
 
 abbrev pub is_aligned : ℕ → ℕ → Bool
 is_aligned address width = address % width == 0

@@ -1,0 +1,243 @@
+-- The parts of a process that an image makes.
+use Rattle.std.proofs.Common.{◌≡◌, ℕ, zero, suc, ◌+◌, ◌*◌, ◌/◌, ◌<◌, ◌≤◌, ◌^◌, true, length, get_or, take, List, [], ◌∷◌, ◌++◌, map, None, Result, Ok, Err, refl, ap, sym, subst, ◌∙◌, arith}
+use Rattle.std.specs.Prelude.{flat_map, IfOk}
+use Rattle.std.proofs.lemmas.Grind.{flat_map-append}
+use Rattle.std.proofs.Math.Seq.{drop-nil, take-suc}
+use Rattle.std.proofs.lemmas.List.{append_assoc, length-append, length-map, length-take-le, map-append, take_all}
+use Rattle.process_model.specs.Bytes.{padded, pages_for}
+use Rattle.process_model.specs.Frames.{start_need, tables_needed}
+use Rattle.process_model.specs.Images.{LoadSegment, end_of_loads, end_page}
+use Rattle.process_model.specs.Loading.{guard_at, image_pages, load_pages, numbered, page_run, parts_of, process_of, segment_region, stack_at}
+use Rattle.process_model.specs.PageMap.{from_list, numbers}
+use Rattle.process_model.specs.Process.{Process}
+use Rattle.process_model.specs.Regions.{Region, end_of}
+use Rattle.sv39_entry.specs.Address.{page_of, trapframe_page}
+use Rattle.address_space.specs.Agreement.{makes_leaf}
+use Rattle.address_space.specs.Layouts.{last_page}
+use Rattle.address_space.specs.Parts.{AreParts, build_need, IsAscending, pages_of, part_pages, process_of_parts, region_in, regions_in}
+use Rattle.address_space.specs.declared.part.Part.{Part}
+use Rattle.address_space.specs.declared.region.RegionKind.TheVariants as RegionKind
+use Rattle.exec_segments.specs.Loads.{AreInOrder, AreLoads, IsLoad, load_of, page_region}
+use Rattle.exec_segments.specs.declared.image.Load.{Load}
+use Rattle.exec_segments.proofs.Judged.{last_behind}
+
+-- a part is that of a segment
+pub record IsPartOf (p : Part) (l : LoadSegment) : Type 0 where
+  pub region : region_in p ≡ segment_region l
+  pub bytes : p.bytes.now ≡ l.bytes
+
+abbrev pub ArePartsOf : List Part → List LoadSegment → Type 0
+ArePartsOf [] [] = Unit {0}
+ArePartsOf (p ∷ ps) (l ∷ ls) = IsPartOf p l × ArePartsOf ps ls
+ArePartsOf _ _ = ⊥
+
+pub one_part_more : (ps : List Part) (ls : List LoadSegment) (p : Part) (l : LoadSegment) → ArePartsOf ps ls → IsPartOf p l → ArePartsOf (ps ++ p ∷ []) (ls ++ l ∷ [])
+one_part_more [] [] p l are is = (is, tt)
+one_part_more [] (k ∷ ls) p l are is = elim are [ ]
+one_part_more (q ∷ ps) [] p l are is = elim are [ ]
+one_part_more (q ∷ ps) (k ∷ ls) p l are is = (are.0, one_part_more ps ls p l are.1 is)
+
+same_length : (ps : List Part) (ls : List LoadSegment) → ArePartsOf ps ls → length ps ≡ length ls
+same_length [] [] are = refl
+same_length [] (l ∷ ls) are = elim are [ ]
+same_length (p ∷ ps) [] are = elim are [ ]
+same_length (p ∷ ps) (l ∷ ls) are = ap suc (same_length ps ls are.1)
+
+pages_are : (p : Part) (first n : ℕ) (bytes : List ℕ) → p.region.first ≡ first → p.region.pages ≡ n → p.bytes.now ≡ bytes → part_pages p ≡ page_run first bytes n
+pages_are p first n bytes at many is = rw (at, many, is) refl
+
+part_pages_are : (p : Part) (l : LoadSegment) → IsPartOf p l → part_pages p ≡ load_pages l
+part_pages_are p l is = pages_are p _ _ _ (ap (λ (r : Region). r.first) is.region) (ap (λ (r : Region). r.pages) is.region) is.bytes
+
+-- the page after a segment's last
+end_is : (end : ℕ) (p : Part) (l : LoadSegment) → IsPartOf p l → IsLoad end l → end_of (region_in p) ≡ end_page l
+end_is end p l is load =
+    let first : p.region.first ≡ l.address / 4096 = ap (λ (r : Region). r.first) is.region in
+    let pages : p.region.pages ≡ pages_for l.memory_size = ap (λ (r : Region). r.pages) is.region in
+    let aligned = load.aligned in
+    omega (arith, first, pages, aligned)
+
+-- what holds of each part, one after another
+abbrev Each : (Part → Type 0) → List Part → Type 0
+Each P [] = Unit {0}
+Each P (p ∷ ps) = P p × Each P ps
+
+each_all : (P : Part → Type 0) (ps : List Part) → Each P ps → (i : ℕ) (d : Part) → i < length ps → P (get_or ps i d)
+each_all P [] each i d low = absurd (omega arith)
+each_all P (p ∷ ps) each zero d low = each.0
+each_all P (p ∷ ps) each (suc i) d low = each_all P ps each.1 i d (omega arith)
+
+abbrev IsLow : Part → Type 0
+IsLow p = p.region.first + p.region.pages ≤ trapframe_page
+
+abbrev IsLeafy : Part → Type 0
+IsLeafy p = makes_leaf (region_in p) ≡ true
+
+-- below the trapframe there is room for two pages more
+ends_low : (end : ℕ) (ls : List LoadSegment) → AreInOrder end ls → end + 2 ≤ trapframe_page → end_of_loads end ls + 2 ≤ trapframe_page
+ends_low end [] ordered low = low
+ends_low end (l ∷ ls) ordered low = ends_low (end_page l) ls ordered.1 (ordered.0).high
+
+module _ (g s : Part) where
+  abbrev whole : List Part → List Part
+  whole ps = ps ++ g ∷ s ∷ []
+
+  regions_are : (ps : List Part) (ls : List LoadSegment) → ArePartsOf ps ls → map region_in ps ≡ map segment_region ls
+  regions_are [] [] are = refl
+  regions_are [] (l ∷ ls) are = elim are [ ]
+  regions_are (p ∷ ps) [] are = elim are [ ]
+  regions_are (p ∷ ps) (l ∷ ls) are = rw ((are.0).region) (ap (λ rs. segment_region l ∷ rs) (regions_are ps ls are.1))
+
+  all_pages_are : (ps : List Part) (ls : List LoadSegment) → ArePartsOf ps ls → flat_map part_pages ps ≡ flat_map load_pages ls
+  all_pages_are [] [] are = refl
+  all_pages_are [] (l ∷ ls) are = elim are [ ]
+  all_pages_are (p ∷ ps) [] are = elim are [ ]
+  all_pages_are (p ∷ ps) (l ∷ ls) are = rw (part_pages_are p l are.0) (ap (λ es. load_pages l ++ es) (all_pages_are ps ls are.1))
+
+  last_is : (end : ℕ) (ps : List Part) → last_page end (regions_in (whole ps)) ≡ end_of (region_in s)
+  last_is end [] = refl
+  last_is end (p ∷ ps) = last_is (end_of (region_in p)) ps
+
+  module _ (rest_low : (IsLow g × IsLow s)) (rest_leafy : (IsLeafy g × IsLeafy s)) where
+    low : (end : ℕ) (ps : List Part) (ls : List LoadSegment) → ArePartsOf ps ls → AreInOrder end ls → Each IsLow (whole ps)
+    low end [] [] are ordered = (rest_low.0, (rest_low.1, tt))
+    low end [] (l ∷ ls) are ordered = elim are [ ]
+    low end (p ∷ ps) [] are ordered = elim are [ ]
+    low end (p ∷ ps) (l ∷ ls) are ordered =
+        ((let last = end_is end p l are.0 ordered.0 in let high = (ordered.0).high in omega (arith, last, high)), low (end_page l) ps ls are.1 ordered.1)
+
+    leafy : (ps : List Part) (ls : List LoadSegment) → ArePartsOf ps ls → Each IsLeafy (whole ps)
+    leafy [] [] are = (rest_leafy.0, (rest_leafy.1, tt))
+    leafy [] (l ∷ ls) are = elim are [ ]
+    leafy (p ∷ ps) [] are = elim are [ ]
+    leafy (p ∷ ps) (l ∷ ls) are = (ap makes_leaf (are.0).region, leafy ps ls are.1)
+
+  ascending : (end : ℕ) (ps : List Part) (ls : List LoadSegment) → ArePartsOf ps ls → AreInOrder end ls → end_of_loads end ls ≤ g.region.first → end_of (region_in g) ≤ s.region.first → IsAscending end (whole ps)
+  ascending end [] [] are ordered first second = (first, (second, tt))
+  ascending end [] (l ∷ ls) are ordered first second = elim are [ ]
+  ascending end (p ∷ ps) [] are ordered first second = elim are [ ]
+  ascending end (p ∷ ps) (l ∷ ls) are ordered first second =
+      let last = end_is end p l are.0 ordered.0 in
+      let at : p.region.first ≡ page_of l.address = ap (λ (r : Region). r.first) (are.0).region in
+      let behind = (ordered.0).in_order in
+      (omega (arith, at, behind), subst (λ n. IsAscending n (whole ps)) (sym last) (ascending (end_page l) ps ls are.1 ordered.1 first second))
+
+-- the process of regions, pages and where its heap begins
+abbrev made : ℕ → List Region → List (ℕ × List ℕ) → ℕ → Process
+made fresh rs es end = record {
+  parts = rs;
+  mappings = [];
+  heap_base = 4096 * end;
+  size = 4096 * end;
+  settled = from_list (numbered fresh es);
+  tabled = numbers (map (λ e. e.0) es);
+  pending = None;
+}
+
+abbrev need_of : List (ℕ × List ℕ) → ℕ
+need_of es = 1 + length es + tables_needed (map (λ e. e.0) es)
+
+-- the parts of an image: those of its segments, the guard and the stack
+module _ (ps : List Part) (ls : List LoadSegment) (g s : Part) (are : ArePartsOf ps ls) (loads : AreLoads ls)
+    (guard_is : region_in g ≡ guard_at (end_of_loads 0 ls)) (stack_is : region_in s ≡ stack_at (end_of_loads 0 ls + 1)) (no_bytes : g.bytes.now ≡ []) (none : s.bytes.now ≡ []) where
+  all_regions : regions_in (whole g s ps) ≡ parts_of ls
+  all_regions = map-append region_in ps (g ∷ s ∷ []) ∙ ap (λ rs. rs ++ region_in g ∷ region_in s ∷ []) (regions_are g s ps ls are)
+      ∙ ap (λ r. map segment_region ls ++ r ∷ region_in s ∷ []) guard_is ∙ ap (λ r. map segment_region ls ++ guard_at (end_of_loads 0 ls) ∷ r ∷ []) stack_is
+
+  last_pages : flat_map part_pages (g ∷ s ∷ []) ≡ page_run (end_of_loads 0 ls) [] 2
+  last_pages =
+      let guard_pages = pages_are g (end_of_loads 0 ls) 1 [] (ap (λ (r : Region). r.first) guard_is) (ap (λ (r : Region). r.pages) guard_is) no_bytes in
+      let stack_pages = pages_are s (end_of_loads 0 ls + 1) 1 [] (ap (λ (r : Region). r.first) stack_is) (ap (λ (r : Region). r.pages) stack_is) none in
+      rw (guard_pages, stack_pages) (ap (λ bs. (end_of_loads 0 ls, padded 4096 []) ∷ page_run (end_of_loads 0 ls + 1) bs 1) (sym (drop-nil 4096)))
+
+  all_pages : pages_of (whole g s ps) ≡ image_pages ls
+  all_pages = flat_map-append part_pages ps (g ∷ s ∷ []) ∙ ap (λ es. es ++ flat_map part_pages (g ∷ s ∷ [])) (all_pages_are g s ps ls are)
+      ∙ ap (λ es. flat_map load_pages ls ++ es) last_pages
+
+  last_page_is : last_page 0 (regions_in (whole g s ps)) ≡ end_of_loads 0 ls + 2
+  last_page_is = last_is g s 0 ps ∙ ap end_of stack_is ∙ omega arith
+
+  pub begins : (fresh : ℕ) → process_of_parts fresh (whole g s ps) ≡ process_of fresh ls
+  unfolding process_of
+  begins fresh = ap (λ rs. made fresh rs (pages_of (whole g s ps)) (last_page 0 (regions_in (whole g s ps)))) all_regions
+      ∙ ap (λ es. made fresh (parts_of ls) es (last_page 0 (regions_in (whole g s ps)))) all_pages ∙ ap (made fresh (parts_of ls) (image_pages ls)) last_page_is
+
+  pub needs : build_need (whole g s ps) ≡ start_need ls
+  needs =
+      let numbers_many = length-map (image_pages ls) (λ (e : ℕ × List ℕ). e.0) in
+      ap need_of all_pages ∙ omega (arith, numbers_many)
+
+  pub are_parts : AreParts (whole g s ps)
+  are_parts =
+      let first : g.region.first ≡ end_of_loads 0 ls = ap (λ (r : Region). r.first) guard_is in
+      let one : g.region.pages ≡ 1 = ap (λ (r : Region). r.pages) guard_is in
+      let second : s.region.first ≡ end_of_loads 0 ls + 1 = ap (λ (r : Region). r.first) stack_is in
+      let two : s.region.pages ≡ 1 = ap (λ (r : Region). r.pages) stack_is in
+      let high = ends_low 0 ls loads.in_order (omega arith) in
+      let both_low : (IsLow g × IsLow s) = (omega (arith, first, one, high), omega (arith, second, two, high)) in
+      let both_leafy : (IsLeafy g × IsLeafy s) = (ap makes_leaf guard_is, ap makes_leaf stack_is) in
+      record {
+        few = let longer = length-append ps (g ∷ s ∷ []) in let same = same_length ps ls are in let most = loads.few in omega (arith, longer, same, most);
+        ascending = ascending g s 0 ps ls are loads.in_order (omega (arith, first)) (omega (arith, first, one, second));
+        low = each_all IsLow (whole g s ps) (low g s both_low both_leafy 0 ps ls are loads.in_order);
+        leafy = each_all IsLeafy (whole g s ps) (leafy g s both_low both_leafy ps ls are);
+      }
+
+-- one more of the segments in a row
+module _ (loads : List Load) (i : ℕ) (e : Load) (low : i < length loads) where
+  next : map load_of (take (i + 1) loads) ≡ map load_of (take i loads) ++ load_of (get_or loads i e) ∷ []
+  next =
+      let one_on : i + 1 ≡ suc i = omega arith in
+      ap (λ n. map load_of (take n loads)) one_on ∙ ap (map load_of) (take-suc loads i e low) ∙ map-append load_of (take i loads) (get_or loads i e ∷ [])
+
+  pub part_forward : (ps after : List Part) (p : Part) → ArePartsOf ps (map load_of (take i loads)) → IsPartOf p (load_of (get_or loads i e)) → after ≡ ps ++ p ∷ []
+      → ArePartsOf after (map load_of (take (i + 1) loads))
+  part_forward ps after p are part is =
+      subst (λ qs. ArePartsOf qs (map load_of (take (i + 1) loads))) (sym is) (subst (ArePartsOf (ps ++ p ∷ [])) (sym next) (one_part_more ps _ p _ are part))
+
+  pub end_forward : end_of_loads 0 (map load_of (take (i + 1) loads)) ≡ end_page (load_of (get_or loads i e))
+  end_forward = ap (end_of_loads 0) next ∙ last_behind 0 (map load_of (take i loads)) (load_of (get_or loads i e))
+
+-- each segment ends below the trapframe
+load_low : (end : ℕ) (loads : List Load) (i : ℕ) (e : Load) → AreInOrder end (map load_of loads) → i < length loads → end_page (load_of (get_or loads i e)) + 2 ≤ trapframe_page
+load_low end [] i e ordered low = absurd (omega arith)
+load_low end (l ∷ loads) zero e ordered low = (ordered.0).high
+load_low end (l ∷ loads) (suc i) e ordered low = load_low (end_page (load_of l)) loads i e ordered.1 (omega arith)
+
+pub load_fits : (loads : List Load) (i : ℕ) (e : Load) → AreLoads (map load_of loads) → i < length loads → (get_or loads i e).address + (get_or loads i e).memory_size < 2 ^ 64
+load_fits loads i e are low = let high = load_low 0 loads i e are.in_order low in omega (arith, high)
+
+-- so many parts
+pub room : (loads : List Load) (i : ℕ) (ps : List Part) → AreLoads (map load_of loads) → i ≤ length loads → ArePartsOf ps (map load_of (take i loads)) → length ps ≤ 16
+room loads i ps are low parts =
+    let same = same_length ps _ parts in
+    let mapped = length-map (take i loads) load_of in
+    let taken = length-take-le i loads low in
+    let all = length-map loads load_of in
+    let few = are.few in
+    omega (arith, same, mapped, taken, all, few, low)
+
+pub end_fits : (loads : List Load) (end : ℕ) → AreLoads (map load_of loads) → end ≡ end_of_loads 0 (map load_of loads) → end + 2 ≤ trapframe_page
+end_fits loads end are is = let high = ends_low 0 (map load_of loads) are.in_order (omega arith) in omega (arith, high, is)
+
+-- all of them
+pub all_parts : (loads : List Load) (i : ℕ) (ps : List Part) → length loads ≤ i → ArePartsOf ps (map load_of (take i loads)) → ArePartsOf ps (map load_of loads)
+all_parts loads i ps over parts = subst (λ ls. ArePartsOf ps (map load_of ls)) (take_all i loads over) parts
+
+pub all_end : (loads : List Load) (i end : ℕ) → length loads ≤ i → end ≡ end_of_loads 0 (map load_of (take i loads)) → end ≡ end_of_loads 0 (map load_of loads)
+all_end loads i end over is = is ∙ ap (λ ls. end_of_loads 0 (map load_of ls)) (take_all i loads over)
+
+-- the guard and the stack behind them
+pub two_behind : (ps first second : List Part) (g s : Part) → first ≡ ps ++ g ∷ [] → second ≡ first ++ s ∷ [] → second ≡ ps ++ g ∷ s ∷ []
+two_behind ps first second g s one two = two ∙ ap (λ qs. qs ++ s ∷ []) one ∙ append_assoc ps (g ∷ []) (s ∷ [])
+
+pub guard_is : (g : Part) (end rights : ℕ) → region_in g ≡ page_region end RegionKind.Guard rights → rights ≡ 0 → region_in g ≡ guard_at end
+guard_is g end rights is none = is ∙ rw none refl
+
+pub stack_is : (s : Part) (end rights : ℕ) → region_in s ≡ page_region (end + 1) RegionKind.Stack rights → rights ≡ 3 → region_in s ≡ stack_at (end + 1)
+stack_is s end rights is three = is ∙ rw three refl
+
+-- what holds of a success
+pub if_ok : {A E : Type 0} {P Q : A → Type 0} (r : Result A E) → IfOk r P → ((x : A) → P x → Q x) → IfOk r Q
+if_ok (Ok x) holds more = more x holds
+if_ok (Err e) holds more = holds

@@ -1,0 +1,73 @@
+-- The segments of an accepted image.
+use Rattle.std.specs.Prelude.{◌≡◌, ℕ, Bool, true, ◌+◌, ◌%◌, ◌<◌, ◌≤◌, List, [], ◌∷◌, length, refl}
+use Rattle.std.specs.Coded.{Coded, code_by, coded×, coded_ℕ, coded_bool, coded_list}
+use Rattle.process_model.specs.Images.{LoadSegment, end_page}
+use Rattle.sv39_entry.specs.Address.{page_of, trapframe_page}
+use Rattle.process_model.specs.declared.image.Segment.{Segment}
+use Rattle.process_model.specs.Regions.{Region, zeros}
+use Rattle.sv39_entry.specs.Rights.{executes, reads, writes}
+use Rattle.address_space.specs.Layouts.{region_kind}
+use Rattle.address_space.specs.declared.region.RegionKind.{RegionKind}
+use Rattle.exec_segments.specs.declared.image.Load.{Load}
+
+-- a segment as the model has it
+abbrev pub load_of : Load → LoadSegment
+load_of l = record {
+  address = l.address;
+  memory_size = l.memory_size;
+  file_size = length l.bytes.now;
+  writes = l.writes;
+  executes = l.executes;
+  inside = true;
+  bytes = l.bytes.now;
+}
+
+abbrev pub load_code : Coded LoadSegment
+load_code = code_by (ℕ × (ℕ × (ℕ × (Bool × (Bool × (Bool × List ℕ))))))
+    (coded× coded_ℕ (coded× coded_ℕ (coded× coded_ℕ (coded× coded_bool (coded× coded_bool (coded× coded_bool (coded_list coded_ℕ)))))))
+    (λ l. (l.address, (l.memory_size, (l.file_size, (l.writes, (l.executes, (l.inside, l.bytes)))))))
+    (λ p. record { address = p.0; memory_size = p.1.0; file_size = p.1.1.0; writes = p.1.1.1.0; executes = p.1.1.1.1.0; inside = p.1.1.1.1.1.0; bytes = p.1.1.1.1.1.1 })
+    (λ _. refl)
+
+-- a segment with pages, after the page where the one before it ends
+pub record IsLoad (end : ℕ) (l : LoadSegment) : Type 0 where
+  pub some : 0 < l.memory_size
+  pub sizes : length l.bytes ≤ l.memory_size
+  pub aligned : l.address % 4096 ≡ 0
+  pub high : end_page l + 2 ≤ trapframe_page
+  pub in_order : end ≤ page_of l.address
+
+-- segments in ascending order, and apart
+abbrev pub AreInOrder : ℕ → List LoadSegment → Type 0
+AreInOrder end [] = Unit {0}
+AreInOrder end (l ∷ ls) = IsLoad end l × AreInOrder (end_page l) ls
+
+-- an accepted image has a segment with pages, and at most 16
+pub record AreLoads (ls : List LoadSegment) : Type 0 where
+  pub some : 1 ≤ length ls
+  pub few : length ls ≤ 16
+  pub in_order : AreInOrder 0 ls
+
+-- a segment of a list, to be judged
+abbrev pub segment_load : Segment → LoadSegment
+segment_load s = record {
+  address = s.address;
+  memory_size = s.memory_size;
+  file_size = length s.bytes;
+  writes = s.writes;
+  executes = s.executes;
+  inside = true;
+  bytes = s.bytes;
+}
+
+-- a region of one page of zeros
+abbrev pub page_region : ℕ → RegionKind → ℕ → Region
+page_region first kind rights = record {
+  first = first;
+  pages = 1;
+  reads = reads rights;
+  writes = writes rights;
+  executes = executes rights;
+  kind = region_kind kind;
+  source = zeros;
+}

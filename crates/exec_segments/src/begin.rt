@@ -1,0 +1,103 @@
+// Processes that begin.
+
+ghost use Rattle.std.specs.Prelude.{[], ◌≡◌, ◌-◌, ◌<◌, ◌≤◌, ◌↔◌, if◌then◌else◌, IfErr, IfOk, is_ok, IsOk, map, ℕ};
+ghost use Rattle.address_space.specs.Agreement.{Agrees, HoldsTrampoline};
+ghost use Rattle.address_space.specs.Layouts.{region_of};
+ghost use Rattle.address_space.specs.Parts.{AreParts, build_need, OwnsAlone, process_of_parts};
+ghost use Rattle.address_space.specs.Steps.{Takes};
+ghost use Rattle.exec_segments.specs.Loads.{AreLoads, load_of, page_region};
+ghost use Rattle.frame_store.specs.Laws.{Fits, IsDry, Keeps};
+ghost use Rattle.process_model.specs.Frames.{start_need};
+ghost use Rattle.process_model.specs.Loading as model;
+ghost use Rattle.table_walk.specs.Image as tables;
+
+use crate::image::{Image, Load};
+use address_space::{Part, Region, RegionKind, Source, Space};
+use arrayvec::ArrayVec;
+use bitflags::Flags;
+use frame_store::{FrameSeat, FrameSupply, NoFrame};
+use sv39_entry::{PAGE_SIZE, Rights};
+
+/// Starts a process of an image, on a seat that holds the trampoline's frame and nothing else. All that it takes is
+/// reserved at once, before anything is built; where it is not there the seat comes back as it was.
+pub fn start<F: FrameSupply<Seat = S>, S: FrameSeat>(
+    store: &mut F,
+    seat: S,
+    image: &Image,
+) -> Result<Space<S>, (NoFrame, S)>
+    requires fits { Fits F.rule store.old seat }
+    requires seat { HoldsTrampoline (S.view seat) }
+    ensures started { IfOk result (λ s. (t : tables.Image) × ((fresh : ℕ) → Agrees (S.view s.seat) s.root.0 s.trapframe.0 s.layout t (model.process_of fresh image.now)) × OwnsAlone (S.view s.seat) t) }
+    ensures takes { IfOk result (λ s. Takes (S.view seat) (S.view s.seat) (start_need image.now) []) }
+    ensures refused { IfErr result (λ e. IsDry (start_need image.now) (S.view seat) (S.view e.1)) }
+    ensures exact { F.alone → IsOk result ↔ (start_need image.now ≤ F.free store.old) }
+    ensures free { F.alone → F.free store.new ≡ F.free store.old - (if is_ok result then start_need image.now else 0) }
+    ensures keeps { IfOk result (λ s. Keeps F.rule store.old seat store.new s.seat) }
+    ensures keeps_refused { IfErr result (λ e. Keeps F.rule store.old seat store.new e.1) }
+{
+    let parts = parts_of(image.loads.as_slice());
+    Space::build(store, seat, parts.as_slice())
+}
+
+/// The parts of a process: its segments, and after the last one a guard page and a stack page (the xv6 book, "Code:
+/// exec").
+fn parts_of<'a>(loads: &[Load<'a>]) -> ArrayVec<Part<'a>, 18>
+    requires { AreLoads (map load_of loads.now) }
+    ensures parts { AreParts result.items }
+    ensures process { (fresh : ℕ) → process_of_parts fresh result.items ≡ model.process_of fresh (map load_of loads.now) }
+    ensures need { build_need result.items ≡ start_need (map load_of loads.now) }
+{
+    let mut parts = ArrayVec::new();
+    let mut end = 0;
+    'loads: for load in loads {
+        parts.push(load.part());
+        end = load.end_page();
+    }
+    parts.push(page_part(end, RegionKind::Guard, Rights::empty()));
+    let mut rights = Rights::READ;
+    rights.insert(Rights::WRITE);
+    parts.push(page_part(end + 1, RegionKind::Stack, rights));
+    parts
+}
+
+impl<'a> Load<'a> {
+    /// The segment as a region with its bytes: it may always be read.
+    fn part(&self) -> Part<'a>
+        ensures region { region_of result.region ≡ model.segment_region (load_of self.now) }
+        ensures bytes { result.bytes.now ≡ self.now.bytes.now }
+    {
+        let mut rights = Rights::READ;
+        if self.writes {
+            rights.insert(Rights::WRITE);
+        }
+        if self.executes {
+            rights.insert(Rights::EXECUTE);
+        }
+        let region = Region {
+            first: self.address / PAGE_SIZE,
+            pages: self.memory_size.div_ceil(PAGE_SIZE),
+            rights,
+            kind: RegionKind::Segment,
+            source: Source::Image,
+        };
+        Part {
+            region,
+            bytes: self.bytes,
+        }
+    }
+}
+
+/// One page of zeros.
+fn page_part(first: u64, kind: RegionKind, rights: Rights) -> Part<'static>
+    ensures region { region_of result.region ≡ page_region first kind rights.0 }
+    ensures bytes { result.bytes.now ≡ [] }
+{
+    let region = Region {
+        first,
+        pages: 1,
+        rights,
+        kind,
+        source: Source::Zeros,
+    };
+    Part { region, bytes: &[] }
+}

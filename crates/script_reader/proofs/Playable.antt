@@ -1,0 +1,191 @@
+-- What is read as a script can be played: the machine boots, and what a line names was declared.
+use Rattle.std.proofs.Common.{◌≡◌, ℕ, ◌+◌, ◌<◌, ◌≤◌, Bool, true, false, List, [], ◌∷◌, ◌++◌, length, Option, Some, None, Result, Ok, Err, refl, sym, subst, arith, get_or, length-append}
+use Rattle.std.specs.Prelude.{IfOk, All, nat_lt, nat_le, ◌&&◌, if◌then◌else◌}
+use Rattle.std.specs.List.{list_all}
+use Rattle.std.proofs.lemmas.List.Elements.{All-nil, All-cons, All-append}
+use Rattle.process_model.specs.Fields.{row_among, values_of}
+use Rattle.process_model.specs.Lines.{raw_lines, without_return, fields_of}
+use Rattle.process_model.specs.Script.{Format, Draft, Script, Read, ◌>>=◌, with_item, row_named, test, in_order, item_of, in_limits, has_room, has_file, item_line, is_comment, is_ascii, some_item, fields_line, line_of, with_line, next_line, read_lines, whole_with, whole, longest_script, script_by, no_lines}
+use Rattle.process_model.specs.declared.config.Config.{Config}
+use Rattle.process_model.specs.declared.file.FileText.{FileText}
+use Rattle.process_model.specs.declared.image.OwnedImage.{OwnedImage}
+use Rattle.process_model.specs.declared.script.Cause.{Cause}
+use Rattle.process_model.specs.declared.script.Cause.TheVariants as cause
+use Rattle.process_model.specs.declared.script.Command.{Command}
+use Rattle.process_model.specs.declared.script.Command.TheVariants as command
+use Rattle.process_model.specs.declared.script.FieldValue.{FieldValue}
+use Rattle.process_model.specs.declared.script.Item.{Item}
+use Rattle.process_model.specs.declared.script.Item.TheVariants as item
+use Rattle.process_model.specs.declared.script.Keyword.{Keyword}
+use Rattle.process_model.specs.declared.script.Keyword.TheVariants as word
+use Rattle.script_reader.specs.Gives.{Answers}
+use Rattle.script_reader.specs.Playable.{CanBoot, FitsFile, IsDeclared, IsPlayable}
+use Rattle.script_reader.specs.declared.fault.ScriptError.{ScriptError}
+
+-- what holds of the lines so far, of an item after them, and of what a line says
+abbrev CanBootIf : Option Config → Type 0
+CanBootIf None = Unit {0}
+CanBootIf (Some c) = CanBoot c
+
+record IsSound (d : Draft) : Type 0 where
+  pub boots : CanBootIf d.config
+  pub files : All FitsFile d.files
+  pub commands : All (IsDeclared d.files d.images) d.commands
+
+abbrev Fits : Draft → Item → Type 0
+Fits d (item.File f) = FitsFile f
+Fits d (item.Image i) = Unit {0}
+Fits d (item.Boot c) = CanBoot c
+Fits d (item.Command c) = IsDeclared d.files d.images c
+
+abbrev FitsIf : Draft → Option Item → Type 0
+FitsIf d None = Unit {0}
+FitsIf d (Some i) = Fits d i
+
+abbrev IsSoundRead : Read → Type 0
+IsSoundRead (Ok x) = IsSound x.0
+IsSoundRead (Err f) = Unit {0}
+
+-- more files and images keep what is said of them
+still_declared : (fs gs : List FileText) (is js : List OwnedImage) (c : Command) → length fs ≤ length gs → length is ≤ length js → IsDeclared fs is c → IsDeclared gs js c
+still_declared fs gs is js (command.One s) l m h = tt
+still_declared fs gs is js (command.Start n) l m h = omega (arith, h)
+still_declared fs gs is js (command.Exec hart n) l m h = omega (arith, h)
+still_declared fs gs is js (command.CopyOut hart a bytes) l m h = h
+still_declared fs gs is js (command.On hart s) l m h = tt
+still_declared fs gs is js (command.Enter hart) l m h = tt
+still_declared fs gs is js (command.Leave hart) l m h = tt
+still_declared fs gs is js (command.Fix hart) l m h = tt
+still_declared fs gs is js (command.Show n offset count) l m h = (omega (arith, h.0), h.1)
+still_declared fs gs is js command.Audit l m h = tt
+
+all_declared : (fs gs : List FileText) (is js : List OwnedImage) (cs : List Command) → length fs ≤ length gs → length is ≤ length js → All (IsDeclared fs is) cs → All (IsDeclared gs js) cs
+all_declared fs gs is js cs l m h = λ k d lt. still_declared fs gs is js (get_or cs k d) l m (h k d lt)
+
+all_and_one : {A : Type 0} (P : A → Type 0) (xs : List A) (x : A) → All P xs → P x → All P (xs ++ x ∷ [])
+all_and_one P xs x h one = All-append P xs (x ∷ []) h (All-cons P x [] one (All-nil P))
+
+item_kept : (d : Draft) (i : Item) → IsSound d → Fits d i → IsSound (with_item d i)
+item_kept d (item.File f) s fits = record {
+  boots = s.boots;
+  files = all_and_one FitsFile d.files f s.files fits;
+  commands = all_declared d.files (d.files ++ f ∷ []) d.images d.images d.commands (omega (arith, length-append d.files (f ∷ []))) (omega arith) s.commands;
+}
+item_kept d (item.Image i) s fits = record {
+  boots = s.boots;
+  files = s.files;
+  commands = all_declared d.files d.files d.images (d.images ++ i ∷ []) d.commands (omega arith) (omega (arith, length-append d.images (i ∷ []))) s.commands;
+}
+item_kept d (item.Boot c) s fits = record { boots = fits; files = s.files; commands = s.commands }
+item_kept d (item.Command c) s fits = record { boots = s.boots; files = s.files; commands = all_and_one (IsDeclared d.files d.images) d.commands c s.commands fits }
+
+-- steps in a row
+
+followed : {A B : Type 0} (r : Result A Cause) (f : A → Result B Cause) (Q : B → Type 0) → ((a : A) → IfOk (f a) Q) → IfOk (r >>= f) Q
+followed (Ok a) f Q g = g a
+followed (Err e) f Q g = tt
+
+then_fits : {A B : Type 0} (r : Result A Cause) (f : A → Result B Cause) (P : A → Type 0) (Q : B → Type 0) → IfOk r P → ((a : A) → P a → IfOk (f a) Q) → IfOk (r >>= f) Q
+then_fits (Ok a) f P Q p g = g a p
+then_fits (Err e) f P Q p g = tt
+
+limited : (d : Draft) (b : Bool) (i : Item) → (b ≡ true → Fits d i) → IfOk (in_limits b i) (Fits d)
+limited d true i p = p refl
+limited d false i p = tt
+
+below : (a b : ℕ) → nat_lt a b ≡ true → a < b
+below a b e = grind arith
+
+at_most : (a b : ℕ) → nat_le a b ≡ true → a ≤ b
+at_most a b e = grind arith
+
+shown : (d : Draft) (n count most : ℕ) → (has_file d n && nat_le count most) ≡ true → (n < length d.files) × (count ≤ most)
+shown d n count most e = (grind arith, grind arith)
+
+-- an item fits the lines before it
+item_fits : (d : Draft) (w : Keyword) (vs : List FieldValue) → IfOk (item_of d w vs) (Fits d)
+item_fits d word.File vs = limited d _ _ (λ e. e)
+item_fits d word.Image vs = tt
+item_fits d word.Elf vs = tt
+item_fits d word.Boot vs = limited d _ _ (λ e. e)
+item_fits d word.Start vs = limited d _ _ (λ e. below _ _ e)
+item_fits d word.Switch vs = tt
+item_fits d word.Trap vs = tt
+item_fits d word.Next vs = tt
+item_fits d word.Fill vs = tt
+item_fits d word.Evict vs = tt
+item_fits d word.Fetch vs = tt
+item_fits d word.Load vs = limited d _ _ (λ e. tt)
+item_fits d word.Store vs = limited d _ _ (λ e. tt)
+item_fits d word.Tramp vs = tt
+item_fits d word.Serve vs = tt
+item_fits d word.Fork vs = tt
+item_fits d word.Exec vs = limited d _ _ (λ e. below _ _ e)
+item_fits d word.Sbrk vs = tt
+item_fits d word.Mmap vs = tt
+item_fits d word.Munmap vs = tt
+item_fits d word.CopyIn vs = limited d _ _ (λ e. tt)
+item_fits d word.CopyOut vs = limited d _ _ (λ e. at_most _ _ e)
+item_fits d word.Exit vs = limited d _ _ (λ e. tt)
+item_fits d word.Show vs = limited d _ _ (λ e. shown d _ _ _ e)
+item_fits d word.Audit vs = tt
+item_fits d word.On vs = tt
+item_fits d word.Enter vs = tt
+item_fits d word.Leave vs = tt
+item_fits d word.Fix vs = tt
+
+item_line_fits : (form : Format) (d : Draft) (text : List ℕ) (fields : List (List ℕ)) → IfOk (item_line form d text fields) (Fits d)
+unfolding item_line
+item_line_fits form d text fields =
+    followed (row_named (row_among form.table text)) _ (Fits d)
+    (λ r. followed (test (in_order d r.word) _) _ (Fits d)
+    (λ u. followed (values_of r fields) _ (Fits d)
+    (λ vs. followed (test (list_all form.takes vs) _) _ (Fits d)
+    (λ u. then_fits (item_of d r.word vs) _ (Fits d) (Fits d) (item_fits d r.word vs)
+    (λ i fits. followed (test (has_room d i) _) _ (Fits d) (λ u. fits))))))
+
+some_fits : (d : Draft) (r : Result Item Cause) → IfOk r (Fits d) → IfOk (some_item r) (FitsIf d)
+some_fits d (Ok i) h = h
+some_fits d (Err c) h = tt
+
+fields_fit : (form : Format) (d : Draft) (fields : List (List ℕ)) → IfOk (fields_line form d fields) (FitsIf d)
+fields_fit form d [] = tt
+fields_fit form d (text ∷ fields) = elim (is_comment text) as (λ b. IfOk (if b then Ok None else some_item (item_line form d text fields)) (FitsIf d)) [ true ↦ tt | false ↦ some_fits d _ (item_line_fits form d text fields) ]
+
+line_fits : (form : Format) (d : Draft) (line : List ℕ) → IfOk (line_of form d line) (FitsIf d)
+unfolding line_of
+line_fits form d line =
+    followed (test (nat_le (length line) _) _) _ (FitsIf d) (λ u. followed (test (is_ascii line) _) _ (FitsIf d) (λ u. fields_fit form d (fields_of line)))
+
+line_kept : (d : Draft) (n : ℕ) (r : Result (Option Item) Cause) → IsSound d → IfOk r (FitsIf d) → IsSoundRead (with_line d n r)
+line_kept d n (Ok None) s fits = s
+line_kept d n (Ok (Some i)) s fits = item_kept d i s fits
+line_kept d n (Err c) s fits = tt
+
+lines_kept : (form : Format) (read : Read) (lines : List (List ℕ)) → IsSoundRead read → IsSoundRead (read_lines form read lines)
+lines_kept form read [] s = s
+lines_kept form (Ok x) (line ∷ lines) s = lines_kept form (next_line form (Ok x) line) lines (line_kept x.0 (x.1 + 1) (line_of form x.0 (without_return line)) s (line_fits form x.0 (without_return line)))
+lines_kept form (Err f) (line ∷ lines) s = lines_kept form (Err f) lines tt
+
+whole_with_playable : (d : Draft) (n : ℕ) (c : Option Config) → c ≡ d.config → IsSound d → IfOk (whole_with d n c) IsPlayable
+whole_with_playable d n None e s = tt
+whole_with_playable d n (Some c) e s = record { boots = subst CanBootIf (sym e) s.boots; files = s.files; commands = s.commands }
+
+whole_playable : (read : Read) → IsSoundRead read → IfOk (whole read) IsPlayable
+whole_playable (Ok x) s = whole_with_playable x.0 x.1 (x.0).config refl s
+whole_playable (Err f) s = tt
+
+nothing_said : IsSound no_lines
+nothing_said = record { boots = tt; files = All-nil FitsFile; commands = All-nil (IsDeclared [] []) }
+
+-- what is read as a script can be played
+script_playable : (form : Format) (bytes : List ℕ) → IfOk (script_by form bytes) IsPlayable
+script_playable form bytes =
+    elim (nat_le (length bytes) longest_script) as (λ b. IfOk (if b then whole (read_lines form (Ok (no_lines, 0)) (raw_lines bytes)) else Err (0, cause.TooLong)) IsPlayable) [
+      | true ↦ whole_playable (read_lines form (Ok (no_lines, 0)) (raw_lines bytes)) (lines_kept form (Ok (no_lines, 0)) (raw_lines bytes) nothing_said)
+      | false ↦ tt
+    ]
+
+pub answer_playable : (form : Format) (bytes : List ℕ) (r : Result Script ScriptError) → Answers (λ s. s) r (script_by form bytes) → IfOk r IsPlayable
+answer_playable form bytes (Ok s) e = let P : Result Script (ℕ × Cause) → Type 0 = λ r. IfOk r IsPlayable in subst P e (script_playable form bytes)
+answer_playable form bytes (Err e) h = tt

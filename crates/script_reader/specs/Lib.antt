@@ -1,0 +1,7 @@
+pub mod Alone
+pub mod Gives
+pub mod Listed
+pub mod Pieces
+pub mod Playable
+pub mod Played
+pub mod Rows

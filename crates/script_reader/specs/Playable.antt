@@ -1,0 +1,29 @@
+-- What holds of each script that is read: nothing in it is left to be refused but by a step.
+use Rattle.std.specs.Prelude.{◌<◌, ◌≤◌, List, length, IsTrue, All}
+use Rattle.process_model.specs.Copies.{longest_copy}
+use Rattle.process_model.specs.Frames.{can_boot}
+use Rattle.process_model.specs.Script.{Script, fits_file}
+use Rattle.process_model.specs.declared.config.Config.{Config}
+use Rattle.process_model.specs.declared.file.FileText.{FileText}
+use Rattle.process_model.specs.declared.image.OwnedImage.{OwnedImage}
+use Rattle.process_model.specs.declared.script.Command.{Command}
+use Rattle.process_model.specs.declared.script.Command.TheVariants as command
+
+-- the image or the file that a line names was declared, and what it copies or shows is short enough
+abbrev pub IsDeclared : List FileText → List OwnedImage → Command → Type 0
+IsDeclared files images (command.Start n) = n < length images
+IsDeclared files images (command.Exec h n) = n < length images
+IsDeclared files images (command.CopyOut h a bytes) = length bytes ≤ longest_copy
+IsDeclared files images (command.Show n offset count) = (n < length files) × (count ≤ longest_copy)
+IsDeclared files images c = Unit {0}
+
+abbrev pub CanBoot : Config → Type 0
+CanBoot c = IsTrue (can_boot c.harts c.frames c.slots)
+
+abbrev pub FitsFile : FileText → Type 0
+FitsFile f = IsTrue (fits_file f)
+
+pub record IsPlayable (s : Script) : Type 0 where
+  pub boots : CanBoot s.config
+  pub files : All FitsFile s.files
+  pub commands : All (IsDeclared s.files s.images) s.commands

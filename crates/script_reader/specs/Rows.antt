@@ -1,0 +1,23 @@
+-- A row of the code's table, as the definition has it, and the kinds of the fields by their places.
+use Rattle.std.specs.Prelude.{ℕ, ◌==◌, if◌then◌else◌, Option, None, Some, length, slice_get}
+use Rattle.process_model.specs.Fields as words
+use Rattle.process_model.specs.declared.script.FieldKind.{FieldKind}
+use Rattle.process_model.specs.declared.script.Tail.{Tail}
+use Rattle.process_model.specs.declared.script.Tail.TheVariants as tail
+use Rattle.script_reader.specs.declared.table.Row.{Row}
+
+abbrev pub seen : Row → words.Row
+seen r = words.row r.text.now r.word r.kinds.now r.tail
+
+-- the kind of a field behind the fields that a line must have, of which there are so many
+abbrev pub tail_at : ℕ → Tail → ℕ → Option FieldKind
+tail_at least tail.Nothing place = None
+tail_at least (tail.Perhaps k) place = if place == least then Some k else None
+tail_at least (tail.More k) place = Some k
+
+abbrev pub kind_or : Option FieldKind → Option FieldKind → Option FieldKind
+kind_or None other = other
+kind_or (Some k) other = Some k
+
+abbrev pub kind_at : words.Row → ℕ → Option FieldKind
+kind_at r place = kind_or (slice_get r.kinds place) (tail_at (length r.kinds) r.tail place)

@@ -1,0 +1,52 @@
+// Bytes, as pairs of hexadecimal digits spell them.
+
+ghost use Rattle.std.specs.Prelude.{◌≡◌, ◌<◌, IfOk, MatchOption, None, Some, length};
+ghost use Rattle.process_model.specs.Numbers.{pairs_of, hex_of, then_bytes};
+
+use crate::numbers::digit;
+use process_model::Bytes;
+use std::alloc::{AllocError, Global};
+
+/// The byte that the first two digits say, and what follows them.
+fn first_byte(digits: &[u8]) -> Option<(u8, &[u8])>
+    requires { 0 < length digits.now }
+    ensures byte { MatchOption result (pairs_of digits.now ≡ None) (λ found. pairs_of digits.now ≡ then_bytes (Some found.0) (pairs_of found.1.now)) }
+    ensures less { MatchOption result (Unit {0}) (λ found. length found.1.now < length digits.now) }
+{
+    match digits {
+        [high, low, rest @ ..] => {
+            let high = digit(16, *high)?;
+            let low = digit(16, *low)?;
+            Some(((high * 16 + low) as u8, rest))
+        }
+        _ => None,
+    }
+}
+
+/// The bytes that hexadecimal digits say, two a byte.
+fn pairs(alloc: Global, digits: &[u8]) -> Result<Option<Bytes>, AllocError>
+    ensures { IfOk result (λ bytes. bytes ≡ pairs_of digits.now) }
+{
+    let mut items = Vec::with_capacity(alloc, digits.len() / 2)?;
+    let mut rest = digits;
+    while !rest.is_empty() {
+        let Some((byte, after)) = first_byte(rest) else {
+            return Ok(None);
+        };
+        items.push(byte)?;
+        rest = after;
+    }
+    Ok(Some(Bytes::from_vec(items)))
+}
+
+/// The bytes that a field says: `-` for none.
+pub fn hex(alloc: Global, field: &[u8]) -> Result<Option<Bytes>, AllocError>
+    ensures { IfOk result (λ bytes. bytes ≡ hex_of field.now) }
+{
+    match field {
+        [] => Ok(None),
+        [b'-'] => Ok(Some(Bytes::from_vec(Vec::new(alloc)))),
+        [_] => Ok(None),
+        _ => pairs(alloc, field),
+    }
+}

@@ -1,0 +1,58 @@
+// What a line says, by its word and its values.
+
+ghost use Rattle.process_model.specs.Script as words;
+ghost use Rattle.script_reader.specs.Gives.{Gives};
+
+use crate::accesses::{load, store};
+use crate::calls::{copy_in, copy_out, exit, fork, mmap, munmap, sbrk, serve};
+use crate::declared::{boot, elf, file, image};
+use crate::draft::Draft;
+use crate::fault::LineFault;
+use crate::limits::one;
+use crate::named::{enter, exec, fix, leave, on, show, start};
+use crate::steps::{evict, fetch, fill, next, switch, tramp, trap};
+use process_model::{Command, FieldValue, Item, Keyword};
+use std::alloc::Global;
+
+/// The item that the values after a word make.
+pub fn make_item(
+    alloc: Global,
+    draft: &Draft,
+    word: Keyword,
+    values: Vec<FieldValue>,
+) -> Result<Item, LineFault>
+    ensures { Gives (λ x. x) result (words.item_of draft.now word values.items) }
+{
+    let v = values.as_slice();
+    match word {
+        Keyword::File => Ok(file(alloc, values)?),
+        Keyword::Image => Ok(image(alloc, values)?),
+        Keyword::Elf => Ok(elf(alloc, values)),
+        Keyword::Boot => Ok(boot(v)?),
+        Keyword::Start => Ok(start(draft, v)?),
+        Keyword::Switch => Ok(one(switch(v))),
+        Keyword::Trap => Ok(one(trap(v))),
+        Keyword::Next => Ok(one(next(v))),
+        Keyword::Fill => Ok(one(fill(v))),
+        Keyword::Evict => Ok(one(evict(v))),
+        Keyword::Fetch => Ok(one(fetch(v))),
+        Keyword::Load => Ok(load(v)?),
+        Keyword::Store => Ok(store(v)?),
+        Keyword::Tramp => Ok(one(tramp(v))),
+        Keyword::Serve => Ok(one(serve(v))),
+        Keyword::Fork => Ok(one(fork(v))),
+        Keyword::Exec => Ok(exec(draft, v)?),
+        Keyword::Sbrk => Ok(one(sbrk(v))),
+        Keyword::Mmap => Ok(one(mmap(v))),
+        Keyword::Munmap => Ok(one(munmap(v))),
+        Keyword::CopyIn => Ok(copy_in(v)?),
+        Keyword::CopyOut => Ok(copy_out(alloc, values)?),
+        Keyword::Exit => Ok(exit(v)?),
+        Keyword::Show => Ok(show(draft, v)?),
+        Keyword::Audit => Ok(Item::Command(Command::Audit)),
+        Keyword::On => Ok(on(v)),
+        Keyword::Enter => Ok(enter(v)),
+        Keyword::Leave => Ok(leave(v)),
+        Keyword::Fix => Ok(fix(v)),
+    }
+}

@@ -1,0 +1,26 @@
+//! Scripts, read whole: the words that are played, each line's first fault, and what an accepted script says.
+#![tactic(auto)]
+
+mod accesses;
+mod calls;
+mod declared;
+mod draft;
+mod fault;
+mod hex;
+mod items;
+mod limits;
+mod lines;
+mod named;
+mod numbers;
+mod places;
+mod reading;
+mod script;
+mod segments;
+mod steps;
+mod table;
+#[cfg(test)]
+mod tests;
+mod values;
+
+pub use fault::ScriptError;
+pub use script::{LONGEST_SCRIPT, Script};

@@ -1,0 +1,87 @@
+// Lines, fields and pieces, without a copy.
+
+ghost use Rattle.std.specs.Prelude.{◌≡◌, ◌<◌, ◌∷◌, [], length, MatchOption};
+ghost use Rattle.std.specs.List.{position_or_len, prefix_len};
+ghost use Rattle.process_model.specs.Lines as words;
+
+use memchr::memchr;
+
+/// How many bytes stand before the line's end.
+fn line_len(text: &[u8]) -> usize
+    ensures { result ≡ position_or_len words.is_line_end text.now }
+{
+    memchr(b'\n', text).unwrap_or(text.len())
+}
+
+/// The first line, without its end, and what follows.
+pub fn first_line(text: &[u8]) -> (&[u8], &[u8])
+    requires { 0 < length text.now }
+    ensures line { words.raw_lines text.now ≡ result.0.now ∷ words.raw_lines result.1.now }
+    ensures less { length result.1.now < length text.now }
+{
+    let (line, rest) = text.split_at(line_len(text));
+    match rest {
+        [_, rest @ ..] => (line, rest),
+        [] => (line, rest),
+    }
+}
+
+/// A line without a carriage return at its end.
+pub fn trim_return(line: &[u8]) -> &[u8]
+    ensures { result.now ≡ words.without_return line.now }
+{
+    match line {
+        [front @ .., b'\r'] => front,
+        _ => line,
+    }
+}
+
+fn is_blank(byte: u8) -> bool
+    ensures { result ≡ words.is_blank byte }
+{
+    byte == b' ' || byte == b'\t'
+}
+
+/// How many blanks a line begins with.
+fn blank_len(line: &[u8]) -> usize
+    ensures { result ≡ prefix_len words.is_blank line.now }
+{
+    line.iter().take_while(|byte| is_blank(**byte)).count()
+}
+
+/// How many bytes stand before the first blank.
+fn field_len(line: &[u8]) -> usize
+    ensures { result ≡ position_or_len words.is_blank line.now }
+{
+    line.iter().take_while(|byte| !is_blank(**byte)).count()
+}
+
+/// The first field of a line, and what follows it; nothing where the line has no field.
+pub fn first_field(line: &[u8]) -> Option<(&[u8], &[u8])>
+    ensures field { MatchOption result (words.fields_of line.now ≡ []) (λ found. words.fields_of line.now ≡ found.0.now ∷ words.fields_of found.1.now) }
+    ensures less { MatchOption result (Unit {0}) (λ found. length found.1.now < length line.now) }
+{
+    let (_, line) = line.split_at(blank_len(line));
+    if line.is_empty() {
+        return None;
+    }
+    Some(line.split_at(field_len(line)))
+}
+
+/// How many bytes stand before the first colon.
+fn piece_len(field: &[u8]) -> usize
+    ensures { result ≡ position_or_len words.is_colon field.now }
+{
+    field.iter().take_while(|byte| **byte != b':').count()
+}
+
+/// The first piece of a field, and what follows its colon; nothing follows the last piece.
+pub fn first_piece(field: &[u8]) -> (&[u8], Option<&[u8]>)
+    ensures { MatchOption result.1 (words.pieces_of field.now ≡ result.0.now ∷ []) (λ rest. words.pieces_of field.now ≡ result.0.now ∷ words.pieces_of rest.now) }
+{
+    let (piece, rest) = field.split_at(piece_len(field));
+    match rest {
+        [_, rest @ ..] => (piece, Some(rest)),
+        [] => (piece, None),
+    }
+}

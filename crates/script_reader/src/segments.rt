@@ -1,0 +1,98 @@
+// Segments, as fields spell them.
+
+ghost use Rattle.std.specs.Prelude.{◌≡◌, IfOk};
+ghost use Rattle.process_model.specs.Fields as words;
+ghost use Rattle.process_model.specs.Lines.{pieces_of};
+ghost use Rattle.process_model.specs.Numbers.{number_of, hex_of};
+ghost use Rattle.script_reader.specs.Pieces.{FourPieces};
+
+use crate::hex::hex;
+use crate::lines::first_piece;
+use crate::numbers::number;
+use process_model::Segment;
+use std::alloc::{AllocError, Global};
+
+/// The pieces of a segment's field.
+#[derive(Clone, Copy)]
+struct Pieces<'a> {
+    address: &'a [u8],
+    memory_size: &'a [u8],
+    flags: &'a [u8],
+    bytes: &'a [u8],
+}
+
+/// A field of just four pieces.
+fn four_pieces(field: &[u8]) -> Option<Pieces<'_>>
+    ensures { FourPieces (pieces_of field.now) result }
+{
+    let (address, rest) = first_piece(field);
+    let (memory_size, rest) = first_piece(rest?);
+    let (flags, rest) = first_piece(rest?);
+    let (bytes, rest) = first_piece(rest?);
+    match rest {
+        Some(_) => None,
+        None => Some(Pieces {
+            address,
+            memory_size,
+            flags,
+            bytes,
+        }),
+    }
+}
+
+fn has_letter(letter: u8, letters: &[u8]) -> bool
+    ensures { result ≡ words.has_letter letter letters.now }
+{
+    letters.contains(&letter)
+}
+
+/// The letters r, w and x, each at most once.
+fn are_letters(letters: &[u8]) -> bool
+    ensures { result ≡ words.are_letters letters.now }
+{
+    match letters {
+        [] => true,
+        [letter, rest @ ..] => {
+            matches!(*letter, b'r' | b'w' | b'x') && !has_letter(*letter, rest) && are_letters(rest)
+        }
+    }
+}
+
+/// The same, or `-` for none.
+fn are_flags(flags: &[u8]) -> bool
+    ensures { result ≡ words.are_flags flags.now }
+{
+    matches!(flags, b"-") || !flags.is_empty() && are_letters(flags)
+}
+
+/// The segment that a field `VADDR:MEMSZ:FLAGS:HEX` says, or nothing where it has another form.
+pub fn read_segment(alloc: Global, field: &[u8]) -> Result<Option<Segment>, AllocError>
+    ensures { IfOk result (λ segment. segment ≡ words.segment_in (pieces_of field.now)) }
+{
+    match four_pieces(field) {
+        Some(pieces) => from_pieces(alloc, pieces),
+        None => Ok(None),
+    }
+}
+
+fn from_pieces(alloc: Global, pieces: Pieces<'_>) -> Result<Option<Segment>, AllocError>
+    ensures { IfOk result (λ segment. segment ≡ words.segment_with (number_of pieces.entry.address.now) (number_of pieces.entry.memory_size.now) pieces.entry.flags.now (words.are_flags pieces.entry.flags.now) (hex_of pieces.entry.bytes.now)) }
+{
+    let (Some(address), Some(memory_size)) = (number(pieces.address), number(pieces.memory_size))
+    else {
+        return Ok(None);
+    };
+    if !are_flags(pieces.flags) {
+        return Ok(None);
+    }
+    let Some(bytes) = hex(alloc, pieces.bytes)? else {
+        return Ok(None);
+    };
+    Ok(Some(Segment {
+        address,
+        memory_size,
+        writes: has_letter(b'w', pieces.flags),
+        executes: has_letter(b'x', pieces.flags),
+        bytes,
+    }))
+}

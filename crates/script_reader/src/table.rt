@@ -1,0 +1,102 @@
+// The table of the words that lines begin with: a new word is one row.
+
+ghost use Rattle.std.specs.Prelude.{◌≡◌, map};
+ghost use Rattle.std.specs.Option.{option_map};
+ghost use Rattle.process_model.specs.Fields.{row_among};
+ghost use Rattle.script_reader.specs.Played.{played_table};
+
+use process_model::FieldKind::{Entry, Number, Policy, Segment, Slot};
+use process_model::{FieldKind, Keyword, Tail};
+
+/// A word, as it is written, the kinds of the fields that must follow it, and what may follow these.
+#[derive(Clone, Copy)]
+pub struct Row {
+    pub text: &'static [u8],
+    pub word: Keyword,
+    pub kinds: &'static [FieldKind],
+    pub tail: Tail,
+}
+
+fn make_row(text: &'static [u8], word: Keyword, kinds: &'static [FieldKind], tail: Tail) -> Row
+    ensures text { result.text.now ≡ text.now }
+    ensures word { result.word ≡ word }
+    ensures kinds { result.kinds.now ≡ kinds.now }
+    ensures tail { result.tail ≡ tail }
+{
+    Row {
+        text,
+        word,
+        kinds,
+        tail,
+    }
+}
+
+impl Row {
+    ghost use Rattle.script_reader.specs.Rows.{seen, kind_at};
+
+    fn all() -> [Row; 15]
+        ensures { map seen result ≡ played_table }
+    {
+        let entry = Tail::Perhaps(Entry);
+        [
+            make_row(b"image", Keyword::Image, &[Segment], Tail::More(Segment)),
+            make_row(
+                b"boot",
+                Keyword::Boot,
+                &[Number, Number, Number, Policy],
+                Tail::Nothing,
+            ),
+            make_row(b"start", Keyword::Start, &[Number], Tail::Nothing),
+            make_row(b"switch", Keyword::Switch, &[Number, Slot], Tail::Nothing),
+            make_row(b"trap", Keyword::Trap, &[Number], Tail::Nothing),
+            make_row(b"next", Keyword::Next, &[Number], Tail::Nothing),
+            make_row(b"fill", Keyword::Fill, &[Number, Number], Tail::Nothing),
+            make_row(b"evict", Keyword::Evict, &[Number, Number], Tail::Nothing),
+            make_row(b"fetch", Keyword::Fetch, &[Number, Number], entry),
+            make_row(b"load", Keyword::Load, &[Number, Number, Number], entry),
+            make_row(
+                b"store",
+                Keyword::Store,
+                &[Number, Number, Number, Number],
+                entry,
+            ),
+            make_row(b"tramp", Keyword::Tramp, &[Number, Number], entry),
+            make_row(b"on", Keyword::On, &[Number, Number], Tail::Nothing),
+            make_row(b"enter", Keyword::Enter, &[Number], Tail::Nothing),
+            make_row(b"leave", Keyword::Leave, &[Number], Tail::Nothing),
+        ]
+    }
+
+    fn find_among(rows: &[Row], text: &[u8]) -> Option<Row>
+        ensures { option_map seen result ≡ row_among (map seen rows.now) text.now }
+    {
+        for row in rows {
+            if row.text == text {
+                return Some(*row);
+            }
+        }
+        None
+    }
+
+    /// The row of a word.
+    pub fn find(text: &[u8]) -> Option<Row>
+        ensures { option_map seen result ≡ row_among played_table text.now }
+    {
+        Row::find_among(&Row::all(), text)
+    }
+
+    /// The kind of a field by its place after the word; nothing where no field may stand.
+    pub fn kind_at(&self, place: usize) -> Option<FieldKind>
+        ensures { result ≡ kind_at (seen self.now) place }
+    {
+        if let Some(kind) = self.kinds.get(place) {
+            return Some(*kind);
+        }
+        match self.tail {
+            Tail::Nothing => None,
+            Tail::Perhaps(kind) if place == self.kinds.len() => Some(kind),
+            Tail::Perhaps(_) => None,
+            Tail::More(kind) => Some(kind),
+        }
+    }
+}

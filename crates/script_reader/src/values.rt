@@ -1,0 +1,136 @@
+// The fields after a word.
+
+ghost use Rattle.std.specs.Prelude.{◌≡◌, IfOk};
+ghost use Rattle.process_model.specs.Fields as words;
+ghost use Rattle.process_model.specs.Fields.{value_of, values_of};
+ghost use Rattle.process_model.specs.Lines.{fields_of};
+ghost use Rattle.script_reader.specs.Listed.{listed};
+ghost use Rattle.script_reader.specs.Rows.{seen};
+
+use crate::hex::hex;
+use crate::lines::first_field;
+use crate::numbers::{number, signed};
+use crate::segments::read_segment;
+use crate::table::Row;
+use process_model::{Cause, FieldKind, FieldValue, Policy};
+use std::alloc::{AllocError, Global};
+
+/// A number, or `-` for none.
+fn read_slot(field: &[u8]) -> Result<FieldValue, Cause>
+    ensures { result ≡ value_of FieldKind.Slot field.now }
+{
+    match field {
+        b"-" => Ok(FieldValue::Optional(None)),
+        _ => match number(field) {
+            Some(slot) => Ok(FieldValue::Optional(Some(slot))),
+            None => Err(Cause::Number),
+        },
+    }
+}
+
+fn read_mode(field: &[u8]) -> Result<FieldValue, Cause>
+    ensures { result ≡ value_of FieldKind.Mode field.now }
+{
+    match field {
+        b"rw" => Ok(FieldValue::Writable(true)),
+        b"ro" => Ok(FieldValue::Writable(false)),
+        _ => Err(Cause::Field),
+    }
+}
+
+fn read_policy(field: &[u8]) -> Result<FieldValue, Cause>
+    ensures { result ≡ value_of FieldKind.Policy field.now }
+{
+    match field {
+        b"full" => Ok(FieldValue::Policy(Policy::Full)),
+        b"asid" => Ok(FieldValue::Policy(Policy::Asid)),
+        _ => Err(Cause::Field),
+    }
+}
+
+/// A number behind an at sign.
+fn entry_number(field: &[u8]) -> Option<u64>
+    ensures { result ≡ words.entry_number field.now }
+{
+    match field {
+        [b'@', digits @ ..] => number(digits),
+        _ => None,
+    }
+}
+
+fn read_entry(field: &[u8]) -> Result<FieldValue, Cause>
+    ensures { result ≡ value_of FieldKind.Entry field.now }
+{
+    match entry_number(field) {
+        Some(entry) => Ok(FieldValue::Optional(Some(entry))),
+        None => Err(Cause::Field),
+    }
+}
+
+/// What a field of a kind says.
+fn read_value(
+    alloc: Global,
+    kind: FieldKind,
+    field: &[u8],
+) -> Result<Result<FieldValue, Cause>, AllocError>
+    ensures { IfOk result (λ read. read ≡ value_of kind field.now) }
+{
+    let value = match kind {
+        FieldKind::Number => number(field).map(FieldValue::Number).ok_or(Cause::Number),
+        FieldKind::Signed => signed(field).map(FieldValue::Signed).ok_or(Cause::Number),
+        FieldKind::Hex => hex(alloc, field)?.map(FieldValue::Hex).ok_or(Cause::Field),
+        FieldKind::Slot => read_slot(field),
+        FieldKind::Mode => read_mode(field),
+        FieldKind::Policy => read_policy(field),
+        FieldKind::Segment => read_segment(alloc, field)?
+            .map(FieldValue::Segment)
+            .ok_or(Cause::Field),
+        FieldKind::Entry => read_entry(field),
+    };
+    Ok(value)
+}
+
+/// The values so far, and one more. A number that is none counts before a field of another wrong form.
+fn and_then(
+    so_far: Result<Vec<FieldValue>, Cause>,
+    next: Result<FieldValue, Cause>,
+) -> Result<Result<Vec<FieldValue>, Cause>, AllocError>
+    ensures { IfOk result (λ read. listed read ≡ words.and_then (listed so_far) next) }
+{
+    let read = match (so_far, next) {
+        (Ok(mut values), Ok(value)) => {
+            values.push(value)?;
+            Ok(values)
+        }
+        (Ok(_), Err(cause)) => Err(cause),
+        (Err(cause), Ok(_)) => Err(cause),
+        (Err(Cause::Number), Err(_)) => Err(Cause::Number),
+        (Err(_), Err(cause)) => Err(cause),
+    };
+    Ok(read)
+}
+
+/// The values of the fields after a word. Its row tells how many there may be, and their kinds.
+pub fn read_values(
+    alloc: Global,
+    row: &Row,
+    fields: &[u8],
+) -> Result<Result<Vec<FieldValue>, Cause>, AllocError>
+    ensures { IfOk result (λ read. listed read ≡ values_of (seen row.now) (fields_of fields.now)) }
+{
+    let mut so_far = Ok(Vec::new(alloc));
+    let mut place = 0;
+    let mut rest = fields;
+    'fields: while let Some((field, after)) = first_field(rest) {
+        let Some(kind) = row.kind_at(place) else {
+            return Ok(Err(Cause::Count));
+        };
+        so_far = and_then(so_far, read_value(alloc, kind, field)?)?;
+        place += 1;
+        rest = after;
+    }
+    if place < row.kinds.len() {
+        return Ok(Err(Cause::Count));
+    }
+    Ok(so_far)
+}
