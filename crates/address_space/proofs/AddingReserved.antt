@@ -1,5 +1,5 @@
 -- Frames for a page are reserved together, and then the page is added.
-use Rattle.std.proofs.Common.{◌≡◌, ℕ, ◌+◌, ◌-◌, ◌<◌, ◌≤◌, Option, None, Some, List, ◌∷◌, append-nil, Result, Ok, Err, IsOk, IsErr, IfErr, is_ok, if◌then◌else◌, true, false, ap, sym, ◌∙◌, arith}
+use Rattle.std.proofs.Common.{◌≡◌, ℕ, ◌+◌, ◌-◌, ◌<◌, ◌≤◌, Option, None, Some, List, ◌∷◌, append-nil, Result, Ok, Err, IsOk, IsErr, IfErr, is_ok, if◌then◌else◌, true, false, ap, sym, ◌∙◌, arith, []}
 use Rattle.std.specs.Prelude.{◌^◌, All}
 use Rattle.std.proofs.lemmas.Option.{same_Some}
 use Rattle.frame_store.specs.Holds.{hold_of-frames}
@@ -45,7 +45,7 @@ need_is v root trapframe l t p page can law =
 -- a reservation of n credits was refused
 module _ (v u w : View) (n : ℕ) (is : u ≡ v) (dry : IsDry n u w) where
   pub runs_dry : (root trapframe : ℕ) (l : Layout) (page : ℕ) → CountsGrowth → ((t : Image) → HasTables v root t → n ≡ 1 + missing t page)
-      → (t : Image) (p : Process) → CanSettle v root trapframe l t p page → RunsDry v w (settle_need p page)
+      → (t : Image) (p : Process) → CanSettle v root trapframe l t p page → RunsDry v w (settle_need p page) []
   runs_dry root trapframe l page law enough t p can =
       let need = need_is v root trapframe l t p page can law in
       let n_is = enough t can.agrees.stands.tables in
@@ -53,6 +53,7 @@ module _ (v u w : View) (n : ℕ) (is : u ≡ v) (dry : IsDry n u w) where
         claims = dry.claims ∙ ap (λ (x : View). x.claims) is;
         zeros = let old = ap (λ (x : View). x.zeros) is in omega (arith, dry.zeros, old);
         short = let old = ap (λ (x : View). x.credits) is in omega (arith, dry.short, old, can.agrees.credits, need, n_is);
+        looks = dry.looks ∙ ap (λ (x : View). x.looks) is ∙ sym (append-nil v.looks);
       }
 
   pub agrees_still : (root trapframe : ℕ) (l : Layout) (t : Image) (p : Process) → Agrees v root trapframe l t p → Agrees w root trapframe l t p

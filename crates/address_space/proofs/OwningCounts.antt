@@ -1,5 +1,5 @@
 -- A count is read, and by it a page becomes the process's own: in place, or on another frame.
-use Rattle.std.proofs.Common.{◌≡◌, ℕ, ◌+◌, ◌-◌, ◌<◌, ◌≤◌, ◌==◌, not, cond, if◌then◌else◌, Option, None, Some, Bool, true, false, refl, ap, sym, subst, ◌∙◌, inl, inr, arith, ◌++◌, ◌∷◌, []}
+use Rattle.std.proofs.Common.{◌≡◌, ℕ, ◌+◌, ◌-◌, ◌<◌, ◌≤◌, ◌==◌, not, cond, if◌then◌else◌, Option, None, Some, Bool, true, false, refl, ap, sym, subst, ◌∙◌, inl, inr, arith, ◌++◌, ◌∷◌, [], ◌≢◌}
 use Rattle.std.proofs.lemmas.Bool.{cases_eq, eq-eqb, ne_eqb}
 use Rattle.std.proofs.lemmas.Option.{same_Some}
 use Rattle.std.specs.FinMap.{get}
@@ -21,7 +21,7 @@ use Rattle.table_walk.specs.Keys.{insert_other, insert_same}
 use Rattle.address_space.specs.Agreement.{Agrees, IsPageLeaf, makes_leaf, Stands}
 use Rattle.address_space.specs.Layouts.{Layout}
 use Rattle.address_space.specs.Parting.{CanPart, Parts}
-use Rattle.address_space.specs.Steps.{CanOwn, Owned, Spends, Takes}
+use Rattle.address_space.specs.Steps.{CanOwn, Owned, Spends, Takes, RunsDry}
 use Rattle.address_space.proofs.Owned.{no_table, same_owns}
 use Rattle.address_space.proofs.Owning.{owns_same, turned_sole, turned_stands, turned_words}
 use Rattle.address_space.proofs.OwningSteps.{parting_page, words_spend}
@@ -208,6 +208,14 @@ refused_agrees v a w f c root trapframe l t p look dry agrees = record {
   stands = like_stands v w (like_both v a w (subst (IsLike v) (sym look) (looked_like f c v)) (like_frames a w dry.frames)) root trapframe None t p agrees.stands;
   credits = dry.credits ∙ ap (λ (x : View). x.credits) look ∙ agrees.credits;
 }
+
+pub refused_dry : (v a w : View) (f c : ℕ) → a ≡ looked f c v → IsDry 1 a w → v.credits ≡ 0 → (c ≡ 1 → ⊥) → (n : ℕ) × (n ≢ 1) × RunsDry v w 1 (n ∷ [])
+refused_dry v a w f c look dry none more = (c, more, record {
+  claims = dry.claims ∙ ap (λ (x : View). x.claims) look;
+  zeros = let old = ap (λ (x : View). x.zeros) look in omega (arith, dry.zeros, old);
+  short = let old = ap (λ (x : View). x.credits) look in omega (arith, dry.short, old, none);
+  looks = dry.looks ∙ ap (λ (x : View). x.looks) look;
+})
 
 -- of a page with a fork mark
 

@@ -1,5 +1,5 @@
 -- A page of a process whose frame or bytes change, while the seat's references stay.
-use Rattle.std.proofs.Common.{◌≡◌, ℕ, ◌<◌, ◌^◌, ◌%◌, ◌&&◌, not, List, Option, None, Some, IsTrue, true, false, refl, ap, sym, subst, ◌∙◌, inl, inr, arith}
+use Rattle.std.proofs.Common.{◌≡◌, ℕ, ◌<◌, ◌^◌, ◌%◌, ◌&&◌, not, List, Option, None, Some, IsTrue, true, false, refl, ap, sym, subst, ◌∙◌, inl, inr, append-nil, arith, []}
 use Rattle.std.specs.Prelude.{option_and_then}
 use Rattle.std.proofs.lemmas.Bool.{cases_eq, ne_eqb}
 use Rattle.std.proofs.lemmas.Bool.Decides.{nat_tests}
@@ -25,7 +25,7 @@ use Rattle.table_walk.specs.Image.{HasTables, Image, leaf_node}
 use Rattle.table_walk.specs.Same.{same_tables}
 use Rattle.address_space.specs.Agreement.{Agrees, IsPageLeaf, IsLeafNumber, IsOn, IsShown, Names, OthersKeep, Owns, Shows, Stands}
 use Rattle.address_space.specs.Layouts.{Layout, LaysOut}
-use Rattle.address_space.specs.Steps.{CanRead, CanWrite}
+use Rattle.address_space.specs.Steps.{CanRead, CanWrite, Takes}
 use Rattle.address_space.proofs.Owned.{no_table, one_frame, one_page, same_bytes, same_owns}
 
 -- words of one frame
@@ -231,3 +231,12 @@ offset_aligned address width is aligned = elim (cases_eq width 1) [
     ]
   ]
 ]
+
+-- a change of words reads and takes nothing
+pub words_take : (f : ℕ) (v w : View) → ChangesWords f v w → Takes v w 0 []
+words_take f v w changes = record {
+  claims = ap (λ (x : View). x.claims) changes.1 ∙ omega arith;
+  zeros = ap (λ (x : View). x.zeros) changes.1;
+  short = ap (λ (x : View). x.short) changes.1;
+  looks = ap (λ (x : View). x.looks) changes.1 ∙ sym (append-nil v.looks);
+}

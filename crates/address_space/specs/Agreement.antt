@@ -89,7 +89,7 @@ pub record Shows (v : View) (trapframe : ℕ) (t : Image) (p : Process) : Type 0
   pub only : (k w : ℕ) → get t.leaves k ≡ Some w → IsLeafNumber p k
   pub low : (n : ℕ) (s : Page) → pages.get p.settled n ≡ Some s → n < trapframe_page
 
--- a process that stands in memory: credits are free, and one more frame may be held
+-- a process that stands in memory, whatever its seat has of credits, and perhaps with a spare frame
 pub record Stands (v : View) (root trapframe : ℕ) (spare : Option ℕ) (t : Image) (p : Process) : Type 0 where
   pub tables : HasTables v root t
   pub owns : Owns v t spare

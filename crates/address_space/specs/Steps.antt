@@ -21,18 +21,19 @@ pub record Spends (v w : View) (n : ℕ) : Type 0 where
   pub short : w.short ≡ v.short
   pub looks : w.looks ≡ v.looks
 
--- so many free frames were taken, with credits that were reserved at once, and these counts were read
+-- so many free frames were taken, and these counts were read
 pub record Takes (v w : View) (n : ℕ) (counts : List ℕ) : Type 0 where
   pub claims : w.claims ≡ v.claims + n
   pub zeros : w.zeros ≡ v.zeros
   pub short : w.short ≡ v.short
   pub looks : w.looks ≡ v.looks ++ counts
 
--- no frame was taken: the free number was read as 0 while fewer than n credits were reserved for it
-pub record RunsDry (v w : View) (n : ℕ) : Type 0 where
+-- no frame was taken: the free number was read as 0 while fewer than n credits were reserved, after these counts were read
+pub record RunsDry (v w : View) (n : ℕ) (counts : List ℕ) : Type 0 where
   pub claims : w.claims ≡ v.claims
   pub zeros : v.zeros < w.zeros
   pub short : w.short < n
+  pub looks : w.looks ≡ v.looks ++ counts
 
 -- a page is settled
 

@@ -69,7 +69,7 @@ fn release_emptied<F: FrameAccess>(store: &mut F, seat: &mut F::Seat, root: Fram
 }
 
 impl<S: FrameSeat> Space<S> {
-    /// Takes the frames of the settled pages from one page up to, and without, another. The tables stay.
+    /// Unmaps the settled pages from one page up to, and without, another, and lets their frames go. The tables stay.
     pub fn drop_pages<F: FrameAccess<Seat = S>>(&mut self, store: &mut F, first: Vpn, end: Vpn)
         requires fits { Fits F.rule store.old self.old.seat }
         requires ready { (t : Image) × (p : Process) × Agrees (S.view self.old.seat) self.old.root.0 self.old.trapframe.0 self.old.layout t p }

@@ -25,7 +25,7 @@ pub struct KernelTable<S: FrameSeat> {
 }
 
 impl<S: FrameSeat> KernelTable<S> {
-    /// The table of a memory of so many frames, with so many stacks, by a seat that holds frame 0. All that it takes is
+    /// The table of a memory of so many frames, with so many stacks, by a seat that holds frame 0 once. All that it takes is
     /// reserved at once, before anything is built; where too few frames are free, the seat comes back.
     pub fn build<F: FrameSupply<Seat = S>>(
         store: &mut F,

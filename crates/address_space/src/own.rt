@@ -1,6 +1,6 @@
 // A page that a fork shared becomes the process's own.
 
-ghost use Rattle.std.specs.Prelude.{◌≡◌, ◌+◌, ◌-◌, ◌<◌, ◌≤◌, ◌↔◌, ◌==◌, cond, if◌then◌else◌, IfErr, IfOk, is_ok, IsOk, not, ℕ};
+ghost use Rattle.std.specs.Prelude.{[], ◌≡◌, ◌≢◌, ◌∷◌, ◌+◌, ◌-◌, ◌<◌, ◌≤◌, ◌↔◌, ◌==◌, cond, if◌then◌else◌, IfErr, IfOk, is_ok, IsOk, not, ℕ};
 ghost use Rattle.address_space.specs.Agreement.{Agrees};
 ghost use Rattle.address_space.specs.Layouts.{region_of};
 ghost use Rattle.address_space.specs.Parting.{CanPart, Parts};
@@ -27,7 +27,7 @@ impl<S: FrameSeat> Space<S> {
         ensures owned { IfOk result (λ _. (t : Image) (p : Process) (s : Page) (f : ℕ) →
             CanOwn (S.view self.old.seat) self.old.root.0 self.old.trapframe.0 self.old.layout t p page s f →
             (u : Image) × (g c : ℕ) × Owned (S.view self.old.seat) (S.view self.new.seat) self.new.root.0 self.new.trapframe.0 self.new.layout t u p page s f g c × (F.alone → c ≡ F.count store.old f)) }
-        ensures dry { IfErr result (λ _. RunsDry (S.view self.old.seat) (S.view self.new.seat) 1) }
+        ensures dry { IfErr result (λ _. (c : ℕ) × (c ≢ 1) × RunsDry (S.view self.old.seat) (S.view self.new.seat) 1 (c ∷ [])) }
         ensures whole { IfErr result (λ _. (t : Image) (p : Process) →
             Agrees (S.view self.old.seat) self.old.root.0 self.old.trapframe.0 self.old.layout t p →
             Agrees (S.view self.new.seat) self.new.root.0 self.new.trapframe.0 self.new.layout t p) }

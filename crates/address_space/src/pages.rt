@@ -84,7 +84,7 @@ impl<S: FrameSeat> Space<S> {
             (u : Image) × (f : ℕ) × Settles (S.view self.old.seat) (S.view self.new.seat) self.new.root.0 self.new.trapframe.0 self.new.layout t u p page bytes.now f) }
         ensures dry { IfErr result (λ _. (t : Image) (p : Process) →
             CanSettle (S.view self.old.seat) self.old.root.0 self.old.trapframe.0 self.old.layout t p page →
-            RunsDry (S.view self.old.seat) (S.view self.new.seat) (settle_need p page)) }
+            RunsDry (S.view self.old.seat) (S.view self.new.seat) (settle_need p page) []) }
         ensures whole { IfErr result (λ _. (t : Image) (p : Process) →
             Agrees (S.view self.old.seat) self.old.root.0 self.old.trapframe.0 self.old.layout t p →
             Agrees (S.view self.new.seat) self.new.root.0 self.new.trapframe.0 self.new.layout t p) }

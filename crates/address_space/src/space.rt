@@ -1,9 +1,9 @@
 // A process in memory.
 
-ghost use Rattle.std.specs.Prelude.{◌≡◌, ◌%◌, ◌<◌, ℕ, IsTrue};
+ghost use Rattle.std.specs.Prelude.{[], ◌≡◌, ◌%◌, ◌<◌, ℕ, IsTrue};
 ghost use Rattle.address_space.specs.Agreement.{Agrees, IsOn};
 ghost use Rattle.address_space.specs.Layouts.{granted_unless};
-ghost use Rattle.address_space.specs.Steps.{CanRead, CanWrite};
+ghost use Rattle.address_space.specs.Steps.{CanRead, CanWrite, Takes};
 ghost use Rattle.frame_store.specs.Laws.{Fits, Keeps};
 ghost use Rattle.process_model.specs.Bytes.{is_width, low_bytes};
 ghost use Rattle.process_model.specs.Process.{Page, Process, regions};
@@ -92,6 +92,7 @@ impl<S: FrameSeat> Space<S> {
         ensures root { self.new.root ≡ self.old.root }
         ensures trapframe { self.new.trapframe ≡ self.old.trapframe }
         ensures layout { self.new.layout ≡ self.old.layout }
+        ensures tallies { Takes (S.view self.old.seat) (S.view self.new.seat) 0 [] }
         ensures keeps { Keeps F.rule store.old self.old.seat store.new self.new.seat }
         ensures free { F.alone → F.free store.new ≡ F.free store.old }
         ensures counts { F.alone → (f : ℕ) → F.count store.new f ≡ F.count store.old f }
@@ -119,6 +120,7 @@ impl<S: FrameSeat> Space<S> {
         ensures root { self.new.root ≡ self.old.root }
         ensures trapframe { self.new.trapframe ≡ self.old.trapframe }
         ensures layout { self.new.layout ≡ self.old.layout }
+        ensures tallies { Takes (S.view self.old.seat) (S.view self.new.seat) 0 [] }
         ensures keeps { Keeps F.rule store.old self.old.seat store.new self.new.seat }
         ensures free { F.alone → F.free store.new ≡ F.free store.old }
         ensures counts { F.alone → (f : ℕ) → F.count store.new f ≡ F.count store.old f }

@@ -7,7 +7,7 @@ use Rattle.process_model.specs.Regions.{region_at}
 use Rattle.table_walk.specs.Image.{Image}
 use Rattle.address_space.specs.Layouts.{region_of}
 use Rattle.address_space.specs.Steps.{CanOwn}
-use Rattle.address_space.proofs.OwningCounts.{exact_kept, exact_parted, exact_refused, free_kept, free_parted, free_refused, look_at, own_frame, own_kept, own_one, own_part, own_parted, own_some, own_stands, refused_agrees}
+use Rattle.address_space.proofs.OwningCounts.{exact_kept, exact_parted, exact_refused, free_kept, free_parted, free_refused, look_at, own_frame, own_kept, own_one, own_part, own_parted, own_some, own_stands, refused_agrees, refused_dry}
 use Rattle.address_space.proofs.space.Space.own.Given as given
 use Rattle.address_space.proofs.space.Space.own.Goals as goal
 use Rattle.address_space.proofs.space.Space.own.Goals.{After-from_residual, After-look-sole, In-Some-frame_of}
@@ -107,6 +107,11 @@ pub returns-in_err-reserve-clause-whole : goal.returns-in_err-reserve-clause-who
 returns-in_err-reserve-clause-whole g c =
     let p = err_from_is_err_and c.from_residual.result c.from_residual.ensures.1 in
     rw p.1 (λ t p agrees. refused_agrees _ _ _ _ _ _ _ _ t p (rw c.frame_of.ensures.view at c.look-sole.ensures.view) c.in_err-reserve.ensures.err agrees)
+
+pub returns-in_err-reserve-clause-dry : goal.returns-in_err-reserve-clause-dry
+returns-in_err-reserve-clause-dry g c =
+    let p = err_from_is_err_and c.from_residual.result c.from_residual.ensures.1 in
+    rw p.1 (refused_dry _ _ _ _ _ (rw c.frame_of.ensures.view at c.look-sole.ensures.view) c.in_err-reserve.ensures.err c.requires.ready.4.agrees.credits c.if-sole.false)
 
 pub returns-in_err-reserve-clause-exact : goal.returns-in_err-reserve-clause-exact
 returns-in_err-reserve-clause-exact g c alone t p s f can =

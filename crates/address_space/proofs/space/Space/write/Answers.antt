@@ -1,4 +1,4 @@
-use Rattle.std.proofs.Common.{ap, ◌∙◌}
+use Rattle.std.proofs.Common.{ap, sym, ◌∙◌}
 use Rattle.frame_store.specs.Laws.{fits_after}
 use Rattle.address_space.proofs.space.Space.write.Goals as goal
 
@@ -24,3 +24,6 @@ returns-clause-free g c alone = c.write_at.ensures.free alone ∙ ap g.F.FrameAc
 
 pub returns-clause-counts : goal.returns-clause-counts
 returns-clause-counts g c alone f = c.write_at.ensures.counts alone f ∙ ap (λ x. g.F.FrameAccess.count x f) c.page_frame-frame.ensures.same
+
+pub returns-clause-tallies : goal.returns-clause-tallies
+returns-clause-tallies g c = rw (sym c.page_frame-frame.ensures.view) c.write_at.ensures.tallies

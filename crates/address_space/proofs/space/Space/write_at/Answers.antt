@@ -1,5 +1,5 @@
 use Rattle.std.proofs.Common.{arith}
-use Rattle.address_space.proofs.Writing.{offset_aligned, on_page, page_sole, page_written}
+use Rattle.address_space.proofs.Writing.{offset_aligned, on_page, page_sole, page_written, words_take}
 use Rattle.address_space.proofs.space.Space.write_at.Goals as goal
 
 pub store_bytes-requires-clause-held : goal.store_bytes-requires-clause-held
@@ -26,3 +26,6 @@ returns-clause-agrees g c t p s can on =
     let here = on_page _ _ _ _ t p _ s _ can.read on in
     let has = c.store_bytes.ensures.bytes s.bytes here.bytes in
     page_written _ _ _ _ _ t p _ s _ _ can.read here c.store_bytes.ensures.others (rw c.offset.ensures.value at has)
+
+pub returns-clause-tallies : goal.returns-clause-tallies
+returns-clause-tallies g c = words_take _ _ _ c.store_bytes.ensures.others
