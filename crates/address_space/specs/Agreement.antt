@@ -48,7 +48,7 @@ pub record IsPageLeaf (w f : ℕ) (r : Region) (mark : Bool) : Type 0 where
   pub global : has w 5 ≡ false
   pub accessed : has w 6 ≡ true
   pub dirty : has w 7 ≡ r.writes
-  pub copy_on_write : has w 8 ≡ (r.writes && mark)
+  pub copy_on_write : has w 8 ≡ mark
 
 -- a region whose pages can have leaves: the guard grants nothing, and any other grants reading, or execution alone
 abbrev pub makes_leaf : Region → Bool

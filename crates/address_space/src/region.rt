@@ -69,14 +69,14 @@ impl Region {
     /// The leaf of a page over a frame: with a fork mark it may not be written. The guard's is the kernel's alone.
     pub(crate) fn leaf(&self, frame: FrameNo, mark: bool) -> Entry
         requires leafy { makes_leaf (region_of self.now) ≡ true }
+        requires marked { mark ≡ true → (region_of self.now).writes ≡ true }
         ensures leaf { IsPageLeaf result frame.0 (region_of self.now) mark }
         ensures kind { kind_of result ≡ Leaf }
     {
         if self.kind == RegionKind::Guard {
             return Entry::leaf(frame, Rights::READ, false, false);
         }
-        let cow = mark && self.rights.contains(Rights::WRITE);
-        Entry::leaf(frame, self.rights, true, cow)
+        Entry::leaf(frame, self.rights, true, mark)
     }
 
     /// Whether the right is missing that an access needs.
