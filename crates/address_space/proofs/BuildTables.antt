@@ -16,7 +16,7 @@ use Rattle.table_walk.specs.Counted.{AreTablesOf}
 use Rattle.table_walk.specs.Image.{bare_root, blank_hold, ChangesTables, HasTables, Image, IsGrown, leaf_node, missing, with_leaf}
 use Rattle.table_walk.specs.Keys.{insert_other, insert_same, is_none}
 use Rattle.table_walk.specs.Walk.{top_level}
-use Rattle.address_space.specs.Agreement.{HasKernelLeaf, Names, Owns, Shows, Stands, trampoline_rights, trapframe_rights}
+use Rattle.address_space.specs.Agreement.{HasKernelLeaf, Names, Owns, Shows, Stands, code_rights, data_rights}
 use Rattle.address_space.specs.Parts.{CanOpen, Opens, OwnsAlone}
 use Rattle.address_space.specs.Steps.{Spends}
 use Rattle.address_space.proofs.AddingFrames.{Comes, come_owns, come_tables, f_same, leaf_owns}
@@ -76,13 +76,13 @@ module _ (v w : View) (root : ℕ) (can : CanOpen v) (fresh : references v root 
 pub record HasTrampoline (w : View) (root : ℕ) (t : Image) : Type 0 where
   pub tables : HasTables w root t
   pub owns : Owns w t None
-  pub leaf : HasKernelLeaf t trampoline_page 0 trampoline_rights
+  pub leaf : HasKernelLeaf t trampoline_page 0 code_rights
   pub only : (k y : ℕ) → get t.leaves k ≡ Some y → k ≡ leaf_node trampoline_page
   pub tabled : AreTablesOf t []
 
 module _ (v w : View) (root x n : ℕ) (u : Image) (o : Owns v (bare_root root) (Some 0)) (bare : HasTables v root (bare_root root)) (grown : IsGrown (bare_root root) u trampoline_page top_level)
     (tables : HasTables w root (with_leaf u (leaf_node trampoline_page) x)) (changes : ChangesTables v w (bare_root root) u n)
-    (made : IsLeafOf x 0 trampoline_rights false false) (are : AreTablesOf u []) where
+    (made : IsLeafOf x 0 code_rights false false) (are : AreTablesOf u []) where
   abbrev image : Image
   image = with_leaf u (leaf_node trampoline_page) x
 
@@ -119,7 +119,7 @@ two_missing root law = law
 
 module _ (v r w : View) (root x f n : ℕ) (t u : Image) (before : HasTrampoline v root t) (come : Comes v r f) (grown : IsGrown t u trapframe_page top_level)
     (tables : HasTables w root (with_leaf u (leaf_node trapframe_page) x)) (changes : ChangesTables r w t u n)
-    (made : IsLeafOf x f trapframe_rights false false) (are : AreTablesOf u []) where
+    (made : IsLeafOf x f data_rights false false) (are : AreTablesOf u []) where
   unmapped : get t.leaves (leaf_node trapframe_page) ≡ None
   unmapped = is_none (get t.leaves (leaf_node trapframe_page)) (λ y leaf. kernel_apart (before.only (leaf_node trapframe_page) y leaf))
 

@@ -4,7 +4,8 @@ use Rattle.std.specs.Prelude.{◌==◌, ◌&&◌, nat_le, nat_lt, option_map, sl
 use Rattle.std.proofs.lemmas.Bool.{cases_eq, cases_lt, eq-eqb, ne_eqb, lt-ltb, le-ltb, le-leb, lt-leb, and_left, and_right, and_parts, eqb-true, ltb-true}
 use Rattle.std.proofs.lemmas.Option.{same_Some}
 use Rattle.sv39_entry.specs.Address.{trampoline_page}
-use Rattle.address_space.specs.Kernel.{code_rights, data_rights, first_direct, frame_rights, kernel_page, stack_page}
+use Rattle.address_space.specs.Agreement.{code_rights, data_rights}
+use Rattle.address_space.specs.Kernel.{first_direct, frame_rights, kernel_page, stack_page}
 
 -- ---- lists that grow at their end
 

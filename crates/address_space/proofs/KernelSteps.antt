@@ -10,7 +10,8 @@ use Rattle.table_walk.specs.Image.{bare_root, blank_hold, ChangesTables, HasTabl
 use Rattle.table_walk.specs.Keys.{insert_other, insert_same}
 use Rattle.table_walk.specs.Nodes.{leaf_node_is}
 use Rattle.table_walk.specs.Walk.{top_level}
-use Rattle.address_space.specs.Kernel.{code_rights, data_rights, direct_tables, first_direct, frame_rights, kernel_leaf, kernel_page, MapsKernel, stack_page}
+use Rattle.address_space.specs.Agreement.{code_rights, data_rights}
+use Rattle.address_space.specs.Kernel.{direct_tables, first_direct, frame_rights, kernel_leaf, kernel_page, MapsKernel, stack_page}
 use Rattle.address_space.specs.Steps.{Spends}
 use Rattle.address_space.proofs.KernelFrames.{holds_root, more_stacks, more_tables, spends_claim, spends_on, spends_root, spends_tables, once_still, tables_stay, not_claimed}
 use Rattle.address_space.proofs.KernelPages.{frame_other, get_last, nothing_else, on_frame, on_slot, on_trampoline, stack_other}

@@ -19,7 +19,8 @@ use Rattle.table_walk.specs.Nodes.{leaf_node_is}
 use Rattle.table_walk.specs.Walk.{Finds, FindsLeaf, LeavesMemory, Maps, Translates}
 use Rattle.table_walk.specs.declared.walk.Found.TheVariants as found
 use Rattle.table_walk.specs.declared.walk.Walk.TheVariants as walk
-use Rattle.address_space.specs.Kernel.{code_rights, data_rights, IsKernelTable, kernel_leaf, kernel_page, kernel_walk, walk_to}
+use Rattle.address_space.specs.Agreement.{code_rights, data_rights}
+use Rattle.address_space.specs.Kernel.{IsKernelTable, kernel_leaf, kernel_page, kernel_walk, walk_to}
 use Rattle.address_space.proofs.KernelPages.{above_none, IsOfKernel, of_kernel, page_low}
 
 -- ---- the words of leaves

@@ -20,7 +20,7 @@ use Rattle.table_walk.specs.Image.{HasTables, Image, last_table, leaf_node, with
 use Rattle.table_walk.specs.Keys.{insert_other, insert_same}
 use Rattle.address_space.specs.Agreement.{Agrees, IsPageLeaf, makes_leaf, Stands}
 use Rattle.address_space.specs.Layouts.{Layout}
-use Rattle.address_space.specs.Parting.{CanPart, Parts}
+use Rattle.address_space.specs.Separating.{CanSeparate, Separates}
 use Rattle.address_space.specs.Steps.{CanOwn, Owned, Spends, Takes, RunsDry}
 use Rattle.address_space.proofs.Owned.{no_table, same_owns}
 use Rattle.address_space.proofs.Owning.{owns_same, turned_sole, turned_stands, turned_words}
@@ -294,7 +294,7 @@ module _ {v : View} {root trapframe : ℕ} {l : Layout} {t : Image} {p : Process
           let none = ap (λ (x : View). x.credits) look in
           omega (arith, more, none, can.agrees.credits)
 
-      pub own_part : CanPart b root trapframe t p page s r f
+      pub own_part : CanSeparate b root trapframe t p page s r f
       own_part = record {
         stands = like_stands v b reserved root trapframe None t p can.agrees.stands;
         settled = can.settled;
@@ -303,7 +303,7 @@ module _ {v : View} {root trapframe : ℕ} {l : Layout} {t : Image} {p : Process
         on = can.on;
       }
 
-      pub own_parted : (w : View) (u : Image) (g : ℕ) → Parts b w root trapframe t u p page s g → Owned v w root trapframe l t u p page s f g c
+      pub own_parted : (w : View) (u : Image) (g : ℕ) → Separates b w root trapframe t u p page s g → Owned v w root trapframe l t u p page s f g c
       own_parted w u g parts = record {
         agrees = λ fresh. record {
           lays = lays_with l p page _ can.agrees.lays;

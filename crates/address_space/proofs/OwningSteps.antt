@@ -16,7 +16,7 @@ use Rattle.table_walk.specs.Image.{HasTables, Image, last_table, leaf_node, with
 use Rattle.table_walk.specs.Keys.{insert_other, insert_same}
 use Rattle.table_walk.specs.Same.{same_tables}
 use Rattle.address_space.specs.Agreement.{IsPageLeaf, Stands}
-use Rattle.address_space.specs.Parting.{CanPart, Parts}
+use Rattle.address_space.specs.Separating.{CanSeparate, Separates}
 use Rattle.address_space.specs.Steps.{Spends}
 use Rattle.address_space.proofs.Owned.{anchored, apart_by, claimed_here, claimed_other, one_frame, released_here, released_once, released_other, same_bytes, same_owns, same_references, same_shows, same_sole, spare_comes, spare_goes}
 use Rattle.address_space.proofs.Owning.{owns_other, turned_sole, turned_stands, turned_words}
@@ -90,14 +90,14 @@ released_stands v root trapframe t p f s =
 
 -- the frame of a page that may leave it
 pub parting_page : (v : View) (root trapframe : ℕ) (t : Image) (p : Process) (page : ℕ) (s : Page) (r : Region) (f : ℕ)
-    → CanPart v root trapframe t p page s r f → HasPage v t p page s f
+    → CanSeparate v root trapframe t p page s r f → HasPage v t p page s f
 parting_page v root trapframe t p page s r f can =
     let here = page_here v root trapframe None t p page s can.stands can.settled in
     let leaf = same_Some here.1.leaf can.on.0 (sym here.1.mapped ∙ can.on.1) in
     subst (HasPage v t p page s) (one_frame here.0 f (sym here.1.made.names ∙ ap ppn leaf ∙ can.on.2)) here.1
 
 -- `a` is the view after the claim of frame g, `b` after its words were copied, `d` after the leaf was turned.
-module _ {v : View} {root trapframe : ℕ} {t : Image} {p : Process} {page : ℕ} {s : Page} {r : Region} {f : ℕ} (can : CanPart v root trapframe t p page s r f)
+module _ {v : View} {root trapframe : ℕ} {t : Image} {p : Process} {page : ℕ} {s : Page} {r : Region} {f : ℕ} (can : CanSeparate v root trapframe t p page s r f)
     (g : ℕ) (fresh : references v g ≡ 0) where
   here : HasPage v t p page s f
   here = parting_page v root trapframe t p page s r f can
@@ -144,10 +144,10 @@ module _ {v : View} {root trapframe : ℕ} {t : Image} {p : Process} {page : ℕ
         pub part_anchored : IsAnchored (released f d)
         part_anchored x held = anchored _ root trapframe None _ _ (released_stands d root trapframe _ _ f (turned 0 false))
 
-        pub part_done : (e : View) → e ≡ released f d → Parts v e root trapframe t (with_leaf t (leaf_node page) leaf) p page s g
+        pub part_done : (e : View) → e ≡ released f d → Separates v e root trapframe t (with_leaf t (leaf_node page) leaf) p page s g
         part_done e release =
             let changes = turned_words b d root trapframe (Some g) t p page s r g leaf part_copied can.settled can.in_region made tables word in
-            subst (λ x. Parts v x root trapframe t (with_leaf t (leaf_node page) leaf) p page s g) (sym release)
+            subst (λ x. Separates v x root trapframe t (with_leaf t (leaf_node page) leaf) p page s g) (sym release)
             (record {
               stands = λ new shared. released_stands d root trapframe _ _ f (turned new shared);
               on = (leaf, insert_same t.leaves (leaf_node page) leaf (leaf_node page) refl, made.names);

@@ -56,11 +56,11 @@ makes_leaf r =
     (is_guard_kind r.kind && not r.reads && not r.writes && not r.executes) || (not (is_guard_kind r.kind) && (r.reads || (r.executes && not r.writes)))
 
 -- read and execute, and read and write
-abbrev pub trampoline_rights : ℕ
-trampoline_rights = 5
+abbrev pub code_rights : ℕ
+code_rights = 5
 
-abbrev pub trapframe_rights : ℕ
-trapframe_rights = 3
+abbrev pub data_rights : ℕ
+data_rights = 3
 
 -- the kernel's own pages in each space (the xv6 book, "Process address space"): not for the user
 abbrev pub HasKernelLeaf : Image → ℕ → ℕ → ℕ → Type 0
@@ -83,8 +83,8 @@ IsLeafNumber p k =
 
 -- the leaves are those of the settled pages, of TRAMPOLINE and of TRAPFRAME
 pub record Shows (v : View) (trapframe : ℕ) (t : Image) (p : Process) : Type 0 where
-  pub on_trampoline : HasKernelLeaf t trampoline_page 0 trampoline_rights
-  pub on_trapframe : HasKernelLeaf t trapframe_page trapframe trapframe_rights
+  pub on_trampoline : HasKernelLeaf t trampoline_page 0 code_rights
+  pub on_trapframe : HasKernelLeaf t trapframe_page trapframe data_rights
   pub settled : (n : ℕ) (s : Page) → pages.get p.settled n ≡ Some s → IsShown v t p n s
   pub only : (k w : ℕ) → get t.leaves k ≡ Some w → IsLeafNumber p k
   pub low : (n : ℕ) (s : Page) → pages.get p.settled n ≡ Some s → n < trapframe_page

@@ -13,15 +13,9 @@ use Rattle.sv39_entry.specs.declared.access.Access.{Access}
 use Rattle.table_walk.specs.Image.{HasTables, Image, leaf_node, node}
 use Rattle.table_walk.specs.declared.walk.Walk.{Walk}
 use Rattle.table_walk.specs.declared.walk.Walk.TheVariants as walk
+use Rattle.address_space.specs.Agreement.{code_rights, data_rights}
 
 -- what is mapped
-
--- read and execute, and read and write
-abbrev pub code_rights : ℕ
-code_rights = 5
-
-abbrev pub data_rights : ℕ
-data_rights = 3
 
 -- frame 0 has the trampoline's code, and no other has code
 abbrev pub frame_rights : ℕ → ℕ

@@ -1,8 +1,8 @@
 // The page table of the kernel.
 
 ghost use Rattle.std.specs.Prelude.{[], ◌≡◌, ◌+◌, ◌-◌, ◌<◌, ◌≤◌, ◌↔◌, false, if◌then◌else◌, IfErr, IfOk, is_ok, IsOk, length, List, ℕ};
-ghost use Rattle.address_space.specs.Agreement.{HoldsTrampoline};
-ghost use Rattle.address_space.specs.Kernel.{code_rights, direct_tables, frame_rights, IsKernelTable, kernel_walk, MapsKernel, stack_page};
+ghost use Rattle.address_space.specs.Agreement.{HoldsTrampoline, code_rights};
+ghost use Rattle.address_space.specs.Kernel.{direct_tables, frame_rights, IsKernelTable, kernel_walk, MapsKernel, stack_page};
 ghost use Rattle.address_space.specs.Steps.{Spends};
 ghost use Rattle.frame_store.specs.Laws.{Fits, IsDry, Keeps};
 ghost use Rattle.frame_store.specs.View.{references};

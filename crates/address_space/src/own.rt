@@ -3,7 +3,7 @@
 ghost use Rattle.std.specs.Prelude.{[], ◌≡◌, ◌≢◌, ◌∷◌, ◌+◌, ◌-◌, ◌<◌, ◌≤◌, ◌↔◌, ◌==◌, cond, if◌then◌else◌, IfErr, IfOk, is_ok, IsOk, not, ℕ};
 ghost use Rattle.address_space.specs.Agreement.{Agrees};
 ghost use Rattle.address_space.specs.Layouts.{region_of};
-ghost use Rattle.address_space.specs.Parting.{CanPart, Parts};
+ghost use Rattle.address_space.specs.Separating.{CanSeparate, Separates};
 ghost use Rattle.address_space.specs.Steps.{CanOwn, Owned, RunsDry};
 ghost use Rattle.frame_store.specs.Laws.{Fits, Keeps};
 ghost use Rattle.process_model.specs.Frames.{part_need};
@@ -60,14 +60,14 @@ impl<S: FrameSeat> Space<S> {
             return Ok(());
         }
         store.reserve(&mut self.seat, 1)?;
-        part(store, &mut self.seat, self.root, page, &region, shared);
+        separate(store, &mut self.seat, self.root, page, &region, shared);
         Ok(())
     }
 }
 
 /// Puts a page on a frame of its own, made of a credit, with the bytes of the frame that it had. The bytes are there
 /// before the leaf names the new frame, and the leaf before the reference of the old one goes.
-fn part<F: FrameSupply>(
+fn separate<F: FrameSupply>(
     store: &mut F,
     seat: &mut F::Seat,
     root: FrameNo,
@@ -76,11 +76,11 @@ fn part<F: FrameSupply>(
     shared: FrameNo,
 )
     requires fits { Fits F.rule store.old seat.old }
-    requires ready { (trapframe : ℕ) × (t : Image) × (p : Process) × (s : Page) × CanPart (F.Seat.view seat.old) root.0 trapframe t p page s (region_of region.now) shared.0 }
+    requires ready { (trapframe : ℕ) × (t : Image) × (p : Process) × (s : Page) × CanSeparate (F.Seat.view seat.old) root.0 trapframe t p page s (region_of region.now) shared.0 }
     requires credit { 0 < (F.Seat.view seat.old).credits }
-    ensures parted { (trapframe : ℕ) (t : Image) (p : Process) (s : Page) →
-        CanPart (F.Seat.view seat.old) root.0 trapframe t p page s (region_of region.now) shared.0 →
-        (u : Image) × (g : ℕ) × Parts (F.Seat.view seat.old) (F.Seat.view seat.new) root.0 trapframe t u p page s g }
+    ensures separated { (trapframe : ℕ) (t : Image) (p : Process) (s : Page) →
+        CanSeparate (F.Seat.view seat.old) root.0 trapframe t p page s (region_of region.now) shared.0 →
+        (u : Image) × (g : ℕ) × Separates (F.Seat.view seat.old) (F.Seat.view seat.new) root.0 trapframe t u p page s g }
     ensures keeps { Keeps F.rule store.old seat.old store.new seat.new }
     ensures free { F.alone → F.free store.new ≡ F.free store.old + cond (F.count store.old shared.0 == 1) 1 0 }
 {

@@ -130,15 +130,15 @@ returns-in_err-reserve-clause-keeps g c = λ others r. c.reserve.ensures.keeps o
 
 -- the page gets another frame
 
-pub part-requires-clause-fits : goal.part-requires-clause-fits
-part-requires-clause-fits g c =
+pub separate-requires-clause-fits : goal.separate-requires-clause-fits
+separate-requires-clause-fits g c =
     let rule = g.F.FrameAccess.rule in
     fits_after rule c.reserve.ensures.keeps (fits_after rule c.look-sole.ensures.keeps (fits_after rule c.frame_of.ensures.keeps c.requires.fits))
 
-pub part-requires-clause-ready : goal.part-requires-clause-ready
-part-requires-clause-ready g c =
+pub separate-requires-clause-ready : goal.separate-requires-clause-ready
+separate-requires-clause-ready g c =
     let r = c.requires.ready in
-    let at = goal.at.part-requires-clause-ready g c in
+    let at = goal.at.separate-requires-clause-ready g c in
     let is = frame_is g at.In-Some-frame_of r.0 r.1 r.2 r.3 r.4 in
     let look = look_at _ _ _ _ _ _ c.frame_of.ensures.view c.look-sole.ensures.view is in (
       c.args.self.now.trapframe.0,
@@ -155,7 +155,7 @@ returns-clause-owned g c t p s f can =
     let look = look_at _ _ _ _ _ _ c.frame_of.ensures.view c.look-sole.ensures.view is in
     let region = region_is g at.In-Some-frame_of t p s f can in
     let ready = own_part can _ _ look _ region c.if-sole.false _ c.in_ok-reserve.ensures.ok in
-    let parts = c.part.ensures.parted c.args.self.now.trapframe.0 t p s (rw is ready) in (
+    let parts = c.separate.ensures.separated c.args.self.now.trapframe.0 t p s (rw is ready) in (
       parts.0,
       parts.1,
       c.look-sole.result,
@@ -178,8 +178,8 @@ returns-clause-free g c alone t p s f can =
     let same = c.reserve.ensures.counts alone c.in-Some-frame_of.shared.0 ∙ ap (λ x. g.F.FrameAccess.count x c.in-Some-frame_of.shared.0) store
     ∙ ap (g.F.FrameAccess.count c.args.store.now) is in
     let free = ap g.F.FrameAccess.free store in
-    free_parted _ _ _ _ _ (λ one. c.if-sole.false (count ∙ one)) same (omega (arith, c.in_ok-reserve.ensures.free alone, free)) (c.part.ensures.free alone)
+    free_parted _ _ _ _ _ (λ one. c.if-sole.false (count ∙ one)) same (omega (arith, c.in_ok-reserve.ensures.free alone, free)) (c.separate.ensures.free alone)
 
 pub returns-clause-keeps : goal.returns-clause-keeps
 returns-clause-keeps g c = λ others r.
-    c.part.ensures.keeps others (c.reserve.ensures.keeps others (c.look-sole.ensures.keeps others (c.frame_of.ensures.keeps others r)))
+    c.separate.ensures.keeps others (c.reserve.ensures.keeps others (c.look-sole.ensures.keeps others (c.frame_of.ensures.keeps others r)))

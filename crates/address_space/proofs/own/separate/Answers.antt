@@ -2,7 +2,7 @@ use Rattle.std.proofs.Common.{refl, arith, ◌∙◌}
 use Rattle.frame_store.specs.Laws.{fits_after}
 use Rattle.address_space.proofs.Owned.{anchored}
 use Rattle.address_space.proofs.OwningSteps.{part_anchored, part_apart, part_bytes, part_copied, part_done, part_held, part_one, part_sole}
-use Rattle.address_space.proofs.own.part.Goals as goal
+use Rattle.address_space.proofs.own.separate.Goals as goal
 
 pub claim-own-requires-clause-anchored : goal.claim-own-requires-clause-anchored
 claim-own-requires-clause-anchored g c = let r = c.requires.ready in anchored _ _ r.0 _ r.1 r.2 r.4.stands
@@ -55,8 +55,8 @@ release-requires-clause-anchored g c =
     part_anchored r.4 _ c.claim-own.ensures.fresh _ c.claim-own.ensures.view _ c.copy_frame.ensures.others c.copy_frame.ensures.bytes
     _ _ c.leaf.ensures.leaf (c.protect.ensures.image r.1 stands.tables).0 (λ x at. c.protect.ensures.word r.1 x stands.tables at)
 
-pub returns-clause-parted : goal.returns-clause-parted
-returns-clause-parted g c trapframe t p s can =
+pub returns-clause-separated : goal.returns-clause-separated
+returns-clause-separated g c trapframe t p s can =
     let stands = part_copied can _ c.claim-own.ensures.fresh _ c.claim-own.ensures.view _ c.copy_frame.ensures.others c.copy_frame.ensures.bytes in (
       _,
       _,

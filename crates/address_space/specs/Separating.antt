@@ -10,7 +10,7 @@ use Rattle.address_space.specs.Agreement.{IsOn, makes_leaf, OthersKeep, Stands}
 use Rattle.address_space.specs.Steps.{Spends}
 
 -- a settled page of a region that can have leaves stands on a frame
-pub record CanPart (v : View) (root trapframe : ℕ) (t : Image) (p : Process) (page : ℕ) (s : Page) (r : Region) (f : ℕ) : Type 0 where
+pub record CanSeparate (v : View) (root trapframe : ℕ) (t : Image) (p : Process) (page : ℕ) (s : Page) (r : Region) (f : ℕ) : Type 0 where
   pub stands : Stands v root trapframe None t p
   pub settled : pages.get p.settled page ≡ Some s
   pub in_region : region_at (regions p) page ≡ Some r
@@ -18,7 +18,7 @@ pub record CanPart (v : View) (root trapframe : ℕ) (t : Image) (p : Process) (
   pub on : IsOn t page f
 
 -- and has a frame of its own with the same bytes, and no fork mark
-pub record Parts (v w : View) (root trapframe : ℕ) (t u : Image) (p : Process) (page : ℕ) (s : Page) (g : ℕ) : Type 0 where
+pub record Separates (v w : View) (root trapframe : ℕ) (t u : Image) (p : Process) (page : ℕ) (s : Page) (g : ℕ) : Type 0 where
   pub stands : (fresh : ℕ) (shared : Bool) → Stands w root trapframe None u (with_page p page (unmarked fresh shared s))
   pub on : IsOn u page g
   pub fresh : references v g ≡ 0
