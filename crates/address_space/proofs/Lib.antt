@@ -25,4 +25,6 @@ pub mod Owning
 pub mod OwningCounts
 pub mod OwningSteps
 pub mod PageMaps
+pub mod Sizes
+pub mod SpaceTested
 pub mod Writing

@@ -210,12 +210,16 @@ refused_agrees v a w f c root trapframe l t p look dry agrees = record {
 }
 
 pub refused_dry : (v a w : View) (f c : ℕ) → a ≡ looked f c v → IsDry 1 a w → v.credits ≡ 0 → (c ≡ 1 → ⊥) → (n : ℕ) × (n ≢ 1) × RunsDry v w 1 (n ∷ [])
-refused_dry v a w f c look dry none more = (c, more, record {
-  claims = dry.claims ∙ ap (λ (x : View). x.claims) look;
-  zeros = let old = ap (λ (x : View). x.zeros) look in omega (arith, dry.zeros, old);
-  short = let old = ap (λ (x : View). x.credits) look in omega (arith, dry.short, old, none);
-  looks = dry.looks ∙ ap (λ (x : View). x.looks) look;
-})
+refused_dry v a w f c look dry none more = (
+  c,
+  more,
+  record {
+    claims = dry.claims ∙ ap (λ (x : View). x.claims) look;
+    zeros = let old = ap (λ (x : View). x.zeros) look in omega (arith, dry.zeros, old);
+    short = let old = ap (λ (x : View). x.credits) look in omega (arith, dry.short, old, none);
+    looks = dry.looks ∙ ap (λ (x : View). x.looks) look;
+  },
+)
 
 -- of a page with a fork mark
 

@@ -117,3 +117,9 @@ pub record CanWrite (v : View) (root trapframe : ℕ) (l : Layout) (t : Image) (
 pub record IsBare (v : View) : Type 0 where
   pub none : (f : ℕ) → references v f ≡ 0
   pub credits : v.credits ≡ 0
+
+-- the heap ends elsewhere
+
+-- each settled page of the one process is in the region that it has in the other
+abbrev pub KeepsRegions : Process → Process → Type 0
+KeepsRegions p q = (n : ℕ) (s : Page) → pages.get p.settled n ≡ Some s → region_at (regions q) n ≡ region_at (regions p) n

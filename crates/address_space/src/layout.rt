@@ -59,6 +59,16 @@ impl Layout {
         }
     }
 
+    /// Ends the heap at another address.
+    pub(crate) fn set_size(&mut self, size: u64)
+        ensures parts { self.new.parts ≡ self.old.parts }
+        ensures mappings { self.new.mappings ≡ self.old.mappings }
+        ensures heap_base { self.new.heap_base ≡ self.old.heap_base }
+        ensures size { self.new.size ≡ size }
+    {
+        self.size = size;
+    }
+
     /// The region that holds a page.
     pub fn region_at(&self, page: u64) -> Option<Region>
         ensures { (p : Process) → LaysOut self.now p → option_map region_of result ≡ model.region_at (regions p) page }

@@ -16,6 +16,8 @@ mod part;
 mod region;
 mod space;
 #[cfg(test)]
+mod space_tests;
+#[cfg(test)]
 mod tests;
 
 pub use kernel::KernelTable;

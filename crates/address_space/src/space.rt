@@ -3,7 +3,7 @@
 ghost use Rattle.std.specs.Prelude.{[], ◌≡◌, ◌%◌, ◌<◌, ℕ, IsTrue};
 ghost use Rattle.address_space.specs.Agreement.{Agrees, IsOn};
 ghost use Rattle.address_space.specs.Layouts.{granted_unless};
-ghost use Rattle.address_space.specs.Steps.{CanRead, CanWrite, Takes};
+ghost use Rattle.address_space.specs.Steps.{CanRead, CanWrite, KeepsRegions, Takes};
 ghost use Rattle.frame_store.specs.Laws.{Fits, Keeps};
 ghost use Rattle.process_model.specs.Bytes.{is_width, low_bytes};
 ghost use Rattle.process_model.specs.Process.{Page, Process, regions};
@@ -77,7 +77,13 @@ impl<S: FrameSeat> Space<S> {
         ensures same { store.new ≡ store.old }
         ensures keeps { Keeps F.rule store.old self.old.seat store.new self.new.seat }
     {
-        load_bytes(store, &mut self.seat, frame, va.offset() as usize, width as usize)
+        load_bytes(
+            store,
+            &mut self.seat,
+            frame,
+            va.offset() as usize,
+            width as usize,
+        )
     }
 
     /// Puts the `width` lowest bytes of a value into a settled page that the process has alone.
@@ -88,7 +94,7 @@ impl<S: FrameSeat> Space<S> {
         requires aligned { va.0 % width ≡ 0 }
         ensures agrees { (t : Image) (p : Process) (s : Page) → CanWrite (S.view self.old.seat) self.old.root.0 self.old.trapframe.0 self.old.layout t p (page_of va.0) s →
             Agrees (S.view self.new.seat) self.new.root.0 self.new.trapframe.0 self.new.layout t
-                (with_page p (page_of va.0) (stored s (va.0 % 4096) (low_bytes value width))) }
+            (with_page p (page_of va.0) (stored s (va.0 % 4096) (low_bytes value width))) }
         ensures root { self.new.root ≡ self.old.root }
         ensures trapframe { self.new.trapframe ≡ self.old.trapframe }
         ensures layout { self.new.layout ≡ self.old.layout }
@@ -116,7 +122,7 @@ impl<S: FrameSeat> Space<S> {
         requires aligned { va.0 % width ≡ 0 }
         ensures agrees { (t : Image) (p : Process) (s : Page) → CanWrite (S.view self.old.seat) self.old.root.0 self.old.trapframe.0 self.old.layout t p (page_of va.0) s → IsOn t (page_of va.0) frame.0 →
             Agrees (S.view self.new.seat) self.new.root.0 self.new.trapframe.0 self.new.layout t
-                (with_page p (page_of va.0) (stored s (va.0 % 4096) (low_bytes value width))) }
+            (with_page p (page_of va.0) (stored s (va.0 % 4096) (low_bytes value width))) }
         ensures root { self.new.root ≡ self.old.root }
         ensures trapframe { self.new.trapframe ≡ self.old.trapframe }
         ensures layout { self.new.layout ≡ self.old.layout }
@@ -133,6 +139,18 @@ impl<S: FrameSeat> Space<S> {
             width as usize,
             value,
         );
+    }
+
+    /// Ends the heap at another address. No page gets a frame by it, and none loses one.
+    pub fn set_size(&mut self, size: u64)
+        ensures agrees { (t : Image) (p : Process) → Agrees (S.view self.old.seat) self.old.root.0 self.old.trapframe.0 self.old.layout t p →
+            KeepsRegions p (record p { size = size }) →
+            Agrees (S.view self.new.seat) self.new.root.0 self.new.trapframe.0 self.new.layout t (record p { size = size }) }
+        ensures seat { self.new.seat ≡ self.old.seat }
+        ensures root { self.new.root ≡ self.old.root }
+        ensures trapframe { self.new.trapframe ≡ self.old.trapframe }
+    {
+        self.layout.set_size(size);
     }
 
     /// The frame of the page of an address.

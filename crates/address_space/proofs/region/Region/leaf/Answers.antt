@@ -1,7 +1,6 @@
-use Rattle.std.proofs.Common.{◌≡◌, Bool, true, false, ◌&&◌, ◌||◌, not, refl, ◌∙◌, sym, rules}
-use Rattle.address_space.specs.Agreement.{makes_leaf}
-use Rattle.address_space.specs.Layouts.{region_kind, region_of}
-use Rattle.process_model.specs.Regions.{Region, is_guard_kind}
+use Rattle.std.proofs.Common.{◌≡◌, false, rules}
+use Rattle.address_space.specs.Layouts.{region_kind}
+use Rattle.process_model.specs.Regions.{is_guard_kind}
 use Rattle.address_space.proofs.region.Region.leaf.Goals as goal
 
 pub returns-clause-leaf : goal.returns-clause-leaf

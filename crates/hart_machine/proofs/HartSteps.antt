@@ -1,0 +1,271 @@
+-- Steps on one hart: what they are refused for, and worlds in which one hart is another.
+use Rattle.std.proofs.Common.{◌≡◌, ℕ, ◌<◌, get_or, ◌⊎◌, inl, inr, Bool, true, false, Option, None, Some, option_map, is_some, List, [], ◌∷◌, map, not, ◌||◌, ◌&&◌, refl, ap, sym, subst, ◌∙◌, arith}
+use Rattle.std.specs.Prelude.{Contains, slice_get, slice_set, unwrap_or}
+use Rattle.std.specs.List.{list_any}
+use Rattle.std.specs.Vec.{vec_len, with_item}
+use Rattle.std.proofs.lemmas.Bool.{cases_eq}
+use Rattle.std.proofs.lemmas.List.{map-set}
+use Rattle.std.proofs.lemmas.Option.{get_or_from_slice_get, same_Some, slice_get-map, slice_get_within}
+use Rattle.frame_store.specs.Seats.{place_set_other, place_set_same}
+use Rattle.hart_tlb.specs.declared.entry.TlbEntry.{TlbEntry}
+use Rattle.process_model.specs.Harts as model
+use Rattle.process_model.specs.Process.{Process}
+use Rattle.process_model.specs.Steps.{plain_step}
+use Rattle.process_model.specs.declared.step.Step.TheVariants as step
+use Rattle.process_model.specs.World.{World, Outcome, always, answers, can_go_on, can_run, flat, has_slot, on_hart, on_hart_at, process_in, refuses, with_hart, with_its_process, with_process_of, with_slot_of}
+use Rattle.process_model.specs.declared.config.Policy.TheVariants.{Full}
+use Rattle.process_model.specs.declared.phase.Phase.{Phase}
+use Rattle.process_model.specs.declared.phase.Phase.TheVariants as phase
+use Rattle.process_model.specs.declared.step.Refusal.TheVariants.{BadArgument, Impossible, NoEntry}
+use Rattle.process_model.specs.declared.step.Reply.{Reply}
+use Rattle.process_model.specs.declared.step.Reply.TheVariants.{Done, Refused}
+use Rattle.process_model.specs.declared.step.Refusal.{Refusal}
+use Rattle.table_walk.specs.Image.{Image}
+use Rattle.hart_machine.specs.Harts.{advanced, hart_of}
+use Rattle.hart_machine.specs.Tenants.{IsTenant}
+use Rattle.hart_machine.specs.Worlds.{IsPlace, IsServing, IsWorld, Makes, may_have_kernel, may_have_own}
+use Rattle.hart_machine.specs.declared.hart.Hart.{Hart}
+use Rattle.hart_machine.specs.declared.machine.Machine.{Machine}
+use Rattle.hart_machine.specs.declared.tenant.Tenant.{Tenant}
+
+-- refusals
+
+module _ (w : World) (h : ℕ) (proper : Bool) (possible entry : model.Hart → Bool) (run : model.Hart → Outcome) where
+  pub without_hart : slice_get w.harts h ≡ None → on_hart w h proper possible entry run ≡ refuses w BadArgument
+  unfolding on_hart
+  without_hart is = ap (on_hart_at w proper possible entry run) is
+
+  pub improper : proper ≡ false → on_hart w h proper possible entry run ≡ refuses w BadArgument
+  unfolding on_hart
+  improper fails = go (slice_get w.harts h) where
+    go : (o : Option model.Hart) → on_hart_at w proper possible entry run o ≡ refuses w BadArgument
+    go None = refl
+    go (Some x) = rw fails refl
+
+  module _ (x : model.Hart) (is : slice_get w.harts h ≡ Some x) (well : proper ≡ true) where
+    pub impossible : possible x ≡ false → on_hart w h proper possible entry run ≡ refuses w (Impossible x.phase)
+    unfolding on_hart
+    impossible fails = ap (on_hart_at w proper possible entry run) is ∙ rw (well, fails) refl
+
+    pub without_entry : possible x ≡ true → entry x ≡ false → on_hart w h proper possible entry run ≡ refuses w NoEntry
+    unfolding on_hart
+    without_entry can fails = ap (on_hart_at w proper possible entry run) is ∙ rw (well, can, fails) refl
+
+    pub runs : possible x ≡ true → entry x ≡ true → on_hart w h proper possible entry run ≡ run x
+    unfolding on_hart
+    runs can serves = ap (on_hart_at w proper possible entry run) is ∙ rw (well, can, serves) refl
+
+-- the process of a hart
+
+module _ (w : World) (x : model.Hart) (run : ℕ → Process → Outcome) where
+  pub its_process : (s : ℕ) (p : Process) → x.slot ≡ Some s → slice_get w.slots s ≡ Some (Some p) → with_its_process w x run ≡ run s p
+  unfolding with_its_process
+  its_process s p on at = ap (with_slot_of w x.phase run) on ∙ ap (λ o. with_process_of w x.phase run s (flat o)) at
+
+  pub no_process : x.slot ≡ None → with_its_process w x run ≡ refuses w (Impossible x.phase)
+  unfolding with_its_process
+  no_process none = ap (with_slot_of w x.phase run) none
+
+-- what is answered
+
+pub refused : (m : Machine) (w : World) → IsWorld m w → (r : Refusal) (o : Outcome) → o ≡ refuses w r → Makes m (Refused r) o
+refused m w is r o e = subst (λ (x : Outcome). Makes m (Refused r) x) (sym e) (refl, is)
+
+pub makes : (m : Machine) (reply : Reply) (w : World) (o : Outcome) → IsWorld m w → o ≡ answers w reply → Makes m reply o
+makes m reply w o is e = subst (λ (x : Outcome). Makes m reply x) (sym e) (refl, is)
+
+-- harts and processes of a machine
+
+-- the hart with a number, with its phase
+pub record HasHart (m : Machine) (w : World) (h : ℕ) (p : Phase) : Type 0 where
+  pub hart : Hart
+  pub there : slice_get m.harts.items h ≡ Some hart
+  pub phased : hart.phase ≡ p
+  pub in_model : slice_get w.harts h ≡ Some (hart_of hart)
+  pub within : h < vec_len m.harts
+
+module _ (m : Machine) (w : World) (is : IsWorld m w) where
+  hart_in : (h : ℕ) → slice_get w.harts h ≡ option_map hart_of (slice_get m.harts.items h)
+  hart_in h = ap (λ hs. slice_get hs h) (sym is.harts) ∙ slice_get-map hart_of m.harts.items h
+
+  pub no_hart : (h : ℕ) → None ≡ option_map (λ x. x.phase) (slice_get m.harts.items h) → slice_get w.harts h ≡ None
+  no_hart h none = hart_in h ∙ go (slice_get m.harts.items h) none where
+    go : (o : Option Hart) → None ≡ option_map (λ x. x.phase) o → option_map hart_of o ≡ None
+    go None e = refl
+    go (Some x) e = absurd (cc)
+
+  pub has_hart : (h : ℕ) (p : Phase) → Some p ≡ option_map (λ x. x.phase) (slice_get m.harts.items h) → HasHart m w h p
+  has_hart h p some = go (slice_get m.harts.items h) refl some where
+    go : (o : Option Hart) → slice_get m.harts.items h ≡ o → Some p ≡ option_map (λ x. x.phase) o → HasHart m w h p
+    go None at e = absurd (cc)
+    go (Some x) at e = record {
+      hart = x;
+      there = at;
+      phased = same_Some x.phase p (sym e);
+      in_model = hart_in h ∙ ap (option_map hart_of) at;
+      within = subst (λ n. h < n) (sym m.harts.ok.0) (slice_get_within m.harts.items h x at);
+    }
+
+  pub process_at : (s : ℕ) (x : Tenant) → slice_get m.slots.items s ≡ Some (Some x) → (p : Process) × (slice_get w.slots s ≡ Some (Some p)) × IsTenant x (is.images s) p
+  process_at s x at = go (slice_get m.slots.items s) (slice_get w.slots s) refl (is.places s) at where
+    go : (a : Option (Option Tenant)) (b : Option (Option Process)) → slice_get w.slots s ≡ b → IsPlace a b (is.images s) → a ≡ Some (Some x)
+        → (p : Process) × (slice_get w.slots s ≡ Some (Some p)) × IsTenant x (is.images s) p
+    go None b there place e = absurd (cc)
+    go (Some None) b there place e = absurd (let same = same_Some _ _ e in cc)
+    go (Some (Some y)) None there place e = absurd place
+    go (Some (Some y)) (Some None) there place e = absurd place
+    go (Some (Some y)) (Some (Some p)) there place e = (p, there, subst (λ z. IsTenant z (is.images s) p) (same_Some y x (same_Some _ _ e)) place)
+
+  pub tenant_at : (s : ℕ) → is_some (process_in w s) ≡ true → (x : Tenant) × (slice_get m.slots.items s ≡ Some (Some x))
+  tenant_at s some = go (slice_get m.slots.items s) refl (slice_get w.slots s) (is.places s) some where
+    go : (a : Option (Option Tenant)) → slice_get m.slots.items s ≡ a → (b : Option (Option Process)) → IsPlace a b (is.images s) → is_some (flat b) ≡ true
+        → (x : Tenant) × (slice_get m.slots.items s ≡ Some (Some x))
+    go a there None place e = absurd (cc)
+    go a there (Some None) place e = absurd (cc)
+    go None there (Some (Some p)) place e = absurd place
+    go (Some None) there (Some (Some p)) place e = absurd place
+    go (Some (Some x)) there (Some (Some p)) place e = (x, there)
+
+  pub can_run_is : (slot : Option ℕ) (s : ℕ) → slot ≡ Some s → true ≡ is_some (process_in w s) → (b : Bool) → b ≡ list_any (λ x. has_slot s x.slot) m.harts.items → not b ≡ can_run w slot
+  can_run_is slot s e there b any =
+      rw (e, ← there) (ap not (any ∙ sym (on_any m.harts.items) ∙ ap (list_any (λ x. has_slot s x.slot)) is.harts)) where
+        on_any : (hs : List Hart) → list_any (λ x. has_slot s x.slot) (map hart_of hs) ≡ list_any (λ x. has_slot s x.slot) hs
+        on_any [] = refl
+        on_any (x ∷ hs) = ap (λ b. has_slot s x.slot || b) (on_any hs)
+
+  -- the hart that is read
+  pub hart_read : (h : ℕ) (p : Phase) (has : HasHart m w h p) (x : Hart) → x ≡ get_or m.harts.items h x → x ≡ has.hart
+  hart_read h p has x e = e ∙ get_or_from_slice_get m.harts.items h has.hart x has.there
+
+  -- a hart is another one
+  module _ (h : ℕ) (x y : Hart) (there : slice_get m.harts.items h ≡ Some x) where
+    pub hart_changes : ((s : ℕ) → y.slot ≡ Some s → (t : Tenant) × (slice_get m.slots.items s ≡ Some (Some t))) → (y.slot ≡ None → y.phase ≡ phase.Idle)
+        → ((e : TlbEntry) → Contains y.buffer e → IsServing y is.images is.kernel e) → IsWorld (record m { harts = with_item m.harts h y }) (with_hart w h (hart_of y))
+    hart_changes hosted idle serves = record {
+      images = is.images;
+      kernel = is.kernel;
+      stacks = is.stacks;
+      policy = is.policy;
+      frames = is.frames;
+      rule = is.rule;
+      of_kernel = is.of_kernel;
+      places = is.places;
+      copies = is.copies;
+      counted = is.counted;
+      free = is.free;
+      harts = map-set hart_of m.harts.items h y ∙ ap (λ hs. slice_set hs h (hart_of y)) is.harts;
+      hosted = λ k s z at. at_each k z at (λ (u : Hart). u.slot ≡ Some s → (t : Tenant) × (slice_get m.slots.items s ≡ Some (Some t))) (hosted s) (λ old. is.hosted k s z old);
+      idle = λ k z at. at_each k z at (λ (u : Hart). u.slot ≡ None → u.phase ≡ phase.Idle) idle (λ old. is.idle k z old);
+      buffers = λ k z e at. at_each k z at (λ (u : Hart). Contains u.buffer e → IsServing u is.images is.kernel e) (serves e) (λ old. is.buffers k z e old);
+    } where
+      -- what holds of the new hart and of each old one
+      at_each : (k : ℕ) (z : Hart) → slice_get (slice_set m.harts.items h y) k ≡ Some z → (P : Hart → Type 0) → P y → (slice_get m.harts.items k ≡ Some z → P z) → P z
+      at_each k z at P new old = elim (cases_eq k h) [
+        | inl same ↦ subst P (same_Some y z (sym (place_set_same m.harts.items h y (slice_get_within m.harts.items h x there)) ∙ ap (slice_get (slice_set m.harts.items h y)) (sym same) ∙ at)) new
+        | inr apart ↦ old (sym (place_set_other m.harts.items h k y apart) ∙ at)
+      ]
+
+-- a process comes on a hart
+
+and_left : (a b : Bool) → (a && b) ≡ true → a ≡ true
+and_left true b e = refl
+and_left false b e = absurd (cc)
+
+not_both : (a b : Bool) → (a ≡ false) ⊎ (b ≡ false) → (a && b) ≡ false
+not_both true b (inl e) = absurd (cc)
+not_both true b (inr e) = e
+not_both false b e = refl
+
+none_of_own : (p : Phase) → model.may_switch p ≡ true → may_have_own p ≡ true → ⊥
+none_of_own phase.Idle may own = cc
+none_of_own phase.User may own = cc
+none_of_own phase.Enter0 may own = cc
+none_of_own phase.Enter1 may own = cc
+none_of_own phase.Enter2 may own = cc
+none_of_own phase.Kernel may own = cc
+none_of_own phase.Leave1 may own = cc
+none_of_own phase.Leave2 may own = cc
+
+abbrev switched : Hart → Option ℕ → Hart
+switched x slot = record x { phase = model.phase_for slot; slot = slot }
+
+module _ (m : Machine) (w : World) (is : IsWorld m w) (h : ℕ) (slot : Option ℕ) where
+  module _ (p : Phase) (has : HasHart m w h p) where
+    pub switch_refused : (model.may_switch p ≡ false) ⊎ (can_run w slot ≡ false) → Makes m (Refused (Impossible p)) (plain_step w (step.Switch h slot))
+    switch_refused fails = refused m w is (Impossible p) _
+        (impossible w h true (λ x. model.may_switch x.phase && can_run w slot) always _ (hart_of has.hart) has.in_model refl
+        (ap (λ q. model.may_switch q && can_run w slot) has.phased ∙ not_both (model.may_switch p) (can_run w slot) fails)
+        ∙ ap (λ q. refuses w (Impossible q)) has.phased)
+
+    pub switches : (x y : Hart) → x ≡ get_or m.harts.items h x → y ≡ switched x slot → model.may_switch p ≡ true → can_run w slot ≡ true
+        → Makes (record m { harts = with_item m.harts h y }) Done (plain_step w (step.Switch h slot))
+    switches x y read made may can = subst (λ (z : Hart). Makes (record m { harts = with_item m.harts h z }) Done (plain_step w (step.Switch h slot))) (sym (made ∙ ap (λ z. switched z slot) (hart_read m w is h p has x read))) (makes _ Done _ _ (hart_changes m w is h has.hart (switched has.hart slot) has.there (hosts slot can) (idles slot) (serves slot))
+        (runs w h true (λ x. model.may_switch x.phase && can_run w slot) always _ (hart_of has.hart) has.in_model refl (rw (has.phased, may, can) refl) refl)) where
+          hosts : (o : Option ℕ) → can_run w o ≡ true → (s : ℕ) → o ≡ Some s → (t : Tenant) × (slice_get m.slots.items s ≡ Some (Some t))
+          hosts None can s e = absurd (cc)
+          hosts (Some r) can s e = tenant_at m w is s (ap (λ n. is_some (process_in w n)) (sym (same_Some r s e)) ∙ and_left _ _ can)
+
+          idles : (o : Option ℕ) → o ≡ None → model.phase_for o ≡ phase.Idle
+          idles None e = refl
+          idles (Some r) e = absurd (cc)
+
+          serves : (o : Option ℕ) (e : TlbEntry) → Contains has.hart.buffer e → IsServing (switched has.hart o) is.images is.kernel e
+          serves o e there = elim (is.buffers h has.hart e has.there there) [
+            | inl of_kernel ↦ inl (kept o, of_kernel.1)
+            | inr own ↦ absurd (none_of_own has.hart.phase (ap model.may_switch has.phased ∙ may) own.1)
+          ] where
+            kept : (o : Option ℕ) → may_have_kernel (model.phase_for o) ≡ true
+            kept None = refl
+            kept (Some r) = refl
+
+-- a hart makes the next instruction of the trampoline
+
+advanced_is : (x : Hart) → hart_of (advanced x) ≡ record (model.fenced Full (hart_of x)) { phase = unwrap_or (model.next_phase x.phase) x.phase }
+advanced_is x = go x.phase x.slot x.buffer where
+  go : (p : Phase) (slot : Option ℕ) (es : List TlbEntry) → hart_of (advanced (record { phase = p; slot = slot; buffer = es }))
+      ≡ record (model.fenced Full (hart_of (record { phase = p; slot = slot; buffer = es }))) { phase = unwrap_or (model.next_phase p) p }
+  go phase.Idle slot es = refl
+  go phase.User slot es = refl
+  go phase.Enter0 slot es = refl
+  go phase.Enter1 slot es = refl
+  go phase.Enter2 slot es = refl
+  go phase.Kernel slot es = refl
+  go phase.Leave1 slot es = refl
+  go phase.Leave2 slot es = refl
+
+no_entry : {A : Type 0} (e : A) → Contains [] e → ⊥
+no_entry e there = omega (arith, there.1)
+
+module _ (images : ℕ → Image) (kernel : Image) where
+  -- a buffer of which all entries serve
+  abbrev Serves : Hart → Type 0
+  Serves x = (e : TlbEntry) → Contains x.buffer e → IsServing x images kernel e
+
+  advanced_serves : (x : Hart) → is_some (model.next_phase x.phase) ≡ true → Serves x → Serves (advanced x)
+  advanced_serves x = go x.phase x.slot x.buffer where
+    go : (p : Phase) (slot : Option ℕ) (es : List TlbEntry) → is_some (model.next_phase p) ≡ true → Serves (record { phase = p; slot = slot; buffer = es })
+        → Serves (advanced (record { phase = p; slot = slot; buffer = es }))
+    go phase.Idle slot es goes old e there = absurd (cc)
+    go phase.User slot es goes old e there = absurd (cc)
+    go phase.Enter0 slot es goes old e there = absurd (no_entry e there)
+    go phase.Enter1 slot es goes old e there = elim (old e there) [ inl of_kernel ↦ absurd (let never = of_kernel.0 in cc) | inr own ↦ inr own ]
+    go phase.Enter2 slot es goes old e there = absurd (no_entry e there)
+    go phase.Kernel slot es goes old e there = absurd (no_entry e there)
+    go phase.Leave1 slot es goes old e there = elim (old e there) [ inl of_kernel ↦ inl of_kernel | inr own ↦ absurd (let never = own.1 in cc) ]
+    go phase.Leave2 slot es goes old e there = absurd (no_entry e there)
+
+module _ (m : Machine) (w : World) (is : IsWorld m w) (h : ℕ) (p : Phase) (has : HasHart m w h p) where
+  pub next_refused : can_go_on w (hart_of has.hart) ≡ false → Makes m (Refused (Impossible p)) (plain_step w (step.Next h))
+  next_refused fails = refused m w is (Impossible p) _
+      (impossible w h true (can_go_on w) always _ (hart_of has.hart) has.in_model refl fails ∙ ap (λ q. refuses w (Impossible q)) has.phased)
+
+  pub goes_on : (x y : Hart) → x ≡ get_or m.harts.items h x → y ≡ advanced x → can_go_on w (hart_of has.hart) ≡ true
+      → Makes (record m { harts = with_item m.harts h y }) Done (plain_step w (step.Next h))
+  goes_on x y read made can = subst (λ (z : Hart). Makes (record m { harts = with_item m.harts h z }) Done (plain_step w (step.Next h))) (sym (made ∙ ap advanced (hart_read m w is h p has x read)))
+      (makes _ Done _ _ (hart_changes m w is h has.hart (advanced has.hart) has.there (λ s on. is.hosted h s has.hart has.there on) idles (advanced_serves is.images is.kernel has.hart goes (λ e. is.buffers h has.hart e has.there)))
+      (runs w h true (can_go_on w) always _ (hart_of has.hart) has.in_model refl can refl ∙ rw (is.policy, ← advanced_is has.hart) refl)) where
+        goes : is_some (model.next_phase has.hart.phase) ≡ true
+        goes = and_left _ _ can
+
+        idles : has.hart.slot ≡ None → (advanced has.hart).phase ≡ phase.Idle
+        idles none = absurd (let never : is_some (model.next_phase phase.Idle) ≡ true = ap (λ q. is_some (model.next_phase q)) (sym (is.idle h has.hart has.there none)) ∙ goes in cc)

@@ -1,0 +1,9 @@
+pub mod Entries
+pub mod Fences
+pub mod HartSteps
+pub mod Leaves
+pub mod ProcessSteps
+pub mod Trapping
+pub mod UserAnswers
+pub mod Users
+pub mod Walks

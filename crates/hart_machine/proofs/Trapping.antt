@@ -1,0 +1,65 @@
+-- A process enters the kernel.
+use Rattle.std.proofs.Common.{◌≡◌, ℕ, get_or, true, false, Option, None, Some, refl, ap, sym, subst, ◌∙◌, inl, inr}
+use Rattle.std.specs.Prelude.{option_and_then, slice_get}
+use Rattle.std.specs.Vec.{with_item}
+use Rattle.hart_tlb.specs.declared.entry.TlbEntry.{TlbEntry}
+use Rattle.process_model.specs.Harts as model
+use Rattle.process_model.specs.Steps.{plain_step}
+use Rattle.process_model.specs.World.{World, always, refuses}
+use Rattle.process_model.specs.declared.phase.Phase.{Phase}
+use Rattle.process_model.specs.declared.phase.Phase.TheVariants as phase
+use Rattle.process_model.specs.declared.step.Refusal.TheVariants.{Impossible}
+use Rattle.process_model.specs.declared.step.Reply.TheVariants.{Done, Refused}
+use Rattle.process_model.specs.declared.step.Step.TheVariants as step
+use Rattle.table_walk.specs.Image.{Image}
+use Rattle.hart_machine.specs.Harts.{hart_of}
+use Rattle.hart_machine.specs.Worlds.{IsServing, IsWorld, Makes, may_have_kernel}
+use Rattle.hart_machine.specs.declared.hart.Hart.{Hart}
+use Rattle.hart_machine.specs.declared.machine.Machine.{Machine}
+use Rattle.hart_machine.specs.declared.tenant.Tenant.{Tenant}
+use Rattle.hart_machine.proofs.HartSteps.{hart_changes, hart_read, HasHart, impossible, its_process, makes, process_at, refused, runs}
+use Rattle.hart_machine.proofs.ProcessSteps.{pending_changes}
+
+user_is : (p : Phase) → model.is_user p ≡ true → p ≡ phase.User
+user_is phase.User e = refl
+user_is phase.Idle e = absurd (cc)
+user_is phase.Enter0 e = absurd (cc)
+user_is phase.Enter1 e = absurd (cc)
+user_is phase.Enter2 e = absurd (cc)
+user_is phase.Kernel e = absurd (cc)
+user_is phase.Leave1 e = absurd (cc)
+user_is phase.Leave2 e = absurd (cc)
+
+-- an entry that serves the user serves where the hart enters the kernel
+enters : (images : ℕ → Image) (kernel : Image) (x : Hart) → x.phase ≡ phase.User → (e : TlbEntry) → IsServing x images kernel e → IsServing (record x { phase = phase.Enter0 }) images kernel e
+enters images kernel x at e (inl of_kernel) = absurd (let never : may_have_kernel phase.User ≡ true = ap may_have_kernel (sym at) ∙ of_kernel.0 in cc)
+enters images kernel x at e (inr own) = inr (own.0, refl, own.2, own.3)
+
+module _ (m : Machine) (w : World) (is : IsWorld m w) (h : ℕ) (p : Phase) (has : HasHart m w h p) where
+  pub slot_there : (o : Option ℕ) → o ≡ option_and_then (λ x. x.slot) (slice_get m.harts.items h) → has.hart.slot ≡ o
+  slot_there o e = sym (e ∙ ap (option_and_then (λ (x : Hart). x.slot)) has.there)
+
+  -- a hart that runs the user has a process
+  pub user_has_slot : model.is_user p ≡ true → has.hart.slot ≡ None → ⊥
+  user_has_slot user none = let idle = is.idle h has.hart has.there none in let both : phase.User ≡ phase.Idle = sym (user_is p user) ∙ sym has.phased ∙ idle in cc
+
+  pub user_tenant : (s : ℕ) → has.hart.slot ≡ Some s → (x : Tenant) × (slice_get m.slots.items s ≡ Some (Some x))
+  user_tenant s on = is.hosted h s has.hart has.there on
+
+  pub trap_refused : model.is_user p ≡ false → Makes m (Refused (Impossible p)) (plain_step w (step.Trap h))
+  trap_refused fails = refused m w is (Impossible p) _
+      (impossible w h true (λ x. model.is_user x.phase) always _ (hart_of has.hart) has.in_model refl (ap model.is_user has.phased ∙ fails) ∙ ap (λ q. refuses w (Impossible q)) has.phased)
+
+  module _ (s : ℕ) (on : has.hart.slot ≡ Some s) (user : model.is_user p ≡ true) where
+    pub traps : (n : Machine) (x : Hart) → ((t : Tenant) → slice_get m.slots.items s ≡ Some (Some t) → n ≡ record m { slots = with_item m.slots s (Some (record t { pending = None })) })
+        → x ≡ get_or n.harts.items h x → Makes (record n { harts = with_item n.harts h (record x { phase = phase.Enter0 }) }) Done (plain_step w (step.Trap h))
+    traps n x made read =
+        let t = user_tenant s on in
+        let q = process_at m w is s t.0 t.1 in
+        let n_is = made t.0 t.1 in
+        let x_is : x ≡ has.hart = hart_read m w is h p has x (read ∙ ap (λ (k : Machine). get_or k.harts.items h x) n_is) in
+        let after = pending_changes m w is s t.0 q.0 t.1 q.1 q.2 None in
+        subst (λ (k : Machine). Makes (record k { harts = with_item k.harts h (record x { phase = phase.Enter0 }) }) Done (plain_step w (step.Trap h))) (sym n_is)
+        (subst (λ (z : Hart). Makes (record m { slots = with_item m.slots s (Some (record t.0 { pending = None })); harts = with_item m.harts h (record z { phase = phase.Enter0 }) }) Done (plain_step w (step.Trap h))) (sym x_is)
+        (makes _ Done _ _ (hart_changes _ _ after h has.hart (record has.hart { phase = phase.Enter0 }) has.there (λ r at. after.hosted h r has.hart has.there at) (λ none. absurd (user_has_slot user none)) (λ e there. enters after.images after.kernel has.hart (has.phased ∙ user_is p user) e (after.buffers h has.hart e has.there there)))
+        (runs w h true (λ z. model.is_user z.phase) always _ (hart_of has.hart) has.in_model refl (ap model.is_user has.phased ∙ user) refl ∙ its_process w (hart_of has.hart) _ s q.0 on q.1)))

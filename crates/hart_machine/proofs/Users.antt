@@ -1,0 +1,236 @@
+-- What the walk of a user's access comes to in a space that agrees with its process.
+use Rattle.std.proofs.Common.{◌≡◌, ℕ, ◌-◌, ◌/◌, ◌^◌, ◌<◌, ◌==◌, ◌&&◌, ◌||◌, Bool, not, true, false, Option, None, Some, refl, ap, sym, ◌∙◌, inl, inr, ◌⊎◌, arith, nat_le, List, [], ◌∷◌, cond}
+use Rattle.std.proofs.lemmas.Bool.{cases_Bool, cases_eq}
+use Rattle.std.proofs.lemmas.Option.{same_Some}
+use Rattle.std.specs.FinMap.{get}
+use Rattle.frame_store.specs.View.{View}
+use Rattle.hart_tlb.specs.Entries.{answer}
+use Rattle.process_model.specs.PageMap as pages
+use Rattle.process_model.specs.Process.{Page, Process, regions}
+use Rattle.process_model.specs.Bytes.{first_true}
+use Rattle.process_model.specs.Regions.{Region, copy_rule, copy_tests, fault_cause, is_guard_kind, lacks_right, region_at, right_rule}
+use Rattle.process_model.specs.Residence.{goes_through}
+use Rattle.sv39_entry.specs.Address.{has, is_canonical, maxva, page_of, trampoline_page, trapframe_page}
+use Rattle.sv39_entry.specs.Causes.{page_fault_cause}
+use Rattle.sv39_entry.specs.Word.{permits}
+use Rattle.sv39_entry.specs.declared.access.Access.{Access}
+use Rattle.sv39_entry.specs.declared.access.Access.TheVariants.{Fetch, Load, Store}
+use Rattle.sv39_entry.specs.declared.access.Mode.TheVariants.{User}
+use Rattle.sv39_entry.specs.declared.rule.Rule.{Rule}
+use Rattle.sv39_entry.specs.declared.rule.Rule.TheVariants as rule
+use Rattle.table_walk.specs.Image.{Image, leaf_node}
+use Rattle.table_walk.specs.Memory.{physical_address}
+use Rattle.table_walk.specs.Nodes.{leaf_node_is}
+use Rattle.table_walk.specs.declared.walk.Walk.TheVariants as walk
+use Rattle.address_space.specs.Agreement.{HasKernelLeaf, IsPageLeaf, IsShown, Shows}
+use Rattle.hart_machine.specs.Users.{Answered, if_resident, if_settled, unless_denied}
+use Rattle.process_model.specs.declared.step.Reply.TheVariants.{Fault}
+use Rattle.hart_machine.specs.Walked.{leaf_at, page_leaf, walk_answer}
+
+-- addresses
+
+-- addresses of a process's pages are canonical
+low_canonical : (a : ℕ) → page_of a < 2 ^ 26 → is_canonical a ≡ true
+low_canonical a low = let zero : a / 2 ^ 38 ≡ 0 = omega (arith, low) in rw zero refl
+
+-- of two pages with one leaf number, of which one is below 2^26 and the other canonical, both are one
+same_page : (n a : ℕ) → n < 2 ^ 26 → is_canonical a ≡ true → leaf_node (page_of a) ≡ leaf_node n → page_of a ≡ n
+same_page n a low canonical same =
+    let at = leaf_node_is n in
+    let is = leaf_node_is (page_of a) in
+    elim (cases_eq (a / 2 ^ 38) 0) [
+      | inl lower ↦ omega (arith, at, is, same, low, lower)
+      | inr upper ↦ absurd (let high : a / 2 ^ 38 ≡ 2 ^ 26 - 1 = grind (arith, canonical, upper) in omega (arith, at, is, same, low, high))
+    ]
+
+-- rights
+
+-- what the leaf of a page lets the user do
+abbrev lets : Bool → Bool → Access → Region → Bool
+lets guard mark Fetch r = not guard && r.executes
+lets guard mark Load r = not guard && r.reads
+lets guard mark Store r = not guard && (r.writes && not mark)
+
+fetch_bits : (g x : Bool) → (not g && (x && true)) ≡ (not g && x)
+fetch_bits true x = refl
+fetch_bits false true = refl
+fetch_bits false false = refl
+
+load_bits : (g r : Bool) → (not g && ((g || r) && true)) ≡ (not g && r)
+load_bits true r = refl
+load_bits false true = refl
+load_bits false false = refl
+
+store_bits : (g w m : Bool) → (not g && ((w && not m) && true && w)) ≡ (not g && (w && not m))
+store_bits true w m = refl
+store_bits false true true = refl
+store_bits false true false = refl
+store_bits false false m = refl
+
+permits_is : (w f : ℕ) (r : Region) (mark : Bool) (access : Access) → IsPageLeaf w f r mark → permits User access w ≡ lets (is_guard_kind r.kind) mark access r
+permits_is w f r mark Fetch made = rw (made.for_user, made.execute, made.accessed) (fetch_bits (is_guard_kind r.kind) r.executes)
+permits_is w f r mark Load made = rw (made.for_user, made.read, made.accessed) (load_bits (is_guard_kind r.kind) r.reads)
+permits_is w f r mark Store made = rw (made.for_user, made.write, made.accessed, made.dirty) (store_bits (is_guard_kind r.kind) r.writes mark)
+
+-- the rule
+
+-- each of some rules makes a page fault
+abbrev FaultAlike : Access → List (Bool × Rule) → Type 0
+FaultAlike access [] = Unit {0}
+FaultAlike access (t ∷ tests) = (fault_cause access t.1 ≡ page_fault_cause access) × FaultAlike access tests
+
+first_faults : (access : Access) (tests : List (Bool × Rule)) → FaultAlike access tests → (r : Rule) → first_true tests ≡ Some r → fault_cause access r ≡ page_fault_cause access
+first_faults access [] all r is = absurd (cc)
+first_faults access ((true, x) ∷ tests) all r is = ap (fault_cause access) (sym (same_Some x r is)) ∙ all.0
+first_faults access ((false, x) ∷ tests) all r is = first_faults access tests all.1 r is
+
+right_faults : (access : Access) → fault_cause access (right_rule access) ≡ page_fault_cause access
+right_faults Fetch = refl
+right_faults Load = refl
+right_faults Store = refl
+
+-- no rule of a copy is about alignment
+copy_faults : (rs : List Region) (access : Access) (a : ℕ) (r : Rule) → copy_rule rs access a ≡ Some r → fault_cause access r ≡ page_fault_cause access
+copy_faults rs access a r is = first_faults access (copy_tests rs access a) (refl, (refl, (refl, (refl, (right_faults access, tt))))) r is
+
+-- what is answered
+
+module _ (p : Process) (access : Access) (a width value : ℕ) where
+  abbrev answered : Option Rule → Answered
+  answered o = unless_denied p access a width value o
+
+  abbrev failed : Answered
+  failed = (Fault (page_fault_cause access), p)
+
+  by_rule : (r : Rule) → copy_rule (regions p) access a ≡ Some r → answered (copy_rule (regions p) access a) ≡ failed
+  by_rule r is = ap answered is ∙ ap (λ c. (Fault c, p)) (copy_faults (regions p) access a r is)
+
+  -- where what follows a grant is a fault, so is all
+  by_rest : answered None ≡ failed → answered (copy_rule (regions p) access a) ≡ failed
+  by_rest rest = go (copy_rule (regions p) access a) refl where
+    go : (o : Option Rule) → copy_rule (regions p) access a ≡ o → answered (copy_rule (regions p) access a) ≡ failed
+    go None is = ap answered is ∙ rest
+    go (Some r) is = by_rule r is
+
+  unsettled : pages.get p.settled (page_of a) ≡ None → answered (copy_rule (regions p) access a) ≡ failed
+  unsettled none = by_rest (ap (if_settled p access a width value) none)
+
+  marked : (s : Page) → pages.get p.settled (page_of a) ≡ Some s → goes_through access s ≡ false → answered (copy_rule (regions p) access a) ≡ failed
+  marked s is stops = by_rest (ap (if_settled p access a width value) is ∙ ap (if_resident p access a width value s) stops)
+
+-- the rule of a page that has a region
+module _ (rs : List Region) (access : Access) (a : ℕ) (low : page_of a < trapframe_page) (r : Region) (at : region_at rs (page_of a) ≡ Some r) where
+  below_max : nat_le maxva a ≡ false
+  below_max = grind (arith, low)
+
+  no_kernel_page : (page_of a == trampoline_page || page_of a == trapframe_page) ≡ false
+  no_kernel_page = grind (arith, low)
+
+  pub rule_of_region : copy_rule rs access a ≡ cond (is_guard_kind r.kind) (Some rule.GuardPage) (cond (lacks_right access (Some r)) (Some (right_rule access)) None)
+  rule_of_region = rw (below_max, no_kernel_page, at) refl
+
+pass : (g x : Bool) → (not g && x) ≡ true → (g ≡ false) × (x ≡ true)
+pass true x is = absurd (cc)
+pass false x is = (refl, is)
+
+stop : (g x : Bool) → (not g && x) ≡ false → (g ≡ true) ⊎ ((g ≡ false) × (x ≡ false))
+stop true x is = inl refl
+stop false x is = inr (refl, is)
+
+both : (x m : Bool) → (x && not m) ≡ true → (x ≡ true) × (m ≡ false)
+both true true is = absurd (cc)
+both true false is = (refl, refl)
+both false m is = absurd (cc)
+
+either_not : (x m : Bool) → (x && not m) ≡ false → (x ≡ false) ⊎ ((x ≡ true) × (m ≡ true))
+either_not true true is = inr (refl, refl)
+either_not true false is = absurd (cc)
+either_not false m is = inl refl
+
+-- a leaf lets an access through where no rule denies it, and a store finds no fork mark
+abbrev passes : Region → Access → Option Rule
+passes r access = cond (is_guard_kind r.kind) (Some rule.GuardPage) (cond (lacks_right access (Some r)) (Some (right_rule access)) None)
+
+let_through : (r : Region) (s : Page) (access : Access) → lets (is_guard_kind r.kind) s.fork_mark access r ≡ true → (passes r access ≡ None) × (goes_through access s ≡ true)
+let_through r s Fetch is = let two = pass (is_guard_kind r.kind) r.executes is in (rw (two.0, two.1) refl, refl)
+let_through r s Load is = let two = pass (is_guard_kind r.kind) r.reads is in (rw (two.0, two.1) refl, refl)
+let_through r s Store is = let two = pass (is_guard_kind r.kind) (r.writes && not s.fork_mark) is in let more = both r.writes s.fork_mark two.1 in (rw (two.0, more.0) refl, rw more.1 refl)
+
+held_back : (r : Region) (s : Page) (access : Access) → lets (is_guard_kind r.kind) s.fork_mark access r ≡ false
+    → ((x : Rule) × (passes r access ≡ Some x)) ⊎ (goes_through access s ≡ false)
+held_back r s Fetch is = elim (stop (is_guard_kind r.kind) r.executes is) [ inl guard ↦ inl (rule.GuardPage, rw guard refl) | inr two ↦ inl (rule.NoExec, rw (two.0, two.1) refl) ]
+held_back r s Load is = elim (stop (is_guard_kind r.kind) r.reads is) [ inl guard ↦ inl (rule.GuardPage, rw guard refl) | inr two ↦ inl (rule.NoRead, rw (two.0, two.1) refl) ]
+held_back r s Store is = elim (stop (is_guard_kind r.kind) (r.writes && not s.fork_mark) is) [
+  | inl guard ↦ inl (rule.GuardPage, rw guard refl)
+  | inr two ↦ elim (either_not r.writes s.fork_mark two.1) [
+    | inl none ↦ inl (rule.NoWrite, rw (two.0, none) refl)
+    | inr more ↦ inr (rw more.1 refl)
+  ]
+]
+
+not_for_user : (w : ℕ) (access : Access) → has w 4 ≡ false → permits User access w ≡ false
+not_for_user w access none = rw none refl
+
+module _ (v : View) (trapframe : ℕ) (t : Image) (p : Process) (shows : Shows v trapframe t p) (a : ℕ) (access : Access) where
+  abbrev fails : Type 0
+  fails = (walk_answer t a access User ≡ walk.PageFault (page_fault_cause access))
+      × ((width value : ℕ) → unless_denied p access a width value (copy_rule (regions p) access a) ≡ (Fault (page_fault_cause access), p))
+
+  abbrev goes : Type 0
+  goes = (s : Page) × (shown : IsShown v t p (page_of a) s) × (pages.get p.settled (page_of a) ≡ Some s) × (copy_rule (regions p) access a ≡ None) × (goes_through access s ≡ true)
+      × (walk_answer t a access User ≡ walk.Leaf shown.leaf 0 (physical_address shown.leaf 0 a))
+
+  by_settled : (s : Page) → pages.get p.settled (page_of a) ≡ Some s → goes ⊎ fails
+  by_settled s is =
+      let shown : IsShown v t p (page_of a) s = shows.settled (page_of a) s is in
+      let low : page_of a < trapframe_page = shows.low (page_of a) s is in
+      let leaf : leaf_at t a ≡ Some (page_leaf shown.leaf) = rw (low_canonical a (omega (arith, low)), shown.mapped) refl in
+      let answers : walk_answer t a access User ≡ answer (Some (page_leaf shown.leaf)) a access User = ap (λ o. answer o a access User) leaf in
+      let right = permits_is shown.leaf shown.frame shown.region s.fork_mark access shown.made in
+      let rule_is : copy_rule (regions p) access a ≡ passes shown.region access = rule_of_region (regions p) access a low shown.region shown.in_region in
+      elim (cases_Bool (lets (is_guard_kind shown.region.kind) s.fork_mark access shown.region)) [
+        | inl lets_it ↦
+            let through = let_through shown.region s access lets_it in
+            inl (s, shown, is, rule_is ∙ through.0, through.1, answers ∙ rw (right ∙ lets_it) refl)
+        | inr denies ↦ inr (
+          answers ∙ rw (right ∙ denies) refl,
+          λ width value. elim (held_back shown.region s access denies) [
+            | inl denied ↦ by_rule p access a width value denied.0 (rule_is ∙ denied.1)
+            | inr stops ↦ marked p access a width value s is stops
+          ],
+        )
+      ]
+
+  kernel_leaf : (page f rights w : ℕ) → page < 2 ^ 26 → HasKernelLeaf t page f rights → is_canonical a ≡ true → get t.leaves (leaf_node (page_of a)) ≡ Some w → leaf_node (page_of a) ≡ leaf_node page
+      → walk_answer t a access User ≡ walk.PageFault (page_fault_cause access)
+  kernel_leaf page f rights w low leaf canonical at same =
+      let is : w ≡ leaf.0 = same_Some w leaf.0 (sym at ∙ ap (get t.leaves) same ∙ leaf.1) in
+      rw (canonical, at) (rw (not_for_user w access (ap (λ x. has x 4) is ∙ leaf.2.for_user)) refl)
+
+  by_unsettled : pages.get p.settled (page_of a) ≡ None → goes ⊎ fails
+  by_unsettled none = inr (
+    elim (cases_Bool (is_canonical a)) [
+      | inr other ↦ rw other refl
+      | inl canonical ↦ by_leaf canonical (get t.leaves (leaf_node (page_of a))) refl
+    ],
+    λ width value. unsettled p access a width value none,
+  ) where
+    by_leaf : is_canonical a ≡ true → (o : Option ℕ) → get t.leaves (leaf_node (page_of a)) ≡ o → walk_answer t a access User ≡ walk.PageFault (page_fault_cause access)
+    by_leaf canonical None at = rw (canonical, at) refl
+    by_leaf canonical (Some w) at = elim (shows.only _ w at) [
+      | inl same ↦ kernel_leaf trampoline_page 0 _ w (omega arith) shows.on_trampoline canonical at same
+      | inr more ↦ elim more [
+        | inl same ↦ kernel_leaf trapframe_page trapframe _ w (omega arith) shows.on_trapframe canonical at same
+        | inr page ↦ absurd (
+            let low = shows.low page.0 page.1 page.3 in
+            let is : page_of a ≡ page.0 = same_page page.0 a (omega (arith, low)) canonical page.2 in
+            let found = sym none ∙ ap (pages.get p.settled) is ∙ page.3 in
+            cc)
+      ]
+    ]
+
+  pub walked_by_user : goes ⊎ fails
+  walked_by_user = go (pages.get p.settled (page_of a)) refl where
+    go : (o : Option Page) → pages.get p.settled (page_of a) ≡ o → goes ⊎ fails
+    go None is = by_unsettled is
+    go (Some s) is = by_settled s is

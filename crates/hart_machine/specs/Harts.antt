@@ -1,0 +1,20 @@
+-- Harts, as the model has them.
+use Rattle.std.specs.Prelude.{[], map, unwrap_or, if◌then◌else◌}
+use Rattle.hart_tlb.specs.declared.entry.TlbEntry.{TlbEntry}
+use Rattle.process_model.specs.Harts as model
+use Rattle.process_model.specs.PageMap.{empty}
+use Rattle.hart_machine.specs.declared.hart.Hart.{Hart}
+
+abbrev pub key_of : TlbEntry → model.Key
+key_of e = record { page = e.page; asid = e.asid }
+
+-- the fences of everything leave nothing to be marked
+abbrev pub hart_of : Hart → model.Hart
+hart_of h = record { phase = h.phase; slot = h.slot; keys = map key_of h.buffer; stale = empty (Unit {0}) }
+
+-- where the next instruction is a fence, the buffer is empty after it
+abbrev pub fenced : Hart → Hart
+fenced h = record h { buffer = if model.is_before_fence h.phase then [] else h.buffer }
+
+abbrev pub advanced : Hart → Hart
+advanced h = record (fenced h) { phase = unwrap_or (model.next_phase h.phase) h.phase }

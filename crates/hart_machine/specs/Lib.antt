@@ -1,0 +1,5 @@
+pub mod Harts
+pub mod Tenants
+pub mod Users
+pub mod Walked
+pub mod Worlds

@@ -1,0 +1,26 @@
+// Entries that come into the buffers of harts, and leave them.
+
+ghost use Rattle.std.specs.Prelude.{◌≡◌};
+ghost use Rattle.hart_machine.specs.Worlds.{IsWorld, Makes};
+ghost use Rattle.process_model.specs.Steps.{plain_step};
+ghost use Rattle.process_model.specs.World.{World};
+ghost use Rattle.process_model.specs.declared.step.Step.TheVariants as step;
+
+use crate::machine::Machine;
+use process_model::{Refusal, Reply};
+
+impl Machine {
+    /// An entry leaves the buffer of a hart, of the hart's own accord.
+    pub(crate) fn evict(&mut self, hart: usize, entry: usize) -> Reply
+        requires world { (w : World) × IsWorld self.old w }
+        ensures made { (w : World) → IsWorld self.old w → Makes self.new result (plain_step w (step.Evict hart entry)) }
+    {
+        if hart >= self.harts.len() {
+            return Reply::Refused(Refusal::BadArgument);
+        }
+        match self.harts[hart].buffer.evict(entry) {
+            Ok(()) => Reply::Done,
+            Err(_) => Reply::Refused(Refusal::NoEntry),
+        }
+    }
+}

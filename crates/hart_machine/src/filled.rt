@@ -1,0 +1,34 @@
+// Buffers filled by the tables that a seat has.
+
+ghost use Rattle.std.specs.Prelude.{◌≡◌, ◌++◌, ◌∷◌, []};
+ghost use Rattle.frame_store.specs.Laws.{Fits, Keeps};
+ghost use Rattle.hart_machine.specs.Walked.{entry_for, LeavesAreLocal, LeavesAreThere};
+ghost use Rattle.hart_tlb.specs.Buffer.{newest_entries};
+ghost use Rattle.table_walk.specs.Image.{HasTables, Image};
+
+use frame_store::{FrameAccess, FrameSeat};
+use hart_tlb::Buffer;
+use sv39_entry::{FrameNo, Satp, Va};
+use table_walk::{HeldWords, walks_of_tables};
+
+/// Translates the page of an address by the tables below a root, and keeps the outcome in a buffer.
+pub(crate) fn filled<F: FrameAccess>(
+    buffer: &mut Buffer<32>,
+    store: &mut F,
+    seat: &mut F::Seat,
+    root: FrameNo,
+    asid: u16,
+    va: Va,
+)
+    requires fits { Fits F.rule store.old seat.old }
+    requires held { (t : Image) × HasTables (F.Seat.view seat.old) root.0 t }
+    ensures entries { (t : Image) → HasTables (F.Seat.view seat.old) root.0 t → LeavesAreThere t → LeavesAreLocal t →
+        buffer.new ≡ newest_entries 32 (buffer.old ++ entry_for t asid va.0 ∷ []) }
+    ensures view { F.Seat.view seat.new ≡ F.Seat.view seat.old }
+    ensures same { store.new ≡ store.old }
+    ensures keeps { Keeps F.rule store.old seat.old store.new seat.new }
+{
+    walks_of_tables();
+    let mut words = HeldWords { store, seat };
+    buffer.fill(&mut words, Satp::sv39(asid, root), va);
+}

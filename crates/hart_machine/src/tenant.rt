@@ -1,0 +1,36 @@
+// Processes in their slots.
+
+ghost use Rattle.std.specs.Prelude.{◌≡◌};
+ghost use Rattle.hart_machine.specs.Tenants.{pending_of};
+ghost use Rattle.process_model.specs.World.{is_unserved_access};
+
+use address_space::Space;
+use frame_store::PlainSeat;
+use sv39_entry::{Access, Va};
+
+/// An access that faulted, and whether the kernel has served it.
+#[derive(Clone, Copy)]
+pub(crate) struct Pending {
+    pub(crate) access: Access,
+    pub(crate) va: Va,
+    pub(crate) width: u64,
+    pub(crate) served: bool,
+}
+
+/// A process in its slot.
+#[derive(Drop)]
+pub(crate) struct Tenant {
+    pub(crate) space: Space<PlainSeat>,
+    pub(crate) pending: Option<Pending>,
+}
+
+impl Tenant {
+    pub(crate) fn is_unserved(&self) -> bool
+        ensures { result ≡ is_unserved_access (pending_of self.now.pending) }
+    {
+        match self.pending {
+            None => false,
+            Some(pending) => !pending.served,
+        }
+    }
+}
