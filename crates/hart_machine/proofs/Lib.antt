@@ -1,8 +1,12 @@
+pub mod BootCounts
+pub mod BootWorld
 pub mod Entries
 pub mod Fences
 pub mod HartSteps
 pub mod Leaves
 pub mod ProcessSteps
+pub mod StartSeats
+pub mod StartSlots
 pub mod Trapping
 pub mod UserAnswers
 pub mod Users

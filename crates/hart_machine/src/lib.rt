@@ -1,13 +1,18 @@
 //! Harts and their steps.
 #![tactic(auto)]
 
+mod boot;
 mod buffering;
 mod filled;
 mod hart;
 mod machine;
+mod starting;
 mod switching;
 mod tenant;
+#[cfg(test)]
+mod tests;
 mod user;
 mod walked;
 
+pub use boot::BootError;
 pub use machine::Machine;

@@ -1,0 +1,121 @@
+-- Seats for spaces: the kernel's seat shares frame 0.
+use Rattle.std.proofs.Common.{◌≡◌, ℕ, suc, ◌-◌, ◌<◌, ◌≤◌, IsTrue, Option, None, Some, List, [], ◌∷◌, length, inl, inr, refl, slice_index, ap, sym, ◌∙◌, subst, arith}
+use Rattle.std.specs.Prelude.{slice_get}
+use Rattle.std.proofs.lemmas.Bool.{cases_lt}
+use Rattle.std.proofs.lemmas.Option.{same_Some, slice_get-get_or, slice_get_past}
+use Rattle.address_space.specs.Agreement.{HoldsTrampoline}
+use Rattle.address_space.specs.Kernel.{IsKernelTable}
+use Rattle.frame_store.specs.Plain.{total_references}
+use Rattle.frame_store.specs.Holds.{hold_of-with_hold_same, hold_of-with_hold_other}
+use Rattle.frame_store.specs.Joins.{hold_of-joined}
+use Rattle.frame_store.specs.Laws.{IsAnchored}
+use Rattle.frame_store.specs.View.{Hold, View, hold_of, joined, IsHeld, references, released, with_hold}
+use Rattle.hart_machine.specs.Tenants.{view_of}
+use Rattle.hart_machine.specs.Worlds.{IsPlace, IsWorld, seats_of}
+use Rattle.hart_machine.specs.declared.machine.Machine.{Machine}
+use Rattle.hart_machine.specs.declared.tenant.Tenant.{Tenant}
+use Rattle.process_model.specs.Process.{Process}
+use Rattle.process_model.specs.World.{World}
+use Rattle.sv39_entry.specs.Address.{trampoline_page}
+use Rattle.table_walk.specs.Image.{Image, leaf_node}
+use Rattle.table_walk.specs.Same.{same_tables}
+
+-- each process names frame 0 once, for the trampoline
+tenant_has_code : (o : Option (Option Tenant)) (q : Option (Option Process)) (t : Image) (x : Tenant) → o ≡ Some (Some x) → IsPlace o q t → references (view_of x) 0 ≡ 1
+tenant_has_code None q t x is place = absurd (cc)
+tenant_has_code (Some None) q t x is place = absurd (cc)
+tenant_has_code (Some (Some y)) None t x is place = absurd place
+tenant_has_code (Some (Some y)) (Some None) t x is place = absurd place
+tenant_has_code (Some (Some y)) (Some (Some p)) t x is place =
+    let stands = place.agrees.stands in
+    let leaf = stands.shows.on_trampoline in
+    let here = stands.owns.named 0 (leaf_node trampoline_page) (inr (leaf.0, leaf.1, leaf.2.names)) in
+    subst (λ (z : Tenant). references (view_of z) 0 ≡ 1) (same_Some _ _ (same_Some _ _ is)) here
+
+seats_total : (places : List (Option Tenant)) → ((i : ℕ) (x : Tenant) → slice_get places i ≡ Some (Some x) → references (view_of x) 0 ≡ 1) → total_references 0 (seats_of places) ≤ length places
+seats_total [] one = omega arith
+seats_total (None ∷ places) one = let rest = seats_total places (λ i x at. one (suc i) x at) in omega (arith, rest)
+seats_total (Some x ∷ places) one =
+    let rest = seats_total places (λ i y at. one (suc i) y at) in
+    let here = one 0 x refl in
+    omega (arith, rest, here)
+
+-- places of both have one number
+as_many : (o : Option (Option Tenant)) (q : Option (Option Process)) (t : Image) (a : Option Tenant) → o ≡ Some a → IsPlace o q t → q ≡ None → ⊥
+as_many None q t a is place none = absurd (cc)
+as_many (Some None) None t a is place none = place
+as_many (Some (Some x)) None t a is place none = place
+as_many (Some x) (Some p) t a is place none = absurd (cc)
+
+module _ (m : Machine) (w : World) (is : IsWorld m w) where
+  few_places : length m.slots.items ≤ 64
+  few_places = elim (cases_lt 64 (length m.slots.items)) [
+    | inl more ↦ absurd (as_many _ _ (is.images 64) _ (slice_get-get_or m.slots.items 64 None more) (is.places 64) (slice_get_past w.slots 64 is.of_kernel.few_slots))
+    | inr few ↦ few
+  ]
+
+  -- so frame 0 has few references
+  pub code_shared : slice_index m.frames.counts 0 < 65535
+  code_shared =
+      let few = few_places in
+      let seats = seats_total m.slots.items (λ i x at. tenant_has_code _ _ (is.images i) x at (is.places i)) in
+      let all = is.rule.counted 0 in
+      let own = is.of_kernel.maps.holds.code in
+      omega (arith, few, seats, all, own)
+
+-- the kernel's table stands on frames that are not frame 0, and on one reference of that
+pub kernel_kept : (v w : View) (root frames slots : ℕ) (stacks : List ℕ) (t : Image) → ((f : ℕ) → (f ≡ 0 → ⊥) → hold_of w f ≡ hold_of v f) → references w 0 ≡ 1 → w.credits ≡ 0
+    → IsKernelTable v root frames slots stacks t → IsKernelTable w root frames slots stacks t
+kernel_kept v w root frames slots stacks t same once none k =
+    let h = k.maps.holds in
+    let count : (f : ℕ) → (f ≡ 0 → ⊥) → references w f ≡ references v f = λ f far. ap (λ (x : Hold). x.references) (same f far) in
+    record {
+      maps = record {
+        tables = same_tables v w root t (λ n f at. same f (h.table_no_code n f at)) k.maps.tables;
+        leaves = k.maps.leaves;
+        numbers = k.maps.numbers;
+        holds = record {
+          code = once;
+          stack = λ s f at. (let far = h.stack_no_code s f at in let was = h.stack s f at in (count f far ∙ was.0, subst (λ (x : Hold). IsTrue x.sole) (sym (same f far)) was.1, was.2));
+          table = λ n f at. count f (h.table_no_code n f at) ∙ h.table n f at;
+          bare = λ f far no_stack no_table. count f far ∙ h.bare f far no_stack no_table;
+          stacks_apart = h.stacks_apart;
+          stack_no_table = h.stack_no_table;
+          stack_no_code = h.stack_no_code;
+          table_no_code = h.table_no_code;
+        };
+      };
+      stacked = k.stacked;
+      few_frames = k.few_frames;
+      few_slots = k.few_slots;
+      credits = none;
+    }
+
+-- what the kernel's seat has when it takes a seat with frame 0 alone in, and lets the reference go
+module _ (v x : View) (code : references v 0 ≡ 1) (one : HoldsTrampoline x) where
+  joined_at : (f : ℕ) → (f ≡ 0 → ⊥) → hold_of (joined v x) f ≡ hold_of v f
+  joined_at f far = hold_of-joined v x f ∙ (let none = one.others f far in rw none refl)
+
+  joined_code : references (joined v x) 0 ≡ 2
+  joined_code = ap (λ (h : Hold). h.references) (hold_of-joined v x 0) ∙ (let here = one.once in rw (here, code) refl)
+
+  pub joined_held : IsHeld (joined v x) 0
+  joined_held = let two = joined_code in omega (arith, two)
+
+  closed_is : released 0 (joined v x) ≡ with_hold 0 (record (hold_of (joined v x) 0) { references = references (joined v x) 0 - 1 }) (joined v x)
+  closed_is = rw joined_code refl
+
+  closed_code : references (released 0 (joined v x)) 0 ≡ 1
+  closed_code = ap (λ u. references u 0) closed_is ∙ ap (λ (h : Hold). h.references) (hold_of-with_hold_same 0 _ (joined v x)) ∙ (let two = joined_code in omega (arith, two))
+
+  closed_at : (f : ℕ) → (f ≡ 0 → ⊥) → hold_of (released 0 (joined v x)) f ≡ hold_of v f
+  closed_at f far = ap (λ u. hold_of u f) closed_is ∙ hold_of-with_hold_other 0 _ (joined v x) f far ∙ joined_at f far
+
+  pub closed_anchored : IsAnchored (released 0 (joined v x))
+  closed_anchored f held = let one = closed_code in omega (arith, one)
+
+  pub closed_kernel : (w : View) → w ≡ released 0 (joined v x) → (root frames slots : ℕ) (stacks : List ℕ) (t : Image) → IsKernelTable v root frames slots stacks t → IsKernelTable w root frames slots stacks t
+  closed_kernel w is root frames slots stacks t k =
+      subst (λ u. IsKernelTable u root frames slots stacks t) (sym is)
+      (kernel_kept v (released 0 (joined v x)) root frames slots stacks t closed_at closed_code
+      (ap (λ (u : View). u.credits) closed_is ∙ (let own = k.credits in let its = one.credits in omega (arith, own, its))) k)

@@ -1,0 +1,63 @@
+// Processes start.
+
+ghost use Rattle.std.specs.Prelude.{◌≡◌, ◌∷◌, List, ℕ};
+ghost use Rattle.address_space.specs.Agreement.{HoldsTrampoline};
+ghost use Rattle.address_space.specs.Kernel.{IsKernelTable};
+ghost use Rattle.frame_clients.specs.Opened.{opened, opener};
+ghost use Rattle.frame_store.specs.Plain.{BankRule};
+ghost use Rattle.frame_store.specs.View.{references, View};
+ghost use Rattle.hart_machine.specs.Worlds.{IsWorld};
+ghost use Rattle.process_model.specs.World.{free_slot, World};
+ghost use Rattle.table_walk.specs.Image.{Image};
+
+use crate::machine::Machine;
+use frame_clients::opened_seat;
+use frame_store::{FrameAccess, PlainSeat};
+use sv39_entry::FrameNo;
+
+impl Machine {
+    /// The lowest slot without a process.
+    pub(crate) fn free_slot(&self) -> Option<usize>
+        ensures { (w : World) → IsWorld self.now w → result ≡ free_slot w }
+    {
+        for slot in 0..self.slots.len() {
+            if self.slots[slot].is_none() {
+                return Some(slot);
+            }
+        }
+        None
+    }
+
+    /// A seat that holds frame 0 and nothing else, for the space of a process. The kernel's seat shares it: no more than one
+    /// seat a slot has it.
+    pub(crate) fn open_seat(&mut self) -> PlainSeat
+        requires world { (w : World) × IsWorld self.old w }
+        ensures opened { result ≡ opened self.old.kernel.seat }
+        ensures opener { self.new.kernel ≡ record self.old.kernel { seat = opener self.old.kernel.seat } }
+        ensures free { self.new.frames.free ≡ self.old.frames.free }
+        ensures slots { self.new.slots ≡ self.old.slots }
+        ensures harts { self.new.harts ≡ self.old.harts }
+        ensures rule { (others : List View) → BankRule self.old.frames (self.old.kernel.seat ∷ others) → BankRule self.new.frames (self.new.kernel.seat ∷ result ∷ others) }
+    {
+        let Ok(seat) = opened_seat(&mut self.frames, &mut self.kernel.seat) else {
+            unreachable!()
+        };
+        seat
+    }
+
+    /// Ends a seat that holds frame 0 and nothing else. The kernel's seat takes it in, and lets the reference go.
+    pub(crate) fn close_seat(&mut self, seat: PlainSeat)
+        requires rule { (others : List View) × BankRule self.old.frames (self.old.kernel.seat ∷ seat ∷ others) }
+        requires seat { HoldsTrampoline seat }
+        requires code { references self.old.kernel.seat 0 ≡ 1 }
+        ensures kernel { (frames slots : ℕ) (stacks : List ℕ) (t : Image) → IsKernelTable self.old.kernel.seat self.old.kernel.root.0 frames slots stacks t
+            → IsKernelTable self.new.kernel.seat self.new.kernel.root.0 frames slots stacks t }
+        ensures free { self.new.frames.free ≡ self.old.frames.free }
+        ensures slots { self.new.slots ≡ self.old.slots }
+        ensures harts { self.new.harts ≡ self.old.harts }
+        ensures rule { (others : List View) → BankRule self.old.frames (self.old.kernel.seat ∷ seat ∷ others) → BankRule self.new.frames (self.new.kernel.seat ∷ others) }
+    {
+        self.frames.join(&mut self.kernel.seat, seat);
+        self.frames.release(&mut self.kernel.seat, FrameNo(0));
+    }
+}
