@@ -1,4 +1,3 @@
-pub mod BootCounts
 pub mod BootWorld
 pub mod Entries
 pub mod Fences

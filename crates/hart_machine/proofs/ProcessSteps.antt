@@ -1,5 +1,5 @@
 -- Worlds in which one process is another, with the same pages and tables.
-use Rattle.std.proofs.Common.{◌≡◌, ℕ, ◌+◌, ◌<◌, length, zero, suc, ◌↔◌, Option, None, Some, List, [], ◌∷◌, ◌++◌, refl, ap, sym, subst, ◌∙◌, inl, inr}
+use Rattle.std.proofs.Common.{◌≡◌, ℕ, ◌+◌, ◌<◌, zero, suc, ◌↔◌, Option, None, Some, List, [], ◌∷◌, ◌++◌, refl, ap, sym, subst, ◌∙◌, inl, inr}
 use Rattle.std.specs.Prelude.{flat_map, slice_get, slice_set, sum_by}
 use Rattle.std.specs.Vec.{with_item}
 use Rattle.std.proofs.lemmas.Bool.{cases_eq}
@@ -64,15 +64,15 @@ module _ (m : Machine) (w : World) (is : IsWorld m w) (s : ℕ) (x y : Tenant) (
         (λ same e. let is_q : q ≡ r = same_Some q r (same_Some _ _ e) in let found = has n a (ap (λ (z : Process). pages.get z.settled n) is_q ∙ settled) in (p, found.0, ap (slice_get w.slots) same ∙ at, found.1, found.2))
         (λ apart old e. (r, a, old, settled, refl)) refl
 
-    pub process_changes : (b : Bank) → length b.counts ≡ length m.frames.counts → BankRule b (m.kernel.seat ∷ seats_of (slice_set m.slots.items s (Some y))) → b.free ≡ m.frames.free
+    pub process_changes : (b : Bank) → BankRule b (m.kernel.seat ∷ seats_of (slice_set m.slots.items s (Some y))) → b.free ≡ m.frames.free
         → IsTenant y (is.images s) q → copies_of q ≡ copies_of p → own_frames q ≡ own_frames p
         → IsWorld (record m { frames = b; slots = with_item m.slots s (Some y) }) (with_process w s q)
-    process_changes b sized rule unspent tenant copies owns = record {
+    process_changes b rule unspent tenant copies owns = record {
       images = is.images;
       kernel = is.kernel;
       stacks = is.stacks;
       policy = is.policy;
-      frames = sized ∙ is.frames;
+      frames = is.frames;
       rule = rule;
       of_kernel = subst (λ n. IsKernelTable m.kernel.seat m.kernel.root.0 w.frames n is.stacks is.kernel) (sym (length-set w.slots s (Some q))) is.of_kernel;
       places = places;
@@ -109,7 +109,7 @@ module _ (m : Machine) (w : World) (is : IsWorld m w) (s : ℕ) (x : Tenant) (p 
     (tenant : IsTenant x (is.images s) p) where
   -- the process of a slot has another access pending
   pub pending_changes : (o : Option Pending) → IsWorld (record m { slots = with_item m.slots s (Some (record x { pending = o })) }) (with_process w s (record p { pending = pending_of o }))
-  pending_changes o = process_changes m w is s x (record x { pending = o }) p (record p { pending = pending_of o }) place at (λ n a there. (a, there, refl)) m.frames refl
+  pending_changes o = process_changes m w is s x (record x { pending = o }) p (record p { pending = pending_of o }) place at (λ n a there. (a, there, refl)) m.frames
       (subst (λ vs. BankRule m.frames (m.kernel.seat ∷ vs)) (sym (seats_stay m.slots.items s x (record x { pending = o }) place refl)) is.rule) refl
       (record { agrees = agrees; framed = tenant.framed; pending = refl }) refl refl where
         agrees : Agrees (view_of x) x.space.root.0 x.space.trapframe.0 x.space.layout (is.images s) (record p { pending = pending_of o })

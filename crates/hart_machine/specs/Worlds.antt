@@ -72,7 +72,7 @@ pub record IsWorld (m : Machine) (w : World) : Type 0 where
   pub kernel : Image
   pub stacks : List ℕ
   pub policy : w.policy ≡ Full
-  pub frames : length m.frames.counts ≡ w.frames
+  pub frames : m.size ≡ w.frames
   pub rule : BankRule m.frames (m.kernel.seat ∷ seats_of m.slots.items)
   pub of_kernel : IsKernelTable m.kernel.seat m.kernel.root.0 w.frames (length w.slots) stacks kernel
   pub places : (s : ℕ) → IsPlace (slice_get m.slots.items s) (slice_get w.slots s) (images s)

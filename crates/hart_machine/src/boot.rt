@@ -69,6 +69,7 @@ impl Machine {
             unreachable!()
         };
         Ok(Machine {
+            size: config.frames,
             frames,
             kernel,
             slots,
