@@ -1,3 +1,7 @@
+pub mod AccessSteps
+pub mod AccessingEntries
+pub mod AccessingPages
+pub mod AccessingWorlds
 pub mod BootWorld
 pub mod Entries
 pub mod Fences

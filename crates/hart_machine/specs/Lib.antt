@@ -1,3 +1,4 @@
+pub mod Accesses
 pub mod Harts
 pub mod Tenants
 pub mod Users

@@ -1,6 +1,7 @@
 //! Harts and their steps.
 #![tactic(auto)]
 
+mod accessing;
 mod boot;
 mod buffering;
 mod filled;

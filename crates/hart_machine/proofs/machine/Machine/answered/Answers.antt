@@ -1,0 +1,33 @@
+use Rattle.std.proofs.Common.{◌∙◌, subst, sym}
+use Rattle.std.proofs.lemmas.Option.{same_Some}
+use Rattle.hart_machine.specs.Tenants.{IsTenant}
+use Rattle.hart_machine.proofs.AccessingWorlds.{access_changes, seat_fits, slot_has}
+use Rattle.hart_machine.proofs.HartSteps.{process_at}
+use Rattle.hart_machine.proofs.machine.Machine.answered.Goals as goal
+
+pub access-requires-clause-fits : goal.access-requires-clause-fits
+access-requires-clause-fits c =
+    let r = c.requires.ready in
+    let m = c.args.self.now in
+    let there = slot_has m.slots.items c.args.slot r.2 c.in-Some.tenant _ c.in-Some.is c.index_mut.ensures.value r.3 in
+    seat_fits m.frames m.kernel.seat m.slots.items c.args.slot c.in-Some.tenant there (r.1).rule
+
+pub access-requires-clause-ready : goal.access-requires-clause-ready
+access-requires-clause-ready c =
+    let r = c.requires.ready in
+    let m = c.args.self.now in
+    let there = slot_has m.slots.items c.args.slot r.2 c.in-Some.tenant _ c.in-Some.is c.index_mut.ensures.value r.3 in
+    let found = process_at m r.0 r.1 c.args.slot c.in-Some.tenant there in
+    ((r.1).images c.args.slot, found.0, found.2, r.4)
+
+pub returns-clause-made : goal.returns-clause-made
+returns-clause-made c w is p at given =
+    let m = c.args.self.now in
+    let r = c.requires.ready in
+    let there = slot_has m.slots.items c.args.slot r.2 c.in-Some.tenant _ c.in-Some.is c.index_mut.ensures.value r.3 in
+    let found = process_at m w is c.args.slot c.in-Some.tenant there in
+    let tenant = subst (λ q. IsTenant c.in-Some.tenant (is.images c.args.slot) q) (same_Some _ _ (same_Some _ _ (sym found.1 ∙ at))) found.2 in (
+      c.access.ensures.reply (is.images c.args.slot) p tenant given,
+      access_changes m w is c.args.slot c.in-Some.tenant c.access.new.self p there at c.args.asked.access c.args.asked.va.0 c.args.asked.width c.args.asked.value tenant
+          (c.access.ensures.after (is.images c.args.slot) p tenant given) c.access.new.frames c.access.ensures.keeps c.access.ensures.free,
+    )

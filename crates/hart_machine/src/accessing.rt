@@ -1,0 +1,169 @@
+// Accesses of the user on a hart, by a walk or by an entry of its buffer.
+
+ghost use Rattle.std.specs.Prelude.{◌≡◌, ℕ, IfOk, is_ok, IsTrue, slice_get, Some};
+ghost use Rattle.frame_store.specs.Laws.{Fits, Keeps};
+ghost use Rattle.frame_store.specs.Plain.{BankRule};
+ghost use Rattle.hart_machine.specs.Accesses.{after_access, pending_after};
+ghost use Rattle.hart_machine.specs.Harts.{hart_of};
+ghost use Rattle.hart_machine.specs.Tenants.{IsTenant, pending_of, view_of};
+ghost use Rattle.hart_machine.specs.Users as users;
+ghost use Rattle.hart_machine.specs.Walked.{walk_answer};
+ghost use Rattle.hart_machine.specs.Worlds.{IsWorld, Makes};
+ghost use Rattle.hart_machine.specs.declared.hart.Hart.{Hart};
+ghost use Rattle.hart_machine.specs.declared.tenant.Tenant.{Tenant};
+ghost use Rattle.process_model.specs.Bytes as bytes;
+ghost use Rattle.process_model.specs.Harts.{entry_serves};
+ghost use Rattle.process_model.specs.Process.{Process};
+ghost use Rattle.process_model.specs.Service.{access_step};
+ghost use Rattle.process_model.specs.World.{with_process, World};
+ghost use Rattle.process_model.specs.declared.config.Policy.TheVariants.{Full};
+ghost use Rattle.process_model.specs.declared.phase.Phase.TheVariants as phases;
+ghost use Rattle.sv39_entry.specs.declared.access.Mode.TheVariants.{User};
+ghost use Rattle.table_walk.specs.Image.{Image};
+ghost use Rattle.table_walk.specs.declared.walk.Walk as walks;
+
+use crate::hart::is_user;
+use crate::machine::Machine;
+use crate::tenant::{Pending, Tenant};
+use crate::user::{Asked, user_access};
+use crate::walked::walked;
+use frame_store::PlainFrames;
+use hart_tlb::NoEntry;
+use process_model::{Phase, Refusal, Reply, is_width};
+use sv39_entry::Mode;
+use table_walk::Walk;
+
+impl Machine {
+    /// The process on a hart accesses memory, by a walk or by the entry of the hart's buffer with the number `via`. A fault
+    /// is pending, and enters the kernel.
+    pub(crate) fn access(&mut self, hart: usize, asked: Asked, via: Option<usize>) -> Reply
+        requires world { (w : World) × IsWorld self.old w }
+        ensures made { (w : World) → IsWorld self.old w → Makes self.new result (access_step w hart asked.access asked.va.0 asked.width asked.value via) }
+    {
+        let Some(phase) = self.phase_of(hart) else {
+            return Reply::Refused(Refusal::BadArgument);
+        };
+        if !is_width(asked.width) {
+            return Reply::Refused(Refusal::BadArgument);
+        }
+        if !is_user(phase) {
+            return Reply::Refused(Refusal::Impossible(phase));
+        }
+        let Some(slot) = self.slot_of(hart) else {
+            return Reply::Refused(Refusal::Impossible(phase));
+        };
+        let Ok(walk) = self.by_entry(hart, asked, via) else {
+            return Reply::Refused(Refusal::NoEntry);
+        };
+        let reply = self.answered(slot, walk, asked);
+        if let Reply::Fault(_) = &reply {
+            self.harts[hart].phase = Phase::Enter0;
+        }
+        reply
+    }
+
+    /// What the named entry of a hart's buffer translates an access to, if one is named.
+    fn by_entry(
+        &self,
+        hart: usize,
+        asked: Asked,
+        via: Option<usize>,
+    ) -> Result<Option<Walk>, NoEntry>
+        ensures serves { (w : World) (x : Hart) (s : ℕ) → IsWorld self.now w → slice_get self.now.harts.items hart ≡ Some x → x.phase ≡ phases.User → x.slot ≡ Some s →
+            is_ok result ≡ entry_serves Full (hart_of x) asked.va.0 via }
+        ensures walk { IfOk result (λ o. (w : World) (is : IsWorld self.now w) (x : Hart) (s : ℕ) → slice_get self.now.harts.items hart ≡ Some x → x.phase ≡ phases.User → x.slot ≡ Some s →
+            (z : walks.Walk) → o ≡ Some z → z ≡ walk_answer (is.images s) asked.va.0 asked.access User) }
+    {
+        let Some(entry) = via else {
+            return Ok(None);
+        };
+        let Some(hart) = self.harts.get(hart) else {
+            return Err(NoEntry);
+        };
+        // all entries are made under the address-space identifier 0
+        let used = hart
+            .buffer
+            .use_entry(entry, asked.va, 0, asked.access, Mode::User);
+        match used {
+            Ok(walk) => Ok(Some(walk)),
+            Err(none) => Err(none),
+        }
+    }
+
+    /// Makes an access of the process of a slot, or tells its fault.
+    fn answered(&mut self, slot: usize, walk: Option<Walk>, asked: Asked) -> Reply
+        requires ready { (w : World) × (is : IsWorld self.old w) × (x : Tenant) × (slice_get self.old.slots.items slot ≡ Some (Some x))
+            × ((z : walks.Walk) → walk ≡ Some z → z ≡ walk_answer (is.images slot) asked.va.0 asked.access User) }
+        requires width { IsTrue (bytes.is_width asked.width) }
+        ensures made { (w : World) (is : IsWorld self.old w) (p : Process) → slice_get w.slots slot ≡ Some (Some p)
+            → ((z : walks.Walk) → walk ≡ Some z → z ≡ walk_answer (is.images slot) asked.va.0 asked.access User)
+            → (result ≡ (users.user_access p asked.access asked.va.0 asked.width asked.value).0)
+            × IsWorld self.new (with_process w slot (after_access p asked.access asked.va.0 asked.width asked.value)) }
+        ensures harts { self.new.harts ≡ self.old.harts }
+    {
+        let frames = &mut self.frames;
+        let slots = &mut self.slots;
+        let Some(tenant) = &mut slots[slot] else {
+            unreachable!()
+        };
+        tenant.access(frames, walk, asked)
+    }
+}
+
+impl Tenant {
+    /// Makes an access by a translation, or by a walk where none is given, or tells its fault, which is then pending.
+    fn access(&mut self, frames: &mut PlainFrames, walk: Option<Walk>, asked: Asked) -> Reply
+        requires fits { Fits BankRule frames.old (view_of self.old) }
+        requires ready { (t : Image) × (p : Process) × IsTenant self.old t p × ((z : walks.Walk) → walk ≡ Some z → z ≡ walk_answer t asked.va.0 asked.access User) }
+        requires width { IsTrue (bytes.is_width asked.width) }
+        ensures reply { (t : Image) (p : Process) → IsTenant self.old t p → ((z : walks.Walk) → walk ≡ Some z → z ≡ walk_answer t asked.va.0 asked.access User) →
+            result ≡ (users.user_access p asked.access asked.va.0 asked.width asked.value).0 }
+        ensures after { (t : Image) (p : Process) → IsTenant self.old t p → ((z : walks.Walk) → walk ≡ Some z → z ≡ walk_answer t asked.va.0 asked.access User) →
+            IsTenant self.new t (after_access p asked.access asked.va.0 asked.width asked.value) }
+        ensures keeps { Keeps BankRule frames.old (view_of self.old) frames.new (view_of self.new) }
+        ensures free { frames.new.free ≡ frames.old.free }
+    {
+        let walk = self.translated(frames, walk, asked);
+        let reply = user_access(frames, &mut self.space, walk, asked);
+        self.pending = pending(asked, &reply);
+        reply
+    }
+
+    /// The translation that is given, or else what a walk comes to.
+    fn translated(&mut self, frames: &mut PlainFrames, walk: Option<Walk>, asked: Asked) -> Walk
+        requires fits { Fits BankRule frames.old (view_of self.old) }
+        requires ready { (t : Image) × (p : Process) × IsTenant self.old t p }
+        ensures walk { (t : Image) (p : Process) → IsTenant self.old t p → ((z : walks.Walk) → walk ≡ Some z → z ≡ walk_answer t asked.va.0 asked.access User) →
+            result ≡ walk_answer t asked.va.0 asked.access User }
+        ensures tenant { self.new ≡ self.old }
+        ensures frames { frames.new ≡ frames.old }
+    {
+        if let Some(walk) = walk {
+            return walk;
+        }
+        let space = &mut self.space;
+        walked(
+            frames,
+            &mut space.seat,
+            space.root,
+            asked.va,
+            asked.access,
+            Mode::User,
+        )
+    }
+}
+
+/// What a process has pending after an access that was answered so.
+fn pending(asked: Asked, reply: &Reply) -> Option<Pending>
+    ensures { pending_of result ≡ pending_after asked.access asked.va.0 asked.width reply.now }
+{
+    match reply {
+        Reply::Fault(_) => Some(Pending {
+            access: asked.access,
+            va: asked.va,
+            width: asked.width,
+            served: false,
+        }),
+        _ => None,
+    }
+}
