@@ -23,18 +23,17 @@ use Rattle.sv39_entry.specs.Address.{page_of}
 use Rattle.sv39_entry.specs.declared.access.Access.{Access}
 use Rattle.sv39_entry.specs.declared.access.Access.TheVariants.{Fetch, Load, Store}
 use Rattle.sv39_entry.specs.declared.rule.Rule.{Rule}
-use Rattle.table_walk.specs.Image.{Image}
-use Rattle.hart_tlb.specs.declared.entry.TlbEntry.{TlbEntry}
 use Rattle.hart_machine.specs.Accesses.{after_access, pending_after}
 use Rattle.hart_machine.specs.Harts.{hart_of}
 use Rattle.hart_machine.specs.Users as users
 use Rattle.hart_machine.specs.Users.{Answered}
-use Rattle.hart_machine.specs.Worlds.{IsServing, IsWorld, Makes, may_have_kernel}
+use Rattle.hart_machine.specs.Worlds.{IsWorld, Makes}
 use Rattle.hart_machine.specs.declared.hart.Hart.{Hart}
 use Rattle.hart_machine.specs.declared.machine.Machine.{Machine}
 use Rattle.hart_machine.proofs.AccessingPages.{access_answers, IsAnswer}
 use Rattle.hart_machine.proofs.HartSteps.{hart_changes, HasHart, impossible, improper, its_process, refused, runs, without_entry, without_hart}
 use Rattle.hart_machine.proofs.Trapping.{user_has_slot}
+use Rattle.hart_machine.proofs.Trapping.{enters, user_is}
 
 -- the model's access is that of one process, with what is pending and the hart's phase
 
@@ -76,21 +75,6 @@ module _ (w : World) (h : ℕ) (hart : model.Hart) (a width value s : ℕ) where
   by_other access q r (inl fault) apart = absurd (apart fault.0 fault.1)
   by_other access q r (inr (inl answer)) apart = rw answer.1 refl
   by_other access q r (inr (inr stored)) apart = rw stored refl
-
-user_is : (p : Phase) → model.is_user p ≡ true → p ≡ phase.User
-user_is phase.User e = refl
-user_is phase.Idle e = absurd (cc)
-user_is phase.Enter0 e = absurd (cc)
-user_is phase.Enter1 e = absurd (cc)
-user_is phase.Enter2 e = absurd (cc)
-user_is phase.Kernel e = absurd (cc)
-user_is phase.Leave1 e = absurd (cc)
-user_is phase.Leave2 e = absurd (cc)
-
--- an entry that serves the user serves where its fault enters the kernel
-enters : (images : ℕ → Image) (kernel : Image) (x : Hart) → x.phase ≡ phase.User → (e : TlbEntry) → IsServing x images kernel e → IsServing (record x { phase = phase.Enter0 }) images kernel e
-enters images kernel x at e (inl of_kernel) = absurd (let never : may_have_kernel phase.User ≡ true = ap may_have_kernel (sym at) ∙ of_kernel.0 in cc)
-enters images kernel x at e (inr own) = inr (own.0, refl, own.2, own.3)
 
 module _ (m : Machine) (w : World) (is : IsWorld m w) (h : ℕ) (access : Access) (a width value : ℕ) (via : Option ℕ) where
   pub no_width : is_width width ≡ false → Makes m (Refused BadArgument) (access_step w h access a width value via)

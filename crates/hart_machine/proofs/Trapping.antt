@@ -20,7 +20,7 @@ use Rattle.hart_machine.specs.declared.tenant.Tenant.{Tenant}
 use Rattle.hart_machine.proofs.HartSteps.{hart_changes, hart_read, HasHart, impossible, its_process, makes, process_at, refused, runs}
 use Rattle.hart_machine.proofs.ProcessSteps.{pending_changes}
 
-user_is : (p : Phase) → model.is_user p ≡ true → p ≡ phase.User
+pub user_is : (p : Phase) → model.is_user p ≡ true → p ≡ phase.User
 user_is phase.User e = refl
 user_is phase.Idle e = absurd (cc)
 user_is phase.Enter0 e = absurd (cc)
@@ -31,7 +31,7 @@ user_is phase.Leave1 e = absurd (cc)
 user_is phase.Leave2 e = absurd (cc)
 
 -- an entry that serves the user serves where the hart enters the kernel
-enters : (images : ℕ → Image) (kernel : Image) (x : Hart) → x.phase ≡ phase.User → (e : TlbEntry) → IsServing x images kernel e → IsServing (record x { phase = phase.Enter0 }) images kernel e
+pub enters : (images : ℕ → Image) (kernel : Image) (x : Hart) → x.phase ≡ phase.User → (e : TlbEntry) → IsServing x images kernel e → IsServing (record x { phase = phase.Enter0 }) images kernel e
 enters images kernel x at e (inl of_kernel) = absurd (let never : may_have_kernel phase.User ≡ true = ap may_have_kernel (sym at) ∙ of_kernel.0 in cc)
 enters images kernel x at e (inr own) = inr (own.0, refl, own.2, own.3)
 
