@@ -6,13 +6,14 @@ ghost use Rattle.address_space.specs.Kernel.{direct_tables, frame_rights, IsKern
 ghost use Rattle.address_space.specs.Steps.{Spends};
 ghost use Rattle.frame_store.specs.Laws.{Fits, IsDry, Keeps};
 ghost use Rattle.frame_store.specs.View.{references};
-ghost use Rattle.process_model.specs.Frames.{kernel_frames};
+ghost use Rattle.process_model.specs.Frames as model;
 ghost use Rattle.sv39_entry.specs.Word.{kind_of, leaf_word};
 ghost use Rattle.sv39_entry.specs.declared.entry.Kind.TheVariants.{Leaf};
 ghost use Rattle.table_walk.specs.Image.{Image};
 
 use bitflags::Flags;
 use frame_store::{FrameAccess, FrameSeat, FrameSupply, NoFrame};
+use process_model::kernel_frames;
 use sv39_entry::{Access, Entry, FrameNo, Mode, Rights, TRAMPOLINE, Va, kernel_stack};
 use table_walk::{HeldWords, Walk, map, new_table, one_outcome, translate, walks_of_tables};
 
@@ -40,13 +41,13 @@ impl<S: FrameSeat> KernelTable<S> {
         requires some_slots { 1 ≤ slots }
         requires few_slots { slots ≤ 64 }
         ensures built { IfOk result (λ k. (stacks : List ℕ) × (t : Image) × IsKernelTable (S.view k.seat) k.root.0 frames slots stacks t) }
-        ensures claims { IfOk result (λ k. (S.view k.seat).claims ≡ (S.view seat).claims + (kernel_frames frames slots - 1)) }
+        ensures claims { IfOk result (λ k. (S.view k.seat).claims ≡ (S.view seat).claims + (model.kernel_frames frames slots - 1)) }
         ensures zeros { IfOk result (λ k. (S.view k.seat).zeros ≡ (S.view seat).zeros) }
         ensures short { IfOk result (λ k. (S.view k.seat).short ≡ (S.view seat).short) }
         ensures looks { IfOk result (λ k. (S.view k.seat).looks ≡ (S.view seat).looks) }
-        ensures dry { IfErr result (λ e. IsDry (kernel_frames frames slots - 1) (S.view seat) (S.view e.1)) }
-        ensures exact { F.alone → IsOk result ↔ (kernel_frames frames slots - 1 ≤ F.free store.old) }
-        ensures free { F.alone → F.free store.new ≡ F.free store.old - (if is_ok result then kernel_frames frames slots - 1 else 0) }
+        ensures dry { IfErr result (λ e. IsDry (model.kernel_frames frames slots - 1) (S.view seat) (S.view e.1)) }
+        ensures exact { F.alone → IsOk result ↔ (model.kernel_frames frames slots - 1 ≤ F.free store.old) }
+        ensures free { F.alone → F.free store.new ≡ F.free store.old - (if is_ok result then model.kernel_frames frames slots - 1 else 0) }
         ensures keeps { IfOk result (λ k. Keeps F.rule store.old seat store.new k.seat) }
         ensures keeps_dry { IfErr result (λ e. Keeps F.rule store.old seat store.new e.1) }
     {
@@ -85,12 +86,12 @@ impl<S: FrameSeat> KernelTable<S> {
     }
 }
 
-/// How many free frames the table takes: five tables, six where the frames fill more than two megabytes, and the stacks.
+/// How many free frames the table takes: all that the kernel takes, but frame 0, which is there.
 fn need(frames: u16, slots: u16) -> usize
-    ensures { result ≡ kernel_frames frames slots - 1 }
+    requires few { slots ≤ 64 }
+    ensures { result ≡ model.kernel_frames frames slots - 1 }
 {
-    let tables = if frames <= 512 { 5 } else { 6 };
-    tables + usize::from(slots)
+    kernel_frames(usize::from(frames), usize::from(slots)) - 1
 }
 
 /// The leaf of a frame, for the kernel alone. Frame 0 has the trampoline's code, which nothing may write.

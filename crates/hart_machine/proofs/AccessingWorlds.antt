@@ -24,13 +24,13 @@ use Rattle.hart_machine.proofs.ProcessSteps.{process_changes}
 -- seats
 
 module _ (b : Bank) (k : View) where
-  abbrev Holds : List Tenant → Type 0
+  abbrev pub Holds : List Tenant → Type 0
   Holds owners = BankRule b (k ∷ map view_of owners)
 
   holds_front : ComesFront Holds
   holds_front = comes_front-map (λ (seats : List View). BankRule b (k ∷ seats)) view_of (comes_front-behind (BankRule b) k (to_front b.words b.counts b.free) (to_back b.words b.counts b.free))
 
-  holds_back : GoesBack Holds
+  pub holds_back : GoesBack Holds
   holds_back = goes_back-map (λ (seats : List View). BankRule b (k ∷ seats)) view_of (goes_back-behind (BankRule b) k (to_front b.words b.counts b.free) (to_back b.words b.counts b.free))
 
 module _ (b : Bank) (k : View) (places : List (Option Tenant)) (s : ℕ) (x : Tenant) (at : slice_get places s ≡ Some (Some x)) (rule : BankRule b (k ∷ seats_of places)) where

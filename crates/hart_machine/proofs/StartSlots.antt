@@ -1,8 +1,9 @@
 -- The lowest slot without a process.
-use Rattle.std.proofs.Common.{◌≡◌, ℕ, zero, suc, ◌+◌, ◌<◌, ap, sym, ◌∙◌, refl, true, false, inl, inr, is_some, Option, None, Some, List, [], ◌∷◌, length, get_or, arith}
+use Rattle.std.proofs.Common.{◌≡◌, ℕ, zero, suc, ◌+◌, ◌<◌, ap, sym, subst, ◌∙◌, refl, true, false, inl, inr, is_some, Option, None, Some, List, [], ◌∷◌, length, get_or, arith}
 use Rattle.std.specs.Prelude.{slice_get}
+use Rattle.std.specs.Vec.{vec_len}
 use Rattle.std.proofs.lemmas.Bool.{cases_eq}
-use Rattle.std.proofs.lemmas.Option.{slice_get-get_or, slice_get_within}
+use Rattle.std.proofs.lemmas.Option.{same_Some, slice_get-get_or, slice_get_within}
 use Rattle.hart_machine.specs.Worlds.{IsPlace, IsWorld}
 use Rattle.hart_machine.specs.declared.machine.Machine.{Machine}
 use Rattle.hart_machine.specs.declared.tenant.Tenant.{Tenant}
@@ -21,6 +22,15 @@ none_free : (slots : List (Option Process)) (n : ℕ) → ((i : ℕ) → slice_g
 none_free [] n full = refl
 none_free (None ∷ slots) n full = absurd (full 0 refl)
 none_free (Some p ∷ slots) n full = none_free slots (n + 1) (λ i at. full (suc i) at)
+
+-- the slot that is found has no process
+found_free : (slots : List (Option Process)) (n s : ℕ) → lowest_free n slots ≡ Some s → (k : ℕ) × (s ≡ n + k) × (slice_get slots k ≡ Some None)
+found_free [] n s e = absurd (cc)
+found_free (None ∷ slots) n s e = (0, (let same = same_Some n s e in omega (arith, same)), refl)
+found_free (Some p ∷ slots) n s e = let r = found_free slots (n + 1) s e in (suc r.0, omega (arith, r.1), r.2)
+
+pub free_is_empty : (w : World) (s : ℕ) → free_slot w ≡ Some s → slice_get w.slots s ≡ Some None
+free_is_empty w s e = let r = found_free w.slots 0 s e in ap (slice_get w.slots) (omega (arith, r.1)) ∙ r.2
 
 -- what stands in a place of the machine and of the model
 
@@ -44,6 +54,12 @@ empty_back o (Some (Some p)) t is place = absurd (cc)
 empty_back None (Some None) t is place = absurd place
 empty_back (Some None) (Some None) t is place = refl
 empty_back (Some (Some y)) (Some None) t is place = absurd place
+
+pub free_place : (m : Machine) (w : World) → IsWorld m w → (s : ℕ) → free_slot w ≡ Some s → slice_get m.slots.items s ≡ Some None
+free_place m w is s e = empty_back _ _ (is.images s) (free_is_empty w s e) (is.places s)
+
+pub free_within : (m : Machine) (w : World) → IsWorld m w → (s : ℕ) → free_slot w ≡ Some s → s < vec_len m.slots
+free_within m w is s e = subst (λ n. s < n) (sym m.slots.ok.0) (slice_get_within m.slots.items s None (free_place m w is s e))
 
 module _ (m : Machine) (k : ℕ) (below : (i : ℕ) → i < k → (x : Tenant) × (slice_get m.slots.items i ≡ Some (Some x))) where
   pub first_free : slice_get m.slots.items k ≡ Some None → (w : World) → IsWorld m w → Some k ≡ free_slot w

@@ -1,5 +1,6 @@
 -- Harts, as the model has them.
-use Rattle.std.specs.Prelude.{[], map, unwrap_or, if◌then◌else◌}
+use Rattle.std.specs.Prelude.{ℕ, List, [], ◌∷◌, ◌++◌, length, map, min, unwrap_or, if◌then◌else◌}
+use Rattle.hart_tlb.specs.Buffer.{newest_entries}
 use Rattle.hart_tlb.specs.declared.entry.TlbEntry.{TlbEntry}
 use Rattle.process_model.specs.Harts as model
 use Rattle.process_model.specs.PageMap.{empty}
@@ -18,3 +19,11 @@ fenced h = record h { buffer = if model.is_before_fence h.phase then [] else h.b
 
 abbrev pub advanced : Hart → Hart
 advanced h = record (fenced h) { phase = unwrap_or (model.next_phase h.phase) h.phase }
+
+-- a hart keeps an entry; a full buffer loses its first
+abbrev pub with_entry : Hart → TlbEntry → Hart
+with_entry h e = record h { buffer = newest_entries 32 (h.buffer ++ e ∷ []) }
+
+-- the number that the entry gets
+abbrev pub next_number : List TlbEntry → ℕ
+next_number es = min (length es) 31

@@ -1,5 +1,7 @@
 pub mod Accesses
+pub mod Buffers
 pub mod Harts
+pub mod Tables
 pub mod Tenants
 pub mod Users
 pub mod Walked

@@ -6,6 +6,7 @@ ghost use Rattle.frame_store.specs.Plain.{BankRule};
 ghost use Rattle.hart_machine.specs.Accesses.{after_access, pending_after};
 ghost use Rattle.hart_machine.specs.Harts.{hart_of};
 ghost use Rattle.hart_machine.specs.Tenants.{IsTenant, pending_of, view_of};
+ghost use Rattle.hart_machine.specs.Tables.{IsServed};
 ghost use Rattle.hart_machine.specs.Users as users;
 ghost use Rattle.hart_machine.specs.Walked.{walk_answer};
 ghost use Rattle.hart_machine.specs.Worlds.{IsWorld, Makes};
@@ -17,7 +18,6 @@ ghost use Rattle.process_model.specs.Process.{Process};
 ghost use Rattle.process_model.specs.Service.{access_step};
 ghost use Rattle.process_model.specs.World.{with_process, World};
 ghost use Rattle.process_model.specs.declared.config.Policy.TheVariants.{Full};
-ghost use Rattle.process_model.specs.declared.phase.Phase.TheVariants as phases;
 ghost use Rattle.sv39_entry.specs.declared.access.Mode.TheVariants.{User};
 ghost use Rattle.table_walk.specs.Image.{Image};
 ghost use Rattle.table_walk.specs.declared.walk.Walk as walks;
@@ -30,7 +30,7 @@ use crate::walked::walked;
 use frame_store::PlainFrames;
 use hart_tlb::NoEntry;
 use process_model::{Phase, Refusal, Reply, is_width};
-use sv39_entry::Mode;
+use sv39_entry::{Access, Mode, Va};
 use table_walk::Walk;
 
 impl Machine {
@@ -52,7 +52,7 @@ impl Machine {
         let Some(slot) = self.slot_of(hart) else {
             return Reply::Refused(Refusal::Impossible(phase));
         };
-        let Ok(walk) = self.by_entry(hart, asked, via) else {
+        let Ok(walk) = self.by_entry(hart, via, asked.va, asked.access, Mode::User) else {
             return Reply::Refused(Refusal::NoEntry);
         };
         let reply = self.answered(slot, walk, asked);
@@ -63,16 +63,17 @@ impl Machine {
     }
 
     /// What the named entry of a hart's buffer translates an access to, if one is named.
-    fn by_entry(
+    pub(crate) fn by_entry(
         &self,
         hart: usize,
-        asked: Asked,
         via: Option<usize>,
+        va: Va,
+        access: Access,
+        mode: Mode,
     ) -> Result<Option<Walk>, NoEntry>
-        ensures serves { (w : World) (x : Hart) (s : ℕ) → IsWorld self.now w → slice_get self.now.harts.items hart ≡ Some x → x.phase ≡ phases.User → x.slot ≡ Some s →
-            is_ok result ≡ entry_serves Full (hart_of x) asked.va.0 via }
-        ensures walk { IfOk result (λ o. (w : World) (is : IsWorld self.now w) (x : Hart) (s : ℕ) → slice_get self.now.harts.items hart ≡ Some x → x.phase ≡ phases.User → x.slot ≡ Some s →
-            (z : walks.Walk) → o ≡ Some z → z ≡ walk_answer (is.images s) asked.va.0 asked.access User) }
+        ensures serves { (w : World) (x : Hart) → IsWorld self.now w → slice_get self.now.harts.items hart ≡ Some x → is_ok result ≡ entry_serves Full (hart_of x) va.0 via }
+        ensures walk { IfOk result (λ o. (w : World) (is : IsWorld self.now w) (x : Hart) → slice_get self.now.harts.items hart ≡ Some x →
+            (z : walks.Walk) → o ≡ Some z → IsServed x is.images is.kernel va.0 access mode z) }
     {
         let Some(entry) = via else {
             return Ok(None);
@@ -81,10 +82,7 @@ impl Machine {
             return Err(NoEntry);
         };
         // all entries are made under the address-space identifier 0
-        let used = hart
-            .buffer
-            .use_entry(entry, asked.va, 0, asked.access, Mode::User);
-        match used {
+        match hart.buffer.use_entry(entry, va, 0, access, mode) {
             Ok(walk) => Ok(Some(walk)),
             Err(none) => Err(none),
         }

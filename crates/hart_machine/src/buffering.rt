@@ -8,8 +8,20 @@ ghost use Rattle.process_model.specs.declared.step.Step.TheVariants as step;
 
 use crate::machine::Machine;
 use process_model::{Refusal, Reply};
+use sv39_entry::Va;
 
 impl Machine {
+    /// A hart translates the page of an address and keeps the outcome in its buffer.
+    pub(crate) fn fill(&mut self, hart: usize, va: Va) -> Reply
+        requires world { (w : World) × IsWorld self.old w }
+        ensures made { (w : World) → IsWorld self.old w → Makes self.new result (plain_step w (step.Fill hart va.0)) }
+    {
+        let Some(table) = self.table_of(hart) else {
+            return Reply::Refused(Refusal::BadArgument);
+        };
+        Reply::Filled(self.keep(hart, table, va))
+    }
+
     /// An entry leaves the buffer of a hart, of the hart's own accord.
     pub(crate) fn evict(&mut self, hart: usize, entry: usize) -> Reply
         requires world { (w : World) × IsWorld self.old w }

@@ -1,11 +1,17 @@
 // Harts between user and kernel.
 
-ghost use Rattle.std.specs.Prelude.{◌≡◌};
-ghost use Rattle.hart_machine.specs.Harts.{advanced, fenced, hart_of};
+ghost use Rattle.std.specs.Prelude.{◌≡◌, ◌≤◌, length};
+ghost use Rattle.frame_store.specs.Laws.{Fits};
+ghost use Rattle.hart_machine.specs.Harts.{advanced, fenced, hart_of, next_number, with_entry};
+ghost use Rattle.hart_machine.specs.Walked.{entry_for, LeavesAreLocal, LeavesAreThere};
 ghost use Rattle.process_model.specs.Harts as model;
+ghost use Rattle.table_walk.specs.Image.{HasTables, Image};
 
+use crate::filled::filled;
+use frame_store::{FrameAccess, FrameSeat};
 use hart_tlb::Buffer;
 use process_model::Phase;
+use sv39_entry::{FrameNo, Va};
 
 /// A hart: where it is between user and kernel, the slot of its process, and its translation buffer.
 #[derive(Drop)]
@@ -45,6 +51,30 @@ impl Hart {
         if is_before_fence(self.phase) {
             self.buffer.fence(None, None);
         }
+    }
+
+    /// Translates the page of an address by the tables below a root, and keeps the outcome. It tells the number of the new
+    /// entry.
+    pub(crate) fn fill<F: FrameAccess>(
+        &mut self,
+        store: &mut F,
+        seat: &mut F::Seat,
+        root: FrameNo,
+        va: Va,
+    ) -> usize
+        requires fits { Fits F.rule store.old seat.old }
+        requires held { (t : Image) × HasTables (F.Seat.view seat.old) root.0 t }
+        ensures kept { (t : Image) → HasTables (F.Seat.view seat.old) root.0 t → LeavesAreThere t → LeavesAreLocal t → self.new ≡ with_entry self.old (entry_for t 0 va.0) }
+        ensures number { result ≡ next_number self.old.buffer }
+        ensures few { length self.old.buffer ≤ 32 }
+        ensures view { F.Seat.view seat.new ≡ F.Seat.view seat.old }
+        ensures same { store.new ≡ store.old }
+    {
+        // a full buffer loses its first entry
+        let number = self.buffer.len().min(31);
+        // all entries are made under the address-space identifier 0
+        filled(&mut self.buffer, store, seat, root, 0, va);
+        number
     }
 
     /// Takes the process of a slot on the hart, or none.

@@ -8,10 +8,13 @@ mod filled;
 mod hart;
 mod machine;
 mod starting;
+mod stepping;
 mod switching;
+mod tables;
 mod tenant;
 #[cfg(test)]
 mod tests;
+mod trampoline;
 mod user;
 mod walked;
 

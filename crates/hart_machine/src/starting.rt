@@ -6,16 +6,56 @@ ghost use Rattle.address_space.specs.Kernel.{IsKernelTable};
 ghost use Rattle.frame_clients.specs.Opened.{opened, opener};
 ghost use Rattle.frame_store.specs.Plain.{BankRule};
 ghost use Rattle.frame_store.specs.View.{references, View};
-ghost use Rattle.hart_machine.specs.Worlds.{IsWorld};
+ghost use Rattle.hart_machine.specs.Worlds.{IsWorld, Makes};
+ghost use Rattle.process_model.specs.Played.{AreSegments};
+ghost use Rattle.process_model.specs.Steps.{plain_step};
 ghost use Rattle.process_model.specs.World.{free_slot, World};
-ghost use Rattle.table_walk.specs.Image.{Image};
+ghost use Rattle.process_model.specs.declared.step.Step.TheVariants as step;
+ghost use Rattle.table_walk.specs.Image as tables;
 
 use crate::machine::Machine;
+use crate::tenant::Tenant;
+use exec_segments::{Image, start};
 use frame_clients::opened_seat;
 use frame_store::{FrameAccess, PlainSeat};
+use process_laws::start_takes_its_need;
+use process_model::{Refusal, Reply};
 use sv39_entry::FrameNo;
 
 impl Machine {
+    /// A process of an image of segments comes to be in the lowest slot without one.
+    pub(crate) fn start(&mut self, image: process_model::Image<'_>) -> Reply
+        requires world { (w : World) × IsWorld self.old w }
+        requires segments { AreSegments image }
+        ensures made { (w : World) → IsWorld self.old w → Makes self.new result (plain_step w (step.Start image.entry)) }
+    {
+        start_takes_its_need();
+        let Some(slot) = self.free_slot() else {
+            return Reply::Refused(Refusal::NoSlot);
+        };
+        let process_model::Image::Segments(segments) = image else {
+            unreachable!()
+        };
+        let image = match Image::from_segments(segments) {
+            Ok(image) => image,
+            Err(part) => return Reply::Refused(Refusal::BadImage(part)),
+        };
+        let seat = self.open_seat();
+        match start(&mut self.frames, seat, &image) {
+            Ok(space) => {
+                self.slots[slot] = Some(Tenant {
+                    space,
+                    pending: None,
+                });
+                Reply::Started(slot)
+            }
+            Err((_, seat)) => {
+                self.close_seat(seat);
+                Reply::Refused(Refusal::NoFrame)
+            }
+        }
+    }
+
     /// The lowest slot without a process.
     pub(crate) fn free_slot(&self) -> Option<usize>
         ensures { (w : World) → IsWorld self.now w → result ≡ free_slot w }
@@ -34,6 +74,7 @@ impl Machine {
         requires world { (w : World) × IsWorld self.old w }
         ensures opened { result ≡ opened self.old.kernel.seat }
         ensures opener { self.new.kernel ≡ record self.old.kernel { seat = opener self.old.kernel.seat } }
+        ensures size { self.new.size ≡ self.old.size }
         ensures free { self.new.frames.free ≡ self.old.frames.free }
         ensures slots { self.new.slots ≡ self.old.slots }
         ensures harts { self.new.harts ≡ self.old.harts }
@@ -50,8 +91,9 @@ impl Machine {
         requires rule { (others : List View) × BankRule self.old.frames (self.old.kernel.seat ∷ seat ∷ others) }
         requires seat { HoldsTrampoline seat }
         requires code { references self.old.kernel.seat 0 ≡ 1 }
-        ensures kernel { (frames slots : ℕ) (stacks : List ℕ) (t : Image) → IsKernelTable self.old.kernel.seat self.old.kernel.root.0 frames slots stacks t
+        ensures kernel { (frames slots : ℕ) (stacks : List ℕ) (t : tables.Image) → IsKernelTable self.old.kernel.seat self.old.kernel.root.0 frames slots stacks t
             → IsKernelTable self.new.kernel.seat self.new.kernel.root.0 frames slots stacks t }
+        ensures size { self.new.size ≡ self.old.size }
         ensures free { self.new.frames.free ≡ self.old.frames.free }
         ensures slots { self.new.slots ≡ self.old.slots }
         ensures harts { self.new.harts ≡ self.old.harts }

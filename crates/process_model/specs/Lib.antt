@@ -22,3 +22,4 @@ pub mod Words
 pub mod Fields
 pub mod Script
 pub mod Text
+pub mod Played

@@ -1,6 +1,7 @@
 // What a machine is booted with.
 
-ghost use Rattle.std.specs.Prelude.{◌≡◌};
+ghost use Rattle.std.specs.Prelude.{◌≡◌, ◌≤◌};
+ghost use Rattle.process_model.specs.Frames as model;
 
 /// How the kernel keeps old translations out of the buffers.
 #[derive(Clone, Copy, PartialEq, Eq, Debug)]
@@ -30,10 +31,19 @@ impl Config {
     pub fn is_bootable(&self) -> bool
         ensures { result ≡ can_boot self.now.harts self.now.frames self.now.slots }
     {
-        let kernel = if self.frames <= 512 { 6 } else { 7 };
         (1..=8).contains(&self.harts)
             && (16..=1024).contains(&self.frames)
             && (1..=64).contains(&self.slots)
-            && kernel + self.slots <= self.frames
+            && kernel_frames(self.frames, self.slots) <= self.frames
     }
+}
+
+/// How many frames the kernel takes: the trampoline's, its page tables, of which there is one more where the frames fill
+/// more than two megabytes, and a stack for each slot.
+pub fn kernel_frames(frames: usize, slots: usize) -> usize
+    requires few { slots ≤ 64 }
+    ensures { result ≡ model.kernel_frames frames slots }
+{
+    let fixed = if frames <= 512 { 6 } else { 7 };
+    fixed + slots
 }

@@ -16,7 +16,7 @@ mod step;
 mod tests;
 mod text;
 
-pub use config::{Config, Policy};
+pub use config::{Config, Policy, kernel_frames};
 pub use file::FileText;
 pub use hexes::Hexes;
 pub use image::{BadImage, Image, OwnedImage, Segment};

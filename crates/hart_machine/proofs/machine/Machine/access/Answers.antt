@@ -1,5 +1,7 @@
 use Rattle.std.proofs.Common.{◌∙◌, ap, sym}
 use Rattle.std.specs.Prelude.{is_ok}
+use Rattle.sv39_entry.specs.declared.access.Mode.TheVariants.{User}
+use Rattle.hart_machine.proofs.AccessingEntries.{user_served}
 use Rattle.hart_machine.proofs.AccessSteps.{answers_access, faults_access, in_user, no_entry, no_user, no_width, nowhere}
 use Rattle.hart_machine.proofs.HartSteps.{has_hart, no_hart, process_at}
 use Rattle.hart_machine.proofs.Trapping.{slot_there, user_has_slot, user_tenant}
@@ -39,7 +41,7 @@ returns-in_default-by_entry c = let a = c.args.asked in record {
       let user = sym c.is_user.ensures ∙ c.if-not-is_user.false in
       let on = slot_there m w is c.args.hart c.in-Some.phase has _ (sym c.in-Some-slot_of.is ∙ c.slot_of.ensures) in
       no_entry m w is c.args.hart a.access a.va.0 a.width a.value c.args.via c.in-Some.phase has well user
-      (sym (c.by_entry.ensures.serves w has.hart c.in-Some-slot_of.slot is has.there (in_user m w is c.args.hart a.access a.va.0 a.width a.value c.args.via c.in-Some.phase has well user) on) ∙ ap is_ok c.in_default-by_entry.is);
+      (sym (c.by_entry.ensures.serves w has.hart is has.there) ∙ ap is_ok c.in_default-by_entry.is);
 }
 
 pub answered-reply-requires-clause-ready : goal.answered-reply-requires-clause-ready
@@ -52,7 +54,7 @@ answered-reply-requires-clause-ready c =
     let user = sym c.is_user.ensures ∙ c.if-not-is_user.false in
     let on = slot_there m r.0 r.1 c.args.hart c.in-Some.phase has _ (sym c.in-Some-slot_of.is ∙ c.slot_of.ensures) in
     let t = user_tenant m r.0 r.1 c.args.hart c.in-Some.phase has c.in-Some-slot_of.slot on in
-    (r.0, r.1, t.0, t.1, c.in-Ok.ensures.walk r.0 r.1 has.hart c.in-Some-slot_of.slot has.there (in_user m r.0 r.1 c.args.hart a.access a.va.0 a.width a.value c.args.via c.in-Some.phase has well user) on)
+    (r.0, r.1, t.0, t.1, λ z given. user_served (r.1).images (r.1).kernel has.hart c.in-Some-slot_of.slot a.va.0 a.access User z (in_user m r.0 r.1 c.args.hart a.access a.va.0 a.width a.value c.args.via c.in-Some.phase has well user) on (c.in-Ok.ensures.walk r.0 r.1 has.hart has.there z given))
 
 pub index_mut-requires : goal.index_mut-requires
 index_mut-requires c =
@@ -73,8 +75,8 @@ returns-in-Fault c = let a = c.args.asked in record {
       let t = user_tenant m w is c.args.hart c.in-Some.phase has s on in
       let q = process_at m w is s t.0 t.1 in
       faults_access m w is c.args.hart a.access a.va.0 a.width a.value c.args.via c.in-Some.phase has well user s on
-      (sym (c.by_entry.ensures.serves w has.hart s is has.there runs on) ∙ ap is_ok c.in-Ok.is) q.0 q.1 c.answered-reply.new.self c.answered-reply.ensures.harts c.answered-reply.result
-      (c.answered-reply.ensures.made w is q.0 q.1 (c.in-Ok.ensures.walk w is has.hart s has.there runs on)) c.in-Fault.field-0 c.in-Fault.is c.index_mut.result.now c.index_mut.ensures.value;
+      (sym (c.by_entry.ensures.serves w has.hart is has.there) ∙ ap is_ok c.in-Ok.is) q.0 q.1 c.answered-reply.new.self c.answered-reply.ensures.harts c.answered-reply.result
+      (c.answered-reply.ensures.made w is q.0 q.1 (λ z given. user_served is.images is.kernel has.hart s a.va.0 a.access User z runs on (c.in-Ok.ensures.walk w is has.hart has.there z given))) c.in-Fault.field-0 c.in-Fault.is c.index_mut.result.now c.index_mut.ensures.value;
 }
 
 pub returns-in_default-reply : goal.returns-in_default-reply
@@ -90,6 +92,6 @@ returns-in_default-reply c = let a = c.args.asked in record {
       let t = user_tenant m w is c.args.hart c.in-Some.phase has s on in
       let q = process_at m w is s t.0 t.1 in
       answers_access m w is c.args.hart a.access a.va.0 a.width a.value c.args.via c.in-Some.phase has well user s on
-      (sym (c.by_entry.ensures.serves w has.hart s is has.there runs on) ∙ ap is_ok c.in-Ok.is) q.0 q.1 c.answered-reply.new.self c.answered-reply.ensures.harts c.answered-reply.result
-      (c.answered-reply.ensures.made w is q.0 q.1 (c.in-Ok.ensures.walk w is has.hart s has.there runs on)) c.in_default-reply.not-Fault;
+      (sym (c.by_entry.ensures.serves w has.hart is has.there) ∙ ap is_ok c.in-Ok.is) q.0 q.1 c.answered-reply.new.self c.answered-reply.ensures.harts c.answered-reply.result
+      (c.answered-reply.ensures.made w is q.0 q.1 (λ z given. user_served is.images is.kernel has.hart s a.va.0 a.access User z runs on (c.in-Ok.ensures.walk w is has.hart has.there z given))) c.in_default-reply.not-Fault;
 }

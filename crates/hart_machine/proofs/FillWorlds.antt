@@ -1,0 +1,107 @@
+-- A world in which a hart's buffer has another entry.
+use Rattle.std.proofs.Common.{◌≡◌, ℕ, ◌-◌, ◌≤◌, ◌<◌, length, get_or, true, Option, None, Some, option_map, List, ◌∷◌, refl, ap, sym, subst, ◌∙◌, inl, inr}
+use Rattle.std.specs.Prelude.{Contains, slice_get, slice_set}
+use Rattle.std.specs.Vec.{with_item}
+use Rattle.std.proofs.lemmas.Option.{slice_get-map, slice_get_within}
+use Rattle.frame_store.specs.Seats.{place_set_back}
+use Rattle.frame_store.specs.Plain.{BankRule}
+use Rattle.hart_tlb.specs.declared.entry.TlbEntry.{TlbEntry}
+use Rattle.process_model.specs.Harts as model
+use Rattle.process_model.specs.Harts.{Key, present_asid, with_key}
+use Rattle.process_model.specs.Steps.{filled, plain_step}
+use Rattle.process_model.specs.World.{World, always, answers, with_hart}
+use Rattle.process_model.specs.declared.config.Policy.{Policy}
+use Rattle.process_model.specs.declared.step.Refusal.TheVariants.{BadArgument}
+use Rattle.process_model.specs.declared.step.Reply.TheVariants.{Filled, Refused}
+use Rattle.process_model.specs.declared.step.Step.TheVariants as step
+use Rattle.sv39_entry.specs.Address.{page_of}
+use Rattle.table_walk.specs.Image.{Image}
+use Rattle.hart_machine.specs.Harts.{hart_of, next_number, with_entry}
+use Rattle.hart_machine.specs.Tables.{image_of, IsThere, present_table}
+use Rattle.hart_machine.specs.Walked.{entry_for, IsEntryOf}
+use Rattle.hart_machine.specs.Worlds.{IsPlace, IsServing, IsWorld, Makes, seats_of}
+use Rattle.hart_machine.specs.declared.hart.Hart.{Hart}
+use Rattle.hart_machine.specs.declared.machine.Machine.{Machine}
+use Rattle.hart_machine.specs.declared.tables.Table.{Table}
+use Rattle.hart_machine.specs.declared.tenant.Tenant.{Tenant}
+use Rattle.hart_machine.proofs.AccessingEntries.{leaf_on_page, same_hart}
+use Rattle.hart_machine.proofs.Fills.{in_newest, kept_is, number_is}
+use Rattle.hart_machine.proofs.HartSteps.{hart_changes, HasHart, makes, no_hart, refused, runs, without_hart}
+use Rattle.hart_machine.proofs.PresentTables.{present_serves, present_there}
+
+-- an entry that is made by a table tells what the table says
+pub entry_is : (t : Image) (a : ℕ) → IsEntryOf t 0 (entry_for t 0 a)
+entry_is t a = record { of_space = refl; local = refl; leaf = sym (leaf_on_page t a) }
+
+-- a process that is put back changes nothing
+abbrev pub put_back : (m : Machine) (w : World) (is : IsWorld m w) (s : ℕ) (x : Tenant) → slice_get m.slots.items s ≡ Some (Some x) → IsWorld (record m { slots = with_item m.slots s (Some x) }) w
+put_back m w is s x at =
+    let same : slice_set m.slots.items s (Some x) ≡ m.slots.items = place_set_back m.slots.items s (Some x) at in record {
+      images = is.images;
+      kernel = is.kernel;
+      stacks = is.stacks;
+      policy = is.policy;
+      frames = is.frames;
+      rule = subst (λ (ps : List (Option Tenant)). BankRule m.frames (m.kernel.seat ∷ seats_of ps)) (sym same) is.rule;
+      of_kernel = is.of_kernel;
+      places = λ r. subst (λ (ps : List (Option Tenant)). IsPlace (slice_get ps r) (slice_get w.slots r) (is.images r)) (sym same) (is.places r);
+      copies = is.copies;
+      counted = is.counted;
+      free = is.free;
+      harts = is.harts;
+      hosted = λ h r y there on. let old = is.hosted h r y there on in (old.0, ap (λ (ps : List (Option Tenant)). slice_get ps r) same ∙ old.1);
+      idle = is.idle;
+      buffers = is.buffers;
+    }
+
+-- the table that a hart's satp has is there
+pub table_there : (m : Machine) (w : World) → IsWorld m w → (h : ℕ) (x : Hart) → slice_get m.harts.items h ≡ Some x → (t : Table) → t ≡ present_table x → IsThere m t
+table_there m w is h x at t present = subst (IsThere m) (sym present) (present_there m x (λ none. is.idle h x at none) (λ s on. is.hosted h s x at on))
+
+-- the hart with a number
+abbrev has_at : (m : Machine) (w : World) → IsWorld m w → (h : ℕ) (x : Hart) → slice_get m.harts.items h ≡ Some x → HasHart m w h x.phase
+has_at m w is h x at = record {
+  hart = x;
+  there = at;
+  phased = refl;
+  in_model = ap (λ (hs : List model.Hart). slice_get hs h) (sym is.harts) ∙ slice_get-map hart_of m.harts.items h ∙ ap (option_map hart_of) at;
+  within = subst (λ (n : ℕ). h < n) (sym m.harts.ok.0) (slice_get_within m.harts.items h x at);
+}
+
+module _ (m : Machine) (w : World) (is : IsWorld m w) (h a : ℕ) where
+  pub fills_nowhere : None ≡ option_map present_table (slice_get m.harts.items h) → Makes m (Refused BadArgument) (plain_step w (step.Fill h a))
+  fills_nowhere none = refused m w is BadArgument _ (without_hart w h true _ _ _ (no_hart m w is h (go (slice_get m.harts.items h) none))) where
+    go : (o : Option Hart) → None ≡ option_map present_table o → None ≡ option_map (λ x. x.phase) o
+    go None none = refl
+    go (Some x) none = absurd (cc)
+
+  module _ (x : Hart) (at : slice_get m.harts.items h ≡ Some x) (few : length x.buffer ≤ 32) where
+    abbrev entry : TlbEntry
+    entry = entry_for (image_of is.images is.kernel (present_table x)) 0 a
+
+    abbrev key : Key
+    key = record { page = page_of a; asid = 0 }
+
+    step_is : plain_step w (step.Fill h a) ≡ answers (with_hart w h (record (hart_of x) { keys = with_key (hart_of x).keys key })) (Filled (length (with_key (hart_of x).keys key) - 1))
+    step_is = runs w h true always always (filled w h a) (hart_of x) (has_at m w is h x at).in_model refl refl refl
+        ∙ ap (λ (q : Policy). let ks = with_key (hart_of x).keys (record { page = page_of a; asid = present_asid q (hart_of x) }) in answers (with_hart w h (record (hart_of x) { keys = ks })) (Filled (length ks - 1))) is.policy
+
+    fills_at : (y : Hart) → y ≡ with_entry x entry → (n : ℕ) → n ≡ next_number x.buffer → Makes (record m { harts = with_item m.harts h y }) (Filled n) (plain_step w (step.Fill h a))
+    fills_at y made n number =
+        subst (λ (z : Hart). Makes (record m { harts = with_item m.harts h z }) (Filled n) (plain_step w (step.Fill h a))) (sym made)
+        (makes _ (Filled n) _ _ (hart_changes m w is h x (with_entry x entry) at (λ s on. is.hosted h s x at on) (λ none. is.idle h x at none) serves)
+        (step_is ∙ rw (number ∙ number_is x.buffer few key, kept_is x entry few) refl)) where
+          serves : (e : TlbEntry) → Contains (with_entry x entry).buffer e → IsServing (with_entry x entry) is.images is.kernel e
+          serves e there = elim (in_newest x.buffer entry e there) [
+            | inl old ↦ is.buffers h x e at old
+            | inr new ↦ rw new (present_serves is.images is.kernel x (λ none. is.idle h x at none) entry (entry_is _ a))
+          ]
+
+  -- the hart that is read keeps an entry of the table that its satp has
+  pub fills : (x : Hart) → slice_get m.harts.items h ≡ Some x → (t : Table) → t ≡ present_table x → (z : Hart) → z ≡ get_or m.harts.items h z → length z.buffer ≤ 32
+      → (y : Hart) → y ≡ with_entry z (entry_for (image_of is.images is.kernel t) 0 a) → (n : ℕ) → n ≡ next_number z.buffer → Makes (record m { harts = with_item m.harts h y }) (Filled n) (plain_step w (step.Fill h a))
+  fills x at t present z read few y made n number =
+      let same : z ≡ x = same_hart m.harts.items h x z read at in
+      fills_at x at (subst (λ (u : Hart). length u.buffer ≤ 32) same few) y
+      (made ∙ ap (λ (u : Hart). with_entry u (entry_for (image_of is.images is.kernel t) 0 a)) same ∙ ap (λ (u : Table). with_entry x (entry_for (image_of is.images is.kernel u) 0 a)) present) n
+      (number ∙ ap (λ (u : Hart). next_number u.buffer) same)

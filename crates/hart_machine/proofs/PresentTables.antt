@@ -1,0 +1,78 @@
+-- The table that a hart's satp has: it is one of which the hart's buffer may have entries.
+use Rattle.std.proofs.Common.{◌≡◌, ◌⊎◌, ℕ, ◌<◌, get_or, Option, None, Some, List, true, refl, ap, sym, subst, ◌∙◌, inl, inr}
+use Rattle.std.specs.Prelude.{slice_get}
+use Rattle.std.specs.Vec.{vec_len}
+use Rattle.std.proofs.lemmas.Option.{get_or_from_slice_get, slice_get_within}
+use Rattle.hart_tlb.specs.declared.entry.TlbEntry.{TlbEntry}
+use Rattle.process_model.specs.declared.phase.Phase.{Phase}
+use Rattle.process_model.specs.declared.phase.Phase.TheVariants as phase
+use Rattle.sv39_entry.specs.declared.access.Access.{Access}
+use Rattle.sv39_entry.specs.declared.access.Mode.{Mode}
+use Rattle.table_walk.specs.Image.{Image}
+use Rattle.table_walk.specs.declared.walk.Walk.{Walk}
+use Rattle.hart_machine.specs.Tables.{image_of, IsServed, IsThere, present_table}
+use Rattle.hart_machine.specs.Walked.{IsEntryOf, walk_answer}
+use Rattle.hart_machine.specs.Worlds.{IsServing, may_have_kernel, may_have_own}
+use Rattle.hart_machine.specs.declared.hart.Hart.{Hart}
+use Rattle.hart_machine.specs.declared.machine.Machine.{Machine}
+use Rattle.hart_machine.specs.declared.tables.Table.{Table}
+use Rattle.hart_machine.specs.declared.tables.Table.TheVariants.{OfKernel, OfProcess}
+use Rattle.hart_machine.specs.declared.tenant.Tenant.{Tenant}
+use Rattle.hart_machine.proofs.AccessingWorlds.{slot_has}
+
+-- it is the kernel's, in a phase in which the buffer may have the kernel's entries, or the process's in one in which it may have these
+abbrev IsPresent : Hart → Table → Type 0
+IsPresent x t = ((may_have_kernel x.phase ≡ true) × (t ≡ OfKernel)) ⊎ ((s : ℕ) × (may_have_own x.phase ≡ true) × (x.slot ≡ Some s) × (t ≡ OfProcess s))
+
+pub present_is : (x : Hart) → (x.slot ≡ None → x.phase ≡ phase.Idle) → IsPresent x (present_table x)
+present_is x = go x.phase x.slot x.buffer where
+  go : (p : Phase) (slot : Option ℕ) (es : List TlbEntry) → (slot ≡ None → p ≡ phase.Idle) → IsPresent (record { phase = p; slot = slot; buffer = es }) (present_table (record { phase = p; slot = slot; buffer = es }))
+  go phase.Idle slot es idle = inl (refl, refl)
+  go phase.Enter2 slot es idle = inl (refl, refl)
+  go phase.Kernel slot es idle = inl (refl, refl)
+  go phase.Leave1 slot es idle = inl (refl, refl)
+  go phase.User None es idle = absurd (let never : phase.User ≡ phase.Idle = idle refl in cc)
+  go phase.Enter0 None es idle = absurd (let never : phase.Enter0 ≡ phase.Idle = idle refl in cc)
+  go phase.Enter1 None es idle = absurd (let never : phase.Enter1 ≡ phase.Idle = idle refl in cc)
+  go phase.Leave2 None es idle = absurd (let never : phase.Leave2 ≡ phase.Idle = idle refl in cc)
+  go phase.User (Some s) es idle = inr (s, refl, refl, refl)
+  go phase.Enter0 (Some s) es idle = inr (s, refl, refl, refl)
+  go phase.Enter1 (Some s) es idle = inr (s, refl, refl, refl)
+  go phase.Leave2 (Some s) es idle = inr (s, refl, refl, refl)
+
+module _ (images : ℕ → Image) (kernel : Image) (x : Hart) (idle : x.slot ≡ None → x.phase ≡ phase.Idle) where
+  -- an entry that is made by it serves
+  pub present_serves : (e : TlbEntry) → IsEntryOf (image_of images kernel (present_table x)) 0 e → IsServing x images kernel e
+  present_serves e entry = elim (present_is x idle) [
+    | inl of_kernel ↦ inl (of_kernel.0, subst (λ (t : Table). IsEntryOf (image_of images kernel t) 0 e) of_kernel.1 entry)
+    | inr own ↦ inr (own.0, own.1, own.2, subst (λ (t : Table). IsEntryOf (image_of images kernel t) 0 e) own.3 entry)
+  ]
+
+  -- and so does a walk by it
+  pub present_served : (a : ℕ) (access : Access) (mode : Mode) (z : Walk) → z ≡ walk_answer (image_of images kernel (present_table x)) a access mode → IsServed x images kernel a access mode z
+  present_served a access mode z walked = elim (present_is x idle) [
+    | inl of_kernel ↦ inl (of_kernel.0, walked ∙ ap (λ (t : Table). walk_answer (image_of images kernel t) a access mode) of_kernel.1)
+    | inr own ↦ inr (own.0, own.1, own.2, walked ∙ ap (λ (t : Table). walk_answer (image_of images kernel t) a access mode) own.3)
+  ]
+
+-- and it is there
+pub present_there : (m : Machine) (x : Hart) → (x.slot ≡ None → x.phase ≡ phase.Idle) → ((s : ℕ) → x.slot ≡ Some s → (y : Tenant) × (slice_get m.slots.items s ≡ Some (Some y))) → IsThere m (present_table x)
+present_there m x idle hosted = elim (present_is x idle) [
+  | inl of_kernel ↦ subst (IsThere m) (sym of_kernel.1) tt
+  | inr own ↦ subst (IsThere m) (sym own.3) (hosted own.0 own.2)
+]
+
+-- the process of a slot whose table is there
+module _ (m : Machine) (t : Table) (s : ℕ) (of_process : t ≡ OfProcess s) (there : IsThere m t) where
+  tenant : (x : Tenant) × (slice_get m.slots.items s ≡ Some (Some x))
+  tenant = subst (IsThere m) of_process there
+
+  pub slot_within : s < vec_len m.slots
+  slot_within = subst (λ (n : ℕ). s < n) (sym m.slots.ok.0) (slice_get_within m.slots.items s (Some tenant.0) tenant.1)
+
+  module _ (o : Option Tenant) (read : o ≡ get_or m.slots.items s o) where
+    pub not_empty : o ≡ None → ⊥
+    not_empty none = let both = sym none ∙ read ∙ get_or_from_slice_get m.slots.items s (Some tenant.0) o tenant.1 in cc
+
+    pub tenant_is : (y : Tenant) → o ≡ Some y → slice_get m.slots.items s ≡ Some (Some y)
+    tenant_is y is = slot_has m.slots.items s tenant.0 y o is read tenant.1

@@ -1,0 +1,151 @@
+-- The world in which a process starts, and the one that refuses it.
+use Rattle.std.proofs.Common.{◌≡◌, ℕ, ◌+◌, ◌-◌, ◌≤◌, true, false, sym, subst, ◌∙◌, refl, arith, inl, inr, List, ◌∷◌, Option, None, Some, length}
+use Rattle.std.specs.Prelude.{Ok, slice_get, slice_set}
+use Rattle.std.proofs.Math.Nat.{lt_of_not-le}
+use Rattle.std.proofs.lemmas.Bool.{cases_eq, le-ltb, lt-ltb}
+use Rattle.std.proofs.lemmas.List.{length-set}
+use Rattle.std.proofs.lemmas.Option.{slice_get_within}
+use Rattle.address_space.specs.Agreement.{Agrees}
+use Rattle.address_space.specs.Kernel.{IsKernelTable}
+use Rattle.address_space.specs.Parts.{OwnsAlone}
+use Rattle.frame_store.specs.Plain.{BankRule}
+use Rattle.frame_store.specs.Seats.{place_set_other, place_set_same, places_apart}
+use Rattle.hart_tlb.specs.declared.entry.TlbEntry.{TlbEntry}
+use Rattle.process_laws.specs.Numbered.{HasNewCopies}
+use Rattle.process_model.specs.Calls.{started, started_unless, with_image}
+use Rattle.process_model.specs.Frames.{start_need}
+use Rattle.process_model.specs.Images.{image_loads, LoadSegment}
+use Rattle.process_model.specs.Loading.{process_of}
+use Rattle.process_model.specs.Service.{is_dry}
+use Rattle.process_model.specs.World.{free, free_slot, Outcome, World}
+use Rattle.process_model.specs.declared.image.Image as model
+use Rattle.process_model.specs.declared.step.Refusal.TheVariants.{NoFrame}
+use Rattle.process_model.specs.declared.step.Reply.TheVariants.{Refused, Started}
+use Rattle.sv39_entry.specs.Address.{trapframe_page}
+use Rattle.table_walk.specs.Image.{Image, leaf_node}
+use Rattle.hart_machine.specs.Tenants.{IsTenant, view_of}
+use Rattle.hart_machine.specs.Walked.{IsEntryOf}
+use Rattle.hart_machine.specs.Worlds.{IsPlace, IsServing, IsWorld, Makes, seats_of}
+use Rattle.hart_machine.specs.declared.hart.Hart.{Hart}
+use Rattle.hart_machine.specs.declared.machine.Machine.{Machine}
+use Rattle.hart_machine.specs.declared.tenant.Tenant.{Tenant}
+use Rattle.hart_machine.proofs.StartSlots.{free_is_empty, free_place}
+use Rattle.hart_machine.proofs.StartedCopies.{new_copies, started_copies, started_counted}
+use Rattle.hart_machine.proofs.StartedImages.{image_here, image_there, images_with}
+use Rattle.hart_machine.proofs.StartedSeats.{held_inside, seat_comes}
+
+module _ (m n : Machine) (w : World) (is : IsWorld m w) (s : ℕ) (place : slice_get m.slots.items s ≡ Some None) (at : slice_get w.slots s ≡ Some None)
+    (ls : List LoadSegment) (y : Tenant) (t : Image) (sized : n.size ≡ m.size) (slots : n.slots.items ≡ slice_set m.slots.items s (Some y)) (harts : n.harts ≡ m.harts)
+    (agrees : Agrees (view_of y) y.space.root.0 y.space.trapframe.0 y.space.layout t (process_of w.counter ls)) (alone : OwnsAlone (view_of y) t) (pending : y.pending ≡ None)
+    (rule : BankRule n.frames (n.kernel.seat ∷ view_of y ∷ seats_of m.slots.items))
+    (table : IsKernelTable n.kernel.seat n.kernel.root.0 w.frames (length w.slots) is.stacks is.kernel) (left : n.frames.free ≡ free (with_image w s ls)) where
+  abbrev images : ℕ → Image
+  images = images_with is.images s t
+
+  tenant : IsTenant y t (process_of w.counter ls)
+  unfolding process_of
+  tenant = record {
+    agrees = agrees;
+    framed =
+        let leaf = agrees.stands.shows.on_trapframe in
+        held_inside n.frames n.kernel.seat (view_of y) m.slots.items rule y.space.trapframe.0 (agrees.stands.owns.named y.space.trapframe.0 (leaf_node trapframe_page) (inr (leaf.0, leaf.1, leaf.2.names)));
+    pending = rw pending refl;
+  }
+
+  places_at : (k : ℕ) → IsPlace (slice_get (slice_set m.slots.items s (Some y)) k) (slice_get (slice_set w.slots s (Some (process_of w.counter ls))) k) (images k)
+  places_at k = elim (cases_eq k s) [
+    | inl same ↦ rw (image_here is.images s t k same, same, place_set_same m.slots.items s (Some y) (slice_get_within m.slots.items s None place), place_set_same w.slots s (Some (process_of w.counter ls)) (slice_get_within w.slots s None at)) tenant
+    | inr apart ↦ rw (image_there is.images s t k apart, place_set_other m.slots.items s k (Some y) apart, place_set_other w.slots s k (Some (process_of w.counter ls)) apart) (is.places k)
+  ]
+
+  on_old : (h : ℕ) (x : Hart) → slice_get n.harts.items h ≡ Some x → slice_get m.harts.items h ≡ Some x
+  on_old h x on = rw (← harts) on
+
+  -- no hart has the slot
+  apart_of : (h k : ℕ) (x : Hart) → slice_get m.harts.items h ≡ Some x → x.slot ≡ Some k → k ≡ s → ⊥
+  apart_of h k x on slot same = let z = is.hosted h k x on slot in places_apart m.slots.items k s z.0 z.1 place (sym same)
+
+  hosted_at : (h k : ℕ) (x : Hart) → slice_get m.harts.items h ≡ Some x → x.slot ≡ Some k → (z : Tenant) × (slice_get (slice_set m.slots.items s (Some y)) k ≡ Some (Some z))
+  hosted_at h k x on slot = let z = is.hosted h k x on slot in (z.0, place_set_other m.slots.items s k (Some y) (apart_of h k x on slot) ∙ z.1)
+
+  serving : (h : ℕ) (x : Hart) (e : TlbEntry) → slice_get m.harts.items h ≡ Some x → IsServing x is.images is.kernel e → IsServing x images is.kernel e
+  serving h x e on old = elim old [
+    | inl of_kernel ↦ inl of_kernel
+    | inr own ↦ inr (own.0, own.1, own.2, subst (λ (u : Image). IsEntryOf u 0 e) (sym (image_there is.images s t own.0 (apart_of h own.0 x on own.2))) own.3)
+  ]
+
+  pub starts : IsWorld n (with_image w s ls)
+  starts = record {
+    images = images;
+    kernel = is.kernel;
+    stacks = is.stacks;
+    policy = is.policy;
+    frames = sized ∙ is.frames;
+    rule = subst (λ (xs : List (Option Tenant)). BankRule n.frames (n.kernel.seat ∷ seats_of xs)) (sym slots) (seat_comes n.frames n.kernel.seat m.slots.items s y place rule);
+    of_kernel = subst (λ k. IsKernelTable n.kernel.seat n.kernel.root.0 w.frames k is.stacks is.kernel) (sym (length-set w.slots s (Some (process_of w.counter ls)))) table;
+    places = λ k. subst (λ (xs : List (Option Tenant)). IsPlace (slice_get xs k) (slice_get (slice_set w.slots s (Some (process_of w.counter ls))) k) (images k)) (sym slots) (places_at k);
+    copies = started_copies m w is s at ls n.frames n.kernel.seat (view_of y) rule y.space.root.0 y.space.trapframe.0 t agrees.stands alone;
+    counted = started_counted m w is s at ls;
+    free = left;
+    harts = rw harts is.harts;
+    hosted = λ h k x on slot. subst (λ (xs : List (Option Tenant)). (z : Tenant) × (slice_get xs k ≡ Some (Some z))) (sym slots) (hosted_at h k x (on_old h x on) slot);
+    idle = λ h x on none. is.idle h x (on_old h x on) none;
+    buffers = λ h x e on in_it. serving h x e (on_old h x on) (is.buffers h x e (on_old h x on) in_it);
+  }
+
+-- the machine as it was, with another seat of the kernel
+module _ (m n : Machine) (w : World) (is : IsWorld m w) (sized : n.size ≡ m.size) (slots : n.slots ≡ m.slots) (harts : n.harts ≡ m.harts) (rule : BankRule n.frames (n.kernel.seat ∷ seats_of m.slots.items))
+    (table : IsKernelTable n.kernel.seat n.kernel.root.0 w.frames (length w.slots) is.stacks is.kernel) (left : n.frames.free ≡ m.frames.free) where
+  pub stays : IsWorld n w
+  stays = record {
+    images = is.images;
+    kernel = is.kernel;
+    stacks = is.stacks;
+    policy = is.policy;
+    frames = sized ∙ is.frames;
+    rule = rw slots rule;
+    of_kernel = table;
+    places = rw slots is.places;
+    copies = is.copies;
+    counted = is.counted;
+    free = left ∙ is.free;
+    harts = rw harts is.harts;
+    hosted = rw (harts, slots) is.hosted;
+    idle = rw harts is.idle;
+    buffers = rw harts is.buffers;
+  }
+
+-- a start takes its need from the free frames
+abbrev pub TakesItsNeed : Type 0
+TakesItsNeed = (w : World) (s : ℕ) (image : model.Image) (ls : List LoadSegment) → HasNewCopies w → free_slot w ≡ Some s → image_loads image ≡ Ok ls → is_dry w (start_need ls) ≡ false
+    → free (with_image w s ls) + start_need ls ≡ free w
+
+-- what the step of the model makes
+module _ (w : World) (s : ℕ) (image : model.Image) (ls : List LoadSegment) (to : free_slot w ≡ Some s) (loaded : image_loads image ≡ Ok ls) where
+  started_wet : is_dry w (start_need ls) ≡ false → started w (image_loads image) (free_slot w) ≡ started_unless w s ls false
+  started_wet wet = rw (to, loaded, wet) refl
+
+  started_dry : is_dry w (start_need ls) ≡ true → started w (image_loads image) (free_slot w) ≡ started_unless w s ls true
+  started_dry dry = rw (to, loaded, dry) refl
+
+  module _ (m n : Machine) (is : IsWorld m w) (sized : n.size ≡ m.size) (harts : n.harts ≡ m.harts)
+      (table : IsKernelTable n.kernel.seat n.kernel.root.0 w.frames (length w.slots) is.stacks is.kernel) where
+    -- enough frames are free
+    pub makes_started : TakesItsNeed → (y : Tenant) (t : Image) → n.slots.items ≡ slice_set m.slots.items s (Some y)
+        → Agrees (view_of y) y.space.root.0 y.space.trapframe.0 y.space.layout t (process_of w.counter ls) → OwnsAlone (view_of y) t → y.pending ≡ None
+        → BankRule n.frames (n.kernel.seat ∷ view_of y ∷ seats_of m.slots.items) → start_need ls ≤ m.frames.free → n.frames.free ≡ m.frames.free - start_need ls
+        → Makes n (Started s) (started w (image_loads image) (free_slot w))
+    makes_started takes y t slots agrees alone pending rule enough left =
+        let was = is.free in
+        let wet : is_dry w (start_need ls) ≡ false = le-ltb (free w) (start_need ls) (omega (arith, enough, was)) in
+        let taken = takes w s image ls (new_copies m w is) to loaded wet in
+        subst (λ (o : Outcome). Makes n (Started s) o) (sym (started_wet wet))
+        (refl, starts m n w is s (free_place m w is s to) (free_is_empty w s to) ls y t sized slots harts agrees alone pending rule table (omega (arith, was, taken, left)))
+
+    -- too few are
+    pub makes_refused : n.slots ≡ m.slots → BankRule n.frames (n.kernel.seat ∷ seats_of m.slots.items) → (start_need ls ≤ m.frames.free → ⊥) → n.frames.free ≡ m.frames.free
+        → Makes n (Refused NoFrame) (started w (image_loads image) (free_slot w))
+    makes_refused slots rule few left =
+        let was = is.free in
+        let dry : is_dry w (start_need ls) ≡ true = lt-ltb (free w) (start_need ls) (lt_of_not-le (λ le. few (omega (arith, was, le)))) in
+        subst (λ (o : Outcome). Makes n (Refused NoFrame) o) (sym (started_dry dry)) (refl, stays m n w is sized slots harts rule table left)

@@ -1,0 +1,137 @@
+-- The trampoline page: the kernel's code is fetched from frame 0, by each table.
+use Rattle.std.proofs.Common.{◌≡◌, ℕ, ◌+◌, ◌*◌, ◌/◌, ◌%◌, ◌^◌, ◌<◌, ◌≤◌, ◌==◌, ◌&&◌, nat_lt, Bool, true, false, Option, None, Some, List, refl, ap, sym, ◌∙◌, inl, inr, arith}
+use Rattle.std.specs.Prelude.{slice_get}
+use Rattle.std.specs.FinMap.{get}
+use Rattle.std.proofs.lemmas.Bool.{eq-eqb, ne_eqb}
+use Rattle.std.proofs.lemmas.Option.{same_Some}
+use Rattle.frame_store.specs.View.{View}
+use Rattle.process_model.specs.Harts as model
+use Rattle.process_model.specs.Harts.{entry_serves}
+use Rattle.process_model.specs.Process.{Process}
+use Rattle.process_model.specs.Steps.{plain_step}
+use Rattle.process_model.specs.World.{World, answers, refuses}
+use Rattle.process_model.specs.declared.config.Policy.TheVariants.{Full}
+use Rattle.process_model.specs.declared.phase.Phase.{Phase}
+use Rattle.process_model.specs.declared.step.Refusal.{Refusal}
+use Rattle.process_model.specs.declared.step.Refusal.TheVariants.{BadArgument, Impossible, NoEntry}
+use Rattle.process_model.specs.declared.step.Reply.TheVariants.{InFrame, Refused}
+use Rattle.process_model.specs.declared.step.Step.TheVariants as step
+use Rattle.sv39_entry.specs.Address.{is_canonical, page_of, trampoline_page}
+use Rattle.sv39_entry.specs.Frame.{frame_at, ppn_of}
+use Rattle.sv39_entry.specs.Word.{leaf_word, permits, ppn}
+use Rattle.sv39_entry.specs.declared.access.Access.TheVariants.{Fetch}
+use Rattle.sv39_entry.specs.declared.access.Mode.TheVariants.{Supervisor}
+use Rattle.sv39_entry.specs.declared.frame.FrameNo.{FrameNo}
+use Rattle.table_walk.specs.Image.{Image, leaf_node}
+use Rattle.table_walk.specs.Memory.{physical_address}
+use Rattle.table_walk.specs.declared.walk.Walk.{Walk}
+use Rattle.table_walk.specs.declared.walk.Walk.TheVariants as walk
+use Rattle.address_space.specs.Agreement.{code_rights, Shows}
+use Rattle.address_space.specs.Kernel.{IsKernelTable}
+use Rattle.hart_machine.specs.Harts.{hart_of}
+use Rattle.hart_machine.specs.Tables.{IsServed}
+use Rattle.hart_machine.specs.Walked.{walk_answer}
+use Rattle.hart_machine.specs.Worlds.{IsWorld, Makes}
+use Rattle.hart_machine.specs.declared.hart.Hart.{Hart}
+use Rattle.hart_machine.specs.declared.machine.Machine.{Machine}
+use Rattle.hart_machine.proofs.HartSteps.{HasHart, impossible, improper, makes, process_at, refused, runs, without_entry, without_hart}
+use Rattle.hart_machine.proofs.Walks.{lands}
+
+-- tables
+
+-- the leaf of the page leads to frame 0, and the kernel may fetch by it
+record IsCode (t : Image) : Type 0 where
+  word : ℕ
+  mapped : get t.leaves (leaf_node trampoline_page) ≡ Some word
+  names : ppn word ≡ ppn_of 0
+  lets : permits Supervisor Fetch word ≡ true
+
+process_code : (v : View) (trapframe : ℕ) (t : Image) (p : Process) → Shows v trapframe t p → IsCode t
+process_code v trapframe t p shows = let leaf = shows.on_trampoline in record {
+  word = leaf.0;
+  mapped = leaf.1;
+  names = leaf.2.names;
+  lets = rw (leaf.2.for_user, leaf.2.execute, leaf.2.accessed) refl;
+}
+
+kernel_code : (v : View) (root frames slots : ℕ) (stacks : List ℕ) (t : Image) → IsKernelTable v root frames slots stacks t → IsCode t
+kernel_code v root frames slots stacks t k = record {
+  word = leaf_word 0 code_rights false false;
+  mapped = k.maps.leaves trampoline_page (omega arith);
+  names = omega arith;
+  lets = refl;
+}
+
+module _ (offset : ℕ) (low : offset < 4096) where
+  abbrev address : ℕ
+  address = 4096 * trampoline_page + offset
+
+  -- a fetch that found frame 0
+  abbrev IsFetched : Walk → Type 0
+  IsFetched z = (w : ℕ) × (z ≡ walk.Leaf w 0 (physical_address w 0 address)) × (ppn w ≡ ppn_of 0)
+
+  by_table : (t : Image) → IsCode t → (z : Walk) → z ≡ walk_answer t address Fetch Supervisor → IsFetched z
+  by_table t code z is =
+      let page : page_of address ≡ trampoline_page = omega (arith, low) in
+      let canonical : is_canonical address ≡ true = rw (eq-eqb (address / 2 ^ 38) 0 (omega (arith, low))) refl in
+      (code.word, is ∙ rw (canonical, page, code.mapped, code.lets) refl, code.names)
+
+  module _ (m : Machine) (w : World) (is : IsWorld m w) (h : ℕ) (x : Hart) (at : slice_get m.harts.items h ≡ Some x) (z : Walk) (served : IsServed x is.images is.kernel address Fetch Supervisor z) where
+    is_fetched : IsFetched z
+    is_fetched = elim served [
+      | inl of_kernel ↦ by_table is.kernel (kernel_code _ _ _ _ _ _ is.of_kernel) z of_kernel.1
+      | inr own ↦
+          let y = is.hosted h own.0 x at own.2 in
+          let p = process_at m w is own.0 y.0 y.1 in
+          by_table (is.images own.0) (process_code _ _ _ p.0 (p.2).agrees.stands.shows) z own.3
+    ]
+
+    -- a leaf is found
+    pub finds_leaf : ((word level a : ℕ) → z ≡ walk.Leaf word level a → ⊥) → ⊥
+    finds_leaf none = let found = is_fetched in none found.0 0 _ found.1
+
+    -- and the frame is frame 0
+    pub finds_code : (word level a : ℕ) → z ≡ walk.Leaf word level a → frame_at (a / 4096) ≡ Some (record { 0 = 0 })
+    finds_code word level a leaf =
+        let found = is_fetched in
+        let same : walk.Leaf word level a ≡ walk.Leaf found.0 0 (physical_address found.0 0 address) = sym leaf ∙ found.1 in
+        let is_address : a ≡ physical_address found.0 0 address = cc in
+        ap (λ (k : ℕ). frame_at (k / 4096)) is_address ∙ ap frame_at (lands found.0 address ∙ found.2)
+
+-- steps
+
+is_proper : (offset : ℕ) → offset % 4 ≡ 0 → offset < 4096 → (offset % 4 == 0 && nat_lt offset 4096) ≡ true
+is_proper offset aligned low = rw (eq-eqb (offset % 4) 0 aligned) (grind (arith, low))
+
+module _ (m : Machine) (w : World) (is : IsWorld m w) (h offset : ℕ) (via : Option ℕ) where
+  abbrev fetches : Refusal → Type 0
+  fetches r = Makes m (Refused r) (plain_step w (step.TrampolineFetch h offset via))
+
+  pub nowhere : slice_get w.harts h ≡ None → fetches BadArgument
+  nowhere none = refused m w is BadArgument _ (without_hart w h _ _ _ _ none)
+
+  pub misaligned : (offset % 4 ≡ 0 → ⊥) → fetches BadArgument
+  misaligned other = refused m w is BadArgument _ (improper w h _ _ _ _ (rw (ne_eqb (offset % 4) 0 other) refl))
+
+  pub beyond : 4096 ≤ offset → fetches BadArgument
+  beyond high = refused m w is BadArgument _ (improper w h _ _ _ _ (past (offset % 4 == 0) (nat_lt offset 4096) (grind (arith, high)))) where
+    past : (a b : Bool) → b ≡ false → (a && b) ≡ false
+    past true b none = none
+    past false b none = refl
+
+  module _ (aligned : offset % 4 ≡ 0) (low : offset < 4096) (p : Phase) (has : HasHart m w h p) where
+    pub elsewhere : model.in_trampoline p ≡ false → fetches (Impossible p)
+    elsewhere fails = refused m w is (Impossible p) _
+        (impossible w h _ (λ x. model.in_trampoline x.phase) _ _ (hart_of has.hart) has.in_model (is_proper offset aligned low) (ap model.in_trampoline has.phased ∙ fails) ∙ ap (λ q. refuses w (Impossible q)) has.phased)
+
+    module _ (inside : model.in_trampoline p ≡ true) (n : Machine) (after : IsWorld n w) where
+      pub no_entry : entry_serves Full (hart_of has.hart) (4096 * trampoline_page + offset) via ≡ false → Makes n (Refused NoEntry) (plain_step w (step.TrampolineFetch h offset via))
+      no_entry fails = refused n w after NoEntry _
+          (without_entry w h _ (λ x. model.in_trampoline x.phase) (λ x. entry_serves w.policy x (4096 * trampoline_page + offset) via) _ (hart_of has.hart) has.in_model (is_proper offset aligned low)
+          (ap model.in_trampoline has.phased ∙ inside) (ap (λ q. entry_serves q (hart_of has.hart) (4096 * trampoline_page + offset) via) is.policy ∙ fails))
+
+      pub fetches_code : entry_serves Full (hart_of has.hart) (4096 * trampoline_page + offset) via ≡ true → (f : FrameNo) → Some f ≡ Some (record { 0 = 0 })
+          → Makes n (InFrame f.0) (plain_step w (step.TrampolineFetch h offset via))
+      fetches_code serves f found = rw (same_Some _ _ found) (makes n (InFrame 0) w _ after
+          (runs w h _ (λ x. model.in_trampoline x.phase) (λ x. entry_serves w.policy x (4096 * trampoline_page + offset) via) (λ x. answers w (InFrame 0)) (hart_of has.hart) has.in_model (is_proper offset aligned low)
+          (ap model.in_trampoline has.phased ∙ inside) (ap (λ q. entry_serves q (hart_of has.hart) (4096 * trampoline_page + offset) via) is.policy ∙ serves)))

@@ -1,0 +1,27 @@
+use Rattle.std.proofs.Common.{◌+◌, arith, drop, subst, sym}
+use Rattle.hart_machine.proofs.PlayedSteps.{HasRun, all_run, next_left, none_left, one_more}
+use Rattle.hart_machine.proofs.machine.Machine.run.Goals as goal
+
+pub step-requires-clause-world : goal.step-requires-clause-world
+step-requires-clause-world c =
+    let r = c.requires.world in
+    let has = c.steps.invariant.has_run r.0 r.1 in
+    (has.world, has.is_in)
+
+pub steps-preserved : goal.steps-preserved
+steps-preserved c = record {
+  room = omega (arith, c.push_reserved.ensures.capacity, c.steps.invariant.room);
+  made = omega (arith, c.push_reserved.ensures.len, c.steps.invariant.made);
+  has_run = λ w is.
+      let all = c.args.steps.now in
+      let i = c.steps.step-index in
+      let before = next_left c.steps.self all i c.step-item.result c.steps.replies.items w (omega (arith, c.steps-test.true)) c.step-item.is (c.steps.invariant.has_run w is) in
+      subst (λ rs. HasRun c.step.new.self all (drop (i + 1) all) rs w) (sym c.push_reserved.ensures.items)
+      (one_more c.steps.self c.step.new.self all (drop (i + 1) all) c.step-item.result c.steps.replies.items c.step.result w before c.step.ensures.made);
+}
+
+pub returns-clause-replies : goal.returns-clause-replies
+returns-clause-replies c = λ w is. (all_run c.steps.self c.args.steps.now c.steps.replies.items w (none_left c.steps.self c.args.steps.now c.steps.step-index c.steps.replies.items w (omega (arith, c.steps-test.false)) (c.steps.invariant.has_run w is))).0
+
+pub returns-clause-world : goal.returns-clause-world
+returns-clause-world c = λ w is. (all_run c.steps.self c.args.steps.now c.steps.replies.items w (none_left c.steps.self c.args.steps.now c.steps.step-index c.steps.replies.items w (omega (arith, c.steps-test.false)) (c.steps.invariant.has_run w is))).1

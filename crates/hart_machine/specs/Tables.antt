@@ -1,0 +1,37 @@
+-- The table that satp has, and translations by it.
+use Rattle.std.specs.Prelude.{◌≡◌, ◌⊎◌, ℕ, true, Option, None, Some, slice_get, if◌then◌else◌}
+use Rattle.process_model.specs.Harts as model
+use Rattle.sv39_entry.specs.declared.access.Access.{Access}
+use Rattle.sv39_entry.specs.declared.access.Mode.{Mode}
+use Rattle.table_walk.specs.Image.{Image}
+use Rattle.table_walk.specs.declared.walk.Walk.{Walk}
+use Rattle.hart_machine.specs.Walked.{walk_answer}
+use Rattle.hart_machine.specs.Worlds.{may_have_kernel, may_have_own}
+use Rattle.hart_machine.specs.declared.hart.Hart.{Hart}
+use Rattle.hart_machine.specs.declared.machine.Machine.{Machine}
+use Rattle.hart_machine.specs.declared.tables.Table.{Table}
+use Rattle.hart_machine.specs.declared.tables.Table.TheVariants.{OfKernel, OfProcess}
+use Rattle.hart_machine.specs.declared.tenant.Tenant.{Tenant}
+
+abbrev pub table_of : Option ℕ → Table
+table_of None = OfKernel
+table_of (Some s) = OfProcess s
+
+-- that of the hart's process, or the kernel's
+abbrev pub present_table : Hart → Table
+present_table x = if model.has_user_satp x.phase then table_of x.slot else OfKernel
+
+-- a process has a table where it is there
+abbrev pub IsThere : Machine → Table → Type 0
+IsThere m OfKernel = Unit {0}
+IsThere m (OfProcess s) = (x : Tenant) × (slice_get m.slots.items s ≡ Some (Some x))
+
+abbrev pub image_of : (ℕ → Image) → Image → Table → Image
+image_of images kernel OfKernel = kernel
+image_of images kernel (OfProcess s) = images s
+
+-- an access is translated by a table of which the hart's buffer may have entries
+abbrev pub IsServed : Hart → (ℕ → Image) → Image → ℕ → Access → Mode → Walk → Type 0
+IsServed x images kernel address access mode z =
+    ((may_have_kernel x.phase ≡ true) × (z ≡ walk_answer kernel address access mode))
+    ⊎ ((s : ℕ) × (may_have_own x.phase ≡ true) × (x.slot ≡ Some s) × (z ≡ walk_answer (images s) address access mode))

@@ -1,0 +1,88 @@
+// Steps of the machine, and lists of steps.
+
+ghost use Rattle.std.specs.Prelude.{◌≡◌, All, IfOk, map, OnErr, OnOk, option_copied, option_map, slice_get};
+ghost use Rattle.hart_machine.specs.Buffers.{buffer_of};
+ghost use Rattle.hart_machine.specs.Harts.{key_of};
+ghost use Rattle.hart_machine.specs.Worlds.{IsWorld, Makes};
+ghost use Rattle.process_model.specs.Played.{IsPlayed};
+ghost use Rattle.process_model.specs.Steps as model;
+ghost use Rattle.process_model.specs.World.{World};
+
+use crate::machine::Machine;
+use crate::user::Asked;
+use hart_tlb::Buffer;
+use process_model::{Reply, Step};
+use std::alloc::{AllocError, Global};
+use sv39_entry::{Access, Va};
+
+impl Machine {
+    /// Makes one step.
+    pub fn step(&mut self, step: Step<'_>) -> Reply
+        requires world { (w : World) × IsWorld self.old w }
+        requires played { IsPlayed step }
+        ensures made { (w : World) → IsWorld self.old w → Makes self.new result (model.step w step.entry) }
+    {
+        match step {
+            Step::Start(image) => self.start(image),
+            Step::Switch { hart, slot } => self.switch(hart, slot),
+            Step::Trap { hart } => self.trap(hart),
+            Step::Next { hart } => self.next(hart),
+            Step::Fill { hart, address } => self.fill(hart, Va(address)),
+            Step::Evict { hart, entry } => self.evict(hart, entry),
+            Step::Fetch { hart, address, via } => {
+                self.access(hart, asked(Access::Fetch, address, 4, 0), via)
+            }
+            Step::Load {
+                hart,
+                address,
+                width,
+                via,
+            } => self.access(hart, asked(Access::Load, address, width, 0), via),
+            Step::Store {
+                hart,
+                address,
+                width,
+                value,
+                via,
+            } => self.access(hart, asked(Access::Store, address, width, value), via),
+            Step::TrampolineFetch { hart, offset, via } => self.fetch_trampoline(hart, offset, via),
+            // no other step is played
+            _ => unreachable!(),
+        }
+    }
+
+    /// Makes the steps of a list, in order. Room for all replies is taken first: where it is refused, no step is made.
+    pub fn run(&mut self, alloc: Global, steps: &[Step<'_>]) -> Result<Vec<Reply>, AllocError>
+        requires world { (w : World) × IsWorld self.old w }
+        requires played { All IsPlayed steps.now }
+        ensures replies { IfOk result (λ replies. (w : World) → IsWorld self.old w → replies.items ≡ (model.run w steps.now).replies) }
+        ensures world { OnOk result ((w : World) → IsWorld self.old w → IsWorld self.new (model.run w steps.now).world) }
+        ensures unmade { OnErr result (self.new ≡ self.old) }
+    {
+        let mut replies = Vec::with_capacity(alloc, steps.len())?;
+        'steps: for step in steps {
+            replies.push_reserved(self.step(*step));
+        }
+        Ok(replies)
+    }
+
+    /// The translation buffer of a hart; none where there is no such hart.
+    pub fn buffer(&self, hart: usize) -> Option<&Buffer<32>>
+        ensures buffer { option_copied result ≡ buffer_of self.now hart }
+        ensures keys { (w : World) → IsWorld self.now w → option_map (map key_of) (option_copied result) ≡ option_map (λ x. x.keys) (slice_get w.harts hart) }
+    {
+        self.harts.get(hart).map(|hart| &hart.buffer)
+    }
+}
+
+/// What is asked of memory at an address.
+fn asked(access: Access, address: u64, width: u64, value: u64) -> Asked
+    ensures { result ≡ record { access = access; va = record { 0 = address }; width = width; value = value } }
+{
+    Asked {
+        access,
+        va: Va(address),
+        width,
+        value,
+    }
+}

@@ -1,0 +1,50 @@
+-- How much of the model the program plays: images of segments, the policy full, and the steps of harts, of their buffers and of
+-- accesses.
+use Rattle.std.specs.Prelude.{◌≡◌, List, [], All}
+use Rattle.process_model.specs.Script.{Script}
+use Rattle.process_model.specs.declared.config.Policy.TheVariants.{Full}
+use Rattle.process_model.specs.declared.image.Image.{Image}
+use Rattle.process_model.specs.declared.image.Image.TheVariants as image
+use Rattle.process_model.specs.declared.image.OwnedImage.{OwnedImage}
+use Rattle.process_model.specs.declared.image.OwnedImage.TheVariants as owned
+use Rattle.process_model.specs.declared.script.Command.{Command}
+use Rattle.process_model.specs.declared.script.Command.TheVariants as command
+use Rattle.process_model.specs.declared.step.Step.{Step}
+use Rattle.process_model.specs.declared.step.Step.TheVariants as step
+
+abbrev pub AreSegments : Image → Type 0
+AreSegments (image.Segments s) = Unit {0}
+AreSegments (image.Elf bytes) = ⊥
+
+abbrev pub IsPlayed : Step → Type 0
+IsPlayed (step.Start i) = AreSegments i
+IsPlayed (step.Switch h s) = Unit {0}
+IsPlayed (step.Trap h) = Unit {0}
+IsPlayed (step.Next h) = Unit {0}
+IsPlayed (step.Fill h a) = Unit {0}
+IsPlayed (step.Evict h n) = Unit {0}
+IsPlayed (step.Fetch h a via) = Unit {0}
+IsPlayed (step.Load h a n via) = Unit {0}
+IsPlayed (step.Store h a n v via) = Unit {0}
+IsPlayed (step.TrampolineFetch h o via) = Unit {0}
+IsPlayed _ = ⊥
+
+-- of scripts
+
+abbrev pub HasSegments : OwnedImage → Type 0
+HasSegments (owned.Segments s) = Unit {0}
+HasSegments (owned.Elf bytes) = ⊥
+
+abbrev pub IsLinePlayed : Command → Type 0
+IsLinePlayed (command.One s) = IsPlayed s
+IsLinePlayed (command.Start n) = Unit {0}
+IsLinePlayed (command.On h s) = Unit {0}
+IsLinePlayed (command.Enter h) = Unit {0}
+IsLinePlayed (command.Leave h) = Unit {0}
+IsLinePlayed _ = ⊥
+
+pub record IsScriptPlayed (s : Script) : Type 0 where
+  pub policy : s.config.policy ≡ Full
+  pub files : s.files ≡ []
+  pub images : All HasSegments s.images
+  pub commands : All IsLinePlayed s.commands
