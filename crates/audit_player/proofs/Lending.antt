@@ -1,35 +1,35 @@
--- A segment that is lent starts the process that it says, wherever its bytes stand.
-use Rattle.std.proofs.Common.{◌≡◌, ℕ, Bool, true, false, Option, None, Some, refl, ap, ◌∙◌}
-use Rattle.std.specs.Prelude.{nat_lt}
+-- An image that is lent starts the process that it says, wherever its bytes stand.
+use Rattle.std.proofs.Common.{◌≡◌, ℕ, ◌<◌, List, length, get_or, Option, Result, sym, ap, subst, ◌∙◌}
+use Rattle.std.proofs.lemmas.Option.{slice_get-get_or}
+use Rattle.process_model.specs.Calls.{started}
+use Rattle.process_model.specs.Images.{LoadSegment, image_loads}
+use Rattle.process_model.specs.Stale.{with_stale_slots}
+use Rattle.process_model.specs.Steps.{step}
+use Rattle.process_model.specs.Text.{lent, or_no_image, image_at, played}
+use Rattle.process_model.specs.Words.{reply_text}
+use Rattle.process_model.specs.World.{World, free_slot}
 use Rattle.process_model.specs.declared.image.BadImage.{BadImage}
-use Rattle.process_model.specs.declared.image.Segment.{Segment}
-use Rattle.first_path.specs.Frames.{frames_needed}
-use Rattle.first_path.specs.Loading.{image_fault, image_region, pages_of}
-use Rattle.first_path.specs.Text.{lent}
-use Rattle.first_path.specs.World.{World, free, lowest_free, started_if, started, start_in, step}
-use Rattle.first_path.specs.declared.image.LentSegment.{LentSegment}
-use Rattle.first_path.specs.declared.step.Step.TheVariants.{Start}
+use Rattle.process_model.specs.declared.image.Image.{Image}
+use Rattle.process_model.specs.declared.image.OwnedImage.{OwnedImage}
+use Rattle.process_model.specs.declared.script.Command.TheVariants as command
+use Rattle.process_model.specs.declared.step.Reply.{Reply}
+use Rattle.process_model.specs.declared.step.Step.TheVariants.{Start}
+use Rattle.hart_machine.specs.Worlds.{Makes}
+use Rattle.hart_machine.specs.declared.machine.Machine.{Machine}
+use Rattle.audit_player.specs.Told.{Tells}
 
--- the same segment, its bytes at no place
-abbrev said : LentSegment → LentSegment
-said a = record { address = a.address; memory_size = a.memory_size; writes = a.writes; executes = a.executes; bytes = record { ref_ptr = (0, 0); now = a.bytes.now } }
+-- a start reads nothing of an image but what is to be loaded
+pub starts : (w : World) (a b : Image) → image_loads a ≡ image_loads b → step w (Start a) ≡ step w (Start b)
+unfolding step
+starts w a b e = ap (λ (loads : Result (List LoadSegment) BadImage). with_stale_slots w.policy w (started w loads (free_slot w))) e
 
-module _ (w : World) (a : LentSegment) where
-  -- at no test of a start does that place decide
-  if_said : (s : ℕ) (few : Bool) → started_if w s a few ≡ started_if w s (said a) few
-  if_said s true = refl
-  if_said s false = refl
+-- the image that a line names
+named : (images : List OwnedImage) (n : ℕ) (i : OwnedImage) → n < length images → i ≡ get_or images n i → lent i ≡ image_at images n
+named images n i lt is = ap lent is ∙ ap (λ (o : Option OwnedImage). lent (or_no_image o)) (sym (slice_get-get_or images n i lt))
 
-  started_said : (s : ℕ) (fault : Option BadImage) → started w s a fault ≡ started w s (said a) fault
-  started_said s None = if_said s (nat_lt (free w) (frames_needed (pages_of (image_region a))))
-  started_said s (Some e) = refl
-
-  in_said : (slot : Option ℕ) → start_in w a slot ≡ start_in w (said a) slot
-  in_said None = refl
-  in_said (Some s) = started_said s (image_fault a)
-
-  -- so a segment that says the same starts the same
-  pub starts : (s : Segment) → a.address ≡ s.address → a.memory_size ≡ s.memory_size → a.writes ≡ s.writes → a.executes ≡ s.executes → a.bytes.now ≡ s.bytes → step w (Start a) ≡ step w (Start (lent s))
-  starts s address memory_size writes executes bytes =
-      let same : said a ≡ lent s = λ i. record { address = address i; memory_size = memory_size i; writes = writes i; executes = executes i; bytes = record { ref_ptr = (0, 0); now = bytes i } } in
-      in_said (lowest_free 0 w.slots) ∙ ap (λ (b : LentSegment). step w (Start b)) same
+-- so its line answers what the start of it does
+pub start_told : (m : Machine) (r : Reply) (images : List OwnedImage) (w : World) (n : ℕ) (i : OwnedImage) → n < length images → i ≡ get_or images n i → Makes m r (step w (Start (lent i)))
+    → Tells m r (played images w (command.Start n))
+start_told m r images w n i lt is made =
+    let there : Makes m r (step w (Start (image_at images n))) = subst (λ (x : Image). Makes m r (step w (Start x))) (named images n i lt is) made in
+    (ap reply_text there.0, there.1)

@@ -1,10 +1,5 @@
-pub mod Colons
-pub mod Cutting
-pub mod Digits
-pub mod Pairs
-pub mod ReadValues
-pub mod Faults
 pub mod Lending
 pub mod Parts
-pub mod Playable
 pub mod Played
+pub mod Runs
+pub mod Written

@@ -62,7 +62,7 @@ still_declared fs gs is js command.Audit l m h = tt
 all_declared : (fs gs : List FileText) (is js : List OwnedImage) (cs : List Command) → length fs ≤ length gs → length is ≤ length js → All (IsDeclared fs is) cs → All (IsDeclared gs js) cs
 all_declared fs gs is js cs l m h = λ k d lt. still_declared fs gs is js (get_or cs k d) l m (h k d lt)
 
-all_and_one : {A : Type 0} (P : A → Type 0) (xs : List A) (x : A) → All P xs → P x → All P (xs ++ x ∷ [])
+pub all_and_one : {A : Type 0} (P : A → Type 0) (xs : List A) (x : A) → All P xs → P x → All P (xs ++ x ∷ [])
 all_and_one P xs x h one = All-append P xs (x ∷ []) h (All-cons P x [] one (All-nil P))
 
 item_kept : (d : Draft) (i : Item) → IsSound d → Fits d i → IsSound (with_item d i)
@@ -81,11 +81,11 @@ item_kept d (item.Command c) s fits = record { boots = s.boots; files = s.files;
 
 -- steps in a row
 
-followed : {A B : Type 0} (r : Result A Cause) (f : A → Result B Cause) (Q : B → Type 0) → ((a : A) → IfOk (f a) Q) → IfOk (r >>= f) Q
+pub followed : {A B : Type 0} (r : Result A Cause) (f : A → Result B Cause) (Q : B → Type 0) → ((a : A) → IfOk (f a) Q) → IfOk (r >>= f) Q
 followed (Ok a) f Q g = g a
 followed (Err e) f Q g = tt
 
-then_fits : {A B : Type 0} (r : Result A Cause) (f : A → Result B Cause) (P : A → Type 0) (Q : B → Type 0) → IfOk r P → ((a : A) → P a → IfOk (f a) Q) → IfOk (r >>= f) Q
+pub then_fits : {A B : Type 0} (r : Result A Cause) (f : A → Result B Cause) (P : A → Type 0) (Q : B → Type 0) → IfOk r P → ((a : A) → P a → IfOk (f a) Q) → IfOk (r >>= f) Q
 then_fits (Ok a) f P Q p g = g a p
 then_fits (Err e) f P Q p g = tt
 

@@ -1,6 +1,7 @@
 // Scripts, read whole before anything runs.
 
 ghost use Rattle.std.specs.Prelude.{◌≡◌, IfOk, Ok};
+ghost use Rattle.process_model.specs.Played.{IsScriptPlayed};
 ghost use Rattle.process_model.specs.Script as words;
 ghost use Rattle.script_reader.specs.Gives.{Answers};
 ghost use Rattle.script_reader.specs.Playable.{IsPlayable};
@@ -34,11 +35,13 @@ impl Model for Script {
 
 impl Script {
     /// Reads a script whole, or finds its first fault. What is read is what the whole format says, and it can be
-    /// played: only a step can still be refused.
+    /// played: only a step can still be refused. It has no files, only images of segments, and only lines that are
+    /// played.
     pub fn read(alloc: Global, bytes: &[u8]) -> Result<Script, ScriptError>
         ensures read { Answers (λ s. s) result (words.script_by played bytes.now) }
         ensures same { IfOk result (λ s. words.script_of bytes.now ≡ Ok s) }
         ensures playable { IfOk result IsPlayable }
+        ensures played { IfOk result IsScriptPlayed }
     {
         Script::read_whole(alloc, bytes)
     }

@@ -3,9 +3,7 @@
 use crate::fault::Fault;
 use crate::words::Words;
 use audit_player::{PlayError, Reader, Writer, play};
-use first_path::{LentSegment, Step};
-use plain_machine::Machine;
-use process_model::{Cause, Config, Policy, Reply};
+use process_model::Cause;
 use std::alloc::{AllocError, Global};
 use std::io;
 use std::io::{Read, Write};
@@ -51,6 +49,21 @@ fn plays_worked_rows(rt: HostRuntime) -> Result<(), Fail> {
             "store 0 0x1000 8 0x8877665544332211\nstore 0 0x1002 2 0xaabbccdd\nload 0 0x1000 8\n",
             "stored\nstored\nvalue 0x88776655ccdd2211\n",
         ),
+        ("fetch 0 0x1000\n", "fault 12\n"),
+        (
+            "enter 0\nload 0 0x1000 1\nleave 0\nload 0 0x1000 1\n",
+            "ok\nrefused 19 Impossible kernel\nok\nvalue 0x0\n",
+        ),
+        ("enter 0\nswitch 0 -\non 0 0\n", "ok\nok\nok\n"),
+        (
+            "trap 0\nnext 0\ntramp 0 0\nleave 0\n",
+            "ok\nok\nframe 0\nok\n",
+        ),
+        ("leave 0\n", "refused 19 Impossible user\n"),
+        (
+            "fill 0 0x1000\nstore 0 0x1000 1 7 @0\nload 0 0x1000 1\nevict 0 0\nload 0 0x1000 1 @0\n",
+            "entry 0\nstored\nvalue 0x7\nok\nrefused 20 NoEntry\n",
+        ),
     ];
     for (lines, want) in rows {
         let script = with_one_page(rt.alloc(), lines)?;
@@ -90,14 +103,54 @@ fn plays_whole_scripts(rt: HostRuntime) -> Result<(), Fail> {
 }
 
 #[test]
+fn plays_step_by_step(rt: HostRuntime) -> Result<(), Fail> {
+    let start = "image 0x1000:0x1000:rw:-\nboot 1 64 1 full\nstart 0\nswitch 0 0\nnext 0\n";
+    let rows = [
+        (
+            "next 0\nnext 0\nstore 0 0x1000 8 0x1122334455667788\nload 0 0x1004 2\n",
+            "ok\nok\nstored\nvalue 0x3344\n",
+        ),
+        (
+            "fill 0 0x1000\nnext 0\ntramp 0 0\nnext 0\nload 0 0x1000 1 @0\nload 0 0x1000 1\n",
+            "entry 0\nok\nframe 0\nok\nrefused 20 NoEntry\nvalue 0x0\n",
+        ),
+    ];
+    for (lines, want) in rows {
+        let script = format!(in rt.alloc(); "{start}{lines}")?;
+        let want = format!(in rt.alloc(); "ok\nslot 0\nok\nok\n{want}")?;
+        let (result, text) = played(rt.alloc(), script.as_bytes());
+        assert_eq!(rt; result, Ok(()), "at {lines}");
+        assert_eq!(rt; text.as_slice(), want.as_bytes(), "at {lines}");
+    }
+    Ok(())
+}
+
+#[test]
+fn plays_two_images_on_two_harts(rt: HostRuntime) -> Result<(), Fail> {
+    let script =
+        "image 0x0:0x1000:rx:13050000 0x1000:0x1000:rw:-\nimage 0x1000:0x1000:rw:05\nboot 2 64 2 full\nstart 0\nstart 1\non 0 0\non 1 1\nfetch 0 0x0\nload 1 0x1000 1\non 1 0\nstore 0 0x0 1 1\n";
+    let want =
+        "ok\nslot 0\nslot 1\nok\nok\nvalue 0x513\nvalue 0x5\nrefused 19 Impossible user\nfault 15\n";
+    let (result, text) = played(rt.alloc(), script.as_bytes());
+    assert_eq!(rt; result, Ok(()));
+    assert_eq!(rt; text.as_slice(), want.as_bytes());
+    Ok(())
+}
+
+#[test]
 fn takes_just_the_frames_needed(rt: HostRuntime) -> Result<(), Fail> {
     let rows = [
-        ("0x1000:0x3f0000", 1020, "slot 0"),
-        ("0x1000:0x3f0000", 1019, "refused 9 NoFrame"),
-        ("0x1fd000:0x5000", 16, "slot 0"),
-        ("0x1fd000:0x6000", 16, "refused 9 NoFrame"),
-        ("0x3fffe000:0x4000", 16, "slot 0"),
-        ("0x3fffe000:0x5000", 16, "refused 9 NoFrame"),
+        ("0x1000:0x1000", 16, "slot 0"),
+        ("0x1000:0x2000", 16, "refused 9 NoFrame"),
+        ("0x1fd000:0x1000", 16, "slot 0"),
+        ("0x1fe000:0x1000", 17, "slot 0"),
+        ("0x1fe000:0x1000", 16, "refused 9 NoFrame"),
+        ("0x3fffe000:0x1000", 18, "slot 0"),
+        ("0x3fffe000:0x1000", 17, "refused 9 NoFrame"),
+        ("0x1000:0xc8000", 215, "slot 0"),
+        ("0x1000:0xc8000", 214, "refused 9 NoFrame"),
+        ("0x1000:0x3ef000", 1024, "slot 0"),
+        ("0x1000:0x3ef000", 1023, "refused 9 NoFrame"),
     ];
     for (image, frames, want) in rows {
         let script = format!(in rt.alloc();
@@ -112,68 +165,10 @@ fn takes_just_the_frames_needed(rt: HostRuntime) -> Result<(), Fail> {
 }
 
 #[test]
-fn runs_steps(rt: HostRuntime) -> Result<(), Fail> {
-    let config = Config {
-        harts: 1,
-        frames: 64,
-        slots: 1,
-        policy: Policy::Full,
-    };
-    let image = LentSegment {
-        address: 0x1000,
-        memory_size: 0x1000,
-        writes: true,
-        executes: false,
-        bytes: &[],
-    };
-    let next = Step::Next { hart: 0 };
-    let mut machine = Machine::boot(rt.alloc(), config).ok().ok_or("memory")?;
-    let steps = [
-        Step::Start(image),
-        Step::Switch {
-            hart: 0,
-            slot: Some(0),
-        },
-        next,
-        next,
-        next,
-        Step::Store {
-            hart: 0,
-            address: 0x1000,
-            width: 8,
-            value: 0x1122334455667788,
-        },
-        Step::Load {
-            hart: 0,
-            address: 0x1000,
-            width: 8,
-        },
-        Step::Load {
-            hart: 0,
-            address: 0x1004,
-            width: 2,
-        },
-    ];
-    let want = [
-        Reply::Started(0),
-        Reply::Done,
-        Reply::Done,
-        Reply::Done,
-        Reply::Done,
-        Reply::Stored,
-        Reply::Value(0x1122334455667788),
-        Reply::Value(0x3344),
-    ];
-    let replies = machine.run(rt.alloc(), steps.as_slice())?;
-    assert_eq!(rt; replies.as_slice(), want.as_slice());
-    Ok(())
-}
-
-#[test]
 fn judges_images_when_they_are_started(rt: HostRuntime) -> Result<(), Fail> {
     let rows = [
-        ("0x1000:0x9000:rw:-", "refused 9 NoFrame"),
-        ("0x1000:0x8000:rw:-", "slot 0"),
+        ("0x1000:0x4000:rw:-", "refused 9 NoFrame"),
+        ("0x1000:0x3000:rw:-", "slot 0"),
         ("0x1000:0x1:wr:0102", "refused 12 BadImage Sizes"),
         (
             "0x1000:0xffffffffffffffff:rw:-",
@@ -183,6 +178,10 @@ fn judges_images_when_they_are_started(rt: HostRuntime) -> Result<(), Fail> {
         ("0x0:0:rw:-", "refused 12 BadImage NoLoad"),
         ("0x3fffffc000:4096:rw:-", "refused 12 BadImage TooHigh"),
         ("0x3fffffb000:4096:rw:-", "slot 0"),
+        (
+            "0x2000:0x1000:rw:- 0x1000:0x1000:rw:-",
+            "refused 12 BadImage Order",
+        ),
     ];
     for (image, want) in rows {
         let script = format!(in rt.alloc(); "image {image}\nboot 1 18 1 full\nstart 0\n")?;
@@ -196,13 +195,12 @@ fn judges_images_when_they_are_started(rt: HostRuntime) -> Result<(), Fail> {
 
 #[test]
 fn refuses_scripts(rt: HostRuntime) -> Result<(), Fail> {
-    let image = "image 0x1000:0x1000:rw:-\n";
     let rows = [
         ("", 1, Cause::Order),
         ("boot 1 64", 1, Cause::Count),
         ("boot 1 64 1 asid", 1, Cause::Field),
-        ("boot 2 64 1 full", 1, Cause::Limits),
-        ("boot 1 64 2 full", 1, Cause::Limits),
+        ("boot 9 64 1 full", 1, Cause::Limits),
+        ("boot 1 64 59 full", 1, Cause::Limits),
         ("boot 1 15 1 full", 1, Cause::Limits),
         ("boot 1 1025 1 full", 1, Cause::Limits),
         ("boot 1 18446744073709551616 1 fast", 1, Cause::Number),
@@ -216,16 +214,13 @@ fn refuses_scripts(rt: HostRuntime) -> Result<(), Fail> {
         ("boot 1 64 1 full\nload 0 0 3", 2, Cause::Limits),
         ("boot 1 64 1 full\nstart 0", 2, Cause::Limits),
         ("boot 1 64 1 full\naudit", 2, Cause::Word),
-        ("boot 1 64 1 full\nload 0 0x1000 8 @0", 2, Cause::Count),
+        ("boot 1 64 1 full\nload 0 0x1000 8 @0 @0", 2, Cause::Count),
         ("boot 1 64 1 full\nload 0 0 @1", 2, Cause::Number),
         ("boot 1 64 1 full\n\n# x\nboot 1 64 1 full", 4, Cause::Order),
-        ("image 0x1000:0x1000:rx:-", 1, Cause::Field),
+        ("image 0x1000:0x1000:rr:-", 1, Cause::Field),
         ("image 0x1000:0x1000:rw:", 1, Cause::Field),
-        (
-            "image 0x1000:0x1000:rw:- 0x2000:0x1000:rw:-",
-            1,
-            Cause::Count,
-        ),
+        ("image", 1, Cause::Count),
+        ("elf 7f", 1, Cause::Word),
         ("image 0x1000:0x1000:rw:\u{e9}", 1, Cause::NotAscii),
     ];
     for (script, line, cause) in rows {
@@ -233,9 +228,12 @@ fn refuses_scripts(rt: HostRuntime) -> Result<(), Fail> {
         assert_eq!(rt; result, Err(PlayError::Script(line, cause)), "at {script}");
         assert!(rt; text.is_empty(), "at {script}");
     }
-    let twice = format!(in rt.alloc(); "{image}{image}boot 1 64 1 full\n")?;
-    let (result, _) = played(rt.alloc(), twice.as_bytes());
-    assert_eq!(rt; result, Err(PlayError::Script(2, Cause::TooMany)));
+    let mut many = String::new(rt.alloc());
+    for _ in 0..65 {
+        many.push_str("image 0x1000:0x1000:rw:-\n")?;
+    }
+    let (result, _) = played(rt.alloc(), many.as_bytes());
+    assert_eq!(rt; result, Err(PlayError::Script(65, Cause::TooMany)));
     Ok(())
 }
 

@@ -1,8 +1,8 @@
-use Rattle.std.proofs.Common.{◌≡◌, ◌++◌, drop}
+use Rattle.std.proofs.Common.{drop}
 use Rattle.std.specs.String.{string_bytes}
-use Rattle.first_path.specs.Text.{commands_text, text_of}
-use Rattle.plain_machine.specs.Seen.{world_of}
+use Rattle.process_model.specs.Text.{text_of}
+use Rattle.audit_player.proofs.Written.{IsWritten}
 use Rattle.audit_player.proofs.playing.output.Given as goal
 
 abbrev pub invariant-loop-command : goal.invariant-loop-command
-invariant-loop-command l = string_bytes l.text ++ commands_text l.images (world_of l.machine) (drop l.command-index l.commands) ≡ text_of l.script
+invariant-loop-command l = record { text : IsWritten l.machine l.images (drop l.command-index l.commands) (string_bytes l.text) (text_of l.script) }

@@ -1,8 +1,0 @@
-use Rattle.std.proofs.Common.{sym, ap, ◌∙◌}
-use Rattle.audit_player.proofs.Pairs.{onto, onto-then}
-use Rattle.process_model.specs.Numbers.{pairs_of}
-use Rattle.audit_player.proofs.hex.pairs.Goals as goal
-
-pub loop-rest-preserved : goal.loop-rest-preserved
-loop-rest-preserved c =
-    rw c.in_ok-push.ensures.items (sym (onto-then c.loop-rest.items.items c.in-Some.byte (pairs_of c.in-Some.after.now)) ∙ ap (onto c.loop-rest.items.items) (sym c.in-Some.ensures.byte) ∙ c.loop-rest.invariant)

@@ -1,5 +1,0 @@
-use Rattle.audit_player.proofs.Playable.{answer_playable}
-use Rattle.audit_player.proofs.script.Script.read.Goals as goal
-
-pub returns-clause-playable : goal.returns-clause-playable
-returns-clause-playable c = answer_playable c.args.bytes.now c.read_whole.result c.read_whole.ensures

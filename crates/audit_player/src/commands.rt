@@ -1,0 +1,104 @@
+// What the lines after `boot` do.
+
+ghost use Rattle.std.specs.Prelude.{◌≡◌, [], All};
+ghost use Rattle.hart_machine.specs.Worlds.{IsWorld, Makes};
+ghost use Rattle.process_model.specs.Images.{image_loads};
+ghost use Rattle.process_model.specs.Played.{AreSegments, HasSegments, IsLinePlayed, IsPlayed};
+ghost use Rattle.process_model.specs.Steps as model;
+ghost use Rattle.process_model.specs.Text as words;
+ghost use Rattle.process_model.specs.World.{World};
+ghost use Rattle.process_model.specs.declared.step.Reply.TheVariants.{Done};
+ghost use Rattle.process_model.specs.declared.step.Step.TheVariants as steps;
+ghost use Rattle.script_reader.specs.Playable.{IsDeclared};
+ghost use Rattle.audit_player.specs.Told.{Tells};
+
+use hart_machine::Machine;
+use process_model::{Command, Image, OwnedImage, Reply, Step};
+
+/// An image of a script, as a step borrows it.
+fn lend(image: &OwnedImage) -> Image<'_>
+    ensures loads { image_loads result ≡ image_loads (words.lent image.now) }
+    ensures segments { HasSegments image.now → AreSegments result }
+{
+    match image {
+        OwnedImage::Elf(bytes) => Image::Elf(bytes.as_slice()),
+        OwnedImage::Segments(segments) => Image::Segments(segments.as_slice()),
+    }
+}
+
+/// Starts a process of an image.
+fn start(machine: &mut Machine, image: &OwnedImage) -> Reply
+    requires world { (w : World) × IsWorld machine.old w }
+    requires segments { HasSegments image.now }
+    ensures made { (w : World) → IsWorld machine.old w → Makes machine.new result (model.step w (steps.Start (words.lent image.now))) }
+{
+    machine.step(Step::Start(lend(image)))
+}
+
+/// Makes several steps that have one reply: that of the first which is refused, and none is made after it.
+fn series(machine: &mut Machine, steps: &[Step<'_>]) -> Reply
+    requires world { (w : World) × IsWorld machine.old w }
+    requires played { All IsPlayed steps.now }
+    ensures made { (w : World) → IsWorld machine.old w → Makes machine.new result (words.series_of w steps.now Done) }
+{
+    for step in steps {
+        let reply = machine.step(*step);
+        if let Reply::Refused(_) = reply {
+            return reply;
+        }
+    }
+    Reply::Done
+}
+
+/// Puts a process on a hart, and goes through the return to the user.
+fn put_on(machine: &mut Machine, hart: usize, slot: usize) -> Reply
+    requires world { (w : World) × IsWorld machine.old w }
+    ensures made { (w : World) → IsWorld machine.old w → Makes machine.new result (words.series_of w (words.on_steps hart slot) Done) }
+{
+    let switch = Step::Switch {
+        hart,
+        slot: Some(slot),
+    };
+    let next = Step::Next { hart };
+    series(machine, &[switch, next, next, next])
+}
+
+/// Goes through the entry into the kernel.
+fn enter(machine: &mut Machine, hart: usize) -> Reply
+    requires world { (w : World) × IsWorld machine.old w }
+    ensures made { (w : World) → IsWorld machine.old w → Makes machine.new result (words.series_of w (words.enter_steps hart) Done) }
+{
+    let next = Step::Next { hart };
+    series(machine, &[Step::Trap { hart }, next, next, next])
+}
+
+/// Goes through the return to the user.
+fn leave(machine: &mut Machine, hart: usize) -> Reply
+    requires world { (w : World) × IsWorld machine.old w }
+    ensures made { (w : World) → IsWorld machine.old w → Makes machine.new result (words.series_of w (words.three_next hart) Done) }
+{
+    let next = Step::Next { hart };
+    series(machine, &[next, next, next])
+}
+
+/// What a line after `boot` does.
+pub fn make(machine: &mut Machine, images: &[OwnedImage], command: &Command) -> Reply
+    requires world { (w : World) × IsWorld machine.old w }
+    requires played { IsLinePlayed command.now }
+    requires declared { IsDeclared [] images.now command.now }
+    requires segments { All HasSegments images.now }
+    ensures told { (w : World) → IsWorld machine.old w → Tells machine.new result (words.played images.now w command.now) }
+{
+    match command {
+        Command::One(step) => machine.step(*step),
+        Command::Start { image } => start(machine, &images[*image]),
+        Command::On { hart, slot } => put_on(machine, *hart, *slot),
+        Command::Enter { hart } => enter(machine, *hart),
+        Command::Leave { hart } => leave(machine, *hart),
+        Command::Exec { .. }
+        | Command::CopyOut { .. }
+        | Command::Fix { .. }
+        | Command::Show { .. }
+        | Command::Audit => unreachable!(),
+    }
+}

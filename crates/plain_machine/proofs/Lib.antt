@@ -1,6 +1,0 @@
-mod Accesses
-mod Entries
-mod Groups
-mod OneHart
-mod PageRuns
-mod Words
