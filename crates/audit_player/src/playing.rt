@@ -54,8 +54,8 @@ fn output(alloc: Global, script: &Script) -> Result<String, AllocError>
 
 /// Reads a script, plays it, and writes its replies, a line each.
 ///
-/// A script that is accepted means what it does in the whole format. A script that is refused, and want of memory, come
-/// before anything is written. `Io` comes just where the reader or the writer failed, and what was written is then a
+/// What is accepted means the same in the whole format (`Script::read`). A script that is refused, and want of memory,
+/// come before anything is written. `Io` comes just where the reader or the writer failed, and what was written is then a
 /// beginning of the text.
 pub fn play<R: Source, W: Sink>(
     alloc: Global,

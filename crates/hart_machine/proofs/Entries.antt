@@ -19,7 +19,7 @@ use Rattle.hart_machine.proofs.HartSteps.{has_hart, hart_changes, hart_read, Has
 
 module _ {A : Type 0} where
   -- what is left was there
-  in_remove : (xs : List A) (n : ℕ) (x : A) → Contains (remove xs n) x → Contains xs x
+  pub in_remove : (xs : List A) (n : ℕ) (x : A) → Contains (remove xs n) x → Contains xs x
   in_remove [] zero x there = there
   in_remove [] (suc n) x there = there
   in_remove (y ∷ xs) zero x there = (suc there.0, omega (arith, there.1), there.2)

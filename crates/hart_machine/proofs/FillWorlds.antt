@@ -5,6 +5,7 @@ use Rattle.std.specs.Vec.{with_item}
 use Rattle.std.proofs.lemmas.Option.{slice_get-map, slice_get_within}
 use Rattle.frame_store.specs.Seats.{place_set_back}
 use Rattle.frame_store.specs.Plain.{BankRule}
+use Rattle.frame_store.specs.View.{View}
 use Rattle.hart_tlb.specs.declared.entry.TlbEntry.{TlbEntry}
 use Rattle.process_model.specs.Harts as model
 use Rattle.process_model.specs.Harts.{Key, present_asid, with_key}
@@ -15,18 +16,21 @@ use Rattle.process_model.specs.declared.step.Refusal.TheVariants.{BadArgument}
 use Rattle.process_model.specs.declared.step.Reply.TheVariants.{Filled, Refused}
 use Rattle.process_model.specs.declared.step.Step.TheVariants as step
 use Rattle.sv39_entry.specs.Address.{page_of}
-use Rattle.table_walk.specs.Image.{Image}
+use Rattle.table_walk.specs.Image.{HasTables, Image}
 use Rattle.hart_machine.specs.Harts.{hart_of, next_number, with_entry}
 use Rattle.hart_machine.specs.Tables.{image_of, IsThere, present_table}
-use Rattle.hart_machine.specs.Walked.{entry_for, IsEntryOf}
+use Rattle.hart_machine.specs.Tenants.{view_of}
+use Rattle.hart_machine.specs.Walked.{entry_for, IsEntryOf, LeavesAreLocal, LeavesAreThere}
 use Rattle.hart_machine.specs.Worlds.{IsPlace, IsServing, IsWorld, Makes, seats_of}
 use Rattle.hart_machine.specs.declared.hart.Hart.{Hart}
 use Rattle.hart_machine.specs.declared.machine.Machine.{Machine}
 use Rattle.hart_machine.specs.declared.tables.Table.{Table}
+use Rattle.hart_machine.specs.declared.tables.Table.TheVariants.{OfKernel, OfProcess}
 use Rattle.hart_machine.specs.declared.tenant.Tenant.{Tenant}
 use Rattle.hart_machine.proofs.AccessingEntries.{leaf_on_page, same_hart}
 use Rattle.hart_machine.proofs.Fills.{in_newest, kept_is, number_is}
-use Rattle.hart_machine.proofs.HartSteps.{hart_changes, HasHart, makes, no_hart, refused, runs, without_hart}
+use Rattle.hart_machine.proofs.HartSteps.{hart_changes, HasHart, makes, no_hart, process_at, refused, runs, without_hart}
+use Rattle.hart_machine.proofs.Leaves.{kernel_local, kernel_there, process_local, process_there}
 use Rattle.hart_machine.proofs.PresentTables.{present_serves, present_there}
 
 -- an entry that is made by a table tells what the table says
@@ -67,6 +71,24 @@ has_at m w is h x at = record {
   in_model = ap (λ (hs : List model.Hart). slice_get hs h) (sym is.harts) ∙ slice_get-map hart_of m.harts.items h ∙ ap (option_map hart_of) at;
   within = subst (λ (n : ℕ). h < n) (sym m.harts.ok.0) (slice_get_within m.harts.items h x at);
 }
+
+-- a hart that keeps the entry of a table keeps that of the table that was taken
+module _ (m : Machine) (w : World) (is : IsWorld m w) (a : ℕ) (x y : Hart) (t : Table) where
+  abbrev KeepsOf : View → ℕ → Type 0
+  KeepsOf v root = (i : Image) → HasTables v root i → LeavesAreThere i → LeavesAreLocal i → y ≡ with_entry x (entry_for i 0 a)
+
+  abbrev Keeps : Table → Type 0
+  Keeps u = y ≡ with_entry x (entry_for (image_of is.images is.kernel u) 0 a)
+
+  pub keeps_of_kernel : t ≡ OfKernel → KeepsOf m.kernel.seat m.kernel.root.0 → Keeps t
+  keeps_of_kernel of_kernel kept =
+      subst Keeps (sym of_kernel) (kept is.kernel is.of_kernel.maps.tables (kernel_there _ _ _ _ _ _ is.of_kernel) (kernel_local _ _ _ _ _ _ is.of_kernel))
+
+  pub keeps_of_process : (s : ℕ) → t ≡ OfProcess s → (z : Tenant) → slice_get m.slots.items s ≡ Some (Some z) → KeepsOf (view_of z) z.space.root.0 → Keeps t
+  keeps_of_process s of_process z at kept =
+      let p = process_at m w is s z at in
+      let shows = (p.2).agrees.stands.shows in
+      subst Keeps (sym of_process) (kept (is.images s) (p.2).agrees.stands.tables (process_there _ _ _ p.0 shows (p.2).framed) (process_local _ _ _ p.0 shows (p.2).framed))
 
 module _ (m : Machine) (w : World) (is : IsWorld m w) (h a : ℕ) where
   pub fills_nowhere : None ≡ option_map present_table (slice_get m.harts.items h) → Makes m (Refused BadArgument) (plain_step w (step.Fill h a))

@@ -3,6 +3,7 @@ pub mod AccessingEntries
 pub mod AccessingPages
 pub mod AccessingWorlds
 pub mod BootWorld
+pub mod BufferSteps
 pub mod Entries
 pub mod Fences
 pub mod FillWorlds

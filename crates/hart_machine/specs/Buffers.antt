@@ -1,8 +1,36 @@
--- The translation buffers of a machine.
-use Rattle.std.specs.Prelude.{ℕ, Option, List, option_map, slice_get}
+-- The translation buffers of a machine, and how a step may change them.
+use Rattle.std.specs.Prelude.{◌≡◌, ◌⊎◌, ℕ, Option, Some, List, Contains, option_map, slice_get}
 use Rattle.hart_tlb.specs.declared.entry.TlbEntry.{TlbEntry}
+use Rattle.process_model.specs.declared.step.Step.{Step}
+use Rattle.process_model.specs.declared.step.Step.TheVariants as step
+use Rattle.table_walk.specs.Image.{Image}
+use Rattle.hart_machine.specs.Tables.{image_of, present_table}
+use Rattle.hart_machine.specs.Walked.{entry_for}
+use Rattle.hart_machine.specs.declared.hart.Hart.{Hart}
 use Rattle.hart_machine.specs.declared.machine.Machine.{Machine}
 
 -- the entries of a hart's, in the order of filling; none where there is no such hart
 abbrev pub buffer_of : Machine → ℕ → Option (List TlbEntry)
 buffer_of m h = option_map (λ x. x.buffer) (slice_get m.harts.items h)
+
+-- the buffer of a hart has an entry
+abbrev pub HasEntry : Machine → ℕ → TlbEntry → Type 0
+HasEntry m h e = (es : List TlbEntry) × (buffer_of m h ≡ Some es) × Contains es e
+
+-- no buffer changes
+abbrev pub SameBuffers : Machine → Machine → Type 0
+SameBuffers old new = (h : ℕ) → buffer_of new h ≡ buffer_of old h
+
+-- entries may go, and none comes
+abbrev pub NoNewEntries : Machine → Machine → Type 0
+NoNewEntries old new = (h : ℕ) (e : TlbEntry) → HasEntry new h e → HasEntry old h e
+
+-- the step is a fill on the hart, and the entry says what the table that satp has says of the page
+abbrev pub WasFilled : Machine → (ℕ → Image) → Image → Step → ℕ → TlbEntry → Type 0
+WasFilled old images kernel s h e =
+    (address : ℕ) × (x : Hart) × (s ≡ step.Fill h address) × (slice_get old.harts.items h ≡ Some x) × (e ≡ entry_for (image_of images kernel (present_table x)) 0 address)
+
+-- a hart may keep what a walk found at its fill, and nothing else (RISC-V Privileged Architecture 20211203, 4.2.1): each entry
+-- was there before, or the step filled it
+abbrev pub OnlyFillsAdd : Machine → Machine → (ℕ → Image) → Image → Step → Type 0
+OnlyFillsAdd old new images kernel s = (h : ℕ) (e : TlbEntry) → HasEntry new h e → HasEntry old h e ⊎ WasFilled old images kernel s h e

@@ -9,7 +9,7 @@ use Rattle.hart_machine.specs.declared.hart.Hart.{Hart}
 abbrev pub key_of : TlbEntry → model.Key
 key_of e = record { page = e.page; asid = e.asid }
 
--- the fences of everything leave nothing to be marked
+-- under the policy full no slot is marked as stale
 abbrev pub hart_of : Hart → model.Hart
 hart_of h = record { phase = h.phase; slot = h.slot; keys = map key_of h.buffer; stale = empty (Unit {0}) }
 

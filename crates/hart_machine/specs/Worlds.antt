@@ -49,7 +49,8 @@ may_have_own phase.Kernel = false
 may_have_own phase.Leave1 = false
 may_have_own _ = true
 
--- and in these of the kernel's: between the write of satp and the fence after it of both
+-- and in these of the kernel's: where satp has its table, and after a write of satp until the next fence, when entries of both tables
+-- may stand
 abbrev pub may_have_kernel : Phase → Bool
 may_have_kernel phase.User = false
 may_have_kernel phase.Enter0 = false
@@ -61,7 +62,7 @@ abbrev pub IsServing : Hart → (ℕ → Image) → Image → TlbEntry → Type 
 IsServing x images kernel e =
     ((may_have_kernel x.phase ≡ true) × IsEntryOf kernel 0 e) ⊎ ((s : ℕ) × (may_have_own x.phase ≡ true) × (x.slot ≡ Some s) × IsEntryOf (images s) 0 e)
 
--- the frames that seats of processes hold
+-- what the seats of the processes know
 abbrev pub seats_of : List (Option Tenant) → List View
 seats_of places = map view_of (present places)
 

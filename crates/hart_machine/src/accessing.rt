@@ -4,6 +4,7 @@ ghost use Rattle.std.specs.Prelude.{◌≡◌, ℕ, IfOk, is_ok, IsTrue, slice_g
 ghost use Rattle.frame_store.specs.Laws.{Fits, Keeps};
 ghost use Rattle.frame_store.specs.Plain.{BankRule};
 ghost use Rattle.hart_machine.specs.Accesses.{after_access, pending_after};
+ghost use Rattle.hart_machine.specs.Buffers.{SameBuffers};
 ghost use Rattle.hart_machine.specs.Harts.{hart_of};
 ghost use Rattle.hart_machine.specs.Tenants.{IsTenant, pending_of, view_of};
 ghost use Rattle.hart_machine.specs.Tables.{IsServed};
@@ -39,6 +40,7 @@ impl Machine {
     pub(crate) fn access(&mut self, hart: usize, asked: Asked, via: Option<usize>) -> Reply
         requires world { (w : World) × IsWorld self.old w }
         ensures made { (w : World) → IsWorld self.old w → Makes self.new result (access_step w hart asked.access asked.va.0 asked.width asked.value via) }
+        ensures buffers { SameBuffers self.old self.new }
     {
         let Some(phase) = self.phase_of(hart) else {
             return Reply::Refused(Refusal::BadArgument);

@@ -49,7 +49,7 @@ impl From<AllocError> for BootError {
 
 impl Machine {
     /// A machine of these sizes: its slots empty, its harts idle, and the table of the kernel built. All room that it ever
-    /// needs is made here.
+    /// needs is made here. Its steps have a meaning with the policy `full`.
     pub fn boot(alloc: Global, config: Config) -> Result<Machine, BootError>
         ensures limits { IsErrOf result BootError.BadArgument ↔ (can_boot config.harts config.frames config.slots ≡ false) }
         ensures booted { IfOk result (λ m. config.policy ≡ Full → IsWorld m (booted config [])) }

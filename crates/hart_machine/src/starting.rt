@@ -6,6 +6,7 @@ ghost use Rattle.address_space.specs.Kernel.{IsKernelTable};
 ghost use Rattle.frame_clients.specs.Opened.{opened, opener};
 ghost use Rattle.frame_store.specs.Plain.{BankRule};
 ghost use Rattle.frame_store.specs.View.{references, View};
+ghost use Rattle.hart_machine.specs.Buffers.{SameBuffers};
 ghost use Rattle.hart_machine.specs.Worlds.{IsWorld, Makes};
 ghost use Rattle.process_model.specs.Played.{AreSegments};
 ghost use Rattle.process_model.specs.Steps.{plain_step};
@@ -28,6 +29,7 @@ impl Machine {
         requires world { (w : World) × IsWorld self.old w }
         requires segments { AreSegments image }
         ensures made { (w : World) → IsWorld self.old w → Makes self.new result (plain_step w (step.Start image.entry)) }
+        ensures buffers { SameBuffers self.old self.new }
     {
         start_takes_its_need();
         let Some(slot) = self.free_slot() else {

@@ -1,7 +1,7 @@
 // Steps of the machine, and lists of steps.
 
 ghost use Rattle.std.specs.Prelude.{◌≡◌, All, IfOk, map, OnErr, OnOk, option_copied, option_map, slice_get};
-ghost use Rattle.hart_machine.specs.Buffers.{buffer_of};
+ghost use Rattle.hart_machine.specs.Buffers.{buffer_of, OnlyFillsAdd};
 ghost use Rattle.hart_machine.specs.Harts.{key_of};
 ghost use Rattle.hart_machine.specs.Worlds.{IsWorld, Makes};
 ghost use Rattle.process_model.specs.Played.{IsPlayed};
@@ -16,11 +16,13 @@ use std::alloc::{AllocError, Global};
 use sv39_entry::{Access, Va};
 
 impl Machine {
-    /// Makes one step.
+    /// Makes one step. None adds or changes an entry of a buffer but a fill, which adds what the table that satp has says of
+    /// the page (RISC-V Privileged Architecture 20211203, 4.2.1).
     pub fn step(&mut self, step: Step<'_>) -> Reply
         requires world { (w : World) × IsWorld self.old w }
         requires played { IsPlayed step }
         ensures made { (w : World) → IsWorld self.old w → Makes self.new result (model.step w step.entry) }
+        ensures buffers { (w : World) (is : IsWorld self.old w) → OnlyFillsAdd self.old self.new is.images is.kernel step.entry }
     {
         match step {
             Step::Start(image) => self.start(image),

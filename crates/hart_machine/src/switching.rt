@@ -2,6 +2,7 @@
 
 ghost use Rattle.std.specs.Prelude.{◌≡◌, slice_get, Some};
 ghost use Rattle.std.specs.List.{list_any};
+ghost use Rattle.hart_machine.specs.Buffers.{NoNewEntries, SameBuffers};
 ghost use Rattle.hart_machine.specs.Worlds.{IsWorld, Makes};
 ghost use Rattle.process_model.specs.Harts as harts;
 ghost use Rattle.process_model.specs.Steps.{plain_step};
@@ -18,6 +19,7 @@ impl Machine {
     pub(crate) fn switch(&mut self, hart: usize, slot: Option<usize>) -> Reply
         requires world { (w : World) × IsWorld self.old w }
         ensures made { (w : World) → IsWorld self.old w → Makes self.new result (plain_step w (step.Switch hart slot)) }
+        ensures buffers { SameBuffers self.old self.new }
     {
         let Some(phase) = self.phase_of(hart) else {
             return Reply::Refused(Refusal::BadArgument);
@@ -43,6 +45,7 @@ impl Machine {
     pub(crate) fn trap(&mut self, hart: usize) -> Reply
         requires world { (w : World) × IsWorld self.old w }
         ensures made { (w : World) → IsWorld self.old w → Makes self.new result (plain_step w (step.Trap hart)) }
+        ensures buffers { SameBuffers self.old self.new }
     {
         let Some(phase) = self.phase_of(hart) else {
             return Reply::Refused(Refusal::BadArgument);
@@ -62,6 +65,7 @@ impl Machine {
     pub(crate) fn next(&mut self, hart: usize) -> Reply
         requires world { (w : World) × IsWorld self.old w }
         ensures made { (w : World) → IsWorld self.old w → Makes self.new result (plain_step w (step.Next hart)) }
+        ensures buffers { NoNewEntries self.old self.new }
     {
         let Some(phase) = self.phase_of(hart) else {
             return Reply::Refused(Refusal::BadArgument);

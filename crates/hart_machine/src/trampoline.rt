@@ -1,6 +1,7 @@
 // The kernel's code in the trampoline page.
 
 ghost use Rattle.std.specs.Prelude.{◌≡◌, IfOk, is_ok, slice_get, Some};
+ghost use Rattle.hart_machine.specs.Buffers.{SameBuffers};
 ghost use Rattle.hart_machine.specs.Harts.{hart_of};
 ghost use Rattle.hart_machine.specs.Tables.{IsServed};
 ghost use Rattle.hart_machine.specs.Worlds.{IsWorld, Makes};
@@ -26,6 +27,7 @@ impl Machine {
     pub(crate) fn fetch_trampoline(&mut self, hart: usize, offset: u64, via: Option<usize>) -> Reply
         requires world { (w : World) × IsWorld self.old w }
         ensures made { (w : World) → IsWorld self.old w → Makes self.new result (plain_step w (step.TrampolineFetch hart offset via)) }
+        ensures buffers { SameBuffers self.old self.new }
     {
         let Some(phase) = self.phase_of(hart) else {
             return Reply::Refused(Refusal::BadArgument);
@@ -56,6 +58,7 @@ impl Machine {
         ensures serves { (w : World) (x : Hart) → IsWorld self.old w → slice_get self.old.harts.items hart ≡ Some x → is_ok result ≡ entry_serves Full (hart_of x) va.0 via }
         ensures walk { IfOk result (λ z. (w : World) (is : IsWorld self.old w) (x : Hart) → slice_get self.old.harts.items hart ≡ Some x → IsServed x is.images is.kernel va.0 Fetch Supervisor z) }
         ensures world { (w : World) → IsWorld self.old w → IsWorld self.new w }
+        ensures harts { self.new.harts ≡ self.old.harts }
     {
         if let Some(walk) = self.by_entry(hart, via, va, Access::Fetch, Mode::Supervisor)? {
             return Ok(walk);

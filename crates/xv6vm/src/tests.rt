@@ -83,6 +83,10 @@ fn plays_whole_scripts(rt: HostRuntime) -> Result<(), Fail> {
             "boot 1 64 1 full\non 0 0\non 0 1\n",
             "ok\nrefused 19 Impossible idle\nrefused 19 Impossible idle\n",
         ),
+        (
+            "image 0x1000:0x9000:rw:-\nboot 1 24 2 full\nstart 1\nstart 0\nstart 0\n",
+            "ok\nrefused 9 NoFrame\nslot 0\nrefused 9 NoFrame\n",
+        ),
         ("\t# x\n\n \t\nboot 1 64 1 full ", "ok\n"),
         ("boot\t1 0x40 1 full\r\n# x\r\nstart 0\r", "ok\nslot 0\n"),
     ];

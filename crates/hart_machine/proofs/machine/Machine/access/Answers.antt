@@ -1,48 +1,45 @@
-use Rattle.std.proofs.Common.{◌∙◌, ap, sym}
+use Rattle.std.proofs.Common.{◌∙◌, ap, refl, sym}
 use Rattle.std.specs.Prelude.{is_ok}
 use Rattle.sv39_entry.specs.declared.access.Mode.TheVariants.{User}
 use Rattle.hart_machine.proofs.AccessingEntries.{user_served}
 use Rattle.hart_machine.proofs.AccessSteps.{answers_access, faults_access, in_user, no_entry, no_user, no_width, nowhere}
+use Rattle.hart_machine.proofs.BufferSteps.{same_buffers, same_harts}
 use Rattle.hart_machine.proofs.HartSteps.{has_hart, no_hart, process_at}
 use Rattle.hart_machine.proofs.Trapping.{slot_there, user_has_slot, user_tenant}
 use Rattle.hart_machine.proofs.machine.Machine.access.Goals as goal
 
-pub returns-in_default : goal.returns-in_default
-returns-in_default c = let a = c.args.asked in record {
-  made = λ w is. nowhere c.args.self.now w is c.args.hart a.access a.va.0 a.width a.value c.args.via (no_hart c.args.self.now w is c.args.hart (sym c.in_default.is ∙ c.phase_of.ensures));
-}
+pub returns-in_default-clause-made : goal.returns-in_default-clause-made
+returns-in_default-clause-made c w is =
+    let a = c.args.asked in
+    nowhere c.args.self.now w is c.args.hart a.access a.va.0 a.width a.value c.args.via (no_hart c.args.self.now w is c.args.hart (sym c.in_default.is ∙ c.phase_of.ensures))
 
-pub returns-then-not-is_width : goal.returns-then-not-is_width
-returns-then-not-is_width c = let a = c.args.asked in record {
-  made = λ w is. no_width c.args.self.now w is c.args.hart a.access a.va.0 a.width a.value c.args.via (sym c.is_width.ensures ∙ c.if-not-is_width.true);
-}
+pub returns-then-not-is_width-clause-made : goal.returns-then-not-is_width-clause-made
+returns-then-not-is_width-clause-made c w is =
+    let a = c.args.asked in
+    no_width c.args.self.now w is c.args.hart a.access a.va.0 a.width a.value c.args.via (sym c.is_width.ensures ∙ c.if-not-is_width.true)
 
-pub returns-then-not-is_user : goal.returns-then-not-is_user
-returns-then-not-is_user c = let a = c.args.asked in record {
-  made = λ w is.
-      let has = has_hart c.args.self.now w is c.args.hart c.in-Some.phase (sym c.in-Some.is ∙ c.phase_of.ensures) in
-      no_user c.args.self.now w is c.args.hart a.access a.va.0 a.width a.value c.args.via c.in-Some.phase has (sym c.is_width.ensures ∙ c.if-not-is_width.false) (sym c.is_user.ensures ∙ c.if-not-is_user.true);
-}
+pub returns-then-not-is_user-clause-made : goal.returns-then-not-is_user-clause-made
+returns-then-not-is_user-clause-made c w is =
+    let a = c.args.asked in
+    let has = has_hart c.args.self.now w is c.args.hart c.in-Some.phase (sym c.in-Some.is ∙ c.phase_of.ensures) in
+    no_user c.args.self.now w is c.args.hart a.access a.va.0 a.width a.value c.args.via c.in-Some.phase has (sym c.is_width.ensures ∙ c.if-not-is_width.false) (sym c.is_user.ensures ∙ c.if-not-is_user.true)
 
-pub returns-in_default-slot_of : goal.returns-in_default-slot_of
-returns-in_default-slot_of c = record {
-  made = λ w is.
-      let has = has_hart c.args.self.now w is c.args.hart c.in-Some.phase (sym c.in-Some.is ∙ c.phase_of.ensures) in
-      absurd (user_has_slot c.args.self.now w is c.args.hart c.in-Some.phase has (sym c.is_user.ensures ∙ c.if-not-is_user.false)
-      (slot_there c.args.self.now w is c.args.hart c.in-Some.phase has _ (sym c.in_default-slot_of.is ∙ c.slot_of.ensures)));
-}
+pub returns-in_default-slot_of-clause-made : goal.returns-in_default-slot_of-clause-made
+returns-in_default-slot_of-clause-made c w is =
+    let has = has_hart c.args.self.now w is c.args.hart c.in-Some.phase (sym c.in-Some.is ∙ c.phase_of.ensures) in
+    absurd (user_has_slot c.args.self.now w is c.args.hart c.in-Some.phase has (sym c.is_user.ensures ∙ c.if-not-is_user.false)
+    (slot_there c.args.self.now w is c.args.hart c.in-Some.phase has _ (sym c.in_default-slot_of.is ∙ c.slot_of.ensures)))
 
-pub returns-in_default-by_entry : goal.returns-in_default-by_entry
-returns-in_default-by_entry c = let a = c.args.asked in record {
-  made = λ w is.
-      let m = c.args.self.now in
-      let has = has_hart m w is c.args.hart c.in-Some.phase (sym c.in-Some.is ∙ c.phase_of.ensures) in
-      let well = sym c.is_width.ensures ∙ c.if-not-is_width.false in
-      let user = sym c.is_user.ensures ∙ c.if-not-is_user.false in
-      let on = slot_there m w is c.args.hart c.in-Some.phase has _ (sym c.in-Some-slot_of.is ∙ c.slot_of.ensures) in
-      no_entry m w is c.args.hart a.access a.va.0 a.width a.value c.args.via c.in-Some.phase has well user
-      (sym (c.by_entry.ensures.serves w has.hart is has.there) ∙ ap is_ok c.in_default-by_entry.is);
-}
+pub returns-in_default-by_entry-clause-made : goal.returns-in_default-by_entry-clause-made
+returns-in_default-by_entry-clause-made c w is =
+    let a = c.args.asked in
+    let m = c.args.self.now in
+    let has = has_hart m w is c.args.hart c.in-Some.phase (sym c.in-Some.is ∙ c.phase_of.ensures) in
+    let well = sym c.is_width.ensures ∙ c.if-not-is_width.false in
+    let user = sym c.is_user.ensures ∙ c.if-not-is_user.false in
+    let on = slot_there m w is c.args.hart c.in-Some.phase has _ (sym c.in-Some-slot_of.is ∙ c.slot_of.ensures) in
+    no_entry m w is c.args.hart a.access a.va.0 a.width a.value c.args.via c.in-Some.phase has well user
+    (sym (c.by_entry.ensures.serves w has.hart is has.there) ∙ ap is_ok c.in_default-by_entry.is)
 
 pub answered-reply-requires-clause-ready : goal.answered-reply-requires-clause-ready
 answered-reply-requires-clause-ready c =
@@ -62,36 +59,39 @@ index_mut-requires c =
     let has = has_hart c.args.self.now r.0 r.1 c.args.hart c.in-Some.phase (sym c.in-Some.is ∙ c.phase_of.ensures) in
     rw c.answered-reply.ensures.harts has.within
 
-pub returns-in-Fault : goal.returns-in-Fault
-returns-in-Fault c = let a = c.args.asked in record {
-  made = λ w is.
-      let m = c.args.self.now in
-      let s = c.in-Some-slot_of.slot in
-      let has = has_hart m w is c.args.hart c.in-Some.phase (sym c.in-Some.is ∙ c.phase_of.ensures) in
-      let well = sym c.is_width.ensures ∙ c.if-not-is_width.false in
-      let user = sym c.is_user.ensures ∙ c.if-not-is_user.false in
-      let on = slot_there m w is c.args.hart c.in-Some.phase has _ (sym c.in-Some-slot_of.is ∙ c.slot_of.ensures) in
-      let runs = in_user m w is c.args.hart a.access a.va.0 a.width a.value c.args.via c.in-Some.phase has well user in
-      let t = user_tenant m w is c.args.hart c.in-Some.phase has s on in
-      let q = process_at m w is s t.0 t.1 in
-      faults_access m w is c.args.hart a.access a.va.0 a.width a.value c.args.via c.in-Some.phase has well user s on
-      (sym (c.by_entry.ensures.serves w has.hart is has.there) ∙ ap is_ok c.in-Ok.is) q.0 q.1 c.answered-reply.new.self c.answered-reply.ensures.harts c.answered-reply.result
-      (c.answered-reply.ensures.made w is q.0 q.1 (λ z given. user_served is.images is.kernel has.hart s a.va.0 a.access User z runs on (c.in-Ok.ensures.walk w is has.hart has.there z given))) c.in-Fault.field-0 c.in-Fault.is c.index_mut.result.now c.index_mut.ensures.value;
-}
+pub returns-in-Fault-clause-made : goal.returns-in-Fault-clause-made
+returns-in-Fault-clause-made c w is =
+    let a = c.args.asked in
+    let m = c.args.self.now in
+    let s = c.in-Some-slot_of.slot in
+    let has = has_hart m w is c.args.hart c.in-Some.phase (sym c.in-Some.is ∙ c.phase_of.ensures) in
+    let well = sym c.is_width.ensures ∙ c.if-not-is_width.false in
+    let user = sym c.is_user.ensures ∙ c.if-not-is_user.false in
+    let on = slot_there m w is c.args.hart c.in-Some.phase has _ (sym c.in-Some-slot_of.is ∙ c.slot_of.ensures) in
+    let runs = in_user m w is c.args.hart a.access a.va.0 a.width a.value c.args.via c.in-Some.phase has well user in
+    let t = user_tenant m w is c.args.hart c.in-Some.phase has s on in
+    let q = process_at m w is s t.0 t.1 in
+    faults_access m w is c.args.hart a.access a.va.0 a.width a.value c.args.via c.in-Some.phase has well user s on
+    (sym (c.by_entry.ensures.serves w has.hart is has.there) ∙ ap is_ok c.in-Ok.is) q.0 q.1 c.answered-reply.new.self c.answered-reply.ensures.harts c.answered-reply.result
+    (c.answered-reply.ensures.made w is q.0 q.1 (λ z given. user_served is.images is.kernel has.hart s a.va.0 a.access User z runs on (c.in-Ok.ensures.walk w is has.hart has.there z given))) c.in-Fault.field-0 c.in-Fault.is c.index_mut.result.now c.index_mut.ensures.value
 
-pub returns-in_default-reply : goal.returns-in_default-reply
-returns-in_default-reply c = let a = c.args.asked in record {
-  made = λ w is.
-      let m = c.args.self.now in
-      let s = c.in-Some-slot_of.slot in
-      let has = has_hart m w is c.args.hart c.in-Some.phase (sym c.in-Some.is ∙ c.phase_of.ensures) in
-      let well = sym c.is_width.ensures ∙ c.if-not-is_width.false in
-      let user = sym c.is_user.ensures ∙ c.if-not-is_user.false in
-      let on = slot_there m w is c.args.hart c.in-Some.phase has _ (sym c.in-Some-slot_of.is ∙ c.slot_of.ensures) in
-      let runs = in_user m w is c.args.hart a.access a.va.0 a.width a.value c.args.via c.in-Some.phase has well user in
-      let t = user_tenant m w is c.args.hart c.in-Some.phase has s on in
-      let q = process_at m w is s t.0 t.1 in
-      answers_access m w is c.args.hart a.access a.va.0 a.width a.value c.args.via c.in-Some.phase has well user s on
-      (sym (c.by_entry.ensures.serves w has.hart is has.there) ∙ ap is_ok c.in-Ok.is) q.0 q.1 c.answered-reply.new.self c.answered-reply.ensures.harts c.answered-reply.result
-      (c.answered-reply.ensures.made w is q.0 q.1 (λ z given. user_served is.images is.kernel has.hart s a.va.0 a.access User z runs on (c.in-Ok.ensures.walk w is has.hart has.there z given))) c.in_default-reply.not-Fault;
-}
+pub returns-in-Fault-clause-buffers : goal.returns-in-Fault-clause-buffers
+returns-in-Fault-clause-buffers c h =
+    same_buffers c.answered-reply.new.self c.args.hart c.index_mut.result.now _ c.index_mut.ensures.value refl h
+    ∙ same_harts c.args.self.now c.answered-reply.new.self c.answered-reply.ensures.harts h
+
+pub returns-in_default-reply-clause-made : goal.returns-in_default-reply-clause-made
+returns-in_default-reply-clause-made c w is =
+    let a = c.args.asked in
+    let m = c.args.self.now in
+    let s = c.in-Some-slot_of.slot in
+    let has = has_hart m w is c.args.hart c.in-Some.phase (sym c.in-Some.is ∙ c.phase_of.ensures) in
+    let well = sym c.is_width.ensures ∙ c.if-not-is_width.false in
+    let user = sym c.is_user.ensures ∙ c.if-not-is_user.false in
+    let on = slot_there m w is c.args.hart c.in-Some.phase has _ (sym c.in-Some-slot_of.is ∙ c.slot_of.ensures) in
+    let runs = in_user m w is c.args.hart a.access a.va.0 a.width a.value c.args.via c.in-Some.phase has well user in
+    let t = user_tenant m w is c.args.hart c.in-Some.phase has s on in
+    let q = process_at m w is s t.0 t.1 in
+    answers_access m w is c.args.hart a.access a.va.0 a.width a.value c.args.via c.in-Some.phase has well user s on
+    (sym (c.by_entry.ensures.serves w has.hart is has.there) ∙ ap is_ok c.in-Ok.is) q.0 q.1 c.answered-reply.new.self c.answered-reply.ensures.harts c.answered-reply.result
+    (c.answered-reply.ensures.made w is q.0 q.1 (λ z given. user_served is.images is.kernel has.hart s a.va.0 a.access User z runs on (c.in-Ok.ensures.walk w is has.hart has.there z given))) c.in_default-reply.not-Fault

@@ -5,35 +5,29 @@ use Rattle.hart_machine.proofs.Trampolines.{beyond, elsewhere, fetches_code, fin
 use Rattle.hart_machine.proofs.machine.Machine.fetch_trampoline.Goals as goal
 use Rattle.hart_machine.proofs.machine.Machine.fetch_trampoline.Goals.{then-offset-ne0-via-then-offset-ne0, then-offset-ne0-via-else-offset-ne0+then-offset-ge-PAGE_SIZE}
 
-pub returns-in_default : goal.returns-in_default
-returns-in_default c = record {
-  made = λ w is. nowhere c.args.self.now w is c.args.hart c.args.offset c.args.via (no_hart c.args.self.now w is c.args.hart (sym c.in_default.is ∙ c.phase_of.ensures));
-}
+pub returns-in_default-clause-made : goal.returns-in_default-clause-made
+returns-in_default-clause-made c w is =
+    nowhere c.args.self.now w is c.args.hart c.args.offset c.args.via (no_hart c.args.self.now w is c.args.hart (sym c.in_default.is ∙ c.phase_of.ensures))
 
-pub returns-then-offset-ne0 : goal.returns-then-offset-ne0
-returns-then-offset-ne0 c = record {
-  made = λ w is. elim c.then-offset-ne0.branch [
-    | then-offset-ne0-via-then-offset-ne0 b ↦ misaligned c.args.self.now w is c.args.hart c.args.offset c.args.via b.if-offset-ne0.true
-    | then-offset-ne0-via-else-offset-ne0+then-offset-ge-PAGE_SIZE b ↦ beyond c.args.self.now w is c.args.hart c.args.offset c.args.via b.if-offset-ge-PAGE_SIZE.true
-  ];
-}
+pub returns-then-offset-ne0-clause-made : goal.returns-then-offset-ne0-clause-made
+returns-then-offset-ne0-clause-made c w is =
+    elim c.then-offset-ne0.branch [
+      | then-offset-ne0-via-then-offset-ne0 b ↦ misaligned c.args.self.now w is c.args.hart c.args.offset c.args.via b.if-offset-ne0.true
+      | then-offset-ne0-via-else-offset-ne0+then-offset-ge-PAGE_SIZE b ↦ beyond c.args.self.now w is c.args.hart c.args.offset c.args.via b.if-offset-ge-PAGE_SIZE.true
+    ]
 
-pub returns-then-not-in_trampoline : goal.returns-then-not-in_trampoline
-returns-then-not-in_trampoline c = record {
-  made = λ w is.
-      let has = has_hart c.args.self.now w is c.args.hart c.in-Some.phase (sym c.in-Some.is ∙ c.phase_of.ensures) in
-      elsewhere c.args.self.now w is c.args.hart c.args.offset c.args.via c.if-offset-ne0.false (omega (arith, c.if-offset-ge-PAGE_SIZE.false)) c.in-Some.phase has
-      (sym c.in_trampoline.ensures ∙ c.if-not-in_trampoline.true);
-}
+pub returns-then-not-in_trampoline-clause-made : goal.returns-then-not-in_trampoline-clause-made
+returns-then-not-in_trampoline-clause-made c w is =
+    let has = has_hart c.args.self.now w is c.args.hart c.in-Some.phase (sym c.in-Some.is ∙ c.phase_of.ensures) in
+    elsewhere c.args.self.now w is c.args.hart c.args.offset c.args.via c.if-offset-ne0.false (omega (arith, c.if-offset-ge-PAGE_SIZE.false)) c.in-Some.phase has
+    (sym c.in_trampoline.ensures ∙ c.if-not-in_trampoline.true)
 
-pub returns-in_default-fetched : goal.returns-in_default-fetched
-returns-in_default-fetched c = record {
-  made = λ w is.
-      let has = has_hart c.args.self.now w is c.args.hart c.in-Some.phase (sym c.in-Some.is ∙ c.phase_of.ensures) in
-      no_entry c.args.self.now w is c.args.hart c.args.offset c.args.via c.if-offset-ne0.false (omega (arith, c.if-offset-ge-PAGE_SIZE.false)) c.in-Some.phase has
-      (sym c.in_trampoline.ensures ∙ c.if-not-in_trampoline.false) c.fetched.new.self (c.fetched.ensures.world w is)
-      (sym (c.fetched.ensures.serves w has.hart is has.there) ∙ ap is_ok c.in_default-fetched.is);
-}
+pub returns-in_default-fetched-clause-made : goal.returns-in_default-fetched-clause-made
+returns-in_default-fetched-clause-made c w is =
+    let has = has_hart c.args.self.now w is c.args.hart c.in-Some.phase (sym c.in-Some.is ∙ c.phase_of.ensures) in
+    no_entry c.args.self.now w is c.args.hart c.args.offset c.args.via c.if-offset-ne0.false (omega (arith, c.if-offset-ge-PAGE_SIZE.false)) c.in-Some.phase has
+    (sym c.in_trampoline.ensures ∙ c.if-not-in_trampoline.false) c.fetched.new.self (c.fetched.ensures.world w is)
+    (sym (c.fetched.ensures.serves w has.hart is has.there) ∙ ap is_ok c.in_default-fetched.is)
 
 pub unreachable-requires : goal.unreachable-requires
 unreachable-requires c =
@@ -51,13 +45,11 @@ unreachable-requires-in_default-from_ppn c =
     let both = sym c.in_default-from_ppn.is ∙ c.from_ppn.ensures ∙ code in
     cc
 
-pub returns : goal.returns
-returns c = record {
-  made = λ w is.
-      let has = has_hart c.args.self.now w is c.args.hart c.in-Some.phase (sym c.in-Some.is ∙ c.phase_of.ensures) in
-      let code = finds_code c.args.offset (omega (arith, c.if-offset-ge-PAGE_SIZE.false)) c.args.self.now w is c.args.hart has.hart has.there c.in-Ok.walk
-      (c.in-Ok.ensures.walk w is has.hart has.there) c.in-Leaf.word c.in-Leaf.level c.in-Leaf.address c.in-Leaf.is in
-      rw c.from.ensures (fetches_code c.args.self.now w is c.args.hart c.args.offset c.args.via c.if-offset-ne0.false (omega (arith, c.if-offset-ge-PAGE_SIZE.false)) c.in-Some.phase has
-      (sym c.in_trampoline.ensures ∙ c.if-not-in_trampoline.false) c.fetched.new.self (c.fetched.ensures.world w is)
-      (sym (c.fetched.ensures.serves w has.hart is has.there) ∙ ap is_ok c.in-Ok.is) c.in-Some-from_ppn.frame (sym c.in-Some-from_ppn.is ∙ c.from_ppn.ensures ∙ code));
-}
+pub returns-clause-made : goal.returns-clause-made
+returns-clause-made c w is =
+    let has = has_hart c.args.self.now w is c.args.hart c.in-Some.phase (sym c.in-Some.is ∙ c.phase_of.ensures) in
+    let code = finds_code c.args.offset (omega (arith, c.if-offset-ge-PAGE_SIZE.false)) c.args.self.now w is c.args.hart has.hart has.there c.in-Ok.walk
+    (c.in-Ok.ensures.walk w is has.hart has.there) c.in-Leaf.word c.in-Leaf.level c.in-Leaf.address c.in-Leaf.is in
+    rw c.from.ensures (fetches_code c.args.self.now w is c.args.hart c.args.offset c.args.via c.if-offset-ne0.false (omega (arith, c.if-offset-ge-PAGE_SIZE.false)) c.in-Some.phase has
+    (sym c.in_trampoline.ensures ∙ c.if-not-in_trampoline.false) c.fetched.new.self (c.fetched.ensures.world w is)
+    (sym (c.fetched.ensures.serves w has.hart is has.there) ∙ ap is_ok c.in-Ok.is) c.in-Some-from_ppn.frame (sym c.in-Some-from_ppn.is ∙ c.from_ppn.ensures ∙ code))

@@ -1,26 +1,26 @@
-use Rattle.std.proofs.Common.{◌∙◌, ap, sym}
-use Rattle.hart_machine.specs.Harts.{with_entry}
-use Rattle.hart_machine.specs.Tables.{image_of}
-use Rattle.hart_machine.specs.Walked.{entry_for}
-use Rattle.hart_machine.specs.declared.tables.Table.{Table}
 use Rattle.hart_machine.proofs.AccessingWorlds.{seat_fits}
-use Rattle.hart_machine.proofs.FillWorlds.{fills, put_back, table_there}
+use Rattle.hart_machine.proofs.BufferSteps.{fill_adds}
+use Rattle.hart_machine.proofs.FillWorlds.{fills, keeps_of_kernel, keeps_of_process, put_back, table_there}
 use Rattle.hart_machine.proofs.HartSteps.{process_at}
-use Rattle.hart_machine.proofs.Leaves.{kernel_local, kernel_there, process_local, process_there}
 use Rattle.hart_machine.proofs.PresentTables.{not_empty, slot_within, tenant_is}
 use Rattle.hart_machine.proofs.machine.Machine.keep.Goals as goal
 
-pub returns-in-OfKernel : goal.returns-in-OfKernel
-returns-in-OfKernel c = record {
-  made = λ w is.
-      let m = c.args.self.now in
-      let r = c.requires.present in
-      let made = c.fill.ensures.kept is.kernel is.of_kernel.maps.tables (kernel_there _ _ _ _ _ _ is.of_kernel) (kernel_local _ _ _ _ _ _ is.of_kernel) in
-      rw (c.fill.ensures.same, c.fill.ensures.view) (
-      fills m w is c.args.hart c.args.va.0 r.0 r.1 c.args.table r.2 c.index_mut-hart.result.now c.index_mut-hart.ensures.value c.fill.ensures.few c.fill.new.self
-      (made ∙ ap (λ (t : Table). with_entry c.index_mut-hart.result.now (entry_for (image_of is.images is.kernel t) 0 c.args.va.0)) (sym c.in-OfKernel.is)) c.fill.result c.fill.ensures.number
-      );
-}
+pub returns-in-OfKernel-clause-made : goal.returns-in-OfKernel-clause-made
+returns-in-OfKernel-clause-made c w is =
+    let m = c.args.self.now in
+    let r = c.requires.present in
+    let x = c.index_mut-hart in
+    let kept = keeps_of_kernel m w is c.args.va.0 x.result.now c.fill.new.self c.args.table c.in-OfKernel.is c.fill.ensures.kept in
+    rw (c.fill.ensures.same, c.fill.ensures.view)
+    (fills m w is c.args.hart c.args.va.0 r.0 r.1 c.args.table r.2 x.result.now x.ensures.value c.fill.ensures.few c.fill.new.self kept c.fill.result c.fill.ensures.number)
+
+pub returns-in-OfKernel-clause-buffers : goal.returns-in-OfKernel-clause-buffers
+returns-in-OfKernel-clause-buffers c w is =
+    let m = c.args.self.now in
+    let r = c.requires.present in
+    let x = c.index_mut-hart in
+    let kept = keeps_of_kernel m w is c.args.va.0 x.result.now c.fill.new.self c.args.table c.in-OfKernel.is c.fill.ensures.kept in
+    fill_adds m c.args.hart x.result.now c.fill.new.self x.ensures.value r.0 r.1 c.args.table r.2 is.images is.kernel c.args.va.0 kept
 
 pub index_mut-requires : goal.index_mut-requires
 index_mut-requires c =
@@ -53,17 +53,27 @@ fill-requires-in-OfProcess-clause-held c =
     let p = process_at m v.0 v.1 c.in-OfProcess.slot c.in-Some.tenant at in
     ((v.1).images c.in-OfProcess.slot, (p.2).agrees.stands.tables)
 
-pub returns-in-Some : goal.returns-in-Some
-returns-in-Some c = record {
-  made = λ w is.
-      let m = c.args.self.now in
-      let r = c.requires.present in
-      let at = tenant_is m c.args.table c.in-OfProcess.slot c.in-OfProcess.is (table_there m w is c.args.hart r.0 r.1 c.args.table r.2) _ c.index_mut.ensures.value c.in-Some.tenant c.in-Some.is in
-      let p = process_at m w is c.in-OfProcess.slot c.in-Some.tenant at in
-      let shows = (p.2).agrees.stands.shows in
-      let made = c.fill-in-OfProcess.ensures.kept (is.images c.in-OfProcess.slot) (p.2).agrees.stands.tables (process_there _ _ _ p.0 shows (p.2).framed) (process_local _ _ _ p.0 shows (p.2).framed) in
-      rw (c.fill-in-OfProcess.ensures.same, c.fill-in-OfProcess.ensures.view) (
-      fills _ w (put_back m w is c.in-OfProcess.slot c.in-Some.tenant at) c.args.hart c.args.va.0 r.0 r.1 c.args.table r.2 c.index_mut-hart.result.now c.index_mut-hart.ensures.value c.fill-in-OfProcess.ensures.few c.fill-in-OfProcess.new.self
-      (made ∙ ap (λ (t : Table). with_entry c.index_mut-hart.result.now (entry_for (image_of is.images is.kernel t) 0 c.args.va.0)) (sym c.in-OfProcess.is)) c.fill-in-OfProcess.result c.fill-in-OfProcess.ensures.number
-      );
-}
+pub returns-in-Some-clause-made : goal.returns-in-Some-clause-made
+returns-in-Some-clause-made c w is =
+    let m = c.args.self.now in
+    let r = c.requires.present in
+    let x = c.index_mut-hart in
+    let f = c.fill-in-OfProcess in
+    let s = c.in-OfProcess.slot in
+    let z = c.in-Some.tenant in
+    let at = tenant_is m c.args.table s c.in-OfProcess.is (table_there m w is c.args.hart r.0 r.1 c.args.table r.2) _ c.index_mut.ensures.value z c.in-Some.is in
+    let kept = keeps_of_process m w is c.args.va.0 x.result.now f.new.self c.args.table s c.in-OfProcess.is z at f.ensures.kept in
+    rw (f.ensures.same, f.ensures.view)
+    (fills _ w (put_back m w is s z at) c.args.hart c.args.va.0 r.0 r.1 c.args.table r.2 x.result.now x.ensures.value f.ensures.few f.new.self kept f.result f.ensures.number)
+
+pub returns-in-Some-clause-buffers : goal.returns-in-Some-clause-buffers
+returns-in-Some-clause-buffers c w is =
+    let m = c.args.self.now in
+    let r = c.requires.present in
+    let x = c.index_mut-hart in
+    let f = c.fill-in-OfProcess in
+    let s = c.in-OfProcess.slot in
+    let z = c.in-Some.tenant in
+    let at = tenant_is m c.args.table s c.in-OfProcess.is (table_there m w is c.args.hart r.0 r.1 c.args.table r.2) _ c.index_mut.ensures.value z c.in-Some.is in
+    let kept = keeps_of_process m w is c.args.va.0 x.result.now f.new.self c.args.table s c.in-OfProcess.is z at f.ensures.kept in
+    fill_adds m c.args.hart x.result.now f.new.self x.ensures.value r.0 r.1 c.args.table r.2 is.images is.kernel c.args.va.0 kept

@@ -1,17 +1,19 @@
-use Rattle.std.proofs.Common.{◌∙◌, sym}
+use Rattle.std.proofs.Common.{◌∙◌, subst, sym}
+use Rattle.std.specs.Prelude.{Contains}
 use Rattle.process_model.specs.declared.step.Refusal.TheVariants.{BadArgument}
+use Rattle.hart_machine.specs.declared.hart.Hart.{Hart}
+use Rattle.hart_machine.proofs.BufferSteps.{advanced_has, none_comes}
 use Rattle.hart_machine.proofs.HartSteps.{goes_on, has_hart, next_refused, no_hart, refused, without_hart}
 use Rattle.hart_machine.proofs.machine.Machine.next.Goals as goal
 
-pub returns-in_default : goal.returns-in_default
-returns-in_default c = record { made = λ w is. refused c.args.self.now w is BadArgument _ (without_hart w c.args.hart _ _ _ _ (no_hart c.args.self.now w is c.args.hart (sym c.in_default.is ∙ c.phase_of.ensures))) }
+pub returns-in_default-clause-made : goal.returns-in_default-clause-made
+returns-in_default-clause-made c w is =
+    refused c.args.self.now w is BadArgument _ (without_hart w c.args.hart _ _ _ _ (no_hart c.args.self.now w is c.args.hart (sym c.in_default.is ∙ c.phase_of.ensures)))
 
-pub returns-then-not-can_go_on : goal.returns-then-not-can_go_on
-returns-then-not-can_go_on c = record {
-  made = λ w is.
-      let has = has_hart c.args.self.now w is c.args.hart c.in-Some.phase (sym c.in-Some.is ∙ c.phase_of.ensures) in
-      next_refused c.args.self.now w is c.args.hart c.in-Some.phase has (sym (c.can_go_on.ensures w _ is has.in_model has.phased) ∙ c.if-not-can_go_on.true);
-}
+pub returns-then-not-can_go_on-clause-made : goal.returns-then-not-can_go_on-clause-made
+returns-then-not-can_go_on-clause-made c w is =
+    let has = has_hart c.args.self.now w is c.args.hart c.in-Some.phase (sym c.in-Some.is ∙ c.phase_of.ensures) in
+    next_refused c.args.self.now w is c.args.hart c.in-Some.phase has (sym (c.can_go_on.ensures w _ is has.in_model has.phased) ∙ c.if-not-can_go_on.true)
 
 pub index_mut-requires : goal.index_mut-requires
 index_mut-requires c =
@@ -19,10 +21,13 @@ index_mut-requires c =
     let has = has_hart c.args.self.now r.0 r.1 c.args.hart c.in-Some.phase (sym c.in-Some.is ∙ c.phase_of.ensures) in
     has.within
 
-pub returns : goal.returns
-returns c = record {
-  made = λ w is.
-      let has = has_hart c.args.self.now w is c.args.hart c.in-Some.phase (sym c.in-Some.is ∙ c.phase_of.ensures) in
-      goes_on c.args.self.now w is c.args.hart c.in-Some.phase has c.index_mut.result.now c.advance.new.self c.index_mut.ensures.value c.advance.ensures
-      (sym (c.can_go_on.ensures w _ is has.in_model has.phased) ∙ c.if-not-can_go_on.false);
-}
+pub returns-clause-made : goal.returns-clause-made
+returns-clause-made c w is =
+    let has = has_hart c.args.self.now w is c.args.hart c.in-Some.phase (sym c.in-Some.is ∙ c.phase_of.ensures) in
+    goes_on c.args.self.now w is c.args.hart c.in-Some.phase has c.index_mut.result.now c.advance.new.self c.index_mut.ensures.value c.advance.ensures
+    (sym (c.can_go_on.ensures w _ is has.in_model has.phased) ∙ c.if-not-can_go_on.false)
+
+pub returns-clause-buffers : goal.returns-clause-buffers
+returns-clause-buffers c =
+    none_comes c.args.self.now c.args.hart c.index_mut.result.now c.advance.new.self c.index_mut.ensures.value
+    (λ e there. advanced_has c.index_mut.result.now e (subst (λ (y : Hart). Contains y.buffer e) c.advance.ensures there))

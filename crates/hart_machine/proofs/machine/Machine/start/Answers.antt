@@ -40,39 +40,35 @@ close_seat-requires-clause-seat c = dry_holds _ c.open_seat-seat.result c.in-Err
 pub close_seat-requires-clause-code : goal.close_seat-requires-clause-code
 close_seat-requires-clause-code c = open_code c.args.self.now c.open_seat-seat.new.self c.open_seat-seat.ensures.opener c.requires.world.1.of_kernel.maps.holds.code
 
-pub returns-in-Ok-start : goal.returns-in-Ok-start
-returns-in-Ok-start c = record {
-  made = λ w is.
-      let m = c.args.self.now in
-      let s = c.in-Some.slot in
-      let o = c.open_seat-seat in
-      let ok = c.in-Ok-start in
-      let others = seats_of m.slots.items in
-      let y : Tenant = record { space = ok.space; pending = None } in
-      let n : Machine = record { size = o.new.self.size; frames = c.start.new.store; kernel = o.new.self.kernel; slots = with_item o.new.self.slots s (Some y); harts = o.new.self.harts } in
-      makes_started w s c.args.image c.in-Ok.image (sym (c.free_slot.ensures w is) ∙ c.in-Some.is) (ap image_loads c.in-Segments.is ∙ sym c.from_segments.ensures ∙ c.in-Ok.is)
-      m n is o.ensures.size o.ensures.harts (open_kernel m o.new.self o.ensures.opener w.frames (length w.slots) is.stacks is.kernel is.of_kernel)
-      c.start_takes_its_need.ensures y ok.ensures.started.0 (rw o.ensures.slots refl)
-      (ok.ensures.started.1 w.counter) ok.ensures.started.2 refl
-      (second_steps o.new.self.frames c.start.new.store o.new.self.kernel.seat o.result ok.space.seat others ok.ensures.keeps (o.ensures.rule others is.rule))
-      (subst (λ k. start_need c.in-Ok.image ≤ k) o.ensures.free ((ok.ensures.exact tt).0 refl)) (ok.ensures.free tt ∙ ap (λ k. k - start_need c.in-Ok.image) o.ensures.free);
-}
+pub returns-in-Ok-start-clause-made : goal.returns-in-Ok-start-clause-made
+returns-in-Ok-start-clause-made c w is =
+    let m = c.args.self.now in
+    let s = c.in-Some.slot in
+    let o = c.open_seat-seat in
+    let ok = c.in-Ok-start in
+    let others = seats_of m.slots.items in
+    let y : Tenant = record { space = ok.space; pending = None } in
+    let n : Machine = record { size = o.new.self.size; frames = c.start.new.store; kernel = o.new.self.kernel; slots = with_item o.new.self.slots s (Some y); harts = o.new.self.harts } in
+    makes_started w s c.args.image c.in-Ok.image (sym (c.free_slot.ensures w is) ∙ c.in-Some.is) (ap image_loads c.in-Segments.is ∙ sym c.from_segments.ensures ∙ c.in-Ok.is)
+    m n is o.ensures.size o.ensures.harts (open_kernel m o.new.self o.ensures.opener w.frames (length w.slots) is.stacks is.kernel is.of_kernel)
+    c.start_takes_its_need.ensures y ok.ensures.started.0 (rw o.ensures.slots refl)
+    (ok.ensures.started.1 w.counter) ok.ensures.started.2 refl
+    (second_steps o.new.self.frames c.start.new.store o.new.self.kernel.seat o.result ok.space.seat others ok.ensures.keeps (o.ensures.rule others is.rule))
+    (subst (λ k. start_need c.in-Ok.image ≤ k) o.ensures.free ((ok.ensures.exact tt).0 refl)) (ok.ensures.free tt ∙ ap (λ k. k - start_need c.in-Ok.image) o.ensures.free)
 
-pub returns-in-Err-start : goal.returns-in-Err-start
-returns-in-Err-start c = record {
-  made = λ w is.
-      let m = c.args.self.now in
-      let s = c.in-Some.slot in
-      let o = c.open_seat-seat in
-      let e = c.in-Err-start in
-      let others = seats_of m.slots.items in
-      let n = c.close_seat.new.self in
-      let opened = open_kernel m o.new.self o.ensures.opener w.frames (length w.slots) is.stacks is.kernel is.of_kernel in
-      makes_refused w s c.args.image c.in-Ok.image (sym (c.free_slot.ensures w is) ∙ c.in-Some.is) (ap image_loads c.in-Segments.is ∙ sym c.from_segments.ensures ∙ c.in-Ok.is)
-      m n is (c.close_seat.ensures.size ∙ o.ensures.size) (c.close_seat.ensures.harts ∙ o.ensures.harts)
-      (c.close_seat.ensures.kernel w.frames (length w.slots) is.stacks is.kernel opened)
-      (c.close_seat.ensures.slots ∙ o.ensures.slots)
-      (c.close_seat.ensures.rule others (second_steps o.new.self.frames c.start.new.store o.new.self.kernel.seat o.result e.seat others e.ensures.keeps_refused (o.ensures.rule others is.rule)))
-      (λ le. let ok = (e.ensures.exact tt).1 (subst (λ k. start_need c.in-Ok.image ≤ k) (sym o.ensures.free) le) in cc)
-      (let none : o.new.self.frames.free - 0 ≡ o.new.self.frames.free = omega arith in c.close_seat.ensures.free ∙ e.ensures.free tt ∙ none ∙ o.ensures.free);
-}
+pub returns-in-Err-start-clause-made : goal.returns-in-Err-start-clause-made
+returns-in-Err-start-clause-made c w is =
+    let m = c.args.self.now in
+    let s = c.in-Some.slot in
+    let o = c.open_seat-seat in
+    let e = c.in-Err-start in
+    let others = seats_of m.slots.items in
+    let n = c.close_seat.new.self in
+    let opened = open_kernel m o.new.self o.ensures.opener w.frames (length w.slots) is.stacks is.kernel is.of_kernel in
+    makes_refused w s c.args.image c.in-Ok.image (sym (c.free_slot.ensures w is) ∙ c.in-Some.is) (ap image_loads c.in-Segments.is ∙ sym c.from_segments.ensures ∙ c.in-Ok.is)
+    m n is (c.close_seat.ensures.size ∙ o.ensures.size) (c.close_seat.ensures.harts ∙ o.ensures.harts)
+    (c.close_seat.ensures.kernel w.frames (length w.slots) is.stacks is.kernel opened)
+    (c.close_seat.ensures.slots ∙ o.ensures.slots)
+    (c.close_seat.ensures.rule others (second_steps o.new.self.frames c.start.new.store o.new.self.kernel.seat o.result e.seat others e.ensures.keeps_refused (o.ensures.rule others is.rule)))
+    (λ le. let ok = (e.ensures.exact tt).1 (subst (λ k. start_need c.in-Ok.image ≤ k) (sym o.ensures.free) le) in cc)
+    (let none : o.new.self.frames.free - 0 ≡ o.new.self.frames.free = omega arith in c.close_seat.ensures.free ∙ e.ensures.free tt ∙ none ∙ o.ensures.free)

@@ -1,28 +1,27 @@
-use Rattle.std.proofs.Common.{◌<◌, ◌∙◌, sym, subst}
+use Rattle.std.proofs.Common.{◌<◌, ◌∙◌, ap, refl, sym, subst}
 use Rattle.std.specs.Vec.{vec_len}
 use Rattle.process_model.specs.declared.step.Refusal.TheVariants.{BadArgument}
+use Rattle.hart_machine.specs.Buffers.{buffer_of}
 use Rattle.hart_machine.specs.declared.machine.Machine.{Machine}
+use Rattle.hart_machine.proofs.BufferSteps.{same_buffers}
 use Rattle.hart_machine.proofs.HartSteps.{has_hart, no_hart, refused, without_hart}
 use Rattle.hart_machine.proofs.Trapping.{slot_there, trap_refused, traps, user_has_slot, user_tenant}
 use Rattle.hart_machine.proofs.machine.Machine.trap.Goals as goal
 
-pub returns-in_default : goal.returns-in_default
-returns-in_default c = record { made = λ w is. refused c.args.self.now w is BadArgument _ (without_hart w c.args.hart _ _ _ _ (no_hart c.args.self.now w is c.args.hart (sym c.in_default.is ∙ c.phase_of.ensures))) }
+pub returns-in_default-clause-made : goal.returns-in_default-clause-made
+returns-in_default-clause-made c w is =
+    refused c.args.self.now w is BadArgument _ (without_hart w c.args.hart _ _ _ _ (no_hart c.args.self.now w is c.args.hart (sym c.in_default.is ∙ c.phase_of.ensures)))
 
-pub returns-then-not-is_user : goal.returns-then-not-is_user
-returns-then-not-is_user c = record {
-  made = λ w is.
-      let has = has_hart c.args.self.now w is c.args.hart c.in-Some.phase (sym c.in-Some.is ∙ c.phase_of.ensures) in
-      trap_refused c.args.self.now w is c.args.hart c.in-Some.phase has (sym c.is_user.ensures ∙ c.if-not-is_user.true);
-}
+pub returns-then-not-is_user-clause-made : goal.returns-then-not-is_user-clause-made
+returns-then-not-is_user-clause-made c w is =
+    let has = has_hart c.args.self.now w is c.args.hart c.in-Some.phase (sym c.in-Some.is ∙ c.phase_of.ensures) in
+    trap_refused c.args.self.now w is c.args.hart c.in-Some.phase has (sym c.is_user.ensures ∙ c.if-not-is_user.true)
 
-pub returns-in_default-slot_of : goal.returns-in_default-slot_of
-returns-in_default-slot_of c = record {
-  made = λ w is.
-      let has = has_hart c.args.self.now w is c.args.hart c.in-Some.phase (sym c.in-Some.is ∙ c.phase_of.ensures) in
-      absurd (user_has_slot c.args.self.now w is c.args.hart c.in-Some.phase has (sym c.is_user.ensures ∙ c.if-not-is_user.false)
-      (slot_there c.args.self.now w is c.args.hart c.in-Some.phase has _ (sym c.in_default-slot_of.is ∙ c.slot_of.ensures)));
-}
+pub returns-in_default-slot_of-clause-made : goal.returns-in_default-slot_of-clause-made
+returns-in_default-slot_of-clause-made c w is =
+    let has = has_hart c.args.self.now w is c.args.hart c.in-Some.phase (sym c.in-Some.is ∙ c.phase_of.ensures) in
+    absurd (user_has_slot c.args.self.now w is c.args.hart c.in-Some.phase has (sym c.is_user.ensures ∙ c.if-not-is_user.false)
+    (slot_there c.args.self.now w is c.args.hart c.in-Some.phase has _ (sym c.in_default-slot_of.is ∙ c.slot_of.ensures)))
 
 pub set_pending-requires : goal.set_pending-requires
 set_pending-requires c = record {
@@ -41,11 +40,17 @@ index_mut-requires c =
     (slot_there c.args.self.now r.0 r.1 c.args.hart c.in-Some.phase has _ (sym c.in-Some-slot_of.is ∙ c.slot_of.ensures)) in
     subst (λ (n : Machine). c.args.hart < vec_len n.harts) (sym (c.set_pending.ensures t.0 t.1)) has.within
 
-pub returns : goal.returns
-returns c = record {
-  made = λ w is.
-      let has = has_hart c.args.self.now w is c.args.hart c.in-Some.phase (sym c.in-Some.is ∙ c.phase_of.ensures) in
-      traps c.args.self.now w is c.args.hart c.in-Some.phase has c.in-Some-slot_of.slot
-      (slot_there c.args.self.now w is c.args.hart c.in-Some.phase has _ (sym c.in-Some-slot_of.is ∙ c.slot_of.ensures)) (sym c.is_user.ensures ∙ c.if-not-is_user.false)
-      c.set_pending.new.self c.index_mut.result.now c.set_pending.ensures c.index_mut.ensures.value;
-}
+pub returns-clause-made : goal.returns-clause-made
+returns-clause-made c w is =
+    let has = has_hart c.args.self.now w is c.args.hart c.in-Some.phase (sym c.in-Some.is ∙ c.phase_of.ensures) in
+    traps c.args.self.now w is c.args.hart c.in-Some.phase has c.in-Some-slot_of.slot
+    (slot_there c.args.self.now w is c.args.hart c.in-Some.phase has _ (sym c.in-Some-slot_of.is ∙ c.slot_of.ensures)) (sym c.is_user.ensures ∙ c.if-not-is_user.false)
+    c.set_pending.new.self c.index_mut.result.now c.set_pending.ensures c.index_mut.ensures.value
+
+pub returns-clause-buffers : goal.returns-clause-buffers
+returns-clause-buffers c h =
+    let r = c.requires.world in
+    let has = has_hart c.args.self.now r.0 r.1 c.args.hart c.in-Some.phase (sym c.in-Some.is ∙ c.phase_of.ensures) in
+    let t = user_tenant c.args.self.now r.0 r.1 c.args.hart c.in-Some.phase has c.in-Some-slot_of.slot
+    (slot_there c.args.self.now r.0 r.1 c.args.hart c.in-Some.phase has _ (sym c.in-Some-slot_of.is ∙ c.slot_of.ensures)) in
+    same_buffers c.set_pending.new.self c.args.hart c.index_mut.result.now _ c.index_mut.ensures.value refl h ∙ ap (λ (n : Machine). buffer_of n h) (c.set_pending.ensures t.0 t.1)
