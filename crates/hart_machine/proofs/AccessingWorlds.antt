@@ -19,7 +19,7 @@ use Rattle.hart_machine.specs.Worlds.{IsWorld, seats_of}
 use Rattle.hart_machine.specs.declared.machine.Machine.{Machine}
 use Rattle.hart_machine.specs.declared.tenant.Tenant.{Tenant}
 use Rattle.hart_machine.proofs.AccessingPages.{access_same_pages, SamePages}
-use Rattle.hart_machine.proofs.ProcessSteps.{process_changes}
+use Rattle.hart_machine.proofs.ProcessSteps.{agrees_pending, process_changes}
 
 -- seats
 
@@ -46,39 +46,12 @@ module _ (b : Bank) (k : View) (places : List (Option Tenant)) (s : ℕ) (x : Te
 pub slot_has : (places : List (Option Tenant)) (s : ℕ) (x y : Tenant) (o : Option Tenant) → o ≡ Some y → o ≡ get_or places s o → slice_get places s ≡ Some (Some x) → slice_get places s ≡ Some (Some y)
 slot_has places s x y o is read at = at ∙ ap Some (sym (get_or_from_slice_get places s (Some x) o at) ∙ sym read ∙ is)
 
--- another access pending changes nothing in memory
+-- a process that has another access pending is still that of its tenant
 module _ (v : View) (root trapframe : ℕ) (l : Layout) (t : Image) (p : Process) (a : Agrees v root trapframe l t p) where
-  agrees_pending : (o : Option Pending) → Agrees v root trapframe l t (record p { pending = o })
-  agrees_pending o = record {
-    lays = record { parts = a.lays.parts; mappings = a.lays.mappings; heap_base = a.lays.heap_base; size = a.lays.size };
-    stands = record {
-      tables = a.stands.tables;
-      owns = a.stands.owns;
-      shows = record {
-        on_trampoline = a.stands.shows.on_trampoline;
-        on_trapframe = a.stands.shows.on_trapframe;
-        settled = λ n s there. let shown = a.stands.shows.settled n s there in record {
-          region = shown.region;
-          frame = shown.frame;
-          leaf = shown.leaf;
-          in_region = shown.in_region;
-          mapped = shown.mapped;
-          made = shown.made;
-          bytes = shown.bytes;
-        };
-        only = a.stands.shows.only;
-        low = a.stands.shows.low;
-      };
-      tabled = a.stands.tabled;
-      tabled_low = a.stands.tabled_low;
-    };
-    credits = a.credits;
-  }
-
   pub tenant_after : (x : Tenant) → view_of x ≡ v → x.space.root.0 ≡ root → x.space.trapframe.0 ≡ trapframe → x.space.layout ≡ l → trapframe < 2 ^ 16 → (o : Option Pending) → pending_of x.pending ≡ o
       → IsTenant x t (record p { pending = o })
   tenant_after x view at frame layout small o pending = record {
-    agrees = rw (view, at, frame, layout) (agrees_pending o);
+    agrees = rw (view, at, frame, layout) (agrees_pending v root trapframe l t p a o);
     framed = rw frame small;
     pending = sym pending;
   }

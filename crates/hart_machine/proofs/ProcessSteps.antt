@@ -8,13 +8,17 @@ use Rattle.std.proofs.lemmas.List.Sums.{sum_by-cons}
 use Rattle.std.proofs.lemmas.Option.{same_Some, slice_get_within}
 use Rattle.frame_store.specs.Plain.{Bank, BankRule}
 use Rattle.frame_store.specs.Seats.{place_set_other, place_set_same}
+use Rattle.frame_store.specs.View.{View}
 use Rattle.process_model.specs.Frames.{copies_of, live, own_frames}
 use Rattle.process_model.specs.PageMap as pages
 use Rattle.process_model.specs.PageMap.{count, keys, numbers}
+use Rattle.process_model.specs.Process as of_model
 use Rattle.process_model.specs.Process.{Page, Process}
 use Rattle.process_model.specs.World.{World, free, with_process}
+use Rattle.table_walk.specs.Image.{Image}
 use Rattle.address_space.specs.Agreement.{Agrees}
 use Rattle.address_space.specs.Kernel.{IsKernelTable}
+use Rattle.address_space.specs.Layouts.{Layout}
 use Rattle.hart_machine.specs.Tenants.{IsTenant, pending_of, view_of}
 use Rattle.hart_machine.specs.Worlds.{IsPlace, IsWorld, seats_of}
 use Rattle.hart_machine.specs.declared.hart.Hart.{Hart}
@@ -105,36 +109,39 @@ seats_stay (z ∷ places) zero x y at e = rw (same_Some z (Some x) at) (ap (λ v
 seats_stay (None ∷ places) (suc s) x y at e = seats_stay places s x y at e
 seats_stay (Some z ∷ places) (suc s) x y at e = ap (λ vs. view_of z ∷ vs) (seats_stay places s x y at e)
 
+-- another access pending changes nothing in memory
+module _ (v : View) (root trapframe : ℕ) (l : Layout) (t : Image) (p : Process) (a : Agrees v root trapframe l t p) where
+  pub agrees_pending : (o : Option of_model.Pending) → Agrees v root trapframe l t (record p { pending = o })
+  agrees_pending o = record {
+    lays = record { parts = a.lays.parts; mappings = a.lays.mappings; heap_base = a.lays.heap_base; size = a.lays.size };
+    stands = record {
+      tables = a.stands.tables;
+      owns = a.stands.owns;
+      shows = record {
+        on_trampoline = a.stands.shows.on_trampoline;
+        on_trapframe = a.stands.shows.on_trapframe;
+        settled = λ n s there. let shown = a.stands.shows.settled n s there in record {
+          region = shown.region;
+          frame = shown.frame;
+          leaf = shown.leaf;
+          in_region = shown.in_region;
+          mapped = shown.mapped;
+          made = shown.made;
+          bytes = shown.bytes;
+        };
+        only = a.stands.shows.only;
+        low = a.stands.shows.low;
+      };
+      tabled = a.stands.tabled;
+      tabled_low = a.stands.tabled_low;
+    };
+    credits = a.credits;
+  }
+
 module _ (m : Machine) (w : World) (is : IsWorld m w) (s : ℕ) (x : Tenant) (p : Process) (place : slice_get m.slots.items s ≡ Some (Some x)) (at : slice_get w.slots s ≡ Some (Some p))
     (tenant : IsTenant x (is.images s) p) where
   -- the process of a slot has another access pending
   pub pending_changes : (o : Option Pending) → IsWorld (record m { slots = with_item m.slots s (Some (record x { pending = o })) }) (with_process w s (record p { pending = pending_of o }))
   pending_changes o = process_changes m w is s x (record x { pending = o }) p (record p { pending = pending_of o }) place at (λ n a there. (a, there, refl)) m.frames
       (subst (λ vs. BankRule m.frames (m.kernel.seat ∷ vs)) (sym (seats_stay m.slots.items s x (record x { pending = o }) place refl)) is.rule) refl
-      (record { agrees = agrees; framed = tenant.framed; pending = refl }) refl refl where
-        agrees : Agrees (view_of x) x.space.root.0 x.space.trapframe.0 x.space.layout (is.images s) (record p { pending = pending_of o })
-        agrees = let a = tenant.agrees in record {
-          lays = record { parts = a.lays.parts; mappings = a.lays.mappings; heap_base = a.lays.heap_base; size = a.lays.size };
-          stands = record {
-            tables = a.stands.tables;
-            owns = a.stands.owns;
-            shows = record {
-              on_trampoline = a.stands.shows.on_trampoline;
-              on_trapframe = a.stands.shows.on_trapframe;
-              settled = λ n t there. let shown = a.stands.shows.settled n t there in record {
-                region = shown.region;
-                frame = shown.frame;
-                leaf = shown.leaf;
-                in_region = shown.in_region;
-                mapped = shown.mapped;
-                made = shown.made;
-                bytes = shown.bytes;
-              };
-              only = a.stands.shows.only;
-              low = a.stands.shows.low;
-            };
-            tabled = a.stands.tabled;
-            tabled_low = a.stands.tabled_low;
-          };
-          credits = a.credits;
-        }
+      (record { agrees = agrees_pending _ _ _ _ _ p tenant.agrees (pending_of o); framed = tenant.framed; pending = refl }) refl refl
