@@ -18,7 +18,7 @@ use Rattle.address_space.specs.Parts.{AreParts, build_need, IsAscending, pages_o
 use Rattle.address_space.specs.declared.part.Part.{Part}
 use Rattle.address_space.specs.declared.region.RegionKind.TheVariants as RegionKind
 use Rattle.exec_segments.specs.Loads.{AreInOrder, AreLoads, IsLoad, load_of, page_region}
-use Rattle.exec_segments.specs.declared.image.Load.{Load}
+use Rattle.exec_segments.specs.declared.load.Load.{Load}
 use Rattle.exec_segments.proofs.Judged.{last_behind}
 
 -- a part is that of a segment

@@ -1,37 +1,56 @@
 -- Segments judged one after another.
-use Rattle.std.proofs.Common.{◌≡◌, ℕ, zero, suc, ◌+◌, ◌<◌, ◌≤◌, Bool, true, false, not, ◌&&◌, length, get_or, List, [], ◌∷◌, ◌++◌, map, drop, fold, refl, ap, sym, ◌∙◌, Some, None, if◌then◌else◌, Result, Ok, Err, arith}
-use Rattle.std.specs.Prelude.{nat_le, ◌==◌}
+use Rattle.std.proofs.Common.{◌≡◌, ℕ, zero, suc, ◌+◌, ◌<◌, ◌≤◌, Bool, true, false, not, ◌&&◌, length, List, [], ◌∷◌, ◌++◌, map, drop, fold, refl, ap, sym, ◌∙◌, Some, None, if◌then◌else◌, Result, Ok, Err, arith}
+use Rattle.std.specs.Prelude.{nat_le, slice_get, ◌==◌}
 use Rattle.std.proofs.lemmas.Bool.{ltb-false}
-use Rattle.std.proofs.lemmas.List.{length-append, length-map, map-append}
+use Rattle.std.proofs.lemmas.List.{length-append}
+use Rattle.std.proofs.lemmas.Option.{same_Some}
 use Rattle.process_model.specs.Bytes.{first_true}
 use Rattle.process_model.specs.Images as model
-use Rattle.process_model.specs.Images.{LoadSegment, end_of_loads, end_page, has_pages, load_checks, load_fault, next_judged, unless_faulty}
+use Rattle.process_model.specs.Images.{LoadSegment, ProgramHeader, end_of_loads, end_page, has_pages, judged, load, load_checks, load_fault, next_judged, unless_faulty}
 use Rattle.process_model.specs.declared.image.BadImage.{BadImage}
 use Rattle.process_model.specs.declared.image.BadImage.TheVariants as part
-use Rattle.process_model.specs.declared.image.Segment.{Segment}
-use Rattle.exec_segments.specs.Loads.{AreInOrder, IsLoad, load_of, segment_load}
-use Rattle.exec_segments.specs.declared.image.Load.{Load}
+use Rattle.exec_segments.specs.Loads.{AreInOrder, AreJudged, IsLoad, load_of, taken}
+use Rattle.exec_segments.specs.declared.load.Load.{Load}
 
-abbrev judge : Result (List LoadSegment) BadImage → List Segment → Result (List LoadSegment) BadImage
-judge r segments = fold next_judged r (map model.load_of segments)
+abbrev pub judge : Result (List LoadSegment) BadImage → List ProgramHeader → Result (List LoadSegment) BadImage
+judge r headers = fold next_judged r headers
 
 -- a fault stays
-pub fault_stays : (e : BadImage) (segments : List Segment) → judge (Err e) segments ≡ Err e
+pub fault_stays : (e : BadImage) (headers : List ProgramHeader) → judge (Err e) headers ≡ Err e
 fault_stays e [] = refl
-fault_stays e (s ∷ segments) = fault_stays e segments
+fault_stays e (h ∷ headers) = fault_stays e headers
 
--- the next segment is judged
-pub next : (segments : List Segment) (i : ℕ) (d : Segment) (r : Result (List LoadSegment) BadImage) → i < length segments
-    → judge r (drop i segments) ≡ judge (next_judged r (model.load_of (get_or segments i d))) (drop (suc i) segments)
-next [] i d r low = absurd (omega arith)
-next (s ∷ segments) zero d r low = refl
-next (s ∷ segments) (suc i) d r low = next segments i d r (omega arith)
+-- the next one is judged
+next : (headers : List ProgramHeader) (i : ℕ) (h : ProgramHeader) (r : Result (List LoadSegment) BadImage) → slice_get headers i ≡ Some h
+    → judge r (drop i headers) ≡ judge (next_judged r h) (drop (suc i) headers)
+next [] i h r at = absurd (cc)
+next (k ∷ headers) zero h r at = ap (λ x. judge (next_judged r x) headers) (same_Some k h at)
+next (k ∷ headers) (suc i) h r at = next headers i h r at
 
-pub none_left : (segments : List Segment) (i : ℕ) (r : Result (List LoadSegment) BadImage) → length segments ≤ i → judge r (drop i segments) ≡ r
+pub none_left : (headers : List ProgramHeader) (i : ℕ) (r : Result (List LoadSegment) BadImage) → length headers ≤ i → judge r (drop i headers) ≡ r
 none_left [] zero r high = refl
 none_left [] (suc i) r high = refl
-none_left (s ∷ segments) zero r high = absurd (omega arith)
-none_left (s ∷ segments) (suc i) r high = none_left segments i r (omega arith)
+none_left (h ∷ headers) zero r high = absurd (omega arith)
+none_left (h ∷ headers) (suc i) r high = none_left headers i r (omega arith)
+
+-- those up to one are judged, and then that one
+pub forward : (headers : List ProgramHeader) (i : ℕ) (h : ProgramHeader) (before : List LoadSegment) (r : Result (List LoadSegment) BadImage) → slice_get headers i ≡ Some h
+    → judge (Ok []) headers ≡ judge (Ok before) (drop i headers) → judged before h ≡ r → judge (Ok []) headers ≡ judge r (drop (i + 1) headers)
+forward headers i h before r at all one =
+    let one_on : i + 1 ≡ suc i = omega arith in
+    all ∙ next headers i h (Ok before) at ∙ ap (λ x. judge x (drop (suc i) headers)) one ∙ ap (λ n. judge r (drop n headers)) (sym one_on)
+
+-- after one more was judged
+module _ (headers : List ProgramHeader) (i : ℕ) (h : ProgramHeader) (before after : List LoadSegment) (r : Result (Unit {0}) BadImage) (at : slice_get headers i ≡ Some h)
+    (all : judge (Ok []) headers ≡ judge (Ok before) (drop i headers)) (one : judged before h ≡ taken r after) where
+  pub stopped : (e : BadImage) → r ≡ Err e → judge (Ok []) headers ≡ Err e
+  stopped e is = forward headers i h before (Err e) at all (one ∙ ap (λ x. taken x after) is) ∙ fault_stays e (drop (i + 1) headers)
+
+  pub went_on : (u : Unit {0}) → r ≡ Ok u → judge (Ok []) headers ≡ judge (Ok after) (drop (i + 1) headers)
+  went_on u is = forward headers i h before (Ok after) at all (one ∙ ap (λ x. taken x after) is)
+
+pub all_through : (headers : List ProgramHeader) (i : ℕ) (before : List LoadSegment) → length headers ≤ i → judge (Ok []) headers ≡ judge (Ok before) (drop i headers) → judge (Ok []) headers ≡ Ok before
+all_through headers i before end all = all ∙ none_left headers i (Ok before) end
 
 -- no test of a list holds
 abbrev NoneHolds : {A : Type 0} → List (Bool × A) → Type 0
@@ -83,28 +102,24 @@ in_order_behind end [] l ordered is = (is, tt)
 in_order_behind end (k ∷ ls) l ordered is = (ordered.0, in_order_behind (end_page k) ls l ordered.1 is)
 
 -- what becomes of the segments so far
-module _ (before : List LoadSegment) (s : Segment) where
-  pub refused : (e : BadImage) → load_fault before (segment_load s) ≡ Some e → next_judged (Ok before) (model.load_of s) ≡ Err e
-  refused e fault = ap (unless_faulty before (segment_load s)) fault
+module _ (before : List LoadSegment) (l : LoadSegment) where
+  pub refused : (e : BadImage) → load_fault before l ≡ Some e → judged before (load l) ≡ Err e
+  refused e fault = ap (unless_faulty before l) fault
 
-  module _ (none : load_fault before (segment_load s) ≡ None) where
-    pub taken : 0 < s.memory_size → next_judged (Ok before) (model.load_of s) ≡ Ok (before ++ segment_load s ∷ [])
-    taken some = ap (unless_faulty before (segment_load s)) none ∙ ap (λ b. Ok (if b then before ++ segment_load s ∷ [] else before)) (has before (segment_load s) none some)
+  module _ (none : load_fault before l ≡ None) where
+    pub kept : 0 < l.memory_size → judged before (load l) ≡ Ok (before ++ l ∷ [])
+    kept some = ap (unless_faulty before l) none ∙ ap (λ b. Ok (if b then before ++ l ∷ [] else before)) (has before l none some)
 
-    pub left_out : s.memory_size ≡ 0 → next_judged (Ok before) (model.load_of s) ≡ Ok before
-    left_out empty = ap (unless_faulty before (segment_load s)) none ∙ rw empty refl
+    pub left_out : l.memory_size ≡ 0 → judged before (load l) ≡ Ok before
+    left_out empty = ap (unless_faulty before l) none ∙ rw empty refl
 
--- the loads of a list with one more
-pub one_more : (loads : List Load) (l : Load) (s : Segment) → load_of l ≡ segment_load s → map load_of (loads ++ l ∷ []) ≡ map load_of loads ++ segment_load s ∷ []
-one_more loads l s is = map-append load_of loads (l ∷ []) ∙ ap (λ x. map load_of loads ++ x ∷ []) is
-
--- the segments up to one are judged, and then that one
-pub forward : (segments : List Segment) (i : ℕ) (s : Segment) (before : List LoadSegment) (r : Result (List LoadSegment) BadImage) → s ≡ get_or segments i s → i < length segments
-    → judge (Ok []) segments ≡ judge (Ok before) (drop i segments) → next_judged (Ok before) (model.load_of s) ≡ r → judge (Ok []) segments ≡ judge r (drop (i + 1) segments)
-forward segments i s before r is low all one =
-    let one_on : i + 1 ≡ suc i = omega arith in
-    all ∙ next segments i s (Ok before) low ∙ ap (λ x. judge (next_judged (Ok before) (model.load_of x)) (drop (suc i) segments)) (sym is) ∙ ap (λ x. judge x (drop (suc i) segments)) one
-    ∙ ap (λ n. judge r (drop n segments)) (sym one_on)
+    -- they are in order
+    pub one_more : (end : ℕ) → AreJudged before end → 0 < l.memory_size → length l.bytes ≤ l.file_size → AreJudged (before ++ l ∷ []) (end_page l)
+    one_more end are some fits = record {
+      few = let longer = length-append before (l ∷ []) in let room = few before l none some in omega (arith, longer, room);
+      in_order = in_order_behind 0 before l are.in_order (is_load before l none some fits);
+      last = last_behind 0 before l;
+    }
 
 -- whether there is one
 pub no_loads : (loads : List Load) → length loads ≡ 0 → model.at_least_one (Ok (map load_of loads)) ≡ Err part.NoLoad
@@ -114,9 +129,3 @@ no_loads (l ∷ loads) none = absurd (omega arith)
 pub some_loads : (loads : List Load) → (length loads == 0) ≡ false → model.at_least_one (Ok (map load_of loads)) ≡ Ok (map load_of loads)
 some_loads [] some = absurd (cc)
 some_loads (l ∷ loads) some = refl
-
-pub one_longer : (loads : List Load) (l : Load) (after : List Load) → length (map load_of loads) < 16 → after ≡ loads ++ l ∷ [] → length after ≤ 16
-one_longer loads l after few is = let before = length-map loads load_of in let longer = ap length is ∙ length-append loads (l ∷ []) in omega (arith, few, before, longer)
-
-pub is_zero : (n : ℕ) → (n == 0) ≡ true → n ≡ 0
-is_zero n is = grind arith

@@ -1,24 +1,24 @@
 -- The segments of an accepted image.
-use Rattle.std.specs.Prelude.{◌≡◌, ℕ, Bool, true, ◌+◌, ◌%◌, ◌<◌, ◌≤◌, List, [], ◌∷◌, length, refl}
+use Rattle.std.specs.Prelude.{◌≡◌, ℕ, Bool, true, ◌+◌, ◌%◌, ◌<◌, ◌≤◌, List, [], ◌∷◌, length, refl, Result, Ok, Err}
 use Rattle.std.specs.Coded.{Coded, code_by, coded×, coded_ℕ, coded_bool, coded_list}
-use Rattle.process_model.specs.Images.{LoadSegment, end_page}
+use Rattle.process_model.specs.Images.{LoadSegment, end_of_loads, end_page}
 use Rattle.sv39_entry.specs.Address.{page_of, trapframe_page}
 use Rattle.process_model.specs.declared.image.Segment.{Segment}
 use Rattle.process_model.specs.Regions.{Region, zeros}
 use Rattle.sv39_entry.specs.Rights.{executes, reads, writes}
 use Rattle.address_space.specs.Layouts.{region_kind}
 use Rattle.address_space.specs.declared.region.RegionKind.{RegionKind}
-use Rattle.exec_segments.specs.declared.image.Load.{Load}
+use Rattle.exec_segments.specs.declared.load.Load.{Load}
 
 -- a segment as the model has it
 abbrev pub load_of : Load → LoadSegment
 load_of l = record {
   address = l.address;
   memory_size = l.memory_size;
-  file_size = length l.bytes.now;
+  file_size = l.file_size;
   writes = l.writes;
   executes = l.executes;
-  inside = true;
+  inside = l.is_inside;
   bytes = l.bytes.now;
 }
 
@@ -41,6 +41,17 @@ pub record IsLoad (end : ℕ) (l : LoadSegment) : Type 0 where
 abbrev pub AreInOrder : ℕ → List LoadSegment → Type 0
 AreInOrder end [] = Unit {0}
 AreInOrder end (l ∷ ls) = IsLoad end l × AreInOrder (end_page l) ls
+
+-- segments that were judged, of which the last ends before a page
+pub record AreJudged (ls : List LoadSegment) (end : ℕ) : Type 0 where
+  pub few : length ls ≤ 16
+  pub in_order : AreInOrder 0 ls
+  pub last : end_of_loads 0 ls ≡ end
+
+-- the segments after one more was judged, or its fault
+abbrev pub taken : {E : Type 0} → Result (Unit {0}) E → List LoadSegment → Result (List LoadSegment) E
+taken (Ok _) after = Ok after
+taken (Err e) after = Err e
 
 -- an accepted image has a segment with pages, and at most 16
 pub record AreLoads (ls : List LoadSegment) : Type 0 where

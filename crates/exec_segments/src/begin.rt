@@ -11,7 +11,8 @@ ghost use Rattle.process_model.specs.Frames.{start_need};
 ghost use Rattle.process_model.specs.Loading as model;
 ghost use Rattle.table_walk.specs.Image as tables;
 
-use crate::image::{Image, Load};
+use crate::image::Image;
+use crate::load::Load;
 use address_space::{Part, Region, RegionKind, Source, Space};
 use arrayvec::ArrayVec;
 use bitflags::Flags;

@@ -2,9 +2,16 @@
 #![tactic(auto)]
 
 mod begin;
+mod elf;
+#[cfg(test)]
+mod elf_tests;
+mod fields;
 mod image;
+mod judging;
+mod load;
 #[cfg(test)]
 mod tests;
 
 pub use begin::start;
+pub use elf::read_image;
 pub use image::Image;
