@@ -10,7 +10,7 @@ use Rattle.frame_bytes.specs.Contents.{HasBytes}
 use Rattle.frame_bytes.proofs.Widths.{within_word, width_most}
 use Rattle.frame_bytes.proofs.Numbers.{byte_of_word}
 use Rattle.frame_bytes.proofs.Writes.{length-low_bytes, slice_index-low_bytes, at_before, at_inside, at_after, length-write_bytes, number_same, from_le_is, to_le}
-use Rattle.frame_bytes.proofs.Changed.{stored_here, stored_apart}
+use Rattle.frame_bytes.specs.Changed.{stored_here, stored_apart}
 
 module _ (bytes : List ℕ) (whole : length bytes ≡ 4096) (small : (k : ℕ) → slice_index bytes k < 2 ^ 8) (o : ℕ) (vs part old : List ℕ)
     (inside : o + length vs ≤ 4096) (within : o % 8 + length vs ≤ 8)

@@ -2,7 +2,5 @@
 #![tactic(auto)]
 
 mod contents;
-#[cfg(test)]
-mod tests;
 
 pub use contents::{copy_frame, fill_frame, load_bytes, store_bytes};

@@ -9,8 +9,6 @@
 mod filling;
 mod opening;
 mod pool;
-#[cfg(test)]
-mod tests;
 
 pub use filling::{filled_frame, read_word};
 pub use opening::opened_seat;

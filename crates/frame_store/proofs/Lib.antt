@@ -1,4 +1,3 @@
 pub mod PlainSteps
 pub mod Seating
-pub mod Tested
 pub mod Unused

@@ -4,3 +4,5 @@ pub mod Joins
 pub mod Laws
 pub mod Seats
 pub mod Plain
+pub mod Puts
+pub mod Joined

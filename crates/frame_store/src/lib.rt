@@ -11,8 +11,6 @@ mod knowledge;
 mod plain;
 mod refusal;
 mod supply;
-#[cfg(test)]
-mod tests;
 
 pub use access::{FrameAccess, FrameSeat};
 pub use plain::{PlainFrames, PlainSeat};

@@ -5,8 +5,6 @@
 mod buffer;
 mod entry;
 mod leaf;
-#[cfg(test)]
-mod tests;
 mod walked;
 
 pub use buffer::{Buffer, NoEntry};

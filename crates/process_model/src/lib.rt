@@ -12,8 +12,6 @@ mod phase;
 mod script;
 mod sequence;
 mod step;
-#[cfg(test)]
-mod tests;
 mod text;
 
 pub use config::{Config, Policy, kernel_frames};

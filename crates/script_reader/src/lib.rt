@@ -18,8 +18,6 @@ mod script;
 mod segments;
 mod steps;
 mod table;
-#[cfg(test)]
-mod tests;
 mod values;
 
 pub use fault::ScriptError;

@@ -5,4 +5,3 @@ pub mod Moves
 pub mod Within
 pub mod Parts
 pub mod Ends
-pub mod Rounds

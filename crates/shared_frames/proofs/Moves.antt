@@ -14,6 +14,7 @@ use Rattle.atomic_table.proofs.Lists.{set_again}
 use Rattle.frame_store.specs.Laws.{IsAnchored}
 use Rattle.frame_store.specs.View.{View, Hold, hold_of, with_hold, without_hold, not_held, sole_hold, references, IsHeld, IsSole, with_word, with_credits, without_credits, saw_none, claimed, shared, looked, read_full, released}
 use Rattle.frame_store.specs.Holds.{hold_of-with_hold_same, hold_of-with_hold_other, hold_of-without_hold_same, hold_of-without_hold_other, hold_of-frames}
+use Rattle.frame_store.specs.Puts.{Puts, puts, left_of, left-references, released-puts}
 use Rattle.shared_frames.specs.Rule.{count_at, memory_at, one_at_zero, FrameAgrees, IsKept, Kept}
 use Rattle.shared_frames.specs.Telling.{saw_free, let_go, unshared, Sees, GivesBack, Looks, Releases, Loads, Stores, Reserves, Claims, Shares}
 use Rattle.shared_frames.proofs.Sums.{total-one}
@@ -29,44 +30,11 @@ St = State (Unit {0}) View
 pub same_frame : (f g : ℕ) → count_at f ≡ count_at g → f ≡ g
 same_frame f g e = omega arith
 
--- what a view has of the frame f is h, and of the others what v has
-pub record Puts (f : ℕ) (h : Hold) (v w : View) : Type 0 where
-  pub here : hold_of w f ≡ h
-  pub apart : (g : ℕ) → g ≢ f → hold_of w g ≡ hold_of v g
-
-pub puts : (f : ℕ) (h : Hold) (v u : View) → u.frames ≡ v.frames → Puts f h v (with_hold f h u)
-puts f h v u e = record { here = hold_of-with_hold_same f h u; apart = λ g ne. hold_of-with_hold_other f h u g ne ∙ hold_of-frames u v e g }
-
 -- where f stays held, frame 0 does
 pub still_anchored : (f : ℕ) (h : Hold) (v w : View) → Puts f h v w → 0 < h.references → IsHeld v 0 → IsAnchored w
 still_anchored f h v w p more base g q = elim (eqb_tells 0 f) as (λ _. IsHeld w 0) [
   | inl e ↦ subst (λ m. IsHeld w m) (sym e.1) (subst (λ (z : Hold). 0 < z.references) (sym p.here) more)
   | inr e ↦ subst (λ (z : Hold). 0 < z.references) (sym (p.apart 0 e.1)) base
-]
-
--- what is left of a frame when a reference is let go
-abbrev pub less : ℕ → View → Hold
-less f v = record (hold_of v f) { references = references v f - 1 }
-
-abbrev pub left_of : ℕ → View → Hold
-left_of f v = cond (references v f == 1) not_held (less f v)
-
-pub released-puts : (f : ℕ) (v : View) → Puts f (left_of f v) v (released f v)
-released-puts f v = record {
-  here = elim (references v f == 1) as (λ b. hold_of (cond b (without_hold f v) (with_hold f (less f v) v)) f ≡ cond b not_held (less f v)) [
-    | true ↦ hold_of-without_hold_same f v
-    | false ↦ hold_of-with_hold_same f (less f v) v
-  ];
-  apart = λ g ne. elim (references v f == 1) as (λ b. hold_of (cond b (without_hold f v) (with_hold f (less f v) v)) g ≡ hold_of v g) [
-    | true ↦ hold_of-without_hold_other f v g ne
-    | false ↦ hold_of-with_hold_other f (less f v) v g ne
-  ];
-}
-
-pub left-references : (f : ℕ) (v : View) → (left_of f v).references ≡ references v f - 1
-left-references f v = elim (eqb_tells (references v f) 1) as (λ _. (left_of f v).references ≡ references v f - 1) [
-  | inl t ↦ rw t.0 (omega (arith, t.1))
-  | inr t ↦ rw t.0 refl
 ]
 
 let_go-puts : (f found : ℕ) (v : View) → Puts f (left_of f v) v (let_go f found v)

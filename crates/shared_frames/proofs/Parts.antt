@@ -11,40 +11,15 @@ use Rattle.frame_store.specs.Laws.{IsAnchored}
 use Rattle.frame_store.specs.View.{View, Hold, hold_of, with_hold, without_hold, not_held, references, IsHeld, empty_view, added, either, joined, moved_from, moved_to, split_off, CanSplit}
 use Rattle.frame_store.specs.Holds.{hold_of-with_hold_same, hold_of-with_hold_other, hold_of-without_hold_same, hold_of-without_hold_other, hold_of-empty}
 use Rattle.frame_store.specs.Joins.{get-union, hold_of-joined}
+use Rattle.frame_store.specs.Puts.{Puts, puts, fewer, stays, goes, moved_from-puts, moved_to-puts}
 use Rattle.shared_frames.specs.Fits.{FrameFits, IsWithin}
 use Rattle.shared_frames.specs.Rule.{memory_at, all_references, FrameAgrees, ViewAgrees, IsKept, Kept}
 use Rattle.shared_frames.proofs.Sums.{total-set, total-snoc, total-one, total-two}
 use Rattle.shared_frames.proofs.Changes.{each_set, not_held_agrees}
-use Rattle.shared_frames.proofs.Moves.{Puts, puts}
 use Rattle.shared_frames.proofs.Within.{within_puts, not_held_fits}
-
--- ---- one reference goes to another seat
-abbrev pub fewer : ℕ → View → Hold
-fewer f v = record { references = references v f - 1; sole = false; words = (hold_of v f).words }
-
-abbrev pub stays : ℕ → View → Hold
-stays f v = cond (references v f == 1) not_held (fewer f v)
-
-abbrev pub goes : ℕ → View → View → Hold
-goes f v w = record { references = references w f + 1; sole = cond (references v f == 1) (hold_of v f).sole false; words = (hold_of v f).words }
-
-pub moved_from-puts : (f : ℕ) (v : View) → Puts f (stays f v) v (moved_from f v)
-moved_from-puts f v = record {
-  here = elim (references v f == 1) as (λ b. hold_of (cond b (without_hold f v) (with_hold f (fewer f v) v)) f ≡ cond b not_held (fewer f v)) [
-    | true ↦ hold_of-without_hold_same f v
-    | false ↦ hold_of-with_hold_same f (fewer f v) v
-  ];
-  apart = λ g ne. elim (references v f == 1) as (λ b. hold_of (cond b (without_hold f v) (with_hold f (fewer f v) v)) g ≡ hold_of v g) [
-    | true ↦ hold_of-without_hold_other f v g ne
-    | false ↦ hold_of-with_hold_other f (fewer f v) v g ne
-  ];
-}
 
 moved_from-credits : (f : ℕ) (v : View) → (moved_from f v).credits ≡ v.credits
 moved_from-credits f v = elim (references v f == 1) as (λ b. (cond b (without_hold f v) (with_hold f (fewer f v) v)).credits ≡ v.credits) [ true ↦ refl | false ↦ refl ]
-
-pub moved_to-puts : (f : ℕ) (v w : View) → Puts f (goes f v w) w (moved_to f (hold_of v f) w)
-moved_to-puts f v w = puts f (goes f v w) w w refl
 
 -- The parts a and b have all that v has, and what each has of a frame is so
 pub record AreParts (words : List ℕ) (all : ℕ → ℕ) (v a b : View) : Type 0 where

@@ -7,7 +7,8 @@ use Rattle.frame_store.specs.View.{View, Hold, hold_of, not_held, with_hold, wit
 use Rattle.frame_store.specs.Holds.{hold_of-frames}
 use Rattle.shared_frames.specs.Fits.{FrameFits, IsWithin}
 use Rattle.shared_frames.specs.Telling.{let_go, unshared}
-use Rattle.shared_frames.proofs.Moves.{Puts, puts, left_of, released-puts, unshared-frames}
+use Rattle.frame_store.specs.Puts.{Puts, puts, left_of, released-puts}
+use Rattle.shared_frames.proofs.Moves.{unshared-frames}
 
 pub within_puts : (words f : ℕ) (h : Hold) (v w : View) → Puts f h v w → FrameFits words f h → IsWithin words v → IsWithin words w
 within_puts words f h v w p fits was g = elim (eqb_tells g f) as (λ _. FrameFits words g (hold_of w g)) [

@@ -15,8 +15,6 @@ mod steps;
 mod supply;
 mod table;
 mod telling;
-#[cfg(test)]
-mod tests;
 
 pub use access::SharedAccess;
 pub use frames::{SharedFrames, Totals};

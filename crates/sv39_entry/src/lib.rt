@@ -10,8 +10,6 @@ mod frame;
 mod rights;
 mod rule;
 mod satp;
-#[cfg(test)]
-mod tests;
 
 pub use access::{Access, Mode};
 pub use address::{MAXVA, PAGE_SIZE, TRAMPOLINE, TRAPFRAME, Va, Vpn, kernel_stack};

@@ -8,6 +8,5 @@ pub mod Next
 pub mod Outcomes
 pub mod Roots
 pub mod Shed
-pub mod Tested
 pub mod Walks
 pub mod Ways

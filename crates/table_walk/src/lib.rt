@@ -13,8 +13,6 @@ mod leaves;
 mod plain;
 mod release;
 mod tables;
-#[cfg(test)]
-mod tests;
 mod translation;
 mod walk;
 mod words;

@@ -1,6 +1,6 @@
 use Rattle.std.proofs.Common.{◌≡◌, ℕ, ◌∙◌, Option, Some, refl, ap, sym, subst, arith}
 use Rattle.frame_store.specs.View.{IsSole, known_word}
-use Rattle.frame_bytes.proofs.Changed.{changes_none, changes_one, changes_both, changed_sole, changed_held, known_more, known_apart, stored_as}
+use Rattle.frame_bytes.specs.Changed.{changes_none, changes_one, changes_both, changed_sole, changed_held, known_more, known_apart, stored_as}
 use Rattle.frame_bytes.proofs.contents.copy_frame.Goals as goal
 
 pub loop-at-init : goal.loop-at-init

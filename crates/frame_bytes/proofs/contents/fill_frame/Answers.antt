@@ -1,6 +1,6 @@
 use Rattle.std.proofs.Common.{◌≡◌, ℕ, ◌*◌, ◌∙◌, Option, Some, drop, refl, ap, arith}
 use Rattle.process_model.specs.Bytes.{number}
-use Rattle.frame_bytes.proofs.Changed.{changes_none, changes_one, changes_both, changed_sole, known_more}
+use Rattle.frame_bytes.specs.Changed.{changes_none, changes_one, changes_both, changed_sole, known_more}
 use Rattle.frame_bytes.proofs.Filled.{filled}
 use Rattle.frame_bytes.proofs.contents.fill_frame.Goals as goal
 

@@ -1,7 +1,7 @@
 use Rattle.std.proofs.Common.{◌≡◌, ◌%◌, ◌∙◌, ap, refl, take}
 use Rattle.std.specs.Int.{w64, from_le_bytes, to_le_bytes}
 use Rattle.process_model.specs.Bytes.{write_bytes}
-use Rattle.frame_bytes.proofs.Changed.{changes_one, stored_as}
+use Rattle.frame_bytes.specs.Changed.{changes_one, stored_as}
 use Rattle.frame_bytes.proofs.Stored.{bytes_stored}
 use Rattle.frame_bytes.proofs.contents.store_bytes.Goals as goal
 

@@ -1,8 +1,0 @@
-use Rattle.std.proofs.Common.{[]}
-use Rattle.frame_bytes.proofs.Tested.{one_changed}
-use Rattle.frame_bytes.proofs.tests.Bench.store.Goals as goal
-
-pub invariant_of-self : goal.invariant_of-self
-invariant_of-self c =
-    let owns = c.self.invariant in
-    one_changed _ _ _ _ owns _ _ (c.store_bytes.ensures.keeps [] owns.rule) c.store_bytes.ensures.others _ (c.store_bytes.ensures.bytes _ owns.one.known.1)

@@ -1,5 +1,0 @@
-use Rattle.frame_store.specs.Holds.{opening_holds}
-use Rattle.shared_frames.proofs.tests.hands_frames_over.Goals as goal
-
-pub another-requires-clause-base : goal.another-requires-clause-base
-another-requires-clause-base g c = opening_holds _ c.in_ok-frames.ensures.view

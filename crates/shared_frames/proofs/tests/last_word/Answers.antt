@@ -1,5 +1,0 @@
-use Rattle.shared_frames.specs.Fits.{fits_still}
-use Rattle.shared_frames.proofs.tests.last_word.Goals as goal
-
-pub returns : goal.returns
-returns c = record { fits = (fits_still _ _ _ c.args.seat.now c.load.new.seat c.access.ensures c.load.ensures.keeps c.requires.fits).1 }

@@ -1,0 +1,3 @@
+pub mod ClientSteps
+pub mod OwnedSteps
+pub mod SeatSteps

@@ -1,0 +1,19 @@
+use Rattle.std.proofs.Common.{[]}
+use Rattle.shared_frames.specs.Fits.{fits_still, may_step}
+use Rattle.tests_of_frames.proofs.clients.runs_over_both_stores.Goals as goal
+
+pub word_through_a_new_seat-refused-requires-clause-fits : goal.word_through_a_new_seat-refused-requires-clause-fits
+word_through_a_new_seat-refused-requires-clause-fits g c = ([], c.word_through_a_new_seat.ensures.keeps [] c.in_ok-plain.ensures.rule)
+
+pub word_through_a_new_seat-requires-2-clause-fits : goal.word_through_a_new_seat-requires-2-clause-fits
+word_through_a_new_seat-requires-2-clause-fits g c = may_step _ _ c.in_ok-frames.seat c.supply-supply.ensures c.in_ok-frames.ensures.fits
+
+pub word_through_a_new_seat-refused-requires-2-clause-fits : goal.word_through_a_new_seat-refused-requires-2-clause-fits
+word_through_a_new_seat-refused-requires-2-clause-fits g c =
+    let s = fits_still _ _ _ c.in_ok-frames.seat c.word_through_a_new_seat-2.new.seat c.supply-supply.ensures c.word_through_a_new_seat-2.ensures.keeps c.in_ok-frames.ensures.fits in
+    may_step _ _ c.word_through_a_new_seat-2.new.seat s.0 s.1
+
+pub close-totals-requires : goal.close-totals-requires
+close-totals-requires g c =
+    let s = fits_still _ _ _ c.in_ok-frames.seat c.word_through_a_new_seat-2.new.seat c.supply-supply.ensures c.word_through_a_new_seat-2.ensures.keeps c.in_ok-frames.ensures.fits in
+    (fits_still _ _ _ c.word_through_a_new_seat-2.new.seat c.word_through_a_new_seat-refused-2.new.seat s.0 c.word_through_a_new_seat-refused-2.ensures.keeps s.1).1

@@ -1,0 +1,12 @@
+use Rattle.frame_store.specs.Holds.{opening_holds}
+use Rattle.shared_frames.specs.Fits.{may_join, fits_joined}
+use Rattle.tests_of_frames.proofs.shared_words.four_threads_give_all_back.Goals as goal
+
+pub another-requires-clause-base : goal.another-requires-clause-base
+another-requires-clause-base g c = opening_holds _ c.in_ok-frames.ensures.view
+
+pub join-requires : goal.join-requires
+join-requires g c = record { fits = may_join _ _ c.join-seat.result.0.0 c.join-seat.result.1.0 c.access.ensures c.join-seat.ensures.first c.join-seat.ensures.second }
+
+pub close-totals-requires : goal.close-totals-requires
+close-totals-requires g c = fits_joined _ _ _ c.join-seat.result.0.0 c.join-seat.result.1.0 c.join.new.seat c.access.ensures c.join.ensures.same c.join.ensures.keeps c.join-seat.ensures.first c.join-seat.ensures.second

@@ -1,0 +1,209 @@
+// The bytes of frames, told by the calls.
+
+ghost use Rattle.std.specs.Prelude.{◌≡◌, ◌%◌, ◌<◌, ◌≤◌, IsTrue, length};
+ghost use Rattle.process_model.specs.Bytes.{is_width};
+
+use frame_bytes::{copy_frame, fill_frame, load_bytes, store_bytes};
+use frame_store::{FrameSupply, PlainFrames, PlainSeat};
+use std::alloc::Global;
+use std::marker::Model;
+use std::test::Fail;
+use sv39_entry::FrameNo;
+
+/// An offset in the page, a width in bytes, and the number that stands there.
+type Access = (usize, usize, u64);
+
+/// Two frames of ones, to begin with, and a seat that is their sole holder. Contracts see the numbers of the frames.
+#[derive(Drop)]
+struct Bench {
+    store: PlainFrames,
+    seat: PlainSeat,
+    first: FrameNo,
+    second: FrameNo,
+}
+
+impl Model for Bench {
+    ghost use Rattle.std.specs.Prelude.{ℕ};
+    ghost use Rattle.tests_of_frames.specs.Owned.{OwnsBoth};
+
+    ghost Value = { ℕ × ℕ };
+
+    ghost view = { λ b. (b.first.0, b.second.0) };
+
+    ghost invariant = { λ b. OwnsBoth b.store b.seat b.first.0 b.second.0 };
+}
+
+/// Whether an access may have this width, and lies at a multiple of it in the page.
+fn is_access(offset: usize, width: usize) -> bool
+    ensures width { IsTrue result → IsTrue (is_width width) }
+    ensures inside { IsTrue result → offset < 4096 }
+    ensures aligned { IsTrue result → offset % width ≡ 0 }
+{
+    matches!(width, 1 | 2 | 4 | 8) && offset < 4096 && offset % width == 0
+}
+
+impl Bench {
+    fn new(alloc: Global) -> Result<Bench, Fail> {
+        let (mut store, mut seat) = PlainFrames::new(alloc, 4)?;
+        store.reserve(&mut seat, 2)?;
+        let first = store.claim(&mut seat);
+        let second = store.claim(&mut seat);
+        let ones = [1; 4096];
+        fill_frame(&mut store, &mut seat, first, &ones);
+        fill_frame(&mut store, &mut seat, second, &ones);
+        Ok(Bench {
+            store,
+            seat,
+            first,
+            second,
+        })
+    }
+
+    fn fill(&mut self, bytes: &[u8])
+        requires { length bytes.now ≤ 4096 }
+    {
+        fill_frame(&mut self.store, &mut self.seat, self.first, bytes);
+    }
+
+    /// What an access loads, if there is one of this width at this offset.
+    fn load(&mut self, offset: usize, width: usize) -> Option<u64> {
+        if !is_access(offset, width) {
+            return None;
+        }
+        let number = load_bytes(&mut self.store, &mut self.seat, self.first, offset, width);
+        Some(number)
+    }
+
+    /// The first of some accesses that does not load what it should.
+    fn first_wrong(&mut self, accesses: &[Access]) -> Option<Access> {
+        'accesses: for access in accesses {
+            let (offset, width, number) = *access;
+            if self.load(offset, width) != Some(number) {
+                return Some(*access);
+            }
+        }
+        None
+    }
+
+    /// Stores the low bytes of a number, if there is an access of this width at this offset.
+    fn store(&mut self, offset: usize, width: usize, value: u64) {
+        if is_access(offset, width) {
+            store_bytes(
+                &mut self.store,
+                &mut self.seat,
+                self.first,
+                offset,
+                width,
+                value,
+            );
+        }
+    }
+
+    /// Copies the first frame into the second.
+    fn copy(&mut self) {
+        copy_frame(&mut self.store, &mut self.seat, self.first, self.second);
+    }
+
+    /// The second frame is the first from now on.
+    fn turn(&mut self) {
+        let first = self.first;
+        self.first = self.second;
+        self.second = first;
+    }
+}
+
+/// The numbers from 0 to 255, again and again.
+fn counting() -> [u8; 600] {
+    let mut bytes = [0; 600];
+    for at in 0..600 {
+        bytes[at] = (at % 256) as u8;
+    }
+    bytes
+}
+
+#[test]
+fn loads_what_was_filled(rt: HostRuntime) -> Result<(), Fail> {
+    let mut bench = Bench::new(rt.alloc())?;
+    assert_eq!(rt; bench.load(4088, 8), Some(0x0101_0101_0101_0101));
+    bench.fill(&counting());
+    'bytes: for offset in 0..4096 {
+        let byte = if offset < 600 { offset % 256 } else { 0 };
+        assert_eq!(rt; bench.load(offset, 1), Some(byte as u64));
+    }
+    let accesses = [
+        (254, 2, 0xfffe),
+        (256, 2, 0x0100),
+        (598, 2, 0x5756),
+        (600, 2, 0),
+        (252, 4, 0xfffe_fdfc),
+        (596, 4, 0x5756_5554),
+        (600, 4, 0),
+        (0, 8, 0x0706_0504_0302_0100),
+        (592, 8, 0x5756_5554_5352_5150),
+        (4088, 8, 0),
+    ];
+    assert_eq!(rt; bench.first_wrong(&accesses), None);
+    Ok(())
+}
+
+#[test]
+fn fills_a_part_of_a_word(rt: HostRuntime) -> Result<(), Fail> {
+    let mut bench = Bench::new(rt.alloc())?;
+    bench.fill(&[0xff; 13]);
+    let accesses = [
+        (0, 8, 0xffff_ffff_ffff_ffff),
+        (8, 8, 0x0000_00ff_ffff_ffff),
+        (16, 8, 0),
+    ];
+    assert_eq!(rt; bench.first_wrong(&accesses), None);
+    bench.fill(&[]);
+    assert_eq!(rt; bench.load(0, 8), Some(0));
+    Ok(())
+}
+
+#[test]
+fn stores_beside_neighbors(rt: HostRuntime) -> Result<(), Fail> {
+    let mut bench = Bench::new(rt.alloc())?;
+    bench.fill(&counting());
+    let stores = [
+        (11, 1, 0x1ff),
+        (22, 2, 0x1234_abcd),
+        (24, 4, 0xffff_ffff_2345_6789),
+        (32, 8, 0xfedc_ba98_7654_3210),
+    ];
+    'stores: for (offset, width, value) in stores {
+        bench.store(offset, width, value);
+    }
+    let accesses = [
+        (0, 8, 0x0706_0504_0302_0100),
+        (8, 8, 0x0f0e_0d0c_ff0a_0908),
+        (16, 8, 0xabcd_1514_1312_1110),
+        (24, 8, 0x1f1e_1d1c_2345_6789),
+        (32, 8, 0xfedc_ba98_7654_3210),
+        (40, 8, 0x2f2e_2d2c_2b2a_2928),
+        (10, 2, 0xff0a),
+        (20, 4, 0xabcd_1514),
+    ];
+    assert_eq!(rt; bench.first_wrong(&accesses), None);
+    Ok(())
+}
+
+#[test]
+fn copies_to_another_frame(rt: HostRuntime) -> Result<(), Fail> {
+    let mut bench = Bench::new(rt.alloc())?;
+    bench.fill(&counting());
+    bench.copy();
+    bench.store(0, 8, 0);
+    bench.turn();
+    let copied = [
+        (0, 8, 0x0706_0504_0302_0100),
+        (592, 8, 0x5756_5554_5352_5150),
+        (600, 8, 0),
+        (4088, 8, 0),
+    ];
+    assert_eq!(rt; bench.first_wrong(&copied), None);
+    bench.turn();
+    let changed = [(0, 8, 0), (8, 8, 0x0f0e_0d0c_0b0a_0908)];
+    assert_eq!(rt; bench.first_wrong(&changed), None);
+    Ok(())
+}

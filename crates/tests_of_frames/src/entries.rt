@@ -1,0 +1,139 @@
+// Vectors from outside: words, addresses and causes.
+
+use std::test::Fail;
+use sv39_entry::{
+    Access, Entry, FrameNo, Kind, Mode, Rights, Rule, Satp, TRAMPOLINE, TRAPFRAME, Va, Vpn,
+    kernel_stack,
+};
+
+#[test]
+fn writes_words(rt: HostRuntime) {
+    let (code, data) = (Rights::READ | Rights::EXECUTE, Rights::READ | Rights::WRITE);
+    let rows = [
+        (Entry::leaf(FrameNo(5), code, true, false), 0x2000145b),
+        (Entry::leaf(FrameNo(5), data, true, false), 0x200014d7),
+        (Entry::leaf(FrameNo(5), data, true, true), 0x200015d3),
+        (Entry::pointer(FrameNo(7)), 0x20001c01),
+    ];
+    for (entry, word) in rows {
+        assert_eq!(rt; entry.to_word(), word, "at {word:x}");
+    }
+    let satp = Satp::sv39(0, FrameNo(3)).to_word();
+    let asid = Satp::from_word(0x8012300000080003).asid();
+    assert_eq!(rt; (satp, asid), (0x8000000000080003, 0x123));
+}
+
+#[test]
+fn knows_kinds(rt: HostRuntime) {
+    let rows = [
+        (0x200800d7, Kind::Leaf),
+        (0x200804d7, Kind::Leaf),
+        (0x00400000200800d7, Kind::Invalid),
+        (0x8000000020000801, Kind::Invalid),
+        (0x20080057, Kind::Leaf),
+        (0x20080097, Kind::Leaf),
+        (0x200800c7, Kind::Leaf),
+        (0x200800d5, Kind::Invalid),
+        (0x20000c41, Kind::Invalid),
+        (0x20000c81, Kind::Invalid),
+        (0x20000c11, Kind::Invalid),
+        (0x000000d7, Kind::Leaf),
+        (0x00000001, Kind::Pointer),
+        (0x000000c7, Kind::Leaf),
+        (0x20000801, Kind::Pointer),
+        (0x20000800, Kind::Invalid),
+    ];
+    for (word, kind) in rows {
+        assert_eq!(rt; Entry::from_word(word).kind(), kind, "at {word:x}");
+    }
+}
+
+#[test]
+fn judges_accesses(rt: HostRuntime) {
+    let rows = [
+        (0x200800d7, Access::Load, Mode::User, true),
+        (0x200800d7, Access::Fetch, Mode::User, false),
+        (0x20080057, Access::Store, Mode::User, false),
+        (0x20080057, Access::Load, Mode::User, true),
+        (0x20080097, Access::Load, Mode::User, false),
+        (0x200800c7, Access::Load, Mode::User, false),
+        (0x200800c7, Access::Load, Mode::Supervisor, true),
+        (0x200800d7, Access::Store, Mode::Supervisor, false),
+    ];
+    for (word, access, mode, allowed) in rows {
+        let entry = Entry::from_word(word);
+        assert_eq!(rt;
+            entry.permits(access, mode),
+            allowed,
+            "at {word:x} {access:?} {mode:?}"
+        );
+    }
+    assert_eq!(rt; Entry::from_word(0x200015d3).ppn(), 0x80005);
+    assert!(rt; Rights::READ.grants(Access::Load) && !Rights::READ.grants(Access::Store));
+}
+
+/// The number of the page of an address, and its offset in it.
+fn parts(address: Va) -> (u64, u64) {
+    (address.page().number(), address.offset())
+}
+
+/// The indices of a page in its tables, the highest first.
+fn indices(page: Vpn) -> (usize, usize, usize) {
+    (page.index(2), page.index(1), page.index(0))
+}
+
+#[test]
+fn takes_addresses_apart(rt: HostRuntime) -> Result<(), Fail> {
+    let page = Va(0x234567).page();
+    assert_eq!(rt; parts(Va(0x234567)), (0x234, 0x567));
+    assert_eq!(rt;
+        (indices(page), page.at(0x567)),
+        ((0, 1, 0x34), Va(0x234567))
+    );
+    assert_eq!(rt; indices(TRAMPOLINE.page()), (255, 511, 511));
+    let rows = [
+        (Vpn::from_indices(255, 511, 510).at(0), TRAPFRAME),
+        (Vpn::from_indices(256, 0, 0).at(0), Va(0xffffffc000000000)),
+        (kernel_stack(0), Va(0x3fffffd000)),
+        (kernel_stack(1), Va(0x3fffffb000)),
+        (Va(FrameNo(5).address()), Va(0x80005000)),
+    ];
+    for (address, wanted) in rows {
+        assert_eq!(rt; address, wanted);
+    }
+    let pages = (Vpn::new(1 << 52), Vpn::new(7).map(|page| page.number()));
+    assert_eq!(rt; pages, (None, Some(7)));
+    let frames = (FrameNo::from_ppn(0x80005), FrameNo::from_ppn(0x7ffff));
+    assert_eq!(rt; frames, (Some(FrameNo(5)), None));
+    Ok(())
+}
+
+#[test]
+fn knows_canonical_addresses(rt: HostRuntime) {
+    let rows = [
+        (0x3fffffffff, true),
+        (0x4000000000, false),
+        (0xffffffbfffffffff, false),
+        (0xffffffc000000000, true),
+    ];
+    for (address, canonical) in rows {
+        assert_eq!(rt; Va(address).is_canonical(), canonical, "at {address:x}");
+    }
+}
+
+#[test]
+fn names_causes_and_rules(rt: HostRuntime) -> Result<(), Fail> {
+    let rows = [
+        (Access::Fetch, 0, 1, 12),
+        (Access::Load, 4, 5, 13),
+        (Access::Store, 6, 7, 15),
+    ];
+    for (access, misaligned, outside, page) in rows {
+        assert_eq!(rt; access.misaligned_cause(), misaligned);
+        assert_eq!(rt; access.access_fault_cause(), outside);
+        assert_eq!(rt; access.page_fault_cause(), page);
+    }
+    let said = format!(in rt.alloc(); "{} {}", Rule::GuardPage, Rule::NoFrame)?;
+    assert_eq!(rt; said.as_str(), "4 GuardPage 9 NoFrame");
+    Ok(())
+}

@@ -1,0 +1,231 @@
+// Counts, credits and words, told by the calls, and by the totals after many threads.
+
+ghost use Rattle.std.specs.Prelude.{◌≡◌, ◌<◌, IfOk, IfSome};
+ghost use Rattle.std.specs.Thread.{IsSync};
+ghost use Rattle.frame_store.specs.Laws.{Fits, Keeps};
+ghost use Rattle.frame_store.specs.View.{IsHeld};
+ghost use Rattle.shared_frames.specs.Fits.{FitsIn, view_of};
+
+use frame_store::{FrameAccess, FrameSupply, NoFrame, PlainFrames, SharersFull};
+use shared_frames::{SharedFrames, SharedSeat};
+use std::sync::Wait;
+use std::test::Fail;
+use std::thread::{Threads, join};
+use sv39_entry::FrameNo;
+
+#[derive(Debug, Drop)]
+enum Refusal {
+    NoFrame,
+    SharersFull,
+}
+
+impl From<NoFrame> for Refusal {
+    fn from(_: NoFrame) -> Refusal {
+        Refusal::NoFrame
+    }
+}
+
+impl From<SharersFull> for Refusal {
+    fn from(_: SharersFull) -> Refusal {
+        Refusal::SharersFull
+    }
+}
+
+/// Three credits, two frames and a sharer are taken and given back, at any store.
+fn round<F: FrameSupply>(store: &mut F, seat: &mut F::Seat) -> Result<(), Refusal>
+    requires fits { Fits F.rule store.old seat.old }
+    requires base { IsHeld (F.Seat.view seat.old) 0 }
+    ensures keeps { Keeps F.rule store.old seat.old store.new seat.new }
+    ensures base { IsHeld (F.Seat.view seat.new) 0 }
+{
+    store.reserve(seat, 3)?;
+    let first = store.claim(seat);
+    let second = store.claim(seat);
+    store.share(seat, first)?;
+    store.release(seat, first);
+    store.release(seat, second);
+    store.release(seat, first);
+    store.give_back(seat, 1);
+    Ok(())
+}
+
+/// A thousand rounds, and whether each was made.
+fn work<R: Wait>(rt: &R, frames: &SharedFrames, mut seat: SharedSeat) -> (SharedSeat, bool)
+    requires fits { FitsIn frames.now.table seat }
+    requires base { IsHeld (view_of seat) 0 }
+    ensures { FitsIn frames.now.table result.0 }
+{
+    let mut supply = frames.supply(rt);
+    let mut all = true;
+    for _ in 0..1000u32 {
+        if round(&mut supply, &mut seat).is_err() {
+            all = false;
+        }
+    }
+    (seat, all)
+}
+
+/// Two threads work, and their seats become one.
+fn work_both<R: Threads + Wait + Sync>(
+    rt: &R,
+    frames: &SharedFrames,
+    one: SharedSeat,
+    other: SharedSeat,
+) -> (SharedSeat, bool)
+    requires fits { FitsIn frames.now.table one × FitsIn frames.now.table other }
+    requires base { IsHeld (view_of one) 0 × IsHeld (view_of other) 0 }
+    ensures { FitsIn frames.now.table result.0 }
+{
+    let ((mut seat, all), (second, other_all)) = join(
+        rt,
+        || -> (SharedSeat, bool)
+            requires { IsSync R.row × FitsIn frames.now.table one × IsHeld (view_of one) 0 }
+            ensures { FitsIn frames.entry.now.table result.0 }
+        { work(rt, frames, one) },
+        || -> (SharedSeat, bool)
+            requires { IsSync R.row × FitsIn frames.now.table other × IsHeld (view_of other) 0 }
+            ensures { FitsIn frames.entry.now.table result.0 }
+        { work(rt, frames, other) },
+    );
+    frames.access().join(&mut seat, second);
+    (seat, all && other_all)
+}
+
+/// A seat with a reference of frame 0.
+fn another<R: Wait>(
+    rt: &R,
+    frames: &SharedFrames,
+    seat: &mut SharedSeat,
+) -> Result<SharedSeat, SharersFull>
+    requires fits { FitsIn frames.now.table seat.old }
+    requires base { IsHeld (view_of seat.old) 0 }
+    ensures fits { FitsIn frames.now.table seat.new × IfOk result (λ s. FitsIn frames.now.table s) }
+    ensures base { IsHeld (view_of seat.new) 0 × IfOk result (λ s. IsHeld (view_of s) 0) }
+{
+    let mut supply = frames.supply(rt);
+    supply.share(seat, FrameNo(0))?;
+    Ok(supply.split(seat, &[FrameNo(0)]))
+}
+
+#[test]
+fn four_threads_give_all_back(rt: HostRuntime) -> Result<(), Fail> {
+    let (frames, mut first) = SharedFrames::new(rt.alloc(), 65)?;
+    let second = another(&rt, &frames, &mut first)?;
+    let third = another(&rt, &frames, &mut first)?;
+    let fourth = another(&rt, &frames, &mut first)?;
+    let ((mut seat, all), (other, other_all)) = join(
+        &rt,
+        || -> (SharedSeat, bool)
+            requires { FitsIn frames.table first × FitsIn frames.table second × IsHeld (view_of first) 0 × IsHeld (view_of second) 0 }
+            ensures { FitsIn frames.table result.0 }
+        { work_both(&rt, &frames, first, second) },
+        || -> (SharedSeat, bool)
+            requires { FitsIn frames.table third × FitsIn frames.table fourth × IsHeld (view_of third) 0 × IsHeld (view_of fourth) 0 }
+            ensures { FitsIn frames.table result.0 }
+        { work_both(&rt, &frames, third, fourth) },
+    );
+    frames.access().join(&mut seat, other);
+    assert!(rt; all && other_all);
+    let totals = frames.close(seat);
+    assert_eq!(rt; (totals.free, totals.held, totals.trampoline), (64, 1, 4));
+    Ok(())
+}
+
+#[test]
+fn rounds_at_both_stores(rt: HostRuntime) -> Result<(), Fail> {
+    let (mut plain, mut plain_seat) = PlainFrames::new(rt.alloc(), 5)?;
+    assert!(rt; round(&mut plain, &mut plain_seat).is_ok());
+    let (frames, mut seat) = SharedFrames::new(rt.alloc(), 5)?;
+    assert!(rt; round(&mut frames.supply(&rt), &mut seat).is_ok());
+    assert_eq!(rt; (plain.report().free, frames.close(seat).free), (4, 4));
+    Ok(())
+}
+
+#[test]
+fn refuses_what_is_reserved(rt: HostRuntime) -> Result<(), Fail> {
+    let (frames, mut first) = SharedFrames::new(rt.alloc(), 5)?;
+    let mut supply = frames.supply(&rt);
+    let mut second = supply.split(&mut first, &[]);
+    assert_eq!(rt; supply.reserve(&mut first, 3), Ok(()));
+    assert_eq!(rt; supply.reserve(&mut second, 2), Err(NoFrame));
+    supply.give_back(&mut first, 3);
+    assert_eq!(rt; supply.reserve(&mut second, 2), Ok(()));
+    Ok(())
+}
+
+#[test]
+fn counts_to_65_535(rt: HostRuntime) -> Result<(), Fail> {
+    let (frames, mut seat) = SharedFrames::new(rt.alloc(), 2)?;
+    let mut supply = frames.supply(&rt);
+    assert_eq!(rt; supply.reserve(&mut seat, 1), Ok(()));
+    let frame = supply.claim(&mut seat);
+    assert_eq!(rt; supply.look(&mut seat, frame), 1);
+    for _ in 0..65_534 {
+        let shared = supply.share(&mut seat, frame);
+        assert_eq!(rt; shared, Ok(()));
+    }
+    assert_eq!(rt; supply.share(&mut seat, frame), Err(SharersFull));
+    assert_eq!(rt; supply.look(&mut seat, frame), 65_535);
+    Ok(())
+}
+
+/// A frame of the seat's own, with the word at its last place.
+fn fill<R: Wait>(
+    rt: &R,
+    frames: &SharedFrames,
+    mut seat: SharedSeat,
+    word: u64,
+) -> (SharedSeat, Option<FrameNo>)
+    requires fits { FitsIn frames.now.table seat }
+    requires base { IsHeld (view_of seat) 0 }
+    ensures fits { FitsIn frames.now.table result.0 }
+    ensures held { IfSome result.1 (λ f. IsHeld (view_of result.0) f.0) }
+{
+    let mut supply = frames.supply(rt);
+    if supply.reserve(&mut seat, 1).is_err() {
+        return (seat, None);
+    }
+    let frame = supply.claim(&mut seat);
+    supply.store(&mut seat, frame, 511, word);
+    (seat, Some(frame))
+}
+
+/// The word at the last place of a held frame.
+fn last_word(frames: &SharedFrames, seat: &mut SharedSeat, frame: FrameNo) -> u64
+    requires fits { FitsIn frames.now.table seat.old }
+    requires held { IsHeld (view_of seat.old) frame.0 }
+    ensures fits { FitsIn frames.now.table seat.new }
+{
+    frames.access().load(seat, frame, 511)
+}
+
+#[test]
+fn hands_frames_over(rt: HostRuntime) -> Result<(), Fail> {
+    let (frames, mut first) = SharedFrames::new(rt.alloc(), 8)?;
+    let second = another(&rt, &frames, &mut first)?;
+    let ((mut one, frame), (mut other, other_frame)) = join(
+        &rt,
+        || -> (SharedSeat, Option<FrameNo>)
+            requires { FitsIn frames.table first × IsHeld (view_of first) 0 }
+            ensures { FitsIn frames.table result.0 × IfSome result.1 (λ f. IsHeld (view_of result.0) f.0) }
+        { fill(&rt, &frames, first, 7) },
+        || -> (SharedSeat, Option<FrameNo>)
+            requires { FitsIn frames.table second × IsHeld (view_of second) 0 }
+            ensures { FitsIn frames.table result.0 × IfSome result.1 (λ f. IsHeld (view_of result.0) f.0) }
+        { fill(&rt, &frames, second, 9) },
+    );
+    let (Some(frame), Some(other_frame)) = (frame, other_frame) else {
+        panic!(rt; "there are free frames")
+    };
+    let (theirs, mine) = join(
+        &rt,
+        || -> u64
+            requires { FitsIn frames.table other × IsHeld (view_of other) other_frame.0 }
+        { last_word(&frames, &mut other, other_frame) },
+        || -> u64
+            requires { FitsIn frames.table one × IsHeld (view_of one) frame.0 }
+        { last_word(&frames, &mut one, frame) },
+    );
+    assert_eq!(rt; (mine, theirs), (7, 9));
+    Ok(())
+}

@@ -1,0 +1,12 @@
+//! Tests of scripts and replies that rows cannot show: long scripts and texts, readers and writers that fail, what a
+//! script says through its calls, and replies as they print. Nothing stands on it.
+#![tactic(auto)]
+
+#[cfg(test)]
+mod failing;
+#[cfg(test)]
+mod lengths;
+#[cfg(test)]
+mod saying;
+#[cfg(test)]
+mod texts;

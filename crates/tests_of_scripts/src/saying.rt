@@ -1,0 +1,42 @@
+// What a script says, through its calls.
+
+use process_model::{Command, OwnedImage, Policy};
+use script_reader::Script;
+use std::test::Fail;
+
+#[test]
+fn reads_a_whole_script(rt: HostRuntime) -> Result<(), Fail> {
+    let text =
+        "# two images\r\nimage 0x0:0x1000:rx:13050000\t0x1000:0x1800:rw:-\r\nimage 0:0:-:-\n\n\
+        boot 8 0x400 64 full\nstart 1\non 0 1\nenter 0\nleave 0";
+    let script = Script::read(rt.alloc(), text.as_bytes())
+        .ok()
+        .ok_or("a script")?;
+    assert!(rt; script.files().is_empty());
+    let [OwnedImage::Segments(first), OwnedImage::Segments(second)] = script.images() else {
+        return Err(Fail::from("two images"));
+    };
+    let [code, data] = first.as_slice() else {
+        return Err(Fail::from("two segments"));
+    };
+    assert!(rt; code.executes && !code.writes);
+    assert_eq!(rt; code.bytes.as_slice(), b"\x13\x05\x00\x00".as_slice());
+    assert!(rt; data.writes && !data.executes);
+    assert_eq!(rt; (data.address, data.memory_size), (0x1000, 0x1800));
+    assert_eq!(rt; second.as_slice().len(), 1);
+    assert_eq!(rt; script.config().frames, 1024);
+    assert_eq!(rt; script.config().policy, Policy::Full);
+    let commands = script.commands();
+    assert!(rt;
+        matches!(
+            commands,
+            [
+                Command::Start { image: 1 },
+                Command::On { hart: 0, slot: 1 },
+                Command::Enter { hart: 0 },
+                Command::Leave { hart: 0 },
+            ]
+        )
+    );
+    Ok(())
+}

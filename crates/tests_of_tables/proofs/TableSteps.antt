@@ -1,0 +1,131 @@
+-- What the seats of the tests hold, step by step.
+use Rattle.std.proofs.Common.{◌≡◌, ℕ, ◌+◌, ◌-◌, ◌*◌, ◌<◌, ◌≤◌, ◌==◌, Bool, true, false, cond, refl, ap, sym, subst, ◌∙◌, arith, Option, None, Some, Result, Ok, Err, lit<, inl, inr}
+use Rattle.std.specs.Prelude.{if◌then◌else◌, is_ok, is_some, IfOk, IsSome}
+use Rattle.std.specs.FinMap as map
+use Rattle.std.specs.FinMap.{get, insert}
+use Rattle.std.specs.Ordering.{nat_cmp}
+use Rattle.std.proofs.lemmas.Bool.{cases_eq}
+use Rattle.std.proofs.lemmas.Option.{same_Some}
+use Rattle.frame_store.specs.Holds.{opening_holds, hold_of-frames, hold_of-with_hold_other, hold_of-with_hold_same, hold_of-without_hold_other}
+use Rattle.frame_store.specs.View.{Hold, View, opening_view, with_credits, claimed, hold_of, IsHeld, IsSole, references, released, sole_hold, with_hold, with_word, without_hold}
+use Rattle.table_walk.specs.Changed.{IsNextLeaf, places}
+use Rattle.table_walk.specs.Image.{HasTables, Image, IsGrown, ChangesTables, bare_root, blank_hold, leaf_node, missing, node, with_leaf, without_leaf}
+use Rattle.table_walk.specs.Keys.{insert_other, insert_same, remove_other, remove_same}
+use Rattle.table_walk.specs.Same.{same_held}
+use Rattle.table_walk.specs.Released.{AreLast}
+use Rattle.table_walk.specs.Walk.{top_level}
+use Rattle.table_walk.specs.Nodes.{leaf_node_is}
+
+-- ---- a frame is claimed, written and let go
+
+module _ (f : ℕ) (v : View) where
+  pub claimed_hold : (w : View) → w ≡ claimed f v → hold_of w f ≡ sole_hold
+  claimed_hold w e = ap (λ u. hold_of u f) e ∙ hold_of-with_hold_same f sole_hold _
+
+  pub claimed_held : (w : View) → w ≡ claimed f v → IsHeld w f × IsSole w f
+  claimed_held w e = let here = claimed_hold w e in (subst (λ (h : Hold). 0 < h.references) (sym here) (lit< tt), ap (λ (h : Hold). h.sole) here)
+
+  pub taken_one : (w : View) → w ≡ claimed f v → 0 < v.credits → w.credits + 1 ≡ v.credits
+  taken_one w e some = let left : w.credits ≡ v.credits - 1 = ap (λ (u : View). u.credits) e in omega (arith, left, some)
+
+  pub claimed_other : (g : ℕ) → (g ≡ f → ⊥) → hold_of (claimed f v) g ≡ hold_of v g
+  claimed_other g apart = hold_of-with_hold_other f sole_hold _ g apart ∙ hold_of-frames _ v refl g
+
+  pub released_other : (g : ℕ) → (g ≡ f → ⊥) → hold_of (released f v) g ≡ hold_of v g
+  released_other g apart = elim (references v f == 1) as (λ b. hold_of (cond b (without_hold f v) (with_hold f (record (hold_of v f) { references = references v f - 1 }) v)) g ≡ hold_of v g) [
+    | true ↦ hold_of-without_hold_other f v g apart
+    | false ↦ hold_of-with_hold_other f _ v g apart
+  ]
+
+  pub written_hold : (i x : ℕ) (w : View) → w ≡ with_word f i x v → IsHeld v f → IsSole v f → IsHeld w f × IsSole w f
+  written_hold i x w e held sole =
+      let here = ap (λ u. hold_of u f) e ∙ hold_of-with_hold_same f (record (hold_of v f) { words = map.insert (hold_of v f).words i x }) v in
+      (subst (λ (h : Hold). 0 < h.references) (sym here) held, ap (λ (h : Hold). h.sole) here ∙ sole)
+
+  pub written_other : (i w g : ℕ) → (g ≡ f → ⊥) → hold_of (with_word f i w v) g ≡ hold_of v g
+  written_other i w g apart = hold_of-with_hold_other f _ v g apart
+
+  -- it was not held before
+  pub fresh_apart : (g : ℕ) → references v f ≡ 0 → IsHeld v g → g ≡ f → ⊥
+  fresh_apart g none held e = let no : references v g ≡ 0 = ap (references v) e ∙ none in omega (arith, no, held)
+
+-- ---- tables that changed
+
+one_or_none : (b : Bool) → (if b then 0 else 1) ≤ 1
+one_or_none true = omega arith
+one_or_none false = omega arith
+
+pub missing_low : (t : Image) (page : ℕ) → missing t page ≤ 2
+missing_low t page =
+    let one = one_or_none (is_some (get t.tables (node page 1))) in
+    let two = one_or_none (is_some (get t.tables (node page 2))) in
+    omega (arith, one, two)
+
+-- as many credits as the pages that are left may need
+pub enough_left : (v w : View) (t u : Image) (page i : ℕ) → ChangesTables v w t u (missing t page) → 2 * (5 - i) ≤ v.credits → 2 * (5 - (i + 1)) ≤ w.credits
+enough_left v w t u page i changes enough = let low = missing_low t page in let left = changes.credits in omega (arith, low, left, enough)
+
+-- and the page that comes next can be mapped
+pub enough_now : (v : View) (t : Image) (page i : ℕ) → i < 5 → 2 * (5 - i) ≤ v.credits → missing t page ≤ v.credits
+enough_now v t page i more enough = let low = missing_low t page in omega (arith, low, more, enough)
+
+-- what is ensured of a success
+pub of_ok : {A E : Type 0} {P : Type 0} (r : Result A E) → is_ok r ≡ true → IfOk r (λ _. P) → P
+of_ok (Ok x) is ok = ok
+of_ok (Err x) is ok = absurd (cc)
+
+pub same_view : (v w : View) (root : ℕ) (t : Image) → w ≡ v → HasTables v root t → HasTables w root t
+same_view v w root t same has = subst (λ u. HasTables u root t) (sym same) has
+
+-- a page that was found has a leaf
+pub found_leaf : (t : Image) (from : ℕ) (o : Option (ℕ × ℕ)) (p : ℕ × ℕ) → o ≡ Some p → IsNextLeaf t from o → IsSome (get t.leaves (leaf_node p.0))
+found_leaf t from o p is found =
+    let leaf = subst (IsNextLeaf t from) is found in
+    let number = leaf_node_is p.0 in
+    let same : leaf_node p.0 ≡ 1 * places top_level + p.0 = omega (arith, number, leaf.1) in
+    ap is_some (ap (get t.leaves) same ∙ leaf.2)
+
+-- ---- frames are reserved at a new store
+
+pub reserved_held : (v w : View) (n : ℕ) → v ≡ opening_view → w ≡ with_credits n v → IsHeld w 0
+reserved_held v w n opened reserved = same_held v w 0 (ap (λ u. hold_of u 0) reserved ∙ hold_of-frames (with_credits n v) v refl 0) (opening_holds v opened)
+
+-- ---- a page is mapped below a new root, and unmapped
+
+module _ (v w x y : View) (root page leaf n : ℕ) (u : Image) (held : IsHeld v 0) (fresh : references v root ≡ 0) (made : w ≡ with_hold root blank_hold (claimed root v))
+    (still_held : IsHeld w 0) (grown : IsGrown (bare_root root) u page top_level) (mapped : ChangesTables w x (bare_root root) u n) (anchored : IsHeld x 0)
+    (unmapped : ChangesTables x y (with_leaf u (leaf_node page) leaf) (with_leaf u (leaf_node page) leaf) 0) where
+  -- beside its root a bare tree has no table
+  no_table : (k : ℕ) → (k ≡ 1 → ⊥) → get (bare_root root).tables k ≡ None
+  no_table k ne = insert_other map.empty 1 root k ne ∙ map.get-empty {X = ℕ} nat_cmp k
+
+  root_at : get (bare_root root).tables 1 ≡ Some root
+  root_at = insert_same map.empty 1 root 1 refl
+
+  the_root : (k f : ℕ) → get u.tables k ≡ Some f → k ≡ 1 → f ≡ root
+  the_root k f at e = same_Some f root (sym at ∙ ap (get u.tables) e ∙ grown.kept 1 root root_at)
+
+  made_once : (k f : ℕ) → get u.tables k ≡ Some f → references x f ≡ 1
+  made_once k f at = elim (cases_eq k 1) [
+    | inl e ↦ rw (the_root k f at e) (mapped.old 1 root root_at ∙ ap (λ (h : Hold). h.references) (ap (λ z. hold_of z root) made ∙ hold_of-with_hold_same root blank_hold (claimed root v)))
+    | inr ne ↦ (mapped.new k f at (no_table k ne)).1
+  ]
+
+  not_anchor : (k : ℕ) → get u.tables k ≡ Some 0 → ⊥
+  not_anchor k at = elim (cases_eq k 1) [
+    | inl e ↦ (let same = the_root k 0 at e in let none = rw (← same) at fresh in omega (arith, none, held))
+    | inr ne ↦ (let none = (mapped.new k 0 at (no_table k ne)).0 in omega (arith, none, still_held))
+  ]
+
+  pub left_last : AreLast y (without_leaf (with_leaf u (leaf_node page) leaf) (leaf_node page))
+  left_last = record {
+    bare = λ m. elim (cases_eq m (leaf_node page)) [
+      | inl e ↦ remove_same (insert u.leaves (leaf_node page) leaf) (leaf_node page) m e
+      | inr ne ↦
+          remove_other (insert u.leaves (leaf_node page) leaf) (leaf_node page) m ne
+          ∙ insert_other u.leaves (leaf_node page) leaf m ne ∙ ap (λ leaves. get leaves m) grown.leaves ∙ map.get-empty {X = ℕ} nat_cmp m
+    ];
+    once = λ k f at. unmapped.old k f at ∙ made_once k f at;
+    anchored = same_held x y 0 (unmapped.apart 0 not_anchor) anchored;
+    apart = not_anchor;
+  }

@@ -1,0 +1,53 @@
+use Rattle.std.proofs.Common.{◌≤◌, ◌*◌, ◌-◌, [], ap, arith, sym, ◌∙◌}
+use Rattle.frame_store.specs.Laws.{fits_after}
+use Rattle.frame_store.specs.Plain.{BankRule}
+use Rattle.frame_store.specs.View.{View}
+use Rattle.tests_of_tables.proofs.TableSteps.{enough_left, enough_now, of_ok, reserved_held, same_view}
+use Rattle.table_walk.specs.Same.{same_held, same_tables}
+use Rattle.tests_of_tables.proofs.walks.mapped.Goals as goal
+
+pub new_table-root-requires-clause-fits : goal.new_table-root-requires-clause-fits
+new_table-root-requires-clause-fits c = fits_after BankRule c.reserve-reserved.ensures.keeps ([], c.in_ok-frames.ensures.rule)
+
+pub new_table-root-requires-clause-anchored : goal.new_table-root-requires-clause-anchored
+new_table-root-requires-clause-anchored c =
+    let reserved = of_ok _ (sym c.is_ok.ensures.value ∙ c.if-prove.false) c.reserve-reserved.ensures.ok in
+    reserved_held _ _ 12 c.in_ok-frames.ensures.seat reserved
+
+pub leave_words-requires-clause-fits : goal.leave_words-requires-clause-fits
+leave_words-requires-clause-fits c = fits_after BankRule c.new_table-root.ensures.keeps (fits_after BankRule c.reserve-reserved.ensures.keeps ([], c.in_ok-frames.ensures.rule))
+
+pub loop-index-init : goal.loop-index-init
+loop-index-init c =
+    let reserved = of_ok _ (sym c.is_ok.ensures.value ∙ c.if-prove.false) c.reserve-reserved.ensures.ok in
+    let opened = ap (λ (v : View). v.credits) c.in_ok-frames.ensures.seat in
+    let had = ap (λ (v : View). v.credits) reserved in
+    let root = c.new_table-root.ensures in
+    let spent = ap (λ (v : View). v.credits) root.view in
+    let left = c.leave_words.ensures in
+    record {
+      rule = left.keeps [] (root.keeps [] (c.reserve-reserved.ensures.keeps [] c.in_ok-frames.ensures.rule));
+      anchored = same_held _ _ 0 (left.kept 0 root.anchored) root.anchored;
+      tables = (_, same_tables _ _ _ _ (λ k f at. left.kept f (root.root.own k f at).0) root.root, omega (arith, opened, had, spent, left.credits));
+    }
+
+pub map-requires-clause-tables : goal.map-requires-clause-tables
+map-requires-clause-tables c =
+    let i = c.loop-index.invariant in
+    let view = c.missing_tables.ensures.view in
+    let same = ap (λ (v : View). v.credits) view in
+    let enough : 2 * (5 - c.loop-index.index) ≤ c.missing_tables.new.seat.credits = rw same i.tables.2 in
+    (i.tables.0, same_view _ _ _ _ view i.tables.1, enough_now c.missing_tables.new.seat i.tables.0 c.page-in-loop-index.result c.loop-index.index (omega (arith, c.loop-index-test.true)) enough)
+
+pub loop-index-preserved : goal.loop-index-preserved
+loop-index-preserved c =
+    let i = c.loop-index.invariant in
+    let view = c.missing_tables.ensures.view in
+    let same = ap (λ (v : View). v.credits) view in
+    let enough : 2 * (5 - c.loop-index.index) ≤ c.missing_tables.new.seat.credits = rw same i.tables.2 in
+    let after = c.map.ensures.image i.tables.0 (same_view _ _ _ _ view i.tables.1) in
+    record {
+      rule = c.map.ensures.keeps [] (c.missing_tables.ensures.keeps [] i.rule);
+      anchored = c.map.ensures.anchored;
+      tables = (_, after.2, enough_left _ _ _ _ _ _ after.3 enough);
+    }

@@ -1,0 +1,13 @@
+use Rattle.std.proofs.Common.{◌-◌, ◌*◌, ◌≤◌, [], ◌∷◌}
+use Rattle.frame_store.specs.Plain.{BankRule}
+use Rattle.frame_store.specs.View.{IsHeld}
+use Rattle.table_walk.specs.Image.{HasTables, Image}
+use Rattle.tests_of_tables.proofs.walks.mapped.Given as goal
+
+-- each page that is left can be mapped
+abbrev pub invariant-loop-index : goal.invariant-loop-index
+invariant-loop-index l = record {
+  rule : BankRule l.frames (l.seat ∷ []);
+  anchored : IsHeld l.seat 0;
+  tables : (t : Image) × HasTables l.seat l.root.0 t × (2 * (5 - l.index) ≤ l.seat.credits);
+}

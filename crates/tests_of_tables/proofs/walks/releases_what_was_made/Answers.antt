@@ -1,0 +1,47 @@
+use Rattle.std.proofs.Common.{[], ap, arith, sym, ◌∙◌}
+use Rattle.frame_store.specs.View.{View}
+use Rattle.table_walk.specs.Image.{bare_root}
+use Rattle.tests_of_tables.proofs.TableSteps.{left_last, missing_low, of_ok, reserved_held}
+use Rattle.tests_of_tables.proofs.walks.releases_what_was_made.Goals as goal
+
+pub new_table-root-requires-clause-fits : goal.new_table-root-requires-clause-fits
+new_table-root-requires-clause-fits g c = ([], c.reserve-reserved.ensures.keeps [] c.in_ok-frames.ensures.rule)
+
+pub new_table-root-requires-clause-anchored : goal.new_table-root-requires-clause-anchored
+new_table-root-requires-clause-anchored g c =
+    let reserved = of_ok _ (sym c.is_ok.ensures.value ∙ c.if-prove.false) c.reserve-reserved.ensures.ok in
+    reserved_held _ _ 3 c.in_ok-frames.ensures.seat reserved
+
+pub map-requires-clause-fits : goal.map-requires-clause-fits
+map-requires-clause-fits g c = ([], c.new_table-root.ensures.keeps [] (c.reserve-reserved.ensures.keeps [] c.in_ok-frames.ensures.rule))
+
+pub map-requires-clause-tables : goal.map-requires-clause-tables
+map-requires-clause-tables g c =
+    let opened = ap (λ (v : View). v.credits) c.in_ok-frames.ensures.seat in
+    let reserved = of_ok _ (sym c.is_ok.ensures.value ∙ c.if-prove.false) c.reserve-reserved.ensures.ok in
+    let had = ap (λ (v : View). v.credits) reserved in
+    let spent = ap (λ (v : View). v.credits) c.new_table-root.ensures.view in
+    let low = missing_low (bare_root c.new_table-root.result.0) c.page-page.result in
+    (bare_root c.new_table-root.result.0, c.new_table-root.ensures.root, omega (arith, opened, had, spent, low))
+
+pub unmap-requires-clause-fits : goal.unmap-requires-clause-fits
+unmap-requires-clause-fits g c = ([], c.map.ensures.keeps [] (c.new_table-root.ensures.keeps [] (c.reserve-reserved.ensures.keeps [] c.in_ok-frames.ensures.rule)))
+
+pub unmap-requires-clause-held : goal.unmap-requires-clause-held
+unmap-requires-clause-held g c = (_, (c.map.ensures.image _ c.new_table-root.ensures.root).2)
+
+pub release_tables-requires-clause-fits : goal.release_tables-requires-clause-fits
+release_tables-requires-clause-fits g c =
+    ([], c.unmap.ensures.keeps [] (c.map.ensures.keeps [] (c.new_table-root.ensures.keeps [] (c.reserve-reserved.ensures.keeps [] c.in_ok-frames.ensures.rule))))
+
+pub release_tables-requires-clause-bare : goal.release_tables-requires-clause-bare
+release_tables-requires-clause-bare g c =
+    let reserved = of_ok _ (sym c.is_ok.ensures.value ∙ c.if-prove.false) c.reserve-reserved.ensures.ok in
+    let root = c.new_table-root.ensures in
+    let mapped = c.map.ensures.image _ root.root in
+    let unmapped = c.unmap.ensures.image _ mapped.2 in (
+      _,
+      unmapped.0,
+      left_last _ _ _ _ _ c.page-page.result c.leaf-leaf.result _ mapped.0 (reserved_held _ _ 3 c.in_ok-frames.ensures.seat reserved)
+          root.fresh root.view root.anchored mapped.1 mapped.3 c.map.ensures.anchored unmapped.1,
+    )

@@ -1,0 +1,220 @@
+// Vectors from outside: walks over a memory of 1,024 frames with two tables, and changes of tables that a seat holds.
+
+ghost use Rattle.std.specs.Prelude.{◌≡◌, ◌+◌, ◌≤◌, ◌<◌, [], ◌∷◌, ℕ, IfOk};
+ghost use Rattle.frame_store.specs.Laws.{Fits, Keeps};
+ghost use Rattle.frame_store.specs.Plain.{BankRule};
+ghost use Rattle.frame_store.specs.View.{hold_of, IsHeld};
+ghost use Rattle.table_walk.specs.Image.{HasTables, Image};
+
+use frame_store::{FrameAccess, FrameSeat, FrameSupply, PlainFrames, PlainSeat};
+use std::alloc::{AllocError, Global};
+use std::test::Fail;
+use sv39_entry::{Access, Entry, FrameNo, Mode, Rights, Va};
+use table_walk::{
+    Found, HeldWords, PlainWords, Walk, lookup, map, missing_tables, new_table, next_leaf, protect,
+    release_tables, translate, unmap, walks_of_tables,
+};
+
+/// Word 0 of frame 1: a pointer to frame 2.
+const POINTER: u64 = 0x20000801;
+
+/// A leaf of frame 512 that a user may load and store, accessed and dirty.
+const DATA: u64 = 0x200800d7;
+
+/// The same, with a bit set that has to be clear.
+const RESERVED: u64 = 0x00400000200800d7;
+
+/// The same as `DATA`, but not dirty.
+const CLEAN: u64 = 0x20080057;
+
+/// The same as `DATA`, but for the kernel alone.
+const KERNEL: u64 = 0x200800c7;
+
+/// The word at index 1 of frame 2, an access to an address in a mode, and its outcome.
+type Row = (u64, Access, u64, Mode, Walk);
+
+/// The words of so many frames, all 0 but those two of frames 1 and 2.
+fn tables(alloc: Global, frames: usize, word: u64) -> Result<Vec<u64>, AllocError>
+    requires some { 3 ≤ frames }
+    requires few { frames ≤ 1024 }
+{
+    let mut words = vec![in alloc; 0; frames * 512]?;
+    words[512] = POINTER;
+    words[2 * 512 + 1] = word;
+    Ok(words)
+}
+
+#[test]
+fn translates_accesses(rt: HostRuntime) -> Result<(), Fail> {
+    let (user, kernel) = (Mode::User, Mode::Supervisor);
+    let (fetch, load, store) = (Access::Fetch, Access::Load, Access::Store);
+    let mapped = |word, address| Walk::Leaf {
+        word,
+        level: 1,
+        address,
+    };
+    let rows: [Row; 16] = [
+        (DATA, load, 0x234567, user, mapped(DATA, 0x80234567)),
+        (0x200804d7, load, 0x234567, user, Walk::PageFault(13)),
+        (RESERVED, load, 0x234567, user, Walk::PageFault(13)),
+        (DATA, fetch, 0x200000, user, Walk::PageFault(12)),
+        (CLEAN, store, 0x200000, user, Walk::PageFault(15)),
+        (CLEAN, load, 0x200000, user, mapped(CLEAN, 0x80200000)),
+        (0x20080097, load, 0x200000, user, Walk::PageFault(13)),
+        (KERNEL, load, 0x200000, user, Walk::PageFault(13)),
+        (KERNEL, load, 0x200000, kernel, mapped(KERNEL, 0x80200000)),
+        (0x200800d5, load, 0x200000, user, Walk::PageFault(13)),
+        (0x20000c41, load, 0x200000, user, Walk::PageFault(13)),
+        (0x000000d7, load, 0x200000, user, Walk::AccessFault(5)),
+        (0x00000001, store, 0x200000, user, Walk::AccessFault(7)),
+        (0x000000c7, load, 0x200000, user, Walk::PageFault(13)),
+        (DATA, load, 0x4000000000, user, Walk::PageFault(13)),
+        (DATA, load, 0xffffffc000000000, user, Walk::PageFault(13)),
+    ];
+    let root = FrameNo(1).ppn();
+    for (word, access, address, mode, outcome) in rows {
+        let words = tables(rt.alloc(), 1024, word)?;
+        let mut memory = PlainWords::new(&words);
+        assert_eq!(rt;
+            translate(&mut memory, root, Va(address), access, mode),
+            outcome,
+            "at {word:x} {access:?} {address:x} {mode:?}"
+        );
+    }
+    Ok(())
+}
+
+#[test]
+fn finds_leaves(rt: HostRuntime) -> Result<(), Fail> {
+    let root = FrameNo(1).ppn();
+    let words = tables(rt.alloc(), 3, DATA)?;
+    let mut memory = PlainWords::new(&words);
+    let leaf = Found::Leaf {
+        word: DATA,
+        level: 1,
+        global: false,
+    };
+    assert_eq!(rt; lookup(&mut memory, root, Va(0x3fffff)), leaf);
+    assert_eq!(rt; lookup(&mut memory, root, Va(0x400000)), Found::NoLeaf);
+    assert_eq!(rt;
+        lookup(&mut memory, FrameNo(3).ppn(), Va(0)),
+        Found::Outside
+    );
+    Ok(())
+}
+
+/// An address, the frame that its page is mapped to, and the word of the leaf.
+type Mapping = (Va, u16, u64);
+
+/// In ascending order. A user may load there.
+const MAPPINGS: [Mapping; 5] = [
+    (Va(0), 9, 0x20002453),
+    (Va(0x1000), 10, 0x20002853),
+    (Va(0x200000), 11, 0x20002c53),
+    (Va(0x40000000), 12, 0x20003053),
+    (Va(0x3ffffff000), 13, 0x20003453),
+];
+
+/// Leaves words in a free frame.
+fn leave_words<F: FrameSupply>(store: &mut F, seat: &mut F::Seat)
+    requires fits { Fits F.rule store.old seat.old }
+    requires anchored { IsHeld (F.Seat.view seat.old) 0 }
+    requires credit { 0 < (F.Seat.view seat.old).credits }
+    ensures kept { (f : ℕ) → IsHeld (F.Seat.view seat.old) f → hold_of (F.Seat.view seat.new) f ≡ hold_of (F.Seat.view seat.old) f }
+    ensures credits { (F.Seat.view seat.new).credits + 1 ≡ (F.Seat.view seat.old).credits }
+    ensures keeps { Keeps F.rule store.old seat.old store.new seat.new }
+{
+    let frame = store.claim(seat);
+    for index in 0..512 {
+        store.store(seat, frame, index, u64::MAX);
+    }
+    store.release(seat, frame);
+}
+
+/// Tables of `MAPPINGS` at a new store: its seat, the root, and how many tables were missing at each of them.
+fn mapped(alloc: Global) -> Result<(PlainFrames, PlainSeat, FrameNo, [usize; 5]), AllocError>
+    ensures rule { IfOk result (λ r. BankRule r.0 (r.1 ∷ [])) }
+    ensures tables { IfOk result (λ r. (t : Image) × HasTables r.1 r.2.0 t) }
+{
+    let (mut frames, mut seat) = PlainFrames::new(alloc, 16)?;
+    let reserved = frames.reserve(&mut seat, 12);
+    prove!(reserved.is_ok());
+    let root = new_table(&mut frames, &mut seat);
+    leave_words(&mut frames, &mut seat);
+    let mut missing = [0; 5];
+    for (index, (va, frame, _)) in MAPPINGS.iter().enumerate() {
+        let leaf = Entry::leaf(FrameNo(*frame), Rights::READ, true, false);
+        missing[index] = missing_tables(&mut frames, &mut seat, root, va.page());
+        map(&mut frames, &mut seat, root, va.page(), leaf);
+    }
+    Ok((frames, seat, root, missing))
+}
+
+#[test]
+fn finds_what_is_mapped(rt: HostRuntime) -> Result<(), Fail> {
+    let (mut frames, mut seat, root, missing) = mapped(rt.alloc())?;
+    assert_eq!(rt; missing, [2, 0, 1, 2, 2]);
+    walks_of_tables();
+    let mut from = Va(0).page();
+    'found: for (va, _, word) in MAPPINGS {
+        let found = next_leaf(&mut frames, &mut seat, root, from);
+        assert_eq!(rt; found, Some((va.page(), Entry::from_word(word))));
+        from = Va(va.0.wrapping_add(4096)).page();
+    }
+    assert_eq!(rt; next_leaf(&mut frames, &mut seat, root, from), None);
+    let mut words = HeldWords {
+        store: &mut frames,
+        seat: &mut seat,
+    };
+    'walked: for (va, _, word) in MAPPINGS {
+        let leaf = Found::Leaf {
+            word,
+            level: 0,
+            global: false,
+        };
+        assert_eq!(rt; lookup(&mut words, root.ppn(), va), leaf);
+    }
+    Ok(())
+}
+
+#[test]
+fn changes_one_leaf(rt: HostRuntime) -> Result<(), Fail> {
+    let (mut frames, mut seat, root, _) = mapped(rt.alloc())?;
+    let gone = Va(0x200000);
+    let leaf = unmap(&mut frames, &mut seat, root, gone.page());
+    assert_eq!(rt; leaf, Some(Entry::from_word(0x20002c53)));
+    assert_eq!(rt; unmap(&mut frames, &mut seat, root, gone.page()), None);
+    let next = next_leaf(&mut frames, &mut seat, root, Va(0x2000).page());
+    let (page, _) = next.expect(&rt, "the next page is still mapped");
+    let leaf = Entry::leaf(FrameNo(12), Rights::READ, false, false);
+    protect(&mut frames, &mut seat, root, page, leaf);
+    walks_of_tables();
+    let mut words = HeldWords {
+        store: &mut frames,
+        seat: &mut seat,
+    };
+    assert_eq!(rt; lookup(&mut words, root.ppn(), gone), Found::NoLeaf);
+    let leaf = Found::Leaf {
+        word: 0x20003043,
+        level: 0,
+        global: false,
+    };
+    assert_eq!(rt; lookup(&mut words, root.ppn(), Va(0x40000123)), leaf);
+    Ok(())
+}
+
+#[test]
+fn releases_what_was_made(rt: HostRuntime) -> Result<(), Fail> {
+    let (mut frames, mut seat) = PlainFrames::new(rt.alloc(), 16)?;
+    let reserved = frames.reserve(&mut seat, 3);
+    prove!(reserved.is_ok());
+    let root = new_table(&mut frames, &mut seat);
+    let page = Va(0x200000).page();
+    let leaf = Entry::leaf(FrameNo(9), Rights::READ, true, false);
+    map(&mut frames, &mut seat, root, page, leaf);
+    unmap(&mut frames, &mut seat, root, page);
+    assert_eq!(rt; frames.report().held, 4);
+    release_tables(&mut frames, &mut seat, root);
+    assert_eq!(rt; frames.report().held, 1);
+    Ok(())
+}
