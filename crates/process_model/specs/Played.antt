@@ -1,6 +1,6 @@
 -- How much of the model the program plays: images of segments, the policy full, and the steps of harts, of their buffers and of
 -- accesses.
-use Rattle.std.specs.Prelude.{◌≡◌, List, [], All}
+use Rattle.std.specs.Prelude.{◌≡◌, [], All}
 use Rattle.process_model.specs.Script.{Script}
 use Rattle.process_model.specs.declared.config.Policy.TheVariants.{Full}
 use Rattle.process_model.specs.declared.image.Image.{Image}

@@ -12,8 +12,8 @@ use prog.Atomic.{either}
 use Rattle.atomic_table.specs.Table.{State, Me, step, keeps, Allows}
 use Rattle.atomic_table.proofs.Lists.{set_again}
 use Rattle.frame_store.specs.Laws.{IsAnchored}
-use Rattle.frame_store.specs.View.{View, Hold, hold_of, with_hold, without_hold, not_held, sole_hold, references, IsHeld, IsSole, with_word, with_credits, without_credits, saw_none, claimed, shared, looked, read_full, released}
-use Rattle.frame_store.specs.Holds.{hold_of-with_hold_same, hold_of-with_hold_other, hold_of-without_hold_same, hold_of-without_hold_other, hold_of-frames}
+use Rattle.frame_store.specs.View.{View, Hold, hold_of, sole_hold, references, IsHeld, IsSole, with_word, with_credits, without_credits, saw_none, claimed, shared, looked, read_full, released}
+use Rattle.frame_store.specs.Holds.{hold_of-frames}
 use Rattle.frame_store.specs.Puts.{Puts, puts, left_of, left-references, released-puts}
 use Rattle.shared_frames.specs.Rule.{count_at, memory_at, one_at_zero, FrameAgrees, IsKept, Kept}
 use Rattle.shared_frames.specs.Telling.{saw_free, let_go, unshared, Sees, GivesBack, Looks, Releases, Loads, Stores, Reserves, Claims, Shares}

@@ -8,10 +8,10 @@ use lib.ListN.{get_elem?}
 use Rattle.atomic_table.specs.Table.{Splits, Joins}
 use Rattle.atomic_table.proofs.Lists.{at_snoc, set_else}
 use Rattle.frame_store.specs.Laws.{IsAnchored}
-use Rattle.frame_store.specs.View.{View, Hold, hold_of, with_hold, without_hold, not_held, references, IsHeld, empty_view, added, either, joined, moved_from, moved_to, split_off, CanSplit}
-use Rattle.frame_store.specs.Holds.{hold_of-with_hold_same, hold_of-with_hold_other, hold_of-without_hold_same, hold_of-without_hold_other, hold_of-empty}
+use Rattle.frame_store.specs.View.{View, Hold, hold_of, with_hold, without_hold, references, IsHeld, empty_view, added, either, joined, moved_from, moved_to, split_off, CanSplit}
+use Rattle.frame_store.specs.Holds.{hold_of-empty}
 use Rattle.frame_store.specs.Joins.{get-union, hold_of-joined}
-use Rattle.frame_store.specs.Puts.{Puts, puts, fewer, stays, goes, moved_from-puts, moved_to-puts}
+use Rattle.frame_store.specs.Puts.{Puts, fewer, stays, goes, moved_from-puts, moved_to-puts}
 use Rattle.shared_frames.specs.Fits.{FrameFits, IsWithin}
 use Rattle.shared_frames.specs.Rule.{memory_at, all_references, FrameAgrees, ViewAgrees, IsKept, Kept}
 use Rattle.shared_frames.proofs.Sums.{total-set, total-snoc, total-one, total-two}
