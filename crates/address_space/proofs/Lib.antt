@@ -16,7 +16,6 @@ pub mod KernelFrames
 pub mod KernelPages
 pub mod KernelSteps
 pub mod KernelTables
-pub mod KernelTested
 pub mod KernelWalks
 pub mod NeededParts
 pub mod NeededSets
@@ -26,5 +25,4 @@ pub mod OwningCounts
 pub mod OwningSteps
 pub mod PageMaps
 pub mod Sizes
-pub mod SpaceTested
 pub mod Writing

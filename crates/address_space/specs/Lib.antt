@@ -5,4 +5,3 @@ pub mod Layouts
 pub mod Parts
 pub mod Separating
 pub mod Steps
-pub mod Tested

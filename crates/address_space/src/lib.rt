@@ -2,12 +2,8 @@
 #![tactic(auto)]
 
 mod build;
-#[cfg(test)]
-mod build_tests;
 mod ending;
 mod kernel;
-#[cfg(test)]
-mod kernel_tests;
 mod layout;
 mod needed;
 mod own;
@@ -15,10 +11,6 @@ mod pages;
 mod part;
 mod region;
 mod space;
-#[cfg(test)]
-mod space_tests;
-#[cfg(test)]
-mod tests;
 
 pub use kernel::KernelTable;
 pub use layout::Layout;

@@ -3,14 +3,10 @@
 
 mod begin;
 mod elf;
-#[cfg(test)]
-mod elf_tests;
 mod fields;
 mod image;
 mod judging;
 mod load;
-#[cfg(test)]
-mod tests;
 
 pub use begin::start;
 pub use elf::read_image;

@@ -12,8 +12,6 @@ mod stepping;
 mod switching;
 mod tables;
 mod tenant;
-#[cfg(test)]
-mod tests;
 mod trampoline;
 mod user;
 mod walked;

@@ -1,9 +1,0 @@
-use Rattle.address_space.proofs.SpaceTested.{keeps_regions, lives_begun}
-use Rattle.address_space.proofs.space_tests.roomy.Goals as goal
-
-pub returns-clause-lives : goal.returns-clause-lives
-returns-clause-lives g c =
-    let parts = c.standard_parts.ensures in
-    let built = c.in_ok-space.ensures.built in
-    lives_begun _ parts.regions parts.numbers c.args.page c.requires.in_heap c.requires.low _ _ _ _ built.0
-    (c.set_size.ensures.agrees built.0 _ (built.1 0) (keeps_regions _ parts.regions parts.numbers c.args.page c.requires.in_heap c.requires.low))

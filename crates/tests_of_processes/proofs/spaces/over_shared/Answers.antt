@@ -1,0 +1,18 @@
+use Rattle.shared_frames.specs.Fits.{fits_still, may_step}
+use Rattle.tests_of_processes.proofs.KernelSteps.{opens}
+use Rattle.tests_of_processes.proofs.spaces.over_shared.Goals.{in-Ok, in-Err}
+use Rattle.tests_of_processes.proofs.spaces.over_shared.Goals as goal
+
+pub settled_far-requires-clause-fits : goal.settled_far-requires-clause-fits
+settled_far-requires-clause-fits g c = may_step _ _ c.in_ok-frames.seat c.supply-supply.ensures c.in_ok-frames.ensures.fits
+
+pub settled_far-requires-clause-opening : goal.settled_far-requires-clause-opening
+settled_far-requires-clause-opening g c = opens _ c.in_ok-frames.ensures.view
+
+pub close-requires : goal.close-requires
+close-requires g c =
+    let before = c.in_ok-frames.ensures.fits in
+    elim c.match-settled_far.branch [
+      | in-Ok w ↦ rw w.reads-is (fits_still _ _ _ c.in_ok-frames.seat w.in-Ok.seat c.supply-supply.ensures w.in-Ok.ensures.keeps before).1
+      | in-Err w ↦ rw w.reads-is (fits_still _ _ _ c.in_ok-frames.seat w.in-Err.seat c.supply-supply.ensures w.in-Err.ensures.keeps_refused before).1
+    ]

@@ -1,0 +1,195 @@
+// A small file, edits of it, and the check that each fails.
+
+use address_space::Space;
+use byteorder::{ByteOrder, LittleEndian};
+use exec_segments::{read_image, start};
+use frame_store::{PlainFrames, PlainSeat};
+use process_model::BadImage;
+use std::alloc::{AllocError, Global};
+use sv39_entry::{Access, Rule, Va};
+
+/// A file header, one program header, and the four bytes of its segment: text at 0 that has one page.
+const FILE: &[u8; 124] = b"\x7fELF\x02\x01\x01\0\0\0\0\0\0\0\0\0\x02\0\xf3\0\x01\0\0\0\
+    \0\0\0\0\0\0\0\0\x40\0\0\0\0\0\0\0\0\0\0\0\0\0\0\0\0\0\0\0\x40\0\x38\0\x01\0\0\0\0\0\0\0\
+    \x01\0\0\0\x05\0\0\0\x78\0\0\0\0\0\0\0\0\0\0\0\0\0\0\0\0\0\0\0\0\0\0\0\
+    \x04\0\0\0\0\0\0\0\0\x10\0\0\0\0\0\0\0\x10\0\0\0\0\0\0\x13\x05\0\0";
+
+// Where fields of it stand.
+const TABLE: usize = 32;
+
+const COUNT: usize = 56;
+
+const TYPE: usize = 64;
+
+const OFFSET: usize = 72;
+
+const ADDRESS: usize = 80;
+
+const FILE_SIZE: usize = 96;
+
+const MEMORY_SIZE: usize = 104;
+
+/// The check that a file fails.
+fn refusal(bytes: &[u8]) -> Option<BadImage> {
+    match read_image(bytes) {
+        Ok(_) => None,
+        Err(part) => Some(part),
+    }
+}
+
+/// Puts a number of eight bytes in its place, if it fits.
+fn put(bytes: &mut [u8], at: usize, number: u64) {
+    if at < bytes.len() && bytes.len() - at >= 8 {
+        LittleEndian::write_u64(&mut bytes[at..], number);
+    }
+}
+
+/// The check that the file fails with other numbers in two of its fields.
+fn with_numbers(alloc: Global, fields: [(usize, u64); 2]) -> Result<Option<BadImage>, AllocError> {
+    let mut bytes = Vec::from_slice(alloc, FILE)?;
+    for (at, number) in fields {
+        put(&mut bytes, at, number);
+    }
+    Ok(refusal(&bytes))
+}
+
+/// The first front of the file that fails another check.
+fn wrong_front() -> Option<usize> {
+    for count in 0..=124 {
+        let told = match count {
+            0..64 => Some(BadImage::Header),
+            64..120 => Some(BadImage::ProgramHeader),
+            120..124 => Some(BadImage::Contents),
+            _ => None,
+        };
+        if refusal(&FILE[..count]) != told {
+            return Some(count);
+        }
+    }
+    None
+}
+
+#[test]
+fn judges_each_front(rt: HostRuntime) {
+    assert_eq!(rt; wrong_front(), None);
+}
+
+/// A field, by where it stands, with another number in it, and the check that the file fails then.
+type Row = ((usize, u64), Option<BadImage>);
+
+fn rows() -> [Row; 13] {
+    [
+        ((0, 0x0001_0102_464c_457e), Some(BadImage::Magic)),
+        ((TABLE, u64::MAX), Some(BadImage::ProgramHeader)),
+        ((COUNT, 0xffff), Some(BadImage::ProgramHeader)),
+        ((COUNT, 0), Some(BadImage::NoLoad)),
+        ((TYPE, 0x5_0000_0002), Some(BadImage::NoLoad)),
+        ((MEMORY_SIZE, 3), Some(BadImage::Sizes)),
+        ((ADDRESS, 0xffff_ffff_ffff_f000), Some(BadImage::Wraps)),
+        ((ADDRESS, 0x1001), Some(BadImage::Align)),
+        ((OFFSET, u64::MAX), Some(BadImage::Contents)),
+        ((FILE_SIZE, 5), Some(BadImage::Contents)),
+        ((ADDRESS, 0x3f_ffff_d000), Some(BadImage::TooHigh)),
+        ((ADDRESS, 0x3f_ffff_b000), None),
+        ((MEMORY_SIZE, u64::MAX), Some(BadImage::TooHigh)),
+    ]
+}
+
+/// The first row that fails another check.
+fn wrong_row(alloc: Global) -> Result<Option<Row>, AllocError> {
+    for row in rows() {
+        let (field, told) = row;
+        if with_numbers(alloc, [field, field])? != told {
+            return Ok(Some(row));
+        }
+    }
+    Ok(None)
+}
+
+#[test]
+fn judges_each_field(rt: HostRuntime) {
+    let empty = [(FILE_SIZE, 0), (MEMORY_SIZE, 0)];
+    assert_eq!(rt;
+        (wrong_row(rt.alloc()), with_numbers(rt.alloc(), empty)),
+        (Ok(None), Ok(Some(BadImage::NoLoad)))
+    );
+}
+
+/// The file with its program header twice, and the address of the second.
+fn with_two_headers(alloc: Global, address: u64) -> Result<Option<BadImage>, AllocError> {
+    let file = FILE.as_slice();
+    let mut bytes = Vec::from_slice(alloc, &file[..120])?;
+    bytes.extend_from_slice(&file[64..])?;
+    put(&mut bytes, COUNT, 2);
+    put(&mut bytes, OFFSET, 0xb0);
+    put(&mut bytes, OFFSET + 56, 0xb0);
+    put(&mut bytes, ADDRESS + 56, address);
+    Ok(refusal(&bytes))
+}
+
+#[test]
+fn judges_headers_in_a_row(rt: HostRuntime) {
+    assert_eq!(rt;
+        [
+            with_two_headers(rt.alloc(), 0),
+            with_two_headers(rt.alloc(), 0x1000)
+        ],
+        [Ok(Some(BadImage::Order)), Ok(None)]
+    );
+}
+
+/// The check that the file fails with zeros behind it, up to a length.
+fn with_length(alloc: Global, length: usize) -> Result<Option<BadImage>, AllocError> {
+    let mut bytes = Vec::from_slice(alloc, FILE)?;
+    bytes.resize(length, 0)?;
+    Ok(refusal(&bytes))
+}
+
+#[test]
+fn takes_a_mebibyte(rt: HostRuntime) {
+    assert_eq!(rt;
+        [
+            with_length(rt.alloc(), 1_048_576),
+            with_length(rt.alloc(), 1_048_577)
+        ],
+        [Ok(None), Ok(Some(BadImage::TooLong))]
+    );
+}
+
+/// What the process of the file is refused: a fetch and a store at the end of page 0, a load on page 1, and a store and a load
+/// on the pages after it.
+fn refused(space: &Space<PlainSeat>) -> [Option<Rule>; 5] {
+    [
+        space.grant(Access::Fetch, Va(0xffc), 4).err(),
+        space.grant(Access::Store, Va(0xff8), 8).err(),
+        space.grant(Access::Load, Va(0x1000), 8).err(),
+        space.grant(Access::Store, Va(0x2000), 8).err(),
+        space.grant(Access::Load, Va(0x3000), 8).err(),
+    ]
+}
+
+/// The same of a process that is started; none where it could not be.
+fn refused_when_started(alloc: Global) -> Result<Option<[Option<Rule>; 5]>, AllocError> {
+    let Ok(image) = read_image(FILE) else {
+        return Ok(None);
+    };
+    let (mut store, seat) = PlainFrames::new(alloc, 64)?;
+    match start(&mut store, seat, &image) {
+        Ok(space) => Ok(Some(refused(&space))),
+        Err(_) => Ok(None),
+    }
+}
+
+#[test]
+fn starts_the_file(rt: HostRuntime) {
+    assert_eq!(rt;
+        refused_when_started(rt.alloc()),
+        Ok(Some([
+            None,
+            Some(Rule::NoWrite),
+            Some(Rule::GuardPage),
+            None,
+            Some(Rule::NoRegion),
+        ]))
+    );
+}

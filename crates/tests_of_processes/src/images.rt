@@ -1,0 +1,166 @@
+// Which lists of segments are images, and what starting one takes.
+
+ghost use Rattle.std.specs.Prelude.{◌<◌, ◌≤◌};
+
+use address_space::Space;
+use exec_segments::{Image, start};
+use frame_store::{PlainFrames, PlainSeat};
+use process_model::{BadImage, Bytes, Segment};
+use std::alloc::{AllocError, Global};
+use sv39_entry::{Access, Rule, Va};
+
+/// A segment of so many bytes in memory, that begins with so many of its own.
+fn segment(
+    alloc: Global,
+    address: u64,
+    memory_size: u64,
+    bytes: usize,
+) -> Result<Segment, AllocError> {
+    Ok(Segment {
+        address,
+        memory_size,
+        writes: false,
+        executes: false,
+        bytes: Bytes::from_vec(Vec::from_elem(alloc, 7, bytes)?),
+    })
+}
+
+/// The check that an image of these segments fails.
+fn refusal(segments: &[Segment]) -> Option<BadImage> {
+    match Image::from_segments(segments) {
+        Ok(_) => None,
+        Err(part) => Some(part),
+    }
+}
+
+/// A segment: its address, its bytes in memory, and how many it has of its own.
+type Given = (u64, u64, usize);
+
+/// The check that an image of such segments fails.
+fn refusal_of(alloc: Global, given: &[Given]) -> Result<Option<BadImage>, AllocError> {
+    let mut segments = Vec::new(alloc);
+    for (address, memory_size, bytes) in given {
+        segments.push(segment(alloc, *address, *memory_size, *bytes)?)?;
+    }
+    Ok(refusal(&segments))
+}
+
+/// The only segment of an image, and the check that it fails.
+type Row = (u64, u64, usize, Option<BadImage>);
+
+fn rows() -> [Row; 12] {
+    [
+        (0x0, 0x1, 1, None),
+        (0x0, 0x1, 2, Some(BadImage::Sizes)),
+        (u64::MAX, 1, 0, Some(BadImage::Wraps)),
+        (0xffff_ffff_ffff_f000, 0xfff, 0, Some(BadImage::TooHigh)),
+        (0x800, 0x1, 0, Some(BadImage::Align)),
+        (0x800, 0x0, 0, Some(BadImage::Align)),
+        (0x1000, 0x0, 0, Some(BadImage::NoLoad)),
+        (0x1000, 0x0, 1, Some(BadImage::Sizes)),
+        (0x3f_ffff_b000, 0x1000, 4, None),
+        (0x3f_ffff_b000, 0x1001, 4, Some(BadImage::TooHigh)),
+        (0x3f_ffff_c000, 0x1, 0, Some(BadImage::TooHigh)),
+        (0x40_0000_0000, 0x0, 0, Some(BadImage::NoLoad)),
+    ]
+}
+
+/// The first row that fails another check.
+fn wrong_row(alloc: Global) -> Result<Option<Row>, AllocError> {
+    for row in rows() {
+        let (address, memory_size, bytes, told) = row;
+        if refusal_of(alloc, &[(address, memory_size, bytes)])? != told {
+            return Ok(Some(row));
+        }
+    }
+    Ok(None)
+}
+
+#[test]
+fn judges_each_segment(rt: HostRuntime) {
+    assert_eq!(rt; wrong_row(rt.alloc()), Ok(None));
+}
+
+#[test]
+fn judges_segments_in_a_row(rt: HostRuntime) {
+    let in_order = [(0x0, 0x1001, 0), (0x0, 0x0, 0), (0x2000, 0x1, 0)];
+    let meeting = [(0x0, 0x1001, 0), (0x1000, 0x1, 0)];
+    assert_eq!(rt;
+        [
+            refusal_of(rt.alloc(), &in_order),
+            refusal_of(rt.alloc(), &meeting),
+            refusal_of(rt.alloc(), &[])
+        ],
+        [
+            Ok(None),
+            Ok(Some(BadImage::Order)),
+            Ok(Some(BadImage::NoLoad))
+        ]
+    );
+}
+
+/// The first number of segments, each a page of its own, that fails another check.
+fn wrong_number(alloc: Global) -> Result<Option<u64>, AllocError> {
+    let mut segments = Vec::new(alloc);
+    for page in 0..=17 {
+        let told = match page {
+            0 => Some(BadImage::NoLoad),
+            17 => Some(BadImage::TooMany),
+            _ => None,
+        };
+        if refusal(&segments) != told {
+            return Ok(Some(page));
+        }
+        segments.push(segment(alloc, 0x1000 * page, 0x1000, 1)?)?;
+    }
+    Ok(None)
+}
+
+#[test]
+fn takes_sixteen_segments(rt: HostRuntime) {
+    assert_eq!(rt; wrong_number(rt.alloc()), Ok(None));
+}
+
+/// Whether the last bytes of the data may be read and those of the stack written, and the page between is the guard.
+fn has_its_pages(space: &Space<PlainSeat>) -> bool {
+    space.grant(Access::Load, Va(0x2ff8), 8).is_ok()
+        && space.grant(Access::Store, Va(0x4ff8), 8).is_ok()
+        && space.grant(Access::Load, Va(0x3000), 8) == Err(Rule::GuardPage)
+}
+
+/// Whether a process with text at 0, data from 0x1000 to 0x2fff, guard and stack starts over so many frames, and how many are
+/// free then.
+fn started_over(alloc: Global, frames: usize) -> Result<Option<(bool, usize)>, AllocError>
+    requires some { 0 < frames }
+    requires few { frames ≤ 1024 }
+{
+    let segments = [
+        segment(alloc, 0x0, 0x100, 4)?,
+        segment(alloc, 0x1000, 0x2000, 16)?,
+    ];
+    let Ok(image) = Image::from_segments(&segments) else {
+        return Ok(None);
+    };
+    let (mut store, seat) = PlainFrames::new(alloc, frames)?;
+    let started = match start(&mut store, seat, &image) {
+        Ok(space) => has_its_pages(&space),
+        Err(_) => false,
+    };
+    Ok(Some((started, store.report().free)))
+}
+
+#[test]
+fn starts_with_eleven_frames(rt: HostRuntime) {
+    assert_eq!(rt;
+        [
+            started_over(rt.alloc(), 15),
+            started_over(rt.alloc(), 12),
+            started_over(rt.alloc(), 11)
+        ],
+        [
+            Ok(Some((true, 3))),
+            Ok(Some((true, 0))),
+            Ok(Some((false, 10)))
+        ]
+    );
+}

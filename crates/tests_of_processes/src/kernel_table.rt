@@ -1,0 +1,198 @@
+// The kernel's table of a memory of 64 frames, over both stores, and how many frames the table takes.
+
+ghost use Rattle.std.specs.Prelude.{◌≤◌, IfErr, IfOk};
+ghost use Rattle.address_space.specs.Agreement.{HoldsTrampoline};
+ghost use Rattle.frame_store.specs.Laws.{Fits, Keeps};
+
+use address_space::KernelTable;
+use frame_store::{FrameAccess, FrameSeat, FrameSupply, NoFrame, PlainFrames};
+use shared_frames::SharedFrames;
+use std::alloc::{AllocError, Global};
+use std::sync::Wait;
+use sv39_entry::{Access, Va, kernel_stack};
+use table_walk::Walk;
+
+/// An access to an address, and what it leads to.
+type Row = (Access, u64, Walk);
+
+/// With 64 frames and four stacks.
+fn rows() -> [Row; 14] {
+    let (fetch, load, store) = (Access::Fetch, Access::Load, Access::Store);
+    let mapped = |word, address| Walk::Leaf {
+        word,
+        level: 0,
+        address,
+    };
+    [
+        (load, 0x80005008, mapped(0x200014c7, 0x80005008)),
+        (store, 0x80005008, mapped(0x200014c7, 0x80005008)),
+        (fetch, 0x80005008, Walk::PageFault(12)),
+        (load, 0x8003fff8, mapped(0x2000fcc7, 0x8003fff8)),
+        (load, 0x80040000, Walk::PageFault(13)),
+        (load, 0x7ffffff8, Walk::PageFault(13)),
+        (fetch, 0x80000000, mapped(0x2000004b, 0x80000000)),
+        (store, 0x80000000, Walk::PageFault(15)),
+        (fetch, 0x3ffffff004, mapped(0x2000004b, 0x80000004)),
+        (load, 0x3fffffe000, Walk::PageFault(13)),
+        (load, 0x3fffffc000, Walk::PageFault(13)),
+        (load, 0x3fffff5000, Walk::PageFault(13)),
+        (load, 0xffffffff80005008, Walk::PageFault(13)),
+        (load, 0x8080005008, Walk::PageFault(13)),
+    ]
+}
+
+/// The first row that a table of 64 frames and four stacks does not give, and the table's seat.
+fn first_wrong<S: FrameSeat, F: FrameSupply<Seat = S>>(
+    store: &mut F,
+    seat: S,
+    rows: &[Row; 14],
+) -> Result<(Option<Row>, S), (NoFrame, S)>
+    requires fits { Fits F.rule store.old seat }
+    requires opening { HoldsTrampoline (S.view seat) }
+    ensures keeps { IfOk result (λ r. Keeps F.rule store.old seat store.new r.1) }
+    ensures keeps_dry { IfErr result (λ e. Keeps F.rule store.old seat store.new e.1) }
+{
+    let mut kernel = KernelTable::build(store, seat, 64, 4)?;
+    for row in rows {
+        let (access, address, outcome) = *row;
+        if kernel.translate(store, Va(address), access) != outcome {
+            return Ok((Some(*row), kernel.seat));
+        }
+    }
+    Ok((None, kernel.seat))
+}
+
+/// The first wrong row, if the table could be built, and the frames that are free beside it.
+type Checked = (Result<Option<Row>, NoFrame>, usize);
+
+fn over_plain(alloc: Global) -> Result<Checked, AllocError> {
+    let (mut store, seat) = PlainFrames::new(alloc, 64)?;
+    let wrong = match first_wrong(&mut store, seat, &rows()) {
+        Ok((wrong, _)) => Ok(wrong),
+        Err((refusal, _)) => Err(refusal),
+    };
+    Ok((wrong, store.report().free))
+}
+
+fn over_shared<R: Wait>(rt: &R, alloc: Global) -> Result<Checked, AllocError> {
+    let (frames, seat) = SharedFrames::new(alloc, 64)?;
+    let mut supply = frames.supply(rt);
+    let (wrong, seat) = match first_wrong(&mut supply, seat, &rows()) {
+        Ok((wrong, seat)) => (Ok(wrong), seat),
+        Err((refusal, seat)) => (Err(refusal), seat),
+    };
+    Ok((wrong, frames.close(seat).free))
+}
+
+#[test]
+fn maps_alike_over_both_stores(rt: HostRuntime) {
+    assert_eq!(rt;
+        [over_plain(rt.alloc()), over_shared(&rt, rt.alloc())],
+        [Ok((Ok(None), 54)); 2]
+    );
+}
+
+/// Whether the stack of each slot is mapped, and to another frame than the one before it.
+fn has_stacks(alloc: Global) -> Result<bool, AllocError> {
+    let (mut store, seat) = PlainFrames::new(alloc, 64)?;
+    let Ok(mut kernel) = KernelTable::build(&mut store, seat, 64, 4) else {
+        return Ok(false);
+    };
+    let mut before = Some(0);
+    for slot in 0..4 {
+        let walk = kernel.translate(&mut store, kernel_stack(slot), Access::Store);
+        let found = match walk {
+            Walk::Leaf { address, .. } => Some(address),
+            _ => None,
+        };
+        if found.is_none() || found == before {
+            return Ok(false);
+        }
+        before = found;
+    }
+    Ok(true)
+}
+
+#[test]
+fn finds_stacks(rt: HostRuntime) {
+    assert_eq!(rt;
+        (kernel_stack(0), kernel_stack(1), has_stacks(rt.alloc())),
+        (Va(0x3fffffd000), Va(0x3fffffb000), Ok(true))
+    );
+}
+
+/// How many frames are free beside the table; `None` where too few were.
+fn free_beside(alloc: Global, frames: u16, slots: u16) -> Result<Option<usize>, AllocError>
+    requires some_frames { 16 ≤ frames }
+    requires few_frames { frames ≤ 1024 }
+    requires some_slots { 1 ≤ slots }
+    requires few_slots { slots ≤ 64 }
+{
+    let (mut store, seat) = PlainFrames::new(alloc, usize::from(frames))?;
+    match KernelTable::build(&mut store, seat, frames, slots) {
+        Ok(_) => Ok(Some(store.report().free)),
+        Err(_) => Ok(None),
+    }
+}
+
+/// Frames and slots, and the frames that are free beside their table.
+type FreeRow = (u16, u16, Option<usize>);
+
+fn free_rows() -> [FreeRow; 10] {
+    [
+        (64, 1, Some(57)),
+        (64, 4, Some(54)),
+        (64, 64, None),
+        (70, 64, Some(0)),
+        (512, 1, Some(505)),
+        (512, 4, Some(502)),
+        (512, 64, Some(442)),
+        (513, 1, Some(505)),
+        (513, 4, Some(502)),
+        (513, 64, Some(442)),
+    ]
+}
+
+/// The first row that leaves another number of frames free.
+fn wrong_free(alloc: Global) -> Result<Option<FreeRow>, AllocError> {
+    for row in free_rows() {
+        let (frames, slots, told) = row;
+        if free_beside(alloc, frames.clamp(16, 1024), slots.clamp(1, 64))? != told {
+            return Ok(Some(row));
+        }
+    }
+    Ok(None)
+}
+
+#[test]
+fn takes_its_frames(rt: HostRuntime) {
+    assert_eq!(rt; wrong_free(rt.alloc()), Ok(None));
+}
+
+/// What the accounts say after a refusal: the frames that are free and held, and the references.
+type Accounts = (usize, usize, usize);
+
+/// The refusal where one frame is missing, the accounts then, and the frames that are free once the same seat has a smaller table.
+fn built_after_refusal(alloc: Global) -> Result<Option<(NoFrame, Accounts, usize)>, AllocError> {
+    let (mut store, seat) = PlainFrames::new(alloc, 16)?;
+    let Err((refusal, seat)) = KernelTable::build(&mut store, seat, 16, 11) else {
+        return Ok(None);
+    };
+    let report = store.report();
+    match KernelTable::build(&mut store, seat, 16, 10) {
+        Ok(_) => Ok(Some((
+            refusal,
+            (report.free, report.held, report.references),
+            store.report().free,
+        ))),
+        Err(_) => Ok(None),
+    }
+}
+
+#[test]
+fn gives_the_seat_back(rt: HostRuntime) {
+    assert_eq!(rt;
+        built_after_refusal(rt.alloc()),
+        Ok(Some((NoFrame, (15, 1, 1), 0)))
+    );
+}

@@ -1,0 +1,302 @@
+// What a machine is booted with, and steps of whole machines.
+
+ghost use Rattle.std.specs.Prelude.{◌≡◌, All, IfOk, IfSome};
+ghost use Rattle.hart_machine.specs.Worlds.{IsWorld};
+ghost use Rattle.process_model.specs.Played.{AreSegments, IsPlayed};
+ghost use Rattle.process_model.specs.World.{World};
+ghost use Rattle.process_model.specs.declared.config.Policy.TheVariants.{Full};
+
+use hart_machine::{BootError, Machine};
+use process_model::{Bytes, Config, Image, Phase, Policy, Refusal, Reply, Segment, Step};
+use std::alloc::{AllocError, Global};
+use sv39_entry::{Va, Vpn};
+
+/// How many harts, frames and slots a machine is to have, and why it is not booted with them.
+type Row = (usize, usize, usize, Option<BootError>);
+
+fn rows() -> [Row; 14] {
+    let refused = Some(BootError::BadArgument);
+    [
+        (1, 64, 4, None),
+        (8, 1024, 64, None),
+        (1, 16, 10, None),
+        (1, 64, 58, None),
+        (1, 512, 64, None),
+        (1, 513, 64, None),
+        (0, 64, 4, refused),
+        (9, 64, 4, refused),
+        (1, 15, 1, refused),
+        (1, 1025, 4, refused),
+        (1, 64, 0, refused),
+        (1, 64, 65, refused),
+        (1, 64, 59, refused),
+        (1, 16, 11, refused),
+    ]
+}
+
+fn config(harts: usize, frames: usize, slots: usize) -> Config
+    ensures { result.policy ≡ Full }
+{
+    Config {
+        harts,
+        frames,
+        slots,
+        policy: Policy::Full,
+    }
+}
+
+/// The first row that is booted or refused otherwise.
+fn wrong_row(alloc: Global) -> Option<Row> {
+    for row in rows() {
+        let (harts, frames, slots, refusal) = row;
+        if Machine::boot(alloc, config(harts, frames, slots)).err() != refusal {
+            return Some(row);
+        }
+    }
+    None
+}
+
+#[test]
+fn boots_within_limits(rt: HostRuntime) {
+    assert_eq!(rt; wrong_row(rt.alloc()), None);
+}
+
+/// A machine with two harts and room for some processes.
+fn with_two_harts(alloc: Global) -> Option<Machine>
+    ensures { IfSome result (λ m. (w : World) × IsWorld m w) }
+{
+    match Machine::boot(alloc, config(2, 64, 4)) {
+        Ok(machine) => Some(machine),
+        Err(_) => None,
+    }
+}
+
+/// One writable page at 0x1000, which begins with two bytes.
+fn page(alloc: Global) -> Result<Segment, AllocError> {
+    Ok(Segment {
+        address: 0x1000,
+        memory_size: 0x1000,
+        writes: true,
+        executes: false,
+        bytes: Bytes::from_vec(Vec::from_elem(alloc, 7, 2)?),
+    })
+}
+
+/// A load without the buffer.
+fn load<'a>(hart: usize, address: u64, width: u64) -> Step<'a>
+    ensures { IsPlayed result }
+{
+    Step::Load {
+        hart,
+        address,
+        width,
+        via: None,
+    }
+}
+
+fn next<'a>(hart: usize) -> Step<'a>
+    ensures { IsPlayed result }
+{
+    Step::Next { hart }
+}
+
+fn switch<'a>(hart: usize, slot: usize) -> Step<'a>
+    ensures { IsPlayed result }
+{
+    Step::Switch {
+        hart,
+        slot: Some(slot),
+    }
+}
+
+/// Two processes of one image, each on a hart of its own.
+fn steps(image: Image<'_>) -> [Step<'_>; 23]
+    requires { AreSegments image }
+    ensures { All IsPlayed result }
+{
+    [
+        Step::Start(image),
+        Step::Start(image),
+        switch(0, 0),
+        switch(1, 0),
+        switch(1, 1),
+        next(0),
+        next(0),
+        next(0),
+        Step::Store {
+            hart: 0,
+            address: 0x1008,
+            width: 8,
+            value: 0x1122334455667788,
+            via: None,
+        },
+        load(0, 0x1008, 4),
+        Step::Fill {
+            hart: 0,
+            address: 0x1008,
+        },
+        Step::Load {
+            hart: 0,
+            address: 0x100c,
+            width: 2,
+            via: Some(0),
+        },
+        Step::Fetch {
+            hart: 0,
+            address: 0x1000,
+            via: None,
+        },
+        load(0, 0x1008, 4),
+        next(1),
+        next(1),
+        next(1),
+        load(1, 0x1000, 4),
+        load(1, 0x1008, 8),
+        Step::Trap { hart: 1 },
+        Step::TrampolineFetch {
+            hart: 1,
+            offset: 0,
+            via: None,
+        },
+        Step::Evict { hart: 1, entry: 0 },
+        next(2),
+    ]
+}
+
+/// What they are answered. The harts see different pages at one address, and the first has its entry when it enters the
+/// kernel.
+const REPLIES: &str =
+    "[Started(0), Started(1), Done, Refused(Impossible(Idle)), Done, Done, Done, Done, \
+    Stored, Value(1432778632), Filled(0), Value(13124), Fault(12), Refused(Impossible(Enter0)), Done, Done, Done, \
+    Value(1799), Value(0), Done, InFrame(0), Refused(NoEntry), Refused(BadArgument)]";
+
+/// How many entries a buffer has, and the page of the first.
+type Buffered = (usize, Option<Vpn>);
+
+/// What the buffer of a hart has; none where there is no such hart.
+fn buffered(machine: &Machine, hart: usize) -> Option<Buffered> {
+    match machine.buffer(hart) {
+        Some(buffer) => Some((buffer.len(), buffer.entry(0).map(|entry| entry.page))),
+        None => None,
+    }
+}
+
+fn text_of(alloc: Global, replies: &[Reply]) -> Option<String> {
+    format!(in alloc; "{replies:?}").ok()
+}
+
+/// The replies to steps that are made at once, as text.
+fn told_at_once(alloc: Global, machine: &mut Machine, steps: &[Step<'_>]) -> Option<String>
+    requires world { (w : World) × IsWorld machine.old w }
+    requires played { All IsPlayed steps.now }
+    ensures { (w : World) × IsWorld machine.new w }
+{
+    match machine.run(alloc, steps) {
+        Ok(told) => text_of(alloc, &told),
+        Err(_) => None,
+    }
+}
+
+/// The replies to the same steps, made one by one.
+fn told_singly(alloc: Global, machine: &mut Machine, steps: &[Step<'_>]) -> Option<String>
+    requires world { (w : World) × IsWorld machine.old w }
+    requires played { All IsPlayed steps.now }
+    ensures { (w : World) × IsWorld machine.new w }
+{
+    let mut told = Vec::new(alloc);
+    'steps: for step in steps {
+        told.push(machine.step(*step)).ok()?;
+    }
+    text_of(alloc, &told)
+}
+
+/// The replies to steps that are made in the one way or the other.
+fn told(alloc: Global, machine: &mut Machine, steps: &[Step<'_>], at_once: bool) -> Option<String>
+    requires world { (w : World) × IsWorld machine.old w }
+    requires played { All IsPlayed steps.now }
+    ensures { (w : World) × IsWorld machine.new w }
+{
+    if at_once {
+        return told_at_once(alloc, machine, steps);
+    }
+    told_singly(alloc, machine, steps)
+}
+
+/// What two harts are seen to do.
+#[derive(Drop)]
+struct Outcome {
+    replies: String,
+    /// The buffers of hart 0 and of a hart that is not there, and that of hart 0 after an eviction.
+    buffers: [Option<Buffered>; 3],
+    evicted: Reply,
+}
+
+/// The steps and then an eviction on a machine of their own; none where memory is missing.
+fn played(alloc: Global, at_once: bool) -> Option<Outcome> {
+    let segments = [page(alloc).ok()?];
+    let mut machine = with_two_harts(alloc)?;
+    let steps = steps(Image::Segments(&segments));
+    let replies = told(alloc, &mut machine, &steps, at_once)?;
+    let (there, nowhere) = (buffered(&machine, 0), buffered(&machine, 9));
+    let evicted = machine.step(Step::Evict { hart: 0, entry: 0 });
+    Some(Outcome {
+        replies,
+        buffers: [there, nowhere, buffered(&machine, 0)],
+        evicted,
+    })
+}
+
+#[test]
+fn steps_on_two_harts(rt: HostRuntime) {
+    let page = Va(0x1008).page();
+    for at_once in [true, false] {
+        let outcome = played(rt.alloc(), at_once);
+        let Outcome {
+            replies,
+            buffers,
+            evicted,
+        } = outcome.expect(&rt, "memory is ample");
+        assert_eq!(rt;
+            (replies.as_str(), buffers, evicted),
+            (
+                REPLIES,
+                [Some((1, Some(page))), None, Some((0, None))],
+                Reply::Done
+            )
+        );
+    }
+}
+
+/// So many steps of an idle hart to the next phase.
+fn idle_steps<'a>(alloc: Global, count: usize) -> Result<Vec<Step<'a>>, AllocError>
+    ensures { IfOk result (λ steps. All IsPlayed steps.items) }
+{
+    Vec::from_elem(alloc, Step::Next { hart: 0 }, count)
+}
+
+/// Whether all are refusals of an idle hart.
+fn are_idle(replies: &[Reply]) -> bool {
+    for reply in replies {
+        if !matches!(reply, Reply::Refused(Refusal::Impossible(Phase::Idle))) {
+            return false;
+        }
+    }
+    true
+}
+
+/// How many replies so many of these steps have, if each is the refusal of an idle hart.
+fn idle_replies(alloc: Global, count: usize) -> Option<usize> {
+    let mut machine = with_two_harts(alloc)?;
+    let steps = idle_steps(alloc, count).ok()?;
+    let told = machine.run(alloc, &steps).ok()?;
+    if are_idle(&told) {
+        Some(told.len())
+    } else {
+        None
+    }
+}
+
+#[test]
+fn runs_thousands_of_steps(rt: HostRuntime) {
+    assert_eq!(rt; idle_replies(rt.alloc(), 5000), Some(5000));
+}

@@ -1,0 +1,76 @@
+// The first rule on the pages of a process with text, data, guard and stack.
+
+ghost use Rattle.std.specs.Prelude.{◌≡◌, ◌+◌, ◌≤◌, All};
+ghost use Rattle.sv39_entry.specs.Address.{trapframe_page};
+
+use address_space::{Layout, Part, Region, RegionKind, Source};
+use bitflags::Flags;
+use sv39_entry::{Access, Rights, Rule, Va};
+
+/// An access to an address by so many bytes, and the rule that denies it.
+type Row = (Access, u64, u64, Option<Rule>);
+
+fn part<'a>(first: u64, pages: u64, rights: Rights, kind: RegionKind) -> Part<'a>
+    ensures first { result.region.first ≡ first }
+    ensures pages { result.region.pages ≡ pages }
+{
+    let region = Region {
+        first,
+        pages,
+        rights,
+        kind,
+        source: Source::Image,
+    };
+    Part { region, bytes: &[] }
+}
+
+/// Text, data, guard and stack.
+fn parts<'a>() -> [Part<'a>; 4]
+    ensures { All (λ p. p.region.first + p.region.pages ≤ trapframe_page) result }
+{
+    let (mut code, mut data) = (Rights::READ, Rights::READ);
+    code.insert(Rights::EXECUTE);
+    data.insert(Rights::WRITE);
+    [
+        part(0, 1, code, RegionKind::Segment),
+        part(1, 2, data, RegionKind::Segment),
+        part(5, 1, Rights::READ, RegionKind::Guard),
+        part(6, 1, data, RegionKind::Stack),
+    ]
+}
+
+fn rows() -> [Row; 14] {
+    [
+        (Access::Fetch, 0x0, 4, None),
+        (Access::Store, 0xff8, 8, Some(Rule::NoWrite)),
+        (Access::Load, 0x1000, 8, None),
+        (Access::Store, 0x2ff8, 8, None),
+        (Access::Fetch, 0x1000, 4, Some(Rule::NoExec)),
+        (Access::Load, 0x3000, 1, Some(Rule::NoRegion)),
+        (Access::Load, 0x5000, 1, Some(Rule::GuardPage)),
+        (Access::Store, 0x6000, 4, None),
+        (Access::Load, 0x7000, 1, Some(Rule::NoRegion)),
+        (Access::Load, 0x3fffffe000, 1, Some(Rule::KernelPage)),
+        (Access::Fetch, 0x3ffffff000, 4, Some(Rule::KernelPage)),
+        (Access::Load, 0x4000000000, 8, Some(Rule::BeyondMax)),
+        (Access::Load, 0x4000000001, 8, Some(Rule::Misaligned)),
+        (Access::Load, u64::MAX, 1, Some(Rule::BeyondMax)),
+    ]
+}
+
+/// The first row whose access is denied by another rule, or by none.
+fn wrong_row() -> Option<Row> {
+    let layout = Layout::new(&parts());
+    for row in rows() {
+        let (access, address, width, rule) = row;
+        if layout.grant(access, Va(address), width.max(1)).err() != rule {
+            return Some(row);
+        }
+    }
+    None
+}
+
+#[test]
+fn tells_the_first_rule(rt: HostRuntime) {
+    assert_eq!(rt; wrong_row(), None);
+}

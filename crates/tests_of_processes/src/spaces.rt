@@ -1,0 +1,288 @@
+// A space that lives over both stores: it is built, a far page of its heap is settled, and it ends.
+
+ghost use Rattle.std.specs.Prelude.{[], ◌∷◌, ◌≡◌, ◌%◌, ◌<◌, ◌≤◌, ℕ, false, IfErr, IfOk};
+ghost use Rattle.address_space.specs.Agreement.{Agrees, HoldsTrampoline};
+ghost use Rattle.address_space.specs.Parts.{AreParts, numbers_of, regions_in};
+ghost use Rattle.address_space.specs.Steps.{IsBare};
+ghost use Rattle.tests_of_processes.specs.Lives.{IsWritable, Lives, standard_regions};
+ghost use Rattle.address_space.specs.declared.region.Source.TheVariants as from;
+ghost use Rattle.frame_store.specs.Laws.{Fits, Keeps};
+ghost use Rattle.process_model.specs.Process.{Page, Process};
+ghost use Rattle.process_model.specs.Residence.{with_page};
+ghost use Rattle.sv39_entry.specs.Address.{page_of, trapframe_page};
+ghost use Rattle.table_walk.specs.Image.{Image};
+
+use address_space::{Part, Region, RegionKind, Source, Space};
+use bitflags::Flags;
+use frame_store::{FrameAccess, FrameSeat, FrameSupply, NoFrame, PlainFrames};
+use shared_frames::SharedFrames;
+use std::alloc::{AllocError, Global};
+use std::sync::Wait;
+use sv39_entry::{PAGE_SIZE, Rights, Va, Vpn};
+
+/// What is written to the first page of the data before and after the far page is asked for, and to the far page.
+const NEAR: u64 = 0x0123_4567_89ab_cdef;
+
+const AGAIN: u64 = 0x1122_3344_5566_7788;
+
+const FAR: u64 = 0xfedc_ba98_7654_3210;
+
+/// What was read: the first page of the data before and after the far page was asked for, and when it was written again;
+/// the far page, where it was settled, before and after it was written.
+#[derive(Clone, Copy, PartialEq, Eq, Debug)]
+struct Reads {
+    before: u64,
+    after: u64,
+    again: u64,
+    far: Option<(u64, u64)>,
+}
+
+/// The reads of a space that could be built, and the frames that are free in the end.
+type Outcome = (Option<Reads>, usize);
+
+fn part<'a>(
+    first: u64,
+    pages: u64,
+    rights: Rights,
+    kind: RegionKind,
+    source: Source,
+    bytes: &'a [u8],
+) -> Part<'a>
+    ensures { result.region ≡ record { first = first; pages = pages; rights = rights; kind = kind; source = source } }
+{
+    let region = Region {
+        first,
+        pages,
+        rights,
+        kind,
+        source,
+    };
+    Part { region, bytes }
+}
+
+/// Text, data, guard and stack.
+fn standard_parts<'a>() -> [Part<'a>; 4]
+    ensures regions { regions_in result ≡ standard_regions }
+    ensures numbers { numbers_of result ≡ 0 ∷ 1 ∷ 2 ∷ 3 ∷ 4 ∷ [] }
+    ensures parts { AreParts result }
+{
+    let (mut code, mut data) = (Rights::READ, Rights::READ);
+    code.insert(Rights::EXECUTE);
+    data.insert(Rights::WRITE);
+    let none = Rights::empty();
+    let (segment, image, zeros) = (RegionKind::Segment, Source::Image, Source::Zeros);
+    [
+        part(0, 1, code, segment, image, &[0x13, 0, 0, 0]),
+        part(1, 2, data, segment, image, &[]),
+        part(3, 1, none, RegionKind::Guard, zeros, &[]),
+        part(4, 1, data, RegionKind::Stack, zeros, &[]),
+    ]
+}
+
+/// The standard space, with a heap that reaches past a page.
+fn roomy<S: FrameSeat, F: FrameSupply<Seat = S>>(
+    store: &mut F,
+    seat: S,
+    page: u64,
+) -> Result<Space<S>, (NoFrame, S)>
+    requires fits { Fits F.rule store.old seat }
+    requires opening { HoldsTrampoline (S.view seat) }
+    requires in_heap { 5 ≤ page }
+    requires low { page < trapframe_page }
+    ensures lives { IfOk result (λ s. Lives (S.view s.seat) s.root.0 s.trapframe.0 s.layout page false) }
+    ensures keeps { IfOk result (λ s. Keeps F.rule store.old seat store.new s.seat) }
+    ensures keeps_refused { IfErr result (λ e. Keeps F.rule store.old seat store.new e.1) }
+{
+    let mut space = Space::build(store, seat, &standard_parts())?;
+    space.set_size((page + 1) * PAGE_SIZE);
+    Ok(space)
+}
+
+/// What is read where a number was written.
+fn kept<S: FrameSeat, F: FrameAccess<Seat = S>>(
+    space: &mut Space<S>,
+    store: &mut F,
+    va: Va,
+    value: u64,
+) -> u64
+    requires fits { Fits F.rule store.old space.old.seat }
+    requires ready { (t : Image) × (p : Process) × Agrees (S.view space.old.seat) space.old.root.0 space.old.trapframe.0 space.old.layout t p × IsWritable p (page_of va.0) }
+    requires aligned { va.0 % 8 ≡ 0 }
+    ensures agrees { (t : Image) (p : Process) → Agrees (S.view space.old.seat) space.old.root.0 space.old.trapframe.0 space.old.layout t p → IsWritable p (page_of va.0) →
+        (s : Page) × (s.fork_mark ≡ false) × Agrees (S.view space.new.seat) space.new.root.0 space.new.trapframe.0 space.new.layout t (with_page p (page_of va.0) s) }
+    ensures keeps { Keeps F.rule store.old space.old.seat store.new space.new.seat }
+{
+    space.write(store, va, 8, value);
+    space.read(store, va, 8)
+}
+
+/// Asks for a page, and answers whether it was settled.
+fn try_settle<S: FrameSeat, F: FrameSupply<Seat = S>>(
+    space: &mut Space<S>,
+    store: &mut F,
+    page: Vpn,
+) -> bool
+    requires fits { Fits F.rule store.old space.old.seat }
+    requires lives { Lives (S.view space.old.seat) space.old.root.0 space.old.trapframe.0 space.old.layout page false }
+    ensures lives { Lives (S.view space.new.seat) space.new.root.0 space.new.trapframe.0 space.new.layout page result }
+    ensures keeps { Keeps F.rule store.old space.old.seat store.new space.new.seat }
+{
+    space.settle(store, page, &[]).is_ok()
+}
+
+/// What is read in a space, from which a far page is asked for.
+fn try_far<S: FrameSeat, F: FrameSupply<Seat = S>>(
+    space: &mut Space<S>,
+    store: &mut F,
+    page: u64,
+) -> Reads
+    requires fits { Fits F.rule store.old space.old.seat }
+    requires low { page < trapframe_page }
+    requires lives { Lives (S.view space.old.seat) space.old.root.0 space.old.trapframe.0 space.old.layout page false }
+    ensures agrees { (t : Image) × (p : Process) × Agrees (S.view space.new.seat) space.new.root.0 space.new.trapframe.0 space.new.layout t p }
+    ensures keeps { Keeps F.rule store.old space.old.seat store.new space.new.seat }
+{
+    let (near, far) = (Va(PAGE_SIZE), Va(page * PAGE_SIZE));
+    let before = kept(space, store, near, NEAR);
+    let settled = try_settle(space, store, far.page());
+    let after = space.read(store, near, 8);
+    let again = kept(space, store, near, AGAIN);
+    if !settled {
+        return Reads {
+            before,
+            after,
+            again,
+            far: None,
+        };
+    }
+    let fresh = space.read(store, far, 8);
+    let written = kept(space, store, far, FAR);
+    Reads {
+        before,
+        after,
+        again,
+        far: Some((fresh, written)),
+    }
+}
+
+/// What is read in the standard space, which has ended then, and its seat.
+fn settled_far<S: FrameSeat, F: FrameSupply<Seat = S>>(
+    store: &mut F,
+    seat: S,
+    page: u64,
+) -> Result<(Reads, S), (NoFrame, S)>
+    requires fits { Fits F.rule store.old seat }
+    requires opening { HoldsTrampoline (S.view seat) }
+    requires in_heap { 5 ≤ page }
+    requires low { page < trapframe_page }
+    ensures bare { IfOk result (λ r. IsBare (S.view r.1)) }
+    ensures keeps { IfOk result (λ r. Keeps F.rule store.old seat store.new r.1) }
+    ensures keeps_refused { IfErr result (λ e. Keeps F.rule store.old seat store.new e.1) }
+{
+    let mut space = roomy(store, seat, page)?;
+    let reads = try_far(&mut space, store, page);
+    let far = Va(page * PAGE_SIZE);
+    let behind = Va((page + 1) * PAGE_SIZE);
+    space.drop_pages(store, far.page(), behind.page());
+    Ok((reads, space.destroy(store)))
+}
+
+fn over_plain(alloc: Global, frames: usize, page: u64) -> Result<Outcome, AllocError>
+    requires some { 0 < frames }
+    requires few { frames ≤ 256 }
+    requires in_heap { 5 ≤ page }
+    requires low { page < trapframe_page }
+{
+    let (mut store, seat) = PlainFrames::new(alloc, frames)?;
+    let reads = match settled_far(&mut store, seat, page) {
+        Ok((reads, _)) => Some(reads),
+        Err(_) => None,
+    };
+    Ok((reads, store.report().free))
+}
+
+fn over_shared<R: Wait>(
+    rt: &R,
+    alloc: Global,
+    frames: usize,
+    page: u64,
+) -> Result<Outcome, AllocError>
+    requires some { 0 < frames }
+    requires few { frames ≤ 256 }
+    requires in_heap { 5 ≤ page }
+    requires low { page < trapframe_page }
+{
+    let (frames, seat) = SharedFrames::new(alloc, frames)?;
+    let mut supply = frames.supply(rt);
+    let (reads, seat) = match settled_far(&mut supply, seat, page) {
+        Ok((reads, seat)) => (Some(reads), seat),
+        Err((_, seat)) => (None, seat),
+    };
+    Ok((reads, frames.close(seat).free))
+}
+
+const SETTLED: Reads = Reads {
+    before: NEAR,
+    after: NEAR,
+    again: AGAIN,
+    far: Some((0, FAR)),
+};
+
+const REFUSED: Reads = Reads {
+    before: NEAR,
+    after: NEAR,
+    again: AGAIN,
+    far: None,
+};
+
+/// What comes of it over plain frames, and over shared ones.
+fn over_both<R: Wait>(
+    rt: &R,
+    alloc: Global,
+    frames: usize,
+    page: u64,
+) -> Result<[Outcome; 2], AllocError>
+    requires some { 0 < frames }
+    requires few { frames ≤ 256 }
+    requires in_heap { 5 ≤ page }
+    requires low { page < trapframe_page }
+{
+    let plain = over_plain(alloc, frames, page)?;
+    let shared = over_shared(rt, alloc, frames, page)?;
+    Ok([plain, shared])
+}
+
+/// How many frames there are, the far page, what is read, and the frames that are free in the end.
+type Row = (usize, u64, Option<Reads>, usize);
+
+/// Beside frame 0 the space has eleven frames: five tables, the trapframe's and those of its five pages. The far pages need one
+/// to three more, with their tables.
+fn rows() -> [Row; 7] {
+    let (refused, settled) = (Some(REFUSED), Some(SETTLED));
+    [
+        (11, 0x5, None, 10),
+        (12, 0x5, refused, 12),
+        (13, 0x5, settled, 13),
+        (13, 0x200, refused, 13),
+        (14, 0x200, settled, 14),
+        (14, 0x40000, refused, 14),
+        (15, 0x40000, settled, 15),
+    ]
+}
+
+/// The first row of which another comes, over one store or the other.
+fn wrong_row<R: Wait>(rt: &R, alloc: Global) -> Result<Option<Row>, AllocError> {
+    for row in rows() {
+        let (frames, page, reads, free) = row;
+        let (frames, page) = (frames.clamp(1, 256), page.clamp(0x5, 0x40000));
+        if over_both(rt, alloc, frames, page)? != [(reads, free); 2] {
+            return Ok(Some(row));
+        }
+    }
+    Ok(None)
+}
+
+#[test]
+fn lives_over_both_stores(rt: HostRuntime) {
+    assert_eq!(rt; wrong_row(&rt, rt.alloc()), Ok(None));
+}
