@@ -60,7 +60,13 @@ fn rows() -> [Row; 10] {
 
 /// The first row whose frames are counted otherwise.
 fn wrong_row() -> Option<Row> {
-    rows().into_iter().find(|(lower, upper, count)| needed(*lower, *upper) != Some(*count))
+    for row in rows() {
+        let (lower, upper, count) = row;
+        if needed(lower, upper) != Some(count) {
+            return Some(row);
+        }
+    }
+    None
 }
 
 #[test]

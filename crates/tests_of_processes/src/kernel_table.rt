@@ -157,6 +157,7 @@ fn free_rows() -> [FreeRow; 10] {
 fn wrong_free(alloc: Global) -> Result<Option<FreeRow>, AllocError> {
     for row in free_rows() {
         let (frames, slots, told) = row;
+        // no row is changed by it: it shows the limits to the proof
         if free_beside(alloc, frames.clamp(16, 1024), slots.clamp(1, 64))? != told {
             return Ok(Some(row));
         }
@@ -172,7 +173,8 @@ fn takes_its_frames(rt: HostRuntime) {
 /// What the accounts say after a refusal: the frames that are free and held, and the references.
 type Accounts = (usize, usize, usize);
 
-/// The refusal where one frame is missing, the accounts then, and the frames that are free once the same seat has a smaller table.
+/// The refusal where one frame is missing, the accounts then, and the frames that are free once the same seat has a
+/// smaller table.
 fn built_after_refusal(alloc: Global) -> Result<Option<(NoFrame, Accounts, usize)>, AllocError> {
     let (mut store, seat) = PlainFrames::new(alloc, 16)?;
     let Err((refusal, seat)) = KernelTable::build(&mut store, seat, 16, 11) else {

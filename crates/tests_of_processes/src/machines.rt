@@ -163,8 +163,8 @@ fn steps(image: Image<'_>) -> [Step<'_>; 23]
     ]
 }
 
-/// What they are answered. The harts see different pages at one address, and the first has its entry when it enters the
-/// kernel.
+/// What they are answered: the values are 0x55667788, 0x3344, 0x0707 and 0. The harts see different pages at one address,
+/// and the first has its entry when it enters the kernel.
 const REPLIES: &str =
     "[Started(0), Started(1), Done, Refused(Impossible(Idle)), Done, Done, Done, Done, \
     Stored, Value(1432778632), Filled(0), Value(13124), Fault(12), Refused(Impossible(Enter0)), Done, Done, Done, \
@@ -284,19 +284,27 @@ fn are_idle(replies: &[Reply]) -> bool {
     true
 }
 
-/// How many replies so many of these steps have, if each is the refusal of an idle hart.
-fn idle_replies(alloc: Global, count: usize) -> Option<usize> {
+/// How many replies steps have that are made at once, if each is the refusal of an idle hart.
+fn idle_replies(alloc: Global, machine: &mut Machine, steps: &[Step<'_>]) -> Option<usize>
+    requires world { (w : World) × IsWorld machine.old w }
+    requires played { All IsPlayed steps.now }
+{
+    match machine.run(alloc, steps) {
+        Ok(told) if are_idle(&told) => Some(told.len()),
+        _ => None,
+    }
+}
+
+/// The same of so many steps of an idle hart.
+fn replies_when_idle(alloc: Global, count: usize) -> Option<usize> {
     let mut machine = with_two_harts(alloc)?;
-    let steps = idle_steps(alloc, count).ok()?;
-    let told = machine.run(alloc, &steps).ok()?;
-    if are_idle(&told) {
-        Some(told.len())
-    } else {
-        None
+    match idle_steps(alloc, count) {
+        Ok(steps) => idle_replies(alloc, &mut machine, &steps),
+        Err(_) => None,
     }
 }
 
 #[test]
 fn runs_thousands_of_steps(rt: HostRuntime) {
-    assert_eq!(rt; idle_replies(rt.alloc(), 5000), Some(5000));
+    assert_eq!(rt; replies_when_idle(rt.alloc(), 5000), Some(5000));
 }

@@ -274,6 +274,7 @@ fn rows() -> [Row; 7] {
 fn wrong_row<R: Wait>(rt: &R, alloc: Global) -> Result<Option<Row>, AllocError> {
     for row in rows() {
         let (frames, page, reads, free) = row;
+        // no row is changed by it: it shows the limits to the proof
         let (frames, page) = (frames.clamp(1, 256), page.clamp(0x5, 0x40000));
         if over_both(rt, alloc, frames, page)? != [(reads, free); 2] {
             return Ok(Some(row));
