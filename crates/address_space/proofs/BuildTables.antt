@@ -1,5 +1,5 @@
 -- The first tables of a space, with the two pages of the kernel.
-use Rattle.std.proofs.Common.{◌≡◌, ℕ, false, ◌-◌, ◌≤◌, ◌⊎◌, Some, None, inl, inr, refl, ap, sym, ◌∙◌, arith, [], ◌∷◌}
+use Rattle.std.proofs.Common.{◌≡◌, ℕ, true, false, ◌-◌, ◌≤◌, ◌⊎◌, Some, None, inl, inr, refl, ap, sym, ◌∙◌, arith, [], ◌∷◌}
 use Rattle.std.proofs.lemmas.Bool.{cases_eq}
 use Rattle.std.proofs.lemmas.Option.{same_Some}
 use Rattle.std.specs.FinMap.{empty, get, get-empty}
@@ -82,7 +82,7 @@ pub record HasTrampoline (w : View) (root : ℕ) (t : Image) : Type 0 where
 
 module _ (v w : View) (root x n : ℕ) (u : Image) (o : Owns v (bare_root root) (Some 0)) (bare : HasTables v root (bare_root root)) (grown : IsGrown (bare_root root) u trampoline_page top_level)
     (tables : HasTables w root (with_leaf u (leaf_node trampoline_page) x)) (changes : ChangesTables v w (bare_root root) u n)
-    (made : IsLeafOf x 0 code_rights false false) (are : AreTablesOf u []) where
+    (made : IsLeafOf x 0 code_rights false false true) (are : AreTablesOf u []) where
   abbrev image : Image
   image = with_leaf u (leaf_node trampoline_page) x
 
@@ -119,7 +119,7 @@ two_missing root law = law
 
 module _ (v r w : View) (root x f n : ℕ) (t u : Image) (before : HasTrampoline v root t) (come : Comes v r f) (grown : IsGrown t u trapframe_page top_level)
     (tables : HasTables w root (with_leaf u (leaf_node trapframe_page) x)) (changes : ChangesTables r w t u n)
-    (made : IsLeafOf x f data_rights false false) (are : AreTablesOf u []) where
+    (made : IsLeafOf x f data_rights false false true) (are : AreTablesOf u []) where
   unmapped : get t.leaves (leaf_node trapframe_page) ≡ None
   unmapped = is_none (get t.leaves (leaf_node trapframe_page)) (λ y leaf. kernel_apart (before.only (leaf_node trapframe_page) y leaf))
 

@@ -1,5 +1,5 @@
 -- What is mapped for the kernel, step by step.
-use Rattle.std.proofs.Common.{◌≡◌, ℕ, ◌+◌, ◌-◌, ◌*◌, ◌/◌, ◌^◌, ◌<◌, false, List, [], ◌∷◌, ◌++◌, length, Option, None, Some, inl, inr, refl, ap, sym, subst, ◌∙◌, arith}
+use Rattle.std.proofs.Common.{◌≡◌, ℕ, ◌+◌, ◌-◌, ◌*◌, ◌/◌, ◌^◌, ◌<◌, true, false, List, [], ◌∷◌, ◌++◌, length, Option, None, Some, inl, inr, refl, ap, sym, subst, ◌∙◌, arith}
 use Rattle.std.specs.FinMap.{get, get-empty}
 use Rattle.std.specs.Ordering.{nat_cmp}
 use Rattle.std.proofs.lemmas.Bool.{cases_eq, ne_eqb}
@@ -46,7 +46,7 @@ root_missing root page page_is = ap (missing (bare_root root)) page_is ∙ tramp
 
 module _ (root page leaf : ℕ) (v m w : View) (made : m ≡ with_hold root blank_hold (claimed root v)) (fresh : references v root ≡ 0)
     (once : references v 0 ≡ 1) (none : (f : ℕ) → (f ≡ 0 → ⊥) → references v f ≡ 0)
-    (page_is : page ≡ trampoline_page) (leaf_is : leaf ≡ leaf_word 0 code_rights false false) (mapped : Mapped m w root (bare_root root) page leaf) where
+    (page_is : page ≡ trampoline_page) (leaf_is : leaf ≡ leaf_word 0 code_rights false false true) (mapped : Mapped m w root (bare_root root) page leaf) where
   grown : IsGrown (bare_root root) mapped.0 trampoline_page top_level
   grown = subst (λ p. IsGrown (bare_root root) mapped.0 p top_level) page_is mapped.1
 
@@ -79,8 +79,8 @@ module _ (root f page : ℕ) (v c : View) (stacks : List ℕ) (t : Image) (maps 
   pub stack_none_missing : missing t page ≡ 0
   stack_none_missing = ap (missing t) page_is ∙ stack_missing t maps.numbers (length stacks) few
 
-  module _ (w : View) (leaf : ℕ) (small : f < 2 ^ 16) (leaf_is : leaf ≡ leaf_word f (frame_rights f) false false) (mapped : Mapped c w root t page leaf) where
-    data_leaf : leaf ≡ leaf_word f data_rights false false
+  module _ (w : View) (leaf : ℕ) (small : f < 2 ^ 16) (leaf_is : leaf ≡ leaf_word f (frame_rights f) false false true) (mapped : Mapped c w root t page leaf) where
+    data_leaf : leaf ≡ leaf_word f data_rights false false true
     data_leaf = leaf_is ∙ rw (ne_eqb f 0 (λ e. not_claimed f v c is fresh 0 maps.holds.code (sym e))) refl
 
     pub stack_maps : MapsKernel w root 0 (stacks ++ f ∷ []) (with_leaf mapped.0 (leaf_node page) leaf)
@@ -106,7 +106,7 @@ module _ (root i page : ℕ) (v : View) (stacks : List ℕ) (t : Image) (maps : 
   pub frame_is_missing : missing t page + direct_tables i ≡ direct_tables (i + 1)
   frame_is_missing = ap (λ p. missing t p + direct_tables i) page_is ∙ frame_missing t i maps.numbers low
 
-  module _ (w : View) (leaf : ℕ) (leaf_is : leaf ≡ leaf_word i (frame_rights i) false false) (mapped : Mapped v w root t page leaf) where
+  module _ (w : View) (leaf : ℕ) (leaf_is : leaf ≡ leaf_word i (frame_rights i) false false true) (mapped : Mapped v w root t page leaf) where
     pub frame_maps : MapsKernel w root (i + 1) stacks (with_leaf mapped.0 (leaf_node page) leaf)
     frame_maps = record {
       tables = mapped.2;

@@ -55,13 +55,13 @@ data_permits Fetch = refl
 data_permits Load = refl
 data_permits Store = refl
 
-leaf_permits : (p : ℕ × ℕ) (access : Access) → IsOfKernel p → permits Supervisor access (leaf_word p.0 p.1 false false) ≡ grants p.1 access
+leaf_permits : (p : ℕ × ℕ) (access : Access) → IsOfKernel p → permits Supervisor access (leaf_word p.0 p.1 false false true) ≡ grants p.1 access
 leaf_permits p access known = elim known.1 [
   | inl code ↦ rw code (permits_low access (ppn_of p.0) 75 ∙ code_permits access)
   | inr plain ↦ rw plain (permits_low access (ppn_of p.0) 199 ∙ data_permits access)
 ]
 
-leaf_ppn : (p : ℕ × ℕ) → IsOfKernel p → ppn (leaf_word p.0 p.1 false false) ≡ ppn_of p.0
+leaf_ppn : (p : ℕ × ℕ) → IsOfKernel p → ppn (leaf_word p.0 p.1 false false true) ≡ ppn_of p.0
 leaf_ppn p known = elim known.1 [
   | inl code ↦ rw code (omega (arith, known.0))
   | inr plain ↦ rw plain (omega (arith, known.0))
@@ -115,20 +115,20 @@ module _ (v : View) (root frames slots : ℕ) (stacks : List ℕ) (t : Image) (b
         let low = page_low frames stacks (page_of address) built.few_frames p is in
         rw (eq-eqb (address / 2 ^ 38) 0 (omega (arith, low))) refl
 
-    finds : FindsLeaf (held_memory v) (ppn_of root) address (leaf_word p.0 p.1 false false) 0
-    finds = (canonical_here, (found_leaves (page_of address) (leaf_word p.0 p.1 false false) 0).1 (refl, leaf_here canonical_here ∙ ap kernel_leaf is))
+    finds : FindsLeaf (held_memory v) (ppn_of root) address (leaf_word p.0 p.1 false false true) 0
+    finds = (canonical_here, (found_leaves (page_of address) (leaf_word p.0 p.1 false false true) 0).1 (refl, leaf_here canonical_here ∙ ap kernel_leaf is))
 
-    place : 4096 * ppn_of p.0 + address % 2 ^ 12 ≡ physical_address (leaf_word p.0 p.1 false false) 0 address
+    place : 4096 * ppn_of p.0 + address % 2 ^ 12 ≡ physical_address (leaf_word p.0 p.1 false false true) 0 address
     place = rw (leaf_ppn p known) (omega arith)
 
     byte_there : has_byte extent (4096 * ppn_of p.0 + address % 2 ^ 12) ≡ true
     byte_there = let page : (4096 * ppn_of p.0 + address % 2 ^ 12) / 4096 ≡ ppn_of p.0 = omega arith in rw page (frame_there p.0 known.0)
 
     something : Translates (held_memory v) extent (ppn_of root) address access Supervisor (walk_to address access (Some p))
-    something = cond_both (grants p.1 access) (walk.Leaf (leaf_word p.0 p.1 false false) 0 (4096 * ppn_of p.0 + address % 2 ^ 12)) (walk.PageFault (page_fault_cause access))
+    something = cond_both (grants p.1 access) (walk.Leaf (leaf_word p.0 p.1 false false true) 0 (4096 * ppn_of p.0 + address % 2 ^ 12)) (walk.PageFault (page_fault_cause access))
         (Translates (held_memory v) extent (ppn_of root) address access Supervisor)
         (λ granted. (finds, leaf_permits p access known ∙ granted, place, byte_there))
-        (λ denied. (refl, inr (leaf_word p.0 p.1 false false, 0, finds, leaf_permits p access known ∙ denied)))
+        (λ denied. (refl, inr (leaf_word p.0 p.1 false false true, 0, finds, leaf_permits p access known ∙ denied)))
 
   walks_to : (o : Option (ℕ × ℕ)) → kernel_page frames stacks (page_of address) ≡ o → Translates (held_memory v) extent (ppn_of root) address access Supervisor (walk_to address access o)
   walks_to None is = (refl, inl (nothing is))

@@ -64,7 +64,7 @@ data_rights = 3
 
 -- the kernel's own pages in each space (the xv6 book, "Process address space"): not for the user
 abbrev pub HasKernelLeaf : Image → ℕ → ℕ → ℕ → Type 0
-HasKernelLeaf t page f rights = (w : ℕ) × (get t.leaves (leaf_node page) ≡ Some w) × IsLeafOf w f rights false false
+HasKernelLeaf t page f rights = (w : ℕ) × (get t.leaves (leaf_node page) ≡ Some w) × IsLeafOf w f rights false false true
 
 -- a settled page has a leaf by its region, over a frame that has its bytes
 pub record IsShown (v : View) (t : Image) (p : Process) (n : ℕ) (s : Page) : Type 0 where

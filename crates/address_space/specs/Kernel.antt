@@ -1,6 +1,6 @@
 -- The page table of the kernel (the xv6 book, "Kernel address space"; no device is mapped): the frames of the memory at their own
 -- addresses, the trampoline, and a stack for each slot. No leaf is for the user.
-use Rattle.std.specs.Prelude.{◌≡◌, ℕ, Bool, false, ◌+◌, ◌-◌, ◌*◌, ◌/◌, ◌%◌, ◌^◌, ◌<◌, ◌≤◌, ◌==◌, ◌&&◌, ◌||◌, nat_le, nat_lt, if◌then◌else◌, Option, None, Some, option_map, is_some, List, length, slice_get}
+use Rattle.std.specs.Prelude.{◌≡◌, ℕ, Bool, true, false, ◌+◌, ◌-◌, ◌*◌, ◌/◌, ◌%◌, ◌^◌, ◌<◌, ◌≤◌, ◌==◌, ◌&&◌, ◌||◌, nat_le, nat_lt, if◌then◌else◌, Option, None, Some, option_map, is_some, List, length, slice_get}
 use Rattle.std.specs.FinMap.{FinMap, get}
 use Rattle.std.specs.Ordering.{nat_cmp}
 use Rattle.frame_store.specs.View.{View, IsSole, references}
@@ -40,13 +40,13 @@ kernel_page frames stacks page =
 -- the word of the leaf
 abbrev pub kernel_leaf : Option (ℕ × ℕ) → Option ℕ
 kernel_leaf None = None
-kernel_leaf (Some p) = Some (leaf_word p.0 p.1 false false)
+kernel_leaf (Some p) = Some (leaf_word p.0 p.1 false false true)
 
 -- what the kernel's access to an address leads to
 abbrev pub walk_to : ℕ → Access → Option (ℕ × ℕ) → Walk
 walk_to address access None = walk.PageFault (page_fault_cause access)
 walk_to address access (Some p) =
-    if grants p.1 access then walk.Leaf (leaf_word p.0 p.1 false false) 0 (4096 * ppn_of p.0 + page_offset address)
+    if grants p.1 access then walk.Leaf (leaf_word p.0 p.1 false false true) 0 (4096 * ppn_of p.0 + page_offset address)
     else walk.PageFault (page_fault_cause access)
 
 abbrev pub kernel_walk : ℕ → List ℕ → ℕ → Access → Walk

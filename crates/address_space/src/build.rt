@@ -68,13 +68,13 @@ fn open_tables<F: FrameSupply>(store: &mut F, seat: &mut F::Seat) -> (FrameNo, F
     let root = new_table(store, seat);
     let mut code = Rights::READ;
     code.insert(Rights::EXECUTE);
-    let trampoline = Entry::leaf(TRAMPOLINE_FRAME, code, false, false);
+    let trampoline = Entry::leaf(TRAMPOLINE_FRAME, code, false, false, true);
     map(store, seat, root, TRAMPOLINE.page(), trampoline);
     let frame = store.claim(seat);
     fill_frame(store, seat, frame, &[]);
     let mut data = Rights::READ;
     data.insert(Rights::WRITE);
-    let trapframe = Entry::leaf(frame, data, false, false);
+    let trapframe = Entry::leaf(frame, data, false, false, true);
     map(store, seat, root, TRAPFRAME.page(), trapframe);
     (root, frame)
 }

@@ -1,6 +1,6 @@
 // The page table of the kernel.
 
-ghost use Rattle.std.specs.Prelude.{[], ◌≡◌, ◌+◌, ◌-◌, ◌<◌, ◌≤◌, ◌↔◌, false, if◌then◌else◌, IfErr, IfOk, is_ok, IsOk, length, List, ℕ};
+ghost use Rattle.std.specs.Prelude.{[], ◌≡◌, ◌+◌, ◌-◌, ◌<◌, ◌≤◌, ◌↔◌, true, false, if◌then◌else◌, IfErr, IfOk, is_ok, IsOk, length, List, ℕ};
 ghost use Rattle.address_space.specs.Agreement.{HoldsTrampoline, code_rights};
 ghost use Rattle.address_space.specs.Kernel.{direct_tables, frame_rights, IsKernelTable, kernel_walk, MapsKernel, stack_page};
 ghost use Rattle.address_space.specs.Steps.{Spends};
@@ -96,7 +96,7 @@ fn need(frames: u16, slots: u16) -> usize
 
 /// The leaf of a frame, for the kernel alone. Frame 0 has the trampoline's code, which nothing may write.
 fn leaf_of(frame: FrameNo) -> Entry
-    ensures word { result ≡ leaf_word frame.0 (frame_rights frame.0) false false }
+    ensures word { result ≡ leaf_word frame.0 (frame_rights frame.0) false false true }
     ensures kind { kind_of result ≡ Leaf }
 {
     let mut rights = Rights::READ;
@@ -105,7 +105,7 @@ fn leaf_of(frame: FrameNo) -> Entry
     } else {
         rights.insert(Rights::WRITE);
     }
-    Entry::leaf(frame, rights, false, false)
+    Entry::leaf(frame, rights, false, false, true)
 }
 
 /// A root of three credits that maps the trampoline.

@@ -74,9 +74,9 @@ impl Region {
         ensures kind { kind_of result ≡ Leaf }
     {
         if self.kind == RegionKind::Guard {
-            return Entry::leaf(frame, Rights::READ, false, false);
+            return Entry::leaf(frame, Rights::READ, false, false, true);
         }
-        Entry::leaf(frame, self.rights, true, mark)
+        Entry::leaf(frame, self.rights, true, mark, true)
     }
 
     /// Whether the right is missing that an access needs.

@@ -51,9 +51,9 @@ module _ (v : View) (trapframe : ℕ) (t : Image) (p : Process) (shows : Shows v
 abbrev IsKernelPage : ℕ × ℕ → Type 0
 IsKernelPage x = (x.0 < 2 ^ 16) × ((x.1 ≡ code_rights) ⊎ (x.1 ≡ data_rights))
 
-sound_kernel : (x : ℕ × ℕ) → IsKernelPage x → IsSound (leaf_word x.0 x.1 false false)
-sound_kernel x (small, inl is) = rw is (sound (leaf_word x.0 code_rights false false) x.0 small (omega arith) (ne_eqb _ 1 (omega arith)))
-sound_kernel x (small, inr is) = rw is (sound (leaf_word x.0 data_rights false false) x.0 small (omega arith) (ne_eqb _ 1 (omega arith)))
+sound_kernel : (x : ℕ × ℕ) → IsKernelPage x → IsSound (leaf_word x.0 x.1 false false true)
+sound_kernel x (small, inl is) = rw is (sound (leaf_word x.0 code_rights false false true) x.0 small (omega arith) (ne_eqb _ 1 (omega arith)))
+sound_kernel x (small, inr is) = rw is (sound (leaf_word x.0 data_rights false false true) x.0 small (omega arith) (ne_eqb _ 1 (omega arith)))
 
 rights_of : (f : ℕ) → (frame_rights f ≡ code_rights) ⊎ (frame_rights f ≡ data_rights)
 rights_of f = elim (cases_eq f 0) [ inl zero ↦ inl (rw (eq-eqb f 0 zero) refl) | inr other ↦ inr (rw (ne_eqb f 0 other) refl) ]
@@ -88,7 +88,7 @@ module _ (v : View) (root frames slots : ℕ) (stacks : List ℕ) (t : Image) (k
 
   kernel_leaf_of : (o : Option (ℕ × ℕ)) → ((z : ℕ × ℕ) → o ≡ Some z → IsKernelPage z) → (w : ℕ) → kernel_leaf o ≡ Some w → IsSound w
   kernel_leaf_of None each w is = absurd (cc)
-  kernel_leaf_of (Some z) each w is = subst IsSound (same_Some (leaf_word z.0 z.1 false false) w is) (sound_kernel z (each z refl))
+  kernel_leaf_of (Some z) each w is = subst IsSound (same_Some (leaf_word z.0 z.1 false false true) w is) (sound_kernel z (each z refl))
 
   of_page : (page w : ℕ) → get t.leaves (leaf_node page) ≡ Some w → IsSound w
   of_page page w found =

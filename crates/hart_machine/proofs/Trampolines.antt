@@ -56,7 +56,7 @@ process_code v trapframe t p shows = let leaf = shows.on_trampoline in record {
 
 kernel_code : (v : View) (root frames slots : ℕ) (stacks : List ℕ) (t : Image) → IsKernelTable v root frames slots stacks t → IsCode t
 kernel_code v root frames slots stacks t k = record {
-  word = leaf_word 0 code_rights false false;
+  word = leaf_word 0 code_rights false false true;
   mapped = k.maps.leaves trampoline_page (omega arith);
   names = omega arith;
   lets = refl;

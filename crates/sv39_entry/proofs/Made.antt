@@ -10,28 +10,29 @@ use Rattle.sv39_entry.specs.Word.{flags_kind, kind_of, leaf_flags, leaf_word, po
 use Rattle.sv39_entry.specs.declared.entry.Kind.{Kind}
 use Rattle.sv39_entry.specs.declared.entry.Kind.TheVariants.{Invalid, Pointer, Leaf}
 
--- a test of five truth values that holds at all of them, by computation
+-- a test of six truth values that holds at all of them, by computation
 
 abbrev both : (Bool → Bool) → Bool
 both p = p true && p false
 
 abbrev Test : Type 0
-Test = Bool → Bool → Bool → Bool → Bool → Bool
+Test = Bool → Bool → Bool → Bool → Bool → Bool → Bool
 
 abbrev at_all : Test → Bool
-at_all p = both (λ a. both (λ b. both (λ c. both (λ d. both (λ e. p a b c d e)))))
+at_all p = both (λ a. both (λ b. both (λ c. both (λ d. both (λ e. both (λ g. p a b c d e g))))))
 
 either : (p : Bool → Bool) → both p ≡ true → (a : Bool) → p a ≡ true
 either p h true = (and_parts (p true) (p false) h).0
 either p h false = (and_parts (p true) (p false) h).1
 
-always : (p : Test) → at_all p ≡ true → (a b c d e : Bool) → p a b c d e ≡ true
-always p h a b c d e =
-    let first = either (λ a. both (λ b. both (λ c. both (λ d. both (λ e. p a b c d e))))) h a in
-    let second = either (λ b. both (λ c. both (λ d. both (λ e. p a b c d e)))) first b in
-    let third = either (λ c. both (λ d. both (λ e. p a b c d e))) second c in
-    let fourth = either (λ d. both (λ e. p a b c d e)) third d in
-    either (λ e. p a b c d e) fourth e
+always : (p : Test) → at_all p ≡ true → (a b c d e g : Bool) → p a b c d e g ≡ true
+always p h a b c d e g =
+    let first = either (λ a. both (λ b. both (λ c. both (λ d. both (λ e. both (λ g. p a b c d e g)))))) h a in
+    let second = either (λ b. both (λ c. both (λ d. both (λ e. both (λ g. p a b c d e g))))) first b in
+    let third = either (λ c. both (λ d. both (λ e. both (λ g. p a b c d e g)))) second c in
+    let fourth = either (λ d. both (λ e. both (λ g. p a b c d e g))) third d in
+    let fifth = either (λ e. both (λ g. p a b c d e g)) fourth e in
+    either (λ g. p a b c d e g) fifth g
 
 abbrev same : Bool → Bool → Bool
 same a b = if a then b else not b
@@ -42,19 +43,19 @@ same-true true false h = sym h
 same-true false true h = h
 same-true false false h = refl
 
-alike : (f g : Test) → at_all (λ a b c d e. same (f a b c d e) (g a b c d e)) ≡ true → (a b c d e : Bool) → f a b c d e ≡ g a b c d e
-alike f g h a b c d e = same-true (f a b c d e) (g a b c d e) (always (λ a b c d e. same (f a b c d e) (g a b c d e)) h a b c d e)
+alike : (p q : Test) → at_all (λ a b c d e g. same (p a b c d e g) (q a b c d e g)) ≡ true → (a b c d e g : Bool) → p a b c d e g ≡ q a b c d e g
+alike p q h a b c d e g = same-true (p a b c d e g) (q a b c d e g) (always (λ a b c d e g. same (p a b c d e g) (q a b c d e g)) h a b c d e g)
 
--- the flags of a leaf, by reading, writing, execution, user and copy-on-write
+-- the flags of a leaf, by reading, writing, execution, user, copy-on-write and dirt
 
 abbrev flag : ℕ → Test
-flag i r w x u c = has (leaf_flags r w x u c) i
+flag i r w x u c d = has (leaf_flags r w x u c d) i
 
 below : (a b : ℕ) → nat_lt a b ≡ true → a < b
 below a b e = grind arith
 
-flags_small : (r w x u c : Bool) → leaf_flags r w x u c < 2 ^ 10
-flags_small r w x u c = below (leaf_flags r w x u c) (2 ^ 10) (always (λ r w x u c. nat_lt (leaf_flags r w x u c) (2 ^ 10)) refl r w x u c)
+flags_small : (r w x u c d : Bool) → leaf_flags r w x u c d < 2 ^ 10
+flags_small r w x u c d = below (leaf_flags r w x u c d) (2 ^ 10) (always (λ r w x u c d. nat_lt (leaf_flags r w x u c d) (2 ^ 10)) refl r w x u c d)
 
 abbrev is_leaf : Kind → Bool
 is_leaf Leaf = true
@@ -65,13 +66,13 @@ leaf_from Leaf h = refl
 leaf_from Invalid h = absurd cc
 leaf_from Pointer h = absurd cc
 
-readable : (r w x u c : Bool) → r ≡ true → flags_kind (leaf_flags r w x u c) ≡ Leaf
-readable r w x u c e =
-    rw e (leaf_from (flags_kind (leaf_flags true w x u c)) (always (λ r w x u c. is_leaf (flags_kind (leaf_flags true w x u c))) refl r w x u c))
+readable : (r w x u c d : Bool) → r ≡ true → flags_kind (leaf_flags r w x u c d) ≡ Leaf
+readable r w x u c d e =
+    rw e (leaf_from (flags_kind (leaf_flags true w x u c d)) (always (λ r w x u c d. is_leaf (flags_kind (leaf_flags true w x u c d))) refl r w x u c d))
 
-executable : (r w x u c : Bool) → x ≡ true → w ≡ false → flags_kind (leaf_flags r w x u c) ≡ Leaf
-executable r w x u c e none =
-    rw (e, none) (leaf_from (flags_kind (leaf_flags r false true u c)) (always (λ r w x u c. is_leaf (flags_kind (leaf_flags r false true u c))) refl r w x u c))
+executable : (r w x u c d : Bool) → x ≡ true → w ≡ false → flags_kind (leaf_flags r w x u c d) ≡ Leaf
+executable r w x u c d e none =
+    rw (e, none) (leaf_from (flags_kind (leaf_flags r false true u c d)) (always (λ r w x u c d. is_leaf (flags_kind (leaf_flags r false true u c d))) refl r w x u c d))
 
 -- the low ten bits of a word stand beside the frame
 
@@ -84,27 +85,27 @@ kind_split f s h small =
     rw (eq-eqb ((f * 2 ^ 10 + s) / 2 ^ 54) 0 (omega arith))
     (simp (low f s 0 (omega arith), low f s 1 (omega arith), low f s 2 (omega arith), low f s 3 (omega arith), low f s 4 (omega arith), low f s 6 (omega arith), low f s 7 (omega arith)))
 
-pub leaf_read : (frame rights : ℕ) (u c : Bool) → frame < 2 ^ 16 → IsLeafOf (leaf_word frame rights u c) frame rights u c
-leaf_read frame rights u c lt =
+pub leaf_read : (frame rights : ℕ) (u c d : Bool) → frame < 2 ^ 16 → IsLeafOf (leaf_word frame rights u c d) frame rights u c d
+leaf_read frame rights u c d lt =
     let r = reads rights in
     let w = writes rights in
     let x = executes rights in
     let f = ppn_of frame in
-    let s = leaf_flags r w x u c in
-    let small = flags_small r w x u c in
+    let s = leaf_flags r w x u c d in
+    let small = flags_small r w x u c d in
     record {
       names = omega (arith, small);
-      valid = low f s 0 (omega arith) ∙ alike (flag 0) (λ r w x u c. true) refl r w x u c;
-      read = low f s 1 (omega arith) ∙ alike (flag 1) (λ r w x u c. r) refl r w x u c;
-      write = low f s 2 (omega arith) ∙ alike (flag 2) (λ r w x u c. w && not c) refl r w x u c;
-      execute = low f s 3 (omega arith) ∙ alike (flag 3) (λ r w x u c. x) refl r w x u c;
-      for_user = low f s 4 (omega arith) ∙ alike (flag 4) (λ r w x u c. u) refl r w x u c;
-      global = low f s 5 (omega arith) ∙ alike (flag 5) (λ r w x u c. false) refl r w x u c;
-      accessed = low f s 6 (omega arith) ∙ alike (flag 6) (λ r w x u c. true) refl r w x u c;
-      dirty = low f s 7 (omega arith) ∙ alike (flag 7) (λ r w x u c. w) refl r w x u c;
-      copy_on_write = low f s 8 (omega arith) ∙ alike (flag 8) (λ r w x u c. c) refl r w x u c;
-      readable = λ e. kind_split f s (omega arith) small ∙ readable r w x u c e;
-      executable = λ e none. kind_split f s (omega arith) small ∙ executable r w x u c e none;
+      valid = low f s 0 (omega arith) ∙ alike (flag 0) (λ r w x u c d. true) refl r w x u c d;
+      read = low f s 1 (omega arith) ∙ alike (flag 1) (λ r w x u c d. r) refl r w x u c d;
+      write = low f s 2 (omega arith) ∙ alike (flag 2) (λ r w x u c d. w && not c) refl r w x u c d;
+      execute = low f s 3 (omega arith) ∙ alike (flag 3) (λ r w x u c d. x) refl r w x u c d;
+      for_user = low f s 4 (omega arith) ∙ alike (flag 4) (λ r w x u c d. u) refl r w x u c d;
+      global = low f s 5 (omega arith) ∙ alike (flag 5) (λ r w x u c d. false) refl r w x u c d;
+      accessed = low f s 6 (omega arith) ∙ alike (flag 6) (λ r w x u c d. true) refl r w x u c d;
+      modified = low f s 7 (omega arith) ∙ alike (flag 7) (λ r w x u c d. d && w) refl r w x u c d;
+      copy_on_write = low f s 8 (omega arith) ∙ alike (flag 8) (λ r w x u c d. c) refl r w x u c d;
+      readable = λ e. kind_split f s (omega arith) small ∙ readable r w x u c d e;
+      executable = λ e none. kind_split f s (omega arith) small ∙ executable r w x u c d e none;
     }
 
 pub pointer_read : (frame : ℕ) → frame < 2 ^ 16 → IsPointerTo (pointer_word frame) frame

@@ -47,20 +47,20 @@ permits mode access w = mode_allows mode w && access_allowed access w
 abbrev pub if_set : Bool → ℕ → ℕ
 if_set b n = cond b n 0
 
--- A always, D where the rights hold W, W but under copy-on-write
-abbrev pub leaf_flags : Bool → Bool → Bool → Bool → Bool → ℕ
-leaf_flags read write execute user cow =
-    if_set cow 256 + if_set write 128 + 64 + if_set user 16 + if_set execute 8 + if_set (if cow then false else write) 4 + if_set read 2 + 1
+-- A always, D where the page is dirty and the rights hold W, W but under copy-on-write
+abbrev pub leaf_flags : Bool → Bool → Bool → Bool → Bool → Bool → ℕ
+leaf_flags read write execute user cow dirty =
+    if_set cow 256 + if_set (if dirty then write else false) 128 + 64 + if_set user 16 + if_set execute 8 + if_set (if cow then false else write) 4 + if_set read 2 + 1
 
 -- a leaf as the kernel writes it; G is never set
-abbrev pub leaf_word : ℕ → ℕ → Bool → Bool → ℕ
-leaf_word frame rights user cow = ppn_of frame * 2 ^ 10 + leaf_flags (reads rights) (writes rights) (executes rights) user cow
+abbrev pub leaf_word : ℕ → ℕ → Bool → Bool → Bool → ℕ
+leaf_word frame rights user cow dirty = ppn_of frame * 2 ^ 10 + leaf_flags (reads rights) (writes rights) (executes rights) user cow dirty
 
 abbrev pub pointer_word : ℕ → ℕ
 pointer_word frame = ppn_of frame * 2 ^ 10 + 1
 
 -- what is read back from the word of a leaf that the kernel writes
-pub record IsLeafOf (w frame rights : ℕ) (user cow : Bool) : Type 0 where
+pub record IsLeafOf (w frame rights : ℕ) (user cow dirty : Bool) : Type 0 where
   pub names : ppn w ≡ ppn_of frame
   pub valid : has w 0 ≡ true
   pub read : has w 1 ≡ reads rights
@@ -69,7 +69,7 @@ pub record IsLeafOf (w frame rights : ℕ) (user cow : Bool) : Type 0 where
   pub for_user : has w 4 ≡ user
   pub global : has w 5 ≡ false
   pub accessed : has w 6 ≡ true
-  pub dirty : has w 7 ≡ writes rights
+  pub modified : has w 7 ≡ (dirty && writes rights)
   pub copy_on_write : has w 8 ≡ cow
   pub readable : reads rights ≡ true → kind_of w ≡ Leaf
   pub executable : executes rights ≡ true → writes rights ≡ false → kind_of w ≡ Leaf

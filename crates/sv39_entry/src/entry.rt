@@ -58,11 +58,12 @@ impl Entry {
         }
     }
 
-    /// A leaf as the kernel writes it: A is set, and D where the rights hold W; under copy-on-write W is clear.
+    /// A leaf as the kernel writes it: A is set, and D where the page is dirty and the rights hold W; under copy-on-write W is
+    /// clear.
     #[tactic(auto, using(crate::proofs::Bits::flags))]
-    pub fn leaf(frame: FrameNo, rights: Rights, user: bool, cow: bool) -> Entry
-        ensures word { result ≡ words.leaf_word frame.0 rights.0 user cow }
-        ensures made { words.IsLeafOf result frame.0 rights.0 user cow }
+    pub fn leaf(frame: FrameNo, rights: Rights, user: bool, cow: bool, dirty: bool) -> Entry
+        ensures word { result ≡ words.leaf_word frame.0 rights.0 user cow dirty }
+        ensures made { words.IsLeafOf result frame.0 rights.0 user cow dirty }
     {
         let flags = leaf_flags(
             rights.contains(Rights::READ),
@@ -70,6 +71,7 @@ impl Entry {
             rights.contains(Rights::EXECUTE),
             user,
             cow,
+            dirty,
         );
         Entry {
             word: frame.ppn() * 1024 + flags,
@@ -137,13 +139,14 @@ impl Entry {
 }
 
 /// The flags of a leaf.
-fn leaf_flags(read: bool, write: bool, execute: bool, user: bool, cow: bool) -> u64
+fn leaf_flags(read: bool, write: bool, execute: bool, user: bool, cow: bool, dirty: bool) -> u64
     ensures small { result < 2 ^ 10 }
-    ensures value { result ≡ words.leaf_flags read write execute user cow }
+    ensures value { result ≡ words.leaf_flags read write execute user cow dirty }
 {
     let writable = if cow { false } else { write };
+    let modified = if dirty { write } else { false };
     EntryFlags::COPY_ON_WRITE.only_if(cow)
-        + EntryFlags::DIRTY.only_if(write)
+        + EntryFlags::DIRTY.only_if(modified)
         + EntryFlags::ACCESSED.bits()
         + EntryFlags::USER.only_if(user)
         + EntryFlags::EXECUTE.only_if(execute)

@@ -10,9 +10,13 @@ use sv39_entry::{
 fn writes_words(rt: HostRuntime) {
     let (code, data) = (Rights::READ | Rights::EXECUTE, Rights::READ | Rights::WRITE);
     let rows = [
-        (Entry::leaf(FrameNo(5), code, true, false), 0x2000145b),
-        (Entry::leaf(FrameNo(5), data, true, false), 0x200014d7),
-        (Entry::leaf(FrameNo(5), data, true, true), 0x200015d3),
+        (Entry::leaf(FrameNo(5), code, true, false, true), 0x2000145b),
+        (Entry::leaf(FrameNo(5), data, true, false, true), 0x200014d7),
+        (Entry::leaf(FrameNo(5), data, true, true, true), 0x200015d3),
+        (
+            Entry::leaf(FrameNo(5), data, true, false, false),
+            0x20001457,
+        ),
         (Entry::pointer(FrameNo(7)), 0x20001c01),
     ];
     for (entry, word) in rows {

@@ -143,7 +143,7 @@ fn mapped(alloc: Global) -> Result<(PlainFrames, PlainSeat, FrameNo, [usize; 5])
     leave_words(&mut frames, &mut seat);
     let mut missing = [0; 5];
     for (index, (va, frame, _)) in MAPPINGS.iter().enumerate() {
-        let leaf = Entry::leaf(FrameNo(*frame), Rights::READ, true, false);
+        let leaf = Entry::leaf(FrameNo(*frame), Rights::READ, true, false, true);
         missing[index] = missing_tables(&mut frames, &mut seat, root, va.page());
         map(&mut frames, &mut seat, root, va.page(), leaf);
     }
@@ -186,7 +186,7 @@ fn changes_one_leaf(rt: HostRuntime) -> Result<(), Fail> {
     assert_eq!(rt; unmap(&mut frames, &mut seat, root, gone.page()), None);
     let next = next_leaf(&mut frames, &mut seat, root, Va(0x2000).page());
     let (page, _) = next.expect(&rt, "the next page is still mapped");
-    let leaf = Entry::leaf(FrameNo(12), Rights::READ, false, false);
+    let leaf = Entry::leaf(FrameNo(12), Rights::READ, false, false, true);
     protect(&mut frames, &mut seat, root, page, leaf);
     walks_of_tables();
     let mut words = HeldWords {
@@ -210,7 +210,7 @@ fn releases_what_was_made(rt: HostRuntime) -> Result<(), Fail> {
     prove!(reserved.is_ok());
     let root = new_table(&mut frames, &mut seat);
     let page = Va(0x200000).page();
-    let leaf = Entry::leaf(FrameNo(9), Rights::READ, true, false);
+    let leaf = Entry::leaf(FrameNo(9), Rights::READ, true, false, true);
     map(&mut frames, &mut seat, root, page, leaf);
     unmap(&mut frames, &mut seat, root, page);
     assert_eq!(rt; frames.report().held, 4);

@@ -34,7 +34,13 @@ fn word(frame: u16, index: u16) -> Entry {
 
 /// A leaf that a user may load and store.
 fn data(frame: u16) -> Entry {
-    Entry::leaf(FrameNo(frame), Rights::READ | Rights::WRITE, true, false)
+    Entry::leaf(
+        FrameNo(frame),
+        Rights::READ | Rights::WRITE,
+        true,
+        false,
+        true,
+    )
 }
 
 /// An address on each page, in an order that looks random: that of a linear generator of full period, of those numbers

@@ -16,6 +16,6 @@ returns-clause-leaf c =
       for_user = rw plain made.for_user;
       global = made.global;
       accessed = made.accessed;
-      dirty = made.dirty;
+      dirty = made.modified;
       copy_on_write = made.copy_on_write;
     }

@@ -12,6 +12,6 @@ returns-clause-made c =
     let read : c.contains.result ≡ reads rights = c.contains.ensures tt ∙ flag0 rights in
     let write : c.contains-2.result ≡ writes rights = c.contains-2.ensures tt ∙ flag1 rights in
     let execute : c.contains-3.result ≡ executes rights = c.contains-3.ensures tt ∙ flag2 rights in
-    let word : c.ppn.result * 1024 + c.leaf_flags-flags.result ≡ words.leaf_word frame rights c.args.user c.args.cow = rw (c.ppn.ensures, c.leaf_flags-flags.ensures.value, read, write, execute) refl in
-    let P : ℕ → Type 0 = λ w. words.IsLeafOf w frame rights c.args.user c.args.cow in
-    subst P (sym word) (leaf_read frame rights c.args.user c.args.cow (omega arith))
+    let word : c.ppn.result * 1024 + c.leaf_flags-flags.result ≡ words.leaf_word frame rights c.args.user c.args.cow c.args.dirty = rw (c.ppn.ensures, c.leaf_flags-flags.ensures.value, read, write, execute) refl in
+    let P : ℕ → Type 0 = λ w. words.IsLeafOf w frame rights c.args.user c.args.cow c.args.dirty in
+    subst P (sym word) (leaf_read frame rights c.args.user c.args.cow c.args.dirty (omega arith))
