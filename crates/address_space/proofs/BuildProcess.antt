@@ -24,7 +24,7 @@ use Rattle.address_space.specs.Parts.{bare_process, IsAscending, numbers_of, pag
 use Rattle.address_space.specs.declared.part.Part.{Part}
 use Rattle.address_space.proofs.BuildPages.{Pages, other_stays, page_numbers, same_regions, same_tables_needed}
 use Rattle.address_space.proofs.NeededSets.{none_in}
-use Rattle.address_space.proofs.PageMaps.{behind_more, first_or, inserted_here, inserted_other, key_in, key_out}
+use Rattle.address_space.specs.PageMaps.{behind_more, first_or, inserted_here, inserted_other, key_in, key_out}
 
 -- ---- processes that differ in their copy numbers alone
 

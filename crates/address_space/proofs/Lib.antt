@@ -23,6 +23,5 @@ pub mod Owned
 pub mod Owning
 pub mod OwningCounts
 pub mod OwningSteps
-pub mod PageMaps
 pub mod Sizes
 pub mod Writing

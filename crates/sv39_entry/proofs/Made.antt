@@ -46,7 +46,7 @@ same-true false false h = refl
 alike : (p q : Test) → at_all (λ a b c d e g. same (p a b c d e g) (q a b c d e g)) ≡ true → (a b c d e g : Bool) → p a b c d e g ≡ q a b c d e g
 alike p q h a b c d e g = same-true (p a b c d e g) (q a b c d e g) (always (λ a b c d e g. same (p a b c d e g) (q a b c d e g)) h a b c d e g)
 
--- the flags of a leaf, by reading, writing, execution, user, copy-on-write and dirt
+-- the flags of a leaf, by reading, writing, execution, user, copy-on-write and dirty
 
 abbrev flag : ℕ → Test
 flag i r w x u c d = has (leaf_flags r w x u c d) i

@@ -17,11 +17,12 @@ use Rattle.sv39_entry.specs.declared.frame.FrameNo.{FrameNo}
 use Rattle.table_walk.specs.Image.{Image}
 use Rattle.address_space.specs.Agreement.{Agrees}
 use Rattle.address_space.specs.Layouts.{Layout, last_page}
+use Rattle.address_space.specs.PageMaps.{behind, first_or, in_front, inserted_here, inserted_other}
 use Rattle.address_space.specs.Parts.{numbers_of, pages_of, process_of_parts, regions_in}
 use Rattle.address_space.specs.Steps.{CanRead, CanSettle, CanWrite, KeepsRegions, Settles, settled_with}
 use Rattle.tests_of_processes.specs.Lives.{IsFar, IsVacant, IsWritable, Lives, standard_regions}
 use Rattle.address_space.specs.declared.part.Part.{Part}
-use Rattle.tests_of_processes.proofs.Finding.{at_front, behind, behind_all, first_or, in_front, inserted_here, inserted_other, none_in, passed}
+use Rattle.tests_of_processes.proofs.Finding.{behind_all, in_first, passed}
 
 -- ---- a page is written
 
@@ -141,7 +142,7 @@ abbrev page_numbers : Pages → List ℕ
 page_numbers es = map (λ (e : ℕ × List ℕ). e.0) es
 
 begun : (es : Pages) (fresh k : ℕ) → Contains (page_numbers es) k → (s : Page) × (pages.get (from_list (numbered fresh es)) k ≡ Some s) × (s.fork_mark ≡ false)
-begun [] fresh k h = absurd (none_in k h)
+begun [] fresh k h = absurd (omega (arith, h.1))
 begun (e ∷ es) fresh k h =
     let first : Page = record { bytes = e.1; copy = fresh; fork_mark = false } in
     elim (cases_eq k e.0) [
@@ -159,7 +160,7 @@ begun_back [] fresh k s at = absurd (cc)
 begun_back (e ∷ es) fresh k s at =
     let first : Page = record { bytes = e.1; copy = fresh; fork_mark = false } in
     elim (cases_eq k e.0) [
-      | inl same ↦ at_front e.0 k (page_numbers es) (sym same)
+      | inl same ↦ subst (λ x. Contains (x ∷ page_numbers es) k) same (in_front k (page_numbers es))
       | inr apart ↦ behind e.0 k (page_numbers es)
           (begun_back es (fresh + 1) k s (sym (inserted_other e.0 first (from_list (numbered (fresh + 1) es)) k apart) ∙ at))
     ]
@@ -168,7 +169,7 @@ none_begun : (es : Pages) (fresh k : ℕ) → (Contains (page_numbers es) k → 
 none_begun [] fresh k out = refl
 none_begun (e ∷ es) fresh k out =
     let first : Page = record { bytes = e.1; copy = fresh; fork_mark = false } in
-    inserted_other e.0 first (from_list (numbered (fresh + 1) es)) k (λ same. out (at_front e.0 k (page_numbers es) (sym same)))
+    inserted_other e.0 first (from_list (numbered (fresh + 1) es)) k (λ same. out (subst (λ x. Contains (x ∷ page_numbers es) k) same (in_front k (page_numbers es))))
     ∙ none_begun es (fresh + 1) k (λ later. out (behind e.0 k (page_numbers es) later))
 
 -- ---- their regions
@@ -214,7 +215,7 @@ module _ (ps : List Part) (is : regions_in ps ≡ standard_regions) (numbers : n
   few k h = standard_few k (subst (λ (ns : List ℕ). Contains ns k) numbers h)
 
   part_here : (rs : List Region) (k : ℕ) (r : Region) → region_at standard_regions k ≡ Some r → region_at (regions_in ps ++ rs) k ≡ Some r
-  part_here rs k r at = in_front (regions_in ps) rs k r (ap (λ ss. region_at ss k) is ∙ at)
+  part_here rs k r at = in_first (regions_in ps) rs k r (ap (λ ss. region_at ss k) is ∙ at)
 
   pub keeps_regions : KeepsRegions (process_of_parts 0 ps) sized
   keeps_regions k s at =
