@@ -1,5 +1,5 @@
 -- A space gets a page: its frame is claimed and filled, the tables that were missing are made, and a leaf names the frame.
-use Rattle.std.proofs.Common.{◌≡◌, ℕ, ◌<◌, None, Some, List, ◌∷◌, false, refl, ap, sym, ◌∙◌, inl, inr, arith}
+use Rattle.std.proofs.Common.{◌≡◌, ℕ, ◌<◌, None, Some, List, ◌∷◌, not, ◌&&◌, false, refl, ap, sym, ◌∙◌, inl, inr, arith}
 use Rattle.std.specs.Prelude.{◌^◌, Contains}
 use Rattle.std.proofs.lemmas.Bool.{cases_eq}
 use Rattle.std.proofs.lemmas.Option.{same_Some}
@@ -9,7 +9,7 @@ use Rattle.frame_store.specs.View.{View, IsHeld, hold_of}
 use Rattle.process_model.specs.Bytes.{padded}
 use Rattle.process_model.specs.PageMap as pages
 use Rattle.process_model.specs.Process.{Page, Process}
-use Rattle.process_model.specs.Regions.{Region}
+use Rattle.process_model.specs.Regions.{Region, is_shared_kind}
 use Rattle.sv39_entry.specs.Address.{trampoline_page, trapframe_page}
 use Rattle.sv39_entry.specs.Frame.{ppn_of}
 use Rattle.sv39_entry.specs.Word.{ppn}
@@ -58,7 +58,7 @@ module _ (v : View) (root trapframe : ℕ) (t : Image) (p : Process) (page : ℕ
   unmapped : get t.leaves (leaf_node page) ≡ None
   unmapped = is_none (get t.leaves (leaf_node page)) (λ y leaf. no_number (can.stands.shows.only (leaf_node page) y leaf))
 
-  module _ (r w : View) (u : Image) (x f : ℕ) (bytes : List ℕ) (c : Comes v r f) (has : HasBytes r f (padded 4096 bytes)) (made : IsPageLeaf x f region false)
+  module _ (r w : View) (u : Image) (x f : ℕ) (bytes : List ℕ) (c : Comes v r f) (has : HasBytes r f (padded 4096 bytes)) (made : IsPageLeaf x f region false (not (is_shared_kind region.kind) && region.writes))
       (grown : IsGrown t u page top_level) (tables : HasTables w root (with_leaf u (leaf_node page) x)) (changes : ChangesTables r w t u (missing t page)) where
     keeps : OthersKeep t (with_leaf u (leaf_node page) x) page
     keeps k apart = insert_other u.leaves (leaf_node page) x k apart ∙ ap (λ leaves. get leaves k) grown.leaves
@@ -79,7 +79,7 @@ module _ (v : View) (root trapframe : ℕ) (t : Image) (p : Process) (page : ℕ
       added_shows : Shows w trapframe (with_leaf u (leaf_node page) x) (settled_with fresh bytes p page)
       added_shows =
           let s = can.stands.shows in
-          let new : Page = record { bytes = padded 4096 bytes; copy = fresh; fork_mark = false } in
+          let new : Page = record { bytes = padded 4096 bytes; copy = fresh; fork_mark = false; stored_mark = false } in
           record {
             on_trampoline = (s.on_trampoline.0, keeps _ trampoline_apart ∙ s.on_trampoline.1, s.on_trampoline.2);
             on_trapframe = (s.on_trapframe.0, keeps _ trapframe_apart ∙ s.on_trapframe.1, s.on_trapframe.2);

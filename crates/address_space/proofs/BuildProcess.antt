@@ -19,7 +19,7 @@ use Rattle.process_model.specs.Regions.{end_of, region_at}
 use Rattle.sv39_entry.specs.Address.{trapframe_page}
 use Rattle.table_walk.specs.Counted.{AreTablesOf}
 use Rattle.table_walk.specs.Image.{Image}
-use Rattle.address_space.specs.Agreement.{IsPageLeaf, Shows, Stands}
+use Rattle.address_space.specs.Agreement.{is_dirty_page, IsPageLeaf, Shows, Stands}
 use Rattle.address_space.specs.Parts.{bare_process, IsAscending, numbers_of, pages_of, part_pages, process_of_parts, region_in, with_settled, with_pages}
 use Rattle.address_space.specs.declared.part.Part.{Part}
 use Rattle.address_space.proofs.BuildPages.{Pages, other_stays, page_numbers, same_regions, same_tables_needed}
@@ -29,8 +29,8 @@ use Rattle.address_space.specs.PageMaps.{behind_more, first_or, inserted_here, i
 -- ---- processes that differ in their copy numbers alone
 
 -- what of a page is in memory
-abbrev shown : Option Page → Option (List ℕ × Bool)
-shown o = option_map (λ (s : Page). (s.bytes, s.fork_mark)) o
+abbrev shown : Option Page → Option (List ℕ × Bool × Bool)
+shown o = option_map (λ (s : Page). (s.bytes, s.fork_mark, s.stored_mark)) o
 
 pub record IsLike (p q : Process) : Type 0 where
   pub regions : regions p ≡ regions q
@@ -42,12 +42,20 @@ record Found (o : Option Page) (s : Page) : Type 0 where
   found : o ≡ Some page
   bytes : page.bytes ≡ s.bytes
   mark : page.fork_mark ≡ s.fork_mark
+  stored : page.stored_mark ≡ s.stored_mark
 
 found_like : (a : Option Page) (s : Page) → shown a ≡ shown (Some s) → Found a s
 found_like None s same = absurd (cc)
 found_like (Some x) s same =
-    let pair : ◌≡◌ {A = List ℕ × Bool} (x.bytes, x.fork_mark) (s.bytes, s.fork_mark) = same_Some (x.bytes, x.fork_mark) (s.bytes, s.fork_mark) same in
-    record { page = x; found = refl; bytes = ap (λ (e : List ℕ × Bool). e.0) pair; mark = ap (λ (e : List ℕ × Bool). e.1) pair }
+    let all : ◌≡◌ {A = List ℕ × Bool × Bool} (x.bytes, x.fork_mark, x.stored_mark) (s.bytes, s.fork_mark, s.stored_mark) =
+        same_Some (x.bytes, x.fork_mark, x.stored_mark) (s.bytes, s.fork_mark, s.stored_mark) same in
+    record {
+      page = x;
+      found = refl;
+      bytes = ap (λ (e : List ℕ × Bool × Bool). e.0) all;
+      mark = ap (λ (e : List ℕ × Bool × Bool). e.1) all;
+      stored = ap (λ (e : List ℕ × Bool × Bool). e.2) all;
+    }
 
 module _ (p q : Process) (like : IsLike p q) where
   found_there : (n : ℕ) (s : Page) → pages.get q.settled n ≡ Some s → Found (pages.get p.settled n) s
@@ -69,7 +77,9 @@ module _ (p q : Process) (like : IsLike p q) where
           leaf = is.leaf;
           in_region = ap (λ rs. region_at rs n) (sym like.regions) ∙ is.in_region;
           mapped = is.mapped;
-          made = subst (λ mark. IsPageLeaf is.leaf is.frame is.region mark) there.mark is.made;
+          made =
+              subst (λ stored. IsPageLeaf is.leaf is.frame is.region page.fork_mark (is_dirty_page is.region (record page { stored_mark = stored }))) there.stored
+              (subst (λ mark. IsPageLeaf is.leaf is.frame is.region mark (is_dirty_page is.region there.page)) there.mark is.made);
           bytes = subst (HasBytes v is.frame) there.bytes is.bytes;
         };
     only = λ k w leaf. elim (s.only k w leaf) [
@@ -124,8 +134,8 @@ same_pages : (es : Pages) (low : ℕ) → IsRising low es → (p : Process) (fre
     → shown (pages.get (with_pages p es).settled n) ≡ shown (pages.get (from_list (numbered fresh es)) n)
 same_pages [] low up p fresh n none = ap shown none
 same_pages (e ∷ es) low up p fresh n none =
-    let first : Page = record { bytes = e.1; copy = 0; fork_mark = false } in
-    let second : Page = record { bytes = e.1; copy = fresh; fork_mark = false } in
+    let first : Page = record { bytes = e.1; copy = 0; fork_mark = false; stored_mark = false } in
+    let second : Page = record { bytes = e.1; copy = fresh; fork_mark = false; stored_mark = false } in
     elim (cases_eq n e.0) [
       | inl same ↦
           let later : Contains (page_numbers es) n → ⊥ = λ h. let above = rising_above es (e.0 + 1) n up.1 h in omega (arith, above, same) in

@@ -16,7 +16,7 @@ use Rattle.table_walk.specs.Image.{HasTables, Image, last_table, leaf_node, with
 use Rattle.table_walk.specs.Keys.{insert_other, insert_same}
 use Rattle.table_walk.specs.Nodes.{above, leaf_number}
 use Rattle.table_walk.specs.Walk.{top_level}
-use Rattle.address_space.specs.Agreement.{IsPageLeaf, Names, Owns, Stands}
+use Rattle.address_space.specs.Agreement.{is_dirty_page, IsPageLeaf, Names, Owns, Stands}
 use Rattle.address_space.proofs.Owned.{no_table, one_frame, same_bytes, same_owns}
 use Rattle.address_space.proofs.Writing.{page_stands, words_other, words_references, words_sole}
 
@@ -135,7 +135,7 @@ module _ (v : View) (root : ℕ) (t : Image) (h : HasTables v root t) (page old 
 
 module _ (v w : View) (root trapframe : ℕ) (spare : Option ℕ) (t : Image) (p : Process) (page : ℕ) (s : Page) (r : Region) (g leaf : ℕ)
     (stands : Stands v root trapframe spare t p) (settled : pages.get p.settled page ≡ Some s) (in_region : region_at (regions p) page ≡ Some r)
-    (made : IsPageLeaf leaf g r false) (tables : HasTables w root (with_leaf t (leaf_node page) leaf))
+    (made : IsPageLeaf leaf g r false (is_dirty_page r s)) (tables : HasTables w root (with_leaf t (leaf_node page) leaf))
     (word : (x : ℕ) → get t.tables (last_table page) ≡ Some x → w ≡ with_word x (vpn page 0) leaf v) where
   table : (x : ℕ) × (get t.tables (last_table page) ≡ Some x)
   table =

@@ -1,24 +1,24 @@
 -- A count is read, and by it a page becomes the process's own: in place, or on another frame.
-use Rattle.std.proofs.Common.{◌≡◌, ℕ, ◌+◌, ◌-◌, ◌<◌, ◌≤◌, ◌==◌, not, cond, if◌then◌else◌, Option, None, Some, Bool, true, false, refl, ap, sym, subst, ◌∙◌, inl, inr, arith, ◌++◌, ◌∷◌, [], ◌≢◌}
+use Rattle.std.proofs.Common.{◌≡◌, ℕ, ◌+◌, ◌-◌, ◌<◌, ◌≤◌, ◌==◌, not, ◌&&◌, ◌||◌, cond, if◌then◌else◌, Option, None, Some, Bool, true, false, refl, ap, sym, subst, ◌∙◌, inl, inr, arith, ◌++◌, ◌∷◌, [], ◌≢◌}
 use Rattle.std.proofs.lemmas.Bool.{cases_eq, eq-eqb, ne_eqb}
 use Rattle.std.proofs.lemmas.Option.{same_Some}
 use Rattle.std.specs.FinMap.{get}
-use Rattle.std.specs.Prelude.{option_and_then}
+use Rattle.std.specs.Prelude.{option_and_then, option_map}
 use Rattle.frame_bytes.specs.Contents.{HasBytes}
 use Rattle.frame_store.specs.Holds.{hold_of-frames, hold_of-with_hold_other, hold_of-with_hold_same}
 use Rattle.frame_store.specs.Laws.{IsDry}
 use Rattle.frame_store.specs.View.{Hold, View, hold_of, IsSole, looked, references, with_credits, with_word}
 use Rattle.process_model.specs.Frames.{part_need}
 use Rattle.process_model.specs.Process.{Page, Process, regions}
-use Rattle.process_model.specs.Regions.{Region, region_at}
+use Rattle.process_model.specs.Regions.{Region, is_shared_kind, region_at}
 use Rattle.process_model.specs.Residence.{unmarked, with_page}
 use Rattle.sv39_entry.specs.Address.{vpn}
 use Rattle.sv39_entry.specs.Frame.{frame_at}
-use Rattle.sv39_entry.specs.Word.{ppn}
+use Rattle.sv39_entry.specs.Word.{has_flag, ppn}
 use Rattle.sv39_entry.specs.declared.frame.FrameNo.{FrameNo}
 use Rattle.table_walk.specs.Image.{HasTables, Image, last_table, leaf_node, with_leaf}
 use Rattle.table_walk.specs.Keys.{insert_other, insert_same}
-use Rattle.address_space.specs.Agreement.{Agrees, IsPageLeaf, makes_leaf, Stands}
+use Rattle.address_space.specs.Agreement.{Agrees, is_dirty_page, IsPageLeaf, makes_leaf, Stands}
 use Rattle.address_space.specs.Layouts.{Layout}
 use Rattle.address_space.specs.Separating.{CanSeparate, Separates}
 use Rattle.address_space.specs.Steps.{CanOwn, Owned, Spends, Takes, RunsDry}
@@ -223,22 +223,44 @@ refused_dry v a w f c look dry none more = (
 
 -- of a page with a fork mark
 
+kept_dirty : (a w : Bool) → ((a && w) && w) ≡ (a && w)
+kept_dirty false w = refl
+kept_dirty true false = refl
+kept_dirty true true = refl
+
 module _ {v : View} {root trapframe : ℕ} {l : Layout} {t : Image} {p : Process} {page : ℕ} {s : Page} {f : ℕ} (can : CanOwn v root trapframe l t p page s f) where
   -- its frame
   here : HasPage v t p page s f
-  here = parting_page v root trapframe t p page s can.region f (record {
+  here = parting_page v root trapframe t p page s can.region f (is_dirty_page can.region s) (record {
     stands = can.agrees.stands;
     settled = can.settled;
     in_region = can.in_region;
     leafy = can.leafy;
     on = can.on;
+    kept = kept_dirty (s.stored_mark || not (is_shared_kind can.region.kind)) can.region.writes;
   })
 
-  pub own_some : (o : Option FrameNo) → o ≡ option_and_then (λ w. frame_at (ppn w)) (get t.leaves (leaf_node page)) → o ≡ Some (record { 0 = f })
-  own_some o is = page_found v t p page s f here o is
+  regions_here : here.region ≡ can.region
+  regions_here = same_Some here.region can.region (sym here.in_region ∙ can.in_region)
 
-  pub own_frame : (o : Option FrameNo) (frame : FrameNo) → o ≡ option_and_then (λ w. frame_at (ppn w)) (get t.leaves (leaf_node page)) → o ≡ Some frame → frame.0 ≡ f
-  own_frame o frame is found = ap (λ (x : FrameNo). x.0) (same_Some frame _ (sym found ∙ own_some o is))
+  pub own_some : (o : Option (FrameNo × Bool)) → o ≡ option_and_then (λ w. option_map (λ f. (f, has_flag w 128)) (frame_at (ppn w))) (get t.leaves (leaf_node page))
+      → o ≡ Some (record { 0 = f }, is_dirty_page can.region s)
+  own_some o is = page_found v t p page s f here o is ∙ ap (λ r. Some (record { 0 = f }, is_dirty_page r s)) regions_here
+
+  module _ (o : Option (FrameNo × Bool)) (x : FrameNo × Bool) (is : o ≡ option_and_then (λ w. option_map (λ f. (f, has_flag w 128)) (frame_at (ppn w))) (get t.leaves (leaf_node page)))
+      (found : o ≡ Some x) where
+    pub own_frame : (x.0).0 ≡ f
+    own_frame = ap (λ (y : FrameNo × Bool). (y.0).0) (same_Some x _ (sym found ∙ own_some o is))
+
+    own_dirty : x.1 ≡ is_dirty_page can.region s
+    own_dirty = ap (λ (y : FrameNo × Bool). y.1) (same_Some x _ (sym found ∙ own_some o is))
+
+    -- a leaf that is made with D as it is has it by the page
+    pub own_stays_dirty : (r : Region) → region_at (regions p) page ≡ Some r → (x.1 && r.writes) ≡ is_dirty_page r s
+    own_stays_dirty r in_region =
+        let same = same_Some r can.region (sym in_region ∙ can.in_region) in
+        subst (λ q. (x.1 && q.writes) ≡ is_dirty_page q s) (sym same)
+        (ap (λ b. b && can.region.writes) own_dirty ∙ kept_dirty (s.stored_mark || not (is_shared_kind can.region.kind)) can.region.writes)
 
   pub own_one : references v f ≡ 1
   own_one = can.agrees.stands.owns.named f (leaf_node page) (inr (can.on.0, can.on.1, can.on.2))
@@ -254,7 +276,7 @@ module _ {v : View} {root trapframe : ℕ} {l : Layout} {t : Image} {p : Process
     own_stands = like_stands v a like root trapframe None t p can.agrees.stands
 
     -- the seat holds it alone
-    module _ (one : c ≡ 1) (w : View) (leaf : ℕ) (made : IsPageLeaf leaf f r false) (tables : HasTables w root (with_leaf t (leaf_node page) leaf))
+    module _ (one : c ≡ 1) (w : View) (leaf : ℕ) (made : IsPageLeaf leaf f r false (is_dirty_page r s)) (tables : HasTables w root (with_leaf t (leaf_node page) leaf))
         (word : (x : ℕ) → get t.tables (last_table page) ≡ Some x → w ≡ with_word x (vpn page 0) leaf a) where
       sole : IsSole a f
       sole = ap (λ x. (hold_of x f).sole) look ∙ looked_sole f c v one
@@ -298,13 +320,14 @@ module _ {v : View} {root trapframe : ℕ} {l : Layout} {t : Image} {p : Process
           let none = ap (λ (x : View). x.credits) look in
           omega (arith, more, none, can.agrees.credits)
 
-      pub own_part : CanSeparate b root trapframe t p page s r f
-      own_part = record {
+      pub own_part : (dirty : Bool) → (dirty && r.writes) ≡ is_dirty_page r s → CanSeparate b root trapframe t p page s r f dirty
+      own_part dirty kept = record {
         stands = like_stands v b reserved root trapframe None t p can.agrees.stands;
         settled = can.settled;
         in_region = in_region;
         leafy = own_leafy;
         on = can.on;
+        kept = kept;
       }
 
       pub own_parted : (w : View) (u : Image) (g : ℕ) → Separates b w root trapframe t u p page s g → Owned v w root trapframe l t u p page s f g c

@@ -15,7 +15,7 @@ use Rattle.sv39_entry.specs.Word.{ppn}
 use Rattle.table_walk.specs.Image.{HasTables, Image, last_table, leaf_node, with_leaf}
 use Rattle.table_walk.specs.Keys.{insert_other, insert_same}
 use Rattle.table_walk.specs.Same.{same_tables}
-use Rattle.address_space.specs.Agreement.{IsPageLeaf, Stands}
+use Rattle.address_space.specs.Agreement.{is_dirty_page, IsPageLeaf, Stands}
 use Rattle.address_space.specs.Separating.{CanSeparate, Separates}
 use Rattle.address_space.specs.Steps.{Spends}
 use Rattle.address_space.proofs.Owned.{anchored, apart_by, claimed_here, claimed_other, one_frame, released_here, released_once, released_other, same_bytes, same_owns, same_references, same_shows, same_sole, spare_comes, spare_goes}
@@ -89,18 +89,18 @@ released_stands v root trapframe t p f s =
     }
 
 -- the frame of a page that may leave it
-pub parting_page : (v : View) (root trapframe : ℕ) (t : Image) (p : Process) (page : ℕ) (s : Page) (r : Region) (f : ℕ)
-    → CanSeparate v root trapframe t p page s r f → HasPage v t p page s f
-parting_page v root trapframe t p page s r f can =
+pub parting_page : (v : View) (root trapframe : ℕ) (t : Image) (p : Process) (page : ℕ) (s : Page) (r : Region) (f : ℕ) (dirty : Bool)
+    → CanSeparate v root trapframe t p page s r f dirty → HasPage v t p page s f
+parting_page v root trapframe t p page s r f dirty can =
     let here = page_here v root trapframe None t p page s can.stands can.settled in
     let leaf = same_Some here.1.leaf can.on.0 (sym here.1.mapped ∙ can.on.1) in
     subst (HasPage v t p page s) (one_frame here.0 f (sym here.1.made.names ∙ ap ppn leaf ∙ can.on.2)) here.1
 
 -- `a` is the view after the claim of frame g, `b` after its words were copied, `d` after the leaf was turned.
-module _ {v : View} {root trapframe : ℕ} {t : Image} {p : Process} {page : ℕ} {s : Page} {r : Region} {f : ℕ} (can : CanSeparate v root trapframe t p page s r f)
+module _ {v : View} {root trapframe : ℕ} {t : Image} {p : Process} {page : ℕ} {s : Page} {r : Region} {f : ℕ} {dirty : Bool} (can : CanSeparate v root trapframe t p page s r f dirty)
     (g : ℕ) (fresh : references v g ≡ 0) where
   here : HasPage v t p page s f
-  here = parting_page v root trapframe t p page s r f can
+  here = parting_page v root trapframe t p page s r f dirty can
 
   pub part_apart : f ≡ g → ⊥
   part_apart same = apart_by v g f fresh here.one same
@@ -127,7 +127,7 @@ module _ {v : View} {root trapframe : ℕ} {t : Image} {p : Process} {page : ℕ
           filled_stands a b root trapframe t p g copied
           (subst (λ x. Stands x root trapframe (Some g) t p) (sym claim) (claimed_stands v root trapframe t p g fresh can.stands))
 
-      module _ (d : View) (leaf : ℕ) (made : IsPageLeaf leaf g r false) (tables : HasTables d root (with_leaf t (leaf_node page) leaf))
+      module _ (d : View) (leaf : ℕ) (made : IsPageLeaf leaf g r false (is_dirty_page r s)) (tables : HasTables d root (with_leaf t (leaf_node page) leaf))
           (word : (x : ℕ) → get t.tables (last_table page) ≡ Some x → d ≡ with_word x (vpn page 0) leaf b) where
         sole : IsSole b g
         sole = words_sole g a b copied g part_sole

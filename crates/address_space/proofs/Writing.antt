@@ -1,6 +1,6 @@
 -- A page of a process whose frame or bytes change, while the seat's references stay.
-use Rattle.std.proofs.Common.{◌≡◌, ℕ, ◌<◌, ◌^◌, ◌%◌, ◌&&◌, not, List, Option, None, Some, IsTrue, true, false, refl, ap, sym, subst, ◌∙◌, inl, inr, append-nil, arith, []}
-use Rattle.std.specs.Prelude.{option_and_then}
+use Rattle.std.proofs.Common.{◌≡◌, ℕ, ◌<◌, ◌^◌, ◌%◌, ◌&&◌, not, Bool, List, Option, None, Some, IsTrue, true, false, refl, ap, sym, subst, ◌∙◌, inl, inr, append-nil, arith, []}
+use Rattle.std.specs.Prelude.{option_and_then, option_map}
 use Rattle.std.proofs.lemmas.Bool.{cases_eq, ne_eqb}
 use Rattle.std.proofs.lemmas.Bool.Decides.{nat_tests}
 use Rattle.std.proofs.lemmas.Option.{same_Some}
@@ -17,13 +17,14 @@ use Rattle.process_model.specs.Process.{Page, Process, regions}
 use Rattle.process_model.specs.Regions.{Region, region_at}
 use Rattle.process_model.specs.Residence.{with_page}
 use Rattle.sv39_entry.specs.Address.{has, trampoline_page, trapframe_page}
+use Rattle.sv39_entry.specs.Flags.{has_flag_is}
 use Rattle.sv39_entry.specs.Frame.{frame_at, ppn_of}
-use Rattle.sv39_entry.specs.Word.{ppn}
+use Rattle.sv39_entry.specs.Word.{has_flag, ppn}
 use Rattle.sv39_entry.specs.declared.frame.FrameNo.{FrameNo}
 use Rattle.table_walk.specs.Counted.{AreTablesOf}
 use Rattle.table_walk.specs.Image.{HasTables, Image, leaf_node}
 use Rattle.table_walk.specs.Same.{same_tables}
-use Rattle.address_space.specs.Agreement.{Agrees, IsPageLeaf, IsLeafNumber, IsOn, IsShown, Names, OthersKeep, Owns, Shows, Stands}
+use Rattle.address_space.specs.Agreement.{Agrees, is_dirty_page, IsPageLeaf, IsLeafNumber, IsOn, IsShown, Names, OthersKeep, Owns, Shows, Stands}
 use Rattle.address_space.specs.Layouts.{Layout, LaysOut}
 use Rattle.address_space.specs.Steps.{CanRead, CanWrite, Takes}
 use Rattle.address_space.proofs.Owned.{no_table, one_frame, one_page, same_bytes, same_owns}
@@ -60,7 +61,7 @@ pub record HasPage (v : View) (t : Image) (p : Process) (page : ℕ) (s : Page) 
   pub leaf : ℕ
   pub in_region : region_at (regions p) page ≡ Some region
   pub mapped : get t.leaves (leaf_node page) ≡ Some leaf
-  pub made : IsPageLeaf leaf f region s.fork_mark
+  pub made : IsPageLeaf leaf f region s.fork_mark (is_dirty_page region s)
   pub bytes : HasBytes v f s.bytes
   pub one : references v f ≡ 1
   pub low : page < trapframe_page
@@ -82,13 +83,16 @@ page_here v root trapframe spare t p page s stands settled =
       },
     )
 
-module _ (v : View) (t : Image) (p : Process) (page : ℕ) (s : Page) (f : ℕ) (here : HasPage v t p page s f) (o : Option FrameNo)
-    (is : o ≡ option_and_then (λ w. frame_at (ppn w)) (get t.leaves (leaf_node page))) where
-  pub page_found : o ≡ Some (record { 0 = f })
-  page_found = is ∙ ap (option_and_then (λ w. frame_at (ppn w))) here.mapped ∙ ap frame_at here.made.names ∙ frame_back f here.made.small
+module _ (v : View) (t : Image) (p : Process) (page : ℕ) (s : Page) (f : ℕ) (here : HasPage v t p page s f) (o : Option (FrameNo × Bool))
+    (is : o ≡ option_and_then (λ w. option_map (λ f. (f, has_flag w 128)) (frame_at (ppn w))) (get t.leaves (leaf_node page))) where
+  pub page_found : o ≡ Some (record { 0 = f }, is_dirty_page here.region s)
+  page_found =
+      is ∙ ap (option_and_then (λ w. option_map (λ f. (f, has_flag w 128)) (frame_at (ppn w)))) here.mapped
+      ∙ ap (option_map (λ f. (f, has_flag here.leaf 128))) (ap frame_at here.made.names ∙ frame_back f here.made.small)
+      ∙ ap (λ dirty. Some (record { 0 = f }, dirty)) (has_flag_is here.leaf 7 ∙ here.made.dirty)
 
-  pub page_on : (frame : FrameNo) → o ≡ Some frame → HasPage v t p page s frame.0
-  page_on frame found = subst (HasPage v t p page s) (ap (λ (x : FrameNo). x.0) (same_Some _ frame (sym page_found ∙ found))) here
+  pub page_on : (x : FrameNo × Bool) → o ≡ Some x → HasPage v t p page s (x.0).0
+  page_on x found = subst (HasPage v t p page s) (ap (λ (x : FrameNo × Bool). (x.0).0) (same_Some _ x (sym page_found ∙ found))) here
 
 -- the frame of the leaf is the page's
 pub on_page : (v : View) (root trapframe : ℕ) (l : Layout) (t : Image) (p : Process) (page : ℕ) (s : Page) (f : ℕ) → CanRead v root trapframe l t p page s
@@ -115,7 +119,7 @@ put_other m k q x apart = find-put nat_cmp nat_cmp_total q k x m.entries ∙ rw 
 -- One page has this leaf over this frame; the frames of the other leaves have the holds that they had.
 module _ (v w : View) (trapframe : ℕ) (t u : Image) (p : Process) (page : ℕ) (s : Page) (leaf g : ℕ) (region : Region)
     (low : page < trapframe_page) (others : OthersKeep t u page) (mapped : get u.leaves (leaf_node page) ≡ Some leaf)
-    (made : IsPageLeaf leaf g region s.fork_mark) (in_region : region_at (regions p) page ≡ Some region) (bytes : HasBytes w g s.bytes)
+    (made : IsPageLeaf leaf g region s.fork_mark (is_dirty_page region s)) (in_region : region_at (regions p) page ≡ Some region) (bytes : HasBytes w g s.bytes)
     (apart : (k x f : ℕ) → (k ≡ leaf_node page → ⊥) → get t.leaves k ≡ Some x → ppn x ≡ ppn_of f → hold_of w f ≡ hold_of v f) where
   away : (n : ℕ) → n < 2 ^ 26 → (n ≡ page → ⊥) → leaf_node n ≡ leaf_node page → ⊥
   away n small ne same = ne (one_page n page (omega arith) (omega arith) same)

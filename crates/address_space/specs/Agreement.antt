@@ -5,7 +5,7 @@ use Rattle.frame_bytes.specs.Contents.{HasBytes}
 use Rattle.frame_store.specs.View.{View, IsSole, references}
 use Rattle.process_model.specs.PageMap as pages
 use Rattle.process_model.specs.Process.{Page, Process, regions}
-use Rattle.process_model.specs.Regions.{Region, is_guard_kind, region_at}
+use Rattle.process_model.specs.Regions.{Region, is_guard_kind, is_shared_kind, region_at}
 use Rattle.sv39_entry.specs.Address.{has, trampoline_page, trapframe_page}
 use Rattle.sv39_entry.specs.Frame.{ppn_of}
 use Rattle.sv39_entry.specs.Word.{IsLeafOf, ppn}
@@ -36,9 +36,13 @@ pub record HoldsTrampoline (v : View) : Type 0 where
 
 -- leaves
 
+-- whether the leaf of a page has D set: where stores go back to a file, from the first one on; else from the start
+abbrev pub is_dirty_page : Region → Page → Bool
+is_dirty_page r s = (s.stored_mark || not (is_shared_kind r.kind)) && r.writes
+
 -- The leaf of a page of a region over a frame (flags as the standard has them, 4.4.1; bit 8 is copy-on-write, our own choice). The
 -- guard's grants nothing to the user, and may be read by the kernel alone.
-pub record IsPageLeaf (w f : ℕ) (r : Region) (mark : Bool) : Type 0 where
+pub record IsPageLeaf (w f : ℕ) (r : Region) (mark is_dirty : Bool) : Type 0 where
   pub names : ppn w ≡ ppn_of f
   pub small : f < 2 ^ 16
   pub read : has w 1 ≡ (is_guard_kind r.kind || r.reads)
@@ -47,7 +51,7 @@ pub record IsPageLeaf (w f : ℕ) (r : Region) (mark : Bool) : Type 0 where
   pub for_user : has w 4 ≡ not (is_guard_kind r.kind)
   pub global : has w 5 ≡ false
   pub accessed : has w 6 ≡ true
-  pub dirty : has w 7 ≡ r.writes
+  pub dirty : has w 7 ≡ is_dirty
   pub copy_on_write : has w 8 ≡ mark
 
 -- a region whose pages can have leaves: the guard grants nothing, and any other grants reading, or execution alone
@@ -73,7 +77,7 @@ pub record IsShown (v : View) (t : Image) (p : Process) (n : ℕ) (s : Page) : T
   pub leaf : ℕ
   pub in_region : region_at (regions p) n ≡ Some region
   pub mapped : get t.leaves (leaf_node n) ≡ Some leaf
-  pub made : IsPageLeaf leaf frame region s.fork_mark
+  pub made : IsPageLeaf leaf frame region s.fork_mark (is_dirty_page region s)
   pub bytes : HasBytes v frame s.bytes
 
 -- the number of a leaf that a process has

@@ -68,7 +68,7 @@ bare_process ps = settled_process ps (empty Page) (empty (Unit {0}))
 -- pages are settled one after another
 abbrev pub with_settled : Process → ℕ × List ℕ → Process
 with_settled p e = record p {
-  settled = pages.insert p.settled e.0 (record { bytes = e.1; copy = 0; fork_mark = false });
+  settled = pages.insert p.settled e.0 (record { bytes = e.1; copy = 0; fork_mark = false; stored_mark = false });
   tabled = pages.insert p.tabled e.0 tt;
 }
 

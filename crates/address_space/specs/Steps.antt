@@ -48,7 +48,7 @@ pub record CanAdd (v : View) (root trapframe : ℕ) (t : Image) (p : Process) (p
 -- the process with one more page, of these bytes with zeros behind them
 abbrev pub settled_with : ℕ → List ℕ → Process → ℕ → Process
 settled_with fresh bytes p page = record p {
-  settled = pages.insert p.settled page (record { bytes = padded 4096 bytes; copy = fresh; fork_mark = false });
+  settled = pages.insert p.settled page (record { bytes = padded 4096 bytes; copy = fresh; fork_mark = false; stored_mark = false });
   tabled = pages.insert p.tabled page tt;
 }
 

@@ -45,7 +45,7 @@ impl<S: FrameSeat> Space<S> {
         let Some(region) = self.layout.region_at(page.number()) else {
             unreachable!()
         };
-        let Some(shared) = frame_of(store, &mut self.seat, self.root, page) else {
+        let Some((shared, dirty)) = frame_of(store, &mut self.seat, self.root, page) else {
             unreachable!()
         };
         let sole = store.look(&mut self.seat, shared) == 1;
@@ -55,12 +55,12 @@ impl<S: FrameSeat> Space<S> {
                 &mut self.seat,
                 self.root,
                 page,
-                region.leaf(shared, false),
+                region.leaf(shared, false, dirty),
             );
             return Ok(());
         }
         store.reserve(&mut self.seat, 1)?;
-        separate(store, &mut self.seat, self.root, page, &region, shared);
+        separate(store, &mut self.seat, self.root, page, &region, shared, dirty);
         Ok(())
     }
 }
@@ -74,18 +74,19 @@ fn separate<F: FrameSupply>(
     page: Vpn,
     region: &Region,
     shared: FrameNo,
+    dirty: bool,
 )
     requires fits { Fits F.rule store.old seat.old }
-    requires ready { (trapframe : ℕ) × (t : Image) × (p : Process) × (s : Page) × CanSeparate (F.Seat.view seat.old) root.0 trapframe t p page s (region_of region.now) shared.0 }
+    requires ready { (trapframe : ℕ) × (t : Image) × (p : Process) × (s : Page) × CanSeparate (F.Seat.view seat.old) root.0 trapframe t p page s (region_of region.now) shared.0 dirty }
     requires credit { 0 < (F.Seat.view seat.old).credits }
     ensures separated { (trapframe : ℕ) (t : Image) (p : Process) (s : Page) →
-        CanSeparate (F.Seat.view seat.old) root.0 trapframe t p page s (region_of region.now) shared.0 →
+        CanSeparate (F.Seat.view seat.old) root.0 trapframe t p page s (region_of region.now) shared.0 dirty →
         (u : Image) × (g : ℕ) × Separates (F.Seat.view seat.old) (F.Seat.view seat.new) root.0 trapframe t u p page s g }
     ensures keeps { Keeps F.rule store.old seat.old store.new seat.new }
     ensures free { F.alone → F.free store.new ≡ F.free store.old + cond (F.count store.old shared.0 == 1) 1 0 }
 {
     let own = store.claim(seat);
     copy_frame(store, seat, shared, own);
-    protect(store, seat, root, page, region.leaf(own, false));
+    protect(store, seat, root, page, region.leaf(own, false, dirty));
     store.release(seat, shared);
 }

@@ -1,7 +1,7 @@
 // Pages that get frames.
 
 ghost use Rattle.std.specs.FinMap.{get};
-ghost use Rattle.std.specs.Prelude.{[], ◌≡◌, ◌+◌, ◌-◌, ◌^◌, ◌<◌, ◌≤◌, ◌↔◌, ◌==◌, false, if◌then◌else◌, IfErr, IfOk, is_ok, IsOk, length, not, option_and_then, Some, true, ℕ};
+ghost use Rattle.std.specs.Prelude.{[], ◌≡◌, ◌+◌, ◌-◌, ◌^◌, ◌<◌, ◌≤◌, ◌↔◌, ◌==◌, false, if◌then◌else◌, IfErr, IfOk, is_ok, IsOk, length, not, option_and_then, option_map, Some, true, ℕ};
 ghost use Rattle.address_space.specs.Agreement.{Agrees, IsPageLeaf, IsOn, makes_leaf};
 ghost use Rattle.address_space.specs.Layouts.{region_of};
 ghost use Rattle.address_space.specs.Steps.{Adds, CanAdd, CanSettle, RunsDry, Settles};
@@ -19,26 +19,27 @@ use crate::region::Region;
 use crate::space::Space;
 use frame_bytes::fill_frame;
 use frame_store::{FrameAccess, FrameSeat, FrameSupply, NoFrame};
-use sv39_entry::{Entry, FrameNo, Vpn};
+use sv39_entry::{Entry, EntryFlags, FrameNo, Vpn};
 use table_walk::{leaf_of, map, missing_is_growth, missing_tables};
 
-/// The frame that the leaf of a page names.
+/// The frame that the leaf of a page names, and whether the leaf is dirty.
 pub(crate) fn frame_of<F: FrameAccess>(
     store: &mut F,
     seat: &mut F::Seat,
     root: FrameNo,
     page: Vpn,
-) -> Option<FrameNo>
+) -> Option<(FrameNo, bool)>
     requires fits { Fits F.rule store.old seat.old }
     requires held { (t : Image) × HasTables (F.Seat.view seat.old) root.0 t }
     ensures frame { (t : Image) → HasTables (F.Seat.view seat.old) root.0 t →
-        result ≡ option_and_then (λ w. frame_at (word.ppn w)) (get t.leaves (leaf_node page)) }
+        result ≡ option_and_then (λ w. option_map (λ f. (f, word.has_flag w 128)) (frame_at (word.ppn w))) (get t.leaves (leaf_node page)) }
     ensures view { F.Seat.view seat.new ≡ F.Seat.view seat.old }
     ensures same { store.new ≡ store.old }
     ensures keeps { Keeps F.rule store.old seat.old store.new seat.new }
 {
     let leaf = leaf_of(store, seat, root, page)?;
-    FrameNo::from_ppn(leaf.ppn())
+    let frame = FrameNo::from_ppn(leaf.ppn())?;
+    Some((frame, leaf.has(EntryFlags::DIRTY)))
 }
 
 /// Gives a page a frame with these bytes, and zeros behind them. The frame and the tables that are missing are made of
@@ -62,7 +63,7 @@ pub(crate) fn add_page<F: FrameSupply>(
 {
     let frame = store.claim(seat);
     fill_frame(store, seat, frame, bytes);
-    map(store, seat, root, page, region.leaf(frame, false));
+    map(store, seat, root, page, region.leaf(frame, false, region.is_dirty_from_start()));
     // by its law the tables are those of this page too
     missing_is_growth();
 }

@@ -1,6 +1,6 @@
 // Runs of pages with what they grant.
 
-ghost use Rattle.std.specs.Prelude.{◌≡◌, Some, true};
+ghost use Rattle.std.specs.Prelude.{◌≡◌, ◌&&◌, not, Some, true};
 ghost use Rattle.address_space.specs.Agreement.{IsPageLeaf, makes_leaf};
 ghost use Rattle.address_space.specs.Layouts.{region_of};
 ghost use Rattle.process_model.specs.Regions as model;
@@ -66,17 +66,25 @@ impl Region {
         self.first <= page && page - self.first < self.pages
     }
 
-    /// The leaf of a page over a frame: with a fork mark it may not be written. The guard's is the kernel's alone.
-    pub(crate) fn leaf(&self, frame: FrameNo, mark: bool) -> Entry
+    /// The leaf of a page over a frame: with a fork mark it may not be written, and it is dirty where that is said and the
+    /// region grants writing. The guard's is the kernel's alone.
+    pub(crate) fn leaf(&self, frame: FrameNo, mark: bool, dirty: bool) -> Entry
         requires leafy { makes_leaf (region_of self.now) ≡ true }
         requires marked { mark ≡ true → (region_of self.now).writes ≡ true }
-        ensures leaf { IsPageLeaf result frame.0 (region_of self.now) mark }
+        ensures leaf { IsPageLeaf result frame.0 (region_of self.now) mark (dirty && (region_of self.now).writes) }
         ensures kind { kind_of result ≡ Leaf }
     {
         if self.kind == RegionKind::Guard {
-            return Entry::leaf(frame, Rights::READ, false, false, true);
+            return Entry::leaf(frame, Rights::READ, false, false, dirty);
         }
-        Entry::leaf(frame, self.rights, true, mark, true)
+        Entry::leaf(frame, self.rights, true, mark, dirty)
+    }
+
+    /// Whether the leaf of a new page is dirty: where stores go back to a file it is so only from the first one on.
+    pub(crate) fn is_dirty_from_start(&self) -> bool
+        ensures { result ≡ not (model.is_shared_kind (region_of self.now).kind) }
+    {
+        self.kind != RegionKind::SharedMapping
     }
 
     /// Whether the right is missing that an access needs.

@@ -165,7 +165,7 @@ impl<S: FrameSeat> Space<S> {
         ensures same { store.new ≡ store.old }
         ensures keeps { Keeps F.rule store.old self.old.seat store.new self.new.seat }
     {
-        let Some(frame) = frame_of(store, &mut self.seat, self.root, va.page()) else {
+        let Some((frame, _)) = frame_of(store, &mut self.seat, self.root, va.page()) else {
             unreachable!()
         };
         frame

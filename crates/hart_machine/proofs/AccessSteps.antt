@@ -6,12 +6,8 @@ use Rattle.std.proofs.lemmas.Option.{get_or_from_slice_get}
 use Rattle.process_model.specs.Bytes.{is_width}
 use Rattle.process_model.specs.Harts as model
 use Rattle.process_model.specs.Harts.{entry_serves}
-use Rattle.process_model.specs.PageMap.{get}
-use Rattle.process_model.specs.Process.{Page, Process, regions}
-use Rattle.process_model.specs.Regions.{first_rule}
-use Rattle.process_model.specs.Residence.{goes_through}
-use Rattle.process_model.specs.Service as service
-use Rattle.process_model.specs.Service.{access_step}
+use Rattle.process_model.specs.Process.{Process}
+use Rattle.process_model.specs.Service.{access_step, Answer, Asked, is_fault, told, told_if, user_access}
 use Rattle.process_model.specs.World.{answers, Outcome, refuses, with_hart, with_process, World}
 use Rattle.process_model.specs.declared.config.Policy.TheVariants.{Full}
 use Rattle.process_model.specs.declared.phase.Phase.{Phase}
@@ -19,14 +15,8 @@ use Rattle.process_model.specs.declared.phase.Phase.TheVariants as phase
 use Rattle.process_model.specs.declared.step.Refusal.TheVariants.{BadArgument, Impossible, NoEntry}
 use Rattle.process_model.specs.declared.step.Reply.{Reply}
 use Rattle.process_model.specs.declared.step.Reply.TheVariants.{Fault, Refused}
-use Rattle.sv39_entry.specs.Address.{page_of}
 use Rattle.sv39_entry.specs.declared.access.Access.{Access}
-use Rattle.sv39_entry.specs.declared.access.Access.TheVariants.{Fetch, Load, Store}
-use Rattle.sv39_entry.specs.declared.rule.Rule.{Rule}
-use Rattle.hart_machine.specs.Accesses.{after_access, pending_after}
 use Rattle.hart_machine.specs.Harts.{hart_of}
-use Rattle.hart_machine.specs.Users as users
-use Rattle.hart_machine.specs.Users.{Answered}
 use Rattle.hart_machine.specs.Worlds.{IsWorld, Makes}
 use Rattle.hart_machine.specs.declared.hart.Hart.{Hart}
 use Rattle.hart_machine.specs.declared.machine.Machine.{Machine}
@@ -35,46 +25,18 @@ use Rattle.hart_machine.proofs.HartSteps.{hart_changes, HasHart, impossible, imp
 use Rattle.hart_machine.proofs.Trapping.{user_has_slot}
 use Rattle.hart_machine.proofs.Trapping.{enters, user_is}
 
--- the model's access is that of one process, with what is pending and the hart's phase
+abbrev asks : Access → ℕ → ℕ → ℕ → Asked
+asks access a width value = record { access = access; address = a; width = width; value = value }
 
-abbrev asked : ℕ → model.Hart → Access → ℕ → ℕ → ℕ → service.Asked
-asked h hart access a width value = record { hart_number = h; hart = hart; access = access; address = a; width = width; value = value }
+-- a fault enters the kernel, and any other answer does not
+module _ (w : World) (h : ℕ) (hart : model.Hart) (s : ℕ) (x : Answer) where
+  by_fault : (cause : ℕ) → x.reply ≡ Fault cause → told w h hart s x ≡ answers (with_hart (with_process w s x.process) h (record hart { phase = phase.Enter0 })) x.reply
+  by_fault cause is = ap (told_if w h hart s x) (ap is_fault is)
 
-module _ (w : World) (h : ℕ) (hart : model.Hart) (a width value s : ℕ) where
-  abbrev concluded_by : Access → Process → Reply → Outcome
-  concluded_by access q (Fault cause) = answers (with_hart (with_process w s (record q { pending = Some (service.pending_of (asked h hart access a width value)) })) h (record hart { phase = phase.Enter0 })) (Fault cause)
-  concluded_by access q r = answers (with_process w s (record q { pending = None })) r
-
-  abbrev concluded : Access → Answered → Outcome
-  concluded access x = concluded_by access x.1 x.0
-
-  module _ (p : Process) where
-    by_resident : (access : Access) (page : Page) (b : Bool) → service.if_resident w (asked h hart access a width value) s p page b ≡ concluded access (users.if_resident p access a width value page b)
-    by_resident access page false = refl
-    by_resident Store page true = refl
-    by_resident Load page true = refl
-    by_resident Fetch page true = refl
-
-    by_settled : (access : Access) (o : Option Page) → service.if_settled w (asked h hart access a width value) s p o ≡ concluded access (users.if_settled p access a width value o)
-    by_settled access None = refl
-    by_settled access (Some page) = by_resident access page (goes_through access page)
-
-    by_rule : (access : Access) (o : Option Rule) → service.unless_denied w (asked h hart access a width value) s p o ≡ concluded access (users.unless_denied p access a width value o)
-    by_rule access (Some r) = refl
-    by_rule access None = by_settled access (get p.settled (page_of a))
-
-    service_is : (access : Access) → service.user_access w (asked h hart access a width value) s p ≡ concluded access (users.user_access p access a width value)
-    service_is access = by_rule access (first_rule (regions p) access a width)
-
-  -- a fault enters the kernel, and any other answer does not
-  by_fault : (access : Access) (q : Process) (r : Reply) (cause : ℕ) → r ≡ Fault cause
-      → concluded_by access q r ≡ answers (with_hart (with_process w s (record q { pending = pending_after access a width r })) h (record hart { phase = phase.Enter0 })) r
-  by_fault access q r cause is = rw is refl
-
-  by_other : (access : Access) (q : Process) (r : Reply) → IsAnswer r → ((cause : ℕ) → r ≡ Fault cause → ⊥) → concluded_by access q r ≡ answers (with_process w s (record q { pending = pending_after access a width r })) r
-  by_other access q r (inl fault) apart = absurd (apart fault.0 fault.1)
-  by_other access q r (inr (inl answer)) apart = rw answer.1 refl
-  by_other access q r (inr (inr stored)) apart = rw stored refl
+  by_other : IsAnswer x.reply → ((cause : ℕ) → x.reply ≡ Fault cause → ⊥) → told w h hart s x ≡ answers (with_process w s x.process) x.reply
+  by_other (inl fault) apart = absurd (apart fault.0 fault.1)
+  by_other (inr (inl answer)) apart = ap (told_if w h hart s x) (ap is_fault answer.1)
+  by_other (inr (inr stored)) apart = ap (told_if w h hart s x) (ap is_fault stored)
 
 module _ (m : Machine) (w : World) (is : IsWorld m w) (h : ℕ) (access : Access) (a width value : ℕ) (via : Option ℕ) where
   pub no_width : is_width width ≡ false → Makes m (Refused BadArgument) (access_step w h access a width value via)
@@ -100,24 +62,26 @@ module _ (m : Machine) (w : World) (is : IsWorld m w) (h : ℕ) (access : Access
           (ap (λ q. entry_serves q (hart_of has.hart) a via) is.policy ∙ fails))
 
       module _ (s : ℕ) (on : has.hart.slot ≡ Some s) (serves : entry_serves Full (hart_of has.hart) a via ≡ true) (q : Process) (at : slice_get w.slots s ≡ Some (Some q)) where
-        step_is : access_step w h access a width value via ≡ concluded w h (hart_of has.hart) a width value s access (users.user_access q access a width value)
-        step_is = runs w h (is_width width) (λ x. model.is_user x.phase) (λ x. entry_serves w.policy x a via) _ (hart_of has.hart) has.in_model well can (ap (λ z. entry_serves z (hart_of has.hart) a via) is.policy ∙ serves)
-            ∙ its_process w (hart_of has.hart) _ s q on at ∙ service_is w h (hart_of has.hart) a width value s q access
+        abbrev comes : Answer
+        comes = user_access q (asks access a width value)
 
-        module _ (n : Machine) (same : n.harts ≡ m.harts) (r : Reply) (made : (r ≡ (users.user_access q access a width value).0) × IsWorld n (with_process w s (after_access q access a width value))) where
+        step_is : access_step w h access a width value via ≡ told w h (hart_of has.hart) s comes
+        step_is = runs w h (is_width width) (λ x. model.is_user x.phase) (λ x. entry_serves w.policy x a via) _ (hart_of has.hart) has.in_model well can (ap (λ z. entry_serves z (hart_of has.hart) a via) is.policy ∙ serves)
+            ∙ its_process w (hart_of has.hart) _ s q on at
+
+        module _ (n : Machine) (same : n.harts ≡ m.harts) (r : Reply) (made : (r ≡ comes.reply) × IsWorld n (with_process w s comes.process)) where
           pub answers_access : ((cause : ℕ) → r ≡ Fault cause → ⊥) → Makes n r (access_step w h access a width value via)
-          answers_access apart = subst (λ (o : Outcome). Makes n r o) (sym (step_is
-              ∙ by_other w h (hart_of has.hart) a width value s access (users.user_access q access a width value).1 (users.user_access q access a width value).0 (access_answers q access a width value) (λ cause fault. apart cause (made.0 ∙ fault)))) made
+          answers_access apart = subst (λ (o : Outcome). Makes n r o)
+              (sym (step_is ∙ by_other w h (hart_of has.hart) s comes (access_answers q (asks access a width value)) (λ cause fault. apart cause (made.0 ∙ fault)))) made
 
           pub faults_access : (cause : ℕ) → r ≡ Fault cause → (x : Hart) → x ≡ get_or n.harts.items h x
               → Makes (record n { harts = with_item n.harts h (record x { phase = phase.Enter0 }) }) r (access_step w h access a width value via)
           faults_access cause fault x read =
               let after = made.1 in
               let there : slice_get n.harts.items h ≡ Some has.hart = ap (λ hs. slice_get hs.items h) same ∙ has.there in
-              subst (λ (o : Outcome). Makes (record n { harts = with_item n.harts h (record x { phase = phase.Enter0 }) }) r o) (sym (step_is
-              ∙ by_fault w h (hart_of has.hart) a width value s access (users.user_access q access a width value).1 (users.user_access q access a width value).0 cause (sym made.0 ∙ fault))) (
+              subst (λ (o : Outcome). Makes (record n { harts = with_item n.harts h (record x { phase = phase.Enter0 }) }) r o) (sym (step_is ∙ by_fault w h (hart_of has.hart) s comes cause (sym made.0 ∙ fault))) (
                 made.0,
-                subst (λ (z : Hart). IsWorld (record n { harts = with_item n.harts h (record z { phase = phase.Enter0 }) }) (with_hart (with_process w s (after_access q access a width value)) h (record (hart_of has.hart) { phase = phase.Enter0 })))
+                subst (λ (z : Hart). IsWorld (record n { harts = with_item n.harts h (record z { phase = phase.Enter0 }) }) (with_hart (with_process w s comes.process) h (record (hart_of has.hart) { phase = phase.Enter0 })))
                     (sym (read ∙ get_or_from_slice_get n.harts.items h has.hart x there))
                     (hart_changes n _ after h has.hart (record has.hart { phase = phase.Enter0 }) there (λ k on. after.hosted h k has.hart there on) (λ none. absurd (user_has_slot m w is h p has user none))
                     (λ e old. enters after.images after.kernel has.hart in_user e (after.buffers h has.hart e there old))),

@@ -1,5 +1,5 @@
--- An access of the user changes bytes alone: the process keeps its copy numbers and its tables.
-use Rattle.std.proofs.Common.{◌≡◌, ℕ, ◌==◌, ◌⊎◌, cond, Bool, true, false, Option, None, Some, option_map, List, [], ◌∷◌, map, refl, ap, sym, ◌∙◌, inl, inr}
+-- An access of the user changes bytes and what is pending alone: the process keeps its copy numbers and its tables.
+use Rattle.std.proofs.Common.{◌≡◌, ℕ, ◌%◌, ◌==◌, ◌⊎◌, cond, Bool, true, false, Option, None, Some, option_map, List, [], ◌∷◌, map, refl, ap, sym, ◌∙◌, inl, inr}
 use Rattle.std.proofs.lemmas.Bool.{cases_eq, eq-eqb, ne_eqb}
 use Rattle.std.proofs.lemmas.Option.{same_Some}
 use Rattle.std.specs.Cmp.{nat_cmp_total, unsigned_tied}
@@ -9,16 +9,17 @@ use Rattle.std.specs.Ordering.{eq_by_cmp, nat_cmp}
 use Rattle.process_model.specs.Frames.{copies_of, own_frames}
 use Rattle.process_model.specs.PageMap as pages
 use Rattle.process_model.specs.PageMap.{each_sorted, each_value}
-use Rattle.process_model.specs.Process.{Page, Process, regions}
+use Rattle.process_model.specs.Process.{Page, Pending, Process, regions}
 use Rattle.process_model.specs.Regions.{first_rule}
-use Rattle.process_model.specs.Residence.{access_answer, goes_through, with_page}
+use Rattle.process_model.specs.Residence.{access_answer, with_page}
+use Rattle.process_model.specs.Service.{Answer, Asked, faulted, if_resident, if_settled, pending_of, unless_denied, user_access}
 use Rattle.process_model.specs.declared.step.Reply.{Reply}
 use Rattle.process_model.specs.declared.step.Reply.TheVariants.{Fault, Stored, Value}
 use Rattle.sv39_entry.specs.Address.{page_of}
 use Rattle.sv39_entry.specs.declared.access.Access.{Access}
 use Rattle.sv39_entry.specs.declared.access.Access.TheVariants.{Fetch, Load, Store}
 use Rattle.sv39_entry.specs.declared.rule.Rule.{Rule}
-use Rattle.hart_machine.specs.Users.{if_resident, if_settled, unless_denied, user_access}
+use Rattle.hart_machine.specs.Accesses.{pending_after}
 use Rattle.hart_machine.proofs.ProcessSteps.{HasCopies}
 
 -- the pages and tables of the one are those of the other, but for the bytes
@@ -83,7 +84,12 @@ module _ (p : Process) (k : ℕ) (old new : Page) (is : pages.get p.settled k �
 same_self : (p : Process) → SamePages p p
 same_self p = record { copies = refl; owns = refl; has = λ n a there. (a, there, refl) }
 
--- what an access answers
+-- another access pending changes no page
+module _ (q p : Process) (o : Option Pending) where
+  pub same_pending : SamePages q p → SamePages (record q { pending = o }) p
+  same_pending same = record { copies = same.copies; owns = same.owns; has = same.has }
+
+-- what an access answers, and what its process has pending then
 abbrev pub IsAnswer : Reply → Type 0
 IsAnswer r = ((cause : ℕ) × (r ≡ Fault cause)) ⊎ (((x : ℕ) × (r ≡ Value x)) ⊎ (r ≡ Stored))
 
@@ -92,29 +98,51 @@ copy_stays Store s offset width value = refl
 copy_stays Load s offset width value = refl
 copy_stays Fetch s offset width value = refl
 
-answers_so : (access : Access) (s : Page) (offset width value : ℕ) → IsAnswer (access_answer access s offset width value).0
-answers_so Store s offset width value = inr (inr refl)
-answers_so Load s offset width value = inr (inl (_, refl))
-answers_so Fetch s offset width value = inr (inl (_, refl))
+answers_so : (access : Access) (s : Page) (offset width value : ℕ) → ((x : ℕ) × ((access_answer access s offset width value).0 ≡ Value x)) ⊎ ((access_answer access s offset width value).0 ≡ Stored)
+answers_so Store s offset width value = inr refl
+answers_so Load s offset width value = inl (_, refl)
+answers_so Fetch s offset width value = inl (_, refl)
 
-module _ (p : Process) (access : Access) (a width value : ℕ) where
-  abbrev IsSo : Reply × Process → Type 0
-  IsSo x = IsAnswer x.0 × SamePages x.1 p
+module _ (p : Process) (x : Asked) where
+  record IsSo (z : Answer) : Type 0 where
+    answers : IsAnswer z.reply
+    same : SamePages z.process p
+    waits : z.process.pending ≡ pending_after x z.reply
 
-  so_resident : (s : Page) → pages.get p.settled (page_of a) ≡ Some s → (b : Bool) → IsSo (if_resident p access a width value s b)
-  so_resident s is true = (answers_so access s _ width value, same_page p (page_of a) s _ is (copy_stays access s _ width value))
-  so_resident s is false = (inl (_, refl), same_self p)
+  so_faulted : (cause : ℕ) → IsSo (faulted p x cause)
+  so_faulted cause = record { answers = inl (_, refl); same = same_pending p p (Some (pending_of x)) (same_self p); waits = refl }
 
-  so_settled : (o : Option Page) → pages.get p.settled (page_of a) ≡ o → IsSo (if_settled p access a width value o)
-  so_settled None is = (inl (_, refl), same_self p)
-  so_settled (Some s) is = so_resident s is (goes_through access s)
+  nothing_waits : (r : Reply) → ((y : ℕ) × (r ≡ Value y)) ⊎ (r ≡ Stored) → None ≡ pending_after x r
+  nothing_waits r (inl value) = rw value.1 refl
+  nothing_waits r (inr stored) = rw stored refl
 
-  so_denied : (o : Option Rule) → IsSo (unless_denied p access a width value o)
-  so_denied (Some r) = (inl (_, refl), same_self p)
-  so_denied None = so_settled (pages.get p.settled (page_of a)) refl
+  so_resident : (s : Page) → pages.get p.settled (page_of x.address) ≡ Some s → (b : Bool) → IsSo (if_resident p x s b)
+  so_resident s is true =
+      let answer : Reply × Page = access_answer x.access s (x.address % 4096) x.width x.value in
+      let so = answers_so x.access s (x.address % 4096) x.width x.value in
+      record {
+        answers = inr so;
+        same = same_pending (with_page p (page_of x.address) answer.1) p None (same_page p (page_of x.address) s answer.1 is (copy_stays x.access s (x.address % 4096) x.width x.value));
+        waits = nothing_waits answer.0 so;
+      }
+  so_resident s is false = so_faulted _
 
-  pub access_answers : IsAnswer (user_access p access a width value).0
-  access_answers = (so_denied (first_rule (regions p) access a width)).0
+  so_settled : (o : Option Page) → pages.get p.settled (page_of x.address) ≡ o → IsSo (if_settled p x o)
+  so_settled None is = so_faulted _
+  so_settled (Some s) is = so_resident s is _
 
-  pub access_same_pages : SamePages (user_access p access a width value).1 p
-  access_same_pages = (so_denied (first_rule (regions p) access a width)).1
+  so_denied : (o : Option Rule) → IsSo (unless_denied p x o)
+  so_denied (Some r) = so_faulted _
+  so_denied None = so_settled (pages.get p.settled (page_of x.address)) refl
+
+  so : IsSo (user_access p x)
+  so = so_denied (first_rule (regions p) x.access x.address x.width)
+
+  pub access_answers : IsAnswer (user_access p x).reply
+  access_answers = so.answers
+
+  pub access_same_pages : SamePages (user_access p x).process p
+  access_same_pages = so.same
+
+  pub access_pending : ((user_access p x).process).pending ≡ pending_after x (user_access p x).reply
+  access_pending = so.waits

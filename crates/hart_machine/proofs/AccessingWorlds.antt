@@ -1,5 +1,5 @@
 -- A world after the access of one process.
-use Rattle.std.proofs.Common.{◌≡◌, ℕ, ◌^◌, ◌<◌, get_or, Option, None, Some, List, [], ◌∷◌, map, ap, sym, ◌∙◌}
+use Rattle.std.proofs.Common.{◌≡◌, ℕ, get_or, Option, None, Some, List, [], ◌∷◌, map, ap, sym, ◌∙◌}
 use Rattle.std.specs.Prelude.{slice_get, slice_set}
 use Rattle.std.specs.Vec.{with_item}
 use Rattle.std.proofs.lemmas.Option.{get_or_from_slice_get}
@@ -7,19 +7,15 @@ use Rattle.frame_store.specs.Laws.{Fits, Keeps}
 use Rattle.frame_store.specs.Plain.{Bank, BankRule, to_back, to_front}
 use Rattle.frame_store.specs.Seats.{comes_front-behind, comes_front-map, ComesFront, goes_back-behind, goes_back-map, GoesBack, place_out, place_step, present}
 use Rattle.frame_store.specs.View.{View}
-use Rattle.process_model.specs.Process.{Pending, Process}
+use Rattle.process_model.specs.Process.{Process}
+use Rattle.process_model.specs.Service.{Asked, user_access}
 use Rattle.process_model.specs.World.{with_process, World}
-use Rattle.sv39_entry.specs.declared.access.Access.{Access}
-use Rattle.table_walk.specs.Image.{Image}
-use Rattle.address_space.specs.Agreement.{Agrees}
-use Rattle.address_space.specs.Layouts.{Layout}
-use Rattle.hart_machine.specs.Accesses.{after_access}
-use Rattle.hart_machine.specs.Tenants.{IsTenant, pending_of, view_of}
+use Rattle.hart_machine.specs.Tenants.{IsTenant, view_of}
 use Rattle.hart_machine.specs.Worlds.{IsWorld, seats_of}
 use Rattle.hart_machine.specs.declared.machine.Machine.{Machine}
 use Rattle.hart_machine.specs.declared.tenant.Tenant.{Tenant}
 use Rattle.hart_machine.proofs.AccessingPages.{access_same_pages, SamePages}
-use Rattle.hart_machine.proofs.ProcessSteps.{agrees_pending, process_changes}
+use Rattle.hart_machine.proofs.ProcessSteps.{process_changes}
 
 -- seats
 
@@ -46,16 +42,6 @@ module _ (b : Bank) (k : View) (places : List (Option Tenant)) (s : ℕ) (x : Te
 pub slot_has : (places : List (Option Tenant)) (s : ℕ) (x y : Tenant) (o : Option Tenant) → o ≡ Some y → o ≡ get_or places s o → slice_get places s ≡ Some (Some x) → slice_get places s ≡ Some (Some y)
 slot_has places s x y o is read at = at ∙ ap Some (sym (get_or_from_slice_get places s (Some x) o at) ∙ sym read ∙ is)
 
--- a process that has another access pending is still that of its tenant
-module _ (v : View) (root trapframe : ℕ) (l : Layout) (t : Image) (p : Process) (a : Agrees v root trapframe l t p) where
-  pub tenant_after : (x : Tenant) → view_of x ≡ v → x.space.root.0 ≡ root → x.space.trapframe.0 ≡ trapframe → x.space.layout ≡ l → trapframe < 2 ^ 16 → (o : Option Pending) → pending_of x.pending ≡ o
-      → IsTenant x t (record p { pending = o })
-  tenant_after x view at frame layout small o pending = record {
-    agrees = rw (view, at, frame, layout) (agrees_pending v root trapframe l t p a o);
-    framed = rw frame small;
-    pending = sym pending;
-  }
-
 module _ (m : Machine) (w : World) (is : IsWorld m w) (s : ℕ) (x y : Tenant) (p q : Process) (place : slice_get m.slots.items s ≡ Some (Some x)) (at : slice_get w.slots s ≡ Some (Some p)) where
   -- the process of a slot has other bytes
   pub bytes_change : IsTenant x (is.images s) p → IsTenant y (is.images s) q → (b : Bank) → Keeps BankRule m.frames (view_of x) b (view_of y) → b.free ≡ m.frames.free → SamePages q p
@@ -63,9 +49,8 @@ module _ (m : Machine) (w : World) (is : IsWorld m w) (s : ℕ) (x y : Tenant) (
   bytes_change old new b keeps free same = process_changes m w is s x y p q place at same.has b
       (seat_steps m.frames m.kernel.seat m.slots.items s x place is.rule b y keeps) free new same.copies same.owns
 
-module _ (m : Machine) (w : World) (is : IsWorld m w) (s : ℕ) (x y : Tenant) (p : Process) (place : slice_get m.slots.items s ≡ Some (Some x)) (at : slice_get w.slots s ≡ Some (Some p)) (access : Access) (a width value : ℕ) where
+module _ (m : Machine) (w : World) (is : IsWorld m w) (s : ℕ) (x y : Tenant) (p : Process) (place : slice_get m.slots.items s ≡ Some (Some x)) (at : slice_get w.slots s ≡ Some (Some p)) (a : Asked) where
   -- the process of a slot made an access
-  pub access_changes : IsTenant x (is.images s) p → IsTenant y (is.images s) (after_access p access a width value) → (b : Bank) → Keeps BankRule m.frames (view_of x) b (view_of y) → b.free ≡ m.frames.free
-      → IsWorld (record m { frames = b; slots = with_item m.slots s (Some y) }) (with_process w s (after_access p access a width value))
-  access_changes old new b keeps free = let same = access_same_pages p access a width value in
-      bytes_change m w is s x y p _ place at old new b keeps free (record { copies = same.copies; owns = same.owns; has = same.has })
+  pub access_changes : IsTenant x (is.images s) p → IsTenant y (is.images s) (user_access p a).process → (b : Bank) → Keeps BankRule m.frames (view_of x) b (view_of y) → b.free ≡ m.frames.free
+      → IsWorld (record m { frames = b; slots = with_item m.slots s (Some y) }) (with_process w s (user_access p a).process)
+  access_changes old new b keeps free = bytes_change m w is s x y p (user_access p a).process place at old new b keeps free (access_same_pages p a)

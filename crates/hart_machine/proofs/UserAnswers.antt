@@ -1,5 +1,5 @@
 -- What an access of the user comes to, from what its walk came to.
-use Rattle.std.proofs.Common.{◌≡◌, ℕ, zero, suc, nat_le, nat_lt, ◌+◌, ◌-◌, ◌/◌, ◌%◌, ◌^◌, ◌<◌, ◌⊎◌, cond, not, Bool, List, T, true, false, None, Some, refl, ap, sym, subst, ◌∙◌, inl, inr, arith, IsTrue}
+use Rattle.std.proofs.Common.{◌≡◌, ℕ, zero, suc, nat_le, nat_lt, ◌+◌, ◌-◌, ◌/◌, ◌%◌, ◌^◌, ◌<◌, ◌&&◌, ◌⊎◌, cond, not, Bool, List, T, true, false, None, Some, refl, ap, sym, subst, ◌∙◌, inl, inr, arith, IsTrue}
 use Rattle.std.proofs.lemmas.Bool.{cases_eq, eq-eqb, ne_eqb}
 use Rattle.std.specs.Cmp.{nat_cmp_total, unsigned_tied}
 use Rattle.std.proofs.lemmas.Option.{same_Some}
@@ -12,10 +12,11 @@ use Rattle.frame_store.specs.View.{View}
 use Rattle.process_model.specs.Bytes.{is_width, low_bytes}
 use Rattle.process_model.specs.PageMap as pages
 use Rattle.process_model.specs.PageMap.{PageMap}
-use Rattle.process_model.specs.Process.{Page, Process, regions}
+use Rattle.process_model.specs.Process.{Page, Process, regions, without_pending}
 use Rattle.process_model.specs.Regions.{Region, copy_rule, is_guard_kind, lacks_right, right_rule}
-use Rattle.process_model.specs.Residence.{access_answer, goes_through, loaded, stored, with_page}
-use Rattle.process_model.specs.declared.step.Reply.TheVariants.{Fault, Stored, Value}
+use Rattle.process_model.specs.Residence.{access_answer, goes_through, loaded, region_on, stored, with_page}
+use Rattle.process_model.specs.Service.{Answer, answered, Asked, faulted, if_resident, if_settled, pending_of, unless_denied, user_access}
+use Rattle.process_model.specs.declared.step.Reply.TheVariants.{Stored, Value}
 use Rattle.sv39_entry.specs.Address.{page_of}
 use Rattle.sv39_entry.specs.Causes.{misaligned_cause, page_fault_cause}
 use Rattle.sv39_entry.specs.Frame.{frame_at, ppn_of}
@@ -31,8 +32,8 @@ use Rattle.table_walk.specs.declared.walk.Walk.TheVariants as walk
 use Rattle.address_space.specs.Agreement.{Agrees, IsOn}
 use Rattle.address_space.specs.Layouts.{Layout}
 use Rattle.address_space.specs.Steps.{CanRead, CanWrite}
-use Rattle.hart_machine.specs.Users.{if_resident, if_settled, replaced, unless_denied, user_access}
 use Rattle.hart_machine.specs.Walked.{walk_answer}
+use Rattle.hart_machine.proofs.ProcessSteps.{agrees_pending}
 use Rattle.hart_machine.proofs.Walks.{lands}
 use Rattle.hart_machine.proofs.Users.{rule_of_region, walked_by_user}
 
@@ -61,34 +62,39 @@ pub width_some : (width : ℕ) → IsTrue (is_width width) → 0 < width
 width_some zero h = absurd (cc)
 width_some (suc n) h = omega arith
 
-module _ (p : Process) (access : Access) (a width value : ℕ) where
-  pub misaligned : (a % width ≡ 0 → ⊥) → user_access p access a width value ≡ (Fault (misaligned_cause access), p)
-  misaligned apart = rw (ne_eqb (a % width) 0 apart) refl
+module _ (p : Process) (x : Asked) where
+  pub misaligned : (x.address % x.width ≡ 0 → ⊥) → user_access p x ≡ faulted p x (misaligned_cause x.access)
+  misaligned apart = rw (ne_eqb (x.address % x.width) 0 apart) refl
 
-  aligned : a % width ≡ 0 → user_access p access a width value ≡ unless_denied p access a width value (copy_rule (regions p) access a)
-  aligned is = rw (eq-eqb (a % width) 0 is) refl
+  aligned : x.address % x.width ≡ 0 → user_access p x ≡ unless_denied p x (copy_rule (regions p) x.access x.address)
+  aligned is = rw (eq-eqb (x.address % x.width) 0 is) refl
 
   -- what an access comes to that goes through
-  through : (s : Page) → copy_rule (regions p) access a ≡ None → pages.get p.settled (page_of a) ≡ Some s → goes_through access s ≡ true
-      → unless_denied p access a width value (copy_rule (regions p) access a) ≡ replaced p (page_of a) (access_answer access s (a % 4096) width value)
-  through s granted is goes = ap (unless_denied p access a width value) granted ∙ ap (if_settled p access a width value) is ∙ ap (if_resident p access a width value s) goes
+  through : (s : Page) → copy_rule (regions p) x.access x.address ≡ None → pages.get p.settled (page_of x.address) ≡ Some s → goes_through x.access (region_on p (page_of x.address)) s ≡ true
+      → unless_denied p x (copy_rule (regions p) x.access x.address) ≡ answered p x (access_answer x.access s (x.address % 4096) x.width x.value)
+  through s granted is goes = ap (unless_denied p x) granted ∙ ap (if_settled p x) is ∙ ap (if_resident p x s) goes
 
 -- faults
 
-module _ (v : View) (root trapframe : ℕ) (l : Layout) (t : Image) (p : Process) (agrees : Agrees v root trapframe l t p) (access : Access) (a width value : ℕ) (at : a % width ≡ 0) where
-  pub faults : (cause : ℕ) → walk.PageFault cause ≡ walk_answer t a access User → user_access p access a width value ≡ (Fault cause, p)
-  faults cause is = elim (walked_by_user v trapframe t p agrees.stands.shows a access) [
+module _ (v : View) (root trapframe : ℕ) (l : Layout) (t : Image) (p : Process) (agrees : Agrees v root trapframe l t p) (x : Asked) where
+  -- the space of a process that faults is as it was
+  pub still_agrees : (cause : ℕ) → user_access p x ≡ faulted p x cause → Agrees v root trapframe l t (user_access p x).process
+  still_agrees cause is = subst (λ (z : Answer). Agrees v root trapframe l t z.process) (sym is) (agrees_pending v root trapframe l t p agrees (Some (pending_of x)))
+
+module _ (v : View) (root trapframe : ℕ) (l : Layout) (t : Image) (p : Process) (agrees : Agrees v root trapframe l t p) (x : Asked) (at : x.address % x.width ≡ 0) where
+  pub faults : (cause : ℕ) → walk.PageFault cause ≡ walk_answer t x.address x.access User → user_access p x ≡ faulted p x cause
+  faults cause is = elim (walked_by_user v trapframe t p agrees.stands.shows x) [
     | inl goes ↦ absurd (let other = is ∙ goes.5 in cc)
-    | inr fails ↦ let same : cause ≡ page_fault_cause access = cc in aligned p access a width value at ∙ fails.1 width value ∙ ap (λ c. (Fault c, p)) (sym same)
+    | inr fails ↦ let same : cause ≡ page_fault_cause x.access = cc in aligned p x at ∙ fails.1 ∙ ap (faulted p x) (sym same)
   ]
 
-  pub no_access_fault : (cause : ℕ) → walk.AccessFault cause ≡ walk_answer t a access User → ⊥
-  no_access_fault cause is = elim (walked_by_user v trapframe t p agrees.stands.shows a access) [
+  pub no_access_fault : (cause : ℕ) → walk.AccessFault cause ≡ walk_answer t x.address x.access User → ⊥
+  no_access_fault cause is = elim (walked_by_user v trapframe t p agrees.stands.shows x) [
     | inl goes ↦ let other = is ∙ goes.5 in cc
     | inr fails ↦ let other = is ∙ fails.0 in cc
   ]
 
-  pub fault_answer : (w : Walk) (cause : ℕ) → w ≡ walk_answer t a access User → (w ≡ walk.PageFault cause) ⊎ (w ≡ walk.AccessFault cause) → user_access p access a width value ≡ (Fault cause, p)
+  pub fault_answer : (w : Walk) (cause : ℕ) → w ≡ walk_answer t x.address x.access User → (w ≡ walk.PageFault cause) ⊎ (w ≡ walk.AccessFault cause) → user_access p x ≡ faulted p x cause
   fault_answer w cause walks (inl is) = faults cause (sym is ∙ walks)
   fault_answer w cause walks (inr is) = absurd (no_access_fault cause (sym is ∙ walks))
 
@@ -102,9 +108,9 @@ grants r none = go (is_guard_kind r.kind) r.writes none where
   go false false is = absurd (cc)
   go false true is = refl
 
-no_mark : (m : Bool) → not m ≡ true → m ≡ false
-no_mark true is = absurd (cc)
-no_mark false is = refl
+no_mark : (m stored : Bool) → (not m && stored) ≡ true → m ≡ false
+no_mark true stored is = absurd (cc)
+no_mark false stored is = refl
 
 pub frame_is : (f : ℕ) → f < 2 ^ 16 → frame_at (ppn_of f) ≡ Some (record { 0 = f })
 frame_is f small =
@@ -114,51 +120,53 @@ frame_is f small =
     rw (low, high, back) refl
 
 -- the page that a granted access reads or writes, and its frame
-pub record Granted (v : View) (root trapframe : ℕ) (l : Layout) (t : Image) (p : Process) (access : Access) (a width value address : ℕ) : Type 0 where
+pub record Granted (v : View) (root trapframe : ℕ) (l : Layout) (t : Image) (p : Process) (x : Asked) (address : ℕ) : Type 0 where
   pub page : Page
   pub frame : ℕ
   pub framed : frame_at (address / 4096) ≡ Some (record { 0 = frame })
-  pub can : CanRead v root trapframe l t p (page_of a) page
-  pub on : IsOn t (page_of a) frame
-  pub answered : user_access p access a width value ≡ replaced p (page_of a) (access_answer access page (a % 4096) width value)
-  pub writes : access ≡ Store → CanWrite v root trapframe l t p (page_of a) page
+  pub can : CanRead v root trapframe l t p (page_of x.address) page
+  pub on : IsOn t (page_of x.address) frame
+  pub answers : user_access p x ≡ answered p x (access_answer x.access page (x.address % 4096) x.width x.value)
+  pub writes : x.access ≡ Store → CanWrite v root trapframe l t p (page_of x.address) page
 
-module _ (v : View) (root trapframe : ℕ) (l : Layout) (t : Image) (p : Process) (agrees : Agrees v root trapframe l t p) (access : Access) (a width value : ℕ) (at : a % width ≡ 0) where
-  pub granted : (word level address : ℕ) → walk.Leaf word level address ≡ walk_answer t a access User → Granted v root trapframe l t p access a width value address
-  granted word level address is = elim (walked_by_user v trapframe t p agrees.stands.shows a access) [
+module _ (v : View) (root trapframe : ℕ) (l : Layout) (t : Image) (p : Process) (agrees : Agrees v root trapframe l t p) (x : Asked) (at : x.address % x.width ≡ 0) where
+  pub granted : (word level address : ℕ) → walk.Leaf word level address ≡ walk_answer t x.address x.access User → Granted v root trapframe l t p x address
+  granted word level address is = elim (walked_by_user v trapframe t p agrees.stands.shows x) [
     | inr fails ↦ absurd (let other = is ∙ fails.0 in cc)
     | inl goes ↦
         let shown = goes.1 in
-        let whole : walk.Leaf word level address ≡ walk.Leaf shown.leaf 0 (physical_address shown.leaf 0 a) = is ∙ goes.5 in
-        let leads : address ≡ physical_address shown.leaf 0 a = cc in
-        let lies : address / 4096 ≡ ppn_of shown.frame = ap (λ n. n / 4096) leads ∙ lands shown.leaf a ∙ shown.made.names in
-        let can : CanRead v root trapframe l t p (page_of a) goes.0 = record { agrees = agrees; settled = goes.2 } in
+        let whole : walk.Leaf word level address ≡ walk.Leaf shown.leaf 0 (physical_address shown.leaf 0 x.address) = is ∙ goes.5 in
+        let leads : address ≡ physical_address shown.leaf 0 x.address = cc in
+        let lies : address / 4096 ≡ ppn_of shown.frame = ap (λ n. n / 4096) leads ∙ lands shown.leaf x.address ∙ shown.made.names in
+        let can : CanRead v root trapframe l t p (page_of x.address) goes.0 = record { agrees = agrees; settled = goes.2 } in
         record {
           page = goes.0;
           frame = shown.frame;
           framed = ap frame_at lies ∙ frame_is shown.frame shown.made.small;
           can = can;
           on = (shown.leaf, shown.mapped, shown.made.names);
-          answered = aligned p access a width value at ∙ through p access a width value goes.0 goes.3 goes.2 goes.4;
+          answers = aligned p x at ∙ through p x goes.0 goes.3 goes.2 goes.4;
           writes = λ store. record {
             read = can;
-            unmarked = no_mark _ (ap (λ x. goes_through x goes.0) (sym store) ∙ goes.4);
+            unmarked = no_mark _ _ (ap (λ y. goes_through y (region_on p (page_of x.address)) goes.0) (sym store) ∙ goes.4);
             region = shown.region;
             in_region = shown.in_region;
-            writes = grants shown.region (sym (ap (λ x. copy_rule (regions p) x a) store ∙ rule_of_region (regions p) Store a (agrees.stands.shows.low _ _ goes.2) shown.region shown.in_region) ∙ goes.3);
+            writes = grants shown.region (sym (ap (λ y. copy_rule (regions p) y x.address) store ∙ rule_of_region (regions p) Store x.address (agrees.stands.shows.low _ _ goes.2) shown.region shown.in_region) ∙ goes.3);
           };
         }
   ]
 
-  module _ (address : ℕ) (g : Granted v root trapframe l t p access a width value address) where
-    pub on_frame : (f : FrameNo) → frame_at (address / 4096) ≡ Some f → IsOn t (page_of a) f.0
-    on_frame f is = subst (λ (n : ℕ). IsOn t (page_of a) n) (ap (λ (x : FrameNo). x.0) (same_Some _ _ (sym g.framed ∙ is))) g.on
+  module _ (address : ℕ) (g : Granted v root trapframe l t p x address) where
+    pub on_frame : (f : FrameNo) → frame_at (address / 4096) ≡ Some f → IsOn t (page_of x.address) f.0
+    on_frame f is = subst (λ (n : ℕ). IsOn t (page_of x.address) n) (ap (λ (y : FrameNo). y.0) (same_Some _ _ (sym g.framed ∙ is))) g.on
 
-    pub answers_load : (access ≡ Fetch) ⊎ (access ≡ Load) → user_access p access a width value ≡ (Value (loaded g.page (a % 4096) width), p)
-    answers_load is = g.answered ∙ ap (replaced p (page_of a)) (loads is) ∙ ap (λ m. (Value (loaded g.page (a % 4096) width), record p { settled = m })) (put_back p.settled (page_of a) g.page g.can.settled) where
-      loads : (access ≡ Fetch) ⊎ (access ≡ Load) → access_answer access g.page (a % 4096) width value ≡ (Value (loaded g.page (a % 4096) width), g.page)
-      loads (inl e) = ap (λ x. access_answer x g.page (a % 4096) width value) e
-      loads (inr e) = ap (λ x. access_answer x g.page (a % 4096) width value) e
+    pub answers_load : (x.access ≡ Fetch) ⊎ (x.access ≡ Load) → user_access p x ≡ record { reply = Value (loaded g.page (x.address % 4096) x.width); process = without_pending p }
+    answers_load is = g.answers ∙ ap (answered p x) (loads is)
+        ∙ ap (λ m. record { reply = Value (loaded g.page (x.address % 4096) x.width); process = without_pending (record p { settled = m }) }) (put_back p.settled (page_of x.address) g.page g.can.settled) where
+      loads : (x.access ≡ Fetch) ⊎ (x.access ≡ Load) → access_answer x.access g.page (x.address % 4096) x.width x.value ≡ (Value (loaded g.page (x.address % 4096) x.width), g.page)
+      loads (inl e) = ap (λ y. access_answer y g.page (x.address % 4096) x.width x.value) e
+      loads (inr e) = ap (λ y. access_answer y g.page (x.address % 4096) x.width x.value) e
 
-    pub answers_store : access ≡ Store → user_access p access a width value ≡ (Stored, with_page p (page_of a) (stored g.page (a % 4096) (low_bytes value width)))
-    answers_store is = g.answered ∙ ap (λ x. replaced p (page_of a) (access_answer x g.page (a % 4096) width value)) is
+    pub answers_store : x.access ≡ Store
+        → user_access p x ≡ record { reply = Stored; process = without_pending (with_page p (page_of x.address) (stored g.page (x.address % 4096) (low_bytes x.value x.width))) }
+    answers_store is = g.answers ∙ ap (λ y. answered p x (access_answer y g.page (x.address % 4096) x.width x.value)) is

@@ -8,8 +8,9 @@ use Rattle.hart_tlb.specs.Entries.{answer}
 use Rattle.process_model.specs.PageMap as pages
 use Rattle.process_model.specs.Process.{Page, Process, regions}
 use Rattle.process_model.specs.Bytes.{first_true}
-use Rattle.process_model.specs.Regions.{Region, copy_rule, copy_tests, fault_cause, is_guard_kind, lacks_right, region_at, right_rule}
-use Rattle.process_model.specs.Residence.{goes_through}
+use Rattle.process_model.specs.Regions.{Region, copy_rule, copy_tests, fault_cause, is_guard_kind, is_shared_kind, lacks_right, region_at, right_rule}
+use Rattle.process_model.specs.Residence.{goes_through, region_on}
+use Rattle.process_model.specs.Service.{Answer, Asked, faulted, if_resident, if_settled, unless_denied}
 use Rattle.sv39_entry.specs.Address.{has, is_canonical, maxva, page_of, trampoline_page, trapframe_page}
 use Rattle.sv39_entry.specs.Causes.{page_fault_cause}
 use Rattle.sv39_entry.specs.Word.{permits}
@@ -22,9 +23,7 @@ use Rattle.table_walk.specs.Image.{Image, leaf_node}
 use Rattle.table_walk.specs.Memory.{physical_address}
 use Rattle.table_walk.specs.Nodes.{leaf_node_is}
 use Rattle.table_walk.specs.declared.walk.Walk.TheVariants as walk
-use Rattle.address_space.specs.Agreement.{HasKernelLeaf, IsPageLeaf, IsShown, Shows}
-use Rattle.hart_machine.specs.Users.{Answered, if_resident, if_settled, unless_denied}
-use Rattle.process_model.specs.declared.step.Reply.TheVariants.{Fault}
+use Rattle.address_space.specs.Agreement.{HasKernelLeaf, is_dirty_page, IsPageLeaf, IsShown, Shows}
 use Rattle.hart_machine.specs.Walked.{leaf_at, page_leaf, walk_answer}
 
 -- addresses
@@ -46,10 +45,10 @@ same_page n a low canonical same =
 -- rights
 
 -- what the leaf of a page lets the user do
-abbrev lets : Bool → Bool → Access → Region → Bool
-lets guard mark Fetch r = not guard && r.executes
-lets guard mark Load r = not guard && r.reads
-lets guard mark Store r = not guard && (r.writes && not mark)
+abbrev lets : Access → Region → Page → Bool
+lets Fetch r s = not (is_guard_kind r.kind) && r.executes
+lets Load r s = not (is_guard_kind r.kind) && r.reads
+lets Store r s = not (is_guard_kind r.kind) && ((r.writes && not s.fork_mark) && is_dirty_page r s)
 
 fetch_bits : (g x : Bool) → (not g && (x && true)) ≡ (not g && x)
 fetch_bits true x = refl
@@ -61,16 +60,16 @@ load_bits true r = refl
 load_bits false true = refl
 load_bits false false = refl
 
-store_bits : (g w m : Bool) → (not g && ((w && not m) && true && w)) ≡ (not g && (w && not m))
-store_bits true w m = refl
+store_bits : (g x d : Bool) → (not g && (x && true && d)) ≡ (not g && (x && d))
+store_bits true x d = refl
 store_bits false true true = refl
 store_bits false true false = refl
-store_bits false false m = refl
+store_bits false false d = refl
 
-permits_is : (w f : ℕ) (r : Region) (mark : Bool) (access : Access) → IsPageLeaf w f r mark → permits User access w ≡ lets (is_guard_kind r.kind) mark access r
-permits_is w f r mark Fetch made = rw (made.for_user, made.execute, made.accessed) (fetch_bits (is_guard_kind r.kind) r.executes)
-permits_is w f r mark Load made = rw (made.for_user, made.read, made.accessed) (load_bits (is_guard_kind r.kind) r.reads)
-permits_is w f r mark Store made = rw (made.for_user, made.write, made.accessed, made.dirty) (store_bits (is_guard_kind r.kind) r.writes mark)
+permits_is : (w f : ℕ) (r : Region) (s : Page) (access : Access) → IsPageLeaf w f r s.fork_mark (is_dirty_page r s) → permits User access w ≡ lets access r s
+permits_is w f r s Fetch made = rw (made.for_user, made.execute, made.accessed) (fetch_bits (is_guard_kind r.kind) r.executes)
+permits_is w f r s Load made = rw (made.for_user, made.read, made.accessed) (load_bits (is_guard_kind r.kind) r.reads)
+permits_is w f r s Store made = rw (made.for_user, made.write, made.accessed, made.dirty) (store_bits (is_guard_kind r.kind) (r.writes && not s.fork_mark) (is_dirty_page r s))
 
 -- the rule
 
@@ -95,28 +94,28 @@ copy_faults rs access a r is = first_faults access (copy_tests rs access a) (ref
 
 -- what is answered
 
-module _ (p : Process) (access : Access) (a width value : ℕ) where
-  abbrev answered : Option Rule → Answered
-  answered o = unless_denied p access a width value o
+module _ (p : Process) (x : Asked) where
+  abbrev rule_now : Option Rule
+  rule_now = copy_rule (regions p) x.access x.address
 
-  abbrev failed : Answered
-  failed = (Fault (page_fault_cause access), p)
+  abbrev failed : Answer
+  failed = faulted p x (page_fault_cause x.access)
 
-  by_rule : (r : Rule) → copy_rule (regions p) access a ≡ Some r → answered (copy_rule (regions p) access a) ≡ failed
-  by_rule r is = ap answered is ∙ ap (λ c. (Fault c, p)) (copy_faults (regions p) access a r is)
+  by_rule : (r : Rule) → rule_now ≡ Some r → unless_denied p x rule_now ≡ failed
+  by_rule r is = ap (unless_denied p x) is ∙ ap (faulted p x) (copy_faults (regions p) x.access x.address r is)
 
   -- where what follows a grant is a fault, so is all
-  by_rest : answered None ≡ failed → answered (copy_rule (regions p) access a) ≡ failed
-  by_rest rest = go (copy_rule (regions p) access a) refl where
-    go : (o : Option Rule) → copy_rule (regions p) access a ≡ o → answered (copy_rule (regions p) access a) ≡ failed
-    go None is = ap answered is ∙ rest
+  by_rest : unless_denied p x None ≡ failed → unless_denied p x rule_now ≡ failed
+  by_rest rest = go rule_now refl where
+    go : (o : Option Rule) → rule_now ≡ o → unless_denied p x rule_now ≡ failed
+    go None is = ap (unless_denied p x) is ∙ rest
     go (Some r) is = by_rule r is
 
-  unsettled : pages.get p.settled (page_of a) ≡ None → answered (copy_rule (regions p) access a) ≡ failed
-  unsettled none = by_rest (ap (if_settled p access a width value) none)
+  unsettled : pages.get p.settled (page_of x.address) ≡ None → unless_denied p x rule_now ≡ failed
+  unsettled none = by_rest (ap (if_settled p x) none)
 
-  marked : (s : Page) → pages.get p.settled (page_of a) ≡ Some s → goes_through access s ≡ false → answered (copy_rule (regions p) access a) ≡ failed
-  marked s is stops = by_rest (ap (if_settled p access a width value) is ∙ ap (if_resident p access a width value s) stops)
+  marked : (s : Page) → pages.get p.settled (page_of x.address) ≡ Some s → goes_through x.access (region_on p (page_of x.address)) s ≡ false → unless_denied p x rule_now ≡ failed
+  marked s is stops = by_rest (ap (if_settled p x) is ∙ ap (if_resident p x s) stops)
 
 -- the rule of a page that has a region
 module _ (rs : List Region) (access : Access) (a : ℕ) (low : page_of a < trapframe_page) (r : Region) (at : region_at rs (page_of a) ≡ Some r) where
@@ -137,47 +136,59 @@ stop : (g x : Bool) → (not g && x) ≡ false → (g ≡ true) ⊎ ((g ≡ fals
 stop true x is = inl refl
 stop false x is = inr (refl, is)
 
-both : (x m : Bool) → (x && not m) ≡ true → (x ≡ true) × (m ≡ false)
-both true true is = absurd (cc)
-both true false is = (refl, refl)
-both false m is = absurd (cc)
+-- a leaf that may be written and is dirty: the region grants writing, no fork mark, and the stored mark where it is wanted
+pass_store : (writes mark stored shared : Bool) → ((writes && not mark) && ((stored || not shared) && writes)) ≡ true → (writes ≡ true) × ((not mark && (stored || not (writes && shared))) ≡ true)
+pass_store true false true shared is = (refl, refl)
+pass_store true false false true is = absurd (cc)
+pass_store true false false false is = (refl, refl)
+pass_store true true stored shared is = absurd (cc)
+pass_store false mark stored shared is = absurd (cc)
 
-either_not : (x m : Bool) → (x && not m) ≡ false → (x ≡ false) ⊎ ((x ≡ true) × (m ≡ true))
-either_not true true is = inr (refl, refl)
-either_not true false is = absurd (cc)
-either_not false m is = inl refl
+stop_store : (writes mark stored shared : Bool) → ((writes && not mark) && ((stored || not shared) && writes)) ≡ false → (writes ≡ false) ⊎ ((not mark && (stored || not (writes && shared))) ≡ false)
+stop_store true false true shared is = absurd (cc)
+stop_store true false false true is = inr refl
+stop_store true false false false is = absurd (cc)
+stop_store true true stored shared is = inr refl
+stop_store false mark stored shared is = inl refl
 
--- a leaf lets an access through where no rule denies it, and a store finds no fork mark
+-- a leaf lets an access through where no rule denies it, and it goes through to the page
 abbrev passes : Region → Access → Option Rule
 passes r access = cond (is_guard_kind r.kind) (Some rule.GuardPage) (cond (lacks_right access (Some r)) (Some (right_rule access)) None)
 
-let_through : (r : Region) (s : Page) (access : Access) → lets (is_guard_kind r.kind) s.fork_mark access r ≡ true → (passes r access ≡ None) × (goes_through access s ≡ true)
+let_through : (r : Region) (s : Page) (access : Access) → lets access r s ≡ true → (passes r access ≡ None) × (goes_through access (Some r) s ≡ true)
 let_through r s Fetch is = let two = pass (is_guard_kind r.kind) r.executes is in (rw (two.0, two.1) refl, refl)
 let_through r s Load is = let two = pass (is_guard_kind r.kind) r.reads is in (rw (two.0, two.1) refl, refl)
-let_through r s Store is = let two = pass (is_guard_kind r.kind) (r.writes && not s.fork_mark) is in let more = both r.writes s.fork_mark two.1 in (rw (two.0, more.0) refl, rw more.1 refl)
+let_through r s Store is =
+    let two = pass (is_guard_kind r.kind) ((r.writes && not s.fork_mark) && is_dirty_page r s) is in
+    let more = pass_store r.writes s.fork_mark s.stored_mark (is_shared_kind r.kind) two.1 in
+    (rw (two.0, more.0) refl, more.1)
 
-held_back : (r : Region) (s : Page) (access : Access) → lets (is_guard_kind r.kind) s.fork_mark access r ≡ false
-    → ((x : Rule) × (passes r access ≡ Some x)) ⊎ (goes_through access s ≡ false)
+held_back : (r : Region) (s : Page) (access : Access) → lets access r s ≡ false → ((x : Rule) × (passes r access ≡ Some x)) ⊎ (goes_through access (Some r) s ≡ false)
 held_back r s Fetch is = elim (stop (is_guard_kind r.kind) r.executes is) [ inl guard ↦ inl (rule.GuardPage, rw guard refl) | inr two ↦ inl (rule.NoExec, rw (two.0, two.1) refl) ]
 held_back r s Load is = elim (stop (is_guard_kind r.kind) r.reads is) [ inl guard ↦ inl (rule.GuardPage, rw guard refl) | inr two ↦ inl (rule.NoRead, rw (two.0, two.1) refl) ]
-held_back r s Store is = elim (stop (is_guard_kind r.kind) (r.writes && not s.fork_mark) is) [
+held_back r s Store is = elim (stop (is_guard_kind r.kind) ((r.writes && not s.fork_mark) && is_dirty_page r s) is) [
   | inl guard ↦ inl (rule.GuardPage, rw guard refl)
-  | inr two ↦ elim (either_not r.writes s.fork_mark two.1) [
+  | inr two ↦ elim (stop_store r.writes s.fork_mark s.stored_mark (is_shared_kind r.kind) two.1) [
     | inl none ↦ inl (rule.NoWrite, rw (two.0, none) refl)
-    | inr more ↦ inr (rw more.1 refl)
+    | inr stops ↦ inr stops
   ]
 ]
 
 not_for_user : (w : ℕ) (access : Access) → has w 4 ≡ false → permits User access w ≡ false
 not_for_user w access none = rw none refl
 
-module _ (v : View) (trapframe : ℕ) (t : Image) (p : Process) (shows : Shows v trapframe t p) (a : ℕ) (access : Access) where
+module _ (v : View) (trapframe : ℕ) (t : Image) (p : Process) (shows : Shows v trapframe t p) (x : Asked) where
+  abbrev a : ℕ
+  a = x.address
+
+  abbrev access : Access
+  access = x.access
+
   abbrev fails : Type 0
-  fails = (walk_answer t a access User ≡ walk.PageFault (page_fault_cause access))
-      × ((width value : ℕ) → unless_denied p access a width value (copy_rule (regions p) access a) ≡ (Fault (page_fault_cause access), p))
+  fails = (walk_answer t a access User ≡ walk.PageFault (page_fault_cause access)) × (unless_denied p x (copy_rule (regions p) access a) ≡ faulted p x (page_fault_cause access))
 
   abbrev goes : Type 0
-  goes = (s : Page) × (shown : IsShown v t p (page_of a) s) × (pages.get p.settled (page_of a) ≡ Some s) × (copy_rule (regions p) access a ≡ None) × (goes_through access s ≡ true)
+  goes = (s : Page) × (shown : IsShown v t p (page_of a) s) × (pages.get p.settled (page_of a) ≡ Some s) × (copy_rule (regions p) access a ≡ None) × (goes_through access (region_on p (page_of a)) s ≡ true)
       × (walk_answer t a access User ≡ walk.Leaf shown.leaf 0 (physical_address shown.leaf 0 a))
 
   by_settled : (s : Page) → pages.get p.settled (page_of a) ≡ Some s → goes ⊎ fails
@@ -186,17 +197,18 @@ module _ (v : View) (trapframe : ℕ) (t : Image) (p : Process) (shows : Shows v
       let low : page_of a < trapframe_page = shows.low (page_of a) s is in
       let leaf : leaf_at t a ≡ Some (page_leaf shown.leaf) = rw (low_canonical a (omega (arith, low)), shown.mapped) refl in
       let answers : walk_answer t a access User ≡ answer (Some (page_leaf shown.leaf)) a access User = ap (λ o. answer o a access User) leaf in
-      let right = permits_is shown.leaf shown.frame shown.region s.fork_mark access shown.made in
+      let right = permits_is shown.leaf shown.frame shown.region s access shown.made in
+      let through_is : (b : Bool) → goes_through access (Some shown.region) s ≡ b → goes_through access (region_on p (page_of a)) s ≡ b = λ b goes. ap (λ r. goes_through access r s) shown.in_region ∙ goes in
       let rule_is : copy_rule (regions p) access a ≡ passes shown.region access = rule_of_region (regions p) access a low shown.region shown.in_region in
-      elim (cases_Bool (lets (is_guard_kind shown.region.kind) s.fork_mark access shown.region)) [
+      elim (cases_Bool (lets access shown.region s)) [
         | inl lets_it ↦
             let through = let_through shown.region s access lets_it in
-            inl (s, shown, is, rule_is ∙ through.0, through.1, answers ∙ rw (right ∙ lets_it) refl)
+            inl (s, shown, is, rule_is ∙ through.0, through_is true through.1, answers ∙ rw (right ∙ lets_it) refl)
         | inr denies ↦ inr (
           answers ∙ rw (right ∙ denies) refl,
-          λ width value. elim (held_back shown.region s access denies) [
-            | inl denied ↦ by_rule p access a width value denied.0 (rule_is ∙ denied.1)
-            | inr stops ↦ marked p access a width value s is stops
+          elim (held_back shown.region s access denies) [
+            | inl denied ↦ by_rule p x denied.0 (rule_is ∙ denied.1)
+            | inr stops ↦ marked p x s is (through_is false stops)
           ],
         )
       ]
@@ -213,7 +225,7 @@ module _ (v : View) (trapframe : ℕ) (t : Image) (p : Process) (shows : Shows v
       | inr other ↦ rw other refl
       | inl canonical ↦ by_leaf canonical (get t.leaves (leaf_node (page_of a))) refl
     ],
-    λ width value. unsettled p access a width value none,
+    unsettled p x none,
   ) where
     by_leaf : is_canonical a ≡ true → (o : Option ℕ) → get t.leaves (leaf_node (page_of a)) ≡ o → walk_answer t a access User ≡ walk.PageFault (page_fault_cause access)
     by_leaf canonical None at = rw (canonical, at) refl

@@ -1,18 +1,15 @@
--- The process after an access of the user.
-use Rattle.std.specs.Prelude.{ℕ, false, Option, None, Some}
-use Rattle.process_model.specs.Process.{Pending, Process}
+-- What the user asks of memory, as the model has it.
+use Rattle.std.specs.Prelude.{Option, None, Some}
+use Rattle.process_model.specs.Process as of_model
+use Rattle.process_model.specs.Service as service
 use Rattle.process_model.specs.declared.step.Reply.{Reply}
 use Rattle.process_model.specs.declared.step.Reply.TheVariants.{Fault}
-use Rattle.sv39_entry.specs.declared.access.Access.{Access}
-use Rattle.hart_machine.specs.Users.{Answered, user_access}
+use Rattle.hart_machine.specs.declared.user.Asked.{Asked}
+
+abbrev pub asked_of : Asked → service.Asked
+asked_of x = record { access = x.access; address = x.va.0; width = x.width; value = x.value }
 
 -- an access that faulted waits for its service
-abbrev pub pending_after : Access → ℕ → ℕ → Reply → Option Pending
-pending_after access address width (Fault cause) = Some (record { access = access; address = address; width = width; served = false })
-pending_after access address width _ = None
-
-abbrev pub with_pending : Access → ℕ → ℕ → Answered → Process
-with_pending access address width x = record x.1 { pending = pending_after access address width x.0 }
-
-abbrev pub after_access : Process → Access → ℕ → ℕ → ℕ → Process
-after_access p access address width value = with_pending access address width (user_access p access address width value)
+abbrev pub pending_after : service.Asked → Reply → Option of_model.Pending
+pending_after x (Fault cause) = Some (service.pending_of x)
+pending_after x _ = None

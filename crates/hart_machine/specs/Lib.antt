@@ -3,6 +3,5 @@ pub mod Buffers
 pub mod Harts
 pub mod Tables
 pub mod Tenants
-pub mod Users
 pub mod Walked
 pub mod Worlds

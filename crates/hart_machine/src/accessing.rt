@@ -3,12 +3,11 @@
 ghost use Rattle.std.specs.Prelude.{◌≡◌, ℕ, IfOk, is_ok, IsTrue, slice_get, Some};
 ghost use Rattle.frame_store.specs.Laws.{Fits, Keeps};
 ghost use Rattle.frame_store.specs.Plain.{BankRule};
-ghost use Rattle.hart_machine.specs.Accesses.{after_access, pending_after};
+ghost use Rattle.hart_machine.specs.Accesses.{asked_of, pending_after};
 ghost use Rattle.hart_machine.specs.Buffers.{SameBuffers};
 ghost use Rattle.hart_machine.specs.Harts.{hart_of};
 ghost use Rattle.hart_machine.specs.Tenants.{IsTenant, pending_of, view_of};
 ghost use Rattle.hart_machine.specs.Tables.{IsServed};
-ghost use Rattle.hart_machine.specs.Users as users;
 ghost use Rattle.hart_machine.specs.Walked.{walk_answer};
 ghost use Rattle.hart_machine.specs.Worlds.{IsWorld, Makes};
 ghost use Rattle.hart_machine.specs.declared.hart.Hart.{Hart};
@@ -16,7 +15,7 @@ ghost use Rattle.hart_machine.specs.declared.tenant.Tenant.{Tenant};
 ghost use Rattle.process_model.specs.Bytes as bytes;
 ghost use Rattle.process_model.specs.Harts.{entry_serves};
 ghost use Rattle.process_model.specs.Process.{Process};
-ghost use Rattle.process_model.specs.Service.{access_step};
+ghost use Rattle.process_model.specs.Service as service;
 ghost use Rattle.process_model.specs.World.{with_process, World};
 ghost use Rattle.process_model.specs.declared.config.Policy.TheVariants.{Full};
 ghost use Rattle.sv39_entry.specs.declared.access.Mode.TheVariants.{User};
@@ -39,7 +38,7 @@ impl Machine {
     /// is pending, and enters the kernel.
     pub(crate) fn access(&mut self, hart: usize, asked: Asked, via: Option<usize>) -> Reply
         requires world { (w : World) × IsWorld self.old w }
-        ensures made { (w : World) → IsWorld self.old w → Makes self.new result (access_step w hart asked.access asked.va.0 asked.width asked.value via) }
+        ensures made { (w : World) → IsWorld self.old w → Makes self.new result (service.access_step w hart asked.access asked.va.0 asked.width asked.value via) }
         ensures buffers { SameBuffers self.old self.new }
     {
         let Some(phase) = self.phase_of(hart) else {
@@ -97,8 +96,8 @@ impl Machine {
         requires width { IsTrue (bytes.is_width asked.width) }
         ensures made { (w : World) (is : IsWorld self.old w) (p : Process) → slice_get w.slots slot ≡ Some (Some p)
             → ((z : walks.Walk) → walk ≡ Some z → z ≡ walk_answer (is.images slot) asked.va.0 asked.access User)
-            → (result ≡ (users.user_access p asked.access asked.va.0 asked.width asked.value).0)
-            × IsWorld self.new (with_process w slot (after_access p asked.access asked.va.0 asked.width asked.value)) }
+            → (result ≡ (service.user_access p (asked_of asked)).reply)
+            × IsWorld self.new (with_process w slot (service.user_access p (asked_of asked)).process) }
         ensures harts { self.new.harts ≡ self.old.harts }
     {
         let frames = &mut self.frames;
@@ -117,9 +116,9 @@ impl Tenant {
         requires ready { (t : Image) × (p : Process) × IsTenant self.old t p × ((z : walks.Walk) → walk ≡ Some z → z ≡ walk_answer t asked.va.0 asked.access User) }
         requires width { IsTrue (bytes.is_width asked.width) }
         ensures reply { (t : Image) (p : Process) → IsTenant self.old t p → ((z : walks.Walk) → walk ≡ Some z → z ≡ walk_answer t asked.va.0 asked.access User) →
-            result ≡ (users.user_access p asked.access asked.va.0 asked.width asked.value).0 }
+            result ≡ (service.user_access p (asked_of asked)).reply }
         ensures after { (t : Image) (p : Process) → IsTenant self.old t p → ((z : walks.Walk) → walk ≡ Some z → z ≡ walk_answer t asked.va.0 asked.access User) →
-            IsTenant self.new t (after_access p asked.access asked.va.0 asked.width asked.value) }
+            IsTenant self.new t (service.user_access p (asked_of asked)).process }
         ensures keeps { Keeps BankRule frames.old (view_of self.old) frames.new (view_of self.new) }
         ensures free { frames.new.free ≡ frames.old.free }
     {
@@ -155,7 +154,7 @@ impl Tenant {
 
 /// What a process has pending after an access that was answered so.
 fn pending(asked: Asked, reply: &Reply) -> Option<Pending>
-    ensures { pending_of result ≡ pending_after asked.access asked.va.0 asked.width reply.now }
+    ensures { pending_of result ≡ pending_after (asked_of asked) reply.now }
 {
     match reply {
         Reply::Fault(_) => Some(Pending {

@@ -3,10 +3,11 @@
 ghost use Rattle.std.specs.Prelude.{◌≡◌, ℕ, IsTrue};
 ghost use Rattle.address_space.specs.Agreement.{Agrees};
 ghost use Rattle.frame_store.specs.Laws.{Fits, Keeps};
-ghost use Rattle.hart_machine.specs.Users as users;
+ghost use Rattle.hart_machine.specs.Accesses.{asked_of};
 ghost use Rattle.hart_machine.specs.Walked.{walk_answer};
 ghost use Rattle.process_model.specs.Bytes.{is_width};
 ghost use Rattle.process_model.specs.Process.{Process};
+ghost use Rattle.process_model.specs.Service as service;
 ghost use Rattle.sv39_entry.specs.declared.access.Mode.TheVariants.{User};
 ghost use Rattle.table_walk.specs.Image.{Image};
 
@@ -36,9 +37,9 @@ pub(crate) fn user_access<F: FrameAccess<Seat = S>, S: FrameSeat>(
     requires ready { (t : Image) × (p : Process) × Agrees (S.view space.old.seat) space.old.root.0 space.old.trapframe.0 space.old.layout t p × (walk ≡ walk_answer t asked.va.0 asked.access User) }
     requires width { IsTrue (is_width asked.width) }
     ensures reply { (t : Image) (p : Process) → Agrees (S.view space.old.seat) space.old.root.0 space.old.trapframe.0 space.old.layout t p → walk ≡ walk_answer t asked.va.0 asked.access User →
-        result ≡ (users.user_access p asked.access asked.va.0 asked.width asked.value).0 }
+        result ≡ (service.user_access p (asked_of asked)).reply }
     ensures after { (t : Image) (p : Process) → Agrees (S.view space.old.seat) space.old.root.0 space.old.trapframe.0 space.old.layout t p → walk ≡ walk_answer t asked.va.0 asked.access User →
-        Agrees (S.view space.new.seat) space.new.root.0 space.new.trapframe.0 space.new.layout t (users.user_access p asked.access asked.va.0 asked.width asked.value).1 }
+        Agrees (S.view space.new.seat) space.new.root.0 space.new.trapframe.0 space.new.layout t (service.user_access p (asked_of asked)).process }
     ensures root { space.new.root ≡ space.old.root }
     ensures trapframe { space.new.trapframe ≡ space.old.trapframe }
     ensures layout { space.new.layout ≡ space.old.layout }

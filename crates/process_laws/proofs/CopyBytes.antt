@@ -12,13 +12,13 @@ use Rattle.process_model.specs.Bytes.{number, numbers_from}
 use Rattle.process_model.specs.PageMap.{get}
 use Rattle.process_model.specs.Files.{File}
 use Rattle.process_model.specs.Regions.{region_at, copy_rule}
-use Rattle.process_model.specs.Process.{Process, Page, regions, without_pending}
+use Rattle.process_model.specs.Process.{Process, Page, regions}
 use Rattle.process_model.specs.Residence.{stored, with_page, region_page}
-use Rattle.process_model.specs.Copies.{Copied, copy_begun, reached_by, reached_in, byte_of_page, byte_of, with_byte_on, with_byte, one_in, next_in, one_out, next_out, copied_in, copied_out}
-use Rattle.process_model.specs.World.{World, process_in, with_process}
+use Rattle.process_model.specs.Around.{Around, Progress}
+use Rattle.process_model.specs.Copies.{Copied, copy_begun, reached_in, byte_of_page, byte_of, with_byte_on, with_byte, one_in, next_in, one_out, next_out, copied_in, copied_out}
 use Rattle.process_laws.specs.Latest.{byte_at, is_among, is_in_their_pages}
 use Rattle.process_laws.proofs.PageBytes.{bytes_on, AllSized, byte_in, byte_from, or_start, among_true, is_among-true, byte_in-stored, stored_sized}
-use Rattle.process_laws.proofs.HeldBytes.{Puts, in_range, set_puts, puts_again, Reaches, stopped, came, reached_reaches}
+use Rattle.process_laws.proofs.HeldBytes.{Reaches, stopped, came, reached_reaches}
 
 -- pages and addresses of a run that is one longer
 
@@ -95,126 +95,111 @@ read_page : (o : Option Page) (a b : ℕ) → byte_from (bytes_on o) (a % 4096) 
 read_page None a b e = cc
 read_page (Some x) a b e = number_one x.bytes (a % 4096) ∙ same_Some _ b e
 
-byte_read : (q : Process) (o : Option Process) (a b : ℕ) → o ≡ Some q → byte_in q.settled a ≡ Some b → byte_of o a ≡ b
-byte_read q o a b e f = ap (λ u. byte_of u a) e ∙ read_page (get q.settled (page_of a)) a b f
+byte_read : (q : Process) (a b : ℕ) → byte_in q.settled a ≡ Some b → byte_of q a ≡ b
+byte_read q a b f = read_page (get q.settled (page_of a)) a b f
 
 -- an address of the process is reached
 
-reaches_in : (w : World) (t : ℕ) (q : Process) (access : Access) (address : ℕ) → process_in w t ≡ Some q → AllSized q.settled → Reaches w t (page_of address) q (reached_in w t access address)
-reaches_in w t q access address here sized = subst (λ o. Reaches w t (page_of address) q (reached_by w t access address o)) (sym here) (reached_reaches w t q access address (copy_rule (regions q) access address) here sized)
+reaches_in : (x : Around) (access : Access) (g : Progress) (address : ℕ) → AllSized (g.process).settled → Reaches x.files (page_of address) g.process (reached_in x access g address)
+reaches_in x access g address sized = reached_reaches x access address g (copy_rule (regions g.process) access address) sized
 
--- how far a copy from the process in slot t came: its addresses so far are settled, and were read
-pub record CameIn (w : World) (t : ℕ) (p : Process) (address at : ℕ) (c : Copied) : Type 0 where
-  pub process : Process
-  pub puts : Puts w t (Some process) c.world
-  pub same_files : c.world.files ≡ w.files
-  pub same_regions : regions process ≡ regions p
-  pub sized : AllSized process.settled
+-- how far a copy from a process came: its addresses so far are settled, and were read
+pub record CameIn (files : List File) (p : Process) (address at : ℕ) (c : Copied) : Type 0 where
+  pub same_regions : regions ((c.progress).process) ≡ regions p
+  pub sized : AllSized ((c.progress).process).settled
   pub next : c.stop ≡ None → at ≡ address + length c.bytes
-  pub told : (a : ℕ) → byte_in process.settled a ≡ cond (is_in_their_pages address (length c.bytes) a) (or_start w.files p a (byte_in p.settled a)) (byte_in p.settled a)
-  pub read : (i : ℕ) → i < length c.bytes → byte_in process.settled (address + i) ≡ Some (byte_at c.bytes i)
+  pub told : (a : ℕ) → byte_in ((c.progress).process).settled a ≡ cond (is_in_their_pages address (length c.bytes) a) (or_start files p a (byte_in p.settled a)) (byte_in p.settled a)
+  pub read : (i : ℕ) → i < length c.bytes → byte_in ((c.progress).process).settled (address + i) ≡ Some (byte_at c.bytes i)
 
-module _ (w : World) (t : ℕ) (p : Process) (address : ℕ) where
+module _ (x : Around) (p : Process) (address : ℕ) where
   -- what is held is kept
-  some_kept : (files : List File) (q : Process) (a b : ℕ) (now : Bool) (x : Option ℕ) → x ≡ Some b → cond now (or_start files q a x) x ≡ Some b
-  some_kept files q a b true x e = ap (or_start files q a) e
-  some_kept files q a b false x e = e
+  some_kept : (files : List File) (q : Process) (a b : ℕ) (now : Bool) (o : Option ℕ) → o ≡ Some b → cond now (or_start files q a o) o ≡ Some b
+  some_kept files q a b true o e = ap (or_start files q a) e
+  some_kept files q a b false o e = e
 
-  one_came_in : (at : ℕ) (c : Copied) (r : Result World Rule) (i : CameIn w t p address at c) → c.stop ≡ None → Reaches c.world t (page_of at) i.process r → CameIn w t p address (at + 1) (one_in c t at r)
-  one_came_in at c (Err r) i e stopped = record { process = i.process; puts = i.puts; same_files = i.same_files; same_regions = i.same_regions; sized = i.sized; next = λ h. cc; told = i.told; read = i.read }
-  one_came_in at c (Ok v) i e (came q f fs g) =
+  one_came_in : (at : ℕ) (c : Copied) (r : Result Progress Rule) (i : CameIn x.files p address at c) → c.stop ≡ None → Reaches x.files (page_of at) ((c.progress).process) r → CameIn x.files p address (at + 1) (one_in c at r)
+  one_came_in at c (Err r) i e stopped = record { same_regions = i.same_regions; sized = i.sized; next = λ h. cc; told = i.told; read = i.read }
+  one_came_in at c (Ok v) i e (came g) =
+      let q = v.process in
+      let held = (c.progress).process in
       let k = length c.bytes in
       let here : at ≡ address + k = i.next e in
-      let more : length (c.bytes ++ byte_of (process_in v t) at ∷ []) ≡ k + 1 = length_push c.bytes (byte_of (process_in v t) at) in
-      let now : (a : ℕ) → byte_in q.settled a ≡ cond (page_of at == page_of a) (or_start w.files p a (byte_in i.process.settled a)) (byte_in i.process.settled a) =
-      λ a. g.told a ∙ ap (λ o. cond (page_of at == page_of a) o (byte_in i.process.settled a)) (same_start w.files c.world.files p i.process a (byte_in i.process.settled a) i.same_files i.same_regions) in
-      let last = some_start w.files p at (byte_in i.process.settled at) in
-      let last_is : byte_in q.settled at ≡ Some last.0 = now at ∙ ap (λ b. cond b (or_start w.files p at (byte_in i.process.settled at)) (byte_in i.process.settled at)) (eq-eqb (page_of at) (page_of at) refl) ∙ last.1 in
+      let more : length (c.bytes ++ byte_of q at ∷ []) ≡ k + 1 = length_push c.bytes (byte_of q at) in
+      let now : (a : ℕ) → byte_in q.settled a ≡ cond (page_of at == page_of a) (or_start x.files p a (byte_in held.settled a)) (byte_in held.settled a) =
+      λ a. g.told a ∙ ap (λ o. cond (page_of at == page_of a) o (byte_in held.settled a)) (same_start x.files x.files p held a (byte_in held.settled a) refl i.same_regions) in
+      let last = some_start x.files p at (byte_in held.settled at) in
+      let last_is : byte_in q.settled at ≡ Some last.0 = now at ∙ ap (λ b. cond b (or_start x.files p at (byte_in held.settled at)) (byte_in held.settled at)) (eq-eqb (page_of at) (page_of at) refl) ∙ last.1 in
       record {
-        process = q;
-        puts = puts_again w c.world v t _ _ i.puts f;
-        same_files = fs ∙ i.same_files;
         same_regions = g.same_regions ∙ i.same_regions;
         sized = g.sized;
         next = λ h. omega arith;
         told = λ a. now a
-            ∙ ap (λ o. cond (page_of at == page_of a) (or_start w.files p a o) o) (i.told a)
-            ∙ settled_again w.files p a (is_in_their_pages address k a) (page_of at == page_of a) (byte_in p.settled a)
-            ∙ ap (λ b. cond b (or_start w.files p a (byte_in p.settled a)) (byte_in p.settled a)) (sym (their_more address k at a here))
-            ∙ ap (λ n. cond (is_in_their_pages address n a) (or_start w.files p a (byte_in p.settled a)) (byte_in p.settled a)) (sym more);
+            ∙ ap (λ o. cond (page_of at == page_of a) (or_start x.files p a o) o) (i.told a)
+            ∙ settled_again x.files p a (is_in_their_pages address k a) (page_of at == page_of a) (byte_in p.settled a)
+            ∙ ap (λ b. cond b (or_start x.files p a (byte_in p.settled a)) (byte_in p.settled a)) (sym (their_more address k at a here))
+            ∙ ap (λ n. cond (is_in_their_pages address n a) (or_start x.files p a (byte_in p.settled a)) (byte_in p.settled a)) (sym more);
         read = λ n l. elim (cases_lt n k) [
-          | inl l ↦ now (address + n) ∙ some_kept w.files p (address + n) (byte_at c.bytes n) _ _ (i.read n l) ∙ ap Some (sym (get_or_append_left c.bytes (byte_of (process_in v t) at ∷ []) 0 n l))
+          | inl l ↦ now (address + n) ∙ some_kept x.files p (address + n) (byte_at c.bytes n) _ _ (i.read n l) ∙ ap Some (sym (get_or_append_left c.bytes (byte_of q at ∷ []) 0 n l))
           | inr g ↦
               let same : n ≡ k = omega arith in
               let there : address + n ≡ at = omega arith in
-              ap (byte_in q.settled) there ∙ last_is ∙ ap Some (sym (byte_read q (process_in v t) at last.0 f.here last_is) ∙ sym (get_or_push c.bytes (byte_of (process_in v t) at) 0 n (sym same)))
+              ap (byte_in q.settled) there ∙ last_is ∙ ap Some (sym (byte_read q at last.0 last_is) ∙ sym (get_or_push c.bytes (byte_of q at) 0 n (sym same)))
         ];
       }
 
-  next_came_in : (at : ℕ) (c : Copied) (o : Option Rule) → c.stop ≡ o → CameIn w t p address at c → CameIn w t p address (at + 1) (next_in t c at o)
-  next_came_in at c (Some r) e i = record { process = i.process; puts = i.puts; same_files = i.same_files; same_regions = i.same_regions; sized = i.sized; next = λ h. absurd (some_none (sym e ∙ h)); told = i.told; read = i.read }
-  next_came_in at c None e i = one_came_in at c _ i e (reaches_in c.world t i.process access.Load at i.puts.here i.sized)
+  next_came_in : (at : ℕ) (c : Copied) (o : Option Rule) → c.stop ≡ o → CameIn x.files p address at c → CameIn x.files p address (at + 1) (next_in x c at o)
+  next_came_in at c (Some r) e i = record { same_regions = i.same_regions; sized = i.sized; next = λ h. absurd (some_none (sym e ∙ h)); told = i.told; read = i.read }
+  next_came_in at c None e i = one_came_in at c _ i e (reaches_in x access.Load c.progress at i.sized)
 
-  all_came_in : (n at : ℕ) (c : Copied) → CameIn w t p address at c → (end : ℕ) × CameIn w t p address end (fold (λ c a. next_in t c a c.stop) c (numbers_from at n))
+  all_came_in : (n at : ℕ) (c : Copied) → CameIn x.files p address at c → (end : ℕ) × CameIn x.files p address end (fold (λ c a. next_in x c a c.stop) c (numbers_from at n))
   all_came_in zero at c i = (at, i)
-  all_came_in (suc n) at c i = all_came_in n (at + 1) (next_in t c at c.stop) (next_came_in at c c.stop refl i)
+  all_came_in (suc n) at c i = all_came_in n (at + 1) (next_in x c at c.stop) (next_came_in at c c.stop refl i)
 
 -- a copy from the process
-pub copy_came_in : (w : World) (t : ℕ) (p : Process) (address n : ℕ) → process_in w t ≡ Some p → AllSized p.settled → (end : ℕ) × CameIn w t p address end (copied_in (with_process w t (without_pending p)) t address n)
+pub copy_came_in : (x : Around) (g : Progress) (p : Process) (address n : ℕ) → regions g.process ≡ regions p → ((a : ℕ) → byte_in (g.process).settled a ≡ byte_in p.settled a) → AllSized (g.process).settled
+    → (end : ℕ) × CameIn x.files p address end (copied_in x g address n)
 unfolding copied_in
-copy_came_in w t p address n here sized = all_came_in w t p address n address (copy_begun (with_process w t (without_pending p)))
+copy_came_in x g p address n same begins sized = all_came_in x p address n address (copy_begun g)
     (record {
-      process = without_pending p;
-      puts = set_puts w _ t _ (in_range w t p here) refl;
-      same_files = refl;
-      same_regions = refl;
+      same_regions = same;
       sized = sized;
       next = λ h. omega arith;
-      told = λ a. refl;
+      told = begins;
       read = λ i l. absurd (omega arith);
     })
 
--- how far a copy to the process in slot t came: its addresses so far are settled, and have the bytes; `rest` are those to come
-pub record CameOut (w : World) (t : ℕ) (p : Process) (address : ℕ) (bytes : List ℕ) (at : ℕ) (rest : List ℕ) (c : Copied) : Type 0 where
-  pub process : Process
-  pub puts : Puts w t (Some process) c.world
-  pub same_files : c.world.files ≡ w.files
-  pub same_regions : regions process ≡ regions p
-  pub sized : AllSized process.settled
+-- how far a copy to a process came: its addresses so far are settled, and have the bytes; `rest` are those to come
+pub record CameOut (files : List File) (p : Process) (address : ℕ) (bytes : List ℕ) (at : ℕ) (rest : List ℕ) (c : Copied) : Type 0 where
+  pub same_regions : regions ((c.progress).process) ≡ regions p
+  pub sized : AllSized ((c.progress).process).settled
   pub next : c.stop ≡ None → (at ≡ address + length c.bytes) × ((i : ℕ) → byte_at rest i ≡ byte_at bytes (length c.bytes + i))
-  pub told : (a : ℕ) → byte_in process.settled a
-      ≡ cond (is_among address (length c.bytes) a) (Some (byte_at bytes (a - address))) (cond (is_in_their_pages address (length c.bytes) a) (or_start w.files p a (byte_in p.settled a)) (byte_in p.settled a))
+  pub told : (a : ℕ) → byte_in ((c.progress).process).settled a
+      ≡ cond (is_among address (length c.bytes) a) (Some (byte_at bytes (a - address))) (cond (is_in_their_pages address (length c.bytes) a) (or_start files p a (byte_in p.settled a)) (byte_in p.settled a))
 
 -- one byte that is put
-pub record PutsByte (t at b : ℕ) (q : Process) (v u : World) : Type 0 where
-  pub process : Process
-  pub puts : Puts v t (Some process) u
-  pub same_files : u.files ≡ v.files
-  pub same_regions : regions process ≡ regions q
-  pub sized : AllSized process.settled
-  pub told : (a : ℕ) → byte_in process.settled a ≡ cond (is_among at 1 a) (Some (byte_at (b ∷ []) (a - at))) (byte_in q.settled a)
+pub record PutsByte (at b : ℕ) (q r : Process) : Type 0 where
+  pub same_regions : regions r ≡ regions q
+  pub sized : AllSized r.settled
+  pub told : (a : ℕ) → byte_in r.settled a ≡ cond (is_among at 1 a) (Some (byte_at (b ∷ []) (a - at))) (byte_in q.settled a)
 
 none_here : (o : Option Page) (i : ℕ) → o ≡ None → byte_from (bytes_on o) i ≡ None
 none_here o i e = ap (λ u. byte_from (bytes_on u) i) e
 
-puts_on : (t at b : ℕ) (q : Process) (v : World) (o : Option Page) (x : ℕ) → process_in v t ≡ Some q → AllSized q.settled → get q.settled (page_of at) ≡ o → byte_in q.settled at ≡ Some x → PutsByte t at b q v (with_byte_on v t q at b o)
-puts_on t at b q v None x here sized e some = absurd (some_none (sym some ∙ none_here (get q.settled (page_of at)) (at % 4096) e))
-puts_on t at b q v (Some page) x here sized e some =
+puts_on : (at b : ℕ) (q : Process) (o : Option Page) (x : ℕ) → AllSized q.settled → get q.settled (page_of at) ≡ o → byte_in q.settled at ≡ Some x → PutsByte at b q (with_byte_on q at b o)
+puts_on at b q None x sized e some = absurd (some_none (sym some ∙ none_here (get q.settled (page_of at)) (at % 4096) e))
+puts_on at b q (Some page) x sized e some =
     let long : length page.bytes ≡ 4096 = sized.size (page_of at) page.bytes (ap bytes_on e) in
     let fits : at % 4096 + 1 ≤ 4096 = omega arith in
     record {
-      process = with_page q (page_of at) (stored page (at % 4096) (b ∷ []));
-      puts = set_puts v _ t _ (in_range v t q here) refl;
-      same_files = refl;
       same_regions = refl;
       sized = stored_sized q.settled (page_of at) page (at % 4096) (b ∷ []) long fits sized;
       told = byte_in-stored q.settled at page (b ∷ []) e long fits;
     }
 
-puts_byte : (t at b : ℕ) (q : Process) (v : World) (x : ℕ) → process_in v t ≡ Some q → AllSized q.settled → byte_in q.settled at ≡ Some x → PutsByte t at b q v (with_byte v t at b (process_in v t))
-puts_byte t at b q v x here sized some = subst (λ o. PutsByte t at b q v (with_byte v t at b o)) (sym here) (puts_on t at b q v (get q.settled (page_of at)) x here sized refl some)
+puts_byte : (at b : ℕ) (q : Process) (x : ℕ) → AllSized q.settled → byte_in q.settled at ≡ Some x → PutsByte at b q (with_byte q at b)
+puts_byte at b q x sized some = puts_on at b q (get q.settled (page_of at)) x sized refl some
 
-module _ (w : World) (t : ℕ) (p : Process) (address : ℕ) (bytes : List ℕ) where
+module _ (w : Around) (p : Process) (address : ℕ) (bytes : List ℕ) where
   -- the byte at an address after one more
   put_next : (k at a b : ℕ) (x : Option ℕ) → at ≡ address + k → b ≡ byte_at bytes k
       → cond (is_among at 1 a) (Some (byte_at (b ∷ []) (a - at))) (cond (is_among address k a) (Some (byte_at bytes (a - address))) x) ≡ cond (is_among address (k + 1) a) (Some (byte_at bytes (a - address))) x
@@ -230,23 +215,22 @@ module _ (w : World) (t : ℕ) (p : Process) (address : ℕ) (bytes : List ℕ) 
         ∙ ap (λ t. cond t (Some (byte_at bytes (a - address))) x) (sym (among_more address k at a here ne))
   ]
 
-  one_came_out : (at b : ℕ) (rest : List ℕ) (c : Copied) (r : Result World Rule) (i : CameOut w t p address bytes at (b ∷ rest) c) → c.stop ≡ None → Reaches c.world t (page_of at) i.process r
-      → CameOut w t p address bytes (at + 1) rest (one_out c t at b r)
-  one_came_out at b rest c (Err r) i e stopped = record { process = i.process; puts = i.puts; same_files = i.same_files; same_regions = i.same_regions; sized = i.sized; next = λ h. absurd (some_none h); told = i.told }
-  one_came_out at b rest c (Ok v) i e (came q f fs g) =
+  one_came_out : (at b : ℕ) (rest : List ℕ) (c : Copied) (r : Result Progress Rule) (i : CameOut w.files p address bytes at (b ∷ rest) c) → c.stop ≡ None → Reaches w.files (page_of at) ((c.progress).process) r
+      → CameOut w.files p address bytes (at + 1) rest (one_out c at b r)
+  one_came_out at b rest c (Err r) i e stopped = record { same_regions = i.same_regions; sized = i.sized; next = λ h. absurd (some_none h); told = i.told }
+  one_came_out at b rest c (Ok v) i e (came g) =
+      let q = v.process in
+      let held = (c.progress).process in
       let k = length c.bytes in
       let here : at ≡ address + k = (i.next e).0 in
       let more : length (c.bytes ++ b ∷ []) ≡ k + 1 = length_push c.bytes b in
       let head : b ≡ byte_at bytes k = (i.next e).1 0 ∙ ap (byte_at bytes) (omega arith) in
-      let now : (a : ℕ) → byte_in q.settled a ≡ cond (page_of at == page_of a) (or_start w.files p a (byte_in i.process.settled a)) (byte_in i.process.settled a) =
-      λ a. g.told a ∙ ap (λ o. cond (page_of at == page_of a) o (byte_in i.process.settled a)) (same_start w.files c.world.files p i.process a (byte_in i.process.settled a) i.same_files i.same_regions) in
-      let last = some_start w.files p at (byte_in i.process.settled at) in
-      let last_is : byte_in q.settled at ≡ Some last.0 = now at ∙ ap (λ b. cond b (or_start w.files p at (byte_in i.process.settled at)) (byte_in i.process.settled at)) (eq-eqb (page_of at) (page_of at) refl) ∙ last.1 in
-      let put : PutsByte t at b q v (with_byte v t at b (process_in v t)) = puts_byte t at b q v last.0 f.here g.sized last_is in
+      let now : (a : ℕ) → byte_in q.settled a ≡ cond (page_of at == page_of a) (or_start w.files p a (byte_in held.settled a)) (byte_in held.settled a) =
+      λ a. g.told a ∙ ap (λ o. cond (page_of at == page_of a) o (byte_in held.settled a)) (same_start w.files w.files p held a (byte_in held.settled a) refl i.same_regions) in
+      let last = some_start w.files p at (byte_in held.settled at) in
+      let last_is : byte_in q.settled at ≡ Some last.0 = now at ∙ ap (λ b. cond b (or_start w.files p at (byte_in held.settled at)) (byte_in held.settled at)) (eq-eqb (page_of at) (page_of at) refl) ∙ last.1 in
+      let put : PutsByte at b q (with_byte q at b) = puts_byte at b q last.0 g.sized last_is in
       record {
-        process = put.process;
-        puts = puts_again w v _ t _ _ (puts_again w c.world v t _ _ i.puts f) put.puts;
-        same_files = put.same_files ∙ fs ∙ i.same_files;
         same_regions = put.same_regions ∙ g.same_regions ∙ i.same_regions;
         sized = put.sized;
         next = λ h. (omega arith, λ n. let place : k + suc n ≡ length (c.bytes ++ b ∷ []) + n = omega arith in (i.next e).1 (suc n) ∙ ap (byte_at bytes) place);
@@ -259,24 +243,22 @@ module _ (w : World) (t : ℕ) (p : Process) (address : ℕ) (bytes : List ℕ) 
             ∙ ap (λ n. cond (is_among address n a) (Some (byte_at bytes (a - address))) (cond (is_in_their_pages address n a) (or_start w.files p a (byte_in p.settled a)) (byte_in p.settled a))) (sym more);
       }
 
-  next_came_out : (at b : ℕ) (rest : List ℕ) (c : Copied) (o : Option Rule) → c.stop ≡ o → CameOut w t p address bytes at (b ∷ rest) c → CameOut w t p address bytes (at + 1) rest (next_out t c (at, b) o)
-  next_came_out at b rest c (Some r) e i = record { process = i.process; puts = i.puts; same_files = i.same_files; same_regions = i.same_regions; sized = i.sized; next = λ h. absurd (some_none (sym e ∙ h)); told = i.told }
-  next_came_out at b rest c None e i = one_came_out at b rest c _ i e (reaches_in c.world t i.process access.Store at i.puts.here i.sized)
+  next_came_out : (at b : ℕ) (rest : List ℕ) (c : Copied) (o : Option Rule) → c.stop ≡ o → CameOut w.files p address bytes at (b ∷ rest) c → CameOut w.files p address bytes (at + 1) rest (next_out w c (at, b) o)
+  next_came_out at b rest c (Some r) e i = record { same_regions = i.same_regions; sized = i.sized; next = λ h. absurd (some_none (sym e ∙ h)); told = i.told }
+  next_came_out at b rest c None e i = one_came_out at b rest c _ i e (reaches_in w access.Store c.progress at i.sized)
 
-  all_came_out : (rest : List ℕ) (at : ℕ) (c : Copied) → CameOut w t p address bytes at rest c → (end : ℕ) × CameOut w t p address bytes end [] (fold (λ c x. next_out t c x c.stop) c (zip (numbers_from at (length rest)) rest))
+  all_came_out : (rest : List ℕ) (at : ℕ) (c : Copied) → CameOut w.files p address bytes at rest c → (end : ℕ) × CameOut w.files p address bytes end [] (fold (λ c x. next_out w c x c.stop) c (zip (numbers_from at (length rest)) rest))
   all_came_out [] at c i = (at, i)
-  all_came_out (b ∷ rest) at c i = all_came_out rest (at + 1) (next_out t c (at, b) c.stop) (next_came_out at b rest c c.stop refl i)
+  all_came_out (b ∷ rest) at c i = all_came_out rest (at + 1) (next_out w c (at, b) c.stop) (next_came_out at b rest c c.stop refl i)
 
 -- a copy to the process
-pub copy_came_out : (w : World) (t : ℕ) (p : Process) (address : ℕ) (bytes : List ℕ) → process_in w t ≡ Some p → AllSized p.settled → (end : ℕ) × CameOut w t p address bytes end [] (copied_out (with_process w t (without_pending p)) t address bytes)
+pub copy_came_out : (x : Around) (g : Progress) (p : Process) (address : ℕ) (bytes : List ℕ) → regions g.process ≡ regions p → ((a : ℕ) → byte_in (g.process).settled a ≡ byte_in p.settled a) → AllSized (g.process).settled
+    → (end : ℕ) × CameOut x.files p address bytes end [] (copied_out x g address bytes)
 unfolding copied_out
-copy_came_out w t p address bytes here sized = all_came_out w t p address bytes bytes address (copy_begun (with_process w t (without_pending p)))
+copy_came_out x g p address bytes same begins sized = all_came_out x p address bytes bytes address (copy_begun g)
     (record {
-      process = without_pending p;
-      puts = set_puts w _ t _ (in_range w t p here) refl;
-      same_files = refl;
-      same_regions = refl;
+      same_regions = same;
       sized = sized;
       next = λ h. (omega arith, λ i. ap (byte_at bytes) (omega arith));
-      told = λ a. sym (ap (λ b. cond b (Some (byte_at bytes (a - address))) (byte_in p.settled a)) (false_from_ne_true (is_among address 0 a) (λ e. let r = among_true address 0 a e in absurd (omega arith))));
+      told = λ a. begins a ∙ sym (ap (λ b. cond b (Some (byte_at bytes (a - address))) (byte_in p.settled a)) (false_from_ne_true (is_among address 0 a) (λ e. let r = among_true address 0 a e in absurd (omega arith))));
     })

@@ -12,15 +12,16 @@ use Rattle.process_model.specs.Files.{File, is_writable}
 use Rattle.process_model.specs.PageMap.{get}
 use Rattle.process_model.specs.Regions.{Region, copy_rule, first_rule, fault_cause, is_aligned}
 use Rattle.process_model.specs.Process.{Process, Page, Pending, regions, without_pending}
-use Rattle.process_model.specs.Residence.{goes_through, settled_anew, unmarked, unmarked_unless, made_resident_from, with_page, access_answer, marked, child_of}
+use Rattle.process_model.specs.Residence.{settled_anew, taken_over, taken_over_unless, made_resident_from, region_on, with_page, access_answer, marked, child_of}
 use Rattle.process_model.specs.Heap.{without_pages, size_refusal, resized, resized_unless, wanted_size, sbrk_result}
 use Rattle.process_model.specs.Mappings.{mapping_place, is_bad_mapping, is_shared, asks_write, most_mappings, map_refusal, mapping_of, with_mapping, Mapped, mapped_unless, mapped, mapping_around, leaves_hole, front_of, back_of, with_instead, Unmapped, unmapped_unless, unmapped_in, unmapped_if, unmapped}
 use Rattle.process_model.specs.Images.{LoadSegment, image_loads}
 use Rattle.process_model.specs.Loading.{image_pages, process_of}
 use Rattle.process_model.specs.Harts.{Hart}
 use Rattle.process_model.specs.World.{World, Outcome, flat, process_in, with_process, booted, common_refusal, unless_refused, on_hart_at, on_hart, with_process_of, with_slot_of, with_its_process, kernel_call, can_call, always}
-use Rattle.process_model.specs.Service.{Asked, access_step, faulted, if_resident, if_settled, unless_denied, user_access, unless_dry, unless_resident, resident_world, reached, ready, ended, served_or_ended, served}
-use Rattle.process_model.specs.Copies.{Copied, copy_begun, reached_by, with_byte_on, with_byte, one_in, next_in, one_out, next_out, copied_in, copied_out}
+use Rattle.process_model.specs.Around.{Around, Progress, unless_dry, unless_resident, resident_at, reached}
+use Rattle.process_model.specs.Service.{Answer, Asked, access_step, around, begun, faulted, if_resident, if_settled, told_if, unless_denied, user_access, ended, served_or_ended, served, with_progress, with_served}
+use Rattle.process_model.specs.Copies.{Copied, copy_begun, with_byte_on, one_in, next_in, one_out, next_out, copied_in, copied_out}
 use Rattle.process_model.specs.Calls.{with_image, started_unless, started_as, started, replaced_unless, replaced, forked_unless, forked, resized_to, mapped_to, unmapped_to}
 use Rattle.process_model.specs.Stale.{with_stale_slots}
 use Rattle.process_model.specs.Steps.{plain_step, step, run}
@@ -51,9 +52,9 @@ pub record IsKept (P : ℕ → Process → Type 0) : Type 0 where
   pub made : (n : ℕ) (image : Image) (ls : List LoadSegment) → image_loads image ≡ Ok ls → P (n + length (image_pages ls)) (process_of n ls)
   -- a granted page is settled
   pub settled : (n : ℕ) (files : List File) (p : Process) (access : Access) (address : ℕ) → copy_rule (regions p) access address ≡ None → get p.settled (page_of address) ≡ None
-      → P n p → P (n + 1) (settled_anew files n p (page_of address))
-  -- a marked page loses its mark
-  pub parted : (n : ℕ) (shared : Bool) (p : Process) (page : ℕ) (x : Page) → get p.settled page ≡ Some x → x.fork_mark ≡ true → P n p → P (n + 1) (with_page p page (unmarked n shared x))
+      → P n p → P (n + 1) (settled_anew files n p access (page_of address))
+  -- a page is taken over for a store
+  pub taken : (n : ℕ) (shared : Bool) (p : Process) (page : ℕ) (x : Page) → get p.settled page ≡ Some x → P n p → P (n + 1) (with_page p page (taken_over n shared (region_on p page) x))
   -- a settled page has other bytes, as many
   pub written : (n : ℕ) (p : Process) (page : ℕ) (x : Page) (bytes : List ℕ) → get p.settled page ≡ Some x → (length x.bytes ≡ 4096 → length bytes ≡ 4096)
       → P n p → P n (with_page p page (record x { bytes = bytes }))
@@ -157,9 +158,14 @@ module _ (P : ℕ → Process → Type 0) where
   pub record Holds (w : World) : Type 0 where
     pub each : EachProcess (P w.counter) w
 
-  data HoldsIfOk : Result World Rule → Type 0 where
-    stopped : {r : Rule} → HoldsIfOk (Err r)
-    went : {w : World} → Holds w → HoldsIfOk (Ok w)
+  -- so has a process in the middle of a call, and the counter did not fall
+  pub record Goes (n : ℕ) (g : Progress) : Type 0 where
+    pub keeps : P g.fresh g.process
+    pub rises : n ≤ g.fresh
+
+  data GoesIfOk (n : ℕ) : Result Progress Rule → Type 0 where
+    stopped : {r : Rule} → GoesIfOk n (Err r)
+    went : {g : Progress} → Goes n g → GoesIfOk n (Ok g)
 
   module _ (k : IsKept P) where
     -- the processes are as they were
@@ -189,16 +195,14 @@ module _ (P : ℕ → Process → Type 0) where
 
     -- a page is made resident
     module _ (n : ℕ) (files : List File) (shared : Bool) (p : Process) (f : P n p) where
-      unmarked_kept : (page : ℕ) (x : Page) (access : Access) → get p.settled page ≡ Some x → P (n + 1) (unmarked_unless n shared p page x (goes_through access x))
-      unmarked_kept page x access.Fetch e = k.later n (n + 1) p (omega arith) f
-      unmarked_kept page x access.Load e = k.later n (n + 1) p (omega arith) f
-      unmarked_kept page x access.Store e =
-          elim x.fork_mark as (λ b. x.fork_mark ≡ b → P (n + 1) (unmarked_unless n shared p page x (not b))) [ true ↦ λ t. k.parted n shared p page x e t f | false ↦ λ _. k.later n (n + 1) p (omega arith) f ] refl
+      taken_kept : (page : ℕ) (x : Page) (b : Bool) → get p.settled page ≡ Some x → P (n + 1) (taken_over_unless n shared p page x b)
+      taken_kept page x true e = k.later n (n + 1) p (omega arith) f
+      taken_kept page x false e = k.taken n shared p page x e f
 
       resident_kept : (access : Access) (address : ℕ) (o : Option Page) → get p.settled (page_of address) ≡ o → copy_rule (regions p) access address ≡ None
           → P (n + 1) (made_resident_from files n shared p access (page_of address) o)
       resident_kept access address None e granted = k.settled n files p access address granted e f
-      resident_kept access address (Some x) e granted = unmarked_kept (page_of address) x access e
+      resident_kept access address (Some x) e granted = taken_kept (page_of address) x _ e
 
     -- changes of regions
     module _ (n : ℕ) (p : Process) (f : P n p) where
@@ -242,67 +246,98 @@ module _ (P : ℕ → Process → Type 0) where
       unfolding unmapped
       munmap_kept files address len u e = unmapped_kept files u (page_of address) (page_of address + pages_for len) (omega arith) _ e
 
-    module _ (w : World) (h : Holds w) where
-      dry_holds : (s : ℕ) (p : Process) (access : Access) (address : ℕ) (shared dry : Bool) → P w.counter p → copy_rule (regions p) access address ≡ None
-          → HoldsIfOk (unless_dry w s p access (page_of address) shared dry)
-      dry_holds s p access address shared true f granted = stopped
-      dry_holds s p access address shared false f granted = went (put_holds w _ s _ refl (omega arith) (resident_kept w.counter w.files shared p f access address _ refl granted) h)
+    -- pages of a process are made resident
+    module _ (a : Around) (n : ℕ) (g : Progress) (h : Goes n g) where
+      dry_goes : (access : Access) (address need : ℕ) (dry : Bool) → copy_rule (regions g.process) access address ≡ None → GoesIfOk n (unless_dry a access (page_of address) g need dry)
+      dry_goes access address need true granted = stopped
+      dry_goes access address need false granted = went (record { keeps = resident_kept g.fresh a.files _ g.process h.keeps access address _ refl granted; rises = let r = h.rises in omega (r, arith) })
 
-      unless_holds : (s : ℕ) (p : Process) (access : Access) (address : ℕ) (shared there : Bool) → P w.counter p → copy_rule (regions p) access address ≡ None
-          → HoldsIfOk (unless_resident w s p access (page_of address) shared there)
-      unless_holds s p access address shared true f granted = went h
-      unless_holds s p access address shared false f granted = dry_holds s p access address shared _ f granted
+      unless_goes : (access : Access) (address : ℕ) (there : Bool) → copy_rule (regions g.process) access address ≡ None → GoesIfOk n (unless_resident a access (page_of address) g there)
+      unless_goes access address true granted = went h
+      unless_goes access address false granted = dry_goes access address _ _ granted
 
-      world_holds : (s : ℕ) (p : Process) (access : Access) (address : ℕ) → P w.counter p → copy_rule (regions p) access address ≡ None → HoldsIfOk (resident_world w s p access (page_of address))
-      unfolding resident_world
-      world_holds s p access address f granted = unless_holds s p access address _ _ f granted
+      at_goes : (access : Access) (address : ℕ) → copy_rule (regions g.process) access address ≡ None → GoesIfOk n (resident_at a access (page_of address) g)
+      unfolding resident_at
+      at_goes access address granted = unless_goes access address _ granted
 
       -- what no rule denies is made resident
-      reached_holds : (s : ℕ) (p : Process) (access : Access) (address : ℕ) (r : Option Rule) → P w.counter p → (r ≡ None → copy_rule (regions p) access address ≡ None)
-          → HoldsIfOk (reached w s p access address r)
-      reached_holds s p access address (Some r) f granted = stopped
-      reached_holds s p access address None f granted = world_holds s p access address f (granted refl)
-
-      by_holds : (s : ℕ) (access : Access) (address : ℕ) (o : Option Process) → process_in w s ≡ o → HoldsIfOk (reached_by w s access address o)
-      by_holds s access address None e = stopped
-      by_holds s access address (Some p) e = reached_holds s p access address _ (h.each s p e) (λ g. g)
+      reached_goes : (access : Access) (address : ℕ) (r : Option Rule) → (r ≡ None → copy_rule (regions g.process) access address ≡ None) → GoesIfOk n (reached a access address g r)
+      reached_goes access address (Some r) granted = stopped
+      reached_goes access address None granted = at_goes access address (granted refl)
 
       -- a byte that a copy puts
-      byte_on_holds : (s : ℕ) (p : Process) (address b : ℕ) (o : Option Page) → P w.counter p → get p.settled (page_of address) ≡ o → Holds (with_byte_on w s p address b o)
-      byte_on_holds s p address b None f e = h
-      byte_on_holds s p address b (Some x) f e =
-          with_holds w s _ (k.written w.counter p (page_of address) x (write_bytes x.bytes (address % 4096) (b ∷ [])) e (length_written x.bytes (b ∷ []) (address % 4096) (omega arith)) f) h
+      byte_on_goes : (address b : ℕ) (o : Option Page) → get (g.process).settled (page_of address) ≡ o → Goes n (record g { process = with_byte_on g.process address b o })
+      byte_on_goes address b None e = record { keeps = h.keeps; rises = h.rises }
+      byte_on_goes address b (Some x) e = record {
+        keeps = k.written g.fresh g.process (page_of address) x (write_bytes x.bytes (address % 4096) (b ∷ [])) e (length_written x.bytes (b ∷ []) (address % 4096) (omega arith)) h.keeps;
+        rises = h.rises;
+      }
 
-      byte_holds : (s address b : ℕ) (o : Option Process) → process_in w s ≡ o → Holds (with_byte w s address b o)
-      byte_holds s address b None e = h
-      byte_holds s address b (Some p) e = byte_on_holds s p address b _ (h.each s p e) refl
+    -- copies
+    module _ (a : Around) (n : ℕ) where
+      one_in_goes : (c : Copied) (address : ℕ) (r : Result Progress Rule) → Goes n c.progress → GoesIfOk n r → Goes n (one_in c address r).progress
+      one_in_goes c address (Err b) h stopped = h
+      one_in_goes c address (Ok g) h (went i) = i
 
-      -- accesses of the user
-      module _ (a : Asked) (s : ℕ) (p : Process) (f : P w.counter p) where
-        faulted_holds : (cause : ℕ) → Holds (faulted w a s p cause).world
-        faulted_holds cause = put_holds w _ s _ refl (omega arith) (k.awaiting w.counter p _ f) h
+      next_in_goes : (c : Copied) (address : ℕ) (o : Option Rule) → Goes n c.progress → Goes n (next_in a c address o).progress
+      next_in_goes c address (Some r) h = h
+      next_in_goes c address None h = one_in_goes c address _ h (reached_goes a n c.progress h access.Load address _ (λ e. e))
 
-        answer_kept : (x : Page) (access : Access) (page offset : ℕ) → get p.settled page ≡ Some x → offset + a.width ≤ 4096
-            → P w.counter (with_page p page (access_answer access x offset a.width a.value).1)
-        answer_kept x access.Fetch page offset e fits = k.written w.counter p page x x.bytes e (λ l. l) f
-        answer_kept x access.Load page offset e fits = k.written w.counter p page x x.bytes e (λ l. l) f
-        answer_kept x access.Store page offset e fits = k.written w.counter p page x (write_bytes x.bytes offset (low_bytes a.value a.width)) e
-            (length_written x.bytes (low_bytes a.value a.width) offset (omega (arith, length_low_bytes a.value a.width, fits))) f
+      one_out_goes : (c : Copied) (address b : ℕ) (r : Result Progress Rule) → Goes n c.progress → GoesIfOk n r → Goes n (one_out c address b r).progress
+      one_out_goes c address b (Err e) h stopped = h
+      one_out_goes c address b (Ok g) h (went i) = byte_on_goes a n g i address b _ refl
 
-        resident_holds : (x : Page) (b : Bool) → get p.settled (page_of a.address) ≡ Some x → a.address % 4096 + a.width ≤ 4096 → Holds (if_resident w a s p x b).world
-        resident_holds x true e fits = with_holds w s _ (k.awaiting w.counter _ None (answer_kept x a.access (page_of a.address) (a.address % 4096) e fits)) h
-        resident_holds x false e fits = faulted_holds (page_fault_cause a.access)
+      next_out_goes : (c : Copied) (x : ℕ × ℕ) (o : Option Rule) → Goes n c.progress → Goes n (next_out a c x o).progress
+      next_out_goes c x (Some r) h = h
+      next_out_goes c x None h = one_out_goes c x.0 x.1 _ h (reached_goes a n c.progress h access.Store x.0 _ (λ e. e))
 
-        settled_holds : (o : Option Page) → get p.settled (page_of a.address) ≡ o → a.address % 4096 + a.width ≤ 4096 → Holds (if_settled w a s p o).world
-        settled_holds None e fits = faulted_holds (page_fault_cause a.access)
-        settled_holds (Some x) e fits = resident_holds x _ e fits
+      -- what each step of a fold keeps, the fold keeps
+      fold_goes : {A : Type 0} (f : Copied → A → Copied) (xs : List A) (c : Copied) → ((d : Copied) (x : A) → Goes n d.progress → Goes n (f d x).progress) → Goes n c.progress → Goes n (fold f c xs).progress
+      fold_goes f [] c keep h = h
+      fold_goes f (x ∷ xs) c keep h = fold_goes f xs (f c x) keep (keep c x h)
 
-        denied_holds : (o : Option Rule) → (o ≡ None → a.address % 4096 + a.width ≤ 4096) → Holds (unless_denied w a s p o).world
-        denied_holds (Some r) fits = faulted_holds (fault_cause a.access r)
-        denied_holds None fits = settled_holds _ refl (fits refl)
+      copied_in_goes : (g : Progress) (address count : ℕ) → Goes n g → Goes n (copied_in a g address count).progress
+      unfolding copied_in
+      copied_in_goes g address count h = fold_goes (λ c at. next_in a c at c.stop) (numbers_from address count) (copy_begun g) (λ c at i. next_in_goes c at _ i) h
 
-        user_holds : is_width a.width ≡ true → Holds (user_access w a s p).world
-        user_holds e = denied_holds _ (λ g. aligned_fits a.address a.width e (granted (regions p) a.access a.address a.width g).0)
+      copied_out_goes : (g : Progress) (address : ℕ) (bytes : List ℕ) → Goes n g → Goes n (copied_out a g address bytes).progress
+      unfolding copied_out
+      copied_out_goes g address bytes h = fold_goes (λ c x. next_out a c x c.stop) (zip (numbers_from address (length bytes)) bytes) (copy_begun g) (λ c x i. next_out_goes c x _ i) h
+
+    -- accesses of the user
+    module _ (n : ℕ) (a : Asked) (p : Process) (f : P n p) where
+      faulted_kept : (cause : ℕ) → P n (faulted p a cause).process
+      faulted_kept cause = k.awaiting n p _ f
+
+      answer_kept : (x : Page) (access : Access) (page offset : ℕ) → get p.settled page ≡ Some x → offset + a.width ≤ 4096
+          → P n (with_page p page (access_answer access x offset a.width a.value).1)
+      answer_kept x access.Fetch page offset e fits = k.written n p page x x.bytes e (λ l. l) f
+      answer_kept x access.Load page offset e fits = k.written n p page x x.bytes e (λ l. l) f
+      answer_kept x access.Store page offset e fits = k.written n p page x (write_bytes x.bytes offset (low_bytes a.value a.width)) e
+          (length_written x.bytes (low_bytes a.value a.width) offset (omega (arith, length_low_bytes a.value a.width, fits))) f
+
+      if_resident_kept : (x : Page) (b : Bool) → get p.settled (page_of a.address) ≡ Some x → a.address % 4096 + a.width ≤ 4096 → P n (if_resident p a x b).process
+      if_resident_kept x true e fits = k.awaiting n _ None (answer_kept x a.access (page_of a.address) (a.address % 4096) e fits)
+      if_resident_kept x false e fits = faulted_kept (page_fault_cause a.access)
+
+      if_settled_kept : (o : Option Page) → get p.settled (page_of a.address) ≡ o → a.address % 4096 + a.width ≤ 4096 → P n (if_settled p a o).process
+      if_settled_kept None e fits = faulted_kept (page_fault_cause a.access)
+      if_settled_kept (Some x) e fits = if_resident_kept x _ e fits
+
+      denied_kept : (o : Option Rule) → (o ≡ None → a.address % 4096 + a.width ≤ 4096) → P n (unless_denied p a o).process
+      denied_kept (Some r) fits = faulted_kept (fault_cause a.access r)
+      denied_kept None fits = if_settled_kept _ refl (fits refl)
+
+      user_kept : is_width a.width ≡ true → P n (user_access p a).process
+      user_kept e = denied_kept _ (λ g. aligned_fits a.address a.width e (granted (regions p) a.access a.address a.width g).0)
+
+    module _ (w : World) (h : Holds w) where
+      told_holds : (number : ℕ) (hart : Hart) (s : ℕ) (x : Answer) (b : Bool) → P w.counter x.process → Holds (told_if w number hart s x b).world
+      told_holds number hart s x true f = put_holds w _ s x.process refl (omega arith) f h
+      told_holds number hart s x false f = with_holds w s x.process f h
+
+      progress_holds : (s : ℕ) (g : Progress) → Goes w.counter g → Holds (with_progress w s g)
+      progress_holds s g i = put_holds w _ s g.process refl i.rises i.keeps h
 
       -- steps on a hart
       unless_refused_holds : (run : Hart → Outcome) (hart : Hart) (r : Option Refusal) → (r ≡ None → Holds (run hart).world) → Holds (unless_refused w run hart r).world
@@ -338,7 +373,7 @@ module _ (P : ℕ → Process → Type 0) where
 
       access_holds : (number : ℕ) (access : Access) (address width value : ℕ) (via : Option ℕ) → Holds (access_step w number access address width value via).world
       access_holds number access address width value via =
-          on_hart_holds number (is_width width) _ _ _ (λ hart e. its_holds hart _ (λ s p f. user_holds (record { hart_number = number; hart = hart; access = access; address = address; width = width; value = value }) s p f e))
+          on_hart_holds number (is_width width) _ _ _ (λ hart e. its_holds hart _ (λ s p f. told_holds number hart s _ _ (user_kept w.counter (record { access = access; address = address; width = width; value = value }) p f e)))
 
       -- processes that begin, and changes of regions
       image_holds : (s : ℕ) (image : Image) (ls : List LoadSegment) → image_loads image ≡ Ok ls → Holds (with_image w s ls)
@@ -393,48 +428,17 @@ module _ (P : ℕ → Process → Type 0) where
       ended_holds : (number : ℕ) (hart : Hart) (s : ℕ) (p : Process) (reply : Reply) → Holds (ended w number hart s p reply).world
       ended_holds number hart s p reply = end_holds w _ s refl refl h
 
-      ready_holds : (s : ℕ) (a : Pending) (o : Option Process) → process_in w s ≡ o → Holds (ready w s a o).world
-      ready_holds s a None e = h
-      ready_holds s a (Some p) e = with_holds w s _ (k.awaiting w.counter p _ (h.each s p e)) h
+      served_or_ended_holds : (number : ℕ) (hart : Hart) (s : ℕ) (p : Process) (a : Pending) (r : Result Progress Rule) → GoesIfOk w.counter r → Holds (served_or_ended w number hart s p a r).world
+      served_or_ended_holds number hart s p a (Err r) stopped = ended_holds number hart s p (Ended r)
+      served_or_ended_holds number hart s p a (Ok g) (went i) = progress_holds s (with_served g a) (record { keeps = k.awaiting g.fresh g.process _ i.keeps; rises = i.rises })
 
-    served_or_ended_holds : (w : World) (number : ℕ) (hart : Hart) (s : ℕ) (p : Process) (a : Pending) (r : Result World Rule) → Holds w → HoldsIfOk r → Holds (served_or_ended w number hart s p a r).world
-    served_or_ended_holds w number hart s p a (Err r) h stopped = ended_holds w h number hart s p (Ended r)
-    served_or_ended_holds w number hart s p a (Ok after) h (went g) = ready_holds after g s a _ refl
+      begun_goes : (p : Process) → P w.counter p → Goes w.counter (begun w p)
+      begun_goes p f = record { keeps = f; rises = omega arith }
 
-    served_holds : (w : World) (number : ℕ) (hart : Hart) (s : ℕ) (p : Process) (o : Option Pending) → P w.counter p → Holds w → Holds (served w number hart s p o).world
-    served_holds w number hart s p None f h = h
-    served_holds w number hart s p (Some a) f h =
-        served_or_ended_holds w number hart s p a _ h (reached_holds w h s p a.access a.address _ f (λ e. (granted (regions p) a.access a.address a.width e).1))
-
-    -- copies
-    one_in_holds : (c : Copied) (s address : ℕ) (r : Result World Rule) → Holds c.world → HoldsIfOk r → Holds (one_in c s address r).world
-    one_in_holds c s address (Err b) h stopped = h
-    one_in_holds c s address (Ok w) h (went g) = g
-
-    next_in_holds : (s : ℕ) (c : Copied) (address : ℕ) (o : Option Rule) → Holds c.world → Holds (next_in s c address o).world
-    next_in_holds s c address (Some r) h = h
-    next_in_holds s c address None h = one_in_holds c s address _ h (by_holds c.world h s access.Load address _ refl)
-
-    one_out_holds : (c : Copied) (s address b : ℕ) (r : Result World Rule) → Holds c.world → HoldsIfOk r → Holds (one_out c s address b r).world
-    one_out_holds c s address b (Err e) h stopped = h
-    one_out_holds c s address b (Ok w) h (went g) = byte_holds w g s address b _ refl
-
-    next_out_holds : (s : ℕ) (c : Copied) (x : ℕ × ℕ) (o : Option Rule) → Holds c.world → Holds (next_out s c x o).world
-    next_out_holds s c x (Some r) h = h
-    next_out_holds s c x None h = one_out_holds c s x.0 x.1 _ h (by_holds c.world h s access.Store x.0 _ refl)
-
-    -- what each step of a fold keeps, the fold keeps
-    fold_holds : {A : Type 0} (f : Copied → A → Copied) (xs : List A) (c : Copied) → ((d : Copied) (x : A) → Holds d.world → Holds (f d x).world) → Holds c.world → Holds (fold f c xs).world
-    fold_holds f [] c keep h = h
-    fold_holds f (x ∷ xs) c keep h = fold_holds f xs (f c x) keep (keep c x h)
-
-    copied_in_holds : (w : World) (s address n : ℕ) → Holds w → Holds (copied_in w s address n).world
-    unfolding copied_in
-    copied_in_holds w s address n h = fold_holds (λ c a. next_in s c a c.stop) (numbers_from address n) (copy_begun w) (λ c a g. next_in_holds s c a _ g) h
-
-    copied_out_holds : (w : World) (s address : ℕ) (bytes : List ℕ) → Holds w → Holds (copied_out w s address bytes).world
-    unfolding copied_out
-    copied_out_holds w s address bytes h = fold_holds (λ c x. next_out s c x c.stop) (zip (numbers_from address (length bytes)) bytes) (copy_begun w) (λ c x g. next_out_holds s c x _ g) h
+      served_holds : (number : ℕ) (hart : Hart) (s : ℕ) (p : Process) (o : Option Pending) → P w.counter p → Holds (served w number hart s p o).world
+      served_holds number hart s p None f = h
+      served_holds number hart s p (Some a) f =
+          served_or_ended_holds number hart s p a _ (reached_goes (around w s) w.counter (begun w p) (begun_goes p f) a.access a.address _ (λ e. (granted (regions p) a.access a.address a.width e).1))
 
     -- what the step itself changes
     plain_holds : (w : World) → Holds w → (s : Step) → Holds (plain_step w s).world
@@ -448,14 +452,14 @@ module _ (P : ℕ → Process → Type 0) where
     plain_holds w h (load_step n address width via) = access_holds w h n access.Load address width 0 via
     plain_holds w h (Store n address width value via) = access_holds w h n access.Store address width value via
     plain_holds w h (TrampolineFetch n offset via) = on_hart_holds w h n _ _ _ _ (λ hart e. h)
-    plain_holds w h (Serve n) = on_hart_holds w h n _ _ _ _ (λ hart e. its_holds w h hart _ (λ s p f. served_holds w n hart s p p.pending f h))
+    plain_holds w h (Serve n) = on_hart_holds w h n _ _ _ _ (λ hart e. its_holds w h hart _ (λ s p f. served_holds w h n hart s p p.pending f))
     plain_holds w h (Fork n) = kernel_holds w h n _ _ (λ hart s p f. forked_holds w h s p f _)
     plain_holds w h (Exec n image) = kernel_holds w h n _ _ (λ hart s p f. executed_holds w h s p image _ refl)
     plain_holds w h (Sbrk n delta) = kernel_holds w h n _ _ (λ hart s p f. resized_holds w h s p f delta _ refl)
     plain_holds w h (Mmap n len protection flags file) = kernel_holds w h n _ _ (λ hart s p f. mapped_holds w h s p f len protection flags file _ refl)
     plain_holds w h (Munmap n address len) = kernel_holds w h n _ _ (λ hart s p f. unmapped_holds w h s p f address len _ refl)
-    plain_holds w h (CopyIn n address count) = kernel_holds w h n _ _ (λ hart s p f. copied_in_holds _ s address count (settles_holds w h s p f))
-    plain_holds w h (CopyOut n address bytes) = kernel_holds w h n _ _ (λ hart s p f. copied_out_holds _ s address bytes.now (settles_holds w h s p f))
+    plain_holds w h (CopyIn n address count) = kernel_holds w h n _ _ (λ hart s p f. progress_holds w h s _ (copied_in_goes (around w s) w.counter (begun w (without_pending p)) address count (begun_goes w h (without_pending p) (k.awaiting w.counter p None f))))
+    plain_holds w h (CopyOut n address bytes) = kernel_holds w h n _ _ (λ hart s p f. progress_holds w h s _ (copied_out_goes (around w s) w.counter (begun w (without_pending p)) address bytes.now (begun_goes w h (without_pending p) (k.awaiting w.counter p None f))))
     plain_holds w h (Exit n status) = kernel_holds w h n _ _ (λ hart s p f. ended_holds w h n hart s p (Exited status))
 
     marks_hold : (policy : Policy) (w : World) (o : Outcome) → Holds o.world → Holds (with_stale_slots policy w o).world

@@ -7,7 +7,7 @@ use Rattle.process_model.specs.Residence.{marked, child_of}
 use Rattle.process_model.specs.Frames.{live, copies_of, own_frames, fork_need}
 use Rattle.process_model.specs.World.{World, process_in, free, free_slot, with_process}
 use Rattle.process_model.specs.Service.{is_dry}
-use Rattle.process_laws.proofs.SameCopies.{copies_of_marked}
+use Rattle.process_laws.proofs.SameCopies.{copies_of_child, copies_of_marked}
 use Rattle.process_laws.proofs.SetSizes.{Within, among_front, among_back, among_parts, count_same}
 use Rattle.process_laws.proofs.Needed.{tables_of_numbers}
 use Rattle.process_laws.proofs.SlotSums.{full_slot, empty_slot, set_same, sum_set, all_copies, set_has, count_set, count_slots}
@@ -33,7 +33,7 @@ module _ (slots : List (Option Process)) (s child : ℕ) (p : Process) (full : s
 
   -- the child's copy numbers are the parent's
   child_adds_none : Within (copies_of (child_of p) ++ all_copies (slice_set slots s (Some (marked p)))) (all_copies (slice_set slots s (Some (marked p))))
-  child_adds_none q i = elim (among_parts q (copies_of (marked p)) (all_copies (slice_set slots s (Some (marked p)))) i) [
+  child_adds_none q i = elim (among_parts q (copies_of (marked p)) (all_copies (slice_set slots s (Some (marked p)))) (rw (copies_of_child p ∙ sym (copies_of_marked p)) at i)) [
     | inl j ↦ set_has slots s (Some p) (Some (marked p)) full q (among_front q (copies_of (marked p)) (all_copies (slice_set slots s None)) j)
     | inr j ↦ j
   ]

@@ -1,8 +1,8 @@
 -- Copy numbers are given once: a property of a process that each kind of change keeps.
-use Rattle.std.proofs.Common.{◌≡◌, ℕ, Bool, true, false, ◌+◌, ◌<◌, ◌≤◌, inl, inr, refl, sym, ap, subst, ◌∙◌, arith, List, [], ◌∷◌, Some, length}
-use Rattle.process_model.specs.PageMap.{PageMap, get, insert, only, from_list}
+use Rattle.std.proofs.Common.{◌≡◌, ℕ, Bool, true, false, cond, ◌+◌, ◌<◌, ◌≤◌, inl, inr, refl, sym, ap, subst, ◌∙◌, arith, List, [], ◌∷◌, Some, length}
+use Rattle.process_model.specs.PageMap.{PageMap, get, insert, only, from_list, with_values}
 use Rattle.process_model.specs.Process.{Process, Page}
-use Rattle.process_model.specs.Residence.{unmarked, marked, marked_page}
+use Rattle.process_model.specs.Residence.{child_page, marked_page, parts_from}
 use Rattle.process_model.specs.Loading.{process_of, numbered, image_pages}
 use Rattle.process_model.specs.Images.{LoadSegment}
 use Rattle.process_laws.proofs.EveryChange.{IsKept}
@@ -52,13 +52,13 @@ only_fresh n p m f = record {
   once = λ a b x y e g same. f.once a b x y (found_only p m a x e) (found_only p m b y g) same;
 }
 
-marked_fresh : (n : ℕ) (p : Process) → IsFresh n p.settled → IsFresh n (marked p).settled
-marked_fresh n p f = record {
-  below = λ page x e. let y = found_each (marked_page p) p.settled page x e in subst (λ (z : Page). z.copy < n) y.2 (f.below page y.0 y.1);
-  once = λ a b x y e g same.
-      let v = found_each (marked_page p) p.settled a x e in
-      let w = found_each (marked_page p) p.settled b y g in
-      f.once a b v.0 w.0 v.1 w.1 (ap (λ (z : Page). z.copy) v.2 ∙ same ∙ sym (ap (λ (z : Page). z.copy) w.2));
+each_fresh : (n : ℕ) (f : ℕ → Page → Page) → ((k : ℕ) (x : Page) → (f k x).copy ≡ x.copy) → (m : PageMap Page) → IsFresh n m → IsFresh n (with_values f m)
+each_fresh n f same m fresh = record {
+  below = λ page x e. let y = found_each f m page x e in subst (λ (z : Page). z.copy < n) y.2 (subst (λ c. c < n) (sym (same page y.0)) (fresh.below page y.0 y.1));
+  once = λ a b x y e g copy.
+      let v = found_each f m a x e in
+      let w = found_each f m b y g in
+      fresh.once a b v.0 w.0 v.1 w.1 (sym (same a v.0) ∙ ap (λ (z : Page). z.copy) v.2 ∙ copy ∙ sym (ap (λ (z : Page). z.copy) w.2) ∙ same b w.0);
 }
 
 -- numbers in a row
@@ -70,7 +70,7 @@ record IsRow (first n : ℕ) (m : PageMap Page) : Type 0 where
 row_of : (first n : ℕ) (es : List (ℕ × List ℕ)) → n ≡ first + length es → IsRow first n (from_list (numbered first es))
 row_of first n [] e = record { fresh = record { below = λ page x e. cc; once = λ a b x y e. cc }; above = λ page x e. cc }
 row_of first n (e ∷ es) is =
-    let v : Page = record { bytes = e.1; copy = first; fork_mark = false } in
+    let v : Page = record { bytes = e.1; copy = first; fork_mark = false; stored_mark = false } in
     let rest = row_of (first + 1) n es (omega arith) in
     let m = from_list (numbered (first + 1) es) in
     record {
@@ -87,21 +87,22 @@ made_fresh n ls = (row_of n (n + length (image_pages ls)) (image_pages ls) refl)
 
 -- a page is made resident
 
-unmarked_fresh : (n : ℕ) (shared : Bool) (p : Process) (page : ℕ) (x : Page) → get p.settled page ≡ Some x → IsFresh n p.settled → IsFresh (n + 1) (insert p.settled page (unmarked n shared x))
-unmarked_fresh n true p page x e f = insert_new n p.settled page _ refl f
-unmarked_fresh n false p page x e f = rises n (n + 1) _ (omega arith) (insert_same n p.settled page x _ e refl f)
+-- with a number of its own, or the one that it had
+taken_fresh : (n : ℕ) (parts : Bool) (p : Process) (page : ℕ) (x y : Page) → y.copy ≡ cond parts n x.copy → get p.settled page ≡ Some x → IsFresh n p.settled → IsFresh (n + 1) (insert p.settled page y)
+taken_fresh n true p page x y is e f = insert_new n p.settled page y is f
+taken_fresh n false p page x y is e f = rises n (n + 1) _ (omega arith) (insert_same n p.settled page x y e is f)
 
 pub fresh_is_kept : IsKept (λ n p. IsFresh n p.settled)
 fresh_is_kept = record {
   later = λ n m p le f. rises n m p.settled le f;
   made = λ n image ls e. made_fresh n ls;
   settled = λ n files p access address granted none f. insert_new n p.settled _ _ refl f;
-  parted = λ n shared p page x e marked f. unmarked_fresh n shared p page x e f;
+  taken = λ n shared p page x e f. taken_fresh n (parts_from shared x) p page x _ refl e f;
   written = λ n p page x bytes e long f. insert_same n p.settled page x _ e refl f;
   awaiting = λ n p a f. f;
   sized = λ n p wanted none f. only_fresh n _ p.settled f;
   mapping = λ n files p len protection flags file first none place f. f;
   unmapping = λ n p m first end le around one f. only_fresh n _ p.settled f;
-  parent = λ n p f. marked_fresh n p f;
-  child = λ n p f. marked_fresh n p f;
+  parent = λ n p f. each_fresh n (marked_page p) (λ k x. refl) p.settled f;
+  child = λ n p f. each_fresh n (child_page p) (λ k x. refl) p.settled f;
 }

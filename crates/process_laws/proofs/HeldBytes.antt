@@ -8,8 +8,10 @@ use Rattle.sv39_entry.specs.declared.access.Access.{Access}
 use Rattle.sv39_entry.specs.declared.rule.Rule.{Rule}
 use Rattle.process_model.specs.PageMap.{get}
 use Rattle.process_model.specs.Process.{Process, Page}
-use Rattle.process_model.specs.Residence.{is_resident_page, is_resident, made_resident}
-use Rattle.process_model.specs.Service.{unless_dry, unless_resident, resident_world, reached}
+use Rattle.process_model.specs.Regions.{Region}
+use Rattle.process_model.specs.Files.{File}
+use Rattle.process_model.specs.Residence.{is_resident_page, is_resident, region_on}
+use Rattle.process_model.specs.Around.{Around, Progress, unless_dry, unless_resident, resident_at, reached}
 use Rattle.process_model.specs.World.{World, flat, process_in, has_slot, lowest_free}
 use Rattle.process_laws.specs.Latest.{slot_on}
 use Rattle.process_laws.proofs.PageBytes.{contents, AllSized, byte_in, SettlesPage, stays_settled, resident_settles}
@@ -119,24 +121,24 @@ told_same w v t o f told s a = elim (cases_eq t s) [
 ]
 
 -- an address that is reached has its page settled, and nothing else changes
-pub data Reaches (w : World) (t page : ℕ) (p : Process) : Result World Rule → Type 0 where
-  stopped : {r : Rule} → Reaches w t page p (Err r)
-  came : {v : World} (q : Process) → Puts w t (Some q) v → v.files ≡ w.files → SettlesPage w.files page p q → Reaches w t page p (Ok v)
+pub data Reaches (files : List File) (page : ℕ) (p : Process) : Result Progress Rule → Type 0 where
+  stopped : {r : Rule} → Reaches files page p (Err r)
+  came : {g : Progress} → SettlesPage files page p g.process → Reaches files page p (Ok g)
 
-there_page : (access : Access) (o : Option Page) → is_resident_page access o ≡ true → (x : Page) × (o ≡ Some x)
-there_page access None e = absurd (false≢true e)
-there_page access (Some x) e = (x, refl)
+there_page : (access : Access) (r : Option Region) (o : Option Page) → is_resident_page access r o ≡ true → (x : Page) × (o ≡ Some x)
+there_page access r None e = absurd (false≢true e)
+there_page access r (Some x) e = (x, refl)
 
-module _ (w : World) (t : ℕ) (p : Process) (here : process_in w t ≡ Some p) (sized : AllSized p.settled) (access : Access) (page : ℕ) (shared : Bool) where
-  dry_reaches : (b : Bool) → Reaches w t page p (unless_dry w t p access page shared b)
-  dry_reaches true = stopped
-  dry_reaches false = came (made_resident w.files w.counter shared p access page) (set_puts w _ t _ (in_range w t p here) refl) refl (resident_settles w.files w.counter shared p access page sized)
+module _ (a : Around) (g : Progress) (sized : AllSized (g.process).settled) (access : Access) (page : ℕ) where
+  dry_reaches : (need : ℕ) (b : Bool) → Reaches a.files page g.process (unless_dry a access page g need b)
+  dry_reaches need true = stopped
+  dry_reaches need false = came (resident_settles a.files g.fresh _ g.process access page sized)
 
-  resident_reaches : (b : Bool) → is_resident p access page ≡ b → Reaches w t page p (unless_resident w t p access page shared b)
-  resident_reaches true e = let x = there_page access (get p.settled page) e in came p (record { here = here; others = λ s ne. refl }) refl (stays_settled w.files p page x.0 x.1 sized)
-  resident_reaches false e = dry_reaches _
+  resident_reaches : (b : Bool) → is_resident g.process access page ≡ b → Reaches a.files page g.process (unless_resident a access page g b)
+  resident_reaches true e = let x = there_page access (region_on g.process page) (get (g.process).settled page) e in came (stays_settled a.files g.process page x.0 x.1 sized)
+  resident_reaches false e = dry_reaches _ _
 
-pub reached_reaches : (w : World) (t : ℕ) (p : Process) (access : Access) (address : ℕ) (o : Option Rule) → process_in w t ≡ Some p → AllSized p.settled → Reaches w t (page_of address) p (reached w t p access address o)
-unfolding resident_world
-reached_reaches w t p access address (Some r) here sized = stopped
-reached_reaches w t p access address None here sized = resident_reaches w t p here sized access (page_of address) _ (is_resident p access (page_of address)) refl
+pub reached_reaches : (a : Around) (access : Access) (address : ℕ) (g : Progress) (o : Option Rule) → AllSized (g.process).settled → Reaches a.files (page_of address) g.process (reached a access address g o)
+unfolding resident_at
+reached_reaches a access address g (Some r) sized = stopped
+reached_reaches a access address g None sized = resident_reaches a g sized access (page_of address) (is_resident g.process access (page_of address)) refl

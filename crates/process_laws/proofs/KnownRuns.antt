@@ -17,6 +17,7 @@ use Rattle.process_model.specs.Stale.{with_stale_slots}
 use Rattle.process_model.specs.Steps
 use Rattle.process_model.specs.Steps.{run, plain_step}
 use Rattle.process_model.specs.World.{World, Outcome, answers, booted, flat, process_in, with_process}
+use Rattle.process_model.specs.Service.{around, begun, with_progress}
 use Rattle.process_model.specs.declared.config.Config.{Config}
 use Rattle.process_model.specs.declared.config.Policy.{Policy}
 use Rattle.process_model.specs.declared.config.Policy.TheVariants.{Full, Asid}
@@ -26,7 +27,7 @@ use Rattle.process_model.specs.declared.step.Step.{Step}
 use Rattle.process_model.specs.declared.step.Step.TheVariants as step
 use Rattle.process_laws.specs.Latest.{Moment, moments_from, latest, Knowledge, known_after, slot_on, byte_at, bytes_in, IsLatest}
 use Rattle.process_laws.proofs.PageBytes.{bytes_on, contents, byte_from}
-use Rattle.process_laws.proofs.HeldBytes.{none_some, byte_held, held, Sized}
+use Rattle.process_laws.proofs.HeldBytes.{none_some, byte_held, held, in_range, Puts, set_puts, Sized}
 use Rattle.process_laws.proofs.OnHarts.{kernel_good, access_good}
 use Rattle.process_laws.proofs.CopyBytes.{CameIn, copy_came_in}
 use Rattle.process_laws.proofs.KnownSteps.{Known, step_known}
@@ -157,20 +158,27 @@ marks_bring : (policy : Policy) (w : World) (h s address : ℕ) (o : Outcome) �
 marks_bring Full w h s address o f = f
 marks_bring Asid w h s address o f = record { brings = f.brings }
 
-came_brings : (w : World) (h s t address end : ℕ) (p : Process) (c : Copied) (o : Option Rule) → slot_on w h ≡ Some t → CameIn w t p address end c → Brings w h s address (answers c.world (in_reply c.bytes o))
-came_brings w h s t address end p c o on i = record { brings = at o } where
-  there : slot_on w h ≡ Some s → (n : ℕ) → n < length c.bytes → held c.world s (address + n) ≡ Some (byte_at c.bytes n)
-  there e n l = ap (λ m. held c.world m (address + n)) (same_Some s t (sym e ∙ on)) ∙ ap (λ q. byte_held q (address + n)) i.puts.here ∙ i.read n l
+came_brings : (w : World) (h s t address end : ℕ) (p : Process) (c : Copied) (o : Option Rule) → process_in w t ≡ Some p → slot_on w h ≡ Some t → CameIn w.files p address end c
+    → Brings w h s address (answers (with_progress w t c.progress) (in_reply c.bytes o))
+came_brings w h s t address end p c o here on i = record { brings = at o } where
+  after : World
+  after = with_progress w t c.progress
 
-  at : (o : Option Rule) → slot_on w h ≡ Some s → (n : ℕ) → n < length (bytes_in (in_reply c.bytes o)) → held c.world s (address + n) ≡ Some (byte_at (bytes_in (in_reply c.bytes o)) n)
+  put : Puts w t (Some ((c.progress).process)) after
+  put = set_puts w after t _ (in_range w t p here) refl
+
+  there : slot_on w h ≡ Some s → (n : ℕ) → n < length c.bytes → held after s (address + n) ≡ Some (byte_at c.bytes n)
+  there e n l = ap (λ m. held after m (address + n)) (same_Some s t (sym e ∙ on)) ∙ ap (λ q. byte_held q (address + n)) put.here ∙ i.read n l
+
+  at : (o : Option Rule) → slot_on w h ≡ Some s → (n : ℕ) → n < length (bytes_in (in_reply c.bytes o)) → held after s (address + n) ≡ Some (byte_at (bytes_in (in_reply c.bytes o)) n)
   at None = there
   at (Some r) = there
 
-copy_brings : (w : World) (h s t address count : ℕ) (p : Process) → Sized w → process_in w t ≡ Some p → slot_on w h ≡ Some t → Brings w h s address (told_in (copied_in (with_process w t (without_pending p)) t address count))
+copy_brings : (w : World) (h s t address count : ℕ) (p : Process) → Sized w → process_in w t ≡ Some p → slot_on w h ≡ Some t → Brings w h s address (told_in w t (copied_in (around w t) (begun w (without_pending p)) address count))
 copy_brings w h s t address count p k here on =
-    let i = copy_came_in w t p address count here (k.pages t p here) in
-    let c = copied_in (with_process w t (without_pending p)) t address count in
-    came_brings w h s t address i.0 p c c.stop on i.1
+    let i = copy_came_in (around w t) (begun w (without_pending p)) p address count refl (λ a. refl) (k.pages t p here) in
+    let c = copied_in (around w t) (begun w (without_pending p)) address count in
+    came_brings w h s t address i.0 p c c.stop here on i.1
 
 plain_brings : (w : World) (h s address count : ℕ) → Sized w → Brings w h s address (plain_step w (step.CopyIn h address count))
 plain_brings w h s address count k = kernel_good w (Brings w h s address) (λ r. record { brings = λ e i l. absurd (omega arith) }) h _ _ (λ hart t p on here. copy_brings w h s t address count p k here on)

@@ -17,7 +17,8 @@ use Rattle.process_model.specs.Images.{LoadSegment, image_loads}
 use Rattle.process_model.specs.Loading.{process_of}
 use Rattle.process_model.specs.Harts.{Hart}
 use Rattle.process_model.specs.World.{World, Outcome, answers, refuses, process_in, with_process, with_hart, always, lowest_free, has_slot}
-use Rattle.process_model.specs.Service.{Asked, faulted, answered, ended, ready, served_or_ended, served}
+use Rattle.process_model.specs.Around.{Progress}
+use Rattle.process_model.specs.Service.{Asked, around, begun, faulted, answered, ended, served_or_ended, served, told, with_progress, with_served}
 use Rattle.process_model.specs.Calls.{with_image, started_unless, started_as, started, replaced_unless, replaced, forked_unless, forked, resized_to, mapped_to, unmapped_to, told_in, told_out}
 use Rattle.process_model.specs.Steps
 use Rattle.process_model.specs.Steps.{plain_step}
@@ -33,7 +34,7 @@ use Rattle.process_model.specs.declared.step.Reply.TheVariants as reply
 use Rattle.process_model.specs.declared.step.Step.{Step}
 use Rattle.process_model.specs.declared.step.Step.TheVariants as step
 use Rattle.process_laws.specs.Latest.{slot_on, known_after, image_byte, or_initial, initial_byte, is_in_served, is_in_pending, is_released, is_unmapped, of_slot, byte_at, is_among, is_in_their_pages, put_by}
-use Rattle.process_laws.proofs.PageBytes.{bytes_on, contents, AllSized, byte_in, byte_from, same_sized, put_same, contents-marked, or_start, SettlesPage, byte_in-stored, stored_sized, byte_in-without, without_sized, image_sized, byte_in-image}
+use Rattle.process_laws.proofs.PageBytes.{bytes_on, contents, AllSized, byte_in, byte_from, same_sized, put_same, contents-marked, contents-child, or_start, SettlesPage, byte_in-stored, stored_sized, byte_in-without, without_sized, image_sized, byte_in-image}
 use Rattle.process_laws.proofs.OnHarts.{asks, on_hart_good, its_good, kernel_good, access_good}
 use Rattle.process_laws.proofs.CopyBytes.{CameIn, CameOut, copy_came_in, copy_came_out}
 use Rattle.process_laws.proofs.HeldBytes.{none_some, byte_held, held, Sized, Puts, in_range, free_there, set_puts, puts_again, held_put, sized_process, sized_gone, told_put, told_where, told_same, Reaches, stopped, came, reached_reaches}
@@ -79,16 +80,16 @@ module _ (w : World) (k : Sized w) (t : ℕ) (p : Process) (here : process_in w 
 
   -- accesses
 
-  faulted_known : (st : Step) (x : Asked) (cause : ℕ) → ((s a : ℕ) → held w s a ≡ known_after w st (reply.Fault cause) (held w) s a) → Known w st (faulted w x t p cause)
-  faulted_known st x cause silent = same_known st _ _ _ refl (λ n. refl) silent
+  faulted_known : (st : Step) (h : ℕ) (hart : Hart) (x : Asked) (cause : ℕ) → ((s a : ℕ) → held w s a ≡ known_after w st (reply.Fault cause) (held w) s a) → Known w st (told w h hart t (faulted p x cause))
+  faulted_known st h hart x cause silent = same_known st _ _ _ refl (λ n. refl) silent
 
   -- a page that only was read
-  read_known : (st : Step) (x : Asked) (page : Page) (v : ℕ) → get p.settled (page_of x.address) ≡ Some page → ((s a : ℕ) → held w s a ≡ known_after w st (reply.Value v) (held w) s a) → Known w st (answered w x t p (reply.Value v, page))
-  read_known st x page v e silent = same_known st _ _ _ refl (put_same p.settled (page_of x.address) page page e refl) silent
+  read_known : (st : Step) (h : ℕ) (hart : Hart) (x : Asked) (page : Page) (v : ℕ) → get p.settled (page_of x.address) ≡ Some page → ((s a : ℕ) → held w s a ≡ known_after w st (reply.Value v) (held w) s a) → Known w st (told w h hart t (answered p x (reply.Value v, page)))
+  read_known st h hart x page v e silent = same_known st _ _ _ refl (put_same p.settled (page_of x.address) page page e refl) silent
 
   -- bytes that were stored
   stored_known : (h : ℕ) (hart : Hart) (address width value : ℕ) (via : Option ℕ) (page : Page) → slot_on w h ≡ Some t → get p.settled (page_of address) ≡ Some page → address % 4096 + width ≤ 4096
-      → Known w (step.Store h address width value via) (answered w (asks h hart access.Store address width value) t p (access_answer access.Store page (address % 4096) width value))
+      → Known w (step.Store h address width value via) (told w h hart t (answered p (asks access.Store address width value) (access_answer access.Store page (address % 4096) width value)))
   stored_known h hart address width value via page on e fits =
       let vs = low_bytes value width in
       let long : length vs ≡ width = length-low_bytes value width in
@@ -123,24 +124,19 @@ module _ (w : World) (k : Sized w) (t : ℕ) (p : Process) (here : process_in w 
   in_pending : (x : Pending) (a : ℕ) → p.pending ≡ Some x → is_in_served (process_in w t) a ≡ (page_of x.address == page_of a)
   in_pending x a e = ap (λ o. is_in_served o a) here ∙ ap (λ o. is_in_pending o a) e
 
-  ready_known : (h : ℕ) (v : World) (x : Pending) (q : Process) (o : Option Process) → slot_on w h ≡ Some t → p.pending ≡ Some x → Puts w t (Some q) v → SettlesPage w.files (page_of x.address) p q → process_in v t ≡ o → Known w (step.Serve h) (ready v t x o)
-  ready_known h v x q None on e f g is = absurd (none_some (sym is ∙ f.here))
-  ready_known h v x q (Some r) on e f g is =
-      let same : r ≡ q = same_Some r q (sym is ∙ f.here) in
-      let after : Puts w t (Some (record r { pending = Some (record x { served = true }) })) (with_process v t (record r { pending = Some (record x { served = true }) })) = puts_again w v _ t (Some q) _ f (set_puts v _ t _ (in_range v t r is) refl) in
-      record {
-        sized = sized_process w _ t _ after (subst (λ (u : Process). AllSized u.settled) (sym same) g.sized) k;
-        told = told_where w _ h t _ (λ s a. is_in_served (process_in w s) a) (λ s a. or_initial w s a (held w s a)) on after
-            (λ a. ap (λ (u : Process). byte_in u.settled a) same ∙ settled_held q (page_of x.address) a g ∙ ap (λ b. cond b (or_initial w t a (held w t a)) (held w t a)) (sym (in_pending x a e)));
-      }
-
-  served_known : (h : ℕ) (hart : Hart) (x : Pending) (r : Result World Rule) → slot_on w h ≡ Some t → p.pending ≡ Some x → Reaches w t (page_of x.address) p r → Known w (step.Serve h) (served_or_ended w h hart t p x r)
+  served_known : (h : ℕ) (hart : Hart) (x : Pending) (r : Result Progress Rule) → slot_on w h ≡ Some t → p.pending ≡ Some x → Reaches w.files (page_of x.address) p r → Known w (step.Serve h) (served_or_ended w h hart t p x r)
   served_known h hart x (Err r) on e stopped = ended_known (step.Serve h) (reply.Ended r) h h hart on (λ s a. refl)
-  served_known h hart x (Ok v) on e (came q f _ g) = ready_known h v x q (process_in v t) on e f g refl
+  served_known h hart x (Ok g) on e (came i) =
+      let after : Puts w t (Some ((with_served g x).process)) (with_progress w t (with_served g x)) = puts _ _ refl in
+      record {
+        sized = sized_process w _ t _ after i.sized k;
+        told = told_where w _ h t _ (λ s a. is_in_served (process_in w s) a) (λ s a. or_initial w s a (held w s a)) on after
+            (λ a. settled_held g.process (page_of x.address) a i ∙ ap (λ b. cond b (or_initial w t a (held w t a)) (held w t a)) (sym (in_pending x a e)));
+      }
 
   serve_known : (h : ℕ) (hart : Hart) (o : Option Pending) → slot_on w h ≡ Some t → p.pending ≡ o → Known w (step.Serve h) (served w h hart t p o)
   serve_known h hart None on e = refused_known w k _ _
-  serve_known h hart (Some x) on e = served_known h hart x _ on e (reached_reaches w t p x.access x.address (first_rule (regions p) x.access x.address x.width) here (k.pages t p here))
+  serve_known h hart (Some x) on e = served_known h hart x _ on e (reached_reaches (around w t) x.access x.address (begun w p) (first_rule (regions p) x.access x.address x.width) (k.pages t p here))
 
   -- calls
 
@@ -165,10 +161,12 @@ module _ (w : World) (k : Sized w) (t : ℕ) (p : Process) (here : process_in w 
       let same : (a : ℕ) → byte_in (marked p).settled a ≡ held w t a = λ a. ap (λ o. byte_from o (a % 4096)) (contents-marked p (page_of a)) ∙ sym (held_is a) in
       let room : child < length v.slots = omega (arith, free_there w.slots 0 child e, length-set w.slots t (Some (marked p))) in
       let both : Puts v child (Some (child_of p)) (with_process v child (child_of p)) = set_puts v _ child _ room refl in
+      let born : AllSized (child_of p).settled = same_sized p.settled (child_of p).settled (contents-child p) (k.pages t p here) in
+      let given : (a : ℕ) → byte_in (child_of p).settled a ≡ held w t a = λ a. ap (λ o. byte_from o (a % 4096)) (contents-child p (page_of a)) ∙ sym (held_is a) in
       record {
-        sized = sized_process v _ child _ both sized (sized_process w v t (marked p) parent sized k);
-        told = λ s a. held_put v _ child _ both s a ∙ ap (cond (child == s) (byte_in (marked p).settled a)) (told_same w v t _ parent same s a)
-            ∙ ap (λ o. cond (child == s) o (held w s a)) (same a ∙ ap (λ u. of_slot (held w) u a) (sym on));
+        sized = sized_process v _ child _ both born (sized_process w v t (marked p) parent sized k);
+        told = λ s a. held_put v _ child _ both s a ∙ ap (cond (child == s) (byte_in (child_of p).settled a)) (told_same w v t _ parent same s a)
+            ∙ ap (λ o. cond (child == s) o (held w s a)) (given a ∙ ap (λ u. of_slot (held w) u a) (sym on));
       }
 
   fork_known : (h : ℕ) (o : Option ℕ) → slot_on w h ≡ Some t → lowest_free 0 w.slots ≡ o → Known w (step.Fork h) (forked w t p o)
@@ -221,37 +219,43 @@ module _ (w : World) (k : Sized w) (t : ℕ) (p : Process) (here : process_in w 
 
   -- copies
 
-  in_said : (h address n end : ℕ) (c : Copied) (o : Option Rule) → slot_on w h ≡ Some t → CameIn w t p address end c → Known w (step.CopyIn h address n) (answers c.world (in_reply c.bytes o))
-  in_said h address n end c o on i = record { sized = sized_process w c.world t i.process i.puts i.sized k; told = says o } where
-    held_now : (s a : ℕ) → held c.world s a ≡ cond (has_slot s (slot_on w h) && is_in_their_pages address (length c.bytes) a) (or_initial w s a (held w s a)) (held w s a)
-    held_now = told_where w c.world h t (Some i.process) (λ s a. is_in_their_pages address (length c.bytes) a) (λ s a. or_initial w s a (held w s a)) on i.puts (λ a. i.told a ∙ in_words (is_in_their_pages address (length c.bytes) a) a)
+  in_said : (h address n end : ℕ) (c : Copied) (o : Option Rule) → slot_on w h ≡ Some t → CameIn w.files p address end c → Known w (step.CopyIn h address n) (answers (with_progress w t c.progress) (in_reply c.bytes o))
+  in_said h address n end c o on i = record { sized = sized_process w _ t ((c.progress).process) (puts _ _ refl) i.sized k; told = says o } where
+    after : World
+    after = with_progress w t c.progress
 
-    says : (o : Option Rule) (s a : ℕ) → held c.world s a ≡ known_after w (step.CopyIn h address n) (in_reply c.bytes o) (held w) s a
+    held_now : (s a : ℕ) → held after s a ≡ cond (has_slot s (slot_on w h) && is_in_their_pages address (length c.bytes) a) (or_initial w s a (held w s a)) (held w s a)
+    held_now = told_where w after h t (Some ((c.progress).process)) (λ s a. is_in_their_pages address (length c.bytes) a) (λ s a. or_initial w s a (held w s a)) on (puts _ _ refl) (λ a. i.told a ∙ in_words (is_in_their_pages address (length c.bytes) a) a)
+
+    says : (o : Option Rule) (s a : ℕ) → held after s a ≡ known_after w (step.CopyIn h address n) (in_reply c.bytes o) (held w) s a
     says None = held_now
     says (Some r) = held_now
 
-  copy_in_known : (h address n : ℕ) → slot_on w h ≡ Some t → Known w (step.CopyIn h address n) (told_in (copied_in (with_process w t (without_pending p)) t address n))
+  copy_in_known : (h address n : ℕ) → slot_on w h ≡ Some t → Known w (step.CopyIn h address n) (told_in w t (copied_in (around w t) (begun w (without_pending p)) address n))
   copy_in_known h address n on =
-      let i = copy_came_in w t p address n here (k.pages t p here) in
-      let c = copied_in (with_process w t (without_pending p)) t address n in
+      let i = copy_came_in (around w t) (begun w (without_pending p)) p address n refl (λ a. refl) (k.pages t p here) in
+      let c = copied_in (around w t) (begun w (without_pending p)) address n in
       in_said h address n i.0 c c.stop on i.1
 
-  out_said : (h address : ℕ) (bytes : Bor (List ℕ)) (end : ℕ) (c : Copied) (o : Option Rule) → slot_on w h ≡ Some t → CameOut w t p address bytes.now end [] c → Known w (step.CopyOut h address bytes) (answers c.world (out_reply c.bytes o))
-  out_said h address bytes end c o on i = record { sized = sized_process w c.world t i.process i.puts i.sized k; told = says o } where
-    held_now : (s a : ℕ) → held c.world s a ≡ put_by w h address bytes.now (length c.bytes) (held w) s a
+  out_said : (h address : ℕ) (bytes : Bor (List ℕ)) (end : ℕ) (c : Copied) (o : Option Rule) → slot_on w h ≡ Some t → CameOut w.files p address bytes.now end [] c → Known w (step.CopyOut h address bytes) (answers (with_progress w t c.progress) (out_reply c.bytes o))
+  out_said h address bytes end c o on i = record { sized = sized_process w _ t ((c.progress).process) (puts _ _ refl) i.sized k; told = says o } where
+    after : World
+    after = with_progress w t c.progress
+
+    held_now : (s a : ℕ) → held after s a ≡ put_by w h address bytes.now (length c.bytes) (held w) s a
     held_now s a =
-        told_put w c.world h t (Some i.process) (λ s a. cond (is_among address (length c.bytes) a) (Some (byte_at bytes.now (a - address))) (cond (is_in_their_pages address (length c.bytes) a) (or_initial w s a (held w s a)) (held w s a))) on i.puts
+        told_put w after h t (Some ((c.progress).process)) (λ s a. cond (is_among address (length c.bytes) a) (Some (byte_at bytes.now (a - address))) (cond (is_in_their_pages address (length c.bytes) a) (or_initial w s a (held w s a)) (held w s a))) on (puts _ _ refl)
         (λ a. i.told a ∙ ap (cond (is_among address (length c.bytes) a) (Some (byte_at bytes.now (a - address)))) (in_words (is_in_their_pages address (length c.bytes) a) a)) s a
         ∙ both_within (has_slot s (slot_on w h)) (is_among address (length c.bytes) a) (is_in_their_pages address (length c.bytes) a) _ _ _
 
-    says : (o : Option Rule) (s a : ℕ) → held c.world s a ≡ known_after w (step.CopyOut h address bytes) (out_reply c.bytes o) (held w) s a
+    says : (o : Option Rule) (s a : ℕ) → held after s a ≡ known_after w (step.CopyOut h address bytes) (out_reply c.bytes o) (held w) s a
     says None = held_now
     says (Some r) = held_now
 
-  copy_out_known : (h address : ℕ) (bytes : Bor (List ℕ)) → slot_on w h ≡ Some t → Known w (step.CopyOut h address bytes) (told_out (copied_out (with_process w t (without_pending p)) t address bytes.now))
+  copy_out_known : (h address : ℕ) (bytes : Bor (List ℕ)) → slot_on w h ≡ Some t → Known w (step.CopyOut h address bytes) (told_out w t (copied_out (around w t) (begun w (without_pending p)) address bytes.now))
   copy_out_known h address bytes on =
-      let i = copy_came_out w t p address bytes.now here (k.pages t p here) in
-      let c = copied_out (with_process w t (without_pending p)) t address bytes.now in
+      let i = copy_came_out (around w t) (begun w (without_pending p)) p address bytes.now refl (λ a. refl) (k.pages t p here) in
+      let c = copied_out (around w t) (begun w (without_pending p)) address bytes.now in
       out_said h address bytes i.0 c c.stop on i.1
 
 -- start
@@ -289,11 +293,11 @@ plain_known w k (step.Trap h) = on_hart_good w (Known w _) (refused_known w k _)
 plain_known w k (step.Next h) = on_hart_good w (Known w _) (refused_known w k _) h true _ always _ (λ hart is _. hart_moved w k _ _ h _ (λ s a. refl))
 plain_known w k (step.Fill h address) = on_hart_good w (Known w _) (refused_known w k _) h true always always _ (λ hart is _. hart_moved w k _ _ h _ (λ s a. refl))
 plain_known w k (step.Evict h n) = on_hart_good w (Known w _) (refused_known w k _) h true always _ _ (λ hart is _. hart_moved w k _ _ h _ (λ s a. refl))
-plain_known w k (step.Fetch h address via) = access_good w (Known w _) (refused_known w k _) h access.Fetch address 4 0 via (λ hart t p cause here on. faulted_known w k t p here _ (asks h hart access.Fetch address 4 0) cause (λ s a. refl))
-    (λ hart t p page here on e fits. read_known w k t p here _ (asks h hart access.Fetch address 4 0) page _ e (λ s a. refl))
-plain_known w k (step.Load h address width via) = access_good w (Known w _) (refused_known w k _) h access.Load address width 0 via (λ hart t p cause here on. faulted_known w k t p here _ (asks h hart access.Load address width 0) cause (λ s a. refl))
-    (λ hart t p page here on e fits. read_known w k t p here _ (asks h hart access.Load address width 0) page _ e (λ s a. refl))
-plain_known w k (step.Store h address width value via) = access_good w (Known w _) (refused_known w k _) h access.Store address width value via (λ hart t p cause here on. faulted_known w k t p here _ (asks h hart access.Store address width value) cause (λ s a. refl))
+plain_known w k (step.Fetch h address via) = access_good w (Known w _) (refused_known w k _) h access.Fetch address 4 0 via (λ hart t p cause here on. faulted_known w k t p here _ h hart (asks access.Fetch address 4 0) cause (λ s a. refl))
+    (λ hart t p page here on e fits. read_known w k t p here _ h hart (asks access.Fetch address 4 0) page _ e (λ s a. refl))
+plain_known w k (step.Load h address width via) = access_good w (Known w _) (refused_known w k _) h access.Load address width 0 via (λ hart t p cause here on. faulted_known w k t p here _ h hart (asks access.Load address width 0) cause (λ s a. refl))
+    (λ hart t p page here on e fits. read_known w k t p here _ h hart (asks access.Load address width 0) page _ e (λ s a. refl))
+plain_known w k (step.Store h address width value via) = access_good w (Known w _) (refused_known w k _) h access.Store address width value via (λ hart t p cause here on. faulted_known w k t p here _ h hart (asks access.Store address width value) cause (λ s a. refl))
     (λ hart t p page here on e fits. stored_known w k t p here h hart address width value via page on e fits)
 plain_known w k (step.TrampolineFetch h offset via) = on_hart_good w (Known w _) (refused_known w k _) h _ _ _ _ (λ hart is _. still w k _ _ (λ s a. refl))
 plain_known w k (step.Serve h) = on_hart_good w (Known w _) (refused_known w k _) h true _ always _ (λ hart is _. its_good w (Known w _) (refused_known w k _) h hart _ is

@@ -14,13 +14,31 @@ use Rattle.process_model.specs.Process.{Process, Page, regions}
 use Rattle.process_model.specs.Residence.{access_answer}
 use Rattle.process_model.specs.Harts.{Hart}
 use Rattle.process_model.specs.World.{World, Outcome, refuses, process_in, can_call, always, common_refusal, unless_refused, on_hart_at, on_hart, with_process_of, with_slot_of, with_its_process, kernel_call}
-use Rattle.process_model.specs.Service.{Asked, faulted, answered, if_resident, if_settled, unless_denied, access_step}
+use Rattle.process_model.specs.Service.{Answer, Asked, faulted, answered, if_resident, if_settled, told, unless_denied, access_step}
 use Rattle.process_model.specs.declared.phase.Phase.{Phase}
 use Rattle.process_model.specs.declared.step.Refusal.{Refusal}
 use Rattle.process_laws.specs.Latest.{slot_at, slot_on}
 
-abbrev pub asks : ℕ → Hart → Access → ℕ → ℕ → ℕ → Asked
-asks h hart access address width value = record { hart_number = h; hart = hart; access = access; address = address; width = width; value = value }
+abbrev pub asks : Access → ℕ → ℕ → ℕ → Asked
+asks access address width value = record { access = access; address = address; width = width; value = value }
+
+-- what an access comes to, is good where a fault is and an answer is
+
+module _ (Good : Answer → Type 0) (x : Asked) (p : Process) where
+  abbrev IsGoodOn : Page → Type 0
+  IsGoodOn page = Good (answered p x (access_answer x.access page (x.address % 4096) x.width x.value))
+
+  resident_good : (page : Page) (b : Bool) → ((cause : ℕ) → Good (faulted p x cause)) → IsGoodOn page → Good (if_resident p x page b)
+  resident_good page true fails f = f
+  resident_good page false fails f = fails _
+
+  settled_good : (o : Option Page) → get p.settled (page_of x.address) ≡ o → ((cause : ℕ) → Good (faulted p x cause)) → ((page : Page) → get p.settled (page_of x.address) ≡ Some page → IsGoodOn page) → Good (if_settled p x o)
+  settled_good None e fails f = fails _
+  settled_good (Some page) e fails f = resident_good page _ fails (f page e)
+
+  pub granted_good : (o : Option Rule) → ((cause : ℕ) → Good (faulted p x cause)) → ((page : Page) → get p.settled (page_of x.address) ≡ Some page → o ≡ None → IsGoodOn page) → Good (unless_denied p x o)
+  granted_good (Some r) fails f = fails _
+  granted_good None fails f = settled_good (get p.settled (page_of x.address)) refl fails (λ page e. f page e refl)
 
 -- an aligned access stays in its page
 
@@ -81,25 +99,11 @@ module _ (w : World) (Good : Outcome → Type 0) (quiet : (r : Refusal) → Good
 
   -- accesses
 
-  resident_good : (x : Asked) (t : ℕ) (p : Process) (page : Page) (b : Bool) → ((cause : ℕ) → Good (faulted w x t p cause)) → Good (answered w x t p (access_answer x.access page (x.address % 4096) x.width x.value)) → Good (if_resident w x t p page b)
-  resident_good x t p page true fails f = f
-  resident_good x t p page false fails f = fails _
-
-  settled_good : (x : Asked) (t : ℕ) (p : Process) (o : Option Page) → get p.settled (page_of x.address) ≡ o → ((cause : ℕ) → Good (faulted w x t p cause))
-      → ((page : Page) → get p.settled (page_of x.address) ≡ Some page → Good (answered w x t p (access_answer x.access page (x.address % 4096) x.width x.value))) → Good (if_settled w x t p o)
-  settled_good x t p None e fails f = fails _
-  settled_good x t p (Some page) e fails f = resident_good x t p page _ fails (f page e)
-
-  granted_good : (x : Asked) (t : ℕ) (p : Process) (o : Option Rule) → ((cause : ℕ) → Good (faulted w x t p cause))
-      → ((page : Page) → get p.settled (page_of x.address) ≡ Some page → o ≡ None → Good (answered w x t p (access_answer x.access page (x.address % 4096) x.width x.value))) → Good (unless_denied w x t p o)
-  granted_good x t p (Some r) fails f = fails _
-  granted_good x t p None fails f = settled_good x t p (get p.settled (page_of x.address)) refl fails (λ page e. f page e refl)
-
   pub access_good : (h : ℕ) (access : Access) (address width value : ℕ) (via : Option ℕ)
-      → ((hart : Hart) (t : ℕ) (p : Process) (cause : ℕ) → process_in w t ≡ Some p → slot_on w h ≡ Some t → Good (faulted w (asks h hart access address width value) t p cause))
+      → ((hart : Hart) (t : ℕ) (p : Process) (cause : ℕ) → process_in w t ≡ Some p → slot_on w h ≡ Some t → Good (told w h hart t (faulted p (asks access address width value) cause)))
       → ((hart : Hart) (t : ℕ) (p : Process) (page : Page) → process_in w t ≡ Some p → slot_on w h ≡ Some t → get p.settled (page_of address) ≡ Some page → address % 4096 + width ≤ 4096
-      → Good (answered w (asks h hart access address width value) t p (access_answer access page (address % 4096) width value)))
+      → Good (told w h hart t (answered p (asks access address width value) (access_answer access page (address % 4096) width value))))
       → Good (access_step w h access address width value via)
   access_good h access address width value via fails f = on_hart_good h (is_width width) _ _ _ (λ hart is proper. its_good h hart _ is
-      (λ t p on here. granted_good (asks h hart access address width value) t p _ (λ cause. fails hart t p cause here on)
+      (λ t p on here. granted_good (λ x. Good (told w h hart t x)) (asks access address width value) p _ (λ cause. fails hart t p cause here on)
       (λ page e granted. f hart t p page here on e (granted_fits p access address width proper granted))))

@@ -1,6 +1,6 @@
 -- An access that faulted and was made ready is answered when it is tried again.
-use Rattle.std.proofs.Common.{◌≡◌, ◌≢◌, ℕ, zero, suc, Bool, true, false, not, ◌&&◌, refl, sym, ap, subst, ◌∙◌, List, [], ◌∷◌, Option, None, Some}
-use Rattle.std.specs.Prelude.{slice_get, slice_set, Result, option_map, get_or, unwrap_or}
+use Rattle.std.proofs.Common.{◌≡◌, ◌≢◌, ℕ, zero, suc, Bool, true, false, not, ◌&&◌, ◌+◌, refl, sym, ap, subst, ◌∙◌, List, [], ◌∷◌, Option, None, Some}
+use Rattle.std.specs.Prelude.{slice_get, slice_set, Ok, Result, option_map, get_or, unwrap_or}
 use Rattle.std.proofs.lemmas.Option.{slice_get-map}
 use Rattle.process_laws.proofs.Standing.{made_stands}
 use Rattle.process_laws.specs.Answered.{IsAccessOn, IsAnswer}
@@ -10,8 +10,9 @@ use Rattle.process_model.specs.Harts.{Hart, is_user, is_kernel, next_phase, fenc
 use Rattle.process_model.specs.Stale.{changed_slots, with_stale_slots, with_stale}
 use Rattle.process_model.specs.Process.{Page, Pending, Process, regions}
 use Rattle.process_model.specs.Regions.{first_rule}
-use Rattle.process_model.specs.Residence.{access_answer, is_resident, is_resident_page, made_resident, made_resident_from, unmarked_unless}
-use Rattle.process_model.specs.Service.{access_step, Asked, faulted, if_resident, if_settled, reached, ready, resident_world, served, served_or_ended, unless_denied, unless_dry, unless_resident, user_access}
+use Rattle.process_model.specs.Residence.{access_answer, is_resident, is_resident_page, made_resident, made_resident_from, region_on, taken_over_unless}
+use Rattle.process_model.specs.Around.{is_shared_page, Progress, reached, resident_at, unless_dry, unless_resident}
+use Rattle.process_model.specs.Service.{access_step, Answer, around, Asked, begun, faulted, if_resident, if_settled, is_fault, served, served_or_ended, told, told_if, unless_denied, user_access, with_served}
 use Rattle.process_model.specs.Steps.{advanced, plain_step, run, step}
 use Rattle.process_model.specs.World.{always, can_go_on, can_serve, common_refusal, flat, is_unserved_access, on_hart, on_hart_at, Outcome, process_in, unless_refused, with_its_process, with_process_of, with_slot_of, World}
 use Rattle.process_model.specs.declared.config.Policy.{Policy}
@@ -192,19 +193,24 @@ no_fault access.Fetch r cause IsAnswer.fetched e = absurd cc
 no_fault access.Load r cause IsAnswer.loaded e = absurd cc
 no_fault access.Store r cause IsAnswer.stored e = absurd cc
 
-module _ (w : World) (a : Asked) (s : ℕ) (p : Process) (cause : ℕ) where
-  -- whatever the cause, the world after a fault is the same
-  fault_resident : (page : Page) (b : Bool) → (if_resident w a s p page b).reply ≡ Fault cause → (if_resident w a s p page b).world ≡ (faulted w a s p cause).world
+module _ (a : Asked) (p : Process) (cause : ℕ) where
+  -- whatever the cause, the process after a fault is the same
+  fault_resident : (page : Page) (b : Bool) → (if_resident p a page b).reply ≡ Fault cause → (if_resident p a page b).process ≡ (faulted p a cause).process
   fault_resident page true e = absurd (no_fault a.access _ cause (answer_is a.access page _ a.width a.value) e)
   fault_resident page false e = refl
 
-  fault_settled : (o : Option Page) → (if_settled w a s p o).reply ≡ Fault cause → (if_settled w a s p o).world ≡ (faulted w a s p cause).world
+  fault_settled : (o : Option Page) → (if_settled p a o).reply ≡ Fault cause → (if_settled p a o).process ≡ (faulted p a cause).process
   fault_settled None e = refl
   fault_settled (Some page) e = fault_resident page _ e
 
-  fault_denied : (o : Option Rule) → (unless_denied w a s p o).reply ≡ Fault cause → (unless_denied w a s p o).world ≡ (faulted w a s p cause).world
+  fault_denied : (o : Option Rule) → (unless_denied p a o).reply ≡ Fault cause → (unless_denied p a o).process ≡ (faulted p a cause).process
   fault_denied (Some r) e = refl
   fault_denied None e = fault_settled _ e
+
+-- the reply is that of the process
+told_reply : (w : World) (h : ℕ) (hart : Hart) (s : ℕ) (x : Answer) (b : Bool) → (told_if w h hart s x b).reply ≡ x.reply
+told_reply w h hart s x true = refl
+told_reply w h hart s x false = refl
 
 -- the access is pending on the hart, and the entry begins
 record Waits (w : World) (h : ℕ) (a : Pending) : Type 0 where
@@ -221,40 +227,48 @@ module _ (h address width value : ℕ) (access : Access) where
   abbrev access_of : World → Outcome
   access_of w = access_step w h access address width value None
 
-  abbrev asked : Hart → Asked
-  asked hart = record { hart_number = h; hart = hart; access = access; address = address; width = width; value = value }
+  abbrev asked : Asked
+  asked = record { access = access; address = address; width = width; value = value }
 
   abbrev the_access : Pending
   the_access = record { access = access; address = address; width = width; served = false }
 
+  abbrev asks_for : World → Hart → ℕ → Process → Outcome
+  asks_for w hart s p = told w h hart s (user_access p asked)
+
   -- after a fault the access is pending
   user_waits : (w : World) (hart : Hart) (s : ℕ) (p : Process) (cause : ℕ) → slice_get w.harts h ≡ Some hart → hart.slot ≡ Some s → process_in w s ≡ Some p
-      → (user_access w (asked hart) s p).reply ≡ Fault cause → Waits (user_access w (asked hart) s p).world h the_access
-  user_waits w hart s p cause there runs lives e = subst (λ v. Waits v h the_access) (sym (fault_denied w (asked hart) s p cause (first_rule (regions p) access address width) e)) (record {
-    slot = s;
-    process = record p { pending = Some the_access };
-    stands = record {
-      hart = record hart { phase = Enter0 };
-      there = set_there w.harts h hart (record hart { phase = Enter0 }) there;
-      in_phase = refl;
-      runs = runs;
-      lives = set_lives w.slots s p (record p { pending = Some the_access }) lives;
-    };
-    pends = refl;
-  })
+      → (asks_for w hart s p).reply ≡ Fault cause → Waits (asks_for w hart s p).world h the_access
+  user_waits w hart s p cause there runs lives e =
+      let x : Answer = user_access p asked in
+      let says : x.reply ≡ Fault cause = sym (told_reply w h hart s x (is_fault x.reply)) ∙ e in
+      let is : asks_for w hart s p ≡ told_if w h hart s x true = ap (told_if w h hart s x) (ap is_fault says) in
+      let same : x.process ≡ record p { pending = Some the_access } = fault_denied asked p cause (first_rule (regions p) access address width) says in
+      subst (λ (o : Outcome). Waits o.world h the_access) (sym is) (record {
+        slot = s;
+        process = x.process;
+        stands = record {
+          hart = record hart { phase = Enter0 };
+          there = set_there w.harts h hart (record hart { phase = Enter0 }) there;
+          in_phase = refl;
+          runs = runs;
+          lives = set_lives w.slots s p x.process lives;
+        };
+        pends = ap (λ (q : Process). q.pending) same;
+      })
 
-  process_waits : (w : World) (hart : Hart) (cause : ℕ) → slice_get w.harts h ≡ Some hart → (o : Outcome) → RanFor w hart (user_access w (asked hart)) o → o.reply ≡ Fault cause → Waits o.world h the_access
+  process_waits : (w : World) (hart : Hart) (cause : ℕ) → slice_get w.harts h ≡ Some hart → (o : Outcome) → RanFor w hart (asks_for w hart) o → o.reply ≡ Fault cause → Waits o.world h the_access
   process_waits w hart cause there o t e =
       subst (λ (v : Outcome). Waits v.world h the_access) (sym t.is) (user_waits w hart t.slot t.process cause there t.runs t.lives (ap (λ (v : Outcome). v.reply) (sym t.is) ∙ e))
 
-  hart_waits : (w : World) (hart : Hart) (cause : ℕ) → slice_get w.harts h ≡ Some hart → (o : Outcome) → o ≡ with_its_process w hart (user_access w (asked hart)) → o.reply ≡ Fault cause
+  hart_waits : (w : World) (hart : Hart) (cause : ℕ) → slice_get w.harts h ≡ Some hart → (o : Outcome) → o ≡ with_its_process w hart (asks_for w hart) → o.reply ≡ Fault cause
       → Waits o.world h the_access
   hart_waits w hart cause there o is e = subst (λ (v : Outcome). v.reply ≡ Fault cause → Waits v.world h the_access) (sym is)
-      (λ f. process_waits w hart cause there (with_its_process w hart (user_access w (asked hart))) (ran_for w hart (user_access w (asked hart)) (not_refused _ (Fault cause) f (λ x g. cc))) f) e
+      (λ f. process_waits w hart cause there (with_its_process w hart (asks_for w hart)) (ran_for w hart (asks_for w hart) (not_refused _ (Fault cause) f (λ x g. cc))) f) e
 
   fault_waits : (w : World) (cause : ℕ) → (access_of w).reply ≡ Fault cause → (is_width width ≡ true) × Waits (access_of w).world h the_access
   fault_waits w cause e =
-      let r = ran_on w h (is_width width) (λ hart. is_user hart.phase) (λ hart. entry_serves w.policy hart address None) (λ hart. with_its_process w hart (user_access w (asked hart)))
+      let r = ran_on w h (is_width width) (λ hart. is_user hart.phase) (λ hart. entry_serves w.policy hart address None) (λ hart. with_its_process w hart (asks_for w hart))
       (not_refused (access_of w).reply (Fault cause) e (λ x f. cc)) in
       (r.fits, hart_waits w r.hart cause r.there (access_of w) r.is e)
 
@@ -269,7 +283,7 @@ record IsReady (w : World) (h s : ℕ) (a : Pending) : Type 0 where
   resident : is_resident process a.access (page_of a.address) ≡ true
 
 -- a page that is made resident changes no region
-same_unless : (fresh : ℕ) (shared : Bool) (p : Process) (page : ℕ) (s : Page) (b : Bool) → regions (unmarked_unless fresh shared p page s b) ≡ regions p
+same_unless : (fresh : ℕ) (shared : Bool) (p : Process) (page : ℕ) (s : Page) (b : Bool) → regions (taken_over_unless fresh shared p page s b) ≡ regions p
 same_unless fresh shared p page s true = refl
 same_unless fresh shared p page s false = refl
 
@@ -278,39 +292,35 @@ same_from files fresh shared p access page None = refl
 same_from files fresh shared p access page (Some s) = same_unless fresh shared p page s _
 
 module _ (w : World) (h s : ℕ) (p : Process) (a : Pending) where
-  -- a world in which the page stands makes it ready
-  ready_is : (after : World) (q : Process) → Stands after h s Kernel q → regions q ≡ regions p → first_rule (regions p) a.access a.address a.width ≡ None
-      → is_resident q a.access (page_of a.address) ≡ true → IsReady (ready after s a (process_in after s)).world h s a
-  ready_is after q k same granted resident = subst (λ o. IsReady (ready after s a o).world h s a) (sym k.lives) (record {
-    process = record q { pending = Some (record a { served = true }) };
-    stands = record { hart = k.hart; there = k.there; in_phase = k.in_phase; runs = k.runs; lives = set_lives after.slots s q _ k.lives };
-    quiet = refl;
-    granted = ap (λ rs. first_rule rs a.access a.address a.width) same ∙ granted;
-    resident = resident;
-  })
-
   module _ (k : Stands w h s Kernel p) (granted : first_rule (regions p) a.access a.address a.width ≡ None) where
-    abbrev Served : Result World Rule → Type 0
+    abbrev Served : Result Progress Rule → Type 0
     Served r = (served_or_ended w h k.hart s p a r).reply ≡ Ready → IsReady (served_or_ended w h k.hart s p a r).world h s a
 
-    dry_serves : (shared b : Bool) → Served (unless_dry w s p a.access (page_of a.address) shared b)
-    dry_serves shared true e = absurd cc
-    dry_serves shared false e =
-        let q = made_resident w.files w.counter shared p a.access (page_of a.address) in
-        ready_is _ q (record { hart = k.hart; there = k.there; in_phase = k.in_phase; runs = k.runs; lives = set_lives w.slots s p q k.lives })
-        (same_from w.files w.counter shared p a.access (page_of a.address) _) granted (made_stands w.files w.counter shared p a.access (page_of a.address))
+    -- a process whose page stands is made ready
+    ready_is : (g : Progress) → regions g.process ≡ regions p → is_resident g.process a.access (page_of a.address) ≡ true → Served (Ok g)
+    ready_is g same resident e = record {
+      process = (with_served g a).process;
+      stands = record { hart = k.hart; there = k.there; in_phase = k.in_phase; runs = k.runs; lives = set_lives w.slots s p ((with_served g a).process) k.lives };
+      quiet = refl;
+      granted = ap (λ rs. first_rule rs a.access a.address a.width) same ∙ granted;
+      resident = resident;
+    }
 
-    resident_serves : (shared b : Bool) → is_resident p a.access (page_of a.address) ≡ b → Served (unless_resident w s p a.access (page_of a.address) shared b)
-    resident_serves shared true t e = ready_is w p k refl granted t
-    resident_serves shared false t e = dry_serves shared _ e
+    dry_serves : (need : ℕ) (b : Bool) → Served (unless_dry (around w s) a.access (page_of a.address) (begun w p) need b)
+    dry_serves need true e = absurd cc
+    dry_serves need false e = ready_is (record { process = made_resident w.files w.counter (is_shared_page (around w s) p (page_of a.address)) p a.access (page_of a.address); fresh = w.counter + 1; taken = 0 + need }) (same_from w.files w.counter _ p a.access (page_of a.address) _) (made_stands w.files w.counter _ p a.access (page_of a.address)) e
 
-    world_serves : Served (resident_world w s p a.access (page_of a.address))
-    unfolding resident_world
-    world_serves e = resident_serves _ _ refl e
+    resident_serves : (b : Bool) → is_resident p a.access (page_of a.address) ≡ b → Served (unless_resident (around w s) a.access (page_of a.address) (begun w p) b)
+    resident_serves true t e = ready_is (begun w p) refl t e
+    resident_serves false t e = dry_serves _ _ e
+
+    world_serves : Served (resident_at (around w s) a.access (page_of a.address) (begun w p))
+    unfolding resident_at
+    world_serves e = resident_serves _ refl e
 
   -- what was made ready was granted
-  rule_serves : (k : Stands w h s Kernel p) (o : Option Rule) → first_rule (regions p) a.access a.address a.width ≡ o → (served_or_ended w h k.hart s p a (reached w s p a.access a.address o)).reply ≡ Ready
-      → IsReady (served_or_ended w h k.hart s p a (reached w s p a.access a.address o)).world h s a
+  rule_serves : (k : Stands w h s Kernel p) (o : Option Rule) → first_rule (regions p) a.access a.address a.width ≡ o → (served_or_ended w h k.hart s p a (reached (around w s) a.access a.address (begun w p) o)).reply ≡ Ready
+      → IsReady (served_or_ended w h k.hart s p a (reached (around w s) a.access a.address (begun w p) o)).world h s a
   rule_serves k (Some r) f e = absurd cc
   rule_serves k None f e = world_serves k f e
 
@@ -328,27 +338,28 @@ serve_step w h s p a k waits unserved e =
 
 -- a granted access whose page stands is answered
 
-module _ (w : World) (a : Asked) (s : ℕ) (p : Process) where
-  answers_resident : (page : Page) (b : Bool) → b ≡ true → IsAnswer a.access (if_resident w a s p page b).reply
+module _ (a : Asked) (p : Process) where
+  answers_resident : (page : Page) (b : Bool) → b ≡ true → IsAnswer a.access (if_resident p a page b).reply
   answers_resident page true e = answer_is a.access page _ a.width a.value
   answers_resident page false e = absurd cc
 
-  answers_settled : (o : Option Page) → is_resident_page a.access o ≡ true → IsAnswer a.access (if_settled w a s p o).reply
+  answers_settled : (o : Option Page) → is_resident_page a.access (region_on p (page_of a.address)) o ≡ true → IsAnswer a.access (if_settled p a o).reply
   answers_settled None e = absurd cc
   answers_settled (Some page) e = answers_resident page _ e
 
-  answers_granted : (o : Option Rule) → o ≡ None → is_resident p a.access (page_of a.address) ≡ true → IsAnswer a.access (unless_denied w a s p o).reply
+  answers_granted : (o : Option Rule) → o ≡ None → is_resident p a.access (page_of a.address) ≡ true → IsAnswer a.access (unless_denied p a o).reply
   answers_granted (Some r) e t = absurd cc
   answers_granted None e t = answers_settled _ t
 
 access_answers : (w : World) (h s : ℕ) (p : Process) (access : Access) (address width value : ℕ) → Stands w h s User p → is_width width ≡ true → first_rule (regions p) access address width ≡ None
     → is_resident p access (page_of address) ≡ true → IsAnswer access (access_step w h access address width value None).reply
 access_answers w h s p access address width value k wide granted resident =
-    let a = asked h address width value access k.hart in
-    let same : access_step w h access address width value None ≡ user_access w a s p = hart_runs w h (is_width width) (λ hart. is_user hart.phase) (λ hart. entry_serves w.policy hart address None)
-    (λ hart. with_its_process w hart (user_access w (asked h address width value access hart))) k.hart k.there wide (ap is_user k.in_phase) refl
-    ∙ process_runs w k.hart (user_access w a) s p k.runs k.lives in
-    subst (λ (o : Outcome). IsAnswer access o.reply) (sym same) (answers_granted w a s p _ granted resident)
+    let a = asked h address width value access in
+    let x : Answer = user_access p a in
+    let same : access_step w h access address width value None ≡ told w h k.hart s x = hart_runs w h (is_width width) (λ hart. is_user hart.phase) (λ hart. entry_serves w.policy hart address None)
+    (λ hart. with_its_process w hart (asks_for h address width value access w hart)) k.hart k.there wide (ap is_user k.in_phase) refl
+    ∙ process_runs w k.hart (asks_for h address width value access w k.hart) s p k.runs k.lives in
+    subst (IsAnswer access) (sym (ap (λ (o : Outcome). o.reply) same ∙ told_reply w h k.hart s x (is_fault x.reply))) (answers_granted a p _ granted resident)
 
 -- the whole run
 

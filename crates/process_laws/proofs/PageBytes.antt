@@ -16,7 +16,7 @@ use Rattle.process_model.specs.PageMap.{PageMap, get, insert, only, each_value, 
 use Rattle.process_model.specs.Files.{File, bytes_of}
 use Rattle.process_model.specs.Regions.{Region, Source, zeros, image, file, region_at}
 use Rattle.process_model.specs.Process.{Process, Page, regions}
-use Rattle.process_model.specs.Residence.{source_page, region_page, initial_page, goes_through, with_page, settled_anew, unmarked, unmarked_unless, made_resident_from, made_resident, stored, marked_page, marked}
+use Rattle.process_model.specs.Residence.{source_page, region_page, initial_page, goes_through, with_page, settled_anew, taken_over, taken_over_unless, made_resident_from, made_resident, stored, child_of, child_page, leaves_mark, marked_page, marked, region_on}
 use Rattle.process_model.specs.Heap.{without_pages}
 use Rattle.process_model.specs.Images.{LoadSegment}
 use Rattle.process_model.specs.Images.{end_of_loads}
@@ -81,13 +81,16 @@ on_same : (b : Bool) (x y : Page) (o u : Option Page) → x.bytes ≡ y.bytes �
 on_same true x y o u e f = ap Some e
 on_same false x y o u e f = f
 
-marked_entries : (p : Process) (es : List (ℕ × Page)) (n : ℕ) → bytes_on (find nat_cmp n (each_value (marked_page p) es)) ≡ bytes_on (find nat_cmp n es)
-marked_entries p [] n = refl
-marked_entries p (e ∷ es) n = on_same (eq_by_cmp nat_cmp n e.0) _ e.1 _ _ refl (marked_entries p es n)
+each_entries : (f : ℕ → Page → Page) → ((n : ℕ) (x : Page) → (f n x).bytes ≡ x.bytes) → (es : List (ℕ × Page)) (n : ℕ) → bytes_on (find nat_cmp n (each_value f es)) ≡ bytes_on (find nat_cmp n es)
+each_entries f same [] n = refl
+each_entries f same (e ∷ es) n = on_same (eq_by_cmp nat_cmp n e.0) _ e.1 _ _ (same e.0 e.1) (each_entries f same es n)
 
 -- a fork leaves the bytes
 pub contents-marked : (p : Process) (n : ℕ) → contents (marked p).settled n ≡ contents p.settled n
-contents-marked p n = marked_entries p p.settled.entries n
+contents-marked p n = each_entries (marked_page p) (λ k x. refl) p.settled.entries n
+
+pub contents-child : (p : Process) (n : ℕ) → contents (child_of p).settled n ≡ contents p.settled n
+contents-child p n = each_entries (child_page p) (λ k x. refl) p.settled.entries n
 
 -- all sized
 
@@ -214,11 +217,11 @@ stays files p q page bs e same a = cond_is (page == page_of a) (or_start files p
 pub stays_settled : (files : List File) (p : Process) (page : ℕ) (x : Page) → get p.settled page ≡ Some x → AllSized p.settled → SettlesPage files page p p
 stays_settled files p page x e s = record { same_regions = refl; sized = s; told = stays files p p page x.bytes (ap bytes_on e) (λ n. refl) }
 
-settles_anew : (files : List File) (fresh : ℕ) (p : Process) (page : ℕ) → get p.settled page ≡ None → AllSized p.settled → SettlesPage files page p (settled_anew files fresh p page)
-settles_anew files fresh p page e s = record {
+settles_anew : (files : List File) (fresh : ℕ) (p : Process) (access : Access) (page : ℕ) → get p.settled page ≡ None → AllSized p.settled → SettlesPage files page p (settled_anew files fresh p access page)
+settles_anew files fresh p access page e s = record {
   same_regions = refl;
-  sized = put_sized p.settled page (record { bytes = initial_page files p page; copy = fresh; fork_mark = false }) (initial_size files p page) s;
-  told = λ a. ap (λ o. byte_from o (a % 4096)) (contents-insert p.settled page (record { bytes = initial_page files p page; copy = fresh; fork_mark = false }) (page_of a))
+  sized = put_sized p.settled page (record { bytes = initial_page files p page; copy = fresh; fork_mark = false; stored_mark = leaves_mark access (region_on p page) }) (initial_size files p page) s;
+  told = λ a. ap (λ o. byte_from o (a % 4096)) (contents-insert p.settled page (record { bytes = initial_page files p page; copy = fresh; fork_mark = false; stored_mark = leaves_mark access (region_on p page) }) (page_of a))
       ∙ cond_is (page == page_of a) (or_start files p a (byte_in p.settled a)) (byte_in p.settled a) (byte_from (cond (page == page_of a) (Some (initial_page files p page)) (contents p.settled (page_of a))) (a % 4096))
       (λ t. let is : page_of a ≡ page = sym (eqb-true page (page_of a) t) in
       ap (λ b. byte_from (cond b (Some (initial_page files p page)) (contents p.settled (page_of a))) (a % 4096)) t
@@ -233,19 +236,20 @@ put_same m k x y there e n = contents-insert m k y n ∙ sym (cond_is (k == n) (
     (λ t. ap (contents m) (sym (eqb-true k n t)) ∙ ap bytes_on there ∙ ap Some (sym e))
     (λ t. refl))
 
-unmarks : (files : List File) (fresh : ℕ) (shared : Bool) (p : Process) (page : ℕ) (x : Page) (b : Bool) → get p.settled page ≡ Some x → AllSized p.settled → SettlesPage files page p (unmarked_unless fresh shared p page x b)
+unmarks : (files : List File) (fresh : ℕ) (shared : Bool) (p : Process) (page : ℕ) (x : Page) (b : Bool) → get p.settled page ≡ Some x → AllSized p.settled → SettlesPage files page p (taken_over_unless fresh shared p page x b)
 unmarks files fresh shared p page x true e s = stays_settled files p page x e s
 unmarks files fresh shared p page x false e s =
-    let same = put_same p.settled page x (unmarked fresh shared x) e refl in
+    let y : Page = taken_over fresh shared (region_on p page) x in
+    let same = put_same p.settled page x y e refl in
     record {
       same_regions = refl;
-      sized = same_sized p.settled (insert p.settled page (unmarked fresh shared x)) same s;
-      told = stays files p (with_page p page (unmarked fresh shared x)) page x.bytes (ap bytes_on e) same;
+      sized = same_sized p.settled (insert p.settled page y) same s;
+      told = stays files p (with_page p page y) page x.bytes (ap bytes_on e) same;
     }
 
 resident_from : (files : List File) (fresh : ℕ) (shared : Bool) (p : Process) (access : Access) (page : ℕ) (o : Option Page) → get p.settled page ≡ o → AllSized p.settled → SettlesPage files page p (made_resident_from files fresh shared p access page o)
-resident_from files fresh shared p access page None e s = settles_anew files fresh p page e s
-resident_from files fresh shared p access page (Some x) e s = unmarks files fresh shared p page x (goes_through access x) e s
+resident_from files fresh shared p access page None e s = settles_anew files fresh p access page e s
+resident_from files fresh shared p access page (Some x) e s = unmarks files fresh shared p page x (goes_through access (region_on p page) x) e s
 
 pub resident_settles : (files : List File) (fresh : ℕ) (shared : Bool) (p : Process) (access : Access) (page : ℕ) → AllSized p.settled → SettlesPage files page p (made_resident files fresh shared p access page)
 resident_settles files fresh shared p access page s = resident_from files fresh shared p access page (get p.settled page) refl s
@@ -293,7 +297,7 @@ empty_sized = record { size = λ n bs e. cc }
 
 listed_sized : (fresh : ℕ) (es : List (ℕ × List ℕ)) → AllLong es → AllSized (from_list (numbered fresh es))
 listed_sized fresh [] h = empty_sized
-listed_sized fresh (e ∷ es) h = put_sized (from_list (numbered (fresh + 1) es)) e.0 (record { bytes = e.1; copy = fresh; fork_mark = false }) h.0 (listed_sized (fresh + 1) es h.1)
+listed_sized fresh (e ∷ es) h = put_sized (from_list (numbered (fresh + 1) es)) e.0 (record { bytes = e.1; copy = fresh; fork_mark = false; stored_mark = false }) h.0 (listed_sized (fresh + 1) es h.1)
 
 byte_cond : (b : Bool) (bs : List ℕ) (o : Option (List ℕ)) (i : ℕ) → byte_from (cond b (Some bs) o) i ≡ cond b (Some (byte_at bs i)) (byte_from o i)
 byte_cond true bs o i = refl
@@ -302,7 +306,7 @@ byte_cond false bs o i = refl
 byte_in-listed : (fresh : ℕ) (es : List (ℕ × List ℕ)) (a : ℕ) → byte_in (from_list (numbered fresh es)) a ≡ byte_in_pages es a
 byte_in-listed fresh [] a = refl
 byte_in-listed fresh (e ∷ es) a =
-    ap (λ o. byte_from o (a % 4096)) (contents-insert (from_list (numbered (fresh + 1) es)) e.0 (record { bytes = e.1; copy = fresh; fork_mark = false }) (page_of a))
+    ap (λ o. byte_from o (a % 4096)) (contents-insert (from_list (numbered (fresh + 1) es)) e.0 (record { bytes = e.1; copy = fresh; fork_mark = false; stored_mark = false }) (page_of a))
     ∙ byte_cond (e.0 == page_of a) e.1 (contents (from_list (numbered (fresh + 1) es)) (page_of a)) (a % 4096)
     ∙ ap (cond (e.0 == page_of a) (Some (byte_at e.1 (a % 4096)))) (byte_in-listed (fresh + 1) es a)
 

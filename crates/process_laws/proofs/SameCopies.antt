@@ -7,7 +7,7 @@ use Rattle.std.proofs.lemmas.Map.Lookups.{exact_unsigned}
 use Rattle.std.specs.FinMap.Entries.{find, find-put, same_entries}
 use Rattle.process_model.specs.PageMap.{each_value, numbers, keys}
 use Rattle.process_model.specs.Process.{Process, Page}
-use Rattle.process_model.specs.Residence.{marked, marked_page, child_of}
+use Rattle.process_model.specs.Residence.{marked, marked_page, child_of, child_page}
 use Rattle.process_model.specs.Frames.{copies_of, copies_in}
 
 -- a number is in the list
@@ -33,14 +33,19 @@ once : (xs ys : List ℕ) → (numbers (xs ++ (xs ++ ys))).entries ≡ (numbers 
 once xs ys = same_entries nat_cmp nat_cmp_total exact_unsigned _ _ (numbers (xs ++ (xs ++ ys))).sorted (numbers (xs ++ ys)).sorted (λ q. found_once q xs ys)
 
 -- marks leave the copy numbers
-copies_of_each : (p : Process) (es : List (ℕ × Page)) → map (λ e. (e.1).copy) (each_value (marked_page p) es) ≡ map (λ e. (e.1).copy) es
-copies_of_each p [] = refl
-copies_of_each p (e ∷ es) = ap (λ ns. (e.1).copy ∷ ns) (copies_of_each p es)
+copies_of_each : (f : ℕ → Page → Page) → ((n : ℕ) (x : Page) → (f n x).copy ≡ x.copy) → (es : List (ℕ × Page)) → map (λ e. (e.1).copy) (each_value f es) ≡ map (λ e. (e.1).copy) es
+copies_of_each f same [] = refl
+copies_of_each f same (e ∷ es) = ap (λ n. n ∷ map (λ d. (d.1).copy) (each_value f es)) (same e.0 e.1) ∙ ap (λ ns. (e.1).copy ∷ ns) (copies_of_each f same es)
 
 pub copies_of_marked : (p : Process) → copies_of (marked p) ≡ copies_of p
-copies_of_marked p = copies_of_each p p.settled.entries
+copies_of_marked p = copies_of_each (marked_page p) (λ n x. refl) p.settled.entries
+
+pub copies_of_child : (p : Process) → copies_of (child_of p) ≡ copies_of p
+copies_of_child p = copies_of_each (child_page p) (λ n x. refl) p.settled.entries
 
 -- parent and child have the copy numbers that the parent had
 pub shared_by_fork : (p : Process) (others : List Process) → copies_in (marked p ∷ child_of p ∷ others) ≡ copies_in (p ∷ others)
 shared_by_fork p others =
-    ap (λ xs. keys (numbers (xs ++ (xs ++ flat_map copies_of others)))) (copies_of_marked p) ∙ ap (map (λ e. e.0)) (once (copies_of p) (flat_map copies_of others))
+    ap (λ xs. keys (numbers (xs ++ (copies_of (child_of p) ++ flat_map copies_of others)))) (copies_of_marked p)
+    ∙ ap (λ xs. keys (numbers (copies_of p ++ (xs ++ flat_map copies_of others)))) (copies_of_child p)
+    ∙ ap (map (λ e. e.0)) (once (copies_of p) (flat_map copies_of others))

@@ -1,12 +1,14 @@
 -- Service of a page takes its need from the free frames.
-use Rattle.std.proofs.Common.{◌≡◌, ℕ, Bool, true, false, ◌+◌, ◌-◌, ◌≤◌, ◌<◌, inl, inr, refl, sym, ap, ◌∙◌, arith, List, ◌∷◌, ◌++◌, Option, None, Some, length-set}
+use Rattle.std.proofs.Common.{◌≡◌, ℕ, Bool, true, false, cond, ◌+◌, ◌-◌, ◌≤◌, ◌<◌, inl, inr, refl, sym, ap, subst, ◌∙◌, arith, List, ◌∷◌, ◌++◌, Option, None, Some, length-set}
+use Rattle.std.proofs.lemmas.Bool.{and_parts}
 use Rattle.std.specs.Prelude.{Result, Ok, Err, slice_get, slice_set, sum_by}
 use Rattle.process_model.specs.PageMap.{get, numbers, keys, count}
 use Rattle.process_model.specs.Process.{Process, Page}
-use Rattle.process_model.specs.Residence.{settled_anew, initial_page, with_page, unmarked, is_resident_page, is_resident, made_resident_from}
-use Rattle.process_model.specs.Frames.{live, copies_of, own_frames, tables_needed, tables_of, settle_need, part_need, resident_need_of, resident_need}
-use Rattle.process_model.specs.World.{World, process_in, free, others_have, is_shared_page}
-use Rattle.process_model.specs.Service.{is_dry, unless_dry, resident_world}
+use Rattle.process_model.specs.Residence.{settled_anew, initial_page, with_page, is_resident_page, is_resident, leaves_mark, made_resident_from, parts_from, region_on, taken_over}
+use Rattle.process_model.specs.Frames.{live, copies_of, own_frames, tables_needed, tables_of, settle_need, part_need, resident_need_of}
+use Rattle.process_model.specs.World.{World, process_in, free, others_have}
+use Rattle.process_model.specs.Around.{Progress, is_shared_by, is_shared_page, need_at, resident_at, unless_dry}
+use Rattle.process_model.specs.Service.{around, begun, is_dry, with_progress}
 use Rattle.process_laws.specs.Numbered.{HasNewCopies}
 use Rattle.process_laws.proofs.SetSizes.{Among, Within, among_front, among_back, among_parts, among_middle, middle_has, longer_only, longer_has, count_same, count_new}
 use Rattle.process_laws.proofs.Needed.{tables_grow, tables_of_insert}
@@ -58,51 +60,51 @@ module _ (w : World) (s : ℕ) (p : Process) (full : slice_get w.slots s ≡ Som
     one_more : (xs : List ℕ) → Within (xs ++ others) (w.counter ∷ (copies_of p ++ others)) → Within (w.counter ∷ (copies_of p ++ others)) (xs ++ others) → count (numbers (xs ++ others)) ≡ count (numbers (copies_of p ++ others)) + 1
     one_more xs f g = count_same (xs ++ others) (w.counter ∷ (copies_of p ++ others)) f g ∙ count_new w.counter (copies_of p ++ others) counter_new
 
-    settling : (page : ℕ) → get p.settled page ≡ None → Takes (settled_anew w.files w.counter p page) (settle_need p page)
-    settling page none =
-        let x : Page = record { bytes = initial_page w.files p page; copy = w.counter; fork_mark = false } in
-        let r : Process = settled_anew w.files w.counter p page in
+    settling : (access : Access) (page : ℕ) → get p.settled page ≡ None → Takes (settled_anew w.files w.counter p access page) (settle_need p page)
+    settling access page none =
+        let x : Page = record { bytes = initial_page w.files p page; copy = w.counter; fork_mark = false; stored_mark = leaves_mark access (region_on p page) } in
+        let r : Process = settled_anew w.files w.counter p access page in
         let copies : count (numbers (copies_of r ++ others)) ≡ count (numbers (copies_of p ++ others)) + 1 =
         one_more (copies_of r) (longer_only w.counter (copies_of r) (copies_of p) others (put_only page x p.settled.entries none)) (longer_has w.counter (copies_of r) (copies_of p) others (put_has page x p.settled.entries none)) in
         let grow : tables_of p ≤ tables_needed (page ∷ keys p.tabled) = tables_grow page (keys p.tabled) in
         let tables : tables_of r ≡ tables_needed (page ∷ keys p.tabled) = tables_of_insert p.tabled page in
         takes r 1 (tables_needed (page ∷ keys p.tabled) - tables_of p) copies (omega (grow, tables, arith))
 
-    parting : (page : ℕ) (x : Page) (b : Bool) → get p.settled page ≡ Some x → others_have w s x.copy ≡ b → Takes (with_page p page (unmarked w.counter b x)) (part_need b)
-    parting page x true is shared =
-        let r : Process = with_page p page (unmarked w.counter true x) in
-        let at : Replaced x.copy w.counter (copies_of p) (copies_of r) = put_replaces page (unmarked w.counter true x) x p.settled.entries p.settled.sorted is in
-        let both : Among x.copy others = held x.copy (live (slice_set w.slots s None)) shared in
+    -- a page in the place of another, with a new number where others have the old one
+    taking : (page : ℕ) (x y : Page) (b : Bool) → get p.settled page ≡ Some x → y.copy ≡ cond b w.counter x.copy → (b ≡ true → others_have w s x.copy ≡ true) → Takes (with_page p page y) (part_need b)
+    taking page x y true is number shared =
+        let r : Process = with_page p page y in
+        let at : Replaced x.copy w.counter (copies_of p) (copies_of r) = subst (λ n. Replaced x.copy n (copies_of p) (copies_of r)) number (put_replaces page y x p.settled.entries p.settled.sorted is) in
+        let both : Among x.copy others = held x.copy (live (slice_set w.slots s None)) (shared refl) in
         takes r 1 0 (one_more (copies_of r)
         (rw (at.before, at.after) (changed_only w.counter x.copy at.front at.back others))
         (rw (at.before, at.after) (changed_has w.counter x.copy at.front at.back others both))) (omega arith)
-    parting page x false is alone =
-        let r : Process = with_page p page (unmarked w.counter false x) in
-        let at : Replaced x.copy x.copy (copies_of p) (copies_of r) = put_replaces page (unmarked w.counter false x) x p.settled.entries p.settled.sorted is in
+    taking page x y false is number shared =
+        let r : Process = with_page p page y in
+        let at : Replaced x.copy x.copy (copies_of p) (copies_of r) = subst (λ n. Replaced x.copy n (copies_of p) (copies_of r)) number (put_replaces page y x p.settled.entries p.settled.sorted is) in
         let same : copies_of r ≡ copies_of p = at.after ∙ sym at.before in
         takes r 0 0 (rw same (omega arith)) (omega arith)
 
-    serving : (access : Access) (page : ℕ) (o : Option Page) → get p.settled page ≡ o → is_resident_page access o ≡ false
-        → Takes (made_resident_from w.files w.counter (is_shared_page w s o) p access page o) (resident_need_of (is_shared_page w s o) p access page o)
-    serving access page None is absent = settling page is
-    serving access page (Some x) is absent = rw absent (parting page x (others_have w s x.copy) is refl)
+    serving : (access : Access) (page : ℕ) (o : Option Page) → get p.settled page ≡ o → is_resident_page access (region_on p page) o ≡ false
+        → Takes (made_resident_from w.files w.counter (is_shared_by (others_have w s) o) p access page o) (resident_need_of (is_shared_by (others_have w s) o) p access page o)
+    serving access page None is absent = settling access page is
+    serving access page (Some x) is absent = rw absent (taking page x (taken_over w.counter (others_have w s x.copy) (region_on p page) x) (parts_from (others_have w s x.copy) x) is refl (λ e. (and_parts x.fork_mark (others_have w s x.copy) e).1))
 
-free_of : Result World Rule → ℕ
-free_of (Ok w) = free w
-free_of (Err r) = 0
+free_of : World → ℕ → Result Progress Rule → ℕ
+free_of w s (Ok g) = free (with_progress w s g)
+free_of w s (Err r) = 0
 
-pub service_spends : (w v : World) (s page : ℕ) (p : Process) (access : Access) → HasNewCopies w → process_in w s ≡ Some p → is_resident p access page ≡ false
-    → resident_world w s p access page ≡ Ok v → free v + resident_need (is_shared_page w s (get p.settled page)) p access page ≡ free w
-unfolding resident_world free_of
-service_spends w v s page p access new here absent done =
+pub service_spends : (w : World) (s page : ℕ) (p : Process) (access : Access) (g : Progress) → HasNewCopies w → process_in w s ≡ Some p → is_resident p access page ≡ false
+    → resident_at (around w s) access page (begun w p) ≡ Ok g → free (with_progress w s g) + need_at (around w s) access page p ≡ free w
+unfolding resident_at free_of
+service_spends w s page p access g new here absent done =
     let full : slice_get w.slots s ≡ Some (Some p) = full_slot (slice_get w.slots s) p here in
-    let shared : Bool = is_shared_page w s (get p.settled page) in
-    let need : ℕ = resident_need shared p access page in
-    let r : Process = made_resident_from w.files w.counter shared p access page (get p.settled page) in
+    let need : ℕ = need_at (around w s) access page p in
+    let r : Process = made_resident_from w.files w.counter (is_shared_page (around w s) p page) p access page (get p.settled page) in
     let t = serving w s p full new access page (get p.settled page) refl absent in
-    elim (is_dry w need) as (λ b. is_dry w need ≡ b → unless_dry w s p access page shared b ≡ Ok v → free v + need ≡ free w) [
+    elim (is_dry w (0 + need)) as (λ b. is_dry w (0 + need) ≡ b → unless_dry (around w s) access page (begun w p) need b ≡ Ok g → free (with_progress w s g) + need ≡ free w) [
       | true ↦ λ _ done. absurd (cc)
       | false ↦ λ wet done.
-          let is : free v ≡ free (record w { slots = slice_set w.slots s (Some r); counter = w.counter + 1 }) = sym (ap free_of done) in
-          rw is (spent w.frames need w.slots (slice_set w.slots s (Some r)) (length-set w.slots s (Some r)) t.grown wet)
+          let is : free (with_progress w s g) ≡ free (record w { slots = slice_set w.slots s (Some r); counter = w.counter + 1 }) = sym (ap (free_of w s) done) in
+          rw is (spent w.frames need w.slots (slice_set w.slots s (Some r)) (length-set w.slots s (Some r)) t.grown (ap (is_dry w) (omega arith) ∙ wet))
     ] refl (rw absent at done)

@@ -1,12 +1,13 @@
 -- Pages that are made to stand for an access.
-use Rattle.std.proofs.Common.{◌≡◌, ℕ, Bool, true, false, cond, not, refl, ap, ◌∙◌, List, Option, None, Some}
+use Rattle.std.proofs.Common.{◌≡◌, ℕ, Bool, true, false, cond, not, ◌||◌, refl, ap, ◌∙◌, List, Option, None, Some}
 use Rattle.std.specs.Ordering.{nat_cmp}
 use Rattle.std.specs.Cmp.{eq_by_cmp_equiv, nat_cmp_total}
 use Rattle.std.specs.FinMap.Entries.{find-put}
 use Rattle.process_model.specs.Files.{File}
 use Rattle.process_model.specs.PageMap.{PageMap, get, insert}
 use Rattle.process_model.specs.Process.{Process, Page}
-use Rattle.process_model.specs.Residence.{goes_through, initial_page, is_resident, is_resident_page, made_resident, made_resident_from, unmarked, unmarked_unless}
+use Rattle.process_model.specs.Regions.{Region, keeps_stores}
+use Rattle.process_model.specs.Residence.{goes_through, initial_page, is_resident, is_resident_page, leaves_mark, made_resident, made_resident_from, region_on, taken_over, taken_over_unless}
 use Rattle.sv39_entry.specs.declared.access.Access.{Access}
 use Rattle.sv39_entry.specs.declared.access.Access.TheVariants.{Fetch, Load, Store}
 
@@ -14,18 +15,34 @@ use Rattle.sv39_entry.specs.declared.access.Access.TheVariants.{Fetch, Load, Sto
 pub put_is_there : {X : Type 0} (m : PageMap X) (k : ℕ) (v : X) → get (insert m k v) k ≡ Some v
 put_is_there m k v = find-put nat_cmp nat_cmp_total k k v m.entries ∙ ap (λ b. cond b (Some v) (get m k)) ((eq_by_cmp_equiv nat_cmp_total).refl k)
 
--- every access goes through a page without a mark
-unforked_serves : (access : Access) (s : Page) → s.fork_mark ≡ false → goes_through access s ≡ true
-unforked_serves Fetch s e = refl
-unforked_serves Load s e = refl
-unforked_serves Store s e = ap not e
+-- every access goes through a page that was just settled for it
+
+either : (m : Bool) → (m || not m) ≡ true
+either true = refl
+either false = refl
+
+new_serves : (access : Access) (r : Option Region) (bytes : List ℕ) (copy : ℕ) → goes_through access r (record { bytes = bytes; copy = copy; fork_mark = false; stored_mark = leaves_mark access r }) ≡ true
+new_serves Fetch r bytes copy = refl
+new_serves Load r bytes copy = refl
+new_serves Store r bytes copy = either (keeps_stores r)
+
+-- and through one that was taken over
+
+marked_either : (s m : Bool) → ((s || m) || not m) ≡ true
+marked_either true m = refl
+marked_either false m = either m
+
+taken_serves : (access : Access) (fresh : ℕ) (shared : Bool) (r : Option Region) (s : Page) → goes_through access r (taken_over fresh shared r s) ≡ true
+taken_serves Fetch fresh shared r s = refl
+taken_serves Load fresh shared r s = refl
+taken_serves Store fresh shared r s = marked_either s.stored_mark (keeps_stores r)
 
 made_there : (files : List File) (fresh : ℕ) (shared : Bool) (p : Process) (access : Access) (page : ℕ) (o : Option Page) → get p.settled page ≡ o → is_resident (made_resident_from files fresh shared p access page o) access page ≡ true
-made_there files fresh shared p access page None e = ap (is_resident_page access) (put_is_there p.settled page _) ∙ unforked_serves access (record { bytes = initial_page files p page; copy = fresh; fork_mark = false }) refl
+made_there files fresh shared p access page None e = ap (is_resident_page access (region_on p page)) (put_is_there p.settled page _) ∙ new_serves access (region_on p page) (initial_page files p page) fresh
 made_there files fresh shared p access page (Some s) e =
-    elim (goes_through access s) as (λ b. goes_through access s ≡ b → is_resident (unmarked_unless fresh shared p page s b) access page ≡ true) [
-      | true ↦ λ t. ap (is_resident_page access) e ∙ t
-      | false ↦ λ _. ap (is_resident_page access) (put_is_there p.settled page _) ∙ unforked_serves access (unmarked fresh shared s) refl
+    elim (goes_through access (region_on p page) s) as (λ b. goes_through access (region_on p page) s ≡ b → is_resident (taken_over_unless fresh shared p page s b) access page ≡ true) [
+      | true ↦ λ t. ap (is_resident_page access (region_on p page)) e ∙ t
+      | false ↦ λ _. ap (is_resident_page access (region_on p page)) (put_is_there p.settled page _) ∙ taken_serves access fresh shared (region_on p page) s
     ] refl
 
 -- an access whose page was made resident is resident

@@ -8,8 +8,8 @@ use Rattle.process_model.specs.Harts.{Hart}
 use Rattle.process_model.specs.Images.{LoadSegment}
 use Rattle.process_model.specs.Mappings.{Mapped, Unmapped}
 use Rattle.process_model.specs.World.{World, Outcome, flat, process_in, with_process, lowest_free, unless_refused, on_hart_at, on_hart, always, with_process_of, with_slot_of, with_its_process, kernel_call, can_call}
-use Rattle.process_model.specs.Service.{Asked, if_resident, if_settled, unless_denied, access_step, unless_dry, unless_resident, resident_world, reached, ready, served_or_ended, served}
-use Rattle.process_model.specs.Copies.{Copied, copy_begun, reached_by, with_byte_on, with_byte, one_in, next_in, one_out, next_out, copied_in, copied_out}
+use Rattle.process_model.specs.Around.{Progress}
+use Rattle.process_model.specs.Service.{Answer, access_step, served_or_ended, served, told_if}
 use Rattle.process_model.specs.Calls.{started_unless, started_as, started, replaced_unless, replaced, forked_unless, forked, resized_to, mapped_to, unmapped_to}
 use Rattle.process_model.specs.Stale.{with_stale_slots}
 use Rattle.process_model.specs.Steps.{plain_step}
@@ -66,42 +66,18 @@ module _ (t : ℕ) (q : Process) where
   same_slots w v e k = record { kept = ap (λ slots. flat (slice_get slots t)) e ∙ k.kept }
 
   module _ (w : World) (k : Leaves t q w) where
-    dry_leaves : (s : ℕ) (p : Process) (access : Access) (page : ℕ) (shared dry : Bool) → s ≢ t → LeavesIfOk t q (unless_dry w s p access page shared dry)
-    dry_leaves s p access page shared true ne = refused
-    dry_leaves s p access page shared false ne = went (set_leaves w _ s _ ne refl k)
+    -- whatever becomes of the process of another slot
+    told_leaves : (h : ℕ) (hart : Hart) (s : ℕ) (x : Answer) (b : Bool) → s ≢ t → Leaves t q (told_if w h hart s x b).world
+    told_leaves h hart s x true ne = set_leaves w _ s _ ne refl k
+    told_leaves h hart s x false ne = set_leaves w _ s _ ne refl k
 
-    resident_leaves : (s : ℕ) (p : Process) (access : Access) (page : ℕ) (shared there : Bool) → s ≢ t → LeavesIfOk t q (unless_resident w s p access page shared there)
-    resident_leaves s p access page shared true ne = went k
-    resident_leaves s p access page shared false ne = dry_leaves s p access page shared _ ne
+    served_or_leaves : (h : ℕ) (hart : Hart) (s : ℕ) (p : Process) (a : Pending) (r : Result Progress Rule) → s ≢ t → Leaves t q (served_or_ended w h hart s p a r).world
+    served_or_leaves h hart s p a (Err r) ne = set_leaves w _ s None ne refl k
+    served_or_leaves h hart s p a (Ok g) ne = set_leaves w _ s _ ne refl k
 
-    reached_leaves : (s : ℕ) (p : Process) (access : Access) (address : ℕ) (r : Option Rule) → s ≢ t → LeavesIfOk t q (reached w s p access address r)
-    unfolding resident_world
-    reached_leaves s p access address (Some r) ne = refused
-    reached_leaves s p access address None ne = resident_leaves s p access _ _ _ ne
-
-    reached_by_leaves : (s : ℕ) (access : Access) (address : ℕ) (o : Option Process) → s ≢ t → LeavesIfOk t q (reached_by w s access address o)
-    reached_by_leaves s access address None ne = refused
-    reached_by_leaves s access address (Some p) ne = reached_leaves s p access address _ ne
-
-    byte_on_leaves : (s : ℕ) (p : Process) (address b : ℕ) (o : Option Page) → s ≢ t → Leaves t q (with_byte_on w s p address b o)
-    byte_on_leaves s p address b None ne = k
-    byte_on_leaves s p address b (Some page) ne = set_leaves w _ s _ ne refl k
-
-    byte_leaves : (s address b : ℕ) (o : Option Process) → s ≢ t → Leaves t q (with_byte w s address b o)
-    byte_leaves s address b None ne = k
-    byte_leaves s address b (Some p) ne = byte_on_leaves s p address b _ ne
-
-    page_leaves : (a : Asked) (s : ℕ) (p : Process) (page : Page) (b : Bool) → s ≢ t → Leaves t q (if_resident w a s p page b).world
-    page_leaves a s p page true ne = set_leaves w _ s _ ne refl k
-    page_leaves a s p page false ne = set_leaves w _ s _ ne refl k
-
-    settled_leaves : (a : Asked) (s : ℕ) (p : Process) (o : Option Page) → s ≢ t → Leaves t q (if_settled w a s p o).world
-    settled_leaves a s p None ne = set_leaves w _ s _ ne refl k
-    settled_leaves a s p (Some page) ne = page_leaves a s p page _ ne
-
-    denied_leaves : (a : Asked) (s : ℕ) (p : Process) (o : Option Rule) → s ≢ t → Leaves t q (unless_denied w a s p o).world
-    denied_leaves a s p (Some r) ne = set_leaves w _ s _ ne refl k
-    denied_leaves a s p None ne = settled_leaves a s p _ ne
+    served_leaves : (h : ℕ) (hart : Hart) (s : ℕ) (p : Process) (o : Option Pending) → s ≢ t → Leaves t q (served w h hart s p o).world
+    served_leaves h hart s p None ne = k
+    served_leaves h hart s p (Some a) ne = served_or_leaves h hart s p a _ ne
 
     refused_leaves : (run : Hart → Outcome) (hart : Hart) (o : Option Refusal) → Leaves t q (run hart).world → Leaves t q (unless_refused w run hart o).world
     refused_leaves run hart (Some r) f = k
@@ -168,47 +144,6 @@ module _ (t : ℕ) (q : Process) where
     unmapped_leaves s (Err r) ne = k
     unmapped_leaves s (Ok u) ne = set_leaves w _ s _ ne refl k
 
-    ready_leaves : (s : ℕ) (a : Pending) (o : Option Process) → s ≢ t → Leaves t q (ready w s a o).world
-    ready_leaves s a None ne = k
-    ready_leaves s a (Some p) ne = set_leaves w _ s _ ne refl k
-
-  ended_or_leaves : (w : World) → Leaves t q w → (h : ℕ) (hart : Hart) (s : ℕ) (p : Process) (a : Pending) (r : Result World Rule) → LeavesIfOk t q r → s ≢ t → Leaves t q (served_or_ended w h hart s p a r).world
-  ended_or_leaves w k h hart s p a (Err r) refused ne = set_leaves w _ s None ne refl k
-  ended_or_leaves w k h hart s p a (Ok after) (went l) ne = ready_leaves after l s a _ ne
-
-  served_leaves : (w : World) → Leaves t q w → (h : ℕ) (hart : Hart) (s : ℕ) (p : Process) (o : Option Pending) → s ≢ t → Leaves t q (served w h hart s p o).world
-  served_leaves w k h hart s p None ne = k
-  served_leaves w k h hart s p (Some a) ne = ended_or_leaves w k h hart s p a _ (reached_leaves w k s p a.access a.address _ ne) ne
-
-  one_in_leaves : (c : Copied) (s address : ℕ) (r : Result World Rule) → LeavesIfOk t q r → Leaves t q c.world → Leaves t q (one_in c s address r).world
-  one_in_leaves c s address (Err r) refused k = k
-  one_in_leaves c s address (Ok w) (went l) k = l
-
-  next_in_leaves : (s : ℕ) (c : Copied) (address : ℕ) (o : Option Rule) → s ≢ t → Leaves t q c.world → Leaves t q (next_in s c address o).world
-  next_in_leaves s c address (Some r) ne k = k
-  next_in_leaves s c address None ne k = one_in_leaves c s address _ (reached_by_leaves c.world k s access.Load address _ ne) k
-
-  one_out_leaves : (c : Copied) (s address b : ℕ) (r : Result World Rule) → LeavesIfOk t q r → s ≢ t → Leaves t q c.world → Leaves t q (one_out c s address b r).world
-  one_out_leaves c s address b (Err r) refused ne k = k
-  one_out_leaves c s address b (Ok w) (went l) ne k = byte_leaves w l s address b _ ne
-
-  next_out_leaves : (s : ℕ) (c : Copied) (x : ℕ × ℕ) (o : Option Rule) → s ≢ t → Leaves t q c.world → Leaves t q (next_out s c x o).world
-  next_out_leaves s c x (Some r) ne k = k
-  next_out_leaves s c x None ne k = one_out_leaves c s x.0 x.1 _ (reached_by_leaves c.world k s access.Store x.0 _ ne) ne k
-
-  -- what each step of a fold keeps, the fold keeps
-  fold_leaves : {A : Type 0} (f : Copied → A → Copied) (xs : List A) (c : Copied) → ((d : Copied) (x : A) → Leaves t q d.world → Leaves t q (f d x).world) → Leaves t q c.world → Leaves t q (fold f c xs).world
-  fold_leaves f [] c keep k = k
-  fold_leaves f (x ∷ xs) c keep k = fold_leaves f xs (f c x) keep (keep c x k)
-
-  copied_in_leaves : (w : World) → Leaves t q w → (s address n : ℕ) → s ≢ t → Leaves t q (copied_in w s address n).world
-  unfolding copied_in
-  copied_in_leaves w k s address n ne = fold_leaves (λ c a. next_in s c a c.stop) (numbers_from address n) (copy_begun w) (λ c a l. next_in_leaves s c a _ ne l) k
-
-  copied_out_leaves : (w : World) → Leaves t q w → (s address : ℕ) (bytes : List ℕ) → s ≢ t → Leaves t q (copied_out w s address bytes).world
-  unfolding copied_out
-  copied_out_leaves w k s address bytes ne = fold_leaves (λ c x. next_out s c x c.stop) (zip (numbers_from address (length bytes)) bytes) (copy_begun w) (λ c x l. next_out_leaves s c x _ ne l) k
-
   kernel_leaves : (w : World) → Leaves t q w → (h : ℕ) (proper : Bool) (run : Hart → ℕ → Process → Outcome) → ((hart : Hart) → slice_get w.harts h ≡ Some hart → hart.slot ≢ Some t)
       → ((hart : Hart) (s : ℕ) (p : Process) → s ≢ t → Leaves t q (run hart s p).world) → Leaves t q (kernel_call w h proper run).world
   kernel_leaves w k h proper run apart f = on_hart_leaves w k h proper (can_call w) always _ (λ hart is. its_leaves w k hart (run hart) (apart hart is) (f hart))
@@ -216,7 +151,7 @@ module _ (t : ℕ) (q : Process) where
   access_leaves : (w : World) → Leaves t q w → (h : ℕ) (access : Access) (address width value : ℕ) (via : Option ℕ) → ((hart : Hart) → slice_get w.harts h ≡ Some hart → hart.slot ≢ Some t)
       → Leaves t q (access_step w h access address width value via).world
   access_leaves w k h access address width value via apart = on_hart_leaves w k h (is_width width) _ _ _
-      (λ hart is. its_leaves w k hart _ (apart hart is) (λ s p ne. denied_leaves w k (record { hart_number = h; hart = hart; access = access; address = address; width = width; value = value }) s p _ ne))
+      (λ hart is. its_leaves w k hart _ (apart hart is) (λ s p ne. told_leaves w k h hart s _ _ ne))
 
   plain_leaves : (w : World) → Leaves t q w → (s : Step) → IsOfAnother w s t → Leaves t q (plain_step w s).world
   plain_leaves w k (step.Start image) apart = started_leaves w k _ _ refl
@@ -236,9 +171,9 @@ module _ (t : ℕ) (q : Process) where
   plain_leaves w k (step.Mmap h len protection flags n) apart = kernel_leaves w k h true _ (λ hart is. apart h hart refl is) (λ hart s p ne. mapped_leaves w k s _ ne)
   plain_leaves w k (step.Munmap h address len) apart = kernel_leaves w k h true _ (λ hart is. apart h hart refl is) (λ hart s p ne. unmapped_leaves w k s _ ne)
   plain_leaves w k (step.CopyIn h address n) apart = kernel_leaves w k h _ _ (λ hart is. apart h hart refl is)
-      (λ hart s p ne. copied_in_leaves (with_process w s (without_pending p)) (set_leaves w _ s _ ne refl k) s address n ne)
+      (λ hart s p ne. set_leaves w _ s _ ne refl k)
   plain_leaves w k (step.CopyOut h address bytes) apart = kernel_leaves w k h _ _ (λ hart is. apart h hart refl is)
-      (λ hart s p ne. copied_out_leaves (with_process w s (without_pending p)) (set_leaves w _ s _ ne refl k) s address bytes.now ne)
+      (λ hart s p ne. set_leaves w _ s _ ne refl k)
   plain_leaves w k (step.Exit h status) apart = kernel_leaves w k h true _ (λ hart is. apart h hart refl is) (λ hart s p ne. set_leaves w _ s None ne refl k)
 
   marks_leave : (policy : Policy) (w : World) (o : Outcome) → Leaves t q o.world → Leaves t q (with_stale_slots policy w o).world

@@ -1,13 +1,13 @@
 // Laws of the accounts.
 ghost use Rattle.process_laws.specs.Numbered.{HasNewCopies};
+ghost use Rattle.process_model.specs.Around.{need_at, Progress, resident_at};
 ghost use Rattle.process_model.specs.Calls.{forked_unless, with_image};
-ghost use Rattle.process_model.specs.Frames.{copies_in, fork_need, resident_need, start_need};
+ghost use Rattle.process_model.specs.Frames.{copies_in, fork_need, start_need};
 ghost use Rattle.process_model.specs.Images.{image_loads, LoadSegment};
-ghost use Rattle.process_model.specs.PageMap.{get};
 ghost use Rattle.process_model.specs.Process.{Process};
 ghost use Rattle.process_model.specs.Residence.{child_of, is_resident, marked};
-ghost use Rattle.process_model.specs.Service.{is_dry, resident_world};
-ghost use Rattle.process_model.specs.World.{free, free_slot, is_shared_page, process_in, report, World};
+ghost use Rattle.process_model.specs.Service.{around, begun, is_dry, with_progress};
+ghost use Rattle.process_model.specs.World.{free, free_slot, process_in, report, World};
 ghost use Rattle.process_model.specs.declared.image.Image.{Image};
 ghost use Rattle.std.specs.Prelude.{◌+◌, ◌≡◌, ◌∷◌, false, List, Ok, Some, ℕ};
 ghost use Rattle.sv39_entry.specs.declared.access.Access.{Access};
@@ -30,8 +30,8 @@ pub fn fork_takes_its_need()
 
 /// Service of a page that is not resident takes just what it needs from the free frames.
 pub fn service_takes_its_need()
-    ensures { (w v : World) (s page : ℕ) (p : Process) (access : Access) → HasNewCopies w → process_in w s ≡ Some p → is_resident p access page ≡ false
-        → resident_world w s p access page ≡ Ok v → free v + resident_need (is_shared_page w s (get p.settled page)) p access page ≡ free w }
+    ensures { (w : World) (s page : ℕ) (p : Process) (access : Access) (g : Progress) → HasNewCopies w → process_in w s ≡ Some p → is_resident p access page ≡ false
+        → resident_at (around w s) access page (begun w p) ≡ Ok g → free (with_progress w s g) + need_at (around w s) access page p ≡ free w }
 {}
 
 /// A process that is started takes just what it needs from the free frames.

@@ -7,7 +7,7 @@ use Rattle.process_model.specs.Images.{LoadSegment}
 use Rattle.process_model.specs.Loading.{image_pages, process_of}
 use Rattle.process_model.specs.Frames.{start_need, exec_need, fork_need}
 use Rattle.process_model.specs.Copies.{Copied, in_reply, out_reply}
-use Rattle.process_model.specs.Service.{is_dry}
+use Rattle.process_model.specs.Service.{is_dry, with_progress}
 use Rattle.process_model.specs.World.{World, Outcome, answers, refuses, with_process}
 use Rattle.process_model.specs.declared.image.BadImage.{BadImage}
 use Rattle.process_model.specs.declared.step.Refusal.{Refusal}
@@ -69,8 +69,8 @@ unmapped_to w s (Ok u) = answers (record (with_process w s (without_pending u.pr
 
 -- copies
 
-abbrev pub told_in : Copied → Outcome
-told_in c = answers c.world (in_reply c.bytes c.stop)
+abbrev pub told_in : World → ℕ → Copied → Outcome
+told_in w s c = answers (with_progress w s c.progress) (in_reply c.bytes c.stop)
 
-abbrev pub told_out : Copied → Outcome
-told_out c = answers c.world (out_reply c.bytes c.stop)
+abbrev pub told_out : World → ℕ → Copied → Outcome
+told_out w s c = answers (with_progress w s c.progress) (out_reply c.bytes c.stop)

@@ -3,7 +3,7 @@ use Rattle.std.specs.Prelude.{ℕ, Bool, true, false, ◌+◌, ◌-◌, ◌/◌,
 use Rattle.std.specs.List.{list_any}
 use Rattle.process_model.specs.PageMap.{get, keys, numbers, count}
 use Rattle.process_model.specs.Process.{Process, Page}
-use Rattle.process_model.specs.Residence.{goes_through}
+use Rattle.process_model.specs.Residence.{goes_through, parts_from, region_on}
 use Rattle.process_model.specs.Images.{LoadSegment}
 use Rattle.process_model.specs.Loading.{page_numbers}
 use Rattle.sv39_entry.specs.Address.{trampoline_page, trapframe_page}
@@ -29,17 +29,17 @@ tables_of p = tables_needed (keys p.tabled)
 abbrev pub settle_need : Process → ℕ → ℕ
 settle_need p page = 1 + (tables_needed (page ∷ keys p.tabled) - tables_of p)
 
--- a page loses its fork mark: one frame where another process still has it too
+-- a page is taken over: one frame where it parts from another process, and none for a mark
 abbrev pub part_need : Bool → ℕ
-part_need shared = if shared then 1 else 0
+part_need parts = if parts then 1 else 0
 
 abbrev pub unless_through : Bool → Bool → ℕ
-unless_through shared true = 0
-unless_through shared false = part_need shared
+unless_through parts true = 0
+unless_through parts false = part_need parts
 
 abbrev pub resident_need_of : Bool → Process → Access → ℕ → Option Page → ℕ
 resident_need_of shared p access page None = settle_need p page
-resident_need_of shared p access page (Some s) = unless_through shared (goes_through access s)
+resident_need_of shared p access page (Some s) = unless_through (parts_from shared s) (goes_through access (region_on p page) s)
 
 -- a page is made resident for an access; `shared` says whether another process has its copy number
 abbrev pub resident_need : Bool → Process → Access → ℕ → ℕ

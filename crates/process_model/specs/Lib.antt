@@ -10,6 +10,7 @@ pub mod Images
 pub mod Loading
 pub mod Frames
 pub mod Harts
+pub mod Around
 pub mod World
 pub mod Service
 pub mod Copies

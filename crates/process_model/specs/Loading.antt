@@ -48,7 +48,7 @@ page_numbers ls = map (λ e. e.0) (image_pages ls)
 -- each page gets a copy number of its own
 abbrev pub numbered : ℕ → List (ℕ × List ℕ) → List (ℕ × Page)
 numbered fresh [] = []
-numbered fresh (e ∷ es) = (e.0, record { bytes = e.1; copy = fresh; fork_mark = false }) ∷ numbered (fresh + 1) es
+numbered fresh (e ∷ es) = (e.0, record { bytes = e.1; copy = fresh; fork_mark = false; stored_mark = false }) ∷ numbered (fresh + 1) es
 
 -- heap and stack meet at the top of the stack page, and the heap is empty
 unfoldable pub process_of : ℕ → List LoadSegment → Process

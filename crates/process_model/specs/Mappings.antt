@@ -4,7 +4,7 @@ use Rattle.std.specs.List.{list_all}
 use Rattle.process_model.specs.Bytes.{pages_for, first_true}
 use Rattle.process_model.specs.Files.{File, is_writable, with_page_written}
 use Rattle.process_model.specs.Heap.{without_pages}
-use Rattle.process_model.specs.Regions.{Region, RegionKind, shared_mapping, private_mapping, Source, file, end_of}
+use Rattle.process_model.specs.Regions.{Region, shared_mapping, private_mapping, Source, file, keeps_stores, end_of}
 use Rattle.process_model.specs.Process.{Process, Page}
 use Rattle.sv39_entry.specs.Address.{page_of, trapframe_page}
 use Rattle.process_model.specs.declared.step.Refusal.{Refusal}
@@ -99,13 +99,9 @@ mapped files p len protection flags n =
 
 -- write-back
 
-abbrev pub is_shared_kind : RegionKind → Bool
-is_shared_kind shared_mapping = true
-is_shared_kind _ = false
-
--- whether a settled page of the region is written back to its file: each one of a shared mapping that may be written
+-- whether a settled page of the region is written back to its file: one that was stored to, of a shared mapping that may be written
 abbrev pub is_written_back : Region → Page → Bool
-is_written_back m page = m.writes && is_shared_kind m.kind
+is_written_back m page = keeps_stores (Some m) && page.stored_mark
 
 abbrev pub page_written : Source → List File → ℕ → List ℕ → List File
 page_written (file n offset) files at bytes = with_page_written files n (offset + at) bytes

@@ -53,6 +53,15 @@ abbrev pub is_guard : Option Region → Bool
 is_guard None = false
 is_guard (Some r) = is_guard_kind r.kind
 
+abbrev pub is_shared_kind : RegionKind → Bool
+is_shared_kind shared_mapping = true
+is_shared_kind _ = false
+
+-- whether stores to the pages of a region go back to its file: those to a shared mapping that may be written
+abbrev pub keeps_stores : Option Region → Bool
+keeps_stores None = false
+keeps_stores (Some r) = r.writes && is_shared_kind r.kind
+
 -- whether the right is missing that the access needs
 abbrev pub lacks_right : Access → Option Region → Bool
 lacks_right access None = true

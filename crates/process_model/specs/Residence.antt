@@ -1,9 +1,9 @@
 -- Resident pages, what makes a page resident, and what an access does to one.
-use Rattle.std.specs.Prelude.{ℕ, Bool, true, false, not, ◌-◌, ◌+◌, ◌*◌, ◌||◌, Option, None, Some, List, [], drop, if◌then◌else◌}
+use Rattle.std.specs.Prelude.{ℕ, Bool, true, false, not, ◌-◌, ◌+◌, ◌*◌, ◌&&◌, ◌||◌, Option, None, Some, List, [], drop, if◌then◌else◌}
 use Rattle.process_model.specs.Bytes.{padded, number, low_bytes, write_bytes}
 use Rattle.process_model.specs.PageMap.{get, insert, with_values, keys, numbers}
 use Rattle.process_model.specs.Files.{File, file_page}
-use Rattle.process_model.specs.Regions.{Region, Source, zeros, image, file, region_at}
+use Rattle.process_model.specs.Regions.{Region, Source, zeros, image, file, keeps_stores, region_at}
 use Rattle.process_model.specs.Process.{Process, Page, regions, grants_write}
 use Rattle.sv39_entry.specs.declared.access.Access.{Access}
 use Rattle.sv39_entry.specs.declared.access.Access.TheVariants.{Store}
@@ -25,40 +25,60 @@ region_page files (Some r) page = source_page files r.source (4096 * (page - r.f
 abbrev pub initial_page : List File → Process → ℕ → List ℕ
 initial_page files p page = region_page files (region_at (regions p) page) page
 
--- a store does not go through a fork mark
-abbrev pub goes_through : Access → Page → Bool
-goes_through Store s = not s.fork_mark
-goes_through _ s = true
+abbrev pub region_on : Process → ℕ → Option Region
+region_on p page = region_at (regions p) page
 
-abbrev pub is_resident_page : Access → Option Page → Bool
-is_resident_page access None = false
-is_resident_page access (Some s) = goes_through access s
+-- a store goes through to a page without a fork mark; where stores go back to a file, only to one with the stored mark
+abbrev pub goes_through : Access → Option Region → Page → Bool
+goes_through Store r s = not s.fork_mark && (s.stored_mark || not (keeps_stores r))
+goes_through _ r s = true
 
--- a granted access is resident where its page is settled and, for a store, has no fork mark
+abbrev pub is_resident_page : Access → Option Region → Option Page → Bool
+is_resident_page access r None = false
+is_resident_page access r (Some s) = goes_through access r s
+
+-- a granted access is resident where its page is settled and it goes through
 abbrev pub is_resident : Process → Access → ℕ → Bool
-is_resident p access page = is_resident_page access (get p.settled page)
+is_resident p access page = is_resident_page access (region_on p page) (get p.settled page)
 
 abbrev pub with_page : Process → ℕ → Page → Process
 with_page p n page = record p { settled = insert p.settled n page }
 
+-- whether an access leaves the stored mark on a page of the region
+abbrev pub leaves_mark : Access → Option Region → Bool
+leaves_mark Store r = keeps_stores r
+leaves_mark _ r = false
+
 -- a page is settled, with its initial bytes
-abbrev pub settled_anew : List File → ℕ → Process → ℕ → Process
-settled_anew files fresh p page = record p {
-  settled = insert p.settled page (record { bytes = initial_page files p page; copy = fresh; fork_mark = false });
+abbrev pub settled_anew : List File → ℕ → Process → Access → ℕ → Process
+settled_anew files fresh p access page = record p {
+  settled = insert p.settled page (record { bytes = initial_page files p page; copy = fresh; fork_mark = false; stored_mark = leaves_mark access (region_on p page) });
   tabled = insert p.tabled page tt;
 }
 
--- a marked page loses its mark, and gets a copy number of its own where another process has the present one
-abbrev pub unmarked : ℕ → Bool → Page → Page
-unmarked fresh shared s = record s { copy = if shared then fresh else s.copy; fork_mark = false }
+-- a page with the fork mark parts from another process that has its copy number
+abbrev pub parts_from : Bool → Page → Bool
+parts_from shared s = s.fork_mark && shared
 
-abbrev pub unmarked_unless : ℕ → Bool → Process → ℕ → Page → Bool → Process
-unmarked_unless fresh shared p page s true = p
-unmarked_unless fresh shared p page s false = with_page p page (unmarked fresh shared s)
+-- a page loses the fork mark, and gets a copy number of its own where another process has the present one
+abbrev pub unmarked : ℕ → Bool → Page → Page
+unmarked fresh shared s = record s { copy = if parts_from shared s then fresh else s.copy; fork_mark = false }
+
+-- a page gets the stored mark, where stores go back to a file
+abbrev pub marked_stored : Option Region → Page → Page
+marked_stored r s = record s { stored_mark = s.stored_mark || keeps_stores r }
+
+-- a page that is to be stored to: both in one service, so that one fault is enough
+abbrev pub taken_over : ℕ → Bool → Option Region → Page → Page
+taken_over fresh shared r s = marked_stored r (unmarked fresh shared s)
+
+abbrev pub taken_over_unless : ℕ → Bool → Process → ℕ → Page → Bool → Process
+taken_over_unless fresh shared p page s true = p
+taken_over_unless fresh shared p page s false = with_page p page (taken_over fresh shared (region_on p page) s)
 
 abbrev pub made_resident_from : List File → ℕ → Bool → Process → Access → ℕ → Option Page → Process
-made_resident_from files fresh shared p access page None = settled_anew files fresh p page
-made_resident_from files fresh shared p access page (Some s) = unmarked_unless fresh shared p page s (goes_through access s)
+made_resident_from files fresh shared p access page None = settled_anew files fresh p access page
+made_resident_from files fresh shared p access page (Some s) = taken_over_unless fresh shared p page s (goes_through access (region_on p page) s)
 
 -- the process after a page was made resident for an access; `fresh` is a copy number that no page has, and `shared` says
 -- whether another process has the page's
@@ -86,6 +106,10 @@ marked_page p page s = record s { fork_mark = s.fork_mark || grants_write p page
 abbrev pub marked : Process → Process
 marked p = record p { settled = with_values (marked_page p) p.settled; pending = None }
 
--- the child has the parent's regions, size and pages, with the same copy numbers
+-- what the parent stored is the parent's to write back
+abbrev pub child_page : Process → ℕ → Page → Page
+child_page p page s = record (marked_page p page s) { stored_mark = false }
+
+-- the child has the parent's regions, size and pages, with the same copy numbers, and no stored mark
 abbrev pub child_of : Process → Process
-child_of p = record (marked p) { tabled = numbers (keys p.settled) }
+child_of p = record p { settled = with_values (child_page p) p.settled; tabled = numbers (keys p.settled); pending = None }

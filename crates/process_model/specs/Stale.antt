@@ -11,16 +11,18 @@ abbrev pub same_mark : Bool → Bool → Bool
 same_mark true b = b
 same_mark false b = not b
 
--- the leaf of a page follows from its copy number and its fork mark, since the rights of its region stay
+-- the leaf of a page follows from its copy number and its two marks. The rights of its region need not be compared: no call changes
+-- those of a settled page but by letting it go, and exec, which gives new copy numbers
 abbrev pub same_leaf : ℕ × Page → ℕ × Page → Bool
-same_leaf a b = a.0 == b.0 && (a.1).copy == (b.1).copy && same_mark (a.1).fork_mark (b.1).fork_mark
+same_leaf a b =
+    a.0 == b.0 && (a.1).copy == (b.1).copy && same_mark (a.1).fork_mark (b.1).fork_mark && same_mark (a.1).stored_mark (b.1).stored_mark
 
 abbrev pub same_leaves : List (ℕ × Page) → List (ℕ × Page) → Bool
 same_leaves [] [] = true
 same_leaves (a ∷ rest) (b ∷ others) = same_leaf a b && same_leaves rest others
 same_leaves _ _ = false
 
--- a process began in the slot, or its map from pages to copy numbers and fork marks changed. Exec is such a change: its pages, at
+-- a process began in the slot, or its map from pages to copy numbers and marks changed. Exec is such a change: its pages, at
 -- least three, have new copy numbers
 abbrev pub is_changed : Option Process → Option Process → Bool
 is_changed before None = false

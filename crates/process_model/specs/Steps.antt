@@ -6,7 +6,7 @@ use Rattle.process_model.specs.Mappings.{mapped, unmapped}
 use Rattle.process_model.specs.Images.{image_loads}
 use Rattle.process_model.specs.Copies.{copied_in, copied_out, longest_copy}
 use Rattle.process_model.specs.Calls.{started, replaced, forked, resized_to, mapped_to, unmapped_to, told_in, told_out}
-use Rattle.process_model.specs.Service.{access_step, served, ended}
+use Rattle.process_model.specs.Service.{access_step, around, begun, served, ended}
 use Rattle.process_model.specs.Stale.{with_stale_slots}
 use Rattle.process_model.specs.Harts.{Hart, next_phase, is_user, may_switch, in_trampoline, phase_for, present_asid, with_key, entry_serves, fenced}
 use Rattle.process_model.specs.World.{World, Outcome, answers, with_process, with_hart, free_slot, can_run, can_go_on, can_serve, always, on_hart, with_its_process, kernel_call}
@@ -54,9 +54,9 @@ plain_step w (Exec h image) = kernel_call w h true (λ hart s p. replaced w s p 
 plain_step w (Sbrk h delta) = kernel_call w h true (λ hart s p. resized_to w s p (sbrk_result p delta))
 plain_step w (Mmap h len protection flags n) = kernel_call w h true (λ hart s p. mapped_to w s (mapped w.files p len protection flags n))
 plain_step w (Munmap h address len) = kernel_call w h true (λ hart s p. unmapped_to w s (unmapped w.files p address len))
-plain_step w (CopyIn h address n) = kernel_call w h (nat_le n longest_copy) (λ hart s p. told_in (copied_in (with_process w s (without_pending p)) s address n))
+plain_step w (CopyIn h address n) = kernel_call w h (nat_le n longest_copy) (λ hart s p. told_in w s (copied_in (around w s) (begun w (without_pending p)) address n))
 plain_step w (CopyOut h address bytes) =
-    kernel_call w h (nat_le (length bytes.now) longest_copy) (λ hart s p. told_out (copied_out (with_process w s (without_pending p)) s address bytes.now))
+    kernel_call w h (nat_le (length bytes.now) longest_copy) (λ hart s p. told_out w s (copied_out (around w s) (begun w (without_pending p)) address bytes.now))
 plain_step w (Exit h status) = kernel_call w h true (λ hart s p. ended w h hart s p (Exited status))
 
 -- a step: what it answers and changes, and the marks that follow

@@ -3,7 +3,7 @@ use Rattle.std.specs.Prelude.{ℕ, Bool, true, false, not, ◌+◌, ◌==◌, �
 use Rattle.std.specs.List.{list_any}
 use Rattle.process_model.specs.Bytes.{first_true}
 use Rattle.process_model.specs.Files.{File}
-use Rattle.process_model.specs.Process.{Process, Page, Pending}
+use Rattle.process_model.specs.Process.{Process, Pending}
 use Rattle.process_model.specs.Frames.{free_frames, accounts, live, has_copy}
 use Rattle.process_model.specs.Harts.{Hart, idle_hart, is_kernel, next_phase}
 use Rattle.process_model.specs.declared.config.Config.{Config}
@@ -82,10 +82,6 @@ free_slot w = lowest_free 0 w.slots
 -- whether a process of another slot has the page's copy number
 abbrev pub others_have : World → ℕ → ℕ → Bool
 others_have w s copy = list_any (has_copy copy) (live (without_process w s).slots)
-
-abbrev pub is_shared_page : World → ℕ → Option Page → Bool
-is_shared_page w s None = false
-is_shared_page w s (Some page) = others_have w s page.copy
 
 -- the process of a hart
 

@@ -9,7 +9,7 @@ use Rattle.process_model.specs.Images.{elf_loads, segment_loads}
 use Rattle.process_model.specs.Loading.{process_of}
 use Rattle.process_model.specs.Mappings.{mapped, unmapped}
 use Rattle.process_model.specs.Script.{item_line, line_of}
-use Rattle.process_model.specs.Service.{resident_world}
+use Rattle.process_model.specs.Around.{resident_at}
 use Rattle.process_model.specs.Steps.{step}
 use Rattle.process_model.specs.World.{on_hart, with_its_process}
 use Rattle.process_rows.proofs.Playing.{Plays, silent, ◌⇒◌}
@@ -28,7 +28,7 @@ entry_of_the_kernel : Plays (
     ∷ "load 0 0x1000 1 @0" ⇒ "refused 20 NoEntry"
     ∷ "load 0 0x1000 1" ⇒ "value 0x0"
     ∷ [])
-unfolding number low_bytes digits item_line line_of elf_loads segment_loads process_of tables_needed on_hart with_its_process resident_world sbrk_result mapped unmapped copied_in copied_out step
+unfolding number low_bytes digits item_line line_of elf_loads segment_loads process_of tables_needed on_hart with_its_process resident_at sbrk_result mapped unmapped copied_in copied_out step
 entry_of_the_kernel = refl
 
 entry_of_the_kernel_on_four_slots : Plays (
@@ -44,7 +44,7 @@ entry_of_the_kernel_on_four_slots : Plays (
     ∷ "load 0 0x1000 1 @0" ⇒ "refused 20 NoEntry"
     ∷ "load 0 0x1000 1" ⇒ "value 0x0"
     ∷ [])
-unfolding number low_bytes digits item_line line_of elf_loads segment_loads process_of tables_needed on_hart with_its_process resident_world sbrk_result mapped unmapped copied_in copied_out step
+unfolding number low_bytes digits item_line line_of elf_loads segment_loads process_of tables_needed on_hart with_its_process resident_at sbrk_result mapped unmapped copied_in copied_out step
 entry_of_the_kernel_on_four_slots = refl
 
 entry_of_the_kernel_in_the_standard_image : Plays (
@@ -60,7 +60,7 @@ entry_of_the_kernel_in_the_standard_image : Plays (
     ∷ "load 0 0x1000 1 @0" ⇒ "refused 20 NoEntry"
     ∷ "load 0 0x1000 1" ⇒ "value 0x0"
     ∷ [])
-unfolding number low_bytes digits item_line line_of elf_loads segment_loads process_of tables_needed on_hart with_its_process resident_world sbrk_result mapped unmapped copied_in copied_out step
+unfolding number low_bytes digits item_line line_of elf_loads segment_loads process_of tables_needed on_hart with_its_process resident_at sbrk_result mapped unmapped copied_in copied_out step
 entry_of_the_kernel_in_the_standard_image = refl
 
 -- the 33rd entry drives out the first
@@ -105,7 +105,7 @@ full_buffer : Plays (
     ∷ "evict 0 31" ⇒ "ok"
     ∷ "evict 0 31" ⇒ "refused 20 NoEntry"
     ∷ [])
-unfolding number low_bytes digits item_line line_of elf_loads segment_loads process_of tables_needed on_hart with_its_process resident_world sbrk_result mapped unmapped copied_in copied_out step
+unfolding number low_bytes digits item_line line_of elf_loads segment_loads process_of tables_needed on_hart with_its_process resident_at sbrk_result mapped unmapped copied_in copied_out step
 full_buffer = refl
 
 full_buffer_on_four_slots : Plays (
@@ -149,7 +149,7 @@ full_buffer_on_four_slots : Plays (
     ∷ "evict 0 31" ⇒ "ok"
     ∷ "evict 0 31" ⇒ "refused 20 NoEntry"
     ∷ [])
-unfolding number low_bytes digits item_line line_of elf_loads segment_loads process_of tables_needed on_hart with_its_process resident_world sbrk_result mapped unmapped copied_in copied_out step
+unfolding number low_bytes digits item_line line_of elf_loads segment_loads process_of tables_needed on_hart with_its_process resident_at sbrk_result mapped unmapped copied_in copied_out step
 full_buffer_on_four_slots = refl
 
 full_buffer_in_the_standard_image : Plays (
@@ -193,5 +193,5 @@ full_buffer_in_the_standard_image : Plays (
     ∷ "evict 0 31" ⇒ "ok"
     ∷ "evict 0 31" ⇒ "refused 20 NoEntry"
     ∷ [])
-unfolding number low_bytes digits item_line line_of elf_loads segment_loads process_of tables_needed on_hart with_its_process resident_world sbrk_result mapped unmapped copied_in copied_out step
+unfolding number low_bytes digits item_line line_of elf_loads segment_loads process_of tables_needed on_hart with_its_process resident_at sbrk_result mapped unmapped copied_in copied_out step
 full_buffer_in_the_standard_image = refl

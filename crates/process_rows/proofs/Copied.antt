@@ -9,7 +9,7 @@ use Rattle.process_model.specs.Images.{elf_loads, segment_loads}
 use Rattle.process_model.specs.Loading.{process_of}
 use Rattle.process_model.specs.Mappings.{mapped, unmapped}
 use Rattle.process_model.specs.Script.{item_line, line_of}
-use Rattle.process_model.specs.Service.{resident_world}
+use Rattle.process_model.specs.Around.{resident_at}
 use Rattle.process_model.specs.Steps.{step}
 use Rattle.process_model.specs.World.{on_hart, with_its_process}
 use Rattle.process_rows.proofs.Playing.{Plays, silent, ◌⇒◌}
@@ -24,7 +24,7 @@ stop_at_the_guard : Plays (
     ∷ "copyin 0 0x2ffc 8" ⇒ "short 4 GuardPage done 4 44556677"
     ∷ "copyin 0 0x3000 0" ⇒ "copied 0 -"
     ∷ [])
-unfolding number low_bytes digits item_line line_of elf_loads segment_loads process_of tables_needed on_hart with_its_process resident_world sbrk_result mapped unmapped copied_in copied_out step
+unfolding number low_bytes digits item_line line_of elf_loads segment_loads process_of tables_needed on_hart with_its_process resident_at sbrk_result mapped unmapped copied_in copied_out step
 stop_at_the_guard = refl
 
 copy_out_parts_a_page : Plays (
@@ -38,7 +38,7 @@ copy_out_parts_a_page : Plays (
     ∷ "on 0 1" ⇒ "ok"
     ∷ "load 0 0x1000 1" ⇒ "value 0x0"
     ∷ [])
-unfolding number low_bytes digits item_line line_of elf_loads segment_loads process_of tables_needed on_hart with_its_process resident_world sbrk_result mapped unmapped copied_in copied_out step
+unfolding number low_bytes digits item_line line_of elf_loads segment_loads process_of tables_needed on_hart with_its_process resident_at sbrk_result mapped unmapped copied_in copied_out step
 copy_out_parts_a_page = refl
 
 stop_without_a_frame : Plays (
@@ -50,5 +50,5 @@ stop_without_a_frame : Plays (
     ∷ "copyout 0 0x1ffe 01020304" ⇒ "short 9 NoFrame done 2"
     ∷ "copyin 0 0x1ffe 4" ⇒ "copied 4 01020000"
     ∷ [])
-unfolding number low_bytes digits item_line line_of elf_loads segment_loads process_of tables_needed on_hart with_its_process resident_world sbrk_result mapped unmapped copied_in copied_out step
+unfolding number low_bytes digits item_line line_of elf_loads segment_loads process_of tables_needed on_hart with_its_process resident_at sbrk_result mapped unmapped copied_in copied_out step
 stop_without_a_frame = refl

@@ -9,12 +9,12 @@ use Rattle.process_model.specs.Images.{elf_loads, segment_loads}
 use Rattle.process_model.specs.Loading.{process_of}
 use Rattle.process_model.specs.Mappings.{mapped, unmapped}
 use Rattle.process_model.specs.Script.{item_line, line_of}
-use Rattle.process_model.specs.Service.{resident_world}
+use Rattle.process_model.specs.Around.{resident_at}
 use Rattle.process_model.specs.Steps.{step}
 use Rattle.process_model.specs.World.{on_hart, with_its_process}
 use Rattle.process_rows.proofs.Playing.{Plays, silent, ◌⇒◌}
 
--- up to the file's length
+-- up to the file's length; the first store to a page that was loaded faults
 shared_mapping_goes_back : Plays (
     silent "file 5000 rw 6162"
     ∷ silent "image 0x0:0x1000:rx:13050000 0x1000:0x1800:rw:-"
@@ -27,6 +27,8 @@ shared_mapping_goes_back : Plays (
     ∷ "load 0 0x3fffffd388 1" ⇒ "fault 13"
     ∷ "fix 0" ⇒ "ready"
     ∷ "load 0 0x3fffffd388 1" ⇒ "value 0x0"
+    ∷ "store 0 0x3fffffd387 1 0x7a" ⇒ "fault 15"
+    ∷ "fix 0" ⇒ "ready"
     ∷ "store 0 0x3fffffd387 1 0x7a" ⇒ "stored"
     ∷ "store 0 0x3fffffd388 1 0x7b" ⇒ "stored"
     ∷ "enter 0" ⇒ "ok"
@@ -34,7 +36,7 @@ shared_mapping_goes_back : Plays (
     ∷ "show 0 4998 4" ⇒ "file 5000 007a"
     ∷ "show 0 0 2" ⇒ "file 5000 6162"
     ∷ [])
-unfolding number low_bytes digits item_line line_of elf_loads segment_loads process_of tables_needed on_hart with_its_process resident_world sbrk_result mapped unmapped copied_in copied_out step
+unfolding number low_bytes digits item_line line_of elf_loads segment_loads process_of tables_needed on_hart with_its_process resident_at sbrk_result mapped unmapped copied_in copied_out step
 shared_mapping_goes_back = refl
 
 private_mapping_of_a_read_only_file : Plays (
@@ -52,7 +54,7 @@ private_mapping_of_a_read_only_file : Plays (
     ∷ "load 0 0x3fffffb000 1" ⇒ "fault 13"
     ∷ "fix 0" ⇒ "ended 5 NoRegion"
     ∷ [])
-unfolding number low_bytes digits item_line line_of elf_loads segment_loads process_of tables_needed on_hart with_its_process resident_world sbrk_result mapped unmapped copied_in copied_out step
+unfolding number low_bytes digits item_line line_of elf_loads segment_loads process_of tables_needed on_hart with_its_process resident_at sbrk_result mapped unmapped copied_in copied_out step
 private_mapping_of_a_read_only_file = refl
 
 shared_mapping_after_a_fork : Plays (
@@ -78,11 +80,11 @@ shared_mapping_after_a_fork : Plays (
     ∷ "munmap 0 0x3fffffd000 16" ⇒ "ok"
     ∷ "show 0 0 2" ⇒ "file 16 0100"
     ∷ [])
-unfolding number low_bytes digits item_line line_of elf_loads segment_loads process_of tables_needed on_hart with_its_process resident_world sbrk_result mapped unmapped copied_in copied_out step
+unfolding number low_bytes digits item_line line_of elf_loads segment_loads process_of tables_needed on_hart with_its_process resident_at sbrk_result mapped unmapped copied_in copied_out step
 shared_mapping_after_a_fork = refl
 
--- also one that was only loaded by that process
-every_settled_page_goes_back : Plays (
+-- the child's page, which it never stored to, does not go back over the parent's
+only_stored_pages_go_back : Plays (
     silent "file 16 rw -"
     ∷ silent "image 0x0:0x1000:rx:13050000 0x1000:0x1800:rw:-"
     ∷ "boot 1 64 4 full" ⇒ "ok"
@@ -104,10 +106,10 @@ every_settled_page_goes_back : Plays (
     ∷ "munmap 0 0x3fffffd000 16" ⇒ "ok"
     ∷ "switch 0 1" ⇒ "ok"
     ∷ "exit 0 0" ⇒ "exited 0"
-    ∷ "show 0 0 1" ⇒ "file 16 05"
+    ∷ "show 0 0 1" ⇒ "file 16 06"
     ∷ [])
-unfolding number low_bytes digits item_line line_of elf_loads segment_loads process_of tables_needed on_hart with_its_process resident_world sbrk_result mapped unmapped copied_in copied_out step
-every_settled_page_goes_back = refl
+unfolding number low_bytes digits item_line line_of elf_loads segment_loads process_of tables_needed on_hart with_its_process resident_at sbrk_result mapped unmapped copied_in copied_out step
+only_stored_pages_go_back = refl
 
 first_fit_from_the_top : Plays (
     silent "file 4096 ro -"
@@ -123,7 +125,7 @@ first_fit_from_the_top : Plays (
     ∷ "munmap 0 0x3fffffd000 4096" ⇒ "ok"
     ∷ "mmap 0 4096 1 2 0" ⇒ "at 0x3fffffd000"
     ∷ [])
-unfolding number low_bytes digits item_line line_of elf_loads segment_loads process_of tables_needed on_hart with_its_process resident_world sbrk_result mapped unmapped copied_in copied_out step
+unfolding number low_bytes digits item_line line_of elf_loads segment_loads process_of tables_needed on_hart with_its_process resident_at sbrk_result mapped unmapped copied_in copied_out step
 first_fit_from_the_top = refl
 
 sixteen_mappings : Plays (
@@ -151,7 +153,7 @@ sixteen_mappings : Plays (
     ∷ "mmap 0 4096 1 2 0" ⇒ "at 0x3ffffee000"
     ∷ "mmap 0 4096 1 2 0" ⇒ "refused 17 MappingsFull"
     ∷ [])
-unfolding number low_bytes digits item_line line_of elf_loads segment_loads process_of tables_needed on_hart with_its_process resident_world sbrk_result mapped unmapped copied_in copied_out step
+unfolding number low_bytes digits item_line line_of elf_loads segment_loads process_of tables_needed on_hart with_its_process resident_at sbrk_result mapped unmapped copied_in copied_out step
 sixteen_mappings = refl
 
 bad_mappings : Plays (
@@ -166,5 +168,5 @@ bad_mappings : Plays (
     ∷ "mmap 0 4096 1 3 0" ⇒ "refused 15 BadArgument"
     ∷ "mmap 0 4096 1 2 1" ⇒ "refused 15 BadArgument"
     ∷ [])
-unfolding number low_bytes digits item_line line_of elf_loads segment_loads process_of tables_needed on_hart with_its_process resident_world sbrk_result mapped unmapped copied_in copied_out step
+unfolding number low_bytes digits item_line line_of elf_loads segment_loads process_of tables_needed on_hart with_its_process resident_at sbrk_result mapped unmapped copied_in copied_out step
 bad_mappings = refl

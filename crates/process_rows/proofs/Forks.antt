@@ -9,7 +9,7 @@ use Rattle.process_model.specs.Images.{elf_loads, segment_loads}
 use Rattle.process_model.specs.Loading.{process_of}
 use Rattle.process_model.specs.Mappings.{mapped, unmapped}
 use Rattle.process_model.specs.Script.{item_line, line_of}
-use Rattle.process_model.specs.Service.{resident_world}
+use Rattle.process_model.specs.Around.{resident_at}
 use Rattle.process_model.specs.Steps.{step}
 use Rattle.process_model.specs.World.{on_hart, with_its_process}
 use Rattle.process_rows.proofs.Playing.{Plays, silent, ◌⇒◌}
@@ -33,7 +33,7 @@ child_stores_apart : Plays (
     ∷ "on 0 0" ⇒ "ok"
     ∷ "load 0 0x1000 1" ⇒ "value 0x11"
     ∷ [])
-unfolding number low_bytes digits item_line line_of elf_loads segment_loads process_of tables_needed on_hart with_its_process resident_world sbrk_result mapped unmapped copied_in copied_out step
+unfolding number low_bytes digits item_line line_of elf_loads segment_loads process_of tables_needed on_hart with_its_process resident_at sbrk_result mapped unmapped copied_in copied_out step
 child_stores_apart = refl
 
 -- after the other ended, no frame is taken
@@ -56,7 +56,7 @@ last_sharer_stores_in_place : Plays (
     ∷ "store 0 0x1000 1 0x12" ⇒ "stored"
     ∷ "audit" ⇒ "free 43 held 21 shared 1 references 22"
     ∷ [])
-unfolding number low_bytes digits item_line line_of elf_loads segment_loads process_of tables_needed on_hart with_its_process resident_world sbrk_result mapped unmapped copied_in copied_out step
+unfolding number low_bytes digits item_line line_of elf_loads segment_loads process_of tables_needed on_hart with_its_process resident_at sbrk_result mapped unmapped copied_in copied_out step
 last_sharer_stores_in_place = refl
 
 -- a fork on another hart leaves no entry behind that could store
@@ -81,7 +81,7 @@ entries_on_two_harts : Plays (
     ∷ "on 1 1" ⇒ "ok"
     ∷ "load 1 0x1000 1" ⇒ "value 0x41"
     ∷ [])
-unfolding number low_bytes digits item_line line_of elf_loads segment_loads process_of tables_needed on_hart with_its_process resident_world sbrk_result mapped unmapped copied_in copied_out step
+unfolding number low_bytes digits item_line line_of elf_loads segment_loads process_of tables_needed on_hart with_its_process resident_at sbrk_result mapped unmapped copied_in copied_out step
 entries_on_two_harts = refl
 
 no_frame_for_the_first_store : Plays (
@@ -101,7 +101,7 @@ no_frame_for_the_first_store : Plays (
     ∷ "store 1 0x1000 1 8" ⇒ "stored"
     ∷ "audit" ⇒ "free 6 held 19 shared 1 references 20"
     ∷ [])
-unfolding number low_bytes digits item_line line_of elf_loads segment_loads process_of tables_needed on_hart with_its_process resident_world sbrk_result mapped unmapped copied_in copied_out step
+unfolding number low_bytes digits item_line line_of elf_loads segment_loads process_of tables_needed on_hart with_its_process resident_at sbrk_result mapped unmapped copied_in copied_out step
 no_frame_for_the_first_store = refl
 
 fork_without_frames : Plays (
@@ -114,7 +114,7 @@ fork_without_frames : Plays (
     ∷ "leave 0" ⇒ "ok"
     ∷ "store 0 0x1000 1 1" ⇒ "stored"
     ∷ [])
-unfolding number low_bytes digits item_line line_of elf_loads segment_loads process_of tables_needed on_hart with_its_process resident_world sbrk_result mapped unmapped copied_in copied_out step
+unfolding number low_bytes digits item_line line_of elf_loads segment_loads process_of tables_needed on_hart with_its_process resident_at sbrk_result mapped unmapped copied_in copied_out step
 fork_without_frames = refl
 
 fork_judges_the_slot_first : Plays (
@@ -124,5 +124,5 @@ fork_judges_the_slot_first : Plays (
     ∷ "switch 0 0" ⇒ "ok"
     ∷ "fork 0" ⇒ "refused 10 NoSlot"
     ∷ [])
-unfolding number low_bytes digits item_line line_of elf_loads segment_loads process_of tables_needed on_hart with_its_process resident_world sbrk_result mapped unmapped copied_in copied_out step
+unfolding number low_bytes digits item_line line_of elf_loads segment_loads process_of tables_needed on_hart with_its_process resident_at sbrk_result mapped unmapped copied_in copied_out step
 fork_judges_the_slot_first = refl

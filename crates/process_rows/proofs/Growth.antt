@@ -9,7 +9,7 @@ use Rattle.process_model.specs.Images.{elf_loads, segment_loads}
 use Rattle.process_model.specs.Loading.{process_of}
 use Rattle.process_model.specs.Mappings.{mapped, unmapped}
 use Rattle.process_model.specs.Script.{item_line, line_of}
-use Rattle.process_model.specs.Service.{resident_world}
+use Rattle.process_model.specs.Around.{resident_at}
 use Rattle.process_model.specs.Steps.{step}
 use Rattle.process_model.specs.World.{on_hart, with_its_process}
 use Rattle.process_rows.proofs.Playing.{Plays, silent, ◌⇒◌}
@@ -33,7 +33,7 @@ heap_page_on_demand : Plays (
     ∷ "fix 0" ⇒ "ended 5 NoRegion"
     ∷ "audit" ⇒ "free 17 held 7 shared 0 references 7"
     ∷ [])
-unfolding number low_bytes digits item_line line_of elf_loads segment_loads process_of tables_needed on_hart with_its_process resident_world sbrk_result mapped unmapped copied_in copied_out step
+unfolding number low_bytes digits item_line line_of elf_loads segment_loads process_of tables_needed on_hart with_its_process resident_at sbrk_result mapped unmapped copied_in copied_out step
 heap_page_on_demand = refl
 
 -- a page that was released and returns is zeros
@@ -58,7 +58,7 @@ returned_page_is_zeros : Plays (
     ∷ "enter 0" ⇒ "ok"
     ∷ "sbrk 0 -0x2000" ⇒ "refused 13 BadSize"
     ∷ [])
-unfolding number low_bytes digits item_line line_of elf_loads segment_loads process_of tables_needed on_hart with_its_process resident_world sbrk_result mapped unmapped copied_in copied_out step
+unfolding number low_bytes digits item_line line_of elf_loads segment_loads process_of tables_needed on_hart with_its_process resident_at sbrk_result mapped unmapped copied_in copied_out step
 returned_page_is_zeros = refl
 
 no_frame_is_left : Plays (
@@ -74,7 +74,7 @@ no_frame_is_left : Plays (
     ∷ "fix 0" ⇒ "ended 9 NoFrame"
     ∷ "audit" ⇒ "free 11 held 7 shared 0 references 7"
     ∷ [])
-unfolding number low_bytes digits item_line line_of elf_loads segment_loads process_of tables_needed on_hart with_its_process resident_world sbrk_result mapped unmapped copied_in copied_out step
+unfolding number low_bytes digits item_line line_of elf_loads segment_loads process_of tables_needed on_hart with_its_process resident_at sbrk_result mapped unmapped copied_in copied_out step
 no_frame_is_left = refl
 
 one_frame_for_one_needed : Plays (
@@ -88,7 +88,7 @@ one_frame_for_one_needed : Plays (
     ∷ "load 0 0x5000 1" ⇒ "fault 13"
     ∷ "fix 0" ⇒ "ready"
     ∷ [])
-unfolding number low_bytes digits item_line line_of elf_loads segment_loads process_of tables_needed on_hart with_its_process resident_world sbrk_result mapped unmapped copied_in copied_out step
+unfolding number low_bytes digits item_line line_of elf_loads segment_loads process_of tables_needed on_hart with_its_process resident_at sbrk_result mapped unmapped copied_in copied_out step
 one_frame_for_one_needed = refl
 
 one_frame_for_two_needed : Plays (
@@ -102,7 +102,7 @@ one_frame_for_two_needed : Plays (
     ∷ "load 0 0x200000 1" ⇒ "fault 13"
     ∷ "fix 0" ⇒ "ended 9 NoFrame"
     ∷ [])
-unfolding number low_bytes digits item_line line_of elf_loads segment_loads process_of tables_needed on_hart with_its_process resident_world sbrk_result mapped unmapped copied_in copied_out step
+unfolding number low_bytes digits item_line line_of elf_loads segment_loads process_of tables_needed on_hart with_its_process resident_at sbrk_result mapped unmapped copied_in copied_out step
 one_frame_for_two_needed = refl
 
 heap_up_to_the_trapframe : Plays (
@@ -119,7 +119,7 @@ heap_up_to_the_trapframe : Plays (
     ∷ "fix 0" ⇒ "ready"
     ∷ "load 0 0x3fffffd000 1" ⇒ "value 0x0"
     ∷ [])
-unfolding number low_bytes digits item_line line_of elf_loads segment_loads process_of tables_needed on_hart with_its_process resident_world sbrk_result mapped unmapped copied_in copied_out step
+unfolding number low_bytes digits item_line line_of elf_loads segment_loads process_of tables_needed on_hart with_its_process resident_at sbrk_result mapped unmapped copied_in copied_out step
 heap_up_to_the_trapframe = refl
 
 -- text, guard and stack, and gaps are granted to nobody
@@ -150,5 +150,5 @@ regions_of_the_smallest_image : Plays (
     ∷ "sbrk 0 0" ⇒ "old 0x3000"
     ∷ "sbrk 0 -1" ⇒ "refused 13 BadSize"
     ∷ [])
-unfolding number low_bytes digits item_line line_of elf_loads segment_loads process_of tables_needed on_hart with_its_process resident_world sbrk_result mapped unmapped copied_in copied_out step
+unfolding number low_bytes digits item_line line_of elf_loads segment_loads process_of tables_needed on_hart with_its_process resident_at sbrk_result mapped unmapped copied_in copied_out step
 regions_of_the_smallest_image = refl

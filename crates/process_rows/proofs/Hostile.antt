@@ -9,7 +9,7 @@ use Rattle.process_model.specs.Images.{elf_loads, segment_loads}
 use Rattle.process_model.specs.Loading.{process_of}
 use Rattle.process_model.specs.Mappings.{mapped, unmapped}
 use Rattle.process_model.specs.Script.{item_line, line_of}
-use Rattle.process_model.specs.Service.{resident_world}
+use Rattle.process_model.specs.Around.{resident_at}
 use Rattle.process_model.specs.Steps.{step}
 use Rattle.process_model.specs.World.{on_hart, with_its_process}
 use Rattle.process_rows.proofs.Playing.{Plays, silent, ◌⇒◌}
@@ -21,7 +21,7 @@ sixteen_segments : Plays (
     ∷ "on 0 0" ⇒ "ok"
     ∷ "load 0 0xf000 8" ⇒ "value 0x0"
     ∷ [])
-unfolding number low_bytes digits item_line line_of elf_loads segment_loads process_of tables_needed on_hart with_its_process resident_world sbrk_result mapped unmapped copied_in copied_out step
+unfolding number low_bytes digits item_line line_of elf_loads segment_loads process_of tables_needed on_hart with_its_process resident_at sbrk_result mapped unmapped copied_in copied_out step
 sixteen_segments = refl
 
 seventeen_segments : Plays (
@@ -29,7 +29,7 @@ seventeen_segments : Plays (
     ∷ "boot 1 64 4 full" ⇒ "ok"
     ∷ "start 0" ⇒ "refused 12 BadImage TooMany"
     ∷ [])
-unfolding number low_bytes digits item_line line_of elf_loads segment_loads process_of tables_needed on_hart with_its_process resident_world sbrk_result mapped unmapped copied_in copied_out step
+unfolding number low_bytes digits item_line line_of elf_loads segment_loads process_of tables_needed on_hart with_its_process resident_at sbrk_result mapped unmapped copied_in copied_out step
 seventeen_segments = refl
 
 greatest_size_in_memory : Plays (
@@ -46,7 +46,7 @@ greatest_size_in_memory : Plays (
     ∷ "load 0 0x1000 8" ⇒ "value 0x1122334455667788"
     ∷ "enter 0" ⇒ "ok"
     ∷ [])
-unfolding number low_bytes digits item_line line_of elf_loads segment_loads process_of tables_needed on_hart with_its_process resident_world sbrk_result mapped unmapped copied_in copied_out step
+unfolding number low_bytes digits item_line line_of elf_loads segment_loads process_of tables_needed on_hart with_its_process resident_at sbrk_result mapped unmapped copied_in copied_out step
 greatest_size_in_memory = refl
 
 greatest_offset : Plays (
@@ -63,7 +63,7 @@ greatest_offset : Plays (
     ∷ "load 0 0x1000 8" ⇒ "value 0x1122334455667788"
     ∷ "enter 0" ⇒ "ok"
     ∷ [])
-unfolding number low_bytes digits item_line line_of elf_loads segment_loads process_of tables_needed on_hart with_its_process resident_world sbrk_result mapped unmapped copied_in copied_out step
+unfolding number low_bytes digits item_line line_of elf_loads segment_loads process_of tables_needed on_hart with_its_process resident_at sbrk_result mapped unmapped copied_in copied_out step
 greatest_offset = refl
 
 most_program_headers : Plays (
@@ -80,7 +80,7 @@ most_program_headers : Plays (
     ∷ "load 0 0x1000 8" ⇒ "value 0x1122334455667788"
     ∷ "enter 0" ⇒ "ok"
     ∷ [])
-unfolding number low_bytes digits item_line line_of elf_loads segment_loads process_of tables_needed on_hart with_its_process resident_world sbrk_result mapped unmapped copied_in copied_out step
+unfolding number low_bytes digits item_line line_of elf_loads segment_loads process_of tables_needed on_hart with_its_process resident_at sbrk_result mapped unmapped copied_in copied_out step
 most_program_headers = refl
 
 greatest_offset_of_headers : Plays (
@@ -97,7 +97,7 @@ greatest_offset_of_headers : Plays (
     ∷ "load 0 0x1000 8" ⇒ "value 0x1122334455667788"
     ∷ "enter 0" ⇒ "ok"
     ∷ [])
-unfolding number low_bytes digits item_line line_of elf_loads segment_loads process_of tables_needed on_hart with_its_process resident_world sbrk_result mapped unmapped copied_in copied_out step
+unfolding number low_bytes digits item_line line_of elf_loads segment_loads process_of tables_needed on_hart with_its_process resident_at sbrk_result mapped unmapped copied_in copied_out step
 greatest_offset_of_headers = refl
 
 empty_segment_not_on_a_page : Plays (
@@ -114,7 +114,7 @@ empty_segment_not_on_a_page : Plays (
     ∷ "load 0 0x1000 8" ⇒ "value 0x1122334455667788"
     ∷ "enter 0" ⇒ "ok"
     ∷ [])
-unfolding number low_bytes digits item_line line_of elf_loads segment_loads process_of tables_needed on_hart with_its_process resident_world sbrk_result mapped unmapped copied_in copied_out step
+unfolding number low_bytes digits item_line line_of elf_loads segment_loads process_of tables_needed on_hart with_its_process resident_at sbrk_result mapped unmapped copied_in copied_out step
 empty_segment_not_on_a_page = refl
 
 exec_with_its_eight_frames : Plays (
@@ -128,7 +128,7 @@ exec_with_its_eight_frames : Plays (
     ∷ "exec 0 1" ⇒ "ok"
     ∷ "audit" ⇒ "free 10 held 16 shared 1 references 17"
     ∷ [])
-unfolding number low_bytes digits item_line line_of elf_loads segment_loads process_of tables_needed on_hart with_its_process resident_world sbrk_result mapped unmapped copied_in copied_out step
+unfolding number low_bytes digits item_line line_of elf_loads segment_loads process_of tables_needed on_hart with_its_process resident_at sbrk_result mapped unmapped copied_in copied_out step
 exec_with_its_eight_frames = refl
 
 exec_with_seven_frames : Plays (
@@ -141,7 +141,7 @@ exec_with_seven_frames : Plays (
     ∷ "leave 0" ⇒ "ok"
     ∷ "fetch 0 0x0" ⇒ "value 0x513"
     ∷ [])
-unfolding number low_bytes digits item_line line_of elf_loads segment_loads process_of tables_needed on_hart with_its_process resident_world sbrk_result mapped unmapped copied_in copied_out step
+unfolding number low_bytes digits item_line line_of elf_loads segment_loads process_of tables_needed on_hart with_its_process resident_at sbrk_result mapped unmapped copied_in copied_out step
 exec_with_seven_frames = refl
 
 one_frame_for_a_page : Plays (
@@ -154,7 +154,7 @@ one_frame_for_a_page : Plays (
     ∷ "load 0 0x5000 1" ⇒ "fault 13"
     ∷ "fix 0" ⇒ "ready"
     ∷ [])
-unfolding number low_bytes digits item_line line_of elf_loads segment_loads process_of tables_needed on_hart with_its_process resident_world sbrk_result mapped unmapped copied_in copied_out step
+unfolding number low_bytes digits item_line line_of elf_loads segment_loads process_of tables_needed on_hart with_its_process resident_at sbrk_result mapped unmapped copied_in copied_out step
 one_frame_for_a_page = refl
 
 no_frame_for_a_page : Plays (
@@ -167,7 +167,7 @@ no_frame_for_a_page : Plays (
     ∷ "load 0 0x5000 1" ⇒ "fault 13"
     ∷ "fix 0" ⇒ "ended 9 NoFrame"
     ∷ [])
-unfolding number low_bytes digits item_line line_of elf_loads segment_loads process_of tables_needed on_hart with_its_process resident_world sbrk_result mapped unmapped copied_in copied_out step
+unfolding number low_bytes digits item_line line_of elf_loads segment_loads process_of tables_needed on_hart with_its_process resident_at sbrk_result mapped unmapped copied_in copied_out step
 no_frame_for_a_page = refl
 
 two_frames_for_page_and_table : Plays (
@@ -180,7 +180,7 @@ two_frames_for_page_and_table : Plays (
     ∷ "load 0 0x200000 1" ⇒ "fault 13"
     ∷ "fix 0" ⇒ "ready"
     ∷ [])
-unfolding number low_bytes digits item_line line_of elf_loads segment_loads process_of tables_needed on_hart with_its_process resident_world sbrk_result mapped unmapped copied_in copied_out step
+unfolding number low_bytes digits item_line line_of elf_loads segment_loads process_of tables_needed on_hart with_its_process resident_at sbrk_result mapped unmapped copied_in copied_out step
 two_frames_for_page_and_table = refl
 
 one_frame_for_page_and_table : Plays (
@@ -193,7 +193,7 @@ one_frame_for_page_and_table : Plays (
     ∷ "load 0 0x200000 1" ⇒ "fault 13"
     ∷ "fix 0" ⇒ "ended 9 NoFrame"
     ∷ [])
-unfolding number low_bytes digits item_line line_of elf_loads segment_loads process_of tables_needed on_hart with_its_process resident_world sbrk_result mapped unmapped copied_in copied_out step
+unfolding number low_bytes digits item_line line_of elf_loads segment_loads process_of tables_needed on_hart with_its_process resident_at sbrk_result mapped unmapped copied_in copied_out step
 one_frame_for_page_and_table = refl
 
 three_frames_for_page_and_tables : Plays (
@@ -206,7 +206,7 @@ three_frames_for_page_and_tables : Plays (
     ∷ "load 0 0x40000000 1" ⇒ "fault 13"
     ∷ "fix 0" ⇒ "ready"
     ∷ [])
-unfolding number low_bytes digits item_line line_of elf_loads segment_loads process_of tables_needed on_hart with_its_process resident_world sbrk_result mapped unmapped copied_in copied_out step
+unfolding number low_bytes digits item_line line_of elf_loads segment_loads process_of tables_needed on_hart with_its_process resident_at sbrk_result mapped unmapped copied_in copied_out step
 three_frames_for_page_and_tables = refl
 
 two_frames_for_page_and_tables : Plays (
@@ -219,7 +219,7 @@ two_frames_for_page_and_tables : Plays (
     ∷ "load 0 0x40000000 1" ⇒ "fault 13"
     ∷ "fix 0" ⇒ "ended 9 NoFrame"
     ∷ [])
-unfolding number low_bytes digits item_line line_of elf_loads segment_loads process_of tables_needed on_hart with_its_process resident_world sbrk_result mapped unmapped copied_in copied_out step
+unfolding number low_bytes digits item_line line_of elf_loads segment_loads process_of tables_needed on_hart with_its_process resident_at sbrk_result mapped unmapped copied_in copied_out step
 two_frames_for_page_and_tables = refl
 
 copy_over_two_pages : Plays (
@@ -230,7 +230,7 @@ copy_over_two_pages : Plays (
     ∷ "fork 0" ⇒ "slot 1"
     ∷ "copyout 0 0x1ffe 01020304" ⇒ "copied 4"
     ∷ [])
-unfolding number low_bytes digits item_line line_of elf_loads segment_loads process_of tables_needed on_hart with_its_process resident_world sbrk_result mapped unmapped copied_in copied_out step
+unfolding number low_bytes digits item_line line_of elf_loads segment_loads process_of tables_needed on_hart with_its_process resident_at sbrk_result mapped unmapped copied_in copied_out step
 copy_over_two_pages = refl
 
 copy_over_one_page_of_two : Plays (
@@ -241,7 +241,7 @@ copy_over_one_page_of_two : Plays (
     ∷ "fork 0" ⇒ "slot 1"
     ∷ "copyout 0 0x1ffe 01020304" ⇒ "short 9 NoFrame done 2"
     ∷ [])
-unfolding number low_bytes digits item_line line_of elf_loads segment_loads process_of tables_needed on_hart with_its_process resident_world sbrk_result mapped unmapped copied_in copied_out step
+unfolding number low_bytes digits item_line line_of elf_loads segment_loads process_of tables_needed on_hart with_its_process resident_at sbrk_result mapped unmapped copied_in copied_out step
 copy_over_one_page_of_two = refl
 
 copy_over_no_page_of_two : Plays (
@@ -252,5 +252,5 @@ copy_over_no_page_of_two : Plays (
     ∷ "fork 0" ⇒ "slot 1"
     ∷ "copyout 0 0x1ffe 01020304" ⇒ "short 9 NoFrame done 0"
     ∷ [])
-unfolding number low_bytes digits item_line line_of elf_loads segment_loads process_of tables_needed on_hart with_its_process resident_world sbrk_result mapped unmapped copied_in copied_out step
+unfolding number low_bytes digits item_line line_of elf_loads segment_loads process_of tables_needed on_hart with_its_process resident_at sbrk_result mapped unmapped copied_in copied_out step
 copy_over_no_page_of_two = refl

@@ -9,7 +9,7 @@ use Rattle.process_model.specs.Images.{elf_loads, segment_loads}
 use Rattle.process_model.specs.Loading.{process_of}
 use Rattle.process_model.specs.Mappings.{mapped, unmapped}
 use Rattle.process_model.specs.Script.{item_line, line_of}
-use Rattle.process_model.specs.Service.{resident_world}
+use Rattle.process_model.specs.Around.{resident_at}
 use Rattle.process_model.specs.Steps.{step}
 use Rattle.process_model.specs.World.{on_hart, with_its_process}
 use Rattle.process_rows.proofs.Playing.{Plays, silent, ◌⇒◌}
@@ -22,7 +22,7 @@ smallest_image_starts : Plays (
     ∷ "fetch 0 0x0" ⇒ "value 0x513"
     ∷ "fetch 0 0x4" ⇒ "value 0x0"
     ∷ [])
-unfolding number low_bytes digits item_line line_of elf_loads segment_loads process_of tables_needed on_hart with_its_process resident_world sbrk_result mapped unmapped copied_in copied_out step
+unfolding number low_bytes digits item_line line_of elf_loads segment_loads process_of tables_needed on_hart with_its_process resident_at sbrk_result mapped unmapped copied_in copied_out step
 smallest_image_starts = refl
 
 smallest_image_replaces : Plays (
@@ -36,7 +36,7 @@ smallest_image_replaces : Plays (
     ∷ "fetch 0 0x0" ⇒ "value 0x513"
     ∷ "fetch 0 0x4" ⇒ "value 0x0"
     ∷ [])
-unfolding number low_bytes digits item_line line_of elf_loads segment_loads process_of tables_needed on_hart with_its_process resident_world sbrk_result mapped unmapped copied_in copied_out step
+unfolding number low_bytes digits item_line line_of elf_loads segment_loads process_of tables_needed on_hart with_its_process resident_at sbrk_result mapped unmapped copied_in copied_out step
 smallest_image_replaces = refl
 
 highest_image : Plays (
@@ -48,7 +48,7 @@ highest_image : Plays (
     ∷ "fetch 0 0x3fffffb004" ⇒ "value 0x0"
     ∷ "load 0 0x3fffffd000 8" ⇒ "value 0x0"
     ∷ [])
-unfolding number low_bytes digits item_line line_of elf_loads segment_loads process_of tables_needed on_hart with_its_process resident_world sbrk_result mapped unmapped copied_in copied_out step
+unfolding number low_bytes digits item_line line_of elf_loads segment_loads process_of tables_needed on_hart with_its_process resident_at sbrk_result mapped unmapped copied_in copied_out step
 highest_image = refl
 
 -- the old process goes on
@@ -61,7 +61,7 @@ exec_without_frames : Plays (
     ∷ "leave 0" ⇒ "ok"
     ∷ "fetch 0 0x0" ⇒ "value 0x513"
     ∷ [])
-unfolding number low_bytes digits item_line line_of elf_loads segment_loads process_of tables_needed on_hart with_its_process resident_world sbrk_result mapped unmapped copied_in copied_out step
+unfolding number low_bytes digits item_line line_of elf_loads segment_loads process_of tables_needed on_hart with_its_process resident_at sbrk_result mapped unmapped copied_in copied_out step
 exec_without_frames = refl
 
 no_bytes : Plays (
@@ -78,7 +78,7 @@ no_bytes : Plays (
     ∷ "load 0 0x1000 8" ⇒ "value 0x1122334455667788"
     ∷ "enter 0" ⇒ "ok"
     ∷ [])
-unfolding number low_bytes digits item_line line_of elf_loads segment_loads process_of tables_needed on_hart with_its_process resident_world sbrk_result mapped unmapped copied_in copied_out step
+unfolding number low_bytes digits item_line line_of elf_loads segment_loads process_of tables_needed on_hart with_its_process resident_at sbrk_result mapped unmapped copied_in copied_out step
 no_bytes = refl
 
 part_of_a_header : Plays (
@@ -95,7 +95,7 @@ part_of_a_header : Plays (
     ∷ "load 0 0x1000 8" ⇒ "value 0x1122334455667788"
     ∷ "enter 0" ⇒ "ok"
     ∷ [])
-unfolding number low_bytes digits item_line line_of elf_loads segment_loads process_of tables_needed on_hart with_its_process resident_world sbrk_result mapped unmapped copied_in copied_out step
+unfolding number low_bytes digits item_line line_of elf_loads segment_loads process_of tables_needed on_hart with_its_process resident_at sbrk_result mapped unmapped copied_in copied_out step
 part_of_a_header = refl
 
 another_magic : Plays (
@@ -112,7 +112,7 @@ another_magic : Plays (
     ∷ "load 0 0x1000 8" ⇒ "value 0x1122334455667788"
     ∷ "enter 0" ⇒ "ok"
     ∷ [])
-unfolding number low_bytes digits item_line line_of elf_loads segment_loads process_of tables_needed on_hart with_its_process resident_world sbrk_result mapped unmapped copied_in copied_out step
+unfolding number low_bytes digits item_line line_of elf_loads segment_loads process_of tables_needed on_hart with_its_process resident_at sbrk_result mapped unmapped copied_in copied_out step
 another_magic = refl
 
 smaller_in_memory : Plays (
@@ -129,7 +129,7 @@ smaller_in_memory : Plays (
     ∷ "load 0 0x1000 8" ⇒ "value 0x1122334455667788"
     ∷ "enter 0" ⇒ "ok"
     ∷ [])
-unfolding number low_bytes digits item_line line_of elf_loads segment_loads process_of tables_needed on_hart with_its_process resident_world sbrk_result mapped unmapped copied_in copied_out step
+unfolding number low_bytes digits item_line line_of elf_loads segment_loads process_of tables_needed on_hart with_its_process resident_at sbrk_result mapped unmapped copied_in copied_out step
 smaller_in_memory = refl
 
 past_the_last_address : Plays (
@@ -146,7 +146,7 @@ past_the_last_address : Plays (
     ∷ "load 0 0x1000 8" ⇒ "value 0x1122334455667788"
     ∷ "enter 0" ⇒ "ok"
     ∷ [])
-unfolding number low_bytes digits item_line line_of elf_loads segment_loads process_of tables_needed on_hart with_its_process resident_world sbrk_result mapped unmapped copied_in copied_out step
+unfolding number low_bytes digits item_line line_of elf_loads segment_loads process_of tables_needed on_hart with_its_process resident_at sbrk_result mapped unmapped copied_in copied_out step
 past_the_last_address = refl
 
 not_on_a_page : Plays (
@@ -163,7 +163,7 @@ not_on_a_page : Plays (
     ∷ "load 0 0x1000 8" ⇒ "value 0x1122334455667788"
     ∷ "enter 0" ⇒ "ok"
     ∷ [])
-unfolding number low_bytes digits item_line line_of elf_loads segment_loads process_of tables_needed on_hart with_its_process resident_world sbrk_result mapped unmapped copied_in copied_out step
+unfolding number low_bytes digits item_line line_of elf_loads segment_loads process_of tables_needed on_hart with_its_process resident_at sbrk_result mapped unmapped copied_in copied_out step
 not_on_a_page = refl
 
 too_high : Plays (
@@ -180,7 +180,7 @@ too_high : Plays (
     ∷ "load 0 0x1000 8" ⇒ "value 0x1122334455667788"
     ∷ "enter 0" ⇒ "ok"
     ∷ [])
-unfolding number low_bytes digits item_line line_of elf_loads segment_loads process_of tables_needed on_hart with_its_process resident_world sbrk_result mapped unmapped copied_in copied_out step
+unfolding number low_bytes digits item_line line_of elf_loads segment_loads process_of tables_needed on_hart with_its_process resident_at sbrk_result mapped unmapped copied_in copied_out step
 too_high = refl
 
 no_load_header : Plays (
@@ -197,7 +197,7 @@ no_load_header : Plays (
     ∷ "load 0 0x1000 8" ⇒ "value 0x1122334455667788"
     ∷ "enter 0" ⇒ "ok"
     ∷ [])
-unfolding number low_bytes digits item_line line_of elf_loads segment_loads process_of tables_needed on_hart with_its_process resident_world sbrk_result mapped unmapped copied_in copied_out step
+unfolding number low_bytes digits item_line line_of elf_loads segment_loads process_of tables_needed on_hart with_its_process resident_at sbrk_result mapped unmapped copied_in copied_out step
 no_load_header = refl
 
 no_program_header : Plays (
@@ -214,7 +214,7 @@ no_program_header : Plays (
     ∷ "load 0 0x1000 8" ⇒ "value 0x1122334455667788"
     ∷ "enter 0" ⇒ "ok"
     ∷ [])
-unfolding number low_bytes digits item_line line_of elf_loads segment_loads process_of tables_needed on_hart with_its_process resident_world sbrk_result mapped unmapped copied_in copied_out step
+unfolding number low_bytes digits item_line line_of elf_loads segment_loads process_of tables_needed on_hart with_its_process resident_at sbrk_result mapped unmapped copied_in copied_out step
 no_program_header = refl
 
 empty_segment : Plays (
@@ -231,7 +231,7 @@ empty_segment : Plays (
     ∷ "load 0 0x1000 8" ⇒ "value 0x1122334455667788"
     ∷ "enter 0" ⇒ "ok"
     ∷ [])
-unfolding number low_bytes digits item_line line_of elf_loads segment_loads process_of tables_needed on_hart with_its_process resident_world sbrk_result mapped unmapped copied_in copied_out step
+unfolding number low_bytes digits item_line line_of elf_loads segment_loads process_of tables_needed on_hart with_its_process resident_at sbrk_result mapped unmapped copied_in copied_out step
 empty_segment = refl
 
 segments_out_of_order : Plays (
@@ -248,5 +248,5 @@ segments_out_of_order : Plays (
     ∷ "load 0 0x1000 8" ⇒ "value 0x1122334455667788"
     ∷ "enter 0" ⇒ "ok"
     ∷ [])
-unfolding number low_bytes digits item_line line_of elf_loads segment_loads process_of tables_needed on_hart with_its_process resident_world sbrk_result mapped unmapped copied_in copied_out step
+unfolding number low_bytes digits item_line line_of elf_loads segment_loads process_of tables_needed on_hart with_its_process resident_at sbrk_result mapped unmapped copied_in copied_out step
 segments_out_of_order = refl

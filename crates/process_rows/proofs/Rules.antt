@@ -9,7 +9,7 @@ use Rattle.process_model.specs.Images.{elf_loads, segment_loads}
 use Rattle.process_model.specs.Loading.{process_of}
 use Rattle.process_model.specs.Mappings.{mapped, unmapped}
 use Rattle.process_model.specs.Script.{item_line, line_of}
-use Rattle.process_model.specs.Service.{resident_world}
+use Rattle.process_model.specs.Around.{resident_at}
 use Rattle.process_model.specs.Steps.{step}
 use Rattle.process_model.specs.World.{on_hart, with_its_process}
 use Rattle.process_rows.proofs.Playing.{Plays, silent, ◌⇒◌}
@@ -30,7 +30,7 @@ guard_then_kernel_then_maximum : Plays (
     ∷ "load 0 0x4000000000 1" ⇒ "fault 13"
     ∷ "fix 0" ⇒ "ended 2 BeyondMax"
     ∷ [])
-unfolding number low_bytes digits item_line line_of elf_loads segment_loads process_of tables_needed on_hart with_its_process resident_world sbrk_result mapped unmapped copied_in copied_out step
+unfolding number low_bytes digits item_line line_of elf_loads segment_loads process_of tables_needed on_hart with_its_process resident_at sbrk_result mapped unmapped copied_in copied_out step
 guard_then_kernel_then_maximum = refl
 
 guard_page : Plays (
@@ -41,7 +41,7 @@ guard_page : Plays (
     ∷ "load 0 0x3000 1" ⇒ "fault 13"
     ∷ "fix 0" ⇒ "ended 4 GuardPage"
     ∷ [])
-unfolding number low_bytes digits item_line line_of elf_loads segment_loads process_of tables_needed on_hart with_its_process resident_world sbrk_result mapped unmapped copied_in copied_out step
+unfolding number low_bytes digits item_line line_of elf_loads segment_loads process_of tables_needed on_hart with_its_process resident_at sbrk_result mapped unmapped copied_in copied_out step
 guard_page = refl
 
 kernel_page : Plays (
@@ -52,7 +52,7 @@ kernel_page : Plays (
     ∷ "load 0 0x3ffffff000 1" ⇒ "fault 13"
     ∷ "fix 0" ⇒ "ended 3 KernelPage"
     ∷ [])
-unfolding number low_bytes digits item_line line_of elf_loads segment_loads process_of tables_needed on_hart with_its_process resident_world sbrk_result mapped unmapped copied_in copied_out step
+unfolding number low_bytes digits item_line line_of elf_loads segment_loads process_of tables_needed on_hart with_its_process resident_at sbrk_result mapped unmapped copied_in copied_out step
 kernel_page = refl
 
 beyond_the_maximum : Plays (
@@ -63,7 +63,7 @@ beyond_the_maximum : Plays (
     ∷ "load 0 0x4000000000 1" ⇒ "fault 13"
     ∷ "fix 0" ⇒ "ended 2 BeyondMax"
     ∷ [])
-unfolding number low_bytes digits item_line line_of elf_loads segment_loads process_of tables_needed on_hart with_its_process resident_world sbrk_result mapped unmapped copied_in copied_out step
+unfolding number low_bytes digits item_line line_of elf_loads segment_loads process_of tables_needed on_hart with_its_process resident_at sbrk_result mapped unmapped copied_in copied_out step
 beyond_the_maximum = refl
 
 rights_and_alignment : Plays (
@@ -85,7 +85,7 @@ rights_and_alignment : Plays (
     ∷ "on 0 0" ⇒ "ok"
     ∷ "fetch 0 0x0" ⇒ "value 0x513"
     ∷ [])
-unfolding number low_bytes digits item_line line_of elf_loads segment_loads process_of tables_needed on_hart with_its_process resident_world sbrk_result mapped unmapped copied_in copied_out step
+unfolding number low_bytes digits item_line line_of elf_loads segment_loads process_of tables_needed on_hart with_its_process resident_at sbrk_result mapped unmapped copied_in copied_out step
 rights_and_alignment = refl
 
 no_write : Plays (
@@ -96,7 +96,7 @@ no_write : Plays (
     ∷ "store 0 0x0 8 1" ⇒ "fault 15"
     ∷ "fix 0" ⇒ "ended 7 NoWrite"
     ∷ [])
-unfolding number low_bytes digits item_line line_of elf_loads segment_loads process_of tables_needed on_hart with_its_process resident_world sbrk_result mapped unmapped copied_in copied_out step
+unfolding number low_bytes digits item_line line_of elf_loads segment_loads process_of tables_needed on_hart with_its_process resident_at sbrk_result mapped unmapped copied_in copied_out step
 no_write = refl
 
 no_execute : Plays (
@@ -107,7 +107,7 @@ no_execute : Plays (
     ∷ "fetch 0 0x1000" ⇒ "fault 12"
     ∷ "fix 0" ⇒ "ended 8 NoExec"
     ∷ [])
-unfolding number low_bytes digits item_line line_of elf_loads segment_loads process_of tables_needed on_hart with_its_process resident_world sbrk_result mapped unmapped copied_in copied_out step
+unfolding number low_bytes digits item_line line_of elf_loads segment_loads process_of tables_needed on_hart with_its_process resident_at sbrk_result mapped unmapped copied_in copied_out step
 no_execute = refl
 
 misaligned_load : Plays (
@@ -118,7 +118,7 @@ misaligned_load : Plays (
     ∷ "load 0 0x1004 8" ⇒ "fault 4"
     ∷ "fix 0" ⇒ "ended 1 Misaligned"
     ∷ [])
-unfolding number low_bytes digits item_line line_of elf_loads segment_loads process_of tables_needed on_hart with_its_process resident_world sbrk_result mapped unmapped copied_in copied_out step
+unfolding number low_bytes digits item_line line_of elf_loads segment_loads process_of tables_needed on_hart with_its_process resident_at sbrk_result mapped unmapped copied_in copied_out step
 misaligned_load = refl
 
 fetch_of_text : Plays (
@@ -128,5 +128,5 @@ fetch_of_text : Plays (
     ∷ "on 0 0" ⇒ "ok"
     ∷ "fetch 0 0x0" ⇒ "value 0x513"
     ∷ [])
-unfolding number low_bytes digits item_line line_of elf_loads segment_loads process_of tables_needed on_hart with_its_process resident_world sbrk_result mapped unmapped copied_in copied_out step
+unfolding number low_bytes digits item_line line_of elf_loads segment_loads process_of tables_needed on_hart with_its_process resident_at sbrk_result mapped unmapped copied_in copied_out step
 fetch_of_text = refl

@@ -9,7 +9,7 @@ use Rattle.process_model.specs.Images.{elf_loads, segment_loads}
 use Rattle.process_model.specs.Loading.{process_of}
 use Rattle.process_model.specs.Mappings.{mapped, unmapped}
 use Rattle.process_model.specs.Script.{item_line, line_of}
-use Rattle.process_model.specs.Service.{resident_world}
+use Rattle.process_model.specs.Around.{resident_at}
 use Rattle.process_model.specs.Steps.{step}
 use Rattle.process_model.specs.World.{on_hart, with_its_process}
 use Rattle.process_rows.proofs.Playing.{Plays, silent, ◌⇒◌}
@@ -19,7 +19,7 @@ start_of_another_magic : Plays (
     ∷ "boot 1 64 4 full" ⇒ "ok"
     ∷ "start 0" ⇒ "refused 12 BadImage Magic"
     ∷ [])
-unfolding number low_bytes digits item_line line_of elf_loads segment_loads process_of tables_needed on_hart with_its_process resident_world sbrk_result mapped unmapped copied_in copied_out step
+unfolding number low_bytes digits item_line line_of elf_loads segment_loads process_of tables_needed on_hart with_its_process resident_at sbrk_result mapped unmapped copied_in copied_out step
 start_of_another_magic = refl
 
 start_of_smaller_in_memory : Plays (
@@ -27,7 +27,7 @@ start_of_smaller_in_memory : Plays (
     ∷ "boot 1 64 4 full" ⇒ "ok"
     ∷ "start 0" ⇒ "refused 12 BadImage Sizes"
     ∷ [])
-unfolding number low_bytes digits item_line line_of elf_loads segment_loads process_of tables_needed on_hart with_its_process resident_world sbrk_result mapped unmapped copied_in copied_out step
+unfolding number low_bytes digits item_line line_of elf_loads segment_loads process_of tables_needed on_hart with_its_process resident_at sbrk_result mapped unmapped copied_in copied_out step
 start_of_smaller_in_memory = refl
 
 start_past_the_last_address : Plays (
@@ -35,7 +35,7 @@ start_past_the_last_address : Plays (
     ∷ "boot 1 64 4 full" ⇒ "ok"
     ∷ "start 0" ⇒ "refused 12 BadImage Wraps"
     ∷ [])
-unfolding number low_bytes digits item_line line_of elf_loads segment_loads process_of tables_needed on_hart with_its_process resident_world sbrk_result mapped unmapped copied_in copied_out step
+unfolding number low_bytes digits item_line line_of elf_loads segment_loads process_of tables_needed on_hart with_its_process resident_at sbrk_result mapped unmapped copied_in copied_out step
 start_past_the_last_address = refl
 
 start_not_on_a_page : Plays (
@@ -43,7 +43,7 @@ start_not_on_a_page : Plays (
     ∷ "boot 1 64 4 full" ⇒ "ok"
     ∷ "start 0" ⇒ "refused 12 BadImage Align"
     ∷ [])
-unfolding number low_bytes digits item_line line_of elf_loads segment_loads process_of tables_needed on_hart with_its_process resident_world sbrk_result mapped unmapped copied_in copied_out step
+unfolding number low_bytes digits item_line line_of elf_loads segment_loads process_of tables_needed on_hart with_its_process resident_at sbrk_result mapped unmapped copied_in copied_out step
 start_not_on_a_page = refl
 
 start_too_high : Plays (
@@ -51,7 +51,7 @@ start_too_high : Plays (
     ∷ "boot 1 64 4 full" ⇒ "ok"
     ∷ "start 0" ⇒ "refused 12 BadImage TooHigh"
     ∷ [])
-unfolding number low_bytes digits item_line line_of elf_loads segment_loads process_of tables_needed on_hart with_its_process resident_world sbrk_result mapped unmapped copied_in copied_out step
+unfolding number low_bytes digits item_line line_of elf_loads segment_loads process_of tables_needed on_hart with_its_process resident_at sbrk_result mapped unmapped copied_in copied_out step
 start_too_high = refl
 
 start_of_no_load_header : Plays (
@@ -59,7 +59,7 @@ start_of_no_load_header : Plays (
     ∷ "boot 1 64 4 full" ⇒ "ok"
     ∷ "start 0" ⇒ "refused 12 BadImage NoLoad"
     ∷ [])
-unfolding number low_bytes digits item_line line_of elf_loads segment_loads process_of tables_needed on_hart with_its_process resident_world sbrk_result mapped unmapped copied_in copied_out step
+unfolding number low_bytes digits item_line line_of elf_loads segment_loads process_of tables_needed on_hart with_its_process resident_at sbrk_result mapped unmapped copied_in copied_out step
 start_of_no_load_header = refl
 
 start_of_no_program_header : Plays (
@@ -67,7 +67,7 @@ start_of_no_program_header : Plays (
     ∷ "boot 1 64 4 full" ⇒ "ok"
     ∷ "start 0" ⇒ "refused 12 BadImage NoLoad"
     ∷ [])
-unfolding number low_bytes digits item_line line_of elf_loads segment_loads process_of tables_needed on_hart with_its_process resident_world sbrk_result mapped unmapped copied_in copied_out step
+unfolding number low_bytes digits item_line line_of elf_loads segment_loads process_of tables_needed on_hart with_its_process resident_at sbrk_result mapped unmapped copied_in copied_out step
 start_of_no_program_header = refl
 
 start_of_empty_segment : Plays (
@@ -75,7 +75,7 @@ start_of_empty_segment : Plays (
     ∷ "boot 1 64 4 full" ⇒ "ok"
     ∷ "start 0" ⇒ "refused 12 BadImage NoLoad"
     ∷ [])
-unfolding number low_bytes digits item_line line_of elf_loads segment_loads process_of tables_needed on_hart with_its_process resident_world sbrk_result mapped unmapped copied_in copied_out step
+unfolding number low_bytes digits item_line line_of elf_loads segment_loads process_of tables_needed on_hart with_its_process resident_at sbrk_result mapped unmapped copied_in copied_out step
 start_of_empty_segment = refl
 
 start_out_of_order : Plays (
@@ -83,5 +83,5 @@ start_out_of_order : Plays (
     ∷ "boot 1 64 4 full" ⇒ "ok"
     ∷ "start 0" ⇒ "refused 12 BadImage Order"
     ∷ [])
-unfolding number low_bytes digits item_line line_of elf_loads segment_loads process_of tables_needed on_hart with_its_process resident_world sbrk_result mapped unmapped copied_in copied_out step
+unfolding number low_bytes digits item_line line_of elf_loads segment_loads process_of tables_needed on_hart with_its_process resident_at sbrk_result mapped unmapped copied_in copied_out step
 start_out_of_order = refl

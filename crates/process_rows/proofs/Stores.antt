@@ -9,7 +9,7 @@ use Rattle.process_model.specs.Images.{elf_loads, segment_loads}
 use Rattle.process_model.specs.Loading.{process_of}
 use Rattle.process_model.specs.Mappings.{mapped, unmapped}
 use Rattle.process_model.specs.Script.{item_line, line_of}
-use Rattle.process_model.specs.Service.{resident_world}
+use Rattle.process_model.specs.Around.{resident_at}
 use Rattle.process_model.specs.Steps.{step}
 use Rattle.process_model.specs.World.{on_hart, with_its_process}
 use Rattle.process_rows.proofs.Playing.{Plays, silent, ◌⇒◌}
@@ -24,7 +24,7 @@ store_and_load : Plays (
     ∷ "load 0 0x1000 8" ⇒ "value 0x1122334455667788"
     ∷ "load 0 0x1004 2" ⇒ "value 0x3344"
     ∷ [])
-unfolding number low_bytes digits item_line line_of elf_loads segment_loads process_of tables_needed on_hart with_its_process resident_world sbrk_result mapped unmapped copied_in copied_out step
+unfolding number low_bytes digits item_line line_of elf_loads segment_loads process_of tables_needed on_hart with_its_process resident_at sbrk_result mapped unmapped copied_in copied_out step
 store_and_load = refl
 
 -- a misaligned store faults, and the hart is in the entry
@@ -36,7 +36,7 @@ misaligned_store : Plays (
     ∷ "store 0 0x1ffc 8 1" ⇒ "fault 6"
     ∷ "load 0 0x1000 8" ⇒ "refused 19 Impossible enter0"
     ∷ [])
-unfolding number low_bytes digits item_line line_of elf_loads segment_loads process_of tables_needed on_hart with_its_process resident_world sbrk_result mapped unmapped copied_in copied_out step
+unfolding number low_bytes digits item_line line_of elf_loads segment_loads process_of tables_needed on_hart with_its_process resident_at sbrk_result mapped unmapped copied_in copied_out step
 misaligned_store = refl
 
 -- no region holds the page after the last one: that is the guard
@@ -47,7 +47,7 @@ past_the_segment : Plays (
     ∷ "on 0 0" ⇒ "ok"
     ∷ "store 0 0x2000 1 1" ⇒ "fault 15"
     ∷ [])
-unfolding number low_bytes digits item_line line_of elf_loads segment_loads process_of tables_needed on_hart with_its_process resident_world sbrk_result mapped unmapped copied_in copied_out step
+unfolding number low_bytes digits item_line line_of elf_loads segment_loads process_of tables_needed on_hart with_its_process resident_at sbrk_result mapped unmapped copied_in copied_out step
 past_the_segment = refl
 
 no_such_hart_after_a_fault : Plays (
@@ -58,7 +58,7 @@ no_such_hart_after_a_fault : Plays (
     ∷ "store 0 0x2000 1 1" ⇒ "fault 15"
     ∷ "load 1 0x1000 8" ⇒ "refused 15 BadArgument"
     ∷ [])
-unfolding number low_bytes digits item_line line_of elf_loads segment_loads process_of tables_needed on_hart with_its_process resident_world sbrk_result mapped unmapped copied_in copied_out step
+unfolding number low_bytes digits item_line line_of elf_loads segment_loads process_of tables_needed on_hart with_its_process resident_at sbrk_result mapped unmapped copied_in copied_out step
 no_such_hart_after_a_fault = refl
 
 no_such_hart : Plays (
@@ -68,7 +68,7 @@ no_such_hart : Plays (
     ∷ "on 0 0" ⇒ "ok"
     ∷ "load 1 0x1000 8" ⇒ "refused 15 BadArgument"
     ∷ [])
-unfolding number low_bytes digits item_line line_of elf_loads segment_loads process_of tables_needed on_hart with_its_process resident_world sbrk_result mapped unmapped copied_in copied_out step
+unfolding number low_bytes digits item_line line_of elf_loads segment_loads process_of tables_needed on_hart with_its_process resident_at sbrk_result mapped unmapped copied_in copied_out step
 no_such_hart = refl
 
 -- the image needs more than are free
@@ -77,5 +77,5 @@ too_few_frames : Plays (
     ∷ "boot 1 18 1 full" ⇒ "ok"
     ∷ "start 0" ⇒ "refused 9 NoFrame"
     ∷ [])
-unfolding number low_bytes digits item_line line_of elf_loads segment_loads process_of tables_needed on_hart with_its_process resident_world sbrk_result mapped unmapped copied_in copied_out step
+unfolding number low_bytes digits item_line line_of elf_loads segment_loads process_of tables_needed on_hart with_its_process resident_at sbrk_result mapped unmapped copied_in copied_out step
 too_few_frames = refl

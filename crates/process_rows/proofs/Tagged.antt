@@ -9,7 +9,7 @@ use Rattle.process_model.specs.Images.{elf_loads, segment_loads}
 use Rattle.process_model.specs.Loading.{process_of}
 use Rattle.process_model.specs.Mappings.{mapped, unmapped}
 use Rattle.process_model.specs.Script.{item_line, line_of}
-use Rattle.process_model.specs.Service.{resident_world}
+use Rattle.process_model.specs.Around.{resident_at}
 use Rattle.process_model.specs.Steps.{step}
 use Rattle.process_model.specs.World.{on_hart, with_its_process}
 use Rattle.process_rows.proofs.Playing.{Plays, silent, ◌⇒◌}
@@ -28,7 +28,7 @@ fork_leaves_no_old_entry : Plays (
     ∷ "leave 0" ⇒ "ok"
     ∷ "load 0 0x1000 1 @0" ⇒ "refused 20 NoEntry"
     ∷ [])
-unfolding number low_bytes digits item_line line_of elf_loads segment_loads process_of tables_needed on_hart with_its_process resident_world sbrk_result mapped unmapped copied_in copied_out step
+unfolding number low_bytes digits item_line line_of elf_loads segment_loads process_of tables_needed on_hart with_its_process resident_at sbrk_result mapped unmapped copied_in copied_out step
 fork_leaves_no_old_entry = refl
 
 entries_on_two_harts_with_numbers : Plays (
@@ -52,7 +52,7 @@ entries_on_two_harts_with_numbers : Plays (
     ∷ "on 1 1" ⇒ "ok"
     ∷ "load 1 0x1000 1" ⇒ "value 0x41"
     ∷ [])
-unfolding number low_bytes digits item_line line_of elf_loads segment_loads process_of tables_needed on_hart with_its_process resident_world sbrk_result mapped unmapped copied_in copied_out step
+unfolding number low_bytes digits item_line line_of elf_loads segment_loads process_of tables_needed on_hart with_its_process resident_at sbrk_result mapped unmapped copied_in copied_out step
 entries_on_two_harts_with_numbers = refl
 
 slot_that_is_used_again : Plays (
@@ -69,7 +69,7 @@ slot_that_is_used_again : Plays (
     ∷ "load 0 0x1000 1 @0" ⇒ "refused 20 NoEntry"
     ∷ "load 0 0x1000 1" ⇒ "value 0x0"
     ∷ [])
-unfolding number low_bytes digits item_line line_of elf_loads segment_loads process_of tables_needed on_hart with_its_process resident_world sbrk_result mapped unmapped copied_in copied_out step
+unfolding number low_bytes digits item_line line_of elf_loads segment_loads process_of tables_needed on_hart with_its_process resident_at sbrk_result mapped unmapped copied_in copied_out step
 slot_that_is_used_again = refl
 
 entry_that_is_kept : Plays (
@@ -86,5 +86,5 @@ entry_that_is_kept : Plays (
     ∷ "on 0 0" ⇒ "ok"
     ∷ "load 0 0x1000 1 @0" ⇒ "value 0x0"
     ∷ [])
-unfolding number low_bytes digits item_line line_of elf_loads segment_loads process_of tables_needed on_hart with_its_process resident_world sbrk_result mapped unmapped copied_in copied_out step
+unfolding number low_bytes digits item_line line_of elf_loads segment_loads process_of tables_needed on_hart with_its_process resident_at sbrk_result mapped unmapped copied_in copied_out step
 entry_that_is_kept = refl

@@ -9,7 +9,7 @@ use Rattle.process_model.specs.Images.{elf_loads, segment_loads}
 use Rattle.process_model.specs.Loading.{process_of}
 use Rattle.process_model.specs.Mappings.{mapped, unmapped}
 use Rattle.process_model.specs.Script.{item_line, line_of}
-use Rattle.process_model.specs.Service.{resident_world}
+use Rattle.process_model.specs.Around.{resident_at}
 use Rattle.process_model.specs.Steps.{step}
 use Rattle.process_model.specs.World.{on_hart, with_its_process}
 use Rattle.process_model.specs.declared.script.Cause.TheVariants as cause
@@ -18,42 +18,42 @@ use Rattle.process_rows.proofs.Playing.{Plays, IsRefused, silent, ◌⇒◌}
 boot_alone : Plays (
     "boot 1 64 58 full" ⇒ "ok"
     ∷ [])
-unfolding number low_bytes digits item_line line_of elf_loads segment_loads process_of tables_needed on_hart with_its_process resident_world sbrk_result mapped unmapped copied_in copied_out step
+unfolding number low_bytes digits item_line line_of elf_loads segment_loads process_of tables_needed on_hart with_its_process resident_at sbrk_result mapped unmapped copied_in copied_out step
 boot_alone = refl
 
 boot_without_a_line_feed : Plays (
     "boot 1 64 58 full" ⇒ "ok"
     ∷ [])
-unfolding number low_bytes digits item_line line_of elf_loads segment_loads process_of tables_needed on_hart with_its_process resident_world sbrk_result mapped unmapped copied_in copied_out step
+unfolding number low_bytes digits item_line line_of elf_loads segment_loads process_of tables_needed on_hart with_its_process resident_at sbrk_result mapped unmapped copied_in copied_out step
 boot_without_a_line_feed = refl
 
 empty_script : IsRefused [] 1 cause.Order
-unfolding number low_bytes digits item_line line_of elf_loads segment_loads process_of tables_needed on_hart with_its_process resident_world sbrk_result mapped unmapped copied_in copied_out step
+unfolding number low_bytes digits item_line line_of elf_loads segment_loads process_of tables_needed on_hart with_its_process resident_at sbrk_result mapped unmapped copied_in copied_out step
 empty_script = refl
 
 too_few_fields : IsRefused (
     silent "boot 1 64"
     ∷ []) 1 cause.Count
-unfolding number low_bytes digits item_line line_of elf_loads segment_loads process_of tables_needed on_hart with_its_process resident_world sbrk_result mapped unmapped copied_in copied_out step
+unfolding number low_bytes digits item_line line_of elf_loads segment_loads process_of tables_needed on_hart with_its_process resident_at sbrk_result mapped unmapped copied_in copied_out step
 too_few_fields = refl
 
 no_such_policy : IsRefused (
     silent "boot 1 64 4 fast"
     ∷ []) 1 cause.Field
-unfolding number low_bytes digits item_line line_of elf_loads segment_loads process_of tables_needed on_hart with_its_process resident_world sbrk_result mapped unmapped copied_in copied_out step
+unfolding number low_bytes digits item_line line_of elf_loads segment_loads process_of tables_needed on_hart with_its_process resident_at sbrk_result mapped unmapped copied_in copied_out step
 no_such_policy = refl
 
 more_frames_than_there_are : IsRefused (
     silent "boot 1 64 59 full"
     ∷ []) 1 cause.Limits
-unfolding number low_bytes digits item_line line_of elf_loads segment_loads process_of tables_needed on_hart with_its_process resident_world sbrk_result mapped unmapped copied_in copied_out step
+unfolding number low_bytes digits item_line line_of elf_loads segment_loads process_of tables_needed on_hart with_its_process resident_at sbrk_result mapped unmapped copied_in copied_out step
 more_frames_than_there_are = refl
 
 second_boot : IsRefused (
     silent "boot 1 64 4 full"
     ∷ silent "boot 1 64 4 full"
     ∷ []) 2 cause.Order
-unfolding number low_bytes digits item_line line_of elf_loads segment_loads process_of tables_needed on_hart with_its_process resident_world sbrk_result mapped unmapped copied_in copied_out step
+unfolding number low_bytes digits item_line line_of elf_loads segment_loads process_of tables_needed on_hart with_its_process resident_at sbrk_result mapped unmapped copied_in copied_out step
 second_boot = refl
 
 comment_and_tab : Plays (
@@ -61,7 +61,7 @@ comment_and_tab : Plays (
     ∷ silent "# x\r"
     ∷ "audit\r" ⇒ "free 0 held 64 shared 0 references 64"
     ∷ [])
-unfolding number low_bytes digits item_line line_of elf_loads segment_loads process_of tables_needed on_hart with_its_process resident_world sbrk_result mapped unmapped copied_in copied_out step
+unfolding number low_bytes digits item_line line_of elf_loads segment_loads process_of tables_needed on_hart with_its_process resident_at sbrk_result mapped unmapped copied_in copied_out step
 comment_and_tab = refl
 
 comment_between_tabs : Plays (
@@ -69,7 +69,7 @@ comment_between_tabs : Plays (
     ∷ silent "\t# x\r"
     ∷ " \taudit\t\r" ⇒ "free 0 held 64 shared 0 references 64"
     ∷ [])
-unfolding number low_bytes digits item_line line_of elf_loads segment_loads process_of tables_needed on_hart with_its_process resident_world sbrk_result mapped unmapped copied_in copied_out step
+unfolding number low_bytes digits item_line line_of elf_loads segment_loads process_of tables_needed on_hart with_its_process resident_at sbrk_result mapped unmapped copied_in copied_out step
 comment_between_tabs = refl
 
 tab_before_a_return : Plays (
@@ -77,7 +77,7 @@ tab_before_a_return : Plays (
     ∷ silent "#\tx\t\r"
     ∷ "\taudit" ⇒ "free 0 held 64 shared 0 references 64"
     ∷ [])
-unfolding number low_bytes digits item_line line_of elf_loads segment_loads process_of tables_needed on_hart with_its_process resident_world sbrk_result mapped unmapped copied_in copied_out step
+unfolding number low_bytes digits item_line line_of elf_loads segment_loads process_of tables_needed on_hart with_its_process resident_at sbrk_result mapped unmapped copied_in copied_out step
 tab_before_a_return = refl
 
 steps_one_by_one : Plays (
@@ -92,11 +92,11 @@ steps_one_by_one : Plays (
     ∷ "load 0 0x1000 8" ⇒ "value 0x1122334455667788"
     ∷ "load 0 0x1004 2" ⇒ "value 0x3344"
     ∷ [])
-unfolding number low_bytes digits item_line line_of elf_loads segment_loads process_of tables_needed on_hart with_its_process resident_world sbrk_result mapped unmapped copied_in copied_out step
+unfolding number low_bytes digits item_line line_of elf_loads segment_loads process_of tables_needed on_hart with_its_process resident_at sbrk_result mapped unmapped copied_in copied_out step
 steps_one_by_one = refl
 
 fifth_field_of_boot : IsRefused (
     silent "boot 1 64 4 full sv48"
     ∷ []) 1 cause.Count
-unfolding number low_bytes digits item_line line_of elf_loads segment_loads process_of tables_needed on_hart with_its_process resident_world sbrk_result mapped unmapped copied_in copied_out step
+unfolding number low_bytes digits item_line line_of elf_loads segment_loads process_of tables_needed on_hart with_its_process resident_at sbrk_result mapped unmapped copied_in copied_out step
 fifth_field_of_boot = refl

@@ -144,7 +144,7 @@ page_numbers es = map (λ (e : ℕ × List ℕ). e.0) es
 begun : (es : Pages) (fresh k : ℕ) → Contains (page_numbers es) k → (s : Page) × (pages.get (from_list (numbered fresh es)) k ≡ Some s) × (s.fork_mark ≡ false)
 begun [] fresh k h = absurd (omega (arith, h.1))
 begun (e ∷ es) fresh k h =
-    let first : Page = record { bytes = e.1; copy = fresh; fork_mark = false } in
+    let first : Page = record { bytes = e.1; copy = fresh; fork_mark = false; stored_mark = false } in
     elim (cases_eq k e.0) [
       | inl same ↦ (first, inserted_here e.0 first (from_list (numbered (fresh + 1) es)) k same, refl)
       | inr apart ↦ elim (first_or e.0 k (page_numbers es) h) [
@@ -158,7 +158,7 @@ begun (e ∷ es) fresh k h =
 begun_back : (es : Pages) (fresh k : ℕ) (s : Page) → pages.get (from_list (numbered fresh es)) k ≡ Some s → Contains (page_numbers es) k
 begun_back [] fresh k s at = absurd (cc)
 begun_back (e ∷ es) fresh k s at =
-    let first : Page = record { bytes = e.1; copy = fresh; fork_mark = false } in
+    let first : Page = record { bytes = e.1; copy = fresh; fork_mark = false; stored_mark = false } in
     elim (cases_eq k e.0) [
       | inl same ↦ subst (λ x. Contains (x ∷ page_numbers es) k) same (in_front k (page_numbers es))
       | inr apart ↦ behind e.0 k (page_numbers es)
@@ -168,7 +168,7 @@ begun_back (e ∷ es) fresh k s at =
 none_begun : (es : Pages) (fresh k : ℕ) → (Contains (page_numbers es) k → ⊥) → pages.get (from_list (numbered fresh es)) k ≡ None
 none_begun [] fresh k out = refl
 none_begun (e ∷ es) fresh k out =
-    let first : Page = record { bytes = e.1; copy = fresh; fork_mark = false } in
+    let first : Page = record { bytes = e.1; copy = fresh; fork_mark = false; stored_mark = false } in
     inserted_other e.0 first (from_list (numbered (fresh + 1) es)) k (λ same. out (subst (λ x. Contains (x ∷ page_numbers es) k) same (in_front k (page_numbers es))))
     ∙ none_begun es (fresh + 1) k (λ later. out (behind e.0 k (page_numbers es) later))
 

@@ -43,7 +43,7 @@ returns-clause-added g c trapframe t p can =
     let x = c.map.ensures.image t (come_tables _ _ _ come c.args.root.0 t can.stands.tables) in (
       with_leaf x.0 (leaf_node c.args.page) c.leaf.result,
       c.claim-frame.result.0,
-      adds _ _ trapframe t p c.args.page _ can _ _ x.0 c.leaf.result _ c.args.bytes.now come c.fill_frame.ensures.bytes c.leaf.ensures.leaf x.1 x.2 x.3
+      adds _ _ trapframe t p c.args.page _ can _ _ x.0 c.leaf.result _ c.args.bytes.now come c.fill_frame.ensures.bytes (rw c.is_dirty_from_start.ensures at c.leaf.ensures.leaf) x.1 x.2 x.3
           (c.missing_is_growth.ensures.grown t x.0 (pages.keys p.tabled) c.args.page can.stands.tabled x.1),
     )
 

@@ -1,13 +1,14 @@
-use Rattle.std.proofs.Common.{◌≡◌, ℕ, Some, false, true, refl, ap, sym, arith, ◌∙◌}
+use Rattle.std.proofs.Common.{◌≡◌, ℕ, Some, ◌&&◌, false, true, refl, ap, sym, arith, ◌∙◌}
 use Rattle.std.specs.Prelude.{is_ok, option_map}
 use Rattle.std.proofs.lemmas.Result.{err_from_is_err_and}
 use Rattle.frame_store.specs.Laws.{fits_after}
 use Rattle.process_model.specs.Process.{Page, Process, regions}
 use Rattle.process_model.specs.Regions.{region_at}
 use Rattle.table_walk.specs.Image.{Image}
+use Rattle.address_space.specs.Agreement.{is_dirty_page}
 use Rattle.address_space.specs.Layouts.{region_of}
 use Rattle.address_space.specs.Steps.{CanOwn}
-use Rattle.address_space.proofs.OwningCounts.{exact_kept, exact_parted, exact_refused, free_kept, free_parted, free_refused, look_at, own_frame, own_kept, own_one, own_part, own_parted, own_some, own_stands, refused_agrees, refused_dry}
+use Rattle.address_space.proofs.OwningCounts.{exact_kept, exact_parted, exact_refused, free_kept, free_parted, free_refused, look_at, own_frame, own_kept, own_one, own_part, own_parted, own_some, own_stands, own_stays_dirty, refused_agrees, refused_dry}
 use Rattle.address_space.proofs.space.Space.own.Given as given
 use Rattle.address_space.proofs.space.Space.own.Goals as goal
 use Rattle.address_space.proofs.space.Space.own.Goals.{After-from_residual, After-look-sole, In-Some-frame_of}
@@ -17,12 +18,20 @@ use Rattle.address_space.proofs.space.Space.own.Goals.{After-from_residual, Afte
 frame_is : (g : given.Over) (c : In-Some-frame_of g) (t : Image) (p : Process) (s : Page) (f : ℕ)
     → CanOwn (g.S.FrameSeat.view c.args.self.now.seat) c.args.self.now.root.0 c.args.self.now.trapframe.0 c.args.self.now.layout t p c.args.page s f
     → c.in-Some-frame_of.shared.0 ≡ f
-frame_is g c t p s f can = own_frame can c.frame_of.result c.in-Some-frame_of.shared (c.frame_of.ensures.frame t can.agrees.stands.tables) c.in-Some-frame_of.is
+frame_is g c t p s f can = own_frame can c.frame_of.result _ (c.frame_of.ensures.frame t can.agrees.stands.tables) c.in-Some-frame_of.is
 
 region_is : (g : given.Over) (c : In-Some-frame_of g) (t : Image) (p : Process) (s : Page) (f : ℕ)
     → CanOwn (g.S.FrameSeat.view c.args.self.now.seat) c.args.self.now.root.0 c.args.self.now.trapframe.0 c.args.self.now.layout t p c.args.page s f
     → region_at (regions p) c.args.page ≡ Some (region_of c.in-Some.region)
 region_is g c t p s f can = sym (rw c.number.ensures.value at (c.region_at.ensures p can.agrees.lays)) ∙ ap (option_map region_of) c.in-Some.is
+
+-- what the leaf's D comes to in a new leaf
+dirty_is : (g : given.Over) (c : In-Some-frame_of g) (t : Image) (p : Process) (s : Page) (f : ℕ)
+    → CanOwn (g.S.FrameSeat.view c.args.self.now.seat) c.args.self.now.root.0 c.args.self.now.trapframe.0 c.args.self.now.layout t p c.args.page s f
+    → (c.in-Some-frame_of.dirty && (region_of c.in-Some.region).writes) ≡ is_dirty_page (region_of c.in-Some.region) s
+dirty_is g c t p s f can =
+    own_stays_dirty can c.frame_of.result _ (c.frame_of.ensures.frame t can.agrees.stands.tables) c.in-Some-frame_of.is
+    (region_of c.in-Some.region) (region_is g c t p s f can)
 
 counted : (g : given.Over) (c : After-look-sole g) → g.F.FrameAccess.alone → (f : ℕ) → c.in-Some-frame_of.shared.0 ≡ f → c.look-sole.result ≡ g.F.FrameAccess.count c.args.store.now f
 counted g c alone f is =
@@ -74,7 +83,7 @@ returns-then-sole-clause-owned g c t p s f can =
       _,
       f,
       c.look-sole.result,
-      own_kept can _ _ look _ (region_is g at t p s f can) c.if-sole.true _ _ (rw is at c.leaf.ensures.leaf) (c.protect.ensures.image t stands.tables).0
+      own_kept can _ _ look _ (region_is g at t p s f can) c.if-sole.true _ _ (rw (is, dirty_is g at t p s f can) at c.leaf.ensures.leaf) (c.protect.ensures.image t stands.tables).0
           (λ x table. c.protect.ensures.word t x stands.tables table),
       λ alone. counted g (goal.at.returns-then-sole-clause-owned g c).After-look-sole alone f is,
     )
@@ -145,7 +154,7 @@ separate-requires-clause-ready g c =
       r.0,
       r.1,
       r.2,
-      rw is (own_part r.4 _ _ look _ (region_is g at.In-Some-frame_of r.0 r.1 r.2 r.3 r.4) c.if-sole.false _ c.in_ok-reserve.ensures.ok),
+      rw is (own_part r.4 _ _ look _ (region_is g at.In-Some-frame_of r.0 r.1 r.2 r.3 r.4) c.if-sole.false _ c.in_ok-reserve.ensures.ok _ (dirty_is g at.In-Some-frame_of r.0 r.1 r.2 r.3 r.4)),
     )
 
 pub returns-clause-owned : goal.returns-clause-owned
@@ -154,7 +163,7 @@ returns-clause-owned g c t p s f can =
     let is = frame_is g at.In-Some-frame_of t p s f can in
     let look = look_at _ _ _ _ _ _ c.frame_of.ensures.view c.look-sole.ensures.view is in
     let region = region_is g at.In-Some-frame_of t p s f can in
-    let ready = own_part can _ _ look _ region c.if-sole.false _ c.in_ok-reserve.ensures.ok in
+    let ready = own_part can _ _ look _ region c.if-sole.false _ c.in_ok-reserve.ensures.ok _ (dirty_is g at.In-Some-frame_of t p s f can) in
     let parts = c.separate.ensures.separated c.args.self.now.trapframe.0 t p s (rw is ready) in (
       parts.0,
       parts.1,

@@ -13,5 +13,5 @@ pub returns-clause-frame : goal.returns-clause-frame
 returns-clause-frame g c t p s can =
     let stands = can.agrees.stands in
     let here = page_here _ _ _ _ t p _ s stands can.settled in
-    let on = page_on _ t p _ s here.0 here.1 c.frame_of.result (rw c.page.ensures.number at (c.frame_of.ensures.frame t stands.tables)) c.in-Some.frame c.in-Some.is in
+    let on = page_on _ t p _ s here.0 here.1 c.frame_of.result (rw c.page.ensures.number at (c.frame_of.ensures.frame t stands.tables)) _ c.in-Some.is in
     (on.leaf, on.mapped, on.made.names)

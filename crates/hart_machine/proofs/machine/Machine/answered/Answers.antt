@@ -1,5 +1,6 @@
 use Rattle.std.proofs.Common.{◌∙◌, subst, sym}
 use Rattle.std.proofs.lemmas.Option.{same_Some}
+use Rattle.hart_machine.specs.Accesses.{asked_of}
 use Rattle.hart_machine.specs.Tenants.{IsTenant}
 use Rattle.hart_machine.proofs.AccessingWorlds.{access_changes, seat_fits, slot_has}
 use Rattle.hart_machine.proofs.HartSteps.{process_at}
@@ -28,6 +29,6 @@ returns-clause-made c w is p at given =
     let found = process_at m w is c.args.slot c.in-Some.tenant there in
     let tenant = subst (λ q. IsTenant c.in-Some.tenant (is.images c.args.slot) q) (same_Some _ _ (same_Some _ _ (sym found.1 ∙ at))) found.2 in (
       c.access.ensures.reply (is.images c.args.slot) p tenant given,
-      access_changes m w is c.args.slot c.in-Some.tenant c.access.new.self p there at c.args.asked.access c.args.asked.va.0 c.args.asked.width c.args.asked.value tenant
+      access_changes m w is c.args.slot c.in-Some.tenant c.access.new.self p there at (asked_of c.args.asked) tenant
           (c.access.ensures.after (is.images c.args.slot) p tenant given) c.access.new.frames c.access.ensures.keeps c.access.ensures.free,
     )

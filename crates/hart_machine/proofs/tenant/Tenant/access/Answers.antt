@@ -1,6 +1,6 @@
-use Rattle.std.proofs.Common.{ap, refl, ◌∙◌}
-use Rattle.hart_machine.specs.Accesses.{pending_after}
-use Rattle.hart_machine.proofs.AccessingWorlds.{tenant_after}
+use Rattle.std.proofs.Common.{ap, sym, ◌∙◌}
+use Rattle.hart_machine.specs.Accesses.{asked_of, pending_after}
+use Rattle.hart_machine.proofs.AccessingPages.{access_pending}
 use Rattle.hart_machine.proofs.tenant.Tenant.access.Goals as goal
 
 pub user_access-reply-requires : goal.user_access-reply-requires
@@ -15,10 +15,13 @@ returns-clause-reply c t p tenant given = c.user_access-reply.ensures.reply t p 
 
 pub returns-clause-after : goal.returns-clause-after
 returns-clause-after c t p tenant given =
-    let agrees = c.user_access-reply.ensures.after t p (rw c.translated-walk.ensures.tenant tenant.agrees) (c.translated-walk.ensures.walk t p tenant given) in
-    let reply = c.user_access-reply.ensures.reply t p (rw c.translated-walk.ensures.tenant tenant.agrees) (c.translated-walk.ensures.walk t p tenant given) in
-    tenant_after _ _ _ _ t _ agrees _ refl refl refl refl (rw (c.user_access-reply.ensures.trapframe, c.translated-walk.ensures.tenant) tenant.framed) _
-    (c.pending-self.ensures ∙ ap (pending_after c.args.asked.access c.args.asked.va.0 c.args.asked.width) reply)
+    let walks = c.translated-walk.ensures.walk t p tenant given in
+    let reply = c.user_access-reply.ensures.reply t p (rw c.translated-walk.ensures.tenant tenant.agrees) walks in
+    record {
+      agrees = c.user_access-reply.ensures.after t p (rw c.translated-walk.ensures.tenant tenant.agrees) walks;
+      framed = rw (c.user_access-reply.ensures.trapframe, c.translated-walk.ensures.tenant) tenant.framed;
+      pending = access_pending p (asked_of c.args.asked) ∙ sym (c.pending-self.ensures ∙ ap (pending_after (asked_of c.args.asked)) reply);
+    }
 
 pub returns-clause-keeps : goal.returns-clause-keeps
 returns-clause-keeps c others rule = c.user_access-reply.ensures.keeps others (rw (c.translated-walk.ensures.tenant, c.translated-walk.ensures.frames) rule)
