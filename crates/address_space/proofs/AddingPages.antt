@@ -21,7 +21,7 @@ use Rattle.address_space.specs.Agreement.{IsLeafNumber, IsPageLeaf, OthersKeep, 
 use Rattle.address_space.specs.Steps.{Adds, CanAdd, settled_with}
 use Rattle.address_space.proofs.AddingFrames.{Comes, come_owns, come_tables, f_same, leaf_owns, leaf_same, not_held_before}
 use Rattle.address_space.proofs.Owned.{one_page, same_bytes, same_sole}
-use Rattle.address_space.specs.PageMaps.{all_keys, behind_more, inserted_here, inserted_other, key_in, key_out}
+use Rattle.process_model.specs.Inserted.{all_keys, behind_more, inserted_here, inserted_other, key_in, key_out}
 
 -- tables of the same pages in another order
 same_members : (u : Image) (xs ys : List ℕ) → ((y : ℕ) → Contains xs y → Contains ys y) → ((y : ℕ) → Contains ys y → Contains xs y)

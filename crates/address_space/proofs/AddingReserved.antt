@@ -8,10 +8,10 @@ use Rattle.frame_store.specs.View.{View, hold_of, with_credits}
 use Rattle.process_model.specs.Frames.{settle_need, tables_needed}
 use Rattle.process_model.specs.PageMap as pages
 use Rattle.process_model.specs.Process.{Process, regions}
-use Rattle.process_model.specs.Regions.{Region, region_at}
+use Rattle.process_model.specs.Regions.{makes_leaf, Region, region_at}
 use Rattle.table_walk.specs.Counted.{AreTablesOf}
 use Rattle.table_walk.specs.Image.{HasTables, Image, missing}
-use Rattle.address_space.specs.Agreement.{Agrees, makes_leaf}
+use Rattle.address_space.specs.Agreement.{Agrees}
 use Rattle.address_space.specs.Layouts.{Layout}
 use Rattle.address_space.specs.Steps.{Adds, CanAdd, CanSettle, RunsDry, Settles}
 use Rattle.address_space.proofs.Owned.{same_references, same_stands}

@@ -10,8 +10,8 @@ use Rattle.process_model.specs.PageMap.{contains, count}
 use Rattle.process_model.specs.Process.{Page, Process, regions}
 use Rattle.sv39_entry.specs.Address.{trampoline_page, trapframe_page}
 use Rattle.address_space.specs.Parts.{with_settled, with_pages}
-use Rattle.address_space.proofs.NeededSets.{count_next, none_in, same_count, values}
-use Rattle.address_space.specs.PageMaps.{behind, behind_more, first_or, in_front, inserted_other, key_in, key_out}
+use Rattle.process_model.specs.ValueSets.{count_next, none_in, same_count, values}
+use Rattle.process_model.specs.Inserted.{behind, behind_more, first_or, in_front, inserted_other, key_in, key_out}
 
 abbrev pub Pages : Type 0
 Pages = List (ℕ × List ℕ)

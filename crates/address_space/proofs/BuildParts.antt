@@ -9,6 +9,7 @@ use Rattle.std.proofs.lemmas.List.Elements.{Contains-append_cases}
 use Rattle.frame_store.specs.View.{View}
 use Rattle.process_model.specs.Bytes.{numbers_from}
 use Rattle.process_model.specs.Frames.{tables_of}
+use Rattle.process_model.specs.ImageNeed.{run_numbers}
 use Rattle.process_model.specs.Process.{Process, heap_of}
 use Rattle.process_model.specs.Regions.{Region, end_of, holds_page, region_at}
 use Rattle.table_walk.specs.Image.{Image}
@@ -17,8 +18,8 @@ use Rattle.address_space.specs.Parts.{AreParts, bare_process, CanFill, Fills, Is
 use Rattle.address_space.specs.declared.part.Part.{Part}
 use Rattle.address_space.proofs.BuildPages.{Pages, in_run, other_stays, same_regions, tables_up_to, with_both}
 use Rattle.address_space.proofs.Found.{first_found, first_passed, in_front}
-use Rattle.address_space.proofs.NeededParts.{begins, pages_more, run_numbers}
-use Rattle.address_space.proofs.NeededSets.{none_in}
+use Rattle.address_space.proofs.NeededParts.{begins, pages_more}
+use Rattle.process_model.specs.ValueSets.{none_in}
 
 -- ---- pages of some parts, and then of others
 

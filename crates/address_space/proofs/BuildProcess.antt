@@ -23,8 +23,8 @@ use Rattle.address_space.specs.Agreement.{is_dirty_page, IsPageLeaf, Shows, Stan
 use Rattle.address_space.specs.Parts.{bare_process, IsAscending, numbers_of, pages_of, part_pages, process_of_parts, region_in, with_settled, with_pages}
 use Rattle.address_space.specs.declared.part.Part.{Part}
 use Rattle.address_space.proofs.BuildPages.{Pages, other_stays, page_numbers, same_regions, same_tables_needed}
-use Rattle.address_space.proofs.NeededSets.{none_in}
-use Rattle.address_space.specs.PageMaps.{behind_more, first_or, inserted_here, inserted_other, key_in, key_out}
+use Rattle.process_model.specs.ValueSets.{none_in}
+use Rattle.process_model.specs.Inserted.{behind_more, first_or, inserted_here, inserted_other, key_in, key_out}
 
 -- ---- processes that differ in their copy numbers alone
 
@@ -48,7 +48,7 @@ found_like : (a : Option Page) (s : Page) → shown a ≡ shown (Some s) → Fou
 found_like None s same = absurd (cc)
 found_like (Some x) s same =
     let all : ◌≡◌ {A = List ℕ × Bool × Bool} (x.bytes, x.fork_mark, x.stored_mark) (s.bytes, s.fork_mark, s.stored_mark) =
-        same_Some (x.bytes, x.fork_mark, x.stored_mark) (s.bytes, s.fork_mark, s.stored_mark) same in
+    same_Some (x.bytes, x.fork_mark, x.stored_mark) (s.bytes, s.fork_mark, s.stored_mark) same in
     record {
       page = x;
       found = refl;

@@ -6,6 +6,7 @@ use Rattle.std.proofs.lemmas.Option.{same_Some}
 use Rattle.frame_store.specs.View.{View, IsSole}
 use Rattle.process_model.specs.Bytes.{padded}
 use Rattle.process_model.specs.Frames.{tables_needed, tables_of}
+use Rattle.process_model.specs.ImageNeed.{run_length, run_numbers}
 use Rattle.process_model.specs.Loading.{page_run}
 use Rattle.process_model.specs.PageMap as pages
 use Rattle.process_model.specs.Process.{Process}
@@ -18,7 +19,6 @@ use Rattle.address_space.specs.Parts.{CanFill, Fills, OwnsAlone, pages_need, par
 use Rattle.address_space.specs.Steps.{Adds, CanAdd, settled_with}
 use Rattle.address_space.specs.declared.part.Part.{Part}
 use Rattle.address_space.proofs.BuildPages.{Pages, in_run, other_stays, page_numbers, run_next, run_split, same_regions, tables_next, tables_up_to, with_both}
-use Rattle.address_space.proofs.NeededParts.{run_length, run_numbers}
 use Rattle.address_space.proofs.Owned.{one_frame}
 
 -- how many tables are missing on the way to a page

@@ -18,7 +18,6 @@ pub mod KernelSteps
 pub mod KernelTables
 pub mod KernelWalks
 pub mod NeededParts
-pub mod NeededSets
 pub mod Owned
 pub mod Owning
 pub mod OwningCounts

@@ -4,7 +4,7 @@ use Rattle.std.proofs.lemmas.List.{append-nil, length-append, map-append, take_a
 use Rattle.std.proofs.lemmas.List.Concat.{flat_map-cons}
 use Rattle.std.proofs.lemmas.Grind.{flat_map-append}
 use Rattle.process_model.specs.Bytes.{numbers_from}
-use Rattle.process_model.specs.Loading.{page_run}
+use Rattle.process_model.specs.ImageNeed.{run_length, run_numbers}
 use Rattle.process_model.specs.PageMap.{count, numbers}
 use Rattle.process_model.specs.Regions.{end_of}
 use Rattle.address_space.specs.Layouts.{last_page, region_of}
@@ -13,17 +13,7 @@ use Rattle.sv39_entry.specs.Address.{trampoline_page, trapframe_page}
 use Rattle.address_space.specs.Parts.{AreParts, IsAscending, numbers_of, pages_of, part_pages, region_in, regions_in}
 use Rattle.address_space.specs.declared.part.Part.{Part}
 use Rattle.address_space.specs.declared.region.Region.{Region as Run}
-use Rattle.address_space.proofs.NeededSets.{AreCounted, div_near, div_up, none_counted, run_counted, two_more}
-
--- ---- pages
-
-pub run_numbers : (n first : ℕ) (bytes : List ℕ) → map (λ (e : ℕ × List ℕ). e.0) (page_run first bytes n) ≡ numbers_from first n
-run_numbers zero first bytes = refl
-run_numbers (suc n) first bytes = ap (λ ns. first ∷ ns) (run_numbers n (first + 1) _)
-
-pub run_length : (n first : ℕ) (bytes : List ℕ) → length (page_run first bytes n) ≡ n
-run_length zero first bytes = refl
-run_length (suc n) first bytes = ap suc (run_length n (first + 1) _)
+use Rattle.process_model.specs.ValueSets.{AreCounted, div_near, div_up, none_counted, run_counted, two_more}
 
 -- ---- one part more
 

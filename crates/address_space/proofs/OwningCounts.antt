@@ -10,7 +10,7 @@ use Rattle.frame_store.specs.Laws.{IsDry}
 use Rattle.frame_store.specs.View.{Hold, View, hold_of, IsSole, looked, references, with_credits, with_word}
 use Rattle.process_model.specs.Frames.{part_need}
 use Rattle.process_model.specs.Process.{Page, Process, regions}
-use Rattle.process_model.specs.Regions.{Region, is_shared_kind, region_at}
+use Rattle.process_model.specs.Regions.{is_shared_kind, makes_leaf, Region, region_at}
 use Rattle.process_model.specs.Residence.{unmarked, with_page}
 use Rattle.sv39_entry.specs.Address.{vpn}
 use Rattle.sv39_entry.specs.Frame.{frame_at}
@@ -18,7 +18,7 @@ use Rattle.sv39_entry.specs.Word.{has_flag, ppn}
 use Rattle.sv39_entry.specs.declared.frame.FrameNo.{FrameNo}
 use Rattle.table_walk.specs.Image.{HasTables, Image, last_table, leaf_node, with_leaf}
 use Rattle.table_walk.specs.Keys.{insert_other, insert_same}
-use Rattle.address_space.specs.Agreement.{Agrees, is_dirty_page, IsPageLeaf, makes_leaf, Stands}
+use Rattle.address_space.specs.Agreement.{Agrees, is_dirty_page, IsPageLeaf, Stands}
 use Rattle.address_space.specs.Layouts.{Layout}
 use Rattle.address_space.specs.Separating.{CanSeparate, Separates}
 use Rattle.address_space.specs.Steps.{CanOwn, Owned, Spends, Takes, RunsDry}

@@ -54,11 +54,6 @@ pub record IsPageLeaf (w f : ℕ) (r : Region) (mark is_dirty : Bool) : Type 0 w
   pub dirty : has w 7 ≡ is_dirty
   pub copy_on_write : has w 8 ≡ mark
 
--- a region whose pages can have leaves: the guard grants nothing, and any other grants reading, or execution alone
-abbrev pub makes_leaf : Region → Bool
-makes_leaf r =
-    (is_guard_kind r.kind && not r.reads && not r.writes && not r.executes) || (not (is_guard_kind r.kind) && (r.reads || (r.executes && not r.writes)))
-
 -- read and execute, and read and write
 abbrev pub code_rights : ℕ
 code_rights = 5

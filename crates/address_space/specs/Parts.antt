@@ -6,10 +6,10 @@ use Rattle.process_model.specs.Loading.{numbered, page_run}
 use Rattle.process_model.specs.PageMap as pages
 use Rattle.process_model.specs.PageMap.{PageMap, NumberSet, empty, from_list, numbers}
 use Rattle.process_model.specs.Process.{Page, Process, regions}
-use Rattle.process_model.specs.Regions.{Region, end_of, region_at}
+use Rattle.process_model.specs.Regions.{end_of, makes_leaf, Region, region_at}
 use Rattle.sv39_entry.specs.Address.{trapframe_page}
 use Rattle.table_walk.specs.Image.{Image}
-use Rattle.address_space.specs.Agreement.{makes_leaf, Names, Stands}
+use Rattle.address_space.specs.Agreement.{Names, Stands}
 use Rattle.address_space.specs.Layouts.{last_page, region_of}
 use Rattle.address_space.specs.Steps.{Spends}
 use Rattle.address_space.specs.declared.part.Part.{Part}

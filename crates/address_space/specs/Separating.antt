@@ -3,10 +3,10 @@ use Rattle.std.specs.Prelude.{◌≡◌, ℕ, Bool, true, ◌&&◌, None, Some}
 use Rattle.frame_store.specs.View.{View, IsSole, references}
 use Rattle.process_model.specs.PageMap as pages
 use Rattle.process_model.specs.Process.{Page, Process, regions}
-use Rattle.process_model.specs.Regions.{Region, region_at}
+use Rattle.process_model.specs.Regions.{makes_leaf, Region, region_at}
 use Rattle.process_model.specs.Residence.{unmarked, with_page}
 use Rattle.table_walk.specs.Image.{Image}
-use Rattle.address_space.specs.Agreement.{is_dirty_page, IsOn, makes_leaf, OthersKeep, Stands}
+use Rattle.address_space.specs.Agreement.{is_dirty_page, IsOn, OthersKeep, Stands}
 use Rattle.address_space.specs.Steps.{Spends}
 
 -- a settled page of a region that can have leaves stands on a frame, and is it known whether its leaf has D set

@@ -6,11 +6,11 @@ use Rattle.process_model.specs.Bytes.{padded}
 use Rattle.process_model.specs.Frames.{part_need, settle_need}
 use Rattle.process_model.specs.PageMap as pages
 use Rattle.process_model.specs.Process.{Page, Process, regions}
-use Rattle.process_model.specs.Regions.{Region, region_at}
+use Rattle.process_model.specs.Regions.{makes_leaf, Region, region_at}
 use Rattle.process_model.specs.Residence.{unmarked, with_page}
 use Rattle.sv39_entry.specs.Address.{trapframe_page}
 use Rattle.table_walk.specs.Image.{Image, missing}
-use Rattle.address_space.specs.Agreement.{Agrees, IsOn, makes_leaf, OthersKeep, Stands}
+use Rattle.address_space.specs.Agreement.{Agrees, IsOn, OthersKeep, Stands}
 use Rattle.address_space.specs.Layouts.{Layout}
 
 -- so many credits became frames, and no count was read

@@ -60,7 +60,15 @@ impl<S: FrameSeat> Space<S> {
             return Ok(());
         }
         store.reserve(&mut self.seat, 1)?;
-        separate(store, &mut self.seat, self.root, page, &region, shared, dirty);
+        separate(
+            store,
+            &mut self.seat,
+            self.root,
+            page,
+            &region,
+            shared,
+            dirty,
+        );
         Ok(())
     }
 }

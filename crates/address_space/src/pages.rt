@@ -2,7 +2,7 @@
 
 ghost use Rattle.std.specs.FinMap.{get};
 ghost use Rattle.std.specs.Prelude.{[], ◌≡◌, ◌+◌, ◌-◌, ◌^◌, ◌<◌, ◌≤◌, ◌↔◌, ◌==◌, false, if◌then◌else◌, IfErr, IfOk, is_ok, IsOk, length, not, option_and_then, option_map, Some, true, ℕ};
-ghost use Rattle.address_space.specs.Agreement.{Agrees, IsPageLeaf, IsOn, makes_leaf};
+ghost use Rattle.address_space.specs.Agreement.{Agrees, IsPageLeaf, IsOn};
 ghost use Rattle.address_space.specs.Layouts.{region_of};
 ghost use Rattle.address_space.specs.Steps.{Adds, CanAdd, CanSettle, RunsDry, Settles};
 ghost use Rattle.frame_store.specs.Laws.{Fits, Keeps};
@@ -10,6 +10,7 @@ ghost use Rattle.frame_store.specs.View.{IsHeld, IsSole};
 ghost use Rattle.process_model.specs.Frames.{settle_need};
 ghost use Rattle.process_model.specs.Process.{Process};
 ghost use Rattle.process_model.specs.Regions as model;
+ghost use Rattle.process_model.specs.Regions.{makes_leaf};
 ghost use Rattle.sv39_entry.specs.Frame.{frame_at};
 ghost use Rattle.sv39_entry.specs.Word as word;
 ghost use Rattle.sv39_entry.specs.declared.entry.Kind.TheVariants.{Leaf};
@@ -63,7 +64,13 @@ pub(crate) fn add_page<F: FrameSupply>(
 {
     let frame = store.claim(seat);
     fill_frame(store, seat, frame, bytes);
-    map(store, seat, root, page, region.leaf(frame, false, region.is_dirty_from_start()));
+    map(
+        store,
+        seat,
+        root,
+        page,
+        region.leaf(frame, false, region.is_dirty_from_start()),
+    );
     // by its law the tables are those of this page too
     missing_is_growth();
 }

@@ -1,9 +1,10 @@
 // Runs of pages with what they grant.
 
 ghost use Rattle.std.specs.Prelude.{◌≡◌, ◌&&◌, not, Some, true};
-ghost use Rattle.address_space.specs.Agreement.{IsPageLeaf, makes_leaf};
+ghost use Rattle.address_space.specs.Agreement.{IsPageLeaf};
 ghost use Rattle.address_space.specs.Layouts.{region_of};
 ghost use Rattle.process_model.specs.Regions as model;
+ghost use Rattle.process_model.specs.Regions.{makes_leaf};
 ghost use Rattle.sv39_entry.specs.Word.{kind_of};
 ghost use Rattle.sv39_entry.specs.declared.entry.Kind.TheVariants.{Leaf};
 

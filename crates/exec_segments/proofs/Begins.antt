@@ -6,18 +6,19 @@ use Rattle.std.proofs.Math.Seq.{drop-nil, take-suc}
 use Rattle.std.proofs.lemmas.List.{append_assoc, length-append, length-map, length-take-le, map-append, take_all}
 use Rattle.process_model.specs.Bytes.{padded, pages_for}
 use Rattle.process_model.specs.Frames.{start_need, tables_needed}
+use Rattle.process_model.specs.ImageNeed.{exec_need_is}
+use Rattle.process_model.specs.Order.{InRow, IsPlaced}
 use Rattle.process_model.specs.Images.{LoadSegment, end_of_loads, end_page}
 use Rattle.process_model.specs.Loading.{guard_at, image_pages, load_pages, numbered, page_run, parts_of, process_of, segment_region, stack_at}
 use Rattle.process_model.specs.PageMap.{from_list, numbers}
 use Rattle.process_model.specs.Process.{Process}
-use Rattle.process_model.specs.Regions.{Region, end_of}
+use Rattle.process_model.specs.Regions.{Region, end_of, guard_pages, makes_leaf, stack_pages}
 use Rattle.sv39_entry.specs.Address.{page_of, trapframe_page}
-use Rattle.address_space.specs.Agreement.{makes_leaf}
 use Rattle.address_space.specs.Layouts.{last_page}
 use Rattle.address_space.specs.Parts.{AreParts, build_need, IsAscending, pages_of, part_pages, process_of_parts, region_in, regions_in}
 use Rattle.address_space.specs.declared.part.Part.{Part}
 use Rattle.address_space.specs.declared.region.RegionKind.TheVariants as RegionKind
-use Rattle.exec_segments.specs.Loads.{AreInOrder, AreLoads, IsLoad, load_of, page_region}
+use Rattle.exec_segments.specs.Loads.{AreInOrder, AreLoads, IsLoad, load_of, zeros_region}
 use Rattle.exec_segments.specs.declared.load.Load.{Load}
 use Rattle.exec_segments.proofs.Judged.{last_behind}
 
@@ -74,7 +75,7 @@ abbrev IsLeafy : Part → Type 0
 IsLeafy p = makes_leaf (region_in p) ≡ true
 
 -- below the trapframe there is room for two pages more
-ends_low : (end : ℕ) (ls : List LoadSegment) → AreInOrder end ls → end + 2 ≤ trapframe_page → end_of_loads end ls + 2 ≤ trapframe_page
+ends_low : (end : ℕ) (ls : List LoadSegment) → AreInOrder end ls → end + (guard_pages + stack_pages) ≤ trapframe_page → end_of_loads end ls + (guard_pages + stack_pages) ≤ trapframe_page
 ends_low end [] ordered low = low
 ends_low end (l ∷ ls) ordered low = ends_low (end_page l) ls ordered.1 (ordered.0).high
 
@@ -137,24 +138,34 @@ made fresh rs es end = record {
 abbrev need_of : List (ℕ × List ℕ) → ℕ
 need_of es = 1 + length es + tables_needed (map (λ e. e.0) es)
 
+in_row : (end : ℕ) (ls : List LoadSegment) → AreInOrder end ls → InRow end ls
+in_row end [] ordered = tt
+in_row end (l ∷ ls) ordered =
+    let some = (ordered.0).some in
+    let aligned = (ordered.0).aligned in
+    (record { above = (ordered.0).in_order; some = omega (arith, some); end = omega (arith, aligned) }, in_row (end_page l) ls ordered.1)
+
+placed : (ls : List LoadSegment) → AreLoads ls → IsPlaced ls
+placed ls loads = record { row = in_row 0 ls loads.in_order; below = ends_low 0 ls loads.in_order (omega arith) }
+
 -- the parts of an image: those of its segments, the guard and the stack
 module _ (ps : List Part) (ls : List LoadSegment) (g s : Part) (are : ArePartsOf ps ls) (loads : AreLoads ls)
-    (guard_is : region_in g ≡ guard_at (end_of_loads 0 ls)) (stack_is : region_in s ≡ stack_at (end_of_loads 0 ls + 1)) (no_bytes : g.bytes.now ≡ []) (none : s.bytes.now ≡ []) where
+    (guard_is : region_in g ≡ guard_at (end_of_loads 0 ls)) (stack_is : region_in s ≡ stack_at (end_of_loads 0 ls + guard_pages)) (no_bytes : g.bytes.now ≡ []) (none : s.bytes.now ≡ []) where
   all_regions : regions_in (whole g s ps) ≡ parts_of ls
   all_regions = map-append region_in ps (g ∷ s ∷ []) ∙ ap (λ rs. rs ++ region_in g ∷ region_in s ∷ []) (regions_are g s ps ls are)
       ∙ ap (λ r. map segment_region ls ++ r ∷ region_in s ∷ []) guard_is ∙ ap (λ r. map segment_region ls ++ guard_at (end_of_loads 0 ls) ∷ r ∷ []) stack_is
 
-  last_pages : flat_map part_pages (g ∷ s ∷ []) ≡ page_run (end_of_loads 0 ls) [] 2
+  last_pages : flat_map part_pages (g ∷ s ∷ []) ≡ page_run (end_of_loads 0 ls) [] (guard_pages + stack_pages)
   last_pages =
-      let guard_pages = pages_are g (end_of_loads 0 ls) 1 [] (ap (λ (r : Region). r.first) guard_is) (ap (λ (r : Region). r.pages) guard_is) no_bytes in
-      let stack_pages = pages_are s (end_of_loads 0 ls + 1) 1 [] (ap (λ (r : Region). r.first) stack_is) (ap (λ (r : Region). r.pages) stack_is) none in
-      rw (guard_pages, stack_pages) (ap (λ bs. (end_of_loads 0 ls, padded 4096 []) ∷ page_run (end_of_loads 0 ls + 1) bs 1) (sym (drop-nil 4096)))
+      let guard_has = pages_are g (end_of_loads 0 ls) guard_pages [] (ap (λ (r : Region). r.first) guard_is) (ap (λ (r : Region). r.pages) guard_is) no_bytes in
+      let stack_has = pages_are s (end_of_loads 0 ls + guard_pages) stack_pages [] (ap (λ (r : Region). r.first) stack_is) (ap (λ (r : Region). r.pages) stack_is) none in
+      rw (guard_has, stack_has) (ap (λ bs. (end_of_loads 0 ls, padded 4096 []) ∷ page_run (end_of_loads 0 ls + 1) bs 1) (sym (drop-nil 4096)))
 
   all_pages : pages_of (whole g s ps) ≡ image_pages ls
   all_pages = flat_map-append part_pages ps (g ∷ s ∷ []) ∙ ap (λ es. es ++ flat_map part_pages (g ∷ s ∷ [])) (all_pages_are g s ps ls are)
       ∙ ap (λ es. flat_map load_pages ls ++ es) last_pages
 
-  last_page_is : last_page 0 (regions_in (whole g s ps)) ≡ end_of_loads 0 ls + 2
+  last_page_is : last_page 0 (regions_in (whole g s ps)) ≡ end_of_loads 0 ls + (guard_pages + stack_pages)
   last_page_is = last_is g s 0 ps ∙ ap end_of stack_is ∙ omega arith
 
   pub begins : (fresh : ℕ) → process_of_parts fresh (whole g s ps) ≡ process_of fresh ls
@@ -165,7 +176,8 @@ module _ (ps : List Part) (ls : List LoadSegment) (g s : Part) (are : ArePartsOf
   pub needs : build_need (whole g s ps) ≡ start_need ls
   needs =
       let numbers_many = length-map (image_pages ls) (λ (e : ℕ × List ℕ). e.0) in
-      ap need_of all_pages ∙ omega (arith, numbers_many)
+      let by_runs = exec_need_is ls (placed ls loads) in
+      ap need_of all_pages ∙ omega (arith, numbers_many, by_runs)
 
   pub are_parts : AreParts (whole g s ps)
   are_parts =
@@ -199,7 +211,7 @@ module _ (loads : List Load) (i : ℕ) (e : Load) (low : i < length loads) where
   end_forward = ap (end_of_loads 0) next ∙ last_behind 0 (map load_of (take i loads)) (load_of (get_or loads i e))
 
 -- each segment ends below the trapframe
-load_low : (end : ℕ) (loads : List Load) (i : ℕ) (e : Load) → AreInOrder end (map load_of loads) → i < length loads → end_page (load_of (get_or loads i e)) + 2 ≤ trapframe_page
+load_low : (end : ℕ) (loads : List Load) (i : ℕ) (e : Load) → AreInOrder end (map load_of loads) → i < length loads → end_page (load_of (get_or loads i e)) + (guard_pages + stack_pages) ≤ trapframe_page
 load_low end [] i e ordered low = absurd (omega arith)
 load_low end (l ∷ loads) zero e ordered low = (ordered.0).high
 load_low end (l ∷ loads) (suc i) e ordered low = load_low (end_page (load_of l)) loads i e ordered.1 (omega arith)
@@ -217,7 +229,7 @@ room loads i ps are low parts =
     let few = are.few in
     omega (arith, same, mapped, taken, all, few, low)
 
-pub end_fits : (loads : List Load) (end : ℕ) → AreLoads (map load_of loads) → end ≡ end_of_loads 0 (map load_of loads) → end + 2 ≤ trapframe_page
+pub end_fits : (loads : List Load) (end : ℕ) → AreLoads (map load_of loads) → end ≡ end_of_loads 0 (map load_of loads) → end + (guard_pages + stack_pages) ≤ trapframe_page
 end_fits loads end are is = let high = ends_low 0 (map load_of loads) are.in_order (omega arith) in omega (arith, high, is)
 
 -- all of them
@@ -231,10 +243,10 @@ all_end loads i end over is = is ∙ ap (λ ls. end_of_loads 0 (map load_of ls))
 pub two_behind : (ps first second : List Part) (g s : Part) → first ≡ ps ++ g ∷ [] → second ≡ first ++ s ∷ [] → second ≡ ps ++ g ∷ s ∷ []
 two_behind ps first second g s one two = two ∙ ap (λ qs. qs ++ s ∷ []) one ∙ append_assoc ps (g ∷ []) (s ∷ [])
 
-pub guard_is : (g : Part) (end rights : ℕ) → region_in g ≡ page_region end RegionKind.Guard rights → rights ≡ 0 → region_in g ≡ guard_at end
+pub guard_is : (g : Part) (end rights : ℕ) → region_in g ≡ zeros_region end guard_pages RegionKind.Guard rights → rights ≡ 0 → region_in g ≡ guard_at end
 guard_is g end rights is none = is ∙ rw none refl
 
-pub stack_is : (s : Part) (end rights : ℕ) → region_in s ≡ page_region (end + 1) RegionKind.Stack rights → rights ≡ 3 → region_in s ≡ stack_at (end + 1)
+pub stack_is : (s : Part) (end rights : ℕ) → region_in s ≡ zeros_region (end + guard_pages) stack_pages RegionKind.Stack rights → rights ≡ 3 → region_in s ≡ stack_at (end + guard_pages)
 stack_is s end rights is three = is ∙ rw three refl
 
 -- what holds of a success

@@ -4,7 +4,7 @@ use Rattle.std.specs.Coded.{Coded, code_by, coded×, coded_ℕ, coded_bool, code
 use Rattle.process_model.specs.Images.{LoadSegment, end_of_loads, end_page}
 use Rattle.sv39_entry.specs.Address.{page_of, trapframe_page}
 use Rattle.process_model.specs.declared.image.Segment.{Segment}
-use Rattle.process_model.specs.Regions.{Region, zeros}
+use Rattle.process_model.specs.Regions.{guard_pages, Region, stack_pages, zeros}
 use Rattle.sv39_entry.specs.Rights.{executes, reads, writes}
 use Rattle.address_space.specs.Layouts.{region_kind}
 use Rattle.address_space.specs.declared.region.RegionKind.{RegionKind}
@@ -34,7 +34,7 @@ pub record IsLoad (end : ℕ) (l : LoadSegment) : Type 0 where
   pub some : 0 < l.memory_size
   pub sizes : length l.bytes ≤ l.memory_size
   pub aligned : l.address % 4096 ≡ 0
-  pub high : end_page l + 2 ≤ trapframe_page
+  pub high : end_page l + (guard_pages + stack_pages) ≤ trapframe_page
   pub in_order : end ≤ page_of l.address
 
 -- segments in ascending order, and apart
@@ -71,11 +71,11 @@ segment_load s = record {
   bytes = s.bytes;
 }
 
--- a region of one page of zeros
-abbrev pub page_region : ℕ → RegionKind → ℕ → Region
-page_region first kind rights = record {
+-- a region of zeros
+abbrev pub zeros_region : ℕ → ℕ → RegionKind → ℕ → Region
+zeros_region first pages kind rights = record {
   first = first;
-  pages = 1;
+  pages = pages;
   reads = reads rights;
   writes = writes rights;
   executes = executes rights;

@@ -5,14 +5,14 @@ ghost use Rattle.address_space.specs.Agreement.{Agrees, HoldsTrampoline};
 ghost use Rattle.address_space.specs.Layouts.{region_of};
 ghost use Rattle.address_space.specs.Parts.{AreParts, build_need, OwnsAlone, process_of_parts};
 ghost use Rattle.address_space.specs.Steps.{Takes};
-ghost use Rattle.exec_segments.specs.Loads.{AreLoads, load_of, page_region};
+ghost use Rattle.exec_segments.specs.Loads.{AreLoads, load_of, zeros_region};
 ghost use Rattle.frame_store.specs.Laws.{Fits, IsDry, Keeps};
 ghost use Rattle.process_model.specs.Frames.{start_need};
 ghost use Rattle.process_model.specs.Loading as model;
 ghost use Rattle.table_walk.specs.Image as tables;
 
 use crate::image::Image;
-use crate::load::Load;
+use crate::load::{GUARD_PAGES, Load, STACK_PAGES};
 use address_space::{Part, Region, RegionKind, Source, Space};
 use arrayvec::ArrayVec;
 use bitflags::Flags;
@@ -54,10 +54,10 @@ fn parts_of<'a>(loads: &[Load<'a>]) -> ArrayVec<Part<'a>, 18>
         parts.push(load.part());
         end = load.end_page();
     }
-    parts.push(page_part(end, RegionKind::Guard, Rights::empty()));
+    parts.push(zeros_part(end, GUARD_PAGES, RegionKind::Guard, Rights::empty()));
     let mut rights = Rights::READ;
     rights.insert(Rights::WRITE);
-    parts.push(page_part(end + 1, RegionKind::Stack, rights));
+    parts.push(zeros_part(end + GUARD_PAGES, STACK_PAGES, RegionKind::Stack, rights));
     parts
 }
 
@@ -88,14 +88,14 @@ impl<'a> Load<'a> {
     }
 }
 
-/// One page of zeros.
-fn page_part(first: u64, kind: RegionKind, rights: Rights) -> Part<'static>
-    ensures region { region_of result.region ≡ page_region first kind rights.0 }
+/// Pages of zeros.
+fn zeros_part(first: u64, pages: u64, kind: RegionKind, rights: Rights) -> Part<'static>
+    ensures region { region_of result.region ≡ zeros_region first pages kind rights.0 }
     ensures bytes { result.bytes.now ≡ [] }
 {
     let region = Region {
         first,
-        pages: 1,
+        pages,
         rights,
         kind,
         source: Source::Zeros,

@@ -8,6 +8,12 @@ ghost use Rattle.process_model.specs.Images.{LoadSegment};
 use process_model::{BadImage, Segment};
 use sv39_entry::{PAGE_SIZE, TRAPFRAME};
 
+/// How many pages the guard has that stands behind the last segment (the xv6 book, "Code: exec").
+pub(crate) const GUARD_PAGES: u64 = 1;
+
+/// And the stack behind it.
+pub(crate) const STACK_PAGES: u64 = 1;
+
 /// A segment to load, as an image tells it.
 #[derive(Clone, Copy)]
 pub(crate) struct Load<'a> {
@@ -89,7 +95,7 @@ impl<'a> Load<'a> {
         if !self.is_inside {
             return Some(BadImage::Contents);
         }
-        if past.div_ceil(PAGE_SIZE) + 2 > TRAPFRAME.0 / PAGE_SIZE {
+        if past.div_ceil(PAGE_SIZE) + (GUARD_PAGES + STACK_PAGES) > TRAPFRAME.0 / PAGE_SIZE {
             return Some(BadImage::TooHigh);
         }
         if self.address / PAGE_SIZE < end {

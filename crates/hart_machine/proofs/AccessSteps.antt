@@ -1,5 +1,5 @@
 -- The step of an access of the user: what it is refused for, and what it comes to.
-use Rattle.std.proofs.Common.{◌≡◌, ℕ, get_or, Bool, true, false, Option, None, Some, refl, ap, sym, subst, ◌∙◌, inl, inr}
+use Rattle.std.proofs.Common.{◌≡◌, ℕ, get_or, true, false, Option, None, Some, ap, sym, subst, ◌∙◌, inl, inr}
 use Rattle.std.specs.Prelude.{slice_get}
 use Rattle.std.specs.Vec.{with_item}
 use Rattle.std.proofs.lemmas.Option.{get_or_from_slice_get}

@@ -8,7 +8,7 @@ use Rattle.frame_store.specs.Plain.{BankRule}
 use Rattle.frame_store.specs.View.{View}
 use Rattle.hart_tlb.specs.declared.entry.TlbEntry.{TlbEntry}
 use Rattle.process_model.specs.Harts as model
-use Rattle.process_model.specs.Harts.{Key, present_asid, with_key}
+use Rattle.process_model.specs.Harts.{buffer_size, Key, present_asid, with_key}
 use Rattle.process_model.specs.Steps.{filled, plain_step}
 use Rattle.process_model.specs.World.{World, always, answers, with_hart}
 use Rattle.process_model.specs.declared.config.Policy.{Policy}
@@ -97,7 +97,7 @@ module _ (m : Machine) (w : World) (is : IsWorld m w) (h a : ℕ) where
     go None none = refl
     go (Some x) none = absurd (cc)
 
-  module _ (x : Hart) (at : slice_get m.harts.items h ≡ Some x) (few : length x.buffer ≤ 32) where
+  module _ (x : Hart) (at : slice_get m.harts.items h ≡ Some x) (few : length x.buffer ≤ buffer_size) where
     abbrev entry : TlbEntry
     entry = entry_for (image_of is.images is.kernel (present_table x)) 0 a
 
@@ -120,10 +120,10 @@ module _ (m : Machine) (w : World) (is : IsWorld m w) (h a : ℕ) where
           ]
 
   -- the hart that is read keeps an entry of the table that its satp has
-  pub fills : (x : Hart) → slice_get m.harts.items h ≡ Some x → (t : Table) → t ≡ present_table x → (z : Hart) → z ≡ get_or m.harts.items h z → length z.buffer ≤ 32
+  pub fills : (x : Hart) → slice_get m.harts.items h ≡ Some x → (t : Table) → t ≡ present_table x → (z : Hart) → z ≡ get_or m.harts.items h z → length z.buffer ≤ buffer_size
       → (y : Hart) → y ≡ with_entry z (entry_for (image_of is.images is.kernel t) 0 a) → (n : ℕ) → n ≡ next_number z.buffer → Makes (record m { harts = with_item m.harts h y }) (Filled n) (plain_step w (step.Fill h a))
   fills x at t present z read few y made n number =
       let same : z ≡ x = same_hart m.harts.items h x z read at in
-      fills_at x at (subst (λ (u : Hart). length u.buffer ≤ 32) same few) y
+      fills_at x at (subst (λ (u : Hart). length u.buffer ≤ buffer_size) same few) y
       (made ∙ ap (λ (u : Hart). with_entry u (entry_for (image_of is.images is.kernel t) 0 a)) same ∙ ap (λ (u : Table). with_entry x (entry_for (image_of is.images is.kernel u) 0 a)) present) n
       (number ∙ ap (λ (u : Hart). next_number u.buffer) same)

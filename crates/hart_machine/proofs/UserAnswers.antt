@@ -20,7 +20,6 @@ use Rattle.process_model.specs.declared.step.Reply.TheVariants.{Stored, Value}
 use Rattle.sv39_entry.specs.Address.{page_of}
 use Rattle.sv39_entry.specs.Causes.{misaligned_cause, page_fault_cause}
 use Rattle.sv39_entry.specs.Frame.{frame_at, ppn_of}
-use Rattle.sv39_entry.specs.declared.access.Access.{Access}
 use Rattle.sv39_entry.specs.declared.rule.Rule.TheVariants as rule
 use Rattle.table_walk.specs.Memory.{physical_address}
 use Rattle.sv39_entry.specs.declared.access.Access.TheVariants.{Fetch, Load, Store}
@@ -163,9 +162,9 @@ module _ (v : View) (root trapframe : ℕ) (l : Layout) (t : Image) (p : Process
     pub answers_load : (x.access ≡ Fetch) ⊎ (x.access ≡ Load) → user_access p x ≡ record { reply = Value (loaded g.page (x.address % 4096) x.width); process = without_pending p }
     answers_load is = g.answers ∙ ap (answered p x) (loads is)
         ∙ ap (λ m. record { reply = Value (loaded g.page (x.address % 4096) x.width); process = without_pending (record p { settled = m }) }) (put_back p.settled (page_of x.address) g.page g.can.settled) where
-      loads : (x.access ≡ Fetch) ⊎ (x.access ≡ Load) → access_answer x.access g.page (x.address % 4096) x.width x.value ≡ (Value (loaded g.page (x.address % 4096) x.width), g.page)
-      loads (inl e) = ap (λ y. access_answer y g.page (x.address % 4096) x.width x.value) e
-      loads (inr e) = ap (λ y. access_answer y g.page (x.address % 4096) x.width x.value) e
+          loads : (x.access ≡ Fetch) ⊎ (x.access ≡ Load) → access_answer x.access g.page (x.address % 4096) x.width x.value ≡ (Value (loaded g.page (x.address % 4096) x.width), g.page)
+          loads (inl e) = ap (λ y. access_answer y g.page (x.address % 4096) x.width x.value) e
+          loads (inr e) = ap (λ y. access_answer y g.page (x.address % 4096) x.width x.value) e
 
     pub answers_store : x.access ≡ Store
         → user_access p x ≡ record { reply = Stored; process = without_pending (with_page p (page_of x.address) (stored g.page (x.address % 4096) (low_bytes x.value x.width))) }

@@ -3,6 +3,7 @@ use Rattle.std.specs.Prelude.{ℕ, List, [], ◌∷◌, ◌++◌, length, map, m
 use Rattle.hart_tlb.specs.Buffer.{newest_entries}
 use Rattle.hart_tlb.specs.declared.entry.TlbEntry.{TlbEntry}
 use Rattle.process_model.specs.Harts as model
+use Rattle.process_model.specs.Harts.{buffer_size}
 use Rattle.process_model.specs.PageMap.{empty}
 use Rattle.hart_machine.specs.declared.hart.Hart.{Hart}
 
@@ -22,7 +23,7 @@ advanced h = record (fenced h) { phase = unwrap_or (model.next_phase h.phase) h.
 
 -- a hart keeps an entry; a full buffer loses its first
 abbrev pub with_entry : Hart → TlbEntry → Hart
-with_entry h e = record h { buffer = newest_entries 32 (h.buffer ++ e ∷ []) }
+with_entry h e = record h { buffer = newest_entries buffer_size (h.buffer ++ e ∷ []) }
 
 -- the number that the entry gets
 abbrev pub next_number : List TlbEntry → ℕ

@@ -4,8 +4,10 @@ ghost use Rattle.std.specs.Prelude.{◌≡◌, ◌++◌, ◌∷◌, []};
 ghost use Rattle.frame_store.specs.Laws.{Fits, Keeps};
 ghost use Rattle.hart_machine.specs.Walked.{entry_for, LeavesAreLocal, LeavesAreThere};
 ghost use Rattle.hart_tlb.specs.Buffer.{newest_entries};
+ghost use Rattle.process_model.specs.Harts.{buffer_size};
 ghost use Rattle.table_walk.specs.Image.{HasTables, Image};
 
+use crate::hart::BUFFER_SIZE;
 use frame_store::{FrameAccess, FrameSeat};
 use hart_tlb::Buffer;
 use sv39_entry::{FrameNo, Satp, Va};
@@ -13,7 +15,7 @@ use table_walk::{HeldWords, walks_of_tables};
 
 /// Translates the page of an address by the tables below a root, and keeps the outcome in a buffer.
 pub(crate) fn filled<F: FrameAccess>(
-    buffer: &mut Buffer<32>,
+    buffer: &mut Buffer<BUFFER_SIZE>,
     store: &mut F,
     seat: &mut F::Seat,
     root: FrameNo,
@@ -23,7 +25,7 @@ pub(crate) fn filled<F: FrameAccess>(
     requires fits { Fits F.rule store.old seat.old }
     requires held { (t : Image) × HasTables (F.Seat.view seat.old) root.0 t }
     ensures entries { (t : Image) → HasTables (F.Seat.view seat.old) root.0 t → LeavesAreThere t → LeavesAreLocal t →
-        buffer.new ≡ newest_entries 32 (buffer.old ++ entry_for t asid va.0 ∷ []) }
+        buffer.new ≡ newest_entries buffer_size (buffer.old ++ entry_for t asid va.0 ∷ []) }
     ensures view { F.Seat.view seat.new ≡ F.Seat.view seat.old }
     ensures same { store.new ≡ store.old }
     ensures keeps { Keeps F.rule store.old seat.old store.new seat.new }

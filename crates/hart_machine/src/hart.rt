@@ -13,12 +13,15 @@ use hart_tlb::Buffer;
 use process_model::Phase;
 use sv39_entry::{FrameNo, Va};
 
+/// How many entries the translation buffer of a hart holds.
+pub const BUFFER_SIZE: usize = 32;
+
 /// A hart: where it is between user and kernel, the slot of its process, and its translation buffer.
 #[derive(Drop)]
 pub(crate) struct Hart {
     pub(crate) phase: Phase,
     pub(crate) slot: Option<usize>,
-    pub(crate) buffer: Buffer<32>,
+    pub(crate) buffer: Buffer<BUFFER_SIZE>,
 }
 
 impl Hart {
@@ -66,7 +69,7 @@ impl Hart {
         requires held { (t : Image) × HasTables (F.Seat.view seat.old) root.0 t }
         ensures kept { (t : Image) → HasTables (F.Seat.view seat.old) root.0 t → LeavesAreThere t → LeavesAreLocal t → self.new ≡ with_entry self.old (entry_for t 0 va.0) }
         ensures number { result ≡ next_number self.old.buffer }
-        ensures few { length self.old.buffer ≤ 32 }
+        ensures few { length self.old.buffer ≤ model.buffer_size }
         ensures view { F.Seat.view seat.new ≡ F.Seat.view seat.old }
         ensures same { store.new ≡ store.old }
     {

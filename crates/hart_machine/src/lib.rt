@@ -17,4 +17,5 @@ mod user;
 mod walked;
 
 pub use boot::BootError;
+pub use hart::BUFFER_SIZE;
 pub use machine::Machine;

@@ -8,6 +8,7 @@ ghost use Rattle.process_model.specs.Played.{IsPlayed};
 ghost use Rattle.process_model.specs.Steps as model;
 ghost use Rattle.process_model.specs.World.{World};
 
+use crate::hart::BUFFER_SIZE;
 use crate::machine::Machine;
 use crate::user::Asked;
 use hart_tlb::Buffer;
@@ -69,7 +70,7 @@ impl Machine {
     }
 
     /// The translation buffer of a hart; none where there is no such hart.
-    pub fn buffer(&self, hart: usize) -> Option<&Buffer<32>>
+    pub fn buffer(&self, hart: usize) -> Option<&Buffer<BUFFER_SIZE>>
         ensures buffer { option_copied result ≡ buffer_of self.now hart }
         ensures keys { (w : World) → IsWorld self.now w → option_map (map key_of) (option_copied result) ≡ option_map (λ x. x.keys) (slice_get w.harts hart) }
     {

@@ -1,5 +1,5 @@
 -- Kernel copies, byte by byte.
-use Rattle.std.proofs.Common.{◌≡◌, ℕ, zero, suc, Bool, true, false, cond, ◌&&◌, ◌||◌, ◌==◌, ◌+◌, ◌-◌, ◌%◌, ◌<◌, ◌≤◌, refl, sym, ap, subst, ◌∙◌, arith, inl, inr, List, [], ◌∷◌, ◌++◌, drop, length, Option, None, Some}
+use Rattle.std.proofs.Common.{◌≡◌, ℕ, zero, suc, Bool, true, false, cond, ◌&&◌, ◌||◌, ◌==◌, ◌+◌, ◌-◌, ◌%◌, ◌<◌, ◌≤◌, refl, sym, ap, ◌∙◌, arith, inl, inr, List, [], ◌∷◌, ◌++◌, drop, length, Option, None, Some}
 use Rattle.std.specs.Prelude.{nat_le, nat_lt, fold, zip, Result, Ok, Err}
 use Rattle.std.proofs.lemmas.Bool.{cases_eq, cases_lt, eq-eqb, eqb-true, leb-true, ltb-true, le-leb, lt-ltb, and_parts, and_from, or_left, or_right, or_cases, false≢true, false_from_ne_true}
 use Rattle.std.proofs.lemmas.List.{length_push, get_or_push, get_or_append_left}
@@ -13,7 +13,7 @@ use Rattle.process_model.specs.PageMap.{get}
 use Rattle.process_model.specs.Files.{File}
 use Rattle.process_model.specs.Regions.{region_at, copy_rule}
 use Rattle.process_model.specs.Process.{Process, Page, regions}
-use Rattle.process_model.specs.Residence.{stored, with_page, region_page}
+use Rattle.process_model.specs.Residence.{region_page}
 use Rattle.process_model.specs.Around.{Around, Progress}
 use Rattle.process_model.specs.Copies.{Copied, copy_begun, reached_in, byte_of_page, byte_of, with_byte_on, with_byte, one_in, next_in, one_out, next_out, copied_in, copied_out}
 use Rattle.process_laws.specs.Latest.{byte_at, is_among, is_in_their_pages}

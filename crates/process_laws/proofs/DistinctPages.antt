@@ -4,7 +4,8 @@ use Rattle.std.specs.Prelude.{Ok, flat_map}
 use Rattle.process_model.specs.Bytes.{pages_for}
 use Rattle.process_model.specs.Images.{LoadSegment, end_page, end_of_loads, image_loads}
 use Rattle.process_model.specs.Loading.{page_run, load_pages, image_pages}
-use Rattle.process_laws.proofs.ImageOrder.{InRow, accepted_is_placed}
+use Rattle.process_model.specs.Order.{InRow}
+use Rattle.process_laws.proofs.ImageOrder.{accepted_is_placed}
 use Rattle.sv39_entry.specs.Address.{page_of}
 use Rattle.process_model.specs.declared.image.Image.{Image}
 

@@ -2,29 +2,15 @@
 use Rattle.std.proofs.Common.{◌≡◌, ℕ, Bool, true, false, not, ◌+◌, ◌%◌, ◌<◌, ◌≤◌, ◌&&◌, refl, sym, subst, arith, List, [], ◌∷◌, ◌++◌, Option, None, Some, length}
 use Rattle.std.specs.Prelude.{Result, Ok, Err, fold, map, if◌then◌else◌, nat_lt, nat_le, ◌==◌, ◌^◌}
 use Rattle.std.proofs.lemmas.Bool.{not-false, eqb-true, ltb-true, ltb-false}
-use Rattle.process_model.specs.Bytes.{pages_for}
 use Rattle.process_model.specs.Images.{LoadSegment, ProgramHeader, outside, passed_over, load, has_pages, end_page, end_of_loads, most_segments, load_fault, with_load, unless_faulty, next_judged, at_least_one, all_judged, headers_from, field, file_fault, loads_unless, elf_loads, load_of, segment_loads, image_loads}
+use Rattle.process_model.specs.Order.{InRow, IsPlaced, StandsAt}
+use Rattle.process_model.specs.Regions.{guard_pages, stack_pages}
 use Rattle.sv39_entry.specs.Address.{page_of, trapframe_page}
 use Rattle.process_model.specs.declared.image.BadImage.{BadImage}
 use Rattle.process_model.specs.declared.image.BadImage.TheVariants as part
 use Rattle.process_model.specs.declared.image.Image.{Image}
 use Rattle.process_model.specs.declared.image.Image.TheVariants.{Elf, Segments}
 use Rattle.process_laws.proofs.EveryChange.{none_true}
-
--- a segment stands at a page or above it, and has one page at least
-pub record StandsAt (low : ℕ) (l : LoadSegment) : Type 0 where
-  pub above : low ≤ page_of l.address
-  pub some : 1 ≤ pages_for l.memory_size
-  pub end : page_of l.address + pages_for l.memory_size ≡ end_page l
-
--- each stands above the one before it
-abbrev pub InRow : ℕ → List LoadSegment → Type 0
-InRow low [] = Unit {0}
-InRow low (l ∷ ls) = StandsAt low l × InRow (end_page l) ls
-
-pub record IsPlaced (ls : List LoadSegment) : Type 0 where
-  pub row : InRow 0 ls
-  pub below : end_of_loads 0 ls + 2 ≤ trapframe_page
 
 row_more : (low : ℕ) (ls : List LoadSegment) (l : LoadSegment) → InRow low ls → StandsAt (end_of_loads low ls) l → InRow low (ls ++ l ∷ [])
 row_more low [] l row at = (at, tt)
@@ -45,17 +31,17 @@ load_placed before l none has is =
     ∷ (nat_le (2 ^ 64) (l.address + l.memory_size), part.Wraps)
     ∷ (not (l.address % 4096 == 0), part.Align)
     ∷ (has_pages l && not l.inside, part.Contents)
-    ∷ (has_pages l && nat_lt trapframe_page (end_page l + 2), part.TooHigh)
+    ∷ (has_pages l && nat_lt trapframe_page (end_page l + (guard_pages + stack_pages)), part.TooHigh)
     ∷ (has_pages l && nat_lt (page_of l.address) (end_of_loads 0 before), part.Order)
     ∷ (has_pages l && nat_le most_segments (length before), part.TooMany)
     ∷ []) none in
     let aligned : l.address % 4096 ≡ 0 = eqb-true (l.address % 4096) 0 (not-false (l.address % 4096 == 0) tests.1.1.0) in
-    let below : end_page l + 2 ≤ trapframe_page = ltb-false trapframe_page (end_page l + 2) (right_false (has_pages l) _ has tests.1.1.1.1.0) in
+    let below : end_page l + (guard_pages + stack_pages) ≤ trapframe_page = ltb-false trapframe_page (end_page l + (guard_pages + stack_pages)) (right_false (has_pages l) _ has tests.1.1.1.1.0) in
     let above : end_of_loads 0 before ≤ page_of l.address = ltb-false (page_of l.address) (end_of_loads 0 before) (right_false (has_pages l) _ has tests.1.1.1.1.1.0) in
     let some : 0 < l.memory_size = ltb-true 0 l.memory_size has in
     record {
       row = row_more 0 before l is.row (record { above = above; some = omega (some, arith); end = omega (aligned, arith) });
-      below = subst (λ n. n + 2 ≤ trapframe_page) (sym (end_more 0 before l)) below;
+      below = subst (λ n. n + (guard_pages + stack_pages) ≤ trapframe_page) (sym (end_more 0 before l)) below;
     }
 
 -- of a result, where there is one

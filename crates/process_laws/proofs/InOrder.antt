@@ -7,32 +7,22 @@ use Rattle.std.proofs.lemmas.Option.{same_Some}
 use Rattle.process_laws.specs.Apart.{AreApart}
 use Rattle.process_model.specs.Bytes.{pages_for}
 use Rattle.process_model.specs.Files.{File}
-use Rattle.process_model.specs.Regions.{Region, end_of, holds_page}
+use Rattle.process_model.specs.Order.{EachRegion, HasLeaves, InRow, IsInOrder, IsInReach, IsMapping, IsPlaced, Row}
+use Rattle.process_model.specs.Regions.{Region, Source, end_of, file, guard_pages, holds_page, image, is_guard_kind, private_mapping, shared_mapping, stack_pages, zeros}
 use Rattle.process_model.specs.Process.{Process, Page, Pending, heap_of, regions}
 use Rattle.process_model.specs.PageMap.{PageMap, NumberSet}
 use Rattle.process_model.specs.Heap.{heap_limit, size_refusal, resized}
-use Rattle.process_model.specs.Mappings.{is_bad_mapping, longest_mapping, is_apart, fits_at, greatest, places, mapping_place, mapping_of, with_mapping, moved_along, mapping_around, front_of, back_of, with_instead}
+use Rattle.process_model.specs.Mappings.{asks_execute, asks_read, asks_write, is_bad_mapping, longest_mapping, is_apart, fits_at, greatest, places, mapping_place, mapping_of, with_mapping, moved_along, mapping_around, front_of, back_of, with_instead}
 use Rattle.process_model.specs.Images.{LoadSegment, end_page, end_of_loads}
 use Rattle.process_model.specs.Loading.{segment_region, guard_at, stack_at, process_of}
 use Rattle.sv39_entry.specs.Address.{page_of, trapframe_page}
 use Rattle.process_model.specs.declared.step.Refusal.TheVariants.{BadSize, NoRoom}
 use Rattle.process_laws.proofs.EveryChange.{IsKept, none_true, map_granted}
-use Rattle.process_laws.proofs.ImageOrder.{InRow, IsPlaced, accepted_is_placed}
-
--- the regions stand in a row between two pages, and each has so many pages at least
-abbrev pub Row : ℕ → ℕ → List Region → ℕ → Type 0
-Row least low [] high = low ≤ high
-Row least low (r ∷ rs) high = (low ≤ r.first) × (least ≤ r.pages) × Row least (end_of r) rs high
-
--- the parts end at the heap's base, the heap below the mappings, and these below the trapframe
-pub record IsInOrder (p : Process) : Type 0 where
-  pub parts : Row 1 0 p.parts (page_of p.heap_base)
-  pub room : page_of p.heap_base ≤ pages_for p.size
-  pub above : Row 1 (pages_for p.size) p.mappings trapframe_page
+use Rattle.process_laws.proofs.ImageOrder.{accepted_is_placed}
 
 -- its pages do not matter
 same_regions : (p : Process) (settled : PageMap Page) (tabled : NumberSet) (pending : Option Pending) → IsInOrder p → IsInOrder (record p { settled = settled; tabled = tabled; pending = pending })
-same_regions p settled tabled pending o = record { parts = o.parts; room = o.room; above = o.above }
+same_regions p settled tabled pending o = record { parts = o.parts; room = o.room; above = o.above; leaves = o.leaves; mapped = o.mapped }
 
 -- rows
 
@@ -102,7 +92,7 @@ resized_order : (p : Process) (wanted : ℤ) → size_refusal p wanted ≡ None 
 resized_order p wanted e o =
     let tests = none_true ((int_lt wanted (pos p.heap_base), BadSize) ∷ (nat_lt (heap_limit p.mappings) (pages_for (nat_abs wanted)), NoRoom) ∷ []) e in
     let base : p.heap_base ≤ nat_abs wanted = wanted_above wanted p.heap_base tests.0 in
-    record { parts = o.parts; room = omega arith; above = above_limit p.size (nat_abs wanted) p.mappings tests.1.0 o.above }
+    record { parts = o.parts; room = omega arith; above = above_limit p.size (nat_abs wanted) p.mappings tests.1.0 o.above; leaves = o.leaves; mapped = o.mapped }
 
 -- mmap
 
@@ -136,14 +126,23 @@ greatest_passes f a (n ∷ ns) all e = ap f (sym (same_Some (fold max n ns) a e)
 place_fits : (p : Process) (pages first : ℕ) → mapping_place p pages ≡ Some first → fits_at p pages first ≡ true
 place_fits p pages first e = greatest_passes (fits_at p pages) first (filter (fits_at p pages) (places p pages)) (filtered_pass (fits_at p pages) (places p pages)) e
 
-first_of_six : (a b c d e f : Bool) → (a || b || c || d || e || f) ≡ false → a ≡ false
-first_of_six true b c d e f h = cc
-first_of_six false b c d e f h = refl
+or_false : (a b : Bool) → (a || b) ≡ false → (a ≡ false) × (b ≡ false)
+or_false true b h = cc
+or_false false b h = (refl, h)
+
+six_false : (a b c d e f : Bool) → (a || b || c || d || e || f) ≡ false → (a ≡ false) × ((b ≡ false) × ((c ≡ false) × ((d ≡ false) × ((e ≡ false) × (f ≡ false)))))
+six_false a b c d e f h =
+    let sixth = or_false (a || b || c || d || e) f h in
+    let fifth = or_false (a || b || c || d) e sixth.0 in
+    let fourth = or_false (a || b || c) d fifth.0 in
+    let third = or_false (a || b) c fourth.0 in
+    let second = or_false a b third.0 in
+    (second.0, (second.1, (third.1, (fourth.1, (fifth.1, sixth.1)))))
 
 -- a mapping has a page
-is_long : (files : List File) (len protection flags file : ℕ) → is_bad_mapping files len protection flags file ≡ false → len ≢ 0
-is_long files len protection flags file e =
-    eqb-false len 0 (first_of_six (len == 0) (nat_lt longest_mapping len) (protection == 0) (nat_lt 7 protection) (not (flags == 1 || flags == 2)) (is_none (slice_get files file)) e)
+is_long : (files : List File) (len protection flags n : ℕ) → is_bad_mapping files len protection flags n ≡ false → len ≢ 0
+is_long files len protection flags n e =
+    eqb-false len 0 (six_false (len == 0) (nat_lt longest_mapping len) (protection == 0) (nat_lt 7 protection) (not (flags == 1 || flags == 2)) (is_none (slice_get files n)) e).0
 
 -- a region that is apart from the others goes to its place
 with_mapping_row : (low high : ℕ) (r : Region) (ms : List Region) → low ≤ r.first → 1 ≤ r.pages → end_of r ≤ high → list_all (is_apart r.first r.pages) ms ≡ true → Row 1 low ms high
@@ -166,16 +165,49 @@ with_mapping_row low high r (m ∷ ms) from some to apart row =
           (row.0, row.1, with_mapping_row (end_of m) high r ms (omega arith) some to parts.1 row.2)
     ] refl
 
-mapped_order : (p : Process) (len protection flags file first : ℕ) → len ≢ 0 → fits_at p (pages_for len) first ≡ true → IsInOrder p
-    → IsInOrder (record p { mappings = with_mapping (mapping_of first (pages_for len) protection flags file) p.mappings })
-mapped_order p len protection flags file first some e o =
+-- a mapping that is asked for can have leaves, and its pages are in reach
+
+not_guard : (b : Bool) → is_guard_kind (cond b shared_mapping private_mapping) ≡ false
+not_guard true = refl
+not_guard false = refl
+
+asks_some : (n : ℕ) → n ≢ 0 → n ≤ 7 → ((asks_read n || asks_write n) || (asks_execute n && not (asks_write n))) ≡ true
+asks_some zero some few = absurd (some refl)
+asks_some (suc zero) some few = refl
+asks_some (suc (suc zero)) some few = refl
+asks_some (suc (suc (suc zero))) some few = refl
+asks_some (suc (suc (suc (suc zero)))) some few = refl
+asks_some (suc (suc (suc (suc (suc zero))))) some few = refl
+asks_some (suc (suc (suc (suc (suc (suc zero)))))) some few = refl
+asks_some (suc (suc (suc (suc (suc (suc (suc zero))))))) some few = refl
+asks_some (suc (suc (suc (suc (suc (suc (suc (suc n)))))))) some few = absurd (omega (arith, few))
+
+new_mapping : (files : List File) (len protection flags n first : ℕ) → is_bad_mapping files len protection flags n ≡ false → IsMapping (mapping_of first (pages_for len) protection flags n)
+new_mapping files len protection flags n first e =
+    let tests = six_false (len == 0) (nat_lt longest_mapping len) (protection == 0) (nat_lt 7 protection) (not (flags == 1 || flags == 2)) (is_none (slice_get files n)) e in
+    let short : len ≤ longest_mapping = ltb-false longest_mapping len tests.1.0 in
+    record {
+      leaves = rw (not_guard (flags == 1)) (asks_some protection (eqb-false protection 0 tests.1.1.0) (ltb-false 7 protection tests.1.1.1.0));
+      reach = omega (arith, short);
+    }
+
+with_each : (P : Region → Type 0) (r : Region) (ms : List Region) → P r → EachRegion P ms → EachRegion P (with_mapping r ms)
+with_each P r [] here all = (here, tt)
+with_each P r (m ∷ ms) here all = elim (nat_lt r.first m.first) as (λ b. EachRegion P (cond b (r ∷ m ∷ ms) (m ∷ with_mapping r ms))) [ true ↦ (here, all) | false ↦ (all.0, with_each P r ms here all.1) ]
+
+mapped_order : (p : Process) (files : List File) (len protection flags n first : ℕ) → is_bad_mapping files len protection flags n ≡ false → fits_at p (pages_for len) first ≡ true → IsInOrder p
+    → IsInOrder (record p { mappings = with_mapping (mapping_of first (pages_for len) protection flags n) p.mappings })
+mapped_order p files len protection flags n first good e o =
+    let some : len ≢ 0 = is_long files len protection flags n good in
     let outer = and_parts (nat_le (pages_for p.size) first && nat_le (first + pages_for len) trapframe_page) (list_all (is_apart first (pages_for len)) p.mappings) e in
     let inner = and_parts (nat_le (pages_for p.size) first) (nat_le (first + pages_for len) trapframe_page) outer.0 in
     record {
       parts = o.parts;
       room = o.room;
-      above = with_mapping_row (pages_for p.size) trapframe_page (mapping_of first (pages_for len) protection flags file) p.mappings
+      above = with_mapping_row (pages_for p.size) trapframe_page (mapping_of first (pages_for len) protection flags n) p.mappings
           (leb-true (pages_for p.size) first inner.0) (omega arith) (leb-true (first + pages_for len) trapframe_page inner.1) outer.1 o.above;
+      leaves = o.leaves;
+      mapped = with_each IsMapping (mapping_of first (pages_for len) protection flags n) p.mappings (new_mapping files len protection flags n first good) o.mapped;
     }
 
 -- munmap
@@ -229,7 +261,70 @@ instead_row low high first end (r ∷ rs) m le row e =
         (row_append 1 low (end_of r) high (front_of r first ++ back_of r end) rs
         (pieces_row r low first end row.0 le (leb-true r.first first parts.0) (leb-true end (end_of r) parts.1)) row.2)
 
+-- and they are of the mapping
+
+around_each : (P : Region → Type 0) (first end : ℕ) (ms : List Region) (m : Region) → EachRegion P ms → mapping_around ms first end ≡ Some m → P m
+around_each P first end [] m all e = absurd (cc)
+around_each P first end (r ∷ rs) m all e =
+    elim (nat_le r.first first && nat_le end (end_of r)) as (λ b. cond b (Some r) (mapping_around rs first end) ≡ Some m → P m) [
+      | true ↦ λ t. subst P (same_Some r m t) all.0
+      | false ↦ λ t. around_each P first end rs m all.1 t
+    ] e
+
+around_holds : (first end : ℕ) (ms : List Region) (m : Region) → mapping_around ms first end ≡ Some m → (m.first ≤ first) × (end ≤ end_of m)
+around_holds first end [] m e = absurd (cc)
+around_holds first end (r ∷ rs) m e =
+    elim (nat_le r.first first && nat_le end (end_of r)) as (λ b. (nat_le r.first first && nat_le end (end_of r)) ≡ b → cond b (Some r) (mapping_around rs first end) ≡ Some m → (m.first ≤ first) × (end ≤ end_of m)) [
+      | true ↦ λ t is. let parts = and_parts (nat_le r.first first) (nat_le end (end_of r)) t in
+          subst (λ (x : Region). (x.first ≤ first) × (end ≤ end_of x)) (same_Some r m is) (leb-true r.first first parts.0, leb-true end (end_of r) parts.1)
+      | false ↦ λ t is. around_holds first end rs m is
+    ] refl e
+
+less_reach : (s : Source) (few many : ℕ) → few ≤ many → IsInReach s many → IsInReach s few
+less_reach (file n offset) few many le reach = omega (arith, le, reach)
+less_reach zeros few many le reach = tt
+less_reach image few many le reach = tt
+
+moved_reach : (s : Source) (moved left many : ℕ) → moved + left ≤ many → IsInReach s many → IsInReach (moved_along s moved) left
+moved_reach (file n offset) moved left many le reach = omega (arith, le, reach)
+moved_reach zeros moved left many le reach = tt
+moved_reach image moved left many le reach = tt
+
+pieces_are : (m : Region) (first end : ℕ) → m.first ≤ first → first ≤ end → end ≤ end_of m → IsMapping m → EachRegion IsMapping (front_of m first ++ back_of m end)
+pieces_are m first end start le stop is =
+    elim (nat_lt m.first first) as (λ b. EachRegion IsMapping (cond b (record m { pages = first - m.first } ∷ []) [] ++ back_of m end)) [
+      | true ↦ (record { leaves = is.leaves; reach = less_reach m.source (first - m.first) m.pages (omega (arith, start, le, stop)) is.reach }, back)
+      | false ↦ back
+    ]
+  where
+    back : EachRegion IsMapping (back_of m end)
+    back = elim (nat_lt end (end_of m)) as (λ b. EachRegion IsMapping (cond b (record m { first = end; pages = end_of m - end; source = moved_along m.source (end - m.first) } ∷ []) [])) [
+      | true ↦ (record { leaves = is.leaves; reach = moved_reach m.source (end - m.first) (end_of m - end) m.pages (omega (arith, start, le, stop)) is.reach }, tt)
+      | false ↦ tt
+    ]
+
+each_append : (P : Region → Type 0) (rs ss : List Region) → EachRegion P rs → EachRegion P ss → EachRegion P (rs ++ ss)
+each_append P [] ss all rest = rest
+each_append P (r ∷ rs) ss all rest = (all.0, each_append P rs ss all.1 rest)
+
+instead_each : (P : Region → Type 0) (ms : List Region) (at : ℕ) (rs : List Region) → EachRegion P ms → EachRegion P rs → EachRegion P (with_instead ms at rs)
+instead_each P [] at rs all new = tt
+instead_each P (m ∷ ms) at rs all new = elim (m.first == at) as (λ b. EachRegion P (cond b (rs ++ ms) (m ∷ with_instead ms at rs))) [
+  | true ↦ each_append P rs ms new all.1
+  | false ↦ (all.0, instead_each P ms at rs all.1 new)
+]
+
+unmapped_each : (ms : List Region) (m : Region) (first end : ℕ) → first ≤ end → mapping_around ms first end ≡ Some m → EachRegion IsMapping ms
+    → EachRegion IsMapping (with_instead ms m.first (front_of m first ++ back_of m end))
+unmapped_each ms m first end le around all =
+    let holds = around_holds first end ms m around in
+    instead_each IsMapping ms m.first (front_of m first ++ back_of m end) all (pieces_are m first end holds.0 le holds.1 (around_each IsMapping first end ms m all around))
+
 -- images
+
+segments_leaves : (ls : List LoadSegment) (rs : List Region) → EachRegion HasLeaves rs → EachRegion HasLeaves (map segment_region ls ++ rs)
+segments_leaves [] rs rest = rest
+segments_leaves (l ∷ ls) rs rest = (refl, segments_leaves ls rs rest)
 
 segments_row : (low : ℕ) (ls : List LoadSegment) → InRow low ls → Row 1 low (map segment_region ls) (end_of_loads low ls)
 segments_row low [] row = omega arith
@@ -238,12 +333,14 @@ segments_row low (l ∷ ls) row = (row.0.above, row.0.some, subst (λ n. Row 1 n
 made_order : (n : ℕ) (ls : List LoadSegment) → IsPlaced ls → IsInOrder (process_of n ls)
 unfolding process_of
 made_order n ls is =
-    let below : end_of_loads 0 ls + 2 ≤ trapframe_page = is.below in
+    let below : end_of_loads 0 ls + (guard_pages + stack_pages) ≤ trapframe_page = is.below in
     record {
-      parts = row_append 1 0 (end_of_loads 0 ls) (page_of (4096 * (end_of_loads 0 ls + 2))) (map segment_region ls) (guard_at (end_of_loads 0 ls) ∷ stack_at (end_of_loads 0 ls + 1) ∷ []) (segments_row 0 ls is.row)
+      parts = row_append 1 0 (end_of_loads 0 ls) (page_of (4096 * (end_of_loads 0 ls + (guard_pages + stack_pages)))) (map segment_region ls) (guard_at (end_of_loads 0 ls) ∷ stack_at (end_of_loads 0 ls + guard_pages) ∷ []) (segments_row 0 ls is.row)
           (omega arith, omega arith, (omega arith, omega arith, omega arith));
       room = omega arith;
       above = omega arith;
+      leaves = segments_leaves ls (guard_at (end_of_loads 0 ls) ∷ stack_at (end_of_loads 0 ls + guard_pages) ∷ []) (refl, (refl, tt));
+      mapped = tt;
     }
 
 pub order_is_kept : IsKept (λ n p. IsInOrder p)
@@ -255,11 +352,16 @@ order_is_kept = record {
   written = λ n p page x bytes e long o. same_regions p _ _ _ o;
   awaiting = λ n p a o. same_regions p _ _ _ o;
   sized = λ n p wanted none o. resized_order p wanted none o;
-  mapping = λ n files p len protection flags file first none place o.
-      let long : len ≢ 0 = is_long files len protection flags file (map_granted files p len protection flags file none).0 in
-      mapped_order p len protection flags file first long (place_fits p (pages_for len) first place) o;
+  mapping = λ counter files p len protection flags n first none place o.
+      mapped_order p files len protection flags n first (map_granted files p len protection flags n none).0 (place_fits p (pages_for len) first place) o;
   unmapping = λ n p m first end le around one o.
-      record { parts = o.parts; room = o.room; above = instead_row (pages_for p.size) trapframe_page first end p.mappings m le o.above around };
+      record {
+        parts = o.parts;
+        room = o.room;
+        above = instead_row (pages_for p.size) trapframe_page first end p.mappings m le o.above around;
+        leaves = o.leaves;
+        mapped = unmapped_each p.mappings m first end le around o.mapped;
+      };
   parent = λ n p o. same_regions p _ _ _ o;
   child = λ n p o. same_regions p _ _ _ o;
 }

@@ -16,7 +16,7 @@ use Rattle.process_model.specs.Calls.{told_in}
 use Rattle.process_model.specs.Stale.{with_stale_slots}
 use Rattle.process_model.specs.Steps
 use Rattle.process_model.specs.Steps.{run, plain_step}
-use Rattle.process_model.specs.World.{World, Outcome, answers, booted, flat, process_in, with_process}
+use Rattle.process_model.specs.World.{World, Outcome, answers, booted, flat, process_in}
 use Rattle.process_model.specs.Service.{around, begun, with_progress}
 use Rattle.process_model.specs.declared.config.Config.{Config}
 use Rattle.process_model.specs.declared.config.Policy.{Policy}

@@ -1,8 +1,7 @@
 -- After each step the world holds what is known from the step and its reply.
-use Rattle.std.proofs.Common.{◌≡◌, ℕ, zero, suc, Bool, true, false, cond, ◌&&◌, ◌==◌, ◌+◌, ◌-◌, ◌/◌, ◌%◌, ◌^◌, ◌<◌, ◌≤◌, refl, sym, ap, subst, ◌∙◌, arith, List, [], length, Option, None, Some, Bor}
+use Rattle.std.proofs.Common.{◌≡◌, ℕ, zero, suc, Bool, true, false, cond, ◌&&◌, ◌==◌, ◌+◌, ◌-◌, ◌/◌, ◌%◌, ◌^◌, ◌<◌, ◌≤◌, refl, sym, ap, ◌∙◌, arith, List, [], length, Option, None, Some, Bor}
 use Rattle.std.specs.Prelude.{ℤ, nat_abs, slice_set, Result, Ok, Err}
 use Rattle.std.proofs.lemmas.List.{length-set}
-use Rattle.std.proofs.lemmas.Option.{same_Some}
 use Rattle.sv39_entry.specs.Address.{page_of}
 use Rattle.sv39_entry.specs.declared.access.Access.TheVariants as access
 use Rattle.sv39_entry.specs.declared.rule.Rule.{Rule}
@@ -37,7 +36,7 @@ use Rattle.process_laws.specs.Latest.{slot_on, known_after, image_byte, or_initi
 use Rattle.process_laws.proofs.PageBytes.{bytes_on, contents, AllSized, byte_in, byte_from, same_sized, put_same, contents-marked, contents-child, or_start, SettlesPage, byte_in-stored, stored_sized, byte_in-without, without_sized, image_sized, byte_in-image}
 use Rattle.process_laws.proofs.OnHarts.{asks, on_hart_good, its_good, kernel_good, access_good}
 use Rattle.process_laws.proofs.CopyBytes.{CameIn, CameOut, copy_came_in, copy_came_out}
-use Rattle.process_laws.proofs.HeldBytes.{none_some, byte_held, held, Sized, Puts, in_range, free_there, set_puts, puts_again, held_put, sized_process, sized_gone, told_put, told_where, told_same, Reaches, stopped, came, reached_reaches}
+use Rattle.process_laws.proofs.HeldBytes.{byte_held, held, Sized, Puts, in_range, free_there, set_puts, held_put, sized_process, sized_gone, told_put, told_where, told_same, Reaches, stopped, came, reached_reaches}
 
 -- after the step the world holds what is known
 pub record Known (w : World) (st : Step) (o : Outcome) : Type 0 where

@@ -8,7 +8,8 @@ use Rattle.process_model.specs.PageMap.{PageMap, from_list, numbers, keys, count
 use Rattle.process_model.specs.Process.{Process, Page}
 use Rattle.process_model.specs.Images.{LoadSegment, image_loads}
 use Rattle.process_model.specs.Loading.{image_pages, page_numbers, numbered, process_of}
-use Rattle.process_model.specs.Frames.{live, copies_of, own_frames, tables_needed, start_need}
+use Rattle.process_model.specs.Frames.{live, copies_of, own_frames, exec_need, tables_needed, start_need}
+use Rattle.process_model.specs.ImageNeed.{exec_need_is}
 use Rattle.process_model.specs.World.{World, free, free_slot}
 use Rattle.process_model.specs.Service.{is_dry}
 use Rattle.process_model.specs.Calls.{with_image}
@@ -20,6 +21,7 @@ use Rattle.process_laws.proofs.PageCopies.{copies, put_only, put_has}
 use Rattle.process_laws.proofs.FreshCopies.{copies_below}
 use Rattle.process_laws.proofs.FreeFrames.{different, spent}
 use Rattle.process_laws.proofs.DistinctPages.{Rises, image_rises}
+use Rattle.process_laws.proofs.ImageOrder.{accepted_is_placed}
 use Rattle.process_model.specs.declared.image.Image.{Image}
 
 -- the pages of an image as they are settled, with copy numbers from one on
@@ -84,5 +86,6 @@ start_spends w s image ls new to loaded wet =
     count_image 0 w.counter (image_pages ls) (all_copies w.slots) (image_rises image ls loaded) (copies_below w new) in
     let sums : sum_by own_frames (live after) + 0 ≡ sum_by own_frames (live w.slots) + own_frames p = sum_set own_frames w.slots s None (Some p) empty in
     let tables : own_frames p ≡ 1 + tables_needed (page_numbers ls) = ap (λ n. 1 + n) (tables_of_numbers (page_numbers ls)) in
+    let need : exec_need ls ≡ length (page_numbers ls) + tables_needed (page_numbers ls) = exec_need_is ls (accepted_is_placed image ls loaded) in
     let long : length (page_numbers ls) ≡ length (image_pages ls) = length-map (image_pages ls) (λ e. e.0) in
-    spent w.frames (start_need ls) w.slots after (length-set w.slots s (Some p)) (omega (put, alone, pages, sums, tables, long, arith)) wet
+    spent w.frames (start_need ls) w.slots after (length-set w.slots s (Some p)) (omega (put, alone, pages, sums, tables, need, long, arith)) wet

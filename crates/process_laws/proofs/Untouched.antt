@@ -1,9 +1,9 @@
 -- No step changes a process of another slot.
-use Rattle.std.proofs.Common.{◌≡◌, ◌≢◌, ℕ, zero, suc, Bool, true, false, ◌+◌, ◌≤◌, refl, ap, ◌∙◌, arith, List, [], ◌∷◌, Option, None, Some, length}
-use Rattle.std.specs.Prelude.{slice_get, slice_set, fold, zip, Result, Ok, Err}
+use Rattle.std.proofs.Common.{◌≡◌, ◌≢◌, ℕ, zero, suc, Bool, true, false, ◌+◌, ◌≤◌, refl, ap, ◌∙◌, arith, List, [], ◌∷◌, Option, None, Some}
+use Rattle.std.specs.Prelude.{slice_get, slice_set, Result, Ok, Err}
 use Rattle.std.proofs.lemmas.Option.{same_Some}
-use Rattle.process_model.specs.Bytes.{is_width, numbers_from}
-use Rattle.process_model.specs.Process.{Process, Page, Pending, without_pending}
+use Rattle.process_model.specs.Bytes.{is_width}
+use Rattle.process_model.specs.Process.{Process, Pending}
 use Rattle.process_model.specs.Harts.{Hart}
 use Rattle.process_model.specs.Images.{LoadSegment}
 use Rattle.process_model.specs.Mappings.{Mapped, Unmapped}

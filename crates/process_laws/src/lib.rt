@@ -16,6 +16,8 @@ pub use accounts::{
 };
 pub use latest::{copy_reads_the_latest, fetch_reads_the_latest, load_reads_the_latest};
 pub use places::{no_room_means_none, place_is_the_greatest, unmapping_leaves_one_run};
-pub use regions::{first_rule_is_first, guard_grants_nothing, regions_never_meet};
+pub use regions::{
+    first_rule_is_first, guard_grants_nothing, regions_never_meet, regions_stay_in_order,
+};
 pub use service::{made_resident_is_resident, returned_page_is_initial, served_access_answers};
 pub use worlds::{copy_numbers_are_new, step_leaves_others};

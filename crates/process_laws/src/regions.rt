@@ -3,6 +3,7 @@ ghost use Rattle.std.specs.Prelude.{◌≡◌, ℕ, List, None, Some, IsTrue, is
 ghost use Rattle.process_laws.specs.Apart.{AreApart, EachProcess};
 ghost use Rattle.process_laws.specs.Denied.{Denies, IsFirst};
 ghost use Rattle.process_model.specs.Files.{File};
+ghost use Rattle.process_model.specs.Order.{IsInOrder};
 ghost use Rattle.process_model.specs.Process.{regions};
 ghost use Rattle.process_model.specs.Regions.{copy_rule, first_rule, guard, Region, region_at};
 ghost use Rattle.process_model.specs.Steps.{run};
@@ -24,6 +25,12 @@ pub fn first_rule_is_first()
 pub fn guard_grants_nothing()
     ensures { (rs : List Region) (r : Region) (access : Access) (address : ℕ) → region_at rs (page_of address) ≡ Some r → r.kind ≡ guard
         → IsTrue (is_some (copy_rule rs access address)) }
+{}
+
+/// In every run the regions of a process stand in order, each can have leaves, and a mapping has the pages of its file that
+/// the longest one has.
+pub fn regions_stay_in_order()
+    ensures { (c : Config) (files : List File) (steps : List Step) → EachProcess IsInOrder (run (booted c files) steps).world }
 {}
 
 /// In every run no page is in two regions of a process.

@@ -1,12 +1,12 @@
 -- How many frames things take, and the accounts of a machine.
-use Rattle.std.specs.Prelude.{ℕ, Bool, true, false, ◌+◌, ◌-◌, ◌/◌, ◌^◌, ◌==◌, nat_le, nat_lt, ◌&&◌, Option, None, Some, List, ◌∷◌, length, map, filter, filter_map, flat_map, sum_by, if◌then◌else◌}
+use Rattle.std.specs.Prelude.{ℕ, Bool, true, false, ◌+◌, ◌-◌, ◌/◌, ◌^◌, ◌==◌, max, nat_le, nat_lt, ◌&&◌, Option, None, Some, List, [], ◌∷◌, ◌++◌, length, map, filter, filter_map, flat_map, sum_by, if◌then◌else◌}
 use Rattle.std.specs.List.{list_any}
 use Rattle.process_model.specs.PageMap.{get, keys, numbers, count}
 use Rattle.process_model.specs.Process.{Process, Page}
 use Rattle.process_model.specs.Residence.{goes_through, parts_from, region_on}
-use Rattle.process_model.specs.Images.{LoadSegment}
-use Rattle.process_model.specs.Loading.{page_numbers}
-use Rattle.sv39_entry.specs.Address.{trampoline_page, trapframe_page}
+use Rattle.process_model.specs.Regions.{guard_pages, stack_pages}
+use Rattle.process_model.specs.Images.{LoadSegment, end_page}
+use Rattle.sv39_entry.specs.Address.{page_of, trampoline_page, trapframe_page}
 use Rattle.sv39_entry.specs.declared.access.Access.{Access}
 use Rattle.process_model.specs.declared.step.Report.{Report}
 
@@ -49,9 +49,39 @@ resident_need shared p access page = resident_need_of shared p access page (get 
 abbrev pub fork_need : Process → ℕ
 fork_need p = 1 + tables_needed (keys p.settled)
 
+-- the pages of an image are a few runs, each from a first page up to, and without, an end: so its need is counted run by run, and no
+-- page is listed. It is the number of its pages and `tables_needed` by them (`exec_need_is`)
+pub record PageRun : Type 0 where
+  pub first : ℕ
+  pub end : ℕ
+
+-- in ascending order: the segments, and behind them guard and stack
+abbrev pub runs_between : ℕ → List LoadSegment → List PageRun
+runs_between end [] = record { first = end; end = end + (guard_pages + stack_pages) } ∷ []
+runs_between end (l ∷ ls) = record { first = page_of l.address; end = end_page l } ∷ runs_between (end_page l) ls
+
+abbrev pub image_runs : List LoadSegment → List PageRun
+image_runs ls = runs_between 0 ls
+
+abbrev pub pages_in : List PageRun → ℕ
+pages_in [] = 0
+pages_in (r ∷ rs) = r.end - r.first + pages_in rs
+
+-- the tables of so many pages each, from the first that was not counted before: two runs may have one in common
+abbrev pub tables_from : ℕ → ℕ → List PageRun → ℕ
+tables_from size counted [] = 0
+tables_from size counted (r ∷ rs) = let end = (r.end - 1) / size + 1 in end - max (r.first / size) counted + tables_from size end rs
+
+-- the trapframe's page and the trampoline's, above all others
+abbrev pub kernel_run : PageRun
+kernel_run = record { first = trapframe_page; end = trampoline_page + 1 }
+
+abbrev pub tables_in : List PageRun → ℕ
+tables_in rs = let all = rs ++ kernel_run ∷ [] in 1 + tables_from (2 ^ 18) 0 all + tables_from (2 ^ 9) 0 all
+
 -- the pages of the image, guard and stack among them, and their tables
 abbrev pub exec_need : List LoadSegment → ℕ
-exec_need ls = let pages = page_numbers ls in length pages + tables_needed pages
+exec_need ls = let runs = image_runs ls in pages_in runs + tables_in runs
 
 -- and the trapframe
 abbrev pub start_need : List LoadSegment → ℕ

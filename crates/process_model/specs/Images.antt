@@ -1,6 +1,7 @@
 -- The checks over an image, in their order: those of an ELF file (as xv6 reads one in exec), and those of a list of segments.
 use Rattle.std.specs.Prelude.{ℕ, Bool, true, false, not, ◌+◌, ◌*◌, ◌/◌, ◌%◌, ◌^◌, nat_le, nat_lt, ◌==◌, ◌&&◌, if◌then◌else◌, Option, None, Some, Result, Ok, Err, List, [], ◌∷◌, take, drop, length, map, fold, ◌++◌}
 use Rattle.process_model.specs.Bytes.{pages_for, number, numbers_from, first_true}
+use Rattle.process_model.specs.Regions.{guard_pages, stack_pages}
 use Rattle.sv39_entry.specs.Address.{page_of, trapframe_page}
 use Rattle.process_model.specs.declared.image.BadImage.{BadImage}
 use Rattle.process_model.specs.declared.image.BadImage.TheVariants as part
@@ -48,7 +49,7 @@ load_checks before l =
     ∷ (nat_le (2 ^ 64) (l.address + l.memory_size), part.Wraps)
     ∷ (not (l.address % 4096 == 0), part.Align)
     ∷ (has_pages l && not l.inside, part.Contents)
-    ∷ (has_pages l && nat_lt trapframe_page (end_page l + 2), part.TooHigh)
+    ∷ (has_pages l && nat_lt trapframe_page (end_page l + (guard_pages + stack_pages)), part.TooHigh)
     ∷ (has_pages l && nat_lt (page_of l.address) (end_of_loads 0 before), part.Order)
     ∷ (has_pages l && nat_le most_segments (length before), part.TooMany)
     ∷ []

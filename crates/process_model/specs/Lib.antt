@@ -9,6 +9,10 @@ pub mod Mappings
 pub mod Images
 pub mod Loading
 pub mod Frames
+pub mod Order
+pub mod Inserted
+pub mod ValueSets
+pub mod ImageNeed
 pub mod Harts
 pub mod Around
 pub mod World

@@ -2,7 +2,7 @@
 use Rattle.std.specs.Prelude.{ℕ, zero, suc, true, false, ◌+◌, ◌*◌, None, List, [], ◌∷◌, ◌++◌, drop, map, flat_map}
 use Rattle.process_model.specs.Bytes.{pages_for, padded}
 use Rattle.process_model.specs.PageMap.{from_list, numbers}
-use Rattle.process_model.specs.Regions.{Region, segment, guard, stack, zeros, image}
+use Rattle.process_model.specs.Regions.{Region, segment, guard, guard_pages, stack, stack_pages, zeros, image}
 use Rattle.process_model.specs.Process.{Process, Page}
 use Rattle.process_model.specs.Images.{LoadSegment, end_of_loads}
 use Rattle.sv39_entry.specs.Address.{page_of}
@@ -20,15 +20,15 @@ segment_region l = record {
 }
 
 abbrev pub guard_at : ℕ → Region
-guard_at first = record { first = first; pages = 1; reads = false; writes = false; executes = false; kind = guard; source = zeros }
+guard_at first = record { first = first; pages = guard_pages; reads = false; writes = false; executes = false; kind = guard; source = zeros }
 
 abbrev pub stack_at : ℕ → Region
-stack_at first = record { first = first; pages = 1; reads = true; writes = true; executes = false; kind = stack; source = zeros }
+stack_at first = record { first = first; pages = stack_pages; reads = true; writes = true; executes = false; kind = stack; source = zeros }
 
 -- after the segments come one guard page and one stack page (the xv6 book, "Code: exec"; gaps between segments are granted to
 -- nobody, by our own choice)
 abbrev pub parts_of : List LoadSegment → List Region
-parts_of ls = let end = end_of_loads 0 ls in map segment_region ls ++ guard_at end ∷ stack_at (end + 1) ∷ []
+parts_of ls = let end = end_of_loads 0 ls in map segment_region ls ++ guard_at end ∷ stack_at (end + guard_pages) ∷ []
 
 -- n pages from a page on, with these bytes and zeros after them
 abbrev pub page_run : ℕ → List ℕ → ℕ → List (ℕ × List ℕ)
@@ -40,7 +40,7 @@ load_pages l = page_run (page_of l.address) l.bytes (pages_for l.memory_size)
 
 -- all pages of the process, guard and stack among them, with their bytes
 abbrev pub image_pages : List LoadSegment → List (ℕ × List ℕ)
-image_pages ls = flat_map load_pages ls ++ page_run (end_of_loads 0 ls) [] 2
+image_pages ls = flat_map load_pages ls ++ page_run (end_of_loads 0 ls) [] (guard_pages + stack_pages)
 
 abbrev pub page_numbers : List LoadSegment → List ℕ
 page_numbers ls = map (λ e. e.0) (image_pages ls)
@@ -53,7 +53,7 @@ numbered fresh (e ∷ es) = (e.0, record { bytes = e.1; copy = fresh; fork_mark 
 -- heap and stack meet at the top of the stack page, and the heap is empty
 unfoldable pub process_of : ℕ → List LoadSegment → Process
 process_of fresh ls =
-    let top = 4096 * (end_of_loads 0 ls + 2) in
+    let top = 4096 * (end_of_loads 0 ls + (guard_pages + stack_pages)) in
     record {
       parts = parts_of ls;
       mappings = [];

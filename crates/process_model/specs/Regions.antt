@@ -45,6 +45,13 @@ abbrev pub region_at : List Region → ℕ → Option Region
 region_at [] page = None
 region_at (r ∷ rs) page = if holds_page r page then Some r else region_at rs page
 
+-- how many pages a guard has, and a stack
+abbrev pub guard_pages : ℕ
+guard_pages = 1
+
+abbrev pub stack_pages : ℕ
+stack_pages = 1
+
 abbrev pub is_guard_kind : RegionKind → Bool
 is_guard_kind guard = true
 is_guard_kind _ = false
@@ -61,6 +68,12 @@ is_shared_kind _ = false
 abbrev pub keeps_stores : Option Region → Bool
 keeps_stores None = false
 keeps_stores (Some r) = r.writes && is_shared_kind r.kind
+
+-- whether the pages of a region can have leaves (the standard, 4.3.1: without a right an entry is a pointer, and writing without
+-- reading is reserved): the guard grants nothing, and any other region grants reading, or execution alone
+abbrev pub makes_leaf : Region → Bool
+makes_leaf r =
+    (is_guard_kind r.kind && not r.reads && not r.writes && not r.executes) || (not (is_guard_kind r.kind) && (r.reads || (r.executes && not r.writes)))
 
 -- whether the right is missing that the access needs
 abbrev pub lacks_right : Access → Option Region → Bool

@@ -170,3 +170,90 @@ bad_mappings : Plays (
     ∷ [])
 unfolding number low_bytes digits item_line line_of elf_loads segment_loads process_of tables_needed on_hart with_its_process resident_at sbrk_result mapped unmapped copied_in copied_out step
 bad_mappings = refl
+
+-- what was written back is what a later mapping reads, of another process too
+later_mapping_reads_what_was_written : Plays (
+    silent "file 16 rw 6162"
+    ∷ silent "image 0x0:0x1000:rx:13050000 0x1000:0x1800:rw:-"
+    ∷ "boot 1 64 4 full" ⇒ "ok"
+    ∷ "start 0" ⇒ "slot 0"
+    ∷ "start 0" ⇒ "slot 1"
+    ∷ "on 0 0" ⇒ "ok"
+    ∷ "enter 0" ⇒ "ok"
+    ∷ "mmap 0 16 3 1 0" ⇒ "at 0x3fffffd000"
+    ∷ "leave 0" ⇒ "ok"
+    ∷ "store 0 0x3fffffd001 1 0x7a" ⇒ "fault 15"
+    ∷ "fix 0" ⇒ "ready"
+    ∷ "store 0 0x3fffffd001 1 0x7a" ⇒ "stored"
+    ∷ "enter 0" ⇒ "ok"
+    ∷ "munmap 0 0x3fffffd000 16" ⇒ "ok"
+    ∷ "on 0 1" ⇒ "ok"
+    ∷ "enter 0" ⇒ "ok"
+    ∷ "mmap 0 16 1 2 0" ⇒ "at 0x3fffffd000"
+    ∷ "leave 0" ⇒ "ok"
+    ∷ "load 0 0x3fffffd000 2" ⇒ "fault 13"
+    ∷ "fix 0" ⇒ "ready"
+    ∷ "load 0 0x3fffffd000 2" ⇒ "value 0x7a61"
+    ∷ [])
+unfolding number low_bytes digits item_line line_of elf_loads segment_loads process_of tables_needed on_hart with_its_process resident_at sbrk_result mapped unmapped copied_in copied_out step
+later_mapping_reads_what_was_written = refl
+
+-- a page that was only loaded does not go back over what another process wrote since
+loaded_page_stays_away : Plays (
+    silent "file 16 rw -"
+    ∷ silent "image 0x0:0x1000:rx:13050000 0x1000:0x1800:rw:-"
+    ∷ "boot 1 64 4 full" ⇒ "ok"
+    ∷ "start 0" ⇒ "slot 0"
+    ∷ "start 0" ⇒ "slot 1"
+    ∷ "on 0 0" ⇒ "ok"
+    ∷ "enter 0" ⇒ "ok"
+    ∷ "mmap 0 16 3 1 0" ⇒ "at 0x3fffffd000"
+    ∷ "leave 0" ⇒ "ok"
+    ∷ "load 0 0x3fffffd000 1" ⇒ "fault 13"
+    ∷ "fix 0" ⇒ "ready"
+    ∷ "load 0 0x3fffffd000 1" ⇒ "value 0x0"
+    ∷ "enter 0" ⇒ "ok"
+    ∷ "on 0 1" ⇒ "ok"
+    ∷ "enter 0" ⇒ "ok"
+    ∷ "mmap 0 16 3 1 0" ⇒ "at 0x3fffffd000"
+    ∷ "copyout 0 0x3fffffd000 09" ⇒ "copied 1"
+    ∷ "munmap 0 0x3fffffd000 16" ⇒ "ok"
+    ∷ "on 0 0" ⇒ "ok"
+    ∷ "load 0 0x3fffffd000 1" ⇒ "value 0x0"
+    ∷ "enter 0" ⇒ "ok"
+    ∷ "exit 0 0" ⇒ "exited 0"
+    ∷ "show 0 0 1" ⇒ "file 16 09"
+    ∷ [])
+unfolding number low_bytes digits item_line line_of elf_loads segment_loads process_of tables_needed on_hart with_its_process resident_at sbrk_result mapped unmapped copied_in copied_out step
+loaded_page_stays_away = refl
+
+-- a page that was loaded and then forked wants both marks changed: one fault is enough, and the stored mark takes no frame
+one_fault_for_both_marks : Plays (
+    silent "file 16 rw -"
+    ∷ silent "image 0x0:0x1000:rx:13050000 0x1000:0x1800:rw:-"
+    ∷ "boot 1 64 4 full" ⇒ "ok"
+    ∷ "start 0" ⇒ "slot 0"
+    ∷ "on 0 0" ⇒ "ok"
+    ∷ "enter 0" ⇒ "ok"
+    ∷ "mmap 0 16 3 1 0" ⇒ "at 0x3fffffd000"
+    ∷ "leave 0" ⇒ "ok"
+    ∷ "load 0 0x3fffffd000 1" ⇒ "fault 13"
+    ∷ "fix 0" ⇒ "ready"
+    ∷ "load 0 0x3fffffd000 1" ⇒ "value 0x0"
+    ∷ "enter 0" ⇒ "ok"
+    ∷ "fork 0" ⇒ "slot 1"
+    ∷ "leave 0" ⇒ "ok"
+    ∷ "audit" ⇒ "free 36 held 28 shared 7 references 36"
+    ∷ "store 0 0x3fffffd000 1 5" ⇒ "fault 15"
+    ∷ "fix 0" ⇒ "ready"
+    ∷ "store 0 0x3fffffd000 1 5" ⇒ "stored"
+    ∷ "audit" ⇒ "free 35 held 29 shared 6 references 36"
+    ∷ "enter 0" ⇒ "ok"
+    ∷ "on 0 1" ⇒ "ok"
+    ∷ "store 0 0x3fffffd001 1 6" ⇒ "fault 15"
+    ∷ "fix 0" ⇒ "ready"
+    ∷ "store 0 0x3fffffd001 1 6" ⇒ "stored"
+    ∷ "audit" ⇒ "free 35 held 29 shared 6 references 36"
+    ∷ [])
+unfolding number low_bytes digits item_line line_of elf_loads segment_loads process_of tables_needed on_hart with_its_process resident_at sbrk_result mapped unmapped copied_in copied_out step
+one_fault_for_both_marks = refl

@@ -254,3 +254,21 @@ copy_over_no_page_of_two : Plays (
     ∷ [])
 unfolding number low_bytes digits item_line line_of elf_loads segment_loads process_of tables_needed on_hart with_its_process resident_at sbrk_result mapped unmapped copied_in copied_out step
 copy_over_no_page_of_two = refl
+
+-- 67,108,860 pages are the most that pass the checks
+image_of_all_memory : Plays (
+    silent "image 0x0:0x1000:rx:13050000 0x1000:0x1800:rw:-"
+    ∷ silent "image 0x0:0x3fffffc000:r:-"
+    ∷ silent "image 0x0:0x3fffffc001:r:-"
+    ∷ "boot 1 1024 1 full" ⇒ "ok"
+    ∷ "start 1" ⇒ "refused 9 NoFrame"
+    ∷ "start 2" ⇒ "refused 12 BadImage TooHigh"
+    ∷ "start 0" ⇒ "slot 0"
+    ∷ "on 0 0" ⇒ "ok"
+    ∷ "enter 0" ⇒ "ok"
+    ∷ "exec 0 1" ⇒ "refused 9 NoFrame"
+    ∷ "leave 0" ⇒ "ok"
+    ∷ "fetch 0 0x0" ⇒ "value 0x513"
+    ∷ [])
+unfolding number low_bytes digits item_line line_of elf_loads segment_loads process_of tables_needed on_hart with_its_process resident_at sbrk_result mapped unmapped copied_in copied_out step
+image_of_all_memory = refl

@@ -88,3 +88,26 @@ entry_that_is_kept : Plays (
     ∷ [])
 unfolding number low_bytes digits item_line line_of elf_loads segment_loads process_of tables_needed on_hart with_its_process resident_at sbrk_result mapped unmapped copied_in copied_out step
 entry_that_is_kept = refl
+
+-- the stored mark is in the leaf too
+first_store_leaves_no_old_entry : Plays (
+    silent "file 16 rw -"
+    ∷ silent "image 0x0:0x1000:rx:13050000 0x1000:0x1800:rw:-"
+    ∷ "boot 1 64 4 asid" ⇒ "ok"
+    ∷ "start 0" ⇒ "slot 0"
+    ∷ "on 0 0" ⇒ "ok"
+    ∷ "enter 0" ⇒ "ok"
+    ∷ "mmap 0 16 3 1 0" ⇒ "at 0x3fffffd000"
+    ∷ "leave 0" ⇒ "ok"
+    ∷ "load 0 0x3fffffd000 1" ⇒ "fault 13"
+    ∷ "fix 0" ⇒ "ready"
+    ∷ "load 0 0x3fffffd000 1" ⇒ "value 0x0"
+    ∷ "fill 0 0x3fffffd000" ⇒ "entry 0"
+    ∷ "load 0 0x3fffffd000 1 @0" ⇒ "value 0x0"
+    ∷ "store 0 0x3fffffd000 1 5 @0" ⇒ "fault 15"
+    ∷ "fix 0" ⇒ "ready"
+    ∷ "store 0 0x3fffffd000 1 5 @0" ⇒ "refused 20 NoEntry"
+    ∷ "store 0 0x3fffffd000 1 5" ⇒ "stored"
+    ∷ [])
+unfolding number low_bytes digits item_line line_of elf_loads segment_loads process_of tables_needed on_hart with_its_process resident_at sbrk_result mapped unmapped copied_in copied_out step
+first_store_leaves_no_old_entry = refl

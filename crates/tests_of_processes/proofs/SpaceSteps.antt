@@ -17,7 +17,7 @@ use Rattle.sv39_entry.specs.declared.frame.FrameNo.{FrameNo}
 use Rattle.table_walk.specs.Image.{Image}
 use Rattle.address_space.specs.Agreement.{Agrees}
 use Rattle.address_space.specs.Layouts.{Layout, last_page}
-use Rattle.address_space.specs.PageMaps.{behind, first_or, in_front, inserted_here, inserted_other}
+use Rattle.process_model.specs.Inserted.{behind, first_or, in_front, inserted_here, inserted_other}
 use Rattle.address_space.specs.Parts.{numbers_of, pages_of, process_of_parts, regions_in}
 use Rattle.address_space.specs.Steps.{CanRead, CanSettle, CanWrite, KeepsRegions, Settles, settled_with}
 use Rattle.tests_of_processes.specs.Lives.{IsFar, IsVacant, IsWritable, Lives, standard_regions}

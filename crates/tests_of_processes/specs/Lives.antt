@@ -4,10 +4,10 @@ use Rattle.frame_store.specs.View.{View}
 use Rattle.process_model.specs.Loading.{guard_at, stack_at}
 use Rattle.process_model.specs.PageMap as pages
 use Rattle.process_model.specs.Process.{Page, Process, regions}
-use Rattle.process_model.specs.Regions.{Region, region_at, segment, image}
+use Rattle.process_model.specs.Regions.{Region, makes_leaf, region_at, segment, image}
 use Rattle.sv39_entry.specs.Address.{trapframe_page}
 use Rattle.table_walk.specs.Image.{Image}
-use Rattle.address_space.specs.Agreement.{Agrees, makes_leaf}
+use Rattle.address_space.specs.Agreement.{Agrees}
 use Rattle.address_space.specs.Layouts.{Layout}
 
 -- text, two pages of data, the guard and the stack

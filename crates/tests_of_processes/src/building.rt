@@ -1,9 +1,9 @@
 // Frames that are counted, and a space that is built of them.
 
 ghost use Rattle.std.specs.Prelude.{◌≡◌, ◌<◌, ◌≤◌, true};
-ghost use Rattle.address_space.specs.Agreement.{makes_leaf};
 ghost use Rattle.address_space.specs.Layouts.{region_of};
 ghost use Rattle.address_space.specs.Parts.{AreParts};
+ghost use Rattle.process_model.specs.Regions.{makes_leaf};
 
 use address_space::{Part, Region, RegionKind, Source, Space, frames_needed};
 use frame_store::PlainFrames;

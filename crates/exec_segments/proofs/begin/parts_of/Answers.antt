@@ -1,11 +1,12 @@
 use Rattle.std.proofs.Common.{◌≡◌, ◌+◌, ◌++◌, ◌∷◌, [], ◌∙◌, arith, ap, ◌≤◌, length, map, subst, sym}
 use Rattle.process_model.specs.Images.{end_of_loads}
 use Rattle.process_model.specs.Loading.{guard_at, stack_at}
+use Rattle.process_model.specs.Regions.{guard_pages}
 use Rattle.address_space.specs.Parts.{AreParts, build_need, process_of_parts, region_in}
 use Rattle.exec_segments.specs.Loads.{load_of}
 use Rattle.exec_segments.proofs.Begins.{all_end, all_parts, are_parts, ArePartsOf, begins, end_fits, end_forward, guard_is, load_fits, needs, part_forward, room, stack_is, two_behind}
 use Rattle.exec_segments.proofs.begin.parts_of.Goals as goal
-use Rattle.exec_segments.proofs.begin.parts_of.Goals.{After-page_part, After-push-3}
+use Rattle.exec_segments.proofs.begin.parts_of.Goals.{After-zeros_part, After-push-3}
 
 pub push-requires : goal.push-requires
 push-requires c = let few = room _ _ _ c.requires (omega (arith, c.loads-test.true)) c.loads.invariant.parts in omega (arith, few)
@@ -20,13 +21,13 @@ loads-preserved c = record {
 }
 
 -- all segments have their parts
-parts : (c : After-page_part) → ArePartsOf c.loads.parts.items (map load_of c.args.loads.now)
+parts : (c : After-zeros_part) → ArePartsOf c.loads.parts.items (map load_of c.args.loads.now)
 parts c = all_parts _ _ _ c.loads-test.false c.loads.invariant.parts
 
-few : (c : After-page_part) → length c.loads.parts.items ≤ 16
+few : (c : After-zeros_part) → length c.loads.parts.items ≤ 16
 few c = room _ _ _ c.requires c.loads.auto.load-index-end c.loads.invariant.parts
 
-last : (c : After-page_part) → c.loads.end ≡ end_of_loads 0 (map load_of c.args.loads.now)
+last : (c : After-zeros_part) → c.loads.end ≡ end_of_loads 0 (map load_of c.args.loads.now)
 last c = all_end _ _ _ c.loads-test.false c.loads.invariant.last
 
 pub push-requires-2 : goal.push-requires-2
@@ -35,38 +36,38 @@ push-requires-2 c = let most = few c in omega (arith, most)
 pub overflow_add-end : goal.overflow_add-end
 overflow_add-end c =
     let at = goal.at.overflow_add-end c in
-    let low = end_fits c.args.loads.now c.loads.end c.requires (last at.After-page_part) in
+    let low = end_fits c.args.loads.now c.loads.end c.requires (last at.After-zeros_part) in
     omega (arith, low)
 
 pub push-requires-3 : goal.push-requires-3
 push-requires-3 c =
     let at = goal.at.push-requires-3 c in
-    let most = few at.After-page_part in
+    let most = few at.After-zeros_part in
     let longer = c.push-2.ensures.len in
     omega (arith, most, longer)
 
 -- behind them stand the guard and the stack
 
-behind : (c : After-push-3) → c.push-3.new.self.items ≡ c.loads.parts.items ++ c.page_part.result ∷ c.page_part-2.result ∷ []
+behind : (c : After-push-3) → c.push-3.new.self.items ≡ c.loads.parts.items ++ c.zeros_part.result ∷ c.zeros_part-2.result ∷ []
 behind c = two_behind _ _ _ _ _ c.push-2.ensures.items c.push-3.ensures.items
 
-guard : (c : After-push-3) → region_in c.page_part.result ≡ guard_at (end_of_loads 0 (map load_of c.args.loads.now))
-guard c = let at = goal.at.returns-clause-parts c in guard_is c.page_part.result _ _ c.page_part.ensures.region (c.empty.ensures tt) ∙ ap guard_at (last at.After-page_part)
+guard : (c : After-push-3) → region_in c.zeros_part.result ≡ guard_at (end_of_loads 0 (map load_of c.args.loads.now))
+guard c = let at = goal.at.returns-clause-parts c in guard_is c.zeros_part.result _ _ c.zeros_part.ensures.region (c.empty.ensures tt) ∙ ap guard_at (last at.After-zeros_part)
 
-stack : (c : After-push-3) → region_in c.page_part-2.result ≡ stack_at (end_of_loads 0 (map load_of c.args.loads.now) + 1)
-stack c = let at = goal.at.returns-clause-parts c in stack_is c.page_part-2.result c.loads.end _ c.page_part-2.ensures.region (c.insert.ensures tt) ∙ ap (λ n. stack_at (n + 1)) (last at.After-page_part)
+stack : (c : After-push-3) → region_in c.zeros_part-2.result ≡ stack_at (end_of_loads 0 (map load_of c.args.loads.now) + guard_pages)
+stack c = let at = goal.at.returns-clause-parts c in stack_is c.zeros_part-2.result c.loads.end _ c.zeros_part-2.ensures.region (c.insert.ensures tt) ∙ ap (λ n. stack_at (n + guard_pages)) (last at.After-zeros_part)
 
 pub returns-clause-parts : goal.returns-clause-parts
 returns-clause-parts c =
     let at = goal.at.returns-clause-parts c in
-    subst AreParts (sym (behind c)) (are_parts _ _ _ _ (parts at.After-page_part) c.requires (guard c) (stack c) c.page_part.ensures.bytes c.page_part-2.ensures.bytes)
+    subst AreParts (sym (behind c)) (are_parts _ _ _ _ (parts at.After-zeros_part) c.requires (guard c) (stack c) c.zeros_part.ensures.bytes c.zeros_part-2.ensures.bytes)
 
 pub returns-clause-process : goal.returns-clause-process
 returns-clause-process c fresh =
     let at = goal.at.returns-clause-process c in
-    ap (process_of_parts fresh) (behind c) ∙ begins _ _ _ _ (parts at.After-page_part) c.requires (guard c) (stack c) c.page_part.ensures.bytes c.page_part-2.ensures.bytes fresh
+    ap (process_of_parts fresh) (behind c) ∙ begins _ _ _ _ (parts at.After-zeros_part) c.requires (guard c) (stack c) c.zeros_part.ensures.bytes c.zeros_part-2.ensures.bytes fresh
 
 pub returns-clause-need : goal.returns-clause-need
 returns-clause-need c =
     let at = goal.at.returns-clause-need c in
-    ap build_need (behind c) ∙ needs _ _ _ _ (parts at.After-page_part) c.requires (guard c) (stack c) c.page_part.ensures.bytes c.page_part-2.ensures.bytes
+    ap build_need (behind c) ∙ needs _ _ _ _ (parts at.After-zeros_part) c.requires (guard c) (stack c) c.zeros_part.ensures.bytes c.zeros_part-2.ensures.bytes

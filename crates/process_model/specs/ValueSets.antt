@@ -12,7 +12,7 @@ use Rattle.std.specs.Ordering.{nat_cmp, eq_by_cmp}
 use Rattle.std.specs.Prelude.{Contains, is_some}
 use Rattle.process_model.specs.Bytes.{numbers_from}
 use Rattle.process_model.specs.PageMap.{NumberSet, contains, count, numbers}
-use Rattle.address_space.specs.PageMaps.{behind, first_or, in_front}
+use Rattle.process_model.specs.Inserted.{behind, first_or, in_front}
 
 -- ---- members of lists
 

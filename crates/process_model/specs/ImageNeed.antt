@@ -1,0 +1,123 @@
+-- What an image needs, counted run by run, is the number of its pages and the tables needed by them.
+use Rattle.std.proofs.Common.{◌≡◌, ℕ, zero, suc, ◌+◌, ◌-◌, ◌/◌, ◌<◌, ◌≤◌, refl, ap, sym, ◌∙◌, arith, List, [], ◌∷◌, ◌++◌, map, length}
+use Rattle.std.specs.Prelude.{◌^◌, flat_map}
+use Rattle.std.proofs.lemmas.List.{append-nil, append_assoc, length-append, map-append}
+use Rattle.std.proofs.lemmas.List.Concat.{flat_map-cons}
+use Rattle.process_model.specs.Bytes.{numbers_from, pages_for}
+use Rattle.process_model.specs.Frames.{exec_need, image_runs, kernel_run, PageRun, pages_in, runs_between, tables_from, tables_needed}
+use Rattle.process_model.specs.Images.{LoadSegment, end_of_loads, end_page}
+use Rattle.process_model.specs.Inserted.{behind_more}
+use Rattle.process_model.specs.Loading.{load_pages, page_numbers, page_run}
+use Rattle.process_model.specs.Order.{InRow, IsPlaced}
+use Rattle.process_model.specs.PageMap.{count}
+use Rattle.process_model.specs.Regions.{guard_pages, stack_pages}
+use Rattle.process_model.specs.ValueSets.{AreCounted, div_near, div_up, first_last, last_first, none_counted, run_counted, same_count, values}
+use Rattle.sv39_entry.specs.Address.{page_of, trampoline_page, trapframe_page}
+
+-- runs of pages
+
+pub run_numbers : (n first : ℕ) (bytes : List ℕ) → map (λ (e : ℕ × List ℕ). e.0) (page_run first bytes n) ≡ numbers_from first n
+run_numbers zero first bytes = refl
+run_numbers (suc n) first bytes = ap (λ ns. first ∷ ns) (run_numbers n (first + 1) _)
+
+pub run_length : (n first : ℕ) (bytes : List ℕ) → length (page_run first bytes n) ≡ n
+run_length zero first bytes = refl
+run_length (suc n) first bytes = ap suc (run_length n (first + 1) _)
+
+numbers_long : (n first : ℕ) → length (numbers_from first n) ≡ n
+numbers_long zero first = refl
+numbers_long (suc n) first = ap suc (numbers_long n (first + 1))
+
+abbrev run_pages : PageRun → List ℕ
+run_pages r = numbers_from r.first (r.end - r.first)
+
+abbrev numbers_in : List PageRun → List ℕ
+numbers_in [] = []
+numbers_in (r ∷ rs) = run_pages r ++ numbers_in rs
+
+-- each has a page at least, and begins where the one before it ends, or later
+abbrev AreRising : ℕ → List PageRun → Type 0
+AreRising low [] = Unit {0}
+AreRising low (r ∷ rs) = (low ≤ r.first) × (r.first < r.end) × AreRising r.end rs
+
+numbers_split : (rs ss : List PageRun) → numbers_in (rs ++ ss) ≡ numbers_in rs ++ numbers_in ss
+numbers_split [] ss = refl
+numbers_split (r ∷ rs) ss = ap (λ ns. run_pages r ++ ns) (numbers_split rs ss) ∙ sym (append_assoc (run_pages r) (numbers_in rs) (numbers_in ss))
+
+pages_counted : (rs : List PageRun) → pages_in rs ≡ length (numbers_in rs)
+pages_counted [] = refl
+pages_counted (r ∷ rs) =
+    let rest = pages_counted rs in
+    let here = numbers_long (r.end - r.first) r.first in
+    let both = length-append (run_pages r) (numbers_in rs) in
+    omega (arith, rest, here, both)
+
+-- tables of so many pages each
+
+module _ (size : ℕ) (some : 0 < size) where
+  abbrev group : ℕ → ℕ
+  group n = n / size
+
+  groups : (rs : List PageRun) (low : ℕ) → AreRising low rs → (xs : List ℕ) (n bound : ℕ) → AreCounted group xs n bound → bound ≤ group low + 1
+      → count (values group (xs ++ numbers_in rs)) ≡ n + tables_from size bound rs
+  groups [] low up xs n bound are near = ap (λ ys. count (values group ys)) (append-nil xs) ∙ are.counted ∙ omega arith
+  groups (r ∷ rs) low up xs n bound are near =
+      let above : low ≤ r.first = up.0 in
+      let long : r.first < r.end = up.1 in
+      let here = div_up size some low r.first above in
+      let far = div_up size some (r.end - 1) r.end (omega arith) in
+      let more = run_counted group (div_up size some) (div_near size some) r.first (r.end - r.first) (r.end - 1) xs n bound are (omega (arith, near, here)) (omega (arith, long)) (omega (arith, long)) in
+      let rest = groups rs r.end up.2 (xs ++ run_pages r) _ _ more (omega (arith, far)) in
+      ap (λ ys. count (values group ys)) (sym (append_assoc xs (run_pages r) (numbers_in rs))) ∙ rest ∙ omega arith
+
+  -- the kernel's two pages, which stand first where tables are needed, may stand last
+  kernel_last : (ns : List ℕ) → count (values group (trampoline_page ∷ trapframe_page ∷ ns)) ≡ count (values group (ns ++ trapframe_page ∷ trampoline_page ∷ []))
+  kernel_last ns =
+      let front : List ℕ = ns ++ trapframe_page ∷ [] in
+      same_count group (trampoline_page ∷ trapframe_page ∷ ns) (trampoline_page ∷ front)
+      (behind_more trampoline_page (trapframe_page ∷ ns) front (first_last ns trapframe_page)) (behind_more trampoline_page front (trapframe_page ∷ ns) (last_first ns trapframe_page))
+      ∙ same_count group (trampoline_page ∷ front) (front ++ trampoline_page ∷ []) (first_last front trampoline_page) (last_first front trampoline_page)
+      ∙ ap (λ ys. count (values group ys)) (append_assoc ns (trapframe_page ∷ []) (trampoline_page ∷ []))
+
+  tables_counted : (rs : List PageRun) → AreRising 0 (rs ++ kernel_run ∷ []) → tables_from size 0 (rs ++ kernel_run ∷ []) ≡ count (values group (trampoline_page ∷ trapframe_page ∷ numbers_in rs))
+  tables_counted rs up =
+      let all = groups (rs ++ kernel_run ∷ []) 0 up [] 0 0 (none_counted group) (omega arith) in
+      sym (kernel_last (numbers_in rs) ∙ ap (λ ys. count (values group ys)) (sym (numbers_split rs (kernel_run ∷ []))) ∙ all ∙ omega arith)
+
+-- the pages of an image
+
+abbrev number_of : ℕ × List ℕ → ℕ
+number_of e = e.0
+
+-- what follows the segments
+abbrev last_pages : ℕ → List (ℕ × List ℕ)
+last_pages end = page_run end [] (guard_pages + stack_pages)
+
+image_numbers : (end : ℕ) (ls : List LoadSegment) → InRow end ls → map number_of (flat_map load_pages ls ++ last_pages (end_of_loads end ls)) ≡ numbers_in (runs_between end ls)
+image_numbers end [] row = let two : guard_pages + stack_pages ≡ end + (guard_pages + stack_pages) - end = omega arith in ap (λ k. numbers_from end k ++ []) two
+image_numbers end (l ∷ ls) row =
+    let many : pages_for l.memory_size ≡ end_page l - page_of l.address = let is = (row.0).end in omega (arith, is) in
+    let rest : List (ℕ × List ℕ) = flat_map load_pages ls ++ last_pages (end_of_loads (end_page l) ls) in
+    ap (λ es. map number_of (es ++ last_pages (end_of_loads (end_page l) ls))) (flat_map-cons load_pages l ls)
+    ∙ ap (map number_of) (append_assoc (load_pages l) (flat_map load_pages ls) (last_pages (end_of_loads (end_page l) ls)))
+    ∙ map-append number_of (load_pages l) rest
+    ∙ ap (λ ns. ns ++ map number_of rest) (run_numbers (pages_for l.memory_size) (page_of l.address) l.bytes ∙ ap (numbers_from (page_of l.address)) many)
+    ∙ ap (λ ns. numbers_from (page_of l.address) (end_page l - page_of l.address) ++ ns) (image_numbers (end_page l) ls row.1)
+
+runs_rise : (end : ℕ) (ls : List LoadSegment) → InRow end ls → end_of_loads end ls + (guard_pages + stack_pages) ≤ trapframe_page → AreRising end (runs_between end ls ++ kernel_run ∷ [])
+runs_rise end [] row room = (omega arith, omega arith, (omega (arith, room), omega arith, tt))
+runs_rise end (l ∷ ls) row room =
+    let at = row.0 in
+    let some = at.some in
+    let last = at.end in
+    (at.above, omega (arith, some, last), runs_rise (end_page l) ls row.1 room)
+
+pub exec_need_is : (ls : List LoadSegment) → IsPlaced ls → exec_need ls ≡ length (page_numbers ls) + tables_needed (page_numbers ls)
+unfolding tables_needed
+exec_need_is ls is =
+    let up : AreRising 0 (image_runs ls ++ kernel_run ∷ []) = runs_rise 0 ls is.row is.below in
+    let same : page_numbers ls ≡ numbers_in (image_runs ls) = image_numbers 0 ls is.row in
+    let pages = pages_counted (image_runs ls) in
+    let high = tables_counted (2 ^ 18) (omega arith) (image_runs ls) up in
+    let low = tables_counted (2 ^ 9) (omega arith) (image_runs ls) up in
+    rw same (omega (arith, pages, high, low))
