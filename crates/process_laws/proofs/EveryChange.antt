@@ -122,7 +122,7 @@ length_low_bytes v (suc n) = ap suc (length_low_bytes (v / 2 ^ 8) n)
 length_written : (bs vs : List ℕ) (o : ℕ) → o + length vs ≤ 4096 → length bs ≡ 4096 → length (write_bytes bs o vs) ≡ 4096
 length_written bs vs o h e = grind (arith, common_steps)
 
-same_Ok : {A B : Type 0} (x y : A) → ◌≡◌ {A = Result A B} (Ok x) (Ok y) → x ≡ y
+pub same_Ok : {A B : Type 0} (x y : A) → ◌≡◌ {A = Result A B} (Ok x) (Ok y) → x ≡ y
 same_Ok x y e = cc
 
 -- where no test of a list is true, each is false

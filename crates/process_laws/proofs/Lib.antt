@@ -26,3 +26,5 @@ pub mod DistinctPages
 pub mod ForkSpends
 pub mod ServiceSpends
 pub mod StartSpends
+pub mod WrittenBack
+pub mod Marks

@@ -38,15 +38,15 @@ put_has k v (e ∷ es) none q i =
 
 -- keys in order
 
-first : (a b : Bool) → T (a && b) → T a
+pub first : (a b : Bool) → T (a && b) → T a
 first true b t = tt
 first false b t = t
 
-second : (a b : Bool) → T (a && b) → T b
+pub second : (a b : Bool) → T (a && b) → T b
 second true b t = t
 second false b t = absurd t
 
-lt_of : (a b : ℕ) → T (is_lt (nat_cmp a b)) → a < b
+pub lt_of : (a b : ℕ) → T (is_lt (nat_cmp a b)) → a < b
 lt_of a b t = grind arith
 
 less_of : (a b : ℕ) → nat_cmp a b ≡ Less → a < b
@@ -57,7 +57,7 @@ above x k [] t i = absurd i
 above x k (e ∷ es) t (inl same) = let below : x < e.0 = lt_of x e.0 (first _ _ t) in omega (below, same, arith)
 above x k (e ∷ es) t (inr i) = above x k es (second _ _ t) i
 
-found_above : (x k : ℕ) (v : Page) (es : List (ℕ × Page)) → T (below_all nat_cmp x es) → find nat_cmp k es ≡ Some v → x < k
+pub found_above : (x k : ℕ) (v : Page) (es : List (ℕ × Page)) → T (below_all nat_cmp x es) → find nat_cmp k es ≡ Some v → x < k
 found_above x k v es t f = above x k es t (found_key k es (ap is_some f))
 
 -- a settled page: its number goes, and the new one stands in its place

@@ -5,3 +5,4 @@ pub mod Numbered
 pub mod Placed
 pub mod Answered
 pub mod Latest
+pub mod FilePlaces

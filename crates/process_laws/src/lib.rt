@@ -4,6 +4,7 @@
 #![tactic(auto)]
 
 mod accounts;
+mod files;
 mod latest;
 mod places;
 mod regions;
@@ -13,6 +14,10 @@ mod worlds;
 pub use accounts::{
     fork_shares_every_page, fork_takes_its_need, frames_add_up, service_takes_its_need,
     start_takes_its_need,
+};
+pub use files::{
+    later_mapping_reads_what_was_written, loaded_page_is_never_written_back,
+    one_service_sets_every_mark,
 };
 pub use latest::{copy_reads_the_latest, fetch_reads_the_latest, load_reads_the_latest};
 pub use places::{no_room_means_none, place_is_the_greatest, unmapping_leaves_one_run};

@@ -144,12 +144,13 @@ value_of kind.Policy field = policy_value field
 value_of kind.Segment field = said_or cause.Field value.Segment (segment_in (pieces_of field))
 value_of kind.Entry field = said_or cause.Field (λ n. value.Optional (Some n)) (entry_number field)
 
--- which of two causes of fields is tried first
+-- which of two causes of fields is told first. In each line numbers stand before fields of other forms, so the first of two faults is
+-- also the one that stands first
 abbrev pub first_cause : Cause → Cause → Cause
 first_cause cause.Number d = cause.Number
 first_cause c d = d
 
--- a fault of a number comes before one of another form, wherever they stand
+-- a fault of a number comes before one of another form
 abbrev pub and_then : Result (List FieldValue) Cause → Result FieldValue Cause → Result (List FieldValue) Cause
 and_then (Ok vs) (Ok v) = Ok (vs ++ v ∷ [])
 and_then (Ok vs) (Err c) = Err c
