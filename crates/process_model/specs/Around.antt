@@ -15,7 +15,7 @@ pub record Around : Type 0 where
   pub files : List File
   -- whether another process has a copy number
   pub others_have : ℕ → Bool
-  -- whether at a page fewer frames are there than so many, those among them that the call has taken before
+  -- whether, when the call comes to a page, fewer frames are there than it takes in all up to that page
   pub is_dry : ℕ → ℕ → Bool
 
 -- a process in the middle of a call: the next copy number, and how many frames the call has taken

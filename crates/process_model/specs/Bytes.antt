@@ -24,7 +24,7 @@ padded n bs = let front = take n bs in front ++ replicate (n - length front) 0
 abbrev pub pages_for : ℕ → ℕ
 pages_for n = (n + 4095) / 4096
 
--- how many bytes a load or a store has
+-- whether a load or a store may have so many bytes
 abbrev pub is_width : ℕ → Bool
 is_width w = w == 1 || w == 2 || w == 4 || w == 8
 

@@ -19,7 +19,7 @@ tables_needed pages =
     let all = trampoline_page ∷ trapframe_page ∷ pages in
     1 + count (numbers (map (λ n. n / 2 ^ 18) all)) + count (numbers (map (λ n. n / 2 ^ 9) all))
 
--- tables stay until exec or the end, so they are those of all pages that were ever settled
+-- tables stay until exec or the end, so they are those of all tabled pages
 abbrev pub tables_of : Process → ℕ
 tables_of p = tables_needed (keys p.tabled)
 

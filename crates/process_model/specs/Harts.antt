@@ -67,7 +67,7 @@ has_user_satp Enter1 = true
 has_user_satp Leave2 = true
 has_user_satp _ = false
 
--- the hart with its process, or with none
+-- the phase of a hart that gets a process, or none
 abbrev pub phase_for : Option ℕ → Phase
 phase_for None = Idle
 phase_for (Some s) = Kernel
@@ -115,8 +115,8 @@ abbrev pub emptied_if : Hart → Bool → Hart
 emptied_if hart true = record hart { keys = [] }
 emptied_if hart false = hart
 
--- with address-space identifiers: the last fence of the return removes the slot's own entries where old ones may stand, and no
--- other fence does anything
+-- with address-space identifiers: where the slot is stale, the last fence of the return removes the slot's own entries, so that it
+-- is stale no more; no other fence does anything
 abbrev pub cleaned_if : Hart → ℕ → Bool → Hart
 cleaned_if hart s true = record hart { keys = filter (λ k. not (k.asid == s + 1)) hart.keys; stale = only (λ n. not (n == s)) hart.stale }
 cleaned_if hart s false = hart

@@ -35,6 +35,6 @@ abbrev pub resized_unless : Process → ℕ → Option Refusal → Result Proces
 resized_unless p size None = Ok (resized p size)
 resized_unless p size (Some r) = Err r
 
--- sbrk (the xv6 book, "Lazy allocation"; a size below the heap base is refused by our own choice): no frame is taken
+-- sbrk (the xv6 book, "Page-fault exceptions"; a size below the heap base is refused by our own choice): no frame is taken
 unfoldable pub sbrk_result : Process → ℤ → Result Process Refusal
 sbrk_result p delta = let wanted = wanted_size p delta in resized_unless p (nat_abs wanted) (size_refusal p wanted)

@@ -99,7 +99,7 @@ mapped files p len protection flags n =
 
 -- write-back
 
--- whether a settled page of the region is written back to its file: one that was stored to, of a shared mapping that may be written
+-- whether a settled page of the region is written back to its file: one with the stored mark, of a shared mapping that may be written
 abbrev pub is_written_back : Region → Page → Bool
 is_written_back m page = keeps_stores (Some m) && page.stored_mark
 
@@ -112,7 +112,7 @@ abbrev pub with_written : Region → ℕ → ℕ → List File → ℕ × Page �
 with_written m first end files e =
     if nat_le first e.0 && nat_lt e.0 end && is_written_back m e.1 then page_written m.source files (4096 * (e.0 - m.first)) (e.1).bytes else files
 
--- the settled pages of a mapping are written back, from one page up to, and without, another, in ascending order
+-- the settled pages of a mapping that are to be written back, from one page up to, and without, another, in ascending order
 abbrev pub written_back : List File → Process → Region → ℕ → ℕ → List File
 written_back files p m first end = fold (with_written m first end) files p.settled.entries
 

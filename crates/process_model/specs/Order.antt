@@ -49,7 +49,7 @@ pub record IsMapping (m : Region) : Type 0 where
   pub leaves : HasLeaves m
   pub reach : IsInReach m.source m.pages
 
--- the parts end at the heap's base, the heap below the mappings, and these below the trapframe
+-- the parts end at the heap's base or below it, the heap below the mappings, and these below the trapframe
 pub record IsInOrder (p : Process) : Type 0 where
   pub parts : Row 1 0 p.parts (page_of p.heap_base)
   pub room : page_of p.heap_base ≤ pages_for p.size

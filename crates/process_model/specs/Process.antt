@@ -9,7 +9,7 @@ use Rattle.sv39_entry.specs.declared.access.Access.TheVariants.{Store}
 
 -- a settled page, with its 4,096 bytes as this process sees them. The copy number tells which pages of two processes are still one
 -- in memory; the fork mark is on a page that a fork left so: a store must first make it the process's own (the xv6 book, "Page-fault
--- exceptions"). The stored mark is on a page whose stores go back to a file, from the first store on (the mmap lab)
+-- exceptions"). The stored mark is on a page whose stores go back to a file, from the service of the first one on (the mmap lab)
 pub record Page : Type 0 where
   pub bytes : List ℕ
   pub copy : ℕ

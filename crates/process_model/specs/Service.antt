@@ -18,7 +18,7 @@ use Rattle.process_model.specs.declared.step.Refusal.TheVariants.{Impossible}
 use Rattle.process_model.specs.declared.step.Reply.{Reply}
 use Rattle.process_model.specs.declared.step.Reply.TheVariants.{Fault, Ready, Ended}
 
--- accesses of the user (the standard, 4.3.2, gives the causes; the xv6 book, "Page-fault exceptions")
+-- accesses of the user (the standard, 4.1.8 and 4.3.2, gives the causes; the xv6 book, "Page-fault exceptions")
 
 -- what is asked
 pub record Asked : Type 0 where

@@ -129,7 +129,7 @@ abbrev pub always : Hart → Bool
 always hart = true
 
 -- the refusals that every step on a hart has, in their order: what is asked is not proper, is not possible in this phase, or
--- names an entry that is not there
+-- names an entry that is not there. A hart that does not exist is BadArgument before them
 abbrev pub common_refusal : Hart → Bool → (Hart → Bool) → (Hart → Bool) → Option Refusal
 common_refusal hart proper possible entry = first_true (
     (not proper, BadArgument)
