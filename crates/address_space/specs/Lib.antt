@@ -5,3 +5,4 @@ pub mod Layouts
 pub mod Parts
 pub mod Separating
 pub mod Steps
+pub mod Trampolines

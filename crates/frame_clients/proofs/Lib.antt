@@ -1,4 +1,3 @@
 pub mod PageSteps
 pub mod Views
 pub mod PoolSteps
-pub mod SeatSteps

@@ -13,7 +13,7 @@ use Rattle.frame_store.specs.Seats.{present, place_out, place_set_same, place_se
 use Rattle.sv39_entry.specs.declared.frame.FrameNo.{FrameNo}
 use Rattle.frame_store.specs.declared.refusal.NoFrame.{NoFrame}
 use Rattle.frame_clients.specs.Filled.{filled}
-use Rattle.frame_clients.specs.Opened.{opener, opened}
+use Rattle.frame_store.specs.Opened.{opener, opened}
 use Rattle.frame_clients.specs.Places.{PoolRule, IsSeated, IsEmpty, view_at, view_or_empty}
 
 -- what the code reads in a place of its vector
@@ -127,9 +127,9 @@ none_there zero i s e = absurd (cc)
 none_there (suc n) zero s e = absurd (cc)
 none_there (suc n) (suc i) s e = none_there n i s e
 
-opening_anchored : (v : View) (n : ℕ) → v ≡ opening_view → (i : ℕ) (w : View) → slice_get (Some v ∷ replicate n None) i ≡ Some (Some w) → IsHeld w 0
-opening_anchored v n is zero w e = opening_holds w (sym (same_Some _ _ (same_Some _ _ e)) ∙ is)
-opening_anchored v n is (suc i) w e = absurd (none_there n i w e)
+opening_anchored : (size : ℕ) (v : View) (n : ℕ) → v ≡ opening_view size → (i : ℕ) (w : View) → slice_get (Some v ∷ replicate n None) i ≡ Some (Some w) → IsHeld w 0
+opening_anchored size v n is zero w e = opening_holds w (sym (same_Some _ _ (same_Some _ _ e)) ∙ is)
+opening_anchored size v n is (suc i) w e = absurd (none_there n i w e)
 
 -- one more empty place
 pub one_pushed : {A : Type 0} (front xs ys : List A) (k : ℕ) (y : A) → 1 ≤ k → xs ≡ front ++ replicate (k - 1) y → ys ≡ xs ++ y ∷ [] → ys ≡ front ++ replicate (k + 1 - 1) y
@@ -138,8 +138,8 @@ one_pushed front xs ys k y some is pushed =
     pushed ∙ ap (λ zs. zs ++ y ∷ []) is ∙ append_assoc front (replicate (k - 1) y) (y ∷ []) ∙ ap (λ zs. front ++ zs) (replicate_more (k - 1) y ∙ ap (λ n. replicate n y) next)
 
 -- at first
-pub pool_opening : (b : Bank) (v : View) (places : List (Option View)) (n : ℕ) → places ≡ Some v ∷ replicate n None → v ≡ opening_view → BankRule b (v ∷ []) → PoolRule b places
-pool_opening b v places n made is r = subst (PoolRule b) (sym made) record {
+pub pool_opening : (size : ℕ) (b : Bank) (v : View) (places : List (Option View)) (n : ℕ) → places ≡ Some v ∷ replicate n None → v ≡ opening_view size → BankRule b (v ∷ []) → PoolRule b places
+pool_opening size b v places n made is r = subst (PoolRule b) (sym made) record {
   rule = subst (λ vs. BankRule b (v ∷ vs)) (sym (present-replicate n)) r;
-  anchored = opening_anchored v n is;
+  anchored = opening_anchored size v n is;
 }

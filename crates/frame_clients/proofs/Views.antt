@@ -1,6 +1,6 @@
 -- What reservations and refusals leave of a view.
 use Rattle.std.proofs.Common.{◌≡◌, ℕ, ◌<◌, refl, ap, sym, subst, ◌∙◌}
-use Rattle.frame_store.specs.View.{View, Hold, hold_of, IsHeld, with_credits, read_full}
+use Rattle.frame_store.specs.View.{View, Hold, hold_of, IsHeld, with_credits}
 use Rattle.frame_store.specs.Laws.{IsDry}
 use Rattle.frame_store.specs.Holds.{hold_of-frames}
 
@@ -11,7 +11,3 @@ hold_of-with_credits n v w e g = ap (λ u. hold_of u g) e ∙ hold_of-frames (wi
 -- a refused reservation leaves frame 0 held
 pub dry_held : (n : ℕ) (v w : View) → IsDry n v w → IsHeld v 0 → IsHeld w 0
 dry_held n v w dry held = subst (λ (h : Hold). 0 < h.references) (sym (hold_of-frames w v dry.frames 0)) held
-
--- and so does a refused share
-pub full_held : (v w : View) → w ≡ read_full v → IsHeld v 0 → IsHeld w 0
-full_held v w is held = subst (λ (h : Hold). 0 < h.references) (sym (ap (λ u. hold_of u 0) is ∙ hold_of-frames (read_full v) v refl 0)) held

@@ -14,8 +14,8 @@ holdings_code = code_by (ℕ × List (Option View)) (coded× coded_ℕ (coded_li
 
 abbrev pub view_or_empty : Option (Option View) → View
 view_or_empty (Some (Some v)) = v
-view_or_empty (Some None) = empty_view
-view_or_empty None = empty_view
+view_or_empty (Some None) = empty_view 0
+view_or_empty None = empty_view 0
 
 -- the view of the seat in a place
 abbrev pub view_at : List (Option View) → ℕ → View

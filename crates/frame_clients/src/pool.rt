@@ -2,14 +2,13 @@
 
 ghost use Rattle.std.specs.Prelude.{◌≡◌, ◌≢◌, ◌-◌, ◌<◌, ◌≤◌, ◌↔◌, ◌∷◌, if◌then◌else◌, IfErr, IfOk, is_ok, IsOk, IsSome, None, replicate, slice_set, Some};
 ghost use Rattle.frame_clients.specs.Filled.{filled};
-ghost use Rattle.frame_clients.specs.Opened.{opened, opener};
+ghost use Rattle.frame_store.specs.Opened.{opened, opener};
 ghost use Rattle.frame_clients.specs.Places.{IsEmpty, IsSeated, view_at};
 ghost use Rattle.frame_store.specs.Laws.{IsDry};
 ghost use Rattle.frame_store.specs.View.{IsHeld, joined, known_word, opening_view, read_full, references};
 
 use crate::filling::{filled_frame, read_word};
-use crate::opening::opened_seat;
-use frame_store::{FrameAccess, NoFrame, PlainFrames, PlainSeat, SharersFull};
+use frame_store::{FrameAccess, NoFrame, PlainFrames, PlainSeat, SharersFull, opened_seat};
 use std::alloc::{AllocError, Global};
 use std::marker::Model;
 use sv39_entry::FrameNo;
@@ -41,7 +40,7 @@ impl Pool {
         requires few { frames ≤ 1024 }
         requires room { 0 < places }
         ensures free { IfOk result (λ p. p.free ≡ frames - 1) }
-        ensures seats { IfOk result (λ p. p.seats ≡ Some opening_view ∷ replicate (places - 1) None) }
+        ensures seats { IfOk result (λ p. p.seats ≡ Some (opening_view frames) ∷ replicate (places - 1) None) }
     {
         let (store, seat) = PlainFrames::new(alloc, frames)?;
         let mut seats = Vec::new(alloc);

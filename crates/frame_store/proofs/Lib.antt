@@ -1,3 +1,4 @@
 pub mod PlainSteps
 pub mod Seating
+pub mod SeatSteps
 pub mod Unused

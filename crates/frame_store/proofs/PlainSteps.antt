@@ -11,7 +11,7 @@ use Rattle.std.specs.Cmp.{nat_cmp_total, unsigned_tied}
 use Rattle.std.specs.Ordering.{nat_cmp}
 use Rattle.std.specs.FinMap as map
 use Rattle.frame_store.specs.View.{View, Hold, hold_of, with_hold, without_hold, not_held, references, IsSole, IsHeld, with_word, claimed, shared, looked, released, empty_view, opening_view}
-use Rattle.frame_store.specs.Plain.{total_references, total_credits, FrameAgrees, Agrees, AllAgree, PlainRule, is_zero}
+use Rattle.frame_store.specs.Plain.{total_references, total_credits, FrameAgrees, Agrees, AllAgree, AllSay, PlainRule, is_zero, not_held_agrees}
 use Rattle.frame_store.specs.Holds.{hold_of-with_hold_same, hold_of-with_hold_other, hold_of-without_hold_same, hold_of-without_hold_other, hold_of-frames, hold_of-empty}
 
 -- words and counts are as before but at the frame f
@@ -23,16 +23,13 @@ pub record Outside (f : ℕ) (words counts words' counts' : List ℕ) : Type 0 w
 pub record Changes (f : ℕ) (h : Hold) (v w : View) : Type 0 where
   pub here : hold_of w f ≡ h
   pub apart : (g : ℕ) → (g ≡ f → ⊥) → hold_of w g ≡ hold_of v g
+  pub size : w.size ≡ v.size
 
 pub changed : (f : ℕ) (h : Hold) (v : View) → Changes f h v (with_hold f h v)
-changed f h v = record { here = hold_of-with_hold_same f h v; apart = hold_of-with_hold_other f h v }
+changed f h v = record { here = hold_of-with_hold_same f h v; apart = hold_of-with_hold_other f h v; size = refl }
 
-pub not_held_agrees : (words counts : List ℕ) (f : ℕ) → FrameAgrees words counts f not_held
-not_held_agrees words counts f = record {
-  known = λ i w e. let n = map.get-empty {X = ℕ} nat_cmp i in absurd (cc);
-  sole = λ s. absurd (cc);
-  bare = λ _. refl;
-}
+pub removed : (f : ℕ) (v : View) → Changes f not_held v (without_hold f v)
+removed f v = record { here = hold_of-without_hold_same f v; apart = hold_of-without_hold_other f v; size = refl }
 
 module _ (words counts words' counts' : List ℕ) (f : ℕ) (o : Outside f words counts words' counts') where
   frame_apart : (g : ℕ) (h : Hold) → (g ≡ f → ⊥) → FrameAgrees words counts g h → FrameAgrees words' counts' g h
@@ -77,6 +74,7 @@ module _ (words counts words' counts' : List ℕ) (f : ℕ) (o : Outside f words
       | inr e ↦ ap (λ (k : Hold). k.references + total_references g vs) (c.apart g e.1) ∙ r.counted g ∙ sym (o.count g e.1)
     ];
     balanced = balanced;
+    sizes = (c.size ∙ r.sizes.0 ∙ sym lc, subst (λ n. AllSay n vs) (sym lc) r.sizes.1);
     agrees = (own v w h c here r.agrees.0, others vs p r.agrees.1);
   }
 
@@ -159,7 +157,7 @@ module _ (words counts : List ℕ) (free : ℕ) (v : View) (vs : List View) (f :
       let h : Hold = record (hold_of v f) { sole = cond (c == 1) true (hold_of v f).sole } in
       let total = r.counted f in
       step words counts words counts f (same_outside f words counts) free free v (looked f c v) vs h r
-      record { here = hold_of-with_hold_same f h record v { looks = (looked f c v).looks }; apart = λ g ne. hold_of-with_hold_other f h record v { looks = (looked f c v).looks } g ne ∙ hold_of-frames _ _ refl g }
+      record { here = hold_of-with_hold_same f h record v { looks = (looked f c v).looks }; apart = λ g ne. hold_of-with_hold_other f h record v { looks = (looked f c v).looks } g ne ∙ hold_of-frames _ _ refl g; size = refl }
       refl refl total r.balanced
       record {
         known = mine.known;
@@ -172,13 +170,14 @@ module _ (words counts : List ℕ) (free : ℕ) (v : View) (vs : List View) (f :
       (λ k le a. a)
 
 -- the tallies change and no frame does
-pub tallied : (words counts : List ℕ) (free free' : ℕ) (v w : View) (vs : List View) → w.frames ≡ v.frames → free' + w.credits ≡ free + v.credits
+pub tallied : (words counts : List ℕ) (free free' : ℕ) (v w : View) (vs : List View) → w.frames ≡ v.frames → w.size ≡ v.size → free' + w.credits ≡ free + v.credits
     → PlainRule words counts free (v ∷ vs) → PlainRule words counts free' (w ∷ vs)
-tallied words counts free free' v w vs e same r = record {
+tallied words counts free free' v w vs e as_many same r = record {
   few = r.few;
   sized = r.sized;
   counted = λ g. ap (λ (k : Hold). k.references + total_references g vs) (hold_of-frames w v e g) ∙ r.counted g;
   balanced = omega (arith, r.balanced);
+  sizes = (as_many ∙ r.sizes.0, r.sizes.1);
   agrees = ((λ g. subst (λ k. FrameAgrees words counts g k) (sym (hold_of-frames w v e g)) (r.agrees.0 g)), r.agrees.1);
 }
 
@@ -210,7 +209,7 @@ module _ (words counts : List ℕ) (free : ℕ) (v : View) (vs : List View) (f :
       let z = zeros-set counts f 1 lt in
       let z2 = rw (eq-eqb (slice_index counts f) 0 none) at z in
       step words counts words (slice_set counts f 1) f (count_outside f words counts _) free free v (claimed f v) vs h r
-      record { here = hold_of-with_hold_same f h u; apart = λ g ne. hold_of-with_hold_other f h u g ne ∙ hold_of-frames u v refl g }
+      record { here = hold_of-with_hold_same f h u; apart = λ g ne. hold_of-with_hold_other f h u g ne ∙ hold_of-frames u v refl g; size = refl }
       refl (length-set counts f _) (omega (arith, set))
       (omega (arith, z2, r.balanced))
       record {
@@ -240,7 +239,7 @@ module _ (words counts : List ℕ) (free : ℕ) (v : View) (vs : List View) (f :
       let W : View → Type 0 = λ u. PlainRule words (slice_set counts f (slice_index counts f - 1)) free' (u ∷ vs) in
       elim (eqb_tells (references v f) 1) as (λ _. W (released f v)) [
         | inl t ↦ rw t.0 (step words counts words (slice_set counts f (slice_index counts f - 1)) f (count_outside f words counts _) free free' v (without_hold f v) vs not_held r
-            record { here = hold_of-without_hold_same f v; apart = hold_of-without_hold_other f v }
+            (removed f v)
             refl (length-set counts f _) (omega (arith, set)) (omega (arith, z2, same, r.balanced))
             (not_held_agrees words (slice_set counts f (slice_index counts f - 1)) f)
             (others_count words counts f _ (total_references f vs) (λ n le pos e. omega arith)))
@@ -261,20 +260,21 @@ zero_at n f = elim (cases_lt f n) as (λ _. slice_index (replicate n 0) f ≡ 0)
   | inr ge ↦ get_or_past (replicate n 0) f 0 (rw length-replicate ge)
 ]
 
-pub rule-bare : (n : ℕ) → n ≤ 1024 → PlainRule (replicate (512 * n) 0) (replicate n 0) n (empty_view ∷ [])
+pub rule-bare : (n : ℕ) → n ≤ 1024 → PlainRule (replicate (512 * n) 0) (replicate n 0) n (empty_view n ∷ [])
 rule-bare n few = record {
   few = rw length-replicate few;
   sized = rw (length-replicate, length-replicate) refl;
-  counted = λ g. ap (λ (k : Hold). k.references + 0) (hold_of-empty g) ∙ sym (zero_at n g);
+  counted = λ g. ap (λ (k : Hold). k.references + 0) (hold_of-empty n g) ∙ sym (zero_at n g);
   balanced = omega (arith, sum_by-replicate (λ x. cond (is_zero x) 1 0) n 0);
-  agrees = ((λ g. subst (λ k. FrameAgrees (replicate (512 * n) 0) (replicate n 0) g k) (sym (hold_of-empty g)) (not_held_agrees _ _ g)), tt);
+  sizes = (sym (length-replicate {A = ℕ} n 0), tt);
+  agrees = ((λ g. subst (λ k. FrameAgrees (replicate (512 * n) 0) (replicate n 0) g k) (sym (hold_of-empty n g)) (not_held_agrees _ _ g)), tt);
 }
 
-pub rule-open : (n : ℕ) → 0 < n → n ≤ 1024 → PlainRule (replicate (512 * n) 0) (slice_set (replicate n 0) 0 1) (n - 1) (opening_view ∷ [])
+pub rule-open : (n : ℕ) → 0 < n → n ≤ 1024 → PlainRule (replicate (512 * n) 0) (slice_set (replicate n 0) 0 1) (n - 1) (opening_view n ∷ [])
 rule-open n some few =
     let W : List ℕ = replicate (512 * n) 0 in
     let C : List ℕ = replicate n 0 in
-    let v : View = record empty_view { credits = 1 } in
-    let one : PlainRule W C (n - 1) (v ∷ []) = tallied W C n (n - 1) empty_view v [] refl (omega arith) (rule-bare n few) in
+    let v : View = record (empty_view n) { credits = 1 } in
+    let one : PlainRule W C (n - 1) (v ∷ []) = tallied W C n (n - 1) (empty_view n) v [] refl refl (omega arith) (rule-bare n few) in
     let two : PlainRule W (slice_set C 0 1) (n - 1) (claimed 0 v ∷ []) = rule-claim W C (n - 1) v [] 0 one (rw length-replicate some) (zero_at n 0) (lit< tt) in
-    tallied W (slice_set C 0 1) (n - 1) (n - 1) (claimed 0 v) opening_view [] refl refl two
+    tallied W (slice_set C 0 1) (n - 1) (n - 1) (claimed 0 v) (opening_view n) [] refl refl refl two

@@ -3,22 +3,12 @@ use Rattle.std.proofs.Common.{◌≡◌, ℕ, ◌+◌, ◌-◌, ◌*◌, ◌<◌
 use Rattle.std.specs.Prelude.{IsTrue, ◌||◌}
 use Rattle.std.proofs.lemmas.Bool.Decides.{eqb_tells}
 use Rattle.std.specs.FinMap as map
-use Rattle.frame_store.specs.View.{View, Hold, hold_of, with_hold, without_hold, not_held, references, IsHeld, empty_view, added, either, joined, moved_from, moved_to, split_off, CanSplit}
-use Rattle.frame_store.specs.Plain.{total_references, FrameAgrees, PlainRule}
-use Rattle.frame_store.specs.Holds.{hold_of-without_hold_same, hold_of-without_hold_other, hold_of-empty}
+use Rattle.frame_store.specs.View.{View, Hold, hold_of, with_hold, without_hold, not_held, references, IsHeld, added, either, joined, moved_from, moved_to, split_off, CanSplit}
+use Rattle.frame_store.specs.Plain.{total_references, FrameAgrees, not_held_agrees, PlainRule}
 use Rattle.frame_store.specs.Joins.{get-union, hold_of-joined}
-use Rattle.frame_store.proofs.PlainSteps.{Changes, not_held_agrees, changed, own, same_outside}
+use Rattle.frame_store.proofs.PlainSteps.{Changes, changed, own, removed, same_outside}
 
 module _ (words counts : List ℕ) (free : ℕ) where
-  pub rule-empty : (v : View) (vs : List View) → PlainRule words counts free (v ∷ vs) → PlainRule words counts free (v ∷ empty_view ∷ vs)
-  rule-empty v vs r = record {
-    few = r.few;
-    sized = r.sized;
-    counted = λ f. let e : references empty_view f ≡ 0 = ap (λ (k : Hold). k.references) (hold_of-empty f) in omega (arith, r.counted f);
-    balanced = omega (arith, r.balanced);
-    agrees = (r.agrees.0, ((λ f. subst (λ k. FrameAgrees words counts f k) (sym (hold_of-empty f)) (not_held_agrees words counts f)), r.agrees.1));
-  }
-
   -- two views change at the frame f, and no count
   pub step_two : (f : ℕ) (v w v' w' : View) (vs : List View) (h k : Hold) → PlainRule words counts free (v ∷ w ∷ vs) → Changes f h v v' → Changes f k w w'
       → h.references + k.references ≡ references v f + references w f → v'.credits + w'.credits ≡ v.credits + w.credits
@@ -32,6 +22,7 @@ module _ (words counts : List ℕ) (free : ℕ) where
       | inr e ↦ let a = ap (λ (x : Hold). x.references) (c.apart g e.1) in let b = ap (λ (x : Hold). x.references) (d.apart g e.1) in omega (arith, r.counted g)
     ];
     balanced = omega (arith, r.balanced);
+    sizes = (c.size ∙ r.sizes.0, (d.size ∙ r.sizes.1.0, r.sizes.1.1));
     agrees = (own words counts words counts f (same_outside f words counts) v v' h c ah r.agrees.0, (own words counts words counts f (same_outside f words counts) w w' k d ak r.agrees.1.0, r.agrees.1.1));
   }
 
@@ -45,7 +36,7 @@ module _ (words counts : List ℕ) (free : ℕ) where
       let right : Bool → Hold = λ b. record { references = references w f + 1; sole = cond b (hold_of v f).sole false; words = (hold_of v f).words } in
       elim (eqb_tells (references v f) 1) as (λ _. PlainRule words counts free (moved_from f v ∷ moved_to f (hold_of v f) w ∷ vs)) [
         | inl t ↦ rw t.0 (step_two f v w (without_hold f v) (with_hold f (right true) w) vs not_held (right true) r
-            record { here = hold_of-without_hold_same f v; apart = hold_of-without_hold_other f v } (changed f (right true) w)
+            (removed f v) (changed f (right true) w)
             (omega (arith, t.1)) refl (not_held_agrees words counts f)
             record { known = m.known; sole = λ s. let k = m.sole s in (omega arith, omega (arith, t.1, k.1)); bare = λ none. absurd (omega arith) })
         | inr t ↦ rw t.0 (step_two f v w (with_hold f left v) (with_hold f (right false) w) vs left (right false) r
@@ -100,5 +91,6 @@ module _ (words counts : List ℕ) (free : ℕ) where
     sized = r.sized;
     counted = λ f. let e = ap (λ (x : Hold). x.references) (hold_of-joined v w f) ∙ added_references (hold_of v f) (hold_of w f) in omega (arith, r.counted f);
     balanced = omega (arith, r.balanced);
+    sizes = (r.sizes.0, r.sizes.1.1);
     agrees = ((λ f. subst (λ k. FrameAgrees words counts f k) (sym (hold_of-joined v w f)) (added_agrees f (hold_of v f) (hold_of w f) (omega (arith, r.counted f)) (r.agrees.0 f) (r.agrees.1.0 f))), r.agrees.1.1);
   }

@@ -1,12 +1,12 @@
 -- What a view has of a frame after a step: at the frame that changed, and at every other. These carry all reasoning of the crates
 -- above.
-use Rattle.std.proofs.Common.{◌≡◌, ℕ, ◌<◌, ◌==◌, Bool, true, false, cond, refl, ap, sym, ◌∙◌, Option, None, Some, IsTrue, inl, inr, subst, arith, lit<}
+use Rattle.std.proofs.Common.{◌≡◌, ℕ, ◌-◌, ◌<◌, ◌==◌, List, [], ◌∷◌, Bool, true, false, cond, refl, ap, sym, ◌∙◌, Option, None, Some, IsTrue, inl, inr, subst, arith, lit<}
 use Rattle.std.proofs.lemmas.Bool.{ne_eqb, eq-eqb}
 use Rattle.std.proofs.lemmas.Bool.Decides.{eqb_tells}
 use Rattle.std.specs.Cmp.{nat_cmp_total, unsigned_tied}
 use Rattle.std.specs.Ordering.{nat_cmp}
 use Rattle.std.specs.FinMap as map
-use Rattle.frame_store.specs.View.{View, Hold, hold_of, with_hold, without_hold, or_not_held, not_held, empty_view, opening_view, IsHeld, IsSole}
+use Rattle.frame_store.specs.View.{View, Hold, hold_of, with_hold, without_hold, or_not_held, not_held, empty_view, opening_view, IsHeld, IsSole, references, released, moved_from, moved_to, split_off}
 
 module _ (f : ℕ) (h : Hold) (v : View) where
   pub hold_of-with_hold_same : hold_of (with_hold f h v) f ≡ h
@@ -31,12 +31,12 @@ pub hold_of-frames : (v w : View) → v.frames ≡ w.frames → (g : ℕ) → ho
 unfolding hold_of
 hold_of-frames v w e g = ap (λ m. or_not_held (map.get m g)) e
 
-pub hold_of-empty : (g : ℕ) → hold_of empty_view g ≡ not_held
+pub hold_of-empty : (size g : ℕ) → hold_of (empty_view size) g ≡ not_held
 unfolding hold_of
-hold_of-empty g = ap or_not_held (map.get-empty {X = Hold} nat_cmp g)
+hold_of-empty size g = ap or_not_held (map.get-empty {X = Hold} nat_cmp g)
 
-pub opening_holds : (v : View) → v ≡ opening_view → IsHeld v 0
-opening_holds v e = subst (λ (k : Hold). 0 < k.references) (sym (ap (λ w. hold_of w 0) e ∙ hold_of-with_hold_same 0 record { references = 1; sole = true; words = map.empty } empty_view)) (lit< tt)
+pub opening_holds : {size : ℕ} (v : View) → v ≡ opening_view size → IsHeld v 0
+opening_holds {size} v e = subst (λ (k : Hold). 0 < k.references) (sym (ap (λ w. hold_of w 0) e ∙ hold_of-with_hold_same 0 record { references = 1; sole = true; words = map.empty } (empty_view size))) (lit< tt)
 
 -- what a map of numbers answers after an insertion
 pub get-insert_at : {X : Type 0} (m : map.FinMap nat_cmp X) (k : ℕ) (x : X) (q : ℕ) → map.get (map.insert m k x) q ≡ cond (q == k) (Some x) (map.get m q)
@@ -81,3 +81,16 @@ with_hold_back f h v e lt = put_back f h v (held_there _ h e lt)
 pub with_sole_hold_back : (f : ℕ) (v : View) → IsSole v f → with_hold f (hold_of v f) v ≡ v
 unfolding hold_of
 with_sole_hold_back f v sole = put_back f (hold_of v f) v (sole_there _ sole)
+
+-- no step on a frame changes how many frames the store has
+
+pub size-released : (f : ℕ) (v : View) → (released f v).size ≡ v.size
+size-released f v = elim (references v f == 1) as (λ b. (cond b (without_hold f v) (with_hold f (record (hold_of v f) { references = references v f - 1 }) v)).size ≡ v.size) [ true ↦ refl | false ↦ refl ]
+
+size-moved_from : (f : ℕ) (v : View) → (moved_from f v).size ≡ v.size
+size-moved_from f v =
+    elim (references v f == 1) as (λ b. (cond b (without_hold f v) (with_hold f record { references = references v f - 1; sole = false; words = (hold_of v f).words } v)).size ≡ v.size) [ true ↦ refl | false ↦ refl ]
+
+pub size-split : (fs : List ℕ) (v w : View) → ((split_off fs v w).0).size ≡ v.size × ((split_off fs v w).1).size ≡ w.size
+size-split [] v w = (refl, refl)
+size-split (f ∷ fs) v w = let rest = size-split fs (moved_from f v) (moved_to f (hold_of v f) w) in (rest.0 ∙ size-moved_from f v, rest.1)

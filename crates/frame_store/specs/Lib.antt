@@ -6,3 +6,4 @@ pub mod Seats
 pub mod Plain
 pub mod Puts
 pub mod Joined
+pub mod Opened

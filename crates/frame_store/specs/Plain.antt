@@ -1,10 +1,15 @@
 -- The rule of plain frames: counts are the references of all views, what a view knows is so, a sole frame is one view's alone, and
 -- the frames of count 0 are the free number with all credits.
-use Rattle.std.proofs.Common.{sym, ap, ◌∙◌, arith}
+use Rattle.std.proofs.Common.{sym, subst, ap, ◌∙◌, arith, inl, inr}
+use Rattle.std.proofs.lemmas.Bool.{cases_lt}
+use Rattle.std.proofs.lemmas.List.{get_or_past}
 use Rattle.std.specs.Prelude.{◌≡◌, ◌≢◌, refl, ℕ, ◌+◌, ◌-◌, ◌*◌, ◌<◌, ◌≤◌, Bool, List, [], ◌∷◌, ◌++◌, length, replicate, slice_index, slice_set, count_by, nat_lt, sum, ◌==◌, Some, IsTrue}
 use Rattle.process_model.specs.declared.step.Report.{Report}
 use Rattle.std.specs.FinMap as finite
-use Rattle.frame_store.specs.View.{View, Hold, hold_of, references, not_held}
+use Rattle.std.specs.Ordering.{nat_cmp}
+use Rattle.frame_store.specs.Holds.{hold_of-empty}
+use Rattle.frame_store.specs.Laws.{Keeps}
+use Rattle.frame_store.specs.View.{View, Hold, empty_view, hold_of, IsHeld, references, not_held}
 
 abbrev pub total_references : ℕ → List View → ℕ
 total_references f [] = 0
@@ -33,6 +38,11 @@ abbrev pub AllAgree : List ℕ → List ℕ → List View → Type 0
 AllAgree words counts [] = Unit {0}
 AllAgree words counts (v ∷ vs) = Agrees words counts v × AllAgree words counts vs
 
+-- each view says how many frames there are
+abbrev pub AllSay : ℕ → List View → Type 0
+AllSay n [] = Unit {0}
+AllSay n (v ∷ vs) = (v.size ≡ n) × AllSay n vs
+
 abbrev pub is_zero : ℕ → Bool
 is_zero c = c == 0
 
@@ -44,6 +54,7 @@ pub record PlainRule (words counts : List ℕ) (free : ℕ) (views : List View) 
   pub sized : length words ≡ 512 * length counts
   pub counted : (f : ℕ) → total_references f views ≡ slice_index counts f
   pub balanced : count_by is_zero counts ≡ free + total_credits views
+  pub sizes : AllSay (length counts) views
   pub agrees : AllAgree words counts views
 
 -- the list has each frame of count 0 once
@@ -87,6 +98,14 @@ all_agree-back : (words counts : List ℕ) (xs : List View) (a : View) (ys : Lis
 all_agree-back words counts [] a ys h = h
 all_agree-back words counts (x ∷ xs) a ys h = (h.1.0, all_agree-back words counts xs a ys (h.0, h.1.1))
 
+all_say-front : (n : ℕ) (xs : List View) (a : View) (ys : List View) → AllSay n (xs ++ a ∷ ys) → AllSay n (a ∷ xs ++ ys)
+all_say-front n [] a ys h = h
+all_say-front n (x ∷ xs) a ys h = let t = all_say-front n xs a ys h.1 in (t.0, (h.0, t.1))
+
+all_say-back : (n : ℕ) (xs : List View) (a : View) (ys : List View) → AllSay n (a ∷ xs ++ ys) → AllSay n (xs ++ a ∷ ys)
+all_say-back n [] a ys h = h
+all_say-back n (x ∷ xs) a ys h = (h.1.0, all_say-back n xs a ys (h.0, h.1.1))
+
 module _ (words counts : List ℕ) (free : ℕ) (xs : List View) (a : View) (ys : List View) where
   pub to_front : PlainRule words counts free (xs ++ a ∷ ys) → PlainRule words counts free (a ∷ xs ++ ys)
   to_front r = record {
@@ -94,6 +113,7 @@ module _ (words counts : List ℕ) (free : ℕ) (xs : List View) (a : View) (ys 
     sized = r.sized;
     counted = λ f. sym (total_references-move f xs a ys) ∙ r.counted f;
     balanced = r.balanced ∙ ap (λ n. free + n) (total_credits-move xs a ys);
+    sizes = all_say-front (length counts) xs a ys r.sizes;
     agrees = all_agree-front words counts xs a ys r.agrees;
   }
 
@@ -103,5 +123,42 @@ module _ (words counts : List ℕ) (free : ℕ) (xs : List View) (a : View) (ys 
     sized = r.sized;
     counted = λ f. total_references-move f xs a ys ∙ r.counted f;
     balanced = r.balanced ∙ ap (λ n. free + n) (sym (total_credits-move xs a ys));
+    sizes = all_say-back (length counts) xs a ys r.sizes;
     agrees = all_agree-back words counts xs a ys r.agrees;
   }
+
+-- a frame that is held is one of those that there are, and has a count
+
+count_there : (counts : List ℕ) (f : ℕ) → 0 < slice_index counts f → f < length counts
+count_there counts f some = elim (cases_lt f (length counts)) as (λ _. f < length counts) [
+  | inl inside ↦ inside
+  | inr past ↦ absurd (let none = get_or_past counts f 0 past in omega (arith, some, none))
+]
+
+pub held_within : (b : Bank) (v : View) (vs : List View) → BankRule b (v ∷ vs) → (v.size ≤ 1024) × ((f : ℕ) → IsHeld v f → f < v.size)
+held_within b v vs r =
+    let says = r.sizes.0 in
+    (omega (arith, says, r.few), λ f held. let total = r.counted f in let inside = count_there b.counts f (omega (arith, held, total)) in omega (arith, says, inside))
+
+-- an empty seat may stand beside the others
+
+pub not_held_agrees : (words counts : List ℕ) (f : ℕ) → FrameAgrees words counts f not_held
+not_held_agrees words counts f = record {
+  known = λ i w e. let n = finite.get-empty {X = ℕ} nat_cmp i in absurd (cc);
+  sole = λ s. absurd (cc);
+  bare = λ _. refl;
+}
+
+pub rule-empty : (words counts : List ℕ) (free : ℕ) (v : View) (vs : List View) → PlainRule words counts free (v ∷ vs) → PlainRule words counts free (v ∷ empty_view v.size ∷ vs)
+rule-empty words counts free v vs r = record {
+  few = r.few;
+  sized = r.sized;
+  counted = λ f. let e : references (empty_view v.size) f ≡ 0 = ap (λ (k : Hold). k.references) (hold_of-empty v.size f) in omega (arith, r.counted f);
+  balanced = omega (arith, r.balanced);
+  sizes = (r.sizes.0, (r.sizes.0, r.sizes.1));
+  agrees = (r.agrees.0, ((λ f. subst (λ k. FrameAgrees words counts f k) (sym (hold_of-empty v.size f)) (not_held_agrees words counts f)), r.agrees.1));
+}
+
+-- a call that keeps all seats keeps how many frames there are
+pub kept_size : (b c : Bank) (v w : View) (vs : List View) → Keeps BankRule b v c w → BankRule b (v ∷ vs) → w.size ≡ v.size
+kept_size b c v w vs keeps rule = let after = keeps (empty_view v.size ∷ vs) (rule-empty b.words b.counts b.free v vs rule) in after.sizes.0 ∙ sym after.sizes.1.0

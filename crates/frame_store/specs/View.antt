@@ -17,6 +17,8 @@ abbrev pub hold_code : Coded Hold
 hold_code = code_by (ℕ × (Bool × map.FinMap nat_cmp ℕ)) (coded× coded_ℕ (coded× coded_bool (map.code coded_ℕ coded_ℕ))) (λ h. (h.references, (h.sole, h.words))) (λ p. record { references = p.0; sole = p.1.0; words = p.1.1 }) (λ _. refl)
 
 pub record View : Type 0 where
+  -- how many frames the store has: a frame that is held has a number below it
+  pub size : ℕ
   pub frames : map.FinMap nat_cmp Hold
   -- frames that are set aside for the seat
   pub credits : ℕ
@@ -29,10 +31,10 @@ pub record View : Type 0 where
   pub looks : List ℕ
 
 abbrev pub view_code : Coded View
-view_code = code_by (map.FinMap nat_cmp Hold × (ℕ × (ℕ × (ℕ × (ℕ × List ℕ)))))
-    (coded× (map.code coded_ℕ hold_code) (coded× coded_ℕ (coded× coded_ℕ (coded× coded_ℕ (coded× coded_ℕ (coded_list coded_ℕ))))))
-    (λ v. (v.frames, (v.credits, (v.zeros, (v.short, (v.claims, v.looks))))))
-    (λ p. record { frames = p.0; credits = p.1.0; zeros = p.1.1.0; short = p.1.1.1.0; claims = p.1.1.1.1.0; looks = p.1.1.1.1.1 })
+view_code = code_by (ℕ × (map.FinMap nat_cmp Hold × (ℕ × (ℕ × (ℕ × (ℕ × List ℕ))))))
+    (coded× coded_ℕ (coded× (map.code coded_ℕ hold_code) (coded× coded_ℕ (coded× coded_ℕ (coded× coded_ℕ (coded× coded_ℕ (coded_list coded_ℕ)))))))
+    (λ v. (v.size, (v.frames, (v.credits, (v.zeros, (v.short, (v.claims, v.looks)))))))
+    (λ p. record { size = p.0; frames = p.1.0; credits = p.1.1.0; zeros = p.1.1.1.0; short = p.1.1.1.1.0; claims = p.1.1.1.1.1.0; looks = p.1.1.1.1.1.1 })
     (λ _. refl)
 
 abbrev pub not_held : Hold
@@ -41,8 +43,9 @@ not_held = record { references = 0; sole = false; words = map.empty }
 abbrev pub sole_hold : Hold
 sole_hold = record { references = 1; sole = true; words = map.empty }
 
-abbrev pub empty_view : View
-empty_view = record { frames = map.empty; credits = 0; zeros = 0; short = 0; claims = 0; looks = [] }
+-- at a store of so many frames
+abbrev pub empty_view : ℕ → View
+empty_view size = record { size = size; frames = map.empty; credits = 0; zeros = 0; short = 0; claims = 0; looks = [] }
 
 abbrev pub or_not_held : Option Hold → Hold
 or_not_held None = not_held
@@ -110,8 +113,8 @@ abbrev pub released : ℕ → View → View
 released f v = cond (references v f == 1) (without_hold f v) (with_hold f (record (hold_of v f) { references = references v f - 1 }) v)
 
 -- the view of the first seat: frame 0 is its own
-abbrev pub opening_view : View
-opening_view = with_hold 0 sole_hold empty_view
+abbrev pub opening_view : ℕ → View
+opening_view size = with_hold 0 sole_hold (empty_view size)
 
 -- two seats made one: references, known words, marks and credits of both
 

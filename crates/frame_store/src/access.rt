@@ -54,6 +54,7 @@ pub trait FrameAccess {
         requires fits { Fits rule self.old seat.old }
         requires held { IsHeld (Self.Seat.view seat.old) frame.0 }
         ensures view { Self.Seat.view seat.new ≡ looked frame.0 result (Self.Seat.view seat.old) }
+        ensures some { 0 < result }
         ensures exact { alone → result ≡ count self.old frame.0 }
         ensures same { self.new ≡ self.old }
         ensures keeps { Keeps rule self.old seat.old self.new seat.new };
@@ -88,4 +89,8 @@ pub trait FrameAccess {
     ghost comes_front: { (s : Self) (xs : List Self.Seat) (a : Self.Seat) (ys : List Self.Seat) → rule s (xs ++ a ∷ ys) → rule s (a ∷ xs ++ ys) };
 
     ghost goes_back: { (s : Self) (xs : List Self.Seat) (a : Self.Seat) (ys : List Self.Seat) → rule s (a ∷ xs ++ ys) → rule s (xs ++ a ∷ ys) };
+
+    /// The store has at most 1,024 frames, and a held frame is one of them.
+    ghost within: { (s : Self) (a : Self.Seat) (ys : List Self.Seat) → rule s (a ∷ ys)
+        → ((Self.Seat.view a).size ≤ 1024) × ((f : ℕ) → IsHeld (Self.Seat.view a) f → f < (Self.Seat.view a).size) };
 }

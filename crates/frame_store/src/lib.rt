@@ -8,11 +8,13 @@
 
 mod access;
 mod knowledge;
+mod opening;
 mod plain;
 mod refusal;
 mod supply;
 
 pub use access::{FrameAccess, FrameSeat};
+pub use opening::opened_seat;
 pub use plain::{PlainFrames, PlainSeat};
 pub use refusal::{NoFrame, SharersFull};
 pub use supply::FrameSupply;

@@ -1,7 +1,7 @@
 // Frames of one thread.
 
 ghost use Rattle.std.specs.Prelude.{◌≡◌, ◌<◌, ◌≤◌, ◌∷◌, [], count_by, IfOk, length, slice_index, sum};
-ghost use Rattle.frame_store.specs.Plain.{BankRule, is_shared, is_zero, opening_bank, report_of, to_back, to_front};
+ghost use Rattle.frame_store.specs.Plain.{BankRule, held_within, is_shared, is_zero, opening_bank, report_of, to_back, to_front};
 ghost use Rattle.frame_store.specs.View.{opening_view};
 
 use crate::access::{FrameAccess, FrameSeat};
@@ -67,7 +67,7 @@ impl PlainFrames {
     pub fn new(alloc: Global, frames: usize) -> Result<(PlainFrames, PlainSeat), AllocError>
         requires some { 0 < frames }
         requires few { frames ≤ 1024 }
-        ensures seat { IfOk result (λ r. r.1 ≡ opening_view) }
+        ensures seat { IfOk result (λ r. r.1 ≡ opening_view frames) }
         ensures store { IfOk result (λ r. r.0 ≡ opening_bank frames) }
         ensures rule { IfOk result (λ r. BankRule r.0 (r.1 ∷ [])) }
     {
@@ -85,7 +85,7 @@ impl PlainFrames {
             unused,
         };
         let seat = PlainSeat {
-            known: knowing(&()),
+            known: knowing(&frames),
         };
         Ok((store, seat))
     }
@@ -145,6 +145,8 @@ impl FrameAccess for PlainFrames {
     ghost comes_front = { λ s. to_front s.words s.counts s.free };
 
     ghost goes_back = { λ s. to_back s.words s.counts s.free };
+
+    ghost within = { held_within };
 
     fn load(&mut self, _seat: &mut PlainSeat, frame: FrameNo, index: usize) -> u64 {
         let place = WORDS * frame.0 as usize + index;

@@ -49,10 +49,10 @@ pub trait FrameSupply: FrameAccess {
     fn split(&mut self, seat: &mut Self::Seat, frames: &[FrameNo]) -> Self::Seat
         requires fits { Fits Self.rule self.old seat.old }
         requires held { CanSplit (map (λ f. f.0) frames.now) (Self.Seat.view seat.old) }
-        requires left_anchored { IsAnchored (split_off (map (λ f. f.0) frames.now) (Self.Seat.view seat.old) empty_view).0 }
-        requires right_anchored { IsAnchored (split_off (map (λ f. f.0) frames.now) (Self.Seat.view seat.old) empty_view).1 }
-        ensures left { Self.Seat.view seat.new ≡ (split_off (map (λ f. f.0) frames.now) (Self.Seat.view seat.old) empty_view).0 }
-        ensures right { Self.Seat.view result ≡ (split_off (map (λ f. f.0) frames.now) (Self.Seat.view seat.old) empty_view).1 }
+        requires left_anchored { IsAnchored (split_off (map (λ f. f.0) frames.now) (Self.Seat.view seat.old) (empty_view (Self.Seat.view seat.old).size)).0 }
+        requires right_anchored { IsAnchored (split_off (map (λ f. f.0) frames.now) (Self.Seat.view seat.old) (empty_view (Self.Seat.view seat.old).size)).1 }
+        ensures left { Self.Seat.view seat.new ≡ (split_off (map (λ f. f.0) frames.now) (Self.Seat.view seat.old) (empty_view (Self.Seat.view seat.old).size)).0 }
+        ensures right { Self.Seat.view result ≡ (split_off (map (λ f. f.0) frames.now) (Self.Seat.view seat.old) (empty_view (Self.Seat.view seat.old).size)).1 }
         ensures same { self.new ≡ self.old }
         ensures keeps { (others : List Self.Seat) → Self.rule self.old (seat.old ∷ others) → Self.rule self.new (seat.new ∷ result ∷ others) };
 }

@@ -64,7 +64,7 @@ left_free frames slots before after was is = elim (cases_lt 512 frames) [
   | inr low ↦ (let need : kernel_frames frames slots ≡ 6 + slots = rw (le-leb frames 512 low) refl in omega (arith, is, was, need))
 ]
 
-module _ (m : Machine) (c : Config) (full : c.policy ≡ Full) (sized : m.size ≡ c.frames) (stacks : List ℕ) (t : Image)
+module _ (m : Machine) (c : Config) (full : c.policy ≡ Full) (sized : m.kernel.seat.size ≡ c.frames) (stacks : List ℕ) (t : Image)
     (table : IsKernelTable m.kernel.seat m.kernel.root.0 c.frames c.slots stacks t) (rule : BankRule m.frames (m.kernel.seat ∷ [])) (free : m.frames.free ≡ c.frames - kernel_frames c.frames c.slots)
     (slots : m.slots.items ≡ replicate c.slots None) (harts : map hart_of m.harts.items ≡ replicate c.harts model.idle_hart) where
   idle_at : (h : ℕ) (x : Hart) → slice_get m.harts.items h ≡ Some x → hart_of x ≡ model.idle_hart
@@ -85,6 +85,7 @@ module _ (m : Machine) (c : Config) (full : c.policy ≡ Full) (sized : m.size �
     free = free ∙ sym (booted_free c);
     harts = harts;
     hosted = λ h s x at on. absurd (let none = ap (λ (k : model.Hart). k.slot) (idle_at h x at) in let some = sym on ∙ none in cc);
+    alone = λ s h k x y at also on. absurd (let none = ap (λ (z : model.Hart). z.slot) (idle_at h x at) in let some = sym on ∙ none in cc);
     idle = λ h x at none. ap (λ (k : model.Hart). k.phase) (idle_at h x at);
     buffers = λ h x e at in_it. absurd (nothing_buffered x.buffer (ap (λ (k : model.Hart). k.keys) (idle_at h x at)) e in_it);
   }

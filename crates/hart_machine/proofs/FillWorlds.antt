@@ -54,6 +54,7 @@ put_back m w is s x at =
       free = is.free;
       harts = is.harts;
       hosted = λ h r y there on. let old = is.hosted h r y there on in (old.0, ap (λ (ps : List (Option Tenant)). slice_get ps r) same ∙ old.1);
+      alone = is.alone;
       idle = is.idle;
       buffers = is.buffers;
     }
@@ -111,7 +112,7 @@ module _ (m : Machine) (w : World) (is : IsWorld m w) (h a : ℕ) where
     fills_at : (y : Hart) → y ≡ with_entry x entry → (n : ℕ) → n ≡ next_number x.buffer → Makes (record m { harts = with_item m.harts h y }) (Filled n) (plain_step w (step.Fill h a))
     fills_at y made n number =
         subst (λ (z : Hart). Makes (record m { harts = with_item m.harts h z }) (Filled n) (plain_step w (step.Fill h a))) (sym made)
-        (makes _ (Filled n) _ _ (hart_changes m w is h x (with_entry x entry) at (λ s on. is.hosted h s x at on) (λ none. is.idle h x at none) serves)
+        (makes _ (Filled n) _ _ (hart_changes m w is h x (with_entry x entry) at (λ s on. is.hosted h s x at on) (λ s on k z there also. is.alone s k h z x there at also on) (λ none. is.idle h x at none) serves)
         (step_is ∙ rw (number ∙ number_is x.buffer few key, kept_is x entry few) refl)) where
           serves : (e : TlbEntry) → Contains (with_entry x entry).buffer e → IsServing (with_entry x entry) is.images is.kernel e
           serves e there = elim (in_newest x.buffer entry e there) [

@@ -1,9 +1,9 @@
 -- Steps on one hart: what they are refused for, and worlds in which one hart is another.
-use Rattle.std.proofs.Common.{◌≡◌, ℕ, ◌<◌, get_or, ◌⊎◌, inl, inr, Bool, true, false, Option, None, Some, option_map, is_some, List, [], ◌∷◌, map, not, ◌||◌, ◌&&◌, refl, ap, sym, subst, ◌∙◌, arith}
+use Rattle.std.proofs.Common.{◌≡◌, ℕ, zero, suc, ◌<◌, get_or, ◌⊎◌, inl, inr, Bool, true, false, Option, None, Some, option_map, is_some, List, [], ◌∷◌, map, not, ◌||◌, ◌&&◌, refl, ap, sym, subst, ◌∙◌, arith}
 use Rattle.std.specs.Prelude.{Contains, slice_get, slice_set, unwrap_or}
 use Rattle.std.specs.List.{list_any}
 use Rattle.std.specs.Vec.{vec_len, with_item}
-use Rattle.std.proofs.lemmas.Bool.{cases_eq}
+use Rattle.std.proofs.lemmas.Bool.{cases_eq, eq-eqb}
 use Rattle.std.proofs.lemmas.List.{map-set}
 use Rattle.std.proofs.lemmas.Option.{get_or_from_slice_get, same_Some, slice_get-map, slice_get_within}
 use Rattle.frame_store.specs.Seats.{place_set_other, place_set_same}
@@ -139,9 +139,13 @@ module _ (m : Machine) (w : World) (is : IsWorld m w) where
 
   -- a hart is another one
   module _ (h : ℕ) (x y : Hart) (there : slice_get m.harts.items h ≡ Some x) where
-    pub hart_changes : ((s : ℕ) → y.slot ≡ Some s → (t : Tenant) × (slice_get m.slots.items s ≡ Some (Some t))) → (y.slot ≡ None → y.phase ≡ phase.Idle)
+    -- no other hart has a process
+    abbrev IsAlone : Type 0
+    IsAlone = (s : ℕ) → y.slot ≡ Some s → (k : ℕ) (z : Hart) → slice_get m.harts.items k ≡ Some z → z.slot ≡ Some s → k ≡ h
+
+    pub hart_changes : ((s : ℕ) → y.slot ≡ Some s → (t : Tenant) × (slice_get m.slots.items s ≡ Some (Some t))) → IsAlone → (y.slot ≡ None → y.phase ≡ phase.Idle)
         → ((e : TlbEntry) → Contains y.buffer e → IsServing y is.images is.kernel e) → IsWorld (record m { harts = with_item m.harts h y }) (with_hart w h (hart_of y))
-    hart_changes hosted idle serves = record {
+    hart_changes hosted alone idle serves = record {
       images = is.images;
       kernel = is.kernel;
       stacks = is.stacks;
@@ -155,17 +159,43 @@ module _ (m : Machine) (w : World) (is : IsWorld m w) where
       free = is.free;
       harts = map-set hart_of m.harts.items h y ∙ ap (λ hs. slice_set hs h (hart_of y)) is.harts;
       hosted = λ k s z at. at_each k z at (λ (u : Hart). u.slot ≡ Some s → (t : Tenant) × (slice_get m.slots.items s ≡ Some (Some t))) (hosted s) (λ old. is.hosted k s z old);
+      alone = λ s k l z u at also on upon. elim (new_or_old k z at) [
+        | inl new ↦ elim (new_or_old l u also) [
+          | inl more ↦ new.0 ∙ sym more.0
+          | inr old ↦ new.0 ∙ sym (alone s (ap (λ (v : Hart). v.slot) new.1 ∙ on) l u old upon)
+        ]
+        | inr old ↦ elim (new_or_old l u also) [
+          | inl new ↦ alone s (ap (λ (v : Hart). v.slot) new.1 ∙ upon) k z old on ∙ sym new.0
+          | inr more ↦ is.alone s k l z u old more on upon
+        ]
+      ];
       idle = λ k z at. at_each k z at (λ (u : Hart). u.slot ≡ None → u.phase ≡ phase.Idle) idle (λ old. is.idle k z old);
       buffers = λ k z e at. at_each k z at (λ (u : Hart). Contains u.buffer e → IsServing u is.images is.kernel e) (serves e) (λ old. is.buffers k z e old);
     } where
-      -- what holds of the new hart and of each old one
-      at_each : (k : ℕ) (z : Hart) → slice_get (slice_set m.harts.items h y) k ≡ Some z → (P : Hart → Type 0) → P y → (slice_get m.harts.items k ≡ Some z → P z) → P z
-      at_each k z at P new old = elim (cases_eq k h) [
-        | inl same ↦ subst P (same_Some y z (sym (place_set_same m.harts.items h y (slice_get_within m.harts.items h x there)) ∙ ap (slice_get (slice_set m.harts.items h y)) (sym same) ∙ at)) new
-        | inr apart ↦ old (sym (place_set_other m.harts.items h k y apart) ∙ at)
+      new_or_old : (k : ℕ) (z : Hart) → slice_get (slice_set m.harts.items h y) k ≡ Some z → ((k ≡ h) × (y ≡ z)) ⊎ (slice_get m.harts.items k ≡ Some z)
+      new_or_old k z at = elim (cases_eq k h) [
+        | inl same ↦ inl (same, same_Some y z (sym (place_set_same m.harts.items h y (slice_get_within m.harts.items h x there)) ∙ ap (slice_get (slice_set m.harts.items h y)) (sym same) ∙ at))
+        | inr apart ↦ inr (sym (place_set_other m.harts.items h k y apart) ∙ at)
       ]
 
+      -- what holds of the new hart and of each old one
+      at_each : (k : ℕ) (z : Hart) → slice_get (slice_set m.harts.items h y) k ≡ Some z → (P : Hart → Type 0) → P y → (slice_get m.harts.items k ≡ Some z → P z) → P z
+      at_each k z at P new old = elim (new_or_old k z at) [ inl here ↦ subst P here.1 new | inr there ↦ old there ]
+
 -- a process comes on a hart
+
+and_right : (a b : Bool) → (a && b) ≡ true → b ≡ true
+and_right true b e = e
+and_right false b e = absurd (cc)
+
+-- a slot that one of the harts has
+any_at : (s : ℕ) (hs : List model.Hart) (k : ℕ) (z : model.Hart) → slice_get hs k ≡ Some z → z.slot ≡ Some s → list_any (λ x. has_slot s x.slot) hs ≡ true
+any_at s [] k z at on = absurd (cc)
+any_at s (x ∷ hs) zero z at on = rw (ap (λ (y : model.Hart). y.slot) (same_Some x z at) ∙ on, eq-eqb s s refl) refl
+any_at s (x ∷ hs) (suc k) z at on = or_true (has_slot s x.slot) (any_at s hs k z at on) where
+  or_true : (a : Bool) → {b : Bool} → b ≡ true → (a || b) ≡ true
+  or_true true e = refl
+  or_true false e = e
 
 and_left : (a b : Bool) → (a && b) ≡ true → a ≡ true
 and_left true b e = refl
@@ -199,11 +229,18 @@ module _ (m : Machine) (w : World) (is : IsWorld m w) (h : ℕ) (slot : Option �
 
     pub switches : (x y : Hart) → x ≡ get_or m.harts.items h x → y ≡ switched x slot → model.may_switch p ≡ true → can_run w slot ≡ true
         → Makes (record m { harts = with_item m.harts h y }) Done (plain_step w (step.Switch h slot))
-    switches x y read made may can = subst (λ (z : Hart). Makes (record m { harts = with_item m.harts h z }) Done (plain_step w (step.Switch h slot))) (sym (made ∙ ap (λ z. switched z slot) (hart_read m w is h p has x read))) (makes _ Done _ _ (hart_changes m w is h has.hart (switched has.hart slot) has.there (hosts slot can) (idles slot) (serves slot))
+    switches x y read made may can = subst (λ (z : Hart). Makes (record m { harts = with_item m.harts h z }) Done (plain_step w (step.Switch h slot))) (sym (made ∙ ap (λ z. switched z slot) (hart_read m w is h p has x read))) (makes _ Done _ _ (hart_changes m w is h has.hart (switched has.hart slot) has.there (hosts slot can) (lone slot can) (idles slot) (serves slot))
         (runs w h true (λ x. model.may_switch x.phase && can_run w slot) always _ (hart_of has.hart) has.in_model refl (rw (has.phased, may, can) refl) refl)) where
           hosts : (o : Option ℕ) → can_run w o ≡ true → (s : ℕ) → o ≡ Some s → (t : Tenant) × (slice_get m.slots.items s ≡ Some (Some t))
           hosts None can s e = absurd (cc)
           hosts (Some r) can s e = tenant_at m w is s (ap (λ n. is_some (process_in w n)) (sym (same_Some r s e)) ∙ and_left _ _ can)
+
+          lone : (o : Option ℕ) → can_run w o ≡ true → (s : ℕ) → o ≡ Some s → (k : ℕ) (z : Hart) → slice_get m.harts.items k ≡ Some z → z.slot ≡ Some s → k ≡ h
+          lone None can s e k z at on = absurd (cc)
+          lone (Some r) can s e k z at on = absurd (
+              let in_world : slice_get w.harts k ≡ Some (hart_of z) = ap (λ hs. slice_get hs k) (sym is.harts) ∙ slice_get-map hart_of m.harts.items k ∙ ap (option_map hart_of) at in
+              let some = any_at r w.harts k (hart_of z) in_world (on ∙ ap Some (sym (same_Some r s e))) in
+              let both = sym (ap not some) ∙ and_right _ _ can in cc)
 
           idles : (o : Option ℕ) → o ≡ None → model.phase_for o ≡ phase.Idle
           idles None e = refl
@@ -262,7 +299,7 @@ module _ (m : Machine) (w : World) (is : IsWorld m w) (h : ℕ) (p : Phase) (has
   pub goes_on : (x y : Hart) → x ≡ get_or m.harts.items h x → y ≡ advanced x → can_go_on w (hart_of has.hart) ≡ true
       → Makes (record m { harts = with_item m.harts h y }) Done (plain_step w (step.Next h))
   goes_on x y read made can = subst (λ (z : Hart). Makes (record m { harts = with_item m.harts h z }) Done (plain_step w (step.Next h))) (sym (made ∙ ap advanced (hart_read m w is h p has x read)))
-      (makes _ Done _ _ (hart_changes m w is h has.hart (advanced has.hart) has.there (λ s on. is.hosted h s has.hart has.there on) idles (advanced_serves is.images is.kernel has.hart goes (λ e. is.buffers h has.hart e has.there)))
+      (makes _ Done _ _ (hart_changes m w is h has.hart (advanced has.hart) has.there (λ s on. is.hosted h s has.hart has.there on) (λ s on k z at also. is.alone s k h z has.hart at has.there also on) idles (advanced_serves is.images is.kernel has.hart goes (λ e. is.buffers h has.hart e has.there)))
       (runs w h true (can_go_on w) always _ (hart_of has.hart) has.in_model refl can refl ∙ rw (is.policy, ← advanced_is has.hart) refl)) where
         goes : is_some (model.next_phase has.hart.phase) ≡ true
         goes = and_left _ _ can

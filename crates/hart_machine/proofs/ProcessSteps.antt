@@ -88,6 +88,7 @@ module _ (m : Machine) (w : World) (is : IsWorld m w) (s : ℕ) (x y : Tenant) (
       free = unspent ∙ is.free ∙ sym (same_free copies owns);
       harts = is.harts;
       hosted = hosted;
+      alone = is.alone;
       idle = is.idle;
       buffers = is.buffers;
     } where

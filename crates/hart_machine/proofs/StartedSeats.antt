@@ -6,9 +6,9 @@ use Rattle.std.proofs.lemmas.List.{get_or_past}
 use Rattle.std.proofs.lemmas.Option.{same_Some}
 use Rattle.address_space.specs.Agreement.{HoldsTrampoline}
 use Rattle.address_space.specs.Kernel.{IsKernelTable}
-use Rattle.frame_clients.specs.Opened.{opened, opener}
-use Rattle.frame_store.specs.Holds.{hold_of-empty, hold_of-frames, hold_of-with_hold_other, hold_of-with_hold_same}
-use Rattle.frame_store.specs.Laws.{Fits, IsDry, Keeps}
+use Rattle.frame_store.specs.Opened.{opened, opener}
+use Rattle.frame_store.specs.Holds.{hold_of-empty, hold_of-with_hold_other, hold_of-with_hold_same}
+use Rattle.frame_store.specs.Laws.{Fits, Keeps}
 use Rattle.frame_store.specs.Plain.{Agrees, Bank, BankRule, to_back, to_front, total_references}
 use Rattle.frame_store.specs.Seats.{place_in}
 use Rattle.frame_store.specs.View.{empty_view, Hold, hold_of, IsSole, references, View}
@@ -25,8 +25,8 @@ use Rattle.table_walk.specs.Image.{Image}
 module _ (v : View) where
   pub opened_holds : HoldsTrampoline (opened v)
   opened_holds = record {
-    once = ap (λ (h : Hold). h.references) (hold_of-with_hold_same 0 record { references = 1; sole = false; words = (hold_of v 0).words } empty_view);
-    others = λ f apart. ap (λ (h : Hold). h.references) (hold_of-with_hold_other 0 record { references = 1; sole = false; words = (hold_of v 0).words } empty_view f apart ∙ hold_of-empty f);
+    once = ap (λ (h : Hold). h.references) (hold_of-with_hold_same 0 record { references = 1; sole = false; words = (hold_of v 0).words } (empty_view v.size));
+    others = λ f apart. ap (λ (h : Hold). h.references) (hold_of-with_hold_other 0 record { references = 1; sole = false; words = (hold_of v 0).words } (empty_view v.size) f apart ∙ hold_of-empty v.size f);
     credits = refl;
   }
 
@@ -46,14 +46,6 @@ module _ (m n : Machine) (opens : n.kernel ≡ record m.kernel { seat = opener m
   pub open_kernel : (frames slots : ℕ) (stacks : List ℕ) (t : Image) → IsKernelTable m.kernel.seat m.kernel.root.0 frames slots stacks t
       → IsKernelTable n.kernel.seat n.kernel.root.0 frames slots stacks t
   open_kernel frames slots stacks t k = rw opens (opener_kernel m.kernel.seat m.kernel.root.0 frames slots stacks t k)
-
--- a seat that was refused holds what it did
-pub dry_holds : (n : ℕ) (v w : View) → IsDry n v w → HoldsTrampoline v → HoldsTrampoline w
-dry_holds n v w dry holds = record {
-  once = ap (λ (h : Hold). h.references) (hold_of-frames w v dry.frames 0) ∙ holds.once;
-  others = λ f apart. ap (λ (h : Hold). h.references) (hold_of-frames w v dry.frames f) ∙ holds.others f apart;
-  credits = dry.credits ∙ holds.credits;
-}
 
 -- the seat behind the kernel's steps
 pub second_steps : (b c : Bank) (k v w : View) (others : List View) → Keeps BankRule b v c w → BankRule b (k ∷ v ∷ others) → BankRule c (k ∷ w ∷ others)

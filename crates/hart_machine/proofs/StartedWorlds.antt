@@ -35,7 +35,7 @@ use Rattle.hart_machine.proofs.StartedImages.{image_here, image_there, images_wi
 use Rattle.hart_machine.proofs.StartedSeats.{held_inside, seat_comes}
 
 module _ (m n : Machine) (w : World) (is : IsWorld m w) (s : ℕ) (place : slice_get m.slots.items s ≡ Some None) (at : slice_get w.slots s ≡ Some None)
-    (ls : List LoadSegment) (y : Tenant) (t : Image) (sized : n.size ≡ m.size) (slots : n.slots.items ≡ slice_set m.slots.items s (Some y)) (harts : n.harts ≡ m.harts)
+    (ls : List LoadSegment) (y : Tenant) (t : Image) (sized : n.kernel.seat.size ≡ m.kernel.seat.size) (slots : n.slots.items ≡ slice_set m.slots.items s (Some y)) (harts : n.harts ≡ m.harts)
     (agrees : Agrees (view_of y) y.space.root.0 y.space.trapframe.0 y.space.layout t (process_of w.counter ls)) (alone : OwnsAlone (view_of y) t) (pending : y.pending ≡ None)
     (rule : BankRule n.frames (n.kernel.seat ∷ view_of y ∷ seats_of m.slots.items))
     (table : IsKernelTable n.kernel.seat n.kernel.root.0 w.frames (length w.slots) is.stacks is.kernel) (left : n.frames.free ≡ free (with_image w s ls)) where
@@ -89,12 +89,13 @@ module _ (m n : Machine) (w : World) (is : IsWorld m w) (s : ℕ) (place : slice
     free = left;
     harts = rw harts is.harts;
     hosted = λ h k x on slot. subst (λ (xs : List (Option Tenant)). (z : Tenant) × (slice_get xs k ≡ Some (Some z))) (sym slots) (hosted_at h k x (on_old h x on) slot);
+    alone = λ s h k x z on also at upon. is.alone s h k x z (on_old h x on) (on_old k z also) at upon;
     idle = λ h x on none. is.idle h x (on_old h x on) none;
     buffers = λ h x e on in_it. serving h x e (on_old h x on) (is.buffers h x e (on_old h x on) in_it);
   }
 
 -- the machine as it was, with another seat of the kernel
-module _ (m n : Machine) (w : World) (is : IsWorld m w) (sized : n.size ≡ m.size) (slots : n.slots ≡ m.slots) (harts : n.harts ≡ m.harts) (rule : BankRule n.frames (n.kernel.seat ∷ seats_of m.slots.items))
+module _ (m n : Machine) (w : World) (is : IsWorld m w) (sized : n.kernel.seat.size ≡ m.kernel.seat.size) (slots : n.slots ≡ m.slots) (harts : n.harts ≡ m.harts) (rule : BankRule n.frames (n.kernel.seat ∷ seats_of m.slots.items))
     (table : IsKernelTable n.kernel.seat n.kernel.root.0 w.frames (length w.slots) is.stacks is.kernel) (left : n.frames.free ≡ m.frames.free) where
   pub stays : IsWorld n w
   stays = record {
@@ -111,6 +112,7 @@ module _ (m n : Machine) (w : World) (is : IsWorld m w) (sized : n.size ≡ m.si
     free = left ∙ is.free;
     harts = rw harts is.harts;
     hosted = rw (harts, slots) is.hosted;
+    alone = rw harts is.alone;
     idle = rw harts is.idle;
     buffers = rw harts is.buffers;
   }
@@ -128,7 +130,7 @@ module _ (w : World) (s : ℕ) (image : model.Image) (ls : List LoadSegment) (to
   started_dry : is_dry w (start_need ls) ≡ true → started w (image_loads image) (free_slot w) ≡ started_unless w s ls true
   started_dry dry = rw (to, loaded, dry) refl
 
-  module _ (m n : Machine) (is : IsWorld m w) (sized : n.size ≡ m.size) (harts : n.harts ≡ m.harts)
+  module _ (m n : Machine) (is : IsWorld m w) (sized : n.kernel.seat.size ≡ m.kernel.seat.size) (harts : n.harts ≡ m.harts)
       (table : IsKernelTable n.kernel.seat n.kernel.root.0 w.frames (length w.slots) is.stacks is.kernel) where
     -- enough frames are free
     pub makes_started : TakesItsNeed → (y : Tenant) (t : Image) → n.slots.items ≡ slice_set m.slots.items s (Some y)

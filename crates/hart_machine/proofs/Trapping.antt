@@ -61,5 +61,5 @@ module _ (m : Machine) (w : World) (is : IsWorld m w) (h : ℕ) (p : Phase) (has
         let after = pending_changes m w is s t.0 q.0 t.1 q.1 q.2 None in
         subst (λ (k : Machine). Makes (record k { harts = with_item k.harts h (record x { phase = phase.Enter0 }) }) Done (plain_step w (step.Trap h))) (sym n_is)
         (subst (λ (z : Hart). Makes (record m { slots = with_item m.slots s (Some (record t.0 { pending = None })); harts = with_item m.harts h (record z { phase = phase.Enter0 }) }) Done (plain_step w (step.Trap h))) (sym x_is)
-        (makes _ Done _ _ (hart_changes _ _ after h has.hart (record has.hart { phase = phase.Enter0 }) has.there (λ r at. after.hosted h r has.hart has.there at) (λ none. absurd (user_has_slot user none)) (λ e there. enters after.images after.kernel has.hart (has.phased ∙ user_is p user) e (after.buffers h has.hart e has.there there)))
+        (makes _ Done _ _ (hart_changes _ _ after h has.hart (record has.hart { phase = phase.Enter0 }) has.there (λ r at. after.hosted h r has.hart has.there at) (λ r on k z at also. after.alone r k h z has.hart at has.there also on) (λ none. absurd (user_has_slot user none)) (λ e there. enters after.images after.kernel has.hart (has.phased ∙ user_is p user) e (after.buffers h has.hart e has.there there)))
         (runs w h true (λ z. model.is_user z.phase) always _ (hart_of has.hart) has.in_model refl (ap model.is_user has.phased ∙ user) refl ∙ its_process w (hart_of has.hart) _ s q.0 on q.1)))

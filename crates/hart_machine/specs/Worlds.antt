@@ -73,7 +73,7 @@ pub record IsWorld (m : Machine) (w : World) : Type 0 where
   pub kernel : Image
   pub stacks : List ℕ
   pub policy : w.policy ≡ Full
-  pub frames : m.size ≡ w.frames
+  pub frames : m.kernel.seat.size ≡ w.frames
   pub rule : BankRule m.frames (m.kernel.seat ∷ seats_of m.slots.items)
   pub of_kernel : IsKernelTable m.kernel.seat m.kernel.root.0 w.frames (length w.slots) stacks kernel
   pub places : (s : ℕ) → IsPlace (slice_get m.slots.items s) (slice_get w.slots s) (images s)
@@ -83,6 +83,8 @@ pub record IsWorld (m : Machine) (w : World) : Type 0 where
   pub harts : map hart_of m.harts.items ≡ w.harts
   -- a hart's process is there
   pub hosted : (h s : ℕ) (x : Hart) → slice_get m.harts.items h ≡ Some x → x.slot ≡ Some s → (y : Tenant) × (slice_get m.slots.items s ≡ Some (Some y))
+  -- and on no other hart
+  pub alone : (s h k : ℕ) (x y : Hart) → slice_get m.harts.items h ≡ Some x → slice_get m.harts.items k ≡ Some y → x.slot ≡ Some s → y.slot ≡ Some s → h ≡ k
   -- and one without is idle
   pub idle : (h : ℕ) (x : Hart) → slice_get m.harts.items h ≡ Some x → x.slot ≡ None → x.phase ≡ phase.Idle
   pub buffers : (h : ℕ) (x : Hart) (e : TlbEntry) → slice_get m.harts.items h ≡ Some x → Contains x.buffer e → IsServing x images kernel e

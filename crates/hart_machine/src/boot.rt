@@ -69,7 +69,6 @@ impl Machine {
             unreachable!()
         };
         Ok(Machine {
-            size: config.frames,
             frames,
             kernel,
             slots,

@@ -15,8 +15,6 @@ use process_model::Phase;
 /// One memory with the table of the kernel, processes in slots, and harts. All that it needs is made when it is booted.
 #[derive(Drop)]
 pub struct Machine {
-    /// How many frames the memory has.
-    pub(crate) size: usize,
     pub(crate) frames: PlainFrames,
     pub(crate) kernel: KernelTable<PlainSeat>,
     pub(crate) slots: Vec<Option<Tenant>>,

@@ -3,7 +3,7 @@
 ghost use Rattle.std.specs.Prelude.{◌≡◌, ◌∷◌, List, ℕ};
 ghost use Rattle.address_space.specs.Agreement.{HoldsTrampoline};
 ghost use Rattle.address_space.specs.Kernel.{IsKernelTable};
-ghost use Rattle.frame_clients.specs.Opened.{opened, opener};
+ghost use Rattle.frame_store.specs.Opened.{opened, opener};
 ghost use Rattle.frame_store.specs.Plain.{BankRule};
 ghost use Rattle.frame_store.specs.View.{references, View};
 ghost use Rattle.hart_machine.specs.Buffers.{SameBuffers};
@@ -17,8 +17,7 @@ ghost use Rattle.table_walk.specs.Image as tables;
 use crate::machine::Machine;
 use crate::tenant::Tenant;
 use exec_segments::{Image, start};
-use frame_clients::opened_seat;
-use frame_store::{FrameAccess, PlainSeat};
+use frame_store::{FrameAccess, PlainSeat, opened_seat};
 use process_laws::start_takes_its_need;
 use process_model::{Refusal, Reply};
 use sv39_entry::FrameNo;
@@ -76,7 +75,7 @@ impl Machine {
         requires world { (w : World) × IsWorld self.old w }
         ensures opened { result ≡ opened self.old.kernel.seat }
         ensures opener { self.new.kernel ≡ record self.old.kernel { seat = opener self.old.kernel.seat } }
-        ensures size { self.new.size ≡ self.old.size }
+        ensures size { self.new.kernel.seat.size ≡ self.old.kernel.seat.size }
         ensures free { self.new.frames.free ≡ self.old.frames.free }
         ensures slots { self.new.slots ≡ self.old.slots }
         ensures harts { self.new.harts ≡ self.old.harts }
@@ -95,7 +94,7 @@ impl Machine {
         requires code { references self.old.kernel.seat 0 ≡ 1 }
         ensures kernel { (frames slots : ℕ) (stacks : List ℕ) (t : tables.Image) → IsKernelTable self.old.kernel.seat self.old.kernel.root.0 frames slots stacks t
             → IsKernelTable self.new.kernel.seat self.new.kernel.root.0 frames slots stacks t }
-        ensures size { self.new.size ≡ self.old.size }
+        ensures size { self.new.kernel.seat.size ≡ self.old.kernel.seat.size }
         ensures free { self.new.frames.free ≡ self.old.frames.free }
         ensures slots { self.new.slots ≡ self.old.slots }
         ensures harts { self.new.harts ≡ self.old.harts }

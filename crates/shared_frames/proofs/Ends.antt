@@ -18,22 +18,22 @@ use Rattle.shared_frames.proofs.Changes.{not_held_agrees}
 use Rattle.shared_frames.proofs.Within.{not_held_fits}
 
 -- ---- the first seat
-first_here : hold_of opening_view 0 ≡ sole_hold
-first_here = hold_of-with_hold_same 0 sole_hold empty_view
+first_here : (size : ℕ) → hold_of (opening_view size) 0 ≡ sole_hold
+first_here size = hold_of-with_hold_same 0 sole_hold (empty_view size)
 
-first_apart : (f : ℕ) → f ≢ 0 → hold_of opening_view f ≡ not_held
-first_apart f ne = hold_of-with_hold_other 0 sole_hold empty_view f ne ∙ hold_of-empty f
+first_apart : (size f : ℕ) → f ≢ 0 → hold_of (opening_view size) f ≡ not_held
+first_apart size f ne = hold_of-with_hold_other 0 sole_hold (empty_view size) f ne ∙ hold_of-empty size f
 
-first_held : (f : ℕ) → IsHeld opening_view f → f ≡ 0
-first_held f h = elim (eqb_tells f 0) as (λ _. f ≡ 0) [ inl e ↦ e.1 | inr e ↦ absurd (let o = ap (λ (z : Hold). z.references) (first_apart f e.1) in omega (arith, o, h)) ]
+first_held : (size f : ℕ) → IsHeld (opening_view size) f → f ≡ 0
+first_held size f h = elim (eqb_tells f 0) as (λ _. f ≡ 0) [ inl e ↦ e.1 | inr e ↦ absurd (let o = ap (λ (z : Hold). z.references) (first_apart size f e.1) in omega (arith, o, h)) ]
 
-base_held : IsHeld opening_view 0
-base_held = subst (λ (z : Hold). 0 < z.references) (sym first_here) (lit< tt)
+base_held : (size : ℕ) → IsHeld (opening_view size) 0
+base_held size = subst (λ (z : Hold). 0 < z.references) (sym (first_here size)) (lit< tt)
 
-pub within-opening : (words : ℕ) → 513 < words → IsWithin words opening_view
-within-opening words l f = elim (eqb_tells f 0) as (λ _. FrameFits words f (hold_of opening_view f)) [
-  | inl e ↦ subst (λ m. FrameFits words m (hold_of opening_view m)) (sym e.1) (subst (FrameFits words 0) (sym first_here) ((λ _. l), (λ _. lit< tt)))
-  | inr e ↦ subst (FrameFits words f) (sym (first_apart f e.1)) (not_held_fits words f)
+pub within-opening : (words size : ℕ) → 513 < words → IsWithin words (opening_view size)
+within-opening words size l f = elim (eqb_tells f 0) as (λ _. FrameFits words f (hold_of (opening_view size) f)) [
+  | inl e ↦ subst (λ m. FrameFits words m (hold_of (opening_view size) m)) (sym e.1) (subst (FrameFits words 0) (sym (first_here size)) ((λ _. l), (λ _. lit< tt)))
+  | inr e ↦ subst (FrameFits words f) (sym (first_apart size f e.1)) (not_held_fits words f)
 ]
 
 sole_agrees : (words : List ℕ) (f : ℕ) → FrameAgrees words f 1 sole_hold
@@ -59,44 +59,44 @@ module _ (n : ℕ) (some_frame : 1 ≤ n) (few : n ≤ 256) where
   at_more i more l = get_or-set_other (set (replicate (513 * n + 1) 0) 0 (n - 1)) 1 i 1 0 (λ e. omega arith)
       ∙ (get_or-set_other (replicate (513 * n + 1) 0) 0 i (n - 1) 0 (λ e. omega arith) ∙ get_or-replicate (513 * n + 1) i 0 0 l)
 
-  count : (f : ℕ) → f < n → get_or (first_words n) (count_at f) 0 ≡ references opening_view f
-  count f l = elim (eqb_tells f 0) as (λ _. get_or (first_words n) (count_at f) 0 ≡ references opening_view f) [
-    | inl e ↦ subst (λ m. get_or (first_words n) (count_at m) 0 ≡ references opening_view m) (sym e.1) (at_one ∙ sym (ap (λ (z : Hold). z.references) first_here))
-    | inr e ↦ let ne : f ≢ 0 = e.1 in at_more (count_at f) (omega (arith, ne)) (omega (arith, l)) ∙ sym (ap (λ (z : Hold). z.references) (first_apart f e.1))
+  count : (f : ℕ) → f < n → get_or (first_words n) (count_at f) 0 ≡ references (opening_view n) f
+  count f l = elim (eqb_tells f 0) as (λ _. get_or (first_words n) (count_at f) 0 ≡ references (opening_view n) f) [
+    | inl e ↦ subst (λ m. get_or (first_words n) (count_at m) 0 ≡ references (opening_view n) m) (sym e.1) (at_one ∙ sym (ap (λ (z : Hold). z.references) (first_here n)))
+    | inr e ↦ let ne : f ≢ 0 = e.1 in at_more (count_at f) (omega (arith, ne)) (omega (arith, l)) ∙ sym (ap (λ (z : Hold). z.references) (first_apart n f e.1))
   ]
 
   free : (m : ℕ) → m < n → zero_counts (first_words n) (suc m) ≡ m
   free zero l = let b = ap one_at_zero at_one in omega (arith, b)
   free (suc m) l = let r = free m (omega arith) in let b = ap one_at_zero (at_more (count_at (suc m)) (omega arith) (omega arith)) in omega (arith, r, b)
 
-  small : (f : ℕ) → references opening_view f ≤ 1
-  small f = elim (eqb_tells f 0) as (λ _. references opening_view f ≤ 1) [
-    | inl e ↦ subst (λ m. references opening_view m ≤ 1) (sym e.1) (let o = ap (λ (z : Hold). z.references) first_here in omega (arith, o))
-    | inr e ↦ let o = ap (λ (z : Hold). z.references) (first_apart f e.1) in omega (arith, o)
+  small : (f : ℕ) → references (opening_view n) f ≤ 1
+  small f = elim (eqb_tells f 0) as (λ _. references (opening_view n) f ≤ 1) [
+    | inl e ↦ subst (λ m. references (opening_view n) m ≤ 1) (sym e.1) (let o = ap (λ (z : Hold). z.references) (first_here n) in omega (arith, o))
+    | inr e ↦ let o = ap (λ (z : Hold). z.references) (first_apart n f e.1) in omega (arith, o)
   ]
 
-  lone : (P : View → Type 0) → P opening_view → (id : ℕ) (v : View) → get_elem? (opening_view ∷ []) id ≡ some v → P v
-  lone P p zero v e = subst P (some-injective opening_view v e) p
+  lone : (P : View → Type 0) → P (opening_view n) → (id : ℕ) (v : View) → get_elem? (opening_view n ∷ []) id ≡ some v → P v
+  lone P p zero v e = subst P (some-injective (opening_view n) v e) p
   lone P p (suc id) v e = absurd (some-ne-none v (sym e))
 
-  agreed : (f : ℕ) → FrameAgrees (first_words n) f (all_references f (opening_view ∷ [])) (hold_of opening_view f)
-  agreed f = elim (eqb_tells f 0) as (λ _. FrameAgrees (first_words n) f (all_references f (opening_view ∷ [])) (hold_of opening_view f)) [
-    | inl e ↦ subst (λ m. FrameAgrees (first_words n) m (all_references m (opening_view ∷ [])) (hold_of opening_view m)) (sym e.1)
-        (subst (λ (h : Hold). FrameAgrees (first_words n) 0 (h.references + 0) h) (sym first_here) (sole_agrees (first_words n) 0))
-    | inr e ↦ subst (FrameAgrees (first_words n) f (all_references f (opening_view ∷ []))) (sym (first_apart f e.1)) (not_held_agrees (first_words n) f _)
+  agreed : (f : ℕ) → FrameAgrees (first_words n) f (all_references f (opening_view n ∷ [])) (hold_of (opening_view n) f)
+  agreed f = elim (eqb_tells f 0) as (λ _. FrameAgrees (first_words n) f (all_references f (opening_view n ∷ [])) (hold_of (opening_view n) f)) [
+    | inl e ↦ subst (λ m. FrameAgrees (first_words n) m (all_references m (opening_view n ∷ [])) (hold_of (opening_view n) m)) (sym e.1)
+        (subst (λ (h : Hold). FrameAgrees (first_words n) 0 (h.references + 0) h) (sym (first_here n)) (sole_agrees (first_words n) 0))
+    | inr e ↦ subst (FrameAgrees (first_words n) f (all_references f (opening_view n ∷ []))) (sym (first_apart n f e.1)) (not_held_agrees (first_words n) f _)
   ]
 
   -- the rule holds at the start
-  pub begins : IsKept n (first_words n) (opening_view ∷ [])
+  pub begins : IsKept n (first_words n) (opening_view n ∷ [])
   begins = record {
     narrow = few;
     wide = wide;
     counted = λ f l. let c = count f l in omega (arith, c);
     few = λ f l. let s = small f in omega (arith, s);
     balanced = let z = at_zero in let b = free (n - 1) (omega arith) in let s : suc (n - 1) ≡ n = omega arith in let c = ap (zero_counts (first_words n)) s in omega (arith, z, b, c);
-    agrees = lone (ViewAgrees n (first_words n) (λ f. all_references f (opening_view ∷ []))) record {
-      within = λ f h. let z = first_held f h in omega (arith, z);
-      anchored = λ f h. base_held;
+    agrees = lone (ViewAgrees n (first_words n) (λ f. all_references f (opening_view n ∷ []))) record {
+      within = λ f h. let z = first_held n f h in omega (arith, z);
+      anchored = λ f h. base_held n;
       frames = agreed;
     };
   }

@@ -318,7 +318,7 @@ module _ (n slots id : ℕ) (me : M) where
     keeps,
     tt,
     kept_count n s r id me.0 at f x _ (looked f x me.0) (look_counts n s r id me.0 at f held),
-    ((held_count n s r id me.0 at f held).1, λ g e. ap (λ (m : ℕ). (looked m x me.0, me.1)) (same_frame f g e)),
+    ((held_count n s r id me.0 at f held).1, (λ g e. ap (λ (m : ℕ). (looked m x me.0, me.1)) (same_frame f g e)), let b = held_count n s r id me.0 at f held in omega (arith, b.0, held)),
   )
 
   pub releases : (f : ℕ) → IsHeld me.0 f → IsAnchored (released f me.0) → Allows (Kept n) slots id me (count_at f) (λ x. (x + (2 ^ 64 - 1)) % 2 ^ 64) (Releases (step slots (count_at f) 1 0 none) me)

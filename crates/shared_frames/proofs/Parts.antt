@@ -68,11 +68,11 @@ module _ (words : List ℕ) (all : ℕ → ℕ) (v : View) (most : (g : ℕ) →
   parts_split [] a b can p = p
   parts_split (f ∷ fs) a b can p = parts_split fs (moved_from f a) (moved_to f (hold_of a f) b) can.1 (parts_move f a b can.0 p)
 
-empty_agrees : (words : List ℕ) (g all : ℕ) → FrameAgrees words g all (hold_of empty_view g)
-empty_agrees words g all = subst (FrameAgrees words g all) (sym (hold_of-empty g)) (not_held_agrees words g all)
+empty_agrees : (words : List ℕ) (size g all : ℕ) → FrameAgrees words g all (hold_of (empty_view size) g)
+empty_agrees words size g all = subst (FrameAgrees words g all) (sym (hold_of-empty size g)) (not_held_agrees words g all)
 
-empty-references : (g : ℕ) → references empty_view g ≡ 0
-empty-references g = ap (λ (z : Hold). z.references) (hold_of-empty g)
+empty-references : (size g : ℕ) → references (empty_view size) g ≡ 0
+empty-references size g = ap (λ (z : Hold). z.references) (hold_of-empty size g)
 
 each_snoc : (P : View → Type 0) (views : List View) (w : View) → P w → ((j : ℕ) (u : View) → get_elem? views j ≡ some u → P u)
     → (j : ℕ) (u : View) → get_elem? (views ++ w ∷ []) j ≡ some u → P u
@@ -106,17 +106,17 @@ kept_split n words views id v a b k at p left right = record {
     same : (g : ℕ) → all_references g after ≡ all_references g views
     same g = let t = total-snoc (λ u. references u g) (set views id a) b in let s = total-set (λ u. references u g) views id v a at in let c = p.counts g in omega (arith, t, s, c)
 
-pub splits : (n id : ℕ) (fs : List ℕ) (v : View) → CanSplit fs v → IsAnchored (split_off fs v empty_view).0 → IsAnchored (split_off fs v empty_view).1
-    → Splits (Kept n) id v (split_off fs v empty_view).0 (split_off fs v empty_view).1
+pub splits : (n id : ℕ) (fs : List ℕ) (v : View) → CanSplit fs v → IsAnchored (split_off fs v (empty_view v.size)).0 → IsAnchored (split_off fs v (empty_view v.size)).1
+    → Splits (Kept n) id v (split_off fs v (empty_view v.size)).0 (split_off fs v (empty_view v.size)).1
 splits n id fs v can left right s r at =
     let all : ℕ → ℕ = λ f. all_references f s.views in
-    let whole : AreParts s.words all v v empty_view = record {
-      counts = λ g. let e = empty-references g in omega (arith, e);
+    let whole : AreParts s.words all v v (empty_view v.size) = record {
+      counts = λ g. let e = empty-references v.size g in omega (arith, e);
       credited = omega arith;
       left = (r.agrees id v at).frames;
-      right = λ g. empty_agrees s.words g (all g);
+      right = λ g. empty_agrees s.words v.size g (all g);
     } in
-    kept_split n s.words s.views id v _ _ r at (parts_split s.words all v (λ g. total-one (λ u. references u g) s.views id v at) fs v empty_view can whole) left right
+    kept_split n s.words s.views id v _ _ r at (parts_split s.words all v (λ g. total-one (λ u. references u g) s.views id v at) fs v (empty_view v.size) can whole) left right
 
 -- ---- two views become one
 either_known : (words : List ℕ) (f all : ℕ) (h k : Hold) → FrameAgrees words f all h → FrameAgrees words f all k → (i w : ℕ) (a : Option ℕ) → map.get h.words i ≡ a → either a (map.get k.words i) ≡ Some w → (i < 512) × (slice_index words (memory_at f i) ≡ w)
@@ -162,33 +162,33 @@ one_has : (a b : ℕ) → 0 < a + b → (0 < a) ⊎ (0 < b)
 one_has zero b h = inr (omega arith)
 one_has (suc a) b h = inl (omega arith)
 
-pub joins : (n id other : ℕ) (v w : View) → Joins (Kept n) id v other w (joined v w) empty_view
+pub joins : (n id other : ℕ) (v w : View) → Joins (Kept n) id v other w (joined v w) (empty_view 0)
 joins n id other v w s k at ne there = record {
   narrow = k.narrow;
   wide = k.wide;
   counted = λ g l. k.counted g l ∙ sym (same g);
   few = λ g l. let t = same g in let q = k.few g l in omega (arith, t, q);
-  balanced = let t = total-set (λ u. u.credits) (set s.views id (joined v w)) other w empty_view there in let q = total-set (λ u. u.credits) s.views id v (joined v w) at in omega (arith, t, q, k.balanced);
-  agrees = each_set (ViewAgrees n s.words (λ g. all_references g after)) (set s.views id (joined v w)) other empty_view
+  balanced = let t = total-set (λ u. u.credits) (set s.views id (joined v w)) other w (empty_view 0) there in let q = total-set (λ u. u.credits) s.views id v (joined v w) at in omega (arith, t, q, k.balanced);
+  agrees = each_set (ViewAgrees n s.words (λ g. all_references g after)) (set s.views id (joined v w)) other (empty_view 0)
       record {
-        within = λ g q. absurd (let e = empty-references g in omega (arith, e, q));
-        anchored = λ g q. absurd (let e = empty-references g in omega (arith, e, q));
-        frames = λ g. empty_agrees s.words g (all_references g after);
+        within = λ g q. absurd (let e = empty-references 0 g in omega (arith, e, q));
+        anchored = λ g q. absurd (let e = empty-references 0 g in omega (arith, e, q));
+        frames = λ g. empty_agrees s.words 0 g (all_references g after);
       }
       (λ j u _ e. each_set (ViewAgrees n s.words (λ g. all_references g after)) s.views id (joined v w) (same_sums n s.words _ _ (joined v w) same both) (λ j' u' _ e'. same_sums n s.words _ _ u' same (k.agrees j' u' e')) j u e);
 }
   where
     after : List View
-    after = set (set s.views id (joined v w)) other empty_view
+    after = set (set s.views id (joined v w)) other (empty_view 0)
 
     was : get_elem? s.views other ≡ some w
     was = sym (set_else s.views id other (joined v w) ne) ∙ there
 
     same : (g : ℕ) → all_references g after ≡ all_references g s.views
     same g =
-        let t = total-set (λ u. references u g) (set s.views id (joined v w)) other w empty_view there in
+        let t = total-set (λ u. references u g) (set s.views id (joined v w)) other w (empty_view 0) there in
         let q = total-set (λ u. references u g) s.views id v (joined v w) at in
-        let e = empty-references g in let c = joined-references v w g in omega (arith, t, q, e, c)
+        let e = empty-references 0 g in let c = joined-references v w g in omega (arith, t, q, e, c)
 
     both : ViewAgrees n s.words (λ g. all_references g s.views) (joined v w)
     both = let a = k.agrees id v at in let b = k.agrees other w was in record {
@@ -213,8 +213,8 @@ within-split words (f ∷ fs) a b can p q = let place = (p f).0 can.0 in within-
     p)
     (within_puts words f (goes f a b) b _ (moved_to-puts f a b) ((λ _. place), (λ _. omega arith)) q)
 
-pub within-empty : (words : ℕ) → IsWithin words empty_view
-within-empty words f = subst (FrameFits words f) (sym (hold_of-empty f)) (not_held_fits words f)
+pub within-empty : (words size : ℕ) → IsWithin words (empty_view size)
+within-empty words size f = subst (FrameFits words f) (sym (hold_of-empty size f)) (not_held_fits words f)
 
 added_fits : (words f : ℕ) (h k : Hold) → FrameFits words f h → FrameFits words f k → FrameFits words f (added h k)
 added_fits words f h k p q =

@@ -3,10 +3,10 @@ use Rattle.std.proofs.Common.{◌≡◌, ◌≢◌, inl, inr, ℕ, ◌+◌, ◌-
 use Rattle.std.proofs.lemmas.Bool.Decides.{eqb_tells}
 use Rattle.std.proofs.lemmas.Bool.{ne_eqb, eq-eqb}
 use Rattle.atomic_table.specs.Table.{Me}
-use Rattle.frame_store.specs.View.{View, Hold, hold_of, not_held, with_hold, without_hold, references, IsHeld, sole_hold, with_word, without_credits, claimed, shared, looked, released}
+use Rattle.frame_store.specs.View.{View, Hold, hold_of, not_held, with_hold, without_hold, references, IsHeld, sole_hold, with_credits, with_word, without_credits, claimed, read_full, saw_none, shared, looked, released}
 use Rattle.frame_store.specs.Holds.{hold_of-frames}
-use Rattle.shared_frames.specs.Fits.{FrameFits, IsWithin}
-use Rattle.shared_frames.specs.Telling.{let_go, unshared}
+use Rattle.shared_frames.specs.Fits.{FrameFits, IsOfSize, IsSized, IsWithin}
+use Rattle.shared_frames.specs.Telling.{let_go, saw_free, unshared}
 use Rattle.frame_store.specs.Puts.{Puts, puts, left_of, released-puts}
 use Rattle.shared_frames.proofs.Moves.{unshared-frames}
 
@@ -70,5 +70,24 @@ pub let_go-less : (f c : ℕ) (v : View) → c ≢ 1 → let_go f c v ≡ releas
 let_go-less f c v ne = let a = ap (λ (t : Bool). cond {A = ℕ} t 1 0) (ne_eqb c 1 ne) in with_same f _ v (omega (arith, a))
 
 -- what holds of the view that a seat was told holds of the seat
-pub told : (words : ℕ) (me : Me (Unit {0}) View) (v : View) (c : List (ℕ × Unit {0})) → me ≡ (v, c) → IsWithin words v → IsWithin words me.0
-told words me v c e was = subst (IsWithin words) (sym (ap (λ (m : Me (Unit {0}) View). m.0) e)) was
+pub told : (words : ℕ) (me : Me (Unit {0}) View) (u v : View) (c : List (ℕ × Unit {0})) → me ≡ (v, c) → IsWithin words v → v.size ≡ u.size → IsOfSize words u → IsWithin words me.0 × IsOfSize words me.0
+told words me u v c e was same sized =
+    let is : me.0 ≡ v = ap (λ (m : Me (Unit {0}) View). m.0) e in
+    (subst (IsWithin words) (sym is) was, subst (λ (n : ℕ). IsSized words n) (sym same ∙ sym (ap (λ (x : View). x.size) is)) sized)
+
+-- no step changes how many frames a seat knows of
+
+pub size-saw_free : (found : ℕ) (v : View) → (saw_free found v).size ≡ v.size
+size-saw_free found v = elim (found == 0) as (λ b. (cond b (saw_none v.credits v) v).size ≡ v.size) [ true ↦ refl | false ↦ refl ]
+
+pub size-reserved : (old new found : ℕ) (v : View) → (cond (found == old) (with_credits (old - new) v) v).size ≡ v.size
+size-reserved old new found v = elim (found == old) as (λ b. (cond b (with_credits (old - new) v) v).size ≡ v.size) [ true ↦ refl | false ↦ refl ]
+
+pub size-tried : (f found : ℕ) (v : View) → (cond (found == 0) (claimed f v) v).size ≡ v.size
+size-tried f found v = elim (found == 0) as (λ b. (cond b (claimed f v) v).size ≡ v.size) [ true ↦ refl | false ↦ refl ]
+
+pub size-exchanged : (f old found : ℕ) (v : View) → (cond (found == old) (shared f v) (unshared found v)).size ≡ v.size
+size-exchanged f old found v = elim (found == old) as (λ b. (cond b (shared f v) (unshared found v)).size ≡ v.size) [
+  | true ↦ refl
+  | false ↦ elim (found == 65535) as (λ b. (cond b (read_full v) v).size ≡ v.size) [ true ↦ refl | false ↦ refl ]
+]

@@ -25,7 +25,7 @@ abbrev pub GivesBack : Tells
 GivesBack st m found w = w ≡ (without_credits st.first m.0, m.1)
 
 abbrev pub Looks : Tells
-Looks st m found w = (found ≤ 65535) × ((f : ℕ) → st.word ≡ count_at f → w ≡ (looked f found m.0, m.1))
+Looks st m found w = (found ≤ 65535) × ((f : ℕ) → st.word ≡ count_at f → w ≡ (looked f found m.0, m.1)) × (0 < found)
 
 abbrev pub Releases : Tells
 Releases st m found w = (f : ℕ) → st.word ≡ count_at f → w ≡ (let_go f found m.0, m.1)

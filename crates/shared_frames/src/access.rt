@@ -37,7 +37,7 @@ impl<'a> SharedAccess<'a> {
 impl<'a> FrameAccess for SharedAccess<'a> {
     type Seat = SharedSeat;
 
-    ghost use Rattle.shared_frames.specs.Fits.{AllFit, to_front, to_back};
+    ghost use Rattle.shared_frames.specs.Fits.{AllFit, held_within, to_front, to_back};
 
     ghost rule = { AllFit };
 
@@ -50,6 +50,8 @@ impl<'a> FrameAccess for SharedAccess<'a> {
     ghost comes_front = { to_front };
 
     ghost goes_back = { to_back };
+
+    ghost within = { held_within };
 
     fn load(&mut self, seat: &mut SharedSeat, frame: FrameNo, index: usize) -> u64 {
         steps::load_word(self.table, seat, frame, index)

@@ -27,9 +27,9 @@ struct Cut<G> {
 impl<G: Going> Split<Knowledge> for Cut<G> {
     ghost use Rattle.frame_store.specs.View.{empty_view, split_off};
 
-    ghost left = { λ v. (split_off G.frames v empty_view).0 };
+    ghost left = { λ v. (split_off G.frames v (empty_view v.size)).0 };
 
-    ghost right = { λ v. (split_off G.frames v empty_view).1 };
+    ghost right = { λ v. (split_off G.frames v (empty_view v.size)).1 };
 }
 
 struct Both;
@@ -39,7 +39,7 @@ impl Join<Knowledge> for Both {
 
     ghost both = { joined };
 
-    ghost spent = { empty_view };
+    ghost spent = { empty_view 0 };
 }
 
 fn split_as<G: Going>(table: &Words, seat: &mut SharedSeat, frames: &[FrameNo]) -> SharedSeat
@@ -47,11 +47,11 @@ fn split_as<G: Going>(table: &Words, seat: &mut SharedSeat, frames: &[FrameNo]) 
     requires sized { IsSized table.now.table_id.words table.now.key }
     requires fits { FitsIn table.now.table_id seat.old }
     requires held { CanSplit (map (λ f. f.0) frames.now) (view_of seat.old) }
-    requires left_anchored { IsAnchored (split_off (map (λ f. f.0) frames.now) (view_of seat.old) empty_view).0 }
-    requires right_anchored { IsAnchored (split_off (map (λ f. f.0) frames.now) (view_of seat.old) empty_view).1 }
+    requires left_anchored { IsAnchored (split_off (map (λ f. f.0) frames.now) (view_of seat.old) (empty_view (view_of seat.old).size)).0 }
+    requires right_anchored { IsAnchored (split_off (map (λ f. f.0) frames.now) (view_of seat.old) (empty_view (view_of seat.old).size)).1 }
     ensures fits { FitsIn table.now.table_id seat.new × FitsIn table.now.table_id result }
-    ensures left { view_of seat.new ≡ (split_off (map (λ f. f.0) frames.now) (view_of seat.old) empty_view).0 }
-    ensures right { view_of result ≡ (split_off (map (λ f. f.0) frames.now) (view_of seat.old) empty_view).1 }
+    ensures left { view_of seat.new ≡ (split_off (map (λ f. f.0) frames.now) (view_of seat.old) (empty_view (view_of seat.old).size)).0 }
+    ensures right { view_of result ≡ (split_off (map (λ f. f.0) frames.now) (view_of seat.old) (empty_view (view_of seat.old).size)).1 }
 {
     let _ = frames;
     SharedSeat {
@@ -64,11 +64,11 @@ pub fn split(table: &Words, seat: &mut SharedSeat, frames: &[FrameNo]) -> Shared
     requires sized { IsSized table.now.table_id.words table.now.key }
     requires fits { FitsIn table.now.table_id seat.old }
     requires held { CanSplit (map (λ f. f.0) frames.now) (view_of seat.old) }
-    requires left_anchored { IsAnchored (split_off (map (λ f. f.0) frames.now) (view_of seat.old) empty_view).0 }
-    requires right_anchored { IsAnchored (split_off (map (λ f. f.0) frames.now) (view_of seat.old) empty_view).1 }
+    requires left_anchored { IsAnchored (split_off (map (λ f. f.0) frames.now) (view_of seat.old) (empty_view (view_of seat.old).size)).0 }
+    requires right_anchored { IsAnchored (split_off (map (λ f. f.0) frames.now) (view_of seat.old) (empty_view (view_of seat.old).size)).1 }
     ensures fits { FitsIn table.now.table_id seat.new × FitsIn table.now.table_id result }
-    ensures left { view_of seat.new ≡ (split_off (map (λ f. f.0) frames.now) (view_of seat.old) empty_view).0 }
-    ensures right { view_of result ≡ (split_off (map (λ f. f.0) frames.now) (view_of seat.old) empty_view).1 }
+    ensures left { view_of seat.new ≡ (split_off (map (λ f. f.0) frames.now) (view_of seat.old) (empty_view (view_of seat.old).size)).0 }
+    ensures right { view_of result ≡ (split_off (map (λ f. f.0) frames.now) (view_of seat.old) (empty_view (view_of seat.old).size)).1 }
 {
     split_as::<Brand>(table, seat, frames)
 }

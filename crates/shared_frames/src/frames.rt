@@ -47,7 +47,7 @@ impl SharedFrames {
         requires few { frames ≤ 256 }
         ensures frames { IfOk result (λ r. r.0.frames ≡ frames) }
         ensures fits { IfOk result (λ r. FitsIn r.0.table r.1) }
-        ensures view { IfOk result (λ r. view_of r.1 ≡ opening_view) }
+        ensures view { IfOk result (λ r. view_of r.1 ≡ opening_view frames) }
     {
         let words = words_of(alloc, frames)?;
         let (table, seat) = Table::of_words(alloc, &words, &frames)?;

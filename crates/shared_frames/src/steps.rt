@@ -85,6 +85,7 @@ pub fn look(table: &Words, seat: &mut SharedSeat, frame: FrameNo) -> u64
     requires held { IsHeld (view_of seat.old) frame.0 }
     ensures fits { FitsIn table.now.table_id seat.new }
     ensures view { view_of seat.new ≡ looked frame.0 result (view_of seat.old) }
+    ensures some { 0 < result }
     ensures few { result ≤ 65535 }
 {
     table.load::<Look>(&mut seat.seat, FRAME_WORDS * frame.0 as usize + 1)

@@ -42,7 +42,7 @@ impl<'a, R: Wait> SharedSupply<'a, R> {
 impl<'a, R: Wait> FrameAccess for SharedSupply<'a, R> {
     type Seat = SharedSeat;
 
-    ghost use Rattle.shared_frames.specs.Fits.{AllFit, to_front, to_back};
+    ghost use Rattle.shared_frames.specs.Fits.{AllFit, held_within, to_front, to_back};
 
     ghost rule = { AllFit };
 
@@ -55,6 +55,8 @@ impl<'a, R: Wait> FrameAccess for SharedSupply<'a, R> {
     ghost comes_front = { to_front };
 
     ghost goes_back = { to_back };
+
+    ghost within = { held_within };
 
     fn load(&mut self, seat: &mut SharedSeat, frame: FrameNo, index: usize) -> u64 {
         steps::load_word(self.table, seat, frame, index)

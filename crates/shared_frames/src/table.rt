@@ -12,7 +12,7 @@ impl TableRule<(), Knowledge, usize> for FramesRule {
 
     ghost holds = { Kept };
 
-    ghost first = { λ _. opening_view };
+    ghost first = { λ n. opening_view n };
 }
 
 pub type Words = Shared<(), Knowledge, usize, FramesRule>;

@@ -6,27 +6,27 @@ use Rattle.frame_store.specs.View.{View, IsHeld, joined, known_word, opening_vie
 use Rattle.frame_store.specs.Laws.{Fits, Keeps}
 use Rattle.frame_store.specs.Seats.{ComesFront, GoesBack}
 use Rattle.frame_clients.specs.Filled.{filled, filled_holds, known_word-filled}
-use Rattle.frame_clients.specs.Opened.{opener, opened}
+use Rattle.frame_store.specs.Opened.{opener, opened}
 use Rattle.frame_clients.specs.Places.{view_at}
 use Rattle.frame_store.specs.Joined.{joined_second, joined_knows}
 
 -- the places of the first test
-module _ (made two full : List (Option View)) (f : ℕ) (words : List ℕ)
-    (making : made ≡ Some opening_view ∷ replicate 2 None)
+module _ {size : ℕ} (made two full : List (Option View)) (f : ℕ) (words : List ℕ)
+    (making : made ≡ Some (opening_view size) ∷ replicate 2 None)
     (opening : two ≡ slice_set (slice_set made 0 (Some (opener (view_at made 0)))) 2 (Some (opened (view_at made 0))))
     (filling : full ≡ slice_set two 2 (Some (filled f words (view_at two 2)))) where
-  seated : two ≡ Some (opener opening_view) ∷ None ∷ Some (opened opening_view) ∷ []
+  seated : two ≡ Some (opener (opening_view size)) ∷ None ∷ Some (opened (opening_view size)) ∷ []
   seated = opening ∙ ap (λ ps. slice_set (slice_set ps 0 (Some (opener (view_at ps 0)))) 2 (Some (opened (view_at ps 0)))) making
 
-  after : full ≡ Some (opener opening_view) ∷ None ∷ Some (filled f words (opened opening_view)) ∷ []
+  after : full ≡ Some (opener (opening_view size)) ∷ None ∷ Some (filled f words (opened (opening_view size))) ∷ []
   after = filling ∙ ap (λ ps. slice_set ps 2 (Some (filled f words (view_at ps 2)))) seated
 
   -- through the place that was filled
   pub held_there : IsHeld (view_at full 2) f
-  held_there = subst (λ ps. IsHeld (view_at ps 2) f) (sym after) (filled_holds f words (opened opening_view))
+  held_there = subst (λ ps. IsHeld (view_at ps 2) f) (sym after) (filled_holds f words (opened (opening_view size)))
 
   pub known_there : (i : ℕ) → known_word (view_at full 2) f i ≡ slice_get words i
-  known_there i = ap (λ ps. known_word (view_at ps 2) f i) after ∙ known_word-filled f words (opened opening_view) i
+  known_there i = ap (λ ps. known_word (view_at ps 2) f i) after ∙ known_word-filled f words (opened (opening_view size)) i
 
   -- the word that was read there
   pub read_there : (i w : ℕ) → known_word (view_at full 2) f i ≡ Some w → slice_get words i ≡ Some w

@@ -9,7 +9,7 @@ use Rattle.tests_of_frames.specs.Owned.{Owns, OwnsBoth}
 use Rattle.frame_bytes.specs.Changed.{changed_held, changed_sole, bytes_apart}
 
 -- frame 0 is held once credits are reserved
-pub reserved_held : (n : ℕ) (v w : View) → v ≡ opening_view → w ≡ with_credits n v → IsHeld w 0
+pub reserved_held : {size : ℕ} (n : ℕ) (v w : View) → v ≡ opening_view size → w ≡ with_credits n v → IsHeld w 0
 reserved_held n v w opening e =
     subst (λ (h : Hold). 0 < h.references) (sym (ap (λ u. hold_of u 0) e ∙ hold_of-frames (with_credits n v) v refl 0)) (opening_holds v opening)
 

@@ -129,18 +129,18 @@ releases_second f g a b v w r e = other_way g f (b - 1) a w (releases_first g f 
 pub share-two : (v w : View) → IsHeld v 0 → w ≡ shared 0 v → 1 < references w 0
 share-two v w h e = let k = here 0 _ v w (shared-is 0 v w e) in omega (arith, k, h)
 
-pub left-base : (v w : View) → 1 < references v 0 → w ≡ (split_off (0 ∷ []) v empty_view).0 → IsHeld w 0
+pub left-base : (v w : View) → 1 < references v 0 → w ≡ (split_off (0 ∷ []) v (empty_view v.size)).0 → IsHeld w 0
 left-base v w more e = subst (λ u. IsHeld u 0) (sym e) (let k = ap (λ (z : Hold). z.references) (moved_from-puts 0 v).here in
-    elim (eqb_tells (references v 0) 1) as (λ _. (references (split_off (0 ∷ []) v empty_view).0 0 ≡ (stays 0 v).references) → IsHeld (split_off (0 ∷ []) v empty_view).0 0) [
+    elim (eqb_tells (references v 0) 1) as (λ _. (references (split_off (0 ∷ []) v (empty_view v.size)).0 0 ≡ (stays 0 v).references) → IsHeld (split_off (0 ∷ []) v (empty_view v.size)).0 0) [
       | inl t ↦ λ _. absurd (omega (arith, more, t.1))
       | inr t ↦ λ k. let s : (stays 0 v).references ≡ references v 0 - 1 = rw t.0 refl in omega (arith, k, s, more)
     ] k)
 
-pub right-base : (v w : View) → w ≡ (split_off (0 ∷ []) v empty_view).1 → IsHeld w 0
-right-base v w e = subst (λ u. IsHeld u 0) (sym e) (let k = ap (λ (z : Hold). z.references) (moved_to-puts 0 v empty_view).here in omega (arith, k))
+pub right-base : (v w : View) → w ≡ (split_off (0 ∷ []) v (empty_view v.size)).1 → IsHeld w 0
+right-base v w e = subst (λ u. IsHeld u 0) (sym e) (let k = ap (λ (z : Hold). z.references) (moved_to-puts 0 v (empty_view v.size)).here in omega (arith, k))
 
-pub empty-anchored : IsAnchored empty_view
-empty-anchored f h = absurd (let k = ap (λ (z : Hold). z.references) (hold_of-empty f) in omega (arith, k, h))
+pub empty-anchored : (size : ℕ) → IsAnchored (empty_view size)
+empty-anchored size f h = absurd (let k = ap (λ (z : Hold). z.references) (hold_of-empty size f) in omega (arith, k, h))
 
 -- where frame 0 is held beside the frame that is let go, the seat stays anchored
 pub release-anchored : (f : ℕ) (v : View) → 0 ≢ f → IsHeld v 0 → IsAnchored (released f v)

@@ -4,8 +4,10 @@ ghost use Rattle.std.specs.Prelude.{◌≡◌, ◌<◌, IfOk, slice_index};
 ghost use Rattle.frame_store.specs.Laws.{Fits, Keeps};
 ghost use Rattle.frame_store.specs.View.{IsHeld};
 
-use frame_clients::{Pool, filled_frame, opened_seat, read_word};
-use frame_store::{FrameAccess, FrameSeat, FrameSupply, NoFrame, PlainFrames, SharersFull};
+use frame_clients::{Pool, filled_frame, read_word};
+use frame_store::{
+    FrameAccess, FrameSeat, FrameSupply, NoFrame, PlainFrames, SharersFull, opened_seat,
+};
 use shared_frames::SharedFrames;
 use std::test::Fail;
 

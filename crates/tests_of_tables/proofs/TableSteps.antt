@@ -87,7 +87,7 @@ found_leaf t from o p is found =
 
 -- ---- frames are reserved at a new store
 
-pub reserved_held : (v w : View) (n : ℕ) → v ≡ opening_view → w ≡ with_credits n v → IsHeld w 0
+pub reserved_held : {size : ℕ} (v w : View) (n : ℕ) → v ≡ opening_view size → w ≡ with_credits n v → IsHeld w 0
 reserved_held v w n opened reserved = same_held v w 0 (ap (λ u. hold_of u 0) reserved ∙ hold_of-frames (with_credits n v) v refl 0) (opening_holds v opened)
 
 -- ---- a page is mapped below a new root, and unmapped

@@ -10,4 +10,7 @@ pub returns-clause-known : goal.returns-clause-known
 returns-clause-known c = λ w e. c.load.ensures.2.1 c.args.frame.0 c.args.index w refl e
 
 pub returns-clause-fits : goal.returns-clause-fits
-returns-clause-fits c = let e = c.load.ensures in (e.0 ∙ c.requires.fits.0, within.told c.args.table.now.table_id.words _ _ _ (e.2.0) (c.requires.fits.1))
+returns-clause-fits c =
+    let e = c.load.ensures in
+    let p = within.told c.args.table.now.table_id.words _ c.args.seat.now.seat.me.0 _ _ (e.2.0) (c.requires.fits.1) refl c.requires.fits.2 in
+    (e.0 ∙ c.requires.fits.0, p.0, p.1)

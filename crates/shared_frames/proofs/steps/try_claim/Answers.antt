@@ -13,7 +13,10 @@ pub returns-clause-fresh : goal.returns-clause-fresh
 returns-clause-fresh c = (c.compare_exchange.ensures.2 c.args.frame.0 refl).1
 
 pub returns-clause-fits : goal.returns-clause-fits
-returns-clause-fits c = let e = c.compare_exchange.ensures in (e.0 ∙ c.requires.fits.0, within.told c.args.table.now.table_id.words _ _ _ ((e.2 c.args.frame.0 refl).0) (within.within-tried c.args.table.now.table_id.words c.args.frame.0 c.args.seat.now.seat.me.0 c.requires.fits.1 (omega (arith, c.requires.sized.0, c.requires.inside)) c.compare_exchange.result))
+returns-clause-fits c =
+    let e = c.compare_exchange.ensures in
+    let p = within.told c.args.table.now.table_id.words _ c.args.seat.now.seat.me.0 _ _ ((e.2 c.args.frame.0 refl).0) (within.within-tried c.args.table.now.table_id.words c.args.frame.0 c.args.seat.now.seat.me.0 c.requires.fits.1 (omega (arith, c.requires.sized.0, c.requires.inside)) c.compare_exchange.result) (within.size-tried c.args.frame.0 c.compare_exchange.result c.args.seat.now.seat.me.0) c.requires.fits.2 in
+    (e.0 ∙ c.requires.fits.0, p.0, p.1)
 
 pub invariant_of-seat : goal.invariant_of-seat
 invariant_of-seat c = record { no_slot = ap (λ m. m.1) (c.compare_exchange.ensures.2 c.args.frame.0 refl).0 ∙ c.args.seat.now.no_slot }

@@ -10,4 +10,7 @@ pub returns-clause-view : goal.returns-clause-view
 returns-clause-view c = ap (λ m. m.0) (c.compare_exchange.ensures.2.1 c.args.frame.0 refl)
 
 pub returns-clause-fits : goal.returns-clause-fits
-returns-clause-fits c = let e = c.compare_exchange.ensures in (e.0 ∙ c.requires.fits.0, within.told c.args.table.now.table_id.words _ _ _ ((e.2.1 c.args.frame.0 refl)) (within.within-exchanged c.args.table.now.table_id.words c.args.frame.0 c.args.seat.now.seat.me.0 c.requires.fits.1 c.requires.held c.args.old c.compare_exchange.result))
+returns-clause-fits c =
+    let e = c.compare_exchange.ensures in
+    let p = within.told c.args.table.now.table_id.words _ c.args.seat.now.seat.me.0 _ _ ((e.2.1 c.args.frame.0 refl)) (within.within-exchanged c.args.table.now.table_id.words c.args.frame.0 c.args.seat.now.seat.me.0 c.requires.fits.1 c.requires.held c.args.old c.compare_exchange.result) (within.size-exchanged c.args.frame.0 c.args.old c.compare_exchange.result c.args.seat.now.seat.me.0) c.requires.fits.2 in
+    (e.0 ∙ c.requires.fits.0, p.0, p.1)

@@ -1,6 +1,6 @@
 use Rattle.std.proofs.Common.{sym, subst}
 use Rattle.frame_store.specs.View.{IsHeld}
-use Rattle.frame_clients.specs.Opened.{opened_held}
+use Rattle.frame_store.specs.Opened.{opened_held}
 use Rattle.frame_store.specs.Joined.{joined_first}
 use Rattle.tests_of_frames.proofs.ClientSteps.{second_fits, second_steps}
 use Rattle.tests_of_frames.proofs.clients.word_through_a_new_seat.Goals as goal

@@ -3,7 +3,7 @@ use Rattle.tests_of_frames.proofs.SeatSteps.{empty-anchored, turn}
 use Rattle.tests_of_frames.proofs.plain_frames.refuses_what_is_reserved.Goals as goal
 
 pub split-second-requires-clause-right_anchored : goal.split-second-requires-clause-right_anchored
-split-second-requires-clause-right_anchored g c = empty-anchored
+split-second-requires-clause-right_anchored g c = empty-anchored _
 
 pub reserve-requires-2 : goal.reserve-requires-2
 reserve-requires-2 g c =

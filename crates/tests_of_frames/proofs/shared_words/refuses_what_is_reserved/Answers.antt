@@ -11,7 +11,7 @@ pub split-second-requires-clause-left_anchored : goal.split-second-requires-clau
 split-second-requires-clause-left_anchored g c = λ _ _. opening_holds _ c.in_ok-frames.ensures.view
 
 pub split-second-requires-clause-right_anchored : goal.split-second-requires-clause-right_anchored
-split-second-requires-clause-right_anchored g c = empty-anchored
+split-second-requires-clause-right_anchored g c = empty-anchored _
 
 pub reserve-requires : goal.reserve-requires
 reserve-requires g c =

@@ -6,4 +6,4 @@ pub returns-clause-keeps : goal.returns-clause-keeps
 returns-clause-keeps c = λ others r.
     let before = rw (← c.self.view_is, ← c.seat.view_is) at r in
     let enough = rw (← c.seat.view_is) at c.requires.credits in
-    rw c.knowing-seat-inside.ensures (tallied _ _ _ _ _ _ _ refl (omega (arith, enough)) before)
+    rw c.knowing-seat-inside.ensures (tallied _ _ _ _ _ _ _ refl refl (omega (arith, enough)) before)

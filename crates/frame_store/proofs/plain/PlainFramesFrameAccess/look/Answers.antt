@@ -4,6 +4,15 @@ use Rattle.frame_store.specs.Plain.{Bank}
 use Rattle.frame_store.proofs.PlainSteps.{rule-look}
 use Rattle.frame_store.proofs.plain.PlainFramesFrameAccess.look.Goals as goal
 
+pub returns-clause-some : goal.returns-clause-some
+returns-clause-some c =
+    let here : c.index.result.now ≡ slice_index c.self.inside.counts.items c.args.frame.0 = grind (arith, common_steps, c.index.ensures) in
+    let same : slice_index c.self.inside.counts.items c.args.frame.0 ≡ slice_index c.args.self.now.counts c.args.frame.0 = ap (λ (b : Bank). slice_index b.counts c.args.frame.0) c.self.view_is in
+    let rule = c.requires.fits.1 in
+    let total = rule.counted c.args.frame.0 in
+    let held = c.requires.held in
+    omega (arith, here, same, total, held)
+
 pub returns-clause-keeps : goal.returns-clause-keeps
 returns-clause-keeps c = λ others r.
     let here : c.index.result.now ≡ slice_index c.self.inside.counts.items c.args.frame.0 = grind (arith, common_steps, c.index.ensures) in

@@ -7,10 +7,10 @@ pub returns-then-not-enough-clause-keeps : goal.returns-then-not-enough-clause-k
 returns-then-not-enough-clause-keeps c = λ others r.
     let before = rw (← c.seat.view_is) at r in
     let is : c.knowing-seat-inside.result.view ≡ saw_none (c.seat.inside.known.view.credits + c.self.inside.free) c.seat.inside.known.view = grind (arith, c.knowing-seat-inside.ensures) in
-    rw is (tallied _ _ _ _ _ _ _ refl refl before)
+    rw is (tallied _ _ _ _ _ _ _ refl refl refl before)
 
 pub returns-clause-keeps : goal.returns-clause-keeps
 returns-clause-keeps c = λ others r.
     let before = rw (← c.self.view_is, ← c.seat.view_is) at r in
     let is : c.knowing-seat-inside.result.view ≡ with_credits c.args.n c.seat.inside.known.view = grind (arith, c.knowing-seat-inside.ensures) in
-    rw is (tallied _ _ _ _ _ _ _ refl (omega arith) before)
+    rw is (tallied _ _ _ _ _ _ _ refl refl (omega arith) before)

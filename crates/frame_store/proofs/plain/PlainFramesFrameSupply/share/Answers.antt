@@ -8,7 +8,7 @@ pub returns-then-not-room-clause-keeps : goal.returns-then-not-room-clause-keeps
 returns-then-not-room-clause-keeps c = λ others r.
     let before = rw (← c.seat.view_is) at r in
     let is : c.knowing-seat-inside.result.view ≡ read_full c.seat.inside.known.view = grind (arith, c.knowing-seat-inside.ensures) in
-    rw is (tallied _ _ _ _ _ _ _ refl refl before)
+    rw is (tallied _ _ _ _ _ _ _ refl refl refl before)
 
 pub returns-clause-keeps : goal.returns-clause-keeps
 returns-clause-keeps c = λ others r.

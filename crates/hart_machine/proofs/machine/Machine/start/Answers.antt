@@ -8,7 +8,8 @@ use Rattle.hart_machine.specs.Worlds.{seats_of}
 use Rattle.hart_machine.specs.declared.machine.Machine.{Machine}
 use Rattle.hart_machine.specs.declared.tenant.Tenant.{Tenant}
 use Rattle.hart_machine.proofs.StartSlots.{free_within}
-use Rattle.hart_machine.proofs.StartedSeats.{dry_holds, open_code, open_kernel, opened_holds, second_fits, second_steps}
+use Rattle.address_space.specs.Trampolines.{dry_holds}
+use Rattle.hart_machine.proofs.StartedSeats.{open_code, open_kernel, opened_holds, second_fits, second_steps}
 use Rattle.hart_machine.proofs.StartedWorlds.{makes_refused, makes_started}
 use Rattle.hart_machine.proofs.machine.Machine.start.Goals as goal
 
@@ -48,7 +49,7 @@ returns-in-Ok-start-clause-made c w is =
     let ok = c.in-Ok-start in
     let others = seats_of m.slots.items in
     let y : Tenant = record { space = ok.space; pending = None } in
-    let n : Machine = record { size = o.new.self.size; frames = c.start.new.store; kernel = o.new.self.kernel; slots = with_item o.new.self.slots s (Some y); harts = o.new.self.harts } in
+    let n : Machine = record { frames = c.start.new.store; kernel = o.new.self.kernel; slots = with_item o.new.self.slots s (Some y); harts = o.new.self.harts } in
     makes_started w s c.args.image c.in-Ok.image (sym (c.free_slot.ensures w is) ∙ c.in-Some.is) (ap image_loads c.in-Segments.is ∙ sym c.from_segments.ensures ∙ c.in-Ok.is)
     m n is o.ensures.size o.ensures.harts (open_kernel m o.new.self o.ensures.opener w.frames (length w.slots) is.stacks is.kernel is.of_kernel)
     c.start_takes_its_need.ensures y ok.ensures.started.0 (rw o.ensures.slots refl)

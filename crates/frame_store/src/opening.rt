@@ -1,11 +1,13 @@
 // Seats opened, over any store.
 
 ghost use Rattle.std.specs.Prelude.{◌≡◌, ◌+◌, ◌<◌, ◌↔◌, ◌∷◌, ℕ, if◌then◌else◌, IfErr, IfOk, is_ok, IsOk, List};
-ghost use Rattle.frame_clients.specs.Opened.{opened, opener};
+ghost use Rattle.frame_store.specs.Opened.{opened, opener};
 ghost use Rattle.frame_store.specs.Laws.{CountBecomes, Fits, Keeps};
 ghost use Rattle.frame_store.specs.View.{IsHeld, read_full};
 
-use frame_store::{FrameAccess, FrameSeat, FrameSupply, SharersFull};
+use crate::access::{FrameAccess, FrameSeat};
+use crate::refusal::SharersFull;
+use crate::supply::FrameSupply;
 use sv39_entry::FrameNo;
 
 /// A new seat that holds frame 0, and nothing else: it may claim frames of its own at once.

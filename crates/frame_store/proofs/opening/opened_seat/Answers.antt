@@ -1,9 +1,8 @@
 use Rattle.std.proofs.Common.{◌∙◌, sym, subst}
 use Rattle.frame_store.specs.View.{IsHeld}
-use Rattle.frame_clients.specs.Opened.{opener_held}
-use Rattle.frame_clients.proofs.Views.{full_held}
-use Rattle.frame_clients.proofs.SeatSteps.{can_split, left_anchored, right_anchored, split_left, split_right}
-use Rattle.frame_clients.proofs.opening.opened_seat.Goals as goal
+use Rattle.frame_store.specs.Opened.{opener_held}
+use Rattle.frame_store.proofs.SeatSteps.{can_split, full_held, left_anchored, right_anchored, split_left, split_right}
+use Rattle.frame_store.proofs.opening.opened_seat.Goals as goal
 
 pub split-requires-clause-held : goal.split-requires-clause-held
 split-requires-clause-held g c = can_split _ _ c.requires.anchored c.in_ok-share.ensures.ok

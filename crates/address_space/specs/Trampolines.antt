@@ -1,0 +1,14 @@
+-- Seats that hold the trampoline's frame and nothing else.
+use Rattle.std.proofs.Common.{ℕ, ap, ◌∙◌}
+use Rattle.frame_store.specs.Holds.{hold_of-frames}
+use Rattle.frame_store.specs.Laws.{IsDry}
+use Rattle.frame_store.specs.View.{Hold, View}
+use Rattle.address_space.specs.Agreement.{HoldsTrampoline}
+
+-- a seat that was refused holds what it did
+pub dry_holds : (n : ℕ) (v w : View) → IsDry n v w → HoldsTrampoline v → HoldsTrampoline w
+dry_holds n v w dry holds = record {
+  once = ap (λ (h : Hold). h.references) (hold_of-frames w v dry.frames 0) ∙ holds.once;
+  others = λ f apart. ap (λ (h : Hold). h.references) (hold_of-frames w v dry.frames f) ∙ holds.others f apart;
+  credits = dry.credits ∙ holds.credits;
+}
