@@ -34,10 +34,7 @@ claimed_comes v w f fresh is = record {
   others = λ g apart. ap (λ (u : View). hold_of u g) is ∙ claimed_other f g v apart;
   spends = record {
     credits = ap (λ (u : View). u.credits) is;
-    claims = ap (λ (u : View). u.claims) is;
-    zeros = ap (λ (u : View). u.zeros) is;
-    short = ap (λ (u : View). u.short) is;
-    looks = ap (λ (u : View). u.looks) is;
+    tallies = ap (λ (u : View). u.tallies) is;
   };
 }
 
@@ -52,10 +49,7 @@ filled_comes v u w f c (words, is) =
       others = λ g apart. ap (λ (x : View). hold_of x g) is ∙ hold_of-with_hold_other f hold u g apart ∙ c.others g apart;
       spends = record {
         credits = ap (λ (x : View). x.credits) is ∙ c.spends.credits;
-        claims = ap (λ (x : View). x.claims) is ∙ c.spends.claims;
-        zeros = ap (λ (x : View). x.zeros) is ∙ c.spends.zeros;
-        short = ap (λ (x : View). x.short) is ∙ c.spends.short;
-        looks = ap (λ (x : View). x.looks) is ∙ c.spends.looks;
+        tallies = ap (λ (x : View). x.tallies) is ∙ c.spends.tallies;
       };
     }
 

@@ -5,6 +5,7 @@ use Rattle.std.proofs.lemmas.Bool.{cases_eq}
 use Rattle.std.proofs.lemmas.Option.{same_Some}
 use Rattle.std.specs.FinMap.{get}
 use Rattle.frame_bytes.specs.Contents.{HasBytes}
+use Rattle.frame_store.specs.Tallies.{spent_on}
 use Rattle.frame_store.specs.View.{View, IsHeld, hold_of}
 use Rattle.process_model.specs.Bytes.{padded}
 use Rattle.process_model.specs.PageMap as pages
@@ -137,9 +138,6 @@ module _ (v : View) (root trapframe : ℕ) (t : Image) (p : Process) (page : ℕ
       others = keeps;
       spends = record {
         credits = omega (arith, changes.credits, c.spends.credits);
-        claims = omega (arith, changes.claims, c.spends.claims);
-        zeros = changes.zeros ∙ c.spends.zeros;
-        short = changes.short ∙ c.spends.short;
-        looks = changes.looks ∙ c.spends.looks;
+        tallies = spent_on _ _ _ 1 (missing t page) c.spends.tallies changes.tallies;
       };
     }

@@ -4,7 +4,8 @@ use Rattle.std.specs.Prelude.{◌^◌, All}
 use Rattle.std.proofs.lemmas.Option.{same_Some}
 use Rattle.frame_store.specs.Holds.{hold_of-frames}
 use Rattle.frame_store.specs.Laws.{IsDry}
-use Rattle.frame_store.specs.View.{View, hold_of, with_credits}
+use Rattle.frame_store.specs.Tallies.{spent_is, spent_taken}
+use Rattle.frame_store.specs.View.{spent, View, hold_of, with_credits}
 use Rattle.process_model.specs.Frames.{settle_need, tables_needed}
 use Rattle.process_model.specs.PageMap as pages
 use Rattle.process_model.specs.Process.{Process, regions}
@@ -50,10 +51,10 @@ module _ (v u w : View) (n : ℕ) (is : u ≡ v) (dry : IsDry n u w) where
       let need = need_is v root trapframe l t p page can law in
       let n_is = enough t can.agrees.stands.tables in
       record {
-        claims = dry.claims ∙ ap (λ (x : View). x.claims) is;
-        zeros = let old = ap (λ (x : View). x.zeros) is in omega (arith, dry.zeros, old);
+        claims = dry.claims ∙ ap (λ (x : View). x.tallies.claims) is;
+        zeros = let old = ap (λ (x : View). x.tallies.zeros) is in omega (arith, dry.zeros, old);
         short = let old = ap (λ (x : View). x.credits) is in omega (arith, dry.short, old, can.agrees.credits, need, n_is);
-        looks = dry.looks ∙ ap (λ (x : View). x.looks) is ∙ sym (append-nil v.looks);
+        looks = dry.looks ∙ ap (λ (x : View). x.tallies.looks) is ∙ sym (append-nil v.tallies.looks);
       }
 
   pub agrees_still : (root trapframe : ℕ) (l : Layout) (t : Image) (p : Process) → Agrees v root trapframe l t p → Agrees w root trapframe l t p
@@ -99,9 +100,8 @@ module _ (v : View) (root trapframe : ℕ) (l : Layout) (t : Image) (p : Process
       sole = a.sole;
       others = a.others;
       takes = record {
-        claims = let old : w.claims ≡ v.claims = ap (λ (y : View). y.claims) reserved ∙ ap (λ (y : View). y.claims) is in omega (arith, a.spends.claims, old, need);
-        zeros = a.spends.zeros ∙ ap (λ (y : View). y.zeros) reserved ∙ ap (λ (y : View). y.zeros) is;
-        short = a.spends.short ∙ ap (λ (y : View). y.short) reserved ∙ ap (λ (y : View). y.short) is;
-        looks = a.spends.looks ∙ ap (λ (y : View). y.looks) reserved ∙ ap (λ (y : View). y.looks) is ∙ sym (append-nil v.looks);
+        tallies =
+            let old : w.tallies ≡ v.tallies = ap (λ (y : View). y.tallies) reserved ∙ ap (λ (y : View). y.tallies) is in
+            spent_taken v.tallies x.tallies (settle_need p page) (spent_is v.tallies x.tallies (1 + missing t page) (settle_need p page) (omega (arith, need)) (a.spends.tallies ∙ ap (spent (1 + missing t page)) old));
       };
     }

@@ -1,11 +1,12 @@
 -- One part more stands.
-use Rattle.std.proofs.Common.{◌≡◌, ℕ, zero, suc, true, false, ◌+◌, ◌<◌, ◌≤◌, Some, inl, inr, refl, ap, sym, subst, ◌∙◌, arith, List, [], ◌∷◌, ◌++◌, length, map, get_or, take, drop}
+use Rattle.std.proofs.Common.{◌≡◌, ℕ, zero, suc, true, false, ◌+◌, ◌<◌, ◌≤◌, Some, inl, inr, ap, sym, subst, ◌∙◌, arith, List, [], ◌∷◌, ◌++◌, length, map, get_or, take, drop}
 use Rattle.std.specs.Prelude.{Contains}
 use Rattle.std.proofs.lemmas.Bool.Decides.{nat_tests}
 use Rattle.std.proofs.lemmas.Grind.{flat_map-append}
 use Rattle.std.proofs.lemmas.List.{length-append, map-append, take-append-drop}
 use Rattle.std.proofs.lemmas.List.Concat.{flat_map-cons}
 use Rattle.std.proofs.lemmas.List.Elements.{Contains-append_cases}
+use Rattle.frame_store.specs.Tallies.{spent_is, spent_none, spent_on}
 use Rattle.frame_store.specs.View.{View}
 use Rattle.process_model.specs.Bytes.{numbers_from}
 use Rattle.process_model.specs.Frames.{tables_of}
@@ -40,10 +41,8 @@ fills_both v w x root trapframe u y p xs ys first second =
       after = rw (with_both xs ys p) second.after;
       spends = record {
         credits = omega (arith, first.spends.credits, second.spends.credits, need);
-        claims = omega (arith, first.spends.claims, second.spends.claims, need);
-        zeros = second.spends.zeros ∙ first.spends.zeros;
-        short = second.spends.short ∙ first.spends.short;
-        looks = second.spends.looks ∙ first.spends.looks;
+        tallies = spent_is v.tallies x.tallies (pages_need p xs + pages_need (with_pages p xs) ys) (pages_need p (xs ++ ys)) (omega (arith, need))
+            (spent_on v.tallies w.tallies x.tallies (pages_need p xs) (pages_need (with_pages p xs) ys) first.spends.tallies second.spends.tallies);
       };
     }
 
@@ -97,7 +96,7 @@ module _ (v : View) (root trapframe : ℕ) (ps : List Part) (are : AreParts ps) 
   pub fills_bare : (t : Image) → StandsAlone v root trapframe t (bare_process ps) → Fills v v root trapframe t (bare_process ps) []
   fills_bare t stands = record {
     after = stands;
-    spends = record { credits = omega arith; claims = omega arith; zeros = refl; short = refl; looks = refl };
+    spends = record { credits = omega arith; tallies = spent_is v.tallies v.tallies 0 _ (omega arith) (spent_none v.tallies) };
   }
 
   module _ (i : ℕ) (d : Part) (less : i < length ps) (w : View) (u : Image) (fills : Fills v w root trapframe u (bare_process ps) (pages_of (take i ps))) where

@@ -1,8 +1,9 @@
 -- One page more of a part stands, and one part more.
-use Rattle.std.proofs.Common.{◌≡◌, ℕ, ◌+◌, ◌-◌, ◌*◌, ◌^◌, ◌<◌, ◌≤◌, inl, inr, refl, ap, sym, subst, ◌∙◌, arith, List, [], ◌∷◌, drop}
+use Rattle.std.proofs.Common.{◌≡◌, ℕ, ◌+◌, ◌-◌, ◌*◌, ◌^◌, ◌<◌, ◌≤◌, inl, inr, ap, sym, subst, ◌∙◌, arith, List, [], ◌∷◌, drop}
 use Rattle.std.specs.Prelude.{All, Contains}
 use Rattle.std.proofs.lemmas.Bool.{cases_eq}
 use Rattle.std.proofs.lemmas.Option.{same_Some}
+use Rattle.frame_store.specs.Tallies.{spent_is, spent_none, spent_on}
 use Rattle.frame_store.specs.View.{View, IsSole}
 use Rattle.process_model.specs.Bytes.{padded}
 use Rattle.process_model.specs.Frames.{tables_needed, tables_of}
@@ -48,7 +49,7 @@ module _ (v : View) (root trapframe : ℕ) (t : Image) (p : Process) (part : Par
   pub fills_none : Fills v v root trapframe t p []
   fills_none = record {
     after = can.before;
-    spends = record { credits = omega arith; claims = omega arith; zeros = refl; short = refl; looks = refl };
+    spends = record { credits = omega arith; tallies = spent_is v.tallies v.tallies 0 _ (omega arith) (spent_none v.tallies) };
   }
 
   module _ (k : ℕ) (less : k < part.region.pages) (w : View) (u : Image) (fills : Fills v w root trapframe u p (run k)) (page : ℕ) (at : page ≡ part.region.first + k) where
@@ -136,9 +137,7 @@ module _ (v : View) (root trapframe : ℕ) (t : Image) (p : Process) (part : Par
             };
             spends = record {
               credits = omega (arith, spent.credits, spend.credits, missing_now, up, grew, need, needs);
-              claims = omega (arith, spent.claims, spend.claims, missing_now, up, grew, need, needs);
-              zeros = spend.zeros ∙ spent.zeros;
-              short = spend.short ∙ spent.short;
-              looks = spend.looks ∙ spent.looks;
+              tallies = spent_is v.tallies x.tallies (pages_need p (run k) + (1 + missing u page)) (pages_need p (run (k + 1))) (omega (arith, missing_now, up, grew, need, needs))
+                  (spent_on v.tallies w.tallies x.tallies (pages_need p (run k)) (1 + missing u page) spent.tallies spend.tallies);
             };
           }

@@ -1,11 +1,12 @@
 -- The first tables of a space, with the two pages of the kernel.
-use Rattle.std.proofs.Common.{◌≡◌, ℕ, true, false, ◌-◌, ◌≤◌, ◌⊎◌, Some, None, inl, inr, refl, ap, sym, ◌∙◌, arith, [], ◌∷◌}
+use Rattle.std.proofs.Common.{◌≡◌, ◌+◌, ℕ, true, false, ◌-◌, ◌≤◌, ◌⊎◌, Some, None, inl, inr, refl, ap, sym, ◌∙◌, arith, [], ◌∷◌}
 use Rattle.std.proofs.lemmas.Bool.{cases_eq}
 use Rattle.std.proofs.lemmas.Option.{same_Some}
 use Rattle.std.specs.FinMap.{empty, get, get-empty}
 use Rattle.std.specs.Ordering.{nat_cmp}
 use Rattle.std.specs.Prelude.{Contains}
 use Rattle.frame_store.specs.Holds.{hold_of-with_hold_other, hold_of-with_hold_same}
+use Rattle.frame_store.specs.Tallies.{spent_is, spent_on}
 use Rattle.frame_store.specs.View.{Hold, View, claimed, hold_of, references, with_hold}
 use Rattle.process_model.specs.Frames.{tables_needed}
 use Rattle.process_model.specs.PageMap as pages
@@ -65,10 +66,7 @@ module _ (v w : View) (root : ℕ) (can : CanOpen v) (fresh : references v root 
   pub root_spends : Spends v w 1
   root_spends = record {
     credits = ap (λ (u : View). u.credits) is;
-    claims = ap (λ (u : View). u.claims) is;
-    zeros = ap (λ (u : View). u.zeros) is;
-    short = ap (λ (u : View). u.short) is;
-    looks = ap (λ (u : View). u.looks) is;
+    tallies = ap (λ (u : View). u.tallies) is;
   }
 
 -- ---- TRAMPOLINE, over a frame that all processes share
@@ -183,10 +181,8 @@ module _ (v r w : View) (root x f n : ℕ) (t u : Image) (before : HasTrampoline
 pub open_spends : (o a v r w : View) (f : ℕ) (t u t2 u2 : Image) (m n : ℕ) → Spends o a 1 → m ≡ 2 → ChangesTables a v t u m → Comes v r f → n ≡ 0 → ChangesTables r w t2 u2 n → Spends o w 4
 open_spends o a v r w f t u t2 u2 m n first two second third none last = record {
   credits = omega (arith, first.credits, two, second.credits, third.spends.credits, none, last.credits);
-  claims = omega (arith, first.claims, two, second.claims, third.spends.claims, none, last.claims);
-  zeros = last.zeros ∙ third.spends.zeros ∙ second.zeros ∙ first.zeros;
-  short = last.short ∙ third.spends.short ∙ second.short ∙ first.short;
-  looks = last.looks ∙ third.spends.looks ∙ second.looks ∙ first.looks;
+  tallies = spent_is o.tallies w.tallies (1 + m + 1 + n) 4 (omega (arith, two, none))
+      (spent_on o.tallies r.tallies w.tallies (1 + m + 1) n (spent_on o.tallies v.tallies r.tallies (1 + m) 1 (spent_on o.tallies a.tallies v.tallies 1 m first.tallies second.tallies) third.spends.tallies) last.tallies);
 }
 
 -- the credits that each of the two takes are there

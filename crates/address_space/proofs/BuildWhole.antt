@@ -1,8 +1,8 @@
 -- A space is built: what was reserved, and what stands in the end.
 use Rattle.std.proofs.Common.{◌≡◌, ℕ, ◌+◌, ◌*◌, ◌≤◌, refl, ap, sym, ◌∙◌, arith, List, [], None}
-use Rattle.std.proofs.lemmas.List.{append-nil}
 use Rattle.frame_store.specs.Holds.{hold_of-frames}
-use Rattle.frame_store.specs.View.{View, references, with_credits}
+use Rattle.frame_store.specs.Tallies.{spent_is, spent_on, spent_taken}
+use Rattle.frame_store.specs.View.{spent, View, references, with_credits}
 use Rattle.table_walk.specs.Image.{Image}
 use Rattle.address_space.specs.Agreement.{Agrees, HoldsTrampoline}
 use Rattle.address_space.specs.Layouts.{last_page, Layout}
@@ -59,12 +59,6 @@ module _ (ps : List Part) where
         pub takes_whole : Takes v y (build_need ps) []
         takes_whole =
             let pages = need_pages in
-            let claims = ap (λ (u : View). u.claims) reserved in
-            let first = opens.spends in
-            let second = fills.spends in
-            record {
-              claims = omega (arith, pages, claims, first.claims, second.claims);
-              zeros = second.zeros ∙ first.zeros ∙ ap (λ (u : View). u.zeros) reserved;
-              short = second.short ∙ first.short ∙ ap (λ (u : View). u.short) reserved;
-              looks = second.looks ∙ first.looks ∙ ap (λ (u : View). u.looks) reserved ∙ sym (append-nil v.looks);
-            }
+            let first = opens.spends.tallies ∙ ap (λ (u : View). spent 4 u.tallies) reserved in
+            let whole = spent_on v.tallies x.tallies y.tallies 4 (pages_need (bare_process ps) (pages_of ps)) first fills.spends.tallies in
+            record { tallies = spent_taken v.tallies y.tallies (build_need ps) (spent_is v.tallies y.tallies _ (build_need ps) (omega (arith, pages)) whole) }

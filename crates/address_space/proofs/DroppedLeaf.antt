@@ -1,9 +1,10 @@
 -- A leaf that goes, and the frame that it named.
-use Rattle.std.proofs.Common.{◌≡◌, ℕ, Bool, true, false, ◌+◌, ◌-◌, ◌≤◌, ◌^◌, ◌&&◌, cond, Option, None, Some, refl, ap, sym, subst, ◌∙◌, inl, inr, arith, append-nil}
+use Rattle.std.proofs.Common.{◌≡◌, ℕ, Bool, true, false, ◌+◌, ◌-◌, ◌≤◌, ◌^◌, ◌&&◌, cond, Option, None, Some, refl, ap, sym, subst, ◌∙◌, inl, inr, arith}
 use Rattle.std.specs.Prelude.{nat_le, nat_lt, []}
 use Rattle.std.proofs.lemmas.Bool.{cases_eq}
 use Rattle.std.specs.FinMap.{get}
 use Rattle.frame_store.specs.Laws.{IsAnchored}
+use Rattle.frame_store.specs.Tallies.{spent_taken, taken_none, taken_on}
 use Rattle.frame_store.specs.View.{View, hold_of, IsHeld, references, released}
 use Rattle.sv39_entry.specs.Address.{trampoline_page}
 use Rattle.sv39_entry.specs.Frame.{frame_at, ppn_of}
@@ -113,31 +114,20 @@ module _ (v : View) (root : ℕ) (t : Image) (n x f : ℕ) (h : HasTables v root
 
 -- tallies that no call changes
 
-pub takes_none : (v w : View) → w.claims ≡ v.claims → w.zeros ≡ v.zeros → w.short ≡ v.short → w.looks ≡ v.looks → Takes v w 0 []
-takes_none v w claims zeros short looks = record { claims = omega (arith, claims); zeros = zeros; short = short; looks = looks ∙ sym (append-nil v.looks) }
+pub takes_none : (v w : View) → w.tallies ≡ v.tallies → Takes v w 0 []
+takes_none v w same = record { tallies = same ∙ taken_none v.tallies }
 
 pub takes_then : (u v w : View) → Takes u v 0 [] → Takes v w 0 [] → Takes u w 0 []
-takes_then u v w first second =
-    let before = first.claims in
-    let after = second.claims in
-    record {
-      claims = omega (arith, before, after);
-      zeros = second.zeros ∙ first.zeros;
-      short = second.short ∙ first.short;
-      looks = second.looks ∙ append-nil v.looks ∙ first.looks;
-    }
+takes_then u v w first second = record { tallies = taken_on u.tallies v.tallies w.tallies 0 0 [] [] first.tallies second.tallies }
 
 pub changes_take : (v w : View) (t u : Image) → ChangesTables v w t u 0 → Takes v w 0 []
-changes_take v w t u c = let claims = c.claims in takes_none v w (omega (arith, claims)) c.zeros c.short c.looks
+changes_take v w t u c = record { tallies = spent_taken v.tallies w.tallies 0 c.tallies }
 
 pub released_credits : (f : ℕ) (v : View) → references v f ≡ 1 → (released f v).credits ≡ v.credits
 released_credits f v one = ap (λ (u : View). u.credits) (released_once f v one)
 
 pub released_takes : (f : ℕ) (v : View) → references v f ≡ 1 → Takes v (released f v) 0 []
-released_takes f v one =
-    let there = released_once f v one in
-    takes_none v (released f v) (ap (λ (u : View). u.claims) there) (ap (λ (u : View). u.zeros) there) (ap (λ (u : View). u.short) there)
-    (ap (λ (u : View). u.looks) there)
+released_takes f v one = takes_none v (released f v) (ap (λ (u : View). u.tallies) (released_once f v one))
 
 -- a page is unmapped, and its frame let go
 module _ (v w : View) (root : ℕ) (t : Image) (page x f : ℕ) (d : CanDrop v root t page) (leaf : get t.leaves (leaf_node page) ≡ Some x) (names : ppn x ≡ ppn_of f) (c : ChangesTables v w t t 0) where

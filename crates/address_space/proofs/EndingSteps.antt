@@ -130,5 +130,5 @@ module _ (v w m : View) (root : ℕ) (t : Image) (a : IsEmptied v root t) (d : D
     pub takes_last : (end : View) → end ≡ released 0 e → Takes v end 0 []
     takes_last end is =
         let unmapped = takes_then v w m d.takes (changes_take w m _ _ c) in
-        let freed = takes_then v m e unmapped (takes_none m e tallies.claims tallies.zeros tallies.short tallies.looks) in
+        let freed = takes_then v m e unmapped (takes_none m e tallies.tallies) in
         subst (λ x. Takes v x 0 []) (sym is) (takes_then v e (released 0 e) freed (released_takes 0 e zero_once))

@@ -5,6 +5,7 @@ use Rattle.std.specs.Ordering.{nat_cmp}
 use Rattle.std.proofs.lemmas.Bool.{cases_eq}
 use Rattle.std.proofs.lemmas.Option.{same_Some, slice_get_within}
 use Rattle.frame_store.specs.Holds.{hold_of-frames, hold_of-with_hold_other, hold_of-with_hold_same}
+use Rattle.frame_store.specs.Tallies.{spent_none, spent_on}
 use Rattle.frame_store.specs.View.{Hold, View, claimed, hold_of, IsHeld, references, sole_hold, with_credits, with_hold}
 use Rattle.table_walk.specs.Image.{bare_root, blank_hold, ChangesTables, HasTables, Image}
 use Rattle.table_walk.specs.Keys.{insert_other, insert_same}
@@ -16,27 +17,19 @@ use Rattle.address_space.proofs.KernelPages.{get_before, get_last}
 -- ---- credits that are spent
 
 pub spends_none : (v : View) → Spends v v 0
-spends_none v = record { credits = omega arith; claims = omega arith; zeros = refl; short = refl; looks = refl }
+spends_none v = record { credits = omega arith; tallies = spent_none v.tallies }
 
 pub spends_on : (u v w : View) (m n : ℕ) → Spends u v m → Spends v w n → Spends u w (m + n)
 spends_on u v w m n first second =
     let one = first.credits in
     let two = second.credits in
-    let made = first.claims in
-    let more = second.claims in
-    record {
-      credits = omega (arith, one, two);
-      claims = omega (arith, made, more);
-      zeros = second.zeros ∙ first.zeros;
-      short = second.short ∙ first.short;
-      looks = second.looks ∙ first.looks;
-    }
+    record { credits = omega (arith, one, two); tallies = spent_on u.tallies v.tallies w.tallies m n first.tallies second.tallies }
 
 pub spends_claim : (f : ℕ) (v w : View) → w ≡ claimed f v → Spends v w 1
-spends_claim f v w is = subst (λ u. Spends v u 1) (sym is) (record { credits = refl; claims = refl; zeros = refl; short = refl; looks = refl })
+spends_claim f v w is = subst (λ u. Spends v u 1) (sym is) (record { credits = refl; tallies = refl })
 
 pub spends_tables : (v w : View) (t u : Image) (n : ℕ) → ChangesTables v w t u n → Spends v w n
-spends_tables v w t u n changes = record { credits = changes.credits; claims = changes.claims; zeros = changes.zeros; short = changes.short; looks = changes.looks }
+spends_tables v w t u n changes = record { credits = changes.credits; tallies = changes.tallies }
 
 pub spends_is : (v w : View) (m n : ℕ) → m ≡ n → Spends v w m → Spends v w n
 spends_is v w m n is spends = subst (Spends v w) is spends
@@ -188,4 +181,4 @@ module _ (root : ℕ) (v w : View) (is : w ≡ with_hold root blank_hold (claime
   }
 
   pub spends_root : Spends v w 1
-  spends_root = subst (λ u. Spends v u 1) (sym is) (record { credits = refl; claims = refl; zeros = refl; short = refl; looks = refl })
+  spends_root = subst (λ u. Spends v u 1) (sym is) (record { credits = refl; tallies = refl })

@@ -1,11 +1,11 @@
 -- Frames that an image names, and a spare one.
-use Rattle.std.proofs.Common.{◌≡◌, ℕ, ◌+◌, ◌<◌, ◌^◌, Option, None, Some, refl, ap, sym, subst, ◌∙◌, inl, inr, arith, cond, ◌-◌}
+use Rattle.std.proofs.Common.{◌≡◌, ℕ, ◌<◌, ◌^◌, Option, None, Some, refl, ap, sym, subst, ◌∙◌, inl, inr, arith, cond, ◌-◌}
 use Rattle.std.proofs.lemmas.Bool.{cases_eq, eq-eqb}
 use Rattle.std.proofs.lemmas.Option.{same_Some}
 use Rattle.std.specs.FinMap.{get}
 use Rattle.frame_bytes.specs.Contents.{HasBytes}
 use Rattle.frame_store.specs.Holds.{hold_of-with_hold_same, hold_of-with_hold_other, hold_of-without_hold_same, hold_of-without_hold_other, hold_of-frames}
-use Rattle.frame_store.specs.View.{Hold, View, claimed, hold_of, IsHeld, IsSole, references, released, sole_hold, with_hold, without_hold}
+use Rattle.frame_store.specs.View.{spent, Hold, View, claimed, hold_of, IsHeld, IsSole, references, released, sole_hold, with_hold, without_hold}
 use Rattle.process_model.specs.Process.{Process}
 use Rattle.sv39_entry.specs.Frame.{ppn_of}
 use Rattle.sv39_entry.specs.Word.{ppn}
@@ -45,11 +45,11 @@ apart_by v f g none one same = let no : references v g ≡ 0 = ap (references v)
 
 -- a claimed frame, and all others
 pub claimed_here : (f : ℕ) (v : View) → hold_of (claimed f v) f ≡ sole_hold
-claimed_here f v = hold_of-with_hold_same f sole_hold (record v { credits = v.credits - 1; claims = v.claims + 1 })
+claimed_here f v = hold_of-with_hold_same f sole_hold (record v { credits = v.credits - 1; tallies = spent 1 v.tallies })
 
 pub claimed_other : (f g : ℕ) (v : View) → (g ≡ f → ⊥) → hold_of (claimed f v) g ≡ hold_of v g
 claimed_other f g v apart =
-    let u : View = record v { credits = v.credits - 1; claims = v.claims + 1 } in
+    let u : View = record v { credits = v.credits - 1; tallies = spent 1 v.tallies } in
     hold_of-with_hold_other f sole_hold u g apart ∙ hold_of-frames u v refl g
 
 -- the only reference of a frame is let go

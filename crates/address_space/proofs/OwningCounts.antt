@@ -1,5 +1,5 @@
 -- A count is read, and by it a page becomes the process's own: in place, or on another frame.
-use Rattle.std.proofs.Common.{◌≡◌, ℕ, ◌+◌, ◌-◌, ◌<◌, ◌≤◌, ◌==◌, not, ◌&&◌, ◌||◌, cond, if◌then◌else◌, Option, None, Some, Bool, true, false, refl, ap, sym, subst, ◌∙◌, inl, inr, arith, ◌++◌, ◌∷◌, [], ◌≢◌}
+use Rattle.std.proofs.Common.{◌≡◌, ℕ, ◌+◌, ◌-◌, ◌<◌, ◌≤◌, ◌==◌, not, ◌&&◌, ◌||◌, cond, if◌then◌else◌, Option, None, Some, Bool, true, false, refl, ap, sym, subst, ◌∙◌, inl, inr, arith, ◌∷◌, [], ◌≢◌}
 use Rattle.std.proofs.lemmas.Bool.{cases_eq, eq-eqb, ne_eqb}
 use Rattle.std.proofs.lemmas.Option.{same_Some}
 use Rattle.std.specs.FinMap.{get}
@@ -7,7 +7,9 @@ use Rattle.std.specs.Prelude.{option_and_then, option_map}
 use Rattle.frame_bytes.specs.Contents.{HasBytes}
 use Rattle.frame_store.specs.Holds.{hold_of-frames, hold_of-with_hold_other, hold_of-with_hold_same}
 use Rattle.frame_store.specs.Laws.{IsDry}
-use Rattle.frame_store.specs.View.{Hold, View, hold_of, IsSole, looked, references, with_credits, with_word}
+use Rattle.frame_store.specs.Tallies.{spent_none}
+use Rattle.frame_store.specs.View as views
+use Rattle.frame_store.specs.View.{counted, Hold, View, hold_of, IsSole, looked, references, with_credits, with_word}
 use Rattle.process_model.specs.Frames.{part_need}
 use Rattle.process_model.specs.Process.{Page, Process, regions}
 use Rattle.process_model.specs.Regions.{is_shared_kind, makes_leaf, Region, region_at}
@@ -88,11 +90,11 @@ like_frames v w same = record {
 
 module _ (f c : ℕ) (v : View) where
   looked_here : hold_of (looked f c v) f ≡ record (hold_of v f) { sole = cond (c == 1) true (hold_of v f).sole }
-  looked_here = hold_of-with_hold_same f (record (hold_of v f) { sole = cond (c == 1) true (hold_of v f).sole }) (record v { looks = v.looks ++ c ∷ [] })
+  looked_here = hold_of-with_hold_same f (record (hold_of v f) { sole = cond (c == 1) true (hold_of v f).sole }) (record v { tallies = counted (c ∷ []) v.tallies })
 
   looked_other : (g : ℕ) → (g ≡ f → ⊥) → hold_of (looked f c v) g ≡ hold_of v g
   looked_other g apart =
-      let u : View = record v { looks = v.looks ++ c ∷ [] } in
+      let u : View = record v { tallies = counted (c ∷ []) v.tallies } in
       hold_of-with_hold_other f (record (hold_of v f) { sole = cond (c == 1) true (hold_of v f).sole }) u g apart ∙ hold_of-frames u v refl g
 
   kept_sole : (b x : Bool) → x ≡ true → cond b true x ≡ true
@@ -164,37 +166,25 @@ module _ (v w : View) (like : IsLike v w) where
 
 -- one count was read
 record HasLooked (v w : View) (c : ℕ) : Type 0 where
-  pub claims : w.claims ≡ v.claims
-  pub zeros : w.zeros ≡ v.zeros
-  pub short : w.short ≡ v.short
-  pub looks : w.looks ≡ v.looks ++ c ∷ []
+  pub tallies : w.tallies ≡ counted (c ∷ []) v.tallies
 
 looked_tallies : (f c : ℕ) (v a : View) → a ≡ looked f c v → HasLooked v a c
 looked_tallies f c v a look = record {
-  claims = ap (λ (x : View). x.claims) look;
-  zeros = ap (λ (x : View). x.zeros) look;
-  short = ap (λ (x : View). x.short) look;
-  looks = ap (λ (x : View). x.looks) look;
+  tallies = ap (λ (x : View). x.tallies) look;
 }
 
 reserved_tallies : (v a b : View) (c : ℕ) → HasLooked v a c → b ≡ with_credits 1 a → HasLooked v b c
 reserved_tallies v a b c first reserve = record {
-  claims = ap (λ (x : View). x.claims) reserve ∙ first.claims;
-  zeros = ap (λ (x : View). x.zeros) reserve ∙ first.zeros;
-  short = ap (λ (x : View). x.short) reserve ∙ first.short;
-  looks = ap (λ (x : View). x.looks) reserve ∙ first.looks;
+  tallies = ap (λ (x : View). x.tallies) reserve ∙ first.tallies;
 }
 
 takes_after : (v b w : View) (n c : ℕ) → HasLooked v b c → Spends b w n → Takes v w n (c ∷ [])
 takes_after v b w n c first spends = record {
-  claims = spends.claims ∙ ap (λ k. k + n) first.claims;
-  zeros = spends.zeros ∙ first.zeros;
-  short = spends.short ∙ first.short;
-  looks = spends.looks ∙ first.looks;
+  tallies = spends.tallies ∙ ap (views.spent n) first.tallies;
 }
 
 nothing_spent : (v : View) → Spends v v 0
-nothing_spent v = record { credits = omega arith; claims = omega arith; zeros = refl; short = refl; looks = refl }
+nothing_spent v = record { credits = omega arith; tallies = spent_none v.tallies }
 
 -- the frame that is looked at
 pub look_at : (v b a : View) (f x c : ℕ) → b ≡ v → a ≡ looked x c b → x ≡ f → a ≡ looked f c v
@@ -214,10 +204,10 @@ refused_dry v a w f c look dry none more = (
   c,
   more,
   record {
-    claims = dry.claims ∙ ap (λ (x : View). x.claims) look;
-    zeros = let old = ap (λ (x : View). x.zeros) look in omega (arith, dry.zeros, old);
+    claims = dry.claims ∙ ap (λ (x : View). x.tallies.claims) look;
+    zeros = let old = ap (λ (x : View). x.tallies.zeros) look in omega (arith, dry.zeros, old);
     short = let old = ap (λ (x : View). x.credits) look in omega (arith, dry.short, old, none);
-    looks = dry.looks ∙ ap (λ (x : View). x.looks) look;
+    looks = dry.looks ∙ ap (λ (x : View). x.tallies.looks) look;
   },
 )
 

@@ -25,24 +25,18 @@ use Rattle.address_space.proofs.Writing.{HasPage, page_here, words_other, words_
 -- what is spent
 
 claimed_spends : (f : ℕ) (v : View) → Spends v (claimed f v) 1
-claimed_spends f v = record { credits = refl; claims = refl; zeros = refl; short = refl; looks = refl }
+claimed_spends f v = record { credits = refl; tallies = refl }
 
 pub words_spend : (f n : ℕ) (u v w : View) → ChangesWords f v w → Spends u v n → Spends u w n
 words_spend f n u v w changes first = record {
   credits = ap (λ (x : View). x.credits) changes.1 ∙ first.credits;
-  claims = ap (λ (x : View). x.claims) changes.1 ∙ first.claims;
-  zeros = ap (λ (x : View). x.zeros) changes.1 ∙ first.zeros;
-  short = ap (λ (x : View). x.short) changes.1 ∙ first.short;
-  looks = ap (λ (x : View). x.looks) changes.1 ∙ first.looks;
+  tallies = ap (λ (x : View). x.tallies) changes.1 ∙ first.tallies;
 }
 
 released_spends : (f n : ℕ) (u v : View) → references v f ≡ 1 → Spends u v n → Spends u (released f v) n
 released_spends f n u v one first = record {
   credits = ap (λ (x : View). x.credits) (released_once f v one) ∙ first.credits;
-  claims = ap (λ (x : View). x.claims) (released_once f v one) ∙ first.claims;
-  zeros = ap (λ (x : View). x.zeros) (released_once f v one) ∙ first.zeros;
-  short = ap (λ (x : View). x.short) (released_once f v one) ∙ first.short;
-  looks = ap (λ (x : View). x.looks) (released_once f v one) ∙ first.looks;
+  tallies = ap (λ (x : View). x.tallies) (released_once f v one) ∙ first.tallies;
 }
 
 -- what stands after each step

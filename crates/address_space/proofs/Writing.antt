@@ -1,5 +1,5 @@
 -- A page of a process whose frame or bytes change, while the seat's references stay.
-use Rattle.std.proofs.Common.{◌≡◌, ℕ, ◌<◌, ◌^◌, ◌%◌, ◌&&◌, not, Bool, List, Option, None, Some, IsTrue, true, false, refl, ap, sym, subst, ◌∙◌, inl, inr, append-nil, arith, []}
+use Rattle.std.proofs.Common.{◌≡◌, ℕ, ◌<◌, ◌^◌, ◌%◌, ◌&&◌, not, Bool, List, Option, None, Some, IsTrue, true, false, refl, ap, sym, subst, ◌∙◌, inl, inr, arith, []}
 use Rattle.std.specs.Prelude.{option_and_then, option_map}
 use Rattle.std.proofs.lemmas.Bool.{cases_eq, ne_eqb}
 use Rattle.std.proofs.lemmas.Bool.Decides.{nat_tests}
@@ -10,6 +10,7 @@ use Rattle.std.specs.FinMap.Entries.{find-put}
 use Rattle.std.specs.Ordering.{nat_cmp, eq_by_cmp}
 use Rattle.frame_bytes.specs.Contents.{ChangesWords, HasBytes}
 use Rattle.frame_store.specs.Holds.{hold_of-with_hold_same, hold_of-with_hold_other}
+use Rattle.frame_store.specs.Tallies.{taken_none}
 use Rattle.frame_store.specs.View.{Hold, View, hold_of, IsSole, references}
 use Rattle.process_model.specs.Bytes.{is_width}
 use Rattle.process_model.specs.PageMap as pages
@@ -239,8 +240,5 @@ offset_aligned address width is aligned = elim (cases_eq width 1) [
 -- a change of words reads and takes nothing
 pub words_take : (f : ℕ) (v w : View) → ChangesWords f v w → Takes v w 0 []
 words_take f v w changes = record {
-  claims = ap (λ (x : View). x.claims) changes.1 ∙ omega arith;
-  zeros = ap (λ (x : View). x.zeros) changes.1;
-  short = ap (λ (x : View). x.short) changes.1;
-  looks = ap (λ (x : View). x.looks) changes.1 ∙ sym (append-nil v.looks);
+  tallies = ap (λ (x : View). x.tallies) changes.1 ∙ taken_none v.tallies;
 }

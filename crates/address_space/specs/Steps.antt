@@ -1,7 +1,7 @@
 -- What the calls of a space ask for, and what they do.
 use Rattle.std.specs.Prelude.{◌≡◌, ◌≢◌, ℕ, true, false, not, ◌==◌, ◌+◌, ◌-◌, ◌<◌, None, Some, List, []}
 use Rattle.std.specs.Prelude.{◌∷◌, ◌++◌}
-use Rattle.frame_store.specs.View.{View, IsSole, references}
+use Rattle.frame_store.specs.View.{spent, taken, View, IsSole, references}
 use Rattle.process_model.specs.Bytes.{padded}
 use Rattle.process_model.specs.Frames.{part_need, settle_need}
 use Rattle.process_model.specs.PageMap as pages
@@ -16,24 +16,18 @@ use Rattle.address_space.specs.Layouts.{Layout}
 -- so many credits became frames, and no count was read
 pub record Spends (v w : View) (n : ℕ) : Type 0 where
   pub credits : w.credits ≡ v.credits - n
-  pub claims : w.claims ≡ v.claims + n
-  pub zeros : w.zeros ≡ v.zeros
-  pub short : w.short ≡ v.short
-  pub looks : w.looks ≡ v.looks
+  pub tallies : w.tallies ≡ spent n v.tallies
 
 -- so many free frames were taken, and these counts were read
 pub record Takes (v w : View) (n : ℕ) (counts : List ℕ) : Type 0 where
-  pub claims : w.claims ≡ v.claims + n
-  pub zeros : w.zeros ≡ v.zeros
-  pub short : w.short ≡ v.short
-  pub looks : w.looks ≡ v.looks ++ counts
+  pub tallies : w.tallies ≡ taken n counts v.tallies
 
 -- no frame was taken: the free number was read as 0 while fewer than n credits were reserved, after these counts were read
 pub record RunsDry (v w : View) (n : ℕ) (counts : List ℕ) : Type 0 where
-  pub claims : w.claims ≡ v.claims
-  pub zeros : v.zeros < w.zeros
-  pub short : w.short < n
-  pub looks : w.looks ≡ v.looks ++ counts
+  pub claims : w.tallies.claims ≡ v.tallies.claims
+  pub zeros : v.tallies.zeros < w.tallies.zeros
+  pub short : w.tallies.short < n
+  pub looks : w.tallies.looks ≡ v.tallies.looks ++ counts
 
 -- a page is settled
 

@@ -5,7 +5,7 @@ ghost use Rattle.address_space.specs.Agreement.{HoldsTrampoline, code_rights};
 ghost use Rattle.address_space.specs.Kernel.{direct_tables, frame_rights, IsKernelTable, kernel_walk, MapsKernel, stack_page};
 ghost use Rattle.address_space.specs.Steps.{Spends};
 ghost use Rattle.frame_store.specs.Laws.{Fits, IsDry, Keeps};
-ghost use Rattle.frame_store.specs.View.{references};
+ghost use Rattle.frame_store.specs.View.{references, spent};
 ghost use Rattle.process_model.specs.Frames as model;
 ghost use Rattle.sv39_entry.specs.Word.{kind_of, leaf_word};
 ghost use Rattle.sv39_entry.specs.declared.entry.Kind.TheVariants.{Leaf};
@@ -41,10 +41,7 @@ impl<S: FrameSeat> KernelTable<S> {
         requires some_slots { 1 ≤ slots }
         requires few_slots { slots ≤ 64 }
         ensures built { IfOk result (λ k. (stacks : List ℕ) × (t : Image) × IsKernelTable (S.view k.seat) k.root.0 frames slots stacks t) }
-        ensures claims { IfOk result (λ k. (S.view k.seat).claims ≡ (S.view seat).claims + (model.kernel_frames frames slots - 1)) }
-        ensures zeros { IfOk result (λ k. (S.view k.seat).zeros ≡ (S.view seat).zeros) }
-        ensures short { IfOk result (λ k. (S.view k.seat).short ≡ (S.view seat).short) }
-        ensures looks { IfOk result (λ k. (S.view k.seat).looks ≡ (S.view seat).looks) }
+        ensures tallies { IfOk result (λ k. (S.view k.seat).tallies ≡ spent (model.kernel_frames frames slots - 1) (S.view seat).tallies) }
         ensures dry { IfErr result (λ e. IsDry (model.kernel_frames frames slots - 1) (S.view seat) (S.view e.1)) }
         ensures exact { F.alone → IsOk result ↔ (model.kernel_frames frames slots - 1 ≤ F.free store.old) }
         ensures free { F.alone → F.free store.new ≡ F.free store.old - (if is_ok result then model.kernel_frames frames slots - 1 else 0) }

@@ -3,7 +3,7 @@ use Rattle.std.proofs.Common.{◌≡◌, ℕ, zero, suc, ◌+◌, ◌-◌, ◌<�
 use Rattle.std.specs.Prelude.{slice_get, IsTrue}
 use Rattle.std.proofs.lemmas.Bool.Decides.{eqb_tells}
 use Rattle.std.specs.FinMap as map
-use Rattle.frame_store.specs.View.{View, Hold, hold_of, IsSole, sole_hold, with_hold, with_word, with_credits, claimed}
+use Rattle.frame_store.specs.View.{spent, View, Hold, hold_of, IsSole, sole_hold, with_hold, with_word, with_credits, claimed}
 use Rattle.frame_clients.specs.Filled.{words_by_index, get-words_by_index, page_hold, filled}
 use Rattle.frame_store.specs.Holds.{get-insert_at, hold_of-with_hold_same, same_answers, with_hold-with_hold, with_hold_back}
 
@@ -57,11 +57,11 @@ module _ (f n : ℕ) (words : List ℕ) (v w : View) (is : w ≡ with_hold f (pa
 -- a credit, a claim and a fill
 pub filled_by_steps : (f : ℕ) (words : List ℕ) (v r c w : View) → r ≡ with_credits 1 v → c ≡ claimed f r → w ≡ with_hold f (page_hold words) c → w ≡ filled f words v
 filled_by_steps f words v r c w er ec ew =
-    let spent : v.credits + 1 - 1 ≡ v.credits = omega arith in
+    let none_left : v.credits + 1 - 1 ≡ v.credits = omega arith in
     ew ∙ ap (with_hold f (page_hold words)) (ec ∙ ap (claimed f) er)
-    ∙ with_hold-with_hold f (page_hold words) sole_hold (record v { credits = v.credits + 1 - 1; claims = v.claims + 1 })
-    ∙ ap (λ n. with_hold f (page_hold words) (record v { credits = n; claims = v.claims + 1 })) spent
+    ∙ with_hold-with_hold f (page_hold words) sole_hold (record v { credits = v.credits + 1 - 1; tallies = spent 1 v.tallies })
+    ∙ ap (λ n. with_hold f (page_hold words) (record v { credits = n; tallies = spent 1 v.tallies })) none_left
 
 -- what was just claimed is held alone, and no word is known
 pub claimed_alone : (f : ℕ) (r c : View) → c ≡ claimed f r → hold_of c f ≡ sole_hold
-claimed_alone f r c e = ap (λ u. hold_of u f) e ∙ hold_of-with_hold_same f sole_hold (record r { credits = r.credits - 1; claims = r.claims + 1 })
+claimed_alone f r c e = ap (λ u. hold_of u f) e ∙ hold_of-with_hold_same f sole_hold (record r { credits = r.credits - 1; tallies = spent 1 r.tallies })

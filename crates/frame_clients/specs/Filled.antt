@@ -6,7 +6,7 @@ use Rattle.std.specs.Ordering.{nat_cmp}
 use Rattle.std.specs.Cmp.{nat_cmp_total, unsigned_tied}
 use Rattle.std.specs.FinMap as map
 use Rattle.std.proofs.lemmas.Bool.{ne_eqb, eq-eqb}
-use Rattle.frame_store.specs.View.{View, Hold, hold_of, references, IsHeld, known_word, with_hold}
+use Rattle.frame_store.specs.View.{spent, View, Hold, hold_of, references, IsHeld, known_word, with_hold}
 use Rattle.frame_store.specs.Holds.{hold_of-with_hold_same, hold_of-with_hold_other, hold_of-frames}
 
 -- each word, by its index
@@ -19,7 +19,7 @@ page_hold words = record { references = 1; sole = true; words = words_by_index w
 
 -- one more frame was claimed, and holds the words; credits, other frames and the other tallies are as they were
 abbrev pub filled : ℕ → List ℕ → View → View
-filled f words v = with_hold f (page_hold words) (record v { claims = v.claims + 1 })
+filled f words v = with_hold f (page_hold words) (record v { tallies = spent 1 v.tallies })
 
 find-enumerate_from : (n i : ℕ) (words : List ℕ) → map.find nat_cmp (n + i) (enumerate_from n words) ≡ slice_get words i
 find-enumerate_from n i [] = refl
@@ -36,10 +36,10 @@ get-words_by_index words i = map.get-from_entries nat_cmp_total (enumerate_from 
 -- what the view has of each frame
 module _ (f : ℕ) (words : List ℕ) (v : View) where
   pub hold_of-filled_same : hold_of (filled f words v) f ≡ page_hold words
-  hold_of-filled_same = hold_of-with_hold_same f (page_hold words) (record v { claims = v.claims + 1 })
+  hold_of-filled_same = hold_of-with_hold_same f (page_hold words) (record v { tallies = spent 1 v.tallies })
 
   pub hold_of-filled_other : (g : ℕ) → (g ≡ f → ⊥) → hold_of (filled f words v) g ≡ hold_of v g
-  hold_of-filled_other g apart = hold_of-with_hold_other f (page_hold words) (record v { claims = v.claims + 1 }) g apart ∙ hold_of-frames (record v { claims = v.claims + 1 }) v refl g
+  hold_of-filled_other g apart = hold_of-with_hold_other f (page_hold words) (record v { tallies = spent 1 v.tallies }) g apart ∙ hold_of-frames (record v { tallies = spent 1 v.tallies }) v refl g
 
   pub known_word-filled : (i : ℕ) → known_word (filled f words v) f i ≡ slice_get words i
   known_word-filled i = ap (λ (h : Hold). map.get h.words i) hold_of-filled_same ∙ get-words_by_index words i

@@ -10,7 +10,7 @@ use Rattle.std.proofs.lemmas.Bool.Decides.{eqb_tells}
 use Rattle.std.specs.Cmp.{nat_cmp_total, unsigned_tied}
 use Rattle.std.specs.Ordering.{nat_cmp}
 use Rattle.std.specs.FinMap as map
-use Rattle.frame_store.specs.View.{View, Hold, hold_of, with_hold, without_hold, not_held, references, IsSole, IsHeld, with_word, claimed, shared, looked, released, empty_view, opening_view}
+use Rattle.frame_store.specs.View.{spent, View, Hold, hold_of, with_hold, without_hold, not_held, references, IsSole, IsHeld, with_word, claimed, shared, looked, released, empty_view, opening_view}
 use Rattle.frame_store.specs.Plain.{total_references, total_credits, FrameAgrees, Agrees, AllAgree, AllSay, PlainRule, is_zero, not_held_agrees}
 use Rattle.frame_store.specs.Holds.{hold_of-with_hold_same, hold_of-with_hold_other, hold_of-without_hold_same, hold_of-without_hold_other, hold_of-frames, hold_of-empty}
 
@@ -157,7 +157,7 @@ module _ (words counts : List ℕ) (free : ℕ) (v : View) (vs : List View) (f :
       let h : Hold = record (hold_of v f) { sole = cond (c == 1) true (hold_of v f).sole } in
       let total = r.counted f in
       step words counts words counts f (same_outside f words counts) free free v (looked f c v) vs h r
-      record { here = hold_of-with_hold_same f h record v { looks = (looked f c v).looks }; apart = λ g ne. hold_of-with_hold_other f h record v { looks = (looked f c v).looks } g ne ∙ hold_of-frames _ _ refl g; size = refl }
+      record { here = hold_of-with_hold_same f h record v { tallies = (looked f c v).tallies }; apart = λ g ne. hold_of-with_hold_other f h record v { tallies = (looked f c v).tallies } g ne ∙ hold_of-frames _ _ refl g; size = refl }
       refl refl total r.balanced
       record {
         known = mine.known;
@@ -203,7 +203,7 @@ module _ (words counts : List ℕ) (free : ℕ) (v : View) (vs : List View) (f :
   pub rule-claim : f < length counts → slice_index counts f ≡ 0 → 0 < v.credits → PlainRule words (slice_set counts f 1) free (claimed f v ∷ vs)
   rule-claim lt none credit =
       let h : Hold = record { references = 1; sole = true; words = map.empty } in
-      let u : View = record v { credits = v.credits - 1; claims = v.claims + 1 } in
+      let u : View = record v { credits = v.credits - 1; tallies = spent 1 v.tallies } in
       let total = r.counted f in
       let set = get_or-set_same counts f 1 0 lt in
       let z = zeros-set counts f 1 lt in

@@ -15,10 +15,10 @@ Keeps {Store} {Seat} rule store seat after seat_after = (others : List Seat) →
 pub record IsDry (n : ℕ) (v w : View) : Type 0 where
   pub frames : w.frames ≡ v.frames
   pub credits : w.credits ≡ v.credits
-  pub claims : w.claims ≡ v.claims
-  pub looks : w.looks ≡ v.looks
-  pub zeros : v.zeros < w.zeros
-  pub short : w.short < v.credits + n
+  pub claims : w.tallies.claims ≡ v.tallies.claims
+  pub looks : w.tallies.looks ≡ v.tallies.looks
+  pub zeros : v.tallies.zeros < w.tallies.zeros
+  pub short : w.tallies.short < v.credits + n
 
 -- counts are as before but for one frame
 pub record CountBecomes (before after : ℕ → ℕ) (f c : ℕ) : Type 0 where

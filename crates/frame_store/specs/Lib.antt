@@ -7,3 +7,4 @@ pub mod Plain
 pub mod Puts
 pub mod Joined
 pub mod Opened
+pub mod Tallies

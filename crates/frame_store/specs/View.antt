@@ -16,12 +16,8 @@ pub record Hold : Type 0 where
 abbrev pub hold_code : Coded Hold
 hold_code = code_by (ℕ × (Bool × map.FinMap nat_cmp ℕ)) (coded× coded_ℕ (coded× coded_bool (map.code coded_ℕ coded_ℕ))) (λ h. (h.references, (h.sole, h.words))) (λ p. record { references = p.0; sole = p.1.0; words = p.1.1 }) (λ _. refl)
 
-pub record View : Type 0 where
-  -- how many frames the store has: a frame that is held has a number below it
-  pub size : ℕ
-  pub frames : map.FinMap nat_cmp Hold
-  -- frames that are set aside for the seat
-  pub credits : ℕ
+-- what a seat was told by the store, and what it did
+pub record Tallies : Type 0 where
   -- how often the free number was read as 0, and the credits that were held when it was last
   pub zeros : ℕ
   pub short : ℕ
@@ -30,11 +26,31 @@ pub record View : Type 0 where
   -- the counts that were read, in order
   pub looks : List ℕ
 
+abbrev pub tallies_code : Coded Tallies
+tallies_code = code_by (ℕ × (ℕ × (ℕ × List ℕ))) (coded× coded_ℕ (coded× coded_ℕ (coded× coded_ℕ (coded_list coded_ℕ)))) (λ t. (t.zeros, (t.short, (t.claims, t.looks)))) (λ p. record { zeros = p.0; short = p.1.0; claims = p.1.1.0; looks = p.1.1.1 }) (λ _. refl)
+
+-- so many frames were claimed
+abbrev pub spent : ℕ → Tallies → Tallies
+spent n t = record t { claims = t.claims + n }
+
+-- and these counts were read
+abbrev pub taken : ℕ → List ℕ → Tallies → Tallies
+taken n counts t = record t { claims = t.claims + n; looks = t.looks ++ counts }
+
+-- these counts were read, and no frame was claimed
+abbrev pub counted : List ℕ → Tallies → Tallies
+counted counts t = record t { looks = t.looks ++ counts }
+
+pub record View : Type 0 where
+  -- how many frames the store has: a frame that is held has a number below it
+  pub size : ℕ
+  pub frames : map.FinMap nat_cmp Hold
+  -- frames that are set aside for the seat
+  pub credits : ℕ
+  pub tallies : Tallies
+
 abbrev pub view_code : Coded View
-view_code = code_by (ℕ × (map.FinMap nat_cmp Hold × (ℕ × (ℕ × (ℕ × (ℕ × List ℕ))))))
-    (coded× coded_ℕ (coded× (map.code coded_ℕ hold_code) (coded× coded_ℕ (coded× coded_ℕ (coded× coded_ℕ (coded× coded_ℕ (coded_list coded_ℕ)))))))
-    (λ v. (v.size, (v.frames, (v.credits, (v.zeros, (v.short, (v.claims, v.looks)))))))
-    (λ p. record { size = p.0; frames = p.1.0; credits = p.1.1.0; zeros = p.1.1.1.0; short = p.1.1.1.1.0; claims = p.1.1.1.1.1.0; looks = p.1.1.1.1.1.1 })
+view_code = code_by (ℕ × (map.FinMap nat_cmp Hold × (ℕ × Tallies))) (coded× coded_ℕ (coded× (map.code coded_ℕ hold_code) (coded× coded_ℕ tallies_code))) (λ v. (v.size, (v.frames, (v.credits, v.tallies)))) (λ p. record { size = p.0; frames = p.1.0; credits = p.1.1.0; tallies = p.1.1.1 })
     (λ _. refl)
 
 abbrev pub not_held : Hold
@@ -45,7 +61,7 @@ sole_hold = record { references = 1; sole = true; words = map.empty }
 
 -- at a store of so many frames
 abbrev pub empty_view : ℕ → View
-empty_view size = record { size = size; frames = map.empty; credits = 0; zeros = 0; short = 0; claims = 0; looks = [] }
+empty_view size = record { size = size; frames = map.empty; credits = 0; tallies = record { zeros = 0; short = 0; claims = 0; looks = [] } }
 
 abbrev pub or_not_held : Option Hold → Hold
 or_not_held None = not_held
@@ -90,11 +106,11 @@ without_credits n v = record v { credits = v.credits - n }
 
 -- the free number was too small, and so many credits were held
 abbrev pub saw_none : ℕ → View → View
-saw_none short v = record v { zeros = v.zeros + 1; short = short }
+saw_none short v = record v { tallies = record v.tallies { zeros = v.tallies.zeros + 1; short = short } }
 
 -- a credit is spent on a frame of which no word is known
 abbrev pub claimed : ℕ → View → View
-claimed f v = with_hold f sole_hold (record v { credits = v.credits - 1; claims = v.claims + 1 })
+claimed f v = with_hold f sole_hold (record v { credits = v.credits - 1; tallies = spent 1 v.tallies })
 
 -- one more reference is taken
 abbrev pub shared : ℕ → View → View
@@ -102,11 +118,11 @@ shared f v = with_hold f (record (hold_of v f) { references = references v f + 1
 
 -- the count of a frame was read: at 1 the seat is its sole holder
 abbrev pub looked : ℕ → ℕ → View → View
-looked f c v = with_hold f (record (hold_of v f) { sole = cond (c == 1) true (hold_of v f).sole }) (record v { looks = v.looks ++ c ∷ [] })
+looked f c v = with_hold f (record (hold_of v f) { sole = cond (c == 1) true (hold_of v f).sole }) (record v { tallies = counted (c ∷ []) v.tallies })
 
 -- a share was refused by a count of 65,535
 abbrev pub read_full : View → View
-read_full v = record v { looks = v.looks ++ 65535 ∷ [] }
+read_full v = record v { tallies = counted (65535 ∷ []) v.tallies }
 
 -- a reference is let go, and with the last one all that was known of the frame
 abbrev pub released : ℕ → View → View

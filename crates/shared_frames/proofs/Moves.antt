@@ -1,5 +1,5 @@
 -- Each step keeps the rule.
-use Rattle.std.proofs.Common.{◌≡◌, ◌≢◌, ◌⊎◌, inl, inr, ⊎_elim, ℕ, ◌+◌, ◌-◌, ◌%◌, ◌^◌, ◌<◌, ◌≤◌, ◌==◌, Bool, true, false, cond, List, [], ◌∷◌, ◌++◌, length, slice_index, get_or, set, refl, sym, ap, ◌∙◌, subst, arith, get_or-set_same, get_or-set_other, length-set, Some, lit<}
+use Rattle.std.proofs.Common.{◌≡◌, ◌≢◌, ◌⊎◌, inl, inr, ⊎_elim, ℕ, ◌+◌, ◌-◌, ◌%◌, ◌^◌, ◌<◌, ◌≤◌, ◌==◌, Bool, true, false, cond, List, [], ◌∷◌, length, slice_index, get_or, set, refl, sym, ap, ◌∙◌, subst, arith, get_or-set_same, get_or-set_other, length-set, Some, lit<}
 use Rattle.std.specs.Prelude.{IsTrue}
 use Rattle.std.proofs.lemmas.Bool.Decides.{eqb_tells}
 use Rattle.std.proofs.lemmas.List.{set-get_or}
@@ -12,7 +12,7 @@ use prog.Atomic.{either}
 use Rattle.atomic_table.specs.Table.{State, Me, step, keeps, Allows}
 use Rattle.atomic_table.proofs.Lists.{set_again}
 use Rattle.frame_store.specs.Laws.{IsAnchored}
-use Rattle.frame_store.specs.View.{View, Hold, hold_of, sole_hold, references, IsHeld, IsSole, with_word, with_credits, without_credits, saw_none, claimed, shared, looked, read_full, released}
+use Rattle.frame_store.specs.View.{counted, spent, View, Hold, hold_of, sole_hold, references, IsHeld, IsSole, with_word, with_credits, without_credits, saw_none, claimed, shared, looked, read_full, released}
 use Rattle.frame_store.specs.Holds.{hold_of-frames}
 use Rattle.frame_store.specs.Puts.{Puts, puts, left_of, left-references, released-puts}
 use Rattle.shared_frames.specs.Rule.{count_at, memory_at, one_at_zero, FrameAgrees, IsKept, Kept}
@@ -147,7 +147,7 @@ module _ (n : ℕ) (s : St) (r : Kept n s) (id : ℕ) (v : View) (at : get_elem?
       let h : Hold = record (hold_of v f) { sole = cond (now f == 1) true (hold_of v f).sole } in
       let c = held_count f held in
       let a = mine f (held_frame f held) in
-      let p = puts f h v (record v { looks = v.looks ++ now f ∷ [] }) refl in
+      let p = puts f h v (record v { tallies = counted (now f ∷ []) v.tallies }) refl in
       record {
         frame = held_frame f held;
         puts = p;
@@ -198,7 +198,7 @@ module _ (n : ℕ) (s : St) (r : Kept n s) (id : ℕ) (v : View) (at : get_elem?
       let t = r.counted f l in
       let o = total-one (λ u. references u f) s.views id v at in
       let z = one_at_zero-zero (now f) is in
-      let p = puts f sole_hold v (record v { credits = v.credits - 1; claims = v.claims + 1 }) refl in
+      let p = puts f sole_hold v (record v { credits = v.credits - 1; tallies = spent 1 v.tallies }) refl in
       record {
         frame = l;
         puts = p;

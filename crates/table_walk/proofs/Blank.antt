@@ -4,7 +4,7 @@ use Rattle.std.proofs.lemmas.Bool.{cases_eq}
 use Rattle.std.specs.FinMap as map
 use Rattle.std.specs.FinMap.{get}
 use Rattle.frame_store.specs.Holds.{hold_of-frames, hold_of-with_hold_other, hold_of-with_hold_same, with_hold-with_hold, with_hold_back}
-use Rattle.frame_store.specs.View.{Hold, View, claimed, hold_of, IsHeld, IsSole, known_word, references, sole_hold, with_hold, with_word}
+use Rattle.frame_store.specs.View.{spent, Hold, View, claimed, hold_of, IsHeld, IsSole, known_word, references, sole_hold, with_hold, with_word}
 use Rattle.table_walk.specs.Image.{blank_hold, zeros_to}
 use Rattle.table_walk.specs.Keys.{insert_other, insert_same}
 
@@ -45,14 +45,14 @@ module _ (f n : ℕ) (v w : View) (is : w ≡ with_hold f (zeros_hold n) v) wher
 abbrev pub blanked : ℕ → View → View
 blanked f v = with_hold f blank_hold (claimed f v)
 
-abbrev pub spent : View → View
-spent v = record v { credits = v.credits - 1; claims = v.claims + 1 }
+abbrev pub paid : View → View
+paid v = record v { credits = v.credits - 1; tallies = spent 1 v.tallies }
 
 pub hold_of-claimed_same : (f : ℕ) (v : View) → hold_of (claimed f v) f ≡ sole_hold
-hold_of-claimed_same f v = hold_of-with_hold_same f sole_hold (spent v)
+hold_of-claimed_same f v = hold_of-with_hold_same f sole_hold (paid v)
 
 pub hold_of-claimed_other : (f : ℕ) (v : View) (g : ℕ) → (g ≡ f → ⊥) → hold_of (claimed f v) g ≡ hold_of v g
-hold_of-claimed_other f v g apart = hold_of-with_hold_other f sole_hold (spent v) g apart ∙ hold_of-frames (spent v) v refl g
+hold_of-claimed_other f v g apart = hold_of-with_hold_other f sole_hold (paid v) g apart ∙ hold_of-frames (paid v) v refl g
 
 pub hold_of-blanked_same : (f : ℕ) (v : View) → hold_of (blanked f v) f ≡ blank_hold
 hold_of-blanked_same f v = hold_of-with_hold_same f blank_hold (claimed f v)

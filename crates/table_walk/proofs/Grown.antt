@@ -5,6 +5,7 @@ use Rattle.std.proofs.lemmas.Option.{same_Some}
 use Rattle.std.specs.FinMap.{FinMap, get, insert}
 use Rattle.std.specs.Ordering.{nat_cmp}
 use Rattle.frame_store.specs.Holds.{hold_of-with_hold_other, hold_of-with_hold_same}
+use Rattle.frame_store.specs.Tallies.{spent_none, spent_on}
 use Rattle.frame_store.specs.View.{Hold, View, hold_of, IsHeld, IsSole, known_word, references, with_word}
 use Rattle.sv39_entry.specs.Address.{vpn}
 use Rattle.sv39_entry.specs.Word.{pointer_word}
@@ -166,10 +167,7 @@ module _ (v : View) (root : ℕ) (t : Image) (h : HasTables v root t) (k f i g :
         | inr o ↦ absurd (let there = o.1 in cc)
       ];
       credits = refl;
-      claims = refl;
-      zeros = refl;
-      short = refl;
-      looks = refl;
+      tallies = refl;
     }
 
 -- ---- one change after another
@@ -180,10 +178,7 @@ no_change v t = record {
   old = λ k f is. refl;
   new = λ k f is none. absurd (cc);
   credits = omega arith;
-  claims = omega arith;
-  zeros = refl;
-  short = refl;
-  looks = refl;
+  tallies = spent_none v.tallies;
 }
 
 module _ (u v w : View) (r s t : Image) (m n : ℕ) (first : ChangesTables u v r s m) (second : ChangesTables v w s t n)
@@ -213,10 +208,7 @@ module _ (u v w : View) (r s t : Image) (m n : ℕ) (first : ChangesTables u v r
     old = λ k f is. second.old k f (on k f is) ∙ first.old k f is;
     new = λ k f at none. new_in k f _ refl at none;
     credits = let a = first.credits in let b = second.credits in omega (arith, a, b);
-    claims = let a = first.claims in let b = second.claims in omega (arith, a, b);
-    zeros = second.zeros ∙ first.zeros;
-    short = second.short ∙ first.short;
-    looks = second.looks ∙ first.looks;
+    tallies = spent_on u.tallies v.tallies w.tallies m n first.tallies second.tallies;
   }
 
 -- ---- the tables on the way to a page, down to a depth

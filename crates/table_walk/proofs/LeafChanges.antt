@@ -108,10 +108,7 @@ word_changes v w t u n c k f i x at = record {
   old = λ j g there. same_references f i x w g ∙ c.old j g there;
   new = λ j g there none. ((c.new j g there none).0, same_references f i x w g ∙ (c.new j g there none).1);
   credits = c.credits;
-  claims = c.claims;
-  zeros = c.zeros;
-  short = c.short;
-  looks = c.looks;
+  tallies = c.tallies;
 }
 
 -- ---- the leaf of a page

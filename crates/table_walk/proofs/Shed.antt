@@ -30,7 +30,7 @@ module _ (f : ℕ) (v : View) (once : references v f ≡ 1) where
   released_elsewhere g ne = ap (λ w. hold_of w g) released_last ∙ hold_of-without_hold_other f v g ne
 
   released_tallies : SameTallies v (released f v)
-  released_tallies = subst (λ w. SameTallies v w) (sym released_last) record { credits = refl; zeros = refl; short = refl; claims = refl; looks = refl }
+  released_tallies = subst (λ w. SameTallies v w) (sym released_last) record { credits = refl; tallies = refl }
 
   released_anchored : IsHeld v 0 → (f ≡ 0 → ⊥) → IsAnchored (released f v)
   released_anchored held ne g some = subst (λ (h : Hold). 0 < h.references) (sym (released_elsewhere 0 (λ e. ne (sym e)))) held
@@ -40,10 +40,7 @@ module _ (f : ℕ) (v : View) (once : references v f ≡ 1) where
 tallies_both : (u v w : View) → SameTallies u v → SameTallies v w → SameTallies u w
 tallies_both u v w first second = record {
   credits = second.credits ∙ first.credits;
-  zeros = second.zeros ∙ first.zeros;
-  short = second.short ∙ first.short;
-  claims = second.claims ∙ first.claims;
-  looks = second.looks ∙ first.looks;
+  tallies = second.tallies ∙ first.tallies;
 }
 
 pub lets_none : (v : View) (root k : ℕ) (t : Image) → HasTables v root t → LetsGo v v root k t t
@@ -55,7 +52,7 @@ lets_none v root k t has = record {
   gone = λ j f at none. absurd (cc);
   old = λ j f at. refl;
   apart = λ f not. refl;
-  tallies = record { credits = refl; zeros = refl; short = refl; claims = refl; looks = refl };
+  tallies = record { credits = refl; tallies = refl };
 }
 
 module _ (u v w : View) (root j k : ℕ) (r s t : Image) (has : HasTables u root r) (first : LetsGo u v root j r s) (second : LetsGo v w root k s t) where
@@ -181,7 +178,7 @@ module _ (v : View) (root : ℕ) (t : Image) (has : HasTables v root t) (last : 
     apart = λ x not.
         released_elsewhere g (with_word f i 0 v) child_once x (λ e. not (k * 512 + i) (there ∙ ap Some (sym e)))
         ∙ hold_elsewhere f i 0 v x (λ e. not k (at ∙ ap Some (sym e)));
-    tallies = tallies_both v (with_word f i 0 v) after record { credits = refl; zeros = refl; short = refl; claims = refl; looks = refl } (released_tallies g (with_word f i 0 v) child_once);
+    tallies = tallies_both v (with_word f i 0 v) after record { credits = refl; tallies = refl } (released_tallies g (with_word f i 0 v) child_once);
   }
 
   child_held : IsHeld (with_word f i 0 v) g

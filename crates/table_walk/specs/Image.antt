@@ -3,7 +3,7 @@
 use Rattle.std.specs.Prelude.{◌≡◌, ℕ, zero, suc, ◌+◌, ◌-◌, ◌*◌, ◌/◌, ◌^◌, ◌<◌, ◌≤◌, ◌⊎◌, nat_lt, is_some, true, if◌then◌else◌, Option, None, Some, unwrap_or}
 use Rattle.std.specs.Ordering.{nat_cmp}
 use Rattle.std.specs.FinMap.{FinMap, empty, get, insert, remove}
-use Rattle.frame_store.specs.View.{Hold, View, hold_of, IsHeld, IsSole, known_word, references}
+use Rattle.frame_store.specs.View.{spent, Hold, View, hold_of, IsHeld, IsSole, known_word, references}
 use Rattle.sv39_entry.specs.Address.{vpn}
 use Rattle.sv39_entry.specs.Word.{kind_of, pointer_word}
 use Rattle.sv39_entry.specs.declared.entry.Kind.TheVariants.{Leaf}
@@ -91,10 +91,7 @@ pub record ChangesTables (v w : View) (t u : Image) (n : ℕ) : Type 0 where
   pub old : (k f : ℕ) → get t.tables k ≡ Some f → references w f ≡ references v f
   pub new : (k f : ℕ) → get u.tables k ≡ Some f → get t.tables k ≡ None → (references v f ≡ 0) × (references w f ≡ 1)
   pub credits : w.credits ≡ v.credits - n
-  pub claims : w.claims ≡ v.claims + n
-  pub zeros : w.zeros ≡ v.zeros
-  pub short : w.short ≡ v.short
-  pub looks : w.looks ≡ v.looks
+  pub tallies : w.tallies ≡ spent n v.tallies
 
 -- an empty table: the seat knows that each of its words is 0
 

@@ -7,10 +7,7 @@ use Rattle.table_walk.specs.Image.{HasTables, Image}
 -- the credits and tallies of a seat are as they were
 pub record SameTallies (v w : View) : Type 0 where
   pub credits : w.credits ≡ v.credits
-  pub zeros : w.zeros ≡ v.zeros
-  pub short : w.short ≡ v.short
-  pub claims : w.claims ≡ v.claims
-  pub looks : w.looks ≡ v.looks
+  pub tallies : w.tallies ≡ v.tallies
 
 -- tables that may be let go: no leaf stands in them, each is held once, and frame 0 is held and is none of them
 pub record AreLast (v : View) (t : Image) : Type 0 where

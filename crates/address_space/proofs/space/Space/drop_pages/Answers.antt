@@ -14,7 +14,7 @@ pages-init g c =
       after = omega (arith, from);
       within = omega (arith, from);
       dropped = λ t p a. rw from (dropped_none _ _ _ _ t p c.args.first a);
-      tallies = takes_none _ _ refl refl refl refl;
+      tallies = takes_none _ _ refl;
       keeps = λ others r. r;
       free = λ alone. omega arith;
     }
