@@ -9,7 +9,7 @@ use Rattle.frame_store.specs.View.{Hold, View, claimed, hold_of, IsHeld, IsSole,
 use Rattle.sv39_entry.specs.Address.{has}
 use Rattle.sv39_entry.specs.Frame.{ppn_of}
 use Rattle.sv39_entry.specs.Word.{ppn}
-use Rattle.table_walk.specs.Image.{ChangesTables, HasTables, Image, IsGrown, leaf_node, with_leaf}
+use Rattle.table_walk.specs.Tables.{ChangesTables, HasTables, Tables, IsGrown, leaf_node, with_leaf}
 use Rattle.table_walk.specs.Keys.{insert_other, insert_same}
 use Rattle.table_walk.specs.Same.{same_tables}
 use Rattle.table_walk.specs.Walk.{top_level}
@@ -58,17 +58,17 @@ module _ (v w : View) (f : ℕ) (c : Comes v w f) where
   pub not_held_before : (g : ℕ) → IsHeld v g → g ≡ f → ⊥
   not_held_before g held same = let none : references v g ≡ 0 = ap (references v) same ∙ c.fresh in omega (arith, none, held)
 
-  pub come_tables : (root : ℕ) (t : Image) → HasTables v root t → HasTables w root t
+  pub come_tables : (root : ℕ) (t : Tables) → HasTables v root t → HasTables w root t
   come_tables root t h = same_tables v w root t (λ k g at. c.others g (not_held_before g (h.own k g at).0)) h
 
   pub come_held : (g : ℕ) → IsHeld v g → IsHeld w g
   come_held g held = subst (λ (h : Hold). 0 < h.references) (sym (c.others g (not_held_before g held))) held
 
-  pub come_owns : (t : Image) → Owns v t None → Owns w t (Some f)
+  pub come_owns : (t : Tables) → Owns v t None → Owns w t (Some f)
   come_owns t o = spare_comes v t w f c.fresh c.one c.others o
 
 -- a leaf is put, over a frame that stood ready, and tables that were missing are there
-module _ (v w : View) (t u : Image) (n root page x f : ℕ) (o : Owns v t (Some f)) (h : HasTables v root t) (grown : IsGrown t u page top_level)
+module _ (v w : View) (t u : Tables) (n root page x f : ℕ) (o : Owns v t (Some f)) (h : HasTables v root t) (grown : IsGrown t u page top_level)
     (changes : ChangesTables v w t u n) (has_tables : HasTables w root (with_leaf u (leaf_node page) x)) (names : ppn x ≡ ppn_of f)
     (unmapped : get t.leaves (leaf_node page) ≡ None) (sole : has x 2 ≡ true → IsSole v f) where
   -- the frame is no table, and no other leaf's
@@ -146,7 +146,7 @@ module _ (v w : View) (t u : Image) (n root page x f : ℕ) (o : Owns v t (Some 
   once_from g j k (old first) (new_table none there) = absurd (new_unnamed g j k none there first)
   once_from g j k (old first) (new_leaf here same) = absurd (f_unnamed g j same first)
   once_from g j k (new_table none there) (old second) = absurd (new_unnamed g k j none there second)
-  once_from g j k (new_table none there) (new_table other also) = has_tables.image.apart j k g there also
+  once_from g j k (new_table none there) (new_table other also) = has_tables.known.apart j k g there also
   once_from g j k (new_table none there) (new_leaf here same) = absurd (f_no_table j (there ∙ ap Some same))
   once_from g j k (new_leaf here same) (old second) = absurd (f_unnamed g k same second)
   once_from g j k (new_leaf here same) (new_table none there) = absurd (f_no_table k (there ∙ ap Some same))

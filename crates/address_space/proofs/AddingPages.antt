@@ -15,7 +15,7 @@ use Rattle.sv39_entry.specs.Address.{trampoline_page, trapframe_page}
 use Rattle.sv39_entry.specs.Frame.{ppn_of}
 use Rattle.sv39_entry.specs.Word.{ppn}
 use Rattle.table_walk.specs.Counted.{AreTablesOf}
-use Rattle.table_walk.specs.Image.{ChangesTables, HasTables, Image, IsGrown, leaf_node, missing, with_leaf}
+use Rattle.table_walk.specs.Tables.{ChangesTables, HasTables, Tables, IsGrown, leaf_node, missing, with_leaf}
 use Rattle.table_walk.specs.Keys.{insert_other, insert_same, is_none}
 use Rattle.table_walk.specs.Walk.{top_level}
 use Rattle.address_space.specs.Agreement.{IsLeafNumber, IsPageLeaf, OthersKeep, Shows}
@@ -25,7 +25,7 @@ use Rattle.address_space.proofs.Owned.{one_page, same_bytes, same_sole}
 use Rattle.process_model.specs.Inserted.{all_keys, behind_more, inserted_here, inserted_other, key_in, key_out}
 
 -- tables of the same pages in another order
-same_members : (u : Image) (xs ys : List ℕ) → ((y : ℕ) → Contains xs y → Contains ys y) → ((y : ℕ) → Contains ys y → Contains xs y)
+same_members : (u : Tables) (xs ys : List ℕ) → ((y : ℕ) → Contains xs y → Contains ys y) → ((y : ℕ) → Contains ys y → Contains xs y)
     → AreTablesOf u xs → AreTablesOf u ys
 same_members u xs ys there back are k =
     let kernel = λ (xs ys : List ℕ) (into : (y : ℕ) → Contains xs y → Contains ys y).
@@ -34,7 +34,7 @@ same_members u xs ys there back are k =
       (λ way. (are k).1 (way.0, way.1, kernel ys xs back way.0 way.2, way.3, way.4)),
     )
 
-module _ (v : View) (root trapframe : ℕ) (t : Image) (p : Process) (page : ℕ) (region : Region) (can : CanAdd v root trapframe t p page region) where
+module _ (v : View) (root trapframe : ℕ) (t : Tables) (p : Process) (page : ℕ) (region : Region) (can : CanAdd v root trapframe t p page region) where
   -- the page's leaf is no other one
   leaf_apart : (n : ℕ) → n < 2 ^ 27 → (n ≡ page → ⊥) → leaf_node n ≡ leaf_node page → ⊥
   leaf_apart n low apart same = apart (one_page n page low (omega (arith, can.low)) same)
@@ -59,7 +59,7 @@ module _ (v : View) (root trapframe : ℕ) (t : Image) (p : Process) (page : ℕ
   unmapped : get t.leaves (leaf_node page) ≡ None
   unmapped = is_none (get t.leaves (leaf_node page)) (λ y leaf. no_number (can.stands.shows.only (leaf_node page) y leaf))
 
-  module _ (r w : View) (u : Image) (x f : ℕ) (bytes : List ℕ) (c : Comes v r f) (has : HasBytes r f (padded 4096 bytes)) (made : IsPageLeaf x f region false (not (is_shared_kind region.kind) && region.writes))
+  module _ (r w : View) (u : Tables) (x f : ℕ) (bytes : List ℕ) (c : Comes v r f) (has : HasBytes r f (padded 4096 bytes)) (made : IsPageLeaf x f region false (not (is_shared_kind region.kind) && region.writes))
       (grown : IsGrown t u page top_level) (tables : HasTables w root (with_leaf u (leaf_node page) x)) (changes : ChangesTables r w t u (missing t page)) where
     keeps : OthersKeep t (with_leaf u (leaf_node page) x) page
     keeps k apart = insert_other u.leaves (leaf_node page) x k apart ∙ ap (λ leaves. get leaves k) grown.leaves

@@ -11,7 +11,7 @@ use Rattle.process_model.specs.PageMap as pages
 use Rattle.process_model.specs.Process.{Process, regions}
 use Rattle.process_model.specs.Regions.{makes_leaf, Region, region_at}
 use Rattle.table_walk.specs.Counted.{AreTablesOf}
-use Rattle.table_walk.specs.Image.{HasTables, Image, missing}
+use Rattle.table_walk.specs.Tables.{HasTables, Tables, missing}
 use Rattle.address_space.specs.Agreement.{Agrees}
 use Rattle.address_space.specs.Layouts.{Layout}
 use Rattle.address_space.specs.Steps.{Adds, CanAdd, CanSettle, RunsDry, Settles}
@@ -33,10 +33,10 @@ none_taken (Err e) n a b c err left free = omega (arith, left, free)
 
 -- the tables that are missing on the way to a page are those that it needs beside the tables of others
 abbrev pub CountsGrowth : Type 0
-CountsGrowth = (t : Image) (others : List ℕ) (page : ℕ) → AreTablesOf t others → All (λ n. n < 2 ^ 27) others → page < 2 ^ 27
+CountsGrowth = (t : Tables) (others : List ℕ) (page : ℕ) → AreTablesOf t others → All (λ n. n < 2 ^ 27) others → page < 2 ^ 27
     → missing t page ≡ tables_needed (page ∷ others) - tables_needed others
 
-pub need_is : (v : View) (root trapframe : ℕ) (l : Layout) (t : Image) (p : Process) (page : ℕ) → CanSettle v root trapframe l t p page → CountsGrowth
+pub need_is : (v : View) (root trapframe : ℕ) (l : Layout) (t : Tables) (p : Process) (page : ℕ) → CanSettle v root trapframe l t p page → CountsGrowth
     → settle_need p page ≡ 1 + missing t page
 need_is v root trapframe l t p page can law =
     let low = can.add.low in
@@ -45,8 +45,8 @@ need_is v root trapframe l t p page can law =
 
 -- a reservation of n credits was refused
 module _ (v u w : View) (n : ℕ) (is : u ≡ v) (dry : IsDry n u w) where
-  pub runs_dry : (root trapframe : ℕ) (l : Layout) (page : ℕ) → CountsGrowth → ((t : Image) → HasTables v root t → n ≡ 1 + missing t page)
-      → (t : Image) (p : Process) → CanSettle v root trapframe l t p page → RunsDry v w (settle_need p page) []
+  pub runs_dry : (root trapframe : ℕ) (l : Layout) (page : ℕ) → CountsGrowth → ((t : Tables) → HasTables v root t → n ≡ 1 + missing t page)
+      → (t : Tables) (p : Process) → CanSettle v root trapframe l t p page → RunsDry v w (settle_need p page) []
   runs_dry root trapframe l page law enough t p can =
       let need = need_is v root trapframe l t p page can law in
       let n_is = enough t can.agrees.stands.tables in
@@ -57,14 +57,14 @@ module _ (v u w : View) (n : ℕ) (is : u ≡ v) (dry : IsDry n u w) where
         looks = dry.looks ∙ ap (λ (x : View). x.tallies.looks) is ∙ sym (append-nil v.tallies.looks);
       }
 
-  pub agrees_still : (root trapframe : ℕ) (l : Layout) (t : Image) (p : Process) → Agrees v root trapframe l t p → Agrees w root trapframe l t p
+  pub agrees_still : (root trapframe : ℕ) (l : Layout) (t : Tables) (p : Process) → Agrees v root trapframe l t p → Agrees w root trapframe l t p
   agrees_still root trapframe l t p a = record {
     lays = a.lays;
     stands = same_stands v w root trapframe None t p (hold_of-frames w v (dry.frames ∙ ap (λ (x : View). x.frames) is)) a.stands;
     credits = dry.credits ∙ ap (λ (x : View). x.credits) is ∙ a.credits;
   }
 
-module _ (v : View) (root trapframe : ℕ) (l : Layout) (t : Image) (p : Process) (page : ℕ) (can : CanSettle v root trapframe l t p page) where
+module _ (v : View) (root trapframe : ℕ) (l : Layout) (t : Tables) (p : Process) (page : ℕ) (can : CanSettle v root trapframe l t p page) where
   -- n credits were reserved
   module _ (u w : View) (n : ℕ) (is : u ≡ v) (reserved : w ≡ with_credits n u) where
     reserved_same : (f : ℕ) → hold_of w f ≡ hold_of v f
@@ -87,7 +87,7 @@ module _ (v : View) (root trapframe : ℕ) (l : Layout) (t : Image) (p : Process
           low = can.add.low;
         }
 
-    pub settles : (x : View) (s : Image) (bytes : List ℕ) (f : ℕ) → n ≡ 1 + missing t page → settle_need p page ≡ 1 + missing t page
+    pub settles : (x : View) (s : Tables) (bytes : List ℕ) (f : ℕ) → n ≡ 1 + missing t page → settle_need p page ≡ 1 + missing t page
         → Adds w x root trapframe t s p page bytes f → Settles v x root trapframe l t s p page bytes f
     settles x s bytes f enough need a = record {
       agrees = λ fresh. record {

@@ -13,7 +13,7 @@ use Rattle.process_model.specs.Frames.{tables_of}
 use Rattle.process_model.specs.ImageNeed.{run_numbers}
 use Rattle.process_model.specs.Process.{Process, heap_of}
 use Rattle.process_model.specs.Regions.{Region, end_of, holds_page, region_at}
-use Rattle.table_walk.specs.Image.{Image}
+use Rattle.table_walk.specs.Tables.{Tables}
 use Rattle.address_space.specs.Layouts.{last_page}
 use Rattle.address_space.specs.Parts.{AreParts, bare_process, CanFill, Fills, IsAscending, numbers_of, pages_need, pages_of, part_pages, region_in, regions_in, StandsAlone, with_pages}
 use Rattle.address_space.specs.declared.part.Part.{Part}
@@ -33,7 +33,7 @@ need_both xs ys p =
     let second = tables_up_to ys (with_pages p xs) in
     omega (arith, sizes, tables, first, second)
 
-pub fills_both : (v w x : View) (root trapframe : ℕ) (u y : Image) (p : Process) (xs ys : Pages) → Fills v w root trapframe u p xs
+pub fills_both : (v w x : View) (root trapframe : ℕ) (u y : Tables) (p : Process) (xs ys : Pages) → Fills v w root trapframe u p xs
     → Fills w x root trapframe y (with_pages p xs) ys → Fills v x root trapframe y p (xs ++ ys)
 fills_both v w x root trapframe u y p xs ys first second =
     let need = need_both xs ys p in
@@ -93,13 +93,13 @@ in_part (p ∷ ps) end (suc i) page d up less from below =
 -- ---- one part more
 
 module _ (v : View) (root trapframe : ℕ) (ps : List Part) (are : AreParts ps) where
-  pub fills_bare : (t : Image) → StandsAlone v root trapframe t (bare_process ps) → Fills v v root trapframe t (bare_process ps) []
+  pub fills_bare : (t : Tables) → StandsAlone v root trapframe t (bare_process ps) → Fills v v root trapframe t (bare_process ps) []
   fills_bare t stands = record {
     after = stands;
     spends = record { credits = omega arith; tallies = spent_is v.tallies v.tallies 0 _ (omega arith) (spent_none v.tallies) };
   }
 
-  module _ (i : ℕ) (d : Part) (less : i < length ps) (w : View) (u : Image) (fills : Fills v w root trapframe u (bare_process ps) (pages_of (take i ps))) where
+  module _ (i : ℕ) (d : Part) (less : i < length ps) (w : View) (u : Tables) (fills : Fills v w root trapframe u (bare_process ps) (pages_of (take i ps))) where
     abbrev part : Part
     part = get_or ps i d
 
@@ -134,5 +134,5 @@ module _ (v : View) (root trapframe : ℕ) (ps : List Part) (are : AreParts ps) 
         let spent = fills.spends.credits in
         omega (arith, enough, here, all, spent)
 
-    pub part_fills : (x : View) (y : Image) → Fills w x root trapframe y before (part_pages part) → Fills v x root trapframe y (bare_process ps) (pages_of (take (i + 1) ps))
+    pub part_fills : (x : View) (y : Tables) → Fills w x root trapframe y before (part_pages part) → Fills v x root trapframe y (bare_process ps) (pages_of (take (i + 1) ps))
     part_fills x y more = rw (pages_more ps i d less) (fills_both v w x root trapframe u y (bare_process ps) (pages_of (take i ps)) (part_pages part) fills more)

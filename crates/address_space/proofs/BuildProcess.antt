@@ -18,7 +18,7 @@ use Rattle.process_model.specs.Process.{Page, Process, regions}
 use Rattle.process_model.specs.Regions.{end_of, region_at}
 use Rattle.sv39_entry.specs.Address.{trapframe_page}
 use Rattle.table_walk.specs.Counted.{AreTablesOf}
-use Rattle.table_walk.specs.Image.{Image}
+use Rattle.table_walk.specs.Tables.{Tables}
 use Rattle.address_space.specs.Agreement.{is_dirty_page, IsPageLeaf, Shows, Stands}
 use Rattle.address_space.specs.Parts.{bare_process, IsAscending, numbers_of, pages_of, part_pages, process_of_parts, region_in, with_settled, with_pages}
 use Rattle.address_space.specs.declared.part.Part.{Part}
@@ -64,7 +64,7 @@ module _ (p q : Process) (like : IsLike p q) where
   found_back : (n : ℕ) (s : Page) → pages.get p.settled n ≡ Some s → Found (pages.get q.settled n) s
   found_back n s at = found_like (pages.get q.settled n) s (sym (like.shows n) ∙ ap shown at)
 
-  shows_like : (v : View) (trapframe : ℕ) (t : Image) → Shows v trapframe t p → Shows v trapframe t q
+  shows_like : (v : View) (trapframe : ℕ) (t : Tables) → Shows v trapframe t p → Shows v trapframe t q
   shows_like v trapframe t s = record {
     on_trampoline = s.on_trampoline;
     on_trapframe = s.on_trapframe;
@@ -90,7 +90,7 @@ module _ (p q : Process) (like : IsLike p q) where
     low = λ n page at. let there = found_there n page at in s.low n there.page there.found;
   }
 
-  pub stands_like : (v : View) (root trapframe : ℕ) (spare : Option ℕ) (t : Image) → Stands v root trapframe spare t p → Stands v root trapframe spare t q
+  pub stands_like : (v : View) (root trapframe : ℕ) (spare : Option ℕ) (t : Tables) → Stands v root trapframe spare t p → Stands v root trapframe spare t q
   stands_like v root trapframe spare t s = record {
     tables = s.tables;
     owns = s.owns;

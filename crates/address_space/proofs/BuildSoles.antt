@@ -2,12 +2,12 @@
 use Rattle.std.proofs.Common.{ℕ, inl, inr}
 use Rattle.std.proofs.lemmas.Bool.{cases_Bool, cases_eq}
 use Rattle.frame_store.specs.View.{View, hold_of, IsSole}
-use Rattle.table_walk.specs.Image.{ChangesTables, HasTables, Image, with_leaf}
+use Rattle.table_walk.specs.Tables.{ChangesTables, HasTables, Tables, with_leaf}
 use Rattle.address_space.proofs.AddingFrames.{Comes}
 use Rattle.address_space.proofs.Owned.{same_sole}
 
 -- a frame of which the seat is the sole holder is no new table, and it is not shared by a change of tables
-pub soles_stay : (v r w : View) (f root n k x : ℕ) (t u : Image) → Comes v r f → HasTables w root (with_leaf u k x) → ChangesTables r w t u n
+pub soles_stay : (v r w : View) (f root n k x : ℕ) (t u : Tables) → Comes v r f → HasTables w root (with_leaf u k x) → ChangesTables r w t u n
     → (g : ℕ) → IsSole v g → IsSole w g
 soles_stay v r w f root n k x t u come tables changes g sole =
     let ready : IsSole r g = elim (cases_eq g f) [

@@ -15,7 +15,7 @@ use Rattle.process_model.specs.Regions.{region_at}
 use Rattle.sv39_entry.specs.Address.{page_of}
 use Rattle.sv39_entry.specs.Word.{ppn}
 use Rattle.table_walk.specs.Counted.{AreTablesOf}
-use Rattle.table_walk.specs.Image.{Image, leaf_node, missing}
+use Rattle.table_walk.specs.Tables.{Tables, leaf_node, missing}
 use Rattle.address_space.specs.Parts.{CanFill, Fills, OwnsAlone, pages_need, part_pages, region_in, with_settled, with_pages}
 use Rattle.address_space.specs.Steps.{Adds, CanAdd, settled_with}
 use Rattle.address_space.specs.declared.part.Part.{Part}
@@ -24,10 +24,10 @@ use Rattle.address_space.proofs.Owned.{one_frame}
 
 -- how many tables are missing on the way to a page
 abbrev pub CountsMissing : Type 0
-CountsMissing = (t : Image) (pages : List ℕ) (page : ℕ) → AreTablesOf t pages → All (λ n. n < 2 ^ 27) pages → page < 2 ^ 27 → missing t page ≡ tables_needed (page ∷ pages) - tables_needed pages
+CountsMissing = (t : Tables) (pages : List ℕ) (page : ℕ) → AreTablesOf t pages → All (λ n. n < 2 ^ 27) pages → page < 2 ^ 27 → missing t page ≡ tables_needed (page ∷ pages) - tables_needed pages
 
 -- no other seat has a frame of the page that was added
-added_alone : (v w : View) (root trapframe : ℕ) (t u : Image) (p : Process) (page : ℕ) (bytes : List ℕ) (f : ℕ) → Adds v w root trapframe t u p page bytes f
+added_alone : (v w : View) (root trapframe : ℕ) (t u : Tables) (p : Process) (page : ℕ) (bytes : List ℕ) (f : ℕ) → Adds v w root trapframe t u p page bytes f
     → ((g : ℕ) → IsSole v g → IsSole w g) → OwnsAlone v t → OwnsAlone w u
 added_alone v w root trapframe t u p page bytes f adds soles alone g j (inl table) other = (((adds.stands 0).tables).own j g table).1
 added_alone v w root trapframe t u p page bytes f adds soles alone g j (inr (y, leaf, names)) other = elim (cases_eq j (leaf_node page)) [
@@ -42,7 +42,7 @@ added_alone v w root trapframe t u p page bytes f adds soles alone g j (inr (y, 
 pub place : (first pages number page : ℕ) → number < first + pages → first ≤ number → page ≡ page_of (number * 4096) → (number - first < pages) × (page ≡ first + (number - first))
 place first pages number page less from is = (omega (arith, less, from), omega (arith, is, from))
 
-module _ (v : View) (root trapframe : ℕ) (t : Image) (p : Process) (part : Part) (can : CanFill v root trapframe t p part) where
+module _ (v : View) (root trapframe : ℕ) (t : Tables) (p : Process) (part : Part) (can : CanFill v root trapframe t p part) where
   abbrev run : ℕ → Pages
   run k = page_run part.region.first part.bytes.now k
 
@@ -52,7 +52,7 @@ module _ (v : View) (root trapframe : ℕ) (t : Image) (p : Process) (part : Par
     spends = record { credits = omega arith; tallies = spent_is v.tallies v.tallies 0 _ (omega arith) (spent_none v.tallies) };
   }
 
-  module _ (k : ℕ) (less : k < part.region.pages) (w : View) (u : Image) (fills : Fills v w root trapframe u p (run k)) (page : ℕ) (at : page ≡ part.region.first + k) where
+  module _ (k : ℕ) (less : k < part.region.pages) (w : View) (u : Tables) (fills : Fills v w root trapframe u p (run k)) (page : ℕ) (at : page ≡ part.region.first + k) where
     abbrev before : Process
     before = with_pages p (run k)
 
@@ -118,7 +118,7 @@ module _ (v : View) (root trapframe : ℕ) (t : Image) (p : Process) (part : Par
           let need = need_is in
           omega (arith, all, missing_now, up, grew, last, spent, need, less, enough)
 
-      pub next_fills : (x : View) (y : Image) (bytes : List ℕ) (f : ℕ) → padded 4096 bytes ≡ padded 4096 (drop (4096 * k) part.bytes.now) → Adds w x root trapframe u y before page bytes f
+      pub next_fills : (x : View) (y : Tables) (bytes : List ℕ) (f : ℕ) → padded 4096 bytes ≡ padded 4096 (drop (4096 * k) part.bytes.now) → Adds w x root trapframe u y before page bytes f
           → ((g : ℕ) → IsSole w g → IsSole x g) → Fills v x root trapframe y p (run (k + 1))
       next_fills x y bytes f same adds soles =
           let process : settled_with 0 bytes before page ≡ with_pages p (run (k + 1)) =

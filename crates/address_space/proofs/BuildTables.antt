@@ -14,7 +14,7 @@ use Rattle.process_model.specs.Process.{Page, Process}
 use Rattle.sv39_entry.specs.Address.{trampoline_page, trapframe_page}
 use Rattle.sv39_entry.specs.Word.{IsLeafOf, ppn}
 use Rattle.table_walk.specs.Counted.{AreTablesOf}
-use Rattle.table_walk.specs.Image.{bare_root, blank_hold, ChangesTables, HasTables, Image, IsGrown, leaf_node, missing, with_leaf}
+use Rattle.table_walk.specs.Tables.{bare_root, blank_hold, ChangesTables, HasTables, Tables, IsGrown, leaf_node, missing, with_leaf}
 use Rattle.table_walk.specs.Keys.{insert_other, insert_same, is_none}
 use Rattle.table_walk.specs.Walk.{top_level}
 use Rattle.address_space.specs.Agreement.{HasKernelLeaf, Names, Owns, Shows, Stands, code_rights, data_rights}
@@ -71,29 +71,29 @@ module _ (v w : View) (root : ℕ) (can : CanOpen v) (fresh : references v root 
 
 -- ---- TRAMPOLINE, over a frame that all processes share
 
-pub record HasTrampoline (w : View) (root : ℕ) (t : Image) : Type 0 where
+pub record HasTrampoline (w : View) (root : ℕ) (t : Tables) : Type 0 where
   pub tables : HasTables w root t
   pub owns : Owns w t None
   pub leaf : HasKernelLeaf t trampoline_page 0 code_rights
   pub only : (k y : ℕ) → get t.leaves k ≡ Some y → k ≡ leaf_node trampoline_page
   pub tabled : AreTablesOf t []
 
-module _ (v w : View) (root x n : ℕ) (u : Image) (o : Owns v (bare_root root) (Some 0)) (bare : HasTables v root (bare_root root)) (grown : IsGrown (bare_root root) u trampoline_page top_level)
+module _ (v w : View) (root x n : ℕ) (u : Tables) (o : Owns v (bare_root root) (Some 0)) (bare : HasTables v root (bare_root root)) (grown : IsGrown (bare_root root) u trampoline_page top_level)
     (tables : HasTables w root (with_leaf u (leaf_node trampoline_page) x)) (changes : ChangesTables v w (bare_root root) u n)
     (made : IsLeafOf x 0 code_rights false false true) (are : AreTablesOf u []) where
-  abbrev image : Image
-  image = with_leaf u (leaf_node trampoline_page) x
+  abbrev after : Tables
+  after = with_leaf u (leaf_node trampoline_page) x
 
   no_leaf : get (bare_root root).leaves (leaf_node trampoline_page) ≡ None
   no_leaf = is_none (get (bare_root root).leaves (leaf_node trampoline_page)) (bare_leaf root (leaf_node trampoline_page))
 
-  one_leaf : (k y : ℕ) → get image.leaves k ≡ Some y → k ≡ leaf_node trampoline_page
+  one_leaf : (k y : ℕ) → get after.leaves k ≡ Some y → k ≡ leaf_node trampoline_page
   one_leaf k y leaf = elim (cases_eq k (leaf_node trampoline_page)) [
     | inl here ↦ here
     | inr apart ↦ absurd (bare_leaf root k y (ap (λ leaves. get leaves k) (sym grown.leaves) ∙ sym (insert_other u.leaves (leaf_node trampoline_page) x k apart) ∙ leaf))
   ]
 
-  pub has_trampoline : HasTrampoline w root image
+  pub has_trampoline : HasTrampoline w root after
   has_trampoline = record {
     tables = tables;
     owns = leaf_owns v w (bare_root root) u n root trampoline_page x 0 o bare grown changes tables made.names no_leaf (λ writes. absurd (let both = sym made.write ∙ writes in cc));
@@ -115,13 +115,13 @@ pub two_missing : (root : ℕ) → missing (bare_root root) trampoline_page ≡ 
 unfolding tables_needed
 two_missing root law = law
 
-module _ (v r w : View) (root x f n : ℕ) (t u : Image) (before : HasTrampoline v root t) (come : Comes v r f) (grown : IsGrown t u trapframe_page top_level)
+module _ (v r w : View) (root x f n : ℕ) (t u : Tables) (before : HasTrampoline v root t) (come : Comes v r f) (grown : IsGrown t u trapframe_page top_level)
     (tables : HasTables w root (with_leaf u (leaf_node trapframe_page) x)) (changes : ChangesTables r w t u n)
     (made : IsLeafOf x f data_rights false false true) (are : AreTablesOf u []) where
   unmapped : get t.leaves (leaf_node trapframe_page) ≡ None
   unmapped = is_none (get t.leaves (leaf_node trapframe_page)) (λ y leaf. kernel_apart (before.only (leaf_node trapframe_page) y leaf))
 
-  abbrev last : Image
+  abbrev last : Tables
   last = with_leaf u (leaf_node trapframe_page) x
 
   keeps : (k : ℕ) → (k ≡ leaf_node trapframe_page → ⊥) → get last.leaves k ≡ get t.leaves k
@@ -178,7 +178,7 @@ module _ (v r w : View) (root x f n : ℕ) (t u : Image) (before : HasTrampoline
   opens o spends = record { stands = opens_stands; alone = opens_alone; spends = spends }
 
 -- ---- what it takes: the root, two tables below it, and the trapframe
-pub open_spends : (o a v r w : View) (f : ℕ) (t u t2 u2 : Image) (m n : ℕ) → Spends o a 1 → m ≡ 2 → ChangesTables a v t u m → Comes v r f → n ≡ 0 → ChangesTables r w t2 u2 n → Spends o w 4
+pub open_spends : (o a v r w : View) (f : ℕ) (t u t2 u2 : Tables) (m n : ℕ) → Spends o a 1 → m ≡ 2 → ChangesTables a v t u m → Comes v r f → n ≡ 0 → ChangesTables r w t2 u2 n → Spends o w 4
 open_spends o a v r w f t u t2 u2 m n first two second third none last = record {
   credits = omega (arith, first.credits, two, second.credits, third.spends.credits, none, last.credits);
   tallies = spent_is o.tallies w.tallies (1 + m + 1 + n) 4 (omega (arith, two, none))
@@ -191,5 +191,5 @@ first_enough o v root page is two spent enough =
     let same = ap (missing (bare_root root)) is in
     omega (arith, same, two, spent.credits, enough)
 
-pub second_enough : (credits : ℕ) (t : Image) (page : ℕ) → page ≡ trapframe_page → missing t trapframe_page ≡ 0 → missing t page ≤ credits
+pub second_enough : (credits : ℕ) (t : Tables) (page : ℕ) → page ≡ trapframe_page → missing t trapframe_page ≡ 0 → missing t page ≤ credits
 second_enough credits t page is none = let same = ap (missing t) is in omega (arith, same, none)

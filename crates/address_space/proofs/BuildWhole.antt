@@ -3,7 +3,7 @@ use Rattle.std.proofs.Common.{◌≡◌, ℕ, ◌+◌, ◌*◌, ◌≤◌, refl,
 use Rattle.frame_store.specs.Holds.{hold_of-frames}
 use Rattle.frame_store.specs.Tallies.{spent_is, spent_on, spent_taken}
 use Rattle.frame_store.specs.View.{spent, View, references, with_credits}
-use Rattle.table_walk.specs.Image.{Image}
+use Rattle.table_walk.specs.Tables.{Tables}
 use Rattle.address_space.specs.Agreement.{Agrees, HoldsTrampoline}
 use Rattle.address_space.specs.Layouts.{last_page, Layout}
 use Rattle.address_space.specs.Parts.{AreParts, bare_process, build_need, CanOpen, Fills, Opens, pages_need, pages_of, process_of_parts, regions_in, StandsAlone, with_pages}
@@ -35,14 +35,14 @@ module _ (ps : List Part) where
       credits = let credits = credits_is in let pages = need_pages in omega (arith, credits, pages);
     }
 
-    module _ (x : View) (root trapframe : ℕ) (t : Image) (opens : Opens w x root trapframe t) where
+    module _ (x : View) (root trapframe : ℕ) (t : Tables) (opens : Opens w x root trapframe t) where
       pub stands_bare : StandsAlone x root trapframe t (bare_process ps)
       stands_bare = record { stands = opens.stands (bare_process ps) refl refl; alone = opens.alone }
 
       pub credits_left : pages_need (bare_process ps) (pages_of ps) ≤ x.credits
       credits_left = let credits = credits_is in let pages = need_pages in let spent = opens.spends.credits in omega (arith, credits, pages, spent)
 
-      module _ (y : View) (u : Image) (fills : Fills x y root trapframe u (bare_process ps) (pages_of ps)) where
+      module _ (y : View) (u : Tables) (fills : Fills x y root trapframe u (bare_process ps) (pages_of ps)) where
         pub agrees_whole : AreParts ps → (l : Layout) → l.parts ≡ regions_in ps → l.mappings ≡ [] → l.heap_base ≡ 4096 * last_page 0 (regions_in ps) → l.size ≡ l.heap_base
             → (fresh : ℕ) → Agrees y root trapframe l u (process_of_parts fresh ps)
         agrees_whole are l parts mappings base size fresh = record {

@@ -10,7 +10,7 @@ use Rattle.sv39_entry.specs.Address.{trampoline_page}
 use Rattle.sv39_entry.specs.Frame.{frame_at, ppn_of}
 use Rattle.sv39_entry.specs.Word.{ppn}
 use Rattle.sv39_entry.specs.declared.frame.FrameNo.{FrameNo}
-use Rattle.table_walk.specs.Image.{ChangesTables, HasTables, Image, leaf_node, without_leaf}
+use Rattle.table_walk.specs.Tables.{ChangesTables, HasTables, Tables, leaf_node, without_leaf}
 use Rattle.table_walk.specs.Keys.{remove_same, remove_other}
 use Rattle.table_walk.specs.Same.{same_tables}
 use Rattle.address_space.specs.Agreement.{Names, Owns}
@@ -31,20 +31,20 @@ frame_named w p o fr number at is =
     omega (arith, number, same, low)
 
 -- what is left is what was there, but for the leaf that went
-pub left : (t : Image) (n m y : ℕ) → get (without_leaf t n).leaves m ≡ Some y → (get t.leaves m ≡ Some y) × (m ≡ n → ⊥)
+pub left : (t : Tables) (n m y : ℕ) → get (without_leaf t n).leaves m ≡ Some y → (get t.leaves m ≡ Some y) × (m ≡ n → ⊥)
 left t n m y at = elim (cases_eq m n) [
   | inl same ↦ absurd (let none = remove_same t.leaves n m same in cc)
   | inr other ↦ (sym (remove_other t.leaves n m other) ∙ at, other)
 ]
 
-named_before : (t : Image) (n f k : ℕ) → Names (without_leaf t n) f k → Names t f k
+named_before : (t : Tables) (n f k : ℕ) → Names (without_leaf t n) f k → Names t f k
 named_before t n f k names = elim names as (λ _. Names t f k) [
   | inl table ↦ inl table
   | inr leaf ↦ inr (leaf.0, (left t n k leaf.0 leaf.1).0, leaf.2)
 ]
 
 -- a leaf of a space, and the frame that it names
-module _ (v : View) (root : ℕ) (t : Image) (n x f : ℕ) (h : HasTables v root t) (o : Owns v t None) (leaf : get t.leaves n ≡ Some x) (names : ppn x ≡ ppn_of f) where
+module _ (v : View) (root : ℕ) (t : Tables) (n x f : ℕ) (h : HasTables v root t) (o : Owns v t None) (leaf : get t.leaves n ≡ Some x) (names : ppn x ≡ ppn_of f) where
   -- nothing else names the frame
   no_name : (k : ℕ) → Names (without_leaf t n) f k → ⊥
   no_name k still = elim still as (λ _. ⊥) [
@@ -120,7 +120,7 @@ takes_none v w same = record { tallies = same ∙ taken_none v.tallies }
 pub takes_then : (u v w : View) → Takes u v 0 [] → Takes v w 0 [] → Takes u w 0 []
 takes_then u v w first second = record { tallies = taken_on u.tallies v.tallies w.tallies 0 0 [] [] first.tallies second.tallies }
 
-pub changes_take : (v w : View) (t u : Image) → ChangesTables v w t u 0 → Takes v w 0 []
+pub changes_take : (v w : View) (t u : Tables) → ChangesTables v w t u 0 → Takes v w 0 []
 changes_take v w t u c = record { tallies = spent_taken v.tallies w.tallies 0 c.tallies }
 
 pub released_credits : (f : ℕ) (v : View) → references v f ≡ 1 → (released f v).credits ≡ v.credits
@@ -130,7 +130,7 @@ pub released_takes : (f : ℕ) (v : View) → references v f ≡ 1 → Takes v (
 released_takes f v one = takes_none v (released f v) (ap (λ (u : View). u.tallies) (released_once f v one))
 
 -- a page is unmapped, and its frame let go
-module _ (v w : View) (root : ℕ) (t : Image) (page x f : ℕ) (d : CanDrop v root t page) (leaf : get t.leaves (leaf_node page) ≡ Some x) (names : ppn x ≡ ppn_of f) (c : ChangesTables v w t t 0) where
+module _ (v w : View) (root : ℕ) (t : Tables) (page x f : ℕ) (d : CanDrop v root t page) (leaf : get t.leaves (leaf_node page) ≡ Some x) (names : ppn x ≡ ppn_of f) (c : ChangesTables v w t t 0) where
   unmapped : Owns w (without_leaf t (leaf_node page)) (Some f)
   unmapped = leaf_goes v root t (leaf_node page) x f d.tables d.owns leaf names w c
 

@@ -13,7 +13,7 @@ use Rattle.process_model.specs.PageMap.{PageMap}
 use Rattle.process_model.specs.Process.{Page, Process}
 use Rattle.sv39_entry.specs.Address.{trampoline_page, trapframe_page}
 use Rattle.table_walk.specs.Changed.{IsNextLeaf}
-use Rattle.table_walk.specs.Image.{Image, leaf_node, without_leaf}
+use Rattle.table_walk.specs.Tables.{Tables, leaf_node, without_leaf}
 use Rattle.table_walk.specs.Keys.{remove_same, remove_other}
 use Rattle.table_walk.specs.Nodes.{leaf_node_is}
 use Rattle.table_walk.specs.Places.{IsBare}
@@ -28,16 +28,16 @@ use Rattle.address_space.proofs.Owned.{one_page, same_bytes}
 leaf_place : (n : ℕ) → n < 2 ^ 27 → leaf_node n ≡ 1 * 512 ^ suc 2 + n
 leaf_place n low = let at = leaf_node_is n in omega (arith, at, low)
 
-unmapped_to : (t : Image) (first place end : ℕ) → IsBare t 1 (512 ^ suc 2) first place → end ≤ 2 ^ 27 → end ≤ place → AreUnmapped t first end
+unmapped_to : (t : Tables) (first place end : ℕ) → IsBare t 1 (512 ^ suc 2) first place → end ≤ 2 ^ 27 → end ≤ place → AreUnmapped t first end
 unmapped_to t first place end bare low le n from less = ap (get t.leaves) (leaf_place n (omega arith)) ∙ bare n from (omega arith)
 
-pub none_mapped : (t : Image) (first end : ℕ) → IsNextLeaf t first None → end ≤ 2 ^ 27 → IsFirstMapped t first end None
+pub none_mapped : (t : Tables) (first end : ℕ) → IsNextLeaf t first None → end ≤ 2 ^ 27 → IsFirstMapped t first end None
 none_mapped t first end bare low = unmapped_to t first (2 ^ 27) end bare low low
 
-pub none_before : (t : Image) (first end page w : ℕ) → IsNextLeaf t first (Some (page, w)) → end ≤ 2 ^ 27 → end ≤ page → IsFirstMapped t first end None
+pub none_before : (t : Tables) (first end page w : ℕ) → IsNextLeaf t first (Some (page, w)) → end ≤ 2 ^ 27 → end ≤ page → IsFirstMapped t first end None
 none_before t first end page w next low past = unmapped_to t first page end next.3 low past
 
-pub one_mapped : (t : Image) (first end page w : ℕ) → IsNextLeaf t first (Some (page, w)) → end ≤ 2 ^ 27 → page < end → IsFirstMapped t first end (Some page)
+pub one_mapped : (t : Tables) (first end page w : ℕ) → IsNextLeaf t first (Some (page, w)) → end ≤ 2 ^ 27 → page < end → IsFirstMapped t first end (Some page)
 one_mapped t first end page w next low before =
     let some : get t.leaves (leaf_node page) ≡ Some w = ap (get t.leaves) (leaf_place page (omega arith)) ∙ next.2 in
     (next.0, before, rw some refl, unmapped_to t first page page next.3 (omega arith) (omega arith))
@@ -80,7 +80,7 @@ was_settled p first end n s at =
     ]
 
 -- a process with fewer settled pages, of which the others have no leaf
-module _ (v : View) (root trapframe : ℕ) (l : Layout) (u : Image) (p : Process) (old new : PageMap Page)
+module _ (v : View) (root trapframe : ℕ) (l : Layout) (u : Tables) (p : Process) (old new : PageMap Page)
     (fewer : (n : ℕ) (s : Page) → pages.get new n ≡ Some s → pages.get old n ≡ Some s)
     (numbers : (k w n : ℕ) (s : Page) → get u.leaves k ≡ Some w → k ≡ leaf_node n → pages.get old n ≡ Some s → pages.get new n ≡ Some s) where
   number_left : (k w : ℕ) → get u.leaves k ≡ Some w → IsLeafNumber (record p { settled = old }) k → IsLeafNumber (record p { settled = new }) k
@@ -130,7 +130,7 @@ module _ (first from end : ℕ) (within : from ≤ max first end) where
     | inr late ↦ inr (omega (arith, within, after, late))
   ]
 
-  module _ (u : Image) (none : AreUnmapped u from end) where
+  module _ (u : Tables) (none : AreUnmapped u from end) where
     long_run : (n w : ℕ) → get u.leaves (leaf_node n) ≡ Some w → (n < first) ⊎ (from ≤ n) → (n < first) ⊎ (end ≤ n)
     long_run n w leaf (inl before) = inl before
     long_run n w leaf (inr after) = elim (cases_lt n end) [
@@ -138,7 +138,7 @@ module _ (first from end : ℕ) (within : from ≤ max first end) where
       | inr late ↦ inr (omega (arith, late))
     ]
 
-    drops_longer : (t : Image) → Drops t u first from → Drops t u first end
+    drops_longer : (t : Tables) → Drops t u first from → Drops t u first end
     drops_longer t d = record {
       tables = d.tables;
       gone = λ n low high. elim (cases_lt n from) [
@@ -170,7 +170,7 @@ module _ (first page : ℕ) (from : first ≤ page) (low : page < trapframe_page
   other_page : (n : ℕ) → n < 2 ^ 27 → (n ≡ page → ⊥) → leaf_node n ≡ leaf_node page → ⊥
   other_page n small apart same = apart (one_page n page small (omega (arith, low)) same)
 
-  drops_more : (t u : Image) → Drops t u first page → Drops t (without_leaf u (leaf_node page)) first (page + 1)
+  drops_more : (t u : Tables) → Drops t u first page → Drops t (without_leaf u (leaf_node page)) first (page + 1)
   drops_more t u d = record {
     tables = d.tables;
     gone = λ n after before. elim (cases_eq n page) [
@@ -183,7 +183,7 @@ module _ (first page : ℕ) (from : first ≤ page) (low : page < trapframe_page
         remove_other u.leaves (leaf_node page) k (apart page from (omega arith)) ∙ d.others k (λ n after before. apart n after (omega (arith, before)));
   }
 
-  module _ (v w : View) (root trapframe : ℕ) (u : Image) (p : Process) (d : DropsLeaf v w root u page) where
+  module _ (v w : View) (root trapframe : ℕ) (u : Tables) (p : Process) (d : DropsLeaf v w root u page) where
     kept : (n x : ℕ) → n < 2 ^ 27 → (n ≡ page → ⊥) → get u.leaves (leaf_node n) ≡ Some x → get (without_leaf u (leaf_node page)).leaves (leaf_node n) ≡ Some x
     kept n x small apart leaf = remove_other u.leaves (leaf_node page) (leaf_node n) (other_page n small apart) ∙ leaf
 
@@ -258,7 +258,7 @@ some_leaf : (o : Option ℕ) → IsSome o → (w : ℕ) × (o ≡ Some w)
 some_leaf None some = absurd (cc)
 some_leaf (Some w) some = (w, refl)
 
-may_drop : (v : View) (root trapframe : ℕ) (u : Image) (q : Process) → Stands v root trapframe None u q → (page : ℕ) → page < trapframe_page
+may_drop : (v : View) (root trapframe : ℕ) (u : Tables) (q : Process) → Stands v root trapframe None u q → (page : ℕ) → page < trapframe_page
     → IsSome (get u.leaves (leaf_node page)) → CanDrop v root u page
 may_drop v root trapframe u q s page low some =
     let leaf = some_leaf (get u.leaves (leaf_node page)) some in
@@ -285,11 +285,11 @@ may_drop v root trapframe u q s page low some =
       small = on.2;
     }
 
-drops_none : (t : Image) (first : ℕ) → Drops t t first first
+drops_none : (t : Tables) (first : ℕ) → Drops t t first first
 drops_none t first = record { tables = refl; gone = λ n from before. absurd (omega arith); others = λ k apart. refl }
 
 -- before the first page
-agrees_first : (v : View) (root trapframe : ℕ) (l : Layout) (t : Image) (p : Process) (first : ℕ)
+agrees_first : (v : View) (root trapframe : ℕ) (l : Layout) (t : Tables) (p : Process) (first : ℕ)
     → Agrees v root trapframe l t p → Agrees v root trapframe l t (without_pages p first first)
 agrees_first v root trapframe l t p first =
     agrees_fewer v root trapframe l t p p.settled (without_pages p first first).settled
@@ -297,10 +297,10 @@ agrees_first v root trapframe l t p first =
     (λ k w n s leaf is at. still_settled p first first n s at (everywhere first n))
 
 -- pages of a run were dropped
-abbrev pub HasDropped : View → ℕ → ℕ → Layout → Image → Process → ℕ → ℕ → Type 0
-HasDropped v root trapframe l t p first end = (u : Image) × Agrees v root trapframe l u (without_pages p first end) × Drops t u first end
+abbrev pub HasDropped : View → ℕ → ℕ → Layout → Tables → Process → ℕ → ℕ → Type 0
+HasDropped v root trapframe l t p first end = (u : Tables) × Agrees v root trapframe l u (without_pages p first end) × Drops t u first end
 
-module _ (v : View) (root trapframe : ℕ) (l : Layout) (t : Image) (p : Process) where
+module _ (v : View) (root trapframe : ℕ) (l : Layout) (t : Tables) (p : Process) where
   pub dropped_none : (first : ℕ) → Agrees v root trapframe l t p → HasDropped v root trapframe l t p first first
   dropped_none first a = (t, agrees_first v root trapframe l t p first a, drops_none t first)
 

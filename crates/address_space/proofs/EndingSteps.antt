@@ -10,7 +10,7 @@ use Rattle.process_model.specs.Process.{Process}
 use Rattle.sv39_entry.specs.Address.{trampoline_page, trapframe_page}
 use Rattle.sv39_entry.specs.Frame.{ppn_of}
 use Rattle.sv39_entry.specs.Word.{ppn}
-use Rattle.table_walk.specs.Image.{ChangesTables, Image, leaf_node, without_leaf}
+use Rattle.table_walk.specs.Tables.{ChangesTables, Tables, leaf_node, without_leaf}
 use Rattle.table_walk.specs.Keys.{is_none, remove_other}
 use Rattle.table_walk.specs.Released.{AreLast, SameTallies}
 use Rattle.address_space.specs.Agreement.{Agrees, Names, Owns}
@@ -22,7 +22,7 @@ use Rattle.address_space.proofs.DroppedPages.{was_settled}
 use Rattle.address_space.proofs.Owned.{one_page, released_here, released_other, same_references}
 
 -- no page is settled
-module _ (v : View) (root trapframe : ℕ) (l : Layout) (u : Image) (p : Process) (a : Agrees v root trapframe l u (without_pages p 0 trapframe_page)) where
+module _ (v : View) (root trapframe : ℕ) (l : Layout) (u : Tables) (p : Process) (a : Agrees v root trapframe l u (without_pages p 0 trapframe_page)) where
   two_left : (k w : ℕ) → get u.leaves k ≡ Some w → (k ≡ leaf_node trampoline_page) ⊎ (k ≡ leaf_node trapframe_page)
   two_left k w leaf = elim (a.stands.shows.only k w leaf) as (λ _. (k ≡ leaf_node trampoline_page) ⊎ (k ≡ leaf_node trapframe_page)) [
     | inl trampoline ↦ inl trampoline
@@ -56,7 +56,7 @@ module _ (v : View) (root trapframe : ℕ) (l : Layout) (u : Image) (p : Process
       }
 
 -- TRAPFRAME's leaf is gone, and TRAMPOLINE's page is unmapped
-module _ (v w m : View) (root : ℕ) (t : Image) (a : IsEmptied v root t) (d : DropsLeaf v w root t trapframe_page)
+module _ (v w m : View) (root : ℕ) (t : Tables) (a : IsEmptied v root t) (d : DropsLeaf v w root t trapframe_page)
     (c : ChangesTables w m (without_leaf t (leaf_node trapframe_page)) (without_leaf t (leaf_node trapframe_page)) 0) where
   last : (x : ℕ) × (get (without_leaf t (leaf_node trapframe_page)).leaves (leaf_node trampoline_page) ≡ Some x) × (ppn x ≡ ppn_of 0)
   last =

@@ -7,7 +7,7 @@ use Rattle.std.proofs.lemmas.Option.{same_Some, slice_get_within}
 use Rattle.frame_store.specs.Holds.{hold_of-frames, hold_of-with_hold_other, hold_of-with_hold_same}
 use Rattle.frame_store.specs.Tallies.{spent_none, spent_on}
 use Rattle.frame_store.specs.View.{Hold, View, claimed, hold_of, IsHeld, references, sole_hold, with_credits, with_hold}
-use Rattle.table_walk.specs.Image.{bare_root, blank_hold, ChangesTables, HasTables, Image}
+use Rattle.table_walk.specs.Tables.{bare_root, blank_hold, ChangesTables, HasTables, Tables}
 use Rattle.table_walk.specs.Keys.{insert_other, insert_same}
 use Rattle.table_walk.specs.Same.{same_tables}
 use Rattle.address_space.specs.Kernel.{HoldsKernel}
@@ -28,7 +28,7 @@ spends_on u v w m n first second =
 pub spends_claim : (f : ℕ) (v w : View) → w ≡ claimed f v → Spends v w 1
 spends_claim f v w is = subst (λ u. Spends v u 1) (sym is) (record { credits = refl; tallies = refl })
 
-pub spends_tables : (v w : View) (t u : Image) (n : ℕ) → ChangesTables v w t u n → Spends v w n
+pub spends_tables : (v w : View) (t u : Tables) (n : ℕ) → ChangesTables v w t u n → Spends v w n
 spends_tables v w t u n changes = record { credits = changes.credits; tallies = changes.tallies }
 
 pub spends_is : (v w : View) (m n : ℕ) → m ≡ n → Spends v w m → Spends v w n
@@ -56,7 +56,7 @@ module _ (f : ℕ) (v w : View) (is : w ≡ claimed f v) where
     pub not_claimed : (g : ℕ) → references v g ≡ 1 → g ≡ f → ⊥
     not_claimed g once e = let none : references v g ≡ 0 = ap (references v) e ∙ fresh in omega (arith, none, once)
 
-    pub tables_stay : (root : ℕ) (t : Image) → HasTables v root t → HasTables w root t
+    pub tables_stay : (root : ℕ) (t : Tables) → HasTables v root t → HasTables w root t
     tables_stay root t has = same_tables v w root t (λ k g at. claimed_other g (λ e. let none : references v g ≡ 0 = ap (references v) e ∙ fresh in let held = (has.own k g at).0 in omega (arith, none, held))) has
 
     pub once_still : (g : ℕ) → references v g ≡ 1 → references w g ≡ 1
@@ -110,7 +110,7 @@ old_or_new : (f : ℕ) (o p : Option ℕ) → ((g : ℕ) → o ≡ Some g → p 
 old_or_new f None p kept is = inr refl
 old_or_new f (Some g) p kept is = inl (sym (kept g refl) ∙ is)
 
-module _ (v w : View) (stacks : List ℕ) (t u : Image) (n : ℕ) (holds : HoldsKernel v stacks t.tables) (changes : ChangesTables v w t u n)
+module _ (v w : View) (stacks : List ℕ) (t u : Tables) (n : ℕ) (holds : HoldsKernel v stacks t.tables) (changes : ChangesTables v w t u n)
     (kept : (k f : ℕ) → get t.tables k ≡ Some f → get u.tables k ≡ Some f) where
   which : (k f : ℕ) → get u.tables k ≡ Some f → (get t.tables k ≡ Some f) ⊎ (get t.tables k ≡ None)
   which k f at = old_or_new f (get t.tables k) (get u.tables k) (kept k) at

@@ -6,7 +6,7 @@ use Rattle.std.proofs.lemmas.Bool.{cases_eq, ne_eqb}
 use Rattle.frame_store.specs.View.{View, claimed, IsHeld, references, with_hold}
 use Rattle.sv39_entry.specs.Address.{trampoline_page}
 use Rattle.sv39_entry.specs.Word.{leaf_word}
-use Rattle.table_walk.specs.Image.{bare_root, blank_hold, ChangesTables, HasTables, Image, IsGrown, leaf_node, missing, with_leaf}
+use Rattle.table_walk.specs.Tables.{bare_root, blank_hold, ChangesTables, HasTables, Tables, IsGrown, leaf_node, missing, with_leaf}
 use Rattle.table_walk.specs.Keys.{insert_other, insert_same}
 use Rattle.table_walk.specs.Nodes.{leaf_node_is}
 use Rattle.table_walk.specs.Walk.{top_level}
@@ -17,14 +17,14 @@ use Rattle.address_space.proofs.KernelFrames.{holds_root, more_stacks, more_tabl
 use Rattle.address_space.proofs.KernelPages.{frame_other, get_last, nothing_else, on_frame, on_slot, on_trampoline, stack_other}
 use Rattle.address_space.proofs.KernelTables.{frame_missing, frame_numbers, stack_missing, stack_numbers, trampoline_missing, trampoline_numbers}
 
--- the image after a page was mapped, as `map` has it
-abbrev pub Mapped : View → View → ℕ → Image → ℕ → ℕ → Type 0
+-- the tables after a page was mapped, as `map` has it
+abbrev pub Mapped : View → View → ℕ → Tables → ℕ → ℕ → Type 0
 Mapped v w root t page leaf =
-    (u : Image) × IsGrown t u page top_level × HasTables w root (with_leaf u (leaf_node page) leaf) × ChangesTables v w t u (missing t page)
+    (u : Tables) × IsGrown t u page top_level × HasTables w root (with_leaf u (leaf_node page) leaf) × ChangesTables v w t u (missing t page)
 
 -- ---- one leaf more
 
-module _ (t u : Image) (page leaf : ℕ) (before after : ℕ → Option (ℕ × ℕ)) (same : u.leaves ≡ t.leaves) (low : page < 2 ^ 27)
+module _ (t u : Tables) (page leaf : ℕ) (before after : ℕ → Option (ℕ × ℕ)) (same : u.leaves ≡ t.leaves) (low : page < 2 ^ 27)
     (had : (q : ℕ) → q < 2 ^ 27 → get t.leaves (leaf_node q) ≡ kernel_leaf (before q)) (here : Some leaf ≡ kernel_leaf (after page))
     (others : (q : ℕ) → (q ≡ page → ⊥) → after q ≡ before q) where
   leaf_more : (q : ℕ) → q < 2 ^ 27 → get (with_leaf u (leaf_node page) leaf).leaves (leaf_node q) ≡ kernel_leaf (after q)
@@ -68,7 +68,7 @@ module _ (root page leaf : ℕ) (v m w : View) (made : m ≡ with_hold root blan
 pub stack_page_is : (page address slot n : ℕ) → page ≡ address / 4096 → address + (slot + 1) * 2 * 4096 ≡ 2 ^ 38 - 4096 → n ≡ slot → page ≡ stack_page n
 stack_page_is page address slot n page_is address_is same = omega (arith, page_is, address_is, same)
 
-module _ (root f page : ℕ) (v c : View) (stacks : List ℕ) (t : Image) (maps : MapsKernel v root 0 stacks t) (few : length stacks < 64)
+module _ (root f page : ℕ) (v c : View) (stacks : List ℕ) (t : Tables) (maps : MapsKernel v root 0 stacks t) (few : length stacks < 64)
     (is : c ≡ claimed f v) (fresh : references v f ≡ 0) (page_is : page ≡ stack_page (length stacks)) where
   pub stack_tables : HasTables c root t
   stack_tables = tables_stay f v c is fresh root t maps.tables
@@ -101,7 +101,7 @@ module _ (root f page : ℕ) (v c : View) (stacks : List ℕ) (t : Image) (maps 
 pub frame_page_is : (page address i : ℕ) → page ≡ address / 4096 → address ≡ 4096 * (first_direct + i) → page ≡ first_direct + i
 frame_page_is page address i page_is address_is = omega (arith, page_is, address_is)
 
-module _ (root i page : ℕ) (v : View) (stacks : List ℕ) (t : Image) (maps : MapsKernel v root i stacks t) (low : i < 1024)
+module _ (root i page : ℕ) (v : View) (stacks : List ℕ) (t : Tables) (maps : MapsKernel v root i stacks t) (low : i < 1024)
     (page_is : page ≡ first_direct + i) where
   pub frame_is_missing : missing t page + direct_tables i ≡ direct_tables (i + 1)
   frame_is_missing = ap (λ p. missing t p + direct_tables i) page_is ∙ frame_missing t i maps.numbers low

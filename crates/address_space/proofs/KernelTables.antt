@@ -8,7 +8,7 @@ use Rattle.std.proofs.lemmas.Bool.Decides.{nat_tests}
 use Rattle.frame_store.specs.View.{View, with_credits}
 use Rattle.process_model.specs.Frames.{kernel_frames}
 use Rattle.sv39_entry.specs.Address.{trampoline_page}
-use Rattle.table_walk.specs.Image.{Image, IsGrown, bare_root, missing, node}
+use Rattle.table_walk.specs.Tables.{Tables, IsGrown, bare_root, missing, node}
 use Rattle.table_walk.specs.Keys.{insert_other, insert_same, is_none}
 use Rattle.table_walk.specs.Walk.{top_level}
 use Rattle.address_space.specs.Kernel.{direct_tables, first_direct, is_kernel_table, stack_page}
@@ -19,11 +19,11 @@ use Rattle.address_space.specs.Kernel.{direct_tables, first_direct, is_kernel_ta
 -- ---- the numbers
 
 -- the tables that are there are those of so many frames
-abbrev pub HasNumbers : Image → ℕ → Type 0
+abbrev pub HasNumbers : Tables → ℕ → Type 0
 HasNumbers t frames = (k : ℕ) → is_some (get t.tables k) ≡ is_kernel_table frames k
 
 -- one is missing for each of a page's two tables that is not there
-missing_is : (t : Image) (page a b : ℕ) (x y : Bool) → node page 1 ≡ a → node page 2 ≡ b → is_some (get t.tables a) ≡ x → is_some (get t.tables b) ≡ y
+missing_is : (t : Tables) (page a b : ℕ) (x y : Bool) → node page 1 ≡ a → node page 2 ≡ b → is_some (get t.tables a) ≡ x → is_some (get t.tables b) ≡ y
     → missing t page ≡ (if x then 0 else 1) + (if y then 0 else 1)
 missing_is t page a b x y first second one two = rw (ap (λ (n : ℕ). is_some (get t.tables n)) second ∙ two, ap (λ (n : ℕ). is_some (get t.tables n)) first ∙ one) (omega arith)
 
@@ -31,7 +31,7 @@ there : {A : Type 0} (o : Option A) → is_some o ≡ true → (x : A) × (o ≡
 there None some = absurd (cc)
 there (Some x) some = (x, refl)
 
-module _ (t u : Image) (page a b : ℕ) (first : node page 1 ≡ a) (second : node page 2 ≡ b) (grown : IsGrown t u page top_level) (root : is_some (get t.tables 1) ≡ true) where
+module _ (t u : Tables) (page a b : ℕ) (first : node page 1 ≡ a) (second : node page 2 ≡ b) (grown : IsGrown t u page top_level) (root : is_some (get t.tables 1) ≡ true) where
   -- a table that is new is one of the page's two
   on_way : (k i : ℕ) → i ≤ top_level → k ≡ node page i → get t.tables k ≡ None → (k ≡ a) ⊎ (k ≡ b)
   on_way k zero low is none = absurd (let gone : is_some (get t.tables 1) ≡ false = ap (λ (n : ℕ). is_some (get t.tables n)) (sym is) ∙ ap is_some none in cc)
@@ -76,11 +76,11 @@ stack_first slot less = omega (arith, less)
 stack_second : (slot : ℕ) → slot < 64 → node (stack_page slot) 2 ≡ 393215
 stack_second slot less = omega (arith, less)
 
-module _ (t : Image) (numbers : HasNumbers t 0) where
+module _ (t : Tables) (numbers : HasNumbers t 0) where
   pub stack_missing : (slot : ℕ) → slot < 64 → missing t (stack_page slot) ≡ 0
   stack_missing slot less = missing_is t (stack_page slot) 767 393215 true true (stack_first slot less) (stack_second slot less) (numbers 767) (numbers 393215)
 
-  pub stack_numbers : (u : Image) (slot : ℕ) → slot < 64 → IsGrown t u (stack_page slot) top_level → HasNumbers u 0
+  pub stack_numbers : (u : Tables) (slot : ℕ) → slot < 64 → IsGrown t u (stack_page slot) top_level → HasNumbers u 0
   stack_numbers u slot less grown k =
       grown_numbers t u (stack_page slot) 767 393215 (stack_first slot less) (stack_second slot less) grown (numbers 1) k
       ∙ ap (λ x. x || (k == 767 || k == 393215)) (numbers k) ∙ among 0 767 393215 k refl refl
@@ -102,7 +102,7 @@ last_none false true z = refl
 last_none false false true = refl
 last_none false false false = refl
 
-pub trampoline_numbers : (root : ℕ) (u : Image) → IsGrown (bare_root root) u trampoline_page top_level → HasNumbers u 0
+pub trampoline_numbers : (root : ℕ) (u : Tables) → IsGrown (bare_root root) u trampoline_page top_level → HasNumbers u 0
 trampoline_numbers root u grown k =
     grown_numbers (bare_root root) u trampoline_page 767 393215 refl refl grown (one_table root 1) k
     ∙ ap (λ x. x || (k == 767 || k == 393215)) (one_table root k) ∙ last_none (k == 1) (k == 767) (k == 393215)
@@ -158,7 +158,7 @@ reserved v w n frames slots is need some none =
     omega (arith, credits, need, parts, none)
 
 -- the next frame is the first, one of the first two megabytes, the first of the second, or another of those
-module _ (t : Image) (i : ℕ) (numbers : HasNumbers t i) (less : i < 1024) where
+module _ (t : Tables) (i : ℕ) (numbers : HasNumbers t i) (less : i < 1024) where
   missing_low : 0 < i → i < 512 → missing t (first_direct + i) ≡ 0
   missing_low some low = missing_is t (first_direct + i) 514 263168 true true (low_first i less) (low_second i low) (numbers 514 ∙ some_low i some (omega (arith, low)) 514) (numbers 263168 ∙ some_low i some (omega (arith, low)) 263168)
 
@@ -187,7 +187,7 @@ module _ (t : Image) (i : ℕ) (numbers : HasNumbers t i) (less : i < 1024) wher
     ]
   ]
 
-  module _ (u : Image) (grown : IsGrown t u (first_direct + i) top_level) (k : ℕ) where
+  module _ (u : Tables) (grown : IsGrown t u (first_direct + i) top_level) (k : ℕ) where
     grown_low : i < 512 → is_some (get u.tables k) ≡ (is_kernel_table i k || (k == 514 || k == 263168))
     grown_low low =
         grown_numbers t u (first_direct + i) 514 263168 (low_first i less) (low_second i low) grown (numbers 1) k

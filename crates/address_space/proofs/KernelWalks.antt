@@ -13,7 +13,7 @@ use Rattle.sv39_entry.specs.declared.access.Access.{Access}
 use Rattle.sv39_entry.specs.declared.access.Access.TheVariants.{Fetch, Load, Store}
 use Rattle.sv39_entry.specs.declared.access.Mode.TheVariants.{Supervisor}
 use Rattle.table_walk.specs.Held.{held_memory}
-use Rattle.table_walk.specs.Image.{Image, leaf_node}
+use Rattle.table_walk.specs.Tables.{Tables, leaf_node}
 use Rattle.table_walk.specs.Memory.{Extent, has_byte, physical_address}
 use Rattle.table_walk.specs.Nodes.{leaf_node_is}
 use Rattle.table_walk.specs.Walk.{Finds, FindsLeaf, LeavesMemory, Maps, Translates}
@@ -75,7 +75,7 @@ frame_there f small = rw (le-leb 0x80000 (ppn_of f) (omega arith), lt-ltb (ppn_o
 abbrev pub extent : Extent
 extent ppn index = is_some (frame_at ppn)
 
-module _ (v : View) (root frames slots : ℕ) (stacks : List ℕ) (t : Image) (built : IsKernelTable v root frames slots stacks t)
+module _ (v : View) (root frames slots : ℕ) (stacks : List ℕ) (t : Tables) (built : IsKernelTable v root frames slots stacks t)
     (found_leaves : (page leaf level : ℕ) → Maps (held_memory v) (ppn_of root) page leaf level ↔ (level ≡ 0) × (get t.leaves (leaf_node page) ≡ Some leaf))
     (inside : (page : ℕ) → LeavesMemory (held_memory v) (ppn_of root) page → ⊥) (address : ℕ) (access : Access) where
   any_leaf : get t.leaves (leaf_node (page_of address)) ≡ kernel_leaf (kernel_page frames stacks (page_of address % 2 ^ 27))

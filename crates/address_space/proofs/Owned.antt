@@ -1,4 +1,4 @@
--- Frames that an image names, and a spare one.
+-- Frames that tables name, and a spare one.
 use Rattle.std.proofs.Common.{◌≡◌, ℕ, ◌<◌, ◌^◌, Option, None, Some, refl, ap, sym, subst, ◌∙◌, inl, inr, arith, cond, ◌-◌}
 use Rattle.std.proofs.lemmas.Bool.{cases_eq, eq-eqb}
 use Rattle.std.proofs.lemmas.Option.{same_Some}
@@ -9,7 +9,7 @@ use Rattle.frame_store.specs.View.{spent, Hold, View, claimed, hold_of, IsHeld, 
 use Rattle.process_model.specs.Process.{Process}
 use Rattle.sv39_entry.specs.Frame.{ppn_of}
 use Rattle.sv39_entry.specs.Word.{ppn}
-use Rattle.table_walk.specs.Image.{HasTables, Image, leaf_node}
+use Rattle.table_walk.specs.Tables.{HasTables, Tables, leaf_node}
 use Rattle.table_walk.specs.Nodes.{leaf_node_is}
 use Rattle.table_walk.specs.Same.{same_tables}
 use Rattle.address_space.specs.Agreement.{Names, Owns, Shows, Stands}
@@ -64,14 +64,14 @@ released_other f g v one apart = ap (λ w. hold_of w g) (released_once f v one) 
 
 -- what is owned
 
-module _ (v : View) (t : Image) where
+module _ (v : View) (t : Tables) where
   -- the frame of a leaf is no table
   pub no_table : (root : ℕ) (spare : Option ℕ) → HasTables v root t → Owns v t spare → (n w f : ℕ) → get t.leaves n ≡ Some w → ppn w ≡ ppn_of f
       → (k : ℕ) → get t.tables k ≡ Some f → ⊥
   no_table root spare h o n w f leaf names k table =
       let same = o.once f k n (inl table) (inr (w, leaf, names)) in
-      let low = (h.image.below k f table).1 in
-      let high = (h.image.leaf_hung n w leaf).1 in
+      let low = (h.known.below k f table).1 in
+      let high = (h.known.leaf_hung n w leaf).1 in
       omega (arith, same, low, high)
 
   -- a frame that is not held has no name
@@ -122,7 +122,7 @@ module _ (v : View) (t : Image) where
 -- what is shown
 
 -- the frames of the leaves have the same holds
-pub same_shows : (v w : View) (trapframe : ℕ) (t : Image) (p : Process)
+pub same_shows : (v w : View) (trapframe : ℕ) (t : Tables) (p : Process)
     → ((n x f : ℕ) → get t.leaves n ≡ Some x → ppn x ≡ ppn_of f → hold_of w f ≡ hold_of v f) → Shows v trapframe t p → Shows w trapframe t p
 same_shows v w trapframe t p same s = record {
   on_trampoline = s.on_trampoline;
@@ -143,7 +143,7 @@ same_shows v w trapframe t p same s = record {
 }
 
 -- all holds are the same
-pub same_stands : (v w : View) (root trapframe : ℕ) (spare : Option ℕ) (t : Image) (p : Process) → ((f : ℕ) → hold_of w f ≡ hold_of v f)
+pub same_stands : (v w : View) (root trapframe : ℕ) (spare : Option ℕ) (t : Tables) (p : Process) → ((f : ℕ) → hold_of w f ≡ hold_of v f)
     → Stands v root trapframe spare t p → Stands w root trapframe spare t p
 same_stands v w root trapframe spare t p same s = record {
   tables = same_tables v w root t (λ k f at. same f) s.tables;
@@ -154,7 +154,7 @@ same_stands v w root trapframe spare t p same s = record {
 }
 
 -- frame 0 is held
-pub anchored : (v : View) (root trapframe : ℕ) (spare : Option ℕ) (t : Image) (p : Process) → Stands v root trapframe spare t p → IsHeld v 0
+pub anchored : (v : View) (root trapframe : ℕ) (spare : Option ℕ) (t : Tables) (p : Process) → Stands v root trapframe spare t p → IsHeld v 0
 anchored v root trapframe spare t p s =
     let leaf = s.shows.on_trampoline in
     let one = s.owns.named 0 _ (inr (leaf.0, leaf.1, leaf.2.names)) in

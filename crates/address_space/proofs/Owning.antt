@@ -12,7 +12,7 @@ use Rattle.process_model.specs.Residence.{unmarked, with_page}
 use Rattle.sv39_entry.specs.Address.{vpn}
 use Rattle.sv39_entry.specs.Frame.{ppn_of}
 use Rattle.sv39_entry.specs.Word.{ppn}
-use Rattle.table_walk.specs.Image.{HasTables, Image, last_table, leaf_node, with_leaf}
+use Rattle.table_walk.specs.Tables.{HasTables, Tables, last_table, leaf_node, with_leaf}
 use Rattle.table_walk.specs.Keys.{insert_other, insert_same}
 use Rattle.table_walk.specs.Nodes.{above, leaf_number}
 use Rattle.table_walk.specs.Walk.{top_level}
@@ -22,11 +22,11 @@ use Rattle.address_space.proofs.Writing.{page_stands, words_other, words_referen
 
 -- what is named
 
-module _ (v : View) (root : ℕ) (t : Image) (h : HasTables v root t) (page old leaf f g : ℕ) (was : get t.leaves (leaf_node page) ≡ Some old)
+module _ (v : View) (root : ℕ) (t : Tables) (h : HasTables v root t) (page old leaf f g : ℕ) (was : get t.leaves (leaf_node page) ≡ Some old)
     (names_old : ppn old ≡ ppn_of f) (names : ppn leaf ≡ ppn_of g) where
   -- no table has the number of a leaf
   not_table : (x k : ℕ) → k ≡ leaf_node page → get t.tables k ≡ Some x → ⊥
-  not_table x k at table = let low = (h.image.below k x table).1 in let high = leaf_number page in omega (arith, low, high, at)
+  not_table x k at table = let low = (h.known.below k x table).1 in let high = leaf_number page in omega (arith, low, high, at)
 
   stays : (x k : ℕ) → (k ≡ leaf_node page → ⊥) → Names t x k → Names (with_leaf t (leaf_node page) leaf) x k
   stays x k ne (inl table) = inl table
@@ -133,14 +133,14 @@ module _ (v : View) (root : ℕ) (t : Image) (h : HasTables v root t) (page old 
 
 -- the leaf is put in the place of the one that was there
 
-module _ (v w : View) (root trapframe : ℕ) (spare : Option ℕ) (t : Image) (p : Process) (page : ℕ) (s : Page) (r : Region) (g leaf : ℕ)
+module _ (v w : View) (root trapframe : ℕ) (spare : Option ℕ) (t : Tables) (p : Process) (page : ℕ) (s : Page) (r : Region) (g leaf : ℕ)
     (stands : Stands v root trapframe spare t p) (settled : pages.get p.settled page ≡ Some s) (in_region : region_at (regions p) page ≡ Some r)
     (made : IsPageLeaf leaf g r false (is_dirty_page r s)) (tables : HasTables w root (with_leaf t (leaf_node page) leaf))
     (word : (x : ℕ) → get t.tables (last_table page) ≡ Some x → w ≡ with_word x (vpn page 0) leaf v) where
   table : (x : ℕ) × (get t.tables (last_table page) ≡ Some x)
   table =
       let shown = stands.shows.settled page s settled in
-      let hung = (stands.tables.image.leaf_hung _ _ shown.mapped).2 in
+      let hung = (stands.tables.known.leaf_hung _ _ shown.mapped).2 in
       (hung.0, ap (get t.tables) (sym (above page top_level)) ∙ hung.1)
 
   pub turned_words : (x : ℕ) × ChangesWords x v w

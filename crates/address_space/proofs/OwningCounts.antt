@@ -18,7 +18,7 @@ use Rattle.sv39_entry.specs.Address.{vpn}
 use Rattle.sv39_entry.specs.Frame.{frame_at}
 use Rattle.sv39_entry.specs.Word.{has_flag, ppn}
 use Rattle.sv39_entry.specs.declared.frame.FrameNo.{FrameNo}
-use Rattle.table_walk.specs.Image.{HasTables, Image, last_table, leaf_node, with_leaf}
+use Rattle.table_walk.specs.Tables.{HasTables, Tables, last_table, leaf_node, with_leaf}
 use Rattle.table_walk.specs.Keys.{insert_other, insert_same}
 use Rattle.address_space.specs.Agreement.{Agrees, is_dirty_page, IsPageLeaf, Stands}
 use Rattle.address_space.specs.Layouts.{Layout}
@@ -124,20 +124,20 @@ module _ (v w : View) (like : IsLike v w) where
   like_bytes : (f : ℕ) (bytes : _) → HasBytes v f bytes → HasBytes w f bytes
   like_bytes f bytes has = record { length = has.length; small = has.small; words = λ i low. ap (λ m. get m i) (like.words f) ∙ has.words i low }
 
-  like_tables : (root : ℕ) (t : Image) → HasTables v root t → HasTables w root t
+  like_tables : (root : ℕ) (t : Tables) → HasTables v root t → HasTables w root t
   like_tables root t has = record {
-    image = record {
-      rooted = has.image.rooted;
-      words = λ k f i at low. ap (λ m. get m i) (like.words f) ∙ has.image.words k f i at low;
-      apart = has.image.apart;
-      below = has.image.below;
-      hung = has.image.hung;
-      leaf_hung = has.image.leaf_hung;
+    known = record {
+      rooted = has.known.rooted;
+      words = λ k f i at low. ap (λ m. get m i) (like.words f) ∙ has.known.words k f i at low;
+      apart = has.known.apart;
+      below = has.known.below;
+      hung = has.known.hung;
+      leaf_hung = has.known.leaf_hung;
     };
     own = λ k f at. let own = has.own k f at in (subst (λ n. 0 < n) (sym (like.counts f)) own.0, like.soles f own.1);
   }
 
-  like_stands : (root trapframe : ℕ) (spare : Option ℕ) (t : Image) (p : Process) → Stands v root trapframe spare t p → Stands w root trapframe spare t p
+  like_stands : (root trapframe : ℕ) (spare : Option ℕ) (t : Tables) (p : Process) → Stands v root trapframe spare t p → Stands w root trapframe spare t p
   like_stands root trapframe spare t p s = record {
     tables = like_tables root t s.tables;
     owns = same_owns v t w spare like.counts like.soles s.owns;
@@ -191,7 +191,7 @@ pub look_at : (v b a : View) (f x c : ℕ) → b ≡ v → a ≡ looked x c b �
 look_at v b a f x c same look is = look ∙ ap (looked x c) same ∙ ap (λ y. looked y c v) is
 
 -- a reservation is refused
-pub refused_agrees : (v a w : View) (f c root trapframe : ℕ) (l : Layout) (t : Image) (p : Process) → a ≡ looked f c v → IsDry 1 a w
+pub refused_agrees : (v a w : View) (f c root trapframe : ℕ) (l : Layout) (t : Tables) (p : Process) → a ≡ looked f c v → IsDry 1 a w
     → Agrees v root trapframe l t p → Agrees w root trapframe l t p
 refused_agrees v a w f c root trapframe l t p look dry agrees = record {
   lays = agrees.lays;
@@ -218,7 +218,7 @@ kept_dirty false w = refl
 kept_dirty true false = refl
 kept_dirty true true = refl
 
-module _ {v : View} {root trapframe : ℕ} {l : Layout} {t : Image} {p : Process} {page : ℕ} {s : Page} {f : ℕ} (can : CanOwn v root trapframe l t p page s f) where
+module _ {v : View} {root trapframe : ℕ} {l : Layout} {t : Tables} {p : Process} {page : ℕ} {s : Page} {f : ℕ} (can : CanOwn v root trapframe l t p page s f) where
   -- its frame
   here : HasPage v t p page s f
   here = parting_page v root trapframe t p page s can.region f (is_dirty_page can.region s) (record {
@@ -320,7 +320,7 @@ module _ {v : View} {root trapframe : ℕ} {l : Layout} {t : Image} {p : Process
         kept = kept;
       }
 
-      pub own_parted : (w : View) (u : Image) (g : ℕ) → Separates b w root trapframe t u p page s g → Owned v w root trapframe l t u p page s f g c
+      pub own_parted : (w : View) (u : Tables) (g : ℕ) → Separates b w root trapframe t u p page s g → Owned v w root trapframe l t u p page s f g c
       own_parted w u g parts = record {
         agrees = λ fresh. record {
           lays = lays_with l p page _ can.agrees.lays;

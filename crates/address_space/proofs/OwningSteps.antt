@@ -12,7 +12,7 @@ use Rattle.process_model.specs.Residence.{unmarked, with_page}
 use Rattle.sv39_entry.specs.Address.{vpn}
 use Rattle.sv39_entry.specs.Frame.{ppn_of}
 use Rattle.sv39_entry.specs.Word.{ppn}
-use Rattle.table_walk.specs.Image.{HasTables, Image, last_table, leaf_node, with_leaf}
+use Rattle.table_walk.specs.Tables.{HasTables, Tables, last_table, leaf_node, with_leaf}
 use Rattle.table_walk.specs.Keys.{insert_other, insert_same}
 use Rattle.table_walk.specs.Same.{same_tables}
 use Rattle.address_space.specs.Agreement.{is_dirty_page, IsPageLeaf, Stands}
@@ -41,7 +41,7 @@ released_spends f n u v one first = record {
 
 -- what stands after each step
 
-pub claimed_stands : (v : View) (root trapframe : ℕ) (t : Image) (p : Process) (g : ℕ) → references v g ≡ 0
+pub claimed_stands : (v : View) (root trapframe : ℕ) (t : Tables) (p : Process) (g : ℕ) → references v g ≡ 0
     → Stands v root trapframe None t p → Stands (claimed g v) root trapframe (Some g) t p
 claimed_stands v root trapframe t p g none s = record {
   tables = same_tables v (claimed g v) root t
@@ -54,7 +54,7 @@ claimed_stands v root trapframe t p g none s = record {
 }
 
 -- words of the spare frame
-pub filled_stands : (v w : View) (root trapframe : ℕ) (t : Image) (p : Process) (g : ℕ) → ChangesWords g v w
+pub filled_stands : (v w : View) (root trapframe : ℕ) (t : Tables) (p : Process) (g : ℕ) → ChangesWords g v w
     → Stands v root trapframe (Some g) t p → Stands w root trapframe (Some g) t p
 filled_stands v w root trapframe t p g changes s =
     let bare = (s.owns.ready g refl).1 in
@@ -67,7 +67,7 @@ filled_stands v w root trapframe t p g changes s =
       tabled_low = s.tabled_low;
     }
 
-pub released_stands : (v : View) (root trapframe : ℕ) (t : Image) (p : Process) (f : ℕ)
+pub released_stands : (v : View) (root trapframe : ℕ) (t : Tables) (p : Process) (f : ℕ)
     → Stands v root trapframe (Some f) t p → Stands (released f v) root trapframe None t p
 released_stands v root trapframe t p f s =
     let one = (s.owns.ready f refl).0 in
@@ -83,7 +83,7 @@ released_stands v root trapframe t p f s =
     }
 
 -- the frame of a page that may leave it
-pub parting_page : (v : View) (root trapframe : ℕ) (t : Image) (p : Process) (page : ℕ) (s : Page) (r : Region) (f : ℕ) (dirty : Bool)
+pub parting_page : (v : View) (root trapframe : ℕ) (t : Tables) (p : Process) (page : ℕ) (s : Page) (r : Region) (f : ℕ) (dirty : Bool)
     → CanSeparate v root trapframe t p page s r f dirty → HasPage v t p page s f
 parting_page v root trapframe t p page s r f dirty can =
     let here = page_here v root trapframe None t p page s can.stands can.settled in
@@ -91,7 +91,7 @@ parting_page v root trapframe t p page s r f dirty can =
     subst (HasPage v t p page s) (one_frame here.0 f (sym here.1.made.names ∙ ap ppn leaf ∙ can.on.2)) here.1
 
 -- `a` is the view after the claim of frame g, `b` after its words were copied, `d` after the leaf was turned.
-module _ {v : View} {root trapframe : ℕ} {t : Image} {p : Process} {page : ℕ} {s : Page} {r : Region} {f : ℕ} {dirty : Bool} (can : CanSeparate v root trapframe t p page s r f dirty)
+module _ {v : View} {root trapframe : ℕ} {t : Tables} {p : Process} {page : ℕ} {s : Page} {r : Region} {f : ℕ} {dirty : Bool} (can : CanSeparate v root trapframe t p page s r f dirty)
     (g : ℕ) (fresh : references v g ≡ 0) where
   here : HasPage v t p page s f
   here = parting_page v root trapframe t p page s r f dirty can

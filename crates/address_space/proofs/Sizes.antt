@@ -2,12 +2,12 @@
 use Rattle.std.proofs.Common.{◌≡◌, ℕ, sym, ◌∙◌}
 use Rattle.frame_store.specs.View.{View}
 use Rattle.process_model.specs.Process.{Process}
-use Rattle.table_walk.specs.Image.{Image}
+use Rattle.table_walk.specs.Tables.{Tables}
 use Rattle.address_space.specs.Agreement.{Agrees, Shows}
 use Rattle.address_space.specs.Layouts.{Layout}
 use Rattle.address_space.specs.Steps.{KeepsRegions}
 
-module _ (v : View) (root trapframe : ℕ) (l m : Layout) (t : Image) (p : Process) (size : ℕ) (agrees : Agrees v root trapframe l t p)
+module _ (v : View) (root trapframe : ℕ) (l m : Layout) (t : Tables) (p : Process) (size : ℕ) (agrees : Agrees v root trapframe l t p)
     (keeps : KeepsRegions p (record p { size = size })) where
   shows_sized : Shows v trapframe t (record p { size = size })
   shows_sized =

@@ -23,7 +23,7 @@ use Rattle.sv39_entry.specs.Frame.{frame_at, ppn_of}
 use Rattle.sv39_entry.specs.Word.{has_flag, ppn}
 use Rattle.sv39_entry.specs.declared.frame.FrameNo.{FrameNo}
 use Rattle.table_walk.specs.Counted.{AreTablesOf}
-use Rattle.table_walk.specs.Image.{HasTables, Image, leaf_node}
+use Rattle.table_walk.specs.Tables.{HasTables, Tables, leaf_node}
 use Rattle.table_walk.specs.Same.{same_tables}
 use Rattle.address_space.specs.Agreement.{Agrees, is_dirty_page, IsPageLeaf, IsLeafNumber, IsOn, IsShown, Names, OthersKeep, Owns, Shows, Stands}
 use Rattle.address_space.specs.Layouts.{Layout, LaysOut}
@@ -57,7 +57,7 @@ frame_back : (f : ℕ) → f < 2 ^ 16 → frame_at (ppn_of f) ≡ Some (record {
 frame_back f small = grind (arith, nat_tests)
 
 -- the leaf of a page is over this frame, which has its bytes
-pub record HasPage (v : View) (t : Image) (p : Process) (page : ℕ) (s : Page) (f : ℕ) : Type 0 where
+pub record HasPage (v : View) (t : Tables) (p : Process) (page : ℕ) (s : Page) (f : ℕ) : Type 0 where
   pub region : Region
   pub leaf : ℕ
   pub in_region : region_at (regions p) page ≡ Some region
@@ -67,7 +67,7 @@ pub record HasPage (v : View) (t : Image) (p : Process) (page : ℕ) (s : Page) 
   pub one : references v f ≡ 1
   pub low : page < trapframe_page
 
-pub page_here : (v : View) (root trapframe : ℕ) (spare : Option ℕ) (t : Image) (p : Process) (page : ℕ) (s : Page) → Stands v root trapframe spare t p
+pub page_here : (v : View) (root trapframe : ℕ) (spare : Option ℕ) (t : Tables) (p : Process) (page : ℕ) (s : Page) → Stands v root trapframe spare t p
     → pages.get p.settled page ≡ Some s → (f : ℕ) × HasPage v t p page s f
 page_here v root trapframe spare t p page s stands settled =
     let shown = stands.shows.settled page s settled in (
@@ -84,7 +84,7 @@ page_here v root trapframe spare t p page s stands settled =
       },
     )
 
-module _ (v : View) (t : Image) (p : Process) (page : ℕ) (s : Page) (f : ℕ) (here : HasPage v t p page s f) (o : Option (FrameNo × Bool))
+module _ (v : View) (t : Tables) (p : Process) (page : ℕ) (s : Page) (f : ℕ) (here : HasPage v t p page s f) (o : Option (FrameNo × Bool))
     (is : o ≡ option_and_then (λ w. option_map (λ f. (f, has_flag w 128)) (frame_at (ppn w))) (get t.leaves (leaf_node page))) where
   pub page_found : o ≡ Some (record { 0 = f }, is_dirty_page here.region s)
   page_found =
@@ -96,7 +96,7 @@ module _ (v : View) (t : Image) (p : Process) (page : ℕ) (s : Page) (f : ℕ) 
   page_on x found = subst (HasPage v t p page s) (ap (λ (x : FrameNo × Bool). (x.0).0) (same_Some _ x (sym page_found ∙ found))) here
 
 -- the frame of the leaf is the page's
-pub on_page : (v : View) (root trapframe : ℕ) (l : Layout) (t : Image) (p : Process) (page : ℕ) (s : Page) (f : ℕ) → CanRead v root trapframe l t p page s
+pub on_page : (v : View) (root trapframe : ℕ) (l : Layout) (t : Tables) (p : Process) (page : ℕ) (s : Page) (f : ℕ) → CanRead v root trapframe l t p page s
     → IsOn t page f → HasPage v t p page s f
 on_page v root trapframe l t p page s f can on =
     let here = page_here v root trapframe None t p page s can.agrees.stands can.settled in
@@ -118,7 +118,7 @@ put_other : (m : pages.PageMap Page) (k q : ℕ) (x : Page) → (q ≡ k → ⊥
 put_other m k q x apart = find-put nat_cmp nat_cmp_total q k x m.entries ∙ rw (other_key q k apart)
 
 -- One page has this leaf over this frame; the frames of the other leaves have the holds that they had.
-module _ (v w : View) (trapframe : ℕ) (t u : Image) (p : Process) (page : ℕ) (s : Page) (leaf g : ℕ) (region : Region)
+module _ (v w : View) (trapframe : ℕ) (t u : Tables) (p : Process) (page : ℕ) (s : Page) (leaf g : ℕ) (region : Region)
     (low : page < trapframe_page) (others : OthersKeep t u page) (mapped : get u.leaves (leaf_node page) ≡ Some leaf)
     (made : IsPageLeaf leaf g region s.fork_mark (is_dirty_page region s)) (in_region : region_at (regions p) page ≡ Some region) (bytes : HasBytes w g s.bytes)
     (apart : (k x f : ℕ) → (k ≡ leaf_node page → ⊥) → get t.leaves k ≡ Some x → ppn x ≡ ppn_of f → hold_of w f ≡ hold_of v f) where
@@ -190,14 +190,14 @@ lays_with l p page s lays = record { parts = lays.parts; mappings = lays.mapping
 -- a page is written
 
 -- a page that may be written is the seat's alone
-pub page_sole : (v : View) (root trapframe : ℕ) (l : Layout) (t : Image) (p : Process) (page : ℕ) (s : Page) (f : ℕ) → CanWrite v root trapframe l t p page s
+pub page_sole : (v : View) (root trapframe : ℕ) (l : Layout) (t : Tables) (p : Process) (page : ℕ) (s : Page) (f : ℕ) → CanWrite v root trapframe l t p page s
     → HasPage v t p page s f → IsSole v f
 page_sole v root trapframe l t p page s f can here =
     let same = same_Some here.region can.region (sym here.in_region ∙ can.in_region) in
     can.read.agrees.stands.owns.writable f (leaf_node page) here.leaf here.mapped here.made.names
     (here.made.write ∙ ap (λ (r : Region). r.writes && not s.fork_mark) same ∙ ap (λ b. b && not s.fork_mark) can.writes ∙ ap not can.unmarked)
 
-pub page_written : (v w : View) (root trapframe : ℕ) (l : Layout) (t : Image) (p : Process) (page : ℕ) (s : Page) (f : ℕ) (bytes : List ℕ)
+pub page_written : (v w : View) (root trapframe : ℕ) (l : Layout) (t : Tables) (p : Process) (page : ℕ) (s : Page) (f : ℕ) (bytes : List ℕ)
     → CanRead v root trapframe l t p page s → HasPage v t p page s f → ChangesWords f v w → HasBytes w f bytes
     → Agrees w root trapframe l t (with_page p page (record s { bytes = bytes }))
 page_written v w root trapframe l t p page s f bytes can here changes has =

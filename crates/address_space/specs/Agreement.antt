@@ -10,18 +10,18 @@ use Rattle.sv39_entry.specs.Address.{has, trampoline_page, trapframe_page}
 use Rattle.sv39_entry.specs.Frame.{ppn_of}
 use Rattle.sv39_entry.specs.Word.{IsLeafOf, ppn}
 use Rattle.table_walk.specs.Counted.{AreTablesOf}
-use Rattle.table_walk.specs.Image.{HasTables, Image, leaf_node}
+use Rattle.table_walk.specs.Tables.{HasTables, Tables, leaf_node}
 use Rattle.address_space.specs.Layouts.{Layout, LaysOut}
 
 -- frames
 
 -- a table or a leaf, by its number, names a frame
-abbrev pub Names : Image → ℕ → ℕ → Type 0
+abbrev pub Names : Tables → ℕ → ℕ → Type 0
 Names t f k = (get t.tables k ≡ Some f) ⊎ ((w : ℕ) × (get t.leaves k ≡ Some w) × (ppn w ≡ ppn_of f))
 
 -- The seat has one reference of each frame that is named, and no other but of a spare frame: one that stands ready to be named, or
 -- that is named no longer. Of a frame that may be written it is the sole holder.
-pub record Owns (v : View) (t : Image) (spare : Option ℕ) : Type 0 where
+pub record Owns (v : View) (t : Tables) (spare : Option ℕ) : Type 0 where
   pub once : (f j k : ℕ) → Names t f j → Names t f k → j ≡ k
   pub named : (f k : ℕ) → Names t f k → references v f ≡ 1
   pub ready : (f : ℕ) → spare ≡ Some f → (references v f ≡ 1) × ((k : ℕ) → Names t f k → ⊥)
@@ -62,11 +62,11 @@ abbrev pub data_rights : ℕ
 data_rights = 3
 
 -- the kernel's own pages in each space (the xv6 book, "Process address space"): not for the user
-abbrev pub HasKernelLeaf : Image → ℕ → ℕ → ℕ → Type 0
+abbrev pub HasKernelLeaf : Tables → ℕ → ℕ → ℕ → Type 0
 HasKernelLeaf t page f rights = (w : ℕ) × (get t.leaves (leaf_node page) ≡ Some w) × IsLeafOf w f rights false false true
 
 -- a settled page has a leaf by its region, over a frame that has its bytes
-pub record IsShown (v : View) (t : Image) (p : Process) (n : ℕ) (s : Page) : Type 0 where
+pub record IsShown (v : View) (t : Tables) (p : Process) (n : ℕ) (s : Page) : Type 0 where
   pub region : Region
   pub frame : ℕ
   pub leaf : ℕ
@@ -81,7 +81,7 @@ IsLeafNumber p k =
     (k ≡ leaf_node trampoline_page) ⊎ ((k ≡ leaf_node trapframe_page) ⊎ ((n : ℕ) × (s : Page) × (k ≡ leaf_node n) × (pages.get p.settled n ≡ Some s)))
 
 -- the leaves are those of the settled pages, of TRAMPOLINE and of TRAPFRAME
-pub record Shows (v : View) (trapframe : ℕ) (t : Image) (p : Process) : Type 0 where
+pub record Shows (v : View) (trapframe : ℕ) (t : Tables) (p : Process) : Type 0 where
   pub on_trampoline : HasKernelLeaf t trampoline_page 0 code_rights
   pub on_trapframe : HasKernelLeaf t trapframe_page trapframe data_rights
   pub settled : (n : ℕ) (s : Page) → pages.get p.settled n ≡ Some s → IsShown v t p n s
@@ -89,7 +89,7 @@ pub record Shows (v : View) (trapframe : ℕ) (t : Image) (p : Process) : Type 0
   pub low : (n : ℕ) (s : Page) → pages.get p.settled n ≡ Some s → n < trapframe_page
 
 -- a process that stands in memory, whatever its seat has of credits, and perhaps with a spare frame
-pub record Stands (v : View) (root trapframe : ℕ) (spare : Option ℕ) (t : Image) (p : Process) : Type 0 where
+pub record Stands (v : View) (root trapframe : ℕ) (spare : Option ℕ) (t : Tables) (p : Process) : Type 0 where
   pub tables : HasTables v root t
   pub owns : Owns v t spare
   pub shows : Shows v trapframe t p
@@ -97,7 +97,7 @@ pub record Stands (v : View) (root trapframe : ℕ) (spare : Option ℕ) (t : Im
   pub tabled_low : All (λ n. n < trapframe_page) (pages.keys p.tabled)
 
 -- agreement of a space with a process
-pub record Agrees (v : View) (root trapframe : ℕ) (l : Layout) (t : Image) (p : Process) : Type 0 where
+pub record Agrees (v : View) (root trapframe : ℕ) (l : Layout) (t : Tables) (p : Process) : Type 0 where
   pub lays : LaysOut l p
   pub stands : Stands v root trapframe None t p
   pub credits : v.credits ≡ 0
@@ -105,9 +105,9 @@ pub record Agrees (v : View) (root trapframe : ℕ) (l : Layout) (t : Image) (p 
 -- steps
 
 -- the frame of a page
-abbrev pub IsOn : Image → ℕ → ℕ → Type 0
+abbrev pub IsOn : Tables → ℕ → ℕ → Type 0
 IsOn t n f = (w : ℕ) × (get t.leaves (leaf_node n) ≡ Some w) × (ppn w ≡ ppn_of f)
 
 -- every page but one keeps its leaf
-abbrev pub OthersKeep : Image → Image → ℕ → Type 0
+abbrev pub OthersKeep : Tables → Tables → ℕ → Type 0
 OthersKeep t u page = (k : ℕ) → (k ≡ leaf_node page → ⊥) → get u.leaves k ≡ get t.leaves k

@@ -10,7 +10,7 @@ use Rattle.sv39_entry.specs.Frame.{ppn_of}
 use Rattle.sv39_entry.specs.Rights.{grants}
 use Rattle.sv39_entry.specs.Word.{leaf_word}
 use Rattle.sv39_entry.specs.declared.access.Access.{Access}
-use Rattle.table_walk.specs.Image.{HasTables, Image, leaf_node, node}
+use Rattle.table_walk.specs.Tables.{HasTables, Tables, leaf_node, node}
 use Rattle.table_walk.specs.declared.walk.Walk.{Walk}
 use Rattle.table_walk.specs.declared.walk.Walk.TheVariants as walk
 use Rattle.address_space.specs.Agreement.{code_rights, data_rights}
@@ -79,14 +79,14 @@ pub record HoldsKernel (v : View) (stacks : List ℕ) (tables : FinMap nat_cmp �
 
 -- the tables below a root map the trampoline, so many frames and these stacks, and nothing else. Leaves are numbered by the lowest 27
 -- bits of a page's number
-pub record MapsKernel (v : View) (root frames : ℕ) (stacks : List ℕ) (t : Image) : Type 0 where
+pub record MapsKernel (v : View) (root frames : ℕ) (stacks : List ℕ) (t : Tables) : Type 0 where
   pub tables : HasTables v root t
   pub leaves : (page : ℕ) → page < 2 ^ 27 → get t.leaves (leaf_node page) ≡ kernel_leaf (kernel_page frames stacks page)
   pub numbers : (k : ℕ) → is_some (get t.tables k) ≡ is_kernel_table frames k
   pub holds : HoldsKernel v stacks t.tables
 
 -- the whole table of the kernel
-pub record IsKernelTable (v : View) (root frames slots : ℕ) (stacks : List ℕ) (t : Image) : Type 0 where
+pub record IsKernelTable (v : View) (root frames slots : ℕ) (stacks : List ℕ) (t : Tables) : Type 0 where
   pub maps : MapsKernel v root frames stacks t
   pub stacked : length stacks ≡ slots
   pub few_frames : frames ≤ 1024

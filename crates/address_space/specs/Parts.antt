@@ -8,7 +8,7 @@ use Rattle.process_model.specs.PageMap.{PageMap, NumberSet, empty, from_list, nu
 use Rattle.process_model.specs.Process.{Page, Process, regions}
 use Rattle.process_model.specs.Regions.{end_of, makes_leaf, Region, region_at}
 use Rattle.sv39_entry.specs.Address.{trapframe_page}
-use Rattle.table_walk.specs.Image.{Image}
+use Rattle.table_walk.specs.Tables.{Tables}
 use Rattle.address_space.specs.Agreement.{Names, Stands}
 use Rattle.address_space.specs.Layouts.{last_page, region_of}
 use Rattle.address_space.specs.Steps.{Spends}
@@ -56,7 +56,7 @@ abbrev pub process_of_parts : ℕ → List Part → Process
 process_of_parts fresh ps = settled_process ps (from_list (numbered fresh (pages_of ps))) (numbers (numbers_of ps))
 
 -- the frames of a space are its own, but for TRAMPOLINE's
-abbrev pub OwnsAlone : View → Image → Type 0
+abbrev pub OwnsAlone : View → Tables → Type 0
 OwnsAlone v t = (f k : ℕ) → Names t f k → f ≢ 0 → IsSole v f
 
 -- while a space is built
@@ -81,7 +81,7 @@ abbrev pub pages_need : Process → List (ℕ × List ℕ) → ℕ
 pages_need p es = length es + (tables_of (with_pages p es) - tables_of p)
 
 -- a process stands, and no other seat has its frames
-pub record StandsAlone (v : View) (root trapframe : ℕ) (t : Image) (p : Process) : Type 0 where
+pub record StandsAlone (v : View) (root trapframe : ℕ) (t : Tables) (p : Process) : Type 0 where
   pub stands : Stands v root trapframe None t p
   pub alone : OwnsAlone v t
 
@@ -92,13 +92,13 @@ pub record CanOpen (v : View) : Type 0 where
   pub credits : 4 ≤ v.credits
 
 -- the pages of the kernel are there, and no others
-pub record Opens (v w : View) (root trapframe : ℕ) (t : Image) : Type 0 where
+pub record Opens (v w : View) (root trapframe : ℕ) (t : Tables) : Type 0 where
   pub stands : (p : Process) → p.settled ≡ empty Page → p.tabled ≡ empty (Unit {0}) → Stands w root trapframe None t p
   pub alone : OwnsAlone w t
   pub spends : Spends v w 4
 
 -- a part whose pages have no frame yet
-pub record CanFill (v : View) (root trapframe : ℕ) (t : Image) (p : Process) (part : Part) : Type 0 where
+pub record CanFill (v : View) (root trapframe : ℕ) (t : Tables) (p : Process) (part : Part) : Type 0 where
   pub before : StandsAlone v root trapframe t p
   pub unsettled : (page : ℕ) → part.region.first ≤ page → pages.get p.settled page ≡ None
   pub in_region : (page : ℕ) → part.region.first ≤ page → page < end_of (region_in part) → region_at (regions p) page ≡ Some (region_in part)
@@ -106,6 +106,6 @@ pub record CanFill (v : View) (root trapframe : ℕ) (t : Image) (p : Process) (
   pub low : end_of (region_in part) ≤ trapframe_page
 
 -- pages stand on frames that were not held before
-pub record Fills (v w : View) (root trapframe : ℕ) (u : Image) (p : Process) (es : List (ℕ × List ℕ)) : Type 0 where
+pub record Fills (v w : View) (root trapframe : ℕ) (u : Tables) (p : Process) (es : List (ℕ × List ℕ)) : Type 0 where
   pub after : StandsAlone w root trapframe u (with_pages p es)
   pub spends : Spends v w (pages_need p es)

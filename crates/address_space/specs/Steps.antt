@@ -9,7 +9,7 @@ use Rattle.process_model.specs.Process.{Page, Process, regions}
 use Rattle.process_model.specs.Regions.{makes_leaf, Region, region_at}
 use Rattle.process_model.specs.Residence.{unmarked, with_page}
 use Rattle.sv39_entry.specs.Address.{trapframe_page}
-use Rattle.table_walk.specs.Image.{Image, missing}
+use Rattle.table_walk.specs.Tables.{Tables, missing}
 use Rattle.address_space.specs.Agreement.{Agrees, IsOn, OthersKeep, Stands}
 use Rattle.address_space.specs.Layouts.{Layout}
 
@@ -32,7 +32,7 @@ pub record RunsDry (v w : View) (n : ℕ) (counts : List ℕ) : Type 0 where
 -- a page is settled
 
 -- a page of a region that has no frame yet
-pub record CanAdd (v : View) (root trapframe : ℕ) (t : Image) (p : Process) (page : ℕ) (r : Region) : Type 0 where
+pub record CanAdd (v : View) (root trapframe : ℕ) (t : Tables) (p : Process) (page : ℕ) (r : Region) : Type 0 where
   pub stands : Stands v root trapframe None t p
   pub unsettled : pages.get p.settled page ≡ None
   pub in_region : region_at (regions p) page ≡ Some r
@@ -47,7 +47,7 @@ settled_with fresh bytes p page = record p {
 }
 
 -- the page stands on a frame that was not held before
-pub record Adds (v w : View) (root trapframe : ℕ) (t u : Image) (p : Process) (page : ℕ) (bytes : List ℕ) (f : ℕ) : Type 0 where
+pub record Adds (v w : View) (root trapframe : ℕ) (t u : Tables) (p : Process) (page : ℕ) (bytes : List ℕ) (f : ℕ) : Type 0 where
   pub stands : (fresh : ℕ) → Stands w root trapframe None u (settled_with fresh bytes p page)
   pub on : IsOn u page f
   pub fresh : references v f ≡ 0
@@ -55,12 +55,12 @@ pub record Adds (v w : View) (root trapframe : ℕ) (t u : Image) (p : Process) 
   pub others : OthersKeep t u page
   pub spends : Spends v w (1 + missing t page)
 
-pub record CanSettle (v : View) (root trapframe : ℕ) (l : Layout) (t : Image) (p : Process) (page : ℕ) : Type 0 where
+pub record CanSettle (v : View) (root trapframe : ℕ) (l : Layout) (t : Tables) (p : Process) (page : ℕ) : Type 0 where
   pub agrees : Agrees v root trapframe l t p
   pub region : Region
   pub add : CanAdd v root trapframe t p page region
 
-pub record Settles (v w : View) (root trapframe : ℕ) (l : Layout) (t u : Image) (p : Process) (page : ℕ) (bytes : List ℕ) (f : ℕ) : Type 0 where
+pub record Settles (v w : View) (root trapframe : ℕ) (l : Layout) (t u : Tables) (p : Process) (page : ℕ) (bytes : List ℕ) (f : ℕ) : Type 0 where
   pub agrees : (fresh : ℕ) → Agrees w root trapframe l u (settled_with fresh bytes p page)
   pub on : IsOn u page f
   pub fresh : references v f ≡ 0
@@ -71,7 +71,7 @@ pub record Settles (v w : View) (root trapframe : ℕ) (l : Layout) (t u : Image
 -- a page is made the process's own
 
 -- a settled page with a fork mark
-pub record CanOwn (v : View) (root trapframe : ℕ) (l : Layout) (t : Image) (p : Process) (page : ℕ) (s : Page) (f : ℕ) : Type 0 where
+pub record CanOwn (v : View) (root trapframe : ℕ) (l : Layout) (t : Tables) (p : Process) (page : ℕ) (s : Page) (f : ℕ) : Type 0 where
   pub agrees : Agrees v root trapframe l t p
   pub settled : pages.get p.settled page ≡ Some s
   pub marked : s.fork_mark ≡ true
@@ -82,7 +82,7 @@ pub record CanOwn (v : View) (root trapframe : ℕ) (l : Layout) (t : Image) (p 
   pub on : IsOn t page f
 
 -- where the count that was read was 1 the page keeps its frame; else it stands on another one, with the same bytes
-pub record Owned (v w : View) (root trapframe : ℕ) (l : Layout) (t u : Image) (p : Process) (page : ℕ) (s : Page) (f g c : ℕ) : Type 0 where
+pub record Owned (v w : View) (root trapframe : ℕ) (l : Layout) (t u : Tables) (p : Process) (page : ℕ) (s : Page) (f g c : ℕ) : Type 0 where
   pub agrees : (fresh : ℕ) → Agrees w root trapframe l u (with_page p page (unmarked fresh (not (c == 1)) s))
   pub on : IsOn u page g
   pub same : c ≡ 1 → g ≡ f
@@ -93,12 +93,12 @@ pub record Owned (v w : View) (root trapframe : ℕ) (l : Layout) (t u : Image) 
 
 -- a page is read and written
 
-pub record CanRead (v : View) (root trapframe : ℕ) (l : Layout) (t : Image) (p : Process) (page : ℕ) (s : Page) : Type 0 where
+pub record CanRead (v : View) (root trapframe : ℕ) (l : Layout) (t : Tables) (p : Process) (page : ℕ) (s : Page) : Type 0 where
   pub agrees : Agrees v root trapframe l t p
   pub settled : pages.get p.settled page ≡ Some s
 
 -- no other process has the page, and its region grants writing
-pub record CanWrite (v : View) (root trapframe : ℕ) (l : Layout) (t : Image) (p : Process) (page : ℕ) (s : Page) : Type 0 where
+pub record CanWrite (v : View) (root trapframe : ℕ) (l : Layout) (t : Tables) (p : Process) (page : ℕ) (s : Page) : Type 0 where
   pub read : CanRead v root trapframe l t p page s
   pub unmarked : s.fork_mark ≡ false
   pub region : Region

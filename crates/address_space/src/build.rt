@@ -6,7 +6,7 @@ ghost use Rattle.address_space.specs.Parts.{AreParts, bare_process, build_need, 
 ghost use Rattle.address_space.specs.Steps.{Takes};
 ghost use Rattle.frame_store.specs.Laws.{Fits, IsDry, Keeps};
 ghost use Rattle.process_model.specs.Process.{Process};
-ghost use Rattle.table_walk.specs.Image.{Image};
+ghost use Rattle.table_walk.specs.Tables.{Tables};
 
 use crate::layout::Layout;
 use crate::needed::frames_needed;
@@ -33,7 +33,7 @@ impl<S: FrameSeat> Space<S> {
         requires fits { Fits F.rule store.old seat }
         requires parts { AreParts parts.now }
         requires seat { HoldsTrampoline (S.view seat) }
-        ensures built { IfOk result (λ s. (t : Image) × ((fresh : ℕ) → Agrees (S.view s.seat) s.root.0 s.trapframe.0 s.layout t (process_of_parts fresh parts.now)) × OwnsAlone (S.view s.seat) t) }
+        ensures built { IfOk result (λ s. (t : Tables) × ((fresh : ℕ) → Agrees (S.view s.seat) s.root.0 s.trapframe.0 s.layout t (process_of_parts fresh parts.now)) × OwnsAlone (S.view s.seat) t) }
         ensures takes { IfOk result (λ s. Takes (S.view seat) (S.view s.seat) (build_need parts.now) []) }
         ensures refused { IfErr result (λ e. IsDry (build_need parts.now) (S.view seat) (S.view e.1)) }
         ensures exact { F.alone → IsOk result ↔ (build_need parts.now ≤ F.free store.old) }
@@ -60,7 +60,7 @@ impl<S: FrameSeat> Space<S> {
 fn open_tables<F: FrameSupply>(store: &mut F, seat: &mut F::Seat) -> (FrameNo, FrameNo)
     requires fits { Fits F.rule store.old seat.old }
     requires ready { CanOpen (F.Seat.view seat.old) }
-    ensures opened { (t : Image) × Opens (F.Seat.view seat.old) (F.Seat.view seat.new) result.0.0 result.1.0 t }
+    ensures opened { (t : Tables) × Opens (F.Seat.view seat.old) (F.Seat.view seat.new) result.0.0 result.1.0 t }
     ensures keeps { Keeps F.rule store.old seat.old store.new seat.new }
     ensures free { F.alone → F.free store.new ≡ F.free store.old }
 {
@@ -83,10 +83,10 @@ fn open_tables<F: FrameSupply>(store: &mut F, seat: &mut F::Seat) -> (FrameNo, F
 fn fill_parts<F: FrameSupply>(store: &mut F, seat: &mut F::Seat, root: FrameNo, parts: &[Part])
     requires fits { Fits F.rule store.old seat.old }
     requires parts { AreParts parts.now }
-    requires ready { (trapframe : ℕ) × (t : Image) × StandsAlone (F.Seat.view seat.old) root.0 trapframe t (bare_process parts.now) }
+    requires ready { (trapframe : ℕ) × (t : Tables) × StandsAlone (F.Seat.view seat.old) root.0 trapframe t (bare_process parts.now) }
     requires credits { pages_need (bare_process parts.now) (pages_of parts.now) ≤ (F.Seat.view seat.old).credits }
-    ensures filled { (trapframe : ℕ) (t : Image) → StandsAlone (F.Seat.view seat.old) root.0 trapframe t (bare_process parts.now) →
-        (u : Image) × Fills (F.Seat.view seat.old) (F.Seat.view seat.new) root.0 trapframe u (bare_process parts.now) (pages_of parts.now) }
+    ensures filled { (trapframe : ℕ) (t : Tables) → StandsAlone (F.Seat.view seat.old) root.0 trapframe t (bare_process parts.now) →
+        (u : Tables) × Fills (F.Seat.view seat.old) (F.Seat.view seat.new) root.0 trapframe u (bare_process parts.now) (pages_of parts.now) }
     ensures keeps { Keeps F.rule store.old seat.old store.new seat.new }
     ensures free { F.alone → F.free store.new ≡ F.free store.old }
 {
@@ -98,9 +98,9 @@ fn fill_parts<F: FrameSupply>(store: &mut F, seat: &mut F::Seat, root: FrameNo, 
 /// Gives each page of a part a frame with its bytes.
 fn fill_part<F: FrameSupply>(store: &mut F, seat: &mut F::Seat, root: FrameNo, part: &Part)
     requires fits { Fits F.rule store.old seat.old }
-    requires ready { (trapframe : ℕ) × (t : Image) × (p : Process) × CanFill (F.Seat.view seat.old) root.0 trapframe t p part.now × (pages_need p (part_pages part.now) ≤ (F.Seat.view seat.old).credits) }
-    ensures filled { (trapframe : ℕ) (t : Image) (p : Process) → CanFill (F.Seat.view seat.old) root.0 trapframe t p part.now →
-        (u : Image) × Fills (F.Seat.view seat.old) (F.Seat.view seat.new) root.0 trapframe u p (part_pages part.now) }
+    requires ready { (trapframe : ℕ) × (t : Tables) × (p : Process) × CanFill (F.Seat.view seat.old) root.0 trapframe t p part.now × (pages_need p (part_pages part.now) ≤ (F.Seat.view seat.old).credits) }
+    ensures filled { (trapframe : ℕ) (t : Tables) (p : Process) → CanFill (F.Seat.view seat.old) root.0 trapframe t p part.now →
+        (u : Tables) × Fills (F.Seat.view seat.old) (F.Seat.view seat.new) root.0 trapframe u p (part_pages part.now) }
     ensures keeps { Keeps F.rule store.old seat.old store.new seat.new }
     ensures free { F.alone → F.free store.new ≡ F.free store.old }
 {

@@ -8,7 +8,7 @@ ghost use Rattle.frame_store.specs.Laws.{Fits, Keeps};
 ghost use Rattle.process_model.specs.Heap.{without_pages};
 ghost use Rattle.process_model.specs.Process.{Process};
 ghost use Rattle.sv39_entry.specs.Address.{trapframe_page};
-ghost use Rattle.table_walk.specs.Image.{HasTables, Image};
+ghost use Rattle.table_walk.specs.Tables.{HasTables, Tables};
 
 use crate::space::Space;
 use frame_store::{FrameAccess, FrameSeat};
@@ -24,9 +24,9 @@ fn first_mapped<F: FrameAccess>(
     end: Vpn,
 ) -> Option<Vpn>
     requires fits { Fits F.rule store.old seat.old }
-    requires held { (t : Image) × HasTables (F.Seat.view seat.old) root.0 t }
+    requires held { (t : Tables) × HasTables (F.Seat.view seat.old) root.0 t }
     requires low { end ≤ 2 ^ 27 }
-    ensures page { (t : Image) → HasTables (F.Seat.view seat.old) root.0 t → IsFirstMapped t first end result }
+    ensures page { (t : Tables) → HasTables (F.Seat.view seat.old) root.0 t → IsFirstMapped t first end result }
     ensures view { F.Seat.view seat.new ≡ F.Seat.view seat.old }
     ensures same { store.new ≡ store.old }
     ensures keeps { Keeps F.rule store.old seat.old store.new seat.new }
@@ -38,8 +38,8 @@ fn first_mapped<F: FrameAccess>(
 /// Takes the leaf of a page away, and then the frame that it named: no leaf ever names a frame that was let go.
 fn drop_leaf<F: FrameAccess>(store: &mut F, seat: &mut F::Seat, root: FrameNo, page: Vpn)
     requires fits { Fits F.rule store.old seat.old }
-    requires ready { (t : Image) × CanDrop (F.Seat.view seat.old) root.0 t page }
-    ensures dropped { (t : Image) → CanDrop (F.Seat.view seat.old) root.0 t page →
+    requires ready { (t : Tables) × CanDrop (F.Seat.view seat.old) root.0 t page }
+    ensures dropped { (t : Tables) → CanDrop (F.Seat.view seat.old) root.0 t page →
         DropsLeaf (F.Seat.view seat.old) (F.Seat.view seat.new) root.0 t page }
     ensures keeps { Keeps F.rule store.old seat.old store.new seat.new }
     ensures free { F.alone → F.free store.old ≤ F.free store.new }
@@ -56,7 +56,7 @@ fn drop_leaf<F: FrameAccess>(store: &mut F, seat: &mut F::Seat, root: FrameNo, p
 /// Ends a space without pages: TRAPFRAME's leaf goes, then TRAMPOLINE's, then the tables, and last frame 0.
 fn release_emptied<F: FrameAccess>(store: &mut F, seat: &mut F::Seat, root: FrameNo)
     requires fits { Fits F.rule store.old seat.old }
-    requires emptied { (t : Image) × IsEmptied (F.Seat.view seat.old) root.0 t }
+    requires emptied { (t : Tables) × IsEmptied (F.Seat.view seat.old) root.0 t }
     ensures bare { IsBare (F.Seat.view seat.new) }
     ensures tallies { Takes (F.Seat.view seat.old) (F.Seat.view seat.new) 0 [] }
     ensures keeps { Keeps F.rule store.old seat.old store.new seat.new }
@@ -72,11 +72,11 @@ impl<S: FrameSeat> Space<S> {
     /// Unmaps the settled pages from one page up to, and without, another, and lets their frames go. The tables stay.
     pub fn drop_pages<F: FrameAccess<Seat = S>>(&mut self, store: &mut F, first: Vpn, end: Vpn)
         requires fits { Fits F.rule store.old self.old.seat }
-        requires ready { (t : Image) × (p : Process) × Agrees (S.view self.old.seat) self.old.root.0 self.old.trapframe.0 self.old.layout t p }
+        requires ready { (t : Tables) × (p : Process) × Agrees (S.view self.old.seat) self.old.root.0 self.old.trapframe.0 self.old.layout t p }
         requires low { end ≤ trapframe_page }
-        ensures dropped { (t : Image) (p : Process) →
+        ensures dropped { (t : Tables) (p : Process) →
             Agrees (S.view self.old.seat) self.old.root.0 self.old.trapframe.0 self.old.layout t p →
-            (u : Image) × Agrees (S.view self.new.seat) self.new.root.0 self.new.trapframe.0 self.new.layout u (without_pages p first end) × Drops t u first end }
+            (u : Tables) × Agrees (S.view self.new.seat) self.new.root.0 self.new.trapframe.0 self.new.layout u (without_pages p first end) × Drops t u first end }
         ensures tallies { Takes (S.view self.old.seat) (S.view self.new.seat) 0 [] }
         ensures root { self.new.root ≡ self.old.root }
         ensures trapframe { self.new.trapframe ≡ self.old.trapframe }
@@ -94,7 +94,7 @@ impl<S: FrameSeat> Space<S> {
     /// Ends the space: its pages go, then its tables, and last frame 0. The seat holds nothing then.
     pub fn destroy<F: FrameAccess<Seat = S>>(mut self, store: &mut F) -> S
         requires fits { Fits F.rule store.old self.seat }
-        requires ready { (t : Image) × (p : Process) × Agrees (S.view self.seat) self.root.0 self.trapframe.0 self.layout t p }
+        requires ready { (t : Tables) × (p : Process) × Agrees (S.view self.seat) self.root.0 self.trapframe.0 self.layout t p }
         ensures bare { IsBare (S.view result) }
         ensures tallies { Takes (S.view self.seat) (S.view result) 0 [] }
         ensures keeps { Keeps F.rule store.old self.seat store.new result }

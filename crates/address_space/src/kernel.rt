@@ -9,7 +9,7 @@ ghost use Rattle.frame_store.specs.View.{references, spent};
 ghost use Rattle.process_model.specs.Frames as model;
 ghost use Rattle.sv39_entry.specs.Word.{kind_of, leaf_word};
 ghost use Rattle.sv39_entry.specs.declared.entry.Kind.TheVariants.{Leaf};
-ghost use Rattle.table_walk.specs.Image.{Image};
+ghost use Rattle.table_walk.specs.Tables.{Tables};
 
 use bitflags::Flags;
 use frame_store::{FrameAccess, FrameSeat, FrameSupply, NoFrame};
@@ -40,7 +40,7 @@ impl<S: FrameSeat> KernelTable<S> {
         requires few_frames { frames ≤ 1024 }
         requires some_slots { 1 ≤ slots }
         requires few_slots { slots ≤ 64 }
-        ensures built { IfOk result (λ k. (stacks : List ℕ) × (t : Image) × IsKernelTable (S.view k.seat) k.root.0 frames slots stacks t) }
+        ensures built { IfOk result (λ k. (stacks : List ℕ) × (t : Tables) × IsKernelTable (S.view k.seat) k.root.0 frames slots stacks t) }
         ensures tallies { IfOk result (λ k. (S.view k.seat).tallies ≡ spent (model.kernel_frames frames slots - 1) (S.view seat).tallies) }
         ensures dry { IfErr result (λ e. IsDry (model.kernel_frames frames slots - 1) (S.view seat) (S.view e.1)) }
         ensures exact { F.alone → IsOk result ↔ (model.kernel_frames frames slots - 1 ≤ F.free store.old) }
@@ -66,8 +66,8 @@ impl<S: FrameSeat> KernelTable<S> {
         access: Access,
     ) -> Walk
         requires fits { Fits F.rule store.old self.old.seat }
-        requires built { (frames slots : ℕ) × (stacks : List ℕ) × (t : Image) × IsKernelTable (S.view self.old.seat) self.old.root.0 frames slots stacks t }
-        ensures walk { (frames slots : ℕ) (stacks : List ℕ) (t : Image) → IsKernelTable (S.view self.old.seat) self.old.root.0 frames slots stacks t → result ≡ kernel_walk frames stacks va.0 access }
+        requires built { (frames slots : ℕ) × (stacks : List ℕ) × (t : Tables) × IsKernelTable (S.view self.old.seat) self.old.root.0 frames slots stacks t }
+        ensures walk { (frames slots : ℕ) (stacks : List ℕ) (t : Tables) → IsKernelTable (S.view self.old.seat) self.old.root.0 frames slots stacks t → result ≡ kernel_walk frames stacks va.0 access }
         ensures view { S.view self.new.seat ≡ S.view self.old.seat }
         ensures root { self.new.root ≡ self.old.root }
         ensures same { store.new ≡ store.old }
@@ -111,7 +111,7 @@ fn new_root<F: FrameSupply>(store: &mut F, seat: &mut F::Seat) -> FrameNo
     requires once { references (F.Seat.view seat.old) 0 ≡ 1 }
     requires bare { (f : ℕ) → (f ≡ 0 → ⊥) → references (F.Seat.view seat.old) f ≡ 0 }
     requires credits { 3 ≤ (F.Seat.view seat.old).credits }
-    ensures mapped { (t : Image) × MapsKernel (F.Seat.view seat.new) result.0 0 [] t }
+    ensures mapped { (t : Tables) × MapsKernel (F.Seat.view seat.new) result.0 0 [] t }
     ensures spends { Spends (F.Seat.view seat.old) (F.Seat.view seat.new) 3 }
     ensures keeps { Keeps F.rule store.old seat.old store.new seat.new }
     ensures free { F.alone → F.free store.new ≡ F.free store.old }
@@ -125,8 +125,8 @@ fn new_root<F: FrameSupply>(store: &mut F, seat: &mut F::Seat) -> FrameNo
 fn map_stacks<F: FrameSupply>(store: &mut F, seat: &mut F::Seat, root: FrameNo, slots: u16)
     requires fits { Fits F.rule store.old seat.old }
     requires few { slots ≤ 64 }
-    requires ready { (t : Image) × MapsKernel (F.Seat.view seat.old) root.0 0 [] t × (slots ≤ (F.Seat.view seat.old).credits) }
-    ensures mapped { (t : Image) → MapsKernel (F.Seat.view seat.old) root.0 0 [] t → (stacks : List ℕ) × (u : Image) × MapsKernel (F.Seat.view seat.new) root.0 0 stacks u × (length stacks ≡ slots) }
+    requires ready { (t : Tables) × MapsKernel (F.Seat.view seat.old) root.0 0 [] t × (slots ≤ (F.Seat.view seat.old).credits) }
+    ensures mapped { (t : Tables) → MapsKernel (F.Seat.view seat.old) root.0 0 [] t → (stacks : List ℕ) × (u : Tables) × MapsKernel (F.Seat.view seat.new) root.0 0 stacks u × (length stacks ≡ slots) }
     ensures spends { Spends (F.Seat.view seat.old) (F.Seat.view seat.new) slots }
     ensures keeps { Keeps F.rule store.old seat.old store.new seat.new }
     ensures free { F.alone → F.free store.new ≡ F.free store.old }
@@ -141,8 +141,8 @@ fn map_stacks<F: FrameSupply>(store: &mut F, seat: &mut F::Seat, root: FrameNo, 
 fn map_frames<F: FrameSupply>(store: &mut F, seat: &mut F::Seat, root: FrameNo, frames: u16)
     requires fits { Fits F.rule store.old seat.old }
     requires few { frames ≤ 1024 }
-    requires ready { (stacks : List ℕ) × (t : Image) × MapsKernel (F.Seat.view seat.old) root.0 0 stacks t × (direct_tables frames ≤ (F.Seat.view seat.old).credits) }
-    ensures mapped { (stacks : List ℕ) (t : Image) → MapsKernel (F.Seat.view seat.old) root.0 0 stacks t → (u : Image) × MapsKernel (F.Seat.view seat.new) root.0 frames stacks u }
+    requires ready { (stacks : List ℕ) × (t : Tables) × MapsKernel (F.Seat.view seat.old) root.0 0 stacks t × (direct_tables frames ≤ (F.Seat.view seat.old).credits) }
+    ensures mapped { (stacks : List ℕ) (t : Tables) → MapsKernel (F.Seat.view seat.old) root.0 0 stacks t → (u : Tables) × MapsKernel (F.Seat.view seat.new) root.0 frames stacks u }
     ensures spends { Spends (F.Seat.view seat.old) (F.Seat.view seat.new) (direct_tables frames) }
     ensures keeps { Keeps F.rule store.old seat.old store.new seat.new }
     ensures free { F.alone → F.free store.new ≡ F.free store.old }

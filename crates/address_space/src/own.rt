@@ -8,7 +8,7 @@ ghost use Rattle.address_space.specs.Steps.{CanOwn, Owned, RunsDry};
 ghost use Rattle.frame_store.specs.Laws.{Fits, Keeps};
 ghost use Rattle.process_model.specs.Frames.{part_need};
 ghost use Rattle.process_model.specs.Process.{Page, Process};
-ghost use Rattle.table_walk.specs.Image.{Image};
+ghost use Rattle.table_walk.specs.Tables.{Tables};
 
 use crate::pages::frame_of;
 use crate::region::Region;
@@ -23,18 +23,18 @@ impl<S: FrameSeat> Space<S> {
     /// else the page gets a frame of its own with the same bytes, and the reference of the other one goes.
     pub fn own<F: FrameSupply<Seat = S>>(&mut self, store: &mut F, page: Vpn) -> Result<(), NoFrame>
         requires fits { Fits F.rule store.old self.old.seat }
-        requires ready { (t : Image) × (p : Process) × (s : Page) × (f : ℕ) × CanOwn (S.view self.old.seat) self.old.root.0 self.old.trapframe.0 self.old.layout t p page s f }
-        ensures owned { IfOk result (λ _. (t : Image) (p : Process) (s : Page) (f : ℕ) →
+        requires ready { (t : Tables) × (p : Process) × (s : Page) × (f : ℕ) × CanOwn (S.view self.old.seat) self.old.root.0 self.old.trapframe.0 self.old.layout t p page s f }
+        ensures owned { IfOk result (λ _. (t : Tables) (p : Process) (s : Page) (f : ℕ) →
             CanOwn (S.view self.old.seat) self.old.root.0 self.old.trapframe.0 self.old.layout t p page s f →
-            (u : Image) × (g c : ℕ) × Owned (S.view self.old.seat) (S.view self.new.seat) self.new.root.0 self.new.trapframe.0 self.new.layout t u p page s f g c × (F.alone → c ≡ F.count store.old f)) }
+            (u : Tables) × (g c : ℕ) × Owned (S.view self.old.seat) (S.view self.new.seat) self.new.root.0 self.new.trapframe.0 self.new.layout t u p page s f g c × (F.alone → c ≡ F.count store.old f)) }
         ensures dry { IfErr result (λ _. (c : ℕ) × (c ≢ 1) × RunsDry (S.view self.old.seat) (S.view self.new.seat) 1 (c ∷ [])) }
-        ensures whole { IfErr result (λ _. (t : Image) (p : Process) →
+        ensures whole { IfErr result (λ _. (t : Tables) (p : Process) →
             Agrees (S.view self.old.seat) self.old.root.0 self.old.trapframe.0 self.old.layout t p →
             Agrees (S.view self.new.seat) self.new.root.0 self.new.trapframe.0 self.new.layout t p) }
-        ensures exact { F.alone → (t : Image) (p : Process) (s : Page) (f : ℕ) →
+        ensures exact { F.alone → (t : Tables) (p : Process) (s : Page) (f : ℕ) →
             CanOwn (S.view self.old.seat) self.old.root.0 self.old.trapframe.0 self.old.layout t p page s f →
             IsOk result ↔ (part_need (not (F.count store.old f == 1)) ≤ F.free store.old) }
-        ensures free { F.alone → (t : Image) (p : Process) (s : Page) (f : ℕ) →
+        ensures free { F.alone → (t : Tables) (p : Process) (s : Page) (f : ℕ) →
             CanOwn (S.view self.old.seat) self.old.root.0 self.old.trapframe.0 self.old.layout t p page s f →
             F.free store.new ≡ F.free store.old - (if is_ok result then part_need (not (F.count store.old f == 1)) else 0) }
         ensures root { self.new.root ≡ self.old.root }
@@ -85,11 +85,11 @@ fn separate<F: FrameSupply>(
     dirty: bool,
 )
     requires fits { Fits F.rule store.old seat.old }
-    requires ready { (trapframe : ℕ) × (t : Image) × (p : Process) × (s : Page) × CanSeparate (F.Seat.view seat.old) root.0 trapframe t p page s (region_of region.now) shared.0 dirty }
+    requires ready { (trapframe : ℕ) × (t : Tables) × (p : Process) × (s : Page) × CanSeparate (F.Seat.view seat.old) root.0 trapframe t p page s (region_of region.now) shared.0 dirty }
     requires credit { 0 < (F.Seat.view seat.old).credits }
-    ensures separated { (trapframe : ℕ) (t : Image) (p : Process) (s : Page) →
+    ensures separated { (trapframe : ℕ) (t : Tables) (p : Process) (s : Page) →
         CanSeparate (F.Seat.view seat.old) root.0 trapframe t p page s (region_of region.now) shared.0 dirty →
-        (u : Image) × (g : ℕ) × Separates (F.Seat.view seat.old) (F.Seat.view seat.new) root.0 trapframe t u p page s g }
+        (u : Tables) × (g : ℕ) × Separates (F.Seat.view seat.old) (F.Seat.view seat.new) root.0 trapframe t u p page s g }
     ensures keeps { Keeps F.rule store.old seat.old store.new seat.new }
     ensures free { F.alone → F.free store.new ≡ F.free store.old + cond (F.count store.old shared.0 == 1) 1 0 }
 {

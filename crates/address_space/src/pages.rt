@@ -14,7 +14,7 @@ ghost use Rattle.process_model.specs.Regions.{makes_leaf};
 ghost use Rattle.sv39_entry.specs.Frame.{frame_at};
 ghost use Rattle.sv39_entry.specs.Word as word;
 ghost use Rattle.sv39_entry.specs.declared.entry.Kind.TheVariants.{Leaf};
-ghost use Rattle.table_walk.specs.Image.{HasTables, Image, leaf_node, missing};
+ghost use Rattle.table_walk.specs.Tables.{HasTables, Tables, leaf_node, missing};
 
 use crate::region::Region;
 use crate::space::Space;
@@ -31,8 +31,8 @@ pub(crate) fn frame_of<F: FrameAccess>(
     page: Vpn,
 ) -> Option<(FrameNo, bool)>
     requires fits { Fits F.rule store.old seat.old }
-    requires held { (t : Image) × HasTables (F.Seat.view seat.old) root.0 t }
-    ensures frame { (t : Image) → HasTables (F.Seat.view seat.old) root.0 t →
+    requires held { (t : Tables) × HasTables (F.Seat.view seat.old) root.0 t }
+    ensures frame { (t : Tables) → HasTables (F.Seat.view seat.old) root.0 t →
         result ≡ option_and_then (λ w. option_map (λ f. (f, word.has_flag w 128)) (frame_at (word.ppn w))) (get t.leaves (leaf_node page)) }
     ensures view { F.Seat.view seat.new ≡ F.Seat.view seat.old }
     ensures same { store.new ≡ store.old }
@@ -54,10 +54,10 @@ pub(crate) fn add_page<F: FrameSupply>(
     bytes: &[u8],
 )
     requires fits { Fits F.rule store.old seat.old }
-    requires ready { (trapframe : ℕ) × (t : Image) × (p : Process) × CanAdd (F.Seat.view seat.old) root.0 trapframe t p page (region_of region.now) × (1 + missing t page ≤ (F.Seat.view seat.old).credits) }
+    requires ready { (trapframe : ℕ) × (t : Tables) × (p : Process) × CanAdd (F.Seat.view seat.old) root.0 trapframe t p page (region_of region.now) × (1 + missing t page ≤ (F.Seat.view seat.old).credits) }
     requires inside { length bytes.now ≤ 4096 }
-    ensures added { (trapframe : ℕ) (t : Image) (p : Process) → CanAdd (F.Seat.view seat.old) root.0 trapframe t p page (region_of region.now) →
-        (u : Image) × (f : ℕ) × Adds (F.Seat.view seat.old) (F.Seat.view seat.new) root.0 trapframe t u p page bytes.now f }
+    ensures added { (trapframe : ℕ) (t : Tables) (p : Process) → CanAdd (F.Seat.view seat.old) root.0 trapframe t p page (region_of region.now) →
+        (u : Tables) × (f : ℕ) × Adds (F.Seat.view seat.old) (F.Seat.view seat.new) root.0 trapframe t u p page bytes.now f }
     ensures soles { (f : ℕ) → IsSole (F.Seat.view seat.old) f → IsSole (F.Seat.view seat.new) f }
     ensures keeps { Keeps F.rule store.old seat.old store.new seat.new }
     ensures free { F.alone → F.free store.new ≡ F.free store.old }
@@ -85,21 +85,21 @@ impl<S: FrameSeat> Space<S> {
         bytes: &[u8],
     ) -> Result<(), NoFrame>
         requires fits { Fits F.rule store.old self.old.seat }
-        requires ready { (t : Image) × (p : Process) × CanSettle (S.view self.old.seat) self.old.root.0 self.old.trapframe.0 self.old.layout t p page }
+        requires ready { (t : Tables) × (p : Process) × CanSettle (S.view self.old.seat) self.old.root.0 self.old.trapframe.0 self.old.layout t p page }
         requires inside { length bytes.now ≤ 4096 }
-        ensures settled { IfOk result (λ _. (t : Image) (p : Process) →
+        ensures settled { IfOk result (λ _. (t : Tables) (p : Process) →
             CanSettle (S.view self.old.seat) self.old.root.0 self.old.trapframe.0 self.old.layout t p page →
-            (u : Image) × (f : ℕ) × Settles (S.view self.old.seat) (S.view self.new.seat) self.new.root.0 self.new.trapframe.0 self.new.layout t u p page bytes.now f) }
-        ensures dry { IfErr result (λ _. (t : Image) (p : Process) →
+            (u : Tables) × (f : ℕ) × Settles (S.view self.old.seat) (S.view self.new.seat) self.new.root.0 self.new.trapframe.0 self.new.layout t u p page bytes.now f) }
+        ensures dry { IfErr result (λ _. (t : Tables) (p : Process) →
             CanSettle (S.view self.old.seat) self.old.root.0 self.old.trapframe.0 self.old.layout t p page →
             RunsDry (S.view self.old.seat) (S.view self.new.seat) (settle_need p page) []) }
-        ensures whole { IfErr result (λ _. (t : Image) (p : Process) →
+        ensures whole { IfErr result (λ _. (t : Tables) (p : Process) →
             Agrees (S.view self.old.seat) self.old.root.0 self.old.trapframe.0 self.old.layout t p →
             Agrees (S.view self.new.seat) self.new.root.0 self.new.trapframe.0 self.new.layout t p) }
-        ensures exact { F.alone → (t : Image) (p : Process) →
+        ensures exact { F.alone → (t : Tables) (p : Process) →
             CanSettle (S.view self.old.seat) self.old.root.0 self.old.trapframe.0 self.old.layout t p page →
             IsOk result ↔ (settle_need p page ≤ F.free store.old) }
-        ensures free { F.alone → (t : Image) (p : Process) →
+        ensures free { F.alone → (t : Tables) (p : Process) →
             CanSettle (S.view self.old.seat) self.old.root.0 self.old.trapframe.0 self.old.layout t p page →
             F.free store.new ≡ F.free store.old - (if is_ok result then settle_need p page else 0) }
         ensures root { self.new.root ≡ self.old.root }

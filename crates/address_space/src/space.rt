@@ -10,7 +10,7 @@ ghost use Rattle.process_model.specs.Process.{Page, Process, regions};
 ghost use Rattle.process_model.specs.Regions as model;
 ghost use Rattle.process_model.specs.Residence.{loaded, stored, with_page};
 ghost use Rattle.sv39_entry.specs.Address.{page_of};
-ghost use Rattle.table_walk.specs.Image.{Image};
+ghost use Rattle.table_walk.specs.Tables.{Tables};
 
 use crate::layout::Layout;
 use crate::pages::frame_of;
@@ -33,7 +33,7 @@ impl<S: FrameSeat> Space<S> {
     /// Whether the user may make an access, or the first rule that denies it. `width` is in bytes.
     pub fn grant(&self, access: Access, va: Va, width: u64) -> Result<(), Rule>
         requires { 0 < width }
-        ensures { (t : Image) (p : Process) → Agrees (S.view self.now.seat) self.now.root.0 self.now.trapframe.0 self.now.layout t p →
+        ensures { (t : Tables) (p : Process) → Agrees (S.view self.now.seat) self.now.root.0 self.now.trapframe.0 self.now.layout t p →
             result ≡ granted_unless (model.first_rule (regions p) access va.0 width) }
     {
         self.layout.grant(access, va, width)
@@ -42,10 +42,10 @@ impl<S: FrameSeat> Space<S> {
     /// The number in `width` bytes of a settled page, the lowest byte first.
     pub fn read<F: FrameAccess<Seat = S>>(&mut self, store: &mut F, va: Va, width: u64) -> u64
         requires fits { Fits F.rule store.old self.old.seat }
-        requires ready { (t : Image) × (p : Process) × (s : Page) × CanRead (S.view self.old.seat) self.old.root.0 self.old.trapframe.0 self.old.layout t p (page_of va.0) s }
+        requires ready { (t : Tables) × (p : Process) × (s : Page) × CanRead (S.view self.old.seat) self.old.root.0 self.old.trapframe.0 self.old.layout t p (page_of va.0) s }
         requires width { IsTrue (is_width width) }
         requires aligned { va.0 % width ≡ 0 }
-        ensures value { (t : Image) (p : Process) (s : Page) → CanRead (S.view self.old.seat) self.old.root.0 self.old.trapframe.0 self.old.layout t p (page_of va.0) s → result ≡ loaded s (va.0 % 4096) width }
+        ensures value { (t : Tables) (p : Process) (s : Page) → CanRead (S.view self.old.seat) self.old.root.0 self.old.trapframe.0 self.old.layout t p (page_of va.0) s → result ≡ loaded s (va.0 % 4096) width }
         ensures root { self.new.root ≡ self.old.root }
         ensures trapframe { self.new.trapframe ≡ self.old.trapframe }
         ensures layout { self.new.layout ≡ self.old.layout }
@@ -66,10 +66,10 @@ impl<S: FrameSeat> Space<S> {
         width: u64,
     ) -> u64
         requires fits { Fits F.rule store.old self.old.seat }
-        requires ready { (t : Image) × (p : Process) × (s : Page) × CanRead (S.view self.old.seat) self.old.root.0 self.old.trapframe.0 self.old.layout t p (page_of va.0) s × IsOn t (page_of va.0) frame.0 }
+        requires ready { (t : Tables) × (p : Process) × (s : Page) × CanRead (S.view self.old.seat) self.old.root.0 self.old.trapframe.0 self.old.layout t p (page_of va.0) s × IsOn t (page_of va.0) frame.0 }
         requires width { IsTrue (is_width width) }
         requires aligned { va.0 % width ≡ 0 }
-        ensures value { (t : Image) (p : Process) (s : Page) → CanRead (S.view self.old.seat) self.old.root.0 self.old.trapframe.0 self.old.layout t p (page_of va.0) s → IsOn t (page_of va.0) frame.0 → result ≡ loaded s (va.0 % 4096) width }
+        ensures value { (t : Tables) (p : Process) (s : Page) → CanRead (S.view self.old.seat) self.old.root.0 self.old.trapframe.0 self.old.layout t p (page_of va.0) s → IsOn t (page_of va.0) frame.0 → result ≡ loaded s (va.0 % 4096) width }
         ensures root { self.new.root ≡ self.old.root }
         ensures trapframe { self.new.trapframe ≡ self.old.trapframe }
         ensures layout { self.new.layout ≡ self.old.layout }
@@ -89,10 +89,10 @@ impl<S: FrameSeat> Space<S> {
     /// Puts the `width` lowest bytes of a value into a settled page that the process has alone.
     pub fn write<F: FrameAccess<Seat = S>>(&mut self, store: &mut F, va: Va, width: u64, value: u64)
         requires fits { Fits F.rule store.old self.old.seat }
-        requires ready { (t : Image) × (p : Process) × (s : Page) × CanWrite (S.view self.old.seat) self.old.root.0 self.old.trapframe.0 self.old.layout t p (page_of va.0) s }
+        requires ready { (t : Tables) × (p : Process) × (s : Page) × CanWrite (S.view self.old.seat) self.old.root.0 self.old.trapframe.0 self.old.layout t p (page_of va.0) s }
         requires width { IsTrue (is_width width) }
         requires aligned { va.0 % width ≡ 0 }
-        ensures agrees { (t : Image) (p : Process) (s : Page) → CanWrite (S.view self.old.seat) self.old.root.0 self.old.trapframe.0 self.old.layout t p (page_of va.0) s →
+        ensures agrees { (t : Tables) (p : Process) (s : Page) → CanWrite (S.view self.old.seat) self.old.root.0 self.old.trapframe.0 self.old.layout t p (page_of va.0) s →
             Agrees (S.view self.new.seat) self.new.root.0 self.new.trapframe.0 self.new.layout t
             (with_page p (page_of va.0) (stored s (va.0 % 4096) (low_bytes value width))) }
         ensures root { self.new.root ≡ self.old.root }
@@ -117,10 +117,10 @@ impl<S: FrameSeat> Space<S> {
         value: u64,
     )
         requires fits { Fits F.rule store.old self.old.seat }
-        requires ready { (t : Image) × (p : Process) × (s : Page) × CanWrite (S.view self.old.seat) self.old.root.0 self.old.trapframe.0 self.old.layout t p (page_of va.0) s × IsOn t (page_of va.0) frame.0 }
+        requires ready { (t : Tables) × (p : Process) × (s : Page) × CanWrite (S.view self.old.seat) self.old.root.0 self.old.trapframe.0 self.old.layout t p (page_of va.0) s × IsOn t (page_of va.0) frame.0 }
         requires width { IsTrue (is_width width) }
         requires aligned { va.0 % width ≡ 0 }
-        ensures agrees { (t : Image) (p : Process) (s : Page) → CanWrite (S.view self.old.seat) self.old.root.0 self.old.trapframe.0 self.old.layout t p (page_of va.0) s → IsOn t (page_of va.0) frame.0 →
+        ensures agrees { (t : Tables) (p : Process) (s : Page) → CanWrite (S.view self.old.seat) self.old.root.0 self.old.trapframe.0 self.old.layout t p (page_of va.0) s → IsOn t (page_of va.0) frame.0 →
             Agrees (S.view self.new.seat) self.new.root.0 self.new.trapframe.0 self.new.layout t
             (with_page p (page_of va.0) (stored s (va.0 % 4096) (low_bytes value width))) }
         ensures root { self.new.root ≡ self.old.root }
@@ -143,7 +143,7 @@ impl<S: FrameSeat> Space<S> {
 
     /// Ends the heap at another address. No page gets a frame by it, and none loses one.
     pub fn set_size(&mut self, size: u64)
-        ensures agrees { (t : Image) (p : Process) → Agrees (S.view self.old.seat) self.old.root.0 self.old.trapframe.0 self.old.layout t p →
+        ensures agrees { (t : Tables) (p : Process) → Agrees (S.view self.old.seat) self.old.root.0 self.old.trapframe.0 self.old.layout t p →
             KeepsRegions p (record p { size = size }) →
             Agrees (S.view self.new.seat) self.new.root.0 self.new.trapframe.0 self.new.layout t (record p { size = size }) }
         ensures seat { self.new.seat ≡ self.old.seat }
@@ -156,8 +156,8 @@ impl<S: FrameSeat> Space<S> {
     /// The frame of the page of an address.
     fn page_frame<F: FrameAccess<Seat = S>>(&mut self, store: &mut F, va: Va) -> FrameNo
         requires fits { Fits F.rule store.old self.old.seat }
-        requires ready { (t : Image) × (p : Process) × (s : Page) × CanRead (S.view self.old.seat) self.old.root.0 self.old.trapframe.0 self.old.layout t p (page_of va.0) s }
-        ensures frame { (t : Image) (p : Process) (s : Page) → CanRead (S.view self.old.seat) self.old.root.0 self.old.trapframe.0 self.old.layout t p (page_of va.0) s → IsOn t (page_of va.0) result.0 }
+        requires ready { (t : Tables) × (p : Process) × (s : Page) × CanRead (S.view self.old.seat) self.old.root.0 self.old.trapframe.0 self.old.layout t p (page_of va.0) s }
+        ensures frame { (t : Tables) (p : Process) (s : Page) → CanRead (S.view self.old.seat) self.old.root.0 self.old.trapframe.0 self.old.layout t p (page_of va.0) s → IsOn t (page_of va.0) result.0 }
         ensures root { self.new.root ≡ self.old.root }
         ensures trapframe { self.new.trapframe ≡ self.old.trapframe }
         ensures layout { self.new.layout ≡ self.old.layout }

@@ -9,7 +9,7 @@ ghost use Rattle.exec_segments.specs.Loads.{AreLoads, load_of, zeros_region};
 ghost use Rattle.frame_store.specs.Laws.{Fits, IsDry, Keeps};
 ghost use Rattle.process_model.specs.Frames.{start_need};
 ghost use Rattle.process_model.specs.Loading as model;
-ghost use Rattle.table_walk.specs.Image as tables;
+ghost use Rattle.table_walk.specs.Tables as tables;
 
 use crate::image::Image;
 use crate::load::{GUARD_PAGES, Load, STACK_PAGES};
@@ -28,7 +28,7 @@ pub fn start<F: FrameSupply<Seat = S>, S: FrameSeat>(
 ) -> Result<Space<S>, (NoFrame, S)>
     requires fits { Fits F.rule store.old seat }
     requires seat { HoldsTrampoline (S.view seat) }
-    ensures started { IfOk result (λ s. (t : tables.Image) × ((fresh : ℕ) → Agrees (S.view s.seat) s.root.0 s.trapframe.0 s.layout t (model.process_of fresh image.now)) × OwnsAlone (S.view s.seat) t) }
+    ensures started { IfOk result (λ s. (t : tables.Tables) × ((fresh : ℕ) → Agrees (S.view s.seat) s.root.0 s.trapframe.0 s.layout t (model.process_of fresh image.now)) × OwnsAlone (S.view s.seat) t) }
     ensures takes { IfOk result (λ s. Takes (S.view seat) (S.view s.seat) (start_need image.now) []) }
     ensures refused { IfErr result (λ e. IsDry (start_need image.now) (S.view seat) (S.view e.1)) }
     ensures exact { F.alone → IsOk result ↔ (start_need image.now ≤ F.free store.old) }

@@ -84,5 +84,5 @@ module _ (m : Machine) (w : World) (is : IsWorld m w) (h : ℕ) (access : Access
                 subst (λ (z : Hart). IsWorld (record n { harts = with_item n.harts h (record z { phase = phase.Enter0 }) }) (with_hart (with_process w s comes.process) h (record (hart_of has.hart) { phase = phase.Enter0 })))
                     (sym (read ∙ get_or_from_slice_get n.harts.items h has.hart x there))
                     (hart_changes n _ after h has.hart (record has.hart { phase = phase.Enter0 }) there (λ k on. after.hosted h k has.hart there on) (λ r on k z at also. after.alone r k h z has.hart at there also on) (λ none. absurd (user_has_slot m w is h p has user none))
-                    (λ e old. enters after.images after.kernel has.hart in_user e (after.buffers h has.hart e there old))),
+                    (λ e old. enters after.tables after.kernel has.hart in_user e (after.buffers h has.hart e there old))),
               )

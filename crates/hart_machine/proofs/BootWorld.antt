@@ -19,7 +19,7 @@ use Rattle.process_model.specs.Process.{Process}
 use Rattle.process_model.specs.World.{booted, free}
 use Rattle.process_model.specs.declared.config.Config.{Config}
 use Rattle.process_model.specs.declared.config.Policy.TheVariants.{Full}
-use Rattle.table_walk.specs.Image.{Image}
+use Rattle.table_walk.specs.Tables.{Tables}
 
 -- what is there at first
 
@@ -36,7 +36,7 @@ none_there zero i x e = absurd (cc)
 none_there (suc n) zero x e = absurd (cc)
 none_there (suc n) (suc i) x e = none_there n i x e
 
-empty_place : (n i : ℕ) (t : Image) → IsPlace (slice_get (replicate n None) i) (slice_get (replicate n None) i) t
+empty_place : (n i : ℕ) (t : Tables) → IsPlace (slice_get (replicate n None) i) (slice_get (replicate n None) i) t
 empty_place zero i t = tt
 empty_place (suc n) zero t = tt
 empty_place (suc n) (suc i) t = empty_place n i t
@@ -64,7 +64,7 @@ left_free frames slots before after was is = elim (cases_lt 512 frames) [
   | inr low ↦ (let need : kernel_frames frames slots ≡ 6 + slots = rw (le-leb frames 512 low) refl in omega (arith, is, was, need))
 ]
 
-module _ (m : Machine) (c : Config) (full : c.policy ≡ Full) (sized : m.kernel.seat.size ≡ c.frames) (stacks : List ℕ) (t : Image)
+module _ (m : Machine) (c : Config) (full : c.policy ≡ Full) (sized : m.kernel.seat.size ≡ c.frames) (stacks : List ℕ) (t : Tables)
     (table : IsKernelTable m.kernel.seat m.kernel.root.0 c.frames c.slots stacks t) (rule : BankRule m.frames (m.kernel.seat ∷ [])) (free : m.frames.free ≡ c.frames - kernel_frames c.frames c.slots)
     (slots : m.slots.items ≡ replicate c.slots None) (harts : map hart_of m.harts.items ≡ replicate c.harts model.idle_hart) where
   idle_at : (h : ℕ) (x : Hart) → slice_get m.harts.items h ≡ Some x → hart_of x ≡ model.idle_hart
@@ -72,7 +72,7 @@ module _ (m : Machine) (c : Config) (full : c.policy ≡ Full) (sized : m.kernel
 
   pub boots : IsWorld m (booted c [])
   boots = record {
-    images = λ _. t;
+    tables = λ _. t;
     kernel = t;
     stacks = stacks;
     policy = full;

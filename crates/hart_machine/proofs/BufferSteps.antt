@@ -8,10 +8,10 @@ use Rattle.process_model.specs.declared.phase.Phase.{Phase}
 use Rattle.process_model.specs.declared.phase.Phase.TheVariants as phase
 use Rattle.process_model.specs.declared.step.Step.{Step}
 use Rattle.process_model.specs.declared.step.Step.TheVariants as step
-use Rattle.table_walk.specs.Image.{Image}
+use Rattle.table_walk.specs.Tables.{Tables}
 use Rattle.hart_machine.specs.Buffers.{HasEntry, NoNewEntries, OnlyFillsAdd, SameBuffers}
 use Rattle.hart_machine.specs.Harts.{advanced, with_entry}
-use Rattle.hart_machine.specs.Tables.{image_of, present_table}
+use Rattle.hart_machine.specs.Tables.{tables_of, present_table}
 use Rattle.hart_machine.specs.Walked.{entry_for}
 use Rattle.hart_machine.specs.declared.hart.Hart.{Hart}
 use Rattle.hart_machine.specs.declared.machine.Machine.{Machine}
@@ -62,13 +62,13 @@ module _ (m : Machine) (h : ℕ) (x y : Hart) (read : x ≡ get_or m.harts.items
   ]
 
   -- a fill by the table that satp has
-  pub fill_adds : (z : Hart) → slice_get m.harts.items h ≡ Some z → (t : Table) → t ≡ present_table z → (images : ℕ → Image) (kernel : Image) (a : ℕ)
-      → y ≡ with_entry x (entry_for (image_of images kernel t) 0 a) → OnlyFillsAdd m changed images kernel (step.Fill h a)
-  fill_adds z at t present images kernel a made k e (es, in_it, there) = elim (set_at m.harts.items h y k es in_it) [
+  pub fill_adds : (z : Hart) → slice_get m.harts.items h ≡ Some z → (t : Table) → t ≡ present_table z → (tables : ℕ → Tables) (kernel : Tables) (a : ℕ)
+      → y ≡ with_entry x (entry_for (tables_of tables kernel t) 0 a) → OnlyFillsAdd m changed tables kernel (step.Fill h a)
+  fill_adds z at t present tables kernel a made k e (es, in_it, there) = elim (set_at m.harts.items h y k es in_it) [
     | inl old ↦ inl (es, old, there)
-    | inr new ↦ elim (in_newest x.buffer (entry_for (image_of images kernel t) 0 a) e (subst (λ (u : Hart). Contains u.buffer e) made (rw new.3 there))) [
+    | inr new ↦ elim (in_newest x.buffer (entry_for (tables_of tables kernel t) 0 a) e (subst (λ (u : Hart). Contains u.buffer e) made (rw new.3 there))) [
       | inl old ↦ inl (rw new.0 (has_read z at e old))
-      | inr is ↦ inr (a, z, ap (λ n. step.Fill n a) (sym new.0), ap (slice_get m.harts.items) new.0 ∙ at, is ∙ ap (λ (u : Table). entry_for (image_of images kernel u) 0 a) present)
+      | inr is ↦ inr (a, z, ap (λ n. step.Fill n a) (sym new.0), ap (slice_get m.harts.items) new.0 ∙ at, is ∙ ap (λ (u : Table). entry_for (tables_of tables kernel u) 0 a) present)
     ]
   ]
 
@@ -89,8 +89,8 @@ advanced_has x e = go x.phase x.slot x.buffer where
   go phase.Leave2 slot es there = absurd (no_entry e there)
 
 -- where none comes, a fill alone adds
-pub none_adds : (m n : Machine) → NoNewEntries m n → (images : ℕ → Image) (kernel : Image) (s : Step) → OnlyFillsAdd m n images kernel s
-none_adds m n none images kernel s h e has = inl (none h e has)
+pub none_adds : (m n : Machine) → NoNewEntries m n → (tables : ℕ → Tables) (kernel : Tables) (s : Step) → OnlyFillsAdd m n tables kernel s
+none_adds m n none tables kernel s h e has = inl (none h e has)
 
-pub same_adds : (m n : Machine) → SameBuffers m n → (images : ℕ → Image) (kernel : Image) (s : Step) → OnlyFillsAdd m n images kernel s
-same_adds m n same images kernel s h e (es, at, there) = inl (es, sym (same h) ∙ at, there)
+pub same_adds : (m n : Machine) → SameBuffers m n → (tables : ℕ → Tables) (kernel : Tables) (s : Step) → OnlyFillsAdd m n tables kernel s
+same_adds m n same tables kernel s h e (es, at, there) = inl (es, sym (same h) ∙ at, there)

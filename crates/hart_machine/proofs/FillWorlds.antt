@@ -16,9 +16,9 @@ use Rattle.process_model.specs.declared.step.Refusal.TheVariants.{BadArgument}
 use Rattle.process_model.specs.declared.step.Reply.TheVariants.{Filled, Refused}
 use Rattle.process_model.specs.declared.step.Step.TheVariants as step
 use Rattle.sv39_entry.specs.Address.{page_of}
-use Rattle.table_walk.specs.Image.{HasTables, Image}
+use Rattle.table_walk.specs.Tables.{HasTables, Tables}
 use Rattle.hart_machine.specs.Harts.{hart_of, next_number, with_entry}
-use Rattle.hart_machine.specs.Tables.{image_of, IsThere, present_table}
+use Rattle.hart_machine.specs.Tables.{tables_of, IsThere, present_table}
 use Rattle.hart_machine.specs.Tenants.{view_of}
 use Rattle.hart_machine.specs.Walked.{entry_for, IsEntryOf, LeavesAreLocal, LeavesAreThere}
 use Rattle.hart_machine.specs.Worlds.{IsPlace, IsServing, IsWorld, Makes, seats_of}
@@ -34,21 +34,21 @@ use Rattle.hart_machine.proofs.Leaves.{kernel_local, kernel_there, process_local
 use Rattle.hart_machine.proofs.PresentTables.{present_serves, present_there}
 
 -- an entry that is made by a table tells what the table says
-pub entry_is : (t : Image) (a : ℕ) → IsEntryOf t 0 (entry_for t 0 a)
+pub entry_is : (t : Tables) (a : ℕ) → IsEntryOf t 0 (entry_for t 0 a)
 entry_is t a = record { of_space = refl; local = refl; leaf = sym (leaf_on_page t a) }
 
 -- a process that is put back changes nothing
 abbrev pub put_back : (m : Machine) (w : World) (is : IsWorld m w) (s : ℕ) (x : Tenant) → slice_get m.slots.items s ≡ Some (Some x) → IsWorld (record m { slots = with_item m.slots s (Some x) }) w
 put_back m w is s x at =
     let same : slice_set m.slots.items s (Some x) ≡ m.slots.items = place_set_back m.slots.items s (Some x) at in record {
-      images = is.images;
+      tables = is.tables;
       kernel = is.kernel;
       stacks = is.stacks;
       policy = is.policy;
       frames = is.frames;
       rule = subst (λ (ps : List (Option Tenant)). BankRule m.frames (m.kernel.seat ∷ seats_of ps)) (sym same) is.rule;
       of_kernel = is.of_kernel;
-      places = λ r. subst (λ (ps : List (Option Tenant)). IsPlace (slice_get ps r) (slice_get w.slots r) (is.images r)) (sym same) (is.places r);
+      places = λ r. subst (λ (ps : List (Option Tenant)). IsPlace (slice_get ps r) (slice_get w.slots r) (is.tables r)) (sym same) (is.places r);
       copies = is.copies;
       counted = is.counted;
       free = is.free;
@@ -76,10 +76,10 @@ has_at m w is h x at = record {
 -- a hart that keeps the entry of a table keeps that of the table that was taken
 module _ (m : Machine) (w : World) (is : IsWorld m w) (a : ℕ) (x y : Hart) (t : Table) where
   abbrev KeepsOf : View → ℕ → Type 0
-  KeepsOf v root = (i : Image) → HasTables v root i → LeavesAreThere i → LeavesAreLocal i → y ≡ with_entry x (entry_for i 0 a)
+  KeepsOf v root = (i : Tables) → HasTables v root i → LeavesAreThere i → LeavesAreLocal i → y ≡ with_entry x (entry_for i 0 a)
 
   abbrev Keeps : Table → Type 0
-  Keeps u = y ≡ with_entry x (entry_for (image_of is.images is.kernel u) 0 a)
+  Keeps u = y ≡ with_entry x (entry_for (tables_of is.tables is.kernel u) 0 a)
 
   pub keeps_of_kernel : t ≡ OfKernel → KeepsOf m.kernel.seat m.kernel.root.0 → Keeps t
   keeps_of_kernel of_kernel kept =
@@ -89,7 +89,7 @@ module _ (m : Machine) (w : World) (is : IsWorld m w) (a : ℕ) (x y : Hart) (t 
   keeps_of_process s of_process z at kept =
       let p = process_at m w is s z at in
       let shows = (p.2).agrees.stands.shows in
-      subst Keeps (sym of_process) (kept (is.images s) (p.2).agrees.stands.tables (process_there _ _ _ p.0 shows (p.2).framed) (process_local _ _ _ p.0 shows (p.2).framed))
+      subst Keeps (sym of_process) (kept (is.tables s) (p.2).agrees.stands.tables (process_there _ _ _ p.0 shows (p.2).framed) (process_local _ _ _ p.0 shows (p.2).framed))
 
 module _ (m : Machine) (w : World) (is : IsWorld m w) (h a : ℕ) where
   pub fills_nowhere : None ≡ option_map present_table (slice_get m.harts.items h) → Makes m (Refused BadArgument) (plain_step w (step.Fill h a))
@@ -100,7 +100,7 @@ module _ (m : Machine) (w : World) (is : IsWorld m w) (h a : ℕ) where
 
   module _ (x : Hart) (at : slice_get m.harts.items h ≡ Some x) (few : length x.buffer ≤ buffer_size) where
     abbrev entry : TlbEntry
-    entry = entry_for (image_of is.images is.kernel (present_table x)) 0 a
+    entry = entry_for (tables_of is.tables is.kernel (present_table x)) 0 a
 
     abbrev key : Key
     key = record { page = page_of a; asid = 0 }
@@ -114,17 +114,17 @@ module _ (m : Machine) (w : World) (is : IsWorld m w) (h a : ℕ) where
         subst (λ (z : Hart). Makes (record m { harts = with_item m.harts h z }) (Filled n) (plain_step w (step.Fill h a))) (sym made)
         (makes _ (Filled n) _ _ (hart_changes m w is h x (with_entry x entry) at (λ s on. is.hosted h s x at on) (λ s on k z there also. is.alone s k h z x there at also on) (λ none. is.idle h x at none) serves)
         (step_is ∙ rw (number ∙ number_is x.buffer few key, kept_is x entry few) refl)) where
-          serves : (e : TlbEntry) → Contains (with_entry x entry).buffer e → IsServing (with_entry x entry) is.images is.kernel e
+          serves : (e : TlbEntry) → Contains (with_entry x entry).buffer e → IsServing (with_entry x entry) is.tables is.kernel e
           serves e there = elim (in_newest x.buffer entry e there) [
             | inl old ↦ is.buffers h x e at old
-            | inr new ↦ rw new (present_serves is.images is.kernel x (λ none. is.idle h x at none) entry (entry_is _ a))
+            | inr new ↦ rw new (present_serves is.tables is.kernel x (λ none. is.idle h x at none) entry (entry_is _ a))
           ]
 
   -- the hart that is read keeps an entry of the table that its satp has
   pub fills : (x : Hart) → slice_get m.harts.items h ≡ Some x → (t : Table) → t ≡ present_table x → (z : Hart) → z ≡ get_or m.harts.items h z → length z.buffer ≤ buffer_size
-      → (y : Hart) → y ≡ with_entry z (entry_for (image_of is.images is.kernel t) 0 a) → (n : ℕ) → n ≡ next_number z.buffer → Makes (record m { harts = with_item m.harts h y }) (Filled n) (plain_step w (step.Fill h a))
+      → (y : Hart) → y ≡ with_entry z (entry_for (tables_of is.tables is.kernel t) 0 a) → (n : ℕ) → n ≡ next_number z.buffer → Makes (record m { harts = with_item m.harts h y }) (Filled n) (plain_step w (step.Fill h a))
   fills x at t present z read few y made n number =
       let same : z ≡ x = same_hart m.harts.items h x z read at in
       fills_at x at (subst (λ (u : Hart). length u.buffer ≤ buffer_size) same few) y
-      (made ∙ ap (λ (u : Hart). with_entry u (entry_for (image_of is.images is.kernel t) 0 a)) same ∙ ap (λ (u : Table). with_entry x (entry_for (image_of is.images is.kernel u) 0 a)) present) n
+      (made ∙ ap (λ (u : Hart). with_entry u (entry_for (tables_of is.tables is.kernel t) 0 a)) same ∙ ap (λ (u : Table). with_entry x (entry_for (tables_of is.tables is.kernel u) 0 a)) present) n
       (number ∙ ap (λ (u : Hart). next_number u.buffer) same)

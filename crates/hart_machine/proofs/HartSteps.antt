@@ -20,7 +20,7 @@ use Rattle.process_model.specs.declared.step.Refusal.TheVariants.{BadArgument, I
 use Rattle.process_model.specs.declared.step.Reply.{Reply}
 use Rattle.process_model.specs.declared.step.Reply.TheVariants.{Done, Refused}
 use Rattle.process_model.specs.declared.step.Refusal.{Refusal}
-use Rattle.table_walk.specs.Image.{Image}
+use Rattle.table_walk.specs.Tables.{Tables}
 use Rattle.hart_machine.specs.Harts.{advanced, hart_of}
 use Rattle.hart_machine.specs.Tenants.{IsTenant}
 use Rattle.hart_machine.specs.Worlds.{IsPlace, IsServing, IsWorld, Makes, may_have_kernel, may_have_own}
@@ -106,19 +106,19 @@ module _ (m : Machine) (w : World) (is : IsWorld m w) where
       within = subst (λ n. h < n) (sym m.harts.ok.0) (slice_get_within m.harts.items h x at);
     }
 
-  pub process_at : (s : ℕ) (x : Tenant) → slice_get m.slots.items s ≡ Some (Some x) → (p : Process) × (slice_get w.slots s ≡ Some (Some p)) × IsTenant x (is.images s) p
+  pub process_at : (s : ℕ) (x : Tenant) → slice_get m.slots.items s ≡ Some (Some x) → (p : Process) × (slice_get w.slots s ≡ Some (Some p)) × IsTenant x (is.tables s) p
   process_at s x at = go (slice_get m.slots.items s) (slice_get w.slots s) refl (is.places s) at where
-    go : (a : Option (Option Tenant)) (b : Option (Option Process)) → slice_get w.slots s ≡ b → IsPlace a b (is.images s) → a ≡ Some (Some x)
-        → (p : Process) × (slice_get w.slots s ≡ Some (Some p)) × IsTenant x (is.images s) p
+    go : (a : Option (Option Tenant)) (b : Option (Option Process)) → slice_get w.slots s ≡ b → IsPlace a b (is.tables s) → a ≡ Some (Some x)
+        → (p : Process) × (slice_get w.slots s ≡ Some (Some p)) × IsTenant x (is.tables s) p
     go None b there place e = absurd (cc)
     go (Some None) b there place e = absurd (let same = same_Some _ _ e in cc)
     go (Some (Some y)) None there place e = absurd place
     go (Some (Some y)) (Some None) there place e = absurd place
-    go (Some (Some y)) (Some (Some p)) there place e = (p, there, subst (λ z. IsTenant z (is.images s) p) (same_Some y x (same_Some _ _ e)) place)
+    go (Some (Some y)) (Some (Some p)) there place e = (p, there, subst (λ z. IsTenant z (is.tables s) p) (same_Some y x (same_Some _ _ e)) place)
 
   pub tenant_at : (s : ℕ) → is_some (process_in w s) ≡ true → (x : Tenant) × (slice_get m.slots.items s ≡ Some (Some x))
   tenant_at s some = go (slice_get m.slots.items s) refl (slice_get w.slots s) (is.places s) some where
-    go : (a : Option (Option Tenant)) → slice_get m.slots.items s ≡ a → (b : Option (Option Process)) → IsPlace a b (is.images s) → is_some (flat b) ≡ true
+    go : (a : Option (Option Tenant)) → slice_get m.slots.items s ≡ a → (b : Option (Option Process)) → IsPlace a b (is.tables s) → is_some (flat b) ≡ true
         → (x : Tenant) × (slice_get m.slots.items s ≡ Some (Some x))
     go a there None place e = absurd (cc)
     go a there (Some None) place e = absurd (cc)
@@ -144,9 +144,9 @@ module _ (m : Machine) (w : World) (is : IsWorld m w) where
     IsAlone = (s : ℕ) → y.slot ≡ Some s → (k : ℕ) (z : Hart) → slice_get m.harts.items k ≡ Some z → z.slot ≡ Some s → k ≡ h
 
     pub hart_changes : ((s : ℕ) → y.slot ≡ Some s → (t : Tenant) × (slice_get m.slots.items s ≡ Some (Some t))) → IsAlone → (y.slot ≡ None → y.phase ≡ phase.Idle)
-        → ((e : TlbEntry) → Contains y.buffer e → IsServing y is.images is.kernel e) → IsWorld (record m { harts = with_item m.harts h y }) (with_hart w h (hart_of y))
+        → ((e : TlbEntry) → Contains y.buffer e → IsServing y is.tables is.kernel e) → IsWorld (record m { harts = with_item m.harts h y }) (with_hart w h (hart_of y))
     hart_changes hosted alone idle serves = record {
-      images = is.images;
+      tables = is.tables;
       kernel = is.kernel;
       stacks = is.stacks;
       policy = is.policy;
@@ -170,7 +170,7 @@ module _ (m : Machine) (w : World) (is : IsWorld m w) where
         ]
       ];
       idle = λ k z at. at_each k z at (λ (u : Hart). u.slot ≡ None → u.phase ≡ phase.Idle) idle (λ old. is.idle k z old);
-      buffers = λ k z e at. at_each k z at (λ (u : Hart). Contains u.buffer e → IsServing u is.images is.kernel e) (serves e) (λ old. is.buffers k z e old);
+      buffers = λ k z e at. at_each k z at (λ (u : Hart). Contains u.buffer e → IsServing u is.tables is.kernel e) (serves e) (λ old. is.buffers k z e old);
     } where
       new_or_old : (k : ℕ) (z : Hart) → slice_get (slice_set m.harts.items h y) k ≡ Some z → ((k ≡ h) × (y ≡ z)) ⊎ (slice_get m.harts.items k ≡ Some z)
       new_or_old k z at = elim (cases_eq k h) [
@@ -246,7 +246,7 @@ module _ (m : Machine) (w : World) (is : IsWorld m w) (h : ℕ) (slot : Option �
           idles None e = refl
           idles (Some r) e = absurd (cc)
 
-          serves : (o : Option ℕ) (e : TlbEntry) → Contains has.hart.buffer e → IsServing (switched has.hart o) is.images is.kernel e
+          serves : (o : Option ℕ) (e : TlbEntry) → Contains has.hart.buffer e → IsServing (switched has.hart o) is.tables is.kernel e
           serves o e there = elim (is.buffers h has.hart e has.there there) [
             | inl of_kernel ↦ inl (kept o, of_kernel.1)
             | inr own ↦ absurd (none_of_own has.hart.phase (ap model.may_switch has.phased ∙ may) own.1)
@@ -273,10 +273,10 @@ advanced_is x = go x.phase x.slot x.buffer where
 no_entry : {A : Type 0} (e : A) → Contains [] e → ⊥
 no_entry e there = omega (arith, there.1)
 
-module _ (images : ℕ → Image) (kernel : Image) where
+module _ (tables : ℕ → Tables) (kernel : Tables) where
   -- a buffer of which all entries serve
   abbrev Serves : Hart → Type 0
-  Serves x = (e : TlbEntry) → Contains x.buffer e → IsServing x images kernel e
+  Serves x = (e : TlbEntry) → Contains x.buffer e → IsServing x tables kernel e
 
   advanced_serves : (x : Hart) → is_some (model.next_phase x.phase) ≡ true → Serves x → Serves (advanced x)
   advanced_serves x = go x.phase x.slot x.buffer where
@@ -299,7 +299,7 @@ module _ (m : Machine) (w : World) (is : IsWorld m w) (h : ℕ) (p : Phase) (has
   pub goes_on : (x y : Hart) → x ≡ get_or m.harts.items h x → y ≡ advanced x → can_go_on w (hart_of has.hart) ≡ true
       → Makes (record m { harts = with_item m.harts h y }) Done (plain_step w (step.Next h))
   goes_on x y read made can = subst (λ (z : Hart). Makes (record m { harts = with_item m.harts h z }) Done (plain_step w (step.Next h))) (sym (made ∙ ap advanced (hart_read m w is h p has x read)))
-      (makes _ Done _ _ (hart_changes m w is h has.hart (advanced has.hart) has.there (λ s on. is.hosted h s has.hart has.there on) (λ s on k z at also. is.alone s k h z has.hart at has.there also on) idles (advanced_serves is.images is.kernel has.hart goes (λ e. is.buffers h has.hart e has.there)))
+      (makes _ Done _ _ (hart_changes m w is h has.hart (advanced has.hart) has.there (λ s on. is.hosted h s has.hart has.there on) (λ s on k z at also. is.alone s k h z has.hart at has.there also on) idles (advanced_serves is.tables is.kernel has.hart goes (λ e. is.buffers h has.hart e has.there)))
       (runs w h true (can_go_on w) always _ (hart_of has.hart) has.in_model refl can refl ∙ rw (is.policy, ← advanced_is has.hart) refl)) where
         goes : is_some (model.next_phase has.hart.phase) ≡ true
         goes = and_left _ _ can

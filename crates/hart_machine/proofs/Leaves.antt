@@ -11,7 +11,7 @@ use Rattle.process_model.specs.Process.{Process}
 use Rattle.sv39_entry.specs.Address.{has, trampoline_page, trapframe_page}
 use Rattle.sv39_entry.specs.Frame.{frame_at, ppn_of}
 use Rattle.sv39_entry.specs.Word.{leaf_word, ppn}
-use Rattle.table_walk.specs.Image.{Image, leaf_node}
+use Rattle.table_walk.specs.Tables.{Tables, leaf_node}
 use Rattle.address_space.specs.Agreement.{HasKernelLeaf, IsShown, Shows, code_rights, data_rights}
 use Rattle.hart_machine.specs.Walked.{LeavesAreLocal, LeavesAreThere}
 use Rattle.hart_machine.proofs.UserAnswers.{frame_is}
@@ -23,7 +23,7 @@ IsSound w = (is_some (frame_at (ppn w)) ≡ true) × (has w 5 ≡ false)
 sound : (w f : ℕ) → f < 2 ^ 16 → ppn w ≡ ppn_of f → has w 5 ≡ false → IsSound w
 sound w f small names local = (ap is_some (ap frame_at names ∙ frame_is f small), local)
 
-module _ (v : View) (trapframe : ℕ) (t : Image) (p : Process) (shows : Shows v trapframe t p) (small : trapframe < 2 ^ 16) where
+module _ (v : View) (trapframe : ℕ) (t : Tables) (p : Process) (shows : Shows v trapframe t p) (small : trapframe < 2 ^ 16) where
   of_kernel : (page f rights k w : ℕ) → f < 2 ^ 16 → HasKernelLeaf t page f rights → k ≡ leaf_node page → get t.leaves k ≡ Some w → IsSound w
   of_kernel page f rights k w low leaf same found =
       let is : leaf.0 ≡ w = same_Some leaf.0 w (sym leaf.1 ∙ ap (get t.leaves) (sym same) ∙ found) in
@@ -72,7 +72,7 @@ not_both : (a b : Bool) → b ≡ false → (a && b) ≡ true → ⊥
 not_both true b other is = cc
 not_both false b other is = cc
 
-module _ (v : View) (root frames slots : ℕ) (stacks : List ℕ) (t : Image) (k : IsKernelTable v root frames slots stacks t) where
+module _ (v : View) (root frames slots : ℕ) (stacks : List ℕ) (t : Tables) (k : IsKernelTable v root frames slots stacks t) where
   stacked : (o : Option ℕ) → ((f : ℕ) → o ≡ Some f → f < 2 ^ 16) → (z : ℕ × ℕ) → option_map (λ (f : ℕ). (f, data_rights)) o ≡ Some z → IsKernelPage z
   stacked None each z is = absurd (cc)
   stacked (Some f) each z is = subst IsKernelPage (same_Some (f, data_rights) z is) (each f refl, inr refl)

@@ -16,7 +16,7 @@ pub mod ProcessSteps
 pub mod StartSeats
 pub mod StartSlots
 pub mod StartedCopies
-pub mod StartedImages
+pub mod StartedTables
 pub mod StartedPages
 pub mod StartedSeats
 pub mod StartedWorlds

@@ -8,9 +8,9 @@ use Rattle.process_model.specs.declared.phase.Phase.{Phase}
 use Rattle.process_model.specs.declared.phase.Phase.TheVariants as phase
 use Rattle.sv39_entry.specs.declared.access.Access.{Access}
 use Rattle.sv39_entry.specs.declared.access.Mode.{Mode}
-use Rattle.table_walk.specs.Image.{Image}
+use Rattle.table_walk.specs.Tables.{Tables}
 use Rattle.table_walk.specs.declared.walk.Walk.{Walk}
-use Rattle.hart_machine.specs.Tables.{image_of, IsServed, IsThere, present_table}
+use Rattle.hart_machine.specs.Tables.{tables_of, IsServed, IsThere, present_table}
 use Rattle.hart_machine.specs.Walked.{IsEntryOf, walk_answer}
 use Rattle.hart_machine.specs.Worlds.{IsServing, may_have_kernel, may_have_own}
 use Rattle.hart_machine.specs.declared.hart.Hart.{Hart}
@@ -40,19 +40,19 @@ present_is x = go x.phase x.slot x.buffer where
   go phase.Enter1 (Some s) es idle = inr (s, refl, refl, refl)
   go phase.Leave2 (Some s) es idle = inr (s, refl, refl, refl)
 
-module _ (images : ℕ → Image) (kernel : Image) (x : Hart) (idle : x.slot ≡ None → x.phase ≡ phase.Idle) where
+module _ (tables : ℕ → Tables) (kernel : Tables) (x : Hart) (idle : x.slot ≡ None → x.phase ≡ phase.Idle) where
   -- an entry that is made by it serves
-  pub present_serves : (e : TlbEntry) → IsEntryOf (image_of images kernel (present_table x)) 0 e → IsServing x images kernel e
+  pub present_serves : (e : TlbEntry) → IsEntryOf (tables_of tables kernel (present_table x)) 0 e → IsServing x tables kernel e
   present_serves e entry = elim (present_is x idle) [
-    | inl of_kernel ↦ inl (of_kernel.0, subst (λ (t : Table). IsEntryOf (image_of images kernel t) 0 e) of_kernel.1 entry)
-    | inr own ↦ inr (own.0, own.1, own.2, subst (λ (t : Table). IsEntryOf (image_of images kernel t) 0 e) own.3 entry)
+    | inl of_kernel ↦ inl (of_kernel.0, subst (λ (t : Table). IsEntryOf (tables_of tables kernel t) 0 e) of_kernel.1 entry)
+    | inr own ↦ inr (own.0, own.1, own.2, subst (λ (t : Table). IsEntryOf (tables_of tables kernel t) 0 e) own.3 entry)
   ]
 
   -- and so does a walk by it
-  pub present_served : (a : ℕ) (access : Access) (mode : Mode) (z : Walk) → z ≡ walk_answer (image_of images kernel (present_table x)) a access mode → IsServed x images kernel a access mode z
+  pub present_served : (a : ℕ) (access : Access) (mode : Mode) (z : Walk) → z ≡ walk_answer (tables_of tables kernel (present_table x)) a access mode → IsServed x tables kernel a access mode z
   present_served a access mode z walked = elim (present_is x idle) [
-    | inl of_kernel ↦ inl (of_kernel.0, walked ∙ ap (λ (t : Table). walk_answer (image_of images kernel t) a access mode) of_kernel.1)
-    | inr own ↦ inr (own.0, own.1, own.2, walked ∙ ap (λ (t : Table). walk_answer (image_of images kernel t) a access mode) own.3)
+    | inl of_kernel ↦ inl (of_kernel.0, walked ∙ ap (λ (t : Table). walk_answer (tables_of tables kernel t) a access mode) of_kernel.1)
+    | inr own ↦ inr (own.0, own.1, own.2, walked ∙ ap (λ (t : Table). walk_answer (tables_of tables kernel t) a access mode) own.3)
   ]
 
 -- and it is there

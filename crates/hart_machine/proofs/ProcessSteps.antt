@@ -15,7 +15,7 @@ use Rattle.process_model.specs.PageMap.{count, keys, numbers}
 use Rattle.process_model.specs.Process as of_model
 use Rattle.process_model.specs.Process.{Page, Process}
 use Rattle.process_model.specs.World.{World, free, with_process}
-use Rattle.table_walk.specs.Image.{Image}
+use Rattle.table_walk.specs.Tables.{Tables}
 use Rattle.address_space.specs.Agreement.{Agrees}
 use Rattle.address_space.specs.Kernel.{IsKernelTable}
 use Rattle.address_space.specs.Layouts.{Layout}
@@ -69,10 +69,10 @@ module _ (m : Machine) (w : World) (is : IsWorld m w) (s : ℕ) (x y : Tenant) (
         (λ apart old e. (r, a, old, settled, refl)) refl
 
     pub process_changes : (b : Bank) → BankRule b (m.kernel.seat ∷ seats_of (slice_set m.slots.items s (Some y))) → b.free ≡ m.frames.free
-        → IsTenant y (is.images s) q → copies_of q ≡ copies_of p → own_frames q ≡ own_frames p
+        → IsTenant y (is.tables s) q → copies_of q ≡ copies_of p → own_frames q ≡ own_frames p
         → IsWorld (record m { frames = b; slots = with_item m.slots s (Some y) }) (with_process w s q)
     process_changes b rule unspent tenant copies owns = record {
-      images = is.images;
+      tables = is.tables;
       kernel = is.kernel;
       stacks = is.stacks;
       policy = is.policy;
@@ -92,7 +92,7 @@ module _ (m : Machine) (w : World) (is : IsWorld m w) (s : ℕ) (x y : Tenant) (
       idle = is.idle;
       buffers = is.buffers;
     } where
-      places : (k : ℕ) → IsPlace (slice_get (slice_set m.slots.items s (Some y)) k) (slice_get (slice_set w.slots s (Some q)) k) (is.images k)
+      places : (k : ℕ) → IsPlace (slice_get (slice_set m.slots.items s (Some y)) k) (slice_get (slice_set w.slots s (Some q)) k) (is.tables k)
       places k = elim (cases_eq k s) [
         | inl same ↦ rw (same, place_set_same m.slots.items s (Some y) (slice_get_within m.slots.items s (Some x) place), place_set_same w.slots s (Some q) (slice_get_within w.slots s (Some p) at)) tenant
         | inr apart ↦ rw (place_set_other m.slots.items s k (Some y) apart, place_set_other w.slots s k (Some q) apart) (is.places k)
@@ -111,7 +111,7 @@ seats_stay (None ∷ places) (suc s) x y at e = seats_stay places s x y at e
 seats_stay (Some z ∷ places) (suc s) x y at e = ap (λ vs. view_of z ∷ vs) (seats_stay places s x y at e)
 
 -- another access pending changes nothing in memory
-module _ (v : View) (root trapframe : ℕ) (l : Layout) (t : Image) (p : Process) (a : Agrees v root trapframe l t p) where
+module _ (v : View) (root trapframe : ℕ) (l : Layout) (t : Tables) (p : Process) (a : Agrees v root trapframe l t p) where
   pub agrees_pending : (o : Option of_model.Pending) → Agrees v root trapframe l t (record p { pending = o })
   agrees_pending o = record {
     lays = record { parts = a.lays.parts; mappings = a.lays.mappings; heap_base = a.lays.heap_base; size = a.lays.size };
@@ -140,7 +140,7 @@ module _ (v : View) (root trapframe : ℕ) (l : Layout) (t : Image) (p : Process
   }
 
 module _ (m : Machine) (w : World) (is : IsWorld m w) (s : ℕ) (x : Tenant) (p : Process) (place : slice_get m.slots.items s ≡ Some (Some x)) (at : slice_get w.slots s ≡ Some (Some p))
-    (tenant : IsTenant x (is.images s) p) where
+    (tenant : IsTenant x (is.tables s) p) where
   -- the process of a slot has another access pending
   pub pending_changes : (o : Option Pending) → IsWorld (record m { slots = with_item m.slots s (Some (record x { pending = o })) }) (with_process w s (record p { pending = pending_of o }))
   pending_changes o = process_changes m w is s x (record x { pending = o }) p (record p { pending = pending_of o }) place at (λ n a there. (a, there, refl)) m.frames

@@ -17,11 +17,11 @@ use Rattle.hart_machine.specs.declared.tenant.Tenant.{Tenant}
 use Rattle.process_model.specs.Process.{Process}
 use Rattle.process_model.specs.World.{World}
 use Rattle.sv39_entry.specs.Address.{trampoline_page}
-use Rattle.table_walk.specs.Image.{Image, leaf_node}
+use Rattle.table_walk.specs.Tables.{Tables, leaf_node}
 use Rattle.table_walk.specs.Same.{same_tables}
 
 -- each process names frame 0 once, for the trampoline
-tenant_has_code : (o : Option (Option Tenant)) (q : Option (Option Process)) (t : Image) (x : Tenant) → o ≡ Some (Some x) → IsPlace o q t → references (view_of x) 0 ≡ 1
+tenant_has_code : (o : Option (Option Tenant)) (q : Option (Option Process)) (t : Tables) (x : Tenant) → o ≡ Some (Some x) → IsPlace o q t → references (view_of x) 0 ≡ 1
 tenant_has_code None q t x is place = absurd (cc)
 tenant_has_code (Some None) q t x is place = absurd (cc)
 tenant_has_code (Some (Some y)) None t x is place = absurd place
@@ -41,7 +41,7 @@ seats_total (Some x ∷ places) one =
     omega (arith, rest, here)
 
 -- places of both have one number
-as_many : (o : Option (Option Tenant)) (q : Option (Option Process)) (t : Image) (a : Option Tenant) → o ≡ Some a → IsPlace o q t → q ≡ None → ⊥
+as_many : (o : Option (Option Tenant)) (q : Option (Option Process)) (t : Tables) (a : Option Tenant) → o ≡ Some a → IsPlace o q t → q ≡ None → ⊥
 as_many None q t a is place none = absurd (cc)
 as_many (Some None) None t a is place none = place
 as_many (Some (Some x)) None t a is place none = place
@@ -50,7 +50,7 @@ as_many (Some x) (Some p) t a is place none = absurd (cc)
 module _ (m : Machine) (w : World) (is : IsWorld m w) where
   few_places : length m.slots.items ≤ 64
   few_places = elim (cases_lt 64 (length m.slots.items)) [
-    | inl more ↦ absurd (as_many _ _ (is.images 64) _ (slice_get-get_or m.slots.items 64 None more) (is.places 64) (slice_get_past w.slots 64 is.of_kernel.few_slots))
+    | inl more ↦ absurd (as_many _ _ (is.tables 64) _ (slice_get-get_or m.slots.items 64 None more) (is.places 64) (slice_get_past w.slots 64 is.of_kernel.few_slots))
     | inr few ↦ few
   ]
 
@@ -58,13 +58,13 @@ module _ (m : Machine) (w : World) (is : IsWorld m w) where
   pub code_shared : slice_index m.frames.counts 0 < 65535
   code_shared =
       let few = few_places in
-      let seats = seats_total m.slots.items (λ i x at. tenant_has_code _ _ (is.images i) x at (is.places i)) in
+      let seats = seats_total m.slots.items (λ i x at. tenant_has_code _ _ (is.tables i) x at (is.places i)) in
       let all = is.rule.counted 0 in
       let own = is.of_kernel.maps.holds.code in
       omega (arith, few, seats, all, own)
 
 -- the kernel's table stands on frames that are not frame 0, and on one reference of that
-pub kernel_kept : (v w : View) (root frames slots : ℕ) (stacks : List ℕ) (t : Image) → ((f : ℕ) → (f ≡ 0 → ⊥) → hold_of w f ≡ hold_of v f) → references w 0 ≡ 1 → w.credits ≡ 0
+pub kernel_kept : (v w : View) (root frames slots : ℕ) (stacks : List ℕ) (t : Tables) → ((f : ℕ) → (f ≡ 0 → ⊥) → hold_of w f ≡ hold_of v f) → references w 0 ≡ 1 → w.credits ≡ 0
     → IsKernelTable v root frames slots stacks t → IsKernelTable w root frames slots stacks t
 kernel_kept v w root frames slots stacks t same once none k =
     let h = k.maps.holds in
@@ -114,7 +114,7 @@ module _ (v x : View) (code : references v 0 ≡ 1) (one : HoldsTrampoline x) wh
   pub closed_anchored : IsAnchored (released 0 (joined v x))
   closed_anchored f held = let one = closed_code in omega (arith, one)
 
-  pub closed_kernel : (w : View) → w ≡ released 0 (joined v x) → (root frames slots : ℕ) (stacks : List ℕ) (t : Image) → IsKernelTable v root frames slots stacks t → IsKernelTable w root frames slots stacks t
+  pub closed_kernel : (w : View) → w ≡ released 0 (joined v x) → (root frames slots : ℕ) (stacks : List ℕ) (t : Tables) → IsKernelTable v root frames slots stacks t → IsKernelTable w root frames slots stacks t
   closed_kernel w is root frames slots stacks t k =
       subst (λ u. IsKernelTable u root frames slots stacks t) (sym is)
       (kernel_kept v (released 0 (joined v x)) root frames slots stacks t closed_at closed_code

@@ -9,7 +9,7 @@ use Rattle.hart_machine.specs.declared.machine.Machine.{Machine}
 use Rattle.hart_machine.specs.declared.tenant.Tenant.{Tenant}
 use Rattle.process_model.specs.Process.{Process}
 use Rattle.process_model.specs.World.{World, free_slot, lowest_free}
-use Rattle.table_walk.specs.Image.{Image}
+use Rattle.table_walk.specs.Tables.{Tables}
 
 lowest_is : (slots : List (Option Process)) (n k : ℕ) → ((i : ℕ) → i < k → (p : Process) × (slice_get slots i ≡ Some (Some p))) → slice_get slots k ≡ Some None → lowest_free n slots ≡ Some (n + k)
 lowest_is [] n k below at = absurd (cc)
@@ -34,21 +34,21 @@ free_is_empty w s e = let r = found_free w.slots 0 s e in ap (slice_get w.slots)
 
 -- what stands in a place of the machine and of the model
 
-process_at : (o : Option (Option Tenant)) (q : Option (Option Process)) (t : Image) (x : Tenant) → o ≡ Some (Some x) → IsPlace o q t → (p : Process) × (q ≡ Some (Some p))
+process_at : (o : Option (Option Tenant)) (q : Option (Option Process)) (t : Tables) (x : Tenant) → o ≡ Some (Some x) → IsPlace o q t → (p : Process) × (q ≡ Some (Some p))
 process_at None q t x is place = absurd (cc)
 process_at (Some None) q t x is place = absurd (cc)
 process_at (Some (Some y)) None t x is place = absurd place
 process_at (Some (Some y)) (Some None) t x is place = absurd place
 process_at (Some (Some y)) (Some (Some p)) t x is place = (p, refl)
 
-empty_at : (o : Option (Option Tenant)) (q : Option (Option Process)) (t : Image) → o ≡ Some None → IsPlace o q t → q ≡ Some None
+empty_at : (o : Option (Option Tenant)) (q : Option (Option Process)) (t : Tables) → o ≡ Some None → IsPlace o q t → q ≡ Some None
 empty_at None q t is place = absurd (cc)
 empty_at (Some (Some y)) q t is place = absurd (cc)
 empty_at (Some None) None t is place = absurd place
 empty_at (Some None) (Some None) t is place = refl
 empty_at (Some None) (Some (Some p)) t is place = absurd place
 
-empty_back : (o : Option (Option Tenant)) (q : Option (Option Process)) (t : Image) → q ≡ Some None → IsPlace o q t → o ≡ Some None
+empty_back : (o : Option (Option Tenant)) (q : Option (Option Process)) (t : Tables) → q ≡ Some None → IsPlace o q t → o ≡ Some None
 empty_back o None t is place = absurd (cc)
 empty_back o (Some (Some p)) t is place = absurd (cc)
 empty_back None (Some None) t is place = absurd place
@@ -56,18 +56,18 @@ empty_back (Some None) (Some None) t is place = refl
 empty_back (Some (Some y)) (Some None) t is place = absurd place
 
 pub free_place : (m : Machine) (w : World) → IsWorld m w → (s : ℕ) → free_slot w ≡ Some s → slice_get m.slots.items s ≡ Some None
-free_place m w is s e = empty_back _ _ (is.images s) (free_is_empty w s e) (is.places s)
+free_place m w is s e = empty_back _ _ (is.tables s) (free_is_empty w s e) (is.places s)
 
 pub free_within : (m : Machine) (w : World) → IsWorld m w → (s : ℕ) → free_slot w ≡ Some s → s < vec_len m.slots
 free_within m w is s e = subst (λ n. s < n) (sym m.slots.ok.0) (slice_get_within m.slots.items s None (free_place m w is s e))
 
 module _ (m : Machine) (k : ℕ) (below : (i : ℕ) → i < k → (x : Tenant) × (slice_get m.slots.items i ≡ Some (Some x))) where
   pub first_free : slice_get m.slots.items k ≡ Some None → (w : World) → IsWorld m w → Some k ≡ free_slot w
-  first_free at w is = sym (lowest_is w.slots 0 k (λ i lt. let x = below i lt in process_at _ _ (is.images i) x.0 x.1 (is.places i)) (empty_at _ _ (is.images k) at (is.places k)) ∙ ap (λ i. Some i) (omega arith))
+  first_free at w is = sym (lowest_is w.slots 0 k (λ i lt. let x = below i lt in process_at _ _ (is.tables i) x.0 x.1 (is.places i)) (empty_at _ _ (is.tables k) at (is.places k)) ∙ ap (λ i. Some i) (omega arith))
 
   pub all_taken : length m.slots.items ≡ k → (w : World) → IsWorld m w → None ≡ free_slot w
   all_taken whole w is = sym (none_free w.slots 0 (λ i at.
-      let here = empty_back _ _ (is.images i) at (is.places i) in
+      let here = empty_back _ _ (is.tables i) at (is.places i) in
       let lt = slice_get_within m.slots.items i None here in
       let x = below i (omega (arith, lt, whole)) in absurd (let both = sym here ∙ x.1 in cc)))
 

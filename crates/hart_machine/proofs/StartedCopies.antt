@@ -14,13 +14,13 @@ use Rattle.process_model.specs.Loading.{image_pages, process_of}
 use Rattle.process_model.specs.PageMap as pages
 use Rattle.process_model.specs.Process.{Page, Process}
 use Rattle.process_model.specs.World.{flat, World}
-use Rattle.table_walk.specs.Image.{Image, leaf_node}
+use Rattle.table_walk.specs.Tables.{Tables, leaf_node}
 use Rattle.hart_machine.specs.Tenants.{IsTenant, view_of}
 use Rattle.hart_machine.specs.Worlds.{AreCounted, HaveCopies, IsWorld, seats_of}
 use Rattle.hart_machine.specs.declared.machine.Machine.{Machine}
 use Rattle.hart_machine.specs.declared.tenant.Tenant.{Tenant}
 use Rattle.hart_machine.proofs.HartSteps.{process_at, tenant_at}
-use Rattle.hart_machine.proofs.StartedImages.{image_here, image_there, images_with}
+use Rattle.hart_machine.proofs.StartedTables.{tables_here, tables_there, tables_with}
 use Rattle.hart_machine.proofs.StartedPages.{copies_above, copies_below, copies_once, one_frame, one_page, page_no_code}
 use Rattle.hart_machine.proofs.StartedSeats.{sole_apart}
 
@@ -30,11 +30,11 @@ there_flat (Some o) p is = ap (λ x. Some x) is
 
 module _ (m : Machine) (w : World) (is : IsWorld m w) where
   -- what stands in memory for the process of a slot
-  pub tenant_in : (j : ℕ) (q : Process) → slice_get w.slots j ≡ Some (Some q) → (x : Tenant) × (slice_get m.slots.items j ≡ Some (Some x)) × IsTenant x (is.images j) q
+  pub tenant_in : (j : ℕ) (q : Process) → slice_get w.slots j ≡ Some (Some q) → (x : Tenant) × (slice_get m.slots.items j ≡ Some (Some x)) × IsTenant x (is.tables j) q
   tenant_in j q at =
       let x = tenant_at m w is j (rw at refl) in
       let p = process_at m w is j x.0 x.1 in
-      (x.0, x.1, subst (λ (z : Process). IsTenant x.0 (is.images j) z) (same_Some p.0 q (same_Some _ _ (sym p.1 ∙ at))) p.2)
+      (x.0, x.1, subst (λ (z : Process). IsTenant x.0 (is.tables j) z) (same_Some p.0 q (same_Some _ _ (sym p.1 ∙ at))) p.2)
 
   pub new_copies : HasNewCopies w
   new_copies = record {
@@ -45,9 +45,9 @@ module _ (m : Machine) (w : World) (is : IsWorld m w) where
         let stands = tenant.agrees.stands in
         let one = stands.shows.settled m x has in
         let two = stands.shows.settled n y also in
-        let on : IsOn (is.images s) m one.frame = (one.leaf, one.mapped, one.made.names) in
-        let upon : IsOn (is.images s) n two.frame = (two.leaf, two.mapped, two.made.names) in
-        one_page _ _ _ (is.images s) p stands m n one.frame two.frame x y has also on upon
+        let on : IsOn (is.tables s) m one.frame = (one.leaf, one.mapped, one.made.names) in
+        let upon : IsOn (is.tables s) n two.frame = (two.leaf, two.mapped, two.made.names) in
+        one_page _ _ _ (is.tables s) p stands m n one.frame two.frame x y has also on upon
         ((is.copies s s m n one.frame two.frame p p x y there there has also on upon).1 same);
   }
 
@@ -66,11 +66,11 @@ module _ (m : Machine) (w : World) (is : IsWorld m w) (s : ℕ) (at : slice_get 
     | inr old ↦ (let low = is.counted i n r a old.1 has in omega (arith, low))
   ]
 
-  module _ (b : Bank) (k v : View) (rule : BankRule b (k ∷ v ∷ seats_of m.slots.items)) (root trapframe : ℕ) (t : Image)
+  module _ (b : Bank) (k v : View) (rule : BankRule b (k ∷ v ∷ seats_of m.slots.items)) (root trapframe : ℕ) (t : Tables)
       (stands : Stands v root trapframe None t (process_of w.counter ls)) (alone : OwnsAlone v t) where
     -- a page of the new process and one of another have two frames
     frames_apart : (j n l f g : ℕ) (q : Process) (a c : Page) → slice_get w.slots j ≡ Some (Some q) → pages.get (process_of w.counter ls).settled n ≡ Some a → IsOn t n f
-        → IsOn (is.images j) l g → f ≡ g → ⊥
+        → IsOn (is.tables j) l g → f ≡ g → ⊥
     frames_apart j n l f g q a c there has on upon same =
         let x = tenant_in m w is j q there in
         let far : f ≡ 0 → ⊥ = page_no_code v root trapframe t (process_of w.counter ls) stands n f a has on in
@@ -80,36 +80,36 @@ module _ (m : Machine) (w : World) (is : IsWorld m w) (s : ℕ) (at : slice_get 
         let both : references (view_of x.0) f ≡ references (view_of x.0) g = ap (references (view_of x.0)) same in
         omega (arith, none, one, both)
 
-    pub started_copies : HaveCopies (slice_set w.slots s (Some (process_of w.counter ls))) (images_with is.images s t)
+    pub started_copies : HaveCopies (slice_set w.slots s (Some (process_of w.counter ls))) (tables_with is.tables s t)
     started_copies i j n l f g p q a c at_i at_j in_i in_j on_i on_j = elim (new_or_old i p at_i) [
       | inl new ↦ (
           let first : pages.get (process_of w.counter ls).settled n ≡ Some a = ap (λ (z : Process). pages.get z.settled n) new.1 ∙ in_i in
-          let on : IsOn t n f = subst (λ (u : Image). IsOn u n f) (image_here is.images s t i new.0) on_i in
+          let on : IsOn t n f = subst (λ (u : Tables). IsOn u n f) (tables_here is.tables s t i new.0) on_i in
           elim (new_or_old j q at_j) [
             | inl same ↦ (
                 let second : pages.get (process_of w.counter ls).settled l ≡ Some c = ap (λ (z : Process). pages.get z.settled l) same.1 ∙ in_j in
-                let upon : IsOn t l g = subst (λ (u : Image). IsOn u l g) (image_here is.images s t j same.0) on_j in (
+                let upon : IsOn t l g = subst (λ (u : Tables). IsOn u l g) (tables_here is.tables s t j same.0) on_j in (
                   (λ e. let page : n ≡ l = one_page v root trapframe t (process_of w.counter ls) stands n l f g a c first second on upon e in
                       ap (λ (z : Page). z.copy) (same_Some a c (sym first ∙ ap (pages.get (process_of w.counter ls).settled) page ∙ second))),
                   (λ e. one_frame v root trapframe t (process_of w.counter ls) stands n l f g on upon (copies_once w.counter ls n l a c first second e)),
                 ))
             | inr old ↦ (
-                let upon : IsOn (is.images j) l g = subst (λ (u : Image). IsOn u l g) (image_there is.images s t j old.0) on_j in
+                let upon : IsOn (is.tables j) l g = subst (λ (u : Tables). IsOn u l g) (tables_there is.tables s t j old.0) on_j in
                 let high = copies_above w.counter ls n a first in
                 let low = is.counted j l q c old.1 in_j in
                 ((λ e. absurd (frames_apart j n l f g q a c old.1 first on upon e)), (λ e. absurd (omega (arith, high, low, e)))))
           ])
       | inr old ↦ (
-          let on : IsOn (is.images i) n f = subst (λ (u : Image). IsOn u n f) (image_there is.images s t i old.0) on_i in
+          let on : IsOn (is.tables i) n f = subst (λ (u : Tables). IsOn u n f) (tables_there is.tables s t i old.0) on_i in
           elim (new_or_old j q at_j) [
             | inl new ↦ (
                 let second : pages.get (process_of w.counter ls).settled l ≡ Some c = ap (λ (z : Process). pages.get z.settled l) new.1 ∙ in_j in
-                let upon : IsOn t l g = subst (λ (u : Image). IsOn u l g) (image_here is.images s t j new.0) on_j in
+                let upon : IsOn t l g = subst (λ (u : Tables). IsOn u l g) (tables_here is.tables s t j new.0) on_j in
                 let high = copies_above w.counter ls l c second in
                 let low = is.counted i n p a old.1 in_i in
                 ((λ e. absurd (frames_apart i l n g f p c a old.1 second upon on (sym e))), (λ e. absurd (omega (arith, high, low, e)))))
             | inr also ↦ (
-                let upon : IsOn (is.images j) l g = subst (λ (u : Image). IsOn u l g) (image_there is.images s t j also.0) on_j in
+                let upon : IsOn (is.tables j) l g = subst (λ (u : Tables). IsOn u l g) (tables_there is.tables s t j also.0) on_j in
                 is.copies i j n l f g p q a c old.1 also.1 in_i in_j on upon)
           ])
     ]

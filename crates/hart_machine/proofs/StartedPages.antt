@@ -17,7 +17,7 @@ use Rattle.process_model.specs.Process.{Page, Process}
 use Rattle.sv39_entry.specs.Address.{trampoline_page}
 use Rattle.sv39_entry.specs.Frame.{ppn_of}
 use Rattle.sv39_entry.specs.Word.{ppn}
-use Rattle.table_walk.specs.Image.{Image, leaf_node}
+use Rattle.table_walk.specs.Tables.{Tables, leaf_node}
 use Rattle.table_walk.specs.Nodes.{leaf_node_is}
 
 -- copy numbers
@@ -66,7 +66,7 @@ module _ (fresh : ℕ) (ls : List LoadSegment) where
 
 -- frames
 
-module _ (v : View) (root trapframe : ℕ) (t : Image) (p : Process) (stands : Stands v root trapframe None t p) where
+module _ (v : View) (root trapframe : ℕ) (t : Tables) (p : Process) (stands : Stands v root trapframe None t p) where
   on_names : (n f : ℕ) → IsOn t n f → Names t f (leaf_node n)
   on_names n f on = inr (on.0, on.1, on.2)
 

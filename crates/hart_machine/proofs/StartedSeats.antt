@@ -18,7 +18,7 @@ use Rattle.hart_machine.specs.declared.machine.Machine.{Machine}
 use Rattle.hart_machine.specs.declared.tenant.Tenant.{Tenant}
 use Rattle.hart_machine.proofs.AccessingWorlds.{Holds, holds_back}
 use Rattle.hart_machine.proofs.StartSeats.{kernel_kept}
-use Rattle.table_walk.specs.Image.{Image}
+use Rattle.table_walk.specs.Tables.{Tables}
 
 -- a seat that was opened
 
@@ -34,7 +34,7 @@ module _ (v : View) where
   opener_code one = ap (λ (h : Hold). h.references) (hold_of-with_hold_same 0 (record (hold_of v 0) { sole = false }) v) ∙ one
 
   -- the kernel's table stands on the seat that opened it
-  pub opener_kernel : (root frames slots : ℕ) (stacks : List ℕ) (t : Image) → IsKernelTable v root frames slots stacks t → IsKernelTable (opener v) root frames slots stacks t
+  pub opener_kernel : (root frames slots : ℕ) (stacks : List ℕ) (t : Tables) → IsKernelTable v root frames slots stacks t → IsKernelTable (opener v) root frames slots stacks t
   opener_kernel root frames slots stacks t k =
       kernel_kept v (opener v) root frames slots stacks t (hold_of-with_hold_other 0 (record (hold_of v 0) { sole = false }) v) (opener_code k.maps.holds.code) k.credits k
 
@@ -43,7 +43,7 @@ module _ (m n : Machine) (opens : n.kernel ≡ record m.kernel { seat = opener m
   pub open_code : references m.kernel.seat 0 ≡ 1 → references n.kernel.seat 0 ≡ 1
   open_code one = rw opens (opener_code m.kernel.seat one)
 
-  pub open_kernel : (frames slots : ℕ) (stacks : List ℕ) (t : Image) → IsKernelTable m.kernel.seat m.kernel.root.0 frames slots stacks t
+  pub open_kernel : (frames slots : ℕ) (stacks : List ℕ) (t : Tables) → IsKernelTable m.kernel.seat m.kernel.root.0 frames slots stacks t
       → IsKernelTable n.kernel.seat n.kernel.root.0 frames slots stacks t
   open_kernel frames slots stacks t k = rw opens (opener_kernel m.kernel.seat m.kernel.root.0 frames slots stacks t k)
 

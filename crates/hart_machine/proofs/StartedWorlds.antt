@@ -22,7 +22,7 @@ use Rattle.process_model.specs.declared.image.Image as model
 use Rattle.process_model.specs.declared.step.Refusal.TheVariants.{NoFrame}
 use Rattle.process_model.specs.declared.step.Reply.TheVariants.{Refused, Started}
 use Rattle.sv39_entry.specs.Address.{trapframe_page}
-use Rattle.table_walk.specs.Image.{Image, leaf_node}
+use Rattle.table_walk.specs.Tables.{Tables, leaf_node}
 use Rattle.hart_machine.specs.Tenants.{IsTenant, view_of}
 use Rattle.hart_machine.specs.Walked.{IsEntryOf}
 use Rattle.hart_machine.specs.Worlds.{IsPlace, IsServing, IsWorld, Makes, seats_of}
@@ -31,16 +31,16 @@ use Rattle.hart_machine.specs.declared.machine.Machine.{Machine}
 use Rattle.hart_machine.specs.declared.tenant.Tenant.{Tenant}
 use Rattle.hart_machine.proofs.StartSlots.{free_is_empty, free_place}
 use Rattle.hart_machine.proofs.StartedCopies.{new_copies, started_copies, started_counted}
-use Rattle.hart_machine.proofs.StartedImages.{image_here, image_there, images_with}
+use Rattle.hart_machine.proofs.StartedTables.{tables_here, tables_there, tables_with}
 use Rattle.hart_machine.proofs.StartedSeats.{held_inside, seat_comes}
 
 module _ (m n : Machine) (w : World) (is : IsWorld m w) (s : ℕ) (place : slice_get m.slots.items s ≡ Some None) (at : slice_get w.slots s ≡ Some None)
-    (ls : List LoadSegment) (y : Tenant) (t : Image) (sized : n.kernel.seat.size ≡ m.kernel.seat.size) (slots : n.slots.items ≡ slice_set m.slots.items s (Some y)) (harts : n.harts ≡ m.harts)
+    (ls : List LoadSegment) (y : Tenant) (t : Tables) (sized : n.kernel.seat.size ≡ m.kernel.seat.size) (slots : n.slots.items ≡ slice_set m.slots.items s (Some y)) (harts : n.harts ≡ m.harts)
     (agrees : Agrees (view_of y) y.space.root.0 y.space.trapframe.0 y.space.layout t (process_of w.counter ls)) (alone : OwnsAlone (view_of y) t) (pending : y.pending ≡ None)
     (rule : BankRule n.frames (n.kernel.seat ∷ view_of y ∷ seats_of m.slots.items))
     (table : IsKernelTable n.kernel.seat n.kernel.root.0 w.frames (length w.slots) is.stacks is.kernel) (left : n.frames.free ≡ free (with_image w s ls)) where
-  abbrev images : ℕ → Image
-  images = images_with is.images s t
+  abbrev tables : ℕ → Tables
+  tables = tables_with is.tables s t
 
   tenant : IsTenant y t (process_of w.counter ls)
   unfolding process_of
@@ -52,10 +52,10 @@ module _ (m n : Machine) (w : World) (is : IsWorld m w) (s : ℕ) (place : slice
     pending = rw pending refl;
   }
 
-  places_at : (k : ℕ) → IsPlace (slice_get (slice_set m.slots.items s (Some y)) k) (slice_get (slice_set w.slots s (Some (process_of w.counter ls))) k) (images k)
+  places_at : (k : ℕ) → IsPlace (slice_get (slice_set m.slots.items s (Some y)) k) (slice_get (slice_set w.slots s (Some (process_of w.counter ls))) k) (tables k)
   places_at k = elim (cases_eq k s) [
-    | inl same ↦ rw (image_here is.images s t k same, same, place_set_same m.slots.items s (Some y) (slice_get_within m.slots.items s None place), place_set_same w.slots s (Some (process_of w.counter ls)) (slice_get_within w.slots s None at)) tenant
-    | inr apart ↦ rw (image_there is.images s t k apart, place_set_other m.slots.items s k (Some y) apart, place_set_other w.slots s k (Some (process_of w.counter ls)) apart) (is.places k)
+    | inl same ↦ rw (tables_here is.tables s t k same, same, place_set_same m.slots.items s (Some y) (slice_get_within m.slots.items s None place), place_set_same w.slots s (Some (process_of w.counter ls)) (slice_get_within w.slots s None at)) tenant
+    | inr apart ↦ rw (tables_there is.tables s t k apart, place_set_other m.slots.items s k (Some y) apart, place_set_other w.slots s k (Some (process_of w.counter ls)) apart) (is.places k)
   ]
 
   on_old : (h : ℕ) (x : Hart) → slice_get n.harts.items h ≡ Some x → slice_get m.harts.items h ≡ Some x
@@ -68,22 +68,22 @@ module _ (m n : Machine) (w : World) (is : IsWorld m w) (s : ℕ) (place : slice
   hosted_at : (h k : ℕ) (x : Hart) → slice_get m.harts.items h ≡ Some x → x.slot ≡ Some k → (z : Tenant) × (slice_get (slice_set m.slots.items s (Some y)) k ≡ Some (Some z))
   hosted_at h k x on slot = let z = is.hosted h k x on slot in (z.0, place_set_other m.slots.items s k (Some y) (apart_of h k x on slot) ∙ z.1)
 
-  serving : (h : ℕ) (x : Hart) (e : TlbEntry) → slice_get m.harts.items h ≡ Some x → IsServing x is.images is.kernel e → IsServing x images is.kernel e
+  serving : (h : ℕ) (x : Hart) (e : TlbEntry) → slice_get m.harts.items h ≡ Some x → IsServing x is.tables is.kernel e → IsServing x tables is.kernel e
   serving h x e on old = elim old [
     | inl of_kernel ↦ inl of_kernel
-    | inr own ↦ inr (own.0, own.1, own.2, subst (λ (u : Image). IsEntryOf u 0 e) (sym (image_there is.images s t own.0 (apart_of h own.0 x on own.2))) own.3)
+    | inr own ↦ inr (own.0, own.1, own.2, subst (λ (u : Tables). IsEntryOf u 0 e) (sym (tables_there is.tables s t own.0 (apart_of h own.0 x on own.2))) own.3)
   ]
 
   pub starts : IsWorld n (with_image w s ls)
   starts = record {
-    images = images;
+    tables = tables;
     kernel = is.kernel;
     stacks = is.stacks;
     policy = is.policy;
     frames = sized ∙ is.frames;
     rule = subst (λ (xs : List (Option Tenant)). BankRule n.frames (n.kernel.seat ∷ seats_of xs)) (sym slots) (seat_comes n.frames n.kernel.seat m.slots.items s y place rule);
     of_kernel = subst (λ k. IsKernelTable n.kernel.seat n.kernel.root.0 w.frames k is.stacks is.kernel) (sym (length-set w.slots s (Some (process_of w.counter ls)))) table;
-    places = λ k. subst (λ (xs : List (Option Tenant)). IsPlace (slice_get xs k) (slice_get (slice_set w.slots s (Some (process_of w.counter ls))) k) (images k)) (sym slots) (places_at k);
+    places = λ k. subst (λ (xs : List (Option Tenant)). IsPlace (slice_get xs k) (slice_get (slice_set w.slots s (Some (process_of w.counter ls))) k) (tables k)) (sym slots) (places_at k);
     copies = started_copies m w is s at ls n.frames n.kernel.seat (view_of y) rule y.space.root.0 y.space.trapframe.0 t agrees.stands alone;
     counted = started_counted m w is s at ls;
     free = left;
@@ -99,7 +99,7 @@ module _ (m n : Machine) (w : World) (is : IsWorld m w) (sized : n.kernel.seat.s
     (table : IsKernelTable n.kernel.seat n.kernel.root.0 w.frames (length w.slots) is.stacks is.kernel) (left : n.frames.free ≡ m.frames.free) where
   pub stays : IsWorld n w
   stays = record {
-    images = is.images;
+    tables = is.tables;
     kernel = is.kernel;
     stacks = is.stacks;
     policy = is.policy;
@@ -133,7 +133,7 @@ module _ (w : World) (s : ℕ) (image : model.Image) (ls : List LoadSegment) (to
   module _ (m n : Machine) (is : IsWorld m w) (sized : n.kernel.seat.size ≡ m.kernel.seat.size) (harts : n.harts ≡ m.harts)
       (table : IsKernelTable n.kernel.seat n.kernel.root.0 w.frames (length w.slots) is.stacks is.kernel) where
     -- enough frames are free
-    pub makes_started : TakesItsNeed → (y : Tenant) (t : Image) → n.slots.items ≡ slice_set m.slots.items s (Some y)
+    pub makes_started : TakesItsNeed → (y : Tenant) (t : Tables) → n.slots.items ≡ slice_set m.slots.items s (Some y)
         → Agrees (view_of y) y.space.root.0 y.space.trapframe.0 y.space.layout t (process_of w.counter ls) → OwnsAlone (view_of y) t → y.pending ≡ None
         → BankRule n.frames (n.kernel.seat ∷ view_of y ∷ seats_of m.slots.items) → start_need ls ≤ m.frames.free → n.frames.free ≡ m.frames.free - start_need ls
         → Makes n (Started s) (started w (image_loads image) (free_slot w))

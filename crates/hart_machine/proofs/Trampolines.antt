@@ -22,7 +22,7 @@ use Rattle.sv39_entry.specs.Word.{leaf_word, permits, ppn}
 use Rattle.sv39_entry.specs.declared.access.Access.TheVariants.{Fetch}
 use Rattle.sv39_entry.specs.declared.access.Mode.TheVariants.{Supervisor}
 use Rattle.sv39_entry.specs.declared.frame.FrameNo.{FrameNo}
-use Rattle.table_walk.specs.Image.{Image, leaf_node}
+use Rattle.table_walk.specs.Tables.{Tables, leaf_node}
 use Rattle.table_walk.specs.Memory.{physical_address}
 use Rattle.table_walk.specs.declared.walk.Walk.{Walk}
 use Rattle.table_walk.specs.declared.walk.Walk.TheVariants as walk
@@ -40,13 +40,13 @@ use Rattle.hart_machine.proofs.Walks.{lands}
 -- tables
 
 -- the leaf of the page leads to frame 0, and the kernel may fetch by it
-record IsCode (t : Image) : Type 0 where
+record IsCode (t : Tables) : Type 0 where
   word : ℕ
   mapped : get t.leaves (leaf_node trampoline_page) ≡ Some word
   names : ppn word ≡ ppn_of 0
   lets : permits Supervisor Fetch word ≡ true
 
-process_code : (v : View) (trapframe : ℕ) (t : Image) (p : Process) → Shows v trapframe t p → IsCode t
+process_code : (v : View) (trapframe : ℕ) (t : Tables) (p : Process) → Shows v trapframe t p → IsCode t
 process_code v trapframe t p shows = let leaf = shows.on_trampoline in record {
   word = leaf.0;
   mapped = leaf.1;
@@ -54,7 +54,7 @@ process_code v trapframe t p shows = let leaf = shows.on_trampoline in record {
   lets = rw (leaf.2.for_user, leaf.2.execute, leaf.2.accessed) refl;
 }
 
-kernel_code : (v : View) (root frames slots : ℕ) (stacks : List ℕ) (t : Image) → IsKernelTable v root frames slots stacks t → IsCode t
+kernel_code : (v : View) (root frames slots : ℕ) (stacks : List ℕ) (t : Tables) → IsKernelTable v root frames slots stacks t → IsCode t
 kernel_code v root frames slots stacks t k = record {
   word = leaf_word 0 code_rights false false true;
   mapped = k.maps.leaves trampoline_page (omega arith);
@@ -70,20 +70,20 @@ module _ (offset : ℕ) (low : offset < 4096) where
   abbrev IsFetched : Walk → Type 0
   IsFetched z = (w : ℕ) × (z ≡ walk.Leaf w 0 (physical_address w 0 address)) × (ppn w ≡ ppn_of 0)
 
-  by_table : (t : Image) → IsCode t → (z : Walk) → z ≡ walk_answer t address Fetch Supervisor → IsFetched z
+  by_table : (t : Tables) → IsCode t → (z : Walk) → z ≡ walk_answer t address Fetch Supervisor → IsFetched z
   by_table t code z is =
       let page : page_of address ≡ trampoline_page = omega (arith, low) in
       let canonical : is_canonical address ≡ true = rw (eq-eqb (address / 2 ^ 38) 0 (omega (arith, low))) refl in
       (code.word, is ∙ rw (canonical, page, code.mapped, code.lets) refl, code.names)
 
-  module _ (m : Machine) (w : World) (is : IsWorld m w) (h : ℕ) (x : Hart) (at : slice_get m.harts.items h ≡ Some x) (z : Walk) (served : IsServed x is.images is.kernel address Fetch Supervisor z) where
+  module _ (m : Machine) (w : World) (is : IsWorld m w) (h : ℕ) (x : Hart) (at : slice_get m.harts.items h ≡ Some x) (z : Walk) (served : IsServed x is.tables is.kernel address Fetch Supervisor z) where
     is_fetched : IsFetched z
     is_fetched = elim served [
       | inl of_kernel ↦ by_table is.kernel (kernel_code _ _ _ _ _ _ is.of_kernel) z of_kernel.1
       | inr own ↦
           let y = is.hosted h own.0 x at own.2 in
           let p = process_at m w is own.0 y.0 y.1 in
-          by_table (is.images own.0) (process_code _ _ _ p.0 (p.2).agrees.stands.shows) z own.3
+          by_table (is.tables own.0) (process_code _ _ _ p.0 (p.2).agrees.stands.shows) z own.3
     ]
 
     -- a leaf is found

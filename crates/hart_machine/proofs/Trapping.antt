@@ -11,7 +11,7 @@ use Rattle.process_model.specs.declared.phase.Phase.TheVariants as phase
 use Rattle.process_model.specs.declared.step.Refusal.TheVariants.{Impossible}
 use Rattle.process_model.specs.declared.step.Reply.TheVariants.{Done, Refused}
 use Rattle.process_model.specs.declared.step.Step.TheVariants as step
-use Rattle.table_walk.specs.Image.{Image}
+use Rattle.table_walk.specs.Tables.{Tables}
 use Rattle.hart_machine.specs.Harts.{hart_of}
 use Rattle.hart_machine.specs.Worlds.{IsServing, IsWorld, Makes, may_have_kernel}
 use Rattle.hart_machine.specs.declared.hart.Hart.{Hart}
@@ -31,9 +31,9 @@ user_is phase.Leave1 e = absurd (cc)
 user_is phase.Leave2 e = absurd (cc)
 
 -- an entry that serves the user serves where the hart enters the kernel
-pub enters : (images : ℕ → Image) (kernel : Image) (x : Hart) → x.phase ≡ phase.User → (e : TlbEntry) → IsServing x images kernel e → IsServing (record x { phase = phase.Enter0 }) images kernel e
-enters images kernel x at e (inl of_kernel) = absurd (let never : may_have_kernel phase.User ≡ true = ap may_have_kernel (sym at) ∙ of_kernel.0 in cc)
-enters images kernel x at e (inr own) = inr (own.0, refl, own.2, own.3)
+pub enters : (tables : ℕ → Tables) (kernel : Tables) (x : Hart) → x.phase ≡ phase.User → (e : TlbEntry) → IsServing x tables kernel e → IsServing (record x { phase = phase.Enter0 }) tables kernel e
+enters tables kernel x at e (inl of_kernel) = absurd (let never : may_have_kernel phase.User ≡ true = ap may_have_kernel (sym at) ∙ of_kernel.0 in cc)
+enters tables kernel x at e (inr own) = inr (own.0, refl, own.2, own.3)
 
 module _ (m : Machine) (w : World) (is : IsWorld m w) (h : ℕ) (p : Phase) (has : HasHart m w h p) where
   pub slot_there : (o : Option ℕ) → o ≡ option_and_then (λ x. x.slot) (slice_get m.harts.items h) → has.hart.slot ≡ o
@@ -61,5 +61,5 @@ module _ (m : Machine) (w : World) (is : IsWorld m w) (h : ℕ) (p : Phase) (has
         let after = pending_changes m w is s t.0 q.0 t.1 q.1 q.2 None in
         subst (λ (k : Machine). Makes (record k { harts = with_item k.harts h (record x { phase = phase.Enter0 }) }) Done (plain_step w (step.Trap h))) (sym n_is)
         (subst (λ (z : Hart). Makes (record m { slots = with_item m.slots s (Some (record t.0 { pending = None })); harts = with_item m.harts h (record z { phase = phase.Enter0 }) }) Done (plain_step w (step.Trap h))) (sym x_is)
-        (makes _ Done _ _ (hart_changes _ _ after h has.hart (record has.hart { phase = phase.Enter0 }) has.there (λ r at. after.hosted h r has.hart has.there at) (λ r on k z at also. after.alone r k h z has.hart at has.there also on) (λ none. absurd (user_has_slot user none)) (λ e there. enters after.images after.kernel has.hart (has.phased ∙ user_is p user) e (after.buffers h has.hart e has.there there)))
+        (makes _ Done _ _ (hart_changes _ _ after h has.hart (record has.hart { phase = phase.Enter0 }) has.there (λ r at. after.hosted h r has.hart has.there at) (λ r on k z at also. after.alone r k h z has.hart at has.there also on) (λ none. absurd (user_has_slot user none)) (λ e there. enters after.tables after.kernel has.hart (has.phased ∙ user_is p user) e (after.buffers h has.hart e has.there there)))
         (runs w h true (λ z. model.is_user z.phase) always _ (hart_of has.hart) has.in_model refl (ap model.is_user has.phased ∙ user) refl ∙ its_process w (hart_of has.hart) _ s q.0 on q.1)))

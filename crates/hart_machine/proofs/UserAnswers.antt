@@ -25,7 +25,7 @@ use Rattle.table_walk.specs.Memory.{physical_address}
 use Rattle.sv39_entry.specs.declared.access.Access.TheVariants.{Fetch, Load, Store}
 use Rattle.sv39_entry.specs.declared.access.Mode.TheVariants.{User}
 use Rattle.sv39_entry.specs.declared.frame.FrameNo.{FrameNo}
-use Rattle.table_walk.specs.Image.{Image}
+use Rattle.table_walk.specs.Tables.{Tables}
 use Rattle.table_walk.specs.declared.walk.Walk.{Walk}
 use Rattle.table_walk.specs.declared.walk.Walk.TheVariants as walk
 use Rattle.address_space.specs.Agreement.{Agrees, IsOn}
@@ -75,12 +75,12 @@ module _ (p : Process) (x : Asked) where
 
 -- faults
 
-module _ (v : View) (root trapframe : ℕ) (l : Layout) (t : Image) (p : Process) (agrees : Agrees v root trapframe l t p) (x : Asked) where
+module _ (v : View) (root trapframe : ℕ) (l : Layout) (t : Tables) (p : Process) (agrees : Agrees v root trapframe l t p) (x : Asked) where
   -- the space of a process that faults is as it was
   pub still_agrees : (cause : ℕ) → user_access p x ≡ faulted p x cause → Agrees v root trapframe l t (user_access p x).process
   still_agrees cause is = subst (λ (z : Answer). Agrees v root trapframe l t z.process) (sym is) (agrees_pending v root trapframe l t p agrees (Some (pending_of x)))
 
-module _ (v : View) (root trapframe : ℕ) (l : Layout) (t : Image) (p : Process) (agrees : Agrees v root trapframe l t p) (x : Asked) (at : x.address % x.width ≡ 0) where
+module _ (v : View) (root trapframe : ℕ) (l : Layout) (t : Tables) (p : Process) (agrees : Agrees v root trapframe l t p) (x : Asked) (at : x.address % x.width ≡ 0) where
   pub faults : (cause : ℕ) → walk.PageFault cause ≡ walk_answer t x.address x.access User → user_access p x ≡ faulted p x cause
   faults cause is = elim (walked_by_user v trapframe t p agrees.stands.shows x) [
     | inl goes ↦ absurd (let other = is ∙ goes.5 in cc)
@@ -119,7 +119,7 @@ frame_is f small =
     rw (low, high, back) refl
 
 -- the page that a granted access reads or writes, and its frame
-pub record Granted (v : View) (root trapframe : ℕ) (l : Layout) (t : Image) (p : Process) (x : Asked) (address : ℕ) : Type 0 where
+pub record Granted (v : View) (root trapframe : ℕ) (l : Layout) (t : Tables) (p : Process) (x : Asked) (address : ℕ) : Type 0 where
   pub page : Page
   pub frame : ℕ
   pub framed : frame_at (address / 4096) ≡ Some (record { 0 = frame })
@@ -128,7 +128,7 @@ pub record Granted (v : View) (root trapframe : ℕ) (l : Layout) (t : Image) (p
   pub answers : user_access p x ≡ answered p x (access_answer x.access page (x.address % 4096) x.width x.value)
   pub writes : x.access ≡ Store → CanWrite v root trapframe l t p (page_of x.address) page
 
-module _ (v : View) (root trapframe : ℕ) (l : Layout) (t : Image) (p : Process) (agrees : Agrees v root trapframe l t p) (x : Asked) (at : x.address % x.width ≡ 0) where
+module _ (v : View) (root trapframe : ℕ) (l : Layout) (t : Tables) (p : Process) (agrees : Agrees v root trapframe l t p) (x : Asked) (at : x.address % x.width ≡ 0) where
   pub granted : (word level address : ℕ) → walk.Leaf word level address ≡ walk_answer t x.address x.access User → Granted v root trapframe l t p x address
   granted word level address is = elim (walked_by_user v trapframe t p agrees.stands.shows x) [
     | inr fails ↦ absurd (let other = is ∙ fails.0 in cc)

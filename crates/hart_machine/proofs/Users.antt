@@ -19,7 +19,7 @@ use Rattle.sv39_entry.specs.declared.access.Access.TheVariants.{Fetch, Load, Sto
 use Rattle.sv39_entry.specs.declared.access.Mode.TheVariants.{User}
 use Rattle.sv39_entry.specs.declared.rule.Rule.{Rule}
 use Rattle.sv39_entry.specs.declared.rule.Rule.TheVariants as rule
-use Rattle.table_walk.specs.Image.{Image, leaf_node}
+use Rattle.table_walk.specs.Tables.{Tables, leaf_node}
 use Rattle.table_walk.specs.Memory.{physical_address}
 use Rattle.table_walk.specs.Nodes.{leaf_node_is}
 use Rattle.table_walk.specs.declared.walk.Walk.TheVariants as walk
@@ -177,7 +177,7 @@ held_back r s Store is = elim (stop (is_guard_kind r.kind) ((r.writes && not s.f
 not_for_user : (w : ℕ) (access : Access) → has w 4 ≡ false → permits User access w ≡ false
 not_for_user w access none = rw none refl
 
-module _ (v : View) (trapframe : ℕ) (t : Image) (p : Process) (shows : Shows v trapframe t p) (x : Asked) where
+module _ (v : View) (trapframe : ℕ) (t : Tables) (p : Process) (shows : Shows v trapframe t p) (x : Asked) where
   abbrev a : ℕ
   a = x.address
 

@@ -11,7 +11,7 @@ use Rattle.sv39_entry.specs.Word.{permits, ppn}
 use Rattle.sv39_entry.specs.declared.access.Access.{Access}
 use Rattle.sv39_entry.specs.declared.access.Mode.{Mode}
 use Rattle.table_walk.specs.Held.{held_memory}
-use Rattle.table_walk.specs.Image.{Image, leaf_node}
+use Rattle.table_walk.specs.Tables.{Tables, leaf_node}
 use Rattle.table_walk.specs.Memory.{Extent, physical_address}
 use Rattle.table_walk.specs.Walk.{FindsLeaf, IsGlobal, LeavesMemory, Maps, Translates}
 use Rattle.hart_machine.specs.Walked.{entry_for, LeavesAreThere, page_leaf, walk_answer}
@@ -24,7 +24,7 @@ frames_there ppn index = is_some (frame_at ppn)
 pub lands : (w a : ℕ) → physical_address w 0 a / 4096 ≡ ppn w
 lands w a = omega arith
 
-module _ (v : View) (root : ℕ) (t : Image) (leaves_are : (page leaf level : ℕ) → get t.leaves (leaf_node page) ≡ Some leaf → level ≡ 0 → Maps (held_memory v) (ppn_of root) page leaf level)
+module _ (v : View) (root : ℕ) (t : Tables) (leaves_are : (page leaf level : ℕ) → get t.leaves (leaf_node page) ≡ Some leaf → level ≡ 0 → Maps (held_memory v) (ppn_of root) page leaf level)
     (are_leaves : (page leaf level : ℕ) → Maps (held_memory v) (ppn_of root) page leaf level → get t.leaves (leaf_node page) ≡ Some leaf)
     (inside : (page : ℕ) → LeavesMemory (held_memory v) (ppn_of root) page → ⊥) (there : LeavesAreThere t) (a : ℕ) where
   module _ (access : Access) (mode : Mode) where

@@ -3,8 +3,8 @@ use Rattle.std.specs.Prelude.{◌≡◌, ◌⊎◌, ℕ, Option, Some, List, Con
 use Rattle.hart_tlb.specs.declared.entry.TlbEntry.{TlbEntry}
 use Rattle.process_model.specs.declared.step.Step.{Step}
 use Rattle.process_model.specs.declared.step.Step.TheVariants as step
-use Rattle.table_walk.specs.Image.{Image}
-use Rattle.hart_machine.specs.Tables.{image_of, present_table}
+use Rattle.table_walk.specs.Tables.{Tables}
+use Rattle.hart_machine.specs.Tables.{tables_of, present_table}
 use Rattle.hart_machine.specs.Walked.{entry_for}
 use Rattle.hart_machine.specs.declared.hart.Hart.{Hart}
 use Rattle.hart_machine.specs.declared.machine.Machine.{Machine}
@@ -26,11 +26,11 @@ abbrev pub NoNewEntries : Machine → Machine → Type 0
 NoNewEntries old new = (h : ℕ) (e : TlbEntry) → HasEntry new h e → HasEntry old h e
 
 -- the step is a fill on the hart, and the entry says what the table that satp has says of the page
-abbrev pub WasFilled : Machine → (ℕ → Image) → Image → Step → ℕ → TlbEntry → Type 0
-WasFilled old images kernel s h e =
-    (address : ℕ) × (x : Hart) × (s ≡ step.Fill h address) × (slice_get old.harts.items h ≡ Some x) × (e ≡ entry_for (image_of images kernel (present_table x)) 0 address)
+abbrev pub WasFilled : Machine → (ℕ → Tables) → Tables → Step → ℕ → TlbEntry → Type 0
+WasFilled old tables kernel s h e =
+    (address : ℕ) × (x : Hart) × (s ≡ step.Fill h address) × (slice_get old.harts.items h ≡ Some x) × (e ≡ entry_for (tables_of tables kernel (present_table x)) 0 address)
 
 -- a hart may keep what a walk found at its fill, and nothing else (RISC-V Privileged Architecture 20211203, 4.2.1): each entry
 -- was there before, or the step filled it
-abbrev pub OnlyFillsAdd : Machine → Machine → (ℕ → Image) → Image → Step → Type 0
-OnlyFillsAdd old new images kernel s = (h : ℕ) (e : TlbEntry) → HasEntry new h e → HasEntry old h e ⊎ WasFilled old images kernel s h e
+abbrev pub OnlyFillsAdd : Machine → Machine → (ℕ → Tables) → Tables → Step → Type 0
+OnlyFillsAdd old new tables kernel s = (h : ℕ) (e : TlbEntry) → HasEntry new h e → HasEntry old h e ⊎ WasFilled old tables kernel s h e

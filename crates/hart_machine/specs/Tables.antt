@@ -3,7 +3,7 @@ use Rattle.std.specs.Prelude.{◌≡◌, ◌⊎◌, ℕ, true, Option, None, Som
 use Rattle.process_model.specs.Harts as model
 use Rattle.sv39_entry.specs.declared.access.Access.{Access}
 use Rattle.sv39_entry.specs.declared.access.Mode.{Mode}
-use Rattle.table_walk.specs.Image.{Image}
+use Rattle.table_walk.specs.Tables.{Tables}
 use Rattle.table_walk.specs.declared.walk.Walk.{Walk}
 use Rattle.hart_machine.specs.Walked.{walk_answer}
 use Rattle.hart_machine.specs.Worlds.{may_have_kernel, may_have_own}
@@ -26,12 +26,12 @@ abbrev pub IsThere : Machine → Table → Type 0
 IsThere m OfKernel = Unit {0}
 IsThere m (OfProcess s) = (x : Tenant) × (slice_get m.slots.items s ≡ Some (Some x))
 
-abbrev pub image_of : (ℕ → Image) → Image → Table → Image
-image_of images kernel OfKernel = kernel
-image_of images kernel (OfProcess s) = images s
+abbrev pub tables_of : (ℕ → Tables) → Tables → Table → Tables
+tables_of tables kernel OfKernel = kernel
+tables_of tables kernel (OfProcess s) = tables s
 
 -- an access is translated by a table of which the hart's buffer may have entries
-abbrev pub IsServed : Hart → (ℕ → Image) → Image → ℕ → Access → Mode → Walk → Type 0
-IsServed x images kernel address access mode z =
+abbrev pub IsServed : Hart → (ℕ → Tables) → Tables → ℕ → Access → Mode → Walk → Type 0
+IsServed x tables kernel address access mode z =
     ((may_have_kernel x.phase ≡ true) × (z ≡ walk_answer kernel address access mode))
-    ⊎ ((s : ℕ) × (may_have_own x.phase ≡ true) × (x.slot ≡ Some s) × (z ≡ walk_answer (images s) address access mode))
+    ⊎ ((s : ℕ) × (may_have_own x.phase ≡ true) × (x.slot ≡ Some s) × (z ≡ walk_answer (tables s) address access mode))

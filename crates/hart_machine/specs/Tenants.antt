@@ -3,7 +3,7 @@ use Rattle.std.specs.Prelude.{◌<◌, ◌^◌, ◌≡◌, Option, None, Some}
 use Rattle.frame_store.specs.View.{View}
 use Rattle.process_model.specs.Process as model
 use Rattle.process_model.specs.Process.{Process}
-use Rattle.table_walk.specs.Image.{Image}
+use Rattle.table_walk.specs.Tables.{Tables}
 use Rattle.address_space.specs.Agreement.{Agrees}
 use Rattle.hart_machine.specs.declared.tenant.Pending.{Pending}
 use Rattle.hart_machine.specs.declared.tenant.Tenant.{Tenant}
@@ -17,7 +17,7 @@ abbrev pub view_of : Tenant → View
 view_of x = x.space.seat
 
 -- a process of the model is in memory, below these tables
-pub record IsTenant (x : Tenant) (t : Image) (p : Process) : Type 0 where
+pub record IsTenant (x : Tenant) (t : Tables) (p : Process) : Type 0 where
   pub agrees : Agrees (view_of x) x.space.root.0 x.space.trapframe.0 x.space.layout t p
   -- the number of a frame
   pub framed : x.space.trapframe.0 < 2 ^ 16

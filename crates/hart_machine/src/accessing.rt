@@ -19,7 +19,7 @@ ghost use Rattle.process_model.specs.Service as service;
 ghost use Rattle.process_model.specs.World.{with_process, World};
 ghost use Rattle.process_model.specs.declared.config.Policy.TheVariants.{Full};
 ghost use Rattle.sv39_entry.specs.declared.access.Mode.TheVariants.{User};
-ghost use Rattle.table_walk.specs.Image.{Image};
+ghost use Rattle.table_walk.specs.Tables.{Tables};
 ghost use Rattle.table_walk.specs.declared.walk.Walk as walks;
 
 use crate::hart::is_user;
@@ -74,7 +74,7 @@ impl Machine {
     ) -> Result<Option<Walk>, NoEntry>
         ensures serves { (w : World) (x : Hart) → IsWorld self.now w → slice_get self.now.harts.items hart ≡ Some x → is_ok result ≡ entry_serves Full (hart_of x) va.0 via }
         ensures walk { IfOk result (λ o. (w : World) (is : IsWorld self.now w) (x : Hart) → slice_get self.now.harts.items hart ≡ Some x →
-            (z : walks.Walk) → o ≡ Some z → IsServed x is.images is.kernel va.0 access mode z) }
+            (z : walks.Walk) → o ≡ Some z → IsServed x is.tables is.kernel va.0 access mode z) }
     {
         let Some(entry) = via else {
             return Ok(None);
@@ -92,10 +92,10 @@ impl Machine {
     /// Makes an access of the process of a slot, or tells its fault.
     fn answered(&mut self, slot: usize, walk: Option<Walk>, asked: Asked) -> Reply
         requires ready { (w : World) × (is : IsWorld self.old w) × (x : Tenant) × (slice_get self.old.slots.items slot ≡ Some (Some x))
-            × ((z : walks.Walk) → walk ≡ Some z → z ≡ walk_answer (is.images slot) asked.va.0 asked.access User) }
+            × ((z : walks.Walk) → walk ≡ Some z → z ≡ walk_answer (is.tables slot) asked.va.0 asked.access User) }
         requires width { IsTrue (bytes.is_width asked.width) }
         ensures made { (w : World) (is : IsWorld self.old w) (p : Process) → slice_get w.slots slot ≡ Some (Some p)
-            → ((z : walks.Walk) → walk ≡ Some z → z ≡ walk_answer (is.images slot) asked.va.0 asked.access User)
+            → ((z : walks.Walk) → walk ≡ Some z → z ≡ walk_answer (is.tables slot) asked.va.0 asked.access User)
             → (result ≡ (service.user_access p (asked_of asked)).reply)
             × IsWorld self.new (with_process w slot (service.user_access p (asked_of asked)).process) }
         ensures harts { self.new.harts ≡ self.old.harts }
@@ -113,11 +113,11 @@ impl Tenant {
     /// Makes an access by a translation, or by a walk where none is given, or tells its fault, which is then pending.
     fn access(&mut self, frames: &mut PlainFrames, walk: Option<Walk>, asked: Asked) -> Reply
         requires fits { Fits BankRule frames.old (view_of self.old) }
-        requires ready { (t : Image) × (p : Process) × IsTenant self.old t p × ((z : walks.Walk) → walk ≡ Some z → z ≡ walk_answer t asked.va.0 asked.access User) }
+        requires ready { (t : Tables) × (p : Process) × IsTenant self.old t p × ((z : walks.Walk) → walk ≡ Some z → z ≡ walk_answer t asked.va.0 asked.access User) }
         requires width { IsTrue (bytes.is_width asked.width) }
-        ensures reply { (t : Image) (p : Process) → IsTenant self.old t p → ((z : walks.Walk) → walk ≡ Some z → z ≡ walk_answer t asked.va.0 asked.access User) →
+        ensures reply { (t : Tables) (p : Process) → IsTenant self.old t p → ((z : walks.Walk) → walk ≡ Some z → z ≡ walk_answer t asked.va.0 asked.access User) →
             result ≡ (service.user_access p (asked_of asked)).reply }
-        ensures after { (t : Image) (p : Process) → IsTenant self.old t p → ((z : walks.Walk) → walk ≡ Some z → z ≡ walk_answer t asked.va.0 asked.access User) →
+        ensures after { (t : Tables) (p : Process) → IsTenant self.old t p → ((z : walks.Walk) → walk ≡ Some z → z ≡ walk_answer t asked.va.0 asked.access User) →
             IsTenant self.new t (service.user_access p (asked_of asked)).process }
         ensures keeps { Keeps BankRule frames.old (view_of self.old) frames.new (view_of self.new) }
         ensures free { frames.new.free ≡ frames.old.free }
@@ -131,8 +131,8 @@ impl Tenant {
     /// The translation that is given, or else what a walk comes to.
     fn translated(&mut self, frames: &mut PlainFrames, walk: Option<Walk>, asked: Asked) -> Walk
         requires fits { Fits BankRule frames.old (view_of self.old) }
-        requires ready { (t : Image) × (p : Process) × IsTenant self.old t p }
-        ensures walk { (t : Image) (p : Process) → IsTenant self.old t p → ((z : walks.Walk) → walk ≡ Some z → z ≡ walk_answer t asked.va.0 asked.access User) →
+        requires ready { (t : Tables) × (p : Process) × IsTenant self.old t p }
+        ensures walk { (t : Tables) (p : Process) → IsTenant self.old t p → ((z : walks.Walk) → walk ≡ Some z → z ≡ walk_answer t asked.va.0 asked.access User) →
             result ≡ walk_answer t asked.va.0 asked.access User }
         ensures tenant { self.new ≡ self.old }
         ensures frames { frames.new ≡ frames.old }

@@ -16,7 +16,7 @@ impl Machine {
     pub(crate) fn fill(&mut self, hart: usize, va: Va) -> Reply
         requires world { (w : World) × IsWorld self.old w }
         ensures made { (w : World) → IsWorld self.old w → Makes self.new result (plain_step w (step.Fill hart va.0)) }
-        ensures buffers { (w : World) (is : IsWorld self.old w) → OnlyFillsAdd self.old self.new is.images is.kernel (step.Fill hart va.0) }
+        ensures buffers { (w : World) (is : IsWorld self.old w) → OnlyFillsAdd self.old self.new is.tables is.kernel (step.Fill hart va.0) }
     {
         let Some(table) = self.table_of(hart) else {
             return Reply::Refused(Refusal::BadArgument);

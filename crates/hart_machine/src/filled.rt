@@ -5,7 +5,7 @@ ghost use Rattle.frame_store.specs.Laws.{Fits, Keeps};
 ghost use Rattle.hart_machine.specs.Walked.{entry_for, LeavesAreLocal, LeavesAreThere};
 ghost use Rattle.hart_tlb.specs.Buffer.{newest_entries};
 ghost use Rattle.process_model.specs.Harts.{buffer_size};
-ghost use Rattle.table_walk.specs.Image.{HasTables, Image};
+ghost use Rattle.table_walk.specs.Tables.{HasTables, Tables};
 
 use crate::hart::BUFFER_SIZE;
 use frame_store::{FrameAccess, FrameSeat};
@@ -23,8 +23,8 @@ pub(crate) fn filled<F: FrameAccess>(
     va: Va,
 )
     requires fits { Fits F.rule store.old seat.old }
-    requires held { (t : Image) × HasTables (F.Seat.view seat.old) root.0 t }
-    ensures entries { (t : Image) → HasTables (F.Seat.view seat.old) root.0 t → LeavesAreThere t → LeavesAreLocal t →
+    requires held { (t : Tables) × HasTables (F.Seat.view seat.old) root.0 t }
+    ensures entries { (t : Tables) → HasTables (F.Seat.view seat.old) root.0 t → LeavesAreThere t → LeavesAreLocal t →
         buffer.new ≡ newest_entries buffer_size (buffer.old ++ entry_for t asid va.0 ∷ []) }
     ensures view { F.Seat.view seat.new ≡ F.Seat.view seat.old }
     ensures same { store.new ≡ store.old }

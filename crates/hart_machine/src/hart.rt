@@ -5,7 +5,7 @@ ghost use Rattle.frame_store.specs.Laws.{Fits};
 ghost use Rattle.hart_machine.specs.Harts.{advanced, fenced, hart_of, next_number, with_entry};
 ghost use Rattle.hart_machine.specs.Walked.{entry_for, LeavesAreLocal, LeavesAreThere};
 ghost use Rattle.process_model.specs.Harts as model;
-ghost use Rattle.table_walk.specs.Image.{HasTables, Image};
+ghost use Rattle.table_walk.specs.Tables.{HasTables, Tables};
 
 use crate::filled::filled;
 use frame_store::{FrameAccess, FrameSeat};
@@ -66,8 +66,8 @@ impl Hart {
         va: Va,
     ) -> usize
         requires fits { Fits F.rule store.old seat.old }
-        requires held { (t : Image) × HasTables (F.Seat.view seat.old) root.0 t }
-        ensures kept { (t : Image) → HasTables (F.Seat.view seat.old) root.0 t → LeavesAreThere t → LeavesAreLocal t → self.new ≡ with_entry self.old (entry_for t 0 va.0) }
+        requires held { (t : Tables) × HasTables (F.Seat.view seat.old) root.0 t }
+        ensures kept { (t : Tables) → HasTables (F.Seat.view seat.old) root.0 t → LeavesAreThere t → LeavesAreLocal t → self.new ≡ with_entry self.old (entry_for t 0 va.0) }
         ensures number { result ≡ next_number self.old.buffer }
         ensures few { length self.old.buffer ≤ model.buffer_size }
         ensures view { F.Seat.view seat.new ≡ F.Seat.view seat.old }

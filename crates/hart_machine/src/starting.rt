@@ -12,7 +12,7 @@ ghost use Rattle.process_model.specs.Played.{AreSegments};
 ghost use Rattle.process_model.specs.Steps.{plain_step};
 ghost use Rattle.process_model.specs.World.{free_slot, World};
 ghost use Rattle.process_model.specs.declared.step.Step.TheVariants as step;
-ghost use Rattle.table_walk.specs.Image as tables;
+ghost use Rattle.table_walk.specs.Tables as tables;
 
 use crate::machine::Machine;
 use crate::tenant::Tenant;
@@ -92,7 +92,7 @@ impl Machine {
         requires rule { (others : List View) × BankRule self.old.frames (self.old.kernel.seat ∷ seat ∷ others) }
         requires seat { HoldsTrampoline seat }
         requires code { references self.old.kernel.seat 0 ≡ 1 }
-        ensures kernel { (frames slots : ℕ) (stacks : List ℕ) (t : tables.Image) → IsKernelTable self.old.kernel.seat self.old.kernel.root.0 frames slots stacks t
+        ensures kernel { (frames slots : ℕ) (stacks : List ℕ) (t : tables.Tables) → IsKernelTable self.old.kernel.seat self.old.kernel.root.0 frames slots stacks t
             → IsKernelTable self.new.kernel.seat self.new.kernel.root.0 frames slots stacks t }
         ensures size { self.new.kernel.seat.size ≡ self.old.kernel.seat.size }
         ensures free { self.new.frames.free ≡ self.old.frames.free }

@@ -23,7 +23,7 @@ impl Machine {
         requires world { (w : World) × IsWorld self.old w }
         requires played { IsPlayed step }
         ensures made { (w : World) → IsWorld self.old w → Makes self.new result (model.step w step.entry) }
-        ensures buffers { (w : World) (is : IsWorld self.old w) → OnlyFillsAdd self.old self.new is.images is.kernel step.entry }
+        ensures buffers { (w : World) (is : IsWorld self.old w) → OnlyFillsAdd self.old self.new is.tables is.kernel step.entry }
     {
         match step {
             Step::Start(image) => self.start(image),

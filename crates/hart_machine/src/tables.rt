@@ -2,7 +2,7 @@
 
 ghost use Rattle.std.specs.Prelude.{◌≡◌, option_map, slice_get, Some};
 ghost use Rattle.hart_machine.specs.Buffers.{OnlyFillsAdd};
-ghost use Rattle.hart_machine.specs.Tables.{image_of, IsThere, present_table};
+ghost use Rattle.hart_machine.specs.Tables.{tables_of, IsThere, present_table};
 ghost use Rattle.hart_machine.specs.Walked.{walk_answer};
 ghost use Rattle.hart_machine.specs.Worlds.{IsWorld, Makes};
 ghost use Rattle.hart_machine.specs.declared.hart.Hart.{Hart};
@@ -52,7 +52,7 @@ impl Machine {
     pub(crate) fn walk(&mut self, table: Table, va: Va, access: Access, mode: Mode) -> Walk
         requires there { IsThere self.old table }
         requires world { (w : World) × IsWorld self.old w }
-        ensures walk { (w : World) (is : IsWorld self.old w) → result ≡ walk_answer (image_of is.images is.kernel table) va.0 access mode }
+        ensures walk { (w : World) (is : IsWorld self.old w) → result ≡ walk_answer (tables_of is.tables is.kernel table) va.0 access mode }
         ensures world { (w : World) → IsWorld self.old w → IsWorld self.new w }
         ensures harts { self.new.harts ≡ self.old.harts }
     {
@@ -79,7 +79,7 @@ impl Machine {
         requires present { (x : Hart) × (slice_get self.old.harts.items hart ≡ Some x) × (table ≡ present_table x) }
         requires world { (w : World) × IsWorld self.old w }
         ensures made { (w : World) → IsWorld self.old w → Makes self.new (Filled result) (plain_step w (step.Fill hart va.0)) }
-        ensures buffers { (w : World) (is : IsWorld self.old w) → OnlyFillsAdd self.old self.new is.images is.kernel (step.Fill hart va.0) }
+        ensures buffers { (w : World) (is : IsWorld self.old w) → OnlyFillsAdd self.old self.new is.tables is.kernel (step.Fill hart va.0) }
     {
         let frames = &mut self.frames;
         let hart = &mut self.harts[hart];

@@ -56,7 +56,7 @@ impl Machine {
         requires hart { (x : Hart) × (slice_get self.old.harts.items hart ≡ Some x) }
         requires world { (w : World) × IsWorld self.old w }
         ensures serves { (w : World) (x : Hart) → IsWorld self.old w → slice_get self.old.harts.items hart ≡ Some x → is_ok result ≡ entry_serves Full (hart_of x) va.0 via }
-        ensures walk { IfOk result (λ z. (w : World) (is : IsWorld self.old w) (x : Hart) → slice_get self.old.harts.items hart ≡ Some x → IsServed x is.images is.kernel va.0 Fetch Supervisor z) }
+        ensures walk { IfOk result (λ z. (w : World) (is : IsWorld self.old w) (x : Hart) → slice_get self.old.harts.items hart ≡ Some x → IsServed x is.tables is.kernel va.0 Fetch Supervisor z) }
         ensures world { (w : World) → IsWorld self.old w → IsWorld self.new w }
         ensures harts { self.new.harts ≡ self.old.harts }
     {

@@ -9,7 +9,7 @@ ghost use Rattle.process_model.specs.Bytes.{is_width};
 ghost use Rattle.process_model.specs.Process.{Process};
 ghost use Rattle.process_model.specs.Service as service;
 ghost use Rattle.sv39_entry.specs.declared.access.Mode.TheVariants.{User};
-ghost use Rattle.table_walk.specs.Image.{Image};
+ghost use Rattle.table_walk.specs.Tables.{Tables};
 
 use address_space::Space;
 use frame_store::{FrameAccess, FrameSeat};
@@ -34,11 +34,11 @@ pub(crate) fn user_access<F: FrameAccess<Seat = S>, S: FrameSeat>(
     asked: Asked,
 ) -> Reply
     requires fits { Fits F.rule store.old space.old.seat }
-    requires ready { (t : Image) × (p : Process) × Agrees (S.view space.old.seat) space.old.root.0 space.old.trapframe.0 space.old.layout t p × (walk ≡ walk_answer t asked.va.0 asked.access User) }
+    requires ready { (t : Tables) × (p : Process) × Agrees (S.view space.old.seat) space.old.root.0 space.old.trapframe.0 space.old.layout t p × (walk ≡ walk_answer t asked.va.0 asked.access User) }
     requires width { IsTrue (is_width asked.width) }
-    ensures reply { (t : Image) (p : Process) → Agrees (S.view space.old.seat) space.old.root.0 space.old.trapframe.0 space.old.layout t p → walk ≡ walk_answer t asked.va.0 asked.access User →
+    ensures reply { (t : Tables) (p : Process) → Agrees (S.view space.old.seat) space.old.root.0 space.old.trapframe.0 space.old.layout t p → walk ≡ walk_answer t asked.va.0 asked.access User →
         result ≡ (service.user_access p (asked_of asked)).reply }
-    ensures after { (t : Image) (p : Process) → Agrees (S.view space.old.seat) space.old.root.0 space.old.trapframe.0 space.old.layout t p → walk ≡ walk_answer t asked.va.0 asked.access User →
+    ensures after { (t : Tables) (p : Process) → Agrees (S.view space.old.seat) space.old.root.0 space.old.trapframe.0 space.old.layout t p → walk ≡ walk_answer t asked.va.0 asked.access User →
         Agrees (S.view space.new.seat) space.new.root.0 space.new.trapframe.0 space.new.layout t (service.user_access p (asked_of asked)).process }
     ensures root { space.new.root ≡ space.old.root }
     ensures trapframe { space.new.trapframe ≡ space.old.trapframe }

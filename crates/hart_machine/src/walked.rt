@@ -3,7 +3,7 @@
 ghost use Rattle.std.specs.Prelude.{◌≡◌};
 ghost use Rattle.frame_store.specs.Laws.{Fits, Keeps};
 ghost use Rattle.hart_machine.specs.Walked.{LeavesAreThere, walk_answer};
-ghost use Rattle.table_walk.specs.Image.{HasTables, Image};
+ghost use Rattle.table_walk.specs.Tables.{HasTables, Tables};
 
 use frame_store::{FrameAccess, FrameSeat};
 use sv39_entry::{Access, FrameNo, Mode, Va};
@@ -19,8 +19,8 @@ pub(crate) fn walked<F: FrameAccess>(
     mode: Mode,
 ) -> Walk
     requires fits { Fits F.rule store.old seat.old }
-    requires held { (t : Image) × HasTables (F.Seat.view seat.old) root.0 t }
-    ensures outcome { (t : Image) → HasTables (F.Seat.view seat.old) root.0 t → LeavesAreThere t → result ≡ walk_answer t va.0 access mode }
+    requires held { (t : Tables) × HasTables (F.Seat.view seat.old) root.0 t }
+    ensures outcome { (t : Tables) → HasTables (F.Seat.view seat.old) root.0 t → LeavesAreThere t → result ≡ walk_answer t va.0 access mode }
     ensures view { F.Seat.view seat.new ≡ F.Seat.view seat.old }
     ensures same { store.new ≡ store.old }
     ensures keeps { Keeps F.rule store.old seat.old store.new seat.new }

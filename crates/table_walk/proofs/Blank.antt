@@ -5,7 +5,7 @@ use Rattle.std.specs.FinMap as map
 use Rattle.std.specs.FinMap.{get}
 use Rattle.frame_store.specs.Holds.{hold_of-frames, hold_of-with_hold_other, hold_of-with_hold_same, with_hold-with_hold, with_hold_back}
 use Rattle.frame_store.specs.View.{spent, Hold, View, claimed, hold_of, IsHeld, IsSole, known_word, references, sole_hold, with_hold, with_word}
-use Rattle.table_walk.specs.Image.{blank_hold, zeros_to}
+use Rattle.table_walk.specs.Tables.{blank_hold, zeros_to}
 use Rattle.table_walk.specs.Keys.{insert_other, insert_same}
 
 -- ---- the words that are 0 so far

@@ -9,9 +9,9 @@ use Rattle.sv39_entry.specs.Frame.{frame_at, ppn_of}
 use Rattle.sv39_entry.specs.Word.{kind_of, pointer_word, ppn}
 use Rattle.sv39_entry.specs.declared.entry.Kind.TheVariants.{Pointer}
 use Rattle.sv39_entry.specs.declared.frame.FrameNo.{FrameNo}
-use Rattle.table_walk.specs.Image.{Image, IsImage, HasTables, first_leaf, missing_to, node, pointer_or_zero}
+use Rattle.table_walk.specs.Tables.{Tables, AreTables, HasTables, first_leaf, missing_to, node, pointer_or_zero}
 use Rattle.table_walk.specs.Walk.{top_level}
-use Rattle.table_walk.proofs.Images.{kind-zero, word_high}
+use Rattle.table_walk.proofs.TableWords.{kind-zero, word_high}
 use Rattle.table_walk.specs.Nodes.{above, node_from, power_next, power_some, table_number}
 
 -- ---- words of pointers
@@ -50,13 +50,13 @@ none_in : (o : Option ℕ) → ((g : ℕ) → o ≡ Some g → g < 2 ^ 16) → (
 none_in None small w is kind = refl
 none_in (Some g) small w is kind = absurd (kind (rw is (pointer_kind g (small g refl))))
 
-module _ (v : View) (root : ℕ) (t : Image) (h : HasTables v root t) where
+module _ (v : View) (root : ℕ) (t : Tables) (h : HasTables v root t) where
   module _ (k f i : ℕ) (at : get t.tables k ≡ Some f) (low : i < 512) (high : k * 512 + i < first_leaf) where
     entry_known : known_word v f i ≡ Some (pointer_or_zero (get t.tables (k * 512 + i)))
-    entry_known = h.image.words k f i at low ∙ ap Some (word_high t (k * 512 + i) high)
+    entry_known = h.known.words k f i at low ∙ ap Some (word_high t (k * 512 + i) high)
 
     small_frame : (g : ℕ) → get t.tables (k * 512 + i) ≡ Some g → g < 2 ^ 16
-    small_frame g is = (h.image.below _ g is).2
+    small_frame g is = (h.known.below _ g is).2
 
     module _ (w : ℕ) (read : (x : ℕ) → known_word v f i ≡ Some x → w ≡ x) where
       pub child_named : kind_of w ≡ Pointer → option_map (λ (x : FrameNo). x.0) (frame_at (ppn w)) ≡ get t.tables (k * 512 + i)
@@ -67,7 +67,7 @@ module _ (v : View) (root : ℕ) (t : Image) (h : HasTables v root t) where
 
 -- ---- tables on the way to a page
 
-module _ (m : ℕ → ℕ → Option ℕ) (root : ℕ) (t : Image) (h : IsImage m root t) (page : ℕ) where
+module _ (m : ℕ → ℕ → Option ℕ) (root : ℕ) (t : Tables) (h : AreTables m root t) (page : ℕ) where
   not_root : (k : ℕ) → node page (suc k) ≡ 1 → ⊥
   not_root k is = let far = node_from page (suc k) in let next = power_next k in let some = power_some k in omega (arith, is, far, next, some)
 

@@ -10,7 +10,7 @@ use Rattle.process_model.specs.Frames.{tables_needed}
 use Rattle.process_model.specs.PageMap.{NumberSet, contains, count, numbers}
 use Rattle.sv39_entry.specs.Address.{trampoline_page, trapframe_page}
 use Rattle.table_walk.specs.Counted.{AreTablesOf}
-use Rattle.table_walk.specs.Image.{Image, IsGrown, bare_root, missing, node}
+use Rattle.table_walk.specs.Tables.{Tables, IsGrown, bare_root, missing, node}
 use Rattle.table_walk.specs.Walk.{top_level}
 use Rattle.table_walk.proofs.Roots.{no_table, one_table}
 use Rattle.table_walk.specs.Nodes.{one_depth}
@@ -126,7 +126,7 @@ first_number p small = omega (arith, small)
 second_number : (p : ℕ) → p < 2 ^ 27 → node p 2 ≡ 2 ^ 18 + p / 2 ^ 9
 second_number p small = omega (arith, small)
 
-module _ (t : Image) (pages : List ℕ) (page : ℕ) (are : AreTablesOf t pages) (small : All (λ n. n < 2 ^ 27) pages) (low : page < 2 ^ 27) where
+module _ (t : Tables) (pages : List ℕ) (page : ℕ) (are : AreTablesOf t pages) (small : All (λ n. n < 2 ^ 27) pages) (low : page < 2 ^ 27) where
   -- the tables of a depth are numbered by the upper bits of their pages
   there : (depth from : ℕ) (f : ℕ → ℕ) → depth ≤ top_level → ((p : ℕ) → p < 2 ^ 27 → node p depth ≡ from + f p)
       → is_some (get t.tables (node page depth)) ≡ contains (values f (trampoline_page ∷ trapframe_page ∷ pages)) (f page)
@@ -160,7 +160,7 @@ value None some = absurd (cc)
 value (Some x) some = (x, refl)
 
 -- the tables that are grown are those of the page too
-module _ (t u : Image) (pages : List ℕ) (page : ℕ) (are : AreTablesOf t pages) (grown : IsGrown t u page top_level) where
+module _ (t u : Tables) (pages : List ℕ) (page : ℕ) (are : AreTablesOf t pages) (grown : IsGrown t u page top_level) where
   put_third : (x : ℕ) → Contains (trampoline_page ∷ trapframe_page ∷ pages) x → Contains (trampoline_page ∷ trapframe_page ∷ page ∷ pages) x
   put_third x h = to_third (λ (n : ℕ). n) trampoline_page trapframe_page page pages x (behind page x (trampoline_page ∷ trapframe_page ∷ pages) h)
 
@@ -184,14 +184,14 @@ module _ (t u : Image) (pages : List ℕ) (page : ℕ) (are : AreTablesOf t page
   )
 
 -- a page that is counted already
-module _ (t : Image) (pages : List ℕ) (page : ℕ) (are : AreTablesOf t pages) (has : Contains (trampoline_page ∷ trapframe_page ∷ pages) page) where
+module _ (t : Tables) (pages : List ℕ) (page : ℕ) (are : AreTablesOf t pages) (has : Contains (trampoline_page ∷ trapframe_page ∷ pages) page) where
   pub none_missing : missing t page ≡ 0
   none_missing =
       let one = (are (node page 1)).1 (page, 1, has, omega arith, refl) in
       let two = (are (node page 2)).1 (page, 2, has, omega arith, refl) in
       rw (one, two) refl
 
-pub same_tables : (t u : Image) (pages : List ℕ) (page : ℕ) → AreTablesOf t pages → Contains (trampoline_page ∷ trapframe_page ∷ pages) page
+pub same_tables : (t u : Tables) (pages : List ℕ) (page : ℕ) → AreTablesOf t pages → Contains (trampoline_page ∷ trapframe_page ∷ pages) page
     → IsGrown t u page top_level → AreTablesOf u pages
 same_tables t u pages page are has grown k = (
   (λ some.
@@ -211,14 +211,14 @@ shared_way (suc zero) low = refl
 shared_way (suc (suc zero)) low = refl
 shared_way (suc (suc (suc depth))) low = absurd (omega (arith, low))
 
-pub first_missing : (t : Image) (root : ℕ) → t ≡ bare_root root → missing t trampoline_page ≡ tables_needed [] - 1
+pub first_missing : (t : Tables) (root : ℕ) → t ≡ bare_root root → missing t trampoline_page ≡ tables_needed [] - 1
 unfolding tables_needed
 first_missing t root is =
     let one = no_table root (node trampoline_page 1) (λ e. omega (arith, e)) in
     let two = no_table root (node trampoline_page 2) (λ e. omega (arith, e)) in
     rw (is, one, two) refl
 
-pub first_tables : (t u : Image) (root : ℕ) → t ≡ bare_root root → IsGrown t u trampoline_page top_level → AreTablesOf u []
+pub first_tables : (t u : Tables) (root : ℕ) → t ≡ bare_root root → IsGrown t u trampoline_page top_level → AreTablesOf u []
 first_tables t u root is grown k = (
   (λ some.
       let f = value (get u.tables k) some in

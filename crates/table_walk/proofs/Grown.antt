@@ -9,20 +9,20 @@ use Rattle.frame_store.specs.Tallies.{spent_none, spent_on}
 use Rattle.frame_store.specs.View.{Hold, View, hold_of, IsHeld, IsSole, known_word, references, with_word}
 use Rattle.sv39_entry.specs.Address.{vpn}
 use Rattle.sv39_entry.specs.Word.{pointer_word}
-use Rattle.table_walk.specs.Image.{ChangesTables, HasTables, Image, IsGrown, IsImage, blank_hold, first_leaf, missing_to, node, pointer_or_zero, with_table, word_in}
+use Rattle.table_walk.specs.Tables.{ChangesTables, HasTables, Tables, IsGrown, AreTables, blank_hold, first_leaf, missing_to, node, pointer_or_zero, with_table, word_in}
 use Rattle.table_walk.specs.Walk.{top_level}
 use Rattle.table_walk.proofs.Blank.{blanked, blank_known, hold_of-blanked_other, hold_of-blanked_same, not_fresh, others_known}
-use Rattle.table_walk.proofs.Images.{Writes, rewritten, with_word-writes, word_high, word_leaf}
+use Rattle.table_walk.proofs.TableWords.{Writes, rewritten, with_word-writes, word_high, word_leaf}
 use Rattle.table_walk.specs.Keys.{insert_other, insert_same, is_none}
 use Rattle.table_walk.proofs.Children.{back, next_depth}
 use Rattle.table_walk.specs.Nodes.{one_depth, table_number, vpn_low}
 
--- ---- an image, where the words of other frames change, and where a table of zeros is added
+-- ---- known tables, where the words of other frames change, and where a table of zeros is added
 
--- what is written in a frame that is no table leaves the image
-elsewhere : (m : ℕ → ℕ → Option ℕ) (root : ℕ) (t : Image) → IsImage m root t
+-- what is written in a frame that is no table leaves the tables
+elsewhere : (m : ℕ → ℕ → Option ℕ) (root : ℕ) (t : Tables) → AreTables m root t
     → (n : ℕ → ℕ → Option ℕ) (g : ℕ) → ((j : ℕ) → get t.tables j ≡ Some g → ⊥)
-    → ((f i : ℕ) → (f ≡ g → ⊥) → n f i ≡ m f i) → IsImage n root t
+    → ((f i : ℕ) → (f ≡ g → ⊥) → n f i ≡ m f i) → AreTables n root t
 elsewhere m root t h n g fresh same = record {
   rooted = h.rooted;
   words = λ k f i at low. same f i (λ e. fresh k (at ∙ ap Some e)) ∙ h.words k f i at low;
@@ -32,8 +32,8 @@ elsewhere m root t h n g fresh same = record {
   leaf_hung = h.leaf_hung;
 }
 
--- a table of the new image is the new one or an old one
-pub which : (t : Image) (n g j x : ℕ) → get (with_table t n g).tables j ≡ Some x
+-- a table of the new ones is the new one or an old one
+pub which : (t : Tables) (n g j x : ℕ) → get (with_table t n g).tables j ≡ Some x
     → ((j ≡ n) × (x ≡ g)) ⊎ ((j ≡ n → ⊥) × (get t.tables j ≡ Some x))
 which t n g j x is = elim (cases_eq j n) [
   | inl e ↦ inl (e, same_Some x g (sym is ∙ insert_same t.tables n g j e))
@@ -41,10 +41,10 @@ which t n g j x is = elim (cases_eq j n) [
 ]
 
 -- an old table is there still
-pub kept : (t : Image) (n g j x : ℕ) → get t.tables n ≡ None → get t.tables j ≡ Some x → get (with_table t n g).tables j ≡ Some x
+pub kept : (t : Tables) (n g j x : ℕ) → get t.tables n ≡ None → get t.tables j ≡ Some x → get (with_table t n g).tables j ≡ Some x
 kept t n g j x none is = insert_other t.tables n g j (λ e. let gone = rw e at is in cc) ∙ is
 
-module _ (m : ℕ → ℕ → Option ℕ) (root : ℕ) (t : Image) (h : IsImage m root t) (k f i : ℕ) (at : get t.tables k ≡ Some f) (low : i < 512)
+module _ (m : ℕ → ℕ → Option ℕ) (root : ℕ) (t : Tables) (h : AreTables m root t) (k f i : ℕ) (at : get t.tables k ≡ Some f) (low : i < 512)
     (high : k * 512 + i < first_leaf) (none : get t.tables (k * 512 + i) ≡ None) where
   -- nothing hangs on a table that isn't there
   no_child : (a x : ℕ) → a < 512 → get t.tables ((k * 512 + i) * 512 + a) ≡ Some x → ⊥
@@ -77,7 +77,7 @@ module _ (m : ℕ → ℕ → Option ℕ) (root : ℕ) (t : Image) (h : IsImage 
     ]
 
     pub put_table : (n : ℕ → ℕ → Option ℕ) → ((j : ℕ) → get t.tables j ≡ Some g → ⊥) → g < 2 ^ 16
-        → ((a : ℕ) → a < 512 → m g a ≡ Some 0) → Writes m n f i (pointer_word g) → IsImage n root (with_table t (k * 512 + i) g)
+        → ((a : ℕ) → a < 512 → m g a ≡ Some 0) → Writes m n f i (pointer_word g) → AreTables n root (with_table t (k * 512 + i) g)
     put_table n fresh fits blank writes = record {
       rooted = kept t _ g 1 root none h.rooted;
       words = λ j x a is small. elim (which t _ g j x is) [
@@ -107,7 +107,7 @@ module _ (m : ℕ → ℕ → Option ℕ) (root : ℕ) (t : Image) (h : IsImage 
 abbrev pub with_child : ℕ → ℕ → ℕ → View → View
 with_child f i g v = with_word f i (pointer_word g) (blanked g v)
 
-module _ (v : View) (root : ℕ) (t : Image) (h : HasTables v root t) (k f i g : ℕ) (at : get t.tables k ≡ Some f)
+module _ (v : View) (root : ℕ) (t : Tables) (h : HasTables v root t) (k f i g : ℕ) (at : get t.tables k ≡ Some f)
     (fresh : references v g ≡ 0) where
   apart_from : (j x : ℕ) → get t.tables j ≡ Some x → x ≡ g → ⊥
   apart_from j x is e = not_fresh g x v fresh (h.own j x is).0 e
@@ -142,8 +142,8 @@ module _ (v : View) (root : ℕ) (t : Image) (h : HasTables v root t) (k f i g :
   module _ (low : i < 512) (high : k * 512 + i < first_leaf) (none : get t.tables (k * 512 + i) ≡ None) where
     pub has_new : g < 2 ^ 16 → HasTables (with_child f i g v) root (with_table t (k * 512 + i) g)
     has_new fits = record {
-      image = put_table (known_word (blanked g v)) root t
-          (elsewhere (known_word v) root t h.image (known_word (blanked g v)) g no_table (others_known g v)) k f i at low high none g
+      known = put_table (known_word (blanked g v)) root t
+          (elsewhere (known_word v) root t h.known (known_word (blanked g v)) g no_table (others_known g v)) k f i at low high none g
           (known_word (with_child f i g v)) no_table fits (blank_known g v) (with_word-writes (blanked g v) f i (pointer_word g));
       own = λ j x is. elim (which t _ g j x is) [
         | inl e ↦ rw (e.1) (subst (λ (u : Hold). (0 < u.references) × IsTrue u.sole) (sym new_hold) (omega arith, refl))
@@ -172,7 +172,7 @@ module _ (v : View) (root : ℕ) (t : Image) (h : HasTables v root t) (k f i g :
 
 -- ---- one change after another
 
-pub no_change : (v : View) (t : Image) → ChangesTables v v t t 0
+pub no_change : (v : View) (t : Tables) → ChangesTables v v t t 0
 no_change v t = record {
   apart = λ f not. refl;
   old = λ k f is. refl;
@@ -181,7 +181,7 @@ no_change v t = record {
   tallies = spent_none v.tallies;
 }
 
-module _ (u v w : View) (r s t : Image) (m n : ℕ) (first : ChangesTables u v r s m) (second : ChangesTables v w s t n)
+module _ (u v w : View) (r s t : Tables) (m n : ℕ) (first : ChangesTables u v r s m) (second : ChangesTables v w s t n)
     (stay : (k f : ℕ) → get s.tables k ≡ Some f → get t.tables k ≡ Some f)
     (on : (k f : ℕ) → get r.tables k ≡ Some f → get s.tables k ≡ Some f)
     (apart : (j k f : ℕ) → get t.tables j ≡ Some f → get t.tables k ≡ Some f → j ≡ k) where
@@ -214,15 +214,15 @@ module _ (u v w : View) (r s t : Image) (m n : ℕ) (first : ChangesTables u v r
 -- ---- the tables on the way to a page, down to a depth
 
 -- those that were missing down to there were made
-pub record Grows (v w : View) (root : ℕ) (t u : Image) (page depth : ℕ) : Type 0 where
+pub record Grows (v w : View) (root : ℕ) (t u : Tables) (page depth : ℕ) : Type 0 where
   pub grown : IsGrown t u page depth
   pub tables : HasTables w root u
   pub changes : ChangesTables v w t u (missing_to t page depth)
 
-abbrev pub HasGrown : View → View → ℕ → Image → ℕ → ℕ → ℕ → Type 0
-HasGrown v w root t page depth table = (u : Image) × Grows v w root t u page depth × (get u.tables (node page depth) ≡ Some table)
+abbrev pub HasGrown : View → View → ℕ → Tables → ℕ → ℕ → ℕ → Type 0
+HasGrown v w root t page depth table = (u : Tables) × Grows v w root t u page depth × (get u.tables (node page depth) ≡ Some table)
 
-pub grown_none : (v : View) (root : ℕ) (t : Image) (page : ℕ) → HasTables v root t → HasGrown v v root t page 0 root
+pub grown_none : (v : View) (root : ℕ) (t : Tables) (page : ℕ) → HasTables v root t → HasGrown v v root t page 0 root
 grown_none v root t page h = (
   t,
   record {
@@ -230,22 +230,22 @@ grown_none v root t page h = (
       leaves = refl;
       kept = λ k f is. is;
       new = λ k f is. inl is;
-      whole = λ i low. let first : i ≡ 0 = omega arith in (root, rw first h.image.rooted);
+      whole = λ i low. let first : i ≡ 0 = omega arith in (root, rw first h.known.rooted);
     };
     tables = h;
     changes = no_change v t;
   },
-  h.image.rooted,
+  h.known.rooted,
 )
 
-module _ (v w : View) (root : ℕ) (t u : Image) (page depth table : ℕ) (g : Grows v w root t u page depth)
+module _ (v w : View) (root : ℕ) (t u : Tables) (page depth table : ℕ) (g : Grows v w root t u page depth)
     (at : get u.tables (node page depth) ≡ Some table) where
   deeper : {A : Type 0} {k : ℕ} → A ⊎ ((get t.tables k ≡ None) × ((i : ℕ) × (i ≤ depth) × (k ≡ node page i)))
       → A ⊎ ((get t.tables k ≡ None) × ((i : ℕ) × (i ≤ suc depth) × (k ≡ node page i)))
   deeper (inl a) = inl a
   deeper (inr p) = inr (p.0, (p.1.0, (let low = p.1.1 in omega (arith, low)), p.1.2))
 
-  whole_to : (s : Image) → ((k f : ℕ) → get u.tables k ≡ Some f → get s.tables k ≡ Some f)
+  whole_to : (s : Tables) → ((k f : ℕ) → get u.tables k ≡ Some f → get s.tables k ≡ Some f)
       → (f : ℕ) → get s.tables (node page (suc depth)) ≡ Some f → (i : ℕ) → i ≤ suc depth → (x : ℕ) × (get s.tables (node page i) ≡ Some x)
   whole_to s stay f here i low = elim (cases_eq i (suc depth)) [
     | inl same ↦ (f, rw same here)
@@ -286,8 +286,8 @@ module _ (v w : View) (root : ℕ) (t u : Image) (page depth table : ℕ) (g : G
 
   module _ (f : ℕ) (low : suc depth ≤ top_level) (none : get u.tables (node page (suc depth)) ≡ None) (fresh : references w f ≡ 0)
       (fits : f < 2 ^ 16) where
-    -- the image and the view that have the new table
-    abbrev larger : Image
+    -- the tables and the view with the new one
+    abbrev larger : Tables
     larger = with_table u (node page (suc depth)) f
 
     abbrev after : View
@@ -309,7 +309,7 @@ module _ (v w : View) (root : ℕ) (t u : Image) (page depth table : ℕ) (g : G
         changes_both v w after t u larger (missing_to t page depth) 1 g.changes
         (changes_new w root u g.tables (node page depth) table (vpn page (top_level - depth)) f at fresh
         (vpn_low page (top_level - depth)) (table_number page (suc depth) low) none)
-        stays g.grown.kept new_table.image.apart
+        stays g.grown.kept new_table.known.apart
 
     pub grows_to : HasGrown v (with_child table (vpn page (top_level - depth)) f w) root t page (suc depth) f
     grows_to = (
@@ -331,7 +331,7 @@ module _ (v w : View) (root : ℕ) (t u : Image) (page depth table : ℕ) (g : G
     )
 
 -- fewer tables are missing on a part of the way
-missing_up : (t : Image) (page k d : ℕ) → missing_to t page k ≤ missing_to t page (k + d)
+missing_up : (t : Tables) (page k d : ℕ) → missing_to t page k ≤ missing_to t page (k + d)
 missing_up t page k zero = let same : k + 0 ≡ k = omega arith in rw same (omega arith)
 missing_up t page k (suc d) =
     let more : k + suc d ≡ suc (k + d) = omega arith in
@@ -340,7 +340,7 @@ missing_up t page k (suc d) =
 
 -- ---- the same, by the level of a table's entries
 
-module _ (v w : View) (root : ℕ) (t : Image) (page level table : ℕ) (one : 1 ≤ level) (low : level ≤ top_level)
+module _ (v w : View) (root : ℕ) (t : Tables) (page level table : ℕ) (one : 1 ≤ level) (low : level ≤ top_level)
     (h : HasGrown v w root t page (top_level - level) table) where
   pub table_own : IsHeld w table × IsSole w table
   table_own = h.1.tables.own (node page (top_level - level)) table h.2
@@ -378,7 +378,7 @@ module _ (v w : View) (root : ℕ) (t : Image) (page level table : ℕ) (one : 1
         omega (arith, more, up, spent, enough)
 
 -- frame 0 is held still
-pub still_anchored : (v w : View) (t u : Image) (n : ℕ) → ChangesTables v w t u n → ((k f : ℕ) → get u.tables k ≡ Some f → IsHeld w f × IsSole w f) → IsHeld v 0 → IsHeld w 0
+pub still_anchored : (v w : View) (t u : Tables) (n : ℕ) → ChangesTables v w t u n → ((k f : ℕ) → get u.tables k ≡ Some f → IsHeld w f × IsSole w f) → IsHeld v 0 → IsHeld w 0
 still_anchored v w t u n changes own held = elim (cases_eq (references w 0) 0) [
   | inl none ↦
       let free : (k : ℕ) → get u.tables k ≡ Some 0 → ⊥ = λ k at. (let there = (own k 0 at).0 in omega (arith, none, there)) in

@@ -1,4 +1,4 @@
--- One word of a last table is written, and one leaf of the image changes.
+-- One word of a last table is written, and one leaf changes.
 use Rattle.std.proofs.Common.{◌≡◌, ℕ, ◌+◌, ◌*◌, ◌/◌, ◌<◌, ◌≤◌, inl, inr, refl, ap, sym, subst, ◌∙◌, arith, Option, Some, None, unwrap_or}
 use Rattle.std.proofs.lemmas.Bool.{cases_eq, cases_lt}
 use Rattle.std.proofs.lemmas.Option.{same_Some}
@@ -11,9 +11,9 @@ use Rattle.sv39_entry.specs.Word.{kind_of}
 use Rattle.sv39_entry.specs.declared.entry.Kind.TheVariants.{Leaf}
 use Rattle.table_walk.specs.Changed.{OthersStay}
 use Rattle.table_walk.specs.Held.{held_memory}
-use Rattle.table_walk.specs.Image.{ChangesTables, HasTables, Image, IsImage, first_leaf, last_table, leaf_node, with_leaf, without_leaf, word_in}
+use Rattle.table_walk.specs.Tables.{ChangesTables, HasTables, Tables, AreTables, first_leaf, last_table, leaf_node, with_leaf, without_leaf, word_in}
 use Rattle.table_walk.specs.Walk.{top_level, Maps}
-use Rattle.table_walk.proofs.Images.{Writes, kind-zero, rewritten, with_word-writes, word_high, word_leaf}
+use Rattle.table_walk.proofs.TableWords.{Writes, kind-zero, rewritten, with_word-writes, word_high, word_leaf}
 use Rattle.table_walk.specs.Keys.{insert_same, insert_other, is_none, remove_same, remove_other}
 use Rattle.table_walk.specs.Nodes.{above, leaf_number, vpn_low}
 use Rattle.table_walk.proofs.Walks.{walk}
@@ -23,10 +23,10 @@ pub some_word : (o : Option ℕ) (w : ℕ) → w ≡ unwrap_or o 0 → (w ≡ 0 
 some_word None w is some = absurd (some is)
 some_word (Some x) w is some = ap Some (sym is)
 
-module _ (m : ℕ → ℕ → Option ℕ) (root : ℕ) (t : Image) (h : IsImage m root t) (m' : ℕ → ℕ → Option ℕ)
+module _ (m : ℕ → ℕ → Option ℕ) (root : ℕ) (t : Tables) (h : AreTables m root t) (m' : ℕ → ℕ → Option ℕ)
     (k f i : ℕ) (at : get t.tables k ≡ Some f) (low : i < 512) (leafy : first_leaf ≤ k * 512 + i) where
-  -- the words of an image that differs at this word alone
-  words_after : (u : Image) (w : ℕ) → Writes m m' f i w → ((n : ℕ) → (n ≡ k * 512 + i → ⊥) → word_in u n ≡ word_in t n)
+  -- the words of tables that differ at this word alone
+  words_after : (u : Tables) (w : ℕ) → Writes m m' f i w → ((n : ℕ) → (n ≡ k * 512 + i → ⊥) → word_in u n ≡ word_in t n)
       → unwrap_or (get u.leaves (k * 512 + i)) 0 ≡ w → (j g a : ℕ) → get t.tables j ≡ Some g → a < 512 → m' g a ≡ Some (word_in u (j * 512 + a))
   words_after u w writes same here = rewritten m root t h m' k f i at low u w writes same (word_leaf u (k * 512 + i) leafy ∙ here)
 
@@ -39,7 +39,7 @@ module _ (m : ℕ → ℕ → Option ℕ) (root : ℕ) (t : Image) (h : IsImage 
   up : (n : ℕ) → n ≡ k * 512 + i → n / 512 ≡ k
   up n same = omega arith
 
-  pub put_leaf : (w : ℕ) → kind_of w ≡ Leaf → Writes m m' f i w → IsImage m' root (with_leaf t (k * 512 + i) w)
+  pub put_leaf : (w : ℕ) → kind_of w ≡ Leaf → Writes m m' f i w → AreTables m' root (with_leaf t (k * 512 + i) w)
   put_leaf w leaf writes = record {
     rooted = h.rooted;
     words = words_after (with_leaf t (k * 512 + i) w) w writes (leaf_elsewhere w) (ap (λ o. unwrap_or o 0) (insert_same t.leaves _ w _ refl));
@@ -60,7 +60,7 @@ module _ (m : ℕ → ℕ → Option ℕ) (root : ℕ) (t : Image) (h : IsImage 
     | inr s ↦ word_leaf _ n s ∙ ap (λ o. unwrap_or o 0) (remove_other t.leaves _ n ne) ∙ sym (word_leaf t n s)
   ]
 
-  pub drop_leaf : Writes m m' f i 0 → IsImage m' root (without_leaf t (k * 512 + i))
+  pub drop_leaf : Writes m m' f i 0 → AreTables m' root (without_leaf t (k * 512 + i))
   drop_leaf writes = record {
     rooted = h.rooted;
     words = words_after (without_leaf t (k * 512 + i)) 0 writes leaf_gone (ap (λ o. unwrap_or o 0) (remove_same t.leaves _ _ refl));
@@ -101,7 +101,7 @@ module _ (f i w : ℕ) (v : View) where
   still_own g own = (rw (same_references g) own.0, still_sole g own.1)
 
 -- a word of a table is no further change
-pub word_changes : (v w : View) (t u : Image) (n : ℕ) → ChangesTables v w t u n → (k f i x : ℕ) → get u.tables k ≡ Some f
+pub word_changes : (v w : View) (t u : Tables) (n : ℕ) → ChangesTables v w t u n → (k f i x : ℕ) → get u.tables k ≡ Some f
     → ChangesTables v (with_word f i x w) t u n
 word_changes v w t u n c k f i x at = record {
   apart = λ g none. hold_elsewhere f i x w g (λ same. none k (at ∙ ap Some (sym same))) ∙ c.apart g none;
@@ -113,24 +113,24 @@ word_changes v w t u n c k f i x at = record {
 
 -- ---- the leaf of a page
 
-module _ (v : View) (root : ℕ) (t : Image) (h : HasTables v root t) (page : ℕ) where
+module _ (v : View) (root : ℕ) (t : Tables) (h : HasTables v root t) (page : ℕ) where
   -- where the last table is missing, so is the leaf
   pub no_table : get t.tables (last_table page) ≡ None → get t.leaves (leaf_node page) ≡ None
   no_table none = is_none _ (λ w is.
-      let hung = (h.image.leaf_hung (leaf_node page) w is).2 in
+      let hung = (h.known.leaf_hung (leaf_node page) w is).2 in
       let there = subst (λ n. get t.tables n ≡ Some hung.0) (above page top_level) hung.1 in
       cc)
 
   -- what is not there is dropped
   pub drop_none : get t.leaves (leaf_node page) ≡ None → HasTables v root (without_leaf t (leaf_node page))
   drop_none none = record {
-    image = record {
-      rooted = h.image.rooted;
-      words = λ k f i at low. h.image.words k f i at low ∙ ap Some (sym (same_words (k * 512 + i)));
-      apart = h.image.apart;
-      below = h.image.below;
-      hung = h.image.hung;
-      leaf_hung = λ n w is. h.image.leaf_hung n w (sym (same_leaves n) ∙ is);
+    known = record {
+      rooted = h.known.rooted;
+      words = λ k f i at low. h.known.words k f i at low ∙ ap Some (sym (same_words (k * 512 + i)));
+      apart = h.known.apart;
+      below = h.known.below;
+      hung = h.known.hung;
+      leaf_hung = λ n w is. h.known.leaf_hung n w (sym (same_leaves n) ∙ is);
     };
     own = h.own;
   } where
@@ -149,40 +149,40 @@ module _ (v : View) (root : ℕ) (t : Image) (h : HasTables v root t) (page : �
   module _ (f : ℕ) (at : get t.tables (last_table page) ≡ Some f) where
     -- the word of the page's leaf
     pub leaf_word_is : known_word v f (vpn page 0) ≡ Some (unwrap_or (get t.leaves (leaf_node page)) 0)
-    leaf_word_is = h.image.words (last_table page) f (vpn page 0) at (vpn_low page 0) ∙ ap Some (word_leaf t (leaf_node page) (leaf_number page))
+    leaf_word_is = h.known.words (last_table page) f (vpn page 0) at (vpn_low page 0) ∙ ap Some (word_leaf t (leaf_node page) (leaf_number page))
 
     pub put_page : (w : View) (leaf : ℕ) → kind_of leaf ≡ Leaf → w ≡ with_word f (vpn page 0) leaf v
         → HasTables w root (with_leaf t (leaf_node page) leaf)
     put_page w leaf kind is = subst (λ x. HasTables x root (with_leaf t (leaf_node page) leaf)) (sym is) record {
-      image = put_leaf _ root t h.image _ (last_table page) f (vpn page 0) at (vpn_low page 0) (leaf_number page) leaf kind (with_word-writes v f _ leaf);
+      known = put_leaf _ root t h.known _ (last_table page) f (vpn page 0) at (vpn_low page 0) (leaf_number page) leaf kind (with_word-writes v f _ leaf);
       own = λ k g there. still_own f (vpn page 0) leaf v g (h.own k g there);
     }
 
     pub drop_page : (w : View) → w ≡ with_word f (vpn page 0) 0 v → HasTables w root (without_leaf t (leaf_node page))
     drop_page w is = subst (λ x. HasTables x root (without_leaf t (leaf_node page))) (sym is) record {
-      image = drop_leaf _ root t h.image _ (last_table page) f (vpn page 0) at (vpn_low page 0) (leaf_number page) (with_word-writes v f _ 0);
+      known = drop_leaf _ root t h.known _ (last_table page) f (vpn page 0) at (vpn_low page 0) (leaf_number page) (with_word-writes v f _ 0);
       own = λ k g there. still_own f (vpn page 0) 0 v g (h.own k g there);
     }
 
   -- where 0 is read there is no leaf
   pub none_read : unwrap_or (get t.leaves (leaf_node page)) 0 ≡ 0 → get t.leaves (leaf_node page) ≡ None
   none_read zero = is_none _ (λ w is.
-      let kind = (h.image.leaf_hung (leaf_node page) w is).0 in
+      let kind = (h.known.leaf_hung (leaf_node page) w is).0 in
       let same : w ≡ 0 = ap (λ o. unwrap_or o 0) (sym is) ∙ zero in
       let invalid = ap kind_of same ∙ kind-zero in
       cc)
 
 -- ---- the walks of a page
 
-pub maps_leaf : (w : View) (root : ℕ) (u : Image) → HasTables w root u → (page leaf : ℕ) → get u.leaves (leaf_node page) ≡ Some leaf
+pub maps_leaf : (w : View) (root : ℕ) (u : Tables) → HasTables w root u → (page leaf : ℕ) → get u.leaves (leaf_node page) ≡ Some leaf
     → Maps (held_memory w) (ppn_of root) page leaf 0
 maps_leaf w root u h page leaf is = (walk w root u h page leaf 0).1 (refl, is)
 
-pub maps_nothing : (w : View) (root : ℕ) (u : Image) → HasTables w root u → (page : ℕ) → get u.leaves (leaf_node page) ≡ None
+pub maps_nothing : (w : View) (root : ℕ) (u : Tables) → HasTables w root u → (page : ℕ) → get u.leaves (leaf_node page) ≡ None
     → (leaf level : ℕ) → Maps (held_memory w) (ppn_of root) page leaf level → ⊥
 maps_nothing w root u h page none leaf level maps = let is = ((walk w root u h page leaf level).0 maps).1 in cc
 
-pub others_stay : (v w : View) (root : ℕ) (t u : Image) → HasTables v root t → HasTables w root u → (page : ℕ)
+pub others_stay : (v w : View) (root : ℕ) (t u : Tables) → HasTables v root t → HasTables w root u → (page : ℕ)
     → ((n : ℕ) → (n ≡ leaf_node page → ⊥) → get u.leaves n ≡ get t.leaves n) → OthersStay (held_memory v) (held_memory w) (ppn_of root) page
 others_stay v w root t u h k page same other leaf level ne =
     let before = walk v root t h other leaf level in

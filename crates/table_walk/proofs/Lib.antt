@@ -2,7 +2,7 @@ pub mod Blank
 pub mod Children
 pub mod Counted
 pub mod Grown
-pub mod Images
+pub mod TableWords
 pub mod LeafChanges
 pub mod Next
 pub mod Outcomes

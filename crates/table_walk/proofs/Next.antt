@@ -7,10 +7,10 @@ use Rattle.std.specs.FinMap.{get}
 use Rattle.sv39_entry.specs.Word.{kind_of}
 use Rattle.sv39_entry.specs.declared.entry.Kind.TheVariants.{Invalid}
 use Rattle.table_walk.specs.Changed.{IsNextLeafIn, IsTableAt}
-use Rattle.table_walk.specs.Image.{Image, IsImage, first_leaf}
+use Rattle.table_walk.specs.Tables.{Tables, AreTables, first_leaf}
 use Rattle.table_walk.specs.Places.{IsBare, IsFirstLeaf}
 use Rattle.table_walk.specs.Walk.{top_level}
-use Rattle.table_walk.proofs.Images.{kind-zero, word_leaf}
+use Rattle.table_walk.proofs.TableWords.{kind-zero, word_leaf}
 use Rattle.table_walk.specs.Nodes.{power_next, power_up}
 
 -- so many times nine bits
@@ -26,7 +26,7 @@ nine_bits (suc k) =
 at_index : (k i width m : ℕ) → k * (512 * width) + (i * width + m) ≡ (k * 512 + i) * width + m
 at_index k i width m = omega arith
 
-module _ (t : Image) (k width from i place : ℕ) where
+module _ (t : Tables) (k width from i place : ℕ) where
   pub bare_more : IsBare t k (512 * width) from (i * width + place) → IsBare t (k * 512 + i) width place width → IsBare t k (512 * width) from (i * width + width)
   bare_more before here n le lt = elim (cases_lt n (i * width + place)) [
     | inl less ↦ before n le less
@@ -59,7 +59,7 @@ split_at from w width same some =
     let rest : from / w * width + from % w ≡ from = rw (← same) whole in
     (subst (λ x. from % w < x) same (mod_below from w some), omega (arith, rest), omega (arith, rest))
 
-pub bare_none : (t : Image) (k width from end : ℕ) → end ≤ from → IsBare t k width from end
+pub bare_none : (t : Tables) (k width from end : ℕ) → end ≤ from → IsBare t k width from end
 bare_none t k width from end over n le lt = absurd (omega (arith, over, le, lt))
 
 -- ---- levels
@@ -73,11 +73,11 @@ table_child k level i at low small some =
     let below : k * 512 + i < 2 * 512 ^ (top_level - (level - 1)) = rw more (omega (arith, next, at.1, small)) in
     (omega (arith, far, at.1, small), (from, below))
 
-pub first_in : (t : Image) (k level width from : ℕ) (o : Option (ℕ × ℕ)) → 512 ^ suc level ≡ width → IsNextLeafIn t k level from o → IsFirstLeaf t k width from o
+pub first_in : (t : Tables) (k level width from : ℕ) (o : Option (ℕ × ℕ)) → 512 ^ suc level ≡ width → IsNextLeafIn t k level from o → IsFirstLeaf t k width from o
 first_in t k level width from None same in_level = subst (λ (w : ℕ). IsFirstLeaf t k w from None) same in_level
 first_in t k level width from (Some p) same in_level = subst (λ (w : ℕ). IsFirstLeaf t k w from (Some p)) same in_level
 
-pub in_level : (t : Image) (k level width from : ℕ) (o : Option (ℕ × ℕ)) → 512 ^ suc level ≡ width → IsFirstLeaf t k width from o → IsNextLeafIn t k level from o
+pub in_level : (t : Tables) (k level width from : ℕ) (o : Option (ℕ × ℕ)) → 512 ^ suc level ≡ width → IsFirstLeaf t k width from o → IsNextLeafIn t k level from o
 in_level t k level width from None same first = subst (λ (w : ℕ). IsFirstLeaf t k w from None) (sym same) first
 in_level t k level width from (Some p) same first = subst (λ (w : ℕ). IsFirstLeaf t k w from (Some p)) (sym same) first
 
@@ -86,7 +86,7 @@ fits_word w i found few low less = let row = mul-le-mul_right {m = suc i} {n = 5
 
 -- ---- one index
 
-module _ (m : ℕ → ℕ → Option ℕ) (root : ℕ) (t : Image) (h : IsImage m root t) where
+module _ (m : ℕ → ℕ → Option ℕ) (root : ℕ) (t : Tables) (h : AreTables m root t) where
   one_up : (n j : ℕ) → n / 512 ^ suc j ≡ n / 512 ^ j / 512
   one_up n j =
       let turned : 512 ^ suc j ≡ 512 ^ j * 512 = omega (arith, power_next j) in

@@ -7,9 +7,9 @@ use Rattle.std.specs.FinMap.{get}
 use Rattle.std.specs.Ordering.{nat_cmp}
 use Rattle.frame_store.specs.Holds.{hold_of-frames, hold_of-with_hold_other}
 use Rattle.frame_store.specs.View.{Hold, View, claimed, hold_of, IsHeld, known_word, references, sole_hold, with_hold}
-use Rattle.table_walk.specs.Image.{bare_root, blank_hold, HasTables, pointer_or_zero, word_in}
+use Rattle.table_walk.specs.Tables.{bare_root, blank_hold, HasTables, pointer_or_zero, word_in}
 use Rattle.table_walk.proofs.Blank.{zero_word}
-use Rattle.table_walk.proofs.Images.{word_high}
+use Rattle.table_walk.proofs.TableWords.{word_high}
 use Rattle.table_walk.specs.Keys.{insert_other, insert_same}
 
 module _ (root : ℕ) where
@@ -39,7 +39,7 @@ module _ (root : ℕ) where
 
     pub root_tables : HasTables w root (bare_root root)
     root_tables = record {
-      image = record {
+      known = record {
         rooted = insert_same map.empty 1 root 1 refl;
         words = root_words;
         apart = λ j k f a b. (one_table j f a).0 ∙ sym (one_table k f b).0;

@@ -8,13 +8,13 @@ use Rattle.frame_store.specs.Laws.{IsAnchored}
 use Rattle.frame_store.specs.View.{Hold, View, hold_of, IsHeld, IsSole, known_word, not_held, references, released, with_hold, with_word, without_hold}
 use Rattle.sv39_entry.specs.Word.{pointer_word}
 use Rattle.table_walk.specs.Changed.{IsTableAt}
-use Rattle.table_walk.specs.Image.{HasTables, Image, IsImage, first_leaf, pointer_or_zero, word_in}
+use Rattle.table_walk.specs.Tables.{HasTables, Tables, AreTables, first_leaf, pointer_or_zero, word_in}
 use Rattle.table_walk.specs.Keys.{is_none, remove_other, remove_same}
 use Rattle.table_walk.specs.Released.{AreLast, LetsGo, SameTallies, without_table}
 use Rattle.table_walk.specs.Walk.{top_level}
 use Rattle.table_walk.specs.Nodes.{power_next}
 use Rattle.table_walk.proofs.Next.{table_child}
-use Rattle.table_walk.proofs.Images.{rewritten, with_word-writes, word_high, word_leaf}
+use Rattle.table_walk.proofs.TableWords.{rewritten, with_word-writes, word_high, word_leaf}
 use Rattle.table_walk.proofs.LeafChanges.{hold_elsewhere, same_references, still_own}
 
 -- ---- the last reference of a frame is let go
@@ -43,7 +43,7 @@ tallies_both u v w first second = record {
   tallies = second.tallies ∙ first.tallies;
 }
 
-pub lets_none : (v : View) (root k : ℕ) (t : Image) → HasTables v root t → LetsGo v v root k t t
+pub lets_none : (v : View) (root k : ℕ) (t : Tables) → HasTables v root t → LetsGo v v root k t t
 lets_none v root k t has = record {
   tables = has;
   leaves = refl;
@@ -55,14 +55,14 @@ lets_none v root k t has = record {
   tallies = record { credits = refl; tallies = refl };
 }
 
-module _ (u v w : View) (root j k : ℕ) (r s t : Image) (has : HasTables u root r) (first : LetsGo u v root j r s) (second : LetsGo v w root k s t) where
+module _ (u v w : View) (root j k : ℕ) (r s t : Tables) (has : HasTables u root r) (first : LetsGo u v root j r s) (second : LetsGo v w root k s t) where
   gone_in : (n f : ℕ) (o : Option ℕ) → get s.tables n ≡ o → get r.tables n ≡ Some f → get t.tables n ≡ None → hold_of w f ≡ not_held
   gone_in n f (Some x) is at none =
       let same : x ≡ f = same_Some x f (sym (first.fewer n x is) ∙ at) in
       second.gone n f (rw same at is) none
   gone_in n f None is at none =
       let not_there : (m : ℕ) → get s.tables m ≡ Some f → ⊥ = λ m there.
-      let same = has.image.apart m n f (first.fewer m f there) at in
+      let same = has.known.apart m n f (first.fewer m f there) at in
       let here = rw same at there in
       cc
       in
@@ -82,7 +82,7 @@ module _ (u v w : View) (root j k : ℕ) (r s t : Image) (has : HasTables u root
   }
 
 -- those that are left may be let go too
-pub still_last : (v w : View) (root k : ℕ) (t u : Image) → LetsGo v w root k t u → AreLast v t → AreLast w u
+pub still_last : (v w : View) (root k : ℕ) (t u : Tables) → LetsGo v w root k t u → AreLast v t → AreLast w u
 still_last v w root k t u goes last = record {
   bare = λ n. ap (λ leaves. get leaves n) goes.leaves ∙ last.bare n;
   once = λ j f at. goes.old j f at ∙ last.once j f (goes.fewer j f at);
@@ -92,14 +92,14 @@ still_last v w root k t u goes last = record {
 
 -- ---- a table below which there is none is let go, after the pointer to it
 
-module _ (v : View) (root : ℕ) (t : Image) (has : HasTables v root t) (last : AreLast v t) (k f i g : ℕ) (at : get t.tables k ≡ Some f) (low : i < 512)
+module _ (v : View) (root : ℕ) (t : Tables) (has : HasTables v root t) (last : AreLast v t) (k f i g : ℕ) (at : get t.tables k ≡ Some f) (low : i < 512)
     (high : k * 512 + i < first_leaf) (there : get t.tables (k * 512 + i) ≡ Some g)
     (none : (a : ℕ) → a < 512 → get t.tables ((k * 512 + i) * 512 + a) ≡ None) where
   some : 1 ≤ k
-  some = (has.image.below k f at).0
+  some = (has.known.below k f at).0
 
   other_frame : (j x : ℕ) → get t.tables j ≡ Some x → (j ≡ k * 512 + i → ⊥) → x ≡ g → ⊥
-  other_frame j x is ne e = ne (has.image.apart j (k * 512 + i) g (is ∙ ap Some e) there)
+  other_frame j x is ne e = ne (has.known.apart j (k * 512 + i) g (is ∙ ap Some e) there)
 
   above_apart : f ≡ g → ⊥
   above_apart = other_frame k f at (λ e. omega (arith, e, some))
@@ -107,7 +107,7 @@ module _ (v : View) (root : ℕ) (t : Image) (has : HasTables v root t) (last : 
   child_once : references (with_word f i 0 v) g ≡ 1
   child_once = same_references f i 0 v g ∙ last.once (k * 512 + i) g there
 
-  abbrev fewer : Image
+  abbrev fewer : Tables
   fewer = without_table t (k * 512 + i)
 
   abbrev after : View
@@ -144,14 +144,14 @@ module _ (v : View) (root : ℕ) (t : Image) (has : HasTables v root t) (last : 
 
   tables_left : HasTables after root fewer
   tables_left = record {
-    image = record {
-      rooted = remove_other t.tables (k * 512 + i) 1 (λ e. omega (arith, e, some)) ∙ has.image.rooted;
+    known = record {
+      rooted = remove_other t.tables (k * 512 + i) 1 (λ e. omega (arith, e, some)) ∙ has.known.rooted;
       words = λ j x a is small.
           ap (λ (h : Hold). get h.words a) (same_hold j x is)
-          ∙ rewritten (known_word v) root t has.image (known_word (with_word f i 0 v)) k f i at low fewer 0 (with_word-writes v f i 0) word_elsewhere word_here j x a (was j x is).1 small;
-      apart = λ m n x a b. has.image.apart m n x (was m x a).1 (was n x b).1;
-      below = λ j x is. has.image.below j x (was j x is).1;
-      hung = λ j x is. elim (has.image.hung j x (was j x is).1) [
+          ∙ rewritten (known_word v) root t has.known (known_word (with_word f i 0 v)) k f i at low fewer 0 (with_word-writes v f i 0) word_elsewhere word_here j x a (was j x is).1 small;
+      apart = λ m n x a b. has.known.apart m n x (was m x a).1 (was n x b).1;
+      below = λ j x is. has.known.below j x (was j x is).1;
+      hung = λ j x is. elim (has.known.hung j x (was j x is).1) [
         | inl one ↦ inl one
         | inr p ↦ inr (p.0, still_hung j x p.0 (was j x is).1 p.1)
       ];
@@ -191,12 +191,12 @@ module _ (v : View) (root : ℕ) (t : Image) (has : HasTables v root t) (last : 
 -- ---- the tables below a table of a level, index by index
 
 -- the tables at the first so many indices of table k, and those below them, are gone
-abbrev pub LetsGoTo : View → View → ℕ → ℕ → Image → ℕ → Type 0
-LetsGoTo v w root k t n = (u : Image) × LetsGo v w root k t u × ((i : ℕ) → i < n → get u.tables (k * 512 + i) ≡ None)
+abbrev pub LetsGoTo : View → View → ℕ → ℕ → Tables → ℕ → Type 0
+LetsGoTo v w root k t n = (u : Tables) × LetsGo v w root k t u × ((i : ℕ) → i < n → get u.tables (k * 512 + i) ≡ None)
 
 -- the next index
-pub lets_next : (u v w : View) (root k n : ℕ) (t : Image) → HasTables u root t → (below : LetsGoTo u v root k t n)
-    → (here : (s : Image) × LetsGo v w root k below.0 s × (get s.tables (k * 512 + n) ≡ None)) → LetsGoTo u w root k t (n + 1)
+pub lets_next : (u v w : View) (root k n : ℕ) (t : Tables) → HasTables u root t → (below : LetsGoTo u v root k t n)
+    → (here : (s : Tables) × LetsGo v w root k below.0 s × (get s.tables (k * 512 + n) ≡ None)) → LetsGoTo u w root k t (n + 1)
 lets_next u v w root k n t has below here = (
   here.0,
   lets_both u v w root k k t below.0 here.0 has below.1 here.1 k (omega arith) (omega arith),
@@ -207,11 +207,11 @@ lets_next u v w root k n t has below here = (
 )
 
 -- below a last table there is none
-pub lets_last : (v : View) (root k f : ℕ) (t : Image) → HasTables v root t → IsTableAt k 0 → LetsGoTo v v root k t 512
-lets_last v root k f t has is = (t, lets_none v root k t has, λ i less. is_none _ (λ x at. let high = (has.image.below _ x at).1 in omega (arith, high, is.0)))
+pub lets_last : (v : View) (root k f : ℕ) (t : Tables) → HasTables v root t → IsTableAt k 0 → LetsGoTo v v root k t 512
+lets_last v root k f t has is = (t, lets_none v root k t has, λ i less. is_none _ (λ x at. let high = (has.known.below _ x at).1 in omega (arith, high, is.0)))
 
 -- tables below index i of table k are gone, and the table at the index is the next
-pub record AtIndex (v w : View) (root k f g i : ℕ) (t : Image) : Type 0 where
+pub record AtIndex (v w : View) (root k f g i : ℕ) (t : Tables) : Type 0 where
   pub has : HasTables v root t
   pub last : AreLast v t
   pub at : get t.tables k ≡ Some f
@@ -224,10 +224,10 @@ pub some_level : (level : ℕ) → 0 < level → level ≡ 0 → ⊥
 some_level level some e = omega (arith, some, e)
 
 -- by what the calls for the table at the index say
-pub at_index : (v x w : View) (root k f g i level : ℕ) (t : Image) → x ≡ v → HasTables v root t → AreLast v t → get t.tables k ≡ Some f → IsTableAt k level
+pub at_index : (v x w : View) (root k f g i level : ℕ) (t : Tables) → x ≡ v → HasTables v root t → AreLast v t → get t.tables k ≡ Some f → IsTableAt k level
     → level ≤ top_level → 0 < level → i < 512
-    → ((r n : ℕ) (s : Image) → HasTables v r s → get s.tables n ≡ Some f → n * 512 + i < first_leaf → Some g ≡ get s.tables (n * 512 + i))
-    → ((r n : ℕ) (s : Image) → HasTables x r s → AreLast x s → get s.tables n ≡ Some g → IsTableAt n (level - 1) → LetsGoTo x w r n s 512)
+    → ((r n : ℕ) (s : Tables) → HasTables v r s → get s.tables n ≡ Some f → n * 512 + i < first_leaf → Some g ≡ get s.tables (n * 512 + i))
+    → ((r n : ℕ) (s : Tables) → HasTables x r s → AreLast x s → get s.tables n ≡ Some g → IsTableAt n (level - 1) → LetsGoTo x w r n s 512)
     → AtIndex v w root k f g i t
 at_index v x w root k f g i level t same has last at is low some small found below =
     let next = table_child k level i is low small (some_level level some) in
@@ -242,8 +242,8 @@ at_index v x w root k f g i level t same has last at is low some small found bel
       below = subst (λ y. LetsGoTo y w root (k * 512 + i) t 512) same (below root (k * 512 + i) t (rw same has) (rw same last) there next.1);
     }
 
-module _ (v w : View) (root k f g i : ℕ) (t : Image) (a : AtIndex v w root k f g i t) where
-  abbrev left : Image
+module _ (v w : View) (root k f g i : ℕ) (t : Tables) (a : AtIndex v w root k f g i t) where
+  abbrev left : Tables
   left = a.below.0
 
   last_left : AreLast w left
@@ -264,7 +264,7 @@ module _ (v w : View) (root k f g i : ℕ) (t : Image) (a : AtIndex v w root k f
   pub index_anchored : IsAnchored (released g (with_word f i 0 w))
   index_anchored = child_anchored w root left a.below.1.tables last_left k f i g at_left a.low a.high there_left a.below.2
 
-  pub lets_index : (s : Image) × LetsGo v (released g (with_word f i 0 w)) root k t s × (get s.tables (k * 512 + i) ≡ None)
+  pub lets_index : (s : Tables) × LetsGo v (released g (with_word f i 0 w)) root k t s × (get s.tables (k * 512 + i) ≡ None)
   lets_index = (
     without_table left (k * 512 + i),
     lets_both v w (released g (with_word f i 0 w)) root (k * 512 + i) k t left (without_table left (k * 512 + i)) a.has a.below.1
@@ -278,7 +278,7 @@ pub root_level : IsTableAt 1 top_level
 root_level = (omega arith, omega arith)
 
 -- where no table hangs on the root there is no other
-only_root : (m : ℕ → ℕ → Option ℕ) (root : ℕ) (t : Image) → IsImage m root t → ((i : ℕ) → i < 512 → get t.tables (1 * 512 + i) ≡ None)
+only_root : (m : ℕ → ℕ → Option ℕ) (root : ℕ) (t : Tables) → AreTables m root t → ((i : ℕ) → i < 512 → get t.tables (1 * 512 + i) ≡ None)
     → (d j f : ℕ) → j < 512 ^ d → get t.tables j ≡ Some f → j ≡ 1
 only_root m root t h none zero j f less at = absurd (let one = (h.below j f at).0 in omega (arith, one, less))
 only_root m root t h none (suc d) j f less at = elim (h.hung j f at) [
@@ -295,8 +295,8 @@ pointer_of : (o : Option ℕ) (f : ℕ) → pointer_or_zero o ≡ pointer_word f
 pointer_of None f same = absurd (omega (arith, same))
 pointer_of (Some g) f same = ap Some (omega (arith, same))
 
--- two images of the same words have the same tables
-module _ (m : ℕ → ℕ → Option ℕ) (root : ℕ) (t s : Image) (h : IsImage m root t) (i : IsImage m root s) where
+-- the same words are those of the same tables
+module _ (m : ℕ → ℕ → Option ℕ) (root : ℕ) (t s : Tables) (h : AreTables m root t) (i : AreTables m root s) where
   table_in : (d k f : ℕ) → k < 512 ^ d → get t.tables k ≡ Some f → get s.tables k ≡ Some f
   table_in zero k f less at = absurd (let one = (h.below k f at).0 in omega (arith, one, less))
   table_in (suc d) k f less at = elim (h.hung k f at) [
@@ -315,15 +315,15 @@ module _ (m : ℕ → ℕ → Option ℕ) (root : ℕ) (t s : Image) (h : IsImag
   same_table : (k f : ℕ) → get t.tables k ≡ Some f → get s.tables k ≡ Some f
   same_table k f at = table_in (suc top_level) k f (h.below k f at).1 at
 
-module _ (v w : View) (root : ℕ) (t : Image) (has : HasTables v root t) (last : AreLast v t) (below : LetsGoTo v w root 1 t 512) where
+module _ (v w : View) (root : ℕ) (t : Tables) (has : HasTables v root t) (last : AreLast v t) (below : LetsGoTo v w root 1 t 512) where
   root_once : references w root ≡ 1
-  root_once = (still_last v w root 1 t below.0 below.1 last).once 1 root below.1.tables.image.rooted
+  root_once = (still_last v w root 1 t below.0 below.1 last).once 1 root below.1.tables.known.rooted
 
   pub root_held : IsHeld w root
   root_held = omega (arith, root_once)
 
   pub root_anchored : IsAnchored (released root w)
-  root_anchored = released_anchored root w root_once (still_last v w root 1 t below.0 below.1 last).anchored (λ e. last.apart 1 (has.image.rooted ∙ ap Some e))
+  root_anchored = released_anchored root w root_once (still_last v w root 1 t below.0 below.1 last).anchored (λ e. last.apart 1 (has.known.rooted ∙ ap Some e))
 
   gone_by : (k f : ℕ) (o : Option ℕ) → get below.0.tables k ≡ o → get t.tables k ≡ Some f → hold_of (released root w) f ≡ not_held
   gone_by k f None is at = elim (cases_eq f root) [
@@ -331,17 +331,17 @@ module _ (v w : View) (root : ℕ) (t : Image) (has : HasTables v root t) (last 
     | inr ne ↦ released_elsewhere root w root_once f ne ∙ below.1.gone k f at is
   ]
   gone_by k f (Some x) is at =
-      let one = only_root _ root below.0 below.1.tables.image below.2 (suc top_level) k x (below.1.tables.image.below k x is).1 is in
-      let same : f ≡ root = same_Some f root (sym at ∙ ap (get t.tables) one ∙ has.image.rooted) in
+      let one = only_root _ root below.0 below.1.tables.known below.2 (suc top_level) k x (below.1.tables.known.below k x is).1 is in
+      let same : f ≡ root = same_Some f root (sym at ∙ ap (get t.tables) one ∙ has.known.rooted) in
       rw same (released_same root w root_once)
 
-  pub all_gone : (s : Image) → HasTables v root s → (k f : ℕ) → get s.tables k ≡ Some f → hold_of (released root w) f ≡ not_held
-  all_gone s h k f at = gone_by k f _ refl (same_table (known_word v) root s t h.image has.image k f at)
+  pub all_gone : (s : Tables) → HasTables v root s → (k f : ℕ) → get s.tables k ≡ Some f → hold_of (released root w) f ≡ not_held
+  all_gone s h k f at = gone_by k f _ refl (same_table (known_word v) root s t h.known has.known k f at)
 
-  pub others_same : (s : Image) → HasTables v root s → (f : ℕ) → ((k : ℕ) → get s.tables k ≡ Some f → ⊥) → hold_of (released root w) f ≡ hold_of v f
+  pub others_same : (s : Tables) → HasTables v root s → (f : ℕ) → ((k : ℕ) → get s.tables k ≡ Some f → ⊥) → hold_of (released root w) f ≡ hold_of v f
   others_same s h f not =
-      released_elsewhere root w root_once f (λ e. not 1 (h.image.rooted ∙ ap Some (sym e)))
-      ∙ below.1.apart f (λ k at. not k (same_table (known_word v) root t s has.image h.image k f at))
+      released_elsewhere root w root_once f (λ e. not 1 (h.known.rooted ∙ ap Some (sym e)))
+      ∙ below.1.apart f (λ k at. not k (same_table (known_word v) root t s has.known h.known k f at))
 
   pub all_tallies : SameTallies v (released root w)
   all_tallies = tallies_both v w (released root w) below.1.tallies (released_tallies root w root_once)

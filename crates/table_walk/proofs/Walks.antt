@@ -1,4 +1,4 @@
--- What the image of the tables that a seat has says of walks.
+-- What the tables that a seat has say of walks.
 use Rattle.std.proofs.Common.{◌≡◌, ◌↔◌, ℕ, zero, suc, ◌+◌, ◌-◌, ◌*◌, ◌/◌, ◌%◌, ◌^◌, ◌<◌, ◌≤◌, inl, inr, refl, ap, sym, subst, ◌∙◌, arith, true, false, Option, Some, None, IsSome, unwrap_or}
 use Rattle.std.specs.Prelude.{option_and_then}
 use Rattle.std.proofs.lemmas.Bool.{cases_eq, le-leb, lt-ltb}
@@ -11,10 +11,10 @@ use Rattle.sv39_entry.specs.Word.{kind_of, pointer_word, ppn}
 use Rattle.sv39_entry.specs.declared.entry.Kind.TheVariants.{Leaf, Pointer}
 use Rattle.sv39_entry.specs.declared.frame.FrameNo.{FrameNo}
 use Rattle.table_walk.specs.Held.{held_memory, IsReadable}
-use Rattle.table_walk.specs.Image.{HasTables, Image, leaf_node, node, pointer_or_zero, word_in}
+use Rattle.table_walk.specs.Tables.{HasTables, Tables, leaf_node, node, pointer_or_zero, word_in}
 use Rattle.table_walk.specs.Walk.{top_level, CanWalk, IsAt, IsGlobal, LeavesMemory, Maps, Reads}
 use Rattle.table_walk.proofs.Children.{pointer_kind, pointer_ppn}
-use Rattle.table_walk.proofs.Images.{kind-zero, word_high, word_leaf}
+use Rattle.table_walk.proofs.TableWords.{kind-zero, word_high, word_leaf}
 use Rattle.table_walk.specs.Nodes.{above, leaf_number, node_from, power_next, power_some, table_number, vpn_low}
 
 -- what a word of a table that is a pointer or a leaf comes from
@@ -44,18 +44,18 @@ some_is : {X : Type 0} (o : Option X) (x : X) → o ≡ Some x → IsSome o
 some_is None x e = cc
 some_is (Some y) x e = refl
 
-module _ (v : View) (root : ℕ) (t : Image) (h : HasTables v root t) where
+module _ (v : View) (root : ℕ) (t : Tables) (h : HasTables v root t) where
   small : (k f : ℕ) → get t.tables k ≡ Some f → f < 2 ^ 16
-  small k f at = (h.image.below k f at).2
+  small k f at = (h.known.below k f at).2
 
   -- the word of a table that is read through the memory
   word_there : (k f i : ℕ) → get t.tables k ≡ Some f → i < 512 → held_memory v (ppn_of f) i ≡ Some (word_in t (k * 512 + i))
-  word_there k f i at low = word_of v f i (small k f at) ∙ h.image.words k f i at low
+  word_there k f i at low = word_of v f i (small k f at) ∙ h.known.words k f i at low
 
-  -- the walk comes to tables of the image
+  -- the walk comes to these tables
   table_at : (page k table : ℕ) → k ≤ top_level → IsAt (held_memory v) (ppn_of root) page k table
       → (f : ℕ) × (get t.tables (node page k) ≡ Some f) × (table ≡ ppn_of f)
-  table_at page zero table low way = (root, h.image.rooted, way)
+  table_at page zero table low way = (root, h.known.rooted, way)
   table_at page (suc k) table low way =
       let up = table_at page k way.0 (omega arith) way.2 in
       let i = vpn page (top_level - k) in
@@ -73,8 +73,8 @@ module _ (v : View) (root : ℕ) (t : Image) (h : HasTables v root t) where
 
   -- and to each of them
   way_to : (page k f : ℕ) → k ≤ top_level → get t.tables (node page k) ≡ Some f → IsAt (held_memory v) (ppn_of root) page k (ppn_of f)
-  way_to page zero f low at = ap ppn_of (same_Some f root (sym at ∙ h.image.rooted))
-  way_to page (suc k) f low at = elim (h.image.hung (node page (suc k)) f at) [
+  way_to page zero f low at = ap ppn_of (same_Some f root (sym at ∙ h.known.rooted))
+  way_to page (suc k) f low at = elim (h.known.hung (node page (suc k)) f at) [
     | inl one ↦ absurd (not_root page k one)
     | inr up ↦
         let table : get t.tables (node page k) ≡ Some up.0 = subst (λ n. get t.tables n ≡ Some up.0) (above page k) up.1 in
@@ -84,7 +84,7 @@ module _ (v : View) (root : ℕ) (t : Image) (h : HasTables v root t) where
         (ppn_of up.0, pointer_word f, way_to page k up.0 (omega arith) table, word ∙ ap Some pointer, pointer_kind f low_frame, sym (pointer_ppn f low_frame))
   ]
 
-  -- each word that a walk comes to is one of the image
+  -- each word that a walk comes to is one of these tables
   at_depth : (page k table : ℕ) (word : Option ℕ) → k ≤ top_level → IsAt (held_memory v) (ppn_of root) page k table
       → held_memory v table (vpn page (top_level - k)) ≡ word → word ≡ Some (word_in t (node page (suc k)))
   at_depth page k table word low way is =
@@ -102,7 +102,7 @@ module _ (v : View) (root : ℕ) (t : Image) (h : HasTables v root t) where
   pub inside : (page : ℕ) → LeavesMemory (held_memory v) (ppn_of root) page → ⊥
   inside page out = let word = reads_word page out.0 None out.1 in cc
 
-  -- the walk finds the leaves of the image alone
+  -- the walk finds their leaves alone
   found : (page leaf level : ℕ) → Maps (held_memory v) (ppn_of root) page leaf level
       → (level ≡ 0) × (get t.leaves (leaf_node page) ≡ Some leaf)
   found page leaf level maps =
@@ -117,7 +117,7 @@ module _ (v : View) (root : ℕ) (t : Image) (h : HasTables v root t) where
   -- and all of them
   finds : (page leaf : ℕ) → get t.leaves (leaf_node page) ≡ Some leaf → Maps (held_memory v) (ppn_of root) page leaf 0
   finds page leaf is =
-      let hung = h.image.leaf_hung (leaf_node page) leaf is in
+      let hung = h.known.leaf_hung (leaf_node page) leaf is in
       let table : get t.tables (node page top_level) ≡ Some hung.2.0 = subst (λ n. get t.tables n ≡ Some hung.2.0) (above page top_level) hung.2.1 in
       let word = word_there (node page top_level) hung.2.0 (vpn page 0) table (vpn_low page 0) in
       record {
@@ -163,4 +163,4 @@ module _ (v : View) (root : ℕ) (t : Image) (h : HasTables v root t) where
       let at = table_at page k table low way in
       let named = sym is ∙ ap frame_at at.2 ∙ frame_at-ppn_of at.0 (small _ at.0 at.1) in
       let same : frame.0 ≡ at.0 = ap (λ (f : FrameNo). f.0) (same_Some frame _ named) in
-      rw same ((h.own _ at.0 at.1).0, λ index small. some_is _ _ (h.image.words _ at.0 index at.1 small))
+      rw same ((h.own _ at.0 at.1).0, λ index small. some_is _ _ (h.known.words _ at.0 index at.1 small))

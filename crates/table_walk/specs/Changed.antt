@@ -1,6 +1,6 @@
 -- What a change of tables does to walks, and what an enumeration finds.
 use Rattle.std.specs.Prelude.{◌≢◌, ◌↔◌, ℕ, suc, ◌-◌, ◌*◌, ◌^◌, ◌<◌, ◌≤◌, Option}
-use Rattle.table_walk.specs.Image.{Image, leaf_node}
+use Rattle.table_walk.specs.Tables.{Tables, leaf_node}
 use Rattle.table_walk.specs.Memory.{Memory}
 use Rattle.table_walk.specs.Places.{IsFirstLeaf}
 use Rattle.table_walk.specs.Walk.{Maps, top_level}
@@ -18,9 +18,9 @@ abbrev pub IsTableAt : ℕ → ℕ → Type 0
 IsTableAt k level = (512 ^ (top_level - level) ≤ k) × (k < 2 * 512 ^ (top_level - level))
 
 -- the first leaf from a place on below table k of a level
-abbrev pub IsNextLeafIn : Image → ℕ → ℕ → ℕ → Option (ℕ × ℕ) → Type 0
+abbrev pub IsNextLeafIn : Tables → ℕ → ℕ → ℕ → Option (ℕ × ℕ) → Type 0
 IsNextLeafIn t k level from found = IsFirstLeaf t k (places level) from found
 
 -- the first leaf from a page on, and its page; the root is table 1
-abbrev pub IsNextLeaf : Image → ℕ → Option (ℕ × ℕ) → Type 0
+abbrev pub IsNextLeaf : Tables → ℕ → Option (ℕ × ℕ) → Type 0
 IsNextLeaf t from found = IsNextLeafIn t 1 top_level from found

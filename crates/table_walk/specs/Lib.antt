@@ -1,7 +1,7 @@
 pub mod Changed
 pub mod Counted
 pub mod Held
-pub mod Image
+pub mod Tables
 pub mod Keys
 pub mod Memory
 pub mod Nodes

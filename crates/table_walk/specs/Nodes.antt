@@ -2,7 +2,7 @@
 use Rattle.std.proofs.Common.{◌≡◌, ℕ, zero, suc, ◌+◌, ◌-◌, ◌*◌, ◌/◌, ◌%◌, ◌^◌, ◌<◌, ◌≤◌, arith, inl, inr, rules}
 use Rattle.std.proofs.lemmas.Bool.{cases_eq, cases_lt}
 use Rattle.sv39_entry.specs.Address.{vpn}
-use Rattle.table_walk.specs.Image.{node, leaf_node, first_leaf}
+use Rattle.table_walk.specs.Tables.{node, leaf_node, first_leaf}
 use Rattle.table_walk.specs.Walk.{top_level}
 
 pub vpn_low : (page level : ℕ) → vpn page level < 512

@@ -1,8 +1,8 @@
--- What it does to images and views to let tables go.
+-- What it does to tables and views to let tables go.
 use Rattle.std.specs.Prelude.{◌≡◌, ℕ, ◌≤◌, None, Some}
 use Rattle.std.specs.FinMap.{get, remove}
 use Rattle.frame_store.specs.View.{View, hold_of, IsHeld, not_held, references}
-use Rattle.table_walk.specs.Image.{HasTables, Image}
+use Rattle.table_walk.specs.Tables.{HasTables, Tables}
 
 -- the credits and tallies of a seat are as they were
 pub record SameTallies (v w : View) : Type 0 where
@@ -10,17 +10,17 @@ pub record SameTallies (v w : View) : Type 0 where
   pub tallies : w.tallies ≡ v.tallies
 
 -- tables that may be let go: no leaf stands in them, each is held once, and frame 0 is held and is none of them
-pub record AreLast (v : View) (t : Image) : Type 0 where
+pub record AreLast (v : View) (t : Tables) : Type 0 where
   pub bare : (n : ℕ) → get t.leaves n ≡ None
   pub once : (k f : ℕ) → get t.tables k ≡ Some f → references v f ≡ 1
   pub anchored : IsHeld v 0
   pub apart : (k : ℕ) → get t.tables k ≡ Some 0 → ⊥
 
-abbrev pub without_table : Image → ℕ → Image
+abbrev pub without_table : Tables → ℕ → Tables
 without_table t k = record t { tables = remove t.tables k }
 
 -- some of the tables with numbers above k were let go, and are not held
-pub record LetsGo (v w : View) (root k : ℕ) (t u : Image) : Type 0 where
+pub record LetsGo (v w : View) (root k : ℕ) (t u : Tables) : Type 0 where
   pub tables : HasTables w root u
   pub leaves : u.leaves ≡ t.leaves
   pub fewer : (j f : ℕ) → get u.tables j ≡ Some f → get t.tables j ≡ Some f

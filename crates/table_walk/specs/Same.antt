@@ -2,21 +2,21 @@
 use Rattle.std.proofs.Common.{◌≡◌, ℕ, ◌<◌, Some, sym, ap, ◌∙◌, subst}
 use Rattle.std.specs.FinMap.{get}
 use Rattle.frame_store.specs.View.{Hold, View, hold_of, IsHeld}
-use Rattle.table_walk.specs.Image.{HasTables, Image}
+use Rattle.table_walk.specs.Tables.{HasTables, Tables}
 
 pub same_held : (v w : View) (f : ℕ) → hold_of w f ≡ hold_of v f → IsHeld v f → IsHeld w f
 same_held v w f same held = subst (λ (h : Hold). 0 < h.references) (sym same) held
 
 -- tables of which no frame changed
-pub same_tables : (v w : View) (root : ℕ) (t : Image) → ((k f : ℕ) → get t.tables k ≡ Some f → hold_of w f ≡ hold_of v f) → HasTables v root t → HasTables w root t
+pub same_tables : (v w : View) (root : ℕ) (t : Tables) → ((k f : ℕ) → get t.tables k ≡ Some f → hold_of w f ≡ hold_of v f) → HasTables v root t → HasTables w root t
 same_tables v w root t same has = record {
-  image = record {
-    rooted = has.image.rooted;
-    words = λ k f i at low. ap (λ (h : Hold). get h.words i) (same k f at) ∙ has.image.words k f i at low;
-    apart = has.image.apart;
-    below = has.image.below;
-    hung = has.image.hung;
-    leaf_hung = has.image.leaf_hung;
+  known = record {
+    rooted = has.known.rooted;
+    words = λ k f i at low. ap (λ (h : Hold). get h.words i) (same k f at) ∙ has.known.words k f i at low;
+    apart = has.known.apart;
+    below = has.known.below;
+    hung = has.known.hung;
+    leaf_hung = has.known.leaf_hung;
   };
   own = λ k f at.
       let own = has.own k f at in

@@ -10,7 +10,7 @@ ghost use Rattle.sv39_entry.specs.Word.{kind_of};
 ghost use Rattle.sv39_entry.specs.declared.entry.Kind.TheVariants.{Leaf};
 ghost use Rattle.table_walk.specs.Changed.{OthersStay};
 ghost use Rattle.table_walk.specs.Held.{held_memory};
-ghost use Rattle.table_walk.specs.Image.{ChangesTables, HasTables, Image, IsGrown, last_table, leaf_node, missing, with_leaf, without_leaf};
+ghost use Rattle.table_walk.specs.Tables.{ChangesTables, HasTables, Tables, IsGrown, last_table, leaf_node, missing, with_leaf, without_leaf};
 ghost use Rattle.table_walk.specs.Walk.{Maps, top_level};
 
 use crate::growth::grown_table;
@@ -23,8 +23,8 @@ pub fn map<F: FrameSupply>(store: &mut F, seat: &mut F::Seat, root: FrameNo, pag
     requires fits { Fits F.rule store.old seat.old }
     requires anchored { IsHeld (F.Seat.view seat.old) 0 }
     requires leaf { kind_of leaf ≡ Leaf }
-    requires tables { (t : Image) × HasTables (F.Seat.view seat.old) root.0 t × (missing t page ≤ (F.Seat.view seat.old).credits) }
-    ensures image { (t : Image) → HasTables (F.Seat.view seat.old) root.0 t → (u : Image) × IsGrown t u page top_level × HasTables (F.Seat.view seat.new) root.0 (with_leaf u (leaf_node page) leaf) × ChangesTables (F.Seat.view seat.old) (F.Seat.view seat.new) t u (missing t page) }
+    requires tables { (t : Tables) × HasTables (F.Seat.view seat.old) root.0 t × (missing t page ≤ (F.Seat.view seat.old).credits) }
+    ensures tables { (t : Tables) → HasTables (F.Seat.view seat.old) root.0 t → (u : Tables) × IsGrown t u page top_level × HasTables (F.Seat.view seat.new) root.0 (with_leaf u (leaf_node page) leaf) × ChangesTables (F.Seat.view seat.old) (F.Seat.view seat.new) t u (missing t page) }
     ensures here { Maps (held_memory (F.Seat.view seat.new)) (ppn_of root.0) page leaf 0 }
     ensures others { OthersStay (held_memory (F.Seat.view seat.old)) (held_memory (F.Seat.view seat.new)) (ppn_of root.0) page }
     ensures anchored { IsHeld (F.Seat.view seat.new) 0 }
@@ -45,9 +45,9 @@ pub fn protect<F: FrameAccess>(
 )
     requires fits { Fits F.rule store.old seat.old }
     requires leaf { kind_of leaf ≡ Leaf }
-    requires mapped { (t : Image) × HasTables (F.Seat.view seat.old) root.0 t × IsSome (get t.leaves (leaf_node page)) }
-    ensures word { (t : Image) (f : ℕ) → HasTables (F.Seat.view seat.old) root.0 t → get t.tables (last_table page) ≡ Some f → F.Seat.view seat.new ≡ with_word f (vpn page 0) leaf (F.Seat.view seat.old) }
-    ensures image { (t : Image) → HasTables (F.Seat.view seat.old) root.0 t → HasTables (F.Seat.view seat.new) root.0 (with_leaf t (leaf_node page) leaf) × ChangesTables (F.Seat.view seat.old) (F.Seat.view seat.new) t t 0 }
+    requires mapped { (t : Tables) × HasTables (F.Seat.view seat.old) root.0 t × IsSome (get t.leaves (leaf_node page)) }
+    ensures word { (t : Tables) (f : ℕ) → HasTables (F.Seat.view seat.old) root.0 t → get t.tables (last_table page) ≡ Some f → F.Seat.view seat.new ≡ with_word f (vpn page 0) leaf (F.Seat.view seat.old) }
+    ensures tables { (t : Tables) → HasTables (F.Seat.view seat.old) root.0 t → HasTables (F.Seat.view seat.new) root.0 (with_leaf t (leaf_node page) leaf) × ChangesTables (F.Seat.view seat.old) (F.Seat.view seat.new) t t 0 }
     ensures here { Maps (held_memory (F.Seat.view seat.new)) (ppn_of root.0) page leaf 0 }
     ensures others { OthersStay (held_memory (F.Seat.view seat.old)) (held_memory (F.Seat.view seat.new)) (ppn_of root.0) page }
     ensures keeps { Keeps F.rule store.old seat.old store.new seat.new }
@@ -67,8 +67,8 @@ pub fn leaf_of<F: FrameAccess>(
     page: Vpn,
 ) -> Option<Entry>
     requires fits { Fits F.rule store.old seat.old }
-    requires held { (t : Image) × HasTables (F.Seat.view seat.old) root.0 t }
-    ensures leaf { (t : Image) → HasTables (F.Seat.view seat.old) root.0 t → result ≡ get t.leaves (leaf_node page) }
+    requires held { (t : Tables) × HasTables (F.Seat.view seat.old) root.0 t }
+    ensures leaf { (t : Tables) → HasTables (F.Seat.view seat.old) root.0 t → result ≡ get t.leaves (leaf_node page) }
     ensures view { F.Seat.view seat.new ≡ F.Seat.view seat.old }
     ensures same { store.new ≡ store.old }
     ensures keeps { Keeps F.rule store.old seat.old store.new seat.new }
@@ -85,11 +85,11 @@ pub fn unmap<F: FrameAccess>(
     page: Vpn,
 ) -> Option<Entry>
     requires fits { Fits F.rule store.old seat.old }
-    requires held { (t : Image) × HasTables (F.Seat.view seat.old) root.0 t }
-    ensures leaf { (t : Image) → HasTables (F.Seat.view seat.old) root.0 t → result ≡ get t.leaves (leaf_node page) }
-    ensures word { (t : Image) (f : ℕ) → HasTables (F.Seat.view seat.old) root.0 t → get t.tables (last_table page) ≡ Some f → IsSome result → F.Seat.view seat.new ≡ with_word f (vpn page 0) 0 (F.Seat.view seat.old) }
+    requires held { (t : Tables) × HasTables (F.Seat.view seat.old) root.0 t }
+    ensures leaf { (t : Tables) → HasTables (F.Seat.view seat.old) root.0 t → result ≡ get t.leaves (leaf_node page) }
+    ensures word { (t : Tables) (f : ℕ) → HasTables (F.Seat.view seat.old) root.0 t → get t.tables (last_table page) ≡ Some f → IsSome result → F.Seat.view seat.new ≡ with_word f (vpn page 0) 0 (F.Seat.view seat.old) }
     ensures none { result ≡ None → F.Seat.view seat.new ≡ F.Seat.view seat.old }
-    ensures image { (t : Image) → HasTables (F.Seat.view seat.old) root.0 t → HasTables (F.Seat.view seat.new) root.0 (without_leaf t (leaf_node page)) × ChangesTables (F.Seat.view seat.old) (F.Seat.view seat.new) t t 0 }
+    ensures tables { (t : Tables) → HasTables (F.Seat.view seat.old) root.0 t → HasTables (F.Seat.view seat.new) root.0 (without_leaf t (leaf_node page)) × ChangesTables (F.Seat.view seat.old) (F.Seat.view seat.new) t t 0 }
     ensures here { (leaf level : ℕ) → Maps (held_memory (F.Seat.view seat.new)) (ppn_of root.0) page leaf level → ⊥ }
     ensures others { OthersStay (held_memory (F.Seat.view seat.old)) (held_memory (F.Seat.view seat.new)) (ppn_of root.0) page }
     ensures keeps { Keeps F.rule store.old seat.old store.new seat.new }
@@ -109,9 +109,9 @@ fn leaf_in_table<F: FrameAccess>(
     page: Vpn,
 ) -> Option<(FrameNo, Entry)>
     requires fits { Fits F.rule store.old seat.old }
-    requires held { (t : Image) × HasTables (F.Seat.view seat.old) root.0 t }
-    ensures leaf { (t : Image) → HasTables (F.Seat.view seat.old) root.0 t → option_map (λ p. p.1) result ≡ get t.leaves (leaf_node page) }
-    ensures table { (t : Image) → HasTables (F.Seat.view seat.old) root.0 t → IfSome result (λ p. get t.tables (last_table page) ≡ Some p.0.0) }
+    requires held { (t : Tables) × HasTables (F.Seat.view seat.old) root.0 t }
+    ensures leaf { (t : Tables) → HasTables (F.Seat.view seat.old) root.0 t → option_map (λ p. p.1) result ≡ get t.leaves (leaf_node page) }
+    ensures table { (t : Tables) → HasTables (F.Seat.view seat.old) root.0 t → IfSome result (λ p. get t.tables (last_table page) ≡ Some p.0.0) }
     ensures view { F.Seat.view seat.new ≡ F.Seat.view seat.old }
     ensures same { store.new ≡ store.old }
     ensures keeps { Keeps F.rule store.old seat.old store.new seat.new }

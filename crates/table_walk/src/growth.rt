@@ -5,7 +5,7 @@ ghost use Rattle.std.specs.Prelude.{◌≡◌, ◌<◌, ◌≤◌, ℕ, Some};
 ghost use Rattle.frame_store.specs.Laws.{Fits, Keeps};
 ghost use Rattle.frame_store.specs.View.{claimed, hold_of, IsHeld, IsSole, references, sole_hold, with_hold, with_word};
 ghost use Rattle.sv39_entry.specs.Word.{pointer_word};
-ghost use Rattle.table_walk.specs.Image.{bare_root, blank_hold, ChangesTables, HasTables, Image, IsGrown, last_table, missing};
+ghost use Rattle.table_walk.specs.Tables.{bare_root, blank_hold, ChangesTables, HasTables, Tables, IsGrown, last_table, missing};
 ghost use Rattle.table_walk.specs.Walk.{top_level};
 
 use crate::find::TOP_LEVEL;
@@ -22,8 +22,8 @@ pub(crate) fn grown_table<F: FrameSupply>(
 ) -> FrameNo
     requires fits { Fits F.rule store.old seat.old }
     requires anchored { IsHeld (F.Seat.view seat.old) 0 }
-    requires tables { (t : Image) × HasTables (F.Seat.view seat.old) root.0 t × (missing t page ≤ (F.Seat.view seat.old).credits) }
-    ensures image { (t : Image) → HasTables (F.Seat.view seat.old) root.0 t → (u : Image) × IsGrown t u page top_level × HasTables (F.Seat.view seat.new) root.0 u × ChangesTables (F.Seat.view seat.old) (F.Seat.view seat.new) t u (missing t page) × (get u.tables (last_table page) ≡ Some result.0) }
+    requires tables { (t : Tables) × HasTables (F.Seat.view seat.old) root.0 t × (missing t page ≤ (F.Seat.view seat.old).credits) }
+    ensures tables { (t : Tables) → HasTables (F.Seat.view seat.old) root.0 t → (u : Tables) × IsGrown t u page top_level × HasTables (F.Seat.view seat.new) root.0 u × ChangesTables (F.Seat.view seat.old) (F.Seat.view seat.new) t u (missing t page) × (get u.tables (last_table page) ≡ Some result.0) }
     ensures keeps { Keeps F.rule store.old seat.old store.new seat.new }
     ensures free { F.alone → F.free store.new ≡ F.free store.old }
 {

@@ -4,7 +4,7 @@ ghost use Rattle.std.specs.FinMap.{get};
 ghost use Rattle.std.specs.Prelude.{◌≡◌, ◌+◌, ◌*◌, ◌^◌, ◌<◌, ◌≤◌, ℕ, Some};
 ghost use Rattle.frame_store.specs.Laws.{Fits, Keeps};
 ghost use Rattle.table_walk.specs.Changed.{IsNextLeaf, IsNextLeafIn, IsTableAt};
-ghost use Rattle.table_walk.specs.Image.{HasTables, Image};
+ghost use Rattle.table_walk.specs.Tables.{HasTables, Tables};
 ghost use Rattle.table_walk.specs.Places.{IsFirstLeaf};
 ghost use Rattle.table_walk.specs.Walk.{top_level};
 
@@ -23,8 +23,8 @@ pub fn next_leaf<F: FrameAccess>(
     from: Vpn,
 ) -> Option<(Vpn, Entry)>
     requires fits { Fits F.rule store.old seat.old }
-    requires held { (t : Image) × HasTables (F.Seat.view seat.old) root.0 t }
-    ensures leaf { (t : Image) → HasTables (F.Seat.view seat.old) root.0 t → IsNextLeaf t from result }
+    requires held { (t : Tables) × HasTables (F.Seat.view seat.old) root.0 t }
+    ensures leaf { (t : Tables) → HasTables (F.Seat.view seat.old) root.0 t → IsNextLeaf t from result }
     ensures view { F.Seat.view seat.new ≡ F.Seat.view seat.old }
     ensures same { store.new ≡ store.old }
     ensures keeps { Keeps F.rule store.old seat.old store.new seat.new }
@@ -45,8 +45,8 @@ fn next_below<F: FrameAccess>(
 ) -> Option<(u64, u64)>
     requires fits { Fits F.rule store.old seat.old }
     requires low { level ≤ top_level }
-    requires held { (root k : ℕ) × (t : Image) × HasTables (F.Seat.view seat.old) root t × (get t.tables k ≡ Some table.0) × IsTableAt k level }
-    ensures leaf { (root k : ℕ) (t : Image) → HasTables (F.Seat.view seat.old) root t → get t.tables k ≡ Some table.0 → IsTableAt k level → IsNextLeafIn t k level from result }
+    requires held { (root k : ℕ) × (t : Tables) × HasTables (F.Seat.view seat.old) root t × (get t.tables k ≡ Some table.0) × IsTableAt k level }
+    ensures leaf { (root k : ℕ) (t : Tables) → HasTables (F.Seat.view seat.old) root t → get t.tables k ≡ Some table.0 → IsTableAt k level → IsNextLeafIn t k level from result }
     ensures view { F.Seat.view seat.new ≡ F.Seat.view seat.old }
     ensures same { store.new ≡ store.old }
     ensures keeps { Keeps F.rule store.old seat.old store.new seat.new }
@@ -76,8 +76,8 @@ fn next_at<F: FrameAccess>(
     requires low { level ≤ top_level }
     requires in_table { index < 512 }
     requires within { from < 512 ^ level }
-    requires held { (root k : ℕ) × (t : Image) × HasTables (F.Seat.view seat.old) root t × (get t.tables k ≡ Some table.0) × IsTableAt k level }
-    ensures leaf { (root k : ℕ) (t : Image) → HasTables (F.Seat.view seat.old) root t → get t.tables k ≡ Some table.0 → IsTableAt k level → IsFirstLeaf t (k * 512 + index) (512 ^ level) from result }
+    requires held { (root k : ℕ) × (t : Tables) × HasTables (F.Seat.view seat.old) root t × (get t.tables k ≡ Some table.0) × IsTableAt k level }
+    ensures leaf { (root k : ℕ) (t : Tables) → HasTables (F.Seat.view seat.old) root t → get t.tables k ≡ Some table.0 → IsTableAt k level → IsFirstLeaf t (k * 512 + index) (512 ^ level) from result }
     ensures view { F.Seat.view seat.new ≡ F.Seat.view seat.old }
     ensures same { store.new ≡ store.old }
     ensures keeps { Keeps F.rule store.old seat.old store.new seat.new }

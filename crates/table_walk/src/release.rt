@@ -5,7 +5,7 @@ ghost use Rattle.std.specs.Prelude.{◌≡◌, ◌+◌, ◌*◌, ◌<◌, ◌≤
 ghost use Rattle.frame_store.specs.Laws.{Fits, Keeps};
 ghost use Rattle.frame_store.specs.View.{hold_of, not_held};
 ghost use Rattle.table_walk.specs.Changed.{IsTableAt};
-ghost use Rattle.table_walk.specs.Image.{HasTables, Image};
+ghost use Rattle.table_walk.specs.Tables.{HasTables, Tables};
 ghost use Rattle.table_walk.specs.Released.{AreLast, LetsGo, SameTallies};
 ghost use Rattle.table_walk.specs.Walk.{top_level};
 
@@ -17,9 +17,9 @@ use sv39_entry::FrameNo;
 /// Lets the tables below a root go, the root last. There must be no leaf any more, and each table be held once.
 pub fn release_tables<F: FrameAccess>(store: &mut F, seat: &mut F::Seat, root: FrameNo)
     requires fits { Fits F.rule store.old seat.old }
-    requires bare { (t : Image) × HasTables (F.Seat.view seat.old) root.0 t × AreLast (F.Seat.view seat.old) t }
-    ensures gone { (t : Image) → HasTables (F.Seat.view seat.old) root.0 t → (k f : ℕ) → get t.tables k ≡ Some f → hold_of (F.Seat.view seat.new) f ≡ not_held }
-    ensures others { (t : Image) → HasTables (F.Seat.view seat.old) root.0 t → (f : ℕ) → ((k : ℕ) → get t.tables k ≡ Some f → ⊥) → hold_of (F.Seat.view seat.new) f ≡ hold_of (F.Seat.view seat.old) f }
+    requires bare { (t : Tables) × HasTables (F.Seat.view seat.old) root.0 t × AreLast (F.Seat.view seat.old) t }
+    ensures gone { (t : Tables) → HasTables (F.Seat.view seat.old) root.0 t → (k f : ℕ) → get t.tables k ≡ Some f → hold_of (F.Seat.view seat.new) f ≡ not_held }
+    ensures others { (t : Tables) → HasTables (F.Seat.view seat.old) root.0 t → (f : ℕ) → ((k : ℕ) → get t.tables k ≡ Some f → ⊥) → hold_of (F.Seat.view seat.new) f ≡ hold_of (F.Seat.view seat.old) f }
     ensures tallies { SameTallies (F.Seat.view seat.old) (F.Seat.view seat.new) }
     ensures keeps { Keeps F.rule store.old seat.old store.new seat.new }
     ensures free { F.alone → F.free store.old ≤ F.free store.new }
@@ -33,8 +33,8 @@ pub fn release_tables<F: FrameAccess>(store: &mut F, seat: &mut F::Seat, root: F
 fn release_below<F: FrameAccess>(store: &mut F, seat: &mut F::Seat, table: FrameNo, level: u32)
     requires fits { Fits F.rule store.old seat.old }
     requires low { level ≤ top_level }
-    requires bare { (root k : ℕ) × (t : Image) × HasTables (F.Seat.view seat.old) root t × AreLast (F.Seat.view seat.old) t × (get t.tables k ≡ Some table.0) × IsTableAt k level }
-    ensures below { (root k : ℕ) (t : Image) → HasTables (F.Seat.view seat.old) root t → AreLast (F.Seat.view seat.old) t → get t.tables k ≡ Some table.0 → IsTableAt k level → (u : Image) × LetsGo (F.Seat.view seat.old) (F.Seat.view seat.new) root k t u × ((i : ℕ) → i < 512 → get u.tables (k * 512 + i) ≡ None) }
+    requires bare { (root k : ℕ) × (t : Tables) × HasTables (F.Seat.view seat.old) root t × AreLast (F.Seat.view seat.old) t × (get t.tables k ≡ Some table.0) × IsTableAt k level }
+    ensures below { (root k : ℕ) (t : Tables) → HasTables (F.Seat.view seat.old) root t → AreLast (F.Seat.view seat.old) t → get t.tables k ≡ Some table.0 → IsTableAt k level → (u : Tables) × LetsGo (F.Seat.view seat.old) (F.Seat.view seat.new) root k t u × ((i : ℕ) → i < 512 → get u.tables (k * 512 + i) ≡ None) }
     ensures keeps { Keeps F.rule store.old seat.old store.new seat.new }
     ensures free { F.alone → F.free store.old ≤ F.free store.new }
 {
@@ -59,8 +59,8 @@ fn release_at<F: FrameAccess>(
     requires low { level ≤ top_level }
     requires above { 0 < level }
     requires in_table { index < 512 }
-    requires bare { (root k : ℕ) × (t : Image) × HasTables (F.Seat.view seat.old) root t × AreLast (F.Seat.view seat.old) t × (get t.tables k ≡ Some table.0) × IsTableAt k level }
-    ensures here { (root k : ℕ) (t : Image) → HasTables (F.Seat.view seat.old) root t → AreLast (F.Seat.view seat.old) t → get t.tables k ≡ Some table.0 → IsTableAt k level → (u : Image) × LetsGo (F.Seat.view seat.old) (F.Seat.view seat.new) root k t u × (get u.tables (k * 512 + index) ≡ None) }
+    requires bare { (root k : ℕ) × (t : Tables) × HasTables (F.Seat.view seat.old) root t × AreLast (F.Seat.view seat.old) t × (get t.tables k ≡ Some table.0) × IsTableAt k level }
+    ensures here { (root k : ℕ) (t : Tables) → HasTables (F.Seat.view seat.old) root t → AreLast (F.Seat.view seat.old) t → get t.tables k ≡ Some table.0 → IsTableAt k level → (u : Tables) × LetsGo (F.Seat.view seat.old) (F.Seat.view seat.new) root k t u × (get u.tables (k * 512 + index) ≡ None) }
     ensures keeps { Keeps F.rule store.old seat.old store.new seat.new }
     ensures free { F.alone → F.free store.old ≤ F.free store.new }
 {

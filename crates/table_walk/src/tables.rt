@@ -3,7 +3,7 @@
 ghost use Rattle.std.specs.FinMap.{get};
 ghost use Rattle.std.specs.Prelude.{◌≡◌, ◌+◌, ◌-◌, ◌*◌, ◌<◌, ◌≤◌, ℕ, suc, option_map, None, Some};
 ghost use Rattle.frame_store.specs.Laws.{Fits, Keeps};
-ghost use Rattle.table_walk.specs.Image.{first_leaf, HasTables, Image, last_table, missing, node};
+ghost use Rattle.table_walk.specs.Tables.{first_leaf, HasTables, Tables, last_table, missing, node};
 ghost use Rattle.table_walk.specs.Walk.{top_level};
 
 use crate::find::TOP_LEVEL;
@@ -18,9 +18,9 @@ pub(crate) fn child<F: FrameAccess>(
     index: usize,
 ) -> Option<FrameNo>
     requires fits { Fits F.rule store.old seat.old }
-    requires held { (root k : ℕ) × (t : Image) × HasTables (F.Seat.view seat.old) root t × (get t.tables k ≡ Some table.0) × (k * 512 + index < first_leaf) }
+    requires held { (root k : ℕ) × (t : Tables) × HasTables (F.Seat.view seat.old) root t × (get t.tables k ≡ Some table.0) × (k * 512 + index < first_leaf) }
     requires in_table { index < 512 }
-    ensures child { (root k : ℕ) (t : Image) → HasTables (F.Seat.view seat.old) root t → get t.tables k ≡ Some table.0 → k * 512 + index < first_leaf → option_map (λ f. f.0) result ≡ get t.tables (k * 512 + index) }
+    ensures child { (root k : ℕ) (t : Tables) → HasTables (F.Seat.view seat.old) root t → get t.tables k ≡ Some table.0 → k * 512 + index < first_leaf → option_map (λ f. f.0) result ≡ get t.tables (k * 512 + index) }
     ensures view { F.Seat.view seat.new ≡ F.Seat.view seat.old }
     ensures same { store.new ≡ store.old }
     ensures keeps { Keeps F.rule store.old seat.old store.new seat.new }
@@ -40,9 +40,9 @@ fn deepest_table<F: FrameAccess>(
     page: Vpn,
 ) -> (FrameNo, u32)
     requires fits { Fits F.rule store.old seat.old }
-    requires held { (t : Image) × HasTables (F.Seat.view seat.old) root.0 t }
-    ensures there { (t : Image) → HasTables (F.Seat.view seat.old) root.0 t → get t.tables (node page (top_level - result.1)) ≡ Some result.0.0 }
-    ensures last { (t : Image) → HasTables (F.Seat.view seat.old) root.0 t → 0 < result.1 → get t.tables (node page (suc (top_level - result.1))) ≡ None }
+    requires held { (t : Tables) × HasTables (F.Seat.view seat.old) root.0 t }
+    ensures there { (t : Tables) → HasTables (F.Seat.view seat.old) root.0 t → get t.tables (node page (top_level - result.1)) ≡ Some result.0.0 }
+    ensures last { (t : Tables) → HasTables (F.Seat.view seat.old) root.0 t → 0 < result.1 → get t.tables (node page (suc (top_level - result.1))) ≡ None }
     ensures low { result.1 ≤ top_level }
     ensures view { F.Seat.view seat.new ≡ F.Seat.view seat.old }
     ensures same { store.new ≡ store.old }
@@ -66,8 +66,8 @@ pub(crate) fn table_of<F: FrameAccess>(
     page: Vpn,
 ) -> Option<FrameNo>
     requires fits { Fits F.rule store.old seat.old }
-    requires held { (t : Image) × HasTables (F.Seat.view seat.old) root.0 t }
-    ensures table { (t : Image) → HasTables (F.Seat.view seat.old) root.0 t → option_map (λ f. f.0) result ≡ get t.tables (last_table page) }
+    requires held { (t : Tables) × HasTables (F.Seat.view seat.old) root.0 t }
+    ensures table { (t : Tables) → HasTables (F.Seat.view seat.old) root.0 t → option_map (λ f. f.0) result ≡ get t.tables (last_table page) }
     ensures view { F.Seat.view seat.new ≡ F.Seat.view seat.old }
     ensures same { store.new ≡ store.old }
     ensures keeps { Keeps F.rule store.old seat.old store.new seat.new }
@@ -84,8 +84,8 @@ pub fn missing_tables<F: FrameAccess>(
     page: Vpn,
 ) -> usize
     requires fits { Fits F.rule store.old seat.old }
-    requires held { (t : Image) × HasTables (F.Seat.view seat.old) root.0 t }
-    ensures missing { (t : Image) → HasTables (F.Seat.view seat.old) root.0 t → result ≡ missing t page }
+    requires held { (t : Tables) × HasTables (F.Seat.view seat.old) root.0 t }
+    ensures missing { (t : Tables) → HasTables (F.Seat.view seat.old) root.0 t → result ≡ missing t page }
     ensures few { result ≤ top_level }
     ensures view { F.Seat.view seat.new ≡ F.Seat.view seat.old }
     ensures same { store.new ≡ store.old }

@@ -14,7 +14,7 @@ use Rattle.process_model.specs.Regions.{Region, end_of, holds_page, region_at}
 use Rattle.process_model.specs.Residence.{with_page}
 use Rattle.sv39_entry.specs.Address.{trapframe_page}
 use Rattle.sv39_entry.specs.declared.frame.FrameNo.{FrameNo}
-use Rattle.table_walk.specs.Image.{Image}
+use Rattle.table_walk.specs.Tables.{Tables}
 use Rattle.address_space.specs.Agreement.{Agrees}
 use Rattle.address_space.specs.Layouts.{Layout, last_page}
 use Rattle.process_model.specs.Inserted.{behind, first_or, in_front, inserted_here, inserted_other}
@@ -44,7 +44,7 @@ module _ (p : Process) (m : ℕ) (s : Page) (unmarked : s.fork_mark ≡ false) w
     low = far.low;
   }
 
-pub can_write : (v : View) (root trapframe : ℕ) (l : Layout) (t : Image) (p : Process) (n : ℕ) → Agrees v root trapframe l t p → (w : IsWritable p n)
+pub can_write : (v : View) (root trapframe : ℕ) (l : Layout) (t : Tables) (p : Process) (n : ℕ) → Agrees v root trapframe l t p → (w : IsWritable p n)
     → CanWrite v root trapframe l t p n w.page
 can_write v root trapframe l t p n agrees w = record {
   read = record { agrees = agrees; settled = w.settled };
@@ -54,11 +54,11 @@ can_write v root trapframe l t p n agrees w = record {
   writes = w.writes;
 }
 
-pub can_read : (v : View) (root trapframe : ℕ) (l : Layout) (t : Image) (p : Process) (n : ℕ) → Agrees v root trapframe l t p → IsWritable p n
-    → (u : Image) × (q : Process) × (s : Page) × CanRead v root trapframe l u q n s
+pub can_read : (v : View) (root trapframe : ℕ) (l : Layout) (t : Tables) (p : Process) (n : ℕ) → Agrees v root trapframe l t p → IsWritable p n
+    → (u : Tables) × (q : Process) × (s : Page) × CanRead v root trapframe l u q n s
 can_read v root trapframe l t p n agrees w = (t, p, w.page, record { agrees = agrees; settled = w.settled })
 
-pub can_settle : (v : View) (root trapframe : ℕ) (l : Layout) (n : ℕ) → (lives : Lives v root trapframe l n false) → CanSettle v root trapframe l lives.image lives.process n
+pub can_settle : (v : View) (root trapframe : ℕ) (l : Layout) (n : ℕ) → (lives : Lives v root trapframe l n false) → CanSettle v root trapframe l lives.tables lives.process n
 can_settle v root trapframe l n lives = record {
   agrees = lives.agrees;
   region = lives.far.region;
@@ -79,13 +79,13 @@ lives_still v w root root_after trapframe trapframe_after l m n settled view roo
 module _ (v w : View) (root trapframe : ℕ) (l : Layout) (root_after trapframe_after : ℕ) (m : Layout) (n : ℕ) where
   -- a page that may be written was written
   pub lives_kept : (k : ℕ) (settled : Bool) → (lives : Lives v root trapframe l n settled) → IsWritable lives.process k
-      → ((t : Image) (p : Process) → Agrees v root trapframe l t p → IsWritable p k
+      → ((t : Tables) (p : Process) → Agrees v root trapframe l t p → IsWritable p k
       → (s : Page) × (s.fork_mark ≡ false) × Agrees w root_after trapframe_after m t (with_page p k s))
       → Lives w root_after trapframe_after m n settled
   lives_kept k settled lives writable kept =
-      let after = kept lives.image lives.process lives.agrees writable in
+      let after = kept lives.tables lives.process lives.agrees writable in
       record {
-        image = lives.image;
+        tables = lives.tables;
         process = with_page lives.process k after.0;
         agrees = after.2;
         near = still_writable lives.process k after.0 after.1 1 lives.near;
@@ -94,14 +94,14 @@ module _ (v w : View) (root trapframe : ℕ) (l : Layout) (root_after trapframe_
 
   -- a far page was asked for
   pub lives_asked : (bytes : List ℕ) (r : Result (Unit {0}) NoFrame) → Lives v root trapframe l n false
-      → IfOk r (λ _. (t : Image) (p : Process) → CanSettle v root trapframe l t p n
-      → (u : Image) × (f : ℕ) × Settles v w root_after trapframe_after m t u p n bytes f)
-      → IfErr r (λ _. (t : Image) (p : Process) → Agrees v root trapframe l t p → Agrees w root_after trapframe_after m t p)
+      → IfOk r (λ _. (t : Tables) (p : Process) → CanSettle v root trapframe l t p n
+      → (u : Tables) × (f : ℕ) × Settles v w root_after trapframe_after m t u p n bytes f)
+      → IfErr r (λ _. (t : Tables) (p : Process) → Agrees v root trapframe l t p → Agrees w root_after trapframe_after m t p)
       → Lives w root_after trapframe_after m n (is_ok r)
   lives_asked bytes (Err e) lives ok err = record {
-    image = lives.image;
+    tables = lives.tables;
     process = lives.process;
-    agrees = err lives.image lives.process lives.agrees;
+    agrees = err lives.tables lives.process lives.agrees;
     near = lives.near;
     far = lives.far;
   }
@@ -109,10 +109,10 @@ module _ (v w : View) (root trapframe : ℕ) (l : Layout) (root_after trapframe_
       let p = lives.process in
       let near = lives.near in
       let far = lives.far in
-      let settles = ok lives.image p (can_settle v root trapframe l n lives) in
+      let settles = ok lives.tables p (can_settle v root trapframe l n lives) in
       let apart : 1 ≡ n → ⊥ = λ same. let both = sym far.unsettled ∙ ap (pages.get p.settled) (sym same) ∙ near.settled in cc in
       record {
-        image = settles.0;
+        tables = settles.0;
         process = settled_with 0 bytes p n;
         agrees = settles.2.agrees 0;
         near = record {
@@ -242,5 +242,5 @@ module _ (ps : List Part) (is : regions_in ps ≡ standard_regions) (numbers : n
     low = low;
   }
 
-  pub lives_begun : (v : View) (root trapframe : ℕ) (l : Layout) (t : Image) → Agrees v root trapframe l t sized → Lives v root trapframe l n false
-  lives_begun v root trapframe l t agrees = record { image = t; process = sized; agrees = agrees; near = near_begun; far = far_vacant }
+  pub lives_begun : (v : View) (root trapframe : ℕ) (l : Layout) (t : Tables) → Agrees v root trapframe l t sized → Lives v root trapframe l n false
+  lives_begun v root trapframe l t agrees = record { tables = t; process = sized; agrees = agrees; near = near_begun; far = far_vacant }

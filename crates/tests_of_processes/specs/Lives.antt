@@ -6,7 +6,7 @@ use Rattle.process_model.specs.PageMap as pages
 use Rattle.process_model.specs.Process.{Page, Process, regions}
 use Rattle.process_model.specs.Regions.{Region, makes_leaf, region_at, segment, image}
 use Rattle.sv39_entry.specs.Address.{trapframe_page}
-use Rattle.table_walk.specs.Image.{Image}
+use Rattle.table_walk.specs.Tables.{Tables}
 use Rattle.address_space.specs.Agreement.{Agrees}
 use Rattle.address_space.specs.Layouts.{Layout}
 
@@ -43,8 +43,8 @@ IsFar p n true = IsWritable p n
 
 -- the first page of the data may be written, and a far page as soon as it is settled
 pub record Lives (v : View) (root trapframe : ℕ) (l : Layout) (page : ℕ) (settled : Bool) : Type 0 where
-  pub image : Image
+  pub tables : Tables
   pub process : Process
-  pub agrees : Agrees v root trapframe l image process
+  pub agrees : Agrees v root trapframe l tables process
   pub near : IsWritable process 1
   pub far : IsFar process page settled

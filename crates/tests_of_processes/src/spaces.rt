@@ -10,7 +10,7 @@ ghost use Rattle.frame_store.specs.Laws.{Fits, Keeps};
 ghost use Rattle.process_model.specs.Process.{Page, Process};
 ghost use Rattle.process_model.specs.Residence.{with_page};
 ghost use Rattle.sv39_entry.specs.Address.{page_of, trapframe_page};
-ghost use Rattle.table_walk.specs.Image.{Image};
+ghost use Rattle.table_walk.specs.Tables.{Tables};
 
 use address_space::{Part, Region, RegionKind, Source, Space};
 use bitflags::Flags;
@@ -106,9 +106,9 @@ fn kept<S: FrameSeat, F: FrameAccess<Seat = S>>(
     value: u64,
 ) -> u64
     requires fits { Fits F.rule store.old space.old.seat }
-    requires ready { (t : Image) × (p : Process) × Agrees (S.view space.old.seat) space.old.root.0 space.old.trapframe.0 space.old.layout t p × IsWritable p (page_of va.0) }
+    requires ready { (t : Tables) × (p : Process) × Agrees (S.view space.old.seat) space.old.root.0 space.old.trapframe.0 space.old.layout t p × IsWritable p (page_of va.0) }
     requires aligned { va.0 % 8 ≡ 0 }
-    ensures agrees { (t : Image) (p : Process) → Agrees (S.view space.old.seat) space.old.root.0 space.old.trapframe.0 space.old.layout t p → IsWritable p (page_of va.0) →
+    ensures agrees { (t : Tables) (p : Process) → Agrees (S.view space.old.seat) space.old.root.0 space.old.trapframe.0 space.old.layout t p → IsWritable p (page_of va.0) →
         (s : Page) × (s.fork_mark ≡ false) × Agrees (S.view space.new.seat) space.new.root.0 space.new.trapframe.0 space.new.layout t (with_page p (page_of va.0) s) }
     ensures keeps { Keeps F.rule store.old space.old.seat store.new space.new.seat }
 {
@@ -139,7 +139,7 @@ fn try_far<S: FrameSeat, F: FrameSupply<Seat = S>>(
     requires fits { Fits F.rule store.old space.old.seat }
     requires low { page < trapframe_page }
     requires lives { Lives (S.view space.old.seat) space.old.root.0 space.old.trapframe.0 space.old.layout page false }
-    ensures agrees { (t : Image) × (p : Process) × Agrees (S.view space.new.seat) space.new.root.0 space.new.trapframe.0 space.new.layout t p }
+    ensures agrees { (t : Tables) × (p : Process) × Agrees (S.view space.new.seat) space.new.root.0 space.new.trapframe.0 space.new.layout t p }
     ensures keeps { Keeps F.rule store.old space.old.seat store.new space.new.seat }
 {
     let (near, far) = (Va(PAGE_SIZE), Va(page * PAGE_SIZE));

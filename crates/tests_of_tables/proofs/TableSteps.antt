@@ -9,7 +9,7 @@ use Rattle.std.proofs.lemmas.Option.{same_Some}
 use Rattle.frame_store.specs.Holds.{opening_holds, hold_of-frames, hold_of-with_hold_other, hold_of-with_hold_same, hold_of-without_hold_other}
 use Rattle.frame_store.specs.View.{Hold, View, opening_view, with_credits, claimed, hold_of, IsHeld, IsSole, references, released, sole_hold, with_hold, with_word, without_hold}
 use Rattle.table_walk.specs.Changed.{IsNextLeaf, places}
-use Rattle.table_walk.specs.Image.{HasTables, Image, IsGrown, ChangesTables, bare_root, blank_hold, leaf_node, missing, node, with_leaf, without_leaf}
+use Rattle.table_walk.specs.Tables.{HasTables, Tables, IsGrown, ChangesTables, bare_root, blank_hold, leaf_node, missing, node, with_leaf, without_leaf}
 use Rattle.table_walk.specs.Keys.{insert_other, insert_same, remove_other, remove_same}
 use Rattle.table_walk.specs.Same.{same_held}
 use Rattle.table_walk.specs.Released.{AreLast}
@@ -55,18 +55,18 @@ one_or_none : (b : Bool) → (if b then 0 else 1) ≤ 1
 one_or_none true = omega arith
 one_or_none false = omega arith
 
-pub missing_low : (t : Image) (page : ℕ) → missing t page ≤ 2
+pub missing_low : (t : Tables) (page : ℕ) → missing t page ≤ 2
 missing_low t page =
     let one = one_or_none (is_some (get t.tables (node page 1))) in
     let two = one_or_none (is_some (get t.tables (node page 2))) in
     omega (arith, one, two)
 
 -- as many credits as the pages that are left may need
-pub enough_left : (v w : View) (t u : Image) (page i : ℕ) → ChangesTables v w t u (missing t page) → 2 * (5 - i) ≤ v.credits → 2 * (5 - (i + 1)) ≤ w.credits
+pub enough_left : (v w : View) (t u : Tables) (page i : ℕ) → ChangesTables v w t u (missing t page) → 2 * (5 - i) ≤ v.credits → 2 * (5 - (i + 1)) ≤ w.credits
 enough_left v w t u page i changes enough = let low = missing_low t page in let left = changes.credits in omega (arith, low, left, enough)
 
 -- and the page that comes next can be mapped
-pub enough_now : (v : View) (t : Image) (page i : ℕ) → i < 5 → 2 * (5 - i) ≤ v.credits → missing t page ≤ v.credits
+pub enough_now : (v : View) (t : Tables) (page i : ℕ) → i < 5 → 2 * (5 - i) ≤ v.credits → missing t page ≤ v.credits
 enough_now v t page i more enough = let low = missing_low t page in omega (arith, low, more, enough)
 
 -- what is ensured of a success
@@ -74,11 +74,11 @@ pub of_ok : {A E : Type 0} {P : Type 0} (r : Result A E) → is_ok r ≡ true �
 of_ok (Ok x) is ok = ok
 of_ok (Err x) is ok = absurd (cc)
 
-pub same_view : (v w : View) (root : ℕ) (t : Image) → w ≡ v → HasTables v root t → HasTables w root t
+pub same_view : (v w : View) (root : ℕ) (t : Tables) → w ≡ v → HasTables v root t → HasTables w root t
 same_view v w root t same has = subst (λ u. HasTables u root t) (sym same) has
 
 -- a page that was found has a leaf
-pub found_leaf : (t : Image) (from : ℕ) (o : Option (ℕ × ℕ)) (p : ℕ × ℕ) → o ≡ Some p → IsNextLeaf t from o → IsSome (get t.leaves (leaf_node p.0))
+pub found_leaf : (t : Tables) (from : ℕ) (o : Option (ℕ × ℕ)) (p : ℕ × ℕ) → o ≡ Some p → IsNextLeaf t from o → IsSome (get t.leaves (leaf_node p.0))
 found_leaf t from o p is found =
     let leaf = subst (IsNextLeaf t from) is found in
     let number = leaf_node_is p.0 in
@@ -92,7 +92,7 @@ reserved_held v w n opened reserved = same_held v w 0 (ap (λ u. hold_of u 0) re
 
 -- ---- a page is mapped below a new root, and unmapped
 
-module _ (v w x y : View) (root page leaf n : ℕ) (u : Image) (held : IsHeld v 0) (fresh : references v root ≡ 0) (made : w ≡ with_hold root blank_hold (claimed root v))
+module _ (v w x y : View) (root page leaf n : ℕ) (u : Tables) (held : IsHeld v 0) (fresh : references v root ≡ 0) (made : w ≡ with_hold root blank_hold (claimed root v))
     (still_held : IsHeld w 0) (grown : IsGrown (bare_root root) u page top_level) (mapped : ChangesTables w x (bare_root root) u n) (anchored : IsHeld x 0)
     (unmapped : ChangesTables x y (with_leaf u (leaf_node page) leaf) (with_leaf u (leaf_node page) leaf) 0) where
   -- beside its root a bare tree has no table

@@ -4,7 +4,7 @@ ghost use Rattle.std.specs.Prelude.{◌≡◌, ◌+◌, ◌≤◌, ◌<◌, [], 
 ghost use Rattle.frame_store.specs.Laws.{Fits, Keeps};
 ghost use Rattle.frame_store.specs.Plain.{BankRule};
 ghost use Rattle.frame_store.specs.View.{hold_of, IsHeld};
-ghost use Rattle.table_walk.specs.Image.{HasTables, Image};
+ghost use Rattle.table_walk.specs.Tables.{HasTables, Tables};
 
 use frame_store::{FrameAccess, FrameSeat, FrameSupply, PlainFrames, PlainSeat};
 use std::alloc::{AllocError, Global};
@@ -134,7 +134,7 @@ fn leave_words<F: FrameSupply>(store: &mut F, seat: &mut F::Seat)
 /// Tables of `MAPPINGS` at a new store: its seat, the root, and how many tables were missing at each of them.
 fn mapped(alloc: Global) -> Result<(PlainFrames, PlainSeat, FrameNo, [usize; 5]), AllocError>
     ensures rule { IfOk result (λ r. BankRule r.0 (r.1 ∷ [])) }
-    ensures tables { IfOk result (λ r. (t : Image) × HasTables r.1 r.2.0 t) }
+    ensures tables { IfOk result (λ r. (t : Tables) × HasTables r.1 r.2.0 t) }
 {
     let (mut frames, mut seat) = PlainFrames::new(alloc, 16)?;
     let reserved = frames.reserve(&mut seat, 12);

@@ -1,6 +1,6 @@
 use Rattle.std.proofs.Common.{◌≡◌, [], refl, ◌∙◌, arith}
 use Rattle.sv39_entry.specs.Address.{trampoline_page, trapframe_page}
-use Rattle.table_walk.specs.Image.{bare_root, ChangesTables, HasTables, Image, IsGrown, leaf_node, missing, with_leaf}
+use Rattle.table_walk.specs.Tables.{bare_root, ChangesTables, HasTables, Tables, IsGrown, leaf_node, missing, with_leaf}
 use Rattle.table_walk.specs.Walk.{top_level}
 use Rattle.address_space.proofs.AddingFrames.{Comes, claimed_comes, come_held, come_tables, filled_comes}
 use Rattle.address_space.proofs.BuildTables.{HasTrampoline, first_enough, has_trampoline, open_spends, opens, root_owns, root_spends, second_enough, trapframe_shares, two_missing}
@@ -11,16 +11,16 @@ use Rattle.address_space.proofs.build.open_tables.Goals.{After-map, After-fill_f
 -- ---- TRAMPOLINE
 
 mapped : (g : given.Over) (c : After-map g)
-    → (u : Image) × IsGrown (bare_root c.new_table-root.result.0) u trampoline_page top_level
+    → (u : Tables) × IsGrown (bare_root c.new_table-root.result.0) u trampoline_page top_level
     × HasTables (g.F.Seat.FrameSeat.view c.map.new.seat) c.new_table-root.result.0 (with_leaf u (leaf_node trampoline_page) c.leaf-trampoline.result)
     × ChangesTables (g.F.Seat.FrameSeat.view c.new_table-root.new.seat) (g.F.Seat.FrameSeat.view c.map.new.seat) (bare_root c.new_table-root.result.0) u
     (missing (bare_root c.new_table-root.result.0) trampoline_page)
-mapped g c = rw c.page.ensures.number at (c.map.ensures.image (bare_root c.new_table-root.result.0) c.new_table-root.ensures.root)
+mapped g c = rw c.page.ensures.number at (c.map.ensures.tables (bare_root c.new_table-root.result.0) c.new_table-root.ensures.root)
 
 tables_missing : (g : given.Over) (c : After-map g) → missing (bare_root c.new_table-root.result.0) trampoline_page ≡ 2
 tables_missing g c = two_missing c.new_table-root.result.0 (c.missing_is_growth.ensures.missing_first (bare_root c.new_table-root.result.0) c.new_table-root.result.0 refl)
 
-abbrev with_trampoline : (g : given.Over) (c : After-map g) → Image
+abbrev with_trampoline : (g : given.Over) (c : After-map g) → Tables
 with_trampoline g c = with_leaf (mapped g c).0 (leaf_node trampoline_page) c.leaf-trampoline.result
 
 on_trampoline : (g : given.Over) (c : After-map g) → HasTrampoline (g.F.Seat.FrameSeat.view c.map.new.seat) c.new_table-root.result.0 (with_trampoline g c)
@@ -72,7 +72,7 @@ returns-clause-opened g c =
     let before = with_trampoline g first in
     let has = on_trampoline g first in
     let come = comes g (goal.at.returns-clause-opened g c).After-fill_frame in
-    let m = rw c.page-2.ensures.number at (c.map-2.ensures.image before (come_tables _ _ _ come root before has.tables)) in
+    let m = rw c.page-2.ensures.number at (c.map-2.ensures.tables before (come_tables _ _ _ come root before has.tables)) in
     let none = c.missing_is_growth.ensures.none before [] trapframe_page has.tabled trapframe_shares in
     let spent = root_spends _ _ root c.requires.ready c.new_table-root.ensures.fresh c.new_table-root.ensures.view in (
       with_leaf m.0 (leaf_node trapframe_page) c.leaf-trapframe.result,

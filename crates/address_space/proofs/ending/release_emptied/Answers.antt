@@ -14,37 +14,37 @@ pub release_tables-requires-clause-bare : goal.release_tables-requires-clause-ba
 release_tables-requires-clause-bare g c =
     let e = c.requires.emptied in
     let drops = rw c.page.ensures.number at c.drop_leaf.ensures.dropped e.0 e.1.trapframe in
-    let image = rw c.page-2.ensures.number at c.unmap.ensures.image _ drops.tables in
-    (_, image.0, are_last _ _ _ c.args.root.0 e.0 e.1 drops image.1)
+    let unmapped = rw c.page-2.ensures.number at c.unmap.ensures.tables _ drops.tables in
+    (_, unmapped.0, are_last _ _ _ c.args.root.0 e.0 e.1 drops unmapped.1)
 
 pub release-requires-clause-held : goal.release-requires-clause-held
 release-requires-clause-held g c =
     let e = c.requires.emptied in
     let drops = rw c.page.ensures.number at c.drop_leaf.ensures.dropped e.0 e.1.trapframe in
-    let image = rw c.page-2.ensures.number at c.unmap.ensures.image _ drops.tables in
+    let unmapped = rw c.page-2.ensures.number at c.unmap.ensures.tables _ drops.tables in
     let tables = c.release_tables.ensures in
-    zero_held _ _ _ c.args.root.0 e.0 e.1 drops image.1 _ (tables.gone _ image.0) (tables.others _ image.0) tables.tallies
+    zero_held _ _ _ c.args.root.0 e.0 e.1 drops unmapped.1 _ (tables.gone _ unmapped.0) (tables.others _ unmapped.0) tables.tallies
 
 pub release-requires-clause-anchored : goal.release-requires-clause-anchored
 release-requires-clause-anchored g c =
     let e = c.requires.emptied in
     let drops = rw c.page.ensures.number at c.drop_leaf.ensures.dropped e.0 e.1.trapframe in
-    let image = rw c.page-2.ensures.number at c.unmap.ensures.image _ drops.tables in
+    let unmapped = rw c.page-2.ensures.number at c.unmap.ensures.tables _ drops.tables in
     let tables = c.release_tables.ensures in
-    anchored_last _ _ _ c.args.root.0 e.0 e.1 drops image.1 _ (tables.gone _ image.0) (tables.others _ image.0) tables.tallies
+    anchored_last _ _ _ c.args.root.0 e.0 e.1 drops unmapped.1 _ (tables.gone _ unmapped.0) (tables.others _ unmapped.0) tables.tallies
 
 pub returns-clause-bare : goal.returns-clause-bare
 returns-clause-bare g c =
     let e = c.requires.emptied in
     let drops = rw c.page.ensures.number at c.drop_leaf.ensures.dropped e.0 e.1.trapframe in
-    let image = rw c.page-2.ensures.number at c.unmap.ensures.image _ drops.tables in
+    let unmapped = rw c.page-2.ensures.number at c.unmap.ensures.tables _ drops.tables in
     let tables = c.release_tables.ensures in
-    is_bare _ _ _ c.args.root.0 e.0 e.1 drops image.1 _ (tables.gone _ image.0) (tables.others _ image.0) tables.tallies _ c.release.ensures.view
+    is_bare _ _ _ c.args.root.0 e.0 e.1 drops unmapped.1 _ (tables.gone _ unmapped.0) (tables.others _ unmapped.0) tables.tallies _ c.release.ensures.view
 
 pub returns-clause-tallies : goal.returns-clause-tallies
 returns-clause-tallies g c =
     let e = c.requires.emptied in
     let drops = rw c.page.ensures.number at c.drop_leaf.ensures.dropped e.0 e.1.trapframe in
-    let image = rw c.page-2.ensures.number at c.unmap.ensures.image _ drops.tables in
+    let unmapped = rw c.page-2.ensures.number at c.unmap.ensures.tables _ drops.tables in
     let tables = c.release_tables.ensures in
-    takes_last _ _ _ c.args.root.0 e.0 e.1 drops image.1 _ (tables.gone _ image.0) (tables.others _ image.0) tables.tallies _ c.release.ensures.view
+    takes_last _ _ _ c.args.root.0 e.0 e.1 drops unmapped.1 _ (tables.gone _ unmapped.0) (tables.others _ unmapped.0) tables.tallies _ c.release.ensures.view

@@ -40,10 +40,10 @@ loop-number-preserved g c =
     record {
       mapped = λ stacks t maps.
           let i = c.loop-number.invariant.mapped stacks t maps in
-          (_, frame_maps _ _ _ _ stacks i.0 i.1 (few g at) (page g at) _ _ c.leaf_of.ensures.word (c.map.ensures.image i.0 i.1.tables));
+          (_, frame_maps _ _ _ _ stacks i.0 i.1 (few g at) (page g at) _ _ c.leaf_of.ensures.word (c.map.ensures.tables i.0 i.1.tables));
       spends =
           let i = c.loop-number.invariant.mapped c.requires.ready.0 c.requires.ready.1 c.requires.ready.2 in
-          frame_spends _ _ _ _ _ i.0 i.1 (few g at) (page g at) _ _ c.leaf_of.ensures.word (c.map.ensures.image i.0 i.1.tables) _ c.loop-number.invariant.spends;
+          frame_spends _ _ _ _ _ i.0 i.1 (few g at) (page g at) _ _ c.leaf_of.ensures.word (c.map.ensures.tables i.0 i.1.tables) _ c.loop-number.invariant.spends;
       keeps = λ others r. c.map.ensures.keeps others (c.loop-number.invariant.keeps others r);
       free = λ a. c.map.ensures.free a ∙ c.loop-number.invariant.free a;
     }

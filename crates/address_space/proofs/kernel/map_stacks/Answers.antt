@@ -59,7 +59,7 @@ loop-slot-preserved g c =
             i.0 ++ c.claim-frame.result.0 ∷ [],
             _,
             stack_maps _ _ _ _ _ i.0 i.1 i.2 (few g at _ i.3) claims.view claims.fresh (page g at _ i.3) _ _ (omega arith) c.leaf_of.ensures.word
-                (c.map.ensures.image i.1 has),
+                (c.map.ensures.tables i.1 has),
             length_push i.0 c.claim-frame.result.0 ∙ ap (λ n. n + 1) i.3,
           );
       spends =
@@ -67,7 +67,7 @@ loop-slot-preserved g c =
           let has = stack_tables _ _ _ _ _ i.0 i.1 i.2 (few g at _ i.3) claims.view claims.fresh (page g at _ i.3) in
           spends_on _ _ _ _ _ c.loop-slot.invariant.spends
           (stack_spends _ _ _ _ _ i.0 i.1 i.2 (few g at _ i.3) claims.view claims.fresh (page g at _ i.3) _ _ (omega arith) c.leaf_of.ensures.word
-          (c.map.ensures.image i.1 has));
+          (c.map.ensures.tables i.1 has));
       keeps = λ others r. c.map.ensures.keeps others (claims.keeps others (c.loop-slot.invariant.keeps others r));
       free = λ a. c.map.ensures.free a ∙ claims.free a ∙ c.loop-slot.invariant.free a;
     }

@@ -45,7 +45,7 @@ release-requires-clause-held g c =
     let r = c.requires.ready in
     let stands = part_copied r.4 _ c.claim-own.ensures.fresh _ c.claim-own.ensures.view _ c.copy_frame.ensures.others c.copy_frame.ensures.bytes in
     let one = part_held r.4 _ c.claim-own.ensures.fresh _ c.claim-own.ensures.view _ c.copy_frame.ensures.others c.copy_frame.ensures.bytes
-    _ _ (rw r.4.kept at c.leaf.ensures.leaf) (c.protect.ensures.image r.1 stands.tables).0 (λ x at. c.protect.ensures.word r.1 x stands.tables at) in
+    _ _ (rw r.4.kept at c.leaf.ensures.leaf) (c.protect.ensures.tables r.1 stands.tables).0 (λ x at. c.protect.ensures.word r.1 x stands.tables at) in
     omega (arith, one)
 
 pub release-requires-clause-anchored : goal.release-requires-clause-anchored
@@ -53,7 +53,7 @@ release-requires-clause-anchored g c =
     let r = c.requires.ready in
     let stands = part_copied r.4 _ c.claim-own.ensures.fresh _ c.claim-own.ensures.view _ c.copy_frame.ensures.others c.copy_frame.ensures.bytes in
     part_anchored r.4 _ c.claim-own.ensures.fresh _ c.claim-own.ensures.view _ c.copy_frame.ensures.others c.copy_frame.ensures.bytes
-    _ _ (rw r.4.kept at c.leaf.ensures.leaf) (c.protect.ensures.image r.1 stands.tables).0 (λ x at. c.protect.ensures.word r.1 x stands.tables at)
+    _ _ (rw r.4.kept at c.leaf.ensures.leaf) (c.protect.ensures.tables r.1 stands.tables).0 (λ x at. c.protect.ensures.word r.1 x stands.tables at)
 
 pub returns-clause-separated : goal.returns-clause-separated
 returns-clause-separated g c trapframe t p s can =
@@ -61,7 +61,7 @@ returns-clause-separated g c trapframe t p s can =
       _,
       _,
       part_done can _ c.claim-own.ensures.fresh _ c.claim-own.ensures.view _ c.copy_frame.ensures.others c.copy_frame.ensures.bytes
-          _ _ (rw can.kept at c.leaf.ensures.leaf) (c.protect.ensures.image t stands.tables).0 (λ x at. c.protect.ensures.word t x stands.tables at)
+          _ _ (rw can.kept at c.leaf.ensures.leaf) (c.protect.ensures.tables t stands.tables).0 (λ x at. c.protect.ensures.word t x stands.tables at)
           _ c.release.ensures.view,
     )
 

@@ -1,7 +1,7 @@
 use Rattle.std.proofs.Common.{None, arith}
 use Rattle.frame_store.specs.Laws.{fits_after}
 use Rattle.process_model.specs.PageMap as pages
-use Rattle.table_walk.specs.Image.{leaf_node, with_leaf}
+use Rattle.table_walk.specs.Tables.{leaf_node, with_leaf}
 use Rattle.address_space.proofs.AddingFrames.{Comes, claimed_comes, come_held, come_tables, filled_comes}
 use Rattle.address_space.proofs.AddingPages.{adds}
 use Rattle.address_space.proofs.BuildSoles.{soles_stay}
@@ -40,7 +40,7 @@ map-requires-clause-tables g c =
 pub returns-clause-added : goal.returns-clause-added
 returns-clause-added g c trapframe t p can =
     let come = comes g (goal.at.returns-clause-added g c).After-fill_frame in
-    let x = c.map.ensures.image t (come_tables _ _ _ come c.args.root.0 t can.stands.tables) in (
+    let x = c.map.ensures.tables t (come_tables _ _ _ come c.args.root.0 t can.stands.tables) in (
       with_leaf x.0 (leaf_node c.args.page) c.leaf.result,
       c.claim-frame.result.0,
       adds _ _ trapframe t p c.args.page _ can _ _ x.0 c.leaf.result _ c.args.bytes.now come c.fill_frame.ensures.bytes (rw c.is_dirty_from_start.ensures at c.leaf.ensures.leaf) x.1 x.2 x.3
@@ -54,5 +54,5 @@ pub returns-clause-soles : goal.returns-clause-soles
 returns-clause-soles g c =
     let come = comes g (goal.at.returns-clause-soles g c).After-fill_frame in
     let ready = c.requires.ready in
-    let x = c.map.ensures.image ready.1 (come_tables _ _ _ come c.args.root.0 ready.1 ready.3.stands.tables) in
+    let x = c.map.ensures.tables ready.1 (come_tables _ _ _ come c.args.root.0 ready.1 ready.3.stands.tables) in
     soles_stay _ _ _ _ c.args.root.0 _ _ _ ready.1 x.0 come x.2 x.3

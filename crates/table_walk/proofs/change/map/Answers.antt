@@ -2,7 +2,7 @@ use Rattle.std.proofs.Common.{◌≡◌, ap, refl, sym, subst, ◌∙◌, rules}
 use Rattle.std.specs.FinMap.{get}
 use Rattle.frame_store.specs.View.{with_word}
 use Rattle.sv39_entry.specs.Address.{vpn}
-use Rattle.table_walk.specs.Image.{ChangesTables, HasTables, Image, IsGrown, last_table, leaf_node, missing, with_leaf}
+use Rattle.table_walk.specs.Tables.{ChangesTables, HasTables, Tables, IsGrown, last_table, leaf_node, missing, with_leaf}
 use Rattle.table_walk.specs.Walk.{top_level}
 use Rattle.table_walk.proofs.Grown.{still_anchored}
 use Rattle.table_walk.specs.Keys.{insert_same, insert_other}
@@ -15,12 +15,12 @@ stored : (g : given.Over) (c : After-store g) → g.F.Seat.FrameSeat.view c.stor
     ≡ with_word c.grown_table-table.result.0 (vpn c.args.page 0) c.args.leaf (g.F.Seat.FrameSeat.view c.grown_table-table.new.seat)
 stored g c = search rules
 
-changed : (g : given.Over) (c : After-store g) (t : Image) → HasTables (g.F.Seat.FrameSeat.view c.args.seat.now) c.args.root.0 t
-    → (u : Image) × IsGrown t u c.args.page top_level
+changed : (g : given.Over) (c : After-store g) (t : Tables) → HasTables (g.F.Seat.FrameSeat.view c.args.seat.now) c.args.root.0 t
+    → (u : Tables) × IsGrown t u c.args.page top_level
     × HasTables (g.F.Seat.FrameSeat.view c.store.new.seat) c.args.root.0 (with_leaf u (leaf_node c.args.page) c.args.leaf)
     × ChangesTables (g.F.Seat.FrameSeat.view c.args.seat.now) (g.F.Seat.FrameSeat.view c.store.new.seat) t u (missing t c.args.page)
 changed g c t h =
-    let x = c.grown_table-table.ensures.image t h in
+    let x = c.grown_table-table.ensures.tables t h in
     let u = x.0 in
     let changes = word_changes _ _ t u _ x.3 (last_table c.args.page) _ (vpn c.args.page 0) c.args.leaf x.4 in (
       u,
@@ -29,8 +29,8 @@ changed g c t h =
       subst (λ w. ChangesTables (g.F.Seat.FrameSeat.view c.args.seat.now) w t u (missing t c.args.page)) (sym (stored g c)) changes,
     )
 
-pub returns-clause-image : goal.returns-clause-image
-returns-clause-image g c = changed g c
+pub returns-clause-tables : goal.returns-clause-tables
+returns-clause-tables g c = changed g c
 
 pub returns-clause-here : goal.returns-clause-here
 returns-clause-here g c =

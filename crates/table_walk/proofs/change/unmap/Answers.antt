@@ -2,7 +2,7 @@ use Rattle.std.proofs.Common.{◌≡◌, refl, sym, subst, None}
 use Rattle.std.specs.FinMap.{get}
 use Rattle.frame_store.specs.View.{with_word}
 use Rattle.sv39_entry.specs.Address.{vpn}
-use Rattle.table_walk.specs.Image.{ChangesTables, HasTables, Image, last_table, leaf_node, without_leaf}
+use Rattle.table_walk.specs.Tables.{ChangesTables, HasTables, Tables, last_table, leaf_node, without_leaf}
 use Rattle.table_walk.specs.Keys.{remove_same, remove_other}
 use Rattle.table_walk.proofs.Grown.{no_change}
 use Rattle.table_walk.proofs.LeafChanges.{drop_none, drop_page, maps_nothing, others_stay, word_changes}
@@ -12,12 +12,12 @@ use Rattle.table_walk.proofs.change.unmap.Goals.{After-from_residual, After-stor
 
 -- there is no leaf
 
-no_leaf : (g : given.Over) (c : After-from_residual g) (t : Image) → HasTables (g.F.Seat.FrameSeat.view c.args.seat.now) c.args.root.0 t
+no_leaf : (g : given.Over) (c : After-from_residual g) (t : Tables) → HasTables (g.F.Seat.FrameSeat.view c.args.seat.now) c.args.root.0 t
     → get t.leaves (leaf_node c.args.page) ≡ None
 no_leaf g c t h = sym (c.in_err-table.ensures.leaf t h)
 
-pub returns-in_err-table-clause-image : goal.returns-in_err-table-clause-image
-returns-in_err-table-clause-image g c t h = rw c.leaf_in_table.ensures.view (drop_none _ _ t h c.args.page (no_leaf g c t h), no_change _ t)
+pub returns-in_err-table-clause-tables : goal.returns-in_err-table-clause-tables
+returns-in_err-table-clause-tables g c t h = rw c.leaf_in_table.ensures.view (drop_none _ _ t h c.args.page (no_leaf g c t h), no_change _ t)
 
 pub returns-in_err-table-clause-here : goal.returns-in_err-table-clause-here
 returns-in_err-table-clause-here g c =
@@ -30,12 +30,12 @@ stored : (g : given.Over) (c : After-store g)
     → g.F.Seat.FrameSeat.view c.store.new.seat ≡ with_word c.in_ok-table.table.0 (vpn c.args.page 0) 0 (g.F.Seat.FrameSeat.view c.args.seat.now)
 stored g c = rw (c.store.ensures.view, c.index.ensures.value, c.leaf_in_table.ensures.view) refl
 
-changed : (g : given.Over) (c : After-store g) (t : Image) → HasTables (g.F.Seat.FrameSeat.view c.args.seat.now) c.args.root.0 t
+changed : (g : given.Over) (c : After-store g) (t : Tables) → HasTables (g.F.Seat.FrameSeat.view c.args.seat.now) c.args.root.0 t
     → HasTables (g.F.Seat.FrameSeat.view c.store.new.seat) c.args.root.0 (without_leaf t (leaf_node c.args.page))
 changed g c t h = drop_page _ c.args.root.0 t h c.args.page _ (c.in_ok-table.ensures.table t h) _ (stored g c)
 
-pub returns-clause-image : goal.returns-clause-image
-returns-clause-image g c t h =
+pub returns-clause-tables : goal.returns-clause-tables
+returns-clause-tables g c t h =
     let changes = word_changes _ _ t t 0 (no_change _ t) (last_table c.args.page) _ (vpn c.args.page 0) 0 (c.in_ok-table.ensures.table t h) in
     (changed g c t h, subst (λ w. ChangesTables (g.F.Seat.FrameSeat.view c.args.seat.now) w t t 0) (sym (stored g c)) changes)
 

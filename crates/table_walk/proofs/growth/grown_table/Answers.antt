@@ -4,7 +4,7 @@ use Rattle.std.specs.Prelude.{option_map}
 use Rattle.frame_store.specs.Laws.{fits_after}
 use Rattle.sv39_entry.specs.Address.{vpn}
 use Rattle.sv39_entry.specs.declared.frame.FrameNo.{FrameNo}
-use Rattle.table_walk.specs.Image.{HasTables, Image, node}
+use Rattle.table_walk.specs.Tables.{HasTables, Tables, node}
 use Rattle.table_walk.specs.Walk.{top_level}
 use Rattle.table_walk.proofs.Children.{next_is_table}
 use Rattle.table_walk.proofs.Grown.{HasGrown, found_next, grown_none, made_next, next_credit, still_held, table_own}
@@ -13,13 +13,13 @@ use Rattle.table_walk.proofs.growth.grown_table.Goals as goal
 use Rattle.table_walk.proofs.growth.grown_table.Goals.{After-child, in-None, in-Some}
 
 -- the tables so far
-so_far : (g : given.Over) (c : After-child g) (t : Image) → HasTables (g.F.Seat.FrameSeat.view c.args.seat.now) c.args.root.0 t
+so_far : (g : given.Over) (c : After-child g) (t : Tables) → HasTables (g.F.Seat.FrameSeat.view c.args.seat.now) c.args.root.0 t
     → HasGrown (g.F.Seat.FrameSeat.view c.args.seat.now) (g.F.Seat.FrameSeat.view c.levels.seat) c.args.root.0 t c.args.page
     (top_level - c.levels.level) c.levels.table.0
 so_far g c t h = c.levels.invariant.grown t h
 
 -- what the entry of the next level's table says
-found : (g : given.Over) (c : After-child g) (t : Image) (h : HasTables (g.F.Seat.FrameSeat.view c.args.seat.now) c.args.root.0 t)
+found : (g : given.Over) (c : After-child g) (t : Tables) (h : HasTables (g.F.Seat.FrameSeat.view c.args.seat.now) c.args.root.0 t)
     → option_map (λ f. f.0) c.child.result
     ≡ get (so_far g c t h).0.tables (node c.args.page (top_level - c.levels.level) * 512 + vpn c.args.page c.levels.level)
 unfolding so_far
@@ -110,8 +110,8 @@ levels-preserved g c =
           }
     ]
 
-pub returns-clause-image : goal.returns-clause-image
-returns-clause-image g c t h =
+pub returns-clause-tables : goal.returns-clause-tables
+returns-clause-tables g c t h =
     let low : c.levels.level ≡ 0 = omega (arith, c.levels-test.false) in
     let p = rw low at (c.levels.invariant.grown t h) in
     (p.0, p.1.grown, p.1.tables, p.1.changes, p.2)

@@ -1,7 +1,7 @@
 use Rattle.std.proofs.Common.{◌∙◌, ap, arith}
 use Rattle.frame_store.specs.Holds.{hold_of-with_hold_same}
 use Rattle.frame_store.specs.View.{hold_of, with_hold}
-use Rattle.table_walk.specs.Image.{blank_hold}
+use Rattle.table_walk.specs.Tables.{blank_hold}
 use Rattle.table_walk.proofs.Blank.{hold_of-claimed_same}
 use Rattle.table_walk.proofs.Roots.{anchored_still, root_tables}
 use Rattle.table_walk.proofs.growth.new_table.Goals as goal

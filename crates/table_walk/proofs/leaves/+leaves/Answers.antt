@@ -3,7 +3,7 @@ use Rattle.std.proofs.Math.Nat.{mul-le-mul_right}
 use Rattle.frame_store.specs.Laws.{Fits}
 use Rattle.std.specs.FinMap.{get}
 use Rattle.table_walk.specs.Changed.{IsTableAt}
-use Rattle.table_walk.specs.Image.{HasTables, Image}
+use Rattle.table_walk.specs.Tables.{HasTables, Tables}
 use Rattle.table_walk.specs.Places.{IsBare, IsFirstLeaf}
 use Rattle.table_walk.specs.Walk.{top_level}
 use Rattle.table_walk.proofs.Next.{bare_more, bare_none, first_more, no_table, bare_word, leaf_word, split_at, table_child, first_in, in_level, fits_word}
@@ -16,14 +16,14 @@ pub next_at-returns-then-word-eq0-clause-leaf : goal.next_at-returns-then-word-e
 next_at-returns-then-word-eq0-clause-leaf g u c root k t has at is =
     let low = rw c.if-level-eq0.true at is in
     let one : ◌≡◌ {A = ℕ} 1 (512 ^ c.args.level) = ap (λ (x : ℕ). 512 ^ x) (sym c.if-level-eq0.true) in
-    let bare = bare_word _ root t has.image k c.args.table.0 c.args.index c.load-word.result at low.0 c.requires.in_table c.load-word.ensures.known c.args.from c.if-word-eq0.true in
+    let bare = bare_word _ root t has.known k c.args.table.0 c.args.index c.load-word.result at low.0 c.requires.in_table c.load-word.ensures.known c.args.from c.if-word-eq0.true in
     subst (λ (w : ℕ). IsBare t (k * 512 + c.args.index) w c.args.from w) one bare
 
 pub next_at-returns-else-word-eq0-clause-leaf : goal.next_at-returns-else-word-eq0-clause-leaf
 next_at-returns-else-word-eq0-clause-leaf g u c root k t has at is =
     let low = rw c.if-level-eq0.true at is in
     let one : ◌≡◌ {A = ℕ} 1 (512 ^ c.args.level) = ap (λ (x : ℕ). 512 ^ x) (sym c.if-level-eq0.true) in
-    let leaf = leaf_word _ root t has.image k c.args.table.0 c.args.index c.load-word.result at low.0 c.requires.in_table c.load-word.ensures.known c.args.from (rw (← one) at c.requires.within) c.if-word-eq0.false in
+    let leaf = leaf_word _ root t has.known k c.args.table.0 c.args.index c.load-word.result at low.0 c.requires.in_table c.load-word.ensures.known c.args.from (rw (← one) at c.requires.within) c.if-word-eq0.false in
     subst (λ (w : ℕ). IsFirstLeaf t (k * 512 + c.args.index) w c.args.from (Some (0, c.load-word.result))) one leaf
 
 pub next_at-child-requires-clause-held : goal.next_at-child-requires-clause-held
@@ -38,7 +38,7 @@ next_at-returns-in_err-next-clause-leaf g u c root k t has at is =
     let width : 512 ^ suc (c.args.level - 1) ≡ 512 ^ c.args.level = ap (λ (x : ℕ). 512 ^ x) level in
     let some = power_some (top_level - (c.args.level - 1)) in
     let none : get t.tables (k * 512 + c.args.index) ≡ None = sym (c.in_err-next.ensures.child root k t has at below.0) in
-    let bare = no_table _ root t has.image (k * 512 + c.args.index) (c.args.level - 1) c.args.from (omega (arith, some, below.1.0)) none in
+    let bare = no_table _ root t has.known (k * 512 + c.args.index) (c.args.level - 1) c.args.from (omega (arith, some, below.1.0)) none in
     rw c.from_residual.ensures (subst (λ (w : ℕ). IsBare t (k * 512 + c.args.index) w c.args.from w) width bare)
 
 pub next_at-next_below-requires : goal.next_at-next_below-requires
@@ -46,7 +46,7 @@ next_at-next_below-requires g u c =
     let h = c.requires.held in
     let below = table_child h.1 c.args.level c.args.index h.5 c.requires.low c.requires.in_table c.if-level-eq0.false in
     let fits : Fits g.F.FrameAccess.rule c.child.new.store c.child.new.seat = (c.requires.fits.0, c.child.ensures.keeps c.requires.fits.0 c.requires.fits.1) in
-    let held : (root k : ℕ) × (t : Image) × HasTables (g.F.Seat.FrameSeat.view c.child.new.seat) root t × (get t.tables k ≡ Some c.in_ok-next.next.0) × IsTableAt k (c.args.level - 1) =
+    let held : (root k : ℕ) × (t : Tables) × HasTables (g.F.Seat.FrameSeat.view c.child.new.seat) root t × (get t.tables k ≡ Some c.in_ok-next.next.0) × IsTableAt k (c.args.level - 1) =
     (h.0, h.1 * 512 + c.args.index, h.2, rw c.child.ensures.view h.3, sym (c.in_ok-next.ensures.child h.0 h.1 h.2 h.3 h.4 below.0), below.1) in
     search (rules, fits, held)
 
@@ -69,7 +69,7 @@ next_below-next_at-requires g u c =
     let i = c.indices.invariant in
     let h = c.requires.held in
     let fits : Fits g.F.FrameAccess.rule c.indices.store c.indices.seat = (c.requires.fits.0, i.keeps c.requires.fits.0 c.requires.fits.1) in
-    let held : (root k : ℕ) × (t : Image) × HasTables (g.F.Seat.FrameSeat.view c.indices.seat) root t × (get t.tables k ≡ Some c.args.table.0) × IsTableAt k c.args.level =
+    let held : (root k : ℕ) × (t : Tables) × HasTables (g.F.Seat.FrameSeat.view c.indices.seat) root t × (get t.tables k ≡ Some c.args.table.0) × IsTableAt k c.args.level =
     (h.0, h.1, h.2, rw i.view h.3, h.4, h.5) in
     search (rules, fits, held)
 

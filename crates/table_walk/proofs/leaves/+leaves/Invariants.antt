@@ -2,7 +2,7 @@ use Rattle.std.proofs.Common.{◌≡◌, ℕ, ◌+◌, ◌*◌, ◌^◌, ◌<◌
 use Rattle.std.specs.FinMap.{get}
 use Rattle.frame_store.specs.Laws.{Keeps}
 use Rattle.table_walk.specs.Changed.{IsTableAt}
-use Rattle.table_walk.specs.Image.{HasTables, Image}
+use Rattle.table_walk.specs.Tables.{HasTables, Tables}
 use Rattle.table_walk.specs.Places.{IsBare}
 use Rattle.table_walk.proofs.leaves.+leaves.Given as goal
 
@@ -20,5 +20,5 @@ invariant-next_below-indices g l = record {
   keeps : Keeps g.F.FrameAccess.rule l.initial.store l.initial.seat l.store l.seat;
   within : l.place < 512 ^ l.level;
   on : l.fn.from ≤ l.index * 512 ^ l.level + l.place;
-  bare : (root k : ℕ) (t : Image) → HasTables (g.F.Seat.FrameSeat.view l.initial.seat) root t → get t.tables k ≡ Some l.table.0 → IsTableAt k l.level → IsBare t k (512 * 512 ^ l.level) l.fn.from (l.index * 512 ^ l.level + l.place);
+  bare : (root k : ℕ) (t : Tables) → HasTables (g.F.Seat.FrameSeat.view l.initial.seat) root t → get t.tables k ≡ Some l.table.0 → IsTableAt k l.level → IsBare t k (512 * 512 ^ l.level) l.fn.from (l.index * 512 ^ l.level + l.place);
 }

@@ -2,7 +2,7 @@ use Rattle.std.proofs.Common.{◌≡◌, ℕ, ◌+◌, ◌-◌, ◌*◌, ◌<◌
 use Rattle.std.specs.FinMap.{get}
 use Rattle.frame_store.specs.Laws.{Fits, fits_after}
 use Rattle.table_walk.specs.Changed.{IsTableAt}
-use Rattle.table_walk.specs.Image.{HasTables, Image}
+use Rattle.table_walk.specs.Tables.{HasTables, Tables}
 use Rattle.table_walk.specs.Released.{AreLast}
 use Rattle.table_walk.proofs.Next.{table_child}
 use Rattle.table_walk.proofs.Shed.{above_sole, at_index, index_anchored, index_held, lets_index, lets_last, lets_next, lets_none, some_level, still_last}
@@ -20,7 +20,7 @@ release_at-release_below-requires g u c =
     let h = c.requires.bare in
     let below = table_child h.1 c.args.level c.args.index h.6 c.requires.low c.requires.in_table (some_level c.args.level c.requires.above) in
     let fits : Fits g.F.FrameAccess.rule c.child.new.store c.child.new.seat = fits_after g.F.FrameAccess.rule c.child.ensures.keeps c.requires.fits in
-    let bare : (root k : ℕ) × (t : Image) × HasTables (g.F.Seat.FrameSeat.view c.child.new.seat) root t × AreLast (g.F.Seat.FrameSeat.view c.child.new.seat) t × (get t.tables k ≡ Some c.in-Some.next.0) × IsTableAt k (c.args.level - 1) =
+    let bare : (root k : ℕ) × (t : Tables) × HasTables (g.F.Seat.FrameSeat.view c.child.new.seat) root t × AreLast (g.F.Seat.FrameSeat.view c.child.new.seat) t × (get t.tables k ≡ Some c.in-Some.next.0) × IsTableAt k (c.args.level - 1) =
     (h.0, h.1 * 512 + c.args.index, h.2, rw c.child.ensures.view h.3, rw c.child.ensures.view h.4, sym (c.in-Some.ensures.child h.0 h.1 h.2 h.3 h.5 below.0), below.1) in
     search (rules, fits, bare)
 
@@ -72,7 +72,7 @@ release_below-release_at-requires g u c =
     let so_far = i.below h.0 h.1 h.2 h.3 h.4 h.5 h.6 in
     let fits : Fits g.F.FrameAccess.rule c.indices.store c.indices.seat = fits_after g.F.FrameAccess.rule i.keeps c.requires.fits in
     let some : 0 < c.args.level = omega (arith, c.if-level-eq0.false) in
-    let bare : (root k : ℕ) × (t : Image) × HasTables (g.F.Seat.FrameSeat.view c.indices.seat) root t × AreLast (g.F.Seat.FrameSeat.view c.indices.seat) t × (get t.tables k ≡ Some c.args.table.0) × IsTableAt k c.args.level =
+    let bare : (root k : ℕ) × (t : Tables) × HasTables (g.F.Seat.FrameSeat.view c.indices.seat) root t × AreLast (g.F.Seat.FrameSeat.view c.indices.seat) t × (get t.tables k ≡ Some c.args.table.0) × IsTableAt k c.args.level =
     (h.0, h.1, so_far.0, so_far.1.tables, still_last _ _ h.0 h.1 h.2 so_far.0 so_far.1 h.4, so_far.1.stay h.1 _ (omega arith) h.5, h.6) in
     search (rules, fits, some, bare)
 

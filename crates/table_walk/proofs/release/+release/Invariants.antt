@@ -2,7 +2,7 @@ use Rattle.std.proofs.Common.{◌≡◌, ℕ, ◌+◌, ◌*◌, ◌<◌, ◌≤�
 use Rattle.std.specs.FinMap.{get}
 use Rattle.frame_store.specs.Laws.{Keeps}
 use Rattle.table_walk.specs.Changed.{IsTableAt}
-use Rattle.table_walk.specs.Image.{HasTables, Image}
+use Rattle.table_walk.specs.Tables.{HasTables, Tables}
 use Rattle.table_walk.specs.Released.{AreLast, LetsGo}
 use Rattle.table_walk.proofs.release.+release.Given as goal
 
@@ -17,6 +17,6 @@ abbrev pub invariant-release_below-indices : goal.invariant-release_below-indice
 invariant-release_below-indices g l = record {
   keeps : Keeps g.F.FrameAccess.rule l.initial.store l.initial.seat l.store l.seat;
   free : g.F.FrameAccess.alone → g.F.FrameAccess.free l.initial.store ≤ g.F.FrameAccess.free l.store;
-  below : (root k : ℕ) (t : Image) → HasTables (g.F.Seat.FrameSeat.view l.initial.seat) root t → AreLast (g.F.Seat.FrameSeat.view l.initial.seat) t → get t.tables k ≡ Some l.table.0 → IsTableAt k l.level
-      → (u : Image) × LetsGo (g.F.Seat.FrameSeat.view l.initial.seat) (g.F.Seat.FrameSeat.view l.seat) root k t u × ((i : ℕ) → i < l.index → get u.tables (k * 512 + i) ≡ None);
+  below : (root k : ℕ) (t : Tables) → HasTables (g.F.Seat.FrameSeat.view l.initial.seat) root t → AreLast (g.F.Seat.FrameSeat.view l.initial.seat) t → get t.tables k ≡ Some l.table.0 → IsTableAt k l.level
+      → (u : Tables) × LetsGo (g.F.Seat.FrameSeat.view l.initial.seat) (g.F.Seat.FrameSeat.view l.seat) root k t u × ((i : ℕ) → i < l.index → get u.tables (k * 512 + i) ≡ None);
 }

@@ -6,7 +6,7 @@ use Rattle.table_walk.proofs.release.release_tables.Goals.{After-release_below}
 -- the root alone is left
 below : (g : given.Over) (c : After-release_below g)
     → LetsGoTo (g.F.Seat.FrameSeat.view c.args.seat.now) (g.F.Seat.FrameSeat.view c.release_below.new.seat) c.args.root.0 1 c.requires.bare.0 512
-below g c = let h = c.requires.bare in c.release_below.ensures.below c.args.root.0 1 h.0 h.1 h.2 h.1.image.rooted root_level
+below g c = let h = c.requires.bare in c.release_below.ensures.below c.args.root.0 1 h.0 h.1 h.2 h.1.known.rooted root_level
 
 pub release-requires-clause-held : goal.release-requires-clause-held
 release-requires-clause-held g c =

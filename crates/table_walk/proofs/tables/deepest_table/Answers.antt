@@ -2,15 +2,15 @@ use Rattle.std.proofs.Common.{◌≡◌, ◌-◌, refl, ap, sym, ◌∙◌, arit
 use Rattle.std.specs.FinMap.{get}
 use Rattle.std.specs.Prelude.{option_map}
 use Rattle.frame_store.specs.Laws.{fits_after}
-use Rattle.table_walk.specs.Image.{HasTables, Image, node}
+use Rattle.table_walk.specs.Tables.{HasTables, Tables, node}
 use Rattle.table_walk.specs.Walk.{top_level}
 use Rattle.table_walk.proofs.Children.{next_depth, next_is_table, next_node}
 use Rattle.table_walk.proofs.tables.deepest_table.Given as given
 use Rattle.table_walk.proofs.tables.deepest_table.Goals as goal
 use Rattle.table_walk.proofs.tables.deepest_table.Goals.{After-child}
 
--- the table of the next level, in each image
-found : (g : given.Over) (c : After-child g) (t : Image) → HasTables (g.F.Seat.FrameSeat.view c.args.seat.now) c.args.root.0 t
+-- the table of the next level, whatever is known of the others
+found : (g : given.Over) (c : After-child g) (t : Tables) → HasTables (g.F.Seat.FrameSeat.view c.args.seat.now) c.args.root.0 t
     → option_map (λ f. f.0) c.child.result ≡ get t.tables (node c.args.page (top_level - (c.levels.level - 1)))
 found g c t h =
     let i = c.levels.invariant in
@@ -19,7 +19,7 @@ found g c t h =
     ∙ ap (get t.tables) (rw c.index.ensures.value (next_node c.levels.level c.levels-test.true c.levels.auto.level c.args.page))
 
 pub levels-init : goal.levels-init
-levels-init g c = record { view = refl; same = refl; keeps = λ others r. r; way = λ t h. h.image.rooted }
+levels-init g c = record { view = refl; same = refl; keeps = λ others r. r; way = λ t h. h.known.rooted }
 
 pub child-requires-clause-fits : goal.child-requires-clause-fits
 child-requires-clause-fits g c = fits_after g.F.FrameAccess.rule c.levels.invariant.keeps c.requires.fits

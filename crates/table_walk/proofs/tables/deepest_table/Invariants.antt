@@ -1,7 +1,7 @@
 use Rattle.std.proofs.Common.{◌≡◌, ◌-◌, Some}
 use Rattle.std.specs.FinMap.{get}
 use Rattle.frame_store.specs.Laws.{Keeps}
-use Rattle.table_walk.specs.Image.{HasTables, Image, node}
+use Rattle.table_walk.specs.Tables.{HasTables, Tables, node}
 use Rattle.table_walk.specs.Walk.{top_level}
 use Rattle.table_walk.proofs.tables.deepest_table.Given as goal
 
@@ -11,6 +11,6 @@ invariant-levels g l = record {
   view : g.F.Seat.FrameSeat.view l.seat ≡ g.F.Seat.FrameSeat.view l.fn.seat;
   same : l.store ≡ l.fn.store;
   keeps : Keeps g.F.FrameAccess.rule l.fn.store l.fn.seat l.store l.seat;
-  way : (t : Image) → HasTables (g.F.Seat.FrameSeat.view l.fn.seat) l.fn.root.0 t
+  way : (t : Tables) → HasTables (g.F.Seat.FrameSeat.view l.fn.seat) l.fn.root.0 t
       → get t.tables (node l.fn.page (top_level - l.level)) ≡ Some l.table.0;
 }

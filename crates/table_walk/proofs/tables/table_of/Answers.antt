@@ -8,4 +8,4 @@ returns-else-level-eq0-clause-table g c t h =
     let deepest = c.deepest_table-level.ensures in
     let level = c.deepest_table-level.result.1 in
     let some : 0 < level = omega (arith, c.if-level-eq0.false) in
-    sym (last_missing _ _ t h.image c.args.page (suc (top_level - level)) (omega (arith, some)) (deepest.last t h some))
+    sym (last_missing _ _ t h.known c.args.page (suc (top_level - level)) (omega (arith, some)) (deepest.last t h some))

@@ -20,7 +20,7 @@ read-after-requires-clause-fits g c =
 pub read-after-requires-clause-ready : goal.read-after-requires-clause-ready
 read-after-requires-clause-ready g c =
     let lives = c.try_settle-settled.ensures.lives in
-    can_read _ _ _ _ lives.image lives.process 1 lives.agrees lives.near
+    can_read _ _ _ _ lives.tables lives.process 1 lives.agrees lives.near
 
 pub kept-again-requires-clause-fits : goal.kept-again-requires-clause-fits
 kept-again-requires-clause-fits g c =
@@ -31,14 +31,14 @@ pub kept-again-requires-clause-ready : goal.kept-again-requires-clause-ready
 kept-again-requires-clause-ready g c =
     let read = c.read-after.ensures in
     let lives = lives_still _ _ _ _ _ _ _ _ _ _ read.view read.root read.trapframe read.layout c.try_settle-settled.ensures.lives in
-    (lives.image, lives.process, lives.agrees, lives.near)
+    (lives.tables, lives.process, lives.agrees, lives.near)
 
 pub returns-then-not-settled-clause-agrees : goal.returns-then-not-settled-clause-agrees
 returns-then-not-settled-clause-agrees g c =
     let read = c.read-after.ensures in
     let lives = lives_still _ _ _ _ _ _ _ _ _ _ read.view read.root read.trapframe read.layout c.try_settle-settled.ensures.lives in
     let again = lives_kept _ _ _ _ _ _ _ _ _ 1 _ lives lives.near c.kept-again.ensures.agrees in
-    (again.image, again.process, again.agrees)
+    (again.tables, again.process, again.agrees)
 
 pub returns-then-not-settled-clause-keeps : goal.returns-then-not-settled-clause-keeps
 returns-then-not-settled-clause-keeps g c others r =
@@ -56,7 +56,7 @@ read-fresh-requires-clause-ready g c =
     let read = c.read-after.ensures in
     let lives = lives_still _ _ _ _ _ _ _ _ _ _ read.view read.root read.trapframe read.layout c.if-not-settled.ensures.lives in
     let again = lives_kept _ _ _ _ _ _ _ _ _ 1 _ lives lives.near c.kept-again.ensures.agrees in
-    rw (← c.page.ensures.number) (can_read _ _ _ _ again.image again.process _ again.agrees again.far)
+    rw (← c.page.ensures.number) (can_read _ _ _ _ again.tables again.process _ again.agrees again.far)
 
 pub kept-written-requires-clause-fits : goal.kept-written-requires-clause-fits
 kept-written-requires-clause-fits g c =
@@ -72,7 +72,7 @@ kept-written-requires-clause-ready g c =
     let lives = lives_still _ _ _ _ _ _ _ _ _ _ read.view read.root read.trapframe read.layout c.if-not-settled.ensures.lives in
     let again = lives_kept _ _ _ _ _ _ _ _ _ 1 _ lives lives.near c.kept-again.ensures.agrees in
     let still = lives_still _ _ _ _ _ _ _ _ _ _ fresh.view fresh.root fresh.trapframe fresh.layout again in
-    (still.image, still.process, still.agrees, rw (← c.page.ensures.number) still.far)
+    (still.tables, still.process, still.agrees, rw (← c.page.ensures.number) still.far)
 
 pub returns-clause-agrees : goal.returns-clause-agrees
 returns-clause-agrees g c =
@@ -82,7 +82,7 @@ returns-clause-agrees g c =
     let again = lives_kept _ _ _ _ _ _ _ _ _ 1 _ lives lives.near c.kept-again.ensures.agrees in
     let still = lives_still _ _ _ _ _ _ _ _ _ _ fresh.view fresh.root fresh.trapframe fresh.layout again in
     let ended = lives_kept _ _ _ _ _ _ _ _ _ (page_of (c.args.page * 4096)) _ still (rw (← c.page.ensures.number) still.far) c.kept-written.ensures.agrees in
-    (ended.image, ended.process, ended.agrees)
+    (ended.tables, ended.process, ended.agrees)
 
 pub returns-clause-keeps : goal.returns-clause-keeps
 returns-clause-keeps g c others r =

@@ -45,7 +45,7 @@ loop-index-preserved c =
     let view = c.missing_tables.ensures.view in
     let same = ap (λ (v : View). v.credits) view in
     let enough : 2 * (5 - c.loop-index.index) ≤ c.missing_tables.new.seat.credits = rw same i.tables.2 in
-    let after = c.map.ensures.image i.tables.0 (same_view _ _ _ _ view i.tables.1) in
+    let after = c.map.ensures.tables i.tables.0 (same_view _ _ _ _ view i.tables.1) in
     record {
       rule = c.map.ensures.keeps [] (c.missing_tables.ensures.keeps [] i.rule);
       anchored = c.map.ensures.anchored;

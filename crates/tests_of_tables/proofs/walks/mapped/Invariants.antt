@@ -1,7 +1,7 @@
 use Rattle.std.proofs.Common.{◌-◌, ◌*◌, ◌≤◌, [], ◌∷◌}
 use Rattle.frame_store.specs.Plain.{BankRule}
 use Rattle.frame_store.specs.View.{IsHeld}
-use Rattle.table_walk.specs.Image.{HasTables, Image}
+use Rattle.table_walk.specs.Tables.{HasTables, Tables}
 use Rattle.tests_of_tables.proofs.walks.mapped.Given as goal
 
 -- each page that is left can be mapped
@@ -9,5 +9,5 @@ abbrev pub invariant-loop-index : goal.invariant-loop-index
 invariant-loop-index l = record {
   rule : BankRule l.frames (l.seat ∷ []);
   anchored : IsHeld l.seat 0;
-  tables : (t : Image) × HasTables l.seat l.root.0 t × (2 * (5 - l.index) ≤ l.seat.credits);
+  tables : (t : Tables) × HasTables l.seat l.root.0 t × (2 * (5 - l.index) ≤ l.seat.credits);
 }

@@ -1,6 +1,6 @@
 use Rattle.std.proofs.Common.{[], ap, arith, sym, ◌∙◌}
 use Rattle.frame_store.specs.View.{View}
-use Rattle.table_walk.specs.Image.{bare_root}
+use Rattle.table_walk.specs.Tables.{bare_root}
 use Rattle.tests_of_tables.proofs.TableSteps.{left_last, missing_low, of_ok, reserved_held}
 use Rattle.tests_of_tables.proofs.walks.releases_what_was_made.Goals as goal
 
@@ -28,7 +28,7 @@ pub unmap-requires-clause-fits : goal.unmap-requires-clause-fits
 unmap-requires-clause-fits g c = ([], c.map.ensures.keeps [] (c.new_table-root.ensures.keeps [] (c.reserve-reserved.ensures.keeps [] c.in_ok-frames.ensures.rule)))
 
 pub unmap-requires-clause-held : goal.unmap-requires-clause-held
-unmap-requires-clause-held g c = (_, (c.map.ensures.image _ c.new_table-root.ensures.root).2)
+unmap-requires-clause-held g c = (_, (c.map.ensures.tables _ c.new_table-root.ensures.root).2)
 
 pub release_tables-requires-clause-fits : goal.release_tables-requires-clause-fits
 release_tables-requires-clause-fits g c =
@@ -38,8 +38,8 @@ pub release_tables-requires-clause-bare : goal.release_tables-requires-clause-ba
 release_tables-requires-clause-bare g c =
     let reserved = of_ok _ (sym c.is_ok.ensures.value ∙ c.if-prove.false) c.reserve-reserved.ensures.ok in
     let root = c.new_table-root.ensures in
-    let mapped = c.map.ensures.image _ root.root in
-    let unmapped = c.unmap.ensures.image _ mapped.2 in (
+    let mapped = c.map.ensures.tables _ root.root in
+    let unmapped = c.unmap.ensures.tables _ mapped.2 in (
       _,
       unmapped.0,
       left_last _ _ _ _ _ c.page-page.result c.leaf-leaf.result _ mapped.0 (reserved_held _ _ 3 c.in_ok-frames.ensures.seat reserved)

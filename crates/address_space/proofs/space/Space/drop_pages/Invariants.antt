@@ -5,7 +5,7 @@ use Rattle.address_space.specs.Steps.{Takes}
 use Rattle.frame_store.specs.Laws.{Keeps}
 use Rattle.process_model.specs.Heap.{without_pages}
 use Rattle.process_model.specs.Process.{Process}
-use Rattle.table_walk.specs.Image.{Image}
+use Rattle.table_walk.specs.Tables.{Tables}
 use Rattle.address_space.proofs.space.Space.drop_pages.Given as goal
 
 -- the pages before this one are dropped
@@ -16,9 +16,9 @@ invariant-pages g l = record {
   layout : l.self.layout ≡ l.fn.self.layout;
   after : l.fn.first ≤ l.from;
   within : l.from ≤ max l.fn.first l.fn.end;
-  dropped : (t : Image) (p : Process)
+  dropped : (t : Tables) (p : Process)
       → Agrees (g.S.FrameSeat.view l.fn.self.seat) l.fn.self.root.0 l.fn.self.trapframe.0 l.fn.self.layout t p
-      → (u : Image) × Agrees (g.S.FrameSeat.view l.self.seat) l.fn.self.root.0 l.fn.self.trapframe.0 l.fn.self.layout u (without_pages p l.fn.first l.from) × Drops t u l.fn.first l.from;
+      → (u : Tables) × Agrees (g.S.FrameSeat.view l.self.seat) l.fn.self.root.0 l.fn.self.trapframe.0 l.fn.self.layout u (without_pages p l.fn.first l.from) × Drops t u l.fn.first l.from;
   tallies : Takes (g.S.FrameSeat.view l.fn.self.seat) (g.S.FrameSeat.view l.self.seat) 0 [];
   keeps : Keeps g.F.FrameAccess.rule l.fn.store l.fn.self.seat l.store l.self.seat;
   free : g.F.FrameAccess.alone → g.F.FrameAccess.free l.fn.store ≤ g.F.FrameAccess.free l.store;

@@ -4,7 +4,7 @@ use Rattle.std.proofs.lemmas.Result.{err_from_is_err_and}
 use Rattle.frame_store.specs.Laws.{fits_after}
 use Rattle.process_model.specs.Process.{Page, Process, regions}
 use Rattle.process_model.specs.Regions.{region_at}
-use Rattle.table_walk.specs.Image.{Image}
+use Rattle.table_walk.specs.Tables.{Tables}
 use Rattle.address_space.specs.Agreement.{is_dirty_page}
 use Rattle.address_space.specs.Layouts.{region_of}
 use Rattle.address_space.specs.Steps.{CanOwn}
@@ -15,18 +15,18 @@ use Rattle.address_space.proofs.space.Space.own.Goals.{After-from_residual, Afte
 
 -- what was found
 
-frame_is : (g : given.Over) (c : In-Some-frame_of g) (t : Image) (p : Process) (s : Page) (f : ℕ)
+frame_is : (g : given.Over) (c : In-Some-frame_of g) (t : Tables) (p : Process) (s : Page) (f : ℕ)
     → CanOwn (g.S.FrameSeat.view c.args.self.now.seat) c.args.self.now.root.0 c.args.self.now.trapframe.0 c.args.self.now.layout t p c.args.page s f
     → c.in-Some-frame_of.shared.0 ≡ f
 frame_is g c t p s f can = own_frame can c.frame_of.result _ (c.frame_of.ensures.frame t can.agrees.stands.tables) c.in-Some-frame_of.is
 
-region_is : (g : given.Over) (c : In-Some-frame_of g) (t : Image) (p : Process) (s : Page) (f : ℕ)
+region_is : (g : given.Over) (c : In-Some-frame_of g) (t : Tables) (p : Process) (s : Page) (f : ℕ)
     → CanOwn (g.S.FrameSeat.view c.args.self.now.seat) c.args.self.now.root.0 c.args.self.now.trapframe.0 c.args.self.now.layout t p c.args.page s f
     → region_at (regions p) c.args.page ≡ Some (region_of c.in-Some.region)
 region_is g c t p s f can = sym (rw c.number.ensures.value at (c.region_at.ensures p can.agrees.lays)) ∙ ap (option_map region_of) c.in-Some.is
 
 -- what the leaf's D comes to in a new leaf
-dirty_is : (g : given.Over) (c : In-Some-frame_of g) (t : Image) (p : Process) (s : Page) (f : ℕ)
+dirty_is : (g : given.Over) (c : In-Some-frame_of g) (t : Tables) (p : Process) (s : Page) (f : ℕ)
     → CanOwn (g.S.FrameSeat.view c.args.self.now.seat) c.args.self.now.root.0 c.args.self.now.trapframe.0 c.args.self.now.layout t p c.args.page s f
     → (c.in-Some-frame_of.dirty && (region_of c.in-Some.region).writes) ≡ is_dirty_page (region_of c.in-Some.region) s
 dirty_is g c t p s f can =
@@ -83,7 +83,7 @@ returns-then-sole-clause-owned g c t p s f can =
       _,
       f,
       c.look-sole.result,
-      own_kept can _ _ look _ (region_is g at t p s f can) c.if-sole.true _ _ (rw (is, dirty_is g at t p s f can) at c.leaf.ensures.leaf) (c.protect.ensures.image t stands.tables).0
+      own_kept can _ _ look _ (region_is g at t p s f can) c.if-sole.true _ _ (rw (is, dirty_is g at t p s f can) at c.leaf.ensures.leaf) (c.protect.ensures.tables t stands.tables).0
           (λ x table. c.protect.ensures.word t x stands.tables table),
       λ alone. counted g (goal.at.returns-then-sole-clause-owned g c).After-look-sole alone f is,
     )

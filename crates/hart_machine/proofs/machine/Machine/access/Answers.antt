@@ -51,7 +51,7 @@ answered-reply-requires-clause-ready c =
     let user = sym c.is_user.ensures ∙ c.if-not-is_user.false in
     let on = slot_there m r.0 r.1 c.args.hart c.in-Some.phase has _ (sym c.in-Some-slot_of.is ∙ c.slot_of.ensures) in
     let t = user_tenant m r.0 r.1 c.args.hart c.in-Some.phase has c.in-Some-slot_of.slot on in
-    (r.0, r.1, t.0, t.1, λ z given. user_served (r.1).images (r.1).kernel has.hart c.in-Some-slot_of.slot a.va.0 a.access User z (in_user m r.0 r.1 c.args.hart a.access a.va.0 a.width a.value c.args.via c.in-Some.phase has well user) on (c.in-Ok.ensures.walk r.0 r.1 has.hart has.there z given))
+    (r.0, r.1, t.0, t.1, λ z given. user_served (r.1).tables (r.1).kernel has.hart c.in-Some-slot_of.slot a.va.0 a.access User z (in_user m r.0 r.1 c.args.hart a.access a.va.0 a.width a.value c.args.via c.in-Some.phase has well user) on (c.in-Ok.ensures.walk r.0 r.1 has.hart has.there z given))
 
 pub index_mut-requires : goal.index_mut-requires
 index_mut-requires c =
@@ -73,7 +73,7 @@ returns-in-Fault-clause-made c w is =
     let q = process_at m w is s t.0 t.1 in
     faults_access m w is c.args.hart a.access a.va.0 a.width a.value c.args.via c.in-Some.phase has well user s on
     (sym (c.by_entry.ensures.serves w has.hart is has.there) ∙ ap is_ok c.in-Ok.is) q.0 q.1 c.answered-reply.new.self c.answered-reply.ensures.harts c.answered-reply.result
-    (c.answered-reply.ensures.made w is q.0 q.1 (λ z given. user_served is.images is.kernel has.hart s a.va.0 a.access User z runs on (c.in-Ok.ensures.walk w is has.hart has.there z given))) c.in-Fault.field-0 c.in-Fault.is c.index_mut.result.now c.index_mut.ensures.value
+    (c.answered-reply.ensures.made w is q.0 q.1 (λ z given. user_served is.tables is.kernel has.hart s a.va.0 a.access User z runs on (c.in-Ok.ensures.walk w is has.hart has.there z given))) c.in-Fault.field-0 c.in-Fault.is c.index_mut.result.now c.index_mut.ensures.value
 
 pub returns-in-Fault-clause-buffers : goal.returns-in-Fault-clause-buffers
 returns-in-Fault-clause-buffers c h =
@@ -94,4 +94,4 @@ returns-in_default-reply-clause-made c w is =
     let q = process_at m w is s t.0 t.1 in
     answers_access m w is c.args.hart a.access a.va.0 a.width a.value c.args.via c.in-Some.phase has well user s on
     (sym (c.by_entry.ensures.serves w has.hart is has.there) ∙ ap is_ok c.in-Ok.is) q.0 q.1 c.answered-reply.new.self c.answered-reply.ensures.harts c.answered-reply.result
-    (c.answered-reply.ensures.made w is q.0 q.1 (λ z given. user_served is.images is.kernel has.hart s a.va.0 a.access User z runs on (c.in-Ok.ensures.walk w is has.hart has.there z given))) c.in_default-reply.not-Fault
+    (c.answered-reply.ensures.made w is q.0 q.1 (λ z given. user_served is.tables is.kernel has.hart s a.va.0 a.access User z runs on (c.in-Ok.ensures.walk w is has.hart has.there z given))) c.in_default-reply.not-Fault

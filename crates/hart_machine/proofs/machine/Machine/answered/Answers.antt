@@ -19,7 +19,7 @@ access-requires-clause-ready c =
     let m = c.args.self.now in
     let there = slot_has m.slots.items c.args.slot r.2 c.in-Some.tenant _ c.in-Some.is c.index_mut.ensures.value r.3 in
     let found = process_at m r.0 r.1 c.args.slot c.in-Some.tenant there in
-    ((r.1).images c.args.slot, found.0, found.2, r.4)
+    ((r.1).tables c.args.slot, found.0, found.2, r.4)
 
 pub returns-clause-made : goal.returns-clause-made
 returns-clause-made c w is p at given =
@@ -27,8 +27,8 @@ returns-clause-made c w is p at given =
     let r = c.requires.ready in
     let there = slot_has m.slots.items c.args.slot r.2 c.in-Some.tenant _ c.in-Some.is c.index_mut.ensures.value r.3 in
     let found = process_at m w is c.args.slot c.in-Some.tenant there in
-    let tenant = subst (λ q. IsTenant c.in-Some.tenant (is.images c.args.slot) q) (same_Some _ _ (same_Some _ _ (sym found.1 ∙ at))) found.2 in (
-      c.access.ensures.reply (is.images c.args.slot) p tenant given,
+    let tenant = subst (λ q. IsTenant c.in-Some.tenant (is.tables c.args.slot) q) (same_Some _ _ (same_Some _ _ (sym found.1 ∙ at))) found.2 in (
+      c.access.ensures.reply (is.tables c.args.slot) p tenant given,
       access_changes m w is c.args.slot c.in-Some.tenant c.access.new.self p there at (asked_of c.args.asked) tenant
-          (c.access.ensures.after (is.images c.args.slot) p tenant given) c.access.new.frames c.access.ensures.keeps c.access.ensures.free,
+          (c.access.ensures.after (is.tables c.args.slot) p tenant given) c.access.new.frames c.access.ensures.keeps c.access.ensures.free,
     )

@@ -2,7 +2,7 @@ use Rattle.std.proofs.Common.{◌∙◌, ap, sym, option_map}
 use Rattle.std.specs.Prelude.{is_ok}
 use Rattle.std.proofs.lemmas.Option.{same_Some}
 use Rattle.std.proofs.lemmas.Result.{err_from_is_err_and}
-use Rattle.hart_machine.specs.Tables.{image_of, present_table}
+use Rattle.hart_machine.specs.Tables.{tables_of, present_table}
 use Rattle.hart_machine.specs.Walked.{walk_answer}
 use Rattle.hart_machine.specs.declared.tables.Table.{Table}
 use Rattle.sv39_entry.specs.declared.access.Access.TheVariants.{Fetch}
@@ -28,5 +28,5 @@ walk-requires-clause-there c =
 pub returns-clause-walk : goal.returns-clause-walk
 returns-clause-walk c w is x at =
     let present = same_Some _ _ (sym c.in-Some-table_of.is ∙ c.table_of.ensures ∙ ap (option_map present_table) at) in
-    present_served is.images is.kernel x (λ none. is.idle c.args.hart x at none) c.args.va.0 Fetch Supervisor c.walk.result
-    (c.walk.ensures.walk w is ∙ ap (λ (t : Table). walk_answer (image_of is.images is.kernel t) c.args.va.0 Fetch Supervisor) present)
+    present_served is.tables is.kernel x (λ none. is.idle c.args.hart x at none) c.args.va.0 Fetch Supervisor c.walk.result
+    (c.walk.ensures.walk w is ∙ ap (λ (t : Table). walk_answer (tables_of is.tables is.kernel t) c.args.va.0 Fetch Supervisor) present)

@@ -20,7 +20,7 @@ returns-in-OfKernel-clause-buffers c w is =
     let r = c.requires.present in
     let x = c.index_mut-hart in
     let kept = keeps_of_kernel m w is c.args.va.0 x.result.now c.fill.new.self c.args.table c.in-OfKernel.is c.fill.ensures.kept in
-    fill_adds m c.args.hart x.result.now c.fill.new.self x.ensures.value r.0 r.1 c.args.table r.2 is.images is.kernel c.args.va.0 kept
+    fill_adds m c.args.hart x.result.now c.fill.new.self x.ensures.value r.0 r.1 c.args.table r.2 is.tables is.kernel c.args.va.0 kept
 
 pub index_mut-requires : goal.index_mut-requires
 index_mut-requires c =
@@ -51,7 +51,7 @@ fill-requires-in-OfProcess-clause-held c =
     let v = c.requires.world in
     let at = tenant_is m c.args.table c.in-OfProcess.slot c.in-OfProcess.is (table_there m v.0 v.1 c.args.hart r.0 r.1 c.args.table r.2) _ c.index_mut.ensures.value c.in-Some.tenant c.in-Some.is in
     let p = process_at m v.0 v.1 c.in-OfProcess.slot c.in-Some.tenant at in
-    ((v.1).images c.in-OfProcess.slot, (p.2).agrees.stands.tables)
+    ((v.1).tables c.in-OfProcess.slot, (p.2).agrees.stands.tables)
 
 pub returns-in-Some-clause-made : goal.returns-in-Some-clause-made
 returns-in-Some-clause-made c w is =
@@ -76,4 +76,4 @@ returns-in-Some-clause-buffers c w is =
     let z = c.in-Some.tenant in
     let at = tenant_is m c.args.table s c.in-OfProcess.is (table_there m w is c.args.hart r.0 r.1 c.args.table r.2) _ c.index_mut.ensures.value z c.in-Some.is in
     let kept = keeps_of_process m w is c.args.va.0 x.result.now f.new.self c.args.table s c.in-OfProcess.is z at f.ensures.kept in
-    fill_adds m c.args.hart x.result.now f.new.self x.ensures.value r.0 r.1 c.args.table r.2 is.images is.kernel c.args.va.0 kept
+    fill_adds m c.args.hart x.result.now f.new.self x.ensures.value r.0 r.1 c.args.table r.2 is.tables is.kernel c.args.va.0 kept

@@ -1,5 +1,5 @@
 use Rattle.std.proofs.Common.{◌∙◌, ap, sym}
-use Rattle.hart_machine.specs.Tables.{image_of}
+use Rattle.hart_machine.specs.Tables.{tables_of}
 use Rattle.hart_machine.specs.Walked.{walk_answer}
 use Rattle.hart_machine.specs.declared.tables.Table.{Table}
 use Rattle.hart_machine.proofs.AccessingWorlds.{seat_fits}
@@ -12,7 +12,7 @@ use Rattle.hart_machine.proofs.machine.Machine.walk.Goals as goal
 pub returns-in-OfKernel-clause-walk : goal.returns-in-OfKernel-clause-walk
 returns-in-OfKernel-clause-walk c w is =
     c.walked.ensures.outcome is.kernel is.of_kernel.maps.tables (kernel_there _ _ _ _ _ _ is.of_kernel)
-    ∙ ap (λ (t : Table). walk_answer (image_of is.images is.kernel t) c.args.va.0 c.args.access c.args.mode) (sym c.in-OfKernel.is)
+    ∙ ap (λ (t : Table). walk_answer (tables_of is.tables is.kernel t) c.args.va.0 c.args.access c.args.mode) (sym c.in-OfKernel.is)
 
 pub returns-in-OfKernel-clause-world : goal.returns-in-OfKernel-clause-world
 returns-in-OfKernel-clause-world c w is = rw (c.walked.ensures.same, c.walked.ensures.view) is
@@ -36,15 +36,15 @@ walked-requires-in-OfProcess-clause-held c =
     let at = tenant_is m c.args.table c.in-OfProcess.slot c.in-OfProcess.is c.requires.there _ c.index_mut.ensures.value c.in-Some.tenant c.in-Some.is in
     let r = c.requires.world in
     let p = process_at m r.0 r.1 c.in-OfProcess.slot c.in-Some.tenant at in
-    ((r.1).images c.in-OfProcess.slot, (p.2).agrees.stands.tables)
+    ((r.1).tables c.in-OfProcess.slot, (p.2).agrees.stands.tables)
 
 pub returns-in-Some-clause-walk : goal.returns-in-Some-clause-walk
 returns-in-Some-clause-walk c w is =
     let m = c.args.self.now in
     let at = tenant_is m c.args.table c.in-OfProcess.slot c.in-OfProcess.is c.requires.there _ c.index_mut.ensures.value c.in-Some.tenant c.in-Some.is in
     let p = process_at m w is c.in-OfProcess.slot c.in-Some.tenant at in
-    c.walked-in-OfProcess.ensures.outcome (is.images c.in-OfProcess.slot) (p.2).agrees.stands.tables (process_there _ _ _ p.0 (p.2).agrees.stands.shows (p.2).framed)
-    ∙ ap (λ (t : Table). walk_answer (image_of is.images is.kernel t) c.args.va.0 c.args.access c.args.mode) (sym c.in-OfProcess.is)
+    c.walked-in-OfProcess.ensures.outcome (is.tables c.in-OfProcess.slot) (p.2).agrees.stands.tables (process_there _ _ _ p.0 (p.2).agrees.stands.shows (p.2).framed)
+    ∙ ap (λ (t : Table). walk_answer (tables_of is.tables is.kernel t) c.args.va.0 c.args.access c.args.mode) (sym c.in-OfProcess.is)
 
 pub returns-in-Some-clause-world : goal.returns-in-Some-clause-world
 returns-in-Some-clause-world c w is =

@@ -25,7 +25,7 @@ abbrev pub first_leaf : ℕ
 first_leaf = 512 ^ suc top_level
 
 -- the frame of each table, and the word of each leaf
-pub record Image : Type 0 where
+pub record Tables : Type 0 where
   pub tables : FinMap nat_cmp ℕ
   pub leaves : FinMap nat_cmp ℕ
 
@@ -34,13 +34,13 @@ pointer_or_zero None = 0
 pointer_or_zero (Some f) = pointer_word f
 
 -- the word of a number: where there is no table and no leaf it is 0
-abbrev pub word_in : Image → ℕ → ℕ
+abbrev pub word_in : Tables → ℕ → ℕ
 word_in t n = if nat_lt n first_leaf then pointer_or_zero (get t.tables n) else unwrap_or (get t.leaves n) 0
 
--- an image is that of the tables below a root, where these words of frames are known
-pub record IsImage (known : ℕ → ℕ → Option ℕ) (root : ℕ) (t : Image) : Type 0 where
+-- these are the tables below a root, where these words of frames are known
+pub record AreTables (known : ℕ → ℕ → Option ℕ) (root : ℕ) (t : Tables) : Type 0 where
   pub rooted : get t.tables 1 ≡ Some root
-  -- every word of every table is what the image says
+  -- every word of every table is what they say
   pub words : (k f i : ℕ) → get t.tables k ≡ Some f → i < 512 → known f i ≡ Some (word_in t (k * 512 + i))
   -- no frame is two tables
   pub apart : (j k f : ℕ) → get t.tables j ≡ Some f → get t.tables k ≡ Some f → j ≡ k
@@ -50,35 +50,35 @@ pub record IsImage (known : ℕ → ℕ → Option ℕ) (root : ℕ) (t : Image)
   pub leaf_hung : (n w : ℕ) → get t.leaves n ≡ Some w → (kind_of w ≡ Leaf) × (first_leaf ≤ n) × ((g : ℕ) × (get t.tables (n / 512) ≡ Some g))
 
 -- a seat knows the tables below a root, and is the sole holder of each
-pub record HasTables (v : View) (root : ℕ) (t : Image) : Type 0 where
-  pub image : IsImage (known_word v) root t
+pub record HasTables (v : View) (root : ℕ) (t : Tables) : Type 0 where
+  pub known : AreTables (known_word v) root t
   pub own : (k f : ℕ) → get t.tables k ≡ Some f → IsHeld v f × IsSole v f
 
 -- a root without entries
-abbrev pub bare_root : ℕ → Image
+abbrev pub bare_root : ℕ → Tables
 bare_root root = record { tables = insert empty 1 root; leaves = empty }
 
--- changes of images
+-- changes of tables
 
-abbrev pub with_leaf : Image → ℕ → ℕ → Image
+abbrev pub with_leaf : Tables → ℕ → ℕ → Tables
 with_leaf t n w = record t { leaves = insert t.leaves n w }
 
-abbrev pub with_table : Image → ℕ → ℕ → Image
+abbrev pub with_table : Tables → ℕ → ℕ → Tables
 with_table t k f = record t { tables = insert t.tables k f }
 
-abbrev pub without_leaf : Image → ℕ → Image
+abbrev pub without_leaf : Tables → ℕ → Tables
 without_leaf t n = record t { leaves = remove t.leaves n }
 
 -- how many of the first so many tables below the root are missing on the way to a page
-abbrev pub missing_to : Image → ℕ → ℕ → ℕ
+abbrev pub missing_to : Tables → ℕ → ℕ → ℕ
 missing_to t page zero = 0
 missing_to t page (suc k) = missing_to t page k + (if is_some (get t.tables (node page (suc k))) then 0 else 1)
 
-abbrev pub missing : Image → ℕ → ℕ
+abbrev pub missing : Tables → ℕ → ℕ
 missing t page = missing_to t page top_level
 
 -- of the tables on the way to a page those down to a depth are there, and no others are new
-pub record IsGrown (t u : Image) (page depth : ℕ) : Type 0 where
+pub record IsGrown (t u : Tables) (page depth : ℕ) : Type 0 where
   pub leaves : u.leaves ≡ t.leaves
   pub kept : (k f : ℕ) → get t.tables k ≡ Some f → get u.tables k ≡ Some f
   pub new : (k f : ℕ) → get u.tables k ≡ Some f → (get t.tables k ≡ Some f) ⊎ ((get t.tables k ≡ None) × ((i : ℕ) × (i ≤ depth) × (k ≡ node page i)))
@@ -86,7 +86,7 @@ pub record IsGrown (t u : Image) (page depth : ℕ) : Type 0 where
 
 -- what a change of tables does to a seat: so many credits became new tables, each held once; the references of the others are as they
 -- were; and of each frame that is no table the seat has what it had
-pub record ChangesTables (v w : View) (t u : Image) (n : ℕ) : Type 0 where
+pub record ChangesTables (v w : View) (t u : Tables) (n : ℕ) : Type 0 where
   pub apart : (f : ℕ) → ((k : ℕ) → get u.tables k ≡ Some f → ⊥) → hold_of w f ≡ hold_of v f
   pub old : (k f : ℕ) → get t.tables k ≡ Some f → references w f ≡ references v f
   pub new : (k f : ℕ) → get u.tables k ≡ Some f → get t.tables k ≡ None → (references v f ≡ 0) × (references w f ≡ 1)

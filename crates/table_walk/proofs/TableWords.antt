@@ -1,4 +1,4 @@
--- What an image says of the words of tables, and how one word that is written changes it.
+-- What tables say of their words, and how one word that is written changes it.
 use Rattle.std.proofs.Common.{◌≡◌, ℕ, ◌+◌, ◌*◌, ◌<◌, ◌≤◌, ◌⊎◌, inl, inr, refl, ap, sym, subst, ◌∙◌, Option, Some, unwrap_or}
 use Rattle.std.proofs.lemmas.Bool.{cases_eq, le-ltb, lt-ltb}
 use Rattle.std.proofs.lemmas.Nat.{same_from_place}
@@ -9,15 +9,15 @@ use Rattle.frame_store.specs.Holds.{hold_of-with_hold_same, hold_of-with_hold_ot
 use Rattle.frame_store.specs.View.{Hold, View, hold_of, known_word, with_word}
 use Rattle.sv39_entry.specs.Word.{kind_of}
 use Rattle.sv39_entry.specs.declared.entry.Kind.TheVariants.{Invalid}
-use Rattle.table_walk.specs.Image.{Image, IsImage, first_leaf, pointer_or_zero, word_in}
+use Rattle.table_walk.specs.Tables.{Tables, AreTables, first_leaf, pointer_or_zero, word_in}
 use Rattle.table_walk.specs.Keys.{insert_same, insert_other}
 
 -- ---- one word of a table
 
-pub word_high : (t : Image) (n : ℕ) → n < first_leaf → word_in t n ≡ pointer_or_zero (get t.tables n)
+pub word_high : (t : Tables) (n : ℕ) → n < first_leaf → word_in t n ≡ pointer_or_zero (get t.tables n)
 word_high t n low = rw (lt-ltb n first_leaf low)
 
-pub word_leaf : (t : Image) (n : ℕ) → first_leaf ≤ n → word_in t n ≡ unwrap_or (get t.leaves n) 0
+pub word_leaf : (t : Tables) (n : ℕ) → first_leaf ≤ n → word_in t n ≡ unwrap_or (get t.leaves n) 0
 word_leaf t n high = rw (le-ltb n first_leaf high)
 
 pub kind-zero : kind_of 0 ≡ Invalid
@@ -43,7 +43,7 @@ with_word-writes v f i w =
       ];
     }
 
-module _ (m : ℕ → ℕ → Option ℕ) (root : ℕ) (t : Image) (h : IsImage m root t) where
+module _ (m : ℕ → ℕ → Option ℕ) (root : ℕ) (t : Tables) (h : AreTables m root t) where
   -- the word that was read
   pub read : (k f i w : ℕ) → get t.tables k ≡ Some f → i < 512 → m f i ≡ Some w → w ≡ word_in t (k * 512 + i)
   read k f i w at low is = same_Some w _ (sym is ∙ h.words k f i at low)
@@ -59,8 +59,8 @@ module _ (m : ℕ → ℕ → Option ℕ) (root : ℕ) (t : Image) (h : IsImage 
       | inr ne ↦ inl ne
     ]
 
-    -- a word of the image changes at one place alone
-    pub rewritten : (u : Image) (w : ℕ) → Writes m m' f i w
+    -- a word of the tables changes at one place alone
+    pub rewritten : (u : Tables) (w : ℕ) → Writes m m' f i w
         → ((n : ℕ) → (n ≡ k * 512 + i → ⊥) → word_in u n ≡ word_in t n) → word_in u (k * 512 + i) ≡ w
         → (j g a : ℕ) → get t.tables j ≡ Some g → a < 512 → m' g a ≡ Some (word_in u (j * 512 + a))
     rewritten u w writes same here j g a there small = elim (other_place j a small) [
