@@ -1,7 +1,6 @@
 -- Frames for a page are reserved together, and then the page is added.
 use Rattle.std.proofs.Common.{◌≡◌, ℕ, ◌+◌, ◌-◌, ◌<◌, ◌≤◌, Option, None, Some, List, ◌∷◌, append-nil, Result, Ok, Err, IsOk, IsErr, IfErr, is_ok, if◌then◌else◌, true, false, ap, sym, ◌∙◌, arith, []}
 use Rattle.std.specs.Prelude.{◌^◌, All}
-use Rattle.std.proofs.lemmas.Option.{same_Some}
 use Rattle.frame_store.specs.Holds.{hold_of-frames}
 use Rattle.frame_store.specs.Laws.{IsDry}
 use Rattle.frame_store.specs.Tallies.{spent_is, spent_taken}
@@ -9,13 +8,14 @@ use Rattle.frame_store.specs.View.{spent, View, hold_of, with_credits}
 use Rattle.process_model.specs.Frames.{settle_need, tables_needed}
 use Rattle.process_model.specs.PageMap as pages
 use Rattle.process_model.specs.Process.{Process, regions}
-use Rattle.process_model.specs.Regions.{makes_leaf, Region, region_at}
+use Rattle.process_model.specs.Regions.{Region, region_at}
 use Rattle.table_walk.specs.Counted.{AreTablesOf}
 use Rattle.table_walk.specs.Tables.{HasTables, Tables, missing}
-use Rattle.address_space.specs.Agreement.{Agrees}
+use Rattle.address_space.specs.Agreement.{body, IsSpace}
 use Rattle.address_space.specs.Layouts.{Layout}
 use Rattle.address_space.specs.Steps.{Adds, CanAdd, CanSettle, RunsDry, Settles}
 use Rattle.address_space.proofs.Owned.{same_references, same_stands}
+use Rattle.address_space.proofs.Sound.{leafy_at, low_at, sound_more}
 
 -- an error of a reservation
 
@@ -36,17 +36,17 @@ abbrev pub CountsGrowth : Type 0
 CountsGrowth = (t : Tables) (others : List ℕ) (page : ℕ) → AreTablesOf t others → All (λ n. n < 2 ^ 27) others → page < 2 ^ 27
     → missing t page ≡ tables_needed (page ∷ others) - tables_needed others
 
-pub need_is : (v : View) (root trapframe : ℕ) (l : Layout) (t : Tables) (p : Process) (page : ℕ) → CanSettle v root trapframe l t p page → CountsGrowth
+pub need_is : (v : View) (root trapframe : ℕ) (l : Layout) (t : Tables) (p : Process) (page : ℕ) → CanSettle (body v root trapframe l) t p page → CountsGrowth
     → settle_need p page ≡ 1 + missing t page
 need_is v root trapframe l t p page can law =
-    let low = can.add.low in
+    let low = low_at p can.agrees.sound.order page can.region can.in_region in
     let all : All (λ n. n < 2 ^ 27) (pages.keys p.tabled) = λ k d less. let one = can.agrees.stands.tabled_low k d less in omega (arith, one) in
     ap (λ n. 1 + n) (sym (law t (pages.keys p.tabled) page can.agrees.stands.tabled all (omega (arith, low))))
 
 -- a reservation of n credits was refused
 module _ (v u w : View) (n : ℕ) (is : u ≡ v) (dry : IsDry n u w) where
   pub runs_dry : (root trapframe : ℕ) (l : Layout) (page : ℕ) → CountsGrowth → ((t : Tables) → HasTables v root t → n ≡ 1 + missing t page)
-      → (t : Tables) (p : Process) → CanSettle v root trapframe l t p page → RunsDry v w (settle_need p page) []
+      → (t : Tables) (p : Process) → CanSettle (body v root trapframe l) t p page → RunsDry v w (settle_need p page) []
   runs_dry root trapframe l page law enough t p can =
       let need = need_is v root trapframe l t p page can law in
       let n_is = enough t can.agrees.stands.tables in
@@ -57,14 +57,15 @@ module _ (v u w : View) (n : ℕ) (is : u ≡ v) (dry : IsDry n u w) where
         looks = dry.looks ∙ ap (λ (x : View). x.tallies.looks) is ∙ sym (append-nil v.tallies.looks);
       }
 
-  pub agrees_still : (root trapframe : ℕ) (l : Layout) (t : Tables) (p : Process) → Agrees v root trapframe l t p → Agrees w root trapframe l t p
+  pub agrees_still : (root trapframe : ℕ) (l : Layout) (t : Tables) (p : Process) → IsSpace (body v root trapframe l) t p → IsSpace (body w root trapframe l) t p
   agrees_still root trapframe l t p a = record {
+    sound = a.sound;
     lays = a.lays;
     stands = same_stands v w root trapframe None t p (hold_of-frames w v (dry.frames ∙ ap (λ (x : View). x.frames) is)) a.stands;
     credits = dry.credits ∙ ap (λ (x : View). x.credits) is ∙ a.credits;
   }
 
-module _ (v : View) (root trapframe : ℕ) (l : Layout) (t : Tables) (p : Process) (page : ℕ) (can : CanSettle v root trapframe l t p page) where
+module _ (v : View) (root trapframe : ℕ) (l : Layout) (t : Tables) (p : Process) (page : ℕ) (can : CanSettle (body v root trapframe l) t p page) where
   -- n credits were reserved
   module _ (u w : View) (n : ℕ) (is : u ≡ v) (reserved : w ≡ with_credits n u) where
     reserved_same : (f : ℕ) → hold_of w f ≡ hold_of v f
@@ -78,19 +79,20 @@ module _ (v : View) (root trapframe : ℕ) (l : Layout) (t : Tables) (p : Proces
 
     pub can_add : (o : Option Region) (r : Region) → o ≡ region_at (regions p) page → o ≡ Some r → CanAdd w root trapframe t p page r
     can_add o r at some =
-        let same : can.region ≡ r = same_Some can.region r (sym can.add.in_region ∙ sym at ∙ some) in
+        let in_region = sym at ∙ some in
         record {
-          stands = same_stands v w root trapframe None t p reserved_same can.add.stands;
-          unsettled = can.add.unsettled;
-          in_region = sym at ∙ some;
-          leafy = ap makes_leaf (sym same) ∙ can.add.leafy;
-          low = can.add.low;
+          stands = same_stands v w root trapframe None t p reserved_same can.agrees.stands;
+          unsettled = can.unsettled;
+          in_region = in_region;
+          leafy = leafy_at p can.agrees.sound.order page r in_region;
+          low = low_at p can.agrees.sound.order page r in_region;
         }
 
     pub settles : (x : View) (s : Tables) (bytes : List ℕ) (f : ℕ) → n ≡ 1 + missing t page → settle_need p page ≡ 1 + missing t page
-        → Adds w x root trapframe t s p page bytes f → Settles v x root trapframe l t s p page bytes f
+        → Adds w x root trapframe t s p page bytes f → Settles v (body x root trapframe l) t s p page bytes f
     settles x s bytes f enough need a = record {
       agrees = λ fresh. record {
+        sound = sound_more fresh bytes p page can.agrees.sound;
         lays = record { parts = can.agrees.lays.parts; mappings = can.agrees.lays.mappings; heap_base = can.agrees.lays.heap_base; size = can.agrees.lays.size };
         stands = a.stands fresh;
         credits = omega (arith, a.spends.credits, reserved_credits, enough);

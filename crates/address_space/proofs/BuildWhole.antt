@@ -4,11 +4,12 @@ use Rattle.frame_store.specs.Holds.{hold_of-frames}
 use Rattle.frame_store.specs.Tallies.{spent_is, spent_on, spent_taken}
 use Rattle.frame_store.specs.View.{spent, View, references, with_credits}
 use Rattle.table_walk.specs.Tables.{Tables}
-use Rattle.address_space.specs.Agreement.{Agrees, HoldsTrampoline}
+use Rattle.address_space.specs.Agreement.{body, IsSpace, HoldsTrampoline}
 use Rattle.address_space.specs.Layouts.{last_page, Layout}
 use Rattle.address_space.specs.Parts.{AreParts, bare_process, build_need, CanOpen, Fills, Opens, pages_need, pages_of, process_of_parts, regions_in, StandsAlone, with_pages}
 use Rattle.address_space.specs.Steps.{Takes}
 use Rattle.address_space.specs.declared.part.Part.{Part}
+use Rattle.address_space.proofs.BuildOrder.{sound_whole}
 use Rattle.address_space.proofs.BuildPages.{tables_up_to}
 use Rattle.address_space.proofs.BuildProcess.{bare_tables, stands_like, whole_process, whole_tables}
 use Rattle.address_space.proofs.Owned.{same_references}
@@ -44,8 +45,9 @@ module _ (ps : List Part) where
 
       module _ (y : View) (u : Tables) (fills : Fills x y root trapframe u (bare_process ps) (pages_of ps)) where
         pub agrees_whole : AreParts ps → (l : Layout) → l.parts ≡ regions_in ps → l.mappings ≡ [] → l.heap_base ≡ 4096 * last_page 0 (regions_in ps) → l.size ≡ l.heap_base
-            → (fresh : ℕ) → Agrees y root trapframe l u (process_of_parts fresh ps)
+            → (fresh : ℕ) → IsSpace (body y root trapframe l) u (process_of_parts fresh ps)
         agrees_whole are l parts mappings base size fresh = record {
+          sound = sound_whole ps are fresh;
           lays = record { parts = sym parts; mappings = sym mappings; heap_base = sym base; size = sym (size ∙ base) };
           stands = stands_like (with_pages (bare_process ps) (pages_of ps)) (process_of_parts fresh ps) (whole_process ps are.ascending fresh) y root trapframe None u fills.after.stands;
           credits =

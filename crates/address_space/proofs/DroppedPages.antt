@@ -17,9 +17,10 @@ use Rattle.table_walk.specs.Tables.{Tables, leaf_node, without_leaf}
 use Rattle.table_walk.specs.Keys.{remove_same, remove_other}
 use Rattle.table_walk.specs.Nodes.{leaf_node_is}
 use Rattle.table_walk.specs.Places.{IsBare}
-use Rattle.address_space.specs.Agreement.{Agrees, IsLeafNumber, IsOn, Shows, Stands}
+use Rattle.address_space.specs.Agreement.{body, IsSpace, IsLeafNumber, IsOn, Shows, Stands}
 use Rattle.address_space.specs.Ending.{AreUnmapped, CanDrop, Drops, DropsLeaf, IsFirstMapped}
 use Rattle.address_space.specs.Layouts.{Layout}
+use Rattle.address_space.proofs.Sound.{sound_fewer}
 use Rattle.address_space.proofs.DroppedLeaf.{left}
 use Rattle.address_space.proofs.Owned.{one_page, same_bytes}
 
@@ -92,8 +93,9 @@ module _ (v : View) (root trapframe : ℕ) (l : Layout) (u : Tables) (p : Proces
     ]
   ]
 
-  agrees_fewer : Agrees v root trapframe l u (record p { settled = old }) → Agrees v root trapframe l u (record p { settled = new })
+  agrees_fewer : IsSpace (body v root trapframe l) u (record p { settled = old }) → IsSpace (body v root trapframe l) u (record p { settled = new })
   agrees_fewer a = record {
+    sound = sound_fewer (record p { settled = old }) new fewer a.sound;
     lays = record { parts = a.lays.parts; mappings = a.lays.mappings; heap_base = a.lays.heap_base; size = a.lays.size };
     stands = record {
       tables = a.stands.tables;
@@ -149,7 +151,7 @@ module _ (first from end : ℕ) (within : from ≤ max first end) where
     }
 
     agrees_longer : (v : View) (root trapframe : ℕ) (l : Layout) (p : Process)
-        → Agrees v root trapframe l u (without_pages p first from) → Agrees v root trapframe l u (without_pages p first end)
+        → IsSpace (body v root trapframe l) u (without_pages p first from) → IsSpace (body v root trapframe l) u (without_pages p first end)
     agrees_longer v root trapframe l p =
         agrees_fewer v root trapframe l u p (without_pages p first from).settled (without_pages p first end).settled
         (λ n s at. let was = was_settled p first end n s at in still_settled p first from n s was.0 (short_run n was.1))
@@ -238,9 +240,10 @@ module _ (first page : ℕ) (from : first ≤ page) (low : page < trapframe_page
       low = λ n page_there at. s.low n page_there (before_that n page_there at).0;
     }
 
-    agrees_more : (l : Layout) → Agrees v root trapframe l u (without_pages p first page)
-        → Agrees w root trapframe l (without_leaf u (leaf_node page)) (without_pages p first (page + 1))
+    agrees_more : (l : Layout) → IsSpace (body v root trapframe l) u (without_pages p first page)
+        → IsSpace (body w root trapframe l) (without_leaf u (leaf_node page)) (without_pages p first (page + 1))
     agrees_more l a = record {
+      sound = sound_fewer (without_pages p first page) (without_pages p first (page + 1)).settled (λ n s at. (before_that n s at).0) a.sound;
       lays = record { parts = a.lays.parts; mappings = a.lays.mappings; heap_base = a.lays.heap_base; size = a.lays.size };
       stands = record {
         tables = d.tables;
@@ -290,7 +293,7 @@ drops_none t first = record { tables = refl; gone = λ n from before. absurd (om
 
 -- before the first page
 agrees_first : (v : View) (root trapframe : ℕ) (l : Layout) (t : Tables) (p : Process) (first : ℕ)
-    → Agrees v root trapframe l t p → Agrees v root trapframe l t (without_pages p first first)
+    → IsSpace (body v root trapframe l) t p → IsSpace (body v root trapframe l) t (without_pages p first first)
 agrees_first v root trapframe l t p first =
     agrees_fewer v root trapframe l t p p.settled (without_pages p first first).settled
     (λ n s at. (was_settled p first first n s at).0)
@@ -298,10 +301,10 @@ agrees_first v root trapframe l t p first =
 
 -- pages of a run were dropped
 abbrev pub HasDropped : View → ℕ → ℕ → Layout → Tables → Process → ℕ → ℕ → Type 0
-HasDropped v root trapframe l t p first end = (u : Tables) × Agrees v root trapframe l u (without_pages p first end) × Drops t u first end
+HasDropped v root trapframe l t p first end = (u : Tables) × IsSpace (body v root trapframe l) u (without_pages p first end) × Drops t u first end
 
 module _ (v : View) (root trapframe : ℕ) (l : Layout) (t : Tables) (p : Process) where
-  pub dropped_none : (first : ℕ) → Agrees v root trapframe l t p → HasDropped v root trapframe l t p first first
+  pub dropped_none : (first : ℕ) → IsSpace (body v root trapframe l) t p → HasDropped v root trapframe l t p first first
   dropped_none first a = (t, agrees_first v root trapframe l t p first a, drops_none t first)
 
   module _ (first from end : ℕ) (so_far : HasDropped v root trapframe l t p first from) where

@@ -13,7 +13,7 @@ use Rattle.sv39_entry.specs.Word.{ppn}
 use Rattle.table_walk.specs.Tables.{ChangesTables, Tables, leaf_node, without_leaf}
 use Rattle.table_walk.specs.Keys.{is_none, remove_other}
 use Rattle.table_walk.specs.Released.{AreLast, SameTallies}
-use Rattle.address_space.specs.Agreement.{Agrees, Names, Owns}
+use Rattle.address_space.specs.Agreement.{body, IsSpace, Names, Owns}
 use Rattle.address_space.specs.Ending.{DropsLeaf, IsEmptied}
 use Rattle.address_space.specs.Layouts.{Layout}
 use Rattle.address_space.specs.Steps.{IsBare, Takes}
@@ -22,7 +22,7 @@ use Rattle.address_space.proofs.DroppedPages.{was_settled}
 use Rattle.address_space.proofs.Owned.{one_page, released_here, released_other, same_references}
 
 -- no page is settled
-module _ (v : View) (root trapframe : ℕ) (l : Layout) (u : Tables) (p : Process) (a : Agrees v root trapframe l u (without_pages p 0 trapframe_page)) where
+module _ (v : View) (root trapframe : ℕ) (l : Layout) (u : Tables) (p : Process) (a : IsSpace (body v root trapframe l) u (without_pages p 0 trapframe_page)) where
   two_left : (k w : ℕ) → get u.leaves k ≡ Some w → (k ≡ leaf_node trampoline_page) ⊎ (k ≡ leaf_node trapframe_page)
   two_left k w leaf = elim (a.stands.shows.only k w leaf) as (λ _. (k ≡ leaf_node trampoline_page) ⊎ (k ≡ leaf_node trapframe_page)) [
     | inl trampoline ↦ inl trampoline

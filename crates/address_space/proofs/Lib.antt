@@ -1,6 +1,7 @@
 pub mod AddingFrames
 pub mod AddingPages
 pub mod AddingReserved
+pub mod BuildOrder
 pub mod BuildPages
 pub mod BuildParts
 pub mod BuildProcess
@@ -17,10 +18,13 @@ pub mod KernelPages
 pub mod KernelSteps
 pub mod KernelTables
 pub mod KernelWalks
+pub mod MappingLists
+pub mod Marks
 pub mod NeededParts
 pub mod Owned
 pub mod Owning
 pub mod OwningCounts
 pub mod OwningSteps
-pub mod Sizes
+pub mod Relaid
+pub mod Sound
 pub mod Writing

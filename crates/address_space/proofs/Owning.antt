@@ -8,7 +8,7 @@ use Rattle.frame_store.specs.View.{View, hold_of, IsSole, references, with_word}
 use Rattle.process_model.specs.PageMap as pages
 use Rattle.process_model.specs.Process.{Page, Process, regions}
 use Rattle.process_model.specs.Regions.{Region, region_at}
-use Rattle.process_model.specs.Residence.{unmarked, with_page}
+use Rattle.process_model.specs.Residence.{with_page}
 use Rattle.sv39_entry.specs.Address.{vpn}
 use Rattle.sv39_entry.specs.Frame.{ppn_of}
 use Rattle.sv39_entry.specs.Word.{ppn}
@@ -135,7 +135,7 @@ module _ (v : View) (root : ℕ) (t : Tables) (h : HasTables v root t) (page old
 
 module _ (v w : View) (root trapframe : ℕ) (spare : Option ℕ) (t : Tables) (p : Process) (page : ℕ) (s : Page) (r : Region) (g leaf : ℕ)
     (stands : Stands v root trapframe spare t p) (settled : pages.get p.settled page ≡ Some s) (in_region : region_at (regions p) page ≡ Some r)
-    (made : IsPageLeaf leaf g r false (is_dirty_page r s)) (tables : HasTables w root (with_leaf t (leaf_node page) leaf))
+    (tables : HasTables w root (with_leaf t (leaf_node page) leaf))
     (word : (x : ℕ) → get t.tables (last_table page) ≡ Some x → w ≡ with_word x (vpn page 0) leaf v) where
   table : (x : ℕ) × (get t.tables (last_table page) ≡ Some x)
   table =
@@ -157,14 +157,14 @@ module _ (v w : View) (root trapframe : ℕ) (spare : Option ℕ) (t : Tables) (
       let y = table in
       words_other y.0 v w (_, word y.0 y.1) x (λ same. apart (last_table page) (y.1 ∙ ap Some (sym same)))
 
-  pub turned_stands : (after : Option ℕ) → ((k : ℕ) → get t.tables k ≡ Some g → ⊥) → HasBytes v g s.bytes
-      → Owns v (with_leaf t (leaf_node page) leaf) after → (fresh : ℕ) (shared : Bool)
-      → Stands w root trapframe after (with_leaf t (leaf_node page) leaf) (with_page p page (unmarked fresh shared s))
-  turned_stands after apart bytes owns fresh shared =
-      page_stands v w trapframe t (with_leaf t (leaf_node page) leaf) p page (unmarked fresh shared s) leaf g r
+  -- another page in the place of the settled one
+  pub turned_stands : (n : Page) → IsPageLeaf leaf g r n.fork_mark (is_dirty_page r n) → (after : Option ℕ) → ((k : ℕ) → get t.tables k ≡ Some g → ⊥) → HasBytes v g n.bytes
+      → Owns v (with_leaf t (leaf_node page) leaf) after → Stands w root trapframe after (with_leaf t (leaf_node page) leaf) (with_page p page n)
+  turned_stands n made after apart bytes owns =
+      page_stands v w trapframe t (with_leaf t (leaf_node page) leaf) p page n leaf g r
       (stands.shows.low page s settled) (λ k ne. insert_other t.leaves (leaf_node page) leaf k ne)
       (insert_same t.leaves (leaf_node page) leaf (leaf_node page) refl) made in_region
-      (same_bytes v w g s.bytes (turned_other g apart) bytes)
+      (same_bytes v w g n.bytes (turned_other g apart) bytes)
       (λ k x f ne at names. turned_other f (no_table v t root spare stands.tables stands.owns k x f at names))
       root spare after stands tables
       (same_owns v (with_leaf t (leaf_node page) leaf) w after turned_references turned_sole owns)

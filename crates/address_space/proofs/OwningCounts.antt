@@ -20,10 +20,11 @@ use Rattle.sv39_entry.specs.Word.{has_flag, ppn}
 use Rattle.sv39_entry.specs.declared.frame.FrameNo.{FrameNo}
 use Rattle.table_walk.specs.Tables.{HasTables, Tables, last_table, leaf_node, with_leaf}
 use Rattle.table_walk.specs.Keys.{insert_other, insert_same}
-use Rattle.address_space.specs.Agreement.{Agrees, is_dirty_page, IsPageLeaf, Stands}
+use Rattle.address_space.specs.Agreement.{body, IsSpace, is_dirty_page, IsPageLeaf, Stands}
 use Rattle.address_space.specs.Layouts.{Layout}
 use Rattle.address_space.specs.Separating.{CanSeparate, Separates}
 use Rattle.address_space.specs.Steps.{CanOwn, Owned, Spends, Takes, RunsDry}
+use Rattle.address_space.proofs.Sound.{leafy_at, sound_page}
 use Rattle.address_space.proofs.Owned.{no_table, same_owns}
 use Rattle.address_space.proofs.Owning.{owns_same, turned_sole, turned_stands, turned_words}
 use Rattle.address_space.proofs.OwningSteps.{parting_page, words_spend}
@@ -192,8 +193,9 @@ look_at v b a f x c same look is = look ∙ ap (looked x c) same ∙ ap (λ y. l
 
 -- a reservation is refused
 pub refused_agrees : (v a w : View) (f c root trapframe : ℕ) (l : Layout) (t : Tables) (p : Process) → a ≡ looked f c v → IsDry 1 a w
-    → Agrees v root trapframe l t p → Agrees w root trapframe l t p
+    → IsSpace (body v root trapframe l) t p → IsSpace (body w root trapframe l) t p
 refused_agrees v a w f c root trapframe l t p look dry agrees = record {
+  sound = agrees.sound;
   lays = agrees.lays;
   stands = like_stands v w (like_both v a w (subst (IsLike v) (sym look) (looked_like f c v)) (like_frames a w dry.frames)) root trapframe None t p agrees.stands;
   credits = dry.credits ∙ ap (λ (x : View). x.credits) look ∙ agrees.credits;
@@ -218,14 +220,14 @@ kept_dirty false w = refl
 kept_dirty true false = refl
 kept_dirty true true = refl
 
-module _ {v : View} {root trapframe : ℕ} {l : Layout} {t : Tables} {p : Process} {page : ℕ} {s : Page} {f : ℕ} (can : CanOwn v root trapframe l t p page s f) where
+module _ {v : View} {root trapframe : ℕ} {l : Layout} {t : Tables} {p : Process} {page : ℕ} {s : Page} {f : ℕ} (can : CanOwn (body v root trapframe l) t p page s f) where
   -- its frame
   here : HasPage v t p page s f
   here = parting_page v root trapframe t p page s can.region f (is_dirty_page can.region s) (record {
     stands = can.agrees.stands;
     settled = can.settled;
     in_region = can.in_region;
-    leafy = can.leafy;
+    leafy = leafy_at p can.agrees.sound.order page can.region can.in_region;
     on = can.on;
     kept = kept_dirty (s.stored_mark || not (is_shared_kind can.region.kind)) can.region.writes;
   })
@@ -260,7 +262,7 @@ module _ {v : View} {root trapframe : ℕ} {l : Layout} {t : Tables} {p : Proces
     like = subst (IsLike v) (sym look) (looked_like f c v)
 
     own_leafy : makes_leaf r ≡ true
-    own_leafy = ap makes_leaf (same_Some r can.region (sym in_region ∙ can.in_region)) ∙ can.leafy
+    own_leafy = leafy_at p can.agrees.sound.order page r in_region
 
     pub own_stands : Stands a root trapframe None t p
     own_stands = like_stands v a like root trapframe None t p can.agrees.stands
@@ -275,18 +277,19 @@ module _ {v : View} {root trapframe : ℕ} {l : Layout} {t : Tables} {p : Proces
       bare = no_table a t root None own_stands.tables own_stands.owns (leaf_node page) can.on.0 f can.on.1 can.on.2
 
       kept : (fresh : ℕ) (shared : Bool) → Stands w root trapframe None (with_leaf t (leaf_node page) leaf) (with_page p page (unmarked fresh shared s))
-      kept = turned_stands a w root trapframe None t p page s r f leaf own_stands can.settled in_region made tables word None bare
+      kept fresh shared = turned_stands a w root trapframe None t p page s r f leaf own_stands can.settled in_region tables word (unmarked fresh shared s) made None bare
           (like_bytes v a like f s.bytes here.bytes)
           (owns_same a root t own_stands.tables page can.on.0 leaf f f can.on.1 can.on.2 made.names refl sole own_stands.owns)
 
       spent : Spends a w 0
       spent =
-          let changes = turned_words a w root trapframe None t p page s r f leaf own_stands can.settled in_region made tables word in
+          let changes = turned_words a w root trapframe None t p page s r f leaf own_stands can.settled in_region tables word in
           words_spend changes.0 0 a a w changes.1 (nothing_spent a)
 
-      pub own_kept : Owned v w root trapframe l t (with_leaf t (leaf_node page) leaf) p page s f f c
+      pub own_kept : Owned v (body w root trapframe l) t (with_leaf t (leaf_node page) leaf) p page s f f c
       own_kept = record {
         agrees = λ fresh. record {
+          sound = sound_page p page s _ can.settled can.agrees.sound;
           lays = lays_with l p page _ can.agrees.lays;
           stands = kept fresh (not (c == 1));
           credits = let none = ap (λ (x : View). x.credits) look in omega (arith, spent.credits, none, can.agrees.credits);
@@ -294,7 +297,7 @@ module _ {v : View} {root trapframe : ℕ} {l : Layout} {t : Tables} {p : Proces
         on = (leaf, insert_same t.leaves (leaf_node page) leaf (leaf_node page) refl, made.names);
         same = λ _. refl;
         fresh = λ apart. absurd (apart one);
-        sole = turned_sole a w root trapframe None t p page s r f leaf own_stands can.settled in_region made tables word f sole;
+        sole = turned_sole a w root trapframe None t p page s r f leaf own_stands can.settled in_region tables word f sole;
         others = λ k ne. insert_other t.leaves (leaf_node page) leaf k ne;
         takes = subst (λ n. Takes v w n (c ∷ [])) (sym (need_none c one)) (takes_after v a w 0 c (looked_tallies f c v a look) spent);
       }
@@ -320,9 +323,10 @@ module _ {v : View} {root trapframe : ℕ} {l : Layout} {t : Tables} {p : Proces
         kept = kept;
       }
 
-      pub own_parted : (w : View) (u : Tables) (g : ℕ) → Separates b w root trapframe t u p page s g → Owned v w root trapframe l t u p page s f g c
+      pub own_parted : (w : View) (u : Tables) (g : ℕ) → Separates b w root trapframe t u p page s g → Owned v (body w root trapframe l) t u p page s f g c
       own_parted w u g parts = record {
         agrees = λ fresh. record {
+          sound = sound_page p page s _ can.settled can.agrees.sound;
           lays = lays_with l p page _ can.agrees.lays;
           stands = parts.stands fresh (not (c == 1));
           credits = omega (arith, parts.spends.credits, credits);

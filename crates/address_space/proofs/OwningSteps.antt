@@ -127,9 +127,9 @@ module _ {v : View} {root trapframe : ℕ} {t : Tables} {p : Process} {page : �
         sole = words_sole g a b copied g part_sole
 
         turned : (new : ℕ) (shared : Bool) → Stands d root trapframe (Some f) (with_leaf t (leaf_node page) leaf) (with_page p page (unmarked new shared s))
-        turned =
-            turned_stands b d root trapframe (Some g) t p page s r g leaf part_copied can.settled can.in_region made tables word
-            (Some f) (λ k table. (part_copied.owns.ready g refl).1 k (inl table)) (bytes s.bytes part_bytes)
+        turned new shared =
+            turned_stands b d root trapframe (Some g) t p page s r g leaf part_copied can.settled can.in_region tables word
+            (unmarked new shared s) made (Some f) (λ k table. (part_copied.owns.ready g refl).1 k (inl table)) (bytes s.bytes part_bytes)
             (owns_other b root t part_copied.tables page can.on.0 leaf f g can.on.1 can.on.2 made.names part_copied.owns sole)
 
         pub part_held : references d f ≡ 1
@@ -140,14 +140,14 @@ module _ {v : View} {root trapframe : ℕ} {t : Tables} {p : Process} {page : �
 
         pub part_done : (e : View) → e ≡ released f d → Separates v e root trapframe t (with_leaf t (leaf_node page) leaf) p page s g
         part_done e release =
-            let changes = turned_words b d root trapframe (Some g) t p page s r g leaf part_copied can.settled can.in_region made tables word in
+            let changes = turned_words b d root trapframe (Some g) t p page s r g leaf part_copied can.settled can.in_region tables word in
             subst (λ x. Separates v x root trapframe t (with_leaf t (leaf_node page) leaf) p page s g) (sym release)
             (record {
               stands = λ new shared. released_stands d root trapframe _ _ f (turned new shared);
               on = (leaf, insert_same t.leaves (leaf_node page) leaf (leaf_node page) refl, made.names);
               fresh = fresh;
               sole = same_sole d (released f d) g (released_other f g d part_held (λ same. part_apart (sym same)))
-                  (turned_sole b d root trapframe (Some g) t p page s r g leaf part_copied can.settled can.in_region made tables word g sole);
+                  (turned_sole b d root trapframe (Some g) t p page s r g leaf part_copied can.settled can.in_region tables word g sole);
               others = λ k ne. insert_other t.leaves (leaf_node page) leaf k ne;
               spends = released_spends f 1 v d part_held (words_spend changes.0 1 v b d changes.1 (words_spend g 1 v a b copied spends));
             })

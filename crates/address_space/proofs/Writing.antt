@@ -25,9 +25,10 @@ use Rattle.sv39_entry.specs.declared.frame.FrameNo.{FrameNo}
 use Rattle.table_walk.specs.Counted.{AreTablesOf}
 use Rattle.table_walk.specs.Tables.{HasTables, Tables, leaf_node}
 use Rattle.table_walk.specs.Same.{same_tables}
-use Rattle.address_space.specs.Agreement.{Agrees, is_dirty_page, IsPageLeaf, IsLeafNumber, IsOn, IsShown, Names, OthersKeep, Owns, Shows, Stands}
+use Rattle.address_space.specs.Agreement.{body, IsSpace, is_dirty_page, IsPageLeaf, IsLeafNumber, IsOn, IsShown, Names, OthersKeep, Owns, Shows, Stands}
 use Rattle.address_space.specs.Layouts.{Layout, LaysOut}
 use Rattle.address_space.specs.Steps.{CanRead, CanWrite, Takes}
+use Rattle.address_space.proofs.Sound.{sound_page}
 use Rattle.address_space.proofs.Owned.{no_table, one_frame, one_page, same_bytes, same_owns}
 
 -- words of one frame
@@ -96,7 +97,7 @@ module _ (v : View) (t : Tables) (p : Process) (page : ℕ) (s : Page) (f : ℕ)
   page_on x found = subst (HasPage v t p page s) (ap (λ (x : FrameNo × Bool). (x.0).0) (same_Some _ x (sym page_found ∙ found))) here
 
 -- the frame of the leaf is the page's
-pub on_page : (v : View) (root trapframe : ℕ) (l : Layout) (t : Tables) (p : Process) (page : ℕ) (s : Page) (f : ℕ) → CanRead v root trapframe l t p page s
+pub on_page : (v : View) (root trapframe : ℕ) (l : Layout) (t : Tables) (p : Process) (page : ℕ) (s : Page) (f : ℕ) → CanRead (body v root trapframe l) t p page s
     → IsOn t page f → HasPage v t p page s f
 on_page v root trapframe l t p page s f can on =
     let here = page_here v root trapframe None t p page s can.agrees.stands can.settled in
@@ -190,7 +191,7 @@ lays_with l p page s lays = record { parts = lays.parts; mappings = lays.mapping
 -- a page is written
 
 -- a page that may be written is the seat's alone
-pub page_sole : (v : View) (root trapframe : ℕ) (l : Layout) (t : Tables) (p : Process) (page : ℕ) (s : Page) (f : ℕ) → CanWrite v root trapframe l t p page s
+pub page_sole : (v : View) (root trapframe : ℕ) (l : Layout) (t : Tables) (p : Process) (page : ℕ) (s : Page) (f : ℕ) → CanWrite (body v root trapframe l) t p page s
     → HasPage v t p page s f → IsSole v f
 page_sole v root trapframe l t p page s f can here =
     let same = same_Some here.region can.region (sym here.in_region ∙ can.in_region) in
@@ -198,8 +199,8 @@ page_sole v root trapframe l t p page s f can here =
     (here.made.write ∙ ap (λ (r : Region). r.writes && not s.fork_mark) same ∙ ap (λ b. b && not s.fork_mark) can.writes ∙ ap not can.unmarked)
 
 pub page_written : (v w : View) (root trapframe : ℕ) (l : Layout) (t : Tables) (p : Process) (page : ℕ) (s : Page) (f : ℕ) (bytes : List ℕ)
-    → CanRead v root trapframe l t p page s → HasPage v t p page s f → ChangesWords f v w → HasBytes w f bytes
-    → Agrees w root trapframe l t (with_page p page (record s { bytes = bytes }))
+    → CanRead (body v root trapframe l) t p page s → HasPage v t p page s f → ChangesWords f v w → HasBytes w f bytes
+    → IsSpace (body w root trapframe l) t (with_page p page (record s { bytes = bytes }))
 page_written v w root trapframe l t p page s f bytes can here changes has =
     let stands = can.agrees.stands in
     let named = inr (here.leaf, here.mapped, here.made.names) in
@@ -207,6 +208,7 @@ page_written v w root trapframe l t p page s f bytes can here changes has =
     ne (stands.owns.once g k (leaf_node page) (inr (x, at, names)) (subst (λ y. Names t y (leaf_node page)) (sym same) named)) in
     let no = no_table v t root None stands.tables stands.owns (leaf_node page) here.leaf f here.mapped here.made.names in
     record {
+      sound = sound_page p page s _ can.settled can.agrees.sound;
       lays = lays_with l p page _ can.agrees.lays;
       stands = page_stands v w trapframe t t p page (record s { bytes = bytes }) here.leaf f here.region here.low (λ k ne. refl) here.mapped here.made here.in_region has
           (λ k x g ne at names. words_other f v w changes g (apart k x g ne at names)) root None None stands

@@ -3,6 +3,7 @@ use Rattle.std.specs.Prelude.{◌≡◌, ◌≢◌, ◌⊎◌, ℕ, Bool, true, 
 use Rattle.std.specs.FinMap.{get}
 use Rattle.frame_bytes.specs.Contents.{HasBytes}
 use Rattle.frame_store.specs.View.{View, IsSole, references}
+use Rattle.process_model.specs.Order.{IsSound}
 use Rattle.process_model.specs.PageMap as pages
 use Rattle.process_model.specs.Process.{Page, Process, regions}
 use Rattle.process_model.specs.Regions.{Region, is_guard_kind, is_shared_kind, region_at}
@@ -12,6 +13,7 @@ use Rattle.sv39_entry.specs.Word.{IsLeafOf, ppn}
 use Rattle.table_walk.specs.Counted.{AreTablesOf}
 use Rattle.table_walk.specs.Tables.{HasTables, Tables, leaf_node}
 use Rattle.address_space.specs.Layouts.{Layout, LaysOut}
+use Rattle.address_space.specs.declared.space.Space.{Space}
 
 -- frames
 
@@ -96,11 +98,28 @@ pub record Stands (v : View) (root trapframe : ℕ) (spare : Option ℕ) (t : Ta
   pub tabled : AreTablesOf t (pages.keys p.tabled)
   pub tabled_low : All (λ n. n < trapframe_page) (pages.keys p.tabled)
 
--- agreement of a space with a process
-pub record Agrees (v : View) (root trapframe : ℕ) (l : Layout) (t : Tables) (p : Process) : Type 0 where
-  pub lays : LaysOut l p
-  pub stands : Stands v root trapframe None t p
-  pub credits : v.credits ≡ 0
+-- agreement
+
+-- a space: what its seat knows, the frames of its root and of its trapframe, and its layout
+pub record Body : Type 0 where
+  pub view : View
+  pub root : ℕ
+  pub trapframe : ℕ
+  pub layout : Layout
+
+abbrev pub body : View → ℕ → ℕ → Layout → Body
+body v root trapframe l = record { view = v; root = root; trapframe = trapframe; layout = l }
+
+-- a space of the code, where its seat's view is told
+abbrev pub body_of : {S : Type 0} → (S → View) → Space S → Body
+body_of view x = body (view x.seat) x.root.0 x.trapframe.0 x.layout
+
+-- the space is the process, by these tables
+pub record IsSpace (x : Body) (t : Tables) (p : Process) : Type 0 where
+  pub sound : IsSound p
+  pub lays : LaysOut x.layout p
+  pub stands : Stands x.view x.root x.trapframe None t p
+  pub credits : x.view.credits ≡ 0
 
 -- steps
 

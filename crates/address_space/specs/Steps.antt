@@ -4,14 +4,14 @@ use Rattle.std.specs.Prelude.{◌∷◌, ◌++◌}
 use Rattle.frame_store.specs.View.{spent, taken, View, IsSole, references}
 use Rattle.process_model.specs.Bytes.{padded}
 use Rattle.process_model.specs.Frames.{part_need, settle_need}
+use Rattle.process_model.specs.Order.{HasOrder}
 use Rattle.process_model.specs.PageMap as pages
 use Rattle.process_model.specs.Process.{Page, Process, regions}
-use Rattle.process_model.specs.Regions.{makes_leaf, Region, region_at}
-use Rattle.process_model.specs.Residence.{unmarked, with_page}
+use Rattle.process_model.specs.Regions.{is_guard_kind, is_shared_kind, makes_leaf, Region, region_at}
+use Rattle.process_model.specs.Residence.{marked_stored, region_on, unmarked, with_page}
 use Rattle.sv39_entry.specs.Address.{trapframe_page}
 use Rattle.table_walk.specs.Tables.{Tables, missing}
-use Rattle.address_space.specs.Agreement.{Agrees, IsOn, OthersKeep, Stands}
-use Rattle.address_space.specs.Layouts.{Layout}
+use Rattle.address_space.specs.Agreement.{Body, IsSpace, IsOn, OthersKeep, Stands}
 
 -- so many credits became frames, and no count was read
 pub record Spends (v w : View) (n : ℕ) : Type 0 where
@@ -55,55 +55,65 @@ pub record Adds (v w : View) (root trapframe : ℕ) (t u : Tables) (p : Process)
   pub others : OthersKeep t u page
   pub spends : Spends v w (1 + missing t page)
 
-pub record CanSettle (v : View) (root trapframe : ℕ) (l : Layout) (t : Tables) (p : Process) (page : ℕ) : Type 0 where
-  pub agrees : Agrees v root trapframe l t p
+-- any page of a region that is not settled yet
+pub record CanSettle (x : Body) (t : Tables) (p : Process) (page : ℕ) : Type 0 where
+  pub agrees : IsSpace x t p
+  pub unsettled : pages.get p.settled page ≡ None
   pub region : Region
-  pub add : CanAdd v root trapframe t p page region
+  pub in_region : region_at (regions p) page ≡ Some region
 
-pub record Settles (v w : View) (root trapframe : ℕ) (l : Layout) (t u : Tables) (p : Process) (page : ℕ) (bytes : List ℕ) (f : ℕ) : Type 0 where
-  pub agrees : (fresh : ℕ) → Agrees w root trapframe l u (settled_with fresh bytes p page)
+pub record Settles (v : View) (x : Body) (t u : Tables) (p : Process) (page : ℕ) (bytes : List ℕ) (f : ℕ) : Type 0 where
+  pub agrees : (fresh : ℕ) → IsSpace x u (settled_with fresh bytes p page)
   pub on : IsOn u page f
   pub fresh : references v f ≡ 0
-  pub sole : IsSole w f
+  pub sole : IsSole x.view f
   pub others : OthersKeep t u page
-  pub takes : Takes v w (settle_need p page) []
+  pub takes : Takes v x.view (settle_need p page) []
 
 -- a page is made the process's own
 
 -- a settled page with a fork mark
-pub record CanOwn (v : View) (root trapframe : ℕ) (l : Layout) (t : Tables) (p : Process) (page : ℕ) (s : Page) (f : ℕ) : Type 0 where
-  pub agrees : Agrees v root trapframe l t p
+pub record CanOwn (x : Body) (t : Tables) (p : Process) (page : ℕ) (s : Page) (f : ℕ) : Type 0 where
+  pub agrees : IsSpace x t p
   pub settled : pages.get p.settled page ≡ Some s
   pub marked : s.fork_mark ≡ true
   pub region : Region
   pub in_region : region_at (regions p) page ≡ Some region
   pub writes : region.writes ≡ true
-  pub leafy : makes_leaf region ≡ true
   pub on : IsOn t page f
 
 -- where the count that was read was 1 the page keeps its frame; else it stands on another one, with the same bytes
-pub record Owned (v w : View) (root trapframe : ℕ) (l : Layout) (t u : Tables) (p : Process) (page : ℕ) (s : Page) (f g c : ℕ) : Type 0 where
-  pub agrees : (fresh : ℕ) → Agrees w root trapframe l u (with_page p page (unmarked fresh (not (c == 1)) s))
+pub record Owned (v : View) (x : Body) (t u : Tables) (p : Process) (page : ℕ) (s : Page) (f g c : ℕ) : Type 0 where
+  pub agrees : (fresh : ℕ) → IsSpace x u (with_page p page (unmarked fresh (not (c == 1)) s))
   pub on : IsOn u page g
   pub same : c ≡ 1 → g ≡ f
   pub fresh : c ≢ 1 → references v g ≡ 0
-  pub sole : IsSole w g
+  pub sole : IsSole x.view g
   pub others : OthersKeep t u page
-  pub takes : Takes v w (part_need (not (c == 1))) (c ∷ [])
+  pub takes : Takes v x.view (part_need (not (c == 1))) (c ∷ [])
 
 -- a page is read and written
 
-pub record CanRead (v : View) (root trapframe : ℕ) (l : Layout) (t : Tables) (p : Process) (page : ℕ) (s : Page) : Type 0 where
-  pub agrees : Agrees v root trapframe l t p
+pub record CanRead (x : Body) (t : Tables) (p : Process) (page : ℕ) (s : Page) : Type 0 where
+  pub agrees : IsSpace x t p
   pub settled : pages.get p.settled page ≡ Some s
 
 -- no other process has the page, and its region grants writing
-pub record CanWrite (v : View) (root trapframe : ℕ) (l : Layout) (t : Tables) (p : Process) (page : ℕ) (s : Page) : Type 0 where
-  pub read : CanRead v root trapframe l t p page s
+pub record CanWrite (x : Body) (t : Tables) (p : Process) (page : ℕ) (s : Page) : Type 0 where
+  pub read : CanRead x t p page s
   pub unmarked : s.fork_mark ≡ false
   pub region : Region
   pub in_region : region_at (regions p) page ≡ Some region
   pub writes : region.writes ≡ true
+
+-- a page gets the stored mark, where stores go back to a file
+
+pub record Marks (v : View) (x : Body) (t u : Tables) (p : Process) (page : ℕ) (s : Page) : Type 0 where
+  pub agrees : IsSpace x u (with_page p page (marked_stored (region_on p page) s))
+  -- on the frame that it had
+  pub on : (f : ℕ) → IsOn t page f → IsOn u page f
+  pub others : OthersKeep t u page
+  pub takes : Takes v x.view 0 []
 
 -- a space ends
 
@@ -112,8 +122,24 @@ pub record IsBare (v : View) : Type 0 where
   pub none : (f : ℕ) → references v f ≡ 0
   pub credits : v.credits ≡ 0
 
--- the heap ends elsewhere
+-- regions change
 
--- each settled page of the one process is in the region that it has in the other
-abbrev pub KeepsRegions : Process → Process → Type 0
-KeepsRegions p q = (n : ℕ) (s : Page) → pages.get p.settled n ≡ Some s → region_at (regions q) n ≡ region_at (regions p) n
+-- leaves of the one region are as those of the other
+pub record LeafLike (r s : Region) : Type 0 where
+  pub reads : s.reads ≡ r.reads
+  pub writes : s.writes ≡ r.writes
+  pub executes : s.executes ≡ r.executes
+  pub guard : is_guard_kind s.kind ≡ is_guard_kind r.kind
+  pub shared : is_shared_kind s.kind ≡ is_shared_kind r.kind
+
+-- each settled page of the one process is in a region of the other that makes the leaf that it has
+abbrev pub KeepsLeaves : Process → Process → Type 0
+KeepsLeaves p q = (n : ℕ) (s : Page) (r : Region) → pages.get p.settled n ≡ Some s → region_at (regions p) n ≡ Some r
+    → (x : Region) × (region_at (regions q) n ≡ Some x) × LeafLike r x
+
+-- regions in place of those of a process: other runs of pages, under the same settled pages
+pub record CanRelay (p q : Process) : Type 0 where
+  pub settled : q.settled ≡ p.settled
+  pub tabled : q.tabled ≡ p.tabled
+  pub order : HasOrder 0 q
+  pub leaves : KeepsLeaves p q

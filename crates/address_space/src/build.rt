@@ -1,7 +1,7 @@
 // A space is built.
 
 ghost use Rattle.std.specs.Prelude.{[], ◌≡◌, ◌-◌, ◌≤◌, ◌↔◌, if◌then◌else◌, IfErr, IfOk, is_ok, IsOk, ℕ};
-ghost use Rattle.address_space.specs.Agreement.{Agrees, HoldsTrampoline};
+ghost use Rattle.address_space.specs.Agreement.{body_of, IsSpace, HoldsTrampoline};
 ghost use Rattle.address_space.specs.Parts.{AreParts, bare_process, build_need, CanFill, CanOpen, Fills, Opens, OwnsAlone, pages_need, pages_of, part_pages, process_of_parts, StandsAlone};
 ghost use Rattle.address_space.specs.Steps.{Takes};
 ghost use Rattle.frame_store.specs.Laws.{Fits, IsDry, Keeps};
@@ -33,7 +33,7 @@ impl<S: FrameSeat> Space<S> {
         requires fits { Fits F.rule store.old seat }
         requires parts { AreParts parts.now }
         requires seat { HoldsTrampoline (S.view seat) }
-        ensures built { IfOk result (λ s. (t : Tables) × ((fresh : ℕ) → Agrees (S.view s.seat) s.root.0 s.trapframe.0 s.layout t (process_of_parts fresh parts.now)) × OwnsAlone (S.view s.seat) t) }
+        ensures built { IfOk result (λ s. (t : Tables) × ((fresh : ℕ) → IsSpace (body_of S.view s) t (process_of_parts fresh parts.now)) × OwnsAlone (S.view s.seat) t) }
         ensures takes { IfOk result (λ s. Takes (S.view seat) (S.view s.seat) (build_need parts.now) []) }
         ensures refused { IfErr result (λ e. IsDry (build_need parts.now) (S.view seat) (S.view e.1)) }
         ensures exact { F.alone → IsOk result ↔ (build_need parts.now ≤ F.free store.old) }

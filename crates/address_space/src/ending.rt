@@ -1,7 +1,7 @@
 // Pages that are dropped, and the end of a space.
 
 ghost use Rattle.std.specs.Prelude.{[], ◌≡◌, ◌^◌, ◌≤◌, ℕ};
-ghost use Rattle.address_space.specs.Agreement.{Agrees};
+ghost use Rattle.address_space.specs.Agreement.{body_of, IsSpace};
 ghost use Rattle.address_space.specs.Ending.{CanDrop, Drops, DropsLeaf, IsEmptied, IsFirstMapped};
 ghost use Rattle.address_space.specs.Steps.{IsBare, Takes};
 ghost use Rattle.frame_store.specs.Laws.{Fits, Keeps};
@@ -72,11 +72,11 @@ impl<S: FrameSeat> Space<S> {
     /// Unmaps the settled pages from one page up to, and without, another, and lets their frames go. The tables stay.
     pub fn drop_pages<F: FrameAccess<Seat = S>>(&mut self, store: &mut F, first: Vpn, end: Vpn)
         requires fits { Fits F.rule store.old self.old.seat }
-        requires ready { (t : Tables) × (p : Process) × Agrees (S.view self.old.seat) self.old.root.0 self.old.trapframe.0 self.old.layout t p }
+        requires ready { (t : Tables) × (p : Process) × IsSpace (body_of S.view self.old) t p }
         requires low { end ≤ trapframe_page }
         ensures dropped { (t : Tables) (p : Process) →
-            Agrees (S.view self.old.seat) self.old.root.0 self.old.trapframe.0 self.old.layout t p →
-            (u : Tables) × Agrees (S.view self.new.seat) self.new.root.0 self.new.trapframe.0 self.new.layout u (without_pages p first end) × Drops t u first end }
+            IsSpace (body_of S.view self.old) t p →
+            (u : Tables) × IsSpace (body_of S.view self.new) u (without_pages p first end) × Drops t u first end }
         ensures tallies { Takes (S.view self.old.seat) (S.view self.new.seat) 0 [] }
         ensures root { self.new.root ≡ self.old.root }
         ensures trapframe { self.new.trapframe ≡ self.old.trapframe }
@@ -94,7 +94,7 @@ impl<S: FrameSeat> Space<S> {
     /// Ends the space: its pages go, then its tables, and last frame 0. The seat holds nothing then.
     pub fn destroy<F: FrameAccess<Seat = S>>(mut self, store: &mut F) -> S
         requires fits { Fits F.rule store.old self.seat }
-        requires ready { (t : Tables) × (p : Process) × Agrees (S.view self.seat) self.root.0 self.trapframe.0 self.layout t p }
+        requires ready { (t : Tables) × (p : Process) × IsSpace (body_of S.view self) t p }
         ensures bare { IsBare (S.view result) }
         ensures tallies { Takes (S.view self.seat) (S.view result) 0 [] }
         ensures keeps { Keeps F.rule store.old self.seat store.new result }

@@ -1,11 +1,14 @@
 // The regions of a process.
 
-ghost use Rattle.std.specs.Prelude.{[], ◌≡◌, ◌+◌, ◌*◌, ◌<◌, ◌≤◌, All, length, map, option_map};
+ghost use Rattle.std.specs.Prelude.{[], ◌≡◌, ◌+◌, ◌*◌, ◌<◌, ◌≤◌, All, length, map, nat_le, not, option_map, option_to_list, ◌==◌};
+ghost use Rattle.std.specs.List.{prefix_len};
 ghost use Rattle.sv39_entry.specs.Address.{trapframe_page};
+ghost use Rattle.process_model.specs.Mappings.{most_mappings, with_instead, with_mapping};
 ghost use Rattle.process_model.specs.Process.{heap_of, Process, regions};
 ghost use Rattle.process_model.specs.Regions as model;
 ghost use Rattle.address_space.specs.Layouts.{granted_unless, last_page, LaysOut, region_of};
 ghost use Rattle.address_space.specs.Parts.{regions_in};
+ghost use Rattle.address_space.specs.declared.region.Region.{Region as Run};
 
 use crate::part::Part;
 use crate::region::{Region, RegionKind, Source};
@@ -67,6 +70,48 @@ impl Layout {
         ensures size { self.new.size ≡ size }
     {
         self.size = size;
+    }
+
+    /// Adds a mapping, in its place by address. There has to be room for one more.
+    pub(crate) fn add_mapping(&mut self, mapping: Region)
+        requires few { length self.old.mappings < most_mappings }
+        ensures parts { self.new.parts ≡ self.old.parts }
+        ensures mappings { self.new.mappings ≡ with_mapping (region_of mapping) self.old.mappings }
+        ensures heap_base { self.new.heap_base ≡ self.old.heap_base }
+        ensures size { self.new.size ≡ self.old.size }
+    {
+        let place = count_up_to(self.mappings.as_slice(), mapping.first);
+        self.mappings.insert(place, mapping);
+    }
+
+    /// Puts what is left of a mapping in the place of the one that begins at a page; where nothing is left, that one goes.
+    pub(crate) fn replace_mapping(&mut self, first: u64, rest: Option<Region>)
+        ensures parts { self.new.parts ≡ self.old.parts }
+        ensures mappings { self.new.mappings ≡ with_instead self.old.mappings first (option_to_list (option_map region_of rest)) }
+        ensures heap_base { self.new.heap_base ≡ self.old.heap_base }
+        ensures size { self.new.size ≡ self.old.size }
+    {
+        let place = count_others(self.mappings.as_slice(), first);
+        if place == self.mappings.len() {
+            return;
+        }
+        let Some(region) = rest else {
+            self.mappings.remove(place);
+            return;
+        };
+        self.mappings[place] = region;
+    }
+
+    /// The same regions once more, for a child.
+    pub fn copied(&self) -> Layout
+        ensures { result ≡ self.now }
+    {
+        Layout {
+            parts: copied(&self.parts),
+            mappings: copied(&self.mappings),
+            heap_base: self.heap_base,
+            size: self.size,
+        }
     }
 
     /// The region that holds a page.
@@ -135,6 +180,31 @@ impl Layout {
             None => Ok(()),
         }
     }
+}
+
+/// A list of regions once more.
+fn copied<const CAP: usize>(list: &ArrayVec<Region, CAP>) -> ArrayVec<Region, CAP>
+    ensures { result.items ≡ list.now.items }
+{
+    let mut copy = ArrayVec::new();
+    if copy.try_extend_from_slice(list.as_slice()).is_err() {
+        unreachable!()
+    }
+    copy
+}
+
+/// How many regions, from the first one on, begin at a page or below it.
+fn count_up_to(regions: &[Region], first: u64) -> usize
+    ensures { result ≡ prefix_len (λ (r : Run). nat_le r.first first) regions.now }
+{
+    regions.iter().take_while(|r| r.first <= first).count()
+}
+
+/// How many regions, from the first one on, begin at another page.
+fn count_others(regions: &[Region], first: u64) -> usize
+    ensures { result ≡ prefix_len (λ (r : Run). not (r.first == first)) regions.now }
+{
+    regions.iter().take_while(|r| r.first != first).count()
 }
 
 /// The first of some regions that holds a page.

@@ -5,6 +5,7 @@ mod build;
 mod ending;
 mod kernel;
 mod layout;
+mod marking;
 mod needed;
 mod own;
 mod pages;

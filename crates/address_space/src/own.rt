@@ -1,7 +1,7 @@
 // A page that a fork shared becomes the process's own.
 
 ghost use Rattle.std.specs.Prelude.{[], ◌≡◌, ◌≢◌, ◌∷◌, ◌+◌, ◌-◌, ◌<◌, ◌≤◌, ◌↔◌, ◌==◌, cond, if◌then◌else◌, IfErr, IfOk, is_ok, IsOk, not, ℕ};
-ghost use Rattle.address_space.specs.Agreement.{Agrees};
+ghost use Rattle.address_space.specs.Agreement.{body_of, IsSpace};
 ghost use Rattle.address_space.specs.Layouts.{region_of};
 ghost use Rattle.address_space.specs.Separating.{CanSeparate, Separates};
 ghost use Rattle.address_space.specs.Steps.{CanOwn, Owned, RunsDry};
@@ -23,19 +23,19 @@ impl<S: FrameSeat> Space<S> {
     /// else the page gets a frame of its own with the same bytes, and the reference of the other one goes.
     pub fn own<F: FrameSupply<Seat = S>>(&mut self, store: &mut F, page: Vpn) -> Result<(), NoFrame>
         requires fits { Fits F.rule store.old self.old.seat }
-        requires ready { (t : Tables) × (p : Process) × (s : Page) × (f : ℕ) × CanOwn (S.view self.old.seat) self.old.root.0 self.old.trapframe.0 self.old.layout t p page s f }
+        requires ready { (t : Tables) × (p : Process) × (s : Page) × (f : ℕ) × CanOwn (body_of S.view self.old) t p page s f }
         ensures owned { IfOk result (λ _. (t : Tables) (p : Process) (s : Page) (f : ℕ) →
-            CanOwn (S.view self.old.seat) self.old.root.0 self.old.trapframe.0 self.old.layout t p page s f →
-            (u : Tables) × (g c : ℕ) × Owned (S.view self.old.seat) (S.view self.new.seat) self.new.root.0 self.new.trapframe.0 self.new.layout t u p page s f g c × (F.alone → c ≡ F.count store.old f)) }
+            CanOwn (body_of S.view self.old) t p page s f →
+            (u : Tables) × (g c : ℕ) × Owned (S.view self.old.seat) (body_of S.view self.new) t u p page s f g c × (F.alone → c ≡ F.count store.old f)) }
         ensures dry { IfErr result (λ _. (c : ℕ) × (c ≢ 1) × RunsDry (S.view self.old.seat) (S.view self.new.seat) 1 (c ∷ [])) }
         ensures whole { IfErr result (λ _. (t : Tables) (p : Process) →
-            Agrees (S.view self.old.seat) self.old.root.0 self.old.trapframe.0 self.old.layout t p →
-            Agrees (S.view self.new.seat) self.new.root.0 self.new.trapframe.0 self.new.layout t p) }
+            IsSpace (body_of S.view self.old) t p →
+            IsSpace (body_of S.view self.new) t p) }
         ensures exact { F.alone → (t : Tables) (p : Process) (s : Page) (f : ℕ) →
-            CanOwn (S.view self.old.seat) self.old.root.0 self.old.trapframe.0 self.old.layout t p page s f →
+            CanOwn (body_of S.view self.old) t p page s f →
             IsOk result ↔ (part_need (not (F.count store.old f == 1)) ≤ F.free store.old) }
         ensures free { F.alone → (t : Tables) (p : Process) (s : Page) (f : ℕ) →
-            CanOwn (S.view self.old.seat) self.old.root.0 self.old.trapframe.0 self.old.layout t p page s f →
+            CanOwn (body_of S.view self.old) t p page s f →
             F.free store.new ≡ F.free store.old - (if is_ok result then part_need (not (F.count store.old f == 1)) else 0) }
         ensures root { self.new.root ≡ self.old.root }
         ensures trapframe { self.new.trapframe ≡ self.old.trapframe }

@@ -2,7 +2,7 @@
 
 ghost use Rattle.std.specs.FinMap.{get};
 ghost use Rattle.std.specs.Prelude.{[], ◌≡◌, ◌+◌, ◌-◌, ◌^◌, ◌<◌, ◌≤◌, ◌↔◌, ◌==◌, false, if◌then◌else◌, IfErr, IfOk, is_ok, IsOk, length, not, option_and_then, option_map, Some, true, ℕ};
-ghost use Rattle.address_space.specs.Agreement.{Agrees, IsPageLeaf, IsOn};
+ghost use Rattle.address_space.specs.Agreement.{body_of, IsSpace, IsPageLeaf, IsOn};
 ghost use Rattle.address_space.specs.Layouts.{region_of};
 ghost use Rattle.address_space.specs.Steps.{Adds, CanAdd, CanSettle, RunsDry, Settles};
 ghost use Rattle.frame_store.specs.Laws.{Fits, Keeps};
@@ -85,22 +85,22 @@ impl<S: FrameSeat> Space<S> {
         bytes: &[u8],
     ) -> Result<(), NoFrame>
         requires fits { Fits F.rule store.old self.old.seat }
-        requires ready { (t : Tables) × (p : Process) × CanSettle (S.view self.old.seat) self.old.root.0 self.old.trapframe.0 self.old.layout t p page }
+        requires ready { (t : Tables) × (p : Process) × CanSettle (body_of S.view self.old) t p page }
         requires inside { length bytes.now ≤ 4096 }
         ensures settled { IfOk result (λ _. (t : Tables) (p : Process) →
-            CanSettle (S.view self.old.seat) self.old.root.0 self.old.trapframe.0 self.old.layout t p page →
-            (u : Tables) × (f : ℕ) × Settles (S.view self.old.seat) (S.view self.new.seat) self.new.root.0 self.new.trapframe.0 self.new.layout t u p page bytes.now f) }
+            CanSettle (body_of S.view self.old) t p page →
+            (u : Tables) × (f : ℕ) × Settles (S.view self.old.seat) (body_of S.view self.new) t u p page bytes.now f) }
         ensures dry { IfErr result (λ _. (t : Tables) (p : Process) →
-            CanSettle (S.view self.old.seat) self.old.root.0 self.old.trapframe.0 self.old.layout t p page →
+            CanSettle (body_of S.view self.old) t p page →
             RunsDry (S.view self.old.seat) (S.view self.new.seat) (settle_need p page) []) }
         ensures whole { IfErr result (λ _. (t : Tables) (p : Process) →
-            Agrees (S.view self.old.seat) self.old.root.0 self.old.trapframe.0 self.old.layout t p →
-            Agrees (S.view self.new.seat) self.new.root.0 self.new.trapframe.0 self.new.layout t p) }
+            IsSpace (body_of S.view self.old) t p →
+            IsSpace (body_of S.view self.new) t p) }
         ensures exact { F.alone → (t : Tables) (p : Process) →
-            CanSettle (S.view self.old.seat) self.old.root.0 self.old.trapframe.0 self.old.layout t p page →
+            CanSettle (body_of S.view self.old) t p page →
             IsOk result ↔ (settle_need p page ≤ F.free store.old) }
         ensures free { F.alone → (t : Tables) (p : Process) →
-            CanSettle (S.view self.old.seat) self.old.root.0 self.old.trapframe.0 self.old.layout t p page →
+            CanSettle (body_of S.view self.old) t p page →
             F.free store.new ≡ F.free store.old - (if is_ok result then settle_need p page else 0) }
         ensures root { self.new.root ≡ self.old.root }
         ensures trapframe { self.new.trapframe ≡ self.old.trapframe }

@@ -1,11 +1,12 @@
 // A process in memory.
 
-ghost use Rattle.std.specs.Prelude.{[], ◌≡◌, ◌%◌, ◌<◌, ℕ, IsTrue};
-ghost use Rattle.address_space.specs.Agreement.{Agrees, IsOn};
-ghost use Rattle.address_space.specs.Layouts.{granted_unless};
-ghost use Rattle.address_space.specs.Steps.{CanRead, CanWrite, KeepsRegions, Takes};
+ghost use Rattle.std.specs.Prelude.{[], ◌≡◌, ◌%◌, ◌<◌, ℕ, IsTrue, length, List, option_map, option_to_list};
+ghost use Rattle.address_space.specs.Agreement.{body_of, IsSpace, IsOn};
+ghost use Rattle.address_space.specs.Layouts.{granted_unless, region_of};
+ghost use Rattle.address_space.specs.Steps.{CanRead, CanRelay, CanWrite, Takes};
 ghost use Rattle.frame_store.specs.Laws.{Fits, Keeps};
 ghost use Rattle.process_model.specs.Bytes.{is_width, low_bytes};
+ghost use Rattle.process_model.specs.Mappings.{most_mappings, with_instead, with_mapping};
 ghost use Rattle.process_model.specs.Process.{Page, Process, regions};
 ghost use Rattle.process_model.specs.Regions as model;
 ghost use Rattle.process_model.specs.Residence.{loaded, stored, with_page};
@@ -14,6 +15,7 @@ ghost use Rattle.table_walk.specs.Tables.{Tables};
 
 use crate::layout::Layout;
 use crate::pages::frame_of;
+use crate::region::Region;
 use frame_bytes::{load_bytes, store_bytes};
 use frame_store::{FrameAccess, FrameSeat};
 use sv39_entry::{Access, FrameNo, Rule, Va};
@@ -33,7 +35,7 @@ impl<S: FrameSeat> Space<S> {
     /// Whether the user may make an access, or the first rule that denies it. `width` is in bytes.
     pub fn grant(&self, access: Access, va: Va, width: u64) -> Result<(), Rule>
         requires { 0 < width }
-        ensures { (t : Tables) (p : Process) → Agrees (S.view self.now.seat) self.now.root.0 self.now.trapframe.0 self.now.layout t p →
+        ensures { (t : Tables) (p : Process) → IsSpace (body_of S.view self.now) t p →
             result ≡ granted_unless (model.first_rule (regions p) access va.0 width) }
     {
         self.layout.grant(access, va, width)
@@ -42,10 +44,10 @@ impl<S: FrameSeat> Space<S> {
     /// The number in `width` bytes of a settled page, the lowest byte first.
     pub fn read<F: FrameAccess<Seat = S>>(&mut self, store: &mut F, va: Va, width: u64) -> u64
         requires fits { Fits F.rule store.old self.old.seat }
-        requires ready { (t : Tables) × (p : Process) × (s : Page) × CanRead (S.view self.old.seat) self.old.root.0 self.old.trapframe.0 self.old.layout t p (page_of va.0) s }
+        requires ready { (t : Tables) × (p : Process) × (s : Page) × CanRead (body_of S.view self.old) t p (page_of va.0) s }
         requires width { IsTrue (is_width width) }
         requires aligned { va.0 % width ≡ 0 }
-        ensures value { (t : Tables) (p : Process) (s : Page) → CanRead (S.view self.old.seat) self.old.root.0 self.old.trapframe.0 self.old.layout t p (page_of va.0) s → result ≡ loaded s (va.0 % 4096) width }
+        ensures value { (t : Tables) (p : Process) (s : Page) → CanRead (body_of S.view self.old) t p (page_of va.0) s → result ≡ loaded s (va.0 % 4096) width }
         ensures root { self.new.root ≡ self.old.root }
         ensures trapframe { self.new.trapframe ≡ self.old.trapframe }
         ensures layout { self.new.layout ≡ self.old.layout }
@@ -66,10 +68,10 @@ impl<S: FrameSeat> Space<S> {
         width: u64,
     ) -> u64
         requires fits { Fits F.rule store.old self.old.seat }
-        requires ready { (t : Tables) × (p : Process) × (s : Page) × CanRead (S.view self.old.seat) self.old.root.0 self.old.trapframe.0 self.old.layout t p (page_of va.0) s × IsOn t (page_of va.0) frame.0 }
+        requires ready { (t : Tables) × (p : Process) × (s : Page) × CanRead (body_of S.view self.old) t p (page_of va.0) s × IsOn t (page_of va.0) frame.0 }
         requires width { IsTrue (is_width width) }
         requires aligned { va.0 % width ≡ 0 }
-        ensures value { (t : Tables) (p : Process) (s : Page) → CanRead (S.view self.old.seat) self.old.root.0 self.old.trapframe.0 self.old.layout t p (page_of va.0) s → IsOn t (page_of va.0) frame.0 → result ≡ loaded s (va.0 % 4096) width }
+        ensures value { (t : Tables) (p : Process) (s : Page) → CanRead (body_of S.view self.old) t p (page_of va.0) s → IsOn t (page_of va.0) frame.0 → result ≡ loaded s (va.0 % 4096) width }
         ensures root { self.new.root ≡ self.old.root }
         ensures trapframe { self.new.trapframe ≡ self.old.trapframe }
         ensures layout { self.new.layout ≡ self.old.layout }
@@ -89,11 +91,11 @@ impl<S: FrameSeat> Space<S> {
     /// Puts the `width` lowest bytes of a value into a settled page that the process has alone.
     pub fn write<F: FrameAccess<Seat = S>>(&mut self, store: &mut F, va: Va, width: u64, value: u64)
         requires fits { Fits F.rule store.old self.old.seat }
-        requires ready { (t : Tables) × (p : Process) × (s : Page) × CanWrite (S.view self.old.seat) self.old.root.0 self.old.trapframe.0 self.old.layout t p (page_of va.0) s }
+        requires ready { (t : Tables) × (p : Process) × (s : Page) × CanWrite (body_of S.view self.old) t p (page_of va.0) s }
         requires width { IsTrue (is_width width) }
         requires aligned { va.0 % width ≡ 0 }
-        ensures agrees { (t : Tables) (p : Process) (s : Page) → CanWrite (S.view self.old.seat) self.old.root.0 self.old.trapframe.0 self.old.layout t p (page_of va.0) s →
-            Agrees (S.view self.new.seat) self.new.root.0 self.new.trapframe.0 self.new.layout t
+        ensures agrees { (t : Tables) (p : Process) (s : Page) → CanWrite (body_of S.view self.old) t p (page_of va.0) s →
+            IsSpace (body_of S.view self.new) t
             (with_page p (page_of va.0) (stored s (va.0 % 4096) (low_bytes value width))) }
         ensures root { self.new.root ≡ self.old.root }
         ensures trapframe { self.new.trapframe ≡ self.old.trapframe }
@@ -117,11 +119,11 @@ impl<S: FrameSeat> Space<S> {
         value: u64,
     )
         requires fits { Fits F.rule store.old self.old.seat }
-        requires ready { (t : Tables) × (p : Process) × (s : Page) × CanWrite (S.view self.old.seat) self.old.root.0 self.old.trapframe.0 self.old.layout t p (page_of va.0) s × IsOn t (page_of va.0) frame.0 }
+        requires ready { (t : Tables) × (p : Process) × (s : Page) × CanWrite (body_of S.view self.old) t p (page_of va.0) s × IsOn t (page_of va.0) frame.0 }
         requires width { IsTrue (is_width width) }
         requires aligned { va.0 % width ≡ 0 }
-        ensures agrees { (t : Tables) (p : Process) (s : Page) → CanWrite (S.view self.old.seat) self.old.root.0 self.old.trapframe.0 self.old.layout t p (page_of va.0) s → IsOn t (page_of va.0) frame.0 →
-            Agrees (S.view self.new.seat) self.new.root.0 self.new.trapframe.0 self.new.layout t
+        ensures agrees { (t : Tables) (p : Process) (s : Page) → CanWrite (body_of S.view self.old) t p (page_of va.0) s → IsOn t (page_of va.0) frame.0 →
+            IsSpace (body_of S.view self.new) t
             (with_page p (page_of va.0) (stored s (va.0 % 4096) (low_bytes value width))) }
         ensures root { self.new.root ≡ self.old.root }
         ensures trapframe { self.new.trapframe ≡ self.old.trapframe }
@@ -143,9 +145,9 @@ impl<S: FrameSeat> Space<S> {
 
     /// Ends the heap at another address. No page gets a frame by it, and none loses one.
     pub fn set_size(&mut self, size: u64)
-        ensures agrees { (t : Tables) (p : Process) → Agrees (S.view self.old.seat) self.old.root.0 self.old.trapframe.0 self.old.layout t p →
-            KeepsRegions p (record p { size = size }) →
-            Agrees (S.view self.new.seat) self.new.root.0 self.new.trapframe.0 self.new.layout t (record p { size = size }) }
+        ensures agrees { (t : Tables) (p : Process) → IsSpace (body_of S.view self.old) t p →
+            CanRelay p (record p { size = size }) →
+            IsSpace (body_of S.view self.new) t (record p { size = size }) }
         ensures seat { self.new.seat ≡ self.old.seat }
         ensures root { self.new.root ≡ self.old.root }
         ensures trapframe { self.new.trapframe ≡ self.old.trapframe }
@@ -153,11 +155,37 @@ impl<S: FrameSeat> Space<S> {
         self.layout.set_size(size);
     }
 
+    /// Adds a mapping. No page gets a frame by it.
+    pub fn add_mapping(&mut self, mapping: Region)
+        requires few { length (self.old.layout).mappings < most_mappings }
+        ensures agrees { (t : Tables) (p : Process) → IsSpace (body_of S.view self.old) t p →
+            CanRelay p (record p { mappings = with_mapping (region_of mapping) p.mappings }) →
+            IsSpace (body_of S.view self.new) t (record p { mappings = with_mapping (region_of mapping) p.mappings }) }
+        ensures seat { self.new.seat ≡ self.old.seat }
+        ensures root { self.new.root ≡ self.old.root }
+        ensures trapframe { self.new.trapframe ≡ self.old.trapframe }
+    {
+        self.layout.add_mapping(mapping);
+    }
+
+    /// Puts what is left of a mapping in the place of the one that begins at a page; where nothing is left, that one goes. No
+    /// page that is left loses its frame by it.
+    pub fn replace_mapping(&mut self, first: u64, rest: Option<Region>)
+        ensures agrees { (t : Tables) (p : Process) (ms : List model.Region) → IsSpace (body_of S.view self.old) t p →
+            ms ≡ with_instead p.mappings first (option_to_list (option_map region_of rest)) →
+            CanRelay p (record p { mappings = ms }) → IsSpace (body_of S.view self.new) t (record p { mappings = ms }) }
+        ensures seat { self.new.seat ≡ self.old.seat }
+        ensures root { self.new.root ≡ self.old.root }
+        ensures trapframe { self.new.trapframe ≡ self.old.trapframe }
+    {
+        self.layout.replace_mapping(first, rest);
+    }
+
     /// The frame of the page of an address.
     fn page_frame<F: FrameAccess<Seat = S>>(&mut self, store: &mut F, va: Va) -> FrameNo
         requires fits { Fits F.rule store.old self.old.seat }
-        requires ready { (t : Tables) × (p : Process) × (s : Page) × CanRead (S.view self.old.seat) self.old.root.0 self.old.trapframe.0 self.old.layout t p (page_of va.0) s }
-        ensures frame { (t : Tables) (p : Process) (s : Page) → CanRead (S.view self.old.seat) self.old.root.0 self.old.trapframe.0 self.old.layout t p (page_of va.0) s → IsOn t (page_of va.0) result.0 }
+        requires ready { (t : Tables) × (p : Process) × (s : Page) × CanRead (body_of S.view self.old) t p (page_of va.0) s }
+        ensures frame { (t : Tables) (p : Process) (s : Page) → CanRead (body_of S.view self.old) t p (page_of va.0) s → IsOn t (page_of va.0) result.0 }
         ensures root { self.new.root ≡ self.old.root }
         ensures trapframe { self.new.trapframe ≡ self.old.trapframe }
         ensures layout { self.new.layout ≡ self.old.layout }

@@ -1,7 +1,7 @@
 // Processes that begin.
 
 ghost use Rattle.std.specs.Prelude.{[], ◌≡◌, ◌-◌, ◌<◌, ◌≤◌, ◌↔◌, if◌then◌else◌, IfErr, IfOk, is_ok, IsOk, map, ℕ};
-ghost use Rattle.address_space.specs.Agreement.{Agrees, HoldsTrampoline};
+ghost use Rattle.address_space.specs.Agreement.{body_of, IsSpace, HoldsTrampoline};
 ghost use Rattle.address_space.specs.Layouts.{region_of};
 ghost use Rattle.address_space.specs.Parts.{AreParts, build_need, OwnsAlone, process_of_parts};
 ghost use Rattle.address_space.specs.Steps.{Takes};
@@ -28,7 +28,7 @@ pub fn start<F: FrameSupply<Seat = S>, S: FrameSeat>(
 ) -> Result<Space<S>, (NoFrame, S)>
     requires fits { Fits F.rule store.old seat }
     requires seat { HoldsTrampoline (S.view seat) }
-    ensures started { IfOk result (λ s. (t : tables.Tables) × ((fresh : ℕ) → Agrees (S.view s.seat) s.root.0 s.trapframe.0 s.layout t (model.process_of fresh image.now)) × OwnsAlone (S.view s.seat) t) }
+    ensures started { IfOk result (λ s. (t : tables.Tables) × ((fresh : ℕ) → IsSpace (body_of S.view s) t (model.process_of fresh image.now)) × OwnsAlone (S.view s.seat) t) }
     ensures takes { IfOk result (λ s. Takes (S.view seat) (S.view s.seat) (start_need image.now) []) }
     ensures refused { IfErr result (λ e. IsDry (start_need image.now) (S.view seat) (S.view e.1)) }
     ensures exact { F.alone → IsOk result ↔ (start_need image.now ≤ F.free store.old) }

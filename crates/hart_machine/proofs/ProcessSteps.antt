@@ -16,7 +16,7 @@ use Rattle.process_model.specs.Process as of_model
 use Rattle.process_model.specs.Process.{Page, Process}
 use Rattle.process_model.specs.World.{World, free, with_process}
 use Rattle.table_walk.specs.Tables.{Tables}
-use Rattle.address_space.specs.Agreement.{Agrees}
+use Rattle.address_space.specs.Agreement.{body, IsSpace}
 use Rattle.address_space.specs.Kernel.{IsKernelTable}
 use Rattle.address_space.specs.Layouts.{Layout}
 use Rattle.hart_machine.specs.Tenants.{IsTenant, pending_of, view_of}
@@ -111,9 +111,12 @@ seats_stay (None ∷ places) (suc s) x y at e = seats_stay places s x y at e
 seats_stay (Some z ∷ places) (suc s) x y at e = ap (λ vs. view_of z ∷ vs) (seats_stay places s x y at e)
 
 -- another access pending changes nothing in memory
-module _ (v : View) (root trapframe : ℕ) (l : Layout) (t : Tables) (p : Process) (a : Agrees v root trapframe l t p) where
-  pub agrees_pending : (o : Option of_model.Pending) → Agrees v root trapframe l t (record p { pending = o })
+module _ (v : View) (root trapframe : ℕ) (l : Layout) (t : Tables) (p : Process) (a : IsSpace (body v root trapframe l) t p) where
+  pub agrees_pending : (o : Option of_model.Pending) → IsSpace (body v root trapframe l) t (record p { pending = o })
   agrees_pending o = record {
+    sound =
+        let order = a.sound.order in
+        record { order = record { parts = order.parts; room = order.room; above = order.above; leaves = order.leaves; mapped = order.mapped }; tabled = a.sound.tabled };
     lays = record { parts = a.lays.parts; mappings = a.lays.mappings; heap_base = a.lays.heap_base; size = a.lays.size };
     stands = record {
       tables = a.stands.tables;

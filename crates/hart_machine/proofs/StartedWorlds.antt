@@ -5,7 +5,7 @@ use Rattle.std.proofs.Math.Nat.{lt_of_not-le}
 use Rattle.std.proofs.lemmas.Bool.{cases_eq, le-ltb, lt-ltb}
 use Rattle.std.proofs.lemmas.List.{length-set}
 use Rattle.std.proofs.lemmas.Option.{slice_get_within}
-use Rattle.address_space.specs.Agreement.{Agrees}
+use Rattle.address_space.specs.Agreement.{IsSpace}
 use Rattle.address_space.specs.Kernel.{IsKernelTable}
 use Rattle.address_space.specs.Parts.{OwnsAlone}
 use Rattle.frame_store.specs.Plain.{BankRule}
@@ -23,7 +23,7 @@ use Rattle.process_model.specs.declared.step.Refusal.TheVariants.{NoFrame}
 use Rattle.process_model.specs.declared.step.Reply.TheVariants.{Refused, Started}
 use Rattle.sv39_entry.specs.Address.{trapframe_page}
 use Rattle.table_walk.specs.Tables.{Tables, leaf_node}
-use Rattle.hart_machine.specs.Tenants.{IsTenant, view_of}
+use Rattle.hart_machine.specs.Tenants.{IsTenant, body_in, view_of}
 use Rattle.hart_machine.specs.Walked.{IsEntryOf}
 use Rattle.hart_machine.specs.Worlds.{IsPlace, IsServing, IsWorld, Makes, seats_of}
 use Rattle.hart_machine.specs.declared.hart.Hart.{Hart}
@@ -36,7 +36,7 @@ use Rattle.hart_machine.proofs.StartedSeats.{held_inside, seat_comes}
 
 module _ (m n : Machine) (w : World) (is : IsWorld m w) (s : ℕ) (place : slice_get m.slots.items s ≡ Some None) (at : slice_get w.slots s ≡ Some None)
     (ls : List LoadSegment) (y : Tenant) (t : Tables) (sized : n.kernel.seat.size ≡ m.kernel.seat.size) (slots : n.slots.items ≡ slice_set m.slots.items s (Some y)) (harts : n.harts ≡ m.harts)
-    (agrees : Agrees (view_of y) y.space.root.0 y.space.trapframe.0 y.space.layout t (process_of w.counter ls)) (alone : OwnsAlone (view_of y) t) (pending : y.pending ≡ None)
+    (agrees : IsSpace (body_in y) t (process_of w.counter ls)) (alone : OwnsAlone (view_of y) t) (pending : y.pending ≡ None)
     (rule : BankRule n.frames (n.kernel.seat ∷ view_of y ∷ seats_of m.slots.items))
     (table : IsKernelTable n.kernel.seat n.kernel.root.0 w.frames (length w.slots) is.stacks is.kernel) (left : n.frames.free ≡ free (with_image w s ls)) where
   abbrev tables : ℕ → Tables
@@ -134,7 +134,7 @@ module _ (w : World) (s : ℕ) (image : model.Image) (ls : List LoadSegment) (to
       (table : IsKernelTable n.kernel.seat n.kernel.root.0 w.frames (length w.slots) is.stacks is.kernel) where
     -- enough frames are free
     pub makes_started : TakesItsNeed → (y : Tenant) (t : Tables) → n.slots.items ≡ slice_set m.slots.items s (Some y)
-        → Agrees (view_of y) y.space.root.0 y.space.trapframe.0 y.space.layout t (process_of w.counter ls) → OwnsAlone (view_of y) t → y.pending ≡ None
+        → IsSpace (body_in y) t (process_of w.counter ls) → OwnsAlone (view_of y) t → y.pending ≡ None
         → BankRule n.frames (n.kernel.seat ∷ view_of y ∷ seats_of m.slots.items) → start_need ls ≤ m.frames.free → n.frames.free ≡ m.frames.free - start_need ls
         → Makes n (Started s) (started w (image_loads image) (free_slot w))
     makes_started takes y t slots agrees alone pending rule enough left =

@@ -28,7 +28,7 @@ use Rattle.sv39_entry.specs.declared.frame.FrameNo.{FrameNo}
 use Rattle.table_walk.specs.Tables.{Tables}
 use Rattle.table_walk.specs.declared.walk.Walk.{Walk}
 use Rattle.table_walk.specs.declared.walk.Walk.TheVariants as walk
-use Rattle.address_space.specs.Agreement.{Agrees, IsOn}
+use Rattle.address_space.specs.Agreement.{body, IsSpace, IsOn}
 use Rattle.address_space.specs.Layouts.{Layout}
 use Rattle.address_space.specs.Steps.{CanRead, CanWrite}
 use Rattle.hart_machine.specs.Walked.{walk_answer}
@@ -75,12 +75,12 @@ module _ (p : Process) (x : Asked) where
 
 -- faults
 
-module _ (v : View) (root trapframe : ℕ) (l : Layout) (t : Tables) (p : Process) (agrees : Agrees v root trapframe l t p) (x : Asked) where
+module _ (v : View) (root trapframe : ℕ) (l : Layout) (t : Tables) (p : Process) (agrees : IsSpace (body v root trapframe l) t p) (x : Asked) where
   -- the space of a process that faults is as it was
-  pub still_agrees : (cause : ℕ) → user_access p x ≡ faulted p x cause → Agrees v root trapframe l t (user_access p x).process
-  still_agrees cause is = subst (λ (z : Answer). Agrees v root trapframe l t z.process) (sym is) (agrees_pending v root trapframe l t p agrees (Some (pending_of x)))
+  pub still_agrees : (cause : ℕ) → user_access p x ≡ faulted p x cause → IsSpace (body v root trapframe l) t (user_access p x).process
+  still_agrees cause is = subst (λ (z : Answer). IsSpace (body v root trapframe l) t z.process) (sym is) (agrees_pending v root trapframe l t p agrees (Some (pending_of x)))
 
-module _ (v : View) (root trapframe : ℕ) (l : Layout) (t : Tables) (p : Process) (agrees : Agrees v root trapframe l t p) (x : Asked) (at : x.address % x.width ≡ 0) where
+module _ (v : View) (root trapframe : ℕ) (l : Layout) (t : Tables) (p : Process) (agrees : IsSpace (body v root trapframe l) t p) (x : Asked) (at : x.address % x.width ≡ 0) where
   pub faults : (cause : ℕ) → walk.PageFault cause ≡ walk_answer t x.address x.access User → user_access p x ≡ faulted p x cause
   faults cause is = elim (walked_by_user v trapframe t p agrees.stands.shows x) [
     | inl goes ↦ absurd (let other = is ∙ goes.5 in cc)
@@ -123,12 +123,12 @@ pub record Granted (v : View) (root trapframe : ℕ) (l : Layout) (t : Tables) (
   pub page : Page
   pub frame : ℕ
   pub framed : frame_at (address / 4096) ≡ Some (record { 0 = frame })
-  pub can : CanRead v root trapframe l t p (page_of x.address) page
+  pub can : CanRead (body v root trapframe l) t p (page_of x.address) page
   pub on : IsOn t (page_of x.address) frame
   pub answers : user_access p x ≡ answered p x (access_answer x.access page (x.address % 4096) x.width x.value)
-  pub writes : x.access ≡ Store → CanWrite v root trapframe l t p (page_of x.address) page
+  pub writes : x.access ≡ Store → CanWrite (body v root trapframe l) t p (page_of x.address) page
 
-module _ (v : View) (root trapframe : ℕ) (l : Layout) (t : Tables) (p : Process) (agrees : Agrees v root trapframe l t p) (x : Asked) (at : x.address % x.width ≡ 0) where
+module _ (v : View) (root trapframe : ℕ) (l : Layout) (t : Tables) (p : Process) (agrees : IsSpace (body v root trapframe l) t p) (x : Asked) (at : x.address % x.width ≡ 0) where
   pub granted : (word level address : ℕ) → walk.Leaf word level address ≡ walk_answer t x.address x.access User → Granted v root trapframe l t p x address
   granted word level address is = elim (walked_by_user v trapframe t p agrees.stands.shows x) [
     | inr fails ↦ absurd (let other = is ∙ fails.0 in cc)
@@ -137,7 +137,7 @@ module _ (v : View) (root trapframe : ℕ) (l : Layout) (t : Tables) (p : Proces
         let whole : walk.Leaf word level address ≡ walk.Leaf shown.leaf 0 (physical_address shown.leaf 0 x.address) = is ∙ goes.5 in
         let leads : address ≡ physical_address shown.leaf 0 x.address = cc in
         let lies : address / 4096 ≡ ppn_of shown.frame = ap (λ n. n / 4096) leads ∙ lands shown.leaf x.address ∙ shown.made.names in
-        let can : CanRead v root trapframe l t p (page_of x.address) goes.0 = record { agrees = agrees; settled = goes.2 } in
+        let can : CanRead (body v root trapframe l) t p (page_of x.address) goes.0 = record { agrees = agrees; settled = goes.2 } in
         record {
           page = goes.0;
           frame = shown.frame;

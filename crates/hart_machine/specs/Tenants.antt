@@ -4,7 +4,7 @@ use Rattle.frame_store.specs.View.{View}
 use Rattle.process_model.specs.Process as model
 use Rattle.process_model.specs.Process.{Process}
 use Rattle.table_walk.specs.Tables.{Tables}
-use Rattle.address_space.specs.Agreement.{Agrees}
+use Rattle.address_space.specs.Agreement.{Body, IsSpace, body_of}
 use Rattle.hart_machine.specs.declared.tenant.Pending.{Pending}
 use Rattle.hart_machine.specs.declared.tenant.Tenant.{Tenant}
 
@@ -16,9 +16,12 @@ pending_of (Some x) = Some (record { access = x.access; address = x.va.0; width 
 abbrev pub view_of : Tenant → View
 view_of x = x.space.seat
 
+abbrev pub body_in : Tenant → Body
+body_in x = body_of (λ v. v) x.space
+
 -- a process of the model is in memory, below these tables
 pub record IsTenant (x : Tenant) (t : Tables) (p : Process) : Type 0 where
-  pub agrees : Agrees (view_of x) x.space.root.0 x.space.trapframe.0 x.space.layout t p
+  pub agrees : IsSpace (body_in x) t p
   -- the number of a frame
   pub framed : x.space.trapframe.0 < 2 ^ 16
   pub pending : p.pending ≡ pending_of x.pending

@@ -1,7 +1,7 @@
 // Accesses of the user, by what their translation came to.
 
 ghost use Rattle.std.specs.Prelude.{◌≡◌, ℕ, IsTrue};
-ghost use Rattle.address_space.specs.Agreement.{Agrees};
+ghost use Rattle.address_space.specs.Agreement.{body_of, IsSpace};
 ghost use Rattle.frame_store.specs.Laws.{Fits, Keeps};
 ghost use Rattle.hart_machine.specs.Accesses.{asked_of};
 ghost use Rattle.hart_machine.specs.Walked.{walk_answer};
@@ -34,12 +34,12 @@ pub(crate) fn user_access<F: FrameAccess<Seat = S>, S: FrameSeat>(
     asked: Asked,
 ) -> Reply
     requires fits { Fits F.rule store.old space.old.seat }
-    requires ready { (t : Tables) × (p : Process) × Agrees (S.view space.old.seat) space.old.root.0 space.old.trapframe.0 space.old.layout t p × (walk ≡ walk_answer t asked.va.0 asked.access User) }
+    requires ready { (t : Tables) × (p : Process) × IsSpace (body_of S.view space.old) t p × (walk ≡ walk_answer t asked.va.0 asked.access User) }
     requires width { IsTrue (is_width asked.width) }
-    ensures reply { (t : Tables) (p : Process) → Agrees (S.view space.old.seat) space.old.root.0 space.old.trapframe.0 space.old.layout t p → walk ≡ walk_answer t asked.va.0 asked.access User →
+    ensures reply { (t : Tables) (p : Process) → IsSpace (body_of S.view space.old) t p → walk ≡ walk_answer t asked.va.0 asked.access User →
         result ≡ (service.user_access p (asked_of asked)).reply }
-    ensures after { (t : Tables) (p : Process) → Agrees (S.view space.old.seat) space.old.root.0 space.old.trapframe.0 space.old.layout t p → walk ≡ walk_answer t asked.va.0 asked.access User →
-        Agrees (S.view space.new.seat) space.new.root.0 space.new.trapframe.0 space.new.layout t (service.user_access p (asked_of asked)).process }
+    ensures after { (t : Tables) (p : Process) → IsSpace (body_of S.view space.old) t p → walk ≡ walk_answer t asked.va.0 asked.access User →
+        IsSpace (body_of S.view space.new) t (service.user_access p (asked_of asked)).process }
     ensures root { space.new.root ≡ space.old.root }
     ensures trapframe { space.new.trapframe ≡ space.old.trapframe }
     ensures layout { space.new.layout ≡ space.old.layout }

@@ -1,9 +1,10 @@
 -- The order of the segments of an image and of the regions of a process, and what regions can be.
-use Rattle.std.specs.Prelude.{◌≡◌, ℕ, true, ◌+◌, ◌*◌, ◌≤◌, List, [], ◌∷◌}
+use Rattle.std.specs.Prelude.{◌≡◌, ℕ, true, ◌+◌, ◌*◌, ◌≤◌, Some, List, [], ◌∷◌}
 use Rattle.process_model.specs.Bytes.{pages_for}
 use Rattle.process_model.specs.Images.{LoadSegment, end_of_loads, end_page}
 use Rattle.process_model.specs.Mappings.{longest_mapping}
-use Rattle.process_model.specs.Process.{Process}
+use Rattle.process_model.specs.PageMap.{contains, get}
+use Rattle.process_model.specs.Process.{Page, Process}
 use Rattle.process_model.specs.Regions.{Region, Source, end_of, file, guard_pages, makes_leaf, stack_pages}
 use Rattle.sv39_entry.specs.Address.{page_of, trapframe_page}
 
@@ -49,10 +50,20 @@ pub record IsMapping (m : Region) : Type 0 where
   pub leaves : HasLeaves m
   pub reach : IsInReach m.source m.pages
 
--- the parts end at the heap's base or below it, the heap below the mappings, and these below the trapframe
-pub record IsInOrder (p : Process) : Type 0 where
-  pub parts : Row 1 0 p.parts (page_of p.heap_base)
+-- the parts end at the heap's base or below it, the heap below the mappings, and these below the trapframe; each part and mapping has
+-- so many pages at least
+pub record HasOrder (least : ℕ) (p : Process) : Type 0 where
+  pub parts : Row least 0 p.parts (page_of p.heap_base)
   pub room : page_of p.heap_base ≤ pages_for p.size
-  pub above : Row 1 (pages_for p.size) p.mappings trapframe_page
+  pub above : Row least (pages_for p.size) p.mappings trapframe_page
   pub leaves : EachRegion HasLeaves p.parts
   pub mapped : EachRegion IsMapping p.mappings
+
+-- in every process of the model they have one
+abbrev pub IsInOrder : Process → Type 0
+IsInOrder p = HasOrder 1 p
+
+-- what holds of a process wherever it stands in memory: its regions are in order, and a settled page has its tables
+pub record IsSound (p : Process) : Type 0 where
+  pub order : HasOrder 0 p
+  pub tabled : (n : ℕ) (s : Page) → get p.settled n ≡ Some s → contains p.tabled n ≡ true

@@ -4,9 +4,11 @@ use Rattle.std.specs.Prelude.{Contains, IfErr, IfOk}
 use Rattle.std.specs.Result.{is_ok}
 use Rattle.std.proofs.lemmas.Bool.{cases_eq}
 use Rattle.std.proofs.lemmas.Bool.Decides.{nat_tests}
+use Rattle.std.proofs.lemmas.Option.{same_Some}
 use Rattle.frame_store.specs.View.{View}
 use Rattle.frame_store.specs.declared.refusal.NoFrame.{NoFrame}
 use Rattle.process_model.specs.Loading.{numbered}
+use Rattle.process_model.specs.Order.{HasOrder}
 use Rattle.process_model.specs.PageMap as pages
 use Rattle.process_model.specs.PageMap.{from_list}
 use Rattle.process_model.specs.Process.{Page, Process, heap_of}
@@ -15,11 +17,11 @@ use Rattle.process_model.specs.Residence.{with_page}
 use Rattle.sv39_entry.specs.Address.{trapframe_page}
 use Rattle.sv39_entry.specs.declared.frame.FrameNo.{FrameNo}
 use Rattle.table_walk.specs.Tables.{Tables}
-use Rattle.address_space.specs.Agreement.{Agrees}
+use Rattle.address_space.specs.Agreement.{body, IsSpace}
 use Rattle.address_space.specs.Layouts.{Layout, last_page}
 use Rattle.process_model.specs.Inserted.{behind, first_or, in_front, inserted_here, inserted_other}
 use Rattle.address_space.specs.Parts.{numbers_of, pages_of, process_of_parts, regions_in}
-use Rattle.address_space.specs.Steps.{CanRead, CanSettle, CanWrite, KeepsRegions, Settles, settled_with}
+use Rattle.address_space.specs.Steps.{CanRead, CanRelay, CanSettle, CanWrite, Settles, settled_with}
 use Rattle.tests_of_processes.specs.Lives.{IsFar, IsVacant, IsWritable, Lives, standard_regions}
 use Rattle.address_space.specs.declared.part.Part.{Part}
 use Rattle.tests_of_processes.proofs.Finding.{behind_all, in_first, passed}
@@ -39,13 +41,11 @@ module _ (p : Process) (m : ℕ) (s : Page) (unmarked : s.fork_mark ≡ false) w
     unsettled = inserted_other m s p.settled n (λ same. let both = sym far.unsettled ∙ ap (pages.get p.settled) same ∙ w.settled in cc) ∙ far.unsettled;
     region = far.region;
     in_region = far.in_region;
-    leafy = far.leafy;
     writes = far.writes;
-    low = far.low;
   }
 
-pub can_write : (v : View) (root trapframe : ℕ) (l : Layout) (t : Tables) (p : Process) (n : ℕ) → Agrees v root trapframe l t p → (w : IsWritable p n)
-    → CanWrite v root trapframe l t p n w.page
+pub can_write : (v : View) (root trapframe : ℕ) (l : Layout) (t : Tables) (p : Process) (n : ℕ) → IsSpace (body v root trapframe l) t p → (w : IsWritable p n)
+    → CanWrite (body v root trapframe l) t p n w.page
 can_write v root trapframe l t p n agrees w = record {
   read = record { agrees = agrees; settled = w.settled };
   unmarked = w.unmarked;
@@ -54,21 +54,16 @@ can_write v root trapframe l t p n agrees w = record {
   writes = w.writes;
 }
 
-pub can_read : (v : View) (root trapframe : ℕ) (l : Layout) (t : Tables) (p : Process) (n : ℕ) → Agrees v root trapframe l t p → IsWritable p n
-    → (u : Tables) × (q : Process) × (s : Page) × CanRead v root trapframe l u q n s
+pub can_read : (v : View) (root trapframe : ℕ) (l : Layout) (t : Tables) (p : Process) (n : ℕ) → IsSpace (body v root trapframe l) t p → IsWritable p n
+    → (u : Tables) × (q : Process) × (s : Page) × CanRead (body v root trapframe l) u q n s
 can_read v root trapframe l t p n agrees w = (t, p, w.page, record { agrees = agrees; settled = w.settled })
 
-pub can_settle : (v : View) (root trapframe : ℕ) (l : Layout) (n : ℕ) → (lives : Lives v root trapframe l n false) → CanSettle v root trapframe l lives.tables lives.process n
+pub can_settle : (v : View) (root trapframe : ℕ) (l : Layout) (n : ℕ) → (lives : Lives v root trapframe l n false) → CanSettle (body v root trapframe l) lives.tables lives.process n
 can_settle v root trapframe l n lives = record {
   agrees = lives.agrees;
+  unsettled = lives.far.unsettled;
   region = lives.far.region;
-  add = record {
-    stands = lives.agrees.stands;
-    unsettled = lives.far.unsettled;
-    in_region = lives.far.in_region;
-    leafy = lives.far.leafy;
-    low = lives.far.low;
-  };
+  in_region = lives.far.in_region;
 }
 
 -- a page was read
@@ -79,8 +74,8 @@ lives_still v w root root_after trapframe trapframe_after l m n settled view roo
 module _ (v w : View) (root trapframe : ℕ) (l : Layout) (root_after trapframe_after : ℕ) (m : Layout) (n : ℕ) where
   -- a page that may be written was written
   pub lives_kept : (k : ℕ) (settled : Bool) → (lives : Lives v root trapframe l n settled) → IsWritable lives.process k
-      → ((t : Tables) (p : Process) → Agrees v root trapframe l t p → IsWritable p k
-      → (s : Page) × (s.fork_mark ≡ false) × Agrees w root_after trapframe_after m t (with_page p k s))
+      → ((t : Tables) (p : Process) → IsSpace (body v root trapframe l) t p → IsWritable p k
+      → (s : Page) × (s.fork_mark ≡ false) × IsSpace (body w root_after trapframe_after m) t (with_page p k s))
       → Lives w root_after trapframe_after m n settled
   lives_kept k settled lives writable kept =
       let after = kept lives.tables lives.process lives.agrees writable in
@@ -94,9 +89,9 @@ module _ (v w : View) (root trapframe : ℕ) (l : Layout) (root_after trapframe_
 
   -- a far page was asked for
   pub lives_asked : (bytes : List ℕ) (r : Result (Unit {0}) NoFrame) → Lives v root trapframe l n false
-      → IfOk r (λ _. (t : Tables) (p : Process) → CanSettle v root trapframe l t p n
-      → (u : Tables) × (f : ℕ) × Settles v w root_after trapframe_after m t u p n bytes f)
-      → IfErr r (λ _. (t : Tables) (p : Process) → Agrees v root trapframe l t p → Agrees w root_after trapframe_after m t p)
+      → IfOk r (λ _. (t : Tables) (p : Process) → CanSettle (body v root trapframe l) t p n
+      → (u : Tables) × (f : ℕ) × Settles v (body w root_after trapframe_after m) t u p n bytes f)
+      → IfErr r (λ _. (t : Tables) (p : Process) → IsSpace (body v root trapframe l) t p → IsSpace (body w root_after trapframe_after m) t p)
       → Lives w root_after trapframe_after m n (is_ok r)
   lives_asked bytes (Err e) lives ok err = record {
     tables = lives.tables;
@@ -217,10 +212,25 @@ module _ (ps : List Part) (is : regions_in ps ≡ standard_regions) (numbers : n
   part_here : (rs : List Region) (k : ℕ) (r : Region) → region_at standard_regions k ≡ Some r → region_at (regions_in ps ++ rs) k ≡ Some r
   part_here rs k r at = in_first (regions_in ps) rs k r (ap (λ ss. region_at ss k) is ∙ at)
 
-  pub keeps_regions : KeepsRegions (process_of_parts 0 ps) sized
-  keeps_regions k s at =
-      let here = standard_here k (few k (begun_back (pages_of ps) 0 k s at)) in
-      part_here _ k here.0 here.1 ∙ sym (part_here _ k here.0 here.1)
+  base_is : last_page 0 (regions_in ps) ≡ 5
+  base_is = ap (last_page 0) is
+
+  pub can_grow : HasOrder 0 (process_of_parts 0 ps) → CanRelay (process_of_parts 0 ps) sized
+  can_grow order = record {
+    settled = refl;
+    tabled = refl;
+    order = record {
+      parts = order.parts;
+      room = omega (arith, base_is, above);
+      above = omega (arith, low);
+      leaves = order.leaves;
+      mapped = tt;
+    };
+    leaves = λ k s r at in_region.
+        let here = standard_here k (few k (begun_back (pages_of ps) 0 k s at)) in
+        let same : here.0 ≡ r = same_Some here.0 r (sym (part_here _ k here.0 here.1) ∙ in_region) in
+        (r, part_here _ k r (here.1 ∙ ap Some same), record { reads = refl; writes = refl; executes = refl; guard = refl; shared = refl });
+  }
 
   near_begun : IsWritable sized 1
   near_begun =
@@ -229,18 +239,15 @@ module _ (ps : List Part) (is : regions_in ps ≡ standard_regions) (numbers : n
 
   in_heap : holds_page (heap_of sized) n ≡ true
   in_heap =
-      let base : last_page 0 (regions_in ps) ≡ 5 = ap (last_page 0) is in
-      holds (heap_of sized) n (omega (arith, base, above)) (omega (arith, base, above))
+      holds (heap_of sized) n (omega (arith, base_is, above)) (omega (arith, base_is, above))
 
   far_vacant : IsVacant sized n
   far_vacant = record {
     unsettled = none_begun (pages_of ps) 0 n (λ h. let less = few n h in omega (arith, less, above));
     region = heap_of sized;
     in_region = behind_all (regions_in ps) [] n (heap_of sized) (ap (λ rs. region_at rs n) is ∙ standard_ends n above) in_heap;
-    leafy = refl;
     writes = refl;
-    low = low;
   }
 
-  pub lives_begun : (v : View) (root trapframe : ℕ) (l : Layout) (t : Tables) → Agrees v root trapframe l t sized → Lives v root trapframe l n false
+  pub lives_begun : (v : View) (root trapframe : ℕ) (l : Layout) (t : Tables) → IsSpace (body v root trapframe l) t sized → Lives v root trapframe l n false
   lives_begun v root trapframe l t agrees = record { tables = t; process = sized; agrees = agrees; near = near_begun; far = far_vacant }

@@ -1,13 +1,12 @@
 -- A process that a test runs: what it begins with, and what its pages may be used for.
-use Rattle.std.specs.Prelude.{◌≡◌, ℕ, ◌<◌, Bool, true, false, None, Some, List, [], ◌∷◌}
+use Rattle.std.specs.Prelude.{◌≡◌, ℕ, Bool, true, false, None, Some, List, [], ◌∷◌}
 use Rattle.frame_store.specs.View.{View}
 use Rattle.process_model.specs.Loading.{guard_at, stack_at}
 use Rattle.process_model.specs.PageMap as pages
 use Rattle.process_model.specs.Process.{Page, Process, regions}
-use Rattle.process_model.specs.Regions.{Region, makes_leaf, region_at, segment, image}
-use Rattle.sv39_entry.specs.Address.{trapframe_page}
+use Rattle.process_model.specs.Regions.{Region, region_at, segment, image}
 use Rattle.table_walk.specs.Tables.{Tables}
-use Rattle.address_space.specs.Agreement.{Agrees}
+use Rattle.address_space.specs.Agreement.{body, IsSpace}
 use Rattle.address_space.specs.Layouts.{Layout}
 
 -- text, two pages of data, the guard and the stack
@@ -33,9 +32,7 @@ pub record IsVacant (p : Process) (n : ℕ) : Type 0 where
   pub unsettled : pages.get p.settled n ≡ None
   pub region : Region
   pub in_region : region_at (regions p) n ≡ Some region
-  pub leafy : makes_leaf region ≡ true
   pub writes : region.writes ≡ true
-  pub low : n < trapframe_page
 
 abbrev pub IsFar : Process → ℕ → Bool → Type 0
 IsFar p n false = IsVacant p n
@@ -45,6 +42,6 @@ IsFar p n true = IsWritable p n
 pub record Lives (v : View) (root trapframe : ℕ) (l : Layout) (page : ℕ) (settled : Bool) : Type 0 where
   pub tables : Tables
   pub process : Process
-  pub agrees : Agrees v root trapframe l tables process
+  pub agrees : IsSpace (body v root trapframe l) tables process
   pub near : IsWritable process 1
   pub far : IsFar process page settled

@@ -1,7 +1,7 @@
 // A space that lives over both stores: it is built, a far page of its heap is settled, and it ends.
 
 ghost use Rattle.std.specs.Prelude.{[], ◌∷◌, ◌≡◌, ◌%◌, ◌<◌, ◌≤◌, ℕ, false, IfErr, IfOk};
-ghost use Rattle.address_space.specs.Agreement.{Agrees, HoldsTrampoline};
+ghost use Rattle.address_space.specs.Agreement.{body_of, IsSpace, HoldsTrampoline};
 ghost use Rattle.address_space.specs.Parts.{AreParts, numbers_of, regions_in};
 ghost use Rattle.address_space.specs.Steps.{IsBare};
 ghost use Rattle.tests_of_processes.specs.Lives.{IsWritable, Lives, standard_regions};
@@ -106,10 +106,10 @@ fn kept<S: FrameSeat, F: FrameAccess<Seat = S>>(
     value: u64,
 ) -> u64
     requires fits { Fits F.rule store.old space.old.seat }
-    requires ready { (t : Tables) × (p : Process) × Agrees (S.view space.old.seat) space.old.root.0 space.old.trapframe.0 space.old.layout t p × IsWritable p (page_of va.0) }
+    requires ready { (t : Tables) × (p : Process) × IsSpace (body_of S.view space.old) t p × IsWritable p (page_of va.0) }
     requires aligned { va.0 % 8 ≡ 0 }
-    ensures agrees { (t : Tables) (p : Process) → Agrees (S.view space.old.seat) space.old.root.0 space.old.trapframe.0 space.old.layout t p → IsWritable p (page_of va.0) →
-        (s : Page) × (s.fork_mark ≡ false) × Agrees (S.view space.new.seat) space.new.root.0 space.new.trapframe.0 space.new.layout t (with_page p (page_of va.0) s) }
+    ensures agrees { (t : Tables) (p : Process) → IsSpace (body_of S.view space.old) t p → IsWritable p (page_of va.0) →
+        (s : Page) × (s.fork_mark ≡ false) × IsSpace (body_of S.view space.new) t (with_page p (page_of va.0) s) }
     ensures keeps { Keeps F.rule store.old space.old.seat store.new space.new.seat }
 {
     space.write(store, va, 8, value);
@@ -139,7 +139,7 @@ fn try_far<S: FrameSeat, F: FrameSupply<Seat = S>>(
     requires fits { Fits F.rule store.old space.old.seat }
     requires low { page < trapframe_page }
     requires lives { Lives (S.view space.old.seat) space.old.root.0 space.old.trapframe.0 space.old.layout page false }
-    ensures agrees { (t : Tables) × (p : Process) × Agrees (S.view space.new.seat) space.new.root.0 space.new.trapframe.0 space.new.layout t p }
+    ensures agrees { (t : Tables) × (p : Process) × IsSpace (body_of S.view space.new) t p }
     ensures keeps { Keeps F.rule store.old space.old.seat store.new space.new.seat }
 {
     let (near, far) = (Va(PAGE_SIZE), Va(page * PAGE_SIZE));

@@ -1,5 +1,5 @@
 use Rattle.std.proofs.Common.{[], ◌≡◌, ◌≤◌, ◌-◌, max}
-use Rattle.address_space.specs.Agreement.{Agrees}
+use Rattle.address_space.specs.Agreement.{body_of, body, IsSpace}
 use Rattle.address_space.specs.Ending.{Drops}
 use Rattle.address_space.specs.Steps.{Takes}
 use Rattle.frame_store.specs.Laws.{Keeps}
@@ -17,8 +17,8 @@ invariant-pages g l = record {
   after : l.fn.first ≤ l.from;
   within : l.from ≤ max l.fn.first l.fn.end;
   dropped : (t : Tables) (p : Process)
-      → Agrees (g.S.FrameSeat.view l.fn.self.seat) l.fn.self.root.0 l.fn.self.trapframe.0 l.fn.self.layout t p
-      → (u : Tables) × Agrees (g.S.FrameSeat.view l.self.seat) l.fn.self.root.0 l.fn.self.trapframe.0 l.fn.self.layout u (without_pages p l.fn.first l.from) × Drops t u l.fn.first l.from;
+      → IsSpace (body_of g.S.FrameSeat.view l.fn.self) t p
+      → (u : Tables) × IsSpace (body (g.S.FrameSeat.view l.self.seat) l.fn.self.root.0 l.fn.self.trapframe.0 l.fn.self.layout) u (without_pages p l.fn.first l.from) × Drops t u l.fn.first l.from;
   tallies : Takes (g.S.FrameSeat.view l.fn.self.seat) (g.S.FrameSeat.view l.self.seat) 0 [];
   keeps : Keeps g.F.FrameAccess.rule l.fn.store l.fn.self.seat l.store l.self.seat;
   free : g.F.FrameAccess.alone → g.F.FrameAccess.free l.fn.store ≤ g.F.FrameAccess.free l.store;

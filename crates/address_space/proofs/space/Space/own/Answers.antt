@@ -5,10 +5,11 @@ use Rattle.frame_store.specs.Laws.{fits_after}
 use Rattle.process_model.specs.Process.{Page, Process, regions}
 use Rattle.process_model.specs.Regions.{region_at}
 use Rattle.table_walk.specs.Tables.{Tables}
-use Rattle.address_space.specs.Agreement.{is_dirty_page}
+use Rattle.address_space.specs.Agreement.{body_of, is_dirty_page}
 use Rattle.address_space.specs.Layouts.{region_of}
 use Rattle.address_space.specs.Steps.{CanOwn}
 use Rattle.address_space.proofs.OwningCounts.{exact_kept, exact_parted, exact_refused, free_kept, free_parted, free_refused, look_at, own_frame, own_kept, own_one, own_part, own_parted, own_some, own_stands, own_stays_dirty, refused_agrees, refused_dry}
+use Rattle.address_space.proofs.Sound.{leafy_at}
 use Rattle.address_space.proofs.space.Space.own.Given as given
 use Rattle.address_space.proofs.space.Space.own.Goals as goal
 use Rattle.address_space.proofs.space.Space.own.Goals.{After-from_residual, After-look-sole, In-Some-frame_of}
@@ -16,22 +17,27 @@ use Rattle.address_space.proofs.space.Space.own.Goals.{After-from_residual, Afte
 -- what was found
 
 frame_is : (g : given.Over) (c : In-Some-frame_of g) (t : Tables) (p : Process) (s : Page) (f : ℕ)
-    → CanOwn (g.S.FrameSeat.view c.args.self.now.seat) c.args.self.now.root.0 c.args.self.now.trapframe.0 c.args.self.now.layout t p c.args.page s f
+    → CanOwn (body_of g.S.FrameSeat.view c.args.self.now) t p c.args.page s f
     → c.in-Some-frame_of.shared.0 ≡ f
 frame_is g c t p s f can = own_frame can c.frame_of.result _ (c.frame_of.ensures.frame t can.agrees.stands.tables) c.in-Some-frame_of.is
 
 region_is : (g : given.Over) (c : In-Some-frame_of g) (t : Tables) (p : Process) (s : Page) (f : ℕ)
-    → CanOwn (g.S.FrameSeat.view c.args.self.now.seat) c.args.self.now.root.0 c.args.self.now.trapframe.0 c.args.self.now.layout t p c.args.page s f
+    → CanOwn (body_of g.S.FrameSeat.view c.args.self.now) t p c.args.page s f
     → region_at (regions p) c.args.page ≡ Some (region_of c.in-Some.region)
 region_is g c t p s f can = sym (rw c.number.ensures.value at (c.region_at.ensures p can.agrees.lays)) ∙ ap (option_map region_of) c.in-Some.is
 
 -- what the leaf's D comes to in a new leaf
 dirty_is : (g : given.Over) (c : In-Some-frame_of g) (t : Tables) (p : Process) (s : Page) (f : ℕ)
-    → CanOwn (g.S.FrameSeat.view c.args.self.now.seat) c.args.self.now.root.0 c.args.self.now.trapframe.0 c.args.self.now.layout t p c.args.page s f
+    → CanOwn (body_of g.S.FrameSeat.view c.args.self.now) t p c.args.page s f
     → (c.in-Some-frame_of.dirty && (region_of c.in-Some.region).writes) ≡ is_dirty_page (region_of c.in-Some.region) s
 dirty_is g c t p s f can =
     own_stays_dirty can c.frame_of.result _ (c.frame_of.ensures.frame t can.agrees.stands.tables) c.in-Some-frame_of.is
     (region_of c.in-Some.region) (region_is g c t p s f can)
+
+pub leaf-requires-clause-leafy : goal.leaf-requires-clause-leafy
+leaf-requires-clause-leafy g c =
+    let r = c.requires.ready in
+    leafy_at r.1 r.4.agrees.sound.order c.args.page _ (sym (rw c.number.ensures.value at (c.region_at.ensures r.1 r.4.agrees.lays)) ∙ ap (option_map region_of) c.in-Some.is)
 
 counted : (g : given.Over) (c : After-look-sole g) → g.F.FrameAccess.alone → (f : ℕ) → c.in-Some-frame_of.shared.0 ≡ f → c.look-sole.result ≡ g.F.FrameAccess.count c.args.store.now f
 counted g c alone f is =

@@ -6,6 +6,13 @@ use Rattle.address_space.specs.Layouts.{region_of}
 use Rattle.address_space.proofs.AddingReserved.{agrees_still, can_add, if_err, need_is, none_taken, not_enough, reserved_credits, runs_dry, settles}
 use Rattle.address_space.proofs.space.Space.settle.Goals as goal
 
+pub unreachable-requires : goal.unreachable-requires
+unreachable-requires g c =
+    let can = c.requires.ready.2 in
+    let found = rw c.number.ensures.value at (c.region_at.ensures c.requires.ready.1 can.agrees.lays) in
+    let none = ap (option_map region_of) c.in_default.is in
+    cc (found, none, can.in_region)
+
 pub reserve-requires : goal.reserve-requires
 reserve-requires g c = record { fits = fits_after g.F.FrameAccess.rule c.missing_tables-missing.ensures.keeps c.requires.fits }
 

@@ -1,0 +1,82 @@
+-- A process that has other regions, over the leaves that are there.
+use Rattle.std.proofs.Common.{◌≡◌, ℕ, Bool, ◌&&◌, ◌<◌, inl, inr, ap, subst, sym, ◌∙◌, Option, Some, None}
+use Rattle.std.specs.Prelude.{◌||◌, not, All}
+use Rattle.frame_store.specs.View.{View}
+use Rattle.process_model.specs.PageMap as pages
+use Rattle.process_model.specs.PageMap.{NumberSet, PageMap}
+use Rattle.process_model.specs.Process.{Page, Process}
+use Rattle.process_model.specs.Regions.{is_guard_kind, is_shared_kind, Region}
+use Rattle.sv39_entry.specs.Address.{has, trapframe_page}
+use Rattle.table_walk.specs.Counted.{AreTablesOf}
+use Rattle.table_walk.specs.Tables.{Tables}
+use Rattle.address_space.specs.Agreement.{body, is_dirty_page, IsLeafNumber, IsPageLeaf, IsShown, IsSpace, Shows, Stands}
+use Rattle.address_space.specs.Layouts.{LaysOut, Layout}
+use Rattle.address_space.specs.Steps.{CanRelay, LeafLike}
+
+module _ (r x : Region) (like : LeafLike r x) where
+  same_dirty : (s : Page) → is_dirty_page r s ≡ is_dirty_page x s
+  same_dirty s = ap (λ b. (s.stored_mark || not b) && r.writes) (sym like.shared) ∙ ap (λ b. (s.stored_mark || not (is_shared_kind x.kind)) && b) (sym like.writes)
+
+  leaf_like : (w f : ℕ) (s : Page) → IsPageLeaf w f r s.fork_mark (is_dirty_page r s) → IsPageLeaf w f x s.fork_mark (is_dirty_page x s)
+  leaf_like w f s made = record {
+    names = made.names;
+    small = made.small;
+    read = made.read ∙ ap (λ b. b || r.reads) (sym like.guard) ∙ ap (λ b. is_guard_kind x.kind || b) (sym like.reads);
+    write = made.write ∙ ap (λ b. b && not s.fork_mark) (sym like.writes);
+    execute = made.execute ∙ sym like.executes;
+    for_user = made.for_user ∙ ap not (sym like.guard);
+    global = made.global;
+    accessed = made.accessed;
+    dirty = made.dirty ∙ same_dirty s;
+    copy_on_write = made.copy_on_write;
+  }
+
+module _ (v : View) (root trapframe : ℕ) (l m : Layout) (t : Tables) (p q : Process) (space : IsSpace (body v root trapframe l) t p) (can : CanRelay p q) where
+  was : (n : ℕ) (s : Page) → pages.get q.settled n ≡ Some s → pages.get p.settled n ≡ Some s
+  was n s at = ap (λ (x : PageMap Page). pages.get x n) (sym can.settled) ∙ at
+
+  shown : (n : ℕ) (s : Page) → IsShown v t p n s → pages.get p.settled n ≡ Some s → IsShown v t q n s
+  shown n s is at =
+      let here = can.leaves n s is.region at is.in_region in
+      record {
+        region = here.0;
+        frame = is.frame;
+        leaf = is.leaf;
+        in_region = here.1;
+        mapped = is.mapped;
+        made = leaf_like is.region here.0 here.2 is.leaf is.frame s is.made;
+        bytes = is.bytes;
+      }
+
+  number_kept : (k : ℕ) → IsLeafNumber p k → IsLeafNumber q k
+  number_kept k (inl is) = inl is
+  number_kept k (inr (inl is)) = inr (inl is)
+  number_kept k (inr (inr (n, s, is, at))) = inr (inr (n, s, is, ap (λ (x : PageMap Page). pages.get x n) can.settled ∙ at))
+
+  shows_relaid : Shows v trapframe t q
+  shows_relaid =
+      let shows = space.stands.shows in
+      record {
+        on_trampoline = shows.on_trampoline;
+        on_trapframe = shows.on_trapframe;
+        settled = λ n s at. shown n s (shows.settled n s (was n s at)) (was n s at);
+        only = λ k w at. number_kept k (shows.only k w at);
+        low = λ n s at. shows.low n s (was n s at);
+      }
+
+  pub relaid : LaysOut m q → IsSpace (body v root trapframe m) t q
+  relaid lays = record {
+    sound = record {
+      order = can.order;
+      tabled = λ n s at. ap (λ (x : NumberSet). pages.contains x n) can.tabled ∙ space.sound.tabled n s (was n s at);
+    };
+    lays = lays;
+    stands = record {
+      tables = space.stands.tables;
+      owns = space.stands.owns;
+      shows = shows_relaid;
+      tabled = subst (λ (x : NumberSet). AreTablesOf t (pages.keys x)) (sym can.tabled) space.stands.tabled;
+      tabled_low = subst (λ (x : NumberSet). All (λ n. n < trapframe_page) (pages.keys x)) (sym can.tabled) space.stands.tabled_low;
+    };
+    credits = space.credits;
+  }

@@ -1,0 +1,16 @@
+use Rattle.std.proofs.Common.{ap, sym, ◌∙◌}
+use Rattle.process_model.specs.Mappings.{with_mapping}
+use Rattle.address_space.specs.Layouts.{region_of}
+use Rattle.address_space.proofs.Relaid.{relaid}
+use Rattle.address_space.proofs.space.Space.add_mapping.Goals as goal
+
+pub returns-clause-agrees : goal.returns-clause-agrees
+returns-clause-agrees g c t p agrees can =
+    let set = c.add_mapping.ensures in
+    let lays = agrees.lays in
+    relaid _ _ _ _ _ t p _ agrees can record {
+      parts = lays.parts ∙ sym set.parts;
+      mappings = ap (with_mapping (region_of c.args.mapping)) lays.mappings ∙ sym set.mappings;
+      heap_base = lays.heap_base ∙ sym set.heap_base;
+      size = lays.size ∙ sym set.size;
+    }

@@ -1,0 +1,58 @@
+use Rattle.std.proofs.Common.{◌≡◌, ℕ, Some, refl, ap, sym, ◌∙◌}
+use Rattle.std.specs.Prelude.{option_map}
+use Rattle.frame_store.specs.Laws.{fits_after}
+use Rattle.process_model.specs.Process.{Page, Process, regions}
+use Rattle.process_model.specs.Regions.{region_at}
+use Rattle.table_walk.specs.Tables.{Tables}
+use Rattle.address_space.specs.Agreement.{body_of}
+use Rattle.address_space.specs.Layouts.{region_of}
+use Rattle.address_space.specs.Steps.{CanWrite}
+use Rattle.address_space.proofs.Marks.{mark_leafy, mark_some, marks}
+use Rattle.address_space.proofs.space.Space.mark_stored.Given as given
+use Rattle.address_space.proofs.space.Space.mark_stored.Goals as goal
+use Rattle.address_space.proofs.space.Space.mark_stored.Goals.{After-protect}
+
+pub unreachable-requires : goal.unreachable-requires
+unreachable-requires g c =
+    let can = c.requires.ready.3 in
+    let found = rw c.number.ensures.value at (c.region_at.ensures c.requires.ready.1 can.read.agrees.lays) in
+    let none = ap (option_map region_of) c.in_default.is in
+    cc (found, none, can.in_region)
+
+pub unreachable-requires-in_default-frame_of : goal.unreachable-requires-in_default-frame_of
+unreachable-requires-in_default-frame_of g c =
+    let can = c.requires.ready.3 in
+    let some = mark_some can c.frame_of.result (c.frame_of.ensures.frame c.requires.ready.0 can.read.agrees.stands.tables) in
+    cc (some, c.in_default-frame_of.is)
+
+pub leaf-leaf-requires-clause-leafy : goal.leaf-leaf-requires-clause-leafy
+leaf-leaf-requires-clause-leafy g c =
+    let r = c.requires.ready in
+    mark_leafy r.3 _ (sym (rw c.number.ensures.value at (c.region_at.ensures r.1 r.3.read.agrees.lays)) ∙ ap (option_map region_of) c.in-Some.is)
+
+pub protect-requires-clause-fits : goal.protect-requires-clause-fits
+protect-requires-clause-fits g c = fits_after g.F.FrameAccess.rule c.frame_of.ensures.keeps c.requires.fits
+
+pub protect-requires-clause-mapped : goal.protect-requires-clause-mapped
+protect-requires-clause-mapped g c =
+    let r = c.requires.ready in
+    let stands = r.3.read.agrees.stands in
+    let shown = stands.shows.settled c.args.page r.2 r.3.read.settled in
+    (r.0, rw c.frame_of.ensures.view stands.tables, rw shown.mapped refl)
+
+pub returns-clause-marked : goal.returns-clause-marked
+returns-clause-marked g c t p s can =
+    let at = sym (rw c.number.ensures.value at (c.region_at.ensures p can.read.agrees.lays)) ∙ ap (option_map region_of) c.in-Some.is in
+    let tables = can.read.agrees.stands.tables in
+    let same = c.frame_of.ensures.view in (
+      _,
+      marks can _ at _ _ c.frame_of.result (c.frame_of.ensures.frame t tables) c.in-Some-frame_of.is _ c.leaf-leaf.ensures.leaf
+          (rw same at (c.protect.ensures.tables t) tables).0
+          (λ x table. (rw same at (c.protect.ensures.word t x)) tables table),
+    )
+
+pub returns-clause-keeps : goal.returns-clause-keeps
+returns-clause-keeps g c = λ others r. c.protect.ensures.keeps others (c.frame_of.ensures.keeps others r)
+
+pub returns-clause-counts : goal.returns-clause-counts
+returns-clause-counts g c alone f = c.protect.ensures.counts alone f ∙ ap (λ x. g.F.FrameAccess.count x f) c.frame_of.ensures.same

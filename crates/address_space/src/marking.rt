@@ -1,0 +1,40 @@
+// The mark of pages that go back to a file.
+
+ghost use Rattle.std.specs.Prelude.{◌≡◌, ℕ};
+ghost use Rattle.address_space.specs.Agreement.{body_of};
+ghost use Rattle.address_space.specs.Steps.{CanWrite, Marks};
+ghost use Rattle.frame_store.specs.Laws.{Fits, Keeps};
+ghost use Rattle.process_model.specs.Process.{Page, Process};
+ghost use Rattle.table_walk.specs.Tables.{Tables};
+
+use crate::pages::frame_of;
+use crate::space::Space;
+use frame_store::{FrameAccess, FrameSeat};
+use sv39_entry::Vpn;
+use table_walk::protect;
+
+impl<S: FrameSeat> Space<S> {
+    /// Notes that a page is to be stored to, where stores go back to a file: its leaf gets D (RISC-V Privileged Architecture
+    /// 20211203, 4.3.1), and keeps its frame. No other page is dirty any later than that.
+    pub fn mark_stored<F: FrameAccess<Seat = S>>(&mut self, store: &mut F, page: Vpn)
+        requires fits { Fits F.rule store.old self.old.seat }
+        requires ready { (t : Tables) × (p : Process) × (s : Page) × CanWrite (body_of S.view self.old) t p page s }
+        ensures marked { (t : Tables) (p : Process) (s : Page) → CanWrite (body_of S.view self.old) t p page s →
+            (u : Tables) × Marks (S.view self.old.seat) (body_of S.view self.new) t u p page s }
+        ensures root { self.new.root ≡ self.old.root }
+        ensures trapframe { self.new.trapframe ≡ self.old.trapframe }
+        ensures layout { self.new.layout ≡ self.old.layout }
+        ensures keeps { Keeps F.rule store.old self.old.seat store.new self.new.seat }
+        ensures free { F.alone → F.free store.new ≡ F.free store.old }
+        ensures counts { F.alone → (f : ℕ) → F.count store.new f ≡ F.count store.old f }
+    {
+        let Some(region) = self.layout.region_at(page.number()) else {
+            unreachable!()
+        };
+        let Some((frame, _)) = frame_of(store, &mut self.seat, self.root, page) else {
+            unreachable!()
+        };
+        let leaf = region.leaf(frame, false, true);
+        protect(store, &mut self.seat, self.root, page, leaf);
+    }
+}
