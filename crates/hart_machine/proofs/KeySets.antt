@@ -44,7 +44,7 @@ equal_of a b t = exact_unsigned a b ((Equal-is (nat_cmp a b)).0 t)
 pub equal_to : (a b : ℕ) → a ≡ b → eq_by_cmp nat_cmp a b ≡ true
 equal_to a b e = rw e ((eq_by_cmp_equiv nat_cmp_total).refl b)
 
-pub key_found : {X : Type 0} (q : ℕ) (es : List (ℕ × X)) → Among q (map (λ e. e.0) es) → is_some (find nat_cmp q es) ≡ true
+key_found : {X : Type 0} (q : ℕ) (es : List (ℕ × X)) → Among q (map (λ e. e.0) es) → is_some (find nat_cmp q es) ≡ true
 key_found q [] i = absurd i
 key_found q (e ∷ es) (inl same) = rw (equal_to q e.0 same)
 key_found q (e ∷ es) (inr i) = elim (eq_by_cmp nat_cmp q e.0) as (λ b. is_some (cond b (Some e.1) (find nat_cmp q es)) ≡ true) [ true ↦ refl | false ↦ key_found q es i ]
