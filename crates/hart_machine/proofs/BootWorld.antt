@@ -1,7 +1,6 @@
 -- The world in which a machine is at first.
-use Rattle.std.proofs.Common.{◌≡◌, ℕ, zero, suc, ◌+◌, ◌-◌, refl, ap, sym, subst, ◌∙◌, Option, None, Some, option_map, List, [], ◌∷◌, inl, inr, map, replicate, arith}
+use Rattle.std.proofs.Common.{◌≡◌, ℕ, zero, suc, refl, ap, sym, subst, ◌∙◌, None, Some, option_map, List, [], ◌∷◌, map, replicate, arith}
 use Rattle.std.specs.Prelude.{Contains, slice_get}
-use Rattle.std.proofs.lemmas.Bool.{cases_lt, lt-leb, le-leb}
 use Rattle.std.proofs.lemmas.List.{length-replicate}
 use Rattle.std.proofs.lemmas.Option.{same_Some, slice_get-map}
 use Rattle.address_space.specs.Kernel.{IsKernelTable}
@@ -13,10 +12,8 @@ use Rattle.hart_machine.specs.declared.hart.Hart.{Hart}
 use Rattle.hart_machine.specs.declared.machine.Machine.{Machine}
 use Rattle.hart_machine.specs.declared.tenant.Tenant.{Tenant}
 use Rattle.hart_tlb.specs.declared.entry.TlbEntry.{TlbEntry}
-use Rattle.process_model.specs.Frames.{kernel_frames, live}
 use Rattle.process_model.specs.Harts as model
-use Rattle.process_model.specs.Process.{Process}
-use Rattle.process_model.specs.World.{booted, free}
+use Rattle.process_model.specs.World.{booted}
 use Rattle.process_model.specs.declared.config.Config.{Config}
 use Rattle.process_model.specs.declared.config.Policy.TheVariants.{Full}
 use Rattle.table_walk.specs.Tables.{Tables}
@@ -26,10 +23,6 @@ use Rattle.table_walk.specs.Tables.{Tables}
 present_none : {A : Type 0} (n : ℕ) → present {Seat = A} (replicate n None) ≡ []
 present_none zero = refl
 present_none (suc n) = present_none n
-
-live_none : (n : ℕ) → live (replicate n None) ≡ []
-live_none zero = refl
-live_none (suc n) = live_none n
 
 none_there : {A : Type 0} (n i : ℕ) (x : A) → slice_get (replicate n None) i ≡ Some (Some x) → ⊥
 none_there zero i x e = absurd (cc)
@@ -54,18 +47,8 @@ nothing_buffered : (es : List TlbEntry) → map key_of es ≡ [] → (e : TlbEnt
 nothing_buffered [] none e h = absurd (omega (arith, h.1))
 nothing_buffered (a ∷ es) none e h = absurd (cc)
 
-booted_free : (c : Config) → free (booted c []) ≡ c.frames - kernel_frames c.frames c.slots
-booted_free c = rw (live_none c.slots, length-replicate {A = Option Process} c.slots None) (omega arith)
-
--- what the table takes of the frames but the first
-pub left_free : (frames slots before after : ℕ) → before ≡ frames - 1 → after ≡ before - (kernel_frames frames slots - 1) → after ≡ frames - kernel_frames frames slots
-left_free frames slots before after was is = elim (cases_lt 512 frames) [
-  | inl more ↦ (let need : kernel_frames frames slots ≡ 7 + slots = rw (lt-leb frames 512 more) refl in omega (arith, is, was, need))
-  | inr low ↦ (let need : kernel_frames frames slots ≡ 6 + slots = rw (le-leb frames 512 low) refl in omega (arith, is, was, need))
-]
-
 module _ (m : Machine) (c : Config) (full : c.policy ≡ Full) (sized : m.kernel.seat.size ≡ c.frames) (stacks : List ℕ) (t : Tables)
-    (table : IsKernelTable m.kernel.seat m.kernel.root.0 c.frames c.slots stacks t) (rule : BankRule m.frames (m.kernel.seat ∷ [])) (free : m.frames.free ≡ c.frames - kernel_frames c.frames c.slots)
+    (table : IsKernelTable m.kernel.seat m.kernel.root.0 c.frames c.slots stacks t) (rule : BankRule m.frames (m.kernel.seat ∷ []))
     (slots : m.slots.items ≡ replicate c.slots None) (harts : map hart_of m.harts.items ≡ replicate c.harts model.idle_hart) where
   idle_at : (h : ℕ) (x : Hart) → slice_get m.harts.items h ≡ Some x → hart_of x ≡ model.idle_hart
   idle_at h x is = hart_idle c.harts m.harts.items harts h x is
@@ -82,7 +65,6 @@ module _ (m : Machine) (c : Config) (full : c.policy ≡ Full) (sized : m.kernel
     places = λ s. subst (λ ts. IsPlace (slice_get ts s) (slice_get (replicate c.slots None) s) t) (sym slots) (empty_place c.slots s t);
     copies = λ i j a b f g p q x y at. absurd (none_there c.slots i p at);
     counted = λ i n p a at. absurd (none_there c.slots i p at);
-    free = free ∙ sym (booted_free c);
     harts = harts;
     hosted = λ h s x at on. absurd (let none = ap (λ (k : model.Hart). k.slot) (idle_at h x at) in let some = sym on ∙ none in cc);
     alone = λ s h k x y at also on. absurd (let none = ap (λ (z : model.Hart). z.slot) (idle_at h x at) in let some = sym on ∙ none in cc);

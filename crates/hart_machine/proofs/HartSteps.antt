@@ -156,7 +156,6 @@ module _ (m : Machine) (w : World) (is : IsWorld m w) where
       places = is.places;
       copies = is.copies;
       counted = is.counted;
-      free = is.free;
       harts = map-set hart_of m.harts.items h y ∙ ap (λ hs. slice_set hs h (hart_of y)) is.harts;
       hosted = λ k s z at. at_each k z at (λ (u : Hart). u.slot ≡ Some s → (t : Tenant) × (slice_get m.slots.items s ≡ Some (Some t))) (hosted s) (λ old. is.hosted k s z old);
       alone = λ s k l z u at also on upon. elim (new_or_old k z at) [

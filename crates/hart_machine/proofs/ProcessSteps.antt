@@ -1,20 +1,18 @@
 -- Worlds in which one process is another, with the same pages and tables.
-use Rattle.std.proofs.Common.{◌≡◌, ℕ, ◌+◌, ◌<◌, zero, suc, ◌↔◌, Option, None, Some, List, [], ◌∷◌, ◌++◌, refl, ap, sym, subst, ◌∙◌, inl, inr}
-use Rattle.std.specs.Prelude.{flat_map, slice_get, slice_set, sum_by}
+use Rattle.std.proofs.Common.{◌≡◌, ℕ, ◌<◌, zero, suc, ◌↔◌, Option, None, Some, List, [], ◌∷◌, refl, ap, sym, subst, ◌∙◌, inl, inr}
+use Rattle.std.specs.Prelude.{slice_get, slice_set}
 use Rattle.std.specs.Vec.{with_item}
 use Rattle.std.proofs.lemmas.Bool.{cases_eq}
 use Rattle.std.proofs.lemmas.List.{length-set}
-use Rattle.std.proofs.lemmas.List.Sums.{sum_by-cons}
 use Rattle.std.proofs.lemmas.Option.{same_Some, slice_get_within}
 use Rattle.frame_store.specs.Plain.{Bank, BankRule}
 use Rattle.frame_store.specs.Seats.{place_set_other, place_set_same}
 use Rattle.frame_store.specs.View.{View}
-use Rattle.process_model.specs.Frames.{copies_of, live, own_frames}
 use Rattle.process_model.specs.PageMap as pages
 use Rattle.process_model.specs.PageMap.{count, keys, numbers}
 use Rattle.process_model.specs.Process as of_model
 use Rattle.process_model.specs.Process.{Page, Process}
-use Rattle.process_model.specs.World.{World, free, with_process}
+use Rattle.process_model.specs.World.{World, with_process}
 use Rattle.table_walk.specs.Tables.{Tables}
 use Rattle.address_space.specs.Agreement.{body, IsSpace}
 use Rattle.address_space.specs.Kernel.{IsKernelTable}
@@ -26,31 +24,11 @@ use Rattle.hart_machine.specs.declared.machine.Machine.{Machine}
 use Rattle.hart_machine.specs.declared.tenant.Pending.{Pending}
 use Rattle.hart_machine.specs.declared.tenant.Tenant.{Tenant}
 
--- accounts
-
-module _ (p q : Process) where
-  same_flat : {X : Type 0} (f : Process → List X) → f q ≡ f p → (slots : List (Option Process)) (s : ℕ) → slice_get slots s ≡ Some (Some p)
-      → flat_map f (live (slice_set slots s (Some q))) ≡ flat_map f (live slots)
-  same_flat f e [] s at = refl
-  same_flat f e (x ∷ slots) zero at = rw (same_Some x (Some p) at) (ap (λ xs. xs ++ flat_map f (live slots)) e)
-  same_flat f e (None ∷ slots) (suc s) at = same_flat f e slots s at
-  same_flat f e (Some r ∷ slots) (suc s) at = ap (λ xs. f r ++ xs) (same_flat f e slots s at)
-
-  same_sum : (f : Process → ℕ) → f q ≡ f p → (slots : List (Option Process)) (s : ℕ) → slice_get slots s ≡ Some (Some p)
-      → sum_by f (live (slice_set slots s (Some q))) ≡ sum_by f (live slots)
-  same_sum f e [] s at = refl
-  same_sum f e (x ∷ slots) zero at = rw (same_Some x (Some p) at) (sum_by-cons f q (live slots) ∙ ap (λ n. n + sum_by f (live slots)) e ∙ sym (sum_by-cons f p (live slots)))
-  same_sum f e (None ∷ slots) (suc s) at = same_sum f e slots s at
-  same_sum f e (Some r ∷ slots) (suc s) at = sum_by-cons f r (live (slice_set slots s (Some q))) ∙ ap (λ n. f r + n) (same_sum f e slots s at) ∙ sym (sum_by-cons f r (live slots))
-
 -- each page that one process has, the other has with the same copy number
 abbrev pub HasCopies : Process → Process → Type 0
 HasCopies q p = (n : ℕ) (a : Page) → pages.get q.settled n ≡ Some a → (b : Page) × (pages.get p.settled n ≡ Some b) × (b.copy ≡ a.copy)
 
 module _ (m : Machine) (w : World) (is : IsWorld m w) (s : ℕ) (x y : Tenant) (p q : Process) (place : slice_get m.slots.items s ≡ Some (Some x)) (at : slice_get w.slots s ≡ Some (Some p)) where
-  same_free : copies_of q ≡ copies_of p → own_frames q ≡ own_frames p → free (with_process w s q) ≡ free w
-  same_free copies owns = rw (length-set w.slots s (Some q), same_flat p q copies_of copies w.slots s at, same_sum p q own_frames owns w.slots s at) refl
-
   -- what holds of the process in a slot, where it holds of the new one and of the old ones
   at_each : {A : Type 0} (xs : List (Option A)) (a b : A) → slice_get xs s ≡ Some (Some a) → (k : ℕ) (c : Option (Option A)) → slice_get (slice_set xs s (Some b)) k ≡ c
       → (P : Option (Option A) → Type 0) → (k ≡ s → P (Some (Some b))) → ((k ≡ s → ⊥) → slice_get xs k ≡ c → P c) → P c
@@ -68,10 +46,9 @@ module _ (m : Machine) (w : World) (is : IsWorld m w) (s : ℕ) (x y : Tenant) (
         (λ same e. let is_q : q ≡ r = same_Some q r (same_Some _ _ e) in let found = has n a (ap (λ (z : Process). pages.get z.settled n) is_q ∙ settled) in (p, found.0, ap (slice_get w.slots) same ∙ at, found.1, found.2))
         (λ apart old e. (r, a, old, settled, refl)) refl
 
-    pub process_changes : (b : Bank) → BankRule b (m.kernel.seat ∷ seats_of (slice_set m.slots.items s (Some y))) → b.free ≡ m.frames.free
-        → IsTenant y (is.tables s) q → copies_of q ≡ copies_of p → own_frames q ≡ own_frames p
+    pub process_changes : (b : Bank) → BankRule b (m.kernel.seat ∷ seats_of (slice_set m.slots.items s (Some y))) → IsTenant y (is.tables s) q
         → IsWorld (record m { frames = b; slots = with_item m.slots s (Some y) }) (with_process w s q)
-    process_changes b rule unspent tenant copies owns = record {
+    process_changes b rule tenant = record {
       tables = is.tables;
       kernel = is.kernel;
       stacks = is.stacks;
@@ -85,7 +62,6 @@ module _ (m : Machine) (w : World) (is : IsWorld m w) (s : ℕ) (x y : Tenant) (
           let second = old_page j n o c at_j in_j in
           subst (λ z. (f ≡ g) ↔ (z ≡ c.copy)) first.4 (subst (λ z. (f ≡ g) ↔ (first.1.copy ≡ z)) second.4 (is.copies i j k n f g first.0 second.0 first.1 second.1 first.2 second.2 first.3 second.3 on_i on_j));
       counted = λ i n r a at_i in_i. let old = old_page i n r a at_i in_i in subst (λ z. z < w.counter) old.4 (is.counted i n old.0 old.1 old.2 old.3);
-      free = unspent ∙ is.free ∙ sym (same_free copies owns);
       harts = is.harts;
       hosted = hosted;
       alone = is.alone;
@@ -147,5 +123,5 @@ module _ (m : Machine) (w : World) (is : IsWorld m w) (s : ℕ) (x : Tenant) (p 
   -- the process of a slot has another access pending
   pub pending_changes : (o : Option Pending) → IsWorld (record m { slots = with_item m.slots s (Some (record x { pending = o })) }) (with_process w s (record p { pending = pending_of o }))
   pending_changes o = process_changes m w is s x (record x { pending = o }) p (record p { pending = pending_of o }) place at (λ n a there. (a, there, refl)) m.frames
-      (subst (λ vs. BankRule m.frames (m.kernel.seat ∷ vs)) (sym (seats_stay m.slots.items s x (record x { pending = o }) place refl)) is.rule) refl
-      (record { agrees = agrees_pending _ _ _ _ _ p tenant.agrees (pending_of o); framed = tenant.framed; pending = refl }) refl refl
+      (subst (λ vs. BankRule m.frames (m.kernel.seat ∷ vs)) (sym (seats_stay m.slots.items s x (record x { pending = o }) place refl)) is.rule)
+      (record { agrees = agrees_pending _ _ _ _ _ p tenant.agrees (pending_of o); framed = tenant.framed; pending = refl })

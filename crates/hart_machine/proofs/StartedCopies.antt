@@ -8,7 +8,6 @@ use Rattle.address_space.specs.Parts.{OwnsAlone}
 use Rattle.frame_store.specs.Plain.{Bank, BankRule}
 use Rattle.frame_store.specs.Seats.{place_set_other, place_set_same}
 use Rattle.frame_store.specs.View.{references, View}
-use Rattle.process_laws.specs.Numbered.{HasNewCopies}
 use Rattle.process_model.specs.Images.{LoadSegment}
 use Rattle.process_model.specs.Loading.{image_pages, process_of}
 use Rattle.process_model.specs.PageMap as pages
@@ -35,21 +34,6 @@ module _ (m : Machine) (w : World) (is : IsWorld m w) where
       let x = tenant_at m w is j (rw at refl) in
       let p = process_at m w is j x.0 x.1 in
       (x.0, x.1, subst (λ (z : Process). IsTenant x.0 (is.tables j) z) (same_Some p.0 q (same_Some _ _ (sym p.1 ∙ at))) p.2)
-
-  pub new_copies : HasNewCopies w
-  new_copies = record {
-    below = λ s n p x at has. is.counted s n p x (there_flat _ p at) has;
-    once = λ s m n p x y at has also same.
-        let there = there_flat _ p at in
-        let tenant = (tenant_in s p there).2 in
-        let stands = tenant.agrees.stands in
-        let one = stands.shows.settled m x has in
-        let two = stands.shows.settled n y also in
-        let on : IsOn (is.tables s) m one.frame = (one.leaf, one.mapped, one.made.names) in
-        let upon : IsOn (is.tables s) n two.frame = (two.leaf, two.mapped, two.made.names) in
-        one_page _ _ _ (is.tables s) p stands m n one.frame two.frame x y has also on upon
-        ((is.copies s s m n one.frame two.frame p p x y there there has also on upon).1 same);
-  }
 
 module _ (m : Machine) (w : World) (is : IsWorld m w) (s : ℕ) (at : slice_get w.slots s ≡ Some None) (ls : List LoadSegment) where
   -- a process of the new world is the new one, or was there

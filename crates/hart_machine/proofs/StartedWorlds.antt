@@ -1,5 +1,5 @@
 -- The world in which a process starts, and the one that refuses it.
-use Rattle.std.proofs.Common.{◌≡◌, ℕ, ◌+◌, ◌-◌, ◌≤◌, true, false, sym, subst, ◌∙◌, refl, arith, inl, inr, List, ◌∷◌, Option, None, Some, length}
+use Rattle.std.proofs.Common.{◌≡◌, ℕ, ◌≤◌, true, false, sym, subst, ◌∙◌, refl, arith, inl, inr, List, ◌∷◌, Option, None, Some, length}
 use Rattle.std.specs.Prelude.{Ok, slice_get, slice_set}
 use Rattle.std.proofs.Math.Nat.{lt_of_not-le}
 use Rattle.std.proofs.lemmas.Bool.{cases_eq, le-ltb, lt-ltb}
@@ -11,7 +11,6 @@ use Rattle.address_space.specs.Parts.{OwnsAlone}
 use Rattle.frame_store.specs.Plain.{BankRule}
 use Rattle.frame_store.specs.Seats.{place_set_other, place_set_same, places_apart}
 use Rattle.hart_tlb.specs.declared.entry.TlbEntry.{TlbEntry}
-use Rattle.process_laws.specs.Numbered.{HasNewCopies}
 use Rattle.process_model.specs.Calls.{started, started_unless, with_image}
 use Rattle.process_model.specs.Frames.{start_need}
 use Rattle.process_model.specs.Images.{image_loads, LoadSegment}
@@ -29,8 +28,9 @@ use Rattle.hart_machine.specs.Worlds.{IsPlace, IsServing, IsWorld, Makes, seats_
 use Rattle.hart_machine.specs.declared.hart.Hart.{Hart}
 use Rattle.hart_machine.specs.declared.machine.Machine.{Machine}
 use Rattle.hart_machine.specs.declared.tenant.Tenant.{Tenant}
+use Rattle.hart_machine.proofs.HeldFrames.{free_is}
 use Rattle.hart_machine.proofs.StartSlots.{free_is_empty, free_place}
-use Rattle.hart_machine.proofs.StartedCopies.{new_copies, started_copies, started_counted}
+use Rattle.hart_machine.proofs.StartedCopies.{started_copies, started_counted}
 use Rattle.hart_machine.proofs.StartedTables.{tables_here, tables_there, tables_with}
 use Rattle.hart_machine.proofs.StartedSeats.{held_inside, seat_comes}
 
@@ -38,7 +38,7 @@ module _ (m n : Machine) (w : World) (is : IsWorld m w) (s : ℕ) (place : slice
     (ls : List LoadSegment) (y : Tenant) (t : Tables) (sized : n.kernel.seat.size ≡ m.kernel.seat.size) (slots : n.slots.items ≡ slice_set m.slots.items s (Some y)) (harts : n.harts ≡ m.harts)
     (agrees : IsSpace (body_in y) t (process_of w.counter ls)) (alone : OwnsAlone (view_of y) t) (pending : y.pending ≡ None)
     (rule : BankRule n.frames (n.kernel.seat ∷ view_of y ∷ seats_of m.slots.items))
-    (table : IsKernelTable n.kernel.seat n.kernel.root.0 w.frames (length w.slots) is.stacks is.kernel) (left : n.frames.free ≡ free (with_image w s ls)) where
+    (table : IsKernelTable n.kernel.seat n.kernel.root.0 w.frames (length w.slots) is.stacks is.kernel) where
   abbrev tables : ℕ → Tables
   tables = tables_with is.tables s t
 
@@ -86,7 +86,6 @@ module _ (m n : Machine) (w : World) (is : IsWorld m w) (s : ℕ) (place : slice
     places = λ k. subst (λ (xs : List (Option Tenant)). IsPlace (slice_get xs k) (slice_get (slice_set w.slots s (Some (process_of w.counter ls))) k) (tables k)) (sym slots) (places_at k);
     copies = started_copies m w is s at ls n.frames n.kernel.seat (view_of y) rule y.space.root.0 y.space.trapframe.0 t agrees.stands alone;
     counted = started_counted m w is s at ls;
-    free = left;
     harts = rw harts is.harts;
     hosted = λ h k x on slot. subst (λ (xs : List (Option Tenant)). (z : Tenant) × (slice_get xs k ≡ Some (Some z))) (sym slots) (hosted_at h k x (on_old h x on) slot);
     alone = λ s h k x z on also at upon. is.alone s h k x z (on_old h x on) (on_old k z also) at upon;
@@ -96,7 +95,7 @@ module _ (m n : Machine) (w : World) (is : IsWorld m w) (s : ℕ) (place : slice
 
 -- the machine as it was, with another seat of the kernel
 module _ (m n : Machine) (w : World) (is : IsWorld m w) (sized : n.kernel.seat.size ≡ m.kernel.seat.size) (slots : n.slots ≡ m.slots) (harts : n.harts ≡ m.harts) (rule : BankRule n.frames (n.kernel.seat ∷ seats_of m.slots.items))
-    (table : IsKernelTable n.kernel.seat n.kernel.root.0 w.frames (length w.slots) is.stacks is.kernel) (left : n.frames.free ≡ m.frames.free) where
+    (table : IsKernelTable n.kernel.seat n.kernel.root.0 w.frames (length w.slots) is.stacks is.kernel) where
   pub stays : IsWorld n w
   stays = record {
     tables = is.tables;
@@ -109,18 +108,12 @@ module _ (m n : Machine) (w : World) (is : IsWorld m w) (sized : n.kernel.seat.s
     places = rw slots is.places;
     copies = is.copies;
     counted = is.counted;
-    free = left ∙ is.free;
     harts = rw harts is.harts;
     hosted = rw (harts, slots) is.hosted;
     alone = rw harts is.alone;
     idle = rw harts is.idle;
     buffers = rw harts is.buffers;
   }
-
--- a start takes its need from the free frames
-abbrev pub TakesItsNeed : Type 0
-TakesItsNeed = (w : World) (s : ℕ) (image : model.Image) (ls : List LoadSegment) → HasNewCopies w → free_slot w ≡ Some s → image_loads image ≡ Ok ls → is_dry w (start_need ls) ≡ false
-    → free (with_image w s ls) + start_need ls ≡ free w
 
 -- what the step of the model makes
 module _ (w : World) (s : ℕ) (image : model.Image) (ls : List LoadSegment) (to : free_slot w ≡ Some s) (loaded : image_loads image ≡ Ok ls) where
@@ -133,21 +126,20 @@ module _ (w : World) (s : ℕ) (image : model.Image) (ls : List LoadSegment) (to
   module _ (m n : Machine) (is : IsWorld m w) (sized : n.kernel.seat.size ≡ m.kernel.seat.size) (harts : n.harts ≡ m.harts)
       (table : IsKernelTable n.kernel.seat n.kernel.root.0 w.frames (length w.slots) is.stacks is.kernel) where
     -- enough frames are free
-    pub makes_started : TakesItsNeed → (y : Tenant) (t : Tables) → n.slots.items ≡ slice_set m.slots.items s (Some y)
+    pub makes_started : (y : Tenant) (t : Tables) → n.slots.items ≡ slice_set m.slots.items s (Some y)
         → IsSpace (body_in y) t (process_of w.counter ls) → OwnsAlone (view_of y) t → y.pending ≡ None
-        → BankRule n.frames (n.kernel.seat ∷ view_of y ∷ seats_of m.slots.items) → start_need ls ≤ m.frames.free → n.frames.free ≡ m.frames.free - start_need ls
+        → BankRule n.frames (n.kernel.seat ∷ view_of y ∷ seats_of m.slots.items) → start_need ls ≤ m.frames.free
         → Makes n (Started s) (started w (image_loads image) (free_slot w))
-    makes_started takes y t slots agrees alone pending rule enough left =
-        let was = is.free in
+    makes_started y t slots agrees alone pending rule enough =
+        let was = free_is m w is in
         let wet : is_dry w (start_need ls) ≡ false = le-ltb (free w) (start_need ls) (omega (arith, enough, was)) in
-        let taken = takes w s image ls (new_copies m w is) to loaded wet in
         subst (λ (o : Outcome). Makes n (Started s) o) (sym (started_wet wet))
-        (refl, starts m n w is s (free_place m w is s to) (free_is_empty w s to) ls y t sized slots harts agrees alone pending rule table (omega (arith, was, taken, left)))
+        (refl, starts m n w is s (free_place m w is s to) (free_is_empty w s to) ls y t sized slots harts agrees alone pending rule table)
 
     -- too few are
-    pub makes_refused : n.slots ≡ m.slots → BankRule n.frames (n.kernel.seat ∷ seats_of m.slots.items) → (start_need ls ≤ m.frames.free → ⊥) → n.frames.free ≡ m.frames.free
+    pub makes_refused : n.slots ≡ m.slots → BankRule n.frames (n.kernel.seat ∷ seats_of m.slots.items) → (start_need ls ≤ m.frames.free → ⊥)
         → Makes n (Refused NoFrame) (started w (image_loads image) (free_slot w))
-    makes_refused slots rule few left =
-        let was = is.free in
+    makes_refused slots rule few =
+        let was = free_is m w is in
         let dry : is_dry w (start_need ls) ≡ true = lt-ltb (free w) (start_need ls) (lt_of_not-le (λ le. few (omega (arith, was, le)))) in
-        subst (λ (o : Outcome). Makes n (Refused NoFrame) o) (sym (started_dry dry)) (refl, stays m n w is sized slots harts rule table left)
+        subst (λ (o : Outcome). Makes n (Refused NoFrame) o) (sym (started_dry dry)) (refl, stays m n w is sized slots harts rule table)

@@ -5,7 +5,7 @@ use Rattle.frame_store.specs.Seats.{present}
 use Rattle.frame_store.specs.View.{View}
 use Rattle.process_model.specs.PageMap as pages
 use Rattle.process_model.specs.Process.{Page, Process}
-use Rattle.process_model.specs.World.{Outcome, World, free}
+use Rattle.process_model.specs.World.{Outcome, World}
 use Rattle.process_model.specs.declared.config.Policy.TheVariants.{Full}
 use Rattle.process_model.specs.declared.phase.Phase.{Phase}
 use Rattle.process_model.specs.declared.phase.Phase.TheVariants as phase
@@ -79,7 +79,6 @@ pub record IsWorld (m : Machine) (w : World) : Type 0 where
   pub places : (s : ℕ) → IsPlace (slice_get m.slots.items s) (slice_get w.slots s) (tables s)
   pub copies : HaveCopies w.slots tables
   pub counted : AreCounted w.slots w.counter
-  pub free : m.frames.free ≡ free w
   pub harts : map hart_of m.harts.items ≡ w.harts
   -- a hart's process is there
   pub hosted : (h s : ℕ) (x : Hart) → slice_get m.harts.items h ≡ Some x → x.slot ≡ Some s → (y : Tenant) × (slice_get m.slots.items s ≡ Some (Some y))

@@ -120,7 +120,6 @@ impl Tenant {
         ensures after { (t : Tables) (p : Process) → IsTenant self.old t p → ((z : walks.Walk) → walk ≡ Some z → z ≡ walk_answer t asked.va.0 asked.access User) →
             IsTenant self.new t (service.user_access p (asked_of asked)).process }
         ensures keeps { Keeps BankRule frames.old (view_of self.old) frames.new (view_of self.new) }
-        ensures free { frames.new.free ≡ frames.old.free }
     {
         let walk = self.translated(frames, walk, asked);
         let reply = user_access(frames, &mut self.space, walk, asked);

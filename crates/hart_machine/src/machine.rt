@@ -4,13 +4,13 @@ ghost use Rattle.std.specs.Prelude.{◌≡◌, is_some, option_and_then, option_
 ghost use Rattle.std.specs.Vec.{with_item};
 ghost use Rattle.hart_machine.specs.declared.tenant.Tenant.{Tenant};
 ghost use Rattle.hart_machine.specs.Worlds.{IsWorld};
-ghost use Rattle.process_model.specs.World.{process_in, World};
+ghost use Rattle.process_model.specs.World.{process_in, report, World};
 
 use crate::hart::Hart;
 use crate::tenant::{Pending, Tenant};
 use address_space::KernelTable;
 use frame_store::{PlainFrames, PlainSeat};
-use process_model::Phase;
+use process_model::{Phase, Report};
 
 /// One memory with the table of the kernel, processes in slots, and harts. All that it needs is made when it is booted.
 #[derive(Drop)]
@@ -22,6 +22,13 @@ pub struct Machine {
 }
 
 impl Machine {
+    /// The accounts of the frames.
+    pub fn report(&self) -> Report
+        ensures { (w : World) → IsWorld self.now w → result ≡ report w }
+    {
+        self.frames.report()
+    }
+
     /// Where a hart is between user and kernel.
     pub(crate) fn phase_of(&self, hart: usize) -> Option<Phase>
         ensures { result ≡ option_map (λ x. x.phase) (slice_get self.now.harts.items hart) }

@@ -18,7 +18,6 @@ use crate::machine::Machine;
 use crate::tenant::Tenant;
 use exec_segments::{Image, start};
 use frame_store::{FrameAccess, PlainSeat, opened_seat};
-use process_laws::start_takes_its_need;
 use process_model::{Refusal, Reply};
 use sv39_entry::FrameNo;
 
@@ -30,7 +29,6 @@ impl Machine {
         ensures made { (w : World) → IsWorld self.old w → Makes self.new result (plain_step w (step.Start image.entry)) }
         ensures buffers { SameBuffers self.old self.new }
     {
-        start_takes_its_need();
         let Some(slot) = self.free_slot() else {
             return Reply::Refused(Refusal::NoSlot);
         };
@@ -95,7 +93,6 @@ impl Machine {
         ensures kernel { (frames slots : ℕ) (stacks : List ℕ) (t : tables.Tables) → IsKernelTable self.old.kernel.seat self.old.kernel.root.0 frames slots stacks t
             → IsKernelTable self.new.kernel.seat self.new.kernel.root.0 frames slots stacks t }
         ensures size { self.new.kernel.seat.size ≡ self.old.kernel.seat.size }
-        ensures free { self.new.frames.free ≡ self.old.frames.free }
         ensures slots { self.new.slots ≡ self.old.slots }
         ensures harts { self.new.harts ≡ self.old.harts }
         ensures rule { (others : List View) → BankRule self.old.frames (self.old.kernel.seat ∷ seat ∷ others) → BankRule self.new.frames (self.new.kernel.seat ∷ others) }

@@ -30,5 +30,5 @@ returns-clause-made c w is p at given =
     let tenant = subst (λ q. IsTenant c.in-Some.tenant (is.tables c.args.slot) q) (same_Some _ _ (same_Some _ _ (sym found.1 ∙ at))) found.2 in (
       c.access.ensures.reply (is.tables c.args.slot) p tenant given,
       access_changes m w is c.args.slot c.in-Some.tenant c.access.new.self p there at (asked_of c.args.asked) tenant
-          (c.access.ensures.after (is.tables c.args.slot) p tenant given) c.access.new.frames c.access.ensures.keeps c.access.ensures.free,
+          (c.access.ensures.after (is.tables c.args.slot) p tenant given) c.access.new.frames c.access.ensures.keeps,
     )

@@ -1,13 +1,12 @@
 use Rattle.std.proofs.Common.{[], ap, ◌∙◌}
-use Rattle.frame_store.specs.Plain.{Bank, kept_size}
+use Rattle.frame_store.specs.Plain.{kept_size}
 use Rattle.frame_store.specs.View.{View}
-use Rattle.hart_machine.proofs.BootWorld.{boots, left_free}
+use Rattle.hart_machine.proofs.BootWorld.{boots}
 use Rattle.hart_machine.proofs.machine.Machine.boot.Goals as goal
 
 pub returns-clause-booted : goal.returns-clause-booted
 returns-clause-booted c = λ full.
     let built = c.in-Ok.ensures.built in
-    let left = left_free c.args.config.frames c.args.config.slots _ _ (ap (λ (b : Bank). b.free) c.in_ok-frames.ensures.store) (c.in-Ok.ensures.free tt) in
     let opened = c.in_ok-frames.ensures in
     let sized = kept_size _ _ _ _ [] c.in-Ok.ensures.keeps opened.rule ∙ ap (λ (v : View). v.size) opened.seat in
-    boots _ c.args.config full sized built.0 built.1 built.2 (c.in-Ok.ensures.keeps [] c.in_ok-frames.ensures.rule) left c.in_ok-slots.ensures.slots c.in_ok-harts.ensures.harts
+    boots _ c.args.config full sized built.0 built.1 built.2 (c.in-Ok.ensures.keeps [] c.in_ok-frames.ensures.rule) c.in_ok-slots.ensures.slots c.in_ok-harts.ensures.harts

@@ -1,4 +1,4 @@
-use Rattle.std.proofs.Common.{◌≡◌, ◌≤◌, ◌-◌, None, Some, length, ap, refl, subst, sym, ◌∙◌, arith}
+use Rattle.std.proofs.Common.{◌≤◌, None, Some, length, ap, refl, subst, sym, ◌∙◌}
 use Rattle.std.specs.Vec.{with_item}
 use Rattle.address_space.specs.Agreement.{HoldsTrampoline}
 use Rattle.frame_store.specs.View.{View}
@@ -52,10 +52,10 @@ returns-in-Ok-start-clause-made c w is =
     let n : Machine = record { frames = c.start.new.store; kernel = o.new.self.kernel; slots = with_item o.new.self.slots s (Some y); harts = o.new.self.harts } in
     makes_started w s c.args.image c.in-Ok.image (sym (c.free_slot.ensures w is) ∙ c.in-Some.is) (ap image_loads c.in-Segments.is ∙ sym c.from_segments.ensures ∙ c.in-Ok.is)
     m n is o.ensures.size o.ensures.harts (open_kernel m o.new.self o.ensures.opener w.frames (length w.slots) is.stacks is.kernel is.of_kernel)
-    c.start_takes_its_need.ensures y ok.ensures.started.0 (rw o.ensures.slots refl)
+    y ok.ensures.started.0 (rw o.ensures.slots refl)
     (ok.ensures.started.1 w.counter) ok.ensures.started.2 refl
     (second_steps o.new.self.frames c.start.new.store o.new.self.kernel.seat o.result ok.space.seat others ok.ensures.keeps (o.ensures.rule others is.rule))
-    (subst (λ k. start_need c.in-Ok.image ≤ k) o.ensures.free ((ok.ensures.exact tt).0 refl)) (ok.ensures.free tt ∙ ap (λ k. k - start_need c.in-Ok.image) o.ensures.free)
+    (subst (λ k. start_need c.in-Ok.image ≤ k) o.ensures.free ((ok.ensures.exact tt).0 refl))
 
 pub returns-in-Err-start-clause-made : goal.returns-in-Err-start-clause-made
 returns-in-Err-start-clause-made c w is =
@@ -72,4 +72,3 @@ returns-in-Err-start-clause-made c w is =
     (c.close_seat.ensures.slots ∙ o.ensures.slots)
     (c.close_seat.ensures.rule others (second_steps o.new.self.frames c.start.new.store o.new.self.kernel.seat o.result e.seat others e.ensures.keeps_refused (o.ensures.rule others is.rule)))
     (λ le. let ok = (e.ensures.exact tt).1 (subst (λ k. start_need c.in-Ok.image ≤ k) (sym o.ensures.free) le) in cc)
-    (let none : o.new.self.frames.free - 0 ≡ o.new.self.frames.free = omega arith in c.close_seat.ensures.free ∙ e.ensures.free tt ∙ none ∙ o.ensures.free)

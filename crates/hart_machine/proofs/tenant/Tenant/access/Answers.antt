@@ -25,6 +25,3 @@ returns-clause-after c t p tenant given =
 
 pub returns-clause-keeps : goal.returns-clause-keeps
 returns-clause-keeps c others rule = c.user_access-reply.ensures.keeps others (rw (c.translated-walk.ensures.tenant, c.translated-walk.ensures.frames) rule)
-
-pub returns-clause-free : goal.returns-clause-free
-returns-clause-free c = c.user_access-reply.ensures.free tt ∙ ap (λ b. b.free) c.translated-walk.ensures.frames
