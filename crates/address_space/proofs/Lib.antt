@@ -27,4 +27,6 @@ pub mod OwningCounts
 pub mod OwningSteps
 pub mod Relaid
 pub mod Sound
+pub mod UserAnswers
+pub mod Users
 pub mod Writing

@@ -27,6 +27,7 @@ use Rattle.table_walk.specs.Tables.{HasTables, Tables, leaf_node}
 use Rattle.table_walk.specs.Same.{same_tables}
 use Rattle.address_space.specs.Agreement.{body, IsSpace, is_dirty_page, IsPageLeaf, IsLeafNumber, IsOn, IsShown, Names, OthersKeep, Owns, Shows, Stands}
 use Rattle.address_space.specs.Layouts.{Layout, LaysOut}
+use Rattle.address_space.specs.ProcessLeaves.{frame_is}
 use Rattle.address_space.specs.Steps.{CanRead, CanWrite, Takes}
 use Rattle.address_space.proofs.Sound.{sound_page}
 use Rattle.address_space.proofs.Owned.{no_table, one_frame, one_page, same_bytes, same_owns}
@@ -53,9 +54,6 @@ module _ (f : ℕ) (v w : View) (changes : ChangesWords f v w) where
   ]
 
 -- the frame of a settled page
-
-frame_back : (f : ℕ) → f < 2 ^ 16 → frame_at (ppn_of f) ≡ Some (record { 0 = f })
-frame_back f small = grind (arith, nat_tests)
 
 -- the leaf of a page is over this frame, which has its bytes
 pub record HasPage (v : View) (t : Tables) (p : Process) (page : ℕ) (s : Page) (f : ℕ) : Type 0 where
@@ -90,7 +88,7 @@ module _ (v : View) (t : Tables) (p : Process) (page : ℕ) (s : Page) (f : ℕ)
   pub page_found : o ≡ Some (record { 0 = f }, is_dirty_page here.region s)
   page_found =
       is ∙ ap (option_and_then (λ w. option_map (λ f. (f, has_flag w 128)) (frame_at (ppn w)))) here.mapped
-      ∙ ap (option_map (λ f. (f, has_flag here.leaf 128))) (ap frame_at here.made.names ∙ frame_back f here.made.small)
+      ∙ ap (option_map (λ f. (f, has_flag here.leaf 128))) (ap frame_at here.made.names ∙ frame_is f here.made.small)
       ∙ ap (λ dirty. Some (record { 0 = f }, dirty)) (has_flag_is here.leaf 7 ∙ here.made.dirty)
 
   pub page_on : (x : FrameNo × Bool) → o ≡ Some x → HasPage v t p page s (x.0).0

@@ -1,8 +1,11 @@
+pub mod Accesses
 pub mod Agreement
 pub mod Ending
 pub mod Kernel
 pub mod Layouts
 pub mod Parts
+pub mod Pending
+pub mod ProcessLeaves
 pub mod Separating
 pub mod Steps
 pub mod Trampolines

@@ -12,6 +12,7 @@ mod pages;
 mod part;
 mod region;
 mod space;
+mod user;
 
 pub use kernel::KernelTable;
 pub use layout::Layout;
@@ -19,3 +20,4 @@ pub use needed::frames_needed;
 pub use part::Part;
 pub use region::{Region, RegionKind, Source};
 pub use space::Space;
+pub use user::Asked;

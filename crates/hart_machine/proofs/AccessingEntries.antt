@@ -3,7 +3,8 @@ use Rattle.std.proofs.Common.{◌≡◌, ℕ, ◌*◌, ◌/◌, ◌^◌, ◌==�
 use Rattle.std.specs.Prelude.{Contains, slice_get}
 use Rattle.std.proofs.lemmas.Bool.{eqb-true}
 use Rattle.std.proofs.lemmas.Option.{get_or_from_slice_get, same_Some, slice_get-map, slice_get_within}
-use Rattle.hart_tlb.specs.Entries.{answer, is_match}
+use Rattle.hart_tlb.specs.Entries.{is_match}
+use Rattle.table_walk.specs.Leaves.{answer, leaf_at, walk_answer}
 use Rattle.hart_tlb.specs.declared.entry.TlbEntry.{TlbEntry}
 use Rattle.process_model.specs.Harts.{entry_serves, is_key}
 use Rattle.process_model.specs.declared.config.Policy.TheVariants.{Full}
@@ -14,7 +15,7 @@ use Rattle.sv39_entry.specs.declared.access.Mode.{Mode}
 use Rattle.table_walk.specs.Tables.{Tables}
 use Rattle.table_walk.specs.declared.walk.Walk.{Walk}
 use Rattle.hart_machine.specs.Harts.{hart_of, key_of}
-use Rattle.hart_machine.specs.Walked.{IsEntryOf, leaf_at, walk_answer}
+use Rattle.hart_machine.specs.Walked.{IsEntryOf}
 use Rattle.hart_machine.specs.Tables.{IsServed}
 use Rattle.hart_machine.specs.Worlds.{IsServing, may_have_kernel}
 use Rattle.hart_machine.specs.declared.hart.Hart.{Hart}

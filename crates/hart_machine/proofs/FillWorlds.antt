@@ -20,7 +20,8 @@ use Rattle.table_walk.specs.Tables.{HasTables, Tables}
 use Rattle.hart_machine.specs.Harts.{hart_of, next_number, with_entry}
 use Rattle.hart_machine.specs.Tables.{tables_of, IsThere, present_table}
 use Rattle.hart_machine.specs.Tenants.{view_of}
-use Rattle.hart_machine.specs.Walked.{entry_for, IsEntryOf, LeavesAreLocal, LeavesAreThere}
+use Rattle.hart_machine.specs.Walked.{entry_for, IsEntryOf}
+use Rattle.table_walk.specs.Leaves.{LeavesAreLocal, LeavesAreThere}
 use Rattle.hart_machine.specs.Worlds.{IsPlace, IsServing, IsWorld, Makes, seats_of}
 use Rattle.hart_machine.specs.declared.hart.Hart.{Hart}
 use Rattle.hart_machine.specs.declared.machine.Machine.{Machine}
@@ -30,7 +31,8 @@ use Rattle.hart_machine.specs.declared.tenant.Tenant.{Tenant}
 use Rattle.hart_machine.proofs.AccessingEntries.{leaf_on_page, same_hart}
 use Rattle.hart_machine.proofs.Fills.{in_newest, kept_is, number_is}
 use Rattle.hart_machine.proofs.HartSteps.{hart_changes, HasHart, makes, no_hart, process_at, refused, runs, without_hart}
-use Rattle.hart_machine.proofs.Leaves.{kernel_local, kernel_there, process_local, process_there}
+use Rattle.address_space.specs.ProcessLeaves.{process_local, process_there}
+use Rattle.hart_machine.proofs.Leaves.{kernel_local, kernel_there}
 use Rattle.hart_machine.proofs.PresentTables.{present_serves, present_there}
 
 -- an entry that is made by a table tells what the table says

@@ -1,4 +1,4 @@
--- The leaves of processes and of the kernel: their frames are there, and none has G.
+-- The leaves of the kernel's table: their frames are there, and none has G.
 use Rattle.std.proofs.Common.{◌⊎◌, ◌≤◌, ◌==◌, ◌&&◌, nat_le, nat_lt, cond, Bool, List, option_map, ◌≡◌, ℕ, ◌+◌, ◌-◌, ◌/◌, ◌%◌, ◌^◌, ◌<◌, true, false, is_some, Option, None, Some, refl, ap, sym, subst, ◌∙◌, inl, inr, arith}
 use Rattle.std.proofs.lemmas.Option.{same_Some}
 use Rattle.std.specs.FinMap.{get}
@@ -7,53 +7,21 @@ use Rattle.std.proofs.lemmas.Bool.{cases_eq, cases_lt, eq-eqb, ne_eqb}
 use Rattle.table_walk.specs.Nodes.{leaf_node_is}
 use Rattle.address_space.specs.Kernel.{first_direct, frame_rights, IsKernelTable, kernel_leaf, kernel_page}
 use Rattle.frame_store.specs.View.{View}
-use Rattle.process_model.specs.Process.{Process}
 use Rattle.sv39_entry.specs.Address.{has, trampoline_page, trapframe_page}
 use Rattle.sv39_entry.specs.Frame.{frame_at, ppn_of}
 use Rattle.sv39_entry.specs.Word.{leaf_word, ppn}
 use Rattle.table_walk.specs.Tables.{Tables, leaf_node}
-use Rattle.address_space.specs.Agreement.{HasKernelLeaf, IsShown, Shows, code_rights, data_rights}
-use Rattle.hart_machine.specs.Walked.{LeavesAreLocal, LeavesAreThere}
-use Rattle.hart_machine.proofs.UserAnswers.{frame_is}
-
--- the frame of a leaf is there, and it has no G
-abbrev IsSound : ℕ → Type 0
-IsSound w = (is_some (frame_at (ppn w)) ≡ true) × (has w 5 ≡ false)
-
-sound : (w f : ℕ) → f < 2 ^ 16 → ppn w ≡ ppn_of f → has w 5 ≡ false → IsSound w
-sound w f small names local = (ap is_some (ap frame_at names ∙ frame_is f small), local)
-
-module _ (v : View) (trapframe : ℕ) (t : Tables) (p : Process) (shows : Shows v trapframe t p) (small : trapframe < 2 ^ 16) where
-  of_kernel : (page f rights k w : ℕ) → f < 2 ^ 16 → HasKernelLeaf t page f rights → k ≡ leaf_node page → get t.leaves k ≡ Some w → IsSound w
-  of_kernel page f rights k w low leaf same found =
-      let is : leaf.0 ≡ w = same_Some leaf.0 w (sym leaf.1 ∙ ap (get t.leaves) (sym same) ∙ found) in
-      subst IsSound is (sound leaf.0 f low leaf.2.names leaf.2.global)
-
-  each_leaf : (k w : ℕ) → get t.leaves k ≡ Some w → IsSound w
-  each_leaf k w found = elim (shows.only k w found) [
-    | inl same ↦ of_kernel trampoline_page 0 _ k w (omega arith) shows.on_trampoline same found
-    | inr more ↦ elim more [
-      | inl same ↦ of_kernel trapframe_page trapframe _ k w small shows.on_trapframe same found
-      | inr page ↦
-          let shown : IsShown v t p page.0 page.1 = shows.settled page.0 page.1 page.3 in
-          let is : shown.leaf ≡ w = same_Some shown.leaf w (sym shown.mapped ∙ ap (get t.leaves) (sym page.2) ∙ found) in
-          subst IsSound is (sound shown.leaf shown.frame shown.made.small shown.made.names shown.made.global)
-    ]
-  ]
-
-  pub process_there : LeavesAreThere t
-  process_there page w found = (each_leaf (leaf_node page) w found).0
-
-  pub process_local : LeavesAreLocal t
-  process_local page w found = (each_leaf (leaf_node page) w found).1
+use Rattle.address_space.specs.Agreement.{code_rights, data_rights}
+use Rattle.table_walk.specs.Leaves.{LeavesAreLocal, LeavesAreThere}
+use Rattle.address_space.specs.ProcessLeaves.{IsUsable, usable}
 
 -- the kernel's leaves are of two kinds
 abbrev IsKernelPage : ℕ × ℕ → Type 0
 IsKernelPage x = (x.0 < 2 ^ 16) × ((x.1 ≡ code_rights) ⊎ (x.1 ≡ data_rights))
 
-sound_kernel : (x : ℕ × ℕ) → IsKernelPage x → IsSound (leaf_word x.0 x.1 false false true)
-sound_kernel x (small, inl is) = rw is (sound (leaf_word x.0 code_rights false false true) x.0 small (omega arith) (ne_eqb _ 1 (omega arith)))
-sound_kernel x (small, inr is) = rw is (sound (leaf_word x.0 data_rights false false true) x.0 small (omega arith) (ne_eqb _ 1 (omega arith)))
+sound_kernel : (x : ℕ × ℕ) → IsKernelPage x → IsUsable (leaf_word x.0 x.1 false false true)
+sound_kernel x (small, inl is) = rw is (usable (leaf_word x.0 code_rights false false true) x.0 small (omega arith) (ne_eqb _ 1 (omega arith)))
+sound_kernel x (small, inr is) = rw is (usable (leaf_word x.0 data_rights false false true) x.0 small (omega arith) (ne_eqb _ 1 (omega arith)))
 
 rights_of : (f : ℕ) → (frame_rights f ≡ code_rights) ⊎ (frame_rights f ≡ data_rights)
 rights_of f = elim (cases_eq f 0) [ inl zero ↦ inl (rw (eq-eqb f 0 zero) refl) | inr other ↦ inr (rw (ne_eqb f 0 other) refl) ]
@@ -86,11 +54,11 @@ module _ (v : View) (root frames slots : ℕ) (stacks : List ℕ) (t : Tables) (
         few (inl below) inside = omega (arith, below, k.few_frames)
         few (inr beyond) inside = absurd (not_both (nat_le first_direct page) (nat_lt page (first_direct + frames)) (not_below page (first_direct + frames) beyond) inside)
 
-  kernel_leaf_of : (o : Option (ℕ × ℕ)) → ((z : ℕ × ℕ) → o ≡ Some z → IsKernelPage z) → (w : ℕ) → kernel_leaf o ≡ Some w → IsSound w
+  kernel_leaf_of : (o : Option (ℕ × ℕ)) → ((z : ℕ × ℕ) → o ≡ Some z → IsKernelPage z) → (w : ℕ) → kernel_leaf o ≡ Some w → IsUsable w
   kernel_leaf_of None each w is = absurd (cc)
-  kernel_leaf_of (Some z) each w is = subst IsSound (same_Some (leaf_word z.0 z.1 false false true) w is) (sound_kernel z (each z refl))
+  kernel_leaf_of (Some z) each w is = subst IsUsable (same_Some (leaf_word z.0 z.1 false false true) w is) (sound_kernel z (each z refl))
 
-  of_page : (page w : ℕ) → get t.leaves (leaf_node page) ≡ Some w → IsSound w
+  of_page : (page w : ℕ) → get t.leaves (leaf_node page) ≡ Some w → IsUsable w
   of_page page w found =
       let low : page % 2 ^ 27 < 2 ^ 27 = omega arith in
       let same : leaf_node page ≡ leaf_node (page % 2 ^ 27) = let a = leaf_node_is page in let b = leaf_node_is (page % 2 ^ 27) in omega (arith, a, b) in

@@ -33,6 +33,4 @@ pub mod StartedWorlds
 pub mod TableNumbers
 pub mod Trampolines
 pub mod Trapping
-pub mod UserAnswers
-pub mod Users
 pub mod Walks

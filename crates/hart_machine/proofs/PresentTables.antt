@@ -11,7 +11,8 @@ use Rattle.sv39_entry.specs.declared.access.Mode.{Mode}
 use Rattle.table_walk.specs.Tables.{Tables}
 use Rattle.table_walk.specs.declared.walk.Walk.{Walk}
 use Rattle.hart_machine.specs.Tables.{tables_of, IsServed, IsThere, present_table}
-use Rattle.hart_machine.specs.Walked.{IsEntryOf, walk_answer}
+use Rattle.hart_machine.specs.Walked.{IsEntryOf}
+use Rattle.table_walk.specs.Leaves.{walk_answer}
 use Rattle.hart_machine.specs.Worlds.{IsServing, may_have_kernel, may_have_own}
 use Rattle.hart_machine.specs.declared.hart.Hart.{Hart}
 use Rattle.hart_machine.specs.declared.machine.Machine.{Machine}

@@ -15,6 +15,7 @@ use Rattle.process_model.specs.Process.{Page, Process}
 use Rattle.process_model.specs.World.{World, with_process}
 use Rattle.table_walk.specs.Tables.{Tables}
 use Rattle.address_space.specs.Agreement.{body, IsSpace}
+use Rattle.address_space.specs.Pending.{agrees_pending}
 use Rattle.address_space.specs.Kernel.{IsKernelTable}
 use Rattle.address_space.specs.Layouts.{Layout}
 use Rattle.hart_machine.specs.Tenants.{IsTenant, pending_of, view_of}
@@ -85,38 +86,6 @@ seats_stay [] s x y at e = refl
 seats_stay (z ∷ places) zero x y at e = rw (same_Some z (Some x) at) (ap (λ v. v ∷ seats_of places) e)
 seats_stay (None ∷ places) (suc s) x y at e = seats_stay places s x y at e
 seats_stay (Some z ∷ places) (suc s) x y at e = ap (λ vs. view_of z ∷ vs) (seats_stay places s x y at e)
-
--- another access pending changes nothing in memory
-module _ (v : View) (root trapframe : ℕ) (l : Layout) (t : Tables) (p : Process) (a : IsSpace (body v root trapframe l) t p) where
-  pub agrees_pending : (o : Option of_model.Pending) → IsSpace (body v root trapframe l) t (record p { pending = o })
-  agrees_pending o = record {
-    sound =
-        let order = a.sound.order in
-        record { order = record { parts = order.parts; room = order.room; above = order.above; leaves = order.leaves; mapped = order.mapped }; tabled = a.sound.tabled };
-    lays = record { parts = a.lays.parts; mappings = a.lays.mappings; heap_base = a.lays.heap_base; size = a.lays.size };
-    stands = record {
-      tables = a.stands.tables;
-      owns = a.stands.owns;
-      shows = record {
-        on_trampoline = a.stands.shows.on_trampoline;
-        on_trapframe = a.stands.shows.on_trapframe;
-        settled = λ n s there. let shown = a.stands.shows.settled n s there in record {
-          region = shown.region;
-          frame = shown.frame;
-          leaf = shown.leaf;
-          in_region = shown.in_region;
-          mapped = shown.mapped;
-          made = shown.made;
-          bytes = shown.bytes;
-        };
-        only = a.stands.shows.only;
-        low = a.stands.shows.low;
-      };
-      tabled = a.stands.tabled;
-      tabled_low = a.stands.tabled_low;
-    };
-    credits = a.credits;
-  }
 
 module _ (m : Machine) (w : World) (is : IsWorld m w) (s : ℕ) (x : Tenant) (p : Process) (place : slice_get m.slots.items s ≡ Some (Some x)) (at : slice_get w.slots s ≡ Some (Some p))
     (tenant : IsTenant x (is.tables s) p) where

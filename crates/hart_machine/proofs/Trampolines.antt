@@ -30,12 +30,11 @@ use Rattle.address_space.specs.Agreement.{code_rights, Shows}
 use Rattle.address_space.specs.Kernel.{IsKernelTable}
 use Rattle.hart_machine.specs.Harts.{hart_of}
 use Rattle.hart_machine.specs.Tables.{IsServed}
-use Rattle.hart_machine.specs.Walked.{walk_answer}
+use Rattle.table_walk.specs.Leaves.{lands, walk_answer}
 use Rattle.hart_machine.specs.Worlds.{IsWorld, Makes}
 use Rattle.hart_machine.specs.declared.hart.Hart.{Hart}
 use Rattle.hart_machine.specs.declared.machine.Machine.{Machine}
 use Rattle.hart_machine.proofs.HartSteps.{HasHart, impossible, improper, makes, process_at, refused, runs, without_entry, without_hart}
-use Rattle.hart_machine.proofs.Walks.{lands}
 
 -- tables
 

@@ -1,9 +1,8 @@
--- What walks over a seat's tables come to.
+-- What buffers keep of walks over a seat's tables.
 use Rattle.std.proofs.Common.{◌≡◌, ℕ, ◌/◌, true, false, is_some, Option, None, option_map, Some, refl, ap, sym, ◌∙◌, inl, inr, arith}
 use Rattle.std.proofs.lemmas.Bool.{cases_Bool}
 use Rattle.std.specs.FinMap.{get}
 use Rattle.frame_store.specs.View.{View}
-use Rattle.hart_tlb.specs.Entries.{answer}
 use Rattle.hart_tlb.specs.Outcome as outcome
 use Rattle.sv39_entry.specs.Address.{is_canonical, page_of}
 use Rattle.sv39_entry.specs.Frame.{frame_at, ppn_of}
@@ -12,38 +11,14 @@ use Rattle.sv39_entry.specs.declared.access.Access.{Access}
 use Rattle.sv39_entry.specs.declared.access.Mode.{Mode}
 use Rattle.table_walk.specs.Held.{held_memory}
 use Rattle.table_walk.specs.Tables.{Tables, leaf_node}
-use Rattle.table_walk.specs.Memory.{Extent, physical_address}
+use Rattle.table_walk.specs.Memory.{physical_address}
 use Rattle.table_walk.specs.Walk.{FindsLeaf, IsGlobal, LeavesMemory, Maps, Translates}
-use Rattle.hart_machine.specs.Walked.{entry_for, LeavesAreThere, page_leaf, walk_answer}
-
--- each frame is there
-abbrev pub frames_there : Extent
-frames_there ppn index = is_some (frame_at ppn)
-
--- the byte that a page's leaf leads to lies in its frame
-pub lands : (w a : ℕ) → physical_address w 0 a / 4096 ≡ ppn w
-lands w a = omega arith
+use Rattle.table_walk.specs.Leaves.{frames_there, lands, LeavesAreThere, page_leaf}
+use Rattle.hart_machine.specs.Walked.{entry_for}
 
 module _ (v : View) (root : ℕ) (t : Tables) (leaves_are : (page leaf level : ℕ) → get t.leaves (leaf_node page) ≡ Some leaf → level ≡ 0 → Maps (held_memory v) (ppn_of root) page leaf level)
     (are_leaves : (page leaf level : ℕ) → Maps (held_memory v) (ppn_of root) page leaf level → get t.leaves (leaf_node page) ≡ Some leaf)
     (inside : (page : ℕ) → LeavesMemory (held_memory v) (ppn_of root) page → ⊥) (there : LeavesAreThere t) (a : ℕ) where
-  module _ (access : Access) (mode : Mode) where
-    by_leaf : (o : Option ℕ) → get t.leaves (leaf_node (page_of a)) ≡ o → is_canonical a ≡ true
-        → Translates (held_memory v) frames_there (ppn_of root) a access mode (answer (option_map page_leaf o) a access mode)
-    by_leaf None none canonical = (refl, inl (inr ((λ leaf level maps. let found = sym none ∙ are_leaves _ leaf level maps in cc), inside _)))
-    by_leaf (Some w) found canonical =
-        let finds : FindsLeaf (held_memory v) (ppn_of root) a w 0 = (canonical, leaves_are (page_of a) w 0 found refl) in
-        elim (cases_Bool (permits mode access w)) [
-          | inl lets ↦ rw lets (finds, lets, refl, ap (λ p. is_some (frame_at p)) (lands w a) ∙ there (page_of a) w found)
-          | inr denies ↦ rw denies (refl, inr (w, 0, finds, denies))
-        ]
-
-    pub translates : Translates (held_memory v) frames_there (ppn_of root) a access mode (walk_answer t a access mode)
-    translates = elim (cases_Bool (is_canonical a)) [
-      | inl canonical ↦ rw canonical (by_leaf _ refl canonical)
-      | inr other ↦ rw other (refl, inl (inl other))
-    ]
-
   -- what a buffer keeps
   module _ (asid : ℕ) (local : (w : ℕ) → get t.leaves (leaf_node (page_of a)) ≡ Some w → IsGlobal (held_memory v) (ppn_of root) (page_of a) 0 → ⊥) where
     shown : (o : Option ℕ) → get t.leaves (leaf_node (page_of a)) ≡ o → is_canonical a ≡ true → outcome.Shows (held_memory v) frames_there (ppn_of root) a (option_map page_leaf o) false

@@ -5,7 +5,7 @@ use Rattle.sv39_entry.specs.declared.access.Access.{Access}
 use Rattle.sv39_entry.specs.declared.access.Mode.{Mode}
 use Rattle.table_walk.specs.Tables.{Tables}
 use Rattle.table_walk.specs.declared.walk.Walk.{Walk}
-use Rattle.hart_machine.specs.Walked.{walk_answer}
+use Rattle.table_walk.specs.Leaves.{walk_answer}
 use Rattle.hart_machine.specs.Worlds.{may_have_kernel, may_have_own}
 use Rattle.hart_machine.specs.declared.hart.Hart.{Hart}
 use Rattle.hart_machine.specs.declared.machine.Machine.{Machine}

@@ -3,12 +3,13 @@
 ghost use Rattle.std.specs.Prelude.{◌≡◌, ℕ, IfOk, is_ok, IsTrue, slice_get, Some};
 ghost use Rattle.frame_store.specs.Laws.{Fits, Keeps};
 ghost use Rattle.frame_store.specs.Plain.{BankRule};
-ghost use Rattle.hart_machine.specs.Accesses.{asked_of, pending_after};
+ghost use Rattle.address_space.specs.Accesses.{asked_of};
+ghost use Rattle.hart_machine.specs.Accesses.{pending_after};
 ghost use Rattle.hart_machine.specs.Buffers.{SameBuffers};
 ghost use Rattle.hart_machine.specs.Harts.{hart_of};
 ghost use Rattle.hart_machine.specs.Tenants.{IsTenant, pending_of, view_of};
 ghost use Rattle.hart_machine.specs.Tables.{IsServed};
-ghost use Rattle.hart_machine.specs.Walked.{walk_answer};
+ghost use Rattle.table_walk.specs.Leaves.{walk_answer};
 ghost use Rattle.hart_machine.specs.Worlds.{IsWorld, Makes};
 ghost use Rattle.hart_machine.specs.declared.hart.Hart.{Hart};
 ghost use Rattle.hart_machine.specs.declared.tenant.Tenant.{Tenant};
@@ -25,8 +26,7 @@ ghost use Rattle.table_walk.specs.declared.walk.Walk as walks;
 use crate::hart::is_user;
 use crate::machine::Machine;
 use crate::tenant::{Pending, Tenant};
-use crate::user::{Asked, user_access};
-use crate::walked::walked;
+use address_space::Asked;
 use frame_store::PlainFrames;
 use hart_tlb::NoEntry;
 use process_model::{Phase, Refusal, Reply, is_width};
@@ -122,7 +122,7 @@ impl Tenant {
         ensures keeps { Keeps BankRule frames.old (view_of self.old) frames.new (view_of self.new) }
     {
         let walk = self.translated(frames, walk, asked);
-        let reply = user_access(frames, &mut self.space, walk, asked);
+        let reply = self.space.user_access(frames, walk, asked);
         self.pending = pending(asked, &reply);
         reply
     }
@@ -139,15 +139,8 @@ impl Tenant {
         if let Some(walk) = walk {
             return walk;
         }
-        let space = &mut self.space;
-        walked(
-            frames,
-            &mut space.seat,
-            space.root,
-            asked.va,
-            asked.access,
-            Mode::User,
-        )
+        self.space
+            .translate(frames, asked.va, asked.access, Mode::User)
     }
 }
 

@@ -2,7 +2,8 @@
 
 ghost use Rattle.std.specs.Prelude.{◌≡◌, ◌++◌, ◌∷◌, []};
 ghost use Rattle.frame_store.specs.Laws.{Fits, Keeps};
-ghost use Rattle.hart_machine.specs.Walked.{entry_for, LeavesAreLocal, LeavesAreThere};
+ghost use Rattle.hart_machine.specs.Walked.{entry_for};
+ghost use Rattle.table_walk.specs.Leaves.{LeavesAreLocal, LeavesAreThere};
 ghost use Rattle.hart_tlb.specs.Buffer.{newest_entries};
 ghost use Rattle.process_model.specs.Harts.{buffer_size};
 ghost use Rattle.table_walk.specs.Tables.{HasTables, Tables};

@@ -3,7 +3,8 @@
 ghost use Rattle.std.specs.Prelude.{◌≡◌, ◌≤◌, length};
 ghost use Rattle.frame_store.specs.Laws.{Fits};
 ghost use Rattle.hart_machine.specs.Harts.{advanced, fenced, hart_of, next_number, with_entry};
-ghost use Rattle.hart_machine.specs.Walked.{entry_for, LeavesAreLocal, LeavesAreThere};
+ghost use Rattle.hart_machine.specs.Walked.{entry_for};
+ghost use Rattle.table_walk.specs.Leaves.{LeavesAreLocal, LeavesAreThere};
 ghost use Rattle.process_model.specs.Harts as model;
 ghost use Rattle.table_walk.specs.Tables.{HasTables, Tables};
 

@@ -13,8 +13,6 @@ mod switching;
 mod tables;
 mod tenant;
 mod trampoline;
-mod user;
-mod walked;
 
 pub use boot::BootError;
 pub use hart::BUFFER_SIZE;

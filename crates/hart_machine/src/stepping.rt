@@ -10,7 +10,7 @@ ghost use Rattle.process_model.specs.World.{World};
 
 use crate::hart::BUFFER_SIZE;
 use crate::machine::Machine;
-use crate::user::Asked;
+use address_space::Asked;
 use hart_tlb::Buffer;
 use process_model::{Reply, Step};
 use std::alloc::{AllocError, Global};

@@ -3,7 +3,7 @@
 ghost use Rattle.std.specs.Prelude.{◌≡◌, option_map, slice_get, Some};
 ghost use Rattle.hart_machine.specs.Buffers.{OnlyFillsAdd};
 ghost use Rattle.hart_machine.specs.Tables.{tables_of, IsThere, present_table};
-ghost use Rattle.hart_machine.specs.Walked.{walk_answer};
+ghost use Rattle.table_walk.specs.Leaves.{walk_answer};
 ghost use Rattle.hart_machine.specs.Worlds.{IsWorld, Makes};
 ghost use Rattle.hart_machine.specs.declared.hart.Hart.{Hart};
 ghost use Rattle.process_model.specs.Steps.{plain_step};
@@ -13,9 +13,8 @@ ghost use Rattle.process_model.specs.declared.step.Step.TheVariants as step;
 
 use crate::hart::{Hart, has_user_satp};
 use crate::machine::Machine;
-use crate::walked::walked;
 use sv39_entry::{Access, Mode, Va};
-use table_walk::Walk;
+use table_walk::{Walk, translate_held};
 
 /// A table that satp may have.
 #[derive(Clone, Copy)]
@@ -60,15 +59,14 @@ impl Machine {
         match table {
             Table::OfKernel => {
                 let kernel = &mut self.kernel;
-                walked(frames, &mut kernel.seat, kernel.root, va, access, mode)
+                translate_held(frames, &mut kernel.seat, kernel.root, va, access, mode)
             }
             Table::OfProcess(slot) => {
                 let slots = &mut self.slots;
                 let Some(tenant) = &mut slots[slot] else {
                     unreachable!()
                 };
-                let space = &mut tenant.space;
-                walked(frames, &mut space.seat, space.root, va, access, mode)
+                tenant.space.translate(frames, va, access, mode)
             }
         }
     }

@@ -4,8 +4,8 @@ use Rattle.sv39_entry.specs.declared.access.Access.TheVariants.{Fetch, Load}
 use Rattle.sv39_entry.specs.declared.access.Mode.TheVariants.{User}
 use Rattle.table_walk.specs.declared.walk.Walk.TheVariants as walk
 use Rattle.hart_tlb.specs.Buffer.{matching_numbers, newest_entries}
-use Rattle.hart_tlb.specs.Entries.{answer, is_fenced, matches}
-use Rattle.hart_tlb.specs.Leaf.{Leaf}
+use Rattle.hart_tlb.specs.Entries.{is_fenced, matches}
+use Rattle.table_walk.specs.Leaves.{answer, Leaf}
 use Rattle.hart_tlb.specs.declared.entry.TlbEntry.{TlbEntry}
 
 abbrev large_leaf : Option Leaf

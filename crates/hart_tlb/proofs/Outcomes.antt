@@ -9,8 +9,7 @@ use Rattle.table_walk.specs.Memory.{Extent, Memory}
 use Rattle.table_walk.specs.Walk.{Finds, Translates}
 use Rattle.table_walk.specs.declared.walk.Found.{Found}
 use Rattle.table_walk.specs.declared.walk.Found.TheVariants as found
-use Rattle.hart_tlb.specs.Entries.{answer}
-use Rattle.hart_tlb.specs.Leaf.{Leaf}
+use Rattle.table_walk.specs.Leaves.{answer, Leaf}
 use Rattle.hart_tlb.specs.Outcome.{EndsInAccessFault, IsOutcome, LeadsToWhole, Shows}
 use Rattle.hart_tlb.specs.declared.entry.TlbEntry.{TlbEntry}
 use Rattle.hart_tlb.proofs.Pages.{byte_on_page, finds_on_page}

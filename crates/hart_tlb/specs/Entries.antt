@@ -1,15 +1,8 @@
 -- What one entry of a translation buffer serves, what it answers, and which fences take it.
 use Rattle.std.specs.Prelude.{ℕ, Bool, true, false, not, ◌+◌, ◌*◌, ◌/◌, ◌^◌, ◌==◌, ◌&&◌, ◌||◌, Option, None, Some, if◌then◌else◌}
 use Rattle.sv39_entry.specs.Address.{page_of}
-use Rattle.sv39_entry.specs.Causes.{page_fault_cause}
-use Rattle.sv39_entry.specs.Word.{permits}
-use Rattle.sv39_entry.specs.declared.access.Access.{Access}
-use Rattle.sv39_entry.specs.declared.access.Mode.{Mode}
 use Rattle.sv39_entry.specs.declared.address.Va.{Va}
-use Rattle.table_walk.specs.Memory.{physical_address}
-use Rattle.table_walk.specs.declared.walk.Walk.{Walk}
-use Rattle.table_walk.specs.declared.walk.Walk.TheVariants as walk
-use Rattle.hart_tlb.specs.Leaf.{Leaf}
+use Rattle.table_walk.specs.Leaves.{Leaf}
 use Rattle.hart_tlb.specs.declared.entry.TlbEntry.{TlbEntry}
 
 -- the entry serves the addresses of its page, under its own address space number or, if it is global, under each (the
@@ -21,14 +14,6 @@ matches address asid e = e.page == page_of address && (e.asid == asid || e.globa
 abbrev pub is_match : ℕ → ℕ → Option TlbEntry → Bool
 is_match address asid None = false
 is_match address asid (Some e) = matches address asid e
-
--- what an access comes to by the leaf of an entry, or by its having none (the standard, 4.3.2, steps 3 to 8)
-abbrev pub answer : Option Leaf → ℕ → Access → Mode → Walk
-answer None address access mode = walk.PageFault (page_fault_cause access)
-answer (Some leaf) address access mode =
-    if permits mode access leaf.word
-    then walk.Leaf leaf.word leaf.level (physical_address leaf.word leaf.level address)
-    else walk.PageFault (page_fault_cause access)
 
 -- the leaf of a page maps an address too: they agree in all bits above the offset in a page of the leaf's size
 abbrev pub covers : ℕ → Leaf → ℕ → Bool

@@ -1,4 +1,3 @@
 pub mod Buffer
 pub mod Entries
-pub mod Leaf
 pub mod Outcome

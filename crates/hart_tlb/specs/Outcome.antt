@@ -4,7 +4,7 @@ use Rattle.sv39_entry.specs.Address.{page_of}
 use Rattle.table_walk.specs.Memory.{Extent, Memory, has_byte, physical_address}
 use Rattle.table_walk.specs.Walk.{Finds}
 use Rattle.table_walk.specs.declared.walk.Found.TheVariants as found
-use Rattle.hart_tlb.specs.Leaf.{Leaf}
+use Rattle.table_walk.specs.Leaves.{Leaf}
 use Rattle.hart_tlb.specs.declared.entry.TlbEntry.{TlbEntry}
 
 -- a walk for an address finds this leaf, or none, and the mark G. What tells of no leaf is never global, and the byte that a

@@ -2,7 +2,8 @@
 
 ghost use Rattle.std.specs.Prelude.{◌≡◌, ◌<◌, ◌≤◌, ◌↔◌, ℕ, IsOk, IsTrue, IfOk, OnOk, OnErr, [], ◌∷◌, ◌++◌, Some, filter, length, not, remove, slice_get};
 ghost use Rattle.hart_tlb.specs.Buffer.{Fills, matching_numbers, newest_entries};
-ghost use Rattle.hart_tlb.specs.Entries.{answer, is_fenced, is_match};
+ghost use Rattle.hart_tlb.specs.Entries.{is_fenced, is_match};
+ghost use Rattle.table_walk.specs.Leaves.{answer};
 ghost use Rattle.hart_tlb.specs.Outcome.{IsPermitted, LeadsToWhole};
 ghost use Rattle.hart_tlb.specs.declared.entry.TlbEntry.{TlbEntry};
 ghost use Rattle.sv39_entry.specs.Address.{page_of};

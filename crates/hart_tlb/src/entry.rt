@@ -2,6 +2,7 @@
 
 ghost use Rattle.std.specs.Prelude.{◌≡◌};
 ghost use Rattle.hart_tlb.specs.Entries as entries;
+ghost use Rattle.table_walk.specs.Leaves.{answer};
 
 use crate::leaf::TlbLeaf;
 use sv39_entry::{Access, Entry, Mode, Va, Vpn};
@@ -47,7 +48,7 @@ impl TlbEntry {
 
     /// What the entry makes of an access to an address of its page: the rights are judged now.
     pub(crate) fn answer(&self, va: Va, access: Access, mode: Mode) -> Walk
-        ensures { result ≡ entries.answer self.now.leaf va.0 access mode }
+        ensures { result ≡ answer self.now.leaf va.0 access mode }
     {
         let Some(leaf) = self.leaf else {
             return Walk::PageFault(access.page_fault_cause());

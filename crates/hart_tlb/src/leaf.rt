@@ -20,7 +20,7 @@ pub struct TlbLeaf {
 impl Model for TlbLeaf {
     ghost use Rattle.std.specs.Prelude.{◌≤◌};
     ghost use Rattle.table_walk.specs.Walk.{top_level};
-    ghost use Rattle.hart_tlb.specs.Leaf.{Leaf};
+    ghost use Rattle.table_walk.specs.Leaves.{Leaf};
 
     ghost Value = { Leaf };
 

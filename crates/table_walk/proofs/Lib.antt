@@ -8,5 +8,6 @@ pub mod Next
 pub mod Outcomes
 pub mod Roots
 pub mod Shed
+pub mod WalkAnswers
 pub mod Walks
 pub mod Ways

@@ -3,6 +3,7 @@ pub mod Counted
 pub mod Held
 pub mod Tables
 pub mod Keys
+pub mod Leaves
 pub mod Memory
 pub mod Nodes
 pub mod Places

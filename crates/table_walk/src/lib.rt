@@ -28,6 +28,6 @@ pub use leaves::next_leaf;
 pub use plain::PlainWords;
 pub use release::release_tables;
 pub use tables::missing_tables;
-pub use translation::{has_byte, translate};
+pub use translation::{has_byte, translate, translate_held};
 pub use walk::{Found, Walk};
 pub use words::Words;

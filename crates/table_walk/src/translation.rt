@@ -1,15 +1,21 @@
 // The translation of accesses.
 
 ghost use Rattle.std.specs.Prelude.{◌≡◌};
+ghost use Rattle.frame_store.specs.Laws.{Fits, Keeps};
 ghost use Rattle.sv39_entry.specs.Address.{page_of};
+ghost use Rattle.table_walk.specs.Leaves.{LeavesAreThere, walk_answer};
 ghost use Rattle.table_walk.specs.Memory as memory;
+ghost use Rattle.table_walk.specs.Tables.{HasTables, Tables};
 ghost use Rattle.table_walk.specs.Walk.{CanWalk, Translates};
 
 use crate::find::lookup;
+use crate::held::HeldWords;
+use crate::laws::{one_outcome, walks_of_tables};
 use crate::leaf::physical_address;
 use crate::walk::{Found, Walk};
 use crate::words::Words;
-use sv39_entry::{Access, Entry, Mode, PAGE_SIZE, Va};
+use frame_store::{FrameAccess, FrameSeat};
+use sv39_entry::{Access, Entry, FrameNo, Mode, PAGE_SIZE, Va};
 
 /// Translates the address of an access, whose bytes lie in one word, by the tables below a root, which is given by its
 /// physical page number (RISC-V Privileged Architecture 20211203, 4.3.2).
@@ -43,4 +49,27 @@ pub fn has_byte<M: Words>(words: &M, address: u64) -> bool
     ensures { result ≡ memory.has_byte (M.there words.now) address }
 {
     words.has_word(address / PAGE_SIZE, (address % PAGE_SIZE / 8) as usize)
+}
+
+/// Translates an access by the tables below a root, which a seat has.
+pub fn translate_held<F: FrameAccess>(
+    store: &mut F,
+    seat: &mut F::Seat,
+    root: FrameNo,
+    va: Va,
+    access: Access,
+    mode: Mode,
+) -> Walk
+    requires fits { Fits F.rule store.old seat.old }
+    requires held { (t : Tables) × HasTables (F.Seat.view seat.old) root.0 t }
+    ensures outcome { (t : Tables) → HasTables (F.Seat.view seat.old) root.0 t → LeavesAreThere t → result ≡ walk_answer t va.0 access mode }
+    ensures view { F.Seat.view seat.new ≡ F.Seat.view seat.old }
+    ensures same { store.new ≡ store.old }
+    ensures keeps { Keeps F.rule store.old seat.old store.new seat.new }
+{
+    // the laws tell what walks over these tables find, and that an access is translated to one thing
+    walks_of_tables();
+    one_outcome();
+    let mut words = HeldWords { store, seat };
+    translate(&mut words, root.ppn(), va, access, mode)
 }

@@ -1,6 +1,6 @@
 use Rattle.std.proofs.Common.{◌∙◌, subst, sym}
 use Rattle.std.proofs.lemmas.Option.{same_Some}
-use Rattle.hart_machine.specs.Accesses.{asked_of}
+use Rattle.address_space.specs.Accesses.{asked_of}
 use Rattle.hart_machine.specs.Tenants.{IsTenant}
 use Rattle.hart_machine.proofs.AccessingWorlds.{access_changes, seat_fits, slot_has}
 use Rattle.hart_machine.proofs.HartSteps.{process_at}

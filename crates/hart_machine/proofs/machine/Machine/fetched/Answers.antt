@@ -3,7 +3,7 @@ use Rattle.std.specs.Prelude.{is_ok}
 use Rattle.std.proofs.lemmas.Option.{same_Some}
 use Rattle.std.proofs.lemmas.Result.{err_from_is_err_and}
 use Rattle.hart_machine.specs.Tables.{tables_of, present_table}
-use Rattle.hart_machine.specs.Walked.{walk_answer}
+use Rattle.table_walk.specs.Leaves.{walk_answer}
 use Rattle.hart_machine.specs.declared.tables.Table.{Table}
 use Rattle.sv39_entry.specs.declared.access.Access.TheVariants.{Fetch}
 use Rattle.sv39_entry.specs.declared.access.Mode.TheVariants.{Supervisor}

@@ -4,7 +4,7 @@ use Rattle.process_model.specs.declared.step.Step.{Step}
 use Rattle.process_model.specs.declared.step.Step.TheVariants as step
 use Rattle.hart_machine.specs.Buffers.{OnlyFillsAdd}
 use Rattle.hart_machine.specs.Worlds.{Makes}
-use Rattle.hart_machine.specs.declared.user.Asked.{Asked}
+use Rattle.address_space.specs.declared.user.Asked.{Asked}
 use Rattle.hart_machine.proofs.BufferSteps.{none_adds, same_adds}
 use Rattle.hart_machine.proofs.PlayedSteps.{steps}
 use Rattle.hart_machine.proofs.machine.Machine.step.Goals as goal

@@ -1,21 +1,21 @@
 use Rattle.std.proofs.Common.{◌∙◌, ap, sym}
 use Rattle.hart_machine.specs.Tables.{tables_of}
-use Rattle.hart_machine.specs.Walked.{walk_answer}
+use Rattle.table_walk.specs.Leaves.{walk_answer}
 use Rattle.hart_machine.specs.declared.tables.Table.{Table}
 use Rattle.hart_machine.proofs.AccessingWorlds.{seat_fits}
 use Rattle.hart_machine.proofs.FillWorlds.{put_back}
 use Rattle.hart_machine.proofs.HartSteps.{process_at}
-use Rattle.hart_machine.proofs.Leaves.{kernel_there, process_there}
+use Rattle.hart_machine.proofs.Leaves.{kernel_there}
 use Rattle.hart_machine.proofs.PresentTables.{not_empty, slot_within, tenant_is}
 use Rattle.hart_machine.proofs.machine.Machine.walk.Goals as goal
 
 pub returns-in-OfKernel-clause-walk : goal.returns-in-OfKernel-clause-walk
 returns-in-OfKernel-clause-walk c w is =
-    c.walked.ensures.outcome is.kernel is.of_kernel.maps.tables (kernel_there _ _ _ _ _ _ is.of_kernel)
+    c.translate_held.ensures.outcome is.kernel is.of_kernel.maps.tables (kernel_there _ _ _ _ _ _ is.of_kernel)
     ∙ ap (λ (t : Table). walk_answer (tables_of is.tables is.kernel t) c.args.va.0 c.args.access c.args.mode) (sym c.in-OfKernel.is)
 
 pub returns-in-OfKernel-clause-world : goal.returns-in-OfKernel-clause-world
-returns-in-OfKernel-clause-world c w is = rw (c.walked.ensures.same, c.walked.ensures.view) is
+returns-in-OfKernel-clause-world c w is = rw (c.translate_held.ensures.same, c.translate_held.ensures.view) is
 
 pub index_mut-requires : goal.index_mut-requires
 index_mut-requires c = slot_within c.args.self.now c.args.table c.in-OfProcess.slot c.in-OfProcess.is c.requires.there
@@ -23,31 +23,31 @@ index_mut-requires c = slot_within c.args.self.now c.args.table c.in-OfProcess.s
 pub unreachable-requires : goal.unreachable-requires
 unreachable-requires c = not_empty c.args.self.now c.args.table c.in-OfProcess.slot c.in-OfProcess.is c.requires.there _ c.index_mut.ensures.value c.in_default.is
 
-pub walked-requires-in-OfProcess-clause-fits : goal.walked-requires-in-OfProcess-clause-fits
-walked-requires-in-OfProcess-clause-fits c =
+pub translate-requires-clause-fits : goal.translate-requires-clause-fits
+translate-requires-clause-fits c =
     let m = c.args.self.now in
     let at = tenant_is m c.args.table c.in-OfProcess.slot c.in-OfProcess.is c.requires.there _ c.index_mut.ensures.value c.in-Some.tenant c.in-Some.is in
     let r = c.requires.world in
     seat_fits m.frames m.kernel.seat m.slots.items c.in-OfProcess.slot c.in-Some.tenant at (r.1).rule
 
-pub walked-requires-in-OfProcess-clause-held : goal.walked-requires-in-OfProcess-clause-held
-walked-requires-in-OfProcess-clause-held c =
+pub translate-requires-clause-ready : goal.translate-requires-clause-ready
+translate-requires-clause-ready c =
     let m = c.args.self.now in
     let at = tenant_is m c.args.table c.in-OfProcess.slot c.in-OfProcess.is c.requires.there _ c.index_mut.ensures.value c.in-Some.tenant c.in-Some.is in
     let r = c.requires.world in
     let p = process_at m r.0 r.1 c.in-OfProcess.slot c.in-Some.tenant at in
-    ((r.1).tables c.in-OfProcess.slot, (p.2).agrees.stands.tables)
+    ((r.1).tables c.in-OfProcess.slot, p.0, (p.2).agrees)
 
 pub returns-in-Some-clause-walk : goal.returns-in-Some-clause-walk
 returns-in-Some-clause-walk c w is =
     let m = c.args.self.now in
     let at = tenant_is m c.args.table c.in-OfProcess.slot c.in-OfProcess.is c.requires.there _ c.index_mut.ensures.value c.in-Some.tenant c.in-Some.is in
     let p = process_at m w is c.in-OfProcess.slot c.in-Some.tenant at in
-    c.walked-in-OfProcess.ensures.outcome (is.tables c.in-OfProcess.slot) (p.2).agrees.stands.tables (process_there _ _ _ p.0 (p.2).agrees.stands.shows (p.2).framed)
+    c.translate.ensures.walk (is.tables c.in-OfProcess.slot) p.0 (p.2).agrees
     ∙ ap (λ (t : Table). walk_answer (tables_of is.tables is.kernel t) c.args.va.0 c.args.access c.args.mode) (sym c.in-OfProcess.is)
 
 pub returns-in-Some-clause-world : goal.returns-in-Some-clause-world
 returns-in-Some-clause-world c w is =
     let m = c.args.self.now in
     let at = tenant_is m c.args.table c.in-OfProcess.slot c.in-OfProcess.is c.requires.there _ c.index_mut.ensures.value c.in-Some.tenant c.in-Some.is in
-    rw (c.walked-in-OfProcess.ensures.same, c.walked-in-OfProcess.ensures.view) (put_back m w is c.in-OfProcess.slot c.in-Some.tenant at)
+    rw (c.translate.ensures.same, c.translate.ensures.view, c.translate.ensures.root, c.translate.ensures.trapframe, c.translate.ensures.layout) (put_back m w is c.in-OfProcess.slot c.in-Some.tenant at)

@@ -1,5 +1,6 @@
 use Rattle.std.proofs.Common.{ap, sym, ◌∙◌}
-use Rattle.hart_machine.specs.Accesses.{asked_of, pending_after}
+use Rattle.address_space.specs.Accesses.{asked_of}
+use Rattle.hart_machine.specs.Accesses.{pending_after}
 use Rattle.hart_machine.proofs.AccessingPages.{access_pending}
 use Rattle.hart_machine.proofs.tenant.Tenant.access.Goals as goal
 

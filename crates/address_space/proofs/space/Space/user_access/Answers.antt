@@ -1,9 +1,9 @@
 use Rattle.std.proofs.Common.{None, ap, sym, ◌∙◌, refl}
 use Rattle.process_model.specs.declared.step.Reply.TheVariants.{Value}
-use Rattle.hart_machine.specs.Accesses.{asked_of}
-use Rattle.hart_machine.proofs.ProcessSteps.{agrees_pending}
-use Rattle.hart_machine.proofs.UserAnswers.{answers_load, answers_store, fault_answer, granted, misaligned, on_frame, still_agrees, width_some}
-use Rattle.hart_machine.proofs.user.user_access.Goals as goal
+use Rattle.address_space.specs.Accesses.{asked_of}
+use Rattle.address_space.specs.Pending.{agrees_pending}
+use Rattle.address_space.proofs.UserAnswers.{answers_load, answers_store, fault_answer, granted, misaligned, on_frame, still_agrees, width_some}
+use Rattle.address_space.proofs.space.Space.user_access.Goals as goal
 
 pub nonzero_rem-asked : goal.nonzero_rem-asked
 nonzero_rem-asked g c = width_some c.args.asked.width c.requires.width

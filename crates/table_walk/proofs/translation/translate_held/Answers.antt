@@ -2,9 +2,9 @@ use Rattle.std.proofs.Common.{ℕ, sym, subst}
 use Rattle.sv39_entry.specs.Address.{page_of}
 use Rattle.table_walk.specs.Held.{held_memory}
 use Rattle.table_walk.specs.Walk.{IsAt, Translates}
-use Rattle.hart_machine.specs.Walked.{walk_answer}
-use Rattle.hart_machine.proofs.Walks.{frames_there, translates}
-use Rattle.hart_machine.proofs.walked.walked.Goals as goal
+use Rattle.table_walk.specs.Leaves.{frames_there, walk_answer}
+use Rattle.table_walk.proofs.WalkAnswers.{translates}
+use Rattle.table_walk.proofs.translation.translate_held.Goals as goal
 
 pub translate-requires : goal.translate-requires
 translate-requires g c k table low at =

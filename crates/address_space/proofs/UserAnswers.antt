@@ -31,10 +31,10 @@ use Rattle.table_walk.specs.declared.walk.Walk.TheVariants as walk
 use Rattle.address_space.specs.Agreement.{body, IsSpace, IsOn}
 use Rattle.address_space.specs.Layouts.{Layout}
 use Rattle.address_space.specs.Steps.{CanRead, CanWrite}
-use Rattle.hart_machine.specs.Walked.{walk_answer}
-use Rattle.hart_machine.proofs.ProcessSteps.{agrees_pending}
-use Rattle.hart_machine.proofs.Walks.{lands}
-use Rattle.hart_machine.proofs.Users.{rule_of_region, walked_by_user}
+use Rattle.table_walk.specs.Leaves.{lands, walk_answer}
+use Rattle.address_space.specs.Pending.{agrees_pending}
+use Rattle.address_space.specs.ProcessLeaves.{frame_is}
+use Rattle.address_space.proofs.Users.{rule_of_region, walked_by_user}
 
 -- a page that is put where it is
 
@@ -110,13 +110,6 @@ grants r none = go (is_guard_kind r.kind) r.writes none where
 no_mark : (m stored : Bool) → (not m && stored) ≡ true → m ≡ false
 no_mark true stored is = absurd (cc)
 no_mark false stored is = refl
-
-pub frame_is : (f : ℕ) → f < 2 ^ 16 → frame_at (ppn_of f) ≡ Some (record { 0 = f })
-frame_is f small =
-    let low : nat_le 524288 (524288 + f) ≡ true = grind arith in
-    let high : nat_lt (524288 + f) (524288 + 2 ^ 16) ≡ true = grind (arith, small) in
-    let back : 524288 + f - 524288 ≡ f = omega arith in
-    rw (low, high, back) refl
 
 -- the page that a granted access reads or writes, and its frame
 pub record Granted (v : View) (root trapframe : ℕ) (l : Layout) (t : Tables) (p : Process) (x : Asked) (address : ℕ) : Type 0 where

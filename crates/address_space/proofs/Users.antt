@@ -4,7 +4,7 @@ use Rattle.std.proofs.lemmas.Bool.{cases_Bool, cases_eq}
 use Rattle.std.proofs.lemmas.Option.{same_Some}
 use Rattle.std.specs.FinMap.{get}
 use Rattle.frame_store.specs.View.{View}
-use Rattle.hart_tlb.specs.Entries.{answer}
+use Rattle.table_walk.specs.Leaves.{answer, leaf_at, page_leaf, walk_answer}
 use Rattle.process_model.specs.PageMap as pages
 use Rattle.process_model.specs.Process.{Page, Process, regions}
 use Rattle.process_model.specs.Bytes.{first_true}
@@ -24,7 +24,6 @@ use Rattle.table_walk.specs.Memory.{physical_address}
 use Rattle.table_walk.specs.Nodes.{leaf_node_is}
 use Rattle.table_walk.specs.declared.walk.Walk.TheVariants as walk
 use Rattle.address_space.specs.Agreement.{HasKernelLeaf, is_dirty_page, IsPageLeaf, IsShown, Shows}
-use Rattle.hart_machine.specs.Walked.{leaf_at, page_leaf, walk_answer}
 
 -- addresses
 

@@ -1,0 +1,92 @@
+// Accesses of the user: translated by the tables of the space, and made.
+
+ghost use Rattle.std.specs.Prelude.{◌≡◌, IsTrue};
+ghost use Rattle.address_space.specs.Accesses.{asked_of};
+ghost use Rattle.address_space.specs.Agreement.{body_of, IsSpace};
+ghost use Rattle.frame_store.specs.Laws.{Fits, Keeps};
+ghost use Rattle.process_model.specs.Bytes.{is_width};
+ghost use Rattle.process_model.specs.Process.{Process};
+ghost use Rattle.process_model.specs.Service as service;
+ghost use Rattle.sv39_entry.specs.declared.access.Mode.TheVariants.{User};
+ghost use Rattle.table_walk.specs.Leaves.{walk_answer};
+ghost use Rattle.table_walk.specs.Tables.{Tables};
+
+use crate::space::Space;
+use frame_store::{FrameAccess, FrameSeat};
+use process_model::Reply;
+use sv39_entry::{Access, FrameNo, Mode, PAGE_SIZE, Va};
+use table_walk::{Walk, translate_held};
+
+/// What the user asks of memory. `width` is in bytes, and `value` is what is stored.
+#[derive(Clone, Copy)]
+pub struct Asked {
+    pub access: Access,
+    pub va: Va,
+    pub width: u64,
+    pub value: u64,
+}
+
+impl<S: FrameSeat> Space<S> {
+    /// Translates an access by the tables in memory.
+    pub fn translate<F: FrameAccess<Seat = S>>(
+        &mut self,
+        store: &mut F,
+        va: Va,
+        access: Access,
+        mode: Mode,
+    ) -> Walk
+        requires fits { Fits F.rule store.old self.old.seat }
+        requires ready { (t : Tables) × (p : Process) × IsSpace (body_of S.view self.old) t p }
+        ensures walk { (t : Tables) (p : Process) → IsSpace (body_of S.view self.old) t p → result ≡ walk_answer t va.0 access mode }
+        ensures root { self.new.root ≡ self.old.root }
+        ensures trapframe { self.new.trapframe ≡ self.old.trapframe }
+        ensures layout { self.new.layout ≡ self.old.layout }
+        ensures view { S.view self.new.seat ≡ S.view self.old.seat }
+        ensures same { store.new ≡ store.old }
+        ensures keeps { Keeps F.rule store.old self.old.seat store.new self.new.seat }
+    {
+        translate_held(store, &mut self.seat, self.root, va, access, mode)
+    }
+
+    /// Makes an access of the user that was translated, or tells its fault. A misaligned access is told before any other
+    /// fault.
+    pub fn user_access<F: FrameAccess<Seat = S>>(
+        &mut self,
+        store: &mut F,
+        walk: Walk,
+        asked: Asked,
+    ) -> Reply
+        requires fits { Fits F.rule store.old self.old.seat }
+        requires ready { (t : Tables) × (p : Process) × IsSpace (body_of S.view self.old) t p × (walk ≡ walk_answer t asked.va.0 asked.access User) }
+        requires width { IsTrue (is_width asked.width) }
+        ensures reply { (t : Tables) (p : Process) → IsSpace (body_of S.view self.old) t p → walk ≡ walk_answer t asked.va.0 asked.access User →
+            result ≡ (service.user_access p (asked_of asked)).reply }
+        ensures after { (t : Tables) (p : Process) → IsSpace (body_of S.view self.old) t p → walk ≡ walk_answer t asked.va.0 asked.access User →
+            IsSpace (body_of S.view self.new) t (service.user_access p (asked_of asked)).process }
+        ensures root { self.new.root ≡ self.old.root }
+        ensures trapframe { self.new.trapframe ≡ self.old.trapframe }
+        ensures layout { self.new.layout ≡ self.old.layout }
+        ensures keeps { Keeps F.rule store.old self.old.seat store.new self.new.seat }
+        ensures free { F.alone → F.free store.new ≡ F.free store.old }
+    {
+        if asked.va.0 % asked.width != 0 {
+            return Reply::Fault(asked.access.misaligned_cause());
+        }
+        let address = match walk {
+            Walk::Leaf { address, .. } => address,
+            Walk::PageFault(cause) | Walk::AccessFault(cause) => return Reply::Fault(cause),
+        };
+        let Some(frame) = FrameNo::from_ppn(address / PAGE_SIZE) else {
+            unreachable!()
+        };
+        match asked.access {
+            Access::Store => {
+                self.write_at(store, frame, asked.va, asked.width, asked.value);
+                Reply::Stored
+            }
+            Access::Fetch | Access::Load => {
+                Reply::Value(self.read_at(store, frame, asked.va, asked.width))
+            }
+        }
+    }
+}
