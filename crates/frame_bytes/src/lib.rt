@@ -3,4 +3,4 @@
 
 mod contents;
 
-pub use contents::{copy_frame, fill_frame, load_bytes, store_bytes};
+pub use contents::{copy_frame, fill_frame, load_bytes, read_frame, store_bytes};
