@@ -3,3 +3,4 @@ pub mod Numbers
 pub mod Writes
 pub mod Stored
 pub mod Filled
+pub mod Taken

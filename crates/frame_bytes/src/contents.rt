@@ -146,3 +146,25 @@ pub fn copy_frame<F: FrameAccess>(store: &mut F, seat: &mut F::Seat, from: Frame
         store.store(seat, to, at, word);
     }
 }
+
+/// The 4,096 bytes of a frame, into an array, word by word.
+pub fn read_frame<F: FrameAccess>(
+    store: &mut F,
+    seat: &mut F::Seat,
+    frame: FrameNo,
+    bytes: &mut [u8; 4096],
+)
+    requires fits { Fits F.rule store.old seat.old }
+    requires held { IsHeld (F.Seat.view seat.old) frame.0 }
+    requires known { (page : List ℕ) × HasBytes (F.Seat.view seat.old) frame.0 page }
+    ensures bytes { (page : List ℕ) → HasBytes (F.Seat.view seat.old) frame.0 page → bytes.new ≡ page }
+    ensures view { F.Seat.view seat.new ≡ F.Seat.view seat.old }
+    ensures same { store.new ≡ store.old }
+    ensures keeps { Keeps F.rule store.old seat.old store.new seat.new }
+{
+    for place in 0..512 {
+        let word = store.load(seat, frame, place).to_le_bytes();
+        let start = 8 * place;
+        bytes[start..start + 8].copy_from_slice(&word);
+    }
+}

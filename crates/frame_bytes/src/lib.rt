@@ -2,5 +2,7 @@
 #![tactic(auto)]
 
 mod contents;
+mod runs;
 
-pub use contents::{copy_frame, fill_frame, load_bytes, store_bytes};
+pub use contents::{copy_frame, fill_frame, load_bytes, read_frame, store_bytes};
+pub use runs::read_run;

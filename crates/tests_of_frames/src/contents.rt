@@ -3,7 +3,7 @@
 ghost use Rattle.std.specs.Prelude.{◌≡◌, ◌%◌, ◌<◌, ◌≤◌, IsTrue, length};
 ghost use Rattle.process_model.specs.Bytes.{is_width};
 
-use frame_bytes::{copy_frame, fill_frame, load_bytes, store_bytes};
+use frame_bytes::{copy_frame, fill_frame, load_bytes, read_frame, store_bytes};
 use frame_store::{FrameSupply, PlainFrames, PlainSeat};
 use std::alloc::Global;
 use std::marker::Model;
@@ -99,6 +99,13 @@ impl Bench {
         }
     }
 
+    /// The 4,096 bytes of the first frame, over others that stood in the array.
+    fn page(&mut self) -> [u8; 4096] {
+        let mut bytes = [0xee; 4096];
+        read_frame(&mut self.store, &mut self.seat, self.first, &mut bytes);
+        bytes
+    }
+
     /// Copies the first frame into the second.
     fn copy(&mut self) {
         copy_frame(&mut self.store, &mut self.seat, self.first, self.second);
@@ -117,6 +124,15 @@ fn counting() -> [u8; 600] {
     let mut bytes = [0; 600];
     for at in 0..600 {
         bytes[at] = (at % 256) as u8;
+    }
+    bytes
+}
+
+/// A page in which no word is like the next one: the numbers from 0 to 250, again and again.
+fn counting_page() -> [u8; 4096] {
+    let mut bytes = [0; 4096];
+    for at in 0..4096 {
+        bytes[at] = (at % 251) as u8;
     }
     bytes
 }
@@ -205,5 +221,22 @@ fn copies_to_another_frame(rt: HostRuntime) -> Result<(), Fail> {
     bench.turn();
     let changed = [(0, 8, 0), (8, 8, 0x0f0e_0d0c_0b0a_0908)];
     assert_eq!(rt; bench.first_wrong(&changed), None);
+    Ok(())
+}
+
+#[test]
+fn reads_a_whole_page(rt: HostRuntime) -> Result<(), Fail> {
+    let mut bench = Bench::new(rt.alloc())?;
+    assert!(rt; bench.page() == [1; 4096]);
+    bench.fill(&counting_page());
+    assert!(rt; bench.page() == counting_page());
+    bench.fill(&counting());
+    bench.store(4095, 1, 0x7f);
+    let page = bench.page();
+    'bytes: for at in 0..4095 {
+        let byte = if at < 600 { at % 256 } else { 0 };
+        assert_eq!(rt; page[at], byte as u8);
+    }
+    assert_eq!(rt; page[4095], 0x7f);
     Ok(())
 }

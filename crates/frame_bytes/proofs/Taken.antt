@@ -1,0 +1,51 @@
+-- Bytes that are read from the words of a frame.
+use Rattle.std.proofs.Common.{◌≡◌, ℕ, ◌+◌, ◌-◌, ◌*◌, ◌/◌, ◌%◌, ◌^◌, ◌<◌, ◌≤◌, inl, inr, List, length, take, drop, slice_index, Some, ap, sym, ◌∙◌, arith, length-drop}
+use Rattle.std.proofs.lemmas.Bool.{cases_lt}
+use Rattle.std.proofs.lemmas.Grind.{common_steps}
+use Rattle.std.proofs.lemmas.List.{ext_get_or, get_or-drop, get_or-take, length-take-le}
+use Rattle.std.specs.Int.{w64, to_le_bytes}
+use Rattle.frame_store.specs.View.{View, known_word}
+use Rattle.frame_bytes.specs.Contents.{HasBytes}
+use Rattle.frame_bytes.proofs.Numbers.{byte_of_word}
+use Rattle.frame_bytes.proofs.Writes.{to_le}
+use borrow.Rule.Slice.PartMut.{put_mid}
+
+-- a byte of a word that was loaded, and its place in the page
+pub byte_read : (f i word : ℕ) (page : List ℕ) (v : View) → HasBytes v f page → i < 512 → ((w : ℕ) → known_word v f i ≡ Some w → word ≡ w)
+    → (k p : ℕ) → k < 8 → 8 * i + k ≡ p → slice_index (to_le_bytes w64 word) k ≡ slice_index page p
+byte_read f i word page v has inside known k p h place =
+    to_le word k h ∙ ap (λ w. w / 2 ^ (8 * k) % 2 ^ 8) (known _ (has.words i inside)) ∙ sym (byte_of_word page has.small i k h) ∙ ap (slice_index page) place
+
+-- some bytes of a word that was loaded, from a place in the page on
+module _ (word p n : ℕ) (part : List ℕ) (within : p % 8 + n ≤ 8) (is : part ≡ take n (drop (p % 8) (to_le_bytes w64 word))) where
+  pub length-part : length part ≡ n
+  length-part = ap length is ∙ length-take-le n (drop (p % 8) (to_le_bytes w64 word)) (rw (length-drop (p % 8) (to_le_bytes w64 word)) (omega (arith, within)))
+
+  pub part_read : (f : ℕ) (page : List ℕ) (v : View) → HasBytes v f page → p < 4096 → ((w : ℕ) → known_word v f (p / 8) ≡ Some w → word ≡ w)
+      → (k : ℕ) → k < n → slice_index part k ≡ slice_index page (p + k)
+  part_read f page v has inside known k h =
+      ap (λ cs. slice_index cs k) is ∙ get_or-take n (drop (p % 8) (to_le_bytes w64 word)) k 0 h ∙ get_or-drop (p % 8) (to_le_bytes w64 word) k 0
+      ∙ byte_read f (p / 8) word page v has (omega arith) known (p % 8 + k) (p + k) (omega arith) (omega arith)
+
+module _ (bytes part : List ℕ) (a n : ℕ) (room : a + n ≤ length bytes) (long : length part ≡ n) where
+  pub length-put_mid : length (put_mid a n bytes part) ≡ length bytes
+  length-put_mid = grind (arith, common_steps)
+
+  -- so many bytes are what they are to be, and so are those that come behind them
+  pub read_more : (byte : ℕ → ℕ) → ((k : ℕ) → k < a → slice_index bytes k ≡ byte k) → ((k : ℕ) → k < n → slice_index part k ≡ byte (a + k))
+      → (k : ℕ) → k < a + n → slice_index (put_mid a n bytes part) k ≡ byte k
+  read_more byte before more k h = elim (cases_lt k a) [
+    | inl below ↦ let kept : slice_index (put_mid a n bytes part) k ≡ slice_index bytes k = grind (arith, common_steps) in kept ∙ before k below
+    | inr from ↦
+        let there : slice_index (put_mid a n bytes part) k ≡ slice_index part (k - a) = grind (arith, common_steps) in
+        let place : a + (k - a) ≡ k = omega arith in
+        there ∙ rw place at (more (k - a) (omega arith))
+  ]
+
+-- bytes that are those from an offset on
+pub run_read : (bytes page : List ℕ) (o n : ℕ) → o + n ≤ length page → length bytes ≡ n
+    → ((k : ℕ) → k < n → slice_index bytes k ≡ slice_index page (o + k)) → bytes ≡ take n (drop o page)
+run_read bytes page o n room long same =
+    let left : n ≤ length (drop o page) = rw (length-drop o page) (omega (arith, room)) in
+    ext_get_or 0 bytes (take n (drop o page)) (long ∙ sym (length-take-le n (drop o page) left))
+    (λ k h. let below : k < n = omega (arith, h, long) in same k below ∙ sym (get_or-take n (drop o page) k 0 below ∙ get_or-drop o page k 0))
