@@ -16,9 +16,9 @@ ghost use Rattle.table_walk.specs.Tables.{Tables};
 use crate::layout::Layout;
 use crate::pages::frame_of;
 use crate::region::Region;
-use frame_bytes::{load_bytes, store_bytes};
+use frame_bytes::{load_bytes, read_frame, store_bytes};
 use frame_store::{FrameAccess, FrameSeat};
-use sv39_entry::{Access, FrameNo, Rule, Va};
+use sv39_entry::{Access, FrameNo, Rule, Va, Vpn};
 
 /// The address space of a process. It owns its seat, and a call takes any store whose seats are of that type.
 #[derive(Drop)]
@@ -55,7 +55,7 @@ impl<S: FrameSeat> Space<S> {
         ensures same { store.new ≡ store.old }
         ensures keeps { Keeps F.rule store.old self.old.seat store.new self.new.seat }
     {
-        let frame = self.page_frame(store, va);
+        let frame = self.page_frame(store, va.page());
         self.read_at(store, frame, va, width)
     }
 
@@ -88,6 +88,27 @@ impl<S: FrameSeat> Space<S> {
         )
     }
 
+    /// The 4,096 bytes of a settled page, into an array.
+    pub fn page_bytes<F: FrameAccess<Seat = S>>(
+        &mut self,
+        store: &mut F,
+        page: Vpn,
+        bytes: &mut [u8; 4096],
+    )
+        requires fits { Fits F.rule store.old self.old.seat }
+        requires ready { (t : Tables) × (p : Process) × (s : Page) × CanRead (body_of S.view self.old) t p page s }
+        ensures bytes { (t : Tables) (p : Process) (s : Page) → CanRead (body_of S.view self.old) t p page s → bytes.new ≡ s.bytes }
+        ensures root { self.new.root ≡ self.old.root }
+        ensures trapframe { self.new.trapframe ≡ self.old.trapframe }
+        ensures layout { self.new.layout ≡ self.old.layout }
+        ensures view { S.view self.new.seat ≡ S.view self.old.seat }
+        ensures same { store.new ≡ store.old }
+        ensures keeps { Keeps F.rule store.old self.old.seat store.new self.new.seat }
+    {
+        let frame = self.page_frame(store, page);
+        read_frame(store, &mut self.seat, frame, bytes);
+    }
+
     /// Puts the `width` lowest bytes of a value into a settled page that the process has alone.
     pub fn write<F: FrameAccess<Seat = S>>(&mut self, store: &mut F, va: Va, width: u64, value: u64)
         requires fits { Fits F.rule store.old self.old.seat }
@@ -105,7 +126,7 @@ impl<S: FrameSeat> Space<S> {
         ensures free { F.alone → F.free store.new ≡ F.free store.old }
         ensures counts { F.alone → (f : ℕ) → F.count store.new f ≡ F.count store.old f }
     {
-        let frame = self.page_frame(store, va);
+        let frame = self.page_frame(store, va.page());
         self.write_at(store, frame, va, width, value);
     }
 
@@ -181,11 +202,11 @@ impl<S: FrameSeat> Space<S> {
         self.layout.replace_mapping(first, rest);
     }
 
-    /// The frame of the page of an address.
-    fn page_frame<F: FrameAccess<Seat = S>>(&mut self, store: &mut F, va: Va) -> FrameNo
+    /// The frame of a settled page.
+    fn page_frame<F: FrameAccess<Seat = S>>(&mut self, store: &mut F, page: Vpn) -> FrameNo
         requires fits { Fits F.rule store.old self.old.seat }
-        requires ready { (t : Tables) × (p : Process) × (s : Page) × CanRead (body_of S.view self.old) t p (page_of va.0) s }
-        ensures frame { (t : Tables) (p : Process) (s : Page) → CanRead (body_of S.view self.old) t p (page_of va.0) s → IsOn t (page_of va.0) result.0 }
+        requires ready { (t : Tables) × (p : Process) × (s : Page) × CanRead (body_of S.view self.old) t p page s }
+        ensures frame { (t : Tables) (p : Process) (s : Page) → CanRead (body_of S.view self.old) t p page s → IsOn t page result.0 }
         ensures root { self.new.root ≡ self.old.root }
         ensures trapframe { self.new.trapframe ≡ self.old.trapframe }
         ensures layout { self.new.layout ≡ self.old.layout }
@@ -193,7 +214,7 @@ impl<S: FrameSeat> Space<S> {
         ensures same { store.new ≡ store.old }
         ensures keeps { Keeps F.rule store.old self.old.seat store.new self.new.seat }
     {
-        let Some((frame, _)) = frame_of(store, &mut self.seat, self.root, va.page()) else {
+        let Some((frame, _)) = frame_of(store, &mut self.seat, self.root, page) else {
             unreachable!()
         };
         frame
