@@ -13,6 +13,7 @@ pub mod DroppedLeaf
 pub mod DroppedPages
 pub mod EndingSteps
 pub mod Found
+pub mod Grants
 pub mod KernelFrames
 pub mod KernelPages
 pub mod KernelSteps

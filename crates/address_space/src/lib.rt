@@ -4,6 +4,7 @@
 mod build;
 mod ending;
 mod kernel;
+mod laws;
 mod layout;
 mod marking;
 mod needed;
@@ -15,6 +16,7 @@ mod space;
 mod user;
 
 pub use kernel::KernelTable;
+pub use laws::walks_grant_what_is_resident;
 pub use layout::Layout;
 pub use needed::frames_needed;
 pub use part::Part;
