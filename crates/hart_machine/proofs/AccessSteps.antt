@@ -57,8 +57,8 @@ module _ (m : Machine) (w : World) (is : IsWorld m w) (h : ℕ) (access : Access
       pub in_user : has.hart.phase ≡ phase.User
       in_user = has.phased ∙ user_is p user
 
-      pub no_entry : entry_serves Full (hart_of has.hart) a via ≡ false → Makes m (Refused NoEntry) (access_step w h access a width value via)
-      no_entry fails = refused m w is NoEntry _ (without_entry w h (is_width width) (λ x. model.is_user x.phase) (λ x. entry_serves w.policy x a via) _ (hart_of has.hart) has.in_model well can
+      pub no_entry : (n : Machine) → IsWorld n w → entry_serves Full (hart_of has.hart) a via ≡ false → Makes n (Refused NoEntry) (access_step w h access a width value via)
+      no_entry n after fails = refused n w after NoEntry _ (without_entry w h (is_width width) (λ x. model.is_user x.phase) (λ x. entry_serves w.policy x a via) _ (hart_of has.hart) has.in_model well can
           (ap (λ q. entry_serves q (hart_of has.hart) a via) is.policy ∙ fails))
 
       module _ (s : ℕ) (on : has.hart.slot ≡ Some s) (serves : entry_serves Full (hart_of has.hart) a via ≡ true) (q : Process) (at : slice_get w.slots s ≡ Some (Some q)) where

@@ -1,6 +1,6 @@
 -- Entries of a buffer that accesses use.
 use Rattle.std.proofs.Common.{◌≡◌, ℕ, ◌*◌, ◌/◌, ◌^◌, ◌==◌, ◌&&◌, ◌||◌, get_or, Bool, true, false, List, Option, None, Some, option_map, refl, ap, sym, ◌∙◌, inl, inr, arith}
-use Rattle.std.specs.Prelude.{Contains, slice_get}
+use Rattle.std.specs.Prelude.{Contains, Err, IfOk, is_ok, IsOk, Ok, Result, slice_get}
 use Rattle.std.proofs.lemmas.Bool.{eqb-true}
 use Rattle.std.proofs.lemmas.Option.{get_or_from_slice_get, same_Some, slice_get-map, slice_get_within}
 use Rattle.hart_tlb.specs.Entries.{is_match}
@@ -80,3 +80,15 @@ user_served tables kernel x s a access mode z user on (inr own) = own.3 ∙ ap (
 pub not_true : (b : Bool) → (b ≡ true → ⊥) → b ≡ false
 not_true true apart = absurd (apart refl)
 not_true false apart = refl
+
+-- a result that is told from an equation
+
+pub ok_by : {A E : Type 0} (r : Result A E) (b : Bool) → (IsOk r → b ≡ true) × (b ≡ true → IsOk r) → is_ok r ≡ b
+ok_by (Ok x) true told = refl
+ok_by (Ok x) false told = sym (told.0 refl)
+ok_by (Err e) true told = told.1 refl
+ok_by (Err e) false told = refl
+
+pub if_ok : {A E : Type 0} (r : Result A E) (P Q : A → Type 0) → IfOk r P → ((z : A) → IsOk r → P z → Q z) → IfOk r Q
+if_ok (Ok x) P Q p gives = gives x refl p
+if_ok (Err e) P Q p gives = tt

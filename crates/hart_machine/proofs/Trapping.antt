@@ -17,7 +17,7 @@ use Rattle.hart_machine.specs.Worlds.{IsServing, IsWorld, Makes, may_have_kernel
 use Rattle.hart_machine.specs.declared.hart.Hart.{Hart}
 use Rattle.hart_machine.specs.declared.machine.Machine.{Machine}
 use Rattle.hart_machine.specs.declared.tenant.Tenant.{Tenant}
-use Rattle.hart_machine.proofs.HartSteps.{hart_changes, hart_read, HasHart, impossible, its_process, makes, process_at, refused, runs}
+use Rattle.hart_machine.proofs.HartSteps.{hart_changes, hart_read, HasHart, impossible, its_process, makes, process_at, refused, runs, tenant_at}
 use Rattle.hart_machine.proofs.ProcessSteps.{pending_changes}
 
 pub user_is : (p : Phase) → model.is_user p ≡ true → p ≡ phase.User
@@ -63,3 +63,8 @@ module _ (m : Machine) (w : World) (is : IsWorld m w) (h : ℕ) (p : Phase) (has
         (subst (λ (z : Hart). Makes (record m { slots = with_item m.slots s (Some (record t.0 { pending = None })); harts = with_item m.harts h (record z { phase = phase.Enter0 }) }) Done (plain_step w (step.Trap h))) (sym x_is)
         (makes _ Done _ _ (hart_changes _ _ after h has.hart (record has.hart { phase = phase.Enter0 }) has.there (λ r at. after.hosted h r has.hart has.there at) (λ r on k z at also. after.alone r k h z has.hart at has.there also on) (λ none. absurd (user_has_slot user none)) (λ e there. enters after.tables after.kernel has.hart (has.phased ∙ user_is p user) e (after.buffers h has.hart e has.there there)))
         (runs w h true (λ z. model.is_user z.phase) always _ (hart_of has.hart) has.in_model refl (ap model.is_user has.phased ∙ user) refl ∙ its_process w (hart_of has.hart) _ s q.0 on q.1)))
+
+-- a process that is in a world is there in each machine that is in the world
+pub still_there : (m n : Machine) (w : World) → IsWorld m w → IsWorld n w → (s : ℕ) (x : Tenant) → slice_get m.slots.items s ≡ Some (Some x)
+    → (y : Tenant) × (slice_get n.slots.items s ≡ Some (Some y))
+still_there m n w is after s x at = let p = process_at m w is s x at in tenant_at n w after s (rw p.1 refl)

@@ -88,6 +88,10 @@ pub record IsWorld (m : Machine) (w : World) : Type 0 where
   pub idle : (h : ℕ) (x : Hart) → slice_get m.harts.items h ≡ Some x → x.slot ≡ None → x.phase ≡ phase.Idle
   pub buffers : (h : ℕ) (x : Hart) (e : TlbEntry) → slice_get m.harts.items h ≡ Some x → Contains x.buffer e → IsServing x tables kernel e
 
+-- whatever world the machine was in, it is still in, by the same tables
+abbrev pub StaysIn : Machine → Machine → Type 0
+StaysIn m n = (w : World) (is : IsWorld m w) → (after : IsWorld n w) × (after.tables ≡ is.tables)
+
 -- a step answers what the model's does, and the machine is in the world after it
 abbrev pub Makes : Machine → Reply → Outcome → Type 0
 Makes m reply o = (reply ≡ o.reply) × IsWorld m o.world

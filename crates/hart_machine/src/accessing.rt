@@ -1,36 +1,29 @@
 // Accesses of the user on a hart, by a walk or by an entry of its buffer.
 
-ghost use Rattle.std.specs.Prelude.{◌≡◌, ℕ, IfOk, is_ok, IsTrue, slice_get, Some};
+ghost use Rattle.std.specs.Prelude.{◌≡◌, IsTrue, slice_get, Some};
 ghost use Rattle.frame_store.specs.Laws.{Fits, Keeps};
 ghost use Rattle.frame_store.specs.Plain.{BankRule};
 ghost use Rattle.address_space.specs.Accesses.{asked_of};
 ghost use Rattle.hart_machine.specs.Accesses.{pending_after};
 ghost use Rattle.hart_machine.specs.Buffers.{SameBuffers};
-ghost use Rattle.hart_machine.specs.Harts.{hart_of};
 ghost use Rattle.hart_machine.specs.Tenants.{IsTenant, pending_of, view_of};
-ghost use Rattle.hart_machine.specs.Tables.{IsServed};
 ghost use Rattle.table_walk.specs.Leaves.{walk_answer};
 ghost use Rattle.hart_machine.specs.Worlds.{IsWorld, Makes};
-ghost use Rattle.hart_machine.specs.declared.hart.Hart.{Hart};
 ghost use Rattle.hart_machine.specs.declared.tenant.Tenant.{Tenant};
 ghost use Rattle.process_model.specs.Bytes as bytes;
-ghost use Rattle.process_model.specs.Harts.{entry_serves};
 ghost use Rattle.process_model.specs.Process.{Process};
 ghost use Rattle.process_model.specs.Service as service;
 ghost use Rattle.process_model.specs.World.{with_process, World};
-ghost use Rattle.process_model.specs.declared.config.Policy.TheVariants.{Full};
 ghost use Rattle.sv39_entry.specs.declared.access.Mode.TheVariants.{User};
 ghost use Rattle.table_walk.specs.Tables.{Tables};
-ghost use Rattle.table_walk.specs.declared.walk.Walk as walks;
 
 use crate::hart::is_user;
 use crate::machine::Machine;
 use crate::tenant::{Pending, Tenant};
 use address_space::Asked;
 use frame_store::PlainFrames;
-use hart_tlb::NoEntry;
 use process_model::{Phase, Refusal, Reply, is_width};
-use sv39_entry::{Access, Mode, Va};
+use sv39_entry::Mode;
 use table_walk::Walk;
 
 impl Machine {
@@ -53,7 +46,8 @@ impl Machine {
         let Some(slot) = self.slot_of(hart) else {
             return Reply::Refused(Refusal::Impossible(phase));
         };
-        let Ok(walk) = self.by_entry(hart, via, asked.va, asked.access, Mode::User) else {
+        // first the entry or a walk, then the rights, then the bytes
+        let Ok(walk) = self.translated(hart, via, asked.va, asked.access, Mode::User) else {
             return Reply::Refused(Refusal::NoEntry);
         };
         let reply = self.answered(slot, walk, asked);
@@ -63,39 +57,12 @@ impl Machine {
         reply
     }
 
-    /// What the named entry of a hart's buffer translates an access to, if one is named.
-    pub(crate) fn by_entry(
-        &self,
-        hart: usize,
-        via: Option<usize>,
-        va: Va,
-        access: Access,
-        mode: Mode,
-    ) -> Result<Option<Walk>, NoEntry>
-        ensures serves { (w : World) (x : Hart) → IsWorld self.now w → slice_get self.now.harts.items hart ≡ Some x → is_ok result ≡ entry_serves Full (hart_of x) va.0 via }
-        ensures walk { IfOk result (λ o. (w : World) (is : IsWorld self.now w) (x : Hart) → slice_get self.now.harts.items hart ≡ Some x →
-            (z : walks.Walk) → o ≡ Some z → IsServed x is.tables is.kernel va.0 access mode z) }
-    {
-        let Some(entry) = via else {
-            return Ok(None);
-        };
-        let Some(hart) = self.harts.get(hart) else {
-            return Err(NoEntry);
-        };
-        // all entries are made under the address-space identifier 0
-        match hart.buffer.use_entry(entry, va, 0, access, mode) {
-            Ok(walk) => Ok(Some(walk)),
-            Err(none) => Err(none),
-        }
-    }
-
     /// Makes an access of the process of a slot, or tells its fault.
-    fn answered(&mut self, slot: usize, walk: Option<Walk>, asked: Asked) -> Reply
-        requires ready { (w : World) × (is : IsWorld self.old w) × (x : Tenant) × (slice_get self.old.slots.items slot ≡ Some (Some x))
-            × ((z : walks.Walk) → walk ≡ Some z → z ≡ walk_answer (is.tables slot) asked.va.0 asked.access User) }
+    fn answered(&mut self, slot: usize, walk: Walk, asked: Asked) -> Reply
+        requires ready { (w : World) × (is : IsWorld self.old w) × (x : Tenant) × (slice_get self.old.slots.items slot ≡ Some (Some x)) × (walk ≡ walk_answer (is.tables slot) asked.va.0 asked.access User) }
         requires width { IsTrue (bytes.is_width asked.width) }
         ensures made { (w : World) (is : IsWorld self.old w) (p : Process) → slice_get w.slots slot ≡ Some (Some p)
-            → ((z : walks.Walk) → walk ≡ Some z → z ≡ walk_answer (is.tables slot) asked.va.0 asked.access User)
+            → walk ≡ walk_answer (is.tables slot) asked.va.0 asked.access User
             → (result ≡ (service.user_access p (asked_of asked)).reply)
             × IsWorld self.new (with_process w slot (service.user_access p (asked_of asked)).process) }
         ensures harts { self.new.harts ≡ self.old.harts }
@@ -110,37 +77,20 @@ impl Machine {
 }
 
 impl Tenant {
-    /// Makes an access by a translation, or by a walk where none is given, or tells its fault, which is then pending.
-    fn access(&mut self, frames: &mut PlainFrames, walk: Option<Walk>, asked: Asked) -> Reply
+    /// Makes an access that was translated, or tells its fault, which is then pending.
+    fn access(&mut self, frames: &mut PlainFrames, walk: Walk, asked: Asked) -> Reply
         requires fits { Fits BankRule frames.old (view_of self.old) }
-        requires ready { (t : Tables) × (p : Process) × IsTenant self.old t p × ((z : walks.Walk) → walk ≡ Some z → z ≡ walk_answer t asked.va.0 asked.access User) }
+        requires ready { (t : Tables) × (p : Process) × IsTenant self.old t p × (walk ≡ walk_answer t asked.va.0 asked.access User) }
         requires width { IsTrue (bytes.is_width asked.width) }
-        ensures reply { (t : Tables) (p : Process) → IsTenant self.old t p → ((z : walks.Walk) → walk ≡ Some z → z ≡ walk_answer t asked.va.0 asked.access User) →
+        ensures reply { (t : Tables) (p : Process) → IsTenant self.old t p → walk ≡ walk_answer t asked.va.0 asked.access User →
             result ≡ (service.user_access p (asked_of asked)).reply }
-        ensures after { (t : Tables) (p : Process) → IsTenant self.old t p → ((z : walks.Walk) → walk ≡ Some z → z ≡ walk_answer t asked.va.0 asked.access User) →
+        ensures after { (t : Tables) (p : Process) → IsTenant self.old t p → walk ≡ walk_answer t asked.va.0 asked.access User →
             IsTenant self.new t (service.user_access p (asked_of asked)).process }
         ensures keeps { Keeps BankRule frames.old (view_of self.old) frames.new (view_of self.new) }
     {
-        let walk = self.translated(frames, walk, asked);
         let reply = self.space.user_access(frames, walk, asked);
         self.pending = pending(asked, &reply);
         reply
-    }
-
-    /// The translation that is given, or else what a walk comes to.
-    fn translated(&mut self, frames: &mut PlainFrames, walk: Option<Walk>, asked: Asked) -> Walk
-        requires fits { Fits BankRule frames.old (view_of self.old) }
-        requires ready { (t : Tables) × (p : Process) × IsTenant self.old t p }
-        ensures walk { (t : Tables) (p : Process) → IsTenant self.old t p → ((z : walks.Walk) → walk ≡ Some z → z ≡ walk_answer t asked.va.0 asked.access User) →
-            result ≡ walk_answer t asked.va.0 asked.access User }
-        ensures tenant { self.new ≡ self.old }
-        ensures frames { frames.new ≡ frames.old }
-    {
-        if let Some(walk) = walk {
-            return walk;
-        }
-        self.space
-            .translate(frames, asked.va, asked.access, Mode::User)
     }
 }
 

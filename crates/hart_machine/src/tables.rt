@@ -1,18 +1,22 @@
 // Translations by the table that a hart's satp has.
 
-ghost use Rattle.std.specs.Prelude.{◌≡◌, option_map, slice_get, Some};
+ghost use Rattle.std.specs.Prelude.{◌≡◌, IfOk, is_ok, option_map, slice_get, Some};
 ghost use Rattle.hart_machine.specs.Buffers.{OnlyFillsAdd};
-ghost use Rattle.hart_machine.specs.Tables.{tables_of, IsThere, present_table};
+ghost use Rattle.hart_machine.specs.Harts.{hart_of};
+ghost use Rattle.hart_machine.specs.Tables.{tables_of, IsServed, IsThere, present_table};
 ghost use Rattle.table_walk.specs.Leaves.{walk_answer};
-ghost use Rattle.hart_machine.specs.Worlds.{IsWorld, Makes};
+ghost use Rattle.hart_machine.specs.Worlds.{IsWorld, Makes, StaysIn};
 ghost use Rattle.hart_machine.specs.declared.hart.Hart.{Hart};
+ghost use Rattle.process_model.specs.Harts.{entry_serves};
 ghost use Rattle.process_model.specs.Steps.{plain_step};
 ghost use Rattle.process_model.specs.World.{World};
+ghost use Rattle.process_model.specs.declared.config.Policy.TheVariants.{Full};
 ghost use Rattle.process_model.specs.declared.step.Reply.TheVariants.{Filled};
 ghost use Rattle.process_model.specs.declared.step.Step.TheVariants as step;
 
 use crate::hart::{Hart, has_user_satp};
 use crate::machine::Machine;
+use hart_tlb::NoEntry;
 use sv39_entry::{Access, Mode, Va};
 use table_walk::{Walk, translate_held};
 
@@ -47,12 +51,57 @@ impl Machine {
         }
     }
 
+    /// What an access on a hart is translated to: by the named entry of its buffer, or else by a walk of the table that its
+    /// satp has.
+    pub(crate) fn translated(
+        &mut self,
+        hart: usize,
+        via: Option<usize>,
+        va: Va,
+        access: Access,
+        mode: Mode,
+    ) -> Result<Walk, NoEntry>
+        requires hart { (x : Hart) × (slice_get self.old.harts.items hart ≡ Some x) }
+        requires world { (w : World) × IsWorld self.old w }
+        ensures serves { (w : World) (x : Hart) → IsWorld self.old w → slice_get self.old.harts.items hart ≡ Some x → is_ok result ≡ entry_serves Full (hart_of x) va.0 via }
+        ensures walk { IfOk result (λ z. (w : World) (is : IsWorld self.old w) (x : Hart) → slice_get self.old.harts.items hart ≡ Some x → IsServed x is.tables is.kernel va.0 access mode z) }
+        ensures world { StaysIn self.old self.new }
+        ensures harts { self.new.harts ≡ self.old.harts }
+    {
+        if let Some(entry) = via {
+            return self.by_entry(hart, entry, va, access, mode);
+        }
+        let Some(table) = self.table_of(hart) else {
+            unreachable!()
+        };
+        Ok(self.walk(table, va, access, mode))
+    }
+
+    /// What an entry of a hart's buffer translates an access to, where there is one that serves it.
+    fn by_entry(
+        &self,
+        hart: usize,
+        entry: usize,
+        va: Va,
+        access: Access,
+        mode: Mode,
+    ) -> Result<Walk, NoEntry>
+        ensures serves { (w : World) (x : Hart) → IsWorld self.now w → slice_get self.now.harts.items hart ≡ Some x → is_ok result ≡ entry_serves Full (hart_of x) va.0 (Some entry) }
+        ensures walk { IfOk result (λ z. (w : World) (is : IsWorld self.now w) (x : Hart) → slice_get self.now.harts.items hart ≡ Some x → IsServed x is.tables is.kernel va.0 access mode z) }
+    {
+        let Some(hart) = self.harts.get(hart) else {
+            return Err(NoEntry);
+        };
+        // all entries are made under the address-space identifier 0
+        hart.buffer.use_entry(entry, va, 0, access, mode)
+    }
+
     /// Translates an access by the tables in memory.
-    pub(crate) fn walk(&mut self, table: Table, va: Va, access: Access, mode: Mode) -> Walk
+    fn walk(&mut self, table: Table, va: Va, access: Access, mode: Mode) -> Walk
         requires there { IsThere self.old table }
         requires world { (w : World) × IsWorld self.old w }
         ensures walk { (w : World) (is : IsWorld self.old w) → result ≡ walk_answer (tables_of is.tables is.kernel table) va.0 access mode }
-        ensures world { (w : World) → IsWorld self.old w → IsWorld self.new w }
+        ensures world { StaysIn self.old self.new }
         ensures harts { self.new.harts ≡ self.old.harts }
     {
         let frames = &mut self.frames;

@@ -1,11 +1,13 @@
-use Rattle.std.proofs.Common.{◌∙◌, ap, refl, sym}
+use Rattle.std.proofs.Common.{◌∙◌, ℕ, ap, refl, sym}
 use Rattle.std.specs.Prelude.{is_ok}
 use Rattle.sv39_entry.specs.declared.access.Mode.TheVariants.{User}
+use Rattle.table_walk.specs.Leaves.{walk_answer}
+use Rattle.table_walk.specs.Tables.{Tables}
 use Rattle.hart_machine.proofs.AccessingEntries.{user_served}
 use Rattle.hart_machine.proofs.AccessSteps.{answers_access, faults_access, in_user, no_entry, no_user, no_width, nowhere}
 use Rattle.hart_machine.proofs.BufferSteps.{same_buffers, same_harts}
 use Rattle.hart_machine.proofs.HartSteps.{has_hart, no_hart, process_at}
-use Rattle.hart_machine.proofs.Trapping.{slot_there, user_has_slot, user_tenant}
+use Rattle.hart_machine.proofs.Trapping.{slot_there, still_there, user_has_slot, user_tenant}
 use Rattle.hart_machine.proofs.machine.Machine.access.Goals as goal
 
 pub returns-in_default-clause-made : goal.returns-in_default-clause-made
@@ -30,16 +32,16 @@ returns-in_default-slot_of-clause-made c w is =
     absurd (user_has_slot c.args.self.now w is c.args.hart c.in-Some.phase has (sym c.is_user.ensures ∙ c.if-not-is_user.false)
     (slot_there c.args.self.now w is c.args.hart c.in-Some.phase has _ (sym c.in_default-slot_of.is ∙ c.slot_of.ensures)))
 
-pub returns-in_default-by_entry-clause-made : goal.returns-in_default-by_entry-clause-made
-returns-in_default-by_entry-clause-made c w is =
+pub returns-in_default-translated-clause-made : goal.returns-in_default-translated-clause-made
+returns-in_default-translated-clause-made c w is =
     let a = c.args.asked in
     let m = c.args.self.now in
     let has = has_hart m w is c.args.hart c.in-Some.phase (sym c.in-Some.is ∙ c.phase_of.ensures) in
     let well = sym c.is_width.ensures ∙ c.if-not-is_width.false in
     let user = sym c.is_user.ensures ∙ c.if-not-is_user.false in
     let on = slot_there m w is c.args.hart c.in-Some.phase has _ (sym c.in-Some-slot_of.is ∙ c.slot_of.ensures) in
-    no_entry m w is c.args.hart a.access a.va.0 a.width a.value c.args.via c.in-Some.phase has well user
-    (sym (c.by_entry.ensures.serves w has.hart is has.there) ∙ ap is_ok c.in_default-by_entry.is)
+    no_entry m w is c.args.hart a.access a.va.0 a.width a.value c.args.via c.in-Some.phase has well user c.translated.new.self (c.translated.ensures.world w is).0
+    (sym (c.translated.ensures.serves w has.hart is has.there) ∙ ap is_ok c.in_default-translated.is)
 
 pub answered-reply-requires-clause-ready : goal.answered-reply-requires-clause-ready
 answered-reply-requires-clause-ready c =
@@ -50,14 +52,23 @@ answered-reply-requires-clause-ready c =
     let well = sym c.is_width.ensures ∙ c.if-not-is_width.false in
     let user = sym c.is_user.ensures ∙ c.if-not-is_user.false in
     let on = slot_there m r.0 r.1 c.args.hart c.in-Some.phase has _ (sym c.in-Some-slot_of.is ∙ c.slot_of.ensures) in
-    let t = user_tenant m r.0 r.1 c.args.hart c.in-Some.phase has c.in-Some-slot_of.slot on in
-    (r.0, r.1, t.0, t.1, λ z given. user_served (r.1).tables (r.1).kernel has.hart c.in-Some-slot_of.slot a.va.0 a.access User z (in_user m r.0 r.1 c.args.hart a.access a.va.0 a.width a.value c.args.via c.in-Some.phase has well user) on (c.in-Ok.ensures.walk r.0 r.1 has.hart has.there z given))
+    let s = c.in-Some-slot_of.slot in
+    let t = user_tenant m r.0 r.1 c.args.hart c.in-Some.phase has s on in
+    let after = c.translated.ensures.world r.0 r.1 in
+    let u = still_there m c.translated.new.self r.0 r.1 after.0 s t.0 t.1 in (
+      r.0,
+      after.0,
+      u.0,
+      u.1,
+      user_served (r.1).tables (r.1).kernel has.hart s a.va.0 a.access User c.in-Ok.walk (in_user m r.0 r.1 c.args.hart a.access a.va.0 a.width a.value c.args.via c.in-Some.phase has well user) on (c.in-Ok.ensures.walk r.0 r.1 has.hart has.there)
+          ∙ ap (λ (ts : ℕ → Tables). walk_answer (ts s) a.va.0 a.access User) (sym after.1),
+    )
 
 pub index_mut-requires : goal.index_mut-requires
 index_mut-requires c =
     let r = c.requires.world in
     let has = has_hart c.args.self.now r.0 r.1 c.args.hart c.in-Some.phase (sym c.in-Some.is ∙ c.phase_of.ensures) in
-    rw c.answered-reply.ensures.harts has.within
+    rw (c.answered-reply.ensures.harts, c.translated.ensures.harts) has.within
 
 pub returns-in-Fault-clause-made : goal.returns-in-Fault-clause-made
 returns-in-Fault-clause-made c w is =
@@ -71,14 +82,18 @@ returns-in-Fault-clause-made c w is =
     let runs = in_user m w is c.args.hart a.access a.va.0 a.width a.value c.args.via c.in-Some.phase has well user in
     let t = user_tenant m w is c.args.hart c.in-Some.phase has s on in
     let q = process_at m w is s t.0 t.1 in
+    let after = c.translated.ensures.world w is in
+    let walked =
+    user_served is.tables is.kernel has.hart s a.va.0 a.access User c.in-Ok.walk runs on (c.in-Ok.ensures.walk w is has.hart has.there)
+    ∙ ap (λ (ts : ℕ → Tables). walk_answer (ts s) a.va.0 a.access User) (sym after.1) in
     faults_access m w is c.args.hart a.access a.va.0 a.width a.value c.args.via c.in-Some.phase has well user s on
-    (sym (c.by_entry.ensures.serves w has.hart is has.there) ∙ ap is_ok c.in-Ok.is) q.0 q.1 c.answered-reply.new.self c.answered-reply.ensures.harts c.answered-reply.result
-    (c.answered-reply.ensures.made w is q.0 q.1 (λ z given. user_served is.tables is.kernel has.hart s a.va.0 a.access User z runs on (c.in-Ok.ensures.walk w is has.hart has.there z given))) c.in-Fault.field-0 c.in-Fault.is c.index_mut.result.now c.index_mut.ensures.value
+    (sym (c.translated.ensures.serves w has.hart is has.there) ∙ ap is_ok c.in-Ok.is) q.0 q.1 c.answered-reply.new.self (c.answered-reply.ensures.harts ∙ c.translated.ensures.harts) c.answered-reply.result
+    (c.answered-reply.ensures.made w after.0 q.0 q.1 walked) c.in-Fault.field-0 c.in-Fault.is c.index_mut.result.now c.index_mut.ensures.value
 
 pub returns-in-Fault-clause-buffers : goal.returns-in-Fault-clause-buffers
 returns-in-Fault-clause-buffers c h =
     same_buffers c.answered-reply.new.self c.args.hart c.index_mut.result.now _ c.index_mut.ensures.value refl h
-    ∙ same_harts c.args.self.now c.answered-reply.new.self c.answered-reply.ensures.harts h
+    ∙ same_harts c.args.self.now c.answered-reply.new.self (c.answered-reply.ensures.harts ∙ c.translated.ensures.harts) h
 
 pub returns-in_default-reply-clause-made : goal.returns-in_default-reply-clause-made
 returns-in_default-reply-clause-made c w is =
@@ -92,6 +107,10 @@ returns-in_default-reply-clause-made c w is =
     let runs = in_user m w is c.args.hart a.access a.va.0 a.width a.value c.args.via c.in-Some.phase has well user in
     let t = user_tenant m w is c.args.hart c.in-Some.phase has s on in
     let q = process_at m w is s t.0 t.1 in
+    let after = c.translated.ensures.world w is in
+    let walked =
+    user_served is.tables is.kernel has.hart s a.va.0 a.access User c.in-Ok.walk runs on (c.in-Ok.ensures.walk w is has.hart has.there)
+    ∙ ap (λ (ts : ℕ → Tables). walk_answer (ts s) a.va.0 a.access User) (sym after.1) in
     answers_access m w is c.args.hart a.access a.va.0 a.width a.value c.args.via c.in-Some.phase has well user s on
-    (sym (c.by_entry.ensures.serves w has.hart is has.there) ∙ ap is_ok c.in-Ok.is) q.0 q.1 c.answered-reply.new.self c.answered-reply.ensures.harts c.answered-reply.result
-    (c.answered-reply.ensures.made w is q.0 q.1 (λ z given. user_served is.tables is.kernel has.hart s a.va.0 a.access User z runs on (c.in-Ok.ensures.walk w is has.hart has.there z given))) c.in_default-reply.not-Fault
+    (sym (c.translated.ensures.serves w has.hart is has.there) ∙ ap is_ok c.in-Ok.is) q.0 q.1 c.answered-reply.new.self (c.answered-reply.ensures.harts ∙ c.translated.ensures.harts) c.answered-reply.result
+    (c.answered-reply.ensures.made w after.0 q.0 q.1 walked) c.in_default-reply.not-Fault

@@ -1,10 +1,21 @@
-use Rattle.std.proofs.Common.{◌∙◌, subst, sym}
-use Rattle.std.proofs.lemmas.Option.{same_Some}
+use Rattle.std.proofs.Common.{◌∙◌, ◌<◌, Some, subst, sym}
+use Rattle.std.proofs.lemmas.Option.{get_or_from_slice_get, same_Some, slice_get_within}
 use Rattle.address_space.specs.Accesses.{asked_of}
 use Rattle.hart_machine.specs.Tenants.{IsTenant}
 use Rattle.hart_machine.proofs.AccessingWorlds.{access_changes, seat_fits, slot_has}
 use Rattle.hart_machine.proofs.HartSteps.{process_at}
 use Rattle.hart_machine.proofs.machine.Machine.answered.Goals as goal
+
+pub index_mut-requires : goal.index_mut-requires
+index_mut-requires c =
+    let m = c.args.self.now in
+    subst (λ n. c.args.slot < n) (sym m.slots.ok.0) (slice_get_within m.slots.items c.args.slot _ c.requires.ready.3)
+
+pub unreachable-requires : goal.unreachable-requires
+unreachable-requires c =
+    let r = c.requires.ready in
+    let both = sym c.in_default.is ∙ c.index_mut.ensures.value ∙ get_or_from_slice_get c.args.self.now.slots.items c.args.slot (Some r.2) _ r.3 in
+    cc
 
 pub access-requires-clause-fits : goal.access-requires-clause-fits
 access-requires-clause-fits c =

@@ -22,12 +22,12 @@ returns-then-not-in_trampoline-clause-made c w is =
     elsewhere c.args.self.now w is c.args.hart c.args.offset c.args.via c.if-offset-ne0.false (omega (arith, c.if-offset-ge-PAGE_SIZE.false)) c.in-Some.phase has
     (sym c.in_trampoline.ensures ∙ c.if-not-in_trampoline.true)
 
-pub returns-in_default-fetched-clause-made : goal.returns-in_default-fetched-clause-made
-returns-in_default-fetched-clause-made c w is =
+pub returns-in_default-translated-clause-made : goal.returns-in_default-translated-clause-made
+returns-in_default-translated-clause-made c w is =
     let has = has_hart c.args.self.now w is c.args.hart c.in-Some.phase (sym c.in-Some.is ∙ c.phase_of.ensures) in
     no_entry c.args.self.now w is c.args.hart c.args.offset c.args.via c.if-offset-ne0.false (omega (arith, c.if-offset-ge-PAGE_SIZE.false)) c.in-Some.phase has
-    (sym c.in_trampoline.ensures ∙ c.if-not-in_trampoline.false) c.fetched.new.self (c.fetched.ensures.world w is)
-    (sym (c.fetched.ensures.serves w has.hart is has.there) ∙ ap is_ok c.in_default-fetched.is)
+    (sym c.in_trampoline.ensures ∙ c.if-not-in_trampoline.false) c.translated.new.self ((c.translated.ensures.world w is).0)
+    (sym (c.translated.ensures.serves w has.hart is has.there) ∙ ap is_ok c.in_default-translated.is)
 
 pub unreachable-requires : goal.unreachable-requires
 unreachable-requires c =
@@ -51,5 +51,5 @@ returns-clause-made c w is =
     let code = finds_code c.args.offset (omega (arith, c.if-offset-ge-PAGE_SIZE.false)) c.args.self.now w is c.args.hart has.hart has.there c.in-Ok.walk
     (c.in-Ok.ensures.walk w is has.hart has.there) c.in-Leaf.word c.in-Leaf.level c.in-Leaf.address c.in-Leaf.is in
     rw c.from.ensures (fetches_code c.args.self.now w is c.args.hart c.args.offset c.args.via c.if-offset-ne0.false (omega (arith, c.if-offset-ge-PAGE_SIZE.false)) c.in-Some.phase has
-    (sym c.in_trampoline.ensures ∙ c.if-not-in_trampoline.false) c.fetched.new.self (c.fetched.ensures.world w is)
-    (sym (c.fetched.ensures.serves w has.hart is has.there) ∙ ap is_ok c.in-Ok.is) c.in-Some-from_ppn.frame (sym c.in-Some-from_ppn.is ∙ c.from_ppn.ensures ∙ code))
+    (sym c.in_trampoline.ensures ∙ c.if-not-in_trampoline.false) c.translated.new.self ((c.translated.ensures.world w is).0)
+    (sym (c.translated.ensures.serves w has.hart is has.there) ∙ ap is_ok c.in-Ok.is) c.in-Some-from_ppn.frame (sym c.in-Some-from_ppn.is ∙ c.from_ppn.ensures ∙ code))

@@ -1,4 +1,4 @@
-use Rattle.std.proofs.Common.{◌∙◌, ap, sym}
+use Rattle.std.proofs.Common.{◌∙◌, ap, refl, sym}
 use Rattle.hart_machine.specs.Tables.{tables_of}
 use Rattle.table_walk.specs.Leaves.{walk_answer}
 use Rattle.hart_machine.specs.declared.tables.Table.{Table}
@@ -15,7 +15,7 @@ returns-in-OfKernel-clause-walk c w is =
     ∙ ap (λ (t : Table). walk_answer (tables_of is.tables is.kernel t) c.args.va.0 c.args.access c.args.mode) (sym c.in-OfKernel.is)
 
 pub returns-in-OfKernel-clause-world : goal.returns-in-OfKernel-clause-world
-returns-in-OfKernel-clause-world c w is = rw (c.translate_held.ensures.same, c.translate_held.ensures.view) is
+returns-in-OfKernel-clause-world c = rw (c.translate_held.ensures.same, c.translate_held.ensures.view) (λ w is. (is, refl))
 
 pub index_mut-requires : goal.index_mut-requires
 index_mut-requires c = slot_within c.args.self.now c.args.table c.in-OfProcess.slot c.in-OfProcess.is c.requires.there
@@ -50,4 +50,4 @@ pub returns-in-Some-clause-world : goal.returns-in-Some-clause-world
 returns-in-Some-clause-world c w is =
     let m = c.args.self.now in
     let at = tenant_is m c.args.table c.in-OfProcess.slot c.in-OfProcess.is c.requires.there _ c.index_mut.ensures.value c.in-Some.tenant c.in-Some.is in
-    rw (c.translate.ensures.same, c.translate.ensures.view, c.translate.ensures.root, c.translate.ensures.trapframe, c.translate.ensures.layout) (put_back m w is c.in-OfProcess.slot c.in-Some.tenant at)
+    rw (c.translate.ensures.same, c.translate.ensures.view, c.translate.ensures.root, c.translate.ensures.trapframe, c.translate.ensures.layout) (put_back m w is c.in-OfProcess.slot c.in-Some.tenant at, refl)
