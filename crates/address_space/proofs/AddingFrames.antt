@@ -1,5 +1,5 @@
 -- Frames of a space when a page gets one: a frame is claimed and filled, and then a leaf names it.
-use Rattle.std.proofs.Common.{◌≡◌, ℕ, ◌<◌, ◌⊎◌, None, Some, true, refl, ap, sym, subst, ◌∙◌, inl, inr, arith}
+use Rattle.std.proofs.Common.{◌≡◌, ℕ, ◌+◌, ◌<◌, ◌⊎◌, None, Some, true, refl, ap, sym, subst, ◌∙◌, inl, inr, arith}
 use Rattle.std.proofs.lemmas.Bool.{cases_eq}
 use Rattle.std.proofs.lemmas.Option.{same_Some}
 use Rattle.std.specs.FinMap.{get}
@@ -13,9 +13,9 @@ use Rattle.table_walk.specs.Tables.{ChangesTables, HasTables, Tables, IsGrown, l
 use Rattle.table_walk.specs.Keys.{insert_other, insert_same}
 use Rattle.table_walk.specs.Same.{same_tables}
 use Rattle.table_walk.specs.Walk.{top_level}
-use Rattle.address_space.specs.Agreement.{Names, Owns}
+use Rattle.address_space.specs.Agreement.{Names, nothing, one_of, Owns}
 use Rattle.address_space.specs.Steps.{Spends}
-use Rattle.address_space.proofs.Owned.{apart_by, claimed_here, claimed_other, no_table, one_frame, same_references, same_sole, spare_comes}
+use Rattle.address_space.proofs.Owned.{claimed_here, claimed_other, no_table, one_else, one_frame, one_here, recounted_owns, same_references, same_sole, spare_comes, unnamed}
 
 -- a frame comes to a seat that did not hold it, and nothing else changes
 pub record Comes (v w : View) (f : ℕ) : Type 0 where
@@ -64,25 +64,39 @@ module _ (v w : View) (f : ℕ) (c : Comes v w f) where
   pub come_held : (g : ℕ) → IsHeld v g → IsHeld w g
   come_held g held = subst (λ (h : Hold). 0 < h.references) (sym (c.others g (not_held_before g held))) held
 
-  pub come_owns : (t : Tables) → Owns v t None → Owns w t (Some f)
-  come_owns t o = spare_comes v t w f c.fresh c.one c.others o
+  -- it has no name
+  pub come_unnamed : (t : Tables) → Owns v t nothing → (k : ℕ) → Names t f k → ⊥
+  come_unnamed t o = unnamed v t nothing o f c.fresh
 
--- a leaf is put, over a frame that stood ready, and tables that were missing are there
-module _ (v w : View) (t u : Tables) (n root page x f : ℕ) (o : Owns v t (Some f)) (h : HasTables v root t) (grown : IsGrown t u page top_level)
+  pub come_owns : (t : Tables) → Owns v t nothing → Owns w t (one_of f)
+  come_owns t o = recounted_owns v w t nothing (one_of f) (spare_comes v w t f c.fresh c.one c.others (come_unnamed t o)) o
+
+-- a leaf is put over a frame that had no name and one reference more, and tables that were missing are there
+module _ (v w : View) (t u : Tables) (n root page x f : ℕ) (before after : ℕ → ℕ) (o : Owns v t before) (free : (k : ℕ) → Names t f k → ⊥)
+    (moves : (g : ℕ) → before g ≡ after g + one_of f g) (h : HasTables v root t) (grown : IsGrown t u page top_level)
     (changes : ChangesTables v w t u n) (has_tables : HasTables w root (with_leaf u (leaf_node page) x)) (names : ppn x ≡ ppn_of f)
     (unmapped : get t.leaves (leaf_node page) ≡ None) (sole : has x 2 ≡ true → IsSole v f) where
+  f_count : references v f ≡ 1 + after f
+  f_count = let was = o.bare f free in let one = one_here f f refl in let m = moves f in omega (arith, was, one, m)
+
+  other_count : (g : ℕ) → (g ≡ f → ⊥) → before g ≡ after g
+  other_count g apart = let none = one_else f g apart in let m = moves g in omega (arith, none, m)
+
+  f_apart : (g k : ℕ) → Names t g k → g ≡ f → ⊥
+  f_apart g k names_g same = free k (subst (λ y. Names t y k) same names_g)
+
   -- the frame is no table, and no other leaf's
   f_no_table : (k : ℕ) → get u.tables k ≡ Some f → ⊥
   f_no_table k at = elim (grown.new k f at) [
-    | inl old ↦ (o.ready f refl).1 k (inl old)
-    | inr new ↦ apart_by v f f (changes.new k f at new.0).0 (o.ready f refl).0 refl
+    | inl old ↦ free k (inl old)
+    | inr new ↦ let none = (changes.new k f at new.0).0 in let some = f_count in omega (arith, none, some)
   ]
 
   -- nor is the frame of a leaf that was there
   leaf_no_table : (m y g : ℕ) → get t.leaves m ≡ Some y → ppn y ≡ ppn_of g → (k : ℕ) → get u.tables k ≡ Some g → ⊥
   leaf_no_table m y g leaf names_g k at = elim (grown.new k g at) [
-    | inl old ↦ no_table v t root (Some f) h o m y g leaf names_g k old
-    | inr new ↦ apart_by v g g (changes.new k g at new.0).0 (o.named g m (inr (y, leaf, names_g))) refl
+    | inl old ↦ no_table v t root before h o m y g leaf names_g k old
+    | inr new ↦ let none = (changes.new k g at new.0).0 in let some = o.named g m (inr (y, leaf, names_g)) in omega (arith, none, some)
   ]
 
   pub leaf_same : (m y g : ℕ) → get t.leaves m ≡ Some y → ppn y ≡ ppn_of g → hold_of w g ≡ hold_of v g
@@ -124,43 +138,51 @@ module _ (v w : View) (t u : Tables) (n root page x f : ℕ) (o : Owns v t (Some
     | inr apart ↦ inr (y, insert_other u.leaves (leaf_node page) x k apart ∙ ap (λ leaves. get leaves k) grown.leaves ∙ leaf, names_g)
   ]
 
-  -- references of what had a name before
-  old_count : (g k : ℕ) → Names t g k → references w g ≡ 1
-  old_count g k (inl table) = changes.old k g table ∙ o.named g k (inl table)
-  old_count g k (inr (y, leaf, names_g)) = same_references v w g (leaf_same k y g leaf names_g) ∙ o.named g k (inr (y, leaf, names_g))
+  -- a new table was no frame of the seat
+  new_unnamed : (g j k : ℕ) → get t.tables k ≡ None → get u.tables k ≡ Some g → Names t g j → ⊥
+  new_unnamed g j k none there names_g = unnamed v t before o g (changes.new k g there none).0 j names_g
 
-  from_origin : (g k : ℕ) → Origin g k → references w g ≡ 1
+  -- references of what had a name before
+  was_count : (g k : ℕ) → Names t g k → references v g ≡ 1 + after g
+  was_count g k names_g = let was = o.named g k names_g in let same = other_count g (f_apart g k names_g) in omega (arith, was, same)
+
+  old_count : (g k : ℕ) → Names t g k → references w g ≡ 1 + after g
+  old_count g k (inl table) = changes.old k g table ∙ was_count g k (inl table)
+  old_count g k (inr (y, leaf, names_g)) = same_references v w g (leaf_same k y g leaf names_g) ∙ was_count g k (inr (y, leaf, names_g))
+
+  new_count : (g k : ℕ) → get t.tables k ≡ None → get u.tables k ≡ Some g → references w g ≡ 1 + after g
+  new_count g k none there =
+      let counts = changes.new k g there none in
+      let was = o.bare g (λ j names_g. new_unnamed g j k none there names_g) in
+      let same = other_count g (λ is. f_no_table k (there ∙ ap Some is)) in
+      omega (arith, counts.0, counts.1, was, same)
+
+  from_origin : (g k : ℕ) → Origin g k → references w g ≡ 1 + after g
   from_origin g k (old names_g) = old_count g k names_g
-  from_origin g k (new_table none there) = (changes.new k g there none).1
-  from_origin g k (new_leaf here same) = ap (references w) same ∙ same_references v w f f_same ∙ (o.ready f refl).0
+  from_origin g k (new_table none there) = new_count g k none there
+  from_origin g k (new_leaf here same) = rw same (same_references v w f f_same ∙ f_count)
 
   -- two names of a frame are one
-  f_unnamed : (g k : ℕ) → g ≡ f → Names t g k → ⊥
-  f_unnamed g k same names_g = (o.ready f refl).1 k (subst (λ y. Names t y k) same names_g)
-
-  new_unnamed : (g j k : ℕ) → get t.tables k ≡ None → get u.tables k ≡ Some g → Names t g j → ⊥
-  new_unnamed g j k none there names_g = apart_by v g g (changes.new k g there none).0 (o.named g j names_g) refl
-
   once_from : (g j k : ℕ) → Origin g j → Origin g k → j ≡ k
   once_from g j k (old first) (old second) = o.once g j k first second
   once_from g j k (old first) (new_table none there) = absurd (new_unnamed g j k none there first)
-  once_from g j k (old first) (new_leaf here same) = absurd (f_unnamed g j same first)
+  once_from g j k (old first) (new_leaf here same) = absurd (f_apart g j first same)
   once_from g j k (new_table none there) (old second) = absurd (new_unnamed g k j none there second)
   once_from g j k (new_table none there) (new_table other also) = has_tables.known.apart j k g there also
   once_from g j k (new_table none there) (new_leaf here same) = absurd (f_no_table j (there ∙ ap Some same))
-  once_from g j k (new_leaf here same) (old second) = absurd (f_unnamed g k same second)
+  once_from g j k (new_leaf here same) (old second) = absurd (f_apart g k second same)
   once_from g j k (new_leaf here same) (new_table none there) = absurd (f_no_table k (there ∙ ap Some same))
   once_from g j k (new_leaf here same) (new_leaf also too) = here ∙ sym also
 
-  pub leaf_owns : Owns w (with_leaf u (leaf_node page) x) None
+  pub leaf_owns : Owns w (with_leaf u (leaf_node page) x) after
   leaf_owns = record {
     once = λ g j k first second. once_from g j k (origin g j first) (origin g k second);
     named = λ g k names_g. from_origin g k (origin g k names_g);
-    ready = λ g is. absurd (cc);
-    bare = λ g free ne.
+    bare = λ g none.
         let here : Names (with_leaf u (leaf_node page) x) f (leaf_node page) = inr (x, insert_same u.leaves (leaf_node page) x (leaf_node page) refl, names) in
-        same_references v w g (changes.apart g (λ k table. free k (inl table)))
-        ∙ o.bare g (λ k names_g. free k (stays g k names_g)) (λ is. free (leaf_node page) (subst (λ y. Names (with_leaf u (leaf_node page) x) y (leaf_node page)) (same_Some f g is) here));
+        same_references v w g (changes.apart g (λ k table. none k (inl table)))
+        ∙ o.bare g (λ k names_g. none k (stays g k names_g))
+        ∙ other_count g (λ is. none (leaf_node page) (subst (λ y. Names (with_leaf u (leaf_node page) x) y (leaf_node page)) (sym is) here));
     writable = λ g k y leaf names_g writes. elim (leaf_origin g k y leaf names_g) [
       | inl is ↦ subst (IsSole w) (sym is.2) (same_sole v w f f_same (sole (ap (λ z. has z 2) (sym is.1) ∙ writes)))
       | inr is ↦ same_sole v w g (leaf_same k y g is names_g) (o.writable g k y is names_g writes)

@@ -18,10 +18,10 @@ use Rattle.table_walk.specs.Counted.{AreTablesOf}
 use Rattle.table_walk.specs.Tables.{ChangesTables, HasTables, Tables, IsGrown, leaf_node, missing, with_leaf}
 use Rattle.table_walk.specs.Keys.{insert_other, insert_same, is_none}
 use Rattle.table_walk.specs.Walk.{top_level}
-use Rattle.address_space.specs.Agreement.{IsLeafNumber, IsPageLeaf, OthersKeep, Shows}
+use Rattle.address_space.specs.Agreement.{IsLeafNumber, IsPageLeaf, nothing, one_of, OthersKeep, Shows}
 use Rattle.address_space.specs.Steps.{Adds, CanAdd, settled_with}
-use Rattle.address_space.proofs.AddingFrames.{Comes, come_owns, come_tables, f_same, leaf_owns, leaf_same, not_held_before}
-use Rattle.address_space.proofs.Owned.{one_page, same_bytes, same_sole}
+use Rattle.address_space.proofs.AddingFrames.{Comes, come_owns, come_tables, come_unnamed, f_same, leaf_owns, leaf_same, not_held_before}
+use Rattle.address_space.proofs.Owned.{named_held, one_page, same_bytes, same_sole}
 use Rattle.process_model.specs.Inserted.{all_keys, behind_more, inserted_here, inserted_other, key_in, key_out}
 
 -- tables of the same pages in another order
@@ -68,12 +68,12 @@ module _ (v : View) (root trapframe : ℕ) (t : Tables) (p : Process) (page : �
     here = insert_same u.leaves (leaf_node page) x (leaf_node page) refl
 
     filled_same : hold_of w f ≡ hold_of r f
-    filled_same = f_same r w t u (missing t page) root page x f (come_owns v r f c t can.stands.owns) (come_tables v r f c root t can.stands.tables) grown changes tables made.names unmapped (λ writes. c.sole)
+    filled_same = f_same r w t u (missing t page) root page x f (one_of f) nothing (come_owns v r f c t can.stands.owns) (come_unnamed v r f c t can.stands.owns) (λ g. omega arith) (come_tables v r f c root t can.stands.tables) grown changes tables made.names unmapped (λ writes. c.sole)
 
     old_same : (m y g : ℕ) → get t.leaves m ≡ Some y → ppn y ≡ ppn_of g → hold_of w g ≡ hold_of v g
     old_same m y g leaf names =
-        let held : IsHeld v g = let one = can.stands.owns.named g m (inr (y, leaf, names)) in omega (arith, one) in
-        leaf_same r w t u (missing t page) root page x f (come_owns v r f c t can.stands.owns) (come_tables v r f c root t can.stands.tables) grown changes tables made.names unmapped (λ writes. c.sole) m y g leaf names
+        let held : IsHeld v g = named_held v t nothing can.stands.owns g m (inr (y, leaf, names)) in
+        leaf_same r w t u (missing t page) root page x f (one_of f) nothing (come_owns v r f c t can.stands.owns) (come_unnamed v r f c t can.stands.owns) (λ g. omega arith) (come_tables v r f c root t can.stands.tables) grown changes tables made.names unmapped (λ writes. c.sole) m y g leaf names
         ∙ c.others g (not_held_before v r f c g held)
 
     module _ (fresh : ℕ) where
@@ -127,7 +127,7 @@ module _ (v : View) (root trapframe : ℕ) (t : Tables) (p : Process) (page : �
     adds tabled = record {
       stands = λ fresh. record {
         tables = tables;
-        owns = leaf_owns r w t u (missing t page) root page x f (come_owns v r f c t can.stands.owns) (come_tables v r f c root t can.stands.tables) grown changes tables made.names unmapped (λ writes. c.sole);
+        owns = leaf_owns r w t u (missing t page) root page x f (one_of f) nothing (come_owns v r f c t can.stands.owns) (come_unnamed v r f c t can.stands.owns) (λ g. omega arith) (come_tables v r f c root t can.stands.tables) grown changes tables made.names unmapped (λ writes. c.sole);
         shows = added_shows fresh;
         tabled = same_members u (page ∷ pages.keys p.tabled) (pages.keys (pages.insert p.tabled page tt)) (key_in page tt p.tabled) (key_out page tt p.tabled) tabled;
         tabled_low = all_keys (λ n. n < trapframe_page) p.tabled page tt can.low can.stands.tabled_low;

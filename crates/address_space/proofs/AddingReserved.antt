@@ -1,5 +1,5 @@
 -- Frames for a page are reserved together, and then the page is added.
-use Rattle.std.proofs.Common.{◌≡◌, ℕ, ◌+◌, ◌-◌, ◌<◌, ◌≤◌, Option, None, Some, List, ◌∷◌, append-nil, Result, Ok, Err, IsOk, IsErr, IfErr, is_ok, if◌then◌else◌, true, false, ap, sym, ◌∙◌, arith, []}
+use Rattle.std.proofs.Common.{◌≡◌, ℕ, ◌+◌, ◌-◌, ◌<◌, ◌≤◌, Option, Some, List, ◌∷◌, append-nil, Result, Ok, Err, IsOk, IsErr, IfErr, is_ok, if◌then◌else◌, true, false, ap, sym, ◌∙◌, arith, []}
 use Rattle.std.specs.Prelude.{◌^◌, All}
 use Rattle.frame_store.specs.Holds.{hold_of-frames}
 use Rattle.frame_store.specs.Laws.{IsDry}
@@ -11,7 +11,7 @@ use Rattle.process_model.specs.Process.{Process, regions}
 use Rattle.process_model.specs.Regions.{Region, region_at}
 use Rattle.table_walk.specs.Counted.{AreTablesOf}
 use Rattle.table_walk.specs.Tables.{HasTables, Tables, missing}
-use Rattle.address_space.specs.Agreement.{body, IsSpace}
+use Rattle.address_space.specs.Agreement.{body, IsSpace, nothing}
 use Rattle.address_space.specs.Layouts.{Layout}
 use Rattle.address_space.specs.Steps.{Adds, CanAdd, CanSettle, RunsDry, Settles}
 use Rattle.address_space.proofs.Owned.{same_references, same_stands}
@@ -61,7 +61,7 @@ module _ (v u w : View) (n : ℕ) (is : u ≡ v) (dry : IsDry n u w) where
   agrees_still root trapframe l t p a = record {
     sound = a.sound;
     lays = a.lays;
-    stands = same_stands v w root trapframe None t p (hold_of-frames w v (dry.frames ∙ ap (λ (x : View). x.frames) is)) a.stands;
+    stands = same_stands v w root trapframe nothing t p (hold_of-frames w v (dry.frames ∙ ap (λ (x : View). x.frames) is)) a.stands;
     credits = dry.credits ∙ ap (λ (x : View). x.credits) is ∙ a.credits;
   }
 
@@ -81,7 +81,7 @@ module _ (v : View) (root trapframe : ℕ) (l : Layout) (t : Tables) (p : Proces
     can_add o r at some =
         let in_region = sym at ∙ some in
         record {
-          stands = same_stands v w root trapframe None t p reserved_same can.agrees.stands;
+          stands = same_stands v w root trapframe nothing t p reserved_same can.agrees.stands;
           unsettled = can.unsettled;
           in_region = in_region;
           leafy = leafy_at p can.agrees.sound.order page r in_region;

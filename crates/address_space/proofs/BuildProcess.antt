@@ -90,8 +90,8 @@ module _ (p q : Process) (like : IsLike p q) where
     low = λ n page at. let there = found_there n page at in s.low n there.page there.found;
   }
 
-  pub stands_like : (v : View) (root trapframe : ℕ) (spare : Option ℕ) (t : Tables) → Stands v root trapframe spare t p → Stands v root trapframe spare t q
-  stands_like v root trapframe spare t s = record {
+  pub stands_like : (v : View) (root trapframe : ℕ) (extra : ℕ → ℕ) (t : Tables) → Stands v root trapframe extra t p → Stands v root trapframe extra t q
+  stands_like v root trapframe extra t s = record {
     tables = s.tables;
     owns = s.owns;
     shows = shows_like v trapframe t s.shows;

@@ -17,11 +17,11 @@ use Rattle.table_walk.specs.Counted.{AreTablesOf}
 use Rattle.table_walk.specs.Tables.{bare_root, blank_hold, ChangesTables, HasTables, Tables, IsGrown, leaf_node, missing, with_leaf}
 use Rattle.table_walk.specs.Keys.{insert_other, insert_same, is_none}
 use Rattle.table_walk.specs.Walk.{top_level}
-use Rattle.address_space.specs.Agreement.{HasKernelLeaf, Names, Owns, Shows, Stands, code_rights, data_rights}
+use Rattle.address_space.specs.Agreement.{HasKernelLeaf, Names, nothing, one_of, Owns, Shows, Stands, code_rights, data_rights}
 use Rattle.address_space.specs.Parts.{CanOpen, Opens, OwnsAlone}
 use Rattle.address_space.specs.Steps.{Spends}
-use Rattle.address_space.proofs.AddingFrames.{Comes, come_owns, come_tables, f_same, leaf_owns}
-use Rattle.address_space.proofs.Owned.{apart_by, claimed_other, one_frame, same_references, same_sole}
+use Rattle.address_space.proofs.AddingFrames.{Comes, come_owns, come_tables, come_unnamed, f_same, leaf_owns}
+use Rattle.address_space.proofs.Owned.{apart_by, claimed_other, one_else, one_frame, one_here, same_references, same_sole}
 
 -- ---- the root
 
@@ -46,20 +46,23 @@ module _ (v w : View) (root : ℕ) (can : CanOpen v) (fresh : references v root 
   root_held = ap (λ (u : View). references u root) is ∙ ap (λ (h : Hold). h.references) (hold_of-with_hold_same root blank_hold (claimed root v))
 
   root_not_zero : 0 ≡ root → ⊥
-  root_not_zero same = apart_by v root 0 fresh can.once same
+  root_not_zero same = apart_by v root 0 fresh (let one = can.once in omega (arith, one)) same
 
-  pub root_owns : Owns w (bare_root root) (Some 0)
+  pub root_unnamed_zero : (k : ℕ) → Names (bare_root root) 0 k → ⊥
+  root_unnamed_zero k names = root_not_zero (bare_name root 0 k names).1
+
+  pub root_owns : Owns w (bare_root root) (one_of 0)
   root_owns = record {
     once = λ f j k first second. (bare_name root f j first).0 ∙ sym (bare_name root f k second).0;
-    named = λ f k names. ap (references w) (bare_name root f k names).1 ∙ root_held;
-    ready = λ f same.
-        let zero_is : 0 ≡ f = same_Some 0 f same in (
-          ap (references w) (sym zero_is) ∙ same_references v w 0 (other_hold 0 root_not_zero) ∙ can.once,
-          λ k names. root_not_zero (zero_is ∙ (bare_name root f k names).1),
-        );
-    bare = λ f free ne.
+    named = λ f k names.
+        let is = (bare_name root f k names).1 in
+        ap (references w) is ∙ root_held ∙ sym (ap (λ n. 1 + n) (one_else 0 f (λ same. root_not_zero (sym same ∙ is))));
+    bare = λ f free.
         let apart : f ≡ root → ⊥ = λ same. free 1 (inl (insert_same empty 1 root 1 refl ∙ ap Some (sym same))) in
-        same_references v w f (other_hold f apart) ∙ can.others f (λ same. ne (ap Some (sym same)));
+        same_references v w f (other_hold f apart) ∙ elim (cases_eq f 0) [
+          | inl same ↦ ap (references v) same ∙ can.once ∙ sym (one_here 0 f same)
+          | inr ne ↦ can.others f ne ∙ sym (one_else 0 f ne)
+        ];
     writable = λ f n y leaf names writes. absurd (bare_leaf root n y leaf);
   }
 
@@ -73,12 +76,12 @@ module _ (v w : View) (root : ℕ) (can : CanOpen v) (fresh : references v root 
 
 pub record HasTrampoline (w : View) (root : ℕ) (t : Tables) : Type 0 where
   pub tables : HasTables w root t
-  pub owns : Owns w t None
+  pub owns : Owns w t nothing
   pub leaf : HasKernelLeaf t trampoline_page 0 code_rights
   pub only : (k y : ℕ) → get t.leaves k ≡ Some y → k ≡ leaf_node trampoline_page
   pub tabled : AreTablesOf t []
 
-module _ (v w : View) (root x n : ℕ) (u : Tables) (o : Owns v (bare_root root) (Some 0)) (bare : HasTables v root (bare_root root)) (grown : IsGrown (bare_root root) u trampoline_page top_level)
+module _ (v w : View) (root x n : ℕ) (u : Tables) (o : Owns v (bare_root root) (one_of 0)) (free : (k : ℕ) → Names (bare_root root) 0 k → ⊥) (bare : HasTables v root (bare_root root)) (grown : IsGrown (bare_root root) u trampoline_page top_level)
     (tables : HasTables w root (with_leaf u (leaf_node trampoline_page) x)) (changes : ChangesTables v w (bare_root root) u n)
     (made : IsLeafOf x 0 code_rights false false true) (are : AreTablesOf u []) where
   abbrev after : Tables
@@ -96,7 +99,7 @@ module _ (v w : View) (root x n : ℕ) (u : Tables) (o : Owns v (bare_root root)
   pub has_trampoline : HasTrampoline w root after
   has_trampoline = record {
     tables = tables;
-    owns = leaf_owns v w (bare_root root) u n root trampoline_page x 0 o bare grown changes tables made.names no_leaf (λ writes. absurd (let both = sym made.write ∙ writes in cc));
+    owns = leaf_owns v w (bare_root root) u n root trampoline_page x 0 (one_of 0) nothing o free (λ g. omega arith) bare grown changes tables made.names no_leaf (λ writes. absurd (let both = sym made.write ∙ writes in cc));
     leaf = (x, insert_same u.leaves (leaf_node trampoline_page) x (leaf_node trampoline_page) refl, made);
     only = one_leaf;
     tabled = are;
@@ -131,10 +134,10 @@ module _ (v r w : View) (root x f n : ℕ) (t u : Tables) (before : HasTrampolin
   here = insert_same u.leaves (leaf_node trapframe_page) x (leaf_node trapframe_page) refl
 
   frame_same : hold_of w f ≡ hold_of r f
-  frame_same = f_same r w t u n root trapframe_page x f (come_owns v r f come t before.owns) (come_tables v r f come root t before.tables) grown changes tables made.names unmapped (λ _. come.sole)
+  frame_same = f_same r w t u n root trapframe_page x f (one_of f) nothing (come_owns v r f come t before.owns) (come_unnamed v r f come t before.owns) (λ g. omega arith) (come_tables v r f come root t before.tables) grown changes tables made.names unmapped (λ _. come.sole)
 
-  pub opens_owns : Owns w last None
-  opens_owns = leaf_owns r w t u n root trapframe_page x f (come_owns v r f come t before.owns) (come_tables v r f come root t before.tables) grown changes tables made.names unmapped (λ _. come.sole)
+  pub opens_owns : Owns w last nothing
+  opens_owns = leaf_owns r w t u n root trapframe_page x f (one_of f) nothing (come_owns v r f come t before.owns) (come_unnamed v r f come t before.owns) (λ g. omega arith) (come_tables v r f come root t before.tables) grown changes tables made.names unmapped (λ _. come.sole)
 
   two_leaves : (k y : ℕ) → get last.leaves k ≡ Some y → ((k ≡ leaf_node trampoline_page) × (get t.leaves k ≡ Some y)) ⊎ ((k ≡ leaf_node trapframe_page) × (y ≡ x))
   two_leaves k y leaf = elim (cases_eq k (leaf_node trapframe_page)) [
@@ -165,7 +168,7 @@ module _ (v r w : View) (root x f n : ℕ) (t u : Tables) (before : HasTrampolin
       low = λ k s found. absurd (none_settled k s found);
     }
 
-    opens_stands : Stands w root f None last p
+    opens_stands : Stands w root f nothing last p
     opens_stands = record {
       tables = tables;
       owns = opens_owns;

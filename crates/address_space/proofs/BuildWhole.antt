@@ -1,10 +1,10 @@
 -- A space is built: what was reserved, and what stands in the end.
-use Rattle.std.proofs.Common.{◌≡◌, ℕ, ◌+◌, ◌*◌, ◌≤◌, refl, ap, sym, ◌∙◌, arith, List, [], None}
+use Rattle.std.proofs.Common.{◌≡◌, ℕ, ◌+◌, ◌*◌, ◌≤◌, refl, ap, sym, ◌∙◌, arith, List, []}
 use Rattle.frame_store.specs.Holds.{hold_of-frames}
 use Rattle.frame_store.specs.Tallies.{spent_is, spent_on, spent_taken}
 use Rattle.frame_store.specs.View.{spent, View, references, with_credits}
 use Rattle.table_walk.specs.Tables.{Tables}
-use Rattle.address_space.specs.Agreement.{body, IsSpace, HoldsTrampoline}
+use Rattle.address_space.specs.Agreement.{body, IsSpace, HoldsTrampoline, nothing}
 use Rattle.address_space.specs.Layouts.{last_page, Layout}
 use Rattle.address_space.specs.Parts.{AreParts, bare_process, build_need, CanOpen, Fills, Opens, pages_need, pages_of, process_of_parts, regions_in, StandsAlone, with_pages}
 use Rattle.address_space.specs.Steps.{Takes}
@@ -49,7 +49,7 @@ module _ (ps : List Part) where
         agrees_whole are l parts mappings base size fresh = record {
           sound = sound_whole ps are fresh;
           lays = record { parts = sym parts; mappings = sym mappings; heap_base = sym base; size = sym (size ∙ base) };
-          stands = stands_like (with_pages (bare_process ps) (pages_of ps)) (process_of_parts fresh ps) (whole_process ps are.ascending fresh) y root trapframe None u fills.after.stands;
+          stands = stands_like (with_pages (bare_process ps) (pages_of ps)) (process_of_parts fresh ps) (whole_process ps are.ascending fresh) y root trapframe nothing u fills.after.stands;
           credits =
               let credits = credits_is in
               let pages = need_pages in

@@ -13,10 +13,10 @@ use Rattle.sv39_entry.specs.declared.frame.FrameNo.{FrameNo}
 use Rattle.table_walk.specs.Tables.{ChangesTables, HasTables, Tables, leaf_node, without_leaf}
 use Rattle.table_walk.specs.Keys.{remove_same, remove_other}
 use Rattle.table_walk.specs.Same.{same_tables}
-use Rattle.address_space.specs.Agreement.{Names, Owns}
+use Rattle.address_space.specs.Agreement.{Names, nothing, one_of, Owns}
 use Rattle.address_space.specs.Ending.{CanDrop, DropsLeaf}
 use Rattle.address_space.specs.Steps.{Takes}
-use Rattle.address_space.proofs.Owned.{no_table, one_frame, released_here, released_once, released_other, same_references, same_sole, spare_goes}
+use Rattle.address_space.proofs.Owned.{named_held, no_table, one_else, one_frame, one_here, recounted_owns, released_here, released_once, released_other, same_references, same_sole, spare_goes}
 
 frame_if : (b : Bool) (fr x : FrameNo) → cond b (Some x) None ≡ Some fr → (b ≡ true) × (x ≡ fr)
 frame_if true fr x is = (refl, cc)
@@ -44,11 +44,11 @@ named_before t n f k names = elim names as (λ _. Names t f k) [
 ]
 
 -- a leaf of a space, and the frame that it names
-module _ (v : View) (root : ℕ) (t : Tables) (n x f : ℕ) (h : HasTables v root t) (o : Owns v t None) (leaf : get t.leaves n ≡ Some x) (names : ppn x ≡ ppn_of f) where
+module _ (v : View) (root : ℕ) (t : Tables) (n x f : ℕ) (h : HasTables v root t) (extra : ℕ → ℕ) (o : Owns v t extra) (leaf : get t.leaves n ≡ Some x) (names : ppn x ≡ ppn_of f) where
   -- nothing else names the frame
-  no_name : (k : ℕ) → Names (without_leaf t n) f k → ⊥
+  pub no_name : (k : ℕ) → Names (without_leaf t n) f k → ⊥
   no_name k still = elim still as (λ _. ⊥) [
-    | inl table ↦ no_table v t root None h o n x f leaf names k table
+    | inl table ↦ no_table v t root extra h o n x f leaf names k table
     | inr other ↦
         let was = left t n k other.0 other.1 in
         was.1 (o.once f k n (inr (other.0, was.0, other.2)) (inr (x, leaf, names)))
@@ -56,61 +56,82 @@ module _ (v : View) (root : ℕ) (t : Tables) (n x f : ℕ) (h : HasTables v roo
 
   -- the leaf goes
   module _ (w : View) (c : ChangesTables v w t t 0) where
-    same_count : (g : ℕ) → references v g ≡ 1 → (k : ℕ) → Names t g k → references w g ≡ references v g
-    same_count g one k known = elim known as (λ _. references w g ≡ references v g) [
+    same_count : (g k : ℕ) → Names t g k → references w g ≡ references v g
+    same_count g k known = elim known as (λ _. references w g ≡ references v g) [
       | inl table ↦ c.old k g table
-      | inr other ↦ same_references v w g (c.apart g (no_table v t root None h o k other.0 g other.1 other.2))
+      | inr other ↦ same_references v w g (c.apart g (no_table v t root extra h o k other.0 g other.1 other.2))
     ]
 
-    pub leaf_goes : Owns w (without_leaf t n) (Some f)
-    leaf_goes = record {
-      once = λ g j k first second. o.once g j k (named_before t n g j first) (named_before t n g k second);
-      named = λ g k known.
-          let was = named_before t n g k known in
-          let one = o.named g k was in
-          same_count g one k was ∙ one;
-      ready = λ g is. (
-        let one = o.named f n (inr (x, leaf, names)) in
-            let is_f : f ≡ g = cc in
-            subst (λ (y : ℕ). references w y ≡ 1) is_f (same_count f one n (inr (x, leaf, names)) ∙ one),
-        let is_f : f ≡ g = cc in
-            subst (λ (y : ℕ). (k : ℕ) → Names (without_leaf t n) y k → ⊥) is_f no_name,
-      );
-      bare = λ g none ne.
-          let was : references v g ≡ 0 = o.bare g (λ k known. elim known as (λ _. ⊥) [
-            | inl table ↦ none k (inl table)
-            | inr other ↦ elim (cases_eq k n) [
-              | inl same ↦
-                  let is : Some x ≡ Some other.0 = sym leaf ∙ ap (get t.leaves) (sym same) ∙ other.1 in
-                  let word : x ≡ other.0 = cc in
-                  ne (ap Some (one_frame f g (sym names ∙ ap ppn word ∙ other.2)))
-              | inr differ ↦ none k (inr (other.0, remove_other t.leaves n k differ ∙ other.1, other.2))
-            ]
-          ]) (λ is. absurd (cc)) in
-          same_references v w g (c.apart g (λ k table. none k (inl table))) ∙ was;
-      writable = λ g m y at is writes.
-          let was = left t n m y at in
-          same_sole v w g (c.apart g (no_table v t root None h o m y g was.0 is)) (o.writable g m y was.0 is writes);
-    }
+    -- one reference more of its frame is beside the others
+    module _ (after : ℕ → ℕ) (moves : (g : ℕ) → after g ≡ extra g + one_of f g) where
+      f_count : references w f ≡ after f
+      f_count =
+          let was = same_count f n (inr (x, leaf, names)) in
+          let one = o.named f n (inr (x, leaf, names)) in
+          let here = one_here f f refl in
+          let m = moves f in
+          omega (arith, was, one, here, m)
 
-    -- and then its frame
-    module _ (after : View) (is : after ≡ released f w) where
-      once_held : references w f ≡ 1
-      once_held = (leaf_goes.ready f refl).0
+      other_after : (g : ℕ) → (g ≡ f → ⊥) → after g ≡ extra g
+      other_after g apart = let none = one_else f g apart in let m = moves g in omega (arith, none, m)
 
-      away : (g : ℕ) → (g ≡ f → ⊥) → hold_of after g ≡ hold_of w g
-      away g apart = ap (λ u. hold_of u g) is ∙ released_other f g w once_held apart
+      pub leaf_goes : Owns w (without_leaf t n) after
+      leaf_goes = record {
+        once = λ g j k first second. o.once g j k (named_before t n g j first) (named_before t n g k second);
+        named = λ g k known.
+            let was = named_before t n g k known in
+            let count = same_count g k was in
+            let one = o.named g k was in
+            let more = other_after g (λ same. no_name k (subst (λ y. Names (without_leaf t n) y k) same known)) in
+            omega (arith, count, one, more);
+        bare = λ g none. elim (cases_eq g f) [
+          | inl same ↦ rw same f_count
+          | inr apart ↦
+              let was : references v g ≡ extra g = o.bare g (λ k known. elim known as (λ _. ⊥) [
+                | inl table ↦ none k (inl table)
+                | inr other ↦ elim (cases_eq k n) [
+                  | inl same ↦
+                      let is : Some x ≡ Some other.0 = sym leaf ∙ ap (get t.leaves) (sym same) ∙ other.1 in
+                      let word : x ≡ other.0 = cc in
+                      apart (sym (one_frame f g (sym names ∙ ap ppn word ∙ other.2)))
+                  | inr differ ↦ none k (inr (other.0, remove_other t.leaves n k differ ∙ other.1, other.2))
+                ]
+              ]) in
+              same_references v w g (c.apart g (λ k table. none k (inl table))) ∙ was ∙ sym (other_after g apart)
+        ];
+        writable = λ g m y at is writes.
+            let was = left t n m y at in
+            same_sole v w g (c.apart g (no_table v t root extra h o m y g was.0 is)) (o.writable g m y was.0 is writes);
+      }
 
-      frame_goes : Owns after (without_leaf t n) None
-      frame_goes = spare_goes w (without_leaf t n) after f (ap (λ u. references u f) is ∙ released_here f w once_held) away leaf_goes
+-- and then its frame
+module _ (v w : View) (root : ℕ) (t : Tables) (n x f : ℕ) (h : HasTables v root t) (o : Owns v t nothing) (leaf : get t.leaves n ≡ Some x) (names : ppn x ≡ ppn_of f)
+    (c : ChangesTables v w t t 0) where
+  pub unmapped : Owns w (without_leaf t n) (one_of f)
+  unmapped = leaf_goes v root t n x f h nothing o leaf names w c (one_of f) (λ g. omega arith)
 
-      tables_left : HasTables w root (without_leaf t n) → HasTables after root (without_leaf t n)
-      tables_left has = same_tables w after root (without_leaf t n) (λ k g at. away g (λ same. no_name k (inl (at ∙ ap Some same)))) has
+  nameless : (k : ℕ) → Names (without_leaf t n) f k → ⊥
+  nameless = no_name v root t n x f h nothing o leaf names
 
-      others_left : (m y g : ℕ) → get (without_leaf t n).leaves m ≡ Some y → ppn y ≡ ppn_of g → hold_of after g ≡ hold_of v g
-      others_left m y g at is_g =
-          let was = left t n m y at in
-          away g (λ same. no_name m (inr (y, at, is_g ∙ ap ppn_of same))) ∙ c.apart g (no_table v t root None h o m y g was.0 is_g)
+  pub once_held : references w f ≡ 1
+  once_held = unmapped.bare f nameless ∙ one_here f f refl
+
+  module _ (after : View) (is : after ≡ released f w) where
+    away : (g : ℕ) → (g ≡ f → ⊥) → hold_of after g ≡ hold_of w g
+    away g apart = ap (λ u. hold_of u g) is ∙ released_other f g w once_held apart
+
+    frame_goes : Owns after (without_leaf t n) nothing
+    frame_goes =
+        let goes = spare_goes w after (without_leaf t n) f once_held (ap (λ u. references u f) is ∙ released_here f w once_held) away nameless in
+        recounted_owns w after (without_leaf t n) (one_of f) nothing goes unmapped
+
+    tables_left : HasTables w root (without_leaf t n) → HasTables after root (without_leaf t n)
+    tables_left has = same_tables w after root (without_leaf t n) (λ k g at. away g (λ same. nameless k (inl (at ∙ ap Some same)))) has
+
+    others_left : (m y g : ℕ) → get (without_leaf t n).leaves m ≡ Some y → ppn y ≡ ppn_of g → hold_of after g ≡ hold_of v g
+    others_left m y g at is_g =
+        let was = left t n m y at in
+        away g (λ same. nameless m (inr (y, at, is_g ∙ ap ppn_of same))) ∙ c.apart g (no_table v t root nothing h o m y g was.0 is_g)
 
 -- tallies that no call changes
 
@@ -131,30 +152,28 @@ released_takes f v one = takes_none v (released f v) (ap (λ (u : View). u.talli
 
 -- a page is unmapped, and its frame let go
 module _ (v w : View) (root : ℕ) (t : Tables) (page x f : ℕ) (d : CanDrop v root t page) (leaf : get t.leaves (leaf_node page) ≡ Some x) (names : ppn x ≡ ppn_of f) (c : ChangesTables v w t t 0) where
-  unmapped : Owns w (without_leaf t (leaf_node page)) (Some f)
-  unmapped = leaf_goes v root t (leaf_node page) x f d.tables d.owns leaf names w c
+  once_yet : references w f ≡ 1
+  once_yet = once_held v w root t (leaf_node page) x f d.tables d.owns leaf names c
 
   pub held_yet : IsHeld w f
-  held_yet = let one = (unmapped.ready f refl).0 in omega (arith, one)
+  held_yet = let one = once_yet in omega (arith, one)
 
   anchor : Names (without_leaf t (leaf_node page)) 0 (leaf_node trampoline_page)
   anchor = inr (d.anchor.0, remove_other t.leaves (leaf_node page) (leaf_node trampoline_page) (λ same. d.apart (sym same)) ∙ d.anchor.1, d.anchor.2)
 
   pub anchored_yet : IsAnchored (released f w)
   anchored_yet g held =
-      let one = (unmapped.ready f refl).0 in
-      let apart = λ (same : 0 ≡ f). (unmapped.ready f refl).1 (leaf_node trampoline_page) (subst (λ (y : ℕ). Names (without_leaf t (leaf_node page)) y (leaf_node trampoline_page)) same anchor) in
-      let still = same_references w (released f w) 0 (released_other f 0 w one apart) ∙ unmapped.named 0 (leaf_node trampoline_page) anchor in
-      omega (arith, still)
+      named_held (released f w) (without_leaf t (leaf_node page)) nothing (frame_goes v w root t (leaf_node page) x f d.tables d.owns leaf names c (released f w) refl)
+      0 (leaf_node trampoline_page) anchor
 
   pub drops_leaf : (after : View) → HasTables w root (without_leaf t (leaf_node page)) → after ≡ released f w → DropsLeaf v after root t page
   drops_leaf after has is =
-      let one = (unmapped.ready f refl).0 in
+      let one = once_yet in
       let credits = c.credits in
       record {
-        tables = tables_left v root t (leaf_node page) x f d.tables d.owns leaf names w c after is has;
-        owns = frame_goes v root t (leaf_node page) x f d.tables d.owns leaf names w c after is;
-        others = others_left v root t (leaf_node page) x f d.tables d.owns leaf names w c after is;
+        tables = tables_left v w root t (leaf_node page) x f d.tables d.owns leaf names c after is has;
+        owns = frame_goes v w root t (leaf_node page) x f d.tables d.owns leaf names c after is;
+        others = others_left v w root t (leaf_node page) x f d.tables d.owns leaf names c after is;
         credits = ap (λ (u : View). u.credits) is ∙ released_credits f w one ∙ omega (arith, credits);
         takes = takes_then v w after (changes_take v w t t c) (subst (λ u. Takes w u 0 []) (sym is) (released_takes f w one));
       }

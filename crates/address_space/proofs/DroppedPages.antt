@@ -17,7 +17,7 @@ use Rattle.table_walk.specs.Tables.{Tables, leaf_node, without_leaf}
 use Rattle.table_walk.specs.Keys.{remove_same, remove_other}
 use Rattle.table_walk.specs.Nodes.{leaf_node_is}
 use Rattle.table_walk.specs.Places.{IsBare}
-use Rattle.address_space.specs.Agreement.{body, IsSpace, IsLeafNumber, IsOn, Shows, Stands}
+use Rattle.address_space.specs.Agreement.{body, IsSpace, IsLeafNumber, IsOn, nothing, Shows, Stands}
 use Rattle.address_space.specs.Ending.{AreUnmapped, CanDrop, Drops, DropsLeaf, IsFirstMapped}
 use Rattle.address_space.specs.Layouts.{Layout}
 use Rattle.address_space.proofs.Sound.{sound_fewer}
@@ -261,7 +261,7 @@ some_leaf : (o : Option ℕ) → IsSome o → (w : ℕ) × (o ≡ Some w)
 some_leaf None some = absurd (cc)
 some_leaf (Some w) some = (w, refl)
 
-may_drop : (v : View) (root trapframe : ℕ) (u : Tables) (q : Process) → Stands v root trapframe None u q → (page : ℕ) → page < trapframe_page
+may_drop : (v : View) (root trapframe : ℕ) (u : Tables) (q : Process) → Stands v root trapframe nothing u q → (page : ℕ) → page < trapframe_page
     → IsSome (get u.leaves (leaf_node page)) → CanDrop v root u page
 may_drop v root trapframe u q s page low some =
     let leaf = some_leaf (get u.leaves (leaf_node page)) some in

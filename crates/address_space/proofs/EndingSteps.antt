@@ -1,5 +1,5 @@
 -- A space that ends, once its pages are gone: TRAPFRAME's leaf goes, then TRAMPOLINE's, then the tables, and last frame 0.
-use Rattle.std.proofs.Common.{◌≡◌, ℕ, ◌^◌, ◌<◌, ◌⊎◌, None, Some, refl, ap, sym, subst, ◌∙◌, inl, inr, arith}
+use Rattle.std.proofs.Common.{◌≡◌, ℕ, ◌+◌, ◌^◌, ◌<◌, ◌⊎◌, None, Some, refl, ap, sym, subst, ◌∙◌, inl, inr, arith}
 use Rattle.std.specs.Prelude.{[]}
 use Rattle.std.proofs.lemmas.Bool.{cases_eq}
 use Rattle.std.specs.FinMap.{get}
@@ -13,13 +13,13 @@ use Rattle.sv39_entry.specs.Word.{ppn}
 use Rattle.table_walk.specs.Tables.{ChangesTables, Tables, leaf_node, without_leaf}
 use Rattle.table_walk.specs.Keys.{is_none, remove_other}
 use Rattle.table_walk.specs.Released.{AreLast, SameTallies}
-use Rattle.address_space.specs.Agreement.{body, IsSpace, Names, Owns}
+use Rattle.address_space.specs.Agreement.{body, IsSpace, Names, nothing, one_of, Owns}
 use Rattle.address_space.specs.Ending.{DropsLeaf, IsEmptied}
 use Rattle.address_space.specs.Layouts.{Layout}
 use Rattle.address_space.specs.Steps.{IsBare, Takes}
-use Rattle.address_space.proofs.DroppedLeaf.{changes_take, leaf_goes, left, released_credits, released_takes, takes_none, takes_then}
+use Rattle.address_space.proofs.DroppedLeaf.{changes_take, left, no_name, once_held, released_credits, released_takes, takes_none, takes_then, unmapped}
 use Rattle.address_space.proofs.DroppedPages.{was_settled}
-use Rattle.address_space.proofs.Owned.{one_page, released_here, released_other, same_references}
+use Rattle.address_space.proofs.Owned.{one_else, one_page, released_here, released_other, same_references}
 
 -- no page is settled
 module _ (v : View) (root trapframe : ℕ) (l : Layout) (u : Tables) (p : Process) (a : IsSpace (body v root trapframe l) u (without_pages p 0 trapframe_page)) where
@@ -63,8 +63,14 @@ module _ (v w m : View) (root : ℕ) (t : Tables) (a : IsEmptied v root t) (d : 
       let on = a.trapframe.anchor in
       (on.0, remove_other t.leaves (leaf_node trapframe_page) (leaf_node trampoline_page) (λ same. a.trapframe.apart (sym same)) ∙ on.1, on.2)
 
-  zero_spare : Owns m (without_leaf (without_leaf t (leaf_node trapframe_page)) (leaf_node trampoline_page)) (Some 0)
-  zero_spare = leaf_goes w root (without_leaf t (leaf_node trapframe_page)) (leaf_node trampoline_page) last.0 0 d.tables d.owns last.1 last.2 m c
+  zero_spare : Owns m (without_leaf (without_leaf t (leaf_node trapframe_page)) (leaf_node trampoline_page)) (one_of 0)
+  zero_spare = unmapped w m root (without_leaf t (leaf_node trapframe_page)) (leaf_node trampoline_page) last.0 0 d.tables d.owns last.1 last.2 c
+
+  zero_free : (k : ℕ) → Names (without_leaf (without_leaf t (leaf_node trapframe_page)) (leaf_node trampoline_page)) 0 k → ⊥
+  zero_free = no_name w root (without_leaf t (leaf_node trapframe_page)) (leaf_node trampoline_page) last.0 0 d.tables nothing d.owns last.1 last.2
+
+  zero_one : references m 0 ≡ 1
+  zero_one = once_held w m root (without_leaf t (leaf_node trapframe_page)) (leaf_node trampoline_page) last.0 0 d.tables d.owns last.1 last.2 c
 
   none_left : (n : ℕ) → get (without_leaf (without_leaf t (leaf_node trapframe_page)) (leaf_node trampoline_page)).leaves n ≡ None
   none_left n = is_none _ (λ x leaf.
@@ -78,9 +84,9 @@ module _ (v w m : View) (root : ℕ) (t : Tables) (a : IsEmptied v root t) (d : 
   pub are_last : AreLast m (without_leaf (without_leaf t (leaf_node trapframe_page)) (leaf_node trampoline_page))
   are_last = record {
     bare = none_left;
-    once = λ k f table. zero_spare.named f k (inl table);
-    anchored = let one = (zero_spare.ready 0 refl).0 in omega (arith, one);
-    apart = λ k table. (zero_spare.ready 0 refl).1 k (inl table);
+    once = λ k f table. zero_spare.named f k (inl table) ∙ ap (λ n. 1 + n) (one_else 0 f (λ same. zero_free k (inl (table ∙ ap Some same))));
+    anchored = let one = zero_one in omega (arith, one);
+    apart = λ k table. zero_free k (inl table);
   }
 
   -- the tables are gone
@@ -89,7 +95,7 @@ module _ (v w m : View) (root : ℕ) (t : Tables) (a : IsEmptied v root t) (d : 
       (others : (f : ℕ) → ((k : ℕ) → get t.tables k ≡ Some f → ⊥) → hold_of e f ≡ hold_of m f)
       (tallies : SameTallies m e) where
     zero_once : references e 0 ≡ 1
-    zero_once = same_references m e 0 (others 0 are_last.apart) ∙ (zero_spare.ready 0 refl).0
+    zero_once = same_references m e 0 (others 0 are_last.apart) ∙ zero_one
 
     pub zero_held : IsHeld e 0
     zero_held = let one = zero_once in omega (arith, one)
@@ -100,21 +106,21 @@ module _ (v w m : View) (root : ℕ) (t : Tables) (a : IsEmptied v root t) (d : 
       | inl none ↦ none
       | inr some ↦
           let no_table : (k : ℕ) → get t.tables k ≡ Some f → ⊥ = λ k table. some (ap (λ (h : Hold). h.references) (gone k f table)) in
-          let no_name : (k : ℕ) → Names (without_leaf (without_leaf t (leaf_node trapframe_page)) (leaf_node trampoline_page)) f k → ⊥ = λ k named. elim named as (λ _. ⊥) [
+          let nameless : (k : ℕ) → Names (without_leaf (without_leaf t (leaf_node trapframe_page)) (leaf_node trampoline_page)) f k → ⊥ = λ k named. elim named as (λ _. ⊥) [
             | inl table ↦ no_table k table
             | inr leaf ↦ let none = none_left k in let there = leaf.1 in cc
           ] in
-          same_references m e f (others f no_table) ∙ zero_spare.bare f no_name (λ is. let same : 0 ≡ f = cc in apart (sym same))
+          same_references m e f (others f no_table) ∙ zero_spare.bare f nameless ∙ one_else 0 f apart
     ]
 
-    nothing : (f : ℕ) → references (released 0 e) f ≡ 0
-    nothing f = elim (cases_eq f 0) [
+    none_held : (f : ℕ) → references (released 0 e) f ≡ 0
+    none_held f = elim (cases_eq f 0) [
       | inl same ↦ ap (references (released 0 e)) same ∙ released_here 0 e zero_once
       | inr apart ↦ same_references e (released 0 e) f (released_other 0 f e zero_once apart) ∙ none_else f apart
     ]
 
     pub anchored_last : IsAnchored (released 0 e)
-    anchored_last f held = absurd (let none = nothing f in omega (arith, none, held))
+    anchored_last f held = absurd (let none = none_held f in omega (arith, none, held))
 
     pub is_bare : (end : View) → end ≡ released 0 e → IsBare end
     is_bare end is =
@@ -123,7 +129,7 @@ module _ (v w m : View) (root : ℕ) (t : Tables) (a : IsEmptied v root t) (d : 
         let before = d.credits in
         let none = a.credits in
         record {
-          none = λ f. ap (λ x. references x f) is ∙ nothing f;
+          none = λ f. ap (λ x. references x f) is ∙ none_held f;
           credits = ap (λ (x : View). x.credits) is ∙ released_credits 0 e zero_once ∙ omega (arith, spent, kept, before, none);
         }
 

@@ -1,5 +1,5 @@
 -- A page gets the stored mark: its leaf is turned to the frame that it names, with D set.
-use Rattle.std.proofs.Common.{◌≡◌, ℕ, Option, None, Some, Bool, true, false, not, ◌&&◌, ◌||◌, refl, ap, sym, subst, ◌∙◌, inl, inr, []}
+use Rattle.std.proofs.Common.{◌≡◌, ℕ, Option, Some, Bool, true, false, not, ◌&&◌, ◌||◌, refl, ap, sym, subst, ◌∙◌, inl, inr, []}
 use Rattle.std.proofs.lemmas.Option.{same_Some}
 use Rattle.std.specs.FinMap.{get}
 use Rattle.std.specs.Prelude.{option_and_then, option_map}
@@ -13,7 +13,7 @@ use Rattle.sv39_entry.specs.Word.{has_flag, ppn}
 use Rattle.sv39_entry.specs.declared.frame.FrameNo.{FrameNo}
 use Rattle.table_walk.specs.Tables.{HasTables, Tables, last_table, leaf_node, with_leaf}
 use Rattle.table_walk.specs.Keys.{insert_other, insert_same}
-use Rattle.address_space.specs.Agreement.{body, is_dirty_page, IsOn, IsPageLeaf, IsSpace}
+use Rattle.address_space.specs.Agreement.{body, is_dirty_page, IsOn, IsPageLeaf, IsSpace, nothing}
 use Rattle.address_space.specs.Layouts.{Layout}
 use Rattle.address_space.specs.Steps.{CanWrite, Marks}
 use Rattle.address_space.proofs.Owned.{no_table, one_frame}
@@ -29,7 +29,7 @@ all_dirty true b = refl
 
 module _ {v : View} {root trapframe : ℕ} {l : Layout} {t : Tables} {p : Process} {page : ℕ} {s : Page} (can : CanWrite (body v root trapframe l) t p page s) where
   pub found : (f : ℕ) × HasPage v t p page s f
-  found = page_here v root trapframe None t p page s can.read.agrees.stands can.read.settled
+  found = page_here v root trapframe nothing t p page s can.read.agrees.stands can.read.settled
 
   pub mark_some : (o : Option (FrameNo × Bool)) → o ≡ option_and_then (λ w. option_map (λ f. (f, has_flag w 128)) (frame_at (ppn w))) (get t.leaves (leaf_node page))
       → o ≡ Some (record { 0 = found.0 }, is_dirty_page found.1.region s)
@@ -70,15 +70,15 @@ module _ {v : View} {root trapframe : ℕ} {l : Layout} {t : Tables} {p : Proces
       pub marks : Marks v (body w root trapframe l) t (with_leaf t (leaf_node page) leaf) p page s
       marks =
           let space = can.read.agrees in
-          let changes = turned_words v w root trapframe None t p page s r found.0 leaf space.stands can.read.settled in_region tables word in
+          let changes = turned_words v w root trapframe nothing t p page s r found.0 leaf space.stands can.read.settled in_region tables word in
           record {
             agrees = record {
               sound = sound_page p page s marked can.read.settled space.sound;
               lays = lays_with l p page marked space.lays;
-              stands = turned_stands v w root trapframe None t p page s r found.0 leaf space.stands can.read.settled in_region tables word marked shown None
-                  (no_table v t root None space.stands.tables space.stands.owns (leaf_node page) here.leaf found.0 here.mapped here.made.names) here.bytes
+              stands = turned_stands v w root trapframe nothing t p page s r found.0 leaf space.stands can.read.settled in_region tables word marked shown nothing
+                  (no_table v t root nothing space.stands.tables space.stands.owns (leaf_node page) here.leaf found.0 here.mapped here.made.names) here.bytes
                   (owns_same v root t space.stands.tables page here.leaf leaf found.0 found.0 here.mapped here.made.names shown.names refl
-                  (page_sole v root trapframe l t p page s found.0 can here) space.stands.owns);
+                  (page_sole v root trapframe l t p page s found.0 can here) nothing space.stands.owns);
               credits = ap (λ (x : View). x.credits) changes.1.1 ∙ space.credits;
             };
             on = λ f on. (

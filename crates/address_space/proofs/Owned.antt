@@ -1,7 +1,6 @@
--- Frames that tables name, and a spare one.
-use Rattle.std.proofs.Common.{◌≡◌, ℕ, ◌<◌, ◌^◌, Option, None, Some, refl, ap, sym, subst, ◌∙◌, inl, inr, arith, cond, ◌-◌}
-use Rattle.std.proofs.lemmas.Bool.{cases_eq, eq-eqb}
-use Rattle.std.proofs.lemmas.Option.{same_Some}
+-- Frames that tables name, and references beside them.
+use Rattle.std.proofs.Common.{◌≡◌, ℕ, ◌<◌, ◌^◌, ◌+◌, Some, refl, ap, sym, subst, ◌∙◌, inl, inr, arith, cond, ◌-◌, Bool, if◌then◌else◌}
+use Rattle.std.proofs.lemmas.Bool.{cases_eq, eq-eqb, ne_eqb}
 use Rattle.std.specs.FinMap.{get}
 use Rattle.frame_bytes.specs.Contents.{HasBytes}
 use Rattle.frame_store.specs.Holds.{hold_of-with_hold_same, hold_of-with_hold_other, hold_of-without_hold_same, hold_of-without_hold_other, hold_of-frames}
@@ -11,8 +10,7 @@ use Rattle.sv39_entry.specs.Frame.{ppn_of}
 use Rattle.sv39_entry.specs.Word.{ppn}
 use Rattle.table_walk.specs.Tables.{HasTables, Tables, leaf_node}
 use Rattle.table_walk.specs.Nodes.{leaf_node_is}
-use Rattle.table_walk.specs.Same.{same_tables}
-use Rattle.address_space.specs.Agreement.{Names, Owns, Shows, Stands}
+use Rattle.address_space.specs.Agreement.{Names, nothing, one_of, Owns, Shows, Stands}
 
 -- numbers
 
@@ -40,8 +38,8 @@ same_bytes v w f bytes same has = record {
 }
 
 -- a frame with a reference is none without
-pub apart_by : (v : View) (f g : ℕ) → references v f ≡ 0 → references v g ≡ 1 → g ≡ f → ⊥
-apart_by v f g none one same = let no : references v g ≡ 0 = ap (references v) same ∙ none in omega (arith, no, one)
+pub apart_by : (v : View) (f g : ℕ) → references v f ≡ 0 → IsHeld v g → g ≡ f → ⊥
+apart_by v f g none held same = let no : references v g ≡ 0 = ap (references v) same ∙ none in omega (arith, no, held)
 
 -- a claimed frame, and all others
 pub claimed_here : (f : ℕ) (v : View) → hold_of (claimed f v) f ≡ sole_hold
@@ -62,100 +60,143 @@ released_here f v one = ap (λ w. references w f) (released_once f v one) ∙ ap
 pub released_other : (f g : ℕ) (v : View) → references v f ≡ 1 → (g ≡ f → ⊥) → hold_of (released f v) g ≡ hold_of v g
 released_other f g v one apart = ap (λ w. hold_of w g) (released_once f v one) ∙ hold_of-without_hold_other f v g apart
 
+-- references beside those of a space
+
+pub one_here : (f g : ℕ) → g ≡ f → one_of f g ≡ 1
+one_here f g same = ap (λ (b : Bool). if b then 1 else 0) (eq-eqb g f same)
+
+pub one_else : (f g : ℕ) → (g ≡ f → ⊥) → one_of f g ≡ 0
+one_else f g apart = ap (λ (b : Bool). if b then 1 else 0) (ne_eqb g f apart)
+
 -- what is owned
 
 module _ (v : View) (t : Tables) where
+  pub named_held : (extra : ℕ → ℕ) → Owns v t extra → (f k : ℕ) → Names t f k → IsHeld v f
+  named_held extra o f k names = omega (arith, o.named f k names)
+
   -- the frame of a leaf is no table
-  pub no_table : (root : ℕ) (spare : Option ℕ) → HasTables v root t → Owns v t spare → (n w f : ℕ) → get t.leaves n ≡ Some w → ppn w ≡ ppn_of f
+  pub no_table : (root : ℕ) (extra : ℕ → ℕ) → HasTables v root t → Owns v t extra → (n w f : ℕ) → get t.leaves n ≡ Some w → ppn w ≡ ppn_of f
       → (k : ℕ) → get t.tables k ≡ Some f → ⊥
-  no_table root spare h o n w f leaf names k table =
+  no_table root extra h o n w f leaf names k table =
       let same = o.once f k n (inl table) (inr (w, leaf, names)) in
       let low = (h.known.below k f table).1 in
       let high = (h.known.leaf_hung n w leaf).1 in
       omega (arith, same, low, high)
 
   -- a frame that is not held has no name
-  pub unnamed : (spare : Option ℕ) → Owns v t spare → (f : ℕ) → references v f ≡ 0 → (k : ℕ) → Names t f k → ⊥
-  unnamed spare o f none k names = let one = o.named f k names in omega (arith, one, none)
+  pub unnamed : (extra : ℕ → ℕ) → Owns v t extra → (f : ℕ) → references v f ≡ 0 → (k : ℕ) → Names t f k → ⊥
+  unnamed extra o f none k names = let one = o.named f k names in omega (arith, one, none)
 
-  module _ (w : View) where
-    pub same_owns : (spare : Option ℕ) → ((f : ℕ) → references w f ≡ references v f) → ((f : ℕ) → IsSole v f → IsSole w f) → Owns v t spare → Owns w t spare
-    same_owns spare counts soles o = record {
+-- The frames that tables name are to the seat what they were, and references that came or went are beside those of the space.
+pub record Recounts (v w : View) (t : Tables) (before after : ℕ → ℕ) : Type 0 where
+  pub counts : (f : ℕ) → references w f + before f ≡ references v f + after f
+  pub soles : (f k : ℕ) → Names t f k → IsSole v f → IsSole w f
+  pub words : (f k : ℕ) → Names t f k → (hold_of w f).words ≡ (hold_of v f).words
+
+module _ (v w : View) (t : Tables) where
+  -- one frame changes, which has no name
+  pub beside : (before after : ℕ → ℕ) (g : ℕ) → ((f : ℕ) → (f ≡ g → ⊥) → (hold_of w f ≡ hold_of v f) × (after f ≡ before f)) → ((k : ℕ) → Names t g k → ⊥)
+      → references w g + before g ≡ references v g + after g → Recounts v w t before after
+  beside before after g others free here =
+      let apart = λ (f k : ℕ) (names : Names t f k) (same : f ≡ g). free k (subst (λ x. Names t x k) same names) in
+      record {
+        counts = λ f. elim (cases_eq f g) [
+          | inl same ↦ rw same here
+          | inr ne ↦
+              let hold = others f ne in
+              let count = same_references v w f hold.0 in
+              omega (arith, count, hold.1)
+        ];
+        soles = λ f k names sole. same_sole v w f (others f (apart f k names)).0 sole;
+        words = λ f k names. ap (λ (h : Hold). h.words) (others f (apart f k names)).0;
+      }
+
+  -- a frame is held that was not, and one goes
+  pub spare_comes : (g : ℕ) → references v g ≡ 0 → references w g ≡ 1 → ((f : ℕ) → (f ≡ g → ⊥) → hold_of w f ≡ hold_of v f) → ((k : ℕ) → Names t g k → ⊥)
+      → Recounts v w t nothing (one_of g)
+  spare_comes g none one others free =
+      beside nothing (one_of g) g (λ f ne. (others f ne, one_else g f ne)) free (let here = one_here g g refl in omega (arith, none, one, here))
+
+  pub spare_goes : (g : ℕ) → references v g ≡ 1 → references w g ≡ 0 → ((f : ℕ) → (f ≡ g → ⊥) → hold_of w f ≡ hold_of v f) → ((k : ℕ) → Names t g k → ⊥)
+      → Recounts v w t (one_of g) nothing
+  spare_goes g one none others free =
+      beside (one_of g) nothing g (λ f ne. (others f ne, sym (one_else g f ne))) free (let here = one_here g g refl in omega (arith, none, one, here))
+
+  module _ (before after : ℕ → ℕ) (r : Recounts v w t before after) where
+    pub recounted_owns : Owns v t before → Owns w t after
+    recounted_owns o = record {
       once = o.once;
-      named = λ f k names. counts f ∙ o.named f k names;
-      ready = λ f is. (counts f ∙ (o.ready f is).0, (o.ready f is).1);
-      bare = λ f none ne. counts f ∙ o.bare f none ne;
-      writable = λ f n x leaf names writes. soles f (o.writable f n x leaf names writes);
+      named = λ f k names. let was = o.named f k names in let is = r.counts f in omega (arith, was, is);
+      bare = λ f none. let was = o.bare f none in let is = r.counts f in omega (arith, was, is);
+      writable = λ f n x leaf names writes. r.soles f n (inr (x, leaf, names)) (o.writable f n x leaf names writes);
     }
 
-    -- a frame is held that was not
-    pub spare_comes : (f : ℕ) → references v f ≡ 0 → references w f ≡ 1 → ((g : ℕ) → (g ≡ f → ⊥) → hold_of w g ≡ hold_of v g)
-        → Owns v t None → Owns w t (Some f)
-    spare_comes f none one others o =
-        let apart = λ (g k : ℕ) (names : Names t g k). apart_by v f g none (o.named g k names) in
-        record {
-          once = o.once;
-          named = λ g k names. same_references v w g (others g (apart g k names)) ∙ o.named g k names;
-          ready = λ g is. (ap (references w) (sym (same_Some f g is)) ∙ one, λ k names. unnamed None o f none k (subst (λ x. Names t x k) (sym (same_Some f g is)) names));
-          bare = λ g free ne.
-              same_references v w g (others g (λ same. ne (ap Some (sym same)))) ∙ o.bare g free (λ is. absurd (cc));
-          writable = λ g n x leaf names writes.
-              same_sole v w g (others g (apart g n (inr (x, leaf, names)))) (o.writable g n x leaf names writes);
-        }
-
-    -- and goes
-    pub spare_goes : (f : ℕ) → references w f ≡ 0 → ((g : ℕ) → (g ≡ f → ⊥) → hold_of w g ≡ hold_of v g) → Owns v t (Some f) → Owns w t None
-    spare_goes f none others o =
-        let apart = λ (g k : ℕ) (names : Names t g k) (same : g ≡ f). (o.ready f refl).1 k (subst (λ x. Names t x k) same names) in
-        record {
-          once = o.once;
-          named = λ g k names. same_references v w g (others g (apart g k names)) ∙ o.named g k names;
-          ready = λ g is. absurd (cc);
-          bare = λ g free ne. elim (cases_eq g f) [
-            | inl same ↦ ap (references w) same ∙ none
-            | inr differ ↦ same_references v w g (others g differ) ∙ o.bare g free (λ is. differ (sym (same_Some f g is)))
-          ];
-          writable = λ g n x leaf names writes.
-              same_sole v w g (others g (apart g n (inr (x, leaf, names)))) (o.writable g n x leaf names writes);
-        }
-
--- what is shown
-
--- the frames of the leaves have the same holds
-pub same_shows : (v w : View) (trapframe : ℕ) (t : Tables) (p : Process)
-    → ((n x f : ℕ) → get t.leaves n ≡ Some x → ppn x ≡ ppn_of f → hold_of w f ≡ hold_of v f) → Shows v trapframe t p → Shows w trapframe t p
-same_shows v w trapframe t p same s = record {
-  on_trampoline = s.on_trampoline;
-  on_trapframe = s.on_trapframe;
-  settled = λ n page at.
-      let shown = s.settled n page at in
-      record {
-        region = shown.region;
-        frame = shown.frame;
-        leaf = shown.leaf;
-        in_region = shown.in_region;
-        mapped = shown.mapped;
-        made = shown.made;
-        bytes = same_bytes v w shown.frame page.bytes (same _ _ shown.frame shown.mapped shown.made.names) shown.bytes;
+    recounted_tables : (root : ℕ) → Owns v t before → HasTables v root t → HasTables w root t
+    recounted_tables root o has = record {
+      known = record {
+        rooted = has.known.rooted;
+        words = λ k f i at low. ap (λ m. get m i) (r.words f k (inl at)) ∙ has.known.words k f i at low;
+        apart = has.known.apart;
+        below = has.known.below;
+        hung = has.known.hung;
+        leaf_hung = has.known.leaf_hung;
       };
-  only = s.only;
-  low = s.low;
-}
+      own = λ k f at. (named_held w t after (recounted_owns o) f k (inl at), r.soles f k (inl at) (has.own k f at).1);
+    }
+
+    recounted_shows : (trapframe : ℕ) (p : Process) → Shows v trapframe t p → Shows w trapframe t p
+    recounted_shows trapframe p s = record {
+      on_trampoline = s.on_trampoline;
+      on_trapframe = s.on_trapframe;
+      settled = λ n page at.
+          let shown = s.settled n page at in
+          record {
+            region = shown.region;
+            frame = shown.frame;
+            leaf = shown.leaf;
+            in_region = shown.in_region;
+            mapped = shown.mapped;
+            made = shown.made;
+            bytes = record {
+              length = shown.bytes.length;
+              small = shown.bytes.small;
+              words = λ i low. ap (λ m. get m i) (r.words shown.frame (leaf_node n) (inr (shown.leaf, shown.mapped, shown.made.names))) ∙ shown.bytes.words i low;
+            };
+          };
+      only = s.only;
+      low = s.low;
+    }
+
+    pub recounted_stands : (root trapframe : ℕ) (p : Process) → Stands v root trapframe before t p → Stands w root trapframe after t p
+    recounted_stands root trapframe p s = record {
+      tables = recounted_tables root s.owns s.tables;
+      owns = recounted_owns s.owns;
+      shows = recounted_shows trapframe p s.shows;
+      tabled = s.tabled;
+      tabled_low = s.tabled_low;
+    }
+
+  pub same_owns : (extra : ℕ → ℕ) → ((f : ℕ) → references w f ≡ references v f) → ((f : ℕ) → IsSole v f → IsSole w f) → Owns v t extra → Owns w t extra
+  same_owns extra counts soles o = record {
+    once = o.once;
+    named = λ f k names. counts f ∙ o.named f k names;
+    bare = λ f none. counts f ∙ o.bare f none;
+    writable = λ f n x leaf names writes. soles f (o.writable f n x leaf names writes);
+  }
 
 -- all holds are the same
-pub same_stands : (v w : View) (root trapframe : ℕ) (spare : Option ℕ) (t : Tables) (p : Process) → ((f : ℕ) → hold_of w f ≡ hold_of v f)
-    → Stands v root trapframe spare t p → Stands w root trapframe spare t p
-same_stands v w root trapframe spare t p same s = record {
-  tables = same_tables v w root t (λ k f at. same f) s.tables;
-  owns = same_owns v t w spare (λ f. same_references v w f (same f)) (λ f. same_sole v w f (same f)) s.owns;
-  shows = same_shows v w trapframe t p (λ n x f leaf names. same f) s.shows;
-  tabled = s.tabled;
-  tabled_low = s.tabled_low;
-}
+pub same_stands : (v w : View) (root trapframe : ℕ) (extra : ℕ → ℕ) (t : Tables) (p : Process) → ((f : ℕ) → hold_of w f ≡ hold_of v f)
+    → Stands v root trapframe extra t p → Stands w root trapframe extra t p
+same_stands v w root trapframe extra t p same s =
+    let recounts : Recounts v w t extra extra = record {
+      counts = λ f. ap (λ (h : Hold). h.references + extra f) (same f);
+      soles = λ f k names. same_sole v w f (same f);
+      words = λ f k names. ap (λ (h : Hold). h.words) (same f);
+    } in
+    recounted_stands v w t extra extra recounts root trapframe p s
 
 -- frame 0 is held
-pub anchored : (v : View) (root trapframe : ℕ) (spare : Option ℕ) (t : Tables) (p : Process) → Stands v root trapframe spare t p → IsHeld v 0
-anchored v root trapframe spare t p s =
+pub anchored : (v : View) (root trapframe : ℕ) (extra : ℕ → ℕ) (t : Tables) (p : Process) → Stands v root trapframe extra t p → IsHeld v 0
+anchored v root trapframe extra t p s =
     let leaf = s.shows.on_trampoline in
-    let one = s.owns.named 0 _ (inr (leaf.0, leaf.1, leaf.2.names)) in
-    omega (arith, one)
+    named_held v t extra s.owns 0 _ (inr (leaf.0, leaf.1, leaf.2.names))

@@ -1,5 +1,5 @@
--- The leaf of a page is turned to a frame that the seat has alone: the one that it names, or a spare one.
-use Rattle.std.proofs.Common.{◌≡◌, ℕ, Option, None, Some, Bool, false, refl, ap, sym, subst, ◌∙◌, inl, inr, arith}
+-- The leaf of a page is turned to a frame that the seat has alone: the one that it names, or one that has no name yet.
+use Rattle.std.proofs.Common.{◌≡◌, ℕ, ◌+◌, Some, refl, ap, sym, subst, ◌∙◌, inl, inr, arith}
 use Rattle.std.proofs.lemmas.Bool.{cases_eq}
 use Rattle.std.proofs.lemmas.Option.{same_Some}
 use Rattle.std.specs.FinMap.{get, insert}
@@ -16,8 +16,8 @@ use Rattle.table_walk.specs.Tables.{HasTables, Tables, last_table, leaf_node, wi
 use Rattle.table_walk.specs.Keys.{insert_other, insert_same}
 use Rattle.table_walk.specs.Nodes.{above, leaf_number}
 use Rattle.table_walk.specs.Walk.{top_level}
-use Rattle.address_space.specs.Agreement.{is_dirty_page, IsPageLeaf, Names, Owns, Stands}
-use Rattle.address_space.proofs.Owned.{no_table, one_frame, same_bytes, same_owns}
+use Rattle.address_space.specs.Agreement.{is_dirty_page, IsPageLeaf, Names, one_of, Owns, Stands}
+use Rattle.address_space.proofs.Owned.{no_table, one_else, one_frame, one_here, same_bytes, same_owns}
 use Rattle.address_space.proofs.Writing.{page_stands, words_other, words_references, words_sole}
 
 -- what is named
@@ -72,60 +72,96 @@ module _ (v : View) (root : ℕ) (t : Tables) (h : HasTables v root t) (page old
       | inr ne ↦ stayed x k ne name
     ]
 
-    pub owns_same : IsSole v g → Owns v t None → Owns v (with_leaf t (leaf_node page) leaf) None
-    owns_same sole o = record {
+    pub owns_same : IsSole v g → (extra : ℕ → ℕ) → Owns v t extra → Owns v (with_leaf t (leaf_node page) leaf) extra
+    owns_same sole extra o = record {
       once = λ x j k a b. o.once x j k (back x j a) (back x k b);
       named = λ x k name. o.named x k (back x k name);
-      ready = λ x is. absurd (cc);
-      bare = λ x none ne. o.bare x (λ k name. none k (on x k name)) ne;
+      bare = λ x none. o.bare x (λ k name. none k (on x k name));
       writable = λ x k y at name writes.
           written x k y (λ is. subst (IsSole v) (sym (named_here x k is (inr (y, at, name)))) sole) (λ ne was. o.writable x k y was name writes) at;
     }
 
-  -- the spare frame takes the place of the one that was named
-  module _ (o : Owns v t (Some g)) where
-    unready : (k : ℕ) → Names t g k → ⊥
-    unready k name = (o.ready g refl).1 k name
+  -- a frame without a name takes the place of the one that was named
+  module _ (extra after : ℕ → ℕ) (o : Owns v t extra) (free : (k : ℕ) → Names t g k → ⊥) (moves : (x : ℕ) → after x + one_of g x ≡ extra x + one_of f x) where
+    was_named : Names t f (leaf_node page)
+    was_named = before (leaf_node page) refl
+
+    differ : g ≡ f → ⊥
+    differ same = free (leaf_node page) (subst (λ y. Names t y (leaf_node page)) (sym same) was_named)
+
+    other_moves : (x : ℕ) → (x ≡ g → ⊥) → (x ≡ f → ⊥) → after x ≡ extra x
+    other_moves x here there =
+        let a = one_else g x here in
+        let b = one_else f x there in
+        let m = moves x in
+        omega (arith, a, b, m)
+
+    free_named : (x k : ℕ) → Names t x k → x ≡ g → ⊥
+    free_named x k name same = free k (subst (λ y. Names t y k) same name)
 
     once : (x j k : ℕ) → Names (with_leaf t (leaf_node page) leaf) x j → Names (with_leaf t (leaf_node page) leaf) x k → j ≡ k
     once x j k a b = elim (cases_eq j (leaf_node page)) [
       | inl first ↦ elim (cases_eq k (leaf_node page)) [
         | inl second ↦ first ∙ sym second
-        | inr ne ↦ absurd (unready k (subst (λ y. Names t y k) (named_here x j first a) (stayed x k ne b)))
+        | inr ne ↦ absurd (free k (subst (λ y. Names t y k) (named_here x j first a) (stayed x k ne b)))
       ]
       | inr apart ↦ elim (cases_eq k (leaf_node page)) [
-        | inl second ↦ absurd (unready j (subst (λ y. Names t y j) (named_here x k second b) (stayed x j apart a)))
+        | inl second ↦ absurd (free j (subst (λ y. Names t y j) (named_here x k second b) (stayed x j apart a)))
         | inr ne ↦ o.once x j k (stayed x j apart a) (stayed x k ne b)
       ]
     ]
 
-    named : (x k : ℕ) → Names (with_leaf t (leaf_node page) leaf) x k → references v x ≡ 1
+    here_count : references v g ≡ 1 + after g
+    here_count =
+        let was = o.bare g free in
+        let one = one_here g g refl in
+        let none = one_else f g differ in
+        let m = moves g in
+        omega (arith, was, one, none, m)
+
+    stayed_count : (x k : ℕ) → (k ≡ leaf_node page → ⊥) → Names t x k → references v x ≡ 1 + after x
+    stayed_count x k ne name =
+        let same = other_moves x (free_named x k name) (λ is. ne (o.once f k (leaf_node page) (subst (λ y. Names t y k) is name) was_named)) in
+        let was = o.named x k name in
+        omega (arith, same, was)
+
+    named : (x k : ℕ) → Names (with_leaf t (leaf_node page) leaf) x k → references v x ≡ 1 + after x
     named x k name = elim (cases_eq k (leaf_node page)) [
-      | inl at ↦ ap (references v) (named_here x k at name) ∙ (o.ready g refl).0
-      | inr ne ↦ o.named x k (stayed x k ne name)
+      | inl at ↦ rw (named_here x k at name) here_count
+      | inr ne ↦ stayed_count x k ne (stayed x k ne name)
     ]
 
-    nameless : (k : ℕ) → Names (with_leaf t (leaf_node page) leaf) f k → ⊥
+    pub nameless : (k : ℕ) → Names (with_leaf t (leaf_node page) leaf) f k → ⊥
     nameless k name = elim (cases_eq k (leaf_node page)) [
-      | inl at ↦ unready k (subst (λ y. Names t y k) (named_here f k at name) (before k at))
-      | inr ne ↦ ne (o.once f k (leaf_node page) (stayed f k ne name) (before (leaf_node page) refl))
+      | inl at ↦ differ (sym (named_here f k at name))
+      | inr ne ↦ ne (o.once f k (leaf_node page) (stayed f k ne name) was_named)
     ]
 
-    bare : (x : ℕ) → ((k : ℕ) → Names (with_leaf t (leaf_node page) leaf) x k → ⊥) → (Some f ≡ Some x → ⊥) → references v x ≡ 0
-    bare x none ne = o.bare x
-        (λ k name. elim (cases_eq k (leaf_node page)) [
-          | inl at ↦ ne (ap Some (sym (was_here x k at name)))
-          | inr apart ↦ none k (stays x k apart name)
-        ])
-        (λ is. none (leaf_node page) (subst (λ y. Names (with_leaf t (leaf_node page) leaf) y (leaf_node page)) (same_Some g x is) (here (leaf_node page) refl)))
+    left_count : references v f ≡ after f
+    left_count =
+        let was = o.named f (leaf_node page) was_named in
+        let one = one_here f f refl in
+        let none = one_else g f (λ same. differ (sym same)) in
+        let m = moves f in
+        omega (arith, was, one, none, m)
 
-    pub owns_other : IsSole v g → Owns v (with_leaf t (leaf_node page) leaf) (Some f)
+    bare : (x : ℕ) → ((k : ℕ) → Names (with_leaf t (leaf_node page) leaf) x k → ⊥) → references v x ≡ after x
+    bare x none = elim (cases_eq x f) [
+      | inl same ↦ rw same left_count
+      | inr ne ↦
+          let other : x ≡ g → ⊥ = λ is. none (leaf_node page) (subst (λ y. Names (with_leaf t (leaf_node page) leaf) y (leaf_node page)) (sym is) (here (leaf_node page) refl)) in
+          let same = other_moves x other ne in
+          let was = o.bare x (λ k name. elim (cases_eq k (leaf_node page)) [
+            | inl at ↦ ne (was_here x k at name)
+            | inr apart ↦ none k (stays x k apart name)
+          ]) in
+          omega (arith, same, was)
+    ]
+
+    pub owns_other : IsSole v g → Owns v (with_leaf t (leaf_node page) leaf) after
     owns_other sole = record {
       once = once;
       named = named;
-      ready = λ x is.
-          let same = same_Some f x is in
-          (ap (references v) (sym same) ∙ o.named f (leaf_node page) (before (leaf_node page) refl), λ k name. nameless k (subst (λ y. Names (with_leaf t (leaf_node page) leaf) y k) (sym same) name));
       bare = bare;
       writable = λ x k y at name writes.
           written x k y (λ is. subst (IsSole v) (sym (named_here x k is (inr (y, at, name)))) sole) (λ ne was. o.writable x k y was name writes) at;
@@ -133,8 +169,8 @@ module _ (v : View) (root : ℕ) (t : Tables) (h : HasTables v root t) (page old
 
 -- the leaf is put in the place of the one that was there
 
-module _ (v w : View) (root trapframe : ℕ) (spare : Option ℕ) (t : Tables) (p : Process) (page : ℕ) (s : Page) (r : Region) (g leaf : ℕ)
-    (stands : Stands v root trapframe spare t p) (settled : pages.get p.settled page ≡ Some s) (in_region : region_at (regions p) page ≡ Some r)
+module _ (v w : View) (root trapframe : ℕ) (extra : ℕ → ℕ) (t : Tables) (p : Process) (page : ℕ) (s : Page) (r : Region) (g leaf : ℕ)
+    (stands : Stands v root trapframe extra t p) (settled : pages.get p.settled page ≡ Some s) (in_region : region_at (regions p) page ≡ Some r)
     (tables : HasTables w root (with_leaf t (leaf_node page) leaf))
     (word : (x : ℕ) → get t.tables (last_table page) ≡ Some x → w ≡ with_word x (vpn page 0) leaf v) where
   table : (x : ℕ) × (get t.tables (last_table page) ≡ Some x)
@@ -158,14 +194,14 @@ module _ (v w : View) (root trapframe : ℕ) (spare : Option ℕ) (t : Tables) (
       words_other y.0 v w (_, word y.0 y.1) x (λ same. apart (last_table page) (y.1 ∙ ap Some (sym same)))
 
   -- another page in the place of the settled one
-  pub turned_stands : (n : Page) → IsPageLeaf leaf g r n.fork_mark (is_dirty_page r n) → (after : Option ℕ) → ((k : ℕ) → get t.tables k ≡ Some g → ⊥) → HasBytes v g n.bytes
+  pub turned_stands : (n : Page) → IsPageLeaf leaf g r n.fork_mark (is_dirty_page r n) → (after : ℕ → ℕ) → ((k : ℕ) → get t.tables k ≡ Some g → ⊥) → HasBytes v g n.bytes
       → Owns v (with_leaf t (leaf_node page) leaf) after → Stands w root trapframe after (with_leaf t (leaf_node page) leaf) (with_page p page n)
   turned_stands n made after apart bytes owns =
       page_stands v w trapframe t (with_leaf t (leaf_node page) leaf) p page n leaf g r
       (stands.shows.low page s settled) (λ k ne. insert_other t.leaves (leaf_node page) leaf k ne)
       (insert_same t.leaves (leaf_node page) leaf (leaf_node page) refl) made in_region
       (same_bytes v w g n.bytes (turned_other g apart) bytes)
-      (λ k x f ne at names. turned_other f (no_table v t root spare stands.tables stands.owns k x f at names))
-      root spare after stands tables
-      (same_owns v (with_leaf t (leaf_node page) leaf) w after turned_references turned_sole owns)
+      (λ k x f ne at names. turned_other f (no_table v t root extra stands.tables stands.owns k x f at names))
+      root extra after stands tables
+      (same_owns v w (with_leaf t (leaf_node page) leaf) after turned_references turned_sole owns)
       stands.tabled

@@ -1,5 +1,5 @@
 -- A count is read, and by it a page becomes the process's own: in place, or on another frame.
-use Rattle.std.proofs.Common.{◌≡◌, ℕ, ◌+◌, ◌-◌, ◌<◌, ◌≤◌, ◌==◌, not, ◌&&◌, ◌||◌, cond, if◌then◌else◌, Option, None, Some, Bool, true, false, refl, ap, sym, subst, ◌∙◌, inl, inr, arith, ◌∷◌, [], ◌≢◌}
+use Rattle.std.proofs.Common.{◌≡◌, ℕ, ◌+◌, ◌-◌, ◌<◌, ◌≤◌, ◌==◌, not, ◌&&◌, ◌||◌, cond, if◌then◌else◌, Option, Some, Bool, true, false, refl, ap, sym, subst, ◌∙◌, inl, inr, arith, ◌∷◌, [], ◌≢◌}
 use Rattle.std.proofs.lemmas.Bool.{cases_eq, eq-eqb, ne_eqb}
 use Rattle.std.proofs.lemmas.Option.{same_Some}
 use Rattle.std.specs.FinMap.{get}
@@ -20,12 +20,12 @@ use Rattle.sv39_entry.specs.Word.{has_flag, ppn}
 use Rattle.sv39_entry.specs.declared.frame.FrameNo.{FrameNo}
 use Rattle.table_walk.specs.Tables.{HasTables, Tables, last_table, leaf_node, with_leaf}
 use Rattle.table_walk.specs.Keys.{insert_other, insert_same}
-use Rattle.address_space.specs.Agreement.{body, IsSpace, is_dirty_page, IsPageLeaf, Stands}
+use Rattle.address_space.specs.Agreement.{body, IsSpace, is_dirty_page, IsPageLeaf, nothing, Stands}
 use Rattle.address_space.specs.Layouts.{Layout}
 use Rattle.address_space.specs.Separating.{CanSeparate, Separates}
 use Rattle.address_space.specs.Steps.{CanOwn, Owned, Spends, Takes, RunsDry}
 use Rattle.address_space.proofs.Sound.{leafy_at, sound_page}
-use Rattle.address_space.proofs.Owned.{no_table, same_owns}
+use Rattle.address_space.proofs.Owned.{no_table, Recounts, recounted_stands}
 use Rattle.address_space.proofs.Owning.{owns_same, turned_sole, turned_stands, turned_words}
 use Rattle.address_space.proofs.OwningSteps.{parting_page, words_spend}
 use Rattle.address_space.proofs.Writing.{HasPage, lays_with, page_found}
@@ -125,43 +125,14 @@ module _ (v w : View) (like : IsLike v w) where
   like_bytes : (f : ℕ) (bytes : _) → HasBytes v f bytes → HasBytes w f bytes
   like_bytes f bytes has = record { length = has.length; small = has.small; words = λ i low. ap (λ m. get m i) (like.words f) ∙ has.words i low }
 
-  like_tables : (root : ℕ) (t : Tables) → HasTables v root t → HasTables w root t
-  like_tables root t has = record {
-    known = record {
-      rooted = has.known.rooted;
-      words = λ k f i at low. ap (λ m. get m i) (like.words f) ∙ has.known.words k f i at low;
-      apart = has.known.apart;
-      below = has.known.below;
-      hung = has.known.hung;
-      leaf_hung = has.known.leaf_hung;
-    };
-    own = λ k f at. let own = has.own k f at in (subst (λ n. 0 < n) (sym (like.counts f)) own.0, like.soles f own.1);
-  }
-
-  like_stands : (root trapframe : ℕ) (spare : Option ℕ) (t : Tables) (p : Process) → Stands v root trapframe spare t p → Stands w root trapframe spare t p
-  like_stands root trapframe spare t p s = record {
-    tables = like_tables root t s.tables;
-    owns = same_owns v t w spare like.counts like.soles s.owns;
-    shows = record {
-      on_trampoline = s.shows.on_trampoline;
-      on_trapframe = s.shows.on_trapframe;
-      settled = λ n page at.
-          let shown = s.shows.settled n page at in
-          record {
-            region = shown.region;
-            frame = shown.frame;
-            leaf = shown.leaf;
-            in_region = shown.in_region;
-            mapped = shown.mapped;
-            made = shown.made;
-            bytes = like_bytes shown.frame page.bytes shown.bytes;
-          };
-      only = s.shows.only;
-      low = s.shows.low;
-    };
-    tabled = s.tabled;
-    tabled_low = s.tabled_low;
-  }
+  like_stands : (root trapframe : ℕ) (extra : ℕ → ℕ) (t : Tables) (p : Process) → Stands v root trapframe extra t p → Stands w root trapframe extra t p
+  like_stands root trapframe extra t p s =
+      let recounts : Recounts v w t extra extra = record {
+        counts = λ f. ap (λ n. n + extra f) (like.counts f);
+        soles = λ f k names. like.soles f;
+        words = λ f k names. like.words f;
+      } in
+      recounted_stands v w t extra extra recounts root trapframe p s
 
 -- what is counted
 
@@ -197,7 +168,7 @@ pub refused_agrees : (v a w : View) (f c root trapframe : ℕ) (l : Layout) (t :
 refused_agrees v a w f c root trapframe l t p look dry agrees = record {
   sound = agrees.sound;
   lays = agrees.lays;
-  stands = like_stands v w (like_both v a w (subst (IsLike v) (sym look) (looked_like f c v)) (like_frames a w dry.frames)) root trapframe None t p agrees.stands;
+  stands = like_stands v w (like_both v a w (subst (IsLike v) (sym look) (looked_like f c v)) (like_frames a w dry.frames)) root trapframe nothing t p agrees.stands;
   credits = dry.credits ∙ ap (λ (x : View). x.credits) look ∙ agrees.credits;
 }
 
@@ -264,8 +235,8 @@ module _ {v : View} {root trapframe : ℕ} {l : Layout} {t : Tables} {p : Proces
     own_leafy : makes_leaf r ≡ true
     own_leafy = leafy_at p can.agrees.sound.order page r in_region
 
-    pub own_stands : Stands a root trapframe None t p
-    own_stands = like_stands v a like root trapframe None t p can.agrees.stands
+    pub own_stands : Stands a root trapframe nothing t p
+    own_stands = like_stands v a like root trapframe nothing t p can.agrees.stands
 
     -- the seat holds it alone
     module _ (one : c ≡ 1) (w : View) (leaf : ℕ) (made : IsPageLeaf leaf f r false (is_dirty_page r s)) (tables : HasTables w root (with_leaf t (leaf_node page) leaf))
@@ -274,16 +245,16 @@ module _ {v : View} {root trapframe : ℕ} {l : Layout} {t : Tables} {p : Proces
       sole = ap (λ x. (hold_of x f).sole) look ∙ looked_sole f c v one
 
       bare : (k : ℕ) → get t.tables k ≡ Some f → ⊥
-      bare = no_table a t root None own_stands.tables own_stands.owns (leaf_node page) can.on.0 f can.on.1 can.on.2
+      bare = no_table a t root nothing own_stands.tables own_stands.owns (leaf_node page) can.on.0 f can.on.1 can.on.2
 
-      kept : (fresh : ℕ) (shared : Bool) → Stands w root trapframe None (with_leaf t (leaf_node page) leaf) (with_page p page (unmarked fresh shared s))
-      kept fresh shared = turned_stands a w root trapframe None t p page s r f leaf own_stands can.settled in_region tables word (unmarked fresh shared s) made None bare
+      kept : (fresh : ℕ) (shared : Bool) → Stands w root trapframe nothing (with_leaf t (leaf_node page) leaf) (with_page p page (unmarked fresh shared s))
+      kept fresh shared = turned_stands a w root trapframe nothing t p page s r f leaf own_stands can.settled in_region tables word (unmarked fresh shared s) made nothing bare
           (like_bytes v a like f s.bytes here.bytes)
-          (owns_same a root t own_stands.tables page can.on.0 leaf f f can.on.1 can.on.2 made.names refl sole own_stands.owns)
+          (owns_same a root t own_stands.tables page can.on.0 leaf f f can.on.1 can.on.2 made.names refl sole nothing own_stands.owns)
 
       spent : Spends a w 0
       spent =
-          let changes = turned_words a w root trapframe None t p page s r f leaf own_stands can.settled in_region tables word in
+          let changes = turned_words a w root trapframe nothing t p page s r f leaf own_stands can.settled in_region tables word in
           words_spend changes.0 0 a a w changes.1 (nothing_spent a)
 
       pub own_kept : Owned v (body w root trapframe l) t (with_leaf t (leaf_node page) leaf) p page s f f c
@@ -297,7 +268,7 @@ module _ {v : View} {root trapframe : ℕ} {l : Layout} {t : Tables} {p : Proces
         on = (leaf, insert_same t.leaves (leaf_node page) leaf (leaf_node page) refl, made.names);
         same = λ _. refl;
         fresh = λ apart. absurd (apart one);
-        sole = turned_sole a w root trapframe None t p page s r f leaf own_stands can.settled in_region tables word f sole;
+        sole = turned_sole a w root trapframe nothing t p page s r f leaf own_stands can.settled in_region tables word f sole;
         others = λ k ne. insert_other t.leaves (leaf_node page) leaf k ne;
         takes = subst (λ n. Takes v w n (c ∷ [])) (sym (need_none c one)) (takes_after v a w 0 c (looked_tallies f c v a look) spent);
       }
@@ -315,7 +286,7 @@ module _ {v : View} {root trapframe : ℕ} {l : Layout} {t : Tables} {p : Proces
 
       pub own_part : (dirty : Bool) → (dirty && r.writes) ≡ is_dirty_page r s → CanSeparate b root trapframe t p page s r f dirty
       own_part dirty kept = record {
-        stands = like_stands v b reserved root trapframe None t p can.agrees.stands;
+        stands = like_stands v b reserved root trapframe nothing t p can.agrees.stands;
         settled = can.settled;
         in_region = in_region;
         leafy = own_leafy;

@@ -1,11 +1,11 @@
 -- The steps by which a page leaves a frame: another one is claimed and gets its bytes, the leaf is turned to it, and the first is
 -- released.
-use Rattle.std.proofs.Common.{◌≡◌, ℕ, None, Some, Bool, false, refl, ap, sym, subst, ◌∙◌, inl, inr, List}
+use Rattle.std.proofs.Common.{◌≡◌, ◌<◌, ℕ, ◌+◌, Some, Bool, false, refl, ap, sym, subst, ◌∙◌, inl, inr, List, arith}
 use Rattle.std.proofs.lemmas.Option.{same_Some}
 use Rattle.std.specs.FinMap.{get}
 use Rattle.frame_bytes.specs.Contents.{ChangesWords, HasBytes}
 use Rattle.frame_store.specs.Laws.{IsAnchored}
-use Rattle.frame_store.specs.View.{Hold, View, claimed, hold_of, IsSole, references, released, with_word}
+use Rattle.frame_store.specs.View.{Hold, View, claimed, hold_of, IsHeld, IsSole, references, released, with_word}
 use Rattle.process_model.specs.Process.{Page, Process}
 use Rattle.process_model.specs.Regions.{Region}
 use Rattle.process_model.specs.Residence.{unmarked, with_page}
@@ -14,12 +14,11 @@ use Rattle.sv39_entry.specs.Frame.{ppn_of}
 use Rattle.sv39_entry.specs.Word.{ppn}
 use Rattle.table_walk.specs.Tables.{HasTables, Tables, last_table, leaf_node, with_leaf}
 use Rattle.table_walk.specs.Keys.{insert_other, insert_same}
-use Rattle.table_walk.specs.Same.{same_tables}
-use Rattle.address_space.specs.Agreement.{is_dirty_page, IsPageLeaf, Stands}
+use Rattle.address_space.specs.Agreement.{is_dirty_page, IsPageLeaf, Names, nothing, one_of, Stands}
 use Rattle.address_space.specs.Separating.{CanSeparate, Separates}
 use Rattle.address_space.specs.Steps.{Spends}
-use Rattle.address_space.proofs.Owned.{anchored, apart_by, claimed_here, claimed_other, one_frame, released_here, released_once, released_other, same_bytes, same_owns, same_references, same_shows, same_sole, spare_comes, spare_goes}
-use Rattle.address_space.proofs.Owning.{owns_other, turned_sole, turned_stands, turned_words}
+use Rattle.address_space.proofs.Owned.{anchored, apart_by, beside, claimed_here, claimed_other, one_frame, one_here, recounted_stands, released_here, released_once, released_other, same_bytes, same_references, same_sole, spare_comes, spare_goes, unnamed}
+use Rattle.address_space.proofs.Owning.{nameless, owns_other, turned_sole, turned_stands, turned_words}
 use Rattle.address_space.proofs.Writing.{HasPage, page_here, words_other, words_references, words_sole}
 
 -- what is spent
@@ -42,51 +41,32 @@ released_spends f n u v one first = record {
 -- what stands after each step
 
 pub claimed_stands : (v : View) (root trapframe : ℕ) (t : Tables) (p : Process) (g : ℕ) → references v g ≡ 0
-    → Stands v root trapframe None t p → Stands (claimed g v) root trapframe (Some g) t p
-claimed_stands v root trapframe t p g none s = record {
-  tables = same_tables v (claimed g v) root t
-      (λ k x at. claimed_other g x v (apart_by v g x none (s.owns.named x k (inl at)))) s.tables;
-  owns = spare_comes v t (claimed g v) g none (ap (λ (h : Hold). h.references) (claimed_here g v)) (λ x ne. claimed_other g x v ne) s.owns;
-  shows = same_shows v (claimed g v) trapframe t p
-      (λ n x f leaf names. claimed_other g f v (apart_by v g f none (s.owns.named f n (inr (x, leaf, names))))) s.shows;
-  tabled = s.tabled;
-  tabled_low = s.tabled_low;
-}
+    → Stands v root trapframe nothing t p → Stands (claimed g v) root trapframe (one_of g) t p
+claimed_stands v root trapframe t p g none s =
+    let one = ap (λ (h : Hold). h.references) (claimed_here g v) in
+    let comes = spare_comes v (claimed g v) t g none one (λ x ne. claimed_other g x v ne) (unnamed v t nothing s.owns g none) in
+    recounted_stands v (claimed g v) t nothing (one_of g) comes root trapframe p s
 
--- words of the spare frame
-pub filled_stands : (v w : View) (root trapframe : ℕ) (t : Tables) (p : Process) (g : ℕ) → ChangesWords g v w
-    → Stands v root trapframe (Some g) t p → Stands w root trapframe (Some g) t p
-filled_stands v w root trapframe t p g changes s =
-    let bare = (s.owns.ready g refl).1 in
-    record {
-      tables = same_tables v w root t (λ k x table. words_other g v w changes x (λ same. bare k (inl (table ∙ ap Some same)))) s.tables;
-      owns = same_owns v t w (Some g) (words_references g v w changes) (words_sole g v w changes) s.owns;
-      shows = same_shows v w trapframe t p
-          (λ n x f leaf names. words_other g v w changes f (λ same. bare n (inr (x, leaf, names ∙ ap ppn_of same)))) s.shows;
-      tabled = s.tabled;
-      tabled_low = s.tabled_low;
-    }
+-- words of a frame that has no name
+pub filled_stands : (v w : View) (root trapframe : ℕ) (t : Tables) (p : Process) (g : ℕ) (extra : ℕ → ℕ) → ChangesWords g v w → ((k : ℕ) → Names t g k → ⊥)
+    → Stands v root trapframe extra t p → Stands w root trapframe extra t p
+filled_stands v w root trapframe t p g extra changes free s =
+    let same = ap (λ n. n + extra g) (words_references g v w changes g) in
+    recounted_stands v w t extra extra (beside v w t extra extra g (λ x ne. (words_other g v w changes x ne, refl)) free same) root trapframe p s
 
-pub released_stands : (v : View) (root trapframe : ℕ) (t : Tables) (p : Process) (f : ℕ)
-    → Stands v root trapframe (Some f) t p → Stands (released f v) root trapframe None t p
-released_stands v root trapframe t p f s =
-    let one = (s.owns.ready f refl).0 in
-    let bare = (s.owns.ready f refl).1 in
-    record {
-      tables = same_tables v (released f v) root t
-          (λ k x table. released_other f x v one (λ same. bare k (inl (table ∙ ap Some same)))) s.tables;
-      owns = spare_goes v t (released f v) f (released_here f v one) (λ g ne. released_other f g v one ne) s.owns;
-      shows = same_shows v (released f v) trapframe t p
-          (λ n x g leaf names. released_other f g v one (λ same. bare n (inr (x, leaf, names ∙ ap ppn_of same)))) s.shows;
-      tabled = s.tabled;
-      tabled_low = s.tabled_low;
-    }
+-- and its only reference goes
+pub released_stands : (v : View) (root trapframe : ℕ) (t : Tables) (p : Process) (f : ℕ) → ((k : ℕ) → Names t f k → ⊥)
+    → Stands v root trapframe (one_of f) t p → Stands (released f v) root trapframe nothing t p
+released_stands v root trapframe t p f free s =
+    let one = s.owns.bare f free ∙ one_here f f refl in
+    let goes = spare_goes v (released f v) t f one (released_here f v one) (λ g ne. released_other f g v one ne) free in
+    recounted_stands v (released f v) t (one_of f) nothing goes root trapframe p s
 
 -- the frame of a page that may leave it
 pub parting_page : (v : View) (root trapframe : ℕ) (t : Tables) (p : Process) (page : ℕ) (s : Page) (r : Region) (f : ℕ) (dirty : Bool)
     → CanSeparate v root trapframe t p page s r f dirty → HasPage v t p page s f
 parting_page v root trapframe t p page s r f dirty can =
-    let here = page_here v root trapframe None t p page s can.stands can.settled in
+    let here = page_here v root trapframe nothing t p page s can.stands can.settled in
     let leaf = same_Some here.1.leaf can.on.0 (sym here.1.mapped ∙ can.on.1) in
     subst (HasPage v t p page s) (one_frame here.0 f (sym here.1.made.names ∙ ap ppn leaf ∙ can.on.2)) here.1
 
@@ -97,14 +77,14 @@ module _ {v : View} {root trapframe : ℕ} {t : Tables} {p : Process} {page : �
   here = parting_page v root trapframe t p page s r f dirty can
 
   pub part_apart : f ≡ g → ⊥
-  part_apart same = apart_by v g f fresh here.one same
+  part_apart same = apart_by v g f fresh here.held same
 
   module _ (a : View) (claim : a ≡ claimed g v) where
     other : hold_of a f ≡ hold_of v f
     other = ap (λ x. hold_of x f) claim ∙ claimed_other g f v part_apart
 
-    pub part_one : references a f ≡ 1
-    part_one = same_references v a f other ∙ here.one
+    pub part_yet : IsHeld a f
+    part_yet = subst (λ n. 0 < n) (sym (same_references v a f other)) here.held
 
     pub part_bytes : HasBytes a f s.bytes
     part_bytes = same_bytes v a f s.bytes other here.bytes
@@ -116,38 +96,44 @@ module _ {v : View} {root trapframe : ℕ} {t : Tables} {p : Process} {page : �
     spends = subst (λ x. Spends v x 1) (sym claim) (claimed_spends g v)
 
     module _ (b : View) (copied : ChangesWords g a b) (bytes : (bs : List ℕ) → HasBytes a f bs → HasBytes b g bs) where
-      pub part_copied : Stands b root trapframe (Some g) t p
+      part_free : (k : ℕ) → Names t g k → ⊥
+      part_free = unnamed v t nothing can.stands.owns g fresh
+
+      pub part_copied : Stands b root trapframe (one_of g) t p
       part_copied =
-          filled_stands a b root trapframe t p g copied
-          (subst (λ x. Stands x root trapframe (Some g) t p) (sym claim) (claimed_stands v root trapframe t p g fresh can.stands))
+          filled_stands a b root trapframe t p g (one_of g) copied part_free
+          (subst (λ x. Stands x root trapframe (one_of g) t p) (sym claim) (claimed_stands v root trapframe t p g fresh can.stands))
 
       module _ (d : View) (leaf : ℕ) (made : IsPageLeaf leaf g r false (is_dirty_page r s)) (tables : HasTables d root (with_leaf t (leaf_node page) leaf))
           (word : (x : ℕ) → get t.tables (last_table page) ≡ Some x → d ≡ with_word x (vpn page 0) leaf b) where
         sole : IsSole b g
         sole = words_sole g a b copied g part_sole
 
-        turned : (new : ℕ) (shared : Bool) → Stands d root trapframe (Some f) (with_leaf t (leaf_node page) leaf) (with_page p page (unmarked new shared s))
+        turned : (new : ℕ) (shared : Bool) → Stands d root trapframe (one_of f) (with_leaf t (leaf_node page) leaf) (with_page p page (unmarked new shared s))
         turned new shared =
-            turned_stands b d root trapframe (Some g) t p page s r g leaf part_copied can.settled can.in_region tables word
-            (unmarked new shared s) made (Some f) (λ k table. (part_copied.owns.ready g refl).1 k (inl table)) (bytes s.bytes part_bytes)
-            (owns_other b root t part_copied.tables page can.on.0 leaf f g can.on.1 can.on.2 made.names part_copied.owns sole)
+            turned_stands b d root trapframe (one_of g) t p page s r g leaf part_copied can.settled can.in_region tables word
+            (unmarked new shared s) made (one_of f) (λ k table. part_free k (inl table)) (bytes s.bytes part_bytes)
+            (owns_other b root t part_copied.tables page can.on.0 leaf f g can.on.1 can.on.2 made.names (one_of g) (one_of f) part_copied.owns part_free (λ x. omega arith) sole)
+
+        freed : (k : ℕ) → Names (with_leaf t (leaf_node page) leaf) f k → ⊥
+        freed = nameless b root t part_copied.tables page can.on.0 leaf f g can.on.1 can.on.2 made.names (one_of g) (one_of f) part_copied.owns part_free (λ x. omega arith)
 
         pub part_held : references d f ≡ 1
-        part_held = ((turned 0 false).owns.ready f refl).0
+        part_held = (turned 0 false).owns.bare f freed ∙ one_here f f refl
 
         pub part_anchored : IsAnchored (released f d)
-        part_anchored x held = anchored _ root trapframe None _ _ (released_stands d root trapframe _ _ f (turned 0 false))
+        part_anchored x held = anchored _ root trapframe nothing _ _ (released_stands d root trapframe _ _ f freed (turned 0 false))
 
         pub part_done : (e : View) → e ≡ released f d → Separates v e root trapframe t (with_leaf t (leaf_node page) leaf) p page s g
         part_done e release =
-            let changes = turned_words b d root trapframe (Some g) t p page s r g leaf part_copied can.settled can.in_region tables word in
+            let changes = turned_words b d root trapframe (one_of g) t p page s r g leaf part_copied can.settled can.in_region tables word in
             subst (λ x. Separates v x root trapframe t (with_leaf t (leaf_node page) leaf) p page s g) (sym release)
             (record {
-              stands = λ new shared. released_stands d root trapframe _ _ f (turned new shared);
+              stands = λ new shared. released_stands d root trapframe _ _ f freed (turned new shared);
               on = (leaf, insert_same t.leaves (leaf_node page) leaf (leaf_node page) refl, made.names);
               fresh = fresh;
               sole = same_sole d (released f d) g (released_other f g d part_held (λ same. part_apart (sym same)))
-                  (turned_sole b d root trapframe (Some g) t p page s r g leaf part_copied can.settled can.in_region tables word g sole);
+                  (turned_sole b d root trapframe (one_of g) t p page s r g leaf part_copied can.settled can.in_region tables word g sole);
               others = λ k ne. insert_other t.leaves (leaf_node page) leaf k ne;
               spends = released_spends f 1 v d part_held (words_spend changes.0 1 v b d changes.1 (words_spend g 1 v a b copied spends));
             })

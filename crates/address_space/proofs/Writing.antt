@@ -11,7 +11,7 @@ use Rattle.std.specs.Ordering.{nat_cmp, eq_by_cmp}
 use Rattle.frame_bytes.specs.Contents.{ChangesWords, HasBytes}
 use Rattle.frame_store.specs.Holds.{hold_of-with_hold_same, hold_of-with_hold_other}
 use Rattle.frame_store.specs.Tallies.{taken_none}
-use Rattle.frame_store.specs.View.{Hold, View, hold_of, IsSole, references}
+use Rattle.frame_store.specs.View.{Hold, View, hold_of, IsHeld, IsSole, references}
 use Rattle.process_model.specs.Bytes.{is_width}
 use Rattle.process_model.specs.PageMap as pages
 use Rattle.process_model.specs.Process.{Page, Process, regions}
@@ -25,12 +25,12 @@ use Rattle.sv39_entry.specs.declared.frame.FrameNo.{FrameNo}
 use Rattle.table_walk.specs.Counted.{AreTablesOf}
 use Rattle.table_walk.specs.Tables.{HasTables, Tables, leaf_node}
 use Rattle.table_walk.specs.Same.{same_tables}
-use Rattle.address_space.specs.Agreement.{body, IsSpace, is_dirty_page, IsPageLeaf, IsLeafNumber, IsOn, IsShown, Names, OthersKeep, Owns, Shows, Stands}
+use Rattle.address_space.specs.Agreement.{body, IsSpace, is_dirty_page, IsPageLeaf, IsLeafNumber, IsOn, IsShown, Names, nothing, OthersKeep, Owns, Shows, Stands}
 use Rattle.address_space.specs.Layouts.{Layout, LaysOut}
 use Rattle.address_space.specs.ProcessLeaves.{frame_is}
 use Rattle.address_space.specs.Steps.{CanRead, CanWrite, Takes}
 use Rattle.address_space.proofs.Sound.{sound_page}
-use Rattle.address_space.proofs.Owned.{no_table, one_frame, one_page, same_bytes, same_owns}
+use Rattle.address_space.proofs.Owned.{named_held, no_table, one_frame, one_page, same_bytes, same_owns}
 
 -- words of one frame
 
@@ -63,12 +63,12 @@ pub record HasPage (v : View) (t : Tables) (p : Process) (page : ℕ) (s : Page)
   pub mapped : get t.leaves (leaf_node page) ≡ Some leaf
   pub made : IsPageLeaf leaf f region s.fork_mark (is_dirty_page region s)
   pub bytes : HasBytes v f s.bytes
-  pub one : references v f ≡ 1
+  pub held : IsHeld v f
   pub low : page < trapframe_page
 
-pub page_here : (v : View) (root trapframe : ℕ) (spare : Option ℕ) (t : Tables) (p : Process) (page : ℕ) (s : Page) → Stands v root trapframe spare t p
+pub page_here : (v : View) (root trapframe : ℕ) (extra : ℕ → ℕ) (t : Tables) (p : Process) (page : ℕ) (s : Page) → Stands v root trapframe extra t p
     → pages.get p.settled page ≡ Some s → (f : ℕ) × HasPage v t p page s f
-page_here v root trapframe spare t p page s stands settled =
+page_here v root trapframe extra t p page s stands settled =
     let shown = stands.shows.settled page s settled in (
       shown.frame,
       record {
@@ -78,7 +78,7 @@ page_here v root trapframe spare t p page s stands settled =
         mapped = shown.mapped;
         made = shown.made;
         bytes = shown.bytes;
-        one = stands.owns.named shown.frame (leaf_node page) (inr (shown.leaf, shown.mapped, shown.made.names));
+        held = named_held v t extra stands.owns shown.frame (leaf_node page) (inr (shown.leaf, shown.mapped, shown.made.names));
         low = stands.shows.low page s settled;
       },
     )
@@ -98,7 +98,7 @@ module _ (v : View) (t : Tables) (p : Process) (page : ℕ) (s : Page) (f : ℕ)
 pub on_page : (v : View) (root trapframe : ℕ) (l : Layout) (t : Tables) (p : Process) (page : ℕ) (s : Page) (f : ℕ) → CanRead (body v root trapframe l) t p page s
     → IsOn t page f → HasPage v t p page s f
 on_page v root trapframe l t p page s f can on =
-    let here = page_here v root trapframe None t p page s can.agrees.stands can.settled in
+    let here = page_here v root trapframe nothing t p page s can.agrees.stands can.settled in
     let same : here.0 ≡ f = one_frame here.0 f (sym here.1.made.names ∙ ap ppn (same_Some here.1.leaf on.0 (sym here.1.mapped ∙ on.1)) ∙ on.2) in
     subst (HasPage v t p page s) same here.1
 
@@ -172,7 +172,7 @@ module _ (v w : View) (trapframe : ℕ) (t u : Tables) (p : Process) (page : ℕ
     ];
   }
 
-  pub page_stands : (root : ℕ) (before after : Option ℕ) → Stands v root trapframe before t p → HasTables w root u → Owns w u after
+  pub page_stands : (root : ℕ) (before after : ℕ → ℕ) → Stands v root trapframe before t p → HasTables w root u → Owns w u after
       → AreTablesOf u (pages.keys p.tabled) → Stands w root trapframe after u (with_page p page s)
   page_stands root before after stands tables owns tabled = record {
     tables = tables;
@@ -204,14 +204,14 @@ page_written v w root trapframe l t p page s f bytes can here changes has =
     let named = inr (here.leaf, here.mapped, here.made.names) in
     let apart = λ (k x g : ℕ) (ne : k ≡ leaf_node page → ⊥) (at : get t.leaves k ≡ Some x) (names : ppn x ≡ ppn_of g) (same : g ≡ f).
     ne (stands.owns.once g k (leaf_node page) (inr (x, at, names)) (subst (λ y. Names t y (leaf_node page)) (sym same) named)) in
-    let no = no_table v t root None stands.tables stands.owns (leaf_node page) here.leaf f here.mapped here.made.names in
+    let no = no_table v t root nothing stands.tables stands.owns (leaf_node page) here.leaf f here.mapped here.made.names in
     record {
       sound = sound_page p page s _ can.settled can.agrees.sound;
       lays = lays_with l p page _ can.agrees.lays;
       stands = page_stands v w trapframe t t p page (record s { bytes = bytes }) here.leaf f here.region here.low (λ k ne. refl) here.mapped here.made here.in_region has
-          (λ k x g ne at names. words_other f v w changes g (apart k x g ne at names)) root None None stands
+          (λ k x g ne at names. words_other f v w changes g (apart k x g ne at names)) root nothing nothing stands
           (same_tables v w root t (λ k g at. words_other f v w changes g (λ same. no k (at ∙ ap Some same))) stands.tables)
-          (same_owns v t w None (words_references f v w changes) (words_sole f v w changes) stands.owns)
+          (same_owns v w t nothing (words_references f v w changes) (words_sole f v w changes) stands.owns)
           stands.tabled;
       credits = ap (λ (x : View). x.credits) changes.1 ∙ can.agrees.credits;
     }

@@ -1,5 +1,5 @@
 -- A space and a process of the model: the tables and frames of the one are the regions and pages of the other.
-use Rattle.std.specs.Prelude.{◌≡◌, ◌≢◌, ◌⊎◌, ℕ, Bool, true, false, not, ◌&&◌, ◌||◌, ◌^◌, ◌<◌, Option, None, Some, All}
+use Rattle.std.specs.Prelude.{◌≡◌, ◌≢◌, ◌⊎◌, ℕ, Bool, true, false, not, ◌&&◌, ◌||◌, ◌^◌, ◌<◌, ◌+◌, ◌==◌, if◌then◌else◌, Some, All}
 use Rattle.std.specs.FinMap.{get}
 use Rattle.frame_bytes.specs.Contents.{HasBytes}
 use Rattle.frame_store.specs.View.{View, IsSole, references}
@@ -21,13 +21,20 @@ use Rattle.address_space.specs.declared.space.Space.{Space}
 abbrev pub Names : Tables → ℕ → ℕ → Type 0
 Names t f k = (get t.tables k ≡ Some f) ⊎ ((w : ℕ) × (get t.leaves k ≡ Some w) × (ppn w ≡ ppn_of f))
 
--- The seat has one reference of each frame that is named, and no other but of a spare frame: one that stands ready to be named, or
--- that is named no longer. Of a frame that may be written it is the sole holder.
-pub record Owns (v : View) (t : Tables) (spare : Option ℕ) : Type 0 where
+-- references that a seat has beside those of a space: none, and one of a single frame
+abbrev pub nothing : ℕ → ℕ
+nothing f = 0
+
+abbrev pub one_of : ℕ → ℕ → ℕ
+one_of f g = if g == f then 1 else 0
+
+-- The seat has one reference of each frame that is named, and beside these so many of each frame: while a call is under way, of one
+-- that stands ready to be named, that is named no longer, or that another space names. Of a frame that may be written it is the sole
+-- holder.
+pub record Owns (v : View) (t : Tables) (extra : ℕ → ℕ) : Type 0 where
   pub once : (f j k : ℕ) → Names t f j → Names t f k → j ≡ k
-  pub named : (f k : ℕ) → Names t f k → references v f ≡ 1
-  pub ready : (f : ℕ) → spare ≡ Some f → (references v f ≡ 1) × ((k : ℕ) → Names t f k → ⊥)
-  pub bare : (f : ℕ) → ((k : ℕ) → Names t f k → ⊥) → (spare ≡ Some f → ⊥) → references v f ≡ 0
+  pub named : (f k : ℕ) → Names t f k → references v f ≡ 1 + extra f
+  pub bare : (f : ℕ) → ((k : ℕ) → Names t f k → ⊥) → references v f ≡ extra f
   pub writable : (f n w : ℕ) → get t.leaves n ≡ Some w → ppn w ≡ ppn_of f → has w 2 ≡ true → IsSole v f
 
 -- before a space or the kernel's table is built: the seat holds frame 0 once, for TRAMPOLINE, and nothing else
@@ -90,10 +97,10 @@ pub record Shows (v : View) (trapframe : ℕ) (t : Tables) (p : Process) : Type 
   pub only : (k w : ℕ) → get t.leaves k ≡ Some w → IsLeafNumber p k
   pub low : (n : ℕ) (s : Page) → pages.get p.settled n ≡ Some s → n < trapframe_page
 
--- a process that stands in memory, whatever its seat has of credits, and perhaps with a spare frame
-pub record Stands (v : View) (root trapframe : ℕ) (spare : Option ℕ) (t : Tables) (p : Process) : Type 0 where
+-- a process that stands in memory, whatever its seat has of credits, and of references beside the process's
+pub record Stands (v : View) (root trapframe : ℕ) (extra : ℕ → ℕ) (t : Tables) (p : Process) : Type 0 where
   pub tables : HasTables v root t
-  pub owns : Owns v t spare
+  pub owns : Owns v t extra
   pub shows : Shows v trapframe t p
   pub tabled : AreTablesOf t (pages.keys p.tabled)
   pub tabled_low : All (λ n. n < trapframe_page) (pages.keys p.tabled)
@@ -118,7 +125,7 @@ body_of view x = body (view x.seat) x.root.0 x.trapframe.0 x.layout
 pub record IsSpace (x : Body) (t : Tables) (p : Process) : Type 0 where
   pub sound : IsSound p
   pub lays : LaysOut x.layout p
-  pub stands : Stands x.view x.root x.trapframe None t p
+  pub stands : Stands x.view x.root x.trapframe nothing t p
   pub credits : x.view.credits ≡ 0
 
 -- steps

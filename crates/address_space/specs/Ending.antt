@@ -6,7 +6,7 @@ use Rattle.sv39_entry.specs.Address.{trampoline_page, trapframe_page}
 use Rattle.sv39_entry.specs.Frame.{ppn_of}
 use Rattle.sv39_entry.specs.Word.{ppn}
 use Rattle.table_walk.specs.Tables.{HasTables, Tables, leaf_node, without_leaf}
-use Rattle.address_space.specs.Agreement.{IsOn, Owns}
+use Rattle.address_space.specs.Agreement.{IsOn, nothing, Owns}
 use Rattle.address_space.specs.Steps.{Takes}
 
 -- no page of a run has a leaf
@@ -27,7 +27,7 @@ pub record Drops (t u : Tables) (first end : ℕ) : Type 0 where
 -- a page has a leaf that may go: TRAMPOLINE has another, which names frame 0
 pub record CanDrop (v : View) (root : ℕ) (t : Tables) (page : ℕ) : Type 0 where
   pub tables : HasTables v root t
-  pub owns : Owns v t None
+  pub owns : Owns v t nothing
   pub anchor : IsOn t trampoline_page 0
   pub apart : leaf_node page ≢ leaf_node trampoline_page
   pub frame : ℕ
@@ -37,7 +37,7 @@ pub record CanDrop (v : View) (root : ℕ) (t : Tables) (page : ℕ) : Type 0 wh
 -- the leaf of a page is gone, and the frame that it named; what other leaves name is held as it was
 pub record DropsLeaf (v w : View) (root : ℕ) (t : Tables) (page : ℕ) : Type 0 where
   pub tables : HasTables w root (without_leaf t (leaf_node page))
-  pub owns : Owns w (without_leaf t (leaf_node page)) None
+  pub owns : Owns w (without_leaf t (leaf_node page)) nothing
   pub others : (n x f : ℕ) → get (without_leaf t (leaf_node page)).leaves n ≡ Some x → ppn x ≡ ppn_of f → hold_of w f ≡ hold_of v f
   pub credits : w.credits ≡ v.credits
   pub takes : Takes v w 0 []

@@ -9,7 +9,7 @@ use Rattle.process_model.specs.Process.{Page, Process, regions}
 use Rattle.process_model.specs.Regions.{end_of, makes_leaf, Region, region_at}
 use Rattle.sv39_entry.specs.Address.{trapframe_page}
 use Rattle.table_walk.specs.Tables.{Tables}
-use Rattle.address_space.specs.Agreement.{Names, Stands}
+use Rattle.address_space.specs.Agreement.{Names, nothing, Stands}
 use Rattle.address_space.specs.Layouts.{last_page, region_of}
 use Rattle.address_space.specs.Steps.{Spends}
 use Rattle.address_space.specs.declared.part.Part.{Part}
@@ -82,7 +82,7 @@ pages_need p es = length es + (tables_of (with_pages p es) - tables_of p)
 
 -- a process stands, and no other seat has its frames
 pub record StandsAlone (v : View) (root trapframe : ℕ) (t : Tables) (p : Process) : Type 0 where
-  pub stands : Stands v root trapframe None t p
+  pub stands : Stands v root trapframe nothing t p
   pub alone : OwnsAlone v t
 
 -- frame 0 is held once, and four credits are there
@@ -93,7 +93,7 @@ pub record CanOpen (v : View) : Type 0 where
 
 -- the pages of the kernel are there, and no others
 pub record Opens (v w : View) (root trapframe : ℕ) (t : Tables) : Type 0 where
-  pub stands : (p : Process) → p.settled ≡ empty Page → p.tabled ≡ empty (Unit {0}) → Stands w root trapframe None t p
+  pub stands : (p : Process) → p.settled ≡ empty Page → p.tabled ≡ empty (Unit {0}) → Stands w root trapframe nothing t p
   pub alone : OwnsAlone w t
   pub spends : Spends v w 4
 

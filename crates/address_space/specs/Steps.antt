@@ -11,7 +11,7 @@ use Rattle.process_model.specs.Regions.{is_guard_kind, is_shared_kind, makes_lea
 use Rattle.process_model.specs.Residence.{marked_stored, region_on, unmarked, with_page}
 use Rattle.sv39_entry.specs.Address.{trapframe_page}
 use Rattle.table_walk.specs.Tables.{Tables, missing}
-use Rattle.address_space.specs.Agreement.{Body, IsSpace, IsOn, OthersKeep, Stands}
+use Rattle.address_space.specs.Agreement.{Body, IsSpace, IsOn, nothing, OthersKeep, Stands}
 
 -- so many credits became frames, and no count was read
 pub record Spends (v w : View) (n : ℕ) : Type 0 where
@@ -33,7 +33,7 @@ pub record RunsDry (v w : View) (n : ℕ) (counts : List ℕ) : Type 0 where
 
 -- a page of a region that has no frame yet
 pub record CanAdd (v : View) (root trapframe : ℕ) (t : Tables) (p : Process) (page : ℕ) (r : Region) : Type 0 where
-  pub stands : Stands v root trapframe None t p
+  pub stands : Stands v root trapframe nothing t p
   pub unsettled : pages.get p.settled page ≡ None
   pub in_region : region_at (regions p) page ≡ Some r
   pub leafy : makes_leaf r ≡ true
@@ -48,7 +48,7 @@ settled_with fresh bytes p page = record p {
 
 -- the page stands on a frame that was not held before
 pub record Adds (v w : View) (root trapframe : ℕ) (t u : Tables) (p : Process) (page : ℕ) (bytes : List ℕ) (f : ℕ) : Type 0 where
-  pub stands : (fresh : ℕ) → Stands w root trapframe None u (settled_with fresh bytes p page)
+  pub stands : (fresh : ℕ) → Stands w root trapframe nothing u (settled_with fresh bytes p page)
   pub on : IsOn u page f
   pub fresh : references v f ≡ 0
   pub sole : IsSole w f

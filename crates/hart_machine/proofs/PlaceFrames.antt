@@ -4,7 +4,7 @@ use Rattle.std.specs.Prelude.{◌↔◌, count_by, slice_get, sum_by}
 use Rattle.std.proofs.lemmas.List.{length-append}
 use Rattle.std.proofs.lemmas.List.Sums.{sum_by-cons}
 use Rattle.std.proofs.lemmas.Option.{same_Some}
-use Rattle.address_space.specs.Agreement.{IsOn, Stands}
+use Rattle.address_space.specs.Agreement.{IsOn, nothing, Stands}
 use Rattle.frame_store.specs.Plain.{Agrees, AllAgree, total_references}
 use Rattle.frame_store.specs.View.{View}
 use Rattle.hart_machine.specs.Tenants.{IsTenant, view_of}
@@ -44,7 +44,7 @@ pub record HasAll (counts : List ℕ) (items : List (Option Tenant)) (slots : Li
 
 -- of one process
 
-module _ (v : View) (root trapframe : ℕ) (t : Tables) (p : Process) (s : Stands v root trapframe None t p) (h : HasFrames v trapframe t p) (f c : ℕ)
+module _ (v : View) (root trapframe : ℕ) (t : Tables) (p : Process) (s : Stands v root trapframe nothing t p) (h : HasFrames v trapframe t p) (f c : ℕ)
     (of : (n g : ℕ) (a : Page) → get p.settled n ≡ Some a → IsOn t n g → (f ≡ g) ↔ (a.copy ≡ c)) where
   copied_one : times f h.pages ≡ cond (has_copy c p) 1 0
   copied_one = elim (has_copy c p) as (λ b. has_copy c p ≡ b → times f h.pages ≡ cond b 1 0) [

@@ -1,5 +1,5 @@
 -- The frames that the seat of a process has, as a list: frame 0, its trapframe, its tables and those of its pages.
-use Rattle.std.proofs.Common.{◌≡◌, ℕ, ◌<◌, ◌≤◌, inl, inr, ap, sym, subst, ◌∙◌, arith, List, ◌∷◌, ◌++◌, map, length, Some, None}
+use Rattle.std.proofs.Common.{◌≡◌, ℕ, ◌<◌, ◌≤◌, inl, inr, ap, sym, subst, ◌∙◌, arith, List, ◌∷◌, ◌++◌, map, length, Some}
 use Rattle.std.specs.Prelude.{is_some}
 use Rattle.std.specs.FinMap as finite
 use Rattle.std.proofs.lemmas.List.{length-map}
@@ -13,7 +13,7 @@ use Rattle.sv39_entry.specs.Frame.{ppn_of}
 use Rattle.sv39_entry.specs.Word.{ppn}
 use Rattle.table_walk.specs.Tables.{Tables, leaf_node}
 use Rattle.table_walk.specs.Nodes.{leaf_node_is}
-use Rattle.address_space.specs.Agreement.{IsOn, Names, Stands}
+use Rattle.address_space.specs.Agreement.{IsOn, Names, nothing, Stands}
 use Rattle.hart_machine.proofs.NumberLists.{Among, among_back, among_front, among_map, among_parts, Distinct, distinct_append, distinct_map, mapped_from, times, times_are}
 use Rattle.hart_machine.proofs.MatchedLists.{Matched, matched, matched_append, matched_cons}
 use Rattle.hart_machine.proofs.KeySets.{among_contains, contains_among, key_settled, keys_distinct, length_keys, settled_key, value}
@@ -34,7 +34,7 @@ pub record HasFrames (v : View) (trapframe : ℕ) (t : Tables) (p : Process) : T
   -- each frame as often as the seat has references of it
   pub all : (f : ℕ) → times f (0 ∷ trapframe ∷ (tables ++ pages)) ≡ references v f
 
-module _ (v : View) (root trapframe : ℕ) (t : Tables) (p : Process) (s : Stands v root trapframe None t p) where
+module _ (v : View) (root trapframe : ℕ) (t : Tables) (p : Process) (s : Stands v root trapframe nothing t p) where
   abbrev tabled : List ℕ
   tabled = keys p.tabled
 
@@ -186,5 +186,5 @@ module _ (v : View) (root trapframe : ℕ) (t : Tables) (p : Process) (s : Stand
     ];
     all = times_are (0 ∷ trapframe ∷ (table_frames.0 ++ page_frames.0)) (references v) with_code.distinct
         (λ f i. let k = with_code.of f i in s.owns.named f k.0 k.2)
-        (λ f far. s.owns.bare f (λ k names. far (with_code.has f k (every_in k f names) names)) (λ e. absurd (let none : None ≡ Some f = e in cc)));
+        (λ f far. s.owns.bare f (λ k names. far (with_code.has f k (every_in k f names) names)));
   }

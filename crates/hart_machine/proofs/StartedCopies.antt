@@ -3,7 +3,7 @@ use Rattle.std.proofs.Common.{◌≡◌, ℕ, ◌+◌, ◌⊎◌, refl, ap, sym,
 use Rattle.std.specs.Prelude.{slice_get, slice_set}
 use Rattle.std.proofs.lemmas.Bool.{cases_eq}
 use Rattle.std.proofs.lemmas.Option.{same_Some, slice_get_within}
-use Rattle.address_space.specs.Agreement.{IsOn, Stands}
+use Rattle.address_space.specs.Agreement.{IsOn, nothing, Stands}
 use Rattle.address_space.specs.Parts.{OwnsAlone}
 use Rattle.frame_store.specs.Plain.{Bank, BankRule}
 use Rattle.frame_store.specs.Seats.{place_set_other, place_set_same}
@@ -51,7 +51,7 @@ module _ (m : Machine) (w : World) (is : IsWorld m w) (s : ℕ) (at : slice_get 
   ]
 
   module _ (b : Bank) (k v : View) (rule : BankRule b (k ∷ v ∷ seats_of m.slots.items)) (root trapframe : ℕ) (t : Tables)
-      (stands : Stands v root trapframe None t (process_of w.counter ls)) (alone : OwnsAlone v t) where
+      (stands : Stands v root trapframe nothing t (process_of w.counter ls)) (alone : OwnsAlone v t) where
     -- a page of the new process and one of another have two frames
     frames_apart : (j n l f g : ℕ) (q : Process) (a c : Page) → slice_get w.slots j ≡ Some (Some q) → pages.get (process_of w.counter ls).settled n ≡ Some a → IsOn t n f
         → IsOn (is.tables j) l g → f ≡ g → ⊥

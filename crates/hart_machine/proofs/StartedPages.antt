@@ -8,7 +8,7 @@ use Rattle.std.specs.Ordering.{nat_cmp}
 use Rattle.std.proofs.lemmas.Bool.{cases_eq, eq-eqb, ne_eqb}
 use Rattle.std.proofs.lemmas.List.{length-map}
 use Rattle.std.proofs.lemmas.Option.{same_Some, slice_get_within}
-use Rattle.address_space.specs.Agreement.{IsOn, Names, Stands}
+use Rattle.address_space.specs.Agreement.{IsOn, Names, nothing, Stands}
 use Rattle.frame_store.specs.View.{View}
 use Rattle.process_model.specs.Images.{LoadSegment}
 use Rattle.process_model.specs.Loading.{image_pages, numbered, process_of}
@@ -66,7 +66,7 @@ module _ (fresh : ℕ) (ls : List LoadSegment) where
 
 -- frames
 
-module _ (v : View) (root trapframe : ℕ) (t : Tables) (p : Process) (stands : Stands v root trapframe None t p) where
+module _ (v : View) (root trapframe : ℕ) (t : Tables) (p : Process) (stands : Stands v root trapframe nothing t p) where
   on_names : (n f : ℕ) → IsOn t n f → Names t f (leaf_node n)
   on_names n f on = inr (on.0, on.1, on.2)
 

@@ -3,7 +3,7 @@ use Rattle.sv39_entry.specs.Address.{trampoline_page, trapframe_page}
 use Rattle.table_walk.specs.Tables.{bare_root, ChangesTables, HasTables, Tables, IsGrown, leaf_node, missing, with_leaf}
 use Rattle.table_walk.specs.Walk.{top_level}
 use Rattle.address_space.proofs.AddingFrames.{Comes, claimed_comes, come_held, come_tables, filled_comes}
-use Rattle.address_space.proofs.BuildTables.{HasTrampoline, first_enough, has_trampoline, open_spends, opens, root_owns, root_spends, second_enough, trapframe_shares, two_missing}
+use Rattle.address_space.proofs.BuildTables.{HasTrampoline, first_enough, has_trampoline, open_spends, opens, root_owns, root_spends, root_unnamed_zero, second_enough, trapframe_shares, two_missing}
 use Rattle.address_space.proofs.build.open_tables.Given as given
 use Rattle.address_space.proofs.build.open_tables.Goals as goal
 use Rattle.address_space.proofs.build.open_tables.Goals.{After-map, After-fill_frame}
@@ -27,7 +27,8 @@ on_trampoline : (g : given.Over) (c : After-map g) → HasTrampoline (g.F.Seat.F
 on_trampoline g c =
     let m = mapped g c in
     has_trampoline _ _ c.new_table-root.result.0 c.leaf-trampoline.result _ m.0
-    (root_owns _ _ c.new_table-root.result.0 c.requires.ready c.new_table-root.ensures.fresh c.new_table-root.ensures.view) c.new_table-root.ensures.root m.1 m.2 m.3
+    (root_owns _ _ c.new_table-root.result.0 c.requires.ready c.new_table-root.ensures.fresh c.new_table-root.ensures.view)
+    (root_unnamed_zero _ _ c.new_table-root.result.0 c.requires.ready c.new_table-root.ensures.fresh c.new_table-root.ensures.view) c.new_table-root.ensures.root m.1 m.2 m.3
     (rw (c.insert.ensures tt) at c.leaf-trampoline.ensures.made)
     (c.missing_is_growth.ensures.first (bare_root c.new_table-root.result.0) m.0 c.new_table-root.result.0 refl m.1)
 

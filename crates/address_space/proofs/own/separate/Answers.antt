@@ -1,7 +1,7 @@
 use Rattle.std.proofs.Common.{refl, arith, ◌∙◌}
 use Rattle.frame_store.specs.Laws.{fits_after}
 use Rattle.address_space.proofs.Owned.{anchored}
-use Rattle.address_space.proofs.OwningSteps.{part_anchored, part_apart, part_bytes, part_copied, part_done, part_held, part_one, part_sole}
+use Rattle.address_space.proofs.OwningSteps.{part_anchored, part_apart, part_bytes, part_copied, part_done, part_held, part_sole, part_yet}
 use Rattle.address_space.proofs.own.separate.Goals as goal
 
 pub claim-own-requires-clause-anchored : goal.claim-own-requires-clause-anchored
@@ -12,8 +12,7 @@ copy_frame-requires-clause-fits g c = fits_after g.F.FrameAccess.rule c.claim-ow
 
 pub copy_frame-requires-clause-held : goal.copy_frame-requires-clause-held
 copy_frame-requires-clause-held g c =
-    let one = part_one c.requires.ready.4 _ c.claim-own.ensures.fresh _ c.claim-own.ensures.view in
-    omega (arith, one)
+    part_yet c.requires.ready.4 _ c.claim-own.ensures.fresh _ c.claim-own.ensures.view
 
 pub copy_frame-requires-clause-known : goal.copy_frame-requires-clause-known
 copy_frame-requires-clause-known g c = let r = c.requires.ready in ((r.3).bytes, part_bytes r.4 _ c.claim-own.ensures.fresh _ c.claim-own.ensures.view)

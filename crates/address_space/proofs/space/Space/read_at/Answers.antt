@@ -1,12 +1,11 @@
-use Rattle.std.proofs.Common.{arith, sym}
+use Rattle.std.proofs.Common.{sym}
 use Rattle.address_space.proofs.Writing.{offset_aligned, on_page}
 use Rattle.address_space.proofs.space.Space.read_at.Goals as goal
 
 pub load_bytes-requires-clause-held : goal.load_bytes-requires-clause-held
 load_bytes-requires-clause-held g c =
     let r = c.requires.ready in
-    let here = on_page _ _ _ _ r.0 r.1 _ r.2 _ r.3 r.4 in
-    omega (arith, here.one)
+    (on_page _ _ _ _ r.0 r.1 _ r.2 _ r.3 r.4).held
 
 pub load_bytes-requires-clause-known : goal.load_bytes-requires-clause-known
 load_bytes-requires-clause-known g c =

@@ -1,12 +1,10 @@
-use Rattle.std.proofs.Common.{arith}
 use Rattle.address_space.proofs.Writing.{offset_aligned, on_page, page_sole, page_written, words_take}
 use Rattle.address_space.proofs.space.Space.write_at.Goals as goal
 
 pub store_bytes-requires-clause-held : goal.store_bytes-requires-clause-held
 store_bytes-requires-clause-held g c =
     let r = c.requires.ready in
-    let here = on_page _ _ _ _ r.0 r.1 _ r.2 _ r.3.read r.4 in
-    omega (arith, here.one)
+    (on_page _ _ _ _ r.0 r.1 _ r.2 _ r.3.read r.4).held
 
 pub store_bytes-requires-clause-sole : goal.store_bytes-requires-clause-sole
 store_bytes-requires-clause-sole g c =
