@@ -4,6 +4,7 @@ pub mod AccessingPages
 pub mod AccessingWorlds
 pub mod AllReferences
 pub mod BootWorld
+pub mod BufferChanges
 pub mod BufferSteps
 pub mod CountedLists
 pub mod Entries

@@ -1,6 +1,10 @@
 -- The translation buffers of a machine, and how a step may change them.
-use Rattle.std.specs.Prelude.{◌≡◌, ◌⊎◌, ℕ, Option, Some, List, Contains, option_map, slice_get}
+use Rattle.std.specs.Prelude.{◌≡◌, ◌⊎◌, ◌==◌, ◌&&◌, ℕ, Bool, false, not, Option, Some, List, [], ◌∷◌, ◌++◌, Contains, option_map, remove, slice_get, if◌then◌else◌}
+use Rattle.hart_tlb.specs.Buffer.{newest_entries}
 use Rattle.hart_tlb.specs.declared.entry.TlbEntry.{TlbEntry}
+use Rattle.process_model.specs.Harts.{buffer_size, is_before_fence}
+use Rattle.process_model.specs.Text.{is_refused}
+use Rattle.process_model.specs.declared.step.Reply.{Reply}
 use Rattle.process_model.specs.declared.step.Step.{Step}
 use Rattle.process_model.specs.declared.step.Step.TheVariants as step
 use Rattle.table_walk.specs.Tables.{Tables}
@@ -21,10 +25,6 @@ HasEntry m h e = (es : List TlbEntry) × (buffer_of m h ≡ Some es) × Contains
 abbrev pub SameBuffers : Machine → Machine → Type 0
 SameBuffers old new = (h : ℕ) → buffer_of new h ≡ buffer_of old h
 
--- entries may go, and none comes
-abbrev pub NoNewEntries : Machine → Machine → Type 0
-NoNewEntries old new = (h : ℕ) (e : TlbEntry) → HasEntry new h e → HasEntry old h e
-
 -- the step is a fill on the hart, and the entry says what the table that satp has says of the page
 abbrev pub WasFilled : Machine → (ℕ → Tables) → Tables → Step → ℕ → TlbEntry → Type 0
 WasFilled old tables kernel s h e =
@@ -34,3 +34,24 @@ WasFilled old tables kernel s h e =
 -- was there before, or the step filled it
 abbrev pub OnlyFillsAdd : Machine → Machine → (ℕ → Tables) → Tables → Step → Type 0
 OnlyFillsAdd old new tables kernel s = (h : ℕ) (e : TlbEntry) → HasEntry new h e → HasEntry old h e ⊎ WasFilled old tables kernel s h e
+
+-- the step is about the buffer of this hart
+abbrev pub is_about : Step → ℕ → Bool
+is_about (step.Fill h address) k = h == k
+is_about (step.Evict h n) k = h == k
+is_about (step.Next h) k = h == k
+is_about s k = false
+
+-- what a step makes of its hart's buffer (RISC-V Privileged Architecture 20211203, 4.2.1): a fill puts what the table that satp has
+-- says of the page last, and a full buffer loses its first entry; an eviction takes the entry with that number; an instruction of the
+-- trampoline that is a fence of everything takes all
+abbrev pub buffer_after : (ℕ → Tables) → Tables → Step → Hart → List TlbEntry
+buffer_after tables kernel (step.Fill h address) x = newest_entries buffer_size (x.buffer ++ entry_for (tables_of tables kernel (present_table x)) 0 address ∷ [])
+buffer_after tables kernel (step.Evict h n) x = remove x.buffer n
+buffer_after tables kernel (step.Next h) x = if is_before_fence x.phase then [] else x.buffer
+buffer_after tables kernel s x = x.buffer
+
+-- each buffer is what the step makes of it where the step was made and is about it, and else what it was, in the order of filling
+abbrev pub BuffersAre : Machine → Machine → (ℕ → Tables) → Tables → Step → Reply → Type 0
+BuffersAre old new tables kernel s reply =
+    (h : ℕ) → buffer_of new h ≡ option_map (λ x. if not (is_refused reply) && is_about s h then buffer_after tables kernel s x else x.buffer) (slice_get old.harts.items h)

@@ -1,7 +1,7 @@
 // Entries that come into the buffers of harts, and leave them.
 
 ghost use Rattle.std.specs.Prelude.{◌≡◌};
-ghost use Rattle.hart_machine.specs.Buffers.{NoNewEntries, OnlyFillsAdd};
+ghost use Rattle.hart_machine.specs.Buffers.{BuffersAre};
 ghost use Rattle.hart_machine.specs.Worlds.{IsWorld, Makes};
 ghost use Rattle.process_model.specs.Steps.{plain_step};
 ghost use Rattle.process_model.specs.World.{World};
@@ -16,7 +16,7 @@ impl Machine {
     pub(crate) fn fill(&mut self, hart: usize, va: Va) -> Reply
         requires world { (w : World) × IsWorld self.old w }
         ensures made { (w : World) → IsWorld self.old w → Makes self.new result (plain_step w (step.Fill hart va.0)) }
-        ensures buffers { (w : World) (is : IsWorld self.old w) → OnlyFillsAdd self.old self.new is.tables is.kernel (step.Fill hart va.0) }
+        ensures buffers { (w : World) (is : IsWorld self.old w) → BuffersAre self.old self.new is.tables is.kernel (step.Fill hart va.0) result }
     {
         let Some(table) = self.table_of(hart) else {
             return Reply::Refused(Refusal::BadArgument);
@@ -28,7 +28,7 @@ impl Machine {
     pub(crate) fn evict(&mut self, hart: usize, entry: usize) -> Reply
         requires world { (w : World) × IsWorld self.old w }
         ensures made { (w : World) → IsWorld self.old w → Makes self.new result (plain_step w (step.Evict hart entry)) }
-        ensures buffers { NoNewEntries self.old self.new }
+        ensures buffers { (w : World) (is : IsWorld self.old w) → BuffersAre self.old self.new is.tables is.kernel (step.Evict hart entry) result }
     {
         if hart >= self.harts.len() {
             return Reply::Refused(Refusal::BadArgument);

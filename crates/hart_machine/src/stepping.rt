@@ -1,7 +1,7 @@
 // Steps of the machine, and lists of steps.
 
 ghost use Rattle.std.specs.Prelude.{◌≡◌, All, IfOk, map, OnErr, OnOk, option_copied, option_map, slice_get};
-ghost use Rattle.hart_machine.specs.Buffers.{buffer_of, OnlyFillsAdd};
+ghost use Rattle.hart_machine.specs.Buffers.{buffer_of, BuffersAre, OnlyFillsAdd};
 ghost use Rattle.hart_machine.specs.Harts.{key_of};
 ghost use Rattle.hart_machine.specs.Worlds.{IsWorld, Makes};
 ghost use Rattle.process_model.specs.Played.{IsPlayed};
@@ -24,6 +24,7 @@ impl Machine {
         requires played { IsPlayed step }
         ensures made { (w : World) → IsWorld self.old w → Makes self.new result (model.step w step.entry) }
         ensures buffers { (w : World) (is : IsWorld self.old w) → OnlyFillsAdd self.old self.new is.tables is.kernel step.entry }
+        ensures each_buffer { (w : World) (is : IsWorld self.old w) → BuffersAre self.old self.new is.tables is.kernel step.entry result }
     {
         match step {
             Step::Start(image) => self.start(image),

@@ -2,7 +2,7 @@
 
 ghost use Rattle.std.specs.Prelude.{◌≡◌, slice_get, Some};
 ghost use Rattle.std.specs.List.{list_any};
-ghost use Rattle.hart_machine.specs.Buffers.{NoNewEntries, SameBuffers};
+ghost use Rattle.hart_machine.specs.Buffers.{BuffersAre, SameBuffers};
 ghost use Rattle.hart_machine.specs.Worlds.{IsWorld, Makes};
 ghost use Rattle.process_model.specs.Harts as harts;
 ghost use Rattle.process_model.specs.Steps.{plain_step};
@@ -65,7 +65,7 @@ impl Machine {
     pub(crate) fn next(&mut self, hart: usize) -> Reply
         requires world { (w : World) × IsWorld self.old w }
         ensures made { (w : World) → IsWorld self.old w → Makes self.new result (plain_step w (step.Next hart)) }
-        ensures buffers { NoNewEntries self.old self.new }
+        ensures buffers { (w : World) (is : IsWorld self.old w) → BuffersAre self.old self.new is.tables is.kernel (step.Next hart) result }
     {
         let Some(phase) = self.phase_of(hart) else {
             return Reply::Refused(Refusal::BadArgument);

@@ -1,7 +1,7 @@
 // Translations by the table that a hart's satp has.
 
 ghost use Rattle.std.specs.Prelude.{◌≡◌, IfOk, is_ok, option_map, slice_get, Some};
-ghost use Rattle.hart_machine.specs.Buffers.{OnlyFillsAdd};
+ghost use Rattle.hart_machine.specs.Buffers.{BuffersAre};
 ghost use Rattle.hart_machine.specs.Harts.{hart_of};
 ghost use Rattle.hart_machine.specs.Tables.{tables_of, IsServed, IsThere, present_table};
 ghost use Rattle.table_walk.specs.Leaves.{walk_answer};
@@ -126,7 +126,7 @@ impl Machine {
         requires present { (x : Hart) × (slice_get self.old.harts.items hart ≡ Some x) × (table ≡ present_table x) }
         requires world { (w : World) × IsWorld self.old w }
         ensures made { (w : World) → IsWorld self.old w → Makes self.new (Filled result) (plain_step w (step.Fill hart va.0)) }
-        ensures buffers { (w : World) (is : IsWorld self.old w) → OnlyFillsAdd self.old self.new is.tables is.kernel (step.Fill hart va.0) }
+        ensures buffers { (w : World) (is : IsWorld self.old w) → BuffersAre self.old self.new is.tables is.kernel (step.Fill hart va.0) (Filled result) }
     {
         let frames = &mut self.frames;
         let hart = &mut self.harts[hart];

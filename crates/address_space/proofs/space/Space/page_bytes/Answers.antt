@@ -11,7 +11,7 @@ read_frame-requires-clause-held g c =
     let r = c.requires.ready in
     let found = c.page_frame-frame.ensures in
     let here = on_page _ _ _ _ r.0 r.1 _ r.2 _ r.3 (found.frame r.0 r.1 r.2 r.3) in
-    rw found.view (omega (arith, here.one))
+    rw found.view here.held
 
 pub read_frame-requires-clause-known : goal.read_frame-requires-clause-known
 read_frame-requires-clause-known g c =

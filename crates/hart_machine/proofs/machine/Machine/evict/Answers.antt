@@ -1,8 +1,7 @@
-use Rattle.std.proofs.Common.{List, ap, arith, refl, subst}
-use Rattle.std.specs.Prelude.{Contains}
-use Rattle.hart_tlb.specs.declared.entry.TlbEntry.{TlbEntry}
-use Rattle.hart_machine.proofs.BufferSteps.{none_comes}
-use Rattle.hart_machine.proofs.Entries.{evicts, evicts_nothing, evicts_nowhere, hart_within, in_remove}
+use Rattle.std.proofs.Common.{ap, arith, refl}
+use Rattle.hart_machine.proofs.BufferChanges.{evicted_are}
+use Rattle.hart_machine.proofs.BufferSteps.{same_buffers}
+use Rattle.hart_machine.proofs.Entries.{evicts, evicts_nothing, evicts_nowhere, hart_within}
 use Rattle.hart_machine.proofs.machine.Machine.evict.Goals as goal
 
 pub returns-then-hart-len-clause-made : goal.returns-then-hart-len-clause-made
@@ -16,10 +15,8 @@ returns-in-Ok-clause-made c w is =
     evicts c.args.self.now w is c.args.hart c.args.entry x.phase has x c.index_mut.ensures.value (c.in-Ok.ensures.there.0 refl) _ (ap (λ es. record x { buffer = es }) c.in-Ok.ensures.ok)
 
 pub returns-in-Ok-clause-buffers : goal.returns-in-Ok-clause-buffers
-returns-in-Ok-clause-buffers c =
-    let x = c.index_mut.result.now in
-    none_comes c.args.self.now c.args.hart x _ c.index_mut.ensures.value
-    (λ e there. in_remove x.buffer c.args.entry e (subst (λ (es : List TlbEntry). Contains es e) c.in-Ok.ensures.ok there))
+returns-in-Ok-clause-buffers c w is =
+    evicted_are c.args.self.now c.args.hart c.index_mut.result.now _ c.index_mut.ensures.value is.tables is.kernel c.args.entry c.in-Ok.ensures.ok
 
 pub returns-in-Err-clause-made : goal.returns-in-Err-clause-made
 returns-in-Err-clause-made c w is =
@@ -28,6 +25,4 @@ returns-in-Err-clause-made c w is =
     evicts_nothing c.args.self.now w is c.args.hart c.args.entry x.phase has x c.index_mut.ensures.value (λ within. let both = c.in-Err.ensures.there.1 within in cc) _ (ap (λ es. record x { buffer = es }) c.in-Err.ensures.err)
 
 pub returns-in-Err-clause-buffers : goal.returns-in-Err-clause-buffers
-returns-in-Err-clause-buffers c =
-    let x = c.index_mut.result.now in
-    none_comes c.args.self.now c.args.hart x _ c.index_mut.ensures.value (λ e there. subst (λ (es : List TlbEntry). Contains es e) c.in-Err.ensures.err there)
+returns-in-Err-clause-buffers c w is = same_buffers c.args.self.now c.args.hart c.index_mut.result.now _ c.index_mut.ensures.value c.in-Err.ensures.err

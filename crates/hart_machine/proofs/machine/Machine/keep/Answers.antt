@@ -1,5 +1,5 @@
 use Rattle.hart_machine.proofs.AccessingWorlds.{seat_fits}
-use Rattle.hart_machine.proofs.BufferSteps.{fill_adds}
+use Rattle.hart_machine.proofs.BufferChanges.{filled_are}
 use Rattle.hart_machine.proofs.FillWorlds.{fills, keeps_of_kernel, keeps_of_process, put_back, table_there}
 use Rattle.hart_machine.proofs.HartSteps.{process_at}
 use Rattle.hart_machine.proofs.PresentTables.{not_empty, slot_within, tenant_is}
@@ -20,7 +20,7 @@ returns-in-OfKernel-clause-buffers c w is =
     let r = c.requires.present in
     let x = c.index_mut-hart in
     let kept = keeps_of_kernel m w is c.args.va.0 x.result.now c.fill.new.self c.args.table c.in-OfKernel.is c.fill.ensures.kept in
-    fill_adds m c.args.hart x.result.now c.fill.new.self x.ensures.value r.0 r.1 c.args.table r.2 is.tables is.kernel c.args.va.0 kept
+    filled_are m c.args.hart x.result.now c.fill.new.self x.ensures.value is.tables is.kernel r.0 r.1 c.args.table r.2 c.args.va.0 kept c.fill.result
 
 pub index_mut-requires : goal.index_mut-requires
 index_mut-requires c =
@@ -76,4 +76,4 @@ returns-in-Some-clause-buffers c w is =
     let z = c.in-Some.tenant in
     let at = tenant_is m c.args.table s c.in-OfProcess.is (table_there m w is c.args.hart r.0 r.1 c.args.table r.2) _ c.index_mut.ensures.value z c.in-Some.is in
     let kept = keeps_of_process m w is c.args.va.0 x.result.now f.new.self c.args.table s c.in-OfProcess.is z at f.ensures.kept in
-    fill_adds m c.args.hart x.result.now f.new.self x.ensures.value r.0 r.1 c.args.table r.2 is.tables is.kernel c.args.va.0 kept
+    filled_are m c.args.hart x.result.now f.new.self x.ensures.value is.tables is.kernel r.0 r.1 c.args.table r.2 c.args.va.0 kept f.result

@@ -1,8 +1,6 @@
-use Rattle.std.proofs.Common.{◌∙◌, subst, sym}
-use Rattle.std.specs.Prelude.{Contains}
+use Rattle.std.proofs.Common.{◌∙◌, sym}
 use Rattle.process_model.specs.declared.step.Refusal.TheVariants.{BadArgument}
-use Rattle.hart_machine.specs.declared.hart.Hart.{Hart}
-use Rattle.hart_machine.proofs.BufferSteps.{advanced_has, none_comes}
+use Rattle.hart_machine.proofs.BufferChanges.{advanced_are}
 use Rattle.hart_machine.proofs.HartSteps.{goes_on, has_hart, next_refused, no_hart, refused, without_hart}
 use Rattle.hart_machine.proofs.machine.Machine.next.Goals as goal
 
@@ -28,6 +26,4 @@ returns-clause-made c w is =
     (sym (c.can_go_on.ensures w _ is has.in_model has.phased) ∙ c.if-not-can_go_on.false)
 
 pub returns-clause-buffers : goal.returns-clause-buffers
-returns-clause-buffers c =
-    none_comes c.args.self.now c.args.hart c.index_mut.result.now c.advance.new.self c.index_mut.ensures.value
-    (λ e there. advanced_has c.index_mut.result.now e (subst (λ (y : Hart). Contains y.buffer e) c.advance.ensures there))
+returns-clause-buffers c w is = advanced_are c.args.self.now c.args.hart c.index_mut.result.now c.advance.new.self c.index_mut.ensures.value is.tables is.kernel c.advance.ensures

@@ -1,11 +1,9 @@
-use Rattle.std.proofs.Common.{subst, sym}
+use Rattle.std.proofs.Common.{refl, subst}
 use Rattle.process_model.specs.Service.{access_step}
-use Rattle.process_model.specs.declared.step.Step.{Step}
 use Rattle.process_model.specs.declared.step.Step.TheVariants as step
-use Rattle.hart_machine.specs.Buffers.{OnlyFillsAdd}
 use Rattle.hart_machine.specs.Worlds.{Makes}
 use Rattle.address_space.specs.declared.user.Asked.{Asked}
-use Rattle.hart_machine.proofs.BufferSteps.{none_adds, same_adds}
+use Rattle.hart_machine.proofs.BufferChanges.{are_of, only_fills_add, same_are}
 use Rattle.hart_machine.proofs.PlayedSteps.{steps}
 use Rattle.hart_machine.proofs.machine.Machine.step.Goals as goal
 
@@ -13,43 +11,61 @@ pub returns-in-Start-clause-made : goal.returns-in-Start-clause-made
 returns-in-Start-clause-made c w is =
     steps c.args.self.now _ _ w is (step.Start c.in-Start.image) _ c.in-Start.is (c.start.ensures.made w is)
 
+pub returns-in-Start-clause-each_buffer : goal.returns-in-Start-clause-each_buffer
+returns-in-Start-clause-each_buffer c w is = are_of c.args.self.now c.start.new.self is.tables is.kernel c.start.result c.in-Start.is (same_are c.args.self.now c.start.new.self is.tables is.kernel (step.Start c.in-Start.image) _ (λ h. refl) c.start.ensures.buffers)
+
 pub returns-in-Start-clause-buffers : goal.returns-in-Start-clause-buffers
-returns-in-Start-clause-buffers c w is = same_adds c.args.self.now c.start.new.self c.start.ensures.buffers is.tables is.kernel _
+returns-in-Start-clause-buffers c w is = only_fills_add c.args.self.now c.start.new.self is.tables is.kernel _ _ (returns-in-Start-clause-each_buffer c w is)
 
 pub returns-in-Switch-clause-made : goal.returns-in-Switch-clause-made
 returns-in-Switch-clause-made c w is =
     steps c.args.self.now _ _ w is (step.Switch c.in-Switch.hart c.in-Switch.slot) _ c.in-Switch.is (c.switch.ensures.made w is)
 
+pub returns-in-Switch-clause-each_buffer : goal.returns-in-Switch-clause-each_buffer
+returns-in-Switch-clause-each_buffer c w is = are_of c.args.self.now c.switch.new.self is.tables is.kernel c.switch.result c.in-Switch.is (same_are c.args.self.now c.switch.new.self is.tables is.kernel (step.Switch c.in-Switch.hart c.in-Switch.slot) _ (λ h. refl) c.switch.ensures.buffers)
+
 pub returns-in-Switch-clause-buffers : goal.returns-in-Switch-clause-buffers
-returns-in-Switch-clause-buffers c w is = same_adds c.args.self.now c.switch.new.self c.switch.ensures.buffers is.tables is.kernel _
+returns-in-Switch-clause-buffers c w is = only_fills_add c.args.self.now c.switch.new.self is.tables is.kernel _ _ (returns-in-Switch-clause-each_buffer c w is)
 
 pub returns-in-Trap-clause-made : goal.returns-in-Trap-clause-made
 returns-in-Trap-clause-made c w is =
     steps c.args.self.now _ _ w is (step.Trap c.in-Trap.hart) _ c.in-Trap.is (c.trap.ensures.made w is)
 
+pub returns-in-Trap-clause-each_buffer : goal.returns-in-Trap-clause-each_buffer
+returns-in-Trap-clause-each_buffer c w is = are_of c.args.self.now c.trap.new.self is.tables is.kernel c.trap.result c.in-Trap.is (same_are c.args.self.now c.trap.new.self is.tables is.kernel (step.Trap c.in-Trap.hart) _ (λ h. refl) c.trap.ensures.buffers)
+
 pub returns-in-Trap-clause-buffers : goal.returns-in-Trap-clause-buffers
-returns-in-Trap-clause-buffers c w is = same_adds c.args.self.now c.trap.new.self c.trap.ensures.buffers is.tables is.kernel _
+returns-in-Trap-clause-buffers c w is = only_fills_add c.args.self.now c.trap.new.self is.tables is.kernel _ _ (returns-in-Trap-clause-each_buffer c w is)
 
 pub returns-in-Next-clause-made : goal.returns-in-Next-clause-made
 returns-in-Next-clause-made c w is =
     steps c.args.self.now _ _ w is (step.Next c.in-Next.hart) _ c.in-Next.is (c.next.ensures.made w is)
 
+pub returns-in-Next-clause-each_buffer : goal.returns-in-Next-clause-each_buffer
+returns-in-Next-clause-each_buffer c w is = are_of c.args.self.now c.next.new.self is.tables is.kernel c.next.result c.in-Next.is (c.next.ensures.buffers w is)
+
 pub returns-in-Next-clause-buffers : goal.returns-in-Next-clause-buffers
-returns-in-Next-clause-buffers c w is = none_adds c.args.self.now c.next.new.self c.next.ensures.buffers is.tables is.kernel _
+returns-in-Next-clause-buffers c w is = only_fills_add c.args.self.now c.next.new.self is.tables is.kernel _ _ (returns-in-Next-clause-each_buffer c w is)
 
 pub returns-in-Fill-clause-made : goal.returns-in-Fill-clause-made
 returns-in-Fill-clause-made c w is =
     steps c.args.self.now _ _ w is (step.Fill c.in-Fill.hart c.in-Fill.address) _ c.in-Fill.is (c.fill.ensures.made w is)
 
+pub returns-in-Fill-clause-each_buffer : goal.returns-in-Fill-clause-each_buffer
+returns-in-Fill-clause-each_buffer c w is = are_of c.args.self.now c.fill.new.self is.tables is.kernel c.fill.result c.in-Fill.is (c.fill.ensures.buffers w is)
+
 pub returns-in-Fill-clause-buffers : goal.returns-in-Fill-clause-buffers
-returns-in-Fill-clause-buffers c w is = subst (λ (s : Step). OnlyFillsAdd c.args.self.now c.fill.new.self is.tables is.kernel s) (sym c.in-Fill.is) (c.fill.ensures.buffers w is)
+returns-in-Fill-clause-buffers c w is = only_fills_add c.args.self.now c.fill.new.self is.tables is.kernel _ _ (returns-in-Fill-clause-each_buffer c w is)
 
 pub returns-in-Evict-clause-made : goal.returns-in-Evict-clause-made
 returns-in-Evict-clause-made c w is =
     steps c.args.self.now _ _ w is (step.Evict c.in-Evict.hart c.in-Evict.entry) _ c.in-Evict.is (c.evict.ensures.made w is)
 
+pub returns-in-Evict-clause-each_buffer : goal.returns-in-Evict-clause-each_buffer
+returns-in-Evict-clause-each_buffer c w is = are_of c.args.self.now c.evict.new.self is.tables is.kernel c.evict.result c.in-Evict.is (c.evict.ensures.buffers w is)
+
 pub returns-in-Evict-clause-buffers : goal.returns-in-Evict-clause-buffers
-returns-in-Evict-clause-buffers c w is = none_adds c.args.self.now c.evict.new.self c.evict.ensures.buffers is.tables is.kernel _
+returns-in-Evict-clause-buffers c w is = only_fills_add c.args.self.now c.evict.new.self is.tables is.kernel _ _ (returns-in-Evict-clause-each_buffer c w is)
 
 pub returns-in-Fetch-clause-made : goal.returns-in-Fetch-clause-made
 returns-in-Fetch-clause-made c w is =
@@ -57,8 +73,11 @@ returns-in-Fetch-clause-made c w is =
     steps c.args.self.now _ _ w is (step.Fetch x.hart x.address x.via) _ x.is
     (subst (λ (a : Asked). Makes c.access.new.self c.access.result (access_step w x.hart a.access a.va.0 a.width a.value x.via)) c.asked.ensures (c.access.ensures.made w is))
 
+pub returns-in-Fetch-clause-each_buffer : goal.returns-in-Fetch-clause-each_buffer
+returns-in-Fetch-clause-each_buffer c w is = let x = c.in-Fetch in are_of c.args.self.now c.access.new.self is.tables is.kernel c.access.result c.in-Fetch.is (same_are c.args.self.now c.access.new.self is.tables is.kernel (step.Fetch x.hart x.address x.via) _ (λ h. refl) c.access.ensures.buffers)
+
 pub returns-in-Fetch-clause-buffers : goal.returns-in-Fetch-clause-buffers
-returns-in-Fetch-clause-buffers c w is = same_adds c.args.self.now c.access.new.self c.access.ensures.buffers is.tables is.kernel _
+returns-in-Fetch-clause-buffers c w is = only_fills_add c.args.self.now c.access.new.self is.tables is.kernel _ _ (returns-in-Fetch-clause-each_buffer c w is)
 
 pub returns-in-Load-clause-made : goal.returns-in-Load-clause-made
 returns-in-Load-clause-made c w is =
@@ -66,8 +85,11 @@ returns-in-Load-clause-made c w is =
     steps c.args.self.now _ _ w is (step.Load x.hart x.address x.width x.via) _ x.is
     (subst (λ (a : Asked). Makes c.access-in-Load.new.self c.access-in-Load.result (access_step w x.hart a.access a.va.0 a.width a.value x.via)) c.asked-in-Load.ensures (c.access-in-Load.ensures.made w is))
 
+pub returns-in-Load-clause-each_buffer : goal.returns-in-Load-clause-each_buffer
+returns-in-Load-clause-each_buffer c w is = let x = c.in-Load in are_of c.args.self.now c.access-in-Load.new.self is.tables is.kernel c.access-in-Load.result c.in-Load.is (same_are c.args.self.now c.access-in-Load.new.self is.tables is.kernel (step.Load x.hart x.address x.width x.via) _ (λ h. refl) c.access-in-Load.ensures.buffers)
+
 pub returns-in-Load-clause-buffers : goal.returns-in-Load-clause-buffers
-returns-in-Load-clause-buffers c w is = same_adds c.args.self.now c.access-in-Load.new.self c.access-in-Load.ensures.buffers is.tables is.kernel _
+returns-in-Load-clause-buffers c w is = only_fills_add c.args.self.now c.access-in-Load.new.self is.tables is.kernel _ _ (returns-in-Load-clause-each_buffer c w is)
 
 pub returns-in-Store-clause-made : goal.returns-in-Store-clause-made
 returns-in-Store-clause-made c w is =
@@ -75,13 +97,19 @@ returns-in-Store-clause-made c w is =
     steps c.args.self.now _ _ w is (step.Store x.hart x.address x.width x.value x.via) _ x.is
     (subst (λ (a : Asked). Makes c.access-in-Store.new.self c.access-in-Store.result (access_step w x.hart a.access a.va.0 a.width a.value x.via)) c.asked-in-Store.ensures (c.access-in-Store.ensures.made w is))
 
+pub returns-in-Store-clause-each_buffer : goal.returns-in-Store-clause-each_buffer
+returns-in-Store-clause-each_buffer c w is = let x = c.in-Store in are_of c.args.self.now c.access-in-Store.new.self is.tables is.kernel c.access-in-Store.result c.in-Store.is (same_are c.args.self.now c.access-in-Store.new.self is.tables is.kernel (step.Store x.hart x.address x.width x.value x.via) _ (λ h. refl) c.access-in-Store.ensures.buffers)
+
 pub returns-in-Store-clause-buffers : goal.returns-in-Store-clause-buffers
-returns-in-Store-clause-buffers c w is = same_adds c.args.self.now c.access-in-Store.new.self c.access-in-Store.ensures.buffers is.tables is.kernel _
+returns-in-Store-clause-buffers c w is = only_fills_add c.args.self.now c.access-in-Store.new.self is.tables is.kernel _ _ (returns-in-Store-clause-each_buffer c w is)
 
 pub returns-in-TrampolineFetch-clause-made : goal.returns-in-TrampolineFetch-clause-made
 returns-in-TrampolineFetch-clause-made c w is =
     let x = c.in-TrampolineFetch in
     steps c.args.self.now _ _ w is (step.TrampolineFetch x.hart x.offset x.via) _ x.is (c.fetch_trampoline.ensures.made w is)
 
+pub returns-in-TrampolineFetch-clause-each_buffer : goal.returns-in-TrampolineFetch-clause-each_buffer
+returns-in-TrampolineFetch-clause-each_buffer c w is = let x = c.in-TrampolineFetch in are_of c.args.self.now c.fetch_trampoline.new.self is.tables is.kernel c.fetch_trampoline.result c.in-TrampolineFetch.is (same_are c.args.self.now c.fetch_trampoline.new.self is.tables is.kernel (step.TrampolineFetch x.hart x.offset x.via) _ (λ h. refl) c.fetch_trampoline.ensures.buffers)
+
 pub returns-in-TrampolineFetch-clause-buffers : goal.returns-in-TrampolineFetch-clause-buffers
-returns-in-TrampolineFetch-clause-buffers c w is = same_adds c.args.self.now c.fetch_trampoline.new.self c.fetch_trampoline.ensures.buffers is.tables is.kernel _
+returns-in-TrampolineFetch-clause-buffers c w is = only_fills_add c.args.self.now c.fetch_trampoline.new.self is.tables is.kernel _ _ (returns-in-TrampolineFetch-clause-each_buffer c w is)
