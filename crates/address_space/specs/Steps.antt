@@ -1,15 +1,16 @@
 -- What the calls of a space ask for, and what they do.
-use Rattle.std.specs.Prelude.{◌≡◌, ◌≢◌, ℕ, true, false, not, ◌==◌, ◌+◌, ◌-◌, ◌<◌, None, Some, List, []}
+use Rattle.std.specs.Prelude.{◌≡◌, ◌≢◌, ℕ, true, false, not, ◌==◌, ◌+◌, ◌-◌, ◌%◌, ◌<◌, None, Option, Some, List, [], option_to_list}
 use Rattle.std.specs.Prelude.{◌∷◌, ◌++◌}
 use Rattle.frame_store.specs.View.{spent, taken, View, IsSole, references}
-use Rattle.process_model.specs.Bytes.{padded}
+use Rattle.process_model.specs.Bytes.{low_bytes, padded}
 use Rattle.process_model.specs.Frames.{part_need, settle_need}
+use Rattle.process_model.specs.Mappings.{with_instead, with_mapping}
 use Rattle.process_model.specs.Order.{HasOrder}
 use Rattle.process_model.specs.PageMap as pages
 use Rattle.process_model.specs.Process.{Page, Process, regions}
 use Rattle.process_model.specs.Regions.{is_guard_kind, is_shared_kind, makes_leaf, Region, region_at}
-use Rattle.process_model.specs.Residence.{marked_stored, region_on, unmarked, with_page}
-use Rattle.sv39_entry.specs.Address.{trapframe_page}
+use Rattle.process_model.specs.Residence.{marked_stored, region_on, stored, unmarked, with_page}
+use Rattle.sv39_entry.specs.Address.{page_of, trapframe_page}
 use Rattle.table_walk.specs.Tables.{Tables, missing}
 use Rattle.address_space.specs.Agreement.{Body, IsSpace, IsOn, nothing, OthersKeep, Stands}
 
@@ -70,7 +71,15 @@ pub record Settles (v : View) (x : Body) (t u : Tables) (p : Process) (page : �
   pub others : OthersKeep t u page
   pub takes : Takes v x.view (settle_need p page) []
 
+-- what `settle` does where it is not refused
+abbrev pub HasSettled : Body → Body → ℕ → List ℕ → Type 0
+HasSettled x y page bytes = (t : Tables) (p : Process) → CanSettle x t p page → (u : Tables) × (f : ℕ) × Settles x.view y t u p page bytes f
+
 -- a page is made the process's own
+
+-- how many frames it takes, by the count of the one that it has
+abbrev pub own_need : ℕ → ℕ
+own_need count = part_need (not (count == 1))
 
 -- a settled page with a fork mark
 pub record CanOwn (x : Body) (t : Tables) (p : Process) (page : ℕ) (s : Page) (f : ℕ) : Type 0 where
@@ -90,7 +99,16 @@ pub record Owned (v : View) (x : Body) (t u : Tables) (p : Process) (page : ℕ)
   pub fresh : c ≢ 1 → references v g ≡ 0
   pub sole : IsSole x.view g
   pub others : OthersKeep t u page
-  pub takes : Takes v x.view (part_need (not (c == 1))) (c ∷ [])
+  pub takes : Takes v x.view (own_need c) (c ∷ [])
+
+-- of each frame that the page may be on
+abbrev pub WhenOwned : Body → ℕ → (ℕ → Type 0) → Type 0
+WhenOwned x page P = (t : Tables) (p : Process) (s : Page) (f : ℕ) → CanOwn x t p page s f → P f
+
+-- what `own` does where it is not refused; the count that it reads is told
+abbrev pub HasOwned : Body → Body → ℕ → (ℕ → ℕ → Type 0) → Type 0
+HasOwned x y page IsCount = (t : Tables) (p : Process) (s : Page) (f : ℕ) → CanOwn x t p page s f
+    → (u : Tables) × (g c : ℕ) × Owned x.view y t u p page s f g c × IsCount f c
 
 -- a page is read and written
 
@@ -105,6 +123,15 @@ pub record CanWrite (x : Body) (t : Tables) (p : Process) (page : ℕ) (s : Page
   pub region : Region
   pub in_region : region_at (regions p) page ≡ Some region
   pub writes : region.writes ≡ true
+
+-- the process after a value was stored to a page of it
+abbrev pub stored_at : Process → Page → ℕ → ℕ → ℕ → Process
+stored_at p s address width value = with_page p (page_of address) (stored s (address % 4096) (low_bytes value width))
+
+-- a value was stored to a page, where that is on a frame that is told
+abbrev pub HasStored : Body → Body → ℕ → ℕ → ℕ → (Tables → Type 0) → Type 0
+HasStored x y address width value OnFrame = (t : Tables) (p : Process) (s : Page) → CanWrite x t p (page_of address) s → OnFrame t
+    → IsSpace y t (stored_at p s address width value)
 
 -- a page gets the stored mark, where stores go back to a file
 
@@ -137,9 +164,25 @@ abbrev pub KeepsLeaves : Process → Process → Type 0
 KeepsLeaves p q = (n : ℕ) (s : Page) (r : Region) → pages.get p.settled n ≡ Some s → region_at (regions p) n ≡ Some r
     → (x : Region) × (region_at (regions q) n ≡ Some x) × LeafLike r x
 
+-- the heap ends elsewhere
+abbrev pub sized : Process → ℕ → Process
+sized p size = record p { size = size }
+
+-- a mapping comes
+abbrev pub mapped_with : Process → Region → Process
+mapped_with p r = record p { mappings = with_mapping r p.mappings }
+
+-- what is left of the mapping that begins at a page stands in its place
+abbrev pub left_with : Process → ℕ → Option Region → Process
+left_with p first rest = record p { mappings = with_instead p.mappings first (option_to_list rest) }
+
 -- regions in place of those of a process: other runs of pages, under the same settled pages
 pub record CanRelay (p q : Process) : Type 0 where
   pub settled : q.settled ≡ p.settled
   pub tabled : q.tabled ≡ p.tabled
   pub order : HasOrder 0 q
   pub leaves : KeepsLeaves p q
+
+-- the regions of a process became others
+abbrev pub HasRelaid : Body → Body → (Process → Process) → Type 0
+HasRelaid x y other = (t : Tables) (p : Process) → IsSpace x t p → CanRelay p (other p) → IsSpace y t (other p)

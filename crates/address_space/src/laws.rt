@@ -1,12 +1,9 @@
 // What walks over the tables of a space are worth.
 
-ghost use Rattle.std.specs.Prelude.{◌≡◌, ◌↔◌, ℕ, None, true};
-ghost use Rattle.address_space.specs.Accesses.{gives_leaf};
+ghost use Rattle.std.specs.Prelude.{◌≡◌, ◌↔◌, ℕ, true};
+ghost use Rattle.address_space.specs.Accesses.{gives_leaf, IsGranted};
 ghost use Rattle.address_space.specs.Agreement.{Body, IsSpace};
-ghost use Rattle.process_model.specs.Process.{Process, regions};
-ghost use Rattle.process_model.specs.Regions.{copy_rule};
-ghost use Rattle.process_model.specs.Residence.{is_resident};
-ghost use Rattle.sv39_entry.specs.Address.{page_of};
+ghost use Rattle.process_model.specs.Process.{Process};
 ghost use Rattle.sv39_entry.specs.declared.access.Access.{Access};
 ghost use Rattle.sv39_entry.specs.declared.access.Mode.TheVariants.{User};
 ghost use Rattle.table_walk.specs.Leaves.{walk_answer};
@@ -16,5 +13,5 @@ ghost use Rattle.table_walk.specs.Tables.{Tables};
 /// process's regions denies it, alignment aside, and its page is resident for it.
 pub fn walks_grant_what_is_resident()
     ensures { (x : Body) (t : Tables) (p : Process) (access : Access) (address : ℕ) → IsSpace x t p →
-        (gives_leaf (walk_answer t address access User) ≡ true) ↔ ((copy_rule (regions p) access address ≡ None) × (is_resident p access (page_of address) ≡ true)) }
+        (gives_leaf (walk_answer t address access User) ≡ true) ↔ IsGranted p access address }
 {}

@@ -4,9 +4,8 @@ ghost use Rattle.std.specs.Prelude.{[], ◌≡◌, ◌≢◌, ◌∷◌, ◌+◌
 ghost use Rattle.address_space.specs.Agreement.{body_of, IsSpace};
 ghost use Rattle.address_space.specs.Layouts.{region_of};
 ghost use Rattle.address_space.specs.Separating.{CanSeparate, Separates};
-ghost use Rattle.address_space.specs.Steps.{CanOwn, Owned, RunsDry};
+ghost use Rattle.address_space.specs.Steps.{CanOwn, HasOwned, own_need, RunsDry, WhenOwned};
 ghost use Rattle.frame_store.specs.Laws.{Fits, Keeps};
-ghost use Rattle.process_model.specs.Frames.{part_need};
 ghost use Rattle.process_model.specs.Process.{Page, Process};
 ghost use Rattle.table_walk.specs.Tables.{Tables};
 
@@ -24,19 +23,14 @@ impl<S: FrameSeat> Space<S> {
     pub fn own<F: FrameSupply<Seat = S>>(&mut self, store: &mut F, page: Vpn) -> Result<(), NoFrame>
         requires fits { Fits F.rule store.old self.old.seat }
         requires ready { (t : Tables) × (p : Process) × (s : Page) × (f : ℕ) × CanOwn (body_of S.view self.old) t p page s f }
-        ensures owned { IfOk result (λ _. (t : Tables) (p : Process) (s : Page) (f : ℕ) →
-            CanOwn (body_of S.view self.old) t p page s f →
-            (u : Tables) × (g c : ℕ) × Owned (S.view self.old.seat) (body_of S.view self.new) t u p page s f g c × (F.alone → c ≡ F.count store.old f)) }
+        ensures owned { IfOk result (λ _. HasOwned (body_of S.view self.old) (body_of S.view self.new) page (λ f c. F.alone → c ≡ F.count store.old f)) }
         ensures dry { IfErr result (λ _. (c : ℕ) × (c ≢ 1) × RunsDry (S.view self.old.seat) (S.view self.new.seat) 1 (c ∷ [])) }
         ensures whole { IfErr result (λ _. (t : Tables) (p : Process) →
             IsSpace (body_of S.view self.old) t p →
             IsSpace (body_of S.view self.new) t p) }
-        ensures exact { F.alone → (t : Tables) (p : Process) (s : Page) (f : ℕ) →
-            CanOwn (body_of S.view self.old) t p page s f →
-            IsOk result ↔ (part_need (not (F.count store.old f == 1)) ≤ F.free store.old) }
-        ensures free { F.alone → (t : Tables) (p : Process) (s : Page) (f : ℕ) →
-            CanOwn (body_of S.view self.old) t p page s f →
-            F.free store.new ≡ F.free store.old - (if is_ok result then part_need (not (F.count store.old f == 1)) else 0) }
+        ensures exact { F.alone → WhenOwned (body_of S.view self.old) page (λ f. IsOk result ↔ (own_need (F.count store.old f) ≤ F.free store.old)) }
+        ensures free { F.alone → WhenOwned (body_of S.view self.old) page (λ f.
+            F.free store.new ≡ F.free store.old - (if is_ok result then own_need (F.count store.old f) else 0)) }
         ensures root { self.new.root ≡ self.old.root }
         ensures trapframe { self.new.trapframe ≡ self.old.trapframe }
         ensures layout { self.new.layout ≡ self.old.layout }

@@ -4,7 +4,7 @@ ghost use Rattle.std.specs.FinMap.{get};
 ghost use Rattle.std.specs.Prelude.{[], ◌≡◌, ◌+◌, ◌-◌, ◌^◌, ◌<◌, ◌≤◌, ◌↔◌, ◌==◌, false, if◌then◌else◌, IfErr, IfOk, is_ok, IsOk, length, not, option_and_then, option_map, Some, true, ℕ};
 ghost use Rattle.address_space.specs.Agreement.{body_of, IsSpace, IsPageLeaf, IsOn};
 ghost use Rattle.address_space.specs.Layouts.{region_of};
-ghost use Rattle.address_space.specs.Steps.{Adds, CanAdd, CanSettle, RunsDry, Settles};
+ghost use Rattle.address_space.specs.Steps.{Adds, CanAdd, CanSettle, HasSettled, RunsDry};
 ghost use Rattle.frame_store.specs.Laws.{Fits, Keeps};
 ghost use Rattle.frame_store.specs.View.{IsHeld, IsSole};
 ghost use Rattle.process_model.specs.Frames.{settle_need};
@@ -87,9 +87,7 @@ impl<S: FrameSeat> Space<S> {
         requires fits { Fits F.rule store.old self.old.seat }
         requires ready { (t : Tables) × (p : Process) × CanSettle (body_of S.view self.old) t p page }
         requires inside { length bytes.now ≤ 4096 }
-        ensures settled { IfOk result (λ _. (t : Tables) (p : Process) →
-            CanSettle (body_of S.view self.old) t p page →
-            (u : Tables) × (f : ℕ) × Settles (S.view self.old.seat) (body_of S.view self.new) t u p page bytes.now f) }
+        ensures settled { IfOk result (λ _. HasSettled (body_of S.view self.old) (body_of S.view self.new) page bytes.now) }
         ensures dry { IfErr result (λ _. (t : Tables) (p : Process) →
             CanSettle (body_of S.view self.old) t p page →
             RunsDry (S.view self.old.seat) (S.view self.new.seat) (settle_need p page) []) }

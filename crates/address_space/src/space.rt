@@ -1,15 +1,15 @@
 // A process in memory.
 
-ghost use Rattle.std.specs.Prelude.{[], ◌≡◌, ◌%◌, ◌<◌, ℕ, IsTrue, length, List, option_map, option_to_list};
+ghost use Rattle.std.specs.Prelude.{[], ◌≡◌, ◌%◌, ◌<◌, ℕ, IsTrue, length, option_map};
 ghost use Rattle.address_space.specs.Agreement.{body_of, IsSpace, IsOn};
 ghost use Rattle.address_space.specs.Layouts.{granted_unless, region_of};
-ghost use Rattle.address_space.specs.Steps.{CanRead, CanRelay, CanWrite, Takes};
+ghost use Rattle.address_space.specs.Steps.{CanRead, CanWrite, HasRelaid, HasStored, left_with, mapped_with, sized, stored_at, Takes};
 ghost use Rattle.frame_store.specs.Laws.{Fits, Keeps};
-ghost use Rattle.process_model.specs.Bytes.{is_width, low_bytes};
-ghost use Rattle.process_model.specs.Mappings.{most_mappings, with_instead, with_mapping};
+ghost use Rattle.process_model.specs.Bytes.{is_width};
+ghost use Rattle.process_model.specs.Mappings.{most_mappings};
 ghost use Rattle.process_model.specs.Process.{Page, Process, regions};
 ghost use Rattle.process_model.specs.Regions as model;
-ghost use Rattle.process_model.specs.Residence.{loaded, stored, with_page};
+ghost use Rattle.process_model.specs.Residence.{loaded};
 ghost use Rattle.sv39_entry.specs.Address.{page_of};
 ghost use Rattle.table_walk.specs.Tables.{Tables};
 
@@ -116,8 +116,7 @@ impl<S: FrameSeat> Space<S> {
         requires width { IsTrue (is_width width) }
         requires aligned { va.0 % width ≡ 0 }
         ensures agrees { (t : Tables) (p : Process) (s : Page) → CanWrite (body_of S.view self.old) t p (page_of va.0) s →
-            IsSpace (body_of S.view self.new) t
-            (with_page p (page_of va.0) (stored s (va.0 % 4096) (low_bytes value width))) }
+            IsSpace (body_of S.view self.new) t (stored_at p s va.0 width value) }
         ensures root { self.new.root ≡ self.old.root }
         ensures trapframe { self.new.trapframe ≡ self.old.trapframe }
         ensures layout { self.new.layout ≡ self.old.layout }
@@ -143,9 +142,7 @@ impl<S: FrameSeat> Space<S> {
         requires ready { (t : Tables) × (p : Process) × (s : Page) × CanWrite (body_of S.view self.old) t p (page_of va.0) s × IsOn t (page_of va.0) frame.0 }
         requires width { IsTrue (is_width width) }
         requires aligned { va.0 % width ≡ 0 }
-        ensures agrees { (t : Tables) (p : Process) (s : Page) → CanWrite (body_of S.view self.old) t p (page_of va.0) s → IsOn t (page_of va.0) frame.0 →
-            IsSpace (body_of S.view self.new) t
-            (with_page p (page_of va.0) (stored s (va.0 % 4096) (low_bytes value width))) }
+        ensures agrees { HasStored (body_of S.view self.old) (body_of S.view self.new) va.0 width value (λ t. IsOn t (page_of va.0) frame.0) }
         ensures root { self.new.root ≡ self.old.root }
         ensures trapframe { self.new.trapframe ≡ self.old.trapframe }
         ensures layout { self.new.layout ≡ self.old.layout }
@@ -166,9 +163,7 @@ impl<S: FrameSeat> Space<S> {
 
     /// Ends the heap at another address. No page gets a frame by it, and none loses one.
     pub fn set_size(&mut self, size: u64)
-        ensures agrees { (t : Tables) (p : Process) → IsSpace (body_of S.view self.old) t p →
-            CanRelay p (record p { size = size }) →
-            IsSpace (body_of S.view self.new) t (record p { size = size }) }
+        ensures agrees { HasRelaid (body_of S.view self.old) (body_of S.view self.new) (λ p. sized p size) }
         ensures seat { self.new.seat ≡ self.old.seat }
         ensures root { self.new.root ≡ self.old.root }
         ensures trapframe { self.new.trapframe ≡ self.old.trapframe }
@@ -179,9 +174,7 @@ impl<S: FrameSeat> Space<S> {
     /// Adds a mapping. No page gets a frame by it.
     pub fn add_mapping(&mut self, mapping: Region)
         requires few { length (self.old.layout).mappings < most_mappings }
-        ensures agrees { (t : Tables) (p : Process) → IsSpace (body_of S.view self.old) t p →
-            CanRelay p (record p { mappings = with_mapping (region_of mapping) p.mappings }) →
-            IsSpace (body_of S.view self.new) t (record p { mappings = with_mapping (region_of mapping) p.mappings }) }
+        ensures agrees { HasRelaid (body_of S.view self.old) (body_of S.view self.new) (λ p. mapped_with p (region_of mapping)) }
         ensures seat { self.new.seat ≡ self.old.seat }
         ensures root { self.new.root ≡ self.old.root }
         ensures trapframe { self.new.trapframe ≡ self.old.trapframe }
@@ -192,9 +185,7 @@ impl<S: FrameSeat> Space<S> {
     /// Puts what is left of a mapping in the place of the one that begins at a page; where nothing is left, that one goes. No
     /// page that is left loses its frame by it.
     pub fn replace_mapping(&mut self, first: u64, rest: Option<Region>)
-        ensures agrees { (t : Tables) (p : Process) (ms : List model.Region) → IsSpace (body_of S.view self.old) t p →
-            ms ≡ with_instead p.mappings first (option_to_list (option_map region_of rest)) →
-            CanRelay p (record p { mappings = ms }) → IsSpace (body_of S.view self.new) t (record p { mappings = ms }) }
+        ensures agrees { HasRelaid (body_of S.view self.old) (body_of S.view self.new) (λ p. left_with p first (option_map region_of rest)) }
         ensures seat { self.new.seat ≡ self.old.seat }
         ensures root { self.new.root ≡ self.old.root }
         ensures trapframe { self.new.trapframe ≡ self.old.trapframe }

@@ -1,13 +1,12 @@
 // Accesses of the user: translated by the tables of the space, and made.
 
 ghost use Rattle.std.specs.Prelude.{◌≡◌, IsTrue};
-ghost use Rattle.address_space.specs.Accesses.{asked_of};
+ghost use Rattle.address_space.specs.Accesses.{asked_of, IsWalkOf};
 ghost use Rattle.address_space.specs.Agreement.{body_of, IsSpace};
 ghost use Rattle.frame_store.specs.Laws.{Fits, Keeps};
 ghost use Rattle.process_model.specs.Bytes.{is_width};
 ghost use Rattle.process_model.specs.Process.{Process};
 ghost use Rattle.process_model.specs.Service as service;
-ghost use Rattle.sv39_entry.specs.declared.access.Mode.TheVariants.{User};
 ghost use Rattle.table_walk.specs.Leaves.{walk_answer};
 ghost use Rattle.table_walk.specs.Tables.{Tables};
 
@@ -57,11 +56,11 @@ impl<S: FrameSeat> Space<S> {
         asked: Asked,
     ) -> Reply
         requires fits { Fits F.rule store.old self.old.seat }
-        requires ready { (t : Tables) × (p : Process) × IsSpace (body_of S.view self.old) t p × (walk ≡ walk_answer t asked.va.0 asked.access User) }
+        requires ready { (t : Tables) × (p : Process) × IsSpace (body_of S.view self.old) t p × IsWalkOf t asked walk }
         requires width { IsTrue (is_width asked.width) }
-        ensures reply { (t : Tables) (p : Process) → IsSpace (body_of S.view self.old) t p → walk ≡ walk_answer t asked.va.0 asked.access User →
+        ensures reply { (t : Tables) (p : Process) → IsSpace (body_of S.view self.old) t p → IsWalkOf t asked walk →
             result ≡ (service.user_access p (asked_of asked)).reply }
-        ensures after { (t : Tables) (p : Process) → IsSpace (body_of S.view self.old) t p → walk ≡ walk_answer t asked.va.0 asked.access User →
+        ensures after { (t : Tables) (p : Process) → IsSpace (body_of S.view self.old) t p → IsWalkOf t asked walk →
             IsSpace (body_of S.view self.new) t (service.user_access p (asked_of asked)).process }
         ensures root { self.new.root ≡ self.old.root }
         ensures trapframe { self.new.trapframe ≡ self.old.trapframe }
