@@ -13,7 +13,7 @@ use Rattle.process_model.specs.declared.step.Reply.TheVariants.{Done, Filled}
 use Rattle.process_model.specs.declared.step.Step.{Step}
 use Rattle.process_model.specs.declared.step.Step.TheVariants as step
 use Rattle.table_walk.specs.Tables.{Tables}
-use Rattle.hart_machine.specs.Buffers.{buffer_after, buffer_of, BuffersAre, HasEntry, is_about, OnlyFillsAdd, SameBuffers, WasFilled}
+use Rattle.hart_machine.specs.Buffers.{buffer_after, BuffersAre, HasEntry, is_about, OnlyFillsAdd, SameBuffers, WasFilled}
 use Rattle.hart_machine.specs.Harts.{advanced, with_entry}
 use Rattle.hart_machine.specs.Tables.{tables_of, present_table}
 use Rattle.hart_machine.specs.Walked.{entry_for}

@@ -51,7 +51,7 @@ buffer_after tables kernel (step.Evict h n) x = remove x.buffer n
 buffer_after tables kernel (step.Next h) x = if is_before_fence x.phase then [] else x.buffer
 buffer_after tables kernel s x = x.buffer
 
--- each buffer is what the step makes of it where the step was made and is about it, and else what it was, in the order of filling
+-- the buffer of the hart that a step is about is what the step makes of it, where it was not refused; each other is what it was
 abbrev pub BuffersAre : Machine → Machine → (ℕ → Tables) → Tables → Step → Reply → Type 0
 BuffersAre old new tables kernel s reply =
     (h : ℕ) → buffer_of new h ≡ option_map (λ x. if not (is_refused reply) && is_about s h then buffer_after tables kernel s x else x.buffer) (slice_get old.harts.items h)

@@ -18,7 +18,7 @@ use sv39_entry::{Access, Va};
 
 impl Machine {
     /// Makes one step. None adds or changes an entry of a buffer but a fill, which adds what the table that satp has says of
-    /// the page (RISC-V Privileged Architecture 20211203, 4.2.1).
+    /// the page (RISC-V Privileged Architecture 20211203, 4.2.1). Each buffer is told exactly, in the order of filling.
     pub fn step(&mut self, step: Step<'_>) -> Reply
         requires world { (w : World) × IsWorld self.old w }
         requires played { IsPlayed step }
