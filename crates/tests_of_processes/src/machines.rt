@@ -61,11 +61,11 @@ fn boots_within_limits(rt: HostRuntime) {
     assert_eq!(rt; wrong_row(rt.alloc()), None);
 }
 
-/// A machine with two harts and room for some processes.
-fn with_two_harts(alloc: Global) -> Option<Machine>
+/// A machine with two harts, so many frames and room for some processes.
+fn with_two_harts(alloc: Global, frames: usize) -> Option<Machine>
     ensures { IfSome result (λ m. (w : World) × IsWorld m w) }
 {
-    match Machine::boot(alloc, config(2, 64, 4)) {
+    match Machine::boot(alloc, config(2, frames, 4)) {
         Ok(machine) => Some(machine),
         Err(_) => None,
     }
@@ -234,7 +234,7 @@ struct Outcome {
 /// The steps and then an eviction on a machine of their own; none where memory is missing.
 fn played(alloc: Global, at_once: bool) -> Option<Outcome> {
     let segments = [page(alloc).ok()?];
-    let mut machine = with_two_harts(alloc)?;
+    let mut machine = with_two_harts(alloc, 64)?;
     let steps = steps(Image::Segments(&segments));
     let replies = told(alloc, &mut machine, &steps, at_once)?;
     let (there, nowhere) = (buffered(&machine, 0), buffered(&machine, 9));
@@ -297,7 +297,7 @@ fn idle_replies(alloc: Global, machine: &mut Machine, steps: &[Step<'_>]) -> Opt
 
 /// The same of so many steps of an idle hart.
 fn replies_when_idle(alloc: Global, count: usize) -> Option<usize> {
-    let mut machine = with_two_harts(alloc)?;
+    let mut machine = with_two_harts(alloc, 64)?;
     match idle_steps(alloc, count) {
         Ok(steps) => idle_replies(alloc, &mut machine, &steps),
         Err(_) => None,
@@ -307,4 +307,52 @@ fn replies_when_idle(alloc: Global, count: usize) -> Option<usize> {
 #[test]
 fn runs_thousands_of_steps(rt: HostRuntime) {
     assert_eq!(rt; replies_when_idle(rt.alloc(), 5000), Some(5000));
+}
+
+/// How many frames are free, held and shared, and how many references there are.
+type Accounts = (usize, usize, usize, usize);
+
+fn accounts(machine: &Machine) -> Accounts {
+    let report = machine.report();
+    (report.free, report.held, report.shared, report.references)
+}
+
+/// The accounts when a process has started, or was refused.
+fn after_start(machine: &mut Machine, image: Image<'_>) -> Accounts
+    requires world { (w : World) × IsWorld machine.old w }
+    requires segments { AreSegments image }
+    ensures { (w : World) × IsWorld machine.new w }
+{
+    machine.step(Step::Start(image));
+    accounts(machine)
+}
+
+/// The accounts of a machine of so many frames when it is booted, and after each of two starts of an image of one page;
+/// none where memory is missing.
+fn accounts_with(alloc: Global, frames: usize) -> Option<[Accounts; 3]> {
+    let segments = [page(alloc).ok()?];
+    let mut machine = with_two_harts(alloc, frames)?;
+    let booted = accounts(&machine);
+    let first = after_start(&mut machine, Image::Segments(&segments));
+    let second = after_start(&mut machine, Image::Segments(&segments));
+    Some([booted, first, second])
+}
+
+/// The kernel has 10 frames, and one reference of each: frame 0 with the trampoline's code, four stacks, and five tables,
+/// which are the root, two on the way to the trampoline and the stacks, and two on the way to the frames at their own
+/// addresses. A process has 9: the pages of its segment, its guard and its stack, the trapframe, and five tables, which
+/// are the root, two on the way to these pages, and two on the way to the trapframe and the trampoline. With frame 0,
+/// which is shared then, these are 10 references. Of 19 frames none is left for the second process, and of 18 the first
+/// finds 8 free and is refused.
+#[test]
+fn accounts_are_counted_by_hand(rt: HostRuntime) {
+    let rows = [
+        (64, [(54, 10, 0, 10), (45, 19, 1, 20), (36, 28, 1, 30)]),
+        (19, [(9, 10, 0, 10), (0, 19, 1, 20), (0, 19, 1, 20)]),
+        (18, [(8, 10, 0, 10), (8, 10, 0, 10), (8, 10, 0, 10)]),
+    ];
+    for row in rows {
+        let (frames, counted) = row;
+        assert_eq!(rt; accounts_with(rt.alloc(), frames), Some(counted));
+    }
 }
