@@ -5,6 +5,7 @@ pub mod AccessingWorlds
 pub mod AllReferences
 pub mod BootWorld
 pub mod BufferChanges
+mod BufferRows
 pub mod BufferSteps
 pub mod CountedLists
 pub mod Entries
