@@ -6,7 +6,8 @@ use Rattle.process_model.specs.declared.phase.Phase.TheVariants as phase
 use Rattle.process_model.specs.declared.step.Step.TheVariants as step
 use Rattle.table_walk.specs.Tables.{Tables}
 use Rattle.hart_machine.specs.Buffers.{buffer_after}
-use Rattle.hart_machine.specs.Walked.{entry_for, page_leaf}
+use Rattle.table_walk.specs.Leaves.{page_leaf}
+use Rattle.hart_machine.specs.Walked.{entry_for}
 use Rattle.hart_machine.specs.declared.hart.Hart.{Hart}
 
 -- of the page 1, first by the kernel's table and then by the process's

@@ -1,17 +1,16 @@
 -- What accesses over a seat's tables are translated to.
-use Rattle.std.proofs.Common.{◌≡◌, ℕ, ◌/◌, true, false, is_some, Option, None, option_map, Some, refl, ap, sym, ◌∙◌, inl, inr, arith}
+use Rattle.std.proofs.Common.{◌≡◌, ℕ, true, is_some, Option, None, option_map, Some, refl, ap, sym, ◌∙◌, inl, inr}
 use Rattle.std.proofs.lemmas.Bool.{cases_Bool}
 use Rattle.std.specs.FinMap.{get}
 use Rattle.frame_store.specs.View.{View}
 use Rattle.sv39_entry.specs.Address.{is_canonical, page_of}
 use Rattle.sv39_entry.specs.Frame.{frame_at, ppn_of}
-use Rattle.sv39_entry.specs.Word.{permits, ppn}
+use Rattle.sv39_entry.specs.Word.{permits}
 use Rattle.sv39_entry.specs.declared.access.Access.{Access}
 use Rattle.sv39_entry.specs.declared.access.Mode.{Mode}
 use Rattle.table_walk.specs.Held.{held_memory}
 use Rattle.table_walk.specs.Tables.{Tables, leaf_node}
-use Rattle.table_walk.specs.Memory.{physical_address}
-use Rattle.table_walk.specs.Walk.{FindsLeaf, IsGlobal, LeavesMemory, Maps, Translates}
+use Rattle.table_walk.specs.Walk.{FindsLeaf, LeavesMemory, Maps, Translates}
 use Rattle.table_walk.specs.Leaves.{answer, frames_there, lands, LeavesAreThere, page_leaf, walk_answer}
 
 module _ (v : View) (root : ℕ) (t : Tables) (leaves_are : (page leaf level : ℕ) → get t.leaves (leaf_node page) ≡ Some leaf → level ≡ 0 → Maps (held_memory v) (ppn_of root) page leaf level)
