@@ -3,7 +3,8 @@ use Rattle.std.proofs.Common.{◌≡◌, ℕ, zero, suc, ◌+◌, ◌-◌, ◌*�
 use Rattle.std.proofs.lemmas.Nat.{shr-shr}
 use Rattle.std.proofs.lemmas.Bool.{cases_lt}
 use Rattle.std.proofs.lemmas.Grind.{common_steps}
-use Rattle.std.proofs.lemmas.List.{get_or_append_left, get_or-append_right, get_or-drop, get_or-take, length-replicate, length-take-le, take_all}
+use Rattle.std.proofs.lemmas.List.{append_assoc, drop-drop, drop_at, ext_get_or, get_or_append_left, get_or-append_right, get_or-drop, get_or-take, length-replicate, length-take-le, take_all, take_at}
+use Rattle.std.proofs.Math.Seq.{take-add}
 use Rattle.std.specs.Int.{w64, to_le_bytes, from_le_bytes}
 use Rattle.process_model.specs.Bytes.{number, low_bytes, write_bytes, padded}
 use Rattle.frame_bytes.proofs.Numbers.{number-nil, number_suc, number-zero}
@@ -61,6 +62,14 @@ to_le n (suc (suc (suc (suc (suc (suc zero)))))) h = refl
 to_le n (suc (suc (suc (suc (suc (suc (suc zero))))))) h = refl
 to_le n (suc (suc (suc (suc (suc (suc (suc (suc k)))))))) h = absurd (omega arith)
 
+-- the lowest bytes of a word, as std has them
+pub take_low : (n v : ℕ) → n ≤ 8 → take n (to_le_bytes w64 v) ≡ low_bytes v n
+take_low n v few =
+    let long : length (take n (to_le_bytes w64 v)) ≡ n = length-take-le n (to_le_bytes w64 v) few in
+    ext_get_or 0 (take n (to_le_bytes w64 v)) (low_bytes v n) (long ∙ sym (length-low_bytes v n)) (λ k h.
+    let below : k < n = omega (arith, h, long) in
+    get_or-take n (to_le_bytes w64 v) k 0 below ∙ to_le v k (omega (arith, below, few)) ∙ sym (slice_index-low_bytes n v k below))
+
 pub from_le_is : (word bs : List ℕ) (start : ℕ) → length word ≡ 8 → ((k : ℕ) → k < 8 → slice_index word k ≡ slice_index bs (start + k))
     → from_le_bytes w64 word ≡ number (drop start bs) 8
 from_le_is word bs start long same = from_le word long ∙ number_same 8 0 start word bs (λ k h. let none : 0 + k ≡ k = omega arith in rw none (same k h))
@@ -110,3 +119,28 @@ module _ (n : ℕ) (bs : List ℕ) (short : length bs ≤ n) where
     | inl h ↦ get_or_append_left bs _ 0 k h
     | inr h ↦ get_or-append_right bs _ (length bs) k 0 refl h ∙ zeros (n - length bs) (k - length bs) ∙ sym (past bs k h)
   ]
+
+-- ---- one write after another
+
+-- no bytes change nothing
+pub write_none : (page : List ℕ) (o : ℕ) → write_bytes page o [] ≡ page
+write_none page o = grind (arith, common_steps)
+
+-- bytes, and others right behind them
+pub write_again : (page front part : List ℕ) (o n : ℕ) → o ≤ length page → length front ≡ n
+    → write_bytes (write_bytes page o front) (o + n) part ≡ write_bytes page o (front ++ part)
+write_again page front part o n room long =
+    let first : length (take o page ++ front) ≡ o + n = omega (arith, length-append (take o page) front, length-take-le o page room, long) in
+    let tail = drop (o + length front) page in
+    let place : o + length front ≡ o + n = omega (arith, long) in
+    let both : o + n + length part ≡ o + length (front ++ part) = omega (arith, length-append front part, long) in
+    let behind : drop (o + n + length part) (take o page ++ front ++ tail) ≡ drop (o + length (front ++ part)) page
+    = sym (drop-drop (length part) (o + n) _) ∙ ap (drop (length part)) (drop_at (take o page ++ front) tail (o + n) first ∙ ap (λ k. drop k page) place)
+    ∙ drop-drop (length part) (o + n) page ∙ ap (λ k. drop k page) both in
+    rw (take_at (take o page ++ front) tail (o + n) first, behind, append_assoc (take o page) front part) refl
+
+-- the first bytes, and some more behind them
+pub write_more : (page bs : List ℕ) (o d n : ℕ) → o ≤ length page → d ≤ length bs
+    → write_bytes (write_bytes page o (take d bs)) (o + d) (take n (drop d bs)) ≡ write_bytes page o (take (d + n) bs)
+write_more page bs o d n room few =
+    write_again page (take d bs) (take n (drop d bs)) o d room (length-take-le d bs few) ∙ ap (write_bytes page o) (sym (take-add d n bs))

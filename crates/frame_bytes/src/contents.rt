@@ -70,10 +70,34 @@ pub fn store_bytes<F: FrameAccess>(
     ensures free { F.alone → F.free store.new ≡ F.free store.old }
     ensures counts { F.alone → (f : ℕ) → F.count store.new f ≡ F.count store.old f }
 {
+    let value = value.to_le_bytes();
+    store_in_word(store, seat, frame, offset, &value[..width]);
+}
+
+/// Puts bytes into a frame from `offset` on, all of them into one word.
+pub(crate) fn store_in_word<F: FrameAccess>(
+    store: &mut F,
+    seat: &mut F::Seat,
+    frame: FrameNo,
+    offset: usize,
+    part: &[u8],
+)
+    requires fits { Fits F.rule store.old seat.old }
+    requires held { IsHeld (F.Seat.view seat.old) frame.0 }
+    requires sole { IsSole (F.Seat.view seat.old) frame.0 }
+    requires known { (bytes : List ℕ) × HasBytes (F.Seat.view seat.old) frame.0 bytes }
+    requires inside { offset < 4096 }
+    requires in_word { offset % 8 + length part.now ≤ 8 }
+    ensures bytes { (bytes : List ℕ) → HasBytes (F.Seat.view seat.old) frame.0 bytes →
+        HasBytes (F.Seat.view seat.new) frame.0 (write_bytes bytes offset part.now) }
+    ensures others { ChangesWords frame.0 (F.Seat.view seat.old) (F.Seat.view seat.new) }
+    ensures keeps { Keeps F.rule store.old seat.old store.new seat.new }
+    ensures free { F.alone → F.free store.new ≡ F.free store.old }
+    ensures counts { F.alone → (f : ℕ) → F.count store.new f ≡ F.count store.old f }
+{
     let index = offset / 8;
     let mut word = store.load(seat, frame, index).to_le_bytes();
-    let value = value.to_le_bytes();
-    overwrite(&mut word, offset % 8, &value[..width]);
+    overwrite(&mut word, offset % 8, part);
     store.store(seat, frame, index, u64::from_le_bytes(word));
 }
 

@@ -5,4 +5,4 @@ mod contents;
 mod runs;
 
 pub use contents::{copy_frame, fill_frame, load_bytes, read_frame, store_bytes};
-pub use runs::read_run;
+pub use runs::{read_run, write_run};

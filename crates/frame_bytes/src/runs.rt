@@ -1,10 +1,12 @@
 // Runs of bytes within a page, wherever they begin and however long they are. Each word is loaded once.
 
 ghost use Rattle.std.specs.Prelude.{◌≡◌, ◌+◌, ◌≤◌, ℕ, drop, length, List, take};
-ghost use Rattle.frame_bytes.specs.Contents.{HasBytes};
+ghost use Rattle.frame_bytes.specs.Contents.{ChangesWords, HasBytes};
 ghost use Rattle.frame_store.specs.Laws.{Fits, Keeps};
-ghost use Rattle.frame_store.specs.View.{IsHeld};
+ghost use Rattle.frame_store.specs.View.{IsHeld, IsSole};
+ghost use Rattle.process_model.specs.Bytes.{write_bytes};
 
+use crate::contents::store_in_word;
 use frame_store::{FrameAccess, FrameSeat};
 use sv39_entry::FrameNo;
 
@@ -32,6 +34,35 @@ pub fn read_run<F: FrameAccess>(
         let count = (8 - skipped).min(bytes.len() - done);
         let word = store.load(seat, frame, place / 8).to_le_bytes();
         bytes[done..done + count].copy_from_slice(&word[skipped..skipped + count]);
+        done += count;
+    }
+}
+
+/// Puts bytes into a frame from `offset` on. The bytes beside them stay.
+pub fn write_run<F: FrameAccess>(
+    store: &mut F,
+    seat: &mut F::Seat,
+    frame: FrameNo,
+    offset: usize,
+    bytes: &[u8],
+)
+    requires fits { Fits F.rule store.old seat.old }
+    requires held { IsHeld (F.Seat.view seat.old) frame.0 }
+    requires sole { IsSole (F.Seat.view seat.old) frame.0 }
+    requires known { (page : List ℕ) × HasBytes (F.Seat.view seat.old) frame.0 page }
+    requires inside { offset + length bytes.now ≤ 4096 }
+    ensures bytes { (page : List ℕ) → HasBytes (F.Seat.view seat.old) frame.0 page →
+        HasBytes (F.Seat.view seat.new) frame.0 (write_bytes page offset bytes.now) }
+    ensures others { ChangesWords frame.0 (F.Seat.view seat.old) (F.Seat.view seat.new) }
+    ensures keeps { Keeps F.rule store.old seat.old store.new seat.new }
+    ensures free { F.alone → F.free store.new ≡ F.free store.old }
+    ensures counts { F.alone → (f : ℕ) → F.count store.new f ≡ F.count store.old f }
+{
+    let mut done = 0;
+    'words: while done < bytes.len() {
+        let place = offset + done;
+        let count = (8 - place % 8).min(bytes.len() - done);
+        store_in_word(store, seat, frame, place, &bytes[done..done + count]);
         done += count;
     }
 }

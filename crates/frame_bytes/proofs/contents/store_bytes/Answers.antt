@@ -1,20 +1,16 @@
-use Rattle.std.proofs.Common.{◌≡◌, ◌%◌, ◌∙◌, ap, refl, take}
-use Rattle.std.specs.Int.{w64, from_le_bytes, to_le_bytes}
-use Rattle.process_model.specs.Bytes.{write_bytes}
-use Rattle.frame_bytes.specs.Changed.{changes_one, stored_as}
-use Rattle.frame_bytes.proofs.Stored.{bytes_stored}
+use Rattle.std.proofs.Common.{◌≡◌, ◌+◌, ◌%◌, ◌≤◌, ◌∙◌, ap, length, subst, take, arith}
+use Rattle.process_model.specs.Bytes.{low_bytes, write_bytes}
+use Rattle.frame_bytes.specs.Contents.{HasBytes}
+use Rattle.frame_bytes.proofs.Widths.{width_most, within_word}
+use Rattle.frame_bytes.proofs.Writes.{length-low_bytes, take_low}
 use Rattle.frame_bytes.proofs.contents.store_bytes.Goals as goal
+
+pub store_in_word-requires-clause-in_word : goal.store_in_word-requires-clause-in_word
+store_in_word-requires-clause-in_word g c =
+    let low = ap (take c.args.width) c.to_le_bytes-value.ensures ∙ take_low c.args.width c.args.value (width_most c.args.width c.requires.width) in
+    rw (low, length-low_bytes c.args.value c.args.width) (within_word c.args.offset c.args.width c.requires.width c.requires.aligned)
 
 pub returns-clause-bytes : goal.returns-clause-bytes
 returns-clause-bytes g c bytes has =
-    let word : c.from_le_bytes.result ≡ from_le_bytes w64 c.overwrite.new.bytes = c.from_le_bytes.ensures in
-    let put : c.overwrite.new.bytes
-    ≡ write_bytes c.to_le_bytes-word.result (c.args.offset % 8) (take c.args.width c.to_le_bytes-value.result) = c.overwrite.ensures in
-    let old : c.to_le_bytes-word.result ≡ to_le_bytes w64 c.load.result = c.to_le_bytes-word.ensures in
-    let new : c.to_le_bytes-value.result ≡ to_le_bytes w64 c.args.value = c.to_le_bytes-value.ensures in
-    bytes_stored c.args.frame.0 c.args.offset c.args.width c.args.value c.load.result bytes _ _ has
-    c.requires.width c.requires.inside c.requires.aligned c.load.ensures.known
-    (stored_as _ _ _ _ _ _ _ c.store.ensures.view c.load.ensures.view (word ∙ ap (from_le_bytes w64) (rw (old, new) at put)))
-
-pub returns-clause-others : goal.returns-clause-others
-returns-clause-others g c = changes_one _ _ _ _ _ (stored_as _ _ _ _ _ _ _ c.store.ensures.view c.load.ensures.view refl)
+    let low = ap (take c.args.width) c.to_le_bytes-value.ensures ∙ take_low c.args.width c.args.value (width_most c.args.width c.requires.width) in
+    rw low at (c.store_in_word.ensures.bytes bytes has)

@@ -1,0 +1,18 @@
+use Rattle.std.proofs.Common.{◌≡◌, ◌%◌, ◌∙◌, ap, refl, arith}
+use Rattle.std.specs.Int.{w64, from_le_bytes, to_le_bytes}
+use Rattle.process_model.specs.Bytes.{write_bytes}
+use Rattle.frame_bytes.specs.Changed.{changes_one, stored_as}
+use Rattle.frame_bytes.proofs.Stored.{bytes_stored}
+use Rattle.frame_bytes.proofs.contents.store_in_word.Goals as goal
+
+pub returns-clause-bytes : goal.returns-clause-bytes
+returns-clause-bytes g c bytes has =
+    let word : c.from_le_bytes.result ≡ from_le_bytes w64 c.overwrite.new.bytes = c.from_le_bytes.ensures in
+    let put : c.overwrite.new.bytes ≡ write_bytes c.to_le_bytes-word.result (c.args.offset % 8) c.args.part.now = c.overwrite.ensures in
+    let old : c.to_le_bytes-word.result ≡ to_le_bytes w64 c.load.result = c.to_le_bytes-word.ensures in
+    bytes_stored c.args.frame.0 c.args.offset c.load.result c.args.part.now bytes _ _ has
+    c.requires.inside c.requires.in_word (λ k. omega (arith, c.type_inv.part k)) c.load.ensures.known
+    (stored_as _ _ _ _ _ _ _ c.store.ensures.view c.load.ensures.view (word ∙ ap (from_le_bytes w64) (rw old at put)))
+
+pub returns-clause-others : goal.returns-clause-others
+returns-clause-others g c = changes_one _ _ _ _ _ (stored_as _ _ _ _ _ _ _ c.store.ensures.view c.load.ensures.view refl)
