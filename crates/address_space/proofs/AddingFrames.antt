@@ -142,6 +142,17 @@ module _ (v w : View) (t u : Tables) (n root page x f : ℕ) (before after : ℕ
   new_unnamed : (g j k : ℕ) → get t.tables k ≡ None → get u.tables k ≡ Some g → Names t g j → ⊥
   new_unnamed g j k none there names_g = unnamed v t before o g (changes.new k g there none).0 j names_g
 
+  -- a frame that is held and has no name, and gets none, stays as it is
+  pub still_unnamed : (g : ℕ) → (g ≡ f → ⊥) → IsHeld v g → ((k : ℕ) → Names t g k → ⊥) → (k : ℕ) → Names (with_leaf u (leaf_node page) x) g k → ⊥
+  still_unnamed g apart held none k names_g = elim (origin g k names_g) [
+    | old was ↦ none k was
+    | new_table fresh there ↦ let zero = (changes.new k g there fresh).0 in omega (arith, zero, held)
+    | new_leaf here same ↦ apart same
+  ]
+
+  pub still_held : (g : ℕ) → (g ≡ f → ⊥) → IsHeld v g → ((k : ℕ) → Names t g k → ⊥) → hold_of w g ≡ hold_of v g
+  still_held g apart held none = changes.apart g (λ k table. still_unnamed g apart held none k (inl table))
+
   -- references of what had a name before
   was_count : (g k : ℕ) → Names t g k → references v g ≡ 1 + after g
   was_count g k names_g = let was = o.named g k names_g in let same = other_count g (f_apart g k names_g) in omega (arith, was, same)

@@ -136,6 +136,7 @@ module _ (v : View) (root trapframe : â„•) (t : Tables) (p : Process) (page : â„
       fresh = c.fresh;
       sole = same_sole r w f filled_same c.sole;
       others = keeps;
+      saved = let leaf = can.stands.shows.on_trapframe in old_same (leaf_node trapframe_page) leaf.0 trapframe leaf.1 leaf.2.names;
       spends = record {
         credits = omega (arith, changes.credits, c.spends.credits);
         tallies = spent_on _ _ _ 1 (missing t page) c.spends.tallies changes.tallies;

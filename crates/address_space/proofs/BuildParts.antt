@@ -1,5 +1,5 @@
 -- One part more stands.
-use Rattle.std.proofs.Common.{◌≡◌, ℕ, zero, suc, true, false, ◌+◌, ◌<◌, ◌≤◌, Some, inl, inr, ap, sym, subst, ◌∙◌, arith, List, [], ◌∷◌, ◌++◌, length, map, get_or, take, drop}
+use Rattle.std.proofs.Common.{◌≡◌, ℕ, zero, suc, true, false, ◌+◌, ◌<◌, ◌≤◌, Some, inl, inr, refl, ap, sym, subst, ◌∙◌, arith, List, [], ◌∷◌, ◌++◌, length, map, get_or, take, drop}
 use Rattle.std.specs.Prelude.{Contains}
 use Rattle.std.proofs.lemmas.Bool.Decides.{nat_tests}
 use Rattle.std.proofs.lemmas.Grind.{flat_map-append}
@@ -39,6 +39,7 @@ fills_both v w x root trapframe u y p xs ys first second =
     let need = need_both xs ys p in
     record {
       after = rw (with_both xs ys p) second.after;
+      saved = second.saved ∙ first.saved;
       spends = record {
         credits = omega (arith, first.spends.credits, second.spends.credits, need);
         tallies = spent_is v.tallies x.tallies (pages_need p xs + pages_need (with_pages p xs) ys) (pages_need p (xs ++ ys)) (omega (arith, need))
@@ -96,6 +97,7 @@ module _ (v : View) (root trapframe : ℕ) (ps : List Part) (are : AreParts ps) 
   pub fills_bare : (t : Tables) → StandsAlone v root trapframe t (bare_process ps) → Fills v v root trapframe t (bare_process ps) []
   fills_bare t stands = record {
     after = stands;
+    saved = refl;
     spends = record { credits = omega arith; tallies = spent_is v.tallies v.tallies 0 _ (omega arith) (spent_none v.tallies) };
   }
 

@@ -1,5 +1,5 @@
 -- One page more of a part stands, and one part more.
-use Rattle.std.proofs.Common.{◌≡◌, ℕ, ◌+◌, ◌-◌, ◌*◌, ◌^◌, ◌<◌, ◌≤◌, inl, inr, ap, sym, subst, ◌∙◌, arith, List, [], ◌∷◌, drop}
+use Rattle.std.proofs.Common.{◌≡◌, ℕ, ◌+◌, ◌-◌, ◌*◌, ◌^◌, ◌<◌, ◌≤◌, inl, inr, refl, ap, sym, subst, ◌∙◌, arith, List, [], ◌∷◌, drop}
 use Rattle.std.specs.Prelude.{All, Contains}
 use Rattle.std.proofs.lemmas.Bool.{cases_eq}
 use Rattle.std.proofs.lemmas.Option.{same_Some}
@@ -49,6 +49,7 @@ module _ (v : View) (root trapframe : ℕ) (t : Tables) (p : Process) (part : Pa
   pub fills_none : Fills v v root trapframe t p []
   fills_none = record {
     after = can.before;
+    saved = refl;
     spends = record { credits = omega arith; tallies = spent_is v.tallies v.tallies 0 _ (omega arith) (spent_none v.tallies) };
   }
 
@@ -135,6 +136,7 @@ module _ (v : View) (root trapframe : ℕ) (t : Tables) (p : Process) (part : Pa
               stands = rw (← process) (adds.stands 0);
               alone = added_alone w x root trapframe u y before page bytes f adds soles fills.after.alone;
             };
+            saved = adds.saved ∙ fills.saved;
             spends = record {
               credits = omega (arith, spent.credits, spend.credits, missing_now, up, grew, need, needs);
               tallies = spent_is v.tallies x.tallies (pages_need p (run k) + (1 + missing u page)) (pages_need p (run (k + 1))) (omega (arith, missing_now, up, grew, need, needs))

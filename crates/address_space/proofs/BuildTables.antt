@@ -7,11 +7,11 @@ use Rattle.std.specs.Ordering.{nat_cmp}
 use Rattle.std.specs.Prelude.{Contains}
 use Rattle.frame_store.specs.Holds.{hold_of-with_hold_other, hold_of-with_hold_same}
 use Rattle.frame_store.specs.Tallies.{spent_is, spent_on}
-use Rattle.frame_store.specs.View.{Hold, View, claimed, hold_of, references, with_hold}
+use Rattle.frame_store.specs.View.{Hold, View, claimed, hold_of, IsHeld, IsSole, references, with_hold}
 use Rattle.process_model.specs.Frames.{tables_needed}
 use Rattle.process_model.specs.PageMap as pages
 use Rattle.process_model.specs.Process.{Page, Process}
-use Rattle.sv39_entry.specs.Address.{trampoline_page, trapframe_page}
+use Rattle.sv39_entry.specs.Address.{has, trampoline_page, trapframe_page}
 use Rattle.sv39_entry.specs.Word.{IsLeafOf, ppn}
 use Rattle.table_walk.specs.Counted.{AreTablesOf}
 use Rattle.table_walk.specs.Tables.{bare_root, blank_hold, ChangesTables, HasTables, Tables, IsGrown, leaf_node, missing, with_leaf}
@@ -20,8 +20,8 @@ use Rattle.table_walk.specs.Walk.{top_level}
 use Rattle.address_space.specs.Agreement.{HasKernelLeaf, Names, nothing, one_of, Owns, Shows, Stands, code_rights, data_rights}
 use Rattle.address_space.specs.Parts.{CanOpen, Opens, OwnsAlone}
 use Rattle.address_space.specs.Steps.{Spends}
-use Rattle.address_space.proofs.AddingFrames.{Comes, come_owns, come_tables, come_unnamed, f_same, leaf_owns}
-use Rattle.address_space.proofs.Owned.{apart_by, claimed_other, one_else, one_frame, one_here, same_references, same_sole}
+use Rattle.address_space.proofs.AddingFrames.{f_same, leaf_owns, still_held, still_unnamed}
+use Rattle.address_space.proofs.Owned.{apart_by, both_of, claimed_other, one_else, one_frame, one_here, same_references, same_sole}
 
 -- ---- the root
 
@@ -38,31 +38,64 @@ bare_name : (root f k : ℕ) → Names (bare_root root) f k → (k ≡ 1) × (f 
 bare_name root f k (inl table) = bare_table root k f table
 bare_name root f k (inr (y, leaf, names)) = absurd (bare_leaf root k y leaf)
 
-module _ (v w : View) (root : ℕ) (can : CanOpen v) (fresh : references v root ≡ 0) (is : w ≡ with_hold root blank_hold (claimed root v)) where
+module _ (v w : View) (root trapframe : ℕ) (can : CanOpen v trapframe) (fresh : references v root ≡ 0) (is : w ≡ with_hold root blank_hold (claimed root v)) where
   other_hold : (f : ℕ) → (f ≡ root → ⊥) → hold_of w f ≡ hold_of v f
   other_hold f apart = ap (λ (u : View). hold_of u f) is ∙ hold_of-with_hold_other root blank_hold (claimed root v) f apart ∙ claimed_other root f v apart
 
   root_held : references w root ≡ 1
   root_held = ap (λ (u : View). references u root) is ∙ ap (λ (h : Hold). h.references) (hold_of-with_hold_same root blank_hold (claimed root v))
 
-  root_not_zero : 0 ≡ root → ⊥
-  root_not_zero same = apart_by v root 0 fresh (let one = can.once in omega (arith, one)) same
+  not_zero : 0 ≡ root → ⊥
+  not_zero same = apart_by v root 0 fresh (let one = can.holds.code in omega (arith, one)) same
 
-  pub root_unnamed_zero : (k : ℕ) → Names (bare_root root) 0 k → ⊥
-  root_unnamed_zero k names = root_not_zero (bare_name root 0 k names).1
+  not_trapframe : trapframe ≡ root → ⊥
+  not_trapframe same = apart_by v root trapframe fresh (let one = can.holds.saved in omega (arith, one)) same
 
-  pub root_owns : Owns w (bare_root root) (one_of 0)
+  other_count : (f : ℕ) → references v f ≡ both_of trapframe 0 f
+  other_count f = elim (cases_eq f 0) [
+    | inl zero ↦
+        let here = one_here 0 f zero in
+        let none = one_else trapframe f (λ same. can.holds.apart (sym same ∙ zero)) in
+        let one : references v f ≡ 1 = ap (references v) zero ∙ can.holds.code in
+        omega (arith, here, none, one)
+    | inr some ↦ elim (cases_eq f trapframe) [
+      | inl saved ↦
+          let here = one_here trapframe f saved in
+          let none = one_else 0 f some in
+          let one : references v f ≡ 1 = ap (references v) saved ∙ can.holds.saved in
+          omega (arith, here, none, one)
+      | inr apart ↦
+          let first = one_else 0 f some in
+          let second = one_else trapframe f apart in
+          let none = can.holds.others f some apart in
+          omega (arith, first, second, none)
+    ]
+  ]
+
+  pub zero_unnamed : (k : ℕ) → Names (bare_root root) 0 k → ⊥
+  zero_unnamed k names = not_zero (bare_name root 0 k names).1
+
+  pub trapframe_unnamed : (k : ℕ) → Names (bare_root root) trapframe k → ⊥
+  trapframe_unnamed k names = not_trapframe (bare_name root trapframe k names).1
+
+  pub trapframe_as_was : hold_of w trapframe ≡ hold_of v trapframe
+  trapframe_as_was = other_hold trapframe not_trapframe
+
+  pub trapframe_yet : IsHeld w trapframe
+  trapframe_yet = let one = can.holds.saved in let same = same_references v w trapframe trapframe_as_was in omega (arith, one, same)
+
+  pub root_owns : Owns w (bare_root root) (both_of trapframe 0)
   root_owns = record {
     once = λ f j k first second. (bare_name root f j first).0 ∙ sym (bare_name root f k second).0;
     named = λ f k names.
         let is = (bare_name root f k names).1 in
-        ap (references w) is ∙ root_held ∙ sym (ap (λ n. 1 + n) (one_else 0 f (λ same. root_not_zero (sym same ∙ is))));
+        let one : references w f ≡ 1 = ap (references w) is ∙ root_held in
+        let zero = one_else 0 f (λ same. not_zero (sym same ∙ is)) in
+        let saved = one_else trapframe f (λ same. not_trapframe (sym same ∙ is)) in
+        omega (arith, one, zero, saved);
     bare = λ f free.
         let apart : f ≡ root → ⊥ = λ same. free 1 (inl (insert_same empty 1 root 1 refl ∙ ap Some (sym same))) in
-        same_references v w f (other_hold f apart) ∙ elim (cases_eq f 0) [
-          | inl same ↦ ap (references v) same ∙ can.once ∙ sym (one_here 0 f same)
-          | inr ne ↦ can.others f ne ∙ sym (one_else 0 f ne)
-        ];
+        same_references v w f (other_hold f apart) ∙ other_count f;
     writable = λ f n y leaf names writes. absurd (bare_leaf root n y leaf);
   }
 
@@ -74,16 +107,18 @@ module _ (v w : View) (root : ℕ) (can : CanOpen v) (fresh : references v root 
 
 -- ---- TRAMPOLINE, over a frame that all processes share
 
-pub record HasTrampoline (w : View) (root : ℕ) (t : Tables) : Type 0 where
+pub record HasTrampoline (w : View) (root trapframe : ℕ) (t : Tables) : Type 0 where
   pub tables : HasTables w root t
-  pub owns : Owns w t nothing
+  pub owns : Owns w t (one_of trapframe)
+  pub free : (k : ℕ) → Names t trapframe k → ⊥
   pub leaf : HasKernelLeaf t trampoline_page 0 code_rights
   pub only : (k y : ℕ) → get t.leaves k ≡ Some y → k ≡ leaf_node trampoline_page
   pub tabled : AreTablesOf t []
 
-module _ (v w : View) (root x n : ℕ) (u : Tables) (o : Owns v (bare_root root) (one_of 0)) (free : (k : ℕ) → Names (bare_root root) 0 k → ⊥) (bare : HasTables v root (bare_root root)) (grown : IsGrown (bare_root root) u trampoline_page top_level)
+module _ (v w : View) (root trapframe x n : ℕ) (u : Tables) (o : Owns v (bare_root root) (both_of trapframe 0)) (zero_free : (k : ℕ) → Names (bare_root root) 0 k → ⊥)
+    (bare : HasTables v root (bare_root root)) (grown : IsGrown (bare_root root) u trampoline_page top_level)
     (tables : HasTables w root (with_leaf u (leaf_node trampoline_page) x)) (changes : ChangesTables v w (bare_root root) u n)
-    (made : IsLeafOf x 0 code_rights false false true) (are : AreTablesOf u []) where
+    (made : IsLeafOf x 0 code_rights false false true) where
   abbrev after : Tables
   after = with_leaf u (leaf_node trampoline_page) x
 
@@ -96,14 +131,23 @@ module _ (v w : View) (root x n : ℕ) (u : Tables) (o : Owns v (bare_root root)
     | inr apart ↦ absurd (bare_leaf root k y (ap (λ leaves. get leaves k) (sym grown.leaves) ∙ sym (insert_other u.leaves (leaf_node trampoline_page) x k apart) ∙ leaf))
   ]
 
-  pub has_trampoline : HasTrampoline w root after
-  has_trampoline = record {
-    tables = tables;
-    owns = leaf_owns v w (bare_root root) u n root trampoline_page x 0 (one_of 0) nothing o free (λ g. omega arith) bare grown changes tables made.names no_leaf (λ writes. absurd (let both = sym made.write ∙ writes in cc));
-    leaf = (x, insert_same u.leaves (leaf_node trampoline_page) x (leaf_node trampoline_page) refl, made);
-    only = one_leaf;
-    tabled = are;
-  }
+  not_written : has x 2 ≡ true → IsSole v 0
+  not_written writes = absurd (let both = sym made.write ∙ writes in cc)
+
+  -- the trapframe's frame waits
+  module _ (apart : trapframe ≡ 0 → ⊥) (held : IsHeld v trapframe) (free : (k : ℕ) → Names (bare_root root) trapframe k → ⊥) where
+    pub trampoline_saved : hold_of w trapframe ≡ hold_of v trapframe
+    trampoline_saved = still_held v w (bare_root root) u n root trampoline_page x 0 (both_of trapframe 0) (one_of trapframe) o zero_free (λ g. refl) bare grown changes tables made.names no_leaf not_written trapframe apart held free
+
+    pub has_trampoline : AreTablesOf u [] → HasTrampoline w root trapframe after
+    has_trampoline are = record {
+      tables = tables;
+      owns = leaf_owns v w (bare_root root) u n root trampoline_page x 0 (both_of trapframe 0) (one_of trapframe) o zero_free (λ g. refl) bare grown changes tables made.names no_leaf not_written;
+      free = still_unnamed v w (bare_root root) u n root trampoline_page x 0 (both_of trapframe 0) (one_of trapframe) o zero_free (λ g. refl) bare grown changes tables made.names no_leaf not_written trapframe apart held free;
+      leaf = (x, insert_same u.leaves (leaf_node trampoline_page) x (leaf_node trampoline_page) refl, made);
+      only = one_leaf;
+      tabled = are;
+    }
 
 -- ---- and TRAPFRAME
 
@@ -118,8 +162,8 @@ pub two_missing : (root : ℕ) → missing (bare_root root) trampoline_page ≡ 
 unfolding tables_needed
 two_missing root law = law
 
-module _ (v r w : View) (root x f n : ℕ) (t u : Tables) (before : HasTrampoline v root t) (come : Comes v r f) (grown : IsGrown t u trapframe_page top_level)
-    (tables : HasTables w root (with_leaf u (leaf_node trapframe_page) x)) (changes : ChangesTables r w t u n)
+module _ (v w : View) (root x f n : ℕ) (t u : Tables) (before : HasTrampoline v root f t) (sole : IsSole v f) (grown : IsGrown t u trapframe_page top_level)
+    (tables : HasTables w root (with_leaf u (leaf_node trapframe_page) x)) (changes : ChangesTables v w t u n)
     (made : IsLeafOf x f data_rights false false true) (are : AreTablesOf u []) where
   unmapped : get t.leaves (leaf_node trapframe_page) ≡ None
   unmapped = is_none (get t.leaves (leaf_node trapframe_page)) (λ y leaf. kernel_apart (before.only (leaf_node trapframe_page) y leaf))
@@ -133,11 +177,11 @@ module _ (v r w : View) (root x f n : ℕ) (t u : Tables) (before : HasTrampolin
   here : get last.leaves (leaf_node trapframe_page) ≡ Some x
   here = insert_same u.leaves (leaf_node trapframe_page) x (leaf_node trapframe_page) refl
 
-  frame_same : hold_of w f ≡ hold_of r f
-  frame_same = f_same r w t u n root trapframe_page x f (one_of f) nothing (come_owns v r f come t before.owns) (come_unnamed v r f come t before.owns) (λ g. omega arith) (come_tables v r f come root t before.tables) grown changes tables made.names unmapped (λ _. come.sole)
+  pub frame_same : hold_of w f ≡ hold_of v f
+  frame_same = f_same v w t u n root trapframe_page x f (one_of f) nothing before.owns before.free (λ g. omega arith) before.tables grown changes tables made.names unmapped (λ _. sole)
 
   pub opens_owns : Owns w last nothing
-  opens_owns = leaf_owns r w t u n root trapframe_page x f (one_of f) nothing (come_owns v r f come t before.owns) (come_unnamed v r f come t before.owns) (λ g. omega arith) (come_tables v r f come root t before.tables) grown changes tables made.names unmapped (λ _. come.sole)
+  opens_owns = leaf_owns v w t u n root trapframe_page x f (one_of f) nothing before.owns before.free (λ g. omega arith) before.tables grown changes tables made.names unmapped (λ _. sole)
 
   two_leaves : (k y : ℕ) → get last.leaves k ≡ Some y → ((k ≡ leaf_node trampoline_page) × (get t.leaves k ≡ Some y)) ⊎ ((k ≡ leaf_node trapframe_page) × (y ≡ x))
   two_leaves k y leaf = elim (cases_eq k (leaf_node trapframe_page)) [
@@ -152,7 +196,7 @@ module _ (v r w : View) (root x f n : ℕ) (t u : Tables) (before : HasTrampolin
         let first = before.leaf in
         let same : y ≡ first.0 = same_Some y first.0 (sym (rw old.0 at old.1) ∙ first.1) in
         absurd (other (one_frame g 0 (sym names ∙ ap ppn same ∙ first.2.names)))
-    | inr new ↦ rw (one_frame g f (sym names ∙ ap ppn new.1 ∙ made.names)) (same_sole r w f frame_same come.sole)
+    | inr new ↦ rw (one_frame g f (sym names ∙ ap ppn new.1 ∙ made.names)) (same_sole v w f frame_same sole)
   ]
 
   module _ (p : Process) (settled : p.settled ≡ pages.empty Page) (tabled : p.tabled ≡ pages.empty (Unit {0})) where
@@ -177,19 +221,19 @@ module _ (v r w : View) (root x f n : ℕ) (t u : Tables) (before : HasTrampolin
       tabled_low = rw tabled (λ i d less. absurd (omega (arith, less)));
     }
 
-  pub opens : (o : View) → Spends o w 4 → Opens o w root f last
-  opens o spends = record { stands = opens_stands; alone = opens_alone; spends = spends }
+  pub opens : (o : View) → hold_of v f ≡ hold_of o f → Spends o w 3 → Opens o w root f last
+  opens o saved spends = record { stands = opens_stands; alone = opens_alone; saved = frame_same ∙ saved; spends = spends }
 
--- ---- what it takes: the root, two tables below it, and the trapframe
-pub open_spends : (o a v r w : View) (f : ℕ) (t u t2 u2 : Tables) (m n : ℕ) → Spends o a 1 → m ≡ 2 → ChangesTables a v t u m → Comes v r f → n ≡ 0 → ChangesTables r w t2 u2 n → Spends o w 4
-open_spends o a v r w f t u t2 u2 m n first two second third none last = record {
-  credits = omega (arith, first.credits, two, second.credits, third.spends.credits, none, last.credits);
-  tallies = spent_is o.tallies w.tallies (1 + m + 1 + n) 4 (omega (arith, two, none))
-      (spent_on o.tallies r.tallies w.tallies (1 + m + 1) n (spent_on o.tallies v.tallies r.tallies (1 + m) 1 (spent_on o.tallies a.tallies v.tallies 1 m first.tallies second.tallies) third.spends.tallies) last.tallies);
+-- ---- what it takes: the root, and two tables below it
+pub open_spends : (o a v w : View) (t u t2 u2 : Tables) (m n : ℕ) → Spends o a 1 → m ≡ 2 → ChangesTables a v t u m → n ≡ 0 → ChangesTables v w t2 u2 n → Spends o w 3
+open_spends o a v w t u t2 u2 m n first two second none last = record {
+  credits = omega (arith, first.credits, two, second.credits, none, last.credits);
+  tallies = spent_is o.tallies w.tallies (1 + m + n) 3 (omega (arith, two, none))
+      (spent_on o.tallies v.tallies w.tallies (1 + m) n (spent_on o.tallies a.tallies v.tallies 1 m first.tallies second.tallies) last.tallies);
 }
 
 -- the credits that each of the two takes are there
-pub first_enough : (o v : View) (root page : ℕ) → page ≡ trampoline_page → missing (bare_root root) trampoline_page ≡ 2 → Spends o v 1 → 4 ≤ o.credits → missing (bare_root root) page ≤ v.credits
+pub first_enough : (o v : View) (root page : ℕ) → page ≡ trampoline_page → missing (bare_root root) trampoline_page ≡ 2 → Spends o v 1 → 3 ≤ o.credits → missing (bare_root root) page ≤ v.credits
 first_enough o v root page is two spent enough =
     let same = ap (missing (bare_root root)) is in
     omega (arith, same, two, spent.credits, enough)

@@ -6,7 +6,7 @@ use Rattle.std.proofs.lemmas.Map.Lookups.{exact_unsigned}
 use Rattle.std.specs.FinMap.{get}
 use Rattle.std.specs.FinMap.Entries.{find-where_key}
 use Rattle.std.specs.Ordering.{nat_cmp}
-use Rattle.frame_store.specs.View.{View}
+use Rattle.frame_store.specs.View.{hold_of, View}
 use Rattle.process_model.specs.Heap.{without_pages}
 use Rattle.process_model.specs.PageMap as pages
 use Rattle.process_model.specs.PageMap.{PageMap}
@@ -18,10 +18,10 @@ use Rattle.table_walk.specs.Keys.{remove_same, remove_other}
 use Rattle.table_walk.specs.Nodes.{leaf_node_is}
 use Rattle.table_walk.specs.Places.{IsBare}
 use Rattle.address_space.specs.Agreement.{body, IsSpace, IsLeafNumber, IsOn, nothing, Shows, Stands}
-use Rattle.address_space.specs.Ending.{AreUnmapped, CanDrop, Drops, DropsLeaf, IsFirstMapped}
+use Rattle.address_space.specs.Ending.{AreUnmapped, CanDrop, Drops, DropsLeaf, DropsRun, IsFirstMapped}
 use Rattle.address_space.specs.Layouts.{Layout}
 use Rattle.address_space.proofs.Sound.{sound_fewer}
-use Rattle.address_space.proofs.DroppedLeaf.{left}
+use Rattle.address_space.proofs.DroppedLeaf.{left, takes_none, takes_then}
 use Rattle.address_space.proofs.Owned.{one_page, same_bytes}
 
 -- places below the root, and pages
@@ -81,7 +81,7 @@ was_settled p first end n s at =
     ]
 
 -- a process with fewer settled pages, of which the others have no leaf
-module _ (v : View) (root trapframe : ℕ) (l : Layout) (u : Tables) (p : Process) (old new : PageMap Page)
+module _ (v : View) (root trapframe : ℕ) (u : Tables) (p : Process) (old new : PageMap Page)
     (fewer : (n : ℕ) (s : Page) → pages.get new n ≡ Some s → pages.get old n ≡ Some s)
     (numbers : (k w n : ℕ) (s : Page) → get u.leaves k ≡ Some w → k ≡ leaf_node n → pages.get old n ≡ Some s → pages.get new n ≡ Some s) where
   number_left : (k w : ℕ) → get u.leaves k ≡ Some w → IsLeafNumber (record p { settled = old }) k → IsLeafNumber (record p { settled = new }) k
@@ -93,34 +93,29 @@ module _ (v : View) (root trapframe : ℕ) (l : Layout) (u : Tables) (p : Proces
     ]
   ]
 
-  agrees_fewer : IsSpace (body v root trapframe l) u (record p { settled = old }) → IsSpace (body v root trapframe l) u (record p { settled = new })
-  agrees_fewer a = record {
-    sound = sound_fewer (record p { settled = old }) new fewer a.sound;
-    lays = record { parts = a.lays.parts; mappings = a.lays.mappings; heap_base = a.lays.heap_base; size = a.lays.size };
-    stands = record {
-      tables = a.stands.tables;
-      owns = a.stands.owns;
-      shows = record {
-        on_trampoline = a.stands.shows.on_trampoline;
-        on_trapframe = a.stands.shows.on_trapframe;
-        settled = λ n page at.
-            let shown = a.stands.shows.settled n page (fewer n page at) in
-            record {
-              region = shown.region;
-              frame = shown.frame;
-              leaf = shown.leaf;
-              in_region = shown.in_region;
-              mapped = shown.mapped;
-              made = shown.made;
-              bytes = shown.bytes;
-            };
-        only = λ k w leaf. number_left k w leaf (a.stands.shows.only k w leaf);
-        low = λ n page at. a.stands.shows.low n page (fewer n page at);
-      };
-      tabled = a.stands.tabled;
-      tabled_low = a.stands.tabled_low;
+  stands_fewer : Stands v root trapframe nothing u (record p { settled = old }) → Stands v root trapframe nothing u (record p { settled = new })
+  stands_fewer a = record {
+    tables = a.tables;
+    owns = a.owns;
+    shows = record {
+      on_trampoline = a.shows.on_trampoline;
+      on_trapframe = a.shows.on_trapframe;
+      settled = λ n page at.
+          let shown = a.shows.settled n page (fewer n page at) in
+          record {
+            region = shown.region;
+            frame = shown.frame;
+            leaf = shown.leaf;
+            in_region = shown.in_region;
+            mapped = shown.mapped;
+            made = shown.made;
+            bytes = shown.bytes;
+          };
+      only = λ k w leaf. number_left k w leaf (a.shows.only k w leaf);
+      low = λ n page at. a.shows.low n page (fewer n page at);
     };
-    credits = a.credits;
+    tabled = a.tabled;
+    tabled_low = a.tabled_low;
   }
 
 -- a run with no leaf behind it is as good as a longer one
@@ -150,10 +145,10 @@ module _ (first from end : ℕ) (within : from ≤ max first end) where
       others = λ k apart. d.others k (λ n low high. apart n low (omega (arith, within, low, high)));
     }
 
-    agrees_longer : (v : View) (root trapframe : ℕ) (l : Layout) (p : Process)
-        → IsSpace (body v root trapframe l) u (without_pages p first from) → IsSpace (body v root trapframe l) u (without_pages p first end)
-    agrees_longer v root trapframe l p =
-        agrees_fewer v root trapframe l u p (without_pages p first from).settled (without_pages p first end).settled
+    stands_longer : (v : View) (root trapframe : ℕ) (p : Process)
+        → Stands v root trapframe nothing u (without_pages p first from) → Stands v root trapframe nothing u (without_pages p first end)
+    stands_longer v root trapframe p =
+        stands_fewer v root trapframe u p (without_pages p first from).settled (without_pages p first end).settled
         (λ n s at. let was = was_settled p first end n s at in still_settled p first from n s was.0 (short_run n was.1))
         (λ k w n s leaf is at.
         let was = was_settled p first from n s at in
@@ -240,20 +235,20 @@ module _ (first page : ℕ) (from : first ≤ page) (low : page < trapframe_page
       low = λ n page_there at. s.low n page_there (before_that n page_there at).0;
     }
 
-    agrees_more : (l : Layout) → IsSpace (body v root trapframe l) u (without_pages p first page)
-        → IsSpace (body w root trapframe l) (without_leaf u (leaf_node page)) (without_pages p first (page + 1))
-    agrees_more l a = record {
-      sound = sound_fewer (without_pages p first page) (without_pages p first (page + 1)).settled (λ n s at. (before_that n s at).0) a.sound;
-      lays = record { parts = a.lays.parts; mappings = a.lays.mappings; heap_base = a.lays.heap_base; size = a.lays.size };
-      stands = record {
-        tables = d.tables;
-        owns = d.owns;
-        shows = shows_more a.stands.shows;
-        tabled = a.stands.tabled;
-        tabled_low = a.stands.tabled_low;
-      };
-      credits = d.credits ∙ a.credits;
+    stands_more : Stands v root trapframe nothing u (without_pages p first page) → Stands w root trapframe nothing (without_leaf u (leaf_node page)) (without_pages p first (page + 1))
+    stands_more a = record {
+      tables = d.tables;
+      owns = d.owns;
+      shows = shows_more a.shows;
+      tabled = a.tabled;
+      tabled_low = a.tabled_low;
     }
+
+    -- the trapframe's frame is named still
+    saved_more : Shows v trapframe u (without_pages p first page) → hold_of w trapframe ≡ hold_of v trapframe
+    saved_more s =
+        let t = s.on_trapframe in
+        d.others (leaf_node trapframe_page) t.0 trapframe (kept trapframe_page t.0 (omega arith) (λ same. omega (arith, same, low)) t.1) t.2.names
 
 -- a page below TRAPFRAME's that has a leaf
 
@@ -292,37 +287,72 @@ drops_none : (t : Tables) (first : ℕ) → Drops t t first first
 drops_none t first = record { tables = refl; gone = λ n from before. absurd (omega arith); others = λ k apart. refl }
 
 -- before the first page
-agrees_first : (v : View) (root trapframe : ℕ) (l : Layout) (t : Tables) (p : Process) (first : ℕ)
-    → IsSpace (body v root trapframe l) t p → IsSpace (body v root trapframe l) t (without_pages p first first)
-agrees_first v root trapframe l t p first =
-    agrees_fewer v root trapframe l t p p.settled (without_pages p first first).settled
+stands_first : (v : View) (root trapframe : ℕ) (t : Tables) (p : Process) (first : ℕ)
+    → Stands v root trapframe nothing t p → Stands v root trapframe nothing t (without_pages p first first)
+stands_first v root trapframe t p first =
+    stands_fewer v root trapframe t p p.settled (without_pages p first first).settled
     (λ n s at. (was_settled p first first n s at).0)
     (λ k w n s leaf is at. still_settled p first first n s at (everywhere first n))
 
 -- pages of a run were dropped
-abbrev pub HasDropped : View → ℕ → ℕ → Layout → Tables → Process → ℕ → ℕ → Type 0
-HasDropped v root trapframe l t p first end = (u : Tables) × IsSpace (body v root trapframe l) u (without_pages p first end) × Drops t u first end
+abbrev pub HasDropped : View → View → ℕ → ℕ → Tables → Process → ℕ → ℕ → Type 0
+HasDropped v w root trapframe t p first end = (u : Tables) × DropsRun v w root trapframe t u p first end
 
-module _ (v : View) (root trapframe : ℕ) (l : Layout) (t : Tables) (p : Process) where
-  pub dropped_none : (first : ℕ) → IsSpace (body v root trapframe l) t p → HasDropped v root trapframe l t p first first
-  dropped_none first a = (t, agrees_first v root trapframe l t p first a, drops_none t first)
+module _ (v : View) (root trapframe : ℕ) (t : Tables) (p : Process) where
+  pub dropped_none : (first : ℕ) → Stands v root trapframe nothing t p → HasDropped v v root trapframe t p first first
+  dropped_none first s = (
+    t,
+    record {
+      stands = stands_first v root trapframe t p first s;
+      drops = drops_none t first;
+      saved = refl;
+      credits = refl;
+      takes = takes_none v v refl;
+    },
+  )
 
-  module _ (first from end : ℕ) (so_far : HasDropped v root trapframe l t p first from) where
-    pub dropped_all : from ≤ max first end → IsFirstMapped so_far.0 from end None → HasDropped v root trapframe l t p first end
-    dropped_all within none =
-        (so_far.0, agrees_longer first from end within so_far.0 none v root trapframe l p so_far.1, drops_longer first from end within so_far.0 none t so_far.2)
+  module _ (w : View) (first from end : ℕ) (so_far : HasDropped v w root trapframe t p first from) where
+    pub dropped_all : from ≤ max first end → IsFirstMapped so_far.0 from end None → HasDropped v w root trapframe t p first end
+    dropped_all within none = (
+      so_far.0,
+      record {
+        stands = stands_longer first from end within so_far.0 none w root trapframe p so_far.1.stands;
+        drops = drops_longer first from end within so_far.0 none t so_far.1.drops;
+        saved = so_far.1.saved;
+        credits = so_far.1.credits;
+        takes = so_far.1.takes;
+      },
+    )
 
     module _ (page : ℕ) (found : IsFirstMapped so_far.0 from end (Some page)) (low : end ≤ trapframe_page) where
-      pub next_may_drop : CanDrop v root so_far.0 page
-      next_may_drop = may_drop v root trapframe so_far.0 (without_pages p first from) so_far.1.stands page (omega (arith, low, found.1)) found.2
+      pub next_may_drop : CanDrop w root so_far.0 page
+      next_may_drop = may_drop w root trapframe so_far.0 (without_pages p first from) so_far.1.stands page (omega (arith, low, found.1)) found.2
 
-      pub dropped_next : first ≤ from → (w : View) → DropsLeaf v w root so_far.0 page → HasDropped w root trapframe l t p first (page + 1)
-      dropped_next after w d =
+      pub dropped_next : first ≤ from → (x : View) → DropsLeaf w x root so_far.0 page → HasDropped v x root trapframe t p first (page + 1)
+      dropped_next after x d =
           let near = found.0 in
           let before = found.1 in
           let within : from ≤ max first page = omega (arith, near) in
-          let till = agrees_longer first from page within so_far.0 found.3 v root trapframe l p so_far.1 in
-          let less = drops_longer first from page within so_far.0 found.3 t so_far.2 in
+          let till = stands_longer first from page within so_far.0 found.3 w root trapframe p so_far.1.stands in
+          let less = drops_longer first from page within so_far.0 found.3 t so_far.1.drops in
           let behind : first ≤ page = omega (arith, after, near) in
-          let inside : page < trapframe_page = omega (arith, before, low) in
-          (without_leaf so_far.0 (leaf_node page), agrees_more first page behind inside v w root trapframe so_far.0 p d l till, drops_more first page behind inside t so_far.0 less)
+          let inside : page < trapframe_page = omega (arith, before, low) in (
+            without_leaf so_far.0 (leaf_node page),
+            record {
+              stands = stands_more first page behind inside w x root trapframe so_far.0 p d till;
+              drops = drops_more first page behind inside t so_far.0 less;
+              saved = saved_more first page behind inside w x root trapframe so_far.0 p d till.shows ∙ so_far.1.saved;
+              credits = d.credits ∙ so_far.1.credits;
+              takes = takes_then v w x so_far.1.takes d.takes;
+            },
+          )
+
+-- the space that is left
+pub agrees_dropped : (v w : View) (root trapframe : ℕ) (l : Layout) (t u : Tables) (p : Process) (first end : ℕ) → IsSpace (body v root trapframe l) t p
+    → DropsRun v w root trapframe t u p first end → IsSpace (body w root trapframe l) u (without_pages p first end)
+agrees_dropped v w root trapframe l t u p first end a d = record {
+  sound = sound_fewer p (without_pages p first end).settled (λ n s at. (was_settled p first end n s at).0) a.sound;
+  lays = record { parts = a.lays.parts; mappings = a.lays.mappings; heap_base = a.lays.heap_base; size = a.lays.size };
+  stands = d.stands;
+  credits = d.credits ∙ a.credits;
+}

@@ -1,35 +1,35 @@
--- A space that ends, once its pages are gone: TRAPFRAME's leaf goes, then TRAMPOLINE's, then the tables, and last frame 0.
-use Rattle.std.proofs.Common.{◌≡◌, ℕ, ◌+◌, ◌^◌, ◌<◌, ◌⊎◌, None, Some, refl, ap, sym, subst, ◌∙◌, inl, inr, arith}
+-- A space that ends, once its pages are gone: TRAPFRAME's leaf goes, then TRAMPOLINE's, and then the tables; and at the very end the
+-- frames of these two pages.
+use Rattle.std.proofs.Common.{◌≡◌, ℕ, ◌+◌, ◌⊎◌, true, None, Some, refl, ap, sym, ◌∙◌, inl, inr, arith}
 use Rattle.std.specs.Prelude.{[]}
 use Rattle.std.proofs.lemmas.Bool.{cases_eq}
 use Rattle.std.specs.FinMap.{get}
 use Rattle.frame_store.specs.Laws.{IsAnchored}
-use Rattle.frame_store.specs.View.{Hold, View, hold_of, IsHeld, not_held, references, released}
+use Rattle.frame_store.specs.View.{Hold, View, hold_of, IsHeld, IsSole, not_held, references, released}
 use Rattle.process_model.specs.Heap.{without_pages}
 use Rattle.process_model.specs.Process.{Process}
 use Rattle.sv39_entry.specs.Address.{trampoline_page, trapframe_page}
-use Rattle.sv39_entry.specs.Frame.{ppn_of}
 use Rattle.sv39_entry.specs.Word.{ppn}
-use Rattle.table_walk.specs.Tables.{ChangesTables, Tables, leaf_node, without_leaf}
+use Rattle.sv39_entry.specs.Frame.{ppn_of}
+use Rattle.table_walk.specs.Tables.{ChangesTables, HasTables, Tables, leaf_node, without_leaf}
 use Rattle.table_walk.specs.Keys.{is_none, remove_other}
 use Rattle.table_walk.specs.Released.{AreLast, SameTallies}
-use Rattle.address_space.specs.Agreement.{body, IsSpace, Names, nothing, one_of, Owns}
-use Rattle.address_space.specs.Ending.{DropsLeaf, IsEmptied}
-use Rattle.address_space.specs.Layouts.{Layout}
+use Rattle.address_space.specs.Agreement.{HoldsTrapframe, Names, nothing, one_of, Owns, Stands}
+use Rattle.address_space.specs.Ending.{IsEmptied, Strips}
 use Rattle.address_space.specs.Steps.{IsBare, Takes}
-use Rattle.address_space.proofs.DroppedLeaf.{changes_take, left, no_name, once_held, released_credits, released_takes, takes_none, takes_then, unmapped}
+use Rattle.address_space.proofs.DroppedLeaf.{changes_take, leaf_goes, left, no_name, released_credits, released_takes, takes_none, takes_then, unmapped}
 use Rattle.address_space.proofs.DroppedPages.{was_settled}
-use Rattle.address_space.proofs.Owned.{one_else, one_page, released_here, released_other, same_references}
+use Rattle.address_space.proofs.Owned.{both_of, no_table, one_else, one_here, one_page, released_here, released_other, same_references, same_sole}
 
 -- no page is settled
-module _ (v : View) (root trapframe : ℕ) (l : Layout) (u : Tables) (p : Process) (a : IsSpace (body v root trapframe l) u (without_pages p 0 trapframe_page)) where
+module _ (v : View) (root trapframe : ℕ) (u : Tables) (p : Process) (a : Stands v root trapframe nothing u (without_pages p 0 trapframe_page)) where
   two_left : (k w : ℕ) → get u.leaves k ≡ Some w → (k ≡ leaf_node trampoline_page) ⊎ (k ≡ leaf_node trapframe_page)
-  two_left k w leaf = elim (a.stands.shows.only k w leaf) as (λ _. (k ≡ leaf_node trampoline_page) ⊎ (k ≡ leaf_node trapframe_page)) [
+  two_left k w leaf = elim (a.shows.only k w leaf) as (λ _. (k ≡ leaf_node trampoline_page) ⊎ (k ≡ leaf_node trapframe_page)) [
     | inl trampoline ↦ inl trampoline
     | inr rest ↦ elim rest as (λ _. (k ≡ leaf_node trampoline_page) ⊎ (k ≡ leaf_node trapframe_page)) [
       | inl frame ↦ inr frame
       | inr there ↦ absurd (
-          let low = a.stands.shows.low there.0 there.1 there.3 in
+          let low = a.shows.low there.0 there.1 there.3 in
           elim (was_settled p 0 trapframe_page there.0 there.1 there.3).1 as (λ _. ⊥) [
             | inl before ↦ omega (arith, before)
             | inr after ↦ omega (arith, after, low)
@@ -37,104 +37,177 @@ module _ (v : View) (root trapframe : ℕ) (l : Layout) (u : Tables) (p : Proces
     ]
   ]
 
-  pub emptied : trapframe < 2 ^ 16 → IsEmptied v root u
-  emptied small =
-      let anchor = a.stands.shows.on_trampoline in
-      let on = a.stands.shows.on_trapframe in
-      record {
-        trapframe = record {
-          tables = a.stands.tables;
-          owns = a.stands.owns;
-          anchor = (anchor.0, anchor.1, anchor.2.names);
-          apart = λ same. omega (arith, one_page trapframe_page trampoline_page (omega arith) (omega arith) same);
-          frame = trapframe;
-          on = (on.0, on.1, on.2.names);
-          small = small;
-        };
-        only = two_left;
-        credits = a.credits;
-      }
-
--- TRAPFRAME's leaf is gone, and TRAMPOLINE's page is unmapped
-module _ (v w m : View) (root : ℕ) (t : Tables) (a : IsEmptied v root t) (d : DropsLeaf v w root t trapframe_page)
-    (c : ChangesTables w m (without_leaf t (leaf_node trapframe_page)) (without_leaf t (leaf_node trapframe_page)) 0) where
-  last : (x : ℕ) × (get (without_leaf t (leaf_node trapframe_page)).leaves (leaf_node trampoline_page) ≡ Some x) × (ppn x ≡ ppn_of 0)
-  last =
-      let on = a.trapframe.anchor in
-      (on.0, remove_other t.leaves (leaf_node trapframe_page) (leaf_node trampoline_page) (λ same. a.trapframe.apart (sym same)) ∙ on.1, on.2)
-
-  zero_spare : Owns m (without_leaf (without_leaf t (leaf_node trapframe_page)) (leaf_node trampoline_page)) (one_of 0)
-  zero_spare = unmapped w m root (without_leaf t (leaf_node trapframe_page)) (leaf_node trampoline_page) last.0 0 d.tables d.owns last.1 last.2 c
-
-  zero_free : (k : ℕ) → Names (without_leaf (without_leaf t (leaf_node trapframe_page)) (leaf_node trampoline_page)) 0 k → ⊥
-  zero_free = no_name w root (without_leaf t (leaf_node trapframe_page)) (leaf_node trampoline_page) last.0 0 d.tables nothing d.owns last.1 last.2
-
-  zero_one : references m 0 ≡ 1
-  zero_one = once_held w m root (without_leaf t (leaf_node trapframe_page)) (leaf_node trampoline_page) last.0 0 d.tables d.owns last.1 last.2 c
-
-  none_left : (n : ℕ) → get (without_leaf (without_leaf t (leaf_node trapframe_page)) (leaf_node trampoline_page)).leaves n ≡ None
-  none_left n = is_none _ (λ x leaf.
-      let first = left (without_leaf t (leaf_node trapframe_page)) (leaf_node trampoline_page) n x leaf in
-      let second = left t (leaf_node trapframe_page) n x first.0 in
-      elim (a.only n x second.0) as (λ _. ⊥) [
-        | inl trampoline ↦ first.1 trampoline
-        | inr frame ↦ second.1 frame
-      ])
-
-  pub are_last : AreLast m (without_leaf (without_leaf t (leaf_node trapframe_page)) (leaf_node trampoline_page))
-  are_last = record {
-    bare = none_left;
-    once = λ k f table. zero_spare.named f k (inl table) ∙ ap (λ n. 1 + n) (one_else 0 f (λ same. zero_free k (inl (table ∙ ap Some same))));
-    anchored = let one = zero_one in omega (arith, one);
-    apart = λ k table. zero_free k (inl table);
+  pub emptied : IsEmptied v root trapframe u
+  emptied = record {
+    tables = a.tables;
+    owns = a.owns;
+    on_trampoline = a.shows.on_trampoline;
+    on_trapframe = a.shows.on_trapframe;
+    only = two_left;
   }
 
-  -- the tables are gone
-  module _ (e : View)
-      (gone : (k f : ℕ) → get t.tables k ≡ Some f → hold_of e f ≡ not_held)
-      (others : (f : ℕ) → ((k : ℕ) → get t.tables k ≡ Some f → ⊥) → hold_of e f ≡ hold_of m f)
-      (tallies : SameTallies m e) where
-    zero_once : references e 0 ≡ 1
-    zero_once = same_references m e 0 (others 0 are_last.apart) ∙ zero_one
+-- `w` is the view after TRAPFRAME's leaf went, `m` after TRAMPOLINE's
+module _ (v w m : View) (root trapframe : ℕ) (t : Tables) (a : IsEmptied v root trapframe t) where
+  abbrev first : Tables
+  first = without_leaf t (leaf_node trapframe_page)
 
-    pub zero_held : IsHeld e 0
-    zero_held = let one = zero_once in omega (arith, one)
+  abbrev second : Tables
+  second = without_leaf first (leaf_node trampoline_page)
 
-    -- nothing else is held
-    none_else : (f : ℕ) → (f ≡ 0 → ⊥) → references e f ≡ 0
-    none_else f apart = elim (cases_eq (references e f) 0) [
-      | inl none ↦ none
-      | inr some ↦
-          let no_table : (k : ℕ) → get t.tables k ≡ Some f → ⊥ = λ k table. some (ap (λ (h : Hold). h.references) (gone k f table)) in
-          let nameless : (k : ℕ) → Names (without_leaf (without_leaf t (leaf_node trapframe_page)) (leaf_node trampoline_page)) f k → ⊥ = λ k named. elim named as (λ _. ⊥) [
-            | inl table ↦ no_table k table
-            | inr leaf ↦ let none = none_left k in let there = leaf.1 in cc
-          ] in
-          same_references m e f (others f no_table) ∙ zero_spare.bare f nameless ∙ one_else 0 f apart
-    ]
+  leaves_apart : leaf_node trampoline_page ≡ leaf_node trapframe_page → ⊥
+  leaves_apart same = omega (arith, one_page trampoline_page trapframe_page (omega arith) (omega arith) same)
 
-    none_held : (f : ℕ) → references (released 0 e) f ≡ 0
+  apart : trapframe ≡ 0 → ⊥
+  apart same =
+      let code = a.on_trampoline in
+      let saved = a.on_trapframe in
+      leaves_apart (a.owns.once 0 (leaf_node trampoline_page) (leaf_node trapframe_page) (inr (code.0, code.1, code.2.names)) (inr (saved.0, saved.1, saved.2.names ∙ ap ppn_of same)))
+
+  module _ (c : ChangesTables v w t t 0) (has : HasTables w root (without_leaf t (leaf_node trapframe_page)))
+      (d : ChangesTables w m (without_leaf t (leaf_node trapframe_page)) (without_leaf t (leaf_node trapframe_page)) 0) where
+    one_waits : Owns w first (one_of trapframe)
+    one_waits = let on = a.on_trapframe in unmapped v w root t (leaf_node trapframe_page) on.0 trapframe a.tables a.owns on.1 on.2.names c
+
+    saved_unnamed : (k : ℕ) → Names first trapframe k → ⊥
+    saved_unnamed = let on = a.on_trapframe in no_name v root t (leaf_node trapframe_page) on.0 trapframe a.tables nothing a.owns on.1 on.2.names
+
+    last : (x : ℕ) × (get first.leaves (leaf_node trampoline_page) ≡ Some x) × (ppn x ≡ ppn_of 0)
+    last = let on = a.on_trampoline in (on.0, remove_other t.leaves (leaf_node trapframe_page) (leaf_node trampoline_page) leaves_apart ∙ on.1, on.2.names)
+
+    two_wait : Owns m second (both_of trapframe 0)
+    two_wait = leaf_goes w root first (leaf_node trampoline_page) last.0 0 has (one_of trapframe) one_waits last.1 last.2 m d (both_of trapframe 0) (λ g. refl)
+
+    none_left : (n : ℕ) → get second.leaves n ≡ None
+    none_left n = is_none _ (λ x leaf.
+        let below = left first (leaf_node trampoline_page) n x leaf in
+        let above = left t (leaf_node trapframe_page) n x below.0 in
+        elim (a.only n x above.0) as (λ _. ⊥) [
+          | inl trampoline ↦ below.1 trampoline
+          | inr frame ↦ above.1 frame
+        ])
+
+    -- the two frames are no tables
+    zero_no_table : (k : ℕ) → get t.tables k ≡ Some 0 → ⊥
+    zero_no_table = let on = a.on_trampoline in no_table v t root nothing a.tables a.owns (leaf_node trampoline_page) on.0 0 on.1 on.2.names
+
+    saved_no_table : (k : ℕ) → get t.tables k ≡ Some trapframe → ⊥
+    saved_no_table = let on = a.on_trapframe in no_table v t root nothing a.tables a.owns (leaf_node trapframe_page) on.0 trapframe on.1 on.2.names
+
+    no_names : (f : ℕ) → ((k : ℕ) → get t.tables k ≡ Some f → ⊥) → (k : ℕ) → Names second f k → ⊥
+    no_names f none k (inl table) = none k table
+    no_names f none k (inr leaf) = let gone = none_left k in let there = leaf.1 in cc
+
+    table_once : (k f : ℕ) → get t.tables k ≡ Some f → references m f ≡ 1
+    table_once k f table =
+        let one = two_wait.named f k (inl table) in
+        let zero = one_else 0 f (λ same. zero_no_table k (table ∙ ap Some same)) in
+        let saved = one_else trapframe f (λ same. saved_no_table k (table ∙ ap Some same)) in
+        omega (arith, one, zero, saved)
+
+    zero_once : references m 0 ≡ 1
+    zero_once =
+        let count = two_wait.bare 0 (no_names 0 zero_no_table) in
+        let here = one_here 0 0 refl in
+        let none = one_else trapframe 0 (λ same. apart (sym same)) in
+        omega (arith, count, here, none)
+
+    pub are_last : AreLast m (without_leaf (without_leaf t (leaf_node trapframe_page)) (leaf_node trampoline_page))
+    are_last = record {
+      bare = none_left;
+      once = table_once;
+      anchored = let one = zero_once in omega (arith, one);
+      apart = zero_no_table;
+    }
+
+    -- the tables are gone
+    module _ (e : View)
+        (gone : (k f : ℕ) → get t.tables k ≡ Some f → hold_of e f ≡ not_held)
+        (others : (f : ℕ) → ((k : ℕ) → get t.tables k ≡ Some f → ⊥) → hold_of e f ≡ hold_of m f)
+        (tallies : SameTallies m e) where
+      as_was : hold_of e trapframe ≡ hold_of v trapframe
+      as_was = others trapframe saved_no_table ∙ d.apart trapframe saved_no_table ∙ c.apart trapframe saved_no_table
+
+      saved_once : references e trapframe ≡ 1
+      saved_once = let on = a.on_trapframe in same_references v e trapframe as_was ∙ a.owns.named trapframe (leaf_node trapframe_page) (inr (on.0, on.1, on.2.names))
+
+      saved_sole : IsSole e trapframe
+      saved_sole =
+          let on = a.on_trapframe in
+          same_sole v e trapframe as_was (a.owns.writable trapframe (leaf_node trapframe_page) on.0 on.1 on.2.names on.2.write)
+
+      -- nothing else is held
+      none_else : (f : ℕ) → (f ≡ 0 → ⊥) → (f ≡ trapframe → ⊥) → references e f ≡ 0
+      none_else f some other = elim (cases_eq (references e f) 0) [
+        | inl none ↦ none
+        | inr held ↦
+            let bare : (k : ℕ) → get t.tables k ≡ Some f → ⊥ = λ k table. held (ap (λ (h : Hold). h.references) (gone k f table)) in
+            let count = two_wait.bare f (no_names f bare) in
+            let zero = one_else 0 f some in
+            let saved = one_else trapframe f other in
+            let same = same_references m e f (others f bare) in
+            omega (arith, count, zero, saved, same)
+      ]
+
+      pub strips : Strips v e trapframe
+      strips =
+          let unmapped_first = changes_take v w t t c in
+          let both = takes_then v w m unmapped_first (changes_take w m _ _ d) in
+          record {
+            holds = record {
+              code = same_references m e 0 (others 0 zero_no_table) ∙ zero_once;
+              saved = saved_once;
+              sole = saved_sole;
+              apart = apart;
+              others = none_else;
+            };
+            saved = as_was;
+            credits = let one = c.credits in let two = d.credits in let three = tallies.credits in omega (arith, one, two, three);
+            takes = takes_then v m e both (takes_none m e tallies.tallies);
+          }
+
+-- ---- the last two frames go
+
+module _ (v w : View) (trapframe : ℕ) (h : HoldsTrapframe v trapframe) (is : w ≡ released trapframe v) where
+  pub saved_held : IsHeld v trapframe
+  saved_held = let one = h.saved in omega (arith, one)
+
+  other : (f : ℕ) → (f ≡ trapframe → ⊥) → hold_of w f ≡ hold_of v f
+  other f apart = ap (λ u. hold_of u f) is ∙ released_other trapframe f v h.saved apart
+
+  code_once : references w 0 ≡ 1
+  code_once = same_references v w 0 (other 0 (λ same. h.apart (sym same))) ∙ h.code
+
+  pub code_held : IsHeld w 0
+  code_held = let one = code_once in omega (arith, one)
+
+  pub anchored_first : IsAnchored w
+  anchored_first f held = code_held
+
+  only_code : (f : ℕ) → (f ≡ 0 → ⊥) → references w f ≡ 0
+  only_code f some = elim (cases_eq f trapframe) [
+    | inl same ↦ rw same (ap (λ u. references u trapframe) is ∙ released_here trapframe v h.saved)
+    | inr apart ↦ same_references v w f (other f apart) ∙ h.others f some apart
+  ]
+
+  module _ (x : View) (end : x ≡ released 0 w) where
+    none_held : (f : ℕ) → references x f ≡ 0
     none_held f = elim (cases_eq f 0) [
-      | inl same ↦ ap (references (released 0 e)) same ∙ released_here 0 e zero_once
-      | inr apart ↦ same_references e (released 0 e) f (released_other 0 f e zero_once apart) ∙ none_else f apart
+      | inl zero ↦ rw zero (ap (λ u. references u 0) end ∙ released_here 0 w code_once)
+      | inr some ↦ ap (λ u. references u f) end ∙ same_references w (released 0 w) f (released_other 0 f w code_once some) ∙ only_code f some
     ]
 
-    pub anchored_last : IsAnchored (released 0 e)
+    pub anchored_last : IsAnchored x
     anchored_last f held = absurd (let none = none_held f in omega (arith, none, held))
 
-    pub is_bare : (end : View) → end ≡ released 0 e → IsBare end
-    is_bare end is =
-        let spent = c.credits in
-        let kept = tallies.credits in
-        let before = d.credits in
-        let none = a.credits in
-        record {
-          none = λ f. ap (λ x. references x f) is ∙ none_held f;
-          credits = ap (λ (x : View). x.credits) is ∙ released_credits 0 e zero_once ∙ omega (arith, spent, kept, before, none);
-        }
+    pub is_bare : v.credits ≡ 0 → IsBare x
+    is_bare none = record {
+      none = none_held;
+      credits =
+          ap (λ (u : View). u.credits) end ∙ released_credits 0 w code_once
+          ∙ ap (λ (u : View). u.credits) is ∙ released_credits trapframe v h.saved ∙ none;
+    }
 
-    pub takes_last : (end : View) → end ≡ released 0 e → Takes v end 0 []
-    takes_last end is =
-        let unmapped = takes_then v w m d.takes (changes_take w m _ _ c) in
-        let freed = takes_then v m e unmapped (takes_none m e tallies.tallies) in
-        subst (λ x. Takes v x 0 []) (sym is) (takes_then v e (released 0 e) freed (released_takes 0 e zero_once))
+    pub takes_last : (u : View) → Takes u v 0 [] → Takes u x 0 []
+    takes_last u takes =
+        let first = takes_then u v w takes (rw is (released_takes trapframe v h.saved)) in
+        takes_then u w x first (rw end (released_takes 0 w code_once))

@@ -68,6 +68,10 @@ one_here f g same = ap (λ (b : Bool). if b then 1 else 0) (eq-eqb g f same)
 pub one_else : (f g : ℕ) → (g ≡ f → ⊥) → one_of f g ≡ 0
 one_else f g apart = ap (λ (b : Bool). if b then 1 else 0) (ne_eqb g f apart)
 
+-- of two frames
+abbrev pub both_of : ℕ → ℕ → ℕ → ℕ
+both_of f g x = one_of f x + one_of g x
+
 -- what is owned
 
 module _ (v : View) (t : Tables) where

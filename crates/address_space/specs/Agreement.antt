@@ -43,6 +43,15 @@ pub record HoldsTrampoline (v : View) : Type 0 where
   pub others : (f : ℕ) → f ≢ 0 → references v f ≡ 0
   pub credits : v.credits ≡ 0
 
+-- before a space is built of credits, and after one was taken apart: the seat holds frame 0 once, and the trapframe's frame, of which
+-- it is the sole holder, and nothing else
+pub record HoldsTrapframe (v : View) (trapframe : ℕ) : Type 0 where
+  pub code : references v 0 ≡ 1
+  pub saved : references v trapframe ≡ 1
+  pub sole : IsSole v trapframe
+  pub apart : trapframe ≢ 0
+  pub others : (f : ℕ) → f ≢ 0 → f ≢ trapframe → references v f ≡ 0
+
 -- leaves
 
 -- whether the leaf of a page has D set: where stores go back to a file, from the first one on; else from the start

@@ -2,11 +2,13 @@
 use Rattle.std.specs.Prelude.{◌≡◌, ◌≢◌, ◌⊎◌, ℕ, ◌^◌, ◌<◌, ◌≤◌, Option, None, Some, IsSome, []}
 use Rattle.std.specs.FinMap.{get}
 use Rattle.frame_store.specs.View.{View, hold_of}
+use Rattle.process_model.specs.Heap.{without_pages}
+use Rattle.process_model.specs.Process.{Process}
 use Rattle.sv39_entry.specs.Address.{trampoline_page, trapframe_page}
 use Rattle.sv39_entry.specs.Frame.{ppn_of}
 use Rattle.sv39_entry.specs.Word.{ppn}
 use Rattle.table_walk.specs.Tables.{HasTables, Tables, leaf_node, without_leaf}
-use Rattle.address_space.specs.Agreement.{IsOn, nothing, Owns}
+use Rattle.address_space.specs.Agreement.{Body, code_rights, data_rights, HasKernelLeaf, HoldsTrapframe, IsOn, nothing, Owns, Stands}
 use Rattle.address_space.specs.Steps.{Takes}
 
 -- no page of a run has a leaf
@@ -42,8 +44,29 @@ pub record DropsLeaf (v w : View) (root : ℕ) (t : Tables) (page : ℕ) : Type 
   pub credits : w.credits ≡ v.credits
   pub takes : Takes v w 0 []
 
+-- the pages of a run are gone from a process that stands, and the trapframe's frame is held as it was
+pub record DropsRun (v w : View) (root trapframe : ℕ) (t u : Tables) (p : Process) (first end : ℕ) : Type 0 where
+  pub stands : Stands w root trapframe nothing u (without_pages p first end)
+  pub drops : Drops t u first end
+  pub saved : hold_of w trapframe ≡ hold_of v trapframe
+  pub credits : w.credits ≡ v.credits
+  pub takes : Takes v w 0 []
+
+-- a space that may be taken apart, whatever its seat has of credits
+abbrev pub CanEnd : Body → Tables → Process → Type 0
+CanEnd x t p = Stands x.view x.root x.trapframe nothing t p
+
 -- no leaf stands but TRAMPOLINE's and TRAPFRAME's
-pub record IsEmptied (v : View) (root : ℕ) (t : Tables) : Type 0 where
-  pub trapframe : CanDrop v root t trapframe_page
+pub record IsEmptied (v : View) (root trapframe : ℕ) (t : Tables) : Type 0 where
+  pub tables : HasTables v root t
+  pub owns : Owns v t nothing
+  pub on_trampoline : HasKernelLeaf t trampoline_page 0 code_rights
+  pub on_trapframe : HasKernelLeaf t trapframe_page trapframe data_rights
   pub only : (k w : ℕ) → get t.leaves k ≡ Some w → (k ≡ leaf_node trampoline_page) ⊎ (k ≡ leaf_node trapframe_page)
-  pub credits : v.credits ≡ 0
+
+-- the tables are gone: the frames of the kernel's two pages are held, the trapframe's as it was, and nothing else
+pub record Strips (v w : View) (trapframe : ℕ) : Type 0 where
+  pub holds : HoldsTrapframe w trapframe
+  pub saved : hold_of w trapframe ≡ hold_of v trapframe
+  pub credits : w.credits ≡ v.credits
+  pub takes : Takes v w 0 []

@@ -1,6 +1,6 @@
 -- The parts that a process begins with, and the process that they make.
 use Rattle.std.specs.Prelude.{◌≡◌, ◌≢◌, ℕ, ◌+◌, ◌-◌, ◌*◌, ◌<◌, ◌≤◌, false, true, All, None, Some, List, [], ◌∷◌, flat_map, length, map}
-use Rattle.frame_store.specs.View.{View, IsSole, references}
+use Rattle.frame_store.specs.View.{View, hold_of, IsSole}
 use Rattle.process_model.specs.Frames.{tables_needed, tables_of}
 use Rattle.process_model.specs.Loading.{numbered, page_run}
 use Rattle.process_model.specs.PageMap as pages
@@ -9,7 +9,7 @@ use Rattle.process_model.specs.Process.{Page, Process, regions}
 use Rattle.process_model.specs.Regions.{end_of, makes_leaf, Region, region_at}
 use Rattle.sv39_entry.specs.Address.{trapframe_page}
 use Rattle.table_walk.specs.Tables.{Tables}
-use Rattle.address_space.specs.Agreement.{Names, nothing, Stands}
+use Rattle.address_space.specs.Agreement.{HoldsTrapframe, Names, nothing, Stands}
 use Rattle.address_space.specs.Layouts.{last_page, region_of}
 use Rattle.address_space.specs.Steps.{Spends}
 use Rattle.address_space.specs.declared.part.Part.{Part}
@@ -61,6 +61,10 @@ OwnsAlone v t = (f k : ℕ) → Names t f k → f ≢ 0 → IsSole v f
 
 -- while a space is built
 
+-- what it takes where the trapframe's frame is there
+abbrev pub tree_need : List Part → ℕ
+tree_need ps = length (pages_of ps) + tables_needed (numbers_of ps)
+
 -- no page is settled
 abbrev pub bare_process : List Part → Process
 bare_process ps = settled_process ps (empty Page) (empty (Unit {0}))
@@ -85,17 +89,17 @@ pub record StandsAlone (v : View) (root trapframe : ℕ) (t : Tables) (p : Proce
   pub stands : Stands v root trapframe nothing t p
   pub alone : OwnsAlone v t
 
--- frame 0 is held once, and four credits are there
-pub record CanOpen (v : View) : Type 0 where
-  pub once : references v 0 ≡ 1
-  pub others : (f : ℕ) → f ≢ 0 → references v f ≡ 0
-  pub credits : 4 ≤ v.credits
+-- the frames of the kernel's two pages are held, and three credits are there
+pub record CanOpen (v : View) (trapframe : ℕ) : Type 0 where
+  pub holds : HoldsTrapframe v trapframe
+  pub credits : 3 ≤ v.credits
 
 -- the pages of the kernel are there, and no others
 pub record Opens (v w : View) (root trapframe : ℕ) (t : Tables) : Type 0 where
   pub stands : (p : Process) → p.settled ≡ empty Page → p.tabled ≡ empty (Unit {0}) → Stands w root trapframe nothing t p
   pub alone : OwnsAlone w t
-  pub spends : Spends v w 4
+  pub saved : hold_of w trapframe ≡ hold_of v trapframe
+  pub spends : Spends v w 3
 
 -- a part whose pages have no frame yet
 pub record CanFill (v : View) (root trapframe : ℕ) (t : Tables) (p : Process) (part : Part) : Type 0 where
@@ -108,4 +112,5 @@ pub record CanFill (v : View) (root trapframe : ℕ) (t : Tables) (p : Process) 
 -- pages stand on frames that were not held before
 pub record Fills (v w : View) (root trapframe : ℕ) (u : Tables) (p : Process) (es : List (ℕ × List ℕ)) : Type 0 where
   pub after : StandsAlone w root trapframe u (with_pages p es)
+  pub saved : hold_of w trapframe ≡ hold_of v trapframe
   pub spends : Spends v w (pages_need p es)

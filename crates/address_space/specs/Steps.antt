@@ -1,7 +1,7 @@
 -- What the calls of a space ask for, and what they do.
 use Rattle.std.specs.Prelude.{◌≡◌, ◌≢◌, ℕ, true, false, not, ◌==◌, ◌+◌, ◌-◌, ◌%◌, ◌<◌, None, Option, Some, List, [], option_to_list}
 use Rattle.std.specs.Prelude.{◌∷◌, ◌++◌}
-use Rattle.frame_store.specs.View.{spent, taken, View, IsSole, references}
+use Rattle.frame_store.specs.View.{hold_of, spent, taken, View, IsSole, references}
 use Rattle.process_model.specs.Bytes.{low_bytes, padded}
 use Rattle.process_model.specs.Frames.{part_need, settle_need}
 use Rattle.process_model.specs.Mappings.{with_instead, with_mapping}
@@ -54,6 +54,7 @@ pub record Adds (v w : View) (root trapframe : ℕ) (t u : Tables) (p : Process)
   pub fresh : references v f ≡ 0
   pub sole : IsSole w f
   pub others : OthersKeep t u page
+  pub saved : hold_of w trapframe ≡ hold_of v trapframe
   pub spends : Spends v w (1 + missing t page)
 
 -- any page of a region that is not settled yet

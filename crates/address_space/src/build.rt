@@ -1,10 +1,11 @@
 // A space is built.
 
 ghost use Rattle.std.specs.Prelude.{[], ◌≡◌, ◌-◌, ◌≤◌, ◌↔◌, if◌then◌else◌, IfErr, IfOk, is_ok, IsOk, ℕ};
-ghost use Rattle.address_space.specs.Agreement.{body_of, IsSpace, HoldsTrampoline};
-ghost use Rattle.address_space.specs.Parts.{AreParts, bare_process, build_need, CanFill, CanOpen, Fills, Opens, OwnsAlone, pages_need, pages_of, part_pages, process_of_parts, StandsAlone};
+ghost use Rattle.address_space.specs.Agreement.{body_of, IsSpace, HoldsTrampoline, HoldsTrapframe};
+ghost use Rattle.address_space.specs.Parts.{AreParts, bare_process, build_need, CanFill, CanOpen, Fills, Opens, OwnsAlone, pages_need, pages_of, part_pages, process_of_parts, StandsAlone, tree_need};
 ghost use Rattle.address_space.specs.Steps.{Takes};
 ghost use Rattle.frame_store.specs.Laws.{Fits, IsDry, Keeps};
+ghost use Rattle.frame_store.specs.View.{hold_of};
 ghost use Rattle.process_model.specs.Process.{Process};
 ghost use Rattle.table_walk.specs.Tables.{Tables};
 
@@ -44,23 +45,49 @@ impl<S: FrameSeat> Space<S> {
         if let Err(none) = store.reserve(&mut seat, frames_needed(parts)) {
             return Err((none, seat));
         }
-        let (root, trapframe) = open_tables(store, &mut seat);
+        let trapframe = store.claim(&mut seat);
+        fill_frame(store, &mut seat, trapframe, &[]);
+        Ok(Space::build_reserved(store, seat, trapframe, parts))
+    }
+
+    /// The same of credits that the seat has, over a frame for the trapframe that it holds: what that has stays.
+    pub fn build_reserved<F: FrameSupply<Seat = S>>(
+        store: &mut F,
+        mut seat: S,
+        trapframe: FrameNo,
+        parts: &[Part],
+    ) -> Space<S>
+        requires fits { Fits F.rule store.old seat }
+        requires parts { AreParts parts.now }
+        requires seat { HoldsTrapframe (S.view seat) trapframe.0 }
+        requires credits { (S.view seat).credits ≡ tree_need parts.now }
+        ensures built { (t : Tables) × ((fresh : ℕ) → IsSpace (body_of S.view result) t (process_of_parts fresh parts.now)) × OwnsAlone (S.view result.seat) t }
+        ensures trapframe { result.trapframe ≡ trapframe }
+        ensures saved { hold_of (S.view result.seat) trapframe.0 ≡ hold_of (S.view seat) trapframe.0 }
+        ensures takes { Takes (S.view seat) (S.view result.seat) (tree_need parts.now) [] }
+        ensures free { F.alone → F.free store.new ≡ F.free store.old }
+        ensures keeps { Keeps F.rule store.old seat store.new result.seat }
+    {
+        let root = open_tables(store, &mut seat, trapframe);
         fill_parts(store, &mut seat, root, parts);
-        Ok(Space {
+        Space {
             seat,
             root,
             trapframe,
             layout: Layout::new(parts),
-        })
+        }
     }
 }
 
-/// Maps TRAMPOLINE and TRAPFRAME, and answers the root and the trapframe's frame. These two and two more tables take four
-/// credits.
-fn open_tables<F: FrameSupply>(store: &mut F, seat: &mut F::Seat) -> (FrameNo, FrameNo)
+/// Maps TRAMPOLINE, and TRAPFRAME over its frame, and answers the root. It and two more tables take three credits.
+fn open_tables<F: FrameSupply>(
+    store: &mut F,
+    seat: &mut F::Seat,
+    trapframe: FrameNo,
+) -> FrameNo
     requires fits { Fits F.rule store.old seat.old }
-    requires ready { CanOpen (F.Seat.view seat.old) }
-    ensures opened { (t : Tables) × Opens (F.Seat.view seat.old) (F.Seat.view seat.new) result.0.0 result.1.0 t }
+    requires ready { CanOpen (F.Seat.view seat.old) trapframe.0 }
+    ensures opened { (t : Tables) × Opens (F.Seat.view seat.old) (F.Seat.view seat.new) result.0 trapframe.0 t }
     ensures keeps { Keeps F.rule store.old seat.old store.new seat.new }
     ensures free { F.alone → F.free store.new ≡ F.free store.old }
 {
@@ -70,13 +97,11 @@ fn open_tables<F: FrameSupply>(store: &mut F, seat: &mut F::Seat) -> (FrameNo, F
     code.insert(Rights::EXECUTE);
     let trampoline = Entry::leaf(TRAMPOLINE_FRAME, code, false, false, true);
     map(store, seat, root, TRAMPOLINE.page(), trampoline);
-    let frame = store.claim(seat);
-    fill_frame(store, seat, frame, &[]);
     let mut data = Rights::READ;
     data.insert(Rights::WRITE);
-    let trapframe = Entry::leaf(frame, data, false, false, true);
-    map(store, seat, root, TRAPFRAME.page(), trapframe);
-    (root, frame)
+    let saved = Entry::leaf(trapframe, data, false, false, true);
+    map(store, seat, root, TRAPFRAME.page(), saved);
+    root
 }
 
 /// Gives each page of the parts a frame with its bytes.

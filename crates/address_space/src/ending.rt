@@ -1,10 +1,11 @@
 // Pages that are dropped, and the end of a space.
 
 ghost use Rattle.std.specs.Prelude.{[], ◌≡◌, ◌^◌, ◌≤◌, ℕ};
-ghost use Rattle.address_space.specs.Agreement.{body_of, IsSpace};
-ghost use Rattle.address_space.specs.Ending.{CanDrop, Drops, DropsLeaf, IsEmptied, IsFirstMapped};
+ghost use Rattle.address_space.specs.Agreement.{body_of, HoldsTrapframe, IsSpace, nothing, Stands};
+ghost use Rattle.address_space.specs.Ending.{CanDrop, CanEnd, Drops, DropsLeaf, DropsRun, IsEmptied, IsFirstMapped, Strips};
 ghost use Rattle.address_space.specs.Steps.{IsBare, Takes};
 ghost use Rattle.frame_store.specs.Laws.{Fits, Keeps};
+ghost use Rattle.frame_store.specs.View.{hold_of};
 ghost use Rattle.process_model.specs.Heap.{without_pages};
 ghost use Rattle.process_model.specs.Process.{Process};
 ghost use Rattle.sv39_entry.specs.Address.{trapframe_page};
@@ -53,19 +54,42 @@ fn drop_leaf<F: FrameAccess>(store: &mut F, seat: &mut F::Seat, root: FrameNo, p
     store.release(seat, frame);
 }
 
-/// Ends a space without pages: TRAPFRAME's leaf goes, then TRAMPOLINE's, then the tables, and last frame 0.
-fn release_emptied<F: FrameAccess>(store: &mut F, seat: &mut F::Seat, root: FrameNo)
+/// Unmaps the settled pages of a run, and lets their frames go. The tables stay.
+fn drop_run<F: FrameAccess>(
+    store: &mut F,
+    seat: &mut F::Seat,
+    root: FrameNo,
+    first: Vpn,
+    end: Vpn,
+)
     requires fits { Fits F.rule store.old seat.old }
-    requires emptied { (t : Tables) × IsEmptied (F.Seat.view seat.old) root.0 t }
-    ensures bare { IsBare (F.Seat.view seat.new) }
-    ensures tallies { Takes (F.Seat.view seat.old) (F.Seat.view seat.new) 0 [] }
+    requires ready { (trapframe : ℕ) × (t : Tables) × (p : Process) × Stands (F.Seat.view seat.old) root.0 trapframe nothing t p }
+    requires low { end ≤ trapframe_page }
+    ensures dropped { (trapframe : ℕ) (t : Tables) (p : Process) → Stands (F.Seat.view seat.old) root.0 trapframe nothing t p →
+        (u : Tables) × DropsRun (F.Seat.view seat.old) (F.Seat.view seat.new) root.0 trapframe t u p first end }
     ensures keeps { Keeps F.rule store.old seat.old store.new seat.new }
     ensures free { F.alone → F.free store.old ≤ F.free store.new }
 {
-    drop_leaf(store, seat, root, TRAPFRAME.page());
+    let mut from = first.number();
+    'pages: while let Some(page) = first_mapped(store, seat, root, from, end) {
+        drop_leaf(store, seat, root, page);
+        from = page.number() + 1;
+    }
+}
+
+/// Takes the tables of a space without pages away: TRAPFRAME's leaf goes, then TRAMPOLINE's, and then the tables. The
+/// frames of these two pages stay.
+fn release_emptied<F: FrameAccess>(store: &mut F, seat: &mut F::Seat, root: FrameNo)
+    requires fits { Fits F.rule store.old seat.old }
+    requires emptied { (trapframe : ℕ) × (t : Tables) × IsEmptied (F.Seat.view seat.old) root.0 trapframe t }
+    ensures strips { (trapframe : ℕ) (t : Tables) → IsEmptied (F.Seat.view seat.old) root.0 trapframe t →
+        Strips (F.Seat.view seat.old) (F.Seat.view seat.new) trapframe }
+    ensures keeps { Keeps F.rule store.old seat.old store.new seat.new }
+    ensures free { F.alone → F.free store.old ≤ F.free store.new }
+{
+    unmap(store, seat, root, TRAPFRAME.page());
     unmap(store, seat, root, TRAMPOLINE.page());
     release_tables(store, seat, root);
-    store.release(seat, FrameNo(0));
 }
 
 impl<S: FrameSeat> Space<S> {
@@ -84,15 +108,35 @@ impl<S: FrameSeat> Space<S> {
         ensures keeps { Keeps F.rule store.old self.old.seat store.new self.new.seat }
         ensures free { F.alone → F.free store.old ≤ F.free store.new }
     {
-        let mut from = first.number();
-        'pages: while let Some(page) = first_mapped(store, &mut self.seat, self.root, from, end) {
-            drop_leaf(store, &mut self.seat, self.root, page);
-            from = page.number() + 1;
-        }
+        drop_run(store, &mut self.seat, self.root, first, end);
     }
 
-    /// Ends the space: its pages go, then its tables, and last frame 0. The seat holds nothing then.
-    pub fn destroy<F: FrameAccess<Seat = S>>(mut self, store: &mut F) -> S
+    /// Takes the space apart: its pages go, and then its tables. The seat keeps its credits, frame 0, and the trapframe's
+    /// frame with what that has.
+    pub fn strip<F: FrameAccess<Seat = S>>(self, store: &mut F) -> (S, FrameNo)
+        requires fits { Fits F.rule store.old self.seat }
+        requires ready { (t : Tables) × (p : Process) × CanEnd (body_of S.view self) t p }
+        ensures trapframe { result.1 ≡ self.trapframe }
+        ensures holds { HoldsTrapframe (S.view result.0) self.trapframe.0 }
+        ensures saved { hold_of (S.view result.0) self.trapframe.0 ≡ hold_of (S.view self.seat) self.trapframe.0 }
+        ensures credits { (S.view result.0).credits ≡ (S.view self.seat).credits }
+        ensures tallies { Takes (S.view self.seat) (S.view result.0) 0 [] }
+        ensures keeps { Keeps F.rule store.old self.seat store.new result.0 }
+        ensures free { F.alone → F.free store.old ≤ F.free store.new }
+    {
+        let Space {
+            mut seat,
+            root,
+            trapframe,
+            ..
+        } = self;
+        drop_run(store, &mut seat, root, Va(0).page(), TRAPFRAME.page());
+        release_emptied(store, &mut seat, root);
+        (seat, trapframe)
+    }
+
+    /// Ends the space: its pages go, then its tables, the trapframe's frame, and last frame 0. The seat holds nothing then.
+    pub fn destroy<F: FrameAccess<Seat = S>>(self, store: &mut F) -> S
         requires fits { Fits F.rule store.old self.seat }
         requires ready { (t : Tables) × (p : Process) × IsSpace (body_of S.view self) t p }
         ensures bare { IsBare (S.view result) }
@@ -100,9 +144,9 @@ impl<S: FrameSeat> Space<S> {
         ensures keeps { Keeps F.rule store.old self.seat store.new result }
         ensures free { F.alone → F.free store.old ≤ F.free store.new }
     {
-        self.drop_pages(store, Va(0).page(), TRAPFRAME.page());
-        let Space { mut seat, root, .. } = self;
-        release_emptied(store, &mut seat, root);
+        let (mut seat, trapframe) = self.strip(store);
+        store.release(&mut seat, trapframe);
+        store.release(&mut seat, FrameNo(0));
         seat
     }
 }

@@ -1,12 +1,14 @@
-use Rattle.std.proofs.Common.{◌≡◌, [], refl, ◌∙◌, arith}
+use Rattle.std.proofs.Common.{◌≡◌, ℕ, [], refl, ◌∙◌, arith}
+use Rattle.frame_store.specs.View.{hold_of, IsHeld}
 use Rattle.sv39_entry.specs.Address.{trampoline_page, trapframe_page}
 use Rattle.table_walk.specs.Tables.{bare_root, ChangesTables, HasTables, Tables, IsGrown, leaf_node, missing, with_leaf}
 use Rattle.table_walk.specs.Walk.{top_level}
-use Rattle.address_space.proofs.AddingFrames.{Comes, claimed_comes, come_held, come_tables, filled_comes}
-use Rattle.address_space.proofs.BuildTables.{HasTrampoline, first_enough, has_trampoline, open_spends, opens, root_owns, root_spends, root_unnamed_zero, second_enough, trapframe_shares, two_missing}
+use Rattle.address_space.specs.Agreement.{Names, Owns}
+use Rattle.address_space.proofs.BuildTables.{HasTrampoline, first_enough, has_trampoline, open_spends, opens, root_owns, root_spends, second_enough, trampoline_saved, trapframe_as_was, trapframe_shares, trapframe_unnamed, trapframe_yet, two_missing, zero_unnamed}
+use Rattle.address_space.proofs.Owned.{both_of, same_sole}
 use Rattle.address_space.proofs.build.open_tables.Given as given
 use Rattle.address_space.proofs.build.open_tables.Goals as goal
-use Rattle.address_space.proofs.build.open_tables.Goals.{After-map, After-fill_frame}
+use Rattle.address_space.proofs.build.open_tables.Goals.{After-map}
 
 -- ---- TRAMPOLINE
 
@@ -23,48 +25,59 @@ tables_missing g c = two_missing c.new_table-root.result.0 (c.missing_is_growth.
 abbrev with_trampoline : (g : given.Over) (c : After-map g) → Tables
 with_trampoline g c = with_leaf (mapped g c).0 (leaf_node trampoline_page) c.leaf-trampoline.result
 
-on_trampoline : (g : given.Over) (c : After-map g) → HasTrampoline (g.F.Seat.FrameSeat.view c.map.new.seat) c.new_table-root.result.0 (with_trampoline g c)
-on_trampoline g c =
-    let m = mapped g c in
-    has_trampoline _ _ c.new_table-root.result.0 c.leaf-trampoline.result _ m.0
-    (root_owns _ _ c.new_table-root.result.0 c.requires.ready c.new_table-root.ensures.fresh c.new_table-root.ensures.view)
-    (root_unnamed_zero _ _ c.new_table-root.result.0 c.requires.ready c.new_table-root.ensures.fresh c.new_table-root.ensures.view) c.new_table-root.ensures.root m.1 m.2 m.3
-    (rw (c.insert.ensures tt) at c.leaf-trampoline.ensures.made)
-    (c.missing_is_growth.ensures.first (bare_root c.new_table-root.result.0) m.0 c.new_table-root.result.0 refl m.1)
+-- the root is there, and the trapframe's frame beside it
+module _ (g : given.Over) (c : After-map g) where
+  root : ℕ
+  root = c.new_table-root.result.0
+
+  rooted : Owns (g.F.Seat.FrameSeat.view c.new_table-root.new.seat) (bare_root c.new_table-root.result.0) (both_of c.args.trapframe.0 0)
+  rooted = root_owns _ _ c.new_table-root.result.0 _ c.requires.ready c.new_table-root.ensures.fresh c.new_table-root.ensures.view
+
+  zero_free : (k : ℕ) → Names (bare_root c.new_table-root.result.0) 0 k → ⊥
+  zero_free = zero_unnamed _ _ c.new_table-root.result.0 _ c.requires.ready c.new_table-root.ensures.fresh c.new_table-root.ensures.view
+
+  waits : (k : ℕ) → Names (bare_root c.new_table-root.result.0) c.args.trapframe.0 k → ⊥
+  waits = trapframe_unnamed _ _ c.new_table-root.result.0 _ c.requires.ready c.new_table-root.ensures.fresh c.new_table-root.ensures.view
+
+  yet : IsHeld (g.F.Seat.FrameSeat.view c.new_table-root.new.seat) c.args.trapframe.0
+  yet = trapframe_yet _ _ c.new_table-root.result.0 _ c.requires.ready c.new_table-root.ensures.fresh c.new_table-root.ensures.view
+
+  on_trampoline : HasTrampoline (g.F.Seat.FrameSeat.view c.map.new.seat) c.new_table-root.result.0 c.args.trapframe.0 (with_trampoline g c)
+  on_trampoline =
+      let m = mapped g c in
+      has_trampoline _ _ c.new_table-root.result.0 c.args.trapframe.0 c.leaf-trampoline.result _ m.0 rooted zero_free c.new_table-root.ensures.root m.1 m.2 m.3
+      (rw (c.insert.ensures tt) at c.leaf-trampoline.ensures.made) c.requires.ready.holds.apart yet waits
+      (c.missing_is_growth.ensures.first (bare_root c.new_table-root.result.0) m.0 c.new_table-root.result.0 refl m.1)
+
+  saved : hold_of (g.F.Seat.FrameSeat.view c.map.new.seat) c.args.trapframe.0 ≡ hold_of (g.F.Seat.FrameSeat.view c.args.seat.now) c.args.trapframe.0
+  saved =
+      let m = mapped g c in
+      trampoline_saved _ _ c.new_table-root.result.0 c.args.trapframe.0 c.leaf-trampoline.result _ m.0 rooted zero_free c.new_table-root.ensures.root m.1 m.2 m.3
+      (rw (c.insert.ensures tt) at c.leaf-trampoline.ensures.made) c.requires.ready.holds.apart yet waits
+      ∙ trapframe_as_was _ _ c.new_table-root.result.0 _ c.requires.ready c.new_table-root.ensures.fresh c.new_table-root.ensures.view
+
+pub new_table-root-requires-clause-anchored : goal.new_table-root-requires-clause-anchored
+new_table-root-requires-clause-anchored g c = let one = c.requires.ready.holds.code in omega (arith, one)
+
+pub new_table-root-requires-clause-credit : goal.new_table-root-requires-clause-credit
+new_table-root-requires-clause-credit g c = let some = c.requires.ready.credits in omega (arith, some)
 
 pub map-requires-clause-tables : goal.map-requires-clause-tables
 map-requires-clause-tables g c =
     let root = c.new_table-root.result.0 in
-    let spent = root_spends _ _ root c.requires.ready c.new_table-root.ensures.fresh c.new_table-root.ensures.view in
+    let spent = root_spends _ _ root _ c.requires.ready c.new_table-root.ensures.fresh c.new_table-root.ensures.view in
     let two = two_missing root (c.missing_is_growth.ensures.missing_first (bare_root root) root refl) in
     (bare_root root, c.new_table-root.ensures.root, first_enough _ _ root c.page.result c.page.ensures.number two spent c.requires.ready.credits)
 
-pub claim-frame-requires-clause-credit : goal.claim-frame-requires-clause-credit
-claim-frame-requires-clause-credit g c =
-    let after = (goal.at.claim-frame-requires-clause-credit g c).After-map in
-    let m = mapped g after in
-    let two = tables_missing g after in
-    let spent = root_spends _ _ c.new_table-root.result.0 c.requires.ready c.new_table-root.ensures.fresh c.new_table-root.ensures.view in
-    omega (arith, two, m.3.credits, spent.credits, c.requires.ready.credits)
-
--- ---- the frame of the trapframe
-
-comes : (g : given.Over) (c : After-fill_frame g) → Comes (g.F.Seat.FrameSeat.view c.map.new.seat) (g.F.Seat.FrameSeat.view c.fill_frame.new.seat) c.claim-frame.result.0
-comes g c = filled_comes _ _ _ _ (claimed_comes _ _ _ c.claim-frame.ensures.fresh c.claim-frame.ensures.view) c.fill_frame.ensures.others
-
-pub fill_frame-requires-clause-sole : goal.fill_frame-requires-clause-sole
-fill_frame-requires-clause-sole g c = (claimed_comes _ _ _ c.claim-frame.ensures.fresh c.claim-frame.ensures.view).sole
-
-pub map-requires-2-clause-anchored : goal.map-requires-2-clause-anchored
-map-requires-2-clause-anchored g c = come_held _ _ _ (comes g (goal.at.map-requires-2-clause-anchored g c).After-fill_frame) 0 c.map.ensures.anchored
+-- ---- TRAPFRAME
 
 pub map-requires-2-clause-tables : goal.map-requires-2-clause-tables
 map-requires-2-clause-tables g c =
-    let filled = (goal.at.map-requires-2-clause-tables g c).After-fill_frame in
-    let before = with_trampoline g (goal.at.map-requires-2-clause-tables g c).After-map in
-    let has = on_trampoline g (goal.at.map-requires-2-clause-tables g c).After-map in
+    let first = (goal.at.map-requires-2-clause-tables g c).After-map in
+    let before = with_trampoline g first in
+    let has = on_trampoline g first in
     let none = c.missing_is_growth.ensures.none before [] trapframe_page has.tabled trapframe_shares in
-    (before, come_tables _ _ _ (comes g filled) c.new_table-root.result.0 before has.tables, second_enough _ before c.page-2.result c.page-2.ensures.number none)
+    (before, has.tables, second_enough _ before c.page-2.result c.page-2.ensures.number none)
 
 pub returns-clause-opened : goal.returns-clause-opened
 returns-clause-opened g c =
@@ -72,15 +85,15 @@ returns-clause-opened g c =
     let first = (goal.at.returns-clause-opened g c).After-map in
     let before = with_trampoline g first in
     let has = on_trampoline g first in
-    let come = comes g (goal.at.returns-clause-opened g c).After-fill_frame in
-    let m = rw c.page-2.ensures.number at (c.map-2.ensures.tables before (come_tables _ _ _ come root before has.tables)) in
+    let m = rw c.page-2.ensures.number at (c.map-2.ensures.tables before has.tables) in
     let none = c.missing_is_growth.ensures.none before [] trapframe_page has.tabled trapframe_shares in
-    let spent = root_spends _ _ root c.requires.ready c.new_table-root.ensures.fresh c.new_table-root.ensures.view in (
-      with_leaf m.0 (leaf_node trapframe_page) c.leaf-trapframe.result,
-      opens _ _ _ root c.leaf-trapframe.result c.claim-frame.result.0 _ before m.0 has come m.1 m.2 m.3 (rw (c.insert-2.ensures tt) at c.leaf-trapframe.ensures.made)
-          (c.missing_is_growth.ensures.same before m.0 [] trapframe_page has.tabled trapframe_shares m.1) _
-          (open_spends _ _ _ _ _ _ _ _ _ _ _ _ spent (tables_missing g first) (mapped g first).3 come none m.3),
+    let spent = root_spends _ _ root _ c.requires.ready c.new_table-root.ensures.fresh c.new_table-root.ensures.view in
+    let sole = same_sole _ _ _ (saved g first) c.requires.ready.holds.sole in (
+      with_leaf m.0 (leaf_node trapframe_page) c.leaf-saved.result,
+      opens _ _ root c.leaf-saved.result c.args.trapframe.0 _ before m.0 has sole m.1 m.2 m.3 (rw (c.insert-2.ensures tt) at c.leaf-saved.ensures.made)
+          (c.missing_is_growth.ensures.same before m.0 [] trapframe_page has.tabled trapframe_shares m.1) _ (saved g first)
+          (open_spends _ _ _ _ _ _ _ _ _ _ spent (tables_missing g first) (mapped g first).3 none m.3),
     )
 
 pub returns-clause-free : goal.returns-clause-free
-returns-clause-free g c = λ a. c.map-2.ensures.free a ∙ c.fill_frame.ensures.free a ∙ c.claim-frame.ensures.free a ∙ c.map.ensures.free a ∙ c.new_table-root.ensures.free a
+returns-clause-free g c = λ a. c.map-2.ensures.free a ∙ c.map.ensures.free a ∙ c.new_table-root.ensures.free a

@@ -1,50 +1,44 @@
-use Rattle.address_space.proofs.EndingSteps.{anchored_last, are_last, is_bare, takes_last, zero_held}
+use Rattle.std.proofs.Common.{arith}
+use Rattle.frame_store.specs.Laws.{fits_after}
+use Rattle.address_space.proofs.EndingSteps.{are_last, strips}
 use Rattle.address_space.proofs.ending.release_emptied.Goals as goal
 
-pub drop_leaf-requires-clause-ready : goal.drop_leaf-requires-clause-ready
-drop_leaf-requires-clause-ready g c = let e = c.requires.emptied in (e.0, rw c.page.ensures.number e.1.trapframe)
-
 pub unmap-requires-clause-held : goal.unmap-requires-clause-held
-unmap-requires-clause-held g c =
+unmap-requires-clause-held g c = let e = c.requires.emptied in (e.1, e.2.tables)
+
+pub unmap-requires-2-clause-fits : goal.unmap-requires-2-clause-fits
+unmap-requires-2-clause-fits g c = fits_after g.F.FrameAccess.rule c.unmap.ensures.keeps c.requires.fits
+
+pub release_tables-requires-clause-fits : goal.release_tables-requires-clause-fits
+release_tables-requires-clause-fits g c =
+    fits_after g.F.FrameAccess.rule c.unmap-2.ensures.keeps (fits_after g.F.FrameAccess.rule c.unmap.ensures.keeps c.requires.fits)
+
+pub unmap-requires-2-clause-held : goal.unmap-requires-2-clause-held
+unmap-requires-2-clause-held g c =
     let e = c.requires.emptied in
-    let drops = rw c.page.ensures.number at c.drop_leaf.ensures.dropped e.0 e.1.trapframe in
-    (_, drops.tables)
+    let first = rw c.page.ensures.number at c.unmap.ensures.tables e.1 e.2.tables in
+    (_, first.0)
 
 pub release_tables-requires-clause-bare : goal.release_tables-requires-clause-bare
 release_tables-requires-clause-bare g c =
     let e = c.requires.emptied in
-    let drops = rw c.page.ensures.number at c.drop_leaf.ensures.dropped e.0 e.1.trapframe in
-    let unmapped = rw c.page-2.ensures.number at c.unmap.ensures.tables _ drops.tables in
-    (_, unmapped.0, are_last _ _ _ c.args.root.0 e.0 e.1 drops unmapped.1)
+    let first = rw c.page.ensures.number at c.unmap.ensures.tables e.1 e.2.tables in
+    let second = rw c.page-2.ensures.number at c.unmap-2.ensures.tables _ first.0 in
+    (_, second.0, are_last _ _ _ c.args.root.0 e.0 e.1 e.2 first.1 first.0 second.1)
 
-pub release-requires-clause-held : goal.release-requires-clause-held
-release-requires-clause-held g c =
-    let e = c.requires.emptied in
-    let drops = rw c.page.ensures.number at c.drop_leaf.ensures.dropped e.0 e.1.trapframe in
-    let unmapped = rw c.page-2.ensures.number at c.unmap.ensures.tables _ drops.tables in
+pub returns-clause-strips : goal.returns-clause-strips
+returns-clause-strips g c trapframe t e =
+    let first = rw c.page.ensures.number at c.unmap.ensures.tables t e.tables in
+    let second = rw c.page-2.ensures.number at c.unmap-2.ensures.tables _ first.0 in
     let tables = c.release_tables.ensures in
-    zero_held _ _ _ c.args.root.0 e.0 e.1 drops unmapped.1 _ (tables.gone _ unmapped.0) (tables.others _ unmapped.0) tables.tallies
+    strips _ _ _ c.args.root.0 trapframe t e first.1 first.0 second.1 _ (tables.gone _ second.0) (tables.others _ second.0) tables.tallies
 
-pub release-requires-clause-anchored : goal.release-requires-clause-anchored
-release-requires-clause-anchored g c =
-    let e = c.requires.emptied in
-    let drops = rw c.page.ensures.number at c.drop_leaf.ensures.dropped e.0 e.1.trapframe in
-    let unmapped = rw c.page-2.ensures.number at c.unmap.ensures.tables _ drops.tables in
-    let tables = c.release_tables.ensures in
-    anchored_last _ _ _ c.args.root.0 e.0 e.1 drops unmapped.1 _ (tables.gone _ unmapped.0) (tables.others _ unmapped.0) tables.tallies
+pub returns-clause-keeps : goal.returns-clause-keeps
+returns-clause-keeps g c = λ others r. c.release_tables.ensures.keeps others (c.unmap-2.ensures.keeps others (c.unmap.ensures.keeps others r))
 
-pub returns-clause-bare : goal.returns-clause-bare
-returns-clause-bare g c =
-    let e = c.requires.emptied in
-    let drops = rw c.page.ensures.number at c.drop_leaf.ensures.dropped e.0 e.1.trapframe in
-    let unmapped = rw c.page-2.ensures.number at c.unmap.ensures.tables _ drops.tables in
-    let tables = c.release_tables.ensures in
-    is_bare _ _ _ c.args.root.0 e.0 e.1 drops unmapped.1 _ (tables.gone _ unmapped.0) (tables.others _ unmapped.0) tables.tallies _ c.release.ensures.view
-
-pub returns-clause-tallies : goal.returns-clause-tallies
-returns-clause-tallies g c =
-    let e = c.requires.emptied in
-    let drops = rw c.page.ensures.number at c.drop_leaf.ensures.dropped e.0 e.1.trapframe in
-    let unmapped = rw c.page-2.ensures.number at c.unmap.ensures.tables _ drops.tables in
-    let tables = c.release_tables.ensures in
-    takes_last _ _ _ c.args.root.0 e.0 e.1 drops unmapped.1 _ (tables.gone _ unmapped.0) (tables.others _ unmapped.0) tables.tallies _ c.release.ensures.view
+pub returns-clause-free : goal.returns-clause-free
+returns-clause-free g c alone =
+    let first = c.unmap.ensures.free alone in
+    let second = c.unmap-2.ensures.free alone in
+    let more = c.release_tables.ensures.free alone in
+    omega (arith, first, second, more)

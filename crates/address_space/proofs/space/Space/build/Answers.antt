@@ -1,39 +1,36 @@
-use Rattle.address_space.proofs.BuildWhole.{agrees_whole, can_open, credits_left, stands_bare, takes_whole}
+use Rattle.address_space.proofs.AddingFrames.{Comes, claimed_comes, filled_comes}
+use Rattle.address_space.proofs.BuildWhole.{credits_then, holds_trapframe, may_claim, takes_then, zero_held}
+use Rattle.address_space.proofs.space.Space.build.Given as given
 use Rattle.address_space.proofs.space.Space.build.Goals as goal
+use Rattle.address_space.proofs.space.Space.build.Goals.{After-fill_frame}
 
-pub open_tables-requires-clause-ready : goal.open_tables-requires-clause-ready
-open_tables-requires-clause-ready g c =
-    let reserved = rw c.in_default.is at c.reserve.ensures.ok in
-    can_open c.args.parts.now _ _ _ c.requires.seat reserved c.frames_needed.ensures
+comes : (g : given.Over) (c : After-fill_frame g) → Comes (g.S.FrameSeat.view c.reserve.new.seat) (g.S.FrameSeat.view c.fill_frame.new.seat) c.claim-trapframe.result.0
+comes g c = filled_comes _ _ _ _ (claimed_comes _ _ _ c.claim-trapframe.ensures.fresh c.claim-trapframe.ensures.view) c.fill_frame.ensures.others
 
-pub fill_parts-requires-clause-ready : goal.fill_parts-requires-clause-ready
-fill_parts-requires-clause-ready g c =
+pub claim-trapframe-requires-clause-credit : goal.claim-trapframe-requires-clause-credit
+claim-trapframe-requires-clause-credit g c =
     let reserved = rw c.in_default.is at c.reserve.ensures.ok in
-    let opened = c.open_tables.ensures.opened in
-    (c.open_tables.result.1.0, opened.0, stands_bare c.args.parts.now _ _ _ c.requires.seat reserved c.frames_needed.ensures _ _ _ opened.0 opened.1)
+    may_claim c.args.parts.now _ _ _ c.requires.seat reserved c.frames_needed.ensures
 
-pub fill_parts-requires-clause-credits : goal.fill_parts-requires-clause-credits
-fill_parts-requires-clause-credits g c =
+pub claim-trapframe-requires-clause-anchored : goal.claim-trapframe-requires-clause-anchored
+claim-trapframe-requires-clause-anchored g c =
     let reserved = rw c.in_default.is at c.reserve.ensures.ok in
-    let opened = c.open_tables.ensures.opened in
-    credits_left c.args.parts.now _ _ _ c.requires.seat reserved c.frames_needed.ensures _ _ _ opened.0 opened.1
+    zero_held c.args.parts.now _ _ _ c.requires.seat reserved c.frames_needed.ensures
 
-pub returns-clause-built : goal.returns-clause-built
-returns-clause-built g c =
+pub fill_frame-requires-clause-sole : goal.fill_frame-requires-clause-sole
+fill_frame-requires-clause-sole g c = (claimed_comes _ _ _ c.claim-trapframe.ensures.fresh c.claim-trapframe.ensures.view).sole
+
+pub build_reserved-requires-clause-seat : goal.build_reserved-requires-clause-seat
+build_reserved-requires-clause-seat g c =
     let reserved = rw c.in_default.is at c.reserve.ensures.ok in
-    let opened = c.open_tables.ensures.opened in
-    let bare = stands_bare c.args.parts.now _ _ _ c.requires.seat reserved c.frames_needed.ensures _ _ _ opened.0 opened.1 in
-    let filled = c.fill_parts.ensures.filled c.open_tables.result.1.0 opened.0 bare in (
-      filled.0,
-      agrees_whole c.args.parts.now _ _ _ c.requires.seat reserved c.frames_needed.ensures _ _ _ opened.0 opened.1 _ filled.0 filled.1 c.requires.parts c.new.result
-          c.new.ensures.parts c.new.ensures.mappings c.new.ensures.heap_base c.new.ensures.size,
-      filled.1.after.alone,
-    )
+    holds_trapframe c.args.parts.now _ _ _ c.requires.seat reserved c.frames_needed.ensures _ _ (comes g (goal.at.build_reserved-requires-clause-seat g c).After-fill_frame)
+
+pub build_reserved-requires-clause-credits : goal.build_reserved-requires-clause-credits
+build_reserved-requires-clause-credits g c =
+    let reserved = rw c.in_default.is at c.reserve.ensures.ok in
+    credits_then c.args.parts.now _ _ _ c.requires.seat reserved c.frames_needed.ensures _ _ (comes g (goal.at.build_reserved-requires-clause-credits g c).After-fill_frame)
 
 pub returns-clause-takes : goal.returns-clause-takes
 returns-clause-takes g c =
     let reserved = rw c.in_default.is at c.reserve.ensures.ok in
-    let opened = c.open_tables.ensures.opened in
-    let bare = stands_bare c.args.parts.now _ _ _ c.requires.seat reserved c.frames_needed.ensures _ _ _ opened.0 opened.1 in
-    let filled = c.fill_parts.ensures.filled c.open_tables.result.1.0 opened.0 bare in
-    takes_whole c.args.parts.now _ _ _ c.requires.seat reserved c.frames_needed.ensures _ _ _ opened.0 opened.1 _ filled.0 filled.1
+    takes_then c.args.parts.now _ _ _ c.requires.seat reserved c.frames_needed.ensures _ _ (comes g (goal.at.returns-clause-takes g c).After-fill_frame) _ c.build_reserved.ensures.takes
