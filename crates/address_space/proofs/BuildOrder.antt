@@ -1,5 +1,5 @@
 -- The process that the parts make is sound.
-use Rattle.std.proofs.Common.{◌≡◌, ℕ, zero, suc, ◌+◌, ◌*◌, ◌/◌, ◌<◌, ◌≤◌, inl, inr, refl, ap, sym, ◌∙◌, subst, arith, List, [], ◌∷◌, map, Some}
+use Rattle.std.proofs.Common.{◌≡◌, ℕ, suc, ◌+◌, ◌*◌, ◌/◌, ◌≤◌, inl, inr, ap, sym, ◌∙◌, subst, arith, List, [], ◌∷◌, Some}
 use Rattle.std.specs.Prelude.{All, true, is_some}
 use Rattle.std.proofs.lemmas.Bool.{cases_eq}
 use Rattle.process_model.specs.Inserted.{inserted_here, inserted_other}

@@ -4,8 +4,8 @@ use Rattle.std.specs.Prelude.{◌↔◌}
 use Rattle.process_model.specs.PageMap as pages
 use Rattle.process_model.specs.Process.{Page, Process, regions}
 use Rattle.process_model.specs.Regions.{copy_rule}
-use Rattle.process_model.specs.Residence.{access_answer, goes_through, is_resident, is_resident_page, region_on}
-use Rattle.process_model.specs.Service.{Answer, answered, Asked, faulted, if_resident, if_settled, unless_denied}
+use Rattle.process_model.specs.Residence.{access_answer, is_resident, is_resident_page, region_on}
+use Rattle.process_model.specs.Service.{Answer, Asked, faulted, if_resident, if_settled, unless_denied}
 use Rattle.process_model.specs.declared.step.Reply.{Reply}
 use Rattle.process_model.specs.declared.step.Reply.TheVariants.{Fault}
 use Rattle.sv39_entry.specs.Address.{page_of}

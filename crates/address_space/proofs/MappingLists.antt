@@ -1,9 +1,9 @@
 -- A list of mappings in which one is added, changed or taken out, by its place.
-use Rattle.std.proofs.Common.{◌≡◌, ℕ, zero, suc, Bool, true, false, not, ◌+◌, ◌<◌, ◌≤◌, ap, sym, ◌∙◌, refl, arith, List, [], ◌∷◌, ◌++◌, length, map, cond, slice_set, append-nil}
+use Rattle.std.proofs.Common.{◌≡◌, ℕ, suc, Bool, true, false, not, ◌+◌, ◌<◌, ◌≤◌, ap, ◌∙◌, refl, arith, List, [], ◌∷◌, ◌++◌, length, map, cond, slice_set, append-nil}
 use Rattle.std.proofs.lemmas.Bool.Decides.{nat_tests}
 use Rattle.std.proofs.lemmas.List.{drop_all, take_all}
 use Rattle.std.proofs.lemmas.List.Sums.{prefix_len-le-length}
-use Rattle.std.specs.Prelude.{◌==◌, nat_le, nat_lt, if◌then◌else◌, insert, remove, drop, take}
+use Rattle.std.specs.Prelude.{◌==◌, nat_le, nat_lt, if◌then◌else◌, insert, remove, take}
 use Rattle.std.specs.List.{prefix_len, refill}
 use Rattle.process_model.specs.Mappings.{with_instead, with_mapping}
 use Rattle.process_model.specs.Regions.{Region}

@@ -1,22 +1,22 @@
 -- A page gets the stored mark: its leaf is turned to the frame that it names, with D set.
-use Rattle.std.proofs.Common.{◌≡◌, ℕ, Option, Some, Bool, true, false, not, ◌&&◌, ◌||◌, refl, ap, sym, subst, ◌∙◌, inl, inr, []}
+use Rattle.std.proofs.Common.{◌≡◌, ℕ, Option, Some, Bool, true, false, not, ◌&&◌, ◌||◌, refl, ap, sym, subst, ◌∙◌}
 use Rattle.std.proofs.lemmas.Option.{same_Some}
 use Rattle.std.specs.FinMap.{get}
 use Rattle.std.specs.Prelude.{option_and_then, option_map}
-use Rattle.frame_store.specs.View.{View, IsSole, with_word}
+use Rattle.frame_store.specs.View.{View, with_word}
 use Rattle.process_model.specs.Process.{Page, Process, regions}
 use Rattle.process_model.specs.Regions.{is_shared_kind, keeps_stores, makes_leaf, Region, region_at}
-use Rattle.process_model.specs.Residence.{marked_stored, region_on, with_page}
+use Rattle.process_model.specs.Residence.{marked_stored, region_on}
 use Rattle.sv39_entry.specs.Address.{vpn}
-use Rattle.sv39_entry.specs.Frame.{frame_at, ppn_of}
+use Rattle.sv39_entry.specs.Frame.{frame_at}
 use Rattle.sv39_entry.specs.Word.{has_flag, ppn}
 use Rattle.sv39_entry.specs.declared.frame.FrameNo.{FrameNo}
 use Rattle.table_walk.specs.Tables.{HasTables, Tables, last_table, leaf_node, with_leaf}
 use Rattle.table_walk.specs.Keys.{insert_other, insert_same}
-use Rattle.address_space.specs.Agreement.{body, is_dirty_page, IsOn, IsPageLeaf, IsSpace, nothing}
+use Rattle.address_space.specs.Agreement.{body, is_dirty_page, IsPageLeaf, nothing}
 use Rattle.address_space.specs.Layouts.{Layout}
 use Rattle.address_space.specs.Steps.{CanWrite, Marks}
-use Rattle.address_space.proofs.Owned.{no_table, one_frame}
+use Rattle.address_space.proofs.Owned.{no_table}
 use Rattle.address_space.proofs.Owning.{owns_same, turned_stands, turned_words}
 use Rattle.address_space.proofs.Sound.{leafy_at, sound_page}
 use Rattle.address_space.proofs.Writing.{HasPage, lays_with, page_found, page_here, page_sole, words_take}

@@ -1,6 +1,6 @@
 -- The steps by which a page leaves a frame: another one is claimed and gets its bytes, the leaf is turned to it, and the first is
 -- released.
-use Rattle.std.proofs.Common.{◌≡◌, ◌<◌, ℕ, ◌+◌, Some, Bool, false, refl, ap, sym, subst, ◌∙◌, inl, inr, List, arith}
+use Rattle.std.proofs.Common.{◌≡◌, ◌<◌, ℕ, ◌+◌, Some, Bool, false, refl, ap, sym, subst, ◌∙◌, inl, List, arith}
 use Rattle.std.proofs.lemmas.Option.{same_Some}
 use Rattle.std.specs.FinMap.{get}
 use Rattle.frame_bytes.specs.Contents.{ChangesWords, HasBytes}
@@ -10,7 +10,6 @@ use Rattle.process_model.specs.Process.{Page, Process}
 use Rattle.process_model.specs.Regions.{Region}
 use Rattle.process_model.specs.Residence.{unmarked, with_page}
 use Rattle.sv39_entry.specs.Address.{vpn}
-use Rattle.sv39_entry.specs.Frame.{ppn_of}
 use Rattle.sv39_entry.specs.Word.{ppn}
 use Rattle.table_walk.specs.Tables.{HasTables, Tables, last_table, leaf_node, with_leaf}
 use Rattle.table_walk.specs.Keys.{insert_other, insert_same}

@@ -1,15 +1,15 @@
 -- A process that has other regions, over the leaves that are there.
-use Rattle.std.proofs.Common.{◌≡◌, ℕ, Bool, ◌&&◌, ◌<◌, inl, inr, ap, subst, sym, ◌∙◌, Option, Some, None}
+use Rattle.std.proofs.Common.{◌≡◌, ℕ, ◌&&◌, ◌<◌, inl, inr, ap, subst, sym, ◌∙◌, Some}
 use Rattle.std.specs.Prelude.{◌||◌, not, All}
 use Rattle.frame_store.specs.View.{View}
 use Rattle.process_model.specs.PageMap as pages
 use Rattle.process_model.specs.PageMap.{NumberSet, PageMap}
 use Rattle.process_model.specs.Process.{Page, Process}
 use Rattle.process_model.specs.Regions.{is_guard_kind, is_shared_kind, Region}
-use Rattle.sv39_entry.specs.Address.{has, trapframe_page}
+use Rattle.sv39_entry.specs.Address.{trapframe_page}
 use Rattle.table_walk.specs.Counted.{AreTablesOf}
 use Rattle.table_walk.specs.Tables.{Tables}
-use Rattle.address_space.specs.Agreement.{body, is_dirty_page, IsLeafNumber, IsPageLeaf, IsShown, IsSpace, Shows, Stands}
+use Rattle.address_space.specs.Agreement.{body, is_dirty_page, IsLeafNumber, IsPageLeaf, IsShown, IsSpace, Shows}
 use Rattle.address_space.specs.Layouts.{LaysOut, Layout}
 use Rattle.address_space.specs.Steps.{CanRelay, LeafLike}
 

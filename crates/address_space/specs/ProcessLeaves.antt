@@ -8,7 +8,6 @@ use Rattle.process_model.specs.Process.{Process}
 use Rattle.sv39_entry.specs.Address.{has, trampoline_page, trapframe_page}
 use Rattle.sv39_entry.specs.Frame.{frame_at, ppn_of}
 use Rattle.sv39_entry.specs.Word.{ppn}
-use Rattle.sv39_entry.specs.declared.frame.FrameNo.{FrameNo}
 use Rattle.table_walk.specs.Leaves.{LeavesAreLocal, LeavesAreThere}
 use Rattle.table_walk.specs.Tables.{Tables, leaf_node}
 use Rattle.address_space.specs.Agreement.{HasKernelLeaf, IsShown, Shows}

@@ -80,11 +80,7 @@ impl<S: FrameSeat> Space<S> {
 }
 
 /// Maps TRAMPOLINE, and TRAPFRAME over its frame, and answers the root. It and two more tables take three credits.
-fn open_tables<F: FrameSupply>(
-    store: &mut F,
-    seat: &mut F::Seat,
-    trapframe: FrameNo,
-) -> FrameNo
+fn open_tables<F: FrameSupply>(store: &mut F, seat: &mut F::Seat, trapframe: FrameNo) -> FrameNo
     requires fits { Fits F.rule store.old seat.old }
     requires ready { CanOpen (F.Seat.view seat.old) trapframe.0 }
     ensures opened { (t : Tables) × Opens (F.Seat.view seat.old) (F.Seat.view seat.new) result.0 trapframe.0 t }

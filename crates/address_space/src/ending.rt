@@ -55,13 +55,7 @@ fn drop_leaf<F: FrameAccess>(store: &mut F, seat: &mut F::Seat, root: FrameNo, p
 }
 
 /// Unmaps the settled pages of a run, and lets their frames go. The tables stay.
-fn drop_run<F: FrameAccess>(
-    store: &mut F,
-    seat: &mut F::Seat,
-    root: FrameNo,
-    first: Vpn,
-    end: Vpn,
-)
+fn drop_run<F: FrameAccess>(store: &mut F, seat: &mut F::Seat, root: FrameNo, first: Vpn, end: Vpn)
     requires fits { Fits F.rule store.old seat.old }
     requires ready { (trapframe : ℕ) × (t : Tables) × (p : Process) × Stands (F.Seat.view seat.old) root.0 trapframe nothing t p }
     requires low { end ≤ trapframe_page }

@@ -1,5 +1,5 @@
 -- The leaves of the kernel's table: their frames are there, and none has G.
-use Rattle.std.proofs.Common.{◌⊎◌, ◌≤◌, ◌==◌, ◌&&◌, nat_le, nat_lt, cond, Bool, List, option_map, ◌≡◌, ℕ, ◌+◌, ◌-◌, ◌/◌, ◌%◌, ◌^◌, ◌<◌, true, false, is_some, Option, None, Some, refl, ap, sym, subst, ◌∙◌, inl, inr, arith}
+use Rattle.std.proofs.Common.{◌⊎◌, ◌≤◌, ◌==◌, ◌&&◌, nat_le, nat_lt, cond, Bool, List, option_map, ◌≡◌, ℕ, ◌+◌, ◌-◌, ◌/◌, ◌%◌, ◌^◌, ◌<◌, true, false, Option, None, Some, refl, ap, sym, subst, ◌∙◌, inl, inr, arith}
 use Rattle.std.proofs.lemmas.Option.{same_Some}
 use Rattle.std.specs.FinMap.{get}
 use Rattle.std.specs.Prelude.{slice_get}
@@ -7,9 +7,8 @@ use Rattle.std.proofs.lemmas.Bool.{cases_eq, cases_lt, eq-eqb, ne_eqb}
 use Rattle.table_walk.specs.Nodes.{leaf_node_is}
 use Rattle.address_space.specs.Kernel.{first_direct, frame_rights, IsKernelTable, kernel_leaf, kernel_page}
 use Rattle.frame_store.specs.View.{View}
-use Rattle.sv39_entry.specs.Address.{has, trampoline_page, trapframe_page}
-use Rattle.sv39_entry.specs.Frame.{frame_at, ppn_of}
-use Rattle.sv39_entry.specs.Word.{leaf_word, ppn}
+use Rattle.sv39_entry.specs.Address.{trampoline_page}
+use Rattle.sv39_entry.specs.Word.{leaf_word}
 use Rattle.table_walk.specs.Tables.{Tables, leaf_node}
 use Rattle.address_space.specs.Agreement.{code_rights, data_rights}
 use Rattle.table_walk.specs.Leaves.{LeavesAreLocal, LeavesAreThere}

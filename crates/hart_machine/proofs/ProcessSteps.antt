@@ -7,17 +7,12 @@ use Rattle.std.proofs.lemmas.List.{length-set}
 use Rattle.std.proofs.lemmas.Option.{same_Some, slice_get_within}
 use Rattle.frame_store.specs.Plain.{Bank, BankRule}
 use Rattle.frame_store.specs.Seats.{place_set_other, place_set_same}
-use Rattle.frame_store.specs.View.{View}
 use Rattle.process_model.specs.PageMap as pages
 use Rattle.process_model.specs.PageMap.{count, keys, numbers}
-use Rattle.process_model.specs.Process as of_model
 use Rattle.process_model.specs.Process.{Page, Process}
 use Rattle.process_model.specs.World.{World, with_process}
-use Rattle.table_walk.specs.Tables.{Tables}
-use Rattle.address_space.specs.Agreement.{body, IsSpace}
 use Rattle.address_space.specs.Pending.{agrees_pending}
 use Rattle.address_space.specs.Kernel.{IsKernelTable}
-use Rattle.address_space.specs.Layouts.{Layout}
 use Rattle.hart_machine.specs.Tenants.{IsTenant, pending_of, view_of}
 use Rattle.hart_machine.specs.Worlds.{IsPlace, IsWorld, seats_of}
 use Rattle.hart_machine.specs.declared.hart.Hart.{Hart}

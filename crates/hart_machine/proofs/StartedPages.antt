@@ -1,5 +1,5 @@
 -- The pages of a process that starts, with copy numbers in a row, and each on a frame of its own.
-use Rattle.std.proofs.Common.{◌≡◌, ℕ, suc, ◌+◌, ◌<◌, ◌≤◌, ◌⊎◌, cond, false, ap, sym, subst, ◌∙◌, arith, inl, inr, List, [], ◌∷◌, map, length, None, Some}
+use Rattle.std.proofs.Common.{◌≡◌, ℕ, suc, ◌+◌, ◌<◌, ◌≤◌, ◌⊎◌, cond, false, ap, sym, subst, ◌∙◌, arith, inl, inr, List, [], ◌∷◌, map, length, Some}
 use Rattle.std.specs.Prelude.{slice_get}
 use Rattle.std.specs.Cmp.{nat_cmp_total, unsigned_tied}
 use Rattle.std.specs.FinMap as finite

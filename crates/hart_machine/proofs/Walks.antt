@@ -1,18 +1,14 @@
 -- What buffers keep of walks over a seat's tables.
-use Rattle.std.proofs.Common.{◌≡◌, ℕ, ◌/◌, true, false, is_some, Option, None, option_map, Some, refl, ap, sym, ◌∙◌, inl, inr, arith}
+use Rattle.std.proofs.Common.{◌≡◌, ℕ, true, false, is_some, Option, None, option_map, Some, refl, ap, sym, ◌∙◌, inl, inr}
 use Rattle.std.proofs.lemmas.Bool.{cases_Bool}
 use Rattle.std.specs.FinMap.{get}
 use Rattle.frame_store.specs.View.{View}
 use Rattle.hart_tlb.specs.Outcome as outcome
 use Rattle.sv39_entry.specs.Address.{is_canonical, page_of}
 use Rattle.sv39_entry.specs.Frame.{frame_at, ppn_of}
-use Rattle.sv39_entry.specs.Word.{permits, ppn}
-use Rattle.sv39_entry.specs.declared.access.Access.{Access}
-use Rattle.sv39_entry.specs.declared.access.Mode.{Mode}
 use Rattle.table_walk.specs.Held.{held_memory}
 use Rattle.table_walk.specs.Tables.{Tables, leaf_node}
-use Rattle.table_walk.specs.Memory.{physical_address}
-use Rattle.table_walk.specs.Walk.{FindsLeaf, IsGlobal, LeavesMemory, Maps, Translates}
+use Rattle.table_walk.specs.Walk.{FindsLeaf, IsGlobal, LeavesMemory, Maps}
 use Rattle.table_walk.specs.Leaves.{frames_there, lands, LeavesAreThere, page_leaf}
 use Rattle.hart_machine.specs.Walked.{entry_for}
 

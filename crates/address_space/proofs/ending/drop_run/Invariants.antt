@@ -1,4 +1,4 @@
-use Rattle.std.proofs.Common.{◌≡◌, ◌≤◌, ◌-◌, ℕ, max}
+use Rattle.std.proofs.Common.{◌≤◌, ◌-◌, ℕ, max}
 use Rattle.address_space.specs.Agreement.{nothing, Stands}
 use Rattle.address_space.specs.Ending.{DropsRun}
 use Rattle.frame_store.specs.Laws.{Keeps}

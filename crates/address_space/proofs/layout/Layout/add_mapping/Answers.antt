@@ -1,7 +1,6 @@
-use Rattle.std.proofs.Common.{ℕ, ◌≡◌, map, ap, sym, ◌∙◌, arith}
+use Rattle.std.proofs.Common.{◌≡◌, map, ap, ◌∙◌, arith}
 use Rattle.std.proofs.lemmas.List.{length-map}
 use Rattle.std.specs.Prelude.{insert}
-use Rattle.process_model.specs.Mappings.{with_mapping}
 use Rattle.address_space.specs.Layouts.{region_of}
 use Rattle.address_space.proofs.MappingLists.{mapping_added, places_up_to, room_within}
 use Rattle.address_space.proofs.layout.Layout.add_mapping.Goals as goal

@@ -1,7 +1,6 @@
-use Rattle.std.proofs.Common.{ℕ, ◌≡◌, ◌<◌, length, length-set, map, slice_set, ap, sym, ◌∙◌, arith}
+use Rattle.std.proofs.Common.{◌≡◌, ◌<◌, length, length-set, map, slice_set, ap, sym, ◌∙◌, arith}
 use Rattle.std.specs.List.{refill}
-use Rattle.std.specs.Prelude.{option_map, option_to_list, remove}
-use Rattle.process_model.specs.Mappings.{with_instead}
+use Rattle.std.specs.Prelude.{remove}
 use Rattle.address_space.specs.Layouts.{region_of}
 use Rattle.address_space.proofs.MappingLists.{mapping_changed, mapping_gone, all_refilled, none_begins, place_within, places_before}
 use Rattle.address_space.proofs.layout.Layout.replace_mapping.Goals as goal

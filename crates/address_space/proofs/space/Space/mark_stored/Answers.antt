@@ -1,14 +1,8 @@
-use Rattle.std.proofs.Common.{◌≡◌, ℕ, Some, refl, ap, sym, ◌∙◌}
+use Rattle.std.proofs.Common.{refl, ap, sym, ◌∙◌}
 use Rattle.std.specs.Prelude.{option_map}
 use Rattle.frame_store.specs.Laws.{fits_after}
-use Rattle.process_model.specs.Process.{Page, Process, regions}
-use Rattle.process_model.specs.Regions.{region_at}
-use Rattle.table_walk.specs.Tables.{Tables}
-use Rattle.address_space.specs.Agreement.{body_of}
 use Rattle.address_space.specs.Layouts.{region_of}
-use Rattle.address_space.specs.Steps.{CanWrite}
 use Rattle.address_space.proofs.Marks.{mark_leafy, mark_some, marks}
-use Rattle.address_space.proofs.space.Space.mark_stored.Given as given
 use Rattle.address_space.proofs.space.Space.mark_stored.Goals as goal
 use Rattle.address_space.proofs.space.Space.mark_stored.Goals.{After-protect}
 

@@ -1,4 +1,3 @@
-use Rattle.std.proofs.Common.{arith}
 use Rattle.frame_store.specs.Laws.{fits_after}
 use Rattle.address_space.proofs.Writing.{on_page}
 use Rattle.address_space.proofs.space.Space.page_bytes.Goals as goal

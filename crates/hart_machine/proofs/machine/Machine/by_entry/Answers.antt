@@ -15,8 +15,8 @@ returns-clause-serves c w x is at =
 pub returns-clause-walk : goal.returns-clause-walk
 returns-clause-walk c = if_ok c.use_entry.result _ _ c.use_entry.ensures.ok
     (λ z ok answers w is x at.
-        let same = same_hart c.args.self.now.harts.items c.args.hart x c.in-Some.hart.now (c.in-Some.ensures.lookup.1 ∙ rw c.deref.ensures.value refl) at in
-        let a = c.args.va.0 in
-        answer_is is.tables is.kernel x (λ e. is.buffers c.args.hart x e at) a c.args.entry c.args.access c.args.mode z
-        (ap (λ (y : Hart). is_match a 0 (slice_get y.buffer c.args.entry)) (sym same) ∙ c.use_entry.ensures.there.0 ok)
-        (λ e there. answers e (ap (λ (y : Hart). slice_get y.buffer c.args.entry) same ∙ there)))
+    let same = same_hart c.args.self.now.harts.items c.args.hart x c.in-Some.hart.now (c.in-Some.ensures.lookup.1 ∙ rw c.deref.ensures.value refl) at in
+    let a = c.args.va.0 in
+    answer_is is.tables is.kernel x (λ e. is.buffers c.args.hart x e at) a c.args.entry c.args.access c.args.mode z
+    (ap (λ (y : Hart). is_match a 0 (slice_get y.buffer c.args.entry)) (sym same) ∙ c.use_entry.ensures.there.0 ok)
+    (λ e there. answers e (ap (λ (y : Hart). slice_get y.buffer c.args.entry) same ∙ there)))
