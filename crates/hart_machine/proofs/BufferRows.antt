@@ -1,5 +1,5 @@
 -- Worked rows: what a step makes of a buffer in which two entries have one key.
-use Rattle.std.proofs.Common.{◌≡◌, ℕ, false, None, Some, List, [], ◌∷◌, refl}
+use Rattle.std.proofs.Common.{◌≡◌, ℕ, false, None, Some, [], ◌∷◌, refl}
 use Rattle.hart_tlb.specs.declared.entry.TlbEntry.{TlbEntry}
 use Rattle.process_model.specs.declared.phase.Phase.{Phase}
 use Rattle.process_model.specs.declared.phase.Phase.TheVariants as phase
