@@ -98,7 +98,20 @@ fn roomy<S: FrameSeat, F: FrameSupply<Seat = S>>(
     Ok(space)
 }
 
-/// What is read where a number was written.
+/// The number in the first eight bytes of a page.
+fn first_number(bytes: &[u8; 4096]) -> u64 {
+    let mut first = [0; 8];
+    first.copy_from_slice(&bytes[..8]);
+    u64::from_le_bytes(first)
+}
+
+/// A number that was read in two ways; another one where they differ.
+fn if_both(one: u64, other: u64) -> u64 {
+    if one == other { one } else { !one }
+}
+
+/// What is read where a number was written at the beginning of a page; another number, where the bytes of the whole page say
+/// another one.
 fn kept<S: FrameSeat, F: FrameAccess<Seat = S>>(
     space: &mut Space<S>,
     store: &mut F,
@@ -113,7 +126,10 @@ fn kept<S: FrameSeat, F: FrameAccess<Seat = S>>(
     ensures keeps { Keeps F.rule store.old space.old.seat store.new space.new.seat }
 {
     space.write(store, va, 8, value);
-    space.read(store, va, 8)
+    let read = space.read(store, va, 8);
+    let mut bytes = [0; 4096];
+    space.page_bytes(store, va.page(), &mut bytes);
+    if_both(read, first_number(&bytes))
 }
 
 /// Asks for a page, and answers whether it was settled.

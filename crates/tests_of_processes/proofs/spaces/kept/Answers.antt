@@ -11,21 +11,34 @@ write-requires-clause-ready g c =
     let r = c.requires.ready in
     (r.0, r.1, r.3.page, can_write _ _ _ _ r.0 r.1 _ r.2 r.3)
 
-pub read-requires-clause-fits : goal.read-requires-clause-fits
-read-requires-clause-fits g c = fits_after g.F.FrameAccess.rule c.write.ensures.keeps c.requires.fits
+pub read-read-requires-clause-fits : goal.read-read-requires-clause-fits
+read-read-requires-clause-fits g c = fits_after g.F.FrameAccess.rule c.write.ensures.keeps c.requires.fits
 
-pub read-requires-clause-ready : goal.read-requires-clause-ready
-read-requires-clause-ready g c =
+pub read-read-requires-clause-ready : goal.read-read-requires-clause-ready
+read-read-requires-clause-ready g c =
     let r = c.requires.ready in
     let written = c.write.ensures.agrees r.0 r.1 r.3.page (can_write _ _ _ _ r.0 r.1 _ r.2 r.3) in
     let s = stored r.3.page (c.args.va.0 % 4096) (low_bytes c.args.value 8) in
     can_read _ _ _ _ r.0 (with_page r.1 (page_of c.args.va.0) s) _ written (still_writable r.1 _ s r.3.unmarked _ r.3)
 
+pub page_bytes-requires-clause-fits : goal.page_bytes-requires-clause-fits
+page_bytes-requires-clause-fits g c = fits_after g.F.FrameAccess.rule c.read-read.ensures.keeps (fits_after g.F.FrameAccess.rule c.write.ensures.keeps c.requires.fits)
+
+pub page_bytes-requires-clause-ready : goal.page_bytes-requires-clause-ready
+page_bytes-requires-clause-ready g c =
+    let r = c.requires.ready in
+    let read = c.read-read.ensures in
+    let written = c.write.ensures.agrees r.0 r.1 r.3.page (can_write _ _ _ _ r.0 r.1 _ r.2 r.3) in
+    let s = stored r.3.page (c.args.va.0 % 4096) (low_bytes c.args.value 8) in
+    rw (c.page.ensures.number, read.view, read.root, read.trapframe, read.layout) (can_read _ _ _ _ r.0 (with_page r.1 (page_of c.args.va.0) s) _ written (still_writable r.1 _ s r.3.unmarked _ r.3))
+
 pub returns-clause-agrees : goal.returns-clause-agrees
 returns-clause-agrees g c t p agrees writable =
-    let read = c.read.ensures in
+    let read = c.read-read.ensures in
+    let whole = c.page_bytes.ensures in
     let written = c.write.ensures.agrees t p writable.page (can_write _ _ _ _ t p _ agrees writable) in
-    (stored writable.page (c.args.va.0 % 4096) (low_bytes c.args.value 8), writable.unmarked, rw (read.view, read.root, read.trapframe, read.layout) written)
+    (stored writable.page (c.args.va.0 % 4096) (low_bytes c.args.value 8), writable.unmarked,
+    rw (whole.view, whole.root, whole.trapframe, whole.layout, read.view, read.root, read.trapframe, read.layout) written)
 
 pub returns-clause-keeps : goal.returns-clause-keeps
-returns-clause-keeps g c others r = c.read.ensures.keeps others (c.write.ensures.keeps others r)
+returns-clause-keeps g c others r = c.page_bytes.ensures.keeps others (c.read-read.ensures.keeps others (c.write.ensures.keeps others r))
