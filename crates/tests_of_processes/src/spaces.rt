@@ -303,3 +303,53 @@ fn wrong_row<R: Wait>(rt: &R, alloc: Global) -> Result<Option<Row>, AllocError> 
 fn lives_over_both_stores(rt: HostRuntime) {
     assert_eq!(rt; wrong_row(&rt, rt.alloc()), Ok(None));
 }
+
+/// Where the regions begin that hold two pages: the first and the third of the mapping below.
+type Firsts = (Option<u64>, Option<u64>);
+
+fn first_at<S: FrameSeat>(space: &Space<S>, page: u64) -> Option<u64> {
+    match space.layout.region_at(page) {
+        Some(region) => Some(region.first),
+        None => None,
+    }
+}
+
+fn firsts<S: FrameSeat>(space: &Space<S>) -> Firsts {
+    (first_at(space, 100), first_at(space, 102))
+}
+
+/// A mapping of four pages from page 100 on.
+fn mapping(first: u64, pages: u64) -> Region {
+    Region {
+        first,
+        pages,
+        rights: Rights::READ,
+        kind: RegionKind::SharedMapping,
+        source: Source::File { file: 0, offset: 0 },
+    }
+}
+
+/// What a space says with the mapping, without its first two pages, and without it; of a child, what it says while the mapping
+/// is whole. None where it could not be built.
+fn mapped(alloc: Global) -> Result<Option<[Firsts; 4]>, AllocError> {
+    let (mut store, seat) = PlainFrames::new(alloc, 64)?;
+    let Ok(mut space) = Space::build(&mut store, seat, &standard_parts()) else {
+        return Ok(None);
+    };
+    space.add_mapping(mapping(100, 4));
+    let whole = firsts(&space);
+    let child = space.layout.copied();
+    space.replace_mapping(100, Some(mapping(102, 2)));
+    let cut = firsts(&space);
+    space.replace_mapping(102, None);
+    let gone = firsts(&space);
+    space.layout = child;
+    Ok(Some([whole, cut, gone, firsts(&space)]))
+}
+
+#[test]
+fn changes_mappings(rt: HostRuntime) {
+    let whole = (Some(100), Some(100));
+    let wanted = [whole, (None, Some(102)), (None, None), whole];
+    assert_eq!(rt; mapped(rt.alloc()), Ok(Some(wanted)));
+}

@@ -36,9 +36,11 @@ pub returns-clause-agrees : goal.returns-clause-agrees
 returns-clause-agrees g c t p agrees writable =
     let read = c.read-read.ensures in
     let whole = c.page_bytes.ensures in
-    let written = c.write.ensures.agrees t p writable.page (can_write _ _ _ _ t p _ agrees writable) in
-    (stored writable.page (c.args.va.0 % 4096) (low_bytes c.args.value 8), writable.unmarked,
-    rw (whole.view, whole.root, whole.trapframe, whole.layout, read.view, read.root, read.trapframe, read.layout) written)
+    let written = c.write.ensures.agrees t p writable.page (can_write _ _ _ _ t p _ agrees writable) in (
+      stored writable.page (c.args.va.0 % 4096) (low_bytes c.args.value 8),
+      writable.unmarked,
+      rw (whole.view, whole.root, whole.trapframe, whole.layout, read.view, read.root, read.trapframe, read.layout) written,
+    )
 
 pub returns-clause-keeps : goal.returns-clause-keeps
 returns-clause-keeps g c others r = c.page_bytes.ensures.keeps others (c.read-read.ensures.keeps others (c.write.ensures.keeps others r))
