@@ -90,8 +90,8 @@ module _ (ps : List Part) where
       pub credits_then : r.credits ≡ tree_need ps
       credits_then = let credits = credits_is in let spent = come.spends.credits in omega (arith, credits, spent)
 
-      pub takes_then : (y : View) → Takes r y (tree_need ps) [] → Takes v y (build_need ps) []
-      takes_then y takes =
+      pub takes_all : (y : View) → Takes r y (tree_need ps) [] → Takes v y (build_need ps) []
+      takes_all y takes =
           let first : Takes v r 1 [] = record { tallies = spent_taken v.tallies r.tallies 1 (come.spends.tallies ∙ ap (λ (u : View). spent 1 u.tallies) reserved) } in
           let all = taken_on v.tallies r.tallies y.tallies 1 (tree_need ps) [] [] first.tallies takes.tallies in
           record { tallies = all ∙ ap (λ n. taken n [] v.tallies) (omega arith) }

@@ -1,5 +1,5 @@
 use Rattle.address_space.proofs.AddingFrames.{Comes, claimed_comes, filled_comes}
-use Rattle.address_space.proofs.BuildWhole.{credits_then, holds_trapframe, may_claim, takes_then, zero_held}
+use Rattle.address_space.proofs.BuildWhole.{credits_then, holds_trapframe, may_claim, takes_all, zero_held}
 use Rattle.address_space.proofs.space.Space.build.Given as given
 use Rattle.address_space.proofs.space.Space.build.Goals as goal
 use Rattle.address_space.proofs.space.Space.build.Goals.{After-fill_frame}
@@ -33,4 +33,4 @@ build_reserved-requires-clause-credits g c =
 pub returns-clause-takes : goal.returns-clause-takes
 returns-clause-takes g c =
     let reserved = rw c.in_default.is at c.reserve.ensures.ok in
-    takes_then c.args.parts.now _ _ _ c.requires.seat reserved c.frames_needed.ensures _ _ (comes g (goal.at.returns-clause-takes g c).After-fill_frame) _ c.build_reserved.ensures.takes
+    takes_all c.args.parts.now _ _ _ c.requires.seat reserved c.frames_needed.ensures _ _ (comes g (goal.at.returns-clause-takes g c).After-fill_frame) _ c.build_reserved.ensures.takes
