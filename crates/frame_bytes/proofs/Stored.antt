@@ -1,15 +1,12 @@
 -- The words of a frame after bytes were put into one of them.
-use Rattle.std.proofs.Common.{◌≡◌, ℕ, ◌+◌, ◌-◌, ◌*◌, ◌/◌, ◌%◌, ◌^◌, ◌<◌, ◌≤◌, inl, inr, List, length, take, drop, slice_index, Some, refl, ap, sym, ◌∙◌, arith, length-take, get_or-take}
-use Rattle.std.specs.Prelude.{IsTrue}
+use Rattle.std.proofs.Common.{◌≡◌, ℕ, ◌+◌, ◌-◌, ◌*◌, ◌/◌, ◌%◌, ◌^◌, ◌<◌, ◌≤◌, inl, inr, List, length, drop, slice_index, Some, refl, ap, sym, ◌∙◌, arith}
 use Rattle.std.proofs.lemmas.Bool.{cases_lt, cases_eq}
-use Rattle.std.proofs.lemmas.Nat.{mod_below}
 use Rattle.std.specs.Int.{w64, to_le_bytes, from_le_bytes}
 use Rattle.frame_store.specs.View.{View, known_word, with_word}
-use Rattle.process_model.specs.Bytes.{number, low_bytes, write_bytes, is_width}
+use Rattle.process_model.specs.Bytes.{number, write_bytes}
 use Rattle.frame_bytes.specs.Contents.{HasBytes}
-use Rattle.frame_bytes.proofs.Widths.{within_word, width_most}
 use Rattle.frame_bytes.proofs.Numbers.{byte_of_word}
-use Rattle.frame_bytes.proofs.Writes.{length-low_bytes, slice_index-low_bytes, at_before, at_inside, at_after, length-write_bytes, number_same, from_le_is, to_le}
+use Rattle.frame_bytes.proofs.Writes.{at_before, at_inside, at_after, length-write_bytes, number_same, from_le_is, to_le}
 use Rattle.frame_bytes.specs.Changed.{stored_here, stored_apart}
 
 module _ (bytes : List ℕ) (whole : length bytes ≡ 4096) (small : (k : ℕ) → slice_index bytes k < 2 ^ 8) (o : ℕ) (part old : List ℕ)

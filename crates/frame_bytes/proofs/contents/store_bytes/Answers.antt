@@ -1,6 +1,4 @@
-use Rattle.std.proofs.Common.{◌≡◌, ◌+◌, ◌%◌, ◌≤◌, ◌∙◌, ap, length, subst, take, arith}
-use Rattle.process_model.specs.Bytes.{low_bytes, write_bytes}
-use Rattle.frame_bytes.specs.Contents.{HasBytes}
+use Rattle.std.proofs.Common.{◌∙◌, ap, take}
 use Rattle.frame_bytes.proofs.Widths.{width_most, within_word}
 use Rattle.frame_bytes.proofs.Writes.{length-low_bytes, take_low}
 use Rattle.frame_bytes.proofs.contents.store_bytes.Goals as goal

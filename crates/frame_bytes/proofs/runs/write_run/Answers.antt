@@ -1,4 +1,4 @@
-use Rattle.std.proofs.Common.{◌≡◌, ℕ, ◌+◌, ◌-◌, ◌≤◌, ◌∙◌, length, refl, ap, subst, sym, arith}
+use Rattle.std.proofs.Common.{◌≡◌, ℕ, ◌+◌, ◌-◌, ◌≤◌, ◌∙◌, length, refl, subst, sym, arith}
 use Rattle.frame_bytes.specs.Changed.{changes_none, changes_both, changed_sole, changed_held}
 use Rattle.frame_bytes.specs.Contents.{HasBytes}
 use Rattle.frame_bytes.proofs.Writes.{write_more, write_none}
