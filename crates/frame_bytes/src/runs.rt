@@ -22,7 +22,8 @@ pub fn read_run<F: FrameAccess>(
     requires held { IsHeld (F.Seat.view seat.old) frame.0 }
     requires known { (page : List ℕ) × HasBytes (F.Seat.view seat.old) frame.0 page }
     requires inside { offset + length bytes.old ≤ 4096 }
-    ensures bytes { (page : List ℕ) → HasBytes (F.Seat.view seat.old) frame.0 page → bytes.new ≡ take (length bytes.old) (drop offset page) }
+    ensures bytes { (page : List ℕ) → HasBytes (F.Seat.view seat.old) frame.0 page →
+        bytes.new ≡ take (length bytes.old) (drop offset page) }
     ensures view { F.Seat.view seat.new ≡ F.Seat.view seat.old }
     ensures same { store.new ≡ store.old }
     ensures keeps { Keeps F.rule store.old seat.old store.new seat.new }

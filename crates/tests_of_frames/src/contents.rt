@@ -3,7 +3,9 @@
 ghost use Rattle.std.specs.Prelude.{◌≡◌, ◌%◌, ◌<◌, ◌≤◌, IsTrue, length};
 ghost use Rattle.process_model.specs.Bytes.{is_width};
 
-use frame_bytes::{copy_frame, fill_frame, load_bytes, read_frame, store_bytes};
+use frame_bytes::{
+    copy_frame, fill_frame, load_bytes, read_frame, read_run, store_bytes, write_run,
+};
 use frame_store::{FrameSupply, PlainFrames, PlainSeat};
 use std::alloc::Global;
 use std::marker::Model;
@@ -104,6 +106,35 @@ impl Bench {
         let mut bytes = [0xee; 4096];
         read_frame(&mut self.store, &mut self.seat, self.first, &mut bytes);
         bytes
+    }
+
+    /// Reads a run of the first frame, if it lies in the page.
+    fn read(&mut self, offset: usize, bytes: &mut [u8]) {
+        if offset <= 4096 && bytes.len() <= 4096 - offset {
+            read_run(&mut self.store, &mut self.seat, self.first, offset, bytes);
+        }
+    }
+
+    /// Whether a run of at most 32 bytes of the counting page is read as it is there.
+    fn reads_counting(&mut self, offset: usize, length: usize) -> bool {
+        if length > 32 || offset > 4096 {
+            return false;
+        }
+        let mut bytes = [0xee; 32];
+        self.read(offset, &mut bytes[..length]);
+        for at in 0..length {
+            if bytes[at] != ((offset + at) % 251) as u8 {
+                return false;
+            }
+        }
+        true
+    }
+
+    /// Writes a run of the first frame, if it lies in the page.
+    fn write(&mut self, offset: usize, bytes: &[u8]) {
+        if offset <= 4096 && bytes.len() <= 4096 - offset {
+            write_run(&mut self.store, &mut self.seat, self.first, offset, bytes);
+        }
     }
 
     /// Copies the first frame into the second.
@@ -238,5 +269,66 @@ fn reads_a_whole_page(rt: HostRuntime) -> Result<(), Fail> {
         assert_eq!(rt; page[at], byte as u8);
     }
     assert_eq!(rt; page[4095], 0x7f);
+    Ok(())
+}
+
+#[test]
+fn reads_runs(rt: HostRuntime) -> Result<(), Fail> {
+    let mut bench = Bench::new(rt.alloc())?;
+    bench.fill(&counting_page());
+    let runs = [
+        (0, 0),
+        (0, 1),
+        (0, 8),
+        (0, 32),
+        (1, 7),
+        (1, 8),
+        (3, 2),
+        (5, 30),
+        (7, 1),
+        (7, 2),
+        (8, 9),
+        (4064, 32),
+        (4089, 7),
+        (4095, 1),
+        (4096, 0),
+    ];
+    'runs: for (offset, length) in runs {
+        assert!(rt; bench.reads_counting(offset, length));
+    }
+    let mut page = [0; 4096];
+    bench.read(0, &mut page);
+    assert!(rt; page == counting_page());
+    Ok(())
+}
+
+#[test]
+fn writes_runs(rt: HostRuntime) -> Result<(), Fail> {
+    let mut bench = Bench::new(rt.alloc())?;
+    bench.fill(&counting());
+    bench.write(0, b"a");
+    bench.write(13, b"bcdefg");
+    bench.write(24, b"hijklmnopqrstuvw");
+    bench.write(47, b"0123456789");
+    bench.write(4095, b"z");
+    bench.write(4096, b"");
+    let accesses = [
+        (0, 8, 0x0706_0504_0302_0161),
+        (8, 8, 0x6463_620c_0b0a_0908),
+        (16, 8, 0x1716_1514_1367_6665),
+        (24, 8, 0x6f6e_6d6c_6b6a_6968),
+        (32, 8, 0x7776_7574_7372_7170),
+        (40, 8, 0x302e_2d2c_2b2a_2928),
+        (48, 8, 0x3837_3635_3433_3231),
+        (56, 8, 0x3f3e_3d3c_3b3a_3939),
+        (64, 8, 0x4746_4544_4342_4140),
+        (4088, 8, 0x7a00_0000_0000_0000),
+    ];
+    assert_eq!(rt; bench.first_wrong(&accesses), None);
+    let mut written = [0; 6];
+    bench.read(13, &mut written);
+    assert!(rt; written == *b"bcdefg");
+    bench.write(0, &counting_page());
+    assert!(rt; bench.page() == counting_page());
     Ok(())
 }
