@@ -73,12 +73,9 @@ module _ (p : Process) (order : HasOrder 0 p) where
 -- ---- what keeps a process sound
 
 -- the same regions in order
-pub same_order : (least : ℕ) (p : Process) (settled : PageMap Page) (tabled : NumberSet) (pending : Option of_model.Pending)
+same_order : (least : ℕ) (p : Process) (settled : PageMap Page) (tabled : NumberSet) (pending : Option of_model.Pending)
     → HasOrder least p → HasOrder least (record p { settled = settled; tabled = tabled; pending = pending })
 same_order least p settled tabled pending order = record { parts = order.parts; room = order.room; above = order.above; leaves = order.leaves; mapped = order.mapped }
-
-pub sound_pending : (p : Process) (o : Option of_model.Pending) → IsSound p → IsSound (record p { pending = o })
-sound_pending p o sound = record { order = same_order 0 p p.settled p.tabled o sound.order; tabled = sound.tabled }
 
 -- fewer pages are settled
 pub sound_fewer : (p : Process) (new : PageMap Page) → ((n : ℕ) (s : Page) → pages.get new n ≡ Some s → pages.get p.settled n ≡ Some s)

@@ -15,7 +15,7 @@ use table_walk::protect;
 
 impl<S: FrameSeat> Space<S> {
     /// Notes that a page is to be stored to, where stores go back to a file: its leaf gets D (RISC-V Privileged Architecture
-    /// 20211203, 4.3.1), and keeps its frame. No other page is dirty any later than that.
+    /// 20211203, 4.3.1), and the page keeps its frame. A page whose stores go back to no file has D from the start.
     pub fn mark_stored<F: FrameAccess<Seat = S>>(&mut self, store: &mut F, page: Vpn)
         requires fits { Fits F.rule store.old self.old.seat }
         requires ready { (t : Tables) × (p : Process) × (s : Page) × CanWrite (body_of S.view self.old) t p page s }
