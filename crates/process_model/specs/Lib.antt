@@ -6,6 +6,7 @@ pub mod Process
 pub mod Residence
 pub mod Heap
 pub mod Mappings
+pub mod PageMoves
 pub mod Images
 pub mod Loading
 pub mod Frames
