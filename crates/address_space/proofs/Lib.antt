@@ -27,6 +27,7 @@ pub mod Owning
 pub mod OwningCounts
 pub mod OwningSteps
 pub mod Relaid
+pub mod SettledPages
 pub mod Sound
 pub mod UserAnswers
 pub mod Users

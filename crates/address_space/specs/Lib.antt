@@ -7,5 +7,6 @@ pub mod Parts
 pub mod Pending
 pub mod ProcessLeaves
 pub mod Separating
+pub mod Settled
 pub mod Steps
 pub mod Trampolines

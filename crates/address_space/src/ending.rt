@@ -17,7 +17,7 @@ use sv39_entry::{FrameNo, TRAMPOLINE, TRAPFRAME, Va, Vpn};
 use table_walk::{next_leaf, release_tables, unmap};
 
 /// The first page that has a leaf, of those from one number up to, and without, a page.
-fn first_mapped<F: FrameAccess>(
+pub(crate) fn first_mapped<F: FrameAccess>(
     store: &mut F,
     seat: &mut F::Seat,
     root: FrameNo,

@@ -102,6 +102,27 @@ impl Layout {
         self.mappings[place] = region;
     }
 
+    /// The mappings, in ascending order.
+    pub fn mappings(&self) -> &[Region]
+        ensures { map region_of result.now ≡ self.now.mappings }
+    {
+        self.mappings.as_slice()
+    }
+
+    /// Where the heap ends, in bytes.
+    pub fn size(&self) -> u64
+        ensures { result ≡ self.now.size }
+    {
+        self.size
+    }
+
+    /// Where the heap begins, in bytes.
+    pub fn heap_base(&self) -> u64
+        ensures { result ≡ self.now.heap_base }
+    {
+        self.heap_base
+    }
+
     /// The same regions once more, for a child.
     pub fn copied(&self) -> Layout
         ensures { result ≡ self.now }

@@ -12,6 +12,7 @@ mod own;
 mod pages;
 mod part;
 mod region;
+mod settled;
 mod space;
 mod user;
 
@@ -21,5 +22,6 @@ pub use layout::Layout;
 pub use needed::frames_needed;
 pub use part::Part;
 pub use region::{Region, RegionKind, Source};
+pub use settled::SettledPage;
 pub use space::Space;
 pub use user::Asked;

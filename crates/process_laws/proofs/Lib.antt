@@ -1,5 +1,4 @@
 pub mod Untouched
-pub mod Greatest
 pub mod Earlier
 pub mod SameCopies
 pub mod Standing

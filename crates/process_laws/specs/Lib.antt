@@ -2,7 +2,6 @@ pub mod Others
 pub mod Denied
 pub mod Apart
 pub mod Numbered
-pub mod Placed
 pub mod Answered
 pub mod Latest
 pub mod FilePlaces

@@ -1,6 +1,6 @@
 // Laws of mappings.
 ghost use Rattle.std.specs.Prelude.{◌≡◌, ◌≤◌, ◌↔◌, ◌&&◌, ◌||◌, ℕ, List, None, Some, Ok, false, length, ◌++◌, nat_le, nat_lt, is_some};
-ghost use Rattle.process_laws.specs.Placed.{Fits};
+ghost use Rattle.process_model.specs.Places.{Fits};
 ghost use Rattle.process_model.specs.Files.{File};
 ghost use Rattle.process_model.specs.Mappings.{back_of, front_of, leaves_hole, mapping_place};
 ghost use Rattle.process_model.specs.Process.{Process};

@@ -7,6 +7,7 @@ pub mod Residence
 pub mod Heap
 pub mod Mappings
 pub mod PageMoves
+pub mod Places
 pub mod Images
 pub mod Loading
 pub mod Frames

@@ -1,5 +1,5 @@
--- A mapping's place is the greatest page at which it fits.
-use Rattle.std.proofs.Common.{◌≡◌, ℕ, zero, suc, Bool, true, false, cond, ◌&&◌, ◌||◌, ◌+◌, ◌-◌, ◌≤◌, ◌⊎◌, inl, inr, max, min, refl, sym, ap, ◌∙◌, arith, List, [], ◌∷◌, None, Some, map}
+-- Where a mapping may stand, and that its place is the greatest page at which it fits.
+use Rattle.std.proofs.Common.{◌≡◌, ℕ, zero, suc, Bool, true, false, cond, ◌&&◌, ◌||◌, ◌+◌, ◌-◌, ◌≤◌, ◌⊎◌, inl, inr, max, min, refl, sym, ap, ◌∙◌, arith, List, [], ◌∷◌, Option, None, Some, map}
 use Rattle.std.specs.Prelude.{nat_le, filter, fold, slice_get, if◌then◌else◌}
 use Rattle.std.specs.List.{list_all}
 use Rattle.std.proofs.lemmas.Bool.{and_parts}
@@ -8,8 +8,13 @@ use Rattle.process_model.specs.Bytes.{pages_for}
 use Rattle.process_model.specs.Regions.{Region, end_of}
 use Rattle.process_model.specs.Process.{Process}
 use Rattle.process_model.specs.Mappings.{fits_at, is_apart, greatest, places, mapping_place}
-use Rattle.process_laws.specs.Placed.{Fits}
 use Rattle.sv39_entry.specs.Address.{trapframe_page}
+
+-- so many pages from a page on are above the heap, below the trapframe, and meet no mapping
+pub record Fits (p : Process) (pages first : ℕ) : Type 0 where
+  pub above : pages_for p.size ≤ first
+  pub below : first + pages ≤ trapframe_page
+  pub apart : (i : ℕ) (m : Region) → slice_get p.mappings i ≡ Some m → (first + pages ≤ m.first) ⊎ (end_of m ≤ first)
 
 le_of : (a b : ℕ) → nat_le a b ≡ true → a ≤ b
 le_of a b e = grind arith
@@ -212,3 +217,24 @@ none_above p pages first other is f =
 -- where there is no place, no page fits
 pub none_fits : (p : Process) (pages first : ℕ) → mapping_place p pages ≡ None → Fits p pages first → ⊥
 none_fits p pages first is f = none_is_greatest _ (filter (fits_at p pages) (places p pages)) is (tried p pages first f)
+
+module _ (p : Process) (pages first : ℕ) where
+  of_place : (o : Option ℕ) → mapping_place p pages ≡ o → Fits p pages first → ((other : ℕ) → Fits p pages other → other ≤ first) → o ≡ Some first
+  of_place None is fits most = absurd (none_fits p pages first is fits)
+  of_place (Some other) is fits most =
+      let up = none_above p pages other first is fits in
+      let down = most other (place_fits p pages other is) in
+      ap Some (omega (arith, up, down))
+
+  -- a page at which it fits is the place, where no greater one does
+  pub place_is : Fits p pages first → ((other : ℕ) → Fits p pages other → other ≤ first) → mapping_place p pages ≡ Some first
+  place_is fits most = of_place (mapping_place p pages) refl fits most
+
+module _ (p : Process) (pages : ℕ) where
+  of_none : (o : Option ℕ) → mapping_place p pages ≡ o → ((other : ℕ) → Fits p pages other → ⊥) → o ≡ None
+  of_none None is none = refl
+  of_none (Some other) is none = absurd (none other (place_fits p pages other is))
+
+  -- and where it fits at no page, there is no place
+  pub place_is_none : ((other : ℕ) → Fits p pages other → ⊥) → mapping_place p pages ≡ None
+  place_is_none none = of_none (mapping_place p pages) refl none

@@ -1,0 +1,26 @@
+-- Settled pages, one after another.
+use Rattle.std.specs.Prelude.{◌≡◌, ℕ, ◌<◌, ◌≤◌, Option, None, Some}
+use Rattle.process_model.specs.PageMap.{get}
+use Rattle.process_model.specs.Process.{Page, Process, regions}
+use Rattle.process_model.specs.Regions.{Region, region_at}
+use Rattle.table_walk.specs.Tables.{Tables}
+use Rattle.address_space.specs.Agreement.{is_dirty_page, IsOn}
+use Rattle.address_space.specs.declared.settled.SettledPage.{SettledPage}
+
+-- no page of a run is settled
+abbrev pub AreUnsettled : Process → ℕ → ℕ → Type 0
+AreUnsettled p first end = (n : ℕ) → first ≤ n → n < end → get p.settled n ≡ None
+
+-- a settled page, its frame, and whether its leaf has D set
+pub record IsSettledPage (t : Tables) (p : Process) (x : SettledPage) : Type 0 where
+  pub page : Page
+  pub region : Region
+  pub settled : get p.settled x.page ≡ Some page
+  pub in_region : region_at (regions p) x.page ≡ Some region
+  pub on : IsOn t x.page x.frame.0
+  pub dirty : x.dirty ≡ is_dirty_page region page
+
+-- the first settled page of a run
+abbrev pub IsNextSettled : Tables → Process → ℕ → ℕ → Option SettledPage → Type 0
+IsNextSettled t p first end None = AreUnsettled p first end
+IsNextSettled t p first end (Some x) = (first ≤ x.page) × (x.page < end) × AreUnsettled p first x.page × IsSettledPage t p x
