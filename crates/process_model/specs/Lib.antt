@@ -11,6 +11,7 @@ pub mod Images
 pub mod Loading
 pub mod Frames
 pub mod Order
+pub mod RegionRows
 pub mod Inserted
 pub mod ValueSets
 pub mod ImageNeed
