@@ -12,6 +12,9 @@ pub mod Loading
 pub mod Frames
 pub mod Order
 pub mod RegionRows
+pub mod Granted
+pub mod MappingRows
+pub mod OrderKept
 pub mod Inserted
 pub mod ValueSets
 pub mod ImageNeed
