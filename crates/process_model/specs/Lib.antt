@@ -15,6 +15,7 @@ pub mod RegionRows
 pub mod Granted
 pub mod MappingRows
 pub mod OrderKept
+pub mod PageRegions
 pub mod Inserted
 pub mod ValueSets
 pub mod ImageNeed

@@ -120,3 +120,15 @@ row_outside least low high n rs row out = go (region_at rs n) refl out
     go None is out = refl
     go (Some r) is (inl below) = absurd (let within = row_within least low high n rs r row is in omega (arith, below, within.0))
     go (Some r) is (inr above) = absurd (let within = row_within least low high n rs r row is in omega (arith, above, within.1))
+
+-- ---- regions alike
+
+-- the one region grants what the other grants, and is there for the same
+pub record SameRights (x y : Region) : Type 0 where
+  pub reads : y.reads ≡ x.reads
+  pub writes : y.writes ≡ x.writes
+  pub executes : y.executes ≡ x.executes
+  pub kind : y.kind ≡ x.kind
+
+pub own_rights : (x : Region) → SameRights x x
+own_rights x = record { reads = refl; writes = refl; executes = refl; kind = refl }
