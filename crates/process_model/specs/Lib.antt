@@ -12,6 +12,11 @@ pub mod Images
 pub mod Loading
 pub mod Frames
 pub mod Order
+pub mod RegionRows
+pub mod Granted
+pub mod MappingRows
+pub mod OrderKept
+pub mod PageRegions
 pub mod Inserted
 pub mod ValueSets
 pub mod ImageNeed

@@ -50,16 +50,16 @@ pub record IsMapping (m : Region) : Type 0 where
   pub leaves : HasLeaves m
   pub reach : IsInReach m.source m.pages
 
--- the parts end at the heap's base or below it, the heap below the mappings, and these below the trapframe; each part and mapping has
--- so many pages at least
+-- the parts end at the heap's base or below it, the heap below the mappings, and these below the trapframe; each part has so many
+-- pages at least, and each mapping one at least
 pub record HasOrder (least : ℕ) (p : Process) : Type 0 where
   pub parts : Row least 0 p.parts (page_of p.heap_base)
   pub room : page_of p.heap_base ≤ pages_for p.size
-  pub above : Row least (pages_for p.size) p.mappings trapframe_page
+  pub above : Row 1 (pages_for p.size) p.mappings trapframe_page
   pub leaves : EachRegion HasLeaves p.parts
   pub mapped : EachRegion IsMapping p.mappings
 
--- in every process of the model they have one
+-- in every process of the model each part has one too
 abbrev pub IsInOrder : Process → Type 0
 IsInOrder p = HasOrder 1 p
 
