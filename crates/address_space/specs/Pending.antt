@@ -1,6 +1,7 @@
 -- A process that has another access pending is in memory as it was.
 use Rattle.std.specs.Prelude.{ℕ, Option}
 use Rattle.frame_store.specs.View.{View}
+use Rattle.process_model.specs.OrderKept.{same_order}
 use Rattle.process_model.specs.Process as of_model
 use Rattle.process_model.specs.Process.{Process}
 use Rattle.table_walk.specs.Tables.{Tables}
@@ -10,9 +11,7 @@ use Rattle.address_space.specs.Layouts.{Layout}
 module _ (v : View) (root trapframe : ℕ) (l : Layout) (t : Tables) (p : Process) (a : IsSpace (body v root trapframe l) t p) where
   pub agrees_pending : (o : Option of_model.Pending) → IsSpace (body v root trapframe l) t (record p { pending = o })
   agrees_pending o = record {
-    sound =
-        let order = a.sound.order in
-        record { order = record { parts = order.parts; room = order.room; above = order.above; leaves = order.leaves; mapped = order.mapped }; tabled = a.sound.tabled };
+    sound = record { order = same_order 0 p p.settled p.tabled o a.sound.order; tabled = a.sound.tabled };
     lays = record { parts = a.lays.parts; mappings = a.lays.mappings; heap_base = a.lays.heap_base; size = a.lays.size };
     stands = record {
       tables = a.stands.tables;

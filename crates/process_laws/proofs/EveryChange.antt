@@ -1,20 +1,21 @@
 -- What every step keeps: a property of processes that each kind of change of a process keeps. The property may speak of the
 -- counter, above which no copy number was given.
-use Rattle.std.proofs.Common.{◌≡◌, ◌≢◌, ℕ, zero, suc, ℤ, Bool, true, false, cond, not, ◌+◌, ◌%◌, ◌≤◌, ◌⊎◌, inl, inr, refl, sym, ap, subst, ◌∙◌, arith, List, [], ◌∷◌, ◌++◌, Option, None, Some, length}
+use Rattle.std.proofs.Common.{◌≡◌, ◌≢◌, ℕ, zero, suc, ℤ, Bool, true, false, cond, ◌+◌, ◌%◌, ◌≤◌, ◌⊎◌, inl, inr, refl, sym, ap, subst, ◌∙◌, arith, List, [], ◌∷◌, ◌++◌, Option, None, Some, length}
 use Rattle.std.proofs.lemmas.Bool.{eqb-true, true≢false}
 use Rattle.std.proofs.lemmas.Bool.Decides.{nat_tests}
 use Rattle.std.proofs.lemmas.Grind.{common_steps}
-use Rattle.std.specs.Prelude.{◌/◌, ◌^◌, ◌&&◌, nat_le, unwrap_or, is_none, nat_abs, slice_get, slice_set, fold, zip, replicate, Result, Ok, Err}
+use Rattle.std.specs.Prelude.{◌/◌, ◌^◌, unwrap_or, is_none, nat_abs, slice_get, slice_set, fold, zip, replicate, Result, Ok, Err}
 use Rattle.std.proofs.lemmas.Option.{same_Some}
 use Rattle.process_laws.specs.Apart.{EachProcess}
-use Rattle.process_model.specs.Bytes.{pages_for, first_true, is_width, low_bytes, write_bytes, numbers_from}
-use Rattle.process_model.specs.Files.{File, is_writable}
+use Rattle.process_model.specs.Bytes.{pages_for, is_width, low_bytes, write_bytes, numbers_from}
+use Rattle.process_model.specs.Files.{File}
+use Rattle.process_model.specs.Granted.{map_granted}
 use Rattle.process_model.specs.PageMap.{get}
 use Rattle.process_model.specs.Regions.{Region, copy_rule, first_rule, fault_cause, is_aligned}
 use Rattle.process_model.specs.Process.{Process, Page, Pending, regions, without_pending}
 use Rattle.process_model.specs.Residence.{settled_anew, taken_over, taken_over_unless, made_resident_from, region_on, with_page, access_answer, marked, child_of}
 use Rattle.process_model.specs.Heap.{without_pages, size_refusal, resized, resized_unless, wanted_size, sbrk_result}
-use Rattle.process_model.specs.Mappings.{mapping_place, is_bad_mapping, is_shared, asks_write, most_mappings, map_refusal, mapping_of, with_mapping, Mapped, mapped_unless, mapped, mapping_around, leaves_hole, front_of, back_of, with_instead, Unmapped, unmapped_unless, unmapped_in, unmapped_if, unmapped}
+use Rattle.process_model.specs.Mappings.{mapping_place, map_refusal, mapping_of, with_mapping, Mapped, mapped_unless, mapped, mapping_around, leaves_hole, front_of, back_of, with_instead, Unmapped, unmapped_unless, unmapped_in, unmapped_if, unmapped}
 use Rattle.process_model.specs.Images.{LoadSegment, image_loads}
 use Rattle.process_model.specs.Loading.{image_pages, process_of}
 use Rattle.process_model.specs.Harts.{Hart}
@@ -38,7 +39,6 @@ use Rattle.process_model.specs.declared.phase.Phase.{Phase}
 use Rattle.process_model.specs.declared.image.BadImage.{BadImage}
 use Rattle.process_model.specs.declared.image.Image.{Image}
 use Rattle.process_model.specs.declared.step.Refusal.{Refusal}
-use Rattle.process_model.specs.declared.step.Refusal.TheVariants.{BadArgument, FileNotWritable, MappingsFull, NoRoom}
 use Rattle.process_model.specs.declared.step.Reply.{Reply}
 use Rattle.process_model.specs.declared.step.Reply.TheVariants.{Ended, Exited}
 use Rattle.process_model.specs.declared.step.Step.{Step}
@@ -124,31 +124,6 @@ length_written bs vs o h e = grind (arith, common_steps)
 
 pub same_Ok : {A B : Type 0} (x y : A) → ◌≡◌ {A = Result A B} (Ok x) (Ok y) → x ≡ y
 same_Ok x y e = cc
-
--- where no test of a list is true, each is false
-abbrev pub AllFalse : {A : Type 0} → List (Bool × A) → Type 0
-AllFalse [] = Unit {0}
-AllFalse (t ∷ ts) = (t.0 ≡ false) × AllFalse ts
-
-first_false : {A : Type 0} (b : Bool) (x : A) (o : Option A) → cond b (Some x) o ≡ None → (b ≡ false) × (o ≡ None)
-first_false true x o e = cc
-first_false false x o e = (refl, e)
-
-pub none_true : {A : Type 0} (ts : List (Bool × A)) → first_true ts ≡ None → AllFalse ts
-none_true [] e = tt
-none_true (t ∷ ts) e = let h = first_false t.0 t.1 (first_true ts) e in (h.0, none_true ts h.1)
-
--- what is not refused is no bad mapping, and has a place
-pub map_granted : (files : List File) (p : Process) (len protection flags file : ℕ) → map_refusal files p len protection flags file ≡ None
-    → (is_bad_mapping files len protection flags file ≡ false) × (is_none (mapping_place p (pages_for len)) ≡ false)
-map_granted files p len protection flags file e =
-    let tests = none_true (
-    (is_bad_mapping files len protection flags file, BadArgument)
-    ∷ (is_shared flags && asks_write protection && not (is_writable (slice_get files file)), FileNotWritable)
-    ∷ (nat_le most_mappings (length p.mappings), MappingsFull)
-    ∷ (is_none (mapping_place p (pages_for len)), NoRoom)
-    ∷ []) e in
-    (tests.0, tests.1.1.1.0)
 
 has_place : (files : List File) (p : Process) (len protection flags file : ℕ) → map_refusal files p len protection flags file ≡ None → mapping_place p (pages_for len) ≢ None
 has_place files p len protection flags file e none = true≢false (sym (ap is_none none) ∙ (map_granted files p len protection flags file e).1)

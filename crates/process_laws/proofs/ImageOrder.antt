@@ -10,7 +10,7 @@ use Rattle.process_model.specs.declared.image.BadImage.{BadImage}
 use Rattle.process_model.specs.declared.image.BadImage.TheVariants as part
 use Rattle.process_model.specs.declared.image.Image.{Image}
 use Rattle.process_model.specs.declared.image.Image.TheVariants.{Elf, Segments}
-use Rattle.process_laws.proofs.EveryChange.{none_true}
+use Rattle.process_model.specs.Granted.{none_true}
 
 row_more : (low : ℕ) (ls : List LoadSegment) (l : LoadSegment) → InRow low ls → StandsAt (end_of_loads low ls) l → InRow low (ls ++ l ∷ [])
 row_more low [] l row at = (at, tt)

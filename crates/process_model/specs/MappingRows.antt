@@ -215,21 +215,19 @@ pieces_at : (m : Region) (first end n : ℕ) → first ≤ end → m.first ≤ n
     → (y : Region) × (region_at (front_of m first ++ back_of m end) n ≡ Some y) × SameRights m y
 pieces_at m first end n le from to (inl before) =
     let front : Region = record m { pages = first - m.first } in
-    let there : front_of m first ≡ front ∷ [] = cond-true (nat_lt m.first first) (front ∷ []) [] (lt-ltb m.first first (omega (arith, from, before))) in
-    (
+    let there : front_of m first ≡ front ∷ [] = cond-true (nat_lt m.first first) (front ∷ []) [] (lt-ltb m.first first (omega (arith, from, before))) in (
       front,
       in_first (front_of m first) (back_of m end) n front (ap (λ rs. region_at rs n) there ∙ here front [] n (holds front n from (omega (arith, from, before)))),
-      record { reads = refl; writes = refl; executes = refl; kind = refl }
+      record { reads = refl; writes = refl; executes = refl; kind = refl },
     )
 pieces_at m first end n le from to (inr behind) =
     let back : Region = record m { first = end; pages = end_of m - end; source = moved_along m.source (end - m.first) } in
-    let there : back_of m end ≡ back ∷ [] = cond-true (nat_lt end (end_of m)) (back ∷ []) [] (lt-ltb end (end_of m) (omega (arith, to, behind))) in
-    (
+    let there : back_of m end ≡ back ∷ [] = cond-true (nat_lt end (end_of m)) (back ∷ []) [] (lt-ltb end (end_of m) (omega (arith, to, behind))) in (
       back,
       none_in_first (front_of m first) (back_of m end) n (none_in_front m first n (omega (arith, le, behind)))
-      ∙ ap (λ rs. region_at rs n) there
-      ∙ here back [] n (holds back n behind (omega (arith, to, behind))),
-      record { reads = refl; writes = refl; executes = refl; kind = refl }
+          ∙ ap (λ rs. region_at rs n) there
+          ∙ here back [] n (holds back n behind (omega (arith, to, behind))),
+      record { reads = refl; writes = refl; executes = refl; kind = refl },
     )
 
 -- where the first mapping goes

@@ -5,6 +5,8 @@ use Rattle.std.specs.List.{list_all}
 use Rattle.std.proofs.lemmas.Bool.{and_parts}
 use Rattle.std.proofs.lemmas.Option.{same_Some}
 use Rattle.process_model.specs.Bytes.{pages_for}
+use Rattle.process_model.specs.Granted.{place_fits as place_passes}
+use Rattle.process_model.specs.MappingRows.{apart_sides}
 use Rattle.process_model.specs.Regions.{Region, end_of}
 use Rattle.process_model.specs.Process.{Process}
 use Rattle.process_model.specs.Mappings.{fits_at, is_apart, greatest, places, mapping_place}
@@ -24,10 +26,6 @@ le_to a b e = grind arith
 
 both : (x y : Bool) → x ≡ true → y ≡ true → (x && y) ≡ true
 both x y a b = rw (a, b)
-
-one_of : (x y : Bool) → (x || y) ≡ true → (x ≡ true) ⊎ (y ≡ true)
-one_of true y e = inl refl
-one_of false y e = inr e
 
 left : (x y : Bool) → x ≡ true → (x || y) ≡ true
 left x y e = rw e
@@ -56,25 +54,6 @@ greatest_above x a [] i e = absurd i
 greatest_above x a (n ∷ ns) (inl same) e = let is : fold max n ns ≡ a = same_Some _ a e in let above : n ≤ fold max n ns = fold_max_start n ns in omega arith
 greatest_above x a (n ∷ ns) (inr i) e = let is : fold max n ns ≡ a = same_Some _ a e in let above : x ≤ fold max n ns = fold_max_member n x ns i in omega arith
 
-max_is : (a b : ℕ) → (max a b ≡ a) ⊎ (max a b ≡ b)
-max_is a b = elim (nat_le a b) as (λ t. nat_le a b ≡ t → (max a b ≡ a) ⊎ (max a b ≡ b)) [ true ↦ λ h. inr (grind arith) | false ↦ λ h. inl (grind arith) ] refl
-
-fold_max_is : (n : ℕ) (ns : List ℕ) → Member (fold max n ns) (n ∷ ns)
-fold_max_is n [] = inl refl
-fold_max_is n (m ∷ ns) = elim (fold_max_is (max n m) ns) [
-  | inr i ↦ inr (inr i)
-  | inl is ↦ elim (max_is n m) [ inl same ↦ inl (is ∙ same) | inr same ↦ inr (inl (is ∙ same)) ]
-]
-
-member_same : (x y : ℕ) (xs : List ℕ) → x ≡ y → Member x xs → Member y xs
-member_same x y [] e i = i
-member_same x y (z ∷ zs) e (inl is) = inl (sym e ∙ is)
-member_same x y (z ∷ zs) e (inr i) = inr (member_same x y zs e i)
-
-greatest_is : (a : ℕ) (xs : List ℕ) → greatest xs ≡ Some a → Member a xs
-greatest_is a [] e = absurd (cc)
-greatest_is a (n ∷ ns) e = member_same (fold max n ns) a (n ∷ ns) (same_Some _ a e) (fold_max_is n ns)
-
 none_is_greatest : (x : ℕ) (xs : List ℕ) → greatest xs ≡ None → Member x xs → ⊥
 none_is_greatest x [] e i = i
 none_is_greatest x (n ∷ ns) e i = cc
@@ -84,14 +63,6 @@ member_filter f x [] i e = absurd i
 member_filter f x (y ∷ ys) (inl same) e = let passes : f y ≡ true = ap f (sym same) ∙ e in rw passes (inl same)
 member_filter f x (y ∷ ys) (inr i) e = elim (f y) as (λ b. Member x (cond b (y ∷ filter f ys) (filter f ys))) [ true ↦ inr (member_filter f x ys i e) | false ↦ member_filter f x ys i e ]
 
-member_passes : (f : ℕ → Bool) (x : ℕ) (xs : List ℕ) → Member x (filter f xs) → f x ≡ true
-member_passes f x [] i = absurd i
-member_passes f x (y ∷ ys) i =
-    elim (f y) as (λ b. f y ≡ b → Member x (cond b (y ∷ filter f ys) (filter f ys)) → f x ≡ true) [
-      | true ↦ λ t j. elim j [ inl same ↦ ap f same ∙ t | inr k ↦ member_passes f x ys k ]
-      | false ↦ λ _ j. member_passes f x ys j
-    ] refl i
-
 member_map : (f : ℕ → ℕ) (x : ℕ) (xs : List ℕ) → Member x xs → Member (f x) (map f xs)
 member_map f x [] i = absurd i
 member_map f x (y ∷ ys) (inl e) = inl (ap f e)
@@ -99,16 +70,13 @@ member_map f x (y ∷ ys) (inr i) = inr (member_map f x ys i)
 
 -- what the test of a place says
 
-apart_of : (first pages : ℕ) (m : Region) → is_apart first pages m ≡ true → (first + pages ≤ m.first) ⊎ (end_of m ≤ first)
-apart_of first pages m e = elim (one_of _ _ e) [ inl l ↦ inl (le_of _ _ l) | inr l ↦ inr (le_of _ _ l) ]
-
 apart_to : (first pages : ℕ) (m : Region) → (first + pages ≤ m.first) ⊎ (end_of m ≤ first) → is_apart first pages m ≡ true
 apart_to first pages m (inl l) = left _ _ (le_to (first + pages) m.first l)
 apart_to first pages m (inr l) = right _ _ (le_to (end_of m) first l)
 
 all_apart_of : (first pages i : ℕ) (m : Region) (ms : List Region) → list_all (is_apart first pages) ms ≡ true → slice_get ms i ≡ Some m → (first + pages ≤ m.first) ⊎ (end_of m ≤ first)
 all_apart_of first pages i m [] all e = absurd (cc)
-all_apart_of first pages zero m (n ∷ ms) all e = apart_of first pages m (ap (is_apart first pages) (sym (same_Some n m e)) ∙ (and_parts (is_apart first pages n) (list_all (is_apart first pages) ms) all).0)
+all_apart_of first pages zero m (n ∷ ms) all e = apart_sides first pages m (ap (is_apart first pages) (sym (same_Some n m e)) ∙ (and_parts (is_apart first pages n) (list_all (is_apart first pages) ms) all).0)
 all_apart_of first pages (suc i) m (n ∷ ms) all e = all_apart_of first pages i m ms (and_parts (is_apart first pages n) (list_all (is_apart first pages) ms) all).1 e
 
 all_apart_to : (first pages : ℕ) (ms : List Region) → ((i : ℕ) (m : Region) → slice_get ms i ≡ Some m → (first + pages ≤ m.first) ⊎ (end_of m ≤ first)) → list_all (is_apart first pages) ms ≡ true
@@ -205,7 +173,7 @@ tried p pages first f = member_filter (fits_at p pages) _ (places p pages)
 
 -- the place fits
 pub place_fits : (p : Process) (pages first : ℕ) → mapping_place p pages ≡ Some first → Fits p pages first
-place_fits p pages first is = fits_of p pages first (member_passes (fits_at p pages) first (places p pages) (greatest_is first (filter (fits_at p pages) (places p pages)) is))
+place_fits p pages first is = fits_of p pages first (place_passes p pages first is)
 
 -- no page above it does
 pub none_above : (p : Process) (pages first other : ℕ) → mapping_place p pages ≡ Some first → Fits p pages other → other ≤ first

@@ -1,3 +1,2 @@
-pub mod Finding
 pub mod KernelSteps
 pub mod SpaceSteps

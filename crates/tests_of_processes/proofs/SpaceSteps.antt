@@ -3,7 +3,6 @@ use Rattle.std.proofs.Common.{◌≡◌, ℕ, zero, suc, ◌+◌, ◌*◌, ◌<�
 use Rattle.std.specs.Prelude.{Contains, IfErr, IfOk}
 use Rattle.std.specs.Result.{is_ok}
 use Rattle.std.proofs.lemmas.Bool.{cases_eq}
-use Rattle.std.proofs.lemmas.Bool.Decides.{nat_tests}
 use Rattle.std.proofs.lemmas.Option.{same_Some}
 use Rattle.frame_store.specs.View.{View}
 use Rattle.frame_store.specs.declared.refusal.NoFrame.{NoFrame}
@@ -12,6 +11,7 @@ use Rattle.process_model.specs.Order.{HasOrder}
 use Rattle.process_model.specs.PageMap as pages
 use Rattle.process_model.specs.PageMap.{from_list}
 use Rattle.process_model.specs.Process.{Page, Process, heap_of}
+use Rattle.process_model.specs.RegionRows.{behind_all, holds, in_first, not_held, passed}
 use Rattle.process_model.specs.Regions.{Region, end_of, holds_page, region_at}
 use Rattle.process_model.specs.Residence.{with_page}
 use Rattle.sv39_entry.specs.Address.{trapframe_page}
@@ -24,7 +24,6 @@ use Rattle.address_space.specs.Parts.{numbers_of, pages_of, process_of_parts, re
 use Rattle.address_space.specs.Steps.{CanRead, CanRelay, CanSettle, CanWrite, Settles, settled_with}
 use Rattle.tests_of_processes.specs.Lives.{IsFar, IsVacant, IsWritable, Lives, standard_regions}
 use Rattle.address_space.specs.declared.part.Part.{Part}
-use Rattle.tests_of_processes.proofs.Finding.{behind_all, in_first, passed}
 
 -- ---- a page is written
 
@@ -169,19 +168,13 @@ none_begun (e ∷ es) fresh k out =
 
 -- ---- their regions
 
-holds : (r : Region) (n : ℕ) → r.first ≤ n → n < end_of r → holds_page r n ≡ true
-holds r n above below = grind (arith, nat_tests)
-
-ends_before : (r : Region) (n : ℕ) → end_of r ≤ n → holds_page r n ≡ false
-ends_before r n below = grind (arith, nat_tests)
-
 abbrev AreBefore : ℕ → List Region → Type 0
 AreBefore n [] = Unit {0}
 AreBefore n (r ∷ rs) = (end_of r ≤ n) × AreBefore n rs
 
 none_at : (rs : List Region) (n : ℕ) → AreBefore n rs → region_at rs n ≡ None
 none_at [] n before = refl
-none_at (r ∷ rs) n before = passed r rs n (ends_before r n before.0) ∙ none_at rs n before.1
+none_at (r ∷ rs) n before = passed r rs n (not_held r n (inr before.0)) ∙ none_at rs n before.1
 
 standard_here : (k : ℕ) → k < 5 → (r : Region) × (region_at standard_regions k ≡ Some r)
 standard_here zero less = (_, refl)
