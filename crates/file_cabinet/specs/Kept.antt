@@ -1,0 +1,7 @@
+-- Files that are kept come to be just what their reads and writes leave.
+use Rattle.std.proofs.Common.{◌≡◌, List, ◌++◌, ap, sym, ◌∙◌}
+use Rattle.process_model.specs.Files.{File}
+use Rattle.process_model.specs.PageMoves.{files_after, files_after-append, PageMove}
+
+pub goes_on : (x y z : List File) (ms ns : List PageMove) → y ≡ files_after x ms → z ≡ files_after y ns → z ≡ files_after x (ms ++ ns)
+goes_on x y z ms ns first second = second ∙ ap (λ fs. files_after fs ns) first ∙ sym (files_after-append x ms ns)

@@ -1,0 +1,101 @@
+// The files of one thread.
+
+ghost use Rattle.std.specs.Prelude.{◌≡◌, ◌≤◌, All, IfOk, IsTrue, length, map, option_copied, option_map, slice_get};
+ghost use Rattle.process_model.specs.Script.{file_of, fits_file, most_files};
+
+use crate::files::Files;
+use crate::held::HeldFile;
+use crate::promise::PromiseError;
+use process_model::FileText;
+use std::alloc::{AllocError, Global};
+use std::marker::Model;
+
+/// Files in the memory of the host, which contracts see as the model's files. All memory is taken at the start.
+#[derive(Drop)]
+pub struct Cabinet {
+    held: Vec<HeldFile>,
+}
+
+impl Model for Cabinet {
+    ghost use Rattle.std.specs.Prelude.{List};
+    ghost use Rattle.process_model.specs.Files.{File};
+
+    ghost Value = { List File };
+
+    ghost view = { λ cabinet. cabinet.held.items };
+}
+
+impl Cabinet {
+    /// The files as they are declared, in the order of their numbers.
+    pub fn new(alloc: Global, files: &[FileText]) -> Result<Cabinet, AllocError>
+        requires few { length files.now ≤ most_files }
+        requires fit { All (λ f. IsTrue (fits_file f)) files.now }
+        ensures { IfOk result (λ cabinet. cabinet ≡ map file_of files.now) }
+    {
+        let mut held = Vec::with_capacity(alloc, files.len())?;
+        for text in files {
+            held.push(HeldFile::new(alloc, text)?)?;
+        }
+        Ok(Cabinet { held })
+    }
+
+    /// All bytes of a file, or None where there is no such file.
+    pub fn bytes(&self, file: usize) -> Option<&[u8]>
+        ensures { option_copied result ≡ option_map (λ f. f.bytes) (slice_get self.now file) }
+    {
+        Some(self.file(file)?.bytes())
+    }
+
+    fn file(&self, number: usize) -> Option<&HeldFile>
+        ensures { option_copied result ≡ slice_get self.now number }
+    {
+        self.held.get(number)
+    }
+}
+
+impl Files for Cabinet {
+    ghost use Rattle.std.specs.Prelude.{◌≡◌, ◌^◌, refl};
+    ghost use Rattle.process_model.specs.PageMoves.{files_after};
+    ghost use Rattle.file_cabinet.specs.Kept.{goes_on};
+
+    ghost files = { λ cabinet. cabinet };
+
+    ghost room = { λ _. 2 ^ 64 };
+
+    ghost becomes = { λ before moves after. after ≡ files_after before moves };
+
+    ghost can_refuse = { λ _ _ _. ⊥ };
+
+    ghost stays = { λ _. refl };
+
+    ghost goes_on = { goes_on };
+
+    ghost comes_to = { λ _ _ _ becomes. becomes };
+
+    /// It is never refused.
+    fn promise(&mut self, _pages: usize) -> Result<(), PromiseError> {
+        Ok(())
+    }
+
+    fn read_page(&mut self, file: usize, offset: usize, bytes: &mut [u8; 4096]) {
+        let Some(held) = self.file(file) else {
+            bytes.fill(0);
+            return;
+        };
+        held.read(offset, bytes);
+    }
+
+    fn write_page(&mut self, file: usize, offset: usize, bytes: &[u8; 4096]) {
+        if let Some(held) = self.held.get_mut(file) {
+            held.write(offset, bytes);
+        }
+    }
+
+    fn length(&self, file: usize) -> Option<usize> {
+        Some(self.file(file)?.bytes().len())
+    }
+
+    fn writable(&self, file: usize) -> bool {
+        self.file(file).is_some_and(|held| held.is_writable())
+    }
+}

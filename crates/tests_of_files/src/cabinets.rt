@@ -1,0 +1,171 @@
+// Cabinets, told by the calls.
+
+ghost use Rattle.std.specs.Prelude.{◌≡◌};
+ghost use Rattle.process_model.specs.Script.{fits_file};
+
+use file_cabinet::{Cabinet, Files};
+use process_model::{Bytes, FileText};
+use std::alloc::{AllocError, Global};
+use std::test::Fail;
+
+/// A file of so many bytes, of which the first are declared: 0, 1, 2 and so on, and 0 again after 255.
+fn declared(
+    alloc: Global,
+    length: usize,
+    writable: bool,
+    bytes: usize,
+) -> Result<FileText, AllocError> {
+    let mut kept = Vec::new(alloc);
+    for index in 0..bytes {
+        kept.push((index % 256) as u8)?;
+    }
+    Ok(FileText {
+        length,
+        writable,
+        bytes: Bytes::from_vec(kept),
+    })
+}
+
+/// Files of these lengths, all of whose bytes are declared. The even ones are writable.
+fn filled(alloc: Global, lengths: &[usize]) -> Result<Vec<FileText>, AllocError> {
+    let mut texts = Vec::new(alloc);
+    for (number, length) in lengths.iter().enumerate() {
+        texts.push(declared(alloc, *length, number % 2 == 0, *length)?)?;
+    }
+    Ok(texts)
+}
+
+/// Whether a file is short enough, and has no more bytes than its length.
+fn fits(text: &FileText) -> bool
+    ensures { result ≡ fits_file text.now }
+{
+    text.length <= 65_536 && text.bytes.as_slice().len() <= text.length
+}
+
+/// The cabinet, if there may be one of these files.
+pub(crate) fn cabinet(alloc: Global, texts: &[FileText]) -> Result<Cabinet, Fail> {
+    if texts.len() > 16 || !texts.iter().all(fits) {
+        return Err(Fail::from("too large"));
+    }
+    Ok(Cabinet::new(alloc, texts)?)
+}
+
+/// A file of 5,000 bytes of which 4,100 are declared, one of no bytes, and one of 65,536.
+pub(crate) fn three_files(alloc: Global) -> Result<Cabinet, Fail> {
+    let texts = vec![in alloc;
+        declared(alloc, 5_000, true, 4_100)?,
+        declared(alloc, 0, false, 0)?,
+        declared(alloc, 65_536, true, 65_536)?,
+    ]?;
+    cabinet(alloc, &texts)
+}
+
+#[test]
+fn keeps_sixteen_files(rt: HostRuntime) -> Result<(), Fail> {
+    let lengths = [
+        0, 1, 100, 4_095, 4_096, 4_097, 5_000, 8_192, 12_288, 12_289, 20_000, 32_768, 40_000,
+        61_440, 65_535, 65_536,
+    ];
+    let texts = filled(rt.alloc(), &lengths)?;
+    let files = cabinet(rt.alloc(), &texts)?;
+    for (number, length) in lengths.iter().enumerate() {
+        let there = (
+            files.length(number),
+            files.bytes(number).map(|bytes| bytes.len()),
+        );
+        assert_eq!(rt; there, (Some(*length), Some(*length)), "file {number}");
+        assert_eq!(rt; files.writable(number), number % 2 == 0, "file {number}");
+    }
+    for number in [16, usize::MAX] {
+        let there = (
+            files.length(number),
+            files.bytes(number).map(|bytes| bytes.len()),
+        );
+        assert_eq!(rt; there, (None, None), "file {number}");
+        assert!(rt; !files.writable(number), "file {number}");
+    }
+    Ok(())
+}
+
+#[test]
+fn reads_pages(rt: HostRuntime) -> Result<(), Fail> {
+    let mut files = three_files(rt.alloc())?;
+    let rows = [
+        (0, 0, 0, 0),
+        (0, 0, 255, 255),
+        (0, 0, 256, 0),
+        (0, 0, 4_095, 255),
+        (0, 1, 0, 1),
+        (0, 4_000, 0, 160),
+        (0, 4_000, 99, 3),
+        (0, 4_000, 100, 0),
+        (0, 4_099, 0, 3),
+        (0, 4_100, 0, 0),
+        (0, 4_999, 4_095, 0),
+        (0, 5_000, 0, 0),
+        (0, usize::MAX, 4_095, 0),
+        (1, 0, 0, 0),
+        (1, 0, 4_095, 0),
+        (2, 61_440, 4_095, 255),
+        (2, 65_534, 0, 254),
+        (2, 65_534, 1, 255),
+        (2, 65_534, 2, 0),
+        (2, 65_536, 0, 0),
+        (3, 0, 0, 0),
+        (3, 0, 4_095, 0),
+    ];
+    for (file, offset, place, byte) in rows {
+        let mut page = [9; 4096];
+        files.read_page(file, offset, &mut page);
+        let there = page.get(place).copied();
+        assert_eq!(rt; there, Some(byte), "file {file} from {offset} at {place}");
+    }
+    Ok(())
+}
+
+#[test]
+fn writes_pages(rt: HostRuntime) -> Result<(), Fail> {
+    let mut page = [7; 4096];
+    page[0] = 8;
+    page[4_095] = 9;
+    let rows = [
+        (0, 0, 0, 0, Some(8)),
+        (0, 0, 0, 1, Some(7)),
+        (0, 0, 0, 4_095, Some(9)),
+        (0, 0, 0, 4_098, Some(2)),
+        (0, 0, 2, 1, Some(1)),
+        (0, 4_000, 0, 3_999, Some(159)),
+        (0, 4_000, 0, 4_000, Some(8)),
+        (0, 4_000, 0, 4_999, Some(7)),
+        (0, 4_000, 0, 5_000, None),
+        (0, 4_999, 0, 4_998, Some(0)),
+        (0, 4_999, 0, 4_999, Some(8)),
+        (0, 5_000, 0, 4_999, Some(0)),
+        (0, usize::MAX, 0, 4_999, Some(0)),
+        (1, 0, 1, 0, None),
+        (2, 61_440, 2, 61_439, Some(255)),
+        (2, 61_440, 2, 61_440, Some(8)),
+        (2, 61_440, 2, 65_535, Some(9)),
+        (2, 61_441, 2, 65_535, Some(7)),
+        (2, 61_441, 2, 65_536, None),
+        (3, 0, 2, 2, Some(2)),
+        (3, 0, 3, 0, None),
+    ];
+    for (file, offset, seen, at, byte) in rows {
+        let mut files = three_files(rt.alloc())?;
+        files.write_page(file, offset, &page);
+        let there = files.bytes(seen).and_then(|bytes| bytes.get(at)).copied();
+        assert_eq!(rt;
+            there,
+            byte,
+            "file {file} from {offset}, file {seen} at {at}"
+        );
+        let lengths = (files.length(0), files.length(1), files.length(2));
+        assert_eq!(rt;
+            lengths,
+            (Some(5_000), Some(0), Some(65_536)),
+            "file {file} from {offset}"
+        );
+    }
+    Ok(())
+}

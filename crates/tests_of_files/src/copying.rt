@@ -1,0 +1,30 @@
+// A page copied from one file to another, over any files.
+
+ghost use Rattle.std.specs.Prelude.{◌≡◌, ◌∷◌, [], IfErr, IfOk};
+ghost use Rattle.file_cabinet.specs.Promises.{refusal_of};
+ghost use Rattle.file_cabinet.specs.declared.promise.PromiseError.{PromiseError};
+ghost use Rattle.process_model.specs.Files.{file_page, with_page_written};
+ghost use Rattle.process_model.specs.PageMoves.{page_read, page_write};
+
+use file_cabinet::Files;
+use process_model::Refusal;
+
+/// Writes what stands in a file at an offset into another file, at the same offset.
+pub fn copy_page<F: Files>(
+    files: &mut F,
+    from: usize,
+    to: usize,
+    offset: usize,
+) -> Result<(), Refusal>
+    ensures copied { IfOk result (λ _. F.files files.new ≡ with_page_written (F.files files.old) to offset (file_page (F.files files.old) from offset)) }
+    ensures moves { IfOk result (λ _. F.becomes files.old
+        (page_read from offset (file_page (F.files files.old) from offset) ∷ page_write to offset (file_page (F.files files.old) from offset) ∷ []) files.new) }
+    ensures refused { IfErr result (λ r. ((e : PromiseError) × F.can_refuse files.old 2 e × (r ≡ refusal_of e))) }
+    ensures same { IfErr result (λ _. F.becomes files.old [] files.new) }
+{
+    files.promise(2)?;
+    let mut page = [0; 4096];
+    files.read_page(from, offset, &mut page);
+    files.write_page(to, offset, &page);
+    Ok(())
+}

@@ -1,0 +1,56 @@
+// Promises that are kept, and those that are refused.
+
+use crate::cabinets::three_files;
+use crate::copying::copy_page;
+use crate::stubborn::Stubborn;
+use file_cabinet::{Files, PromiseError};
+use process_model::Refusal;
+use std::test::Fail;
+
+#[test]
+fn promises_any_pages(rt: HostRuntime) -> Result<(), Fail> {
+    let mut files = three_files(rt.alloc())?;
+    for pages in [0, 1, 65_536, usize::MAX] {
+        assert_eq!(rt; files.promise(pages), Ok(()), "{pages} pages");
+    }
+    Ok(())
+}
+
+#[test]
+fn copies_over_any_files(rt: HostRuntime) -> Result<(), Fail> {
+    let mut files = Stubborn {
+        files: three_files(rt.alloc())?,
+        until_refusal: Some(1),
+    };
+    let rows = [
+        (2, 0, 4_096, Ok(()), Some(135)),
+        (1, 0, 0, Err(Refusal::Memory), Some(135)),
+        (1, 0, 4_096, Ok(()), Some(0)),
+        (2, 0, 0, Ok(()), Some(0)),
+    ];
+    for (from, to, offset, outcome, byte) in rows {
+        let copied = copy_page(&mut files, from, to, offset);
+        assert_eq!(rt; copied, outcome, "from {from} at {offset}");
+        let there = files
+            .files
+            .bytes(0)
+            .and_then(|bytes| bytes.get(4_999))
+            .copied();
+        assert_eq!(rt; there, byte, "after {from} at {offset}");
+    }
+    assert_eq!(rt; (files.length(0), files.writable(0)), (Some(5_000), true));
+    assert_eq!(rt; copy_page(&mut files.files, 2, 0, 4_096), Ok(()));
+    Ok(())
+}
+
+#[test]
+fn refuses_for_the_same_reason(rt: HostRuntime) -> Result<(), Fail> {
+    let rows = [
+        (PromiseError::Memory, Refusal::Memory),
+        (PromiseError::JournalFull, Refusal::JournalFull),
+    ];
+    for (error, refusal) in rows {
+        assert_eq!(rt; Refusal::from(error), refusal);
+    }
+    Ok(())
+}

@@ -1,0 +1,55 @@
+// Files that refuse a promise.
+
+use file_cabinet::{Files, PromiseError};
+
+/// Files that refuse one of their promises for want of memory, and are like some others in all else.
+#[derive(Drop)]
+pub struct Stubborn<F> {
+    pub files: F,
+    /// How many promises are made before the one that is refused, or None where none is from now on.
+    pub until_refusal: Option<usize>,
+}
+
+impl<F: Files> Files for Stubborn<F> {
+    ghost use Rattle.std.specs.Prelude.{◌≡◌, ◌⊎◌};
+    ghost use Rattle.file_cabinet.specs.declared.promise.PromiseError.TheVariants.{Memory};
+
+    ghost files = { λ s. F.files s.files };
+
+    ghost room = { λ s. F.room s.files };
+
+    ghost becomes = { λ s moves t. F.becomes s.files moves t.files };
+
+    ghost can_refuse = { λ s pages e. (e ≡ Memory) ⊎ F.can_refuse s.files pages e };
+
+    ghost stays = { λ s. F.stays s.files };
+
+    ghost goes_on = { λ s t u. F.goes_on s.files t.files u.files };
+
+    ghost comes_to = { λ s t. F.comes_to s.files t.files };
+
+    fn promise(&mut self, pages: usize) -> Result<(), PromiseError> {
+        let refuses = self.until_refusal == Some(0);
+        self.until_refusal = self.until_refusal.and_then(|left| left.checked_sub(1));
+        if refuses {
+            return Err(PromiseError::Memory);
+        }
+        self.files.promise(pages)
+    }
+
+    fn read_page(&mut self, file: usize, offset: usize, bytes: &mut [u8; 4096]) {
+        self.files.read_page(file, offset, bytes);
+    }
+
+    fn write_page(&mut self, file: usize, offset: usize, bytes: &[u8; 4096]) {
+        self.files.write_page(file, offset, bytes);
+    }
+
+    fn length(&self, file: usize) -> Option<usize> {
+        self.files.length(file)
+    }
+
+    fn writable(&self, file: usize) -> bool {
+        self.files.writable(file)
+    }
+}
