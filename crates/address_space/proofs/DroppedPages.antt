@@ -1,16 +1,14 @@
 -- Pages of a run that go one after another.
-use Rattle.std.proofs.Common.{◌≡◌, ℕ, Bool, true, false, suc, ◌+◌, ◌*◌, ◌^◌, ◌<◌, ◌≤◌, ◌||◌, ◌⊎◌, cond, max, Option, None, Some, refl, ap, sym, ◌∙◌, inl, inr, arith}
-use Rattle.std.specs.Prelude.{nat_le, nat_lt, IsSome}
+use Rattle.std.proofs.Common.{◌≡◌, ℕ, suc, ◌+◌, ◌*◌, ◌^◌, ◌<◌, ◌≤◌, ◌⊎◌, max, Option, None, Some, refl, ap, sym, ◌∙◌, inl, inr, arith}
+use Rattle.std.specs.Prelude.{IsSome}
 use Rattle.std.proofs.lemmas.Bool.{cases_eq, cases_lt}
-use Rattle.std.proofs.lemmas.Map.Lookups.{exact_unsigned}
 use Rattle.std.specs.FinMap.{get}
-use Rattle.std.specs.FinMap.Entries.{find-where_key}
-use Rattle.std.specs.Ordering.{nat_cmp}
 use Rattle.frame_store.specs.View.{hold_of, View}
 use Rattle.process_model.specs.Heap.{without_pages}
 use Rattle.process_model.specs.PageMap as pages
 use Rattle.process_model.specs.PageMap.{PageMap}
 use Rattle.process_model.specs.Process.{Page, Process}
+use Rattle.process_model.specs.Released.{still_settled, was_settled}
 use Rattle.sv39_entry.specs.Address.{trampoline_page, trapframe_page}
 use Rattle.table_walk.specs.Changed.{IsNextLeaf}
 use Rattle.table_walk.specs.Tables.{Tables, leaf_node, without_leaf}
@@ -43,42 +41,8 @@ one_mapped t first end page w next low before =
     let some : get t.leaves (leaf_node page) ≡ Some w = ap (get t.leaves) (leaf_place page (omega arith)) ∙ next.2 in
     (next.0, before, rw some refl, unmapped_to t first page page next.3 (omega arith) (omega arith))
 
--- settled pages outside a run
-
-only_get : {X : Type 0} (m : PageMap X) (p : ℕ → Bool) (k : ℕ) → pages.get (pages.only p m) k ≡ cond (p k) (pages.get m k) None
-only_get m p k = find-where_key nat_cmp p k (λ x same. ap p (sym (exact_unsigned k x same))) m.entries
-
-outside : (first end n : ℕ) → (n < first) ⊎ (end ≤ n) → (nat_lt n first || nat_le end n) ≡ true
-outside first end n (inl before) = grind (arith, before)
-outside first end n (inr after) = grind (arith, after)
-
-cases_outside : (first end n : ℕ) → ((n < first) ⊎ (end ≤ n)) ⊎ ((first ≤ n) × (n < end))
-cases_outside first end n = elim (cases_lt n first) [
-  | inl before ↦ inl (inl before)
-  | inr from ↦ elim (cases_lt n end) [
-    | inl inside ↦ inr (omega arith, inside)
-    | inr after ↦ inl (inr (omega arith))
-  ]
-]
-
 everywhere : (first n : ℕ) → (n < first) ⊎ (first ≤ n)
 everywhere first n = elim (cases_lt n first) [ inl before ↦ inl before | inr after ↦ inr (omega (arith, after)) ]
-
-still_settled : (p : Process) (first end n : ℕ) (s : Page) → pages.get p.settled n ≡ Some s → (n < first) ⊎ (end ≤ n)
-    → pages.get (without_pages p first end).settled n ≡ Some s
-still_settled p first end n s at out = only_get p.settled (λ page. nat_lt page first || nat_le end page) n ∙ rw (outside first end n out) at
-
-pub was_settled : (p : Process) (first end n : ℕ) (s : Page) → pages.get (without_pages p first end).settled n ≡ Some s
-    → (pages.get p.settled n ≡ Some s) × ((n < first) ⊎ (end ≤ n))
-was_settled p first end n s at =
-    let got = sym (only_get p.settled (λ page. nat_lt page first || nat_le end page) n) ∙ at in
-    elim (cases_outside first end n) [
-      | inl out ↦ (rw (outside first end n out) at got, out)
-      | inr inside ↦ absurd (
-          let passed : (nat_lt n first || nat_le end n) ≡ false = grind (arith, inside.0, inside.1) in
-          let none = rw passed at got in
-          cc)
-    ]
 
 -- a process with fewer settled pages, of which the others have no leaf
 module _ (v : View) (root trapframe : ℕ) (u : Tables) (p : Process) (old new : PageMap Page)

@@ -18,7 +18,7 @@ use Rattle.address_space.specs.Agreement.{HoldsTrapframe, Names, nothing, one_of
 use Rattle.address_space.specs.Ending.{IsEmptied, Strips}
 use Rattle.address_space.specs.Steps.{IsBare, Takes}
 use Rattle.address_space.proofs.DroppedLeaf.{changes_take, leaf_goes, left, no_name, released_credits, released_takes, takes_none, takes_then, unmapped}
-use Rattle.address_space.proofs.DroppedPages.{was_settled}
+use Rattle.process_model.specs.Released.{was_settled}
 use Rattle.address_space.proofs.Owned.{both_of, no_table, one_else, one_here, one_page, released_here, released_other, same_references, same_sole}
 
 -- no page is settled

@@ -1,8 +1,6 @@
 -- The region of a page in lists that are put together.
-use Rattle.std.proofs.Common.{◌≡◌, ℕ, zero, suc, ◌<◌, ◌≤◌, length, get_or, arith, ◌%◌, min, true, false, List, [], ◌∷◌, ◌++◌, map, drop, refl, ap, sym, ◌∙◌, inl, inr, Option, Some, None}
-use Rattle.std.proofs.lemmas.Bool.{cases_Bool, cases_eq}
-use Rattle.std.specs.Int.{div_ceil}
-use Rattle.process_model.specs.Bytes.{pages_for}
+use Rattle.std.proofs.Common.{◌≡◌, ℕ, zero, suc, ◌<◌, ◌≤◌, length, get_or, arith, true, false, List, [], ◌∷◌, ◌++◌, map, drop, refl, ap, sym, ◌∙◌, inl, inr, Option, Some, None}
+use Rattle.std.proofs.lemmas.Bool.{cases_Bool}
 use Rattle.address_space.specs.Layouts.{region_of}
 use Rattle.address_space.specs.declared.region.Region.{Region as Run}
 use Rattle.process_model.specs.Process.{Process, heap_of, regions}
@@ -42,13 +40,6 @@ module _ (p : Process) (parts : List Region) (page : ℕ) (is : p.parts ≡ part
 
     pub mapping_found : (o : Option Region) → holds_page h page ≡ false → o ≡ region_at p.mappings page → o ≡ region_at (regions p) page
     mapping_found o other found = found ∙ sym (after_parts ∙ first_passed (heap_of p) p.mappings page (ap (λ r. holds_page r page) (sym heap) ∙ other))
-
--- whole pages
-pub pages_for_is : (n : ℕ) → div_ceil n 4096 ≡ pages_for n
-pages_for_is n = elim (cases_eq (n % 4096) 0) [
-  | inl whole ↦ rw whole (omega (arith, whole))
-  | inr part ↦ let one : min 1 (n % 4096) ≡ 1 = omega (arith, part) in rw one (omega (arith, part))
-]
 
 -- a region that does not hold the page is passed by
 pub passed : (rs : List Run) (i page : ℕ) (d : Run) → i < length rs → holds_page (region_of (get_or rs i d)) page ≡ false

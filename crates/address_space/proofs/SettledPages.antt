@@ -1,5 +1,5 @@
 -- The first leaf of a run is the first settled page's.
-use Rattle.std.proofs.Common.{◌≡◌, ℕ, Bool, ◌^◌, ◌<◌, ◌≤◌, Option, None, Some, refl, ap, sym, ◌∙◌, inl, inr, arith}
+use Rattle.std.proofs.Common.{◌≡◌, ℕ, Bool, ◌<◌, ◌≤◌, Option, None, Some, refl, ap, sym, ◌∙◌, inl, inr, arith}
 use Rattle.std.specs.Prelude.{option_and_then, option_map, IsSome}
 use Rattle.std.proofs.lemmas.Option.{same_Some}
 use Rattle.std.specs.FinMap.{get}
@@ -15,7 +15,6 @@ use Rattle.address_space.specs.Agreement.{body, IsSpace}
 use Rattle.address_space.specs.Ending.{AreUnmapped, IsFirstMapped}
 use Rattle.address_space.specs.Layouts.{Layout}
 use Rattle.address_space.specs.Settled.{AreUnsettled, IsNextSettled}
-use Rattle.address_space.specs.declared.settled.SettledPage.{SettledPage}
 use Rattle.address_space.proofs.Owned.{one_page}
 use Rattle.address_space.proofs.Writing.{HasPage, page_found, page_here, page_on}
 
@@ -64,12 +63,16 @@ module _ (v : View) (root trapframe : ℕ) (l : Layout) (t : Tables) (p : Proces
       pub next_is : (x : FrameNo × Bool) → o ≡ Some x → IsNextSettled t p first end (Some (record { page = page; frame = x.0; dirty = x.1 }))
       next_is x found_it =
           let on = page_on v t p page settled.0 here.0 here.1 o is x found_it in
-          let whole = page_found v t p page settled.0 here.0 here.1 o is in
-          (found.0, found.1, unsettled first page found.3, record {
-            page = settled.0;
-            region = here.1.region;
-            settled = settled.1;
-            in_region = here.1.in_region;
-            on = (on.leaf, on.mapped, on.made.names);
-            dirty = ap (λ (y : FrameNo × Bool). y.1) (same_Some x _ (sym found_it ∙ whole));
-          })
+          let whole = page_found v t p page settled.0 here.0 here.1 o is in (
+            found.0,
+            found.1,
+            unsettled first page found.3,
+            record {
+              page = settled.0;
+              region = here.1.region;
+              settled = settled.1;
+              in_region = here.1.in_region;
+              on = (on.leaf, on.mapped, on.made.names);
+              dirty = ap (λ (y : FrameNo × Bool). y.1) (same_Some x _ (sym found_it ∙ whole));
+            },
+          )

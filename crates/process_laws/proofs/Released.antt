@@ -1,29 +1,19 @@
 -- Pages that were released, and what they are when they return.
-use Rattle.std.proofs.Common.{◌≡◌, ℕ, ℤ, Bool, true, false, cond, ◌||◌, ◌+◌, ◌≤◌, ◌<◌, sym, ap, subst, ◌∙◌, arith, List, Option, None, Some}
-use Rattle.std.specs.Prelude.{nat_le, nat_lt, Ok, option_map}
-use Rattle.std.specs.Ordering.{nat_cmp}
-use Rattle.std.specs.FinMap.Entries.{find-where_key}
-use Rattle.std.proofs.lemmas.Map.Lookups.{exact_unsigned}
+use Rattle.std.proofs.Common.{◌≡◌, ℕ, ℤ, Bool, true, false, ◌+◌, ◌≤◌, ◌<◌, ap, subst, List, Option, None, Some}
+use Rattle.std.specs.Prelude.{Ok, option_map}
 use Rattle.process_model.specs.Bytes.{pages_for}
 use Rattle.process_model.specs.Files.{File}
-use Rattle.process_model.specs.Heap.{resized, resized_unless, sbrk_result, without_pages}
+use Rattle.process_model.specs.Heap.{resized, resized_unless, sbrk_result}
 use Rattle.process_model.specs.Mappings.{Unmapped, unmapped, unmapped_from, unmapped_if, unmapped_in, unmapped_unless}
-use Rattle.process_model.specs.PageMap.{PageMap, get, only}
+use Rattle.process_model.specs.PageMap.{get}
 use Rattle.process_model.specs.Process.{Page, Process}
 use Rattle.process_model.specs.Regions.{Region}
+use Rattle.process_model.specs.Released.{run_goes}
 use Rattle.process_model.specs.Residence.{initial_page, made_resident, made_resident_from}
 use Rattle.process_model.specs.declared.step.Refusal.{Refusal}
 use Rattle.process_laws.proofs.Standing.{put_is_there}
 use Rattle.sv39_entry.specs.Address.{page_of}
 use Rattle.sv39_entry.specs.declared.access.Access.{Access}
-
--- a key that does not pass is gone
-only_passes : {X : Type 0} (m : PageMap X) (p : ℕ → Bool) (k : ℕ) → p k ≡ false → get (only p m) k ≡ None
-only_passes m p k e = find-where_key nat_cmp p k (λ x same. ap p (sym (exact_unsigned k x same))) m.entries ∙ ap (λ b. cond b (get m k) None) e
-
--- the pages of a run are gone
-run_goes : (p : Process) (first end page : ℕ) → first ≤ page → page < end → get (without_pages p first end).settled page ≡ None
-run_goes p first end page low high = only_passes p.settled (λ n. nat_lt n first || nat_le end n) page (grind arith)
 
 shrunk_to : (p q : Process) (size page : ℕ) (o : Option Refusal) → resized_unless p size o ≡ Ok q → pages_for q.size ≤ page → page < pages_for p.size → get q.settled page ≡ None
 shrunk_to p q size page (Some r) e low high = absurd cc

@@ -8,6 +8,7 @@ pub mod Heap
 pub mod Mappings
 pub mod PageMoves
 pub mod Places
+pub mod Released
 pub mod Images
 pub mod Loading
 pub mod Frames

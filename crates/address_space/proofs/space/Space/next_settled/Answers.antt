@@ -1,4 +1,3 @@
-use Rattle.std.proofs.Common.{ap, rules}
 use Rattle.frame_store.specs.Laws.{fits_after}
 use Rattle.address_space.proofs.SettledPages.{next_is, some_page, unsettled}
 use Rattle.address_space.proofs.space.Space.next_settled.Goals as goal

@@ -1,0 +1,21 @@
+use Rattle.std.proofs.Common.{◌≡◌, ◌≤◌, ◌*◌, length}
+use Rattle.address_space.specs.Agreement.{body_of, IsSpace}
+use Rattle.frame_store.specs.Laws.{Keeps}
+use Rattle.mmap_regions.proofs.Wholes.{moves_before}
+use Rattle.process_model.specs.Process.{Process}
+use Rattle.sv39_entry.specs.Address.{trapframe_page}
+use Rattle.table_walk.specs.Tables.{Tables}
+use Rattle.mmap_regions.proofs.writing.promise_write_back.Given as goal
+
+-- the pages of the mappings before this one are counted
+abbrev pub invariant-runs : goal.invariant-runs
+invariant-runs g l = record {
+  few : l.pages ≤ l.i * trapframe_page;
+  root : l.space.root ≡ l.fn.space.root;
+  trapframe : l.space.trapframe ≡ l.fn.space.trapframe;
+  layout : l.space.layout ≡ l.fn.space.layout;
+  view : g.S.FrameSeat.view l.space.seat ≡ g.S.FrameSeat.view l.fn.space.seat;
+  same : l.store ≡ l.fn.store;
+  keeps : Keeps g.F.FrameAccess.rule l.fn.store l.fn.space.seat l.store l.space.seat;
+  counted : (t : Tables) (p : Process) → IsSpace (body_of g.S.FrameSeat.view l.fn.space) t p → l.pages ≡ length (moves_before p l.i);
+}

@@ -1,0 +1,68 @@
+-- Runs of pages of a mapping, and the one that munmap is asked for.
+use Rattle.std.specs.Prelude.{◌≡◌, ℕ, Bool, true, false, ◌+◌, ◌%◌, ◌<◌, ◌≤◌, ◌==◌, ◌&&◌, nat_lt, Option, None, Some, Result, Ok, Err, List}
+use Rattle.process_model.specs.Bytes.{pages_for}
+use Rattle.process_model.specs.Mappings.{leaves_hole, mapping_around}
+use Rattle.process_model.specs.Order.{IsMapping}
+use Rattle.process_model.specs.PageMoves.{PageMove, run_moves}
+use Rattle.process_model.specs.Process.{Process, regions}
+use Rattle.process_model.specs.Regions.{end_of, file, keeps_stores, Region, region_at, Source}
+use Rattle.process_model.specs.declared.step.Refusal.{Refusal}
+use Rattle.process_model.specs.declared.step.Refusal.TheVariants.{BadArgument, HoleInMapping}
+use Rattle.sv39_entry.specs.Address.{page_of, trapframe_page}
+use Rattle.address_space.specs.Layouts.{region_of}
+use Rattle.mmap_regions.specs.declared.run.Run.{Run}
+
+-- the pages of a mapping from one up to, and without, another
+pub record PageRun : Type 0 where
+  pub mapping : Region
+  pub first : ℕ
+  pub end : ℕ
+
+abbrev pub run_of : Run → PageRun
+run_of r = record { mapping = region_of r.mapping; first = r.first; end = r.end }
+
+abbrev pub all_of : Region → PageRun
+all_of m = record { mapping = m; first = m.first; end = end_of m }
+
+-- the run is of a mapping of the process, and no other region has a page of it
+pub record IsRunOf (p : Process) (r : PageRun) : Type 0 where
+  pub mapping : IsMapping r.mapping
+  pub from : r.mapping.first ≤ r.first
+  pub order : r.first ≤ r.end
+  pub to : r.end ≤ end_of r.mapping
+  pub low : end_of r.mapping ≤ trapframe_page
+  pub alone : (n : ℕ) → r.first ≤ n → n < r.end → region_at (regions p) n ≡ Some r.mapping
+
+-- what writing the run back writes
+abbrev pub moves_in : Process → PageRun → List PageMove
+moves_in p r = run_moves p r.mapping r.first r.end
+
+-- the file to which stores to the pages of a region go back, and the offset in it of its first byte
+abbrev pub place_in : Bool → Source → Option (ℕ × ℕ)
+place_in true (file n offset) = Some (n, offset)
+place_in _ _ = None
+
+abbrev pub stored_file : Region → Option (ℕ × ℕ)
+stored_file m = place_in (keeps_stores (Some m)) m.source
+
+-- the run that munmap is asked for, or why there is none
+
+abbrev pub run_unless : Region → ℕ → ℕ → Bool → Result PageRun Refusal
+run_unless m first end true = Err HoleInMapping
+run_unless m first end false = Ok (record { mapping = m; first = first; end = end })
+
+abbrev pub run_in : ℕ → ℕ → Option Region → Result PageRun Refusal
+run_in first end None = Err BadArgument
+run_in first end (Some m) = run_unless m first end (leaves_hole m first end)
+
+abbrev pub run_if : Process → ℕ → ℕ → Bool → Result PageRun Refusal
+run_if p first end false = Err BadArgument
+run_if p first end true = run_in first end (mapping_around p.mappings first end)
+
+abbrev pub run_asked : Process → ℕ → ℕ → Result PageRun Refusal
+run_asked p address length = run_if p (page_of address) (page_of address + pages_for length) (address % 4096 == 0 && nat_lt 0 length)
+
+-- a run of the code, or why there is none
+abbrev pub asked_of : Result Run Refusal → Result PageRun Refusal
+asked_of (Ok r) = Ok (run_of r)
+asked_of (Err e) = Err e

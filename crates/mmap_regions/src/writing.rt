@@ -1,0 +1,131 @@
+// What was stored to shared mappings goes back to their files.
+
+ghost use Rattle.std.specs.Prelude.{[], ◌≡◌, ◌<◌, ◌≤◌, ◌+◌, IfErr, IfOk, length, ℕ};
+ghost use Rattle.address_space.specs.Agreement.{body_of, IsSpace};
+ghost use Rattle.frame_store.specs.Laws.{Fits, Keeps};
+ghost use Rattle.mmap_regions.specs.Runs.{IsRunOf, moves_in, run_of};
+ghost use Rattle.process_model.specs.Mappings.{all_written_back};
+ghost use Rattle.process_model.specs.PageMoves.{all_moves};
+ghost use Rattle.process_model.specs.Process.{Process};
+ghost use Rattle.table_walk.specs.Tables.{Tables};
+
+use crate::run::Run;
+use address_space::Space;
+use file_cabinet::{Files, PromiseError};
+use frame_store::{FrameAccess, FrameSeat};
+use sv39_entry::PAGE_SIZE;
+
+/// How many pages of a run go back to its file: those with the stored mark, where stores go back to one. They are found by
+/// the leaves that are there.
+pub(crate) fn count_run<S: FrameSeat, F: FrameAccess<Seat = S>>(
+    space: &mut Space<S>,
+    store: &mut F,
+    run: &Run,
+) -> usize
+    requires fits { Fits F.rule store.old space.old.seat }
+    requires ready { (t : Tables) × (p : Process) × IsSpace (body_of S.view space.old) t p × IsRunOf p (run_of run.now) }
+    ensures count { (t : Tables) (p : Process) → IsSpace (body_of S.view space.old) t p → IsRunOf p (run_of run.now) → result ≡ length (moves_in p (run_of run.now)) }
+    ensures few { result ≤ run.now.end }
+    ensures root { space.new.root ≡ space.old.root }
+    ensures trapframe { space.new.trapframe ≡ space.old.trapframe }
+    ensures layout { space.new.layout ≡ space.old.layout }
+    ensures view { S.view space.new.seat ≡ S.view space.old.seat }
+    ensures same { store.new ≡ store.old }
+    ensures keeps { Keeps F.rule store.old space.old.seat store.new space.new.seat }
+{
+    if run.file().is_none() {
+        return 0;
+    }
+    let mut count = 0;
+    let mut from = run.first.number();
+    'pages: while let Some(found) = space.next_settled(store, from, run.end) {
+        if found.dirty {
+            count += 1;
+        }
+        from = found.page.number() + 1;
+    }
+    count
+}
+
+/// Writes the pages of a run back that have the stored mark, in ascending order, up to the file's length.
+pub(crate) fn write_run<S: FrameSeat, F: FrameAccess<Seat = S>, C: Files>(
+    space: &mut Space<S>,
+    store: &mut F,
+    files: &mut C,
+    run: &Run,
+)
+    requires fits { Fits F.rule store.old space.old.seat }
+    requires ready { (t : Tables) × (p : Process) × IsSpace (body_of S.view space.old) t p × IsRunOf p (run_of run.now) × (length (moves_in p (run_of run.now)) ≤ C.room files.old) }
+    ensures moves { (t : Tables) (p : Process) → IsSpace (body_of S.view space.old) t p → IsRunOf p (run_of run.now) → C.becomes files.old (moves_in p (run_of run.now)) files.new }
+    ensures rest { (t : Tables) (p : Process) → IsSpace (body_of S.view space.old) t p → IsRunOf p (run_of run.now) → C.room files.old ≤ length (moves_in p (run_of run.now)) + C.room files.new }
+    ensures root { space.new.root ≡ space.old.root }
+    ensures trapframe { space.new.trapframe ≡ space.old.trapframe }
+    ensures layout { space.new.layout ≡ space.old.layout }
+    ensures view { S.view space.new.seat ≡ S.view space.old.seat }
+    ensures same { store.new ≡ store.old }
+    ensures keeps { Keeps F.rule store.old space.old.seat store.new space.new.seat }
+{
+    let Some((file, offset)) = run.file() else {
+        return;
+    };
+    let mut bytes = [0; 4096];
+    let mut from = run.first.number();
+    'pages: while let Some(found) = space.next_settled(store, from, run.end) {
+        if found.dirty {
+            space.page_bytes(store, found.page, &mut bytes);
+            let at = (found.page.number() - run.mapping.first) * PAGE_SIZE;
+            files.write_page(file, offset + at as usize, &bytes);
+        }
+        from = found.page.number() + 1;
+    }
+}
+
+/// Asks files for the promise of all pages that `write_back` will write. Where it is refused, nothing has changed.
+pub fn promise_write_back<S: FrameSeat, F: FrameAccess<Seat = S>, C: Files>(
+    space: &mut Space<S>,
+    store: &mut F,
+    files: &mut C,
+) -> Result<(), PromiseError>
+    requires fits { Fits F.rule store.old space.old.seat }
+    requires ready { (t : Tables) × (p : Process) × IsSpace (body_of S.view space.old) t p }
+    ensures promised { IfOk result (λ _. (t : Tables) (p : Process) → IsSpace (body_of S.view space.old) t p → length (all_moves p) ≤ C.room files.new) }
+    ensures refused { IfErr result (λ e. (t : Tables) (p : Process) → IsSpace (body_of S.view space.old) t p → C.can_refuse files.old (length (all_moves p)) e) }
+    ensures files { C.becomes files.old [] files.new }
+    ensures root { space.new.root ≡ space.old.root }
+    ensures trapframe { space.new.trapframe ≡ space.old.trapframe }
+    ensures layout { space.new.layout ≡ space.old.layout }
+    ensures view { S.view space.new.seat ≡ S.view space.old.seat }
+    ensures same { store.new ≡ store.old }
+    ensures keeps { Keeps F.rule store.old space.old.seat store.new space.new.seat }
+{
+    let mut pages = 0;
+    'runs: for i in 0..space.layout.mappings().len() {
+        let run = Run::whole(space.layout.mappings()[i]);
+        pages += count_run(space, store, &run);
+    }
+    files.promise(pages)
+}
+
+/// Writes the pages of all mappings back that have the stored mark, in order of address: what an exit, an end by a rule and
+/// exec do before the pages go. The pages stay, with their marks.
+pub fn write_back<S: FrameSeat, F: FrameAccess<Seat = S>, C: Files>(
+    space: &mut Space<S>,
+    store: &mut F,
+    files: &mut C,
+)
+    requires fits { Fits F.rule store.old space.old.seat }
+    requires ready { (t : Tables) × (p : Process) × IsSpace (body_of S.view space.old) t p × (length (all_moves p) ≤ C.room files.old) }
+    ensures moves { (t : Tables) (p : Process) → IsSpace (body_of S.view space.old) t p → C.becomes files.old (all_moves p) files.new }
+    ensures written { (t : Tables) (p : Process) → IsSpace (body_of S.view space.old) t p → C.files files.new ≡ all_written_back (C.files files.old) p }
+    ensures root { space.new.root ≡ space.old.root }
+    ensures trapframe { space.new.trapframe ≡ space.old.trapframe }
+    ensures layout { space.new.layout ≡ space.old.layout }
+    ensures view { S.view space.new.seat ≡ S.view space.old.seat }
+    ensures same { store.new ≡ store.old }
+    ensures keeps { Keeps F.rule store.old space.old.seat store.new space.new.seat }
+{
+    'runs: for i in 0..space.layout.mappings().len() {
+        let run = Run::whole(space.layout.mappings()[i]);
+        write_run(space, store, files, &run);
+    }
+}
