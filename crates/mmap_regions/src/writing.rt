@@ -70,13 +70,13 @@ pub(crate) fn write_run<S: FrameSeat, F: FrameAccess<Seat = S>, C: Files>(
     };
     let mut bytes = [0; 4096];
     let mut from = run.first.number();
-    'pages: while let Some(found) = space.next_settled(store, from, run.end) {
-        if found.dirty {
-            space.page_bytes(store, found.page, &mut bytes);
-            let at = (found.page.number() - run.mapping.first) * PAGE_SIZE;
+    'pages: while let Some(settled) = space.next_settled(store, from, run.end) {
+        if settled.dirty {
+            space.page_bytes(store, settled.page, &mut bytes);
+            let at = (settled.page.number() - run.mapping.first) * PAGE_SIZE;
             files.write_page(file, offset + at as usize, &bytes);
         }
-        from = found.page.number() + 1;
+        from = settled.page.number() + 1;
     }
 }
 

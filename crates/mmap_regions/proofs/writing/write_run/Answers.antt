@@ -6,7 +6,7 @@ use Rattle.mmap_regions.proofs.Moves.{none_written, run_begins}
 use Rattle.process_model.specs.PageMoves.{page_write}
 use Rattle.mmap_regions.proofs.Walking.{goes_on_clean, goes_on_dirty, has_more, in_reach, one_more, over, past_first, same_body}
 use Rattle.mmap_regions.proofs.writing.write_run.Goals as goal
-use Rattle.mmap_regions.proofs.writing.write_run.Goals.{then-found, else-found}
+use Rattle.mmap_regions.proofs.writing.write_run.Goals.{then-settled, else-settled}
 
 pub returns-in_default-clause-moves : goal.returns-in_default-clause-moves
 returns-in_default-clause-moves g c t p space run =
@@ -65,7 +65,7 @@ overflow_sub-at g c =
     let body = same_body g.S.FrameSeat.view c.pages.space c.args.space.now i.view i.root i.trapframe i.layout in
     let next = rw c.in-Some-next_settled.is at n.page r.0 r.1 (rw body r.2) in
     let file = sym c.file.ensures ∙ c.in-Some.is in
-    rw c.number.ensures.value (past_first r.0 r.1 (run_of c.args.run.now) r.3 c.pages.from c.in-Some-next_settled.found next i.after c.in-Some.file c.in-Some.offset file)
+    rw c.number.ensures.value (past_first r.0 r.1 (run_of c.args.run.now) r.3 c.pages.from c.in-Some-next_settled.settled next i.after c.in-Some.file c.in-Some.offset file)
 
 pub overflow_add-offset : goal.overflow_add-offset
 overflow_add-offset g c =
@@ -75,7 +75,7 @@ overflow_add-offset g c =
     let body = same_body g.S.FrameSeat.view c.pages.space c.args.space.now i.view i.root i.trapframe i.layout in
     let next = rw c.in-Some-next_settled.is at n.page r.0 r.1 (rw body r.2) in
     let file = sym c.file.ensures ∙ c.in-Some.is in
-    let reach = in_reach r.0 r.1 (run_of c.args.run.now) r.3 c.pages.from c.in-Some-next_settled.found next i.after c.in-Some.file c.in-Some.offset file in
+    let reach = in_reach r.0 r.1 (run_of c.args.run.now) r.3 c.pages.from c.in-Some-next_settled.settled next i.after c.in-Some.file c.in-Some.offset file in
     let number = c.number.ensures.value in
     omega (arith, reach, number)
 
@@ -87,7 +87,7 @@ write_page-requires g c =
     let body = same_body g.S.FrameSeat.view c.pages.space c.args.space.now i.view i.root i.trapframe i.layout in
     let next = rw c.in-Some-next_settled.is at n.page r.0 r.1 (rw body r.2) in
     let file = sym c.file.ensures ∙ c.in-Some.is in
-    let more = has_more r.0 r.1 (run_of c.args.run.now) r.3 c.pages.from c.in-Some-next_settled.found next i.after c.in-Some.file c.in-Some.offset file c.if-found.true in
+    let more = has_more r.0 r.1 (run_of c.args.run.now) r.3 c.pages.from c.in-Some-next_settled.settled next i.after c.in-Some.file c.in-Some.offset file c.if-settled.true in
     let rest = i.rest r.0 r.1 r.2 r.3 in
     let promised = r.4 in
     record { promised = omega (arith, more, rest, promised) }
@@ -114,58 +114,58 @@ pages-preserved g c =
     record {
       after = omega (arith, after, near.0, number);
       within = omega (arith, near.1, number);
-      root = elim c.if-found.branch [
-        | then-found w ↦ ap (λ s. s.root) w.space-is ∙ w.page_bytes.ensures.root ∙ n.root ∙ i.root
-        | else-found w ↦ ap (λ s. s.root) w.space-is ∙ n.root ∙ i.root
+      root = elim c.if-settled.branch [
+        | then-settled w ↦ ap (λ s. s.root) w.space-is ∙ w.page_bytes.ensures.root ∙ n.root ∙ i.root
+        | else-settled w ↦ ap (λ s. s.root) w.space-is ∙ n.root ∙ i.root
       ];
-      trapframe = elim c.if-found.branch [
-        | then-found w ↦ ap (λ s. s.trapframe) w.space-is ∙ w.page_bytes.ensures.trapframe ∙ n.trapframe ∙ i.trapframe
-        | else-found w ↦ ap (λ s. s.trapframe) w.space-is ∙ n.trapframe ∙ i.trapframe
+      trapframe = elim c.if-settled.branch [
+        | then-settled w ↦ ap (λ s. s.trapframe) w.space-is ∙ w.page_bytes.ensures.trapframe ∙ n.trapframe ∙ i.trapframe
+        | else-settled w ↦ ap (λ s. s.trapframe) w.space-is ∙ n.trapframe ∙ i.trapframe
       ];
-      layout = elim c.if-found.branch [
-        | then-found w ↦ ap (λ s. s.layout) w.space-is ∙ w.page_bytes.ensures.layout ∙ n.layout ∙ i.layout
-        | else-found w ↦ ap (λ s. s.layout) w.space-is ∙ n.layout ∙ i.layout
+      layout = elim c.if-settled.branch [
+        | then-settled w ↦ ap (λ s. s.layout) w.space-is ∙ w.page_bytes.ensures.layout ∙ n.layout ∙ i.layout
+        | else-settled w ↦ ap (λ s. s.layout) w.space-is ∙ n.layout ∙ i.layout
       ];
-      view = elim c.if-found.branch [
-        | then-found w ↦ ap (λ s. g.S.FrameSeat.view s.seat) w.space-is ∙ w.page_bytes.ensures.view ∙ n.view ∙ i.view
-        | else-found w ↦ ap (λ s. g.S.FrameSeat.view s.seat) w.space-is ∙ n.view ∙ i.view
+      view = elim c.if-settled.branch [
+        | then-settled w ↦ ap (λ s. g.S.FrameSeat.view s.seat) w.space-is ∙ w.page_bytes.ensures.view ∙ n.view ∙ i.view
+        | else-settled w ↦ ap (λ s. g.S.FrameSeat.view s.seat) w.space-is ∙ n.view ∙ i.view
       ];
-      same = elim c.if-found.branch [
-        | then-found w ↦ w.store-is ∙ w.page_bytes.ensures.same ∙ n.same ∙ i.same
-        | else-found w ↦ w.store-is ∙ n.same ∙ i.same
+      same = elim c.if-settled.branch [
+        | then-settled w ↦ w.store-is ∙ w.page_bytes.ensures.same ∙ n.same ∙ i.same
+        | else-settled w ↦ w.store-is ∙ n.same ∙ i.same
       ];
-      keeps = λ others s. elim c.if-found.branch [
-        | then-found w ↦ rw (w.store-is, w.space-is) (w.page_bytes.ensures.keeps others (n.keeps others (i.keeps others s)))
-        | else-found w ↦ rw (w.store-is, w.space-is) (n.keeps others (i.keeps others s))
+      keeps = λ others s. elim c.if-settled.branch [
+        | then-settled w ↦ rw (w.store-is, w.space-is) (w.page_bytes.ensures.keeps others (n.keeps others (i.keeps others s)))
+        | else-settled w ↦ rw (w.store-is, w.space-is) (n.keeps others (i.keeps others s))
       ];
       moves = λ t p space run.
           let next = rw c.in-Some-next_settled.is at n.page t p (rw body space) in
           let file = sym c.file.ensures ∙ c.in-Some.is in
           let so_far = i.moves t p space run in
-          rw number (elim c.if-found.branch [
-            | then-found w ↦
+          rw number (elim c.if-settled.branch [
+            | then-settled w ↦
                 let again = same_body g.S.FrameSeat.view c.next_settled.new.self c.pages.space n.view n.root n.trapframe n.layout in
                 let read = w.page_bytes.ensures.bytes t p next.3.page (record { agrees = rw (again, body) space; settled = next.3.settled }) in
                 let number = w.number.ensures.value in
-                let at : c.in-Some.offset + (w.number.result - c.args.run.now.mapping.first) * 4096 ≡ c.in-Some.offset + 4096 * (c.in-Some-next_settled.found.page - c.args.run.now.mapping.first) = omega (arith, number) in
+                let at : c.in-Some.offset + (w.number.result - c.args.run.now.mapping.first) * 4096 ≡ c.in-Some.offset + 4096 * (c.in-Some-next_settled.settled.page - c.args.run.now.mapping.first) = omega (arith, number) in
                 let one = subst (λ o. g.C.Files.becomes c.pages.files (page_write c.in-Some.file o next.3.page.bytes ∷ []) w.write_page.new.self) at
                 (subst (λ bs. g.C.Files.becomes c.pages.files (page_write c.in-Some.file (c.in-Some.offset + (w.number.result - c.args.run.now.mapping.first) * 4096) bs ∷ []) w.write_page.new.self) read w.write_page.ensures.moves) in
-                rw (w.files-is, goes_on_dirty t p (run_of c.args.run.now) run c.pages.from c.in-Some-next_settled.found next i.after c.in-Some.file c.in-Some.offset file w.if-found.true)
+                rw (w.files-is, goes_on_dirty t p (run_of c.args.run.now) run c.pages.from c.in-Some-next_settled.settled next i.after c.in-Some.file c.in-Some.offset file w.if-settled.true)
                 (g.met.C.Files.goes_on c.args.files.now c.pages.files w.write_page.new.self _ _ so_far one)
-            | else-found w ↦
-                rw (w.files-is, goes_on_clean t p (run_of c.args.run.now) run c.pages.from c.in-Some-next_settled.found next i.after c.in-Some.file c.in-Some.offset file w.if-found.false) so_far
+            | else-settled w ↦
+                rw (w.files-is, goes_on_clean t p (run_of c.args.run.now) run c.pages.from c.in-Some-next_settled.settled next i.after c.in-Some.file c.in-Some.offset file w.if-settled.false) so_far
           ]);
       rest = λ t p space run.
           let next = rw c.in-Some-next_settled.is at n.page t p (rw body space) in
           let file = sym c.file.ensures ∙ c.in-Some.is in
           let so_far = i.rest t p space run in
-          rw number (elim c.if-found.branch [
-            | then-found w ↦
-                let one = one_more t p (run_of c.args.run.now) run c.pages.from c.in-Some-next_settled.found next i.after c.in-Some.file c.in-Some.offset file w.if-found.true in
+          rw number (elim c.if-settled.branch [
+            | then-settled w ↦
+                let one = one_more t p (run_of c.args.run.now) run c.pages.from c.in-Some-next_settled.settled next i.after c.in-Some.file c.in-Some.offset file w.if-settled.true in
                 let left = w.write_page.ensures.rest in
                 rw w.files-is (omega (arith, one, left, so_far))
-            | else-found w ↦
-                rw (w.files-is, goes_on_clean t p (run_of c.args.run.now) run c.pages.from c.in-Some-next_settled.found next i.after c.in-Some.file c.in-Some.offset file w.if-found.false) so_far
+            | else-settled w ↦
+                rw (w.files-is, goes_on_clean t p (run_of c.args.run.now) run c.pages.from c.in-Some-next_settled.settled next i.after c.in-Some.file c.in-Some.offset file w.if-settled.false) so_far
           ]);
     }
 
