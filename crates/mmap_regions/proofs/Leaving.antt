@@ -5,7 +5,7 @@ use Rattle.address_space.specs.Agreement.{Body, IsSpace}
 use Rattle.address_space.specs.Ending.{Drops}
 use Rattle.address_space.specs.Steps.{CanRelay, HasRelaid, left_with}
 use Rattle.mmap_regions.proofs.Around.{around_low}
-use Rattle.mmap_regions.specs.Runs.{IsRunOf, PageRun, run_asked, run_if, run_in, run_unless}
+use Rattle.mmap_regions.specs.Runs.{IsRunOf, MappedRun, run_asked, run_if, run_in, run_unless}
 use Rattle.process_model.specs.Bytes.{pages_for}
 use Rattle.process_model.specs.Files.{File}
 use Rattle.process_model.specs.Heap.{without_pages}
@@ -23,7 +23,7 @@ use Rattle.table_walk.specs.Tables.{Tables}
 
 -- what munmap is asked for
 
-pub record IsAsked (p : Process) (address len : ℕ) (r : PageRun) : Type 0 where
+pub record IsAsked (p : Process) (address len : ℕ) (r : MappedRun) : Type 0 where
   pub around : mapping_around p.mappings r.first r.end ≡ Some r.mapping
   pub whole : leaves_hole r.mapping r.first r.end ≡ false
   pub first : r.first ≡ page_of address
@@ -33,17 +33,17 @@ pub record IsAsked (p : Process) (address len : ℕ) (r : PageRun) : Type 0 wher
 -- the parts of the definition, and those of the run that is asked for
 
 module _ (p : Process) (first end : ℕ) where
-  record IsPart (r : PageRun) (o : List File → Result Unmapped Refusal) : Type 0 where
+  record IsPart (r : MappedRun) (o : List File → Result Unmapped Refusal) : Type 0 where
     pub around : mapping_around p.mappings first end ≡ Some r.mapping
     pub whole : leaves_hole r.mapping first end ≡ false
     pub first_is : r.first ≡ first
     pub end_is : r.end ≡ end
     pub is : (files : List File) → o files ≡ Ok (unmapped_from files p r.mapping first end)
 
-  same_run : (x r : PageRun) (o : List File → Result Unmapped Refusal) → x ≡ r → IsPart x o → IsPart r o
+  same_run : (x r : MappedRun) (o : List File → Result Unmapped Refusal) → x ≡ r → IsPart x o → IsPart r o
   same_run x r o same is = subst (λ y. IsPart y o) same is
 
-  unless_asked : (m : Region) (r : PageRun) (hole : Bool) → mapping_around p.mappings first end ≡ Some m → leaves_hole m first end ≡ hole → run_unless m first end hole ≡ Ok r
+  unless_asked : (m : Region) (r : MappedRun) (hole : Bool) → mapping_around p.mappings first end ≡ Some m → leaves_hole m first end ≡ hole → run_unless m first end hole ≡ Ok r
       → IsPart r (λ files. unmapped_unless files p m first end hole)
   unless_asked m r true around whole is = absurd (cc)
   unless_asked m r false around whole is =
@@ -51,11 +51,11 @@ module _ (p : Process) (first end : ℕ) where
       same_run (record { mapping = m; first = first; end = end }) r (λ files. unmapped_unless files p m first end false) same
       (record { around = around; whole = whole; first_is = refl; end_is = refl; is = λ files. refl })
 
-  in_asked : (o : Option Region) (r : PageRun) → mapping_around p.mappings first end ≡ o → run_in first end o ≡ Ok r → IsPart r (λ files. unmapped_in files p first end o)
+  in_asked : (o : Option Region) (r : MappedRun) → mapping_around p.mappings first end ≡ o → run_in first end o ≡ Ok r → IsPart r (λ files. unmapped_in files p first end o)
   in_asked None r around is = absurd (cc)
   in_asked (Some m) r around is = unless_asked m r (leaves_hole m first end) around refl is
 
-  if_asked : (b : Bool) (r : PageRun) → run_if p first end b ≡ Ok r → IsPart r (λ files. unmapped_if files p first end b)
+  if_asked : (b : Bool) (r : MappedRun) → run_if p first end b ≡ Ok r → IsPart r (λ files. unmapped_if files p first end b)
   if_asked false r is = absurd (cc)
   if_asked true r is = in_asked (mapping_around p.mappings first end) r refl is
 
@@ -78,7 +78,7 @@ module _ (p : Process) (address len : ℕ) where
   abbrev end : ℕ
   end = page_of address + pages_for len
 
-  pub asked : (r : PageRun) → run_asked p address len ≡ Ok r → IsAsked p address len r
+  pub asked : (r : MappedRun) → run_asked p address len ≡ Ok r → IsAsked p address len r
   unfolding unmapped
   asked r is =
       let part = if_asked p first end (address % 4096 == 0 && nat_lt 0 len) r is in
@@ -94,12 +94,12 @@ module _ (p : Process) (address len : ℕ) where
   unfolding unmapped
   refused e is files = if_refused p first end (address % 4096 == 0 && nat_lt 0 len) e is files
 
-pub drops_asked : (p : Process) (address len : ℕ) (r : PageRun) → IsAsked p address len r → (t u : Tables) → Drops t u r.first r.end → Drops t u (page_of address) (page_of address + pages_for len)
+pub drops_asked : (p : Process) (address len : ℕ) (r : MappedRun) → IsAsked p address len r → (t u : Tables) → Drops t u r.first r.end → Drops t u (page_of address) (page_of address + pages_for len)
 drops_asked p address len r is t u drops = subst (λ n. Drops t u n (page_of address + pages_for len)) is.first (subst (λ n. Drops t u r.first n) is.end drops)
 
 -- the run, and what is left
 
-module _ (p : Process) (address len : ℕ) (r : PageRun) (is : IsAsked p address len r) (order : HasOrder 0 p) where
+module _ (p : Process) (address len : ℕ) (r : MappedRun) (is : IsAsked p address len r) (order : HasOrder 0 p) where
   ascends : r.first ≤ r.end
   ascends = let from = is.first in let to = is.end in omega (arith, from, to)
 

@@ -8,7 +8,7 @@ use Rattle.address_space.specs.Settled.{IsNextSettled, IsSettledPage}
 use Rattle.address_space.specs.declared.settled.SettledPage.{SettledPage}
 use Rattle.address_space.specs.declared.space.Space.{Space}
 use Rattle.frame_store.specs.View.{View}
-use Rattle.mmap_regions.specs.Runs.{IsRunOf, PageRun, stored_file}
+use Rattle.mmap_regions.specs.Runs.{IsRunOf, MappedRun, stored_file}
 use Rattle.mmap_regions.proofs.Moves.{of_file, page_written, run_goes_on, run_is_over, run_longer}
 use Rattle.process_model.specs.Mappings.{longest_mapping}
 use Rattle.process_model.specs.Order.{IsInReach}
@@ -30,7 +30,7 @@ some_of (Some x) is = (x, refl)
 pub same_body : {S : Type 0} (view : S → View) (x y : Space S) → view x.seat ≡ view y.seat → x.root ≡ y.root → x.trapframe ≡ y.trapframe → x.layout ≡ y.layout → body_of view x ≡ body_of view y
 same_body view x y seat root trapframe layout = λ i. record { view = seat i; root = (root i).0; trapframe = (trapframe i).0; layout = layout i }
 
-module _ (t : Tables) (p : Process) (run : PageRun) (is : IsRunOf p run) where
+module _ (t : Tables) (p : Process) (run : MappedRun) (is : IsRunOf p run) where
   abbrev so_far : ℕ → List PageMove
   so_far from = run_moves p run.mapping run.first from
 

@@ -13,19 +13,19 @@ use Rattle.address_space.specs.Layouts.{region_of}
 use Rattle.mmap_regions.specs.declared.run.Run.{Run}
 
 -- the pages of a mapping from one up to, and without, another
-pub record PageRun : Type 0 where
+pub record MappedRun : Type 0 where
   pub mapping : Region
   pub first : ℕ
   pub end : ℕ
 
-abbrev pub run_of : Run → PageRun
+abbrev pub run_of : Run → MappedRun
 run_of r = record { mapping = region_of r.mapping; first = r.first; end = r.end }
 
-abbrev pub all_of : Region → PageRun
+abbrev pub all_of : Region → MappedRun
 all_of m = record { mapping = m; first = m.first; end = end_of m }
 
 -- the run is of a mapping of the process, and no other region has a page of it
-pub record IsRunOf (p : Process) (r : PageRun) : Type 0 where
+pub record IsRunOf (p : Process) (r : MappedRun) : Type 0 where
   pub mapping : IsMapping r.mapping
   pub from : r.mapping.first ≤ r.first
   pub order : r.first ≤ r.end
@@ -34,7 +34,7 @@ pub record IsRunOf (p : Process) (r : PageRun) : Type 0 where
   pub alone : (n : ℕ) → r.first ≤ n → n < r.end → region_at (regions p) n ≡ Some r.mapping
 
 -- what writing the run back writes
-abbrev pub moves_in : Process → PageRun → List PageMove
+abbrev pub moves_in : Process → MappedRun → List PageMove
 moves_in p r = run_moves p r.mapping r.first r.end
 
 -- the file to which stores to the pages of a region go back, and the offset in it of its first byte
@@ -47,22 +47,22 @@ stored_file m = place_in (keeps_stores (Some m)) m.source
 
 -- the run that munmap is asked for, or why there is none
 
-abbrev pub run_unless : Region → ℕ → ℕ → Bool → Result PageRun Refusal
+abbrev pub run_unless : Region → ℕ → ℕ → Bool → Result MappedRun Refusal
 run_unless m first end true = Err HoleInMapping
 run_unless m first end false = Ok (record { mapping = m; first = first; end = end })
 
-abbrev pub run_in : ℕ → ℕ → Option Region → Result PageRun Refusal
+abbrev pub run_in : ℕ → ℕ → Option Region → Result MappedRun Refusal
 run_in first end None = Err BadArgument
 run_in first end (Some m) = run_unless m first end (leaves_hole m first end)
 
-abbrev pub run_if : Process → ℕ → ℕ → Bool → Result PageRun Refusal
+abbrev pub run_if : Process → ℕ → ℕ → Bool → Result MappedRun Refusal
 run_if p first end false = Err BadArgument
 run_if p first end true = run_in first end (mapping_around p.mappings first end)
 
-abbrev pub run_asked : Process → ℕ → ℕ → Result PageRun Refusal
+abbrev pub run_asked : Process → ℕ → ℕ → Result MappedRun Refusal
 run_asked p address length = run_if p (page_of address) (page_of address + pages_for length) (address % 4096 == 0 && nat_lt 0 length)
 
 -- a run of the code, or why there is none
-abbrev pub asked_of : Result Run Refusal → Result PageRun Refusal
+abbrev pub asked_of : Result Run Refusal → Result MappedRun Refusal
 asked_of (Ok r) = Ok (run_of r)
 asked_of (Err e) = Err e

@@ -4,7 +4,7 @@ use Rattle.address_space.specs.Agreement.{Body, IsSpace}
 use Rattle.address_space.specs.Ending.{Drops}
 use Rattle.file_cabinet.specs.Promises.{refusal_of}
 use Rattle.file_cabinet.specs.declared.promise.PromiseError.{PromiseError}
-use Rattle.mmap_regions.specs.Runs.{moves_in, PageRun, run_asked}
+use Rattle.mmap_regions.specs.Runs.{moves_in, MappedRun, run_asked}
 use Rattle.process_model.specs.Bytes.{pages_for}
 use Rattle.process_model.specs.Files.{File}
 use Rattle.process_model.specs.Mappings.{Unmapped, unmapped}
@@ -15,7 +15,7 @@ use Rattle.sv39_entry.specs.Address.{page_of}
 use Rattle.table_walk.specs.Tables.{Tables}
 
 -- what is written to files, where munmap is not refused
-abbrev pub moves_asked : Process → Result PageRun Refusal → List PageMove
+abbrev pub moves_asked : Process → Result MappedRun Refusal → List PageMove
 moves_asked p (Ok r) = moves_in p r
 moves_asked p (Err e) = []
 

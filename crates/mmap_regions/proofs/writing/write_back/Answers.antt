@@ -2,7 +2,7 @@ use Rattle.std.proofs.Common.{ap, subst, refl, ◌∙◌, length, arith}
 use Rattle.std.proofs.lemmas.List.{length-append}
 use Rattle.address_space.specs.Agreement.{body_of, IsSpace}
 use Rattle.frame_store.specs.Laws.{fits_after}
-use Rattle.mmap_regions.specs.Runs.{IsRunOf, moves_in, PageRun, run_of}
+use Rattle.mmap_regions.specs.Runs.{IsRunOf, moves_in, MappedRun, run_of}
 use Rattle.mmap_regions.proofs.Places.{blank, mapping_at}
 use Rattle.mmap_regions.proofs.Walking.{same_body}
 use Rattle.mmap_regions.proofs.Wholes.{all_before, as_many, moves_before, one_further, one_of_all, still_within, whole_run}
@@ -68,7 +68,7 @@ runs-preserved g c =
           let at = mapping_at p c.mappings.result.now c.args.space.now.layout c.runs.i blank is space.lays within in
           let run : IsRunOf p (run_of c.whole-run.result) = rw c.whole-run.ensures (whole_run p space.sound.order c.runs.i _ at) in
           let here : IsSpace (body_of g.S.FrameSeat.view c.runs.space) t p = rw body space in
-          let more = subst (λ (x : PageRun). g.C.Files.becomes c.runs.files (moves_in p x) c.write_run.new.files) c.whole-run.ensures (n.moves t p here run) in
+          let more = subst (λ (x : MappedRun). g.C.Files.becomes c.runs.files (moves_in p x) c.write_run.new.files) c.whole-run.ensures (n.moves t p here run) in
           rw (one_further p c.runs.i _ at) (g.met.C.Files.goes_on c.args.files.now c.runs.files c.write_run.new.files _ _ (i.moves t p space) more);
       rest = λ t p space.
           let at = mapping_at p c.mappings.result.now c.args.space.now.layout c.runs.i blank is space.lays within in

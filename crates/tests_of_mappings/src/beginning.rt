@@ -1,0 +1,26 @@
+// A process that begins with one page.
+
+ghost use Rattle.std.specs.Prelude.{◌<◌};
+ghost use Rattle.address_space.specs.Parts.{AreParts};
+ghost use Rattle.sv39_entry.specs.Address.{trapframe_page};
+
+use address_space::{Part, Region, RegionKind, Source};
+use bitflags::Flags;
+use sv39_entry::Rights;
+
+/// A page of data. The heap is empty behind it.
+pub(crate) fn one_page<'a>(page: u64) -> [Part<'a>; 1]
+    requires low { page < trapframe_page }
+    ensures parts { AreParts result }
+{
+    let mut rights = Rights::READ;
+    rights.insert(Rights::WRITE);
+    let region = Region {
+        first: page,
+        pages: 1,
+        rights,
+        kind: RegionKind::Segment,
+        source: Source::Image,
+    };
+    [Part { region, bytes: &[] }]
+}

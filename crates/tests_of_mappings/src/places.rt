@@ -1,0 +1,171 @@
+// Where mappings go, and what of them can be taken away. The trapframe is at 0x3fffffe000.
+
+use crate::deed::Deed::{Map, Serve, Unmap};
+use crate::deed::Row;
+use crate::stores::{Story, first_fault};
+use process_model::{Refusal, Reply};
+use std::alloc::{AllocError, Global};
+use std::test::Fail;
+use sv39_entry::Access;
+
+/// Sixteen mappings of a page, from below the trapframe down, and then what the process may not have beside them.
+fn sixteen(alloc: Global) -> Result<Vec<Row>, AllocError> {
+    let mut rows = Vec::new(alloc);
+    for below in 0..16 {
+        let address = 0x3fffffd000 - 0x1000 * below;
+        rows.push((Map(4_096, 1, 2, 0), Reply::MappedAt(address)))?;
+    }
+    rows.push((Map(4_096, 1, 2, 0), Reply::Refused(Refusal::MappingsFull)))?;
+    // what is wrong with the request itself is told first
+    rows.push((Map(0, 1, 2, 0), Reply::Refused(Refusal::BadArgument)))?;
+    rows.push((
+        Map(4_096, 3, 1, 1),
+        Reply::Refused(Refusal::FileNotWritable),
+    ))?;
+    // the sixteenth was at 0x3fffffd000 - 15 * 0x1000; the place that is given back is the only one left
+    rows.push((Unmap(0x3ffffee000, 4_096), Reply::Done))?;
+    rows.push((Map(4_096, 1, 2, 0), Reply::MappedAt(0x3ffffee000)))?;
+    Ok(rows)
+}
+
+#[test]
+fn takes_sixteen_mappings(rt: HostRuntime) -> Result<(), Fail> {
+    let rows = sixteen(rt.alloc())?;
+    // page 0x3ffffed ends where the sixteenth mapping begins: that there are sixteen is told before that there is no room
+    for page in [0, 0x3ffffed] {
+        let story = Story {
+            frames: 8,
+            page,
+            promises: None,
+            rows: &rows,
+            changes: &[],
+        };
+        assert_eq!(rt; first_fault(&rt, rt.alloc(), &story)?, None);
+    }
+    Ok(())
+}
+
+#[test]
+fn refuses_in_order(rt: HostRuntime) -> Result<(), Fail> {
+    let bad = || Reply::Refused(Refusal::BadArgument);
+    let rows = [
+        (Map(0, 1, 2, 0), bad()),
+        (Map(1_048_577, 1, 2, 0), bad()),
+        (Map(4_096, 0, 2, 0), bad()),
+        (Map(4_096, 8, 2, 0), bad()),
+        (Map(4_096, 1, 0, 0), bad()),
+        (Map(4_096, 1, 3, 0), bad()),
+        (Map(4_096, 1, 2, 3), bad()),
+        (Map(4_096, 3, 1, 3), bad()),
+        // file 1 may not be written
+        (Map(0, 3, 1, 1), bad()),
+        (
+            Map(4_096, 3, 1, 1),
+            Reply::Refused(Refusal::FileNotWritable),
+        ),
+        (
+            Map(4_096, 2, 1, 1),
+            Reply::Refused(Refusal::FileNotWritable),
+        ),
+        (Map(4_096, 3, 2, 1), Reply::MappedAt(0x3fffffd000)),
+        (Map(4_096, 5, 1, 1), Reply::MappedAt(0x3fffffc000)),
+        // 256 pages
+        (Map(1_048_576, 7, 2, 0), Reply::MappedAt(0x3fffefc000)),
+    ];
+    let story = Story {
+        frames: 8,
+        page: 0,
+        promises: None,
+        rows: &rows,
+        changes: &[],
+    };
+    assert_eq!(rt; first_fault(&rt, rt.alloc(), &story)?, None);
+    Ok(())
+}
+
+#[test]
+fn gives_room_back(rt: HostRuntime) -> Result<(), Fail> {
+    let bad = || Reply::Refused(Refusal::BadArgument);
+    let rows = [
+        (Map(12_288, 1, 2, 0), Reply::MappedAt(0x3fffffb000)),
+        (
+            Unmap(0x3fffffc000, 4_096),
+            Reply::Refused(Refusal::HoleInMapping),
+        ),
+        (Unmap(0x3fffffb001, 4_096), bad()),
+        (Unmap(0x3fffffb000, 0), bad()),
+        // a fourth page at its end or at its beginning
+        (Unmap(0x3fffffb000, 12_289), bad()),
+        (Unmap(0x3fffffa000, 16_384), bad()),
+        (Unmap(0x3fffffe000, 4_096), bad()),
+        (Unmap(0, 4_096), bad()),
+        (Unmap(0xfffffffffffff000, u64::MAX), bad()),
+        // a single byte takes a page
+        (Unmap(0x3fffffb000, 1), Reply::Done),
+        (Unmap(0x3fffffb000, 1), bad()),
+        (Unmap(0x3fffffc000, 8_192), Reply::Done),
+        (Map(12_288, 1, 2, 0), Reply::MappedAt(0x3fffffb000)),
+        // the last page alone
+        (Unmap(0x3fffffd000, 4_096), Reply::Done),
+        (Map(8_192, 1, 2, 0), Reply::MappedAt(0x3fffff9000)),
+        // two pages of two mappings
+        (Unmap(0x3fffffa000, 8_192), bad()),
+        (Map(4_096, 1, 2, 0), Reply::MappedAt(0x3fffffd000)),
+    ];
+    let story = Story {
+        frames: 8,
+        page: 0,
+        promises: None,
+        rows: &rows,
+        changes: &[],
+    };
+    assert_eq!(rt; first_fault(&rt, rt.alloc(), &story)?, None);
+    Ok(())
+}
+
+#[test]
+fn stays_above_the_heap(rt: HostRuntime) -> Result<(), Fail> {
+    let full = || Reply::Refused(Refusal::NoRoom);
+    let rows = [
+        (Map(12_289, 1, 2, 0), full()),
+        (Map(12_288, 1, 2, 0), Reply::MappedAt(0x3fffffb000)),
+        (Map(1, 1, 2, 0), full()),
+        (Unmap(0x3fffffb000, 4_096), Reply::Done),
+        (Map(8_192, 1, 2, 0), full()),
+        (Map(1, 1, 2, 0), Reply::MappedAt(0x3fffffb000)),
+    ];
+    // the heap ends at 0x3fffffb000, three pages below the trapframe
+    let story = Story {
+        frames: 8,
+        page: 0x3fffffa,
+        promises: None,
+        rows: &rows,
+        changes: &[],
+    };
+    assert_eq!(rt; first_fault(&rt, rt.alloc(), &story)?, None);
+    Ok(())
+}
+
+#[test]
+fn gives_frames_back(rt: HostRuntime) -> Result<(), Fail> {
+    let rows = [
+        (Map(8_192, 1, 2, 0), Reply::MappedAt(0x3fffffc000)),
+        (Serve(Access::Load, 0x3fffffc000), Reply::Ready),
+        (
+            Serve(Access::Load, 0x3fffffd000),
+            Reply::Refused(Refusal::NoFrame),
+        ),
+        (Unmap(0x3fffffc000, 4_096), Reply::Done),
+        (Serve(Access::Load, 0x3fffffd000), Reply::Ready),
+    ];
+    // frame 0, the trapframe's, the page's and five tables, which pages below the trapframe share; and one more
+    let story = Story {
+        frames: 9,
+        page: 0,
+        promises: None,
+        rows: &rows,
+        changes: &[],
+    };
+    assert_eq!(rt; first_fault(&rt, rt.alloc(), &story)?, None);
+    Ok(())
+}

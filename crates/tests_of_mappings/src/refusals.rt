@@ -1,0 +1,113 @@
+// Files that refuse a promise: what was asked for is refused, and nothing has changed. The byte of file 2 at a place is
+// place / 256 + 128.
+
+use crate::deed::Deed::{Load, Look, Map, Serve, Store, Unmap, WriteBack};
+use crate::deed::Row;
+use crate::stores::{Story, first_fault};
+use process_model::{Refusal, Reply};
+use std::alloc::Global;
+use std::test::Fail;
+use sv39_entry::Access;
+
+/// Two pages of file 2 are mapped and stored to, and then so much more is done. The files have made two promises before
+/// that.
+fn after_stores(alloc: Global, more: Vec<Row>) -> Result<Vec<Row>, Fail> {
+    let mut rows = vec![in alloc;
+        (Map(8_192, 3, 1, 2), Reply::MappedAt(0x3fffffc000)),
+        (Serve(Access::Store, 0x3fffffc000), Reply::Ready),
+        (Serve(Access::Store, 0x3fffffd000), Reply::Ready),
+        (Store(0x3fffffc000, 1, 0xc1), Reply::Stored),
+        (Store(0x3fffffd000, 1, 0xd1), Reply::Stored),
+    ]?;
+    for row in more {
+        rows.push(row)?;
+    }
+    Ok(rows)
+}
+
+#[test]
+fn unmaps_all_or_nothing(rt: HostRuntime) -> Result<(), Fail> {
+    let memory = || Reply::Refused(Refusal::Memory);
+    // all of the mapping, and then the second of two runs
+    let first_refused = after_stores(
+        rt.alloc(),
+        vec![in rt.alloc();
+            (Unmap(0x3fffffc000, 8_192), memory()),
+            (Look(2, 0), Reply::Value(0x8080808080808080)),
+            (Look(2, 4_096), Reply::Value(0x9090909090909090)),
+            (Load(0x3fffffc000, 1), Reply::Value(0xc1)),
+            (Load(0x3fffffd000, 1), Reply::Value(0xd1)),
+            (Unmap(0x3fffffc000, 8_192), Reply::Done),
+            (Load(0x3fffffc000, 1), Reply::Fault(13)),
+            (Load(0x3fffffd000, 1), Reply::Fault(13)),
+        ]?,
+    )?;
+    let second_refused = after_stores(
+        rt.alloc(),
+        vec![in rt.alloc();
+            (Unmap(0x3fffffc000, 4_096), Reply::Done),
+            (Unmap(0x3fffffd000, 4_096), memory()),
+            (Look(2, 4_096), Reply::Value(0x9090909090909090)),
+            (Load(0x3fffffd000, 1), Reply::Value(0xd1)),
+            (Unmap(0x3fffffd000, 4_096), Reply::Done),
+            (Look(2, 4_096), Reply::Value(0x90909090909090d1)),
+            (Load(0x3fffffd000, 1), Reply::Fault(13)),
+        ]?,
+    )?;
+    for (promises, rows) in [(2, &first_refused), (3, &second_refused)] {
+        let story = Story {
+            frames: 12,
+            page: 0,
+            promises: Some(promises),
+            rows,
+            changes: &[(2, 0, 0xc1), (2, 4_096, 0xd1)],
+        };
+        assert_eq!(rt; first_fault(&rt, rt.alloc(), &story)?, None);
+    }
+    Ok(())
+}
+
+#[test]
+fn writes_all_or_nothing(rt: HostRuntime) -> Result<(), Fail> {
+    let rows = after_stores(
+        rt.alloc(),
+        vec![in rt.alloc();
+            (WriteBack, Reply::Refused(Refusal::Memory)),
+            (Look(2, 0), Reply::Value(0x8080808080808080)),
+            (Load(0x3fffffd000, 1), Reply::Value(0xd1)),
+            (Store(0x3fffffc001, 1, 0xc2), Reply::Stored),
+            (WriteBack, Reply::Done),
+        ]?,
+    )?;
+    let story = Story {
+        frames: 12,
+        page: 0,
+        promises: Some(2),
+        rows: &rows,
+        changes: &[(2, 0, 0xc1), (2, 1, 0xc2), (2, 4_096, 0xd1)],
+    };
+    assert_eq!(rt; first_fault(&rt, rt.alloc(), &story)?, None);
+    Ok(())
+}
+
+#[test]
+fn gives_no_frame_without_a_promise(rt: HostRuntime) -> Result<(), Fail> {
+    let rows = [
+        (Map(4_096, 3, 1, 2), Reply::MappedAt(0x3fffffd000)),
+        (
+            Serve(Access::Store, 0x3fffffd000),
+            Reply::Refused(Refusal::Memory),
+        ),
+        (Load(0x3fffffd000, 8), Reply::Fault(13)),
+        (Serve(Access::Store, 0x3fffffd000), Reply::Ready),
+    ];
+    let story = Story {
+        frames: 9,
+        page: 0,
+        promises: Some(0),
+        rows: &rows,
+        changes: &[],
+    };
+    assert_eq!(rt; first_fault(&rt, rt.alloc(), &story)?, None);
+    Ok(())
+}
