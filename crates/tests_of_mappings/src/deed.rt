@@ -13,6 +13,8 @@ pub(crate) enum Deed {
     /// The page of an address gets a frame with the bytes of its file, as after a fault of this access: where it is a store,
     /// the page has the stored mark then.
     Serve(Access, u64),
+    /// The four bytes at an address are fetched.
+    Fetch(u64),
     /// So many bytes at an address are loaded.
     Load(u64, u64),
     /// So many bytes of a value are stored at an address, the lowest first.

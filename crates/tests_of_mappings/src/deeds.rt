@@ -63,6 +63,7 @@ fn perform<S: FrameSeat, F: FrameSupply<Seat = S>, C: Files>(
             Reply::Ready,
             serve(space, store, files, Va(address).page(), access),
         ),
+        Deed::Fetch(address) => access(space, store, asked(Access::Fetch, address, 4, 0)),
         Deed::Load(address, width) => {
             access(space, store, asked(Access::Load, address, width, 0))
         }

@@ -15,6 +15,8 @@ mod places;
 #[cfg(test)]
 mod refusals;
 #[cfg(test)]
+mod rights;
+#[cfg(test)]
 mod serving;
 #[cfg(test)]
 mod stores;

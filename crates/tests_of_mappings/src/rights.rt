@@ -1,0 +1,62 @@
+// What the protection of a mapping grants.
+
+use crate::deed::Deed::{Fetch, Load, Map, Serve, Store};
+use crate::deed::Row;
+use crate::stores::{Story, first_fault};
+use process_model::Reply;
+use std::alloc::{AllocError, Global};
+use std::test::Fail;
+use sv39_entry::Access;
+
+/// A protection, where its mapping is, and whether it grants loads, stores and fetches: 1 is for the first, 2 for the first and
+/// the second, and 4 for the third.
+const PROTECTIONS: [(u64, u64, bool, bool, bool); 7] = [
+    (1, 0x3fffffd000, true, false, false),
+    (2, 0x3fffffc000, true, true, false),
+    (3, 0x3fffffb000, true, true, false),
+    (4, 0x3fffffa000, false, false, true),
+    (5, 0x3fffff9000, true, false, true),
+    (6, 0x3fffff8000, true, true, true),
+    (7, 0x3fffff7000, true, true, true),
+];
+
+/// Each protection is asked for, and then each access is made. The causes of page faults are 12 for a fetch, 13 for a load
+/// and 15 for a store (RISC-V Privileged Architecture 20211203, 4.1.8).
+fn accesses(alloc: Global) -> Result<Vec<Row>, AllocError> {
+    let mut rows = Vec::new(alloc);
+    for (protection, address, loads, stores, fetches) in PROTECTIONS {
+        let first = if loads { Access::Load } else { Access::Fetch };
+        let value = |granted, cause| {
+            if granted {
+                Reply::Value(0)
+            } else {
+                Reply::Fault(cause)
+            }
+        };
+        let stored = if stores {
+            Reply::Stored
+        } else {
+            Reply::Fault(15)
+        };
+        rows.push((Map(4_096, protection, 2, 0), Reply::MappedAt(address)))?;
+        rows.push((Serve(first, address), Reply::Ready))?;
+        rows.push((Fetch(address), value(fetches, 12)))?;
+        rows.push((Load(address, 8), value(loads, 13)))?;
+        rows.push((Store(address, 8, 1), stored))?;
+    }
+    Ok(rows)
+}
+
+#[test]
+fn grants_what_was_asked(rt: HostRuntime) -> Result<(), Fail> {
+    let rows = accesses(rt.alloc())?;
+    let story = Story {
+        frames: 16,
+        page: 0,
+        promises: None,
+        rows: &rows,
+        changes: &[],
+    };
+    assert_eq!(rt; first_fault(&rt, rt.alloc(), &story)?, None);
+    Ok(())
+}
