@@ -1,10 +1,10 @@
 -- The process that the parts make is sound.
 use Rattle.std.proofs.Common.{◌≡◌, ℕ, suc, ◌+◌, ◌*◌, ◌/◌, ◌≤◌, inl, inr, ap, sym, ◌∙◌, subst, arith, List, [], ◌∷◌, Some}
-use Rattle.std.specs.Prelude.{All, true, is_some}
+use Rattle.std.specs.Prelude.{All, true, false, is_some}
 use Rattle.std.proofs.lemmas.Bool.{cases_eq}
 use Rattle.process_model.specs.Inserted.{inserted_here, inserted_other}
 use Rattle.process_model.specs.Loading.{numbered}
-use Rattle.process_model.specs.Order.{EachRegion, HasLeaves, IsSound, Row}
+use Rattle.process_model.specs.Order.{EachRegion, HasLeaves, HasNoFile, is_file, IsSound, Row}
 use Rattle.process_model.specs.PageMap as pages
 use Rattle.process_model.specs.PageMap.{from_list, numbers}
 use Rattle.process_model.specs.Process.{Page}
@@ -30,6 +30,10 @@ each_leafy : (ps : List Part) → All (λ p. makes_leaf (region_in p) ≡ true) 
 each_leafy [] all = tt
 each_leafy (p ∷ ps) all = (all 0 p (omega arith), each_leafy ps (tail (λ x. makes_leaf (region_in x) ≡ true) p ps all))
 
+each_without_file : (ps : List Part) → All (λ p. is_file (region_in p).source ≡ false) ps → EachRegion HasNoFile (regions_in ps)
+each_without_file [] all = tt
+each_without_file (p ∷ ps) all = (all 0 p (omega arith), each_without_file ps (tail (λ x. is_file (region_in x).source ≡ false) p ps all))
+
 tabled_from : (es : Pages) (fresh n : ℕ) (s : Page) → pages.get (from_list (numbered fresh es)) n ≡ Some s → pages.contains (numbers (page_numbers es)) n ≡ true
 tabled_from [] fresh n s at = absurd (cc)
 tabled_from (e ∷ es) fresh n s at = elim (cases_eq n e.0) [
@@ -50,6 +54,7 @@ sound_whole ps are fresh =
         room = omega arith;
         above = omega (arith, low);
         leaves = each_leafy ps are.leafy;
+        sources = each_without_file ps are.sources;
         mapped = tt;
       };
       tabled = λ n s at. tabled_from (pages_of ps) fresh n s at;

@@ -1,22 +1,25 @@
 -- The first leaf of a run is the first settled page's.
-use Rattle.std.proofs.Common.{◌≡◌, ℕ, Bool, ◌<◌, ◌≤◌, Option, None, Some, refl, ap, sym, ◌∙◌, inl, inr, arith}
-use Rattle.std.specs.Prelude.{option_and_then, option_map, IsSome}
+use Rattle.std.proofs.Common.{◌≡◌, ℕ, ◌+◌, ◌<◌, ◌≤◌, Option, None, Some, refl, ap, sym, ◌∙◌, inl, inr, arith}
+use Rattle.std.specs.Prelude.{IsSome}
 use Rattle.std.proofs.lemmas.Option.{same_Some}
 use Rattle.std.specs.FinMap.{get}
 use Rattle.frame_store.specs.View.{View}
 use Rattle.process_model.specs.PageMap as pages
 use Rattle.process_model.specs.Process.{Page, Process}
-use Rattle.sv39_entry.specs.Address.{trampoline_page, trapframe_page}
-use Rattle.sv39_entry.specs.Frame.{frame_at}
+use Rattle.sv39_entry.specs.Address.{has, trampoline_page, trapframe_page}
+use Rattle.sv39_entry.specs.Flags.{has_flag_is}
+use Rattle.sv39_entry.specs.Frame.{frame_at, ppn_of}
 use Rattle.sv39_entry.specs.Word.{has_flag, ppn}
 use Rattle.sv39_entry.specs.declared.frame.FrameNo.{FrameNo}
 use Rattle.table_walk.specs.Tables.{Tables, leaf_node}
 use Rattle.address_space.specs.Agreement.{body, IsSpace}
 use Rattle.address_space.specs.Ending.{AreUnmapped, IsFirstMapped}
 use Rattle.address_space.specs.Layouts.{Layout}
-use Rattle.address_space.specs.Settled.{AreUnsettled, IsNextSettled}
+use Rattle.address_space.specs.ProcessLeaves.{frame_is}
+use Rattle.address_space.specs.Settled.{AreUnsettled, IsNextSettled, IsSettled, IsSettledPage}
+use Rattle.address_space.specs.declared.settled.SettledPage.{SettledPage}
 use Rattle.address_space.proofs.Owned.{one_page}
-use Rattle.address_space.proofs.Writing.{HasPage, page_found, page_here, page_on}
+use Rattle.address_space.proofs.Writing.{HasPage, page_here}
 
 module _ (v : View) (root trapframe : ℕ) (l : Layout) (t : Tables) (p : Process) (space : IsSpace (body v root trapframe l) t p) where
   none_settled : (first end n : ℕ) (o : Option Page) → AreUnmapped t first end → first ≤ n → n < end → pages.get p.settled n ≡ o → o ≡ None
@@ -42,37 +45,57 @@ module _ (v : View) (root trapframe : ℕ) (l : Layout) (t : Tables) (p : Proces
     ]
   ]
 
+  -- a page without a leaf is not settled
+  pub no_leaf : (page : ℕ) → get t.leaves (leaf_node page) ≡ None → pages.get p.settled page ≡ None
+  no_leaf page none = unsettled page (page + 1) (λ n from to. ap (λ k. get t.leaves (leaf_node k)) (between n from to) ∙ none) page (omega arith) (omega arith)
+    where
+      between : (n : ℕ) → page ≤ n → n < page + 1 → n ≡ page
+      between n from to = omega (arith, from, to)
+
+  -- and one with a leaf is
+  module _ (page w : ℕ) (low : page < trapframe_page) (leaf : get t.leaves (leaf_node page) ≡ Some w) where
+    pub its_page : (s : Page) × (pages.get p.settled page ≡ Some s)
+    its_page = of_leaf page w low leaf
+
+    pub here : (f : ℕ) × HasPage v t p page its_page.0 f
+    here = page_here v root trapframe _ t p page its_page.0 space.stands its_page.1
+
+    leaf_is : here.1.leaf ≡ w
+    leaf_is = same_Some here.1.leaf w (sym here.1.mapped ∙ leaf)
+
+    frame_found : frame_at (ppn w) ≡ Some (record { 0 = here.0 })
+    frame_found = ap (λ x. frame_at (ppn x)) (sym leaf_is) ∙ ap frame_at here.1.made.names ∙ frame_is here.0 here.1.made.small
+
+    pub some_frame : (o : Option FrameNo) → o ≡ frame_at (ppn w) → o ≡ None → ⊥
+    some_frame o is none = let some = frame_found in cc
+
+    pub page_is : (o : Option FrameNo) (f : FrameNo) → o ≡ frame_at (ppn w) → o ≡ Some f
+        → IsSettledPage t p (record { page = page; frame = f; fork_mark = has_flag w 256; dirty = has_flag w 128 })
+    page_is o f is some =
+        let same : record { 0 = here.0 } ≡ f = same_Some (record { 0 = here.0 }) f (sym frame_found ∙ sym is ∙ some) in
+        record {
+          page = its_page.0;
+          region = here.1.region;
+          settled = its_page.1;
+          in_region = here.1.in_region;
+          on = (w, leaf, ap ppn (sym leaf_is) ∙ here.1.made.names ∙ ap (λ (x : FrameNo). ppn_of x.0) same);
+          fork_mark = has_flag_is w 8 ∙ ap (λ x. has x 8) (sym leaf_is) ∙ here.1.made.copy_on_write;
+          dirty = has_flag_is w 7 ∙ ap (λ x. has x 7) (sym leaf_is) ∙ here.1.made.dirty;
+        }
+
   module _ (first end page : ℕ) (found : IsFirstMapped t first end (Some page)) (up : end ≤ trapframe_page) where
-    pub low : page < trapframe_page
-    low = omega (arith, found.1, up)
+    pub low_page : page < trapframe_page
+    low_page = omega (arith, found.1, up)
 
-    pub settled : (s : Page) × (pages.get p.settled page ≡ Some s)
-    settled = go (get t.leaves (leaf_node page)) refl found.2
+    -- the first page with a leaf is the first that is settled
+    pub next_is : (o : Option SettledPage) → IsSettled t p page o → IsNextSettled t p first end o
+    next_is None none = absurd (go (get t.leaves (leaf_node page)) refl found.2)
       where
-        go : (o : Option ℕ) → get t.leaves (leaf_node page) ≡ o → IsSome o → (s : Page) × (pages.get p.settled page ≡ Some s)
-        go None leaf some = absurd (cc)
-        go (Some w) leaf some = of_leaf page w low leaf
-
-    here : (f : ℕ) × HasPage v t p page settled.0 f
-    here = page_here v root trapframe _ t p page settled.0 space.stands settled.1
-
-    module _ (o : Option (FrameNo × Bool)) (is : o ≡ option_and_then (λ w. option_map (λ f. (f, has_flag w 128)) (frame_at (ppn w))) (get t.leaves (leaf_node page))) where
-      pub some_page : o ≡ None → ⊥
-      some_page none = let some = page_found v t p page settled.0 here.0 here.1 o is in cc
-
-      pub next_is : (x : FrameNo × Bool) → o ≡ Some x → IsNextSettled t p first end (Some (record { page = page; frame = x.0; dirty = x.1 }))
-      next_is x found_it =
-          let on = page_on v t p page settled.0 here.0 here.1 o is x found_it in
-          let whole = page_found v t p page settled.0 here.0 here.1 o is in (
-            found.0,
-            found.1,
-            unsettled first page found.3,
-            record {
-              page = settled.0;
-              region = here.1.region;
-              settled = settled.1;
-              in_region = here.1.in_region;
-              on = (on.leaf, on.mapped, on.made.names);
-              dirty = ap (λ (y : FrameNo × Bool). y.1) (same_Some x _ (sym found_it ∙ whole));
-            },
-          )
+        go : (o : Option ℕ) → get t.leaves (leaf_node page) ≡ o → IsSome o → ⊥
+        go None leaf some = cc
+        go (Some w) leaf some = let there = (of_leaf page w low_page leaf).1 in cc
+    next_is (Some x) is =
+        let from : first ≤ x.page = rw is.0 found.0 in
+        let to : x.page < end = rw is.0 found.1 in
+        let before : AreUnsettled p first x.page = rw is.0 (unsettled first page found.3) in
+        (from, to, before, is.1)

@@ -1,17 +1,11 @@
 -- What an access of the user comes to, from what its walk came to.
-use Rattle.std.proofs.Common.{◌≡◌, ℕ, zero, suc, ◌/◌, ◌%◌, ◌<◌, ◌&&◌, ◌⊎◌, cond, not, Bool, List, T, true, false, None, Some, refl, ap, sym, subst, ◌∙◌, inl, inr, arith, IsTrue}
-use Rattle.std.proofs.lemmas.Bool.{cases_eq, eq-eqb, ne_eqb}
-use Rattle.std.specs.Cmp.{nat_cmp_total, unsigned_tied}
+use Rattle.std.proofs.Common.{◌≡◌, ℕ, zero, suc, ◌/◌, ◌%◌, ◌<◌, ◌&&◌, ◌⊎◌, cond, not, Bool, true, false, None, Some, refl, ap, sym, subst, ◌∙◌, inl, inr, arith, IsTrue}
+use Rattle.std.proofs.lemmas.Bool.{eq-eqb, ne_eqb}
 use Rattle.std.proofs.lemmas.Option.{same_Some}
-use lib.Dec.{T_prop}
-use mathlib.Core.HLevel.{Σ_prop_path}
-use Rattle.std.specs.FinMap.{nat_cmp-IsAntisymmetric}
-use Rattle.std.specs.FinMap.Entries.{find-put, is_sorted, same_entries}
-use Rattle.std.specs.Ordering.{eq_by_cmp, nat_cmp}
 use Rattle.frame_store.specs.View.{View}
 use Rattle.process_model.specs.Bytes.{is_width, low_bytes}
+use Rattle.process_model.specs.Inserted.{put_back}
 use Rattle.process_model.specs.PageMap as pages
-use Rattle.process_model.specs.PageMap.{PageMap}
 use Rattle.process_model.specs.Process.{Page, Process, regions, without_pending}
 use Rattle.process_model.specs.Regions.{Region, copy_rule, is_guard_kind, lacks_right, right_rule}
 use Rattle.process_model.specs.Residence.{access_answer, goes_through, loaded, region_on, stored, with_page}
@@ -35,25 +29,6 @@ use Rattle.table_walk.specs.Leaves.{lands, walk_answer}
 use Rattle.address_space.specs.Pending.{agrees_pending}
 use Rattle.address_space.specs.ProcessLeaves.{frame_is}
 use Rattle.address_space.proofs.Users.{rule_of_region, walked_by_user}
-
--- a page that is put where it is
-
-module _ {X : Type 0} where
-  same_pages : (m n : PageMap X) → m.entries ≡ n.entries → m ≡ n
-  same_pages m n e =
-      let pairs : ◌≡◌ {A = (es : List (ℕ × X)) × T (is_sorted nat_cmp es)} (m.entries, m.sorted) (n.entries, n.sorted) = Σ_prop_path (λ es. T_prop _) e in
-      λ i. record { entries = (pairs i).0; sorted = (pairs i).1 }
-
-  same_finds : (m n : PageMap X) → ((q : ℕ) → pages.get m q ≡ pages.get n q) → m ≡ n
-  same_finds m n is = same_pages m n (same_entries nat_cmp nat_cmp_total nat_cmp-IsAntisymmetric m.entries n.entries m.sorted n.sorted is)
-
-  pub put_back : (m : PageMap X) (k : ℕ) (x : X) → pages.get m k ≡ Some x → pages.insert m k x ≡ m
-  put_back m k x is = same_finds (pages.insert m k x) m (λ q. find-put nat_cmp nat_cmp_total q k x m.entries ∙ at q) where
-    at : (q : ℕ) → cond (eq_by_cmp nat_cmp q k) (Some x) (pages.get m q) ≡ pages.get m q
-    at q = elim (cases_eq q k) [
-      | inl same ↦ rw (unsigned_tied q k, eq-eqb q k same) (sym (ap (pages.get m) same ∙ is))
-      | inr apart ↦ rw (unsigned_tied q k, ne_eqb q k apart) refl
-    ]
 
 -- alignment
 

@@ -3,6 +3,7 @@ use Rattle.std.specs.Prelude.{◌≡◌, ◌≢◌, ℕ, ◌+◌, ◌-◌, ◌*�
 use Rattle.frame_store.specs.View.{View, hold_of, IsSole}
 use Rattle.process_model.specs.Frames.{tables_needed, tables_of}
 use Rattle.process_model.specs.Loading.{numbered, page_run}
+use Rattle.process_model.specs.Order.{is_file}
 use Rattle.process_model.specs.PageMap as pages
 use Rattle.process_model.specs.PageMap.{PageMap, NumberSet, empty, from_list, numbers}
 use Rattle.process_model.specs.Process.{Page, Process, regions}
@@ -44,6 +45,8 @@ pub record AreParts (ps : List Part) : Type 0 where
   pub ascending : IsAscending 0 ps
   pub low : All (λ p. p.region.first + p.region.pages ≤ trapframe_page) ps
   pub leafy : All (λ p. makes_leaf (region_in p) ≡ true) ps
+  -- none is of a file
+  pub sources : All (λ p. is_file (region_in p).source ≡ false) ps
 
 -- the process with these pages and an empty heap
 abbrev pub settled_process : List Part → PageMap Page → NumberSet → Process

@@ -11,14 +11,20 @@ use Rattle.address_space.specs.declared.settled.SettledPage.{SettledPage}
 abbrev pub AreUnsettled : Process → ℕ → ℕ → Type 0
 AreUnsettled p first end = (n : ℕ) → first ≤ n → n < end → get p.settled n ≡ None
 
--- a settled page, its frame, and whether its leaf has D set
+-- a settled page, its frame, its fork mark, and whether its leaf has D set
 pub record IsSettledPage (t : Tables) (p : Process) (x : SettledPage) : Type 0 where
   pub page : Page
   pub region : Region
   pub settled : get p.settled x.page ≡ Some page
   pub in_region : region_at (regions p) x.page ≡ Some region
   pub on : IsOn t x.page x.frame.0
+  pub fork_mark : x.fork_mark ≡ page.fork_mark
   pub dirty : x.dirty ≡ is_dirty_page region page
+
+-- a page, if it is settled
+abbrev pub IsSettled : Tables → Process → ℕ → Option SettledPage → Type 0
+IsSettled t p page None = get p.settled page ≡ None
+IsSettled t p page (Some x) = (x.page ≡ page) × IsSettledPage t p x
 
 -- the first settled page of a run
 abbrev pub IsNextSettled : Tables → Process → ℕ → ℕ → Option SettledPage → Type 0

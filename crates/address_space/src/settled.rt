@@ -1,28 +1,59 @@
 // Settled pages, one after another.
 
-ghost use Rattle.std.specs.Prelude.{◌≡◌, ◌≤◌, ℕ};
+ghost use Rattle.std.specs.Prelude.{◌≡◌, ◌<◌, ◌≤◌, ℕ};
 ghost use Rattle.address_space.specs.Agreement.{body_of, IsSpace};
-ghost use Rattle.address_space.specs.Settled.{IsNextSettled};
+ghost use Rattle.address_space.specs.Settled.{IsNextSettled, IsSettled};
 ghost use Rattle.frame_store.specs.Laws.{Fits, Keeps};
 ghost use Rattle.process_model.specs.Process.{Process};
 ghost use Rattle.sv39_entry.specs.Address.{trapframe_page};
 ghost use Rattle.table_walk.specs.Tables.{Tables};
 
 use crate::ending::first_mapped;
-use crate::pages::frame_of;
 use crate::space::Space;
 use frame_store::{FrameAccess, FrameSeat};
-use sv39_entry::{FrameNo, Vpn};
+use sv39_entry::{EntryFlags, FrameNo, Vpn};
+use table_walk::leaf_of;
 
-/// A settled page, its frame, and whether its leaf has D set (RISC-V Privileged Architecture 20211203, 4.3.1).
+/// A settled page, its frame, whether a fork shared it so that a store has to make it the process's own first, and whether its
+/// leaf has D set (RISC-V Privileged Architecture 20211203, 4.3.1).
 #[derive(Clone, Copy)]
 pub struct SettledPage {
     pub page: Vpn,
     pub frame: FrameNo,
+    pub fork_mark: bool,
     pub dirty: bool,
 }
 
 impl<S: FrameSeat> Space<S> {
+    /// A page of a process, if it is settled.
+    pub fn settled_page<F: FrameAccess<Seat = S>>(
+        &mut self,
+        store: &mut F,
+        page: Vpn,
+    ) -> Option<SettledPage>
+        requires fits { Fits F.rule store.old self.old.seat }
+        requires ready { (t : Tables) × (p : Process) × IsSpace (body_of S.view self.old) t p }
+        requires low { page < trapframe_page }
+        ensures page { (t : Tables) (p : Process) → IsSpace (body_of S.view self.old) t p → IsSettled t p page result }
+        ensures root { self.new.root ≡ self.old.root }
+        ensures trapframe { self.new.trapframe ≡ self.old.trapframe }
+        ensures layout { self.new.layout ≡ self.old.layout }
+        ensures view { S.view self.new.seat ≡ S.view self.old.seat }
+        ensures same { store.new ≡ store.old }
+        ensures keeps { Keeps F.rule store.old self.old.seat store.new self.new.seat }
+    {
+        let leaf = leaf_of(store, &mut self.seat, self.root, page)?;
+        let Some(frame) = FrameNo::from_ppn(leaf.ppn()) else {
+            unreachable!()
+        };
+        Some(SettledPage {
+            page,
+            frame,
+            fork_mark: leaf.has(EntryFlags::COPY_ON_WRITE),
+            dirty: leaf.has(EntryFlags::DIRTY),
+        })
+    }
+
     /// The first settled page of those from one number up to, and without, a page. It is found by the leaves that are
     /// there, so pages without a frame cost nothing.
     pub fn next_settled<F: FrameAccess<Seat = S>>(
@@ -43,9 +74,6 @@ impl<S: FrameSeat> Space<S> {
         ensures keeps { Keeps F.rule store.old self.old.seat store.new self.new.seat }
     {
         let page = first_mapped(store, &mut self.seat, self.root, first, end)?;
-        let Some((frame, dirty)) = frame_of(store, &mut self.seat, self.root, page) else {
-            unreachable!()
-        };
-        Some(SettledPage { page, frame, dirty })
+        self.settled_page(store, page)
     }
 }

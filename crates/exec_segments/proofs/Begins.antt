@@ -1,5 +1,5 @@
 -- The parts of a process that an image makes.
-use Rattle.std.proofs.Common.{◌≡◌, ℕ, zero, suc, ◌+◌, ◌*◌, ◌/◌, ◌<◌, ◌≤◌, ◌^◌, true, length, get_or, take, List, [], ◌∷◌, ◌++◌, map, None, Result, Ok, Err, refl, ap, sym, subst, ◌∙◌, arith}
+use Rattle.std.proofs.Common.{◌≡◌, ℕ, zero, suc, ◌+◌, ◌*◌, ◌/◌, ◌<◌, ◌≤◌, ◌^◌, true, false, length, get_or, take, List, [], ◌∷◌, ◌++◌, map, None, Result, Ok, Err, refl, ap, sym, subst, ◌∙◌, arith}
 use Rattle.std.specs.Prelude.{flat_map, IfOk}
 use Rattle.std.proofs.lemmas.Grind.{flat_map-append}
 use Rattle.std.proofs.Math.Seq.{drop-nil, take-suc}
@@ -7,7 +7,7 @@ use Rattle.std.proofs.lemmas.List.{append_assoc, length-append, length-map, leng
 use Rattle.process_model.specs.Bytes.{padded, pages_for}
 use Rattle.process_model.specs.Frames.{start_need, tables_needed}
 use Rattle.process_model.specs.ImageNeed.{exec_need_is}
-use Rattle.process_model.specs.Order.{InRow, IsPlaced}
+use Rattle.process_model.specs.Order.{InRow, is_file, IsPlaced}
 use Rattle.process_model.specs.Images.{LoadSegment, end_of_loads, end_page}
 use Rattle.process_model.specs.Loading.{guard_at, image_pages, load_pages, numbered, page_run, parts_of, process_of, segment_region, stack_at}
 use Rattle.process_model.specs.PageMap.{from_list, numbers}
@@ -74,6 +74,9 @@ IsLow p = p.region.first + p.region.pages ≤ trapframe_page
 abbrev IsLeafy : Part → Type 0
 IsLeafy p = makes_leaf (region_in p) ≡ true
 
+abbrev IsWithoutFile : Part → Type 0
+IsWithoutFile p = is_file (region_in p).source ≡ false
+
 -- below the trapframe there is room for two pages more
 ends_low : (end : ℕ) (ls : List LoadSegment) → AreInOrder end ls → end + (guard_pages + stack_pages) ≤ trapframe_page → end_of_loads end ls + (guard_pages + stack_pages) ≤ trapframe_page
 ends_low end [] ordered low = low
@@ -112,6 +115,12 @@ module _ (g s : Part) where
     leafy [] (l ∷ ls) are = elim are [ ]
     leafy (p ∷ ps) [] are = elim are [ ]
     leafy (p ∷ ps) (l ∷ ls) are = (ap makes_leaf (are.0).region, leafy ps ls are.1)
+
+  without_file : (IsWithoutFile g × IsWithoutFile s) → (ps : List Part) (ls : List LoadSegment) → ArePartsOf ps ls → Each IsWithoutFile (whole ps)
+  without_file rest [] [] are = (rest.0, (rest.1, tt))
+  without_file rest [] (l ∷ ls) are = elim are [ ]
+  without_file rest (p ∷ ps) [] are = elim are [ ]
+  without_file rest (p ∷ ps) (l ∷ ls) are = (ap (λ (r : Region). is_file r.source) (are.0).region, without_file rest ps ls are.1)
 
   ascending : (end : ℕ) (ps : List Part) (ls : List LoadSegment) → ArePartsOf ps ls → AreInOrder end ls → end_of_loads end ls ≤ g.region.first → end_of (region_in g) ≤ s.region.first → IsAscending end (whole ps)
   ascending end [] [] are ordered first second = (first, (second, tt))
@@ -193,6 +202,7 @@ module _ (ps : List Part) (ls : List LoadSegment) (g s : Part) (are : ArePartsOf
         ascending = ascending g s 0 ps ls are loads.in_order (omega (arith, first)) (omega (arith, first, one, second));
         low = each_all IsLow (whole g s ps) (low g s both_low both_leafy 0 ps ls are loads.in_order);
         leafy = each_all IsLeafy (whole g s ps) (leafy g s both_low both_leafy ps ls are);
+        sources = each_all IsWithoutFile (whole g s ps) (without_file g s (ap (λ (r : Region). is_file r.source) guard_is, ap (λ (r : Region). is_file r.source) stack_is) ps ls are);
       }
 
 -- one more of the segments in a row

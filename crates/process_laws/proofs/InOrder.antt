@@ -7,7 +7,7 @@ use Rattle.process_model.specs.Bytes.{pages_for}
 use Rattle.process_model.specs.Granted.{map_granted, place_fits}
 use Rattle.process_model.specs.Images.{LoadSegment, end_page, end_of_loads}
 use Rattle.process_model.specs.Loading.{segment_region, guard_at, stack_at, process_of}
-use Rattle.process_model.specs.Order.{EachRegion, HasLeaves, InRow, IsInOrder, IsPlaced, Row}
+use Rattle.process_model.specs.Order.{EachRegion, HasLeaves, HasNoFile, InRow, IsInOrder, IsPlaced, Row}
 use Rattle.process_model.specs.OrderKept.{mapped_order, regions_row, resized_order, same_order, unmapped_order}
 use Rattle.process_model.specs.Process.{Process, regions}
 use Rattle.process_model.specs.RegionRows.{held, row_append}
@@ -55,6 +55,10 @@ segments_leaves : (ls : List LoadSegment) (rs : List Region) → EachRegion HasL
 segments_leaves [] rs rest = rest
 segments_leaves (l ∷ ls) rs rest = (refl, segments_leaves ls rs rest)
 
+segments_without_file : (ls : List LoadSegment) (rs : List Region) → EachRegion HasNoFile rs → EachRegion HasNoFile (map segment_region ls ++ rs)
+segments_without_file [] rs rest = rest
+segments_without_file (l ∷ ls) rs rest = (refl, segments_without_file ls rs rest)
+
 segments_row : (low : ℕ) (ls : List LoadSegment) → InRow low ls → Row 1 low (map segment_region ls) (end_of_loads low ls)
 segments_row low [] row = omega arith
 segments_row low (l ∷ ls) row = (row.0.above, row.0.some, subst (λ n. Row 1 n (map segment_region ls) (end_of_loads (end_page l) ls)) (sym row.0.end) (segments_row (end_page l) ls row.1))
@@ -69,6 +73,7 @@ made_order n ls is =
       room = omega arith;
       above = omega arith;
       leaves = segments_leaves ls (guard_at (end_of_loads 0 ls) ∷ stack_at (end_of_loads 0 ls + guard_pages) ∷ []) (refl, (refl, tt));
+      sources = segments_without_file ls (guard_at (end_of_loads 0 ls) ∷ stack_at (end_of_loads 0 ls + guard_pages) ∷ []) (refl, (refl, tt));
       mapped = tt;
     }
 

@@ -1,10 +1,12 @@
--- What is found in a map of pages after an insertion, and its keys.
-use Rattle.std.proofs.Common.{◌≡◌, ℕ, cond, zero, suc, ◌⊎◌, inl, inr, refl, ap, sym, subst, ◌∙◌, arith, List, [], ◌∷◌, map, Some, Less, Equal, Greater}
+-- What is found in a map of pages after an insertion, and its keys; and insertions that change nothing, or come again.
+use lib.Dec.{T_prop}
+use mathlib.Core.HLevel.{Σ_prop_path}
+use Rattle.std.proofs.Common.{◌≡◌, ℕ, cond, zero, suc, ◌⊎◌, inl, inr, refl, ap, sym, subst, ◌∙◌, arith, List, [], ◌∷◌, map, Some, Less, Equal, Greater, T}
 use Rattle.std.specs.Prelude.{All, Contains}
 use Rattle.std.specs.Cmp.{nat_cmp_total, unsigned_tied}
-use Rattle.std.specs.FinMap.Entries.{by_order, find-put, put}
+use Rattle.std.specs.FinMap.Entries.{by_order, find-put, is_sorted, put, same_entries}
 use Rattle.std.specs.Ordering.{nat_cmp}
-use Rattle.std.proofs.lemmas.Bool.{eq-eqb, ne_eqb}
+use Rattle.std.proofs.lemmas.Bool.{cases_eq, eq-eqb, ne_eqb}
 use Rattle.std.proofs.lemmas.List.Elements.{All-contains, All-contains_itself}
 use Rattle.std.proofs.lemmas.Map.Lookups.{exact_unsigned}
 use Rattle.process_model.specs.PageMap.{PageMap, get, insert, keys}
@@ -85,3 +87,28 @@ all_keys P m k v here others n d less =
       | inl same ↦ subst P same here
       | inr later ↦ All-contains P (keys m) _ others later
     ]
+
+-- maps that answer alike are one
+
+module _ {X : Type 0} where
+  same_pages : (m n : PageMap X) → m.entries ≡ n.entries → m ≡ n
+  same_pages m n e =
+      let pairs : ◌≡◌ {A = (es : List (ℕ × X)) × T (is_sorted nat_cmp es)} (m.entries, m.sorted) (n.entries, n.sorted) = Σ_prop_path (λ es. T_prop _) e in
+      λ i. record { entries = (pairs i).0; sorted = (pairs i).1 }
+
+  pub same_finds : (m n : PageMap X) → ((q : ℕ) → get m q ≡ get n q) → m ≡ n
+  same_finds m n is = same_pages m n (same_entries nat_cmp nat_cmp_total exact_unsigned m.entries n.entries m.sorted n.sorted is)
+
+  -- an entry that is put where it is
+  pub put_back : (m : PageMap X) (k : ℕ) (x : X) → get m k ≡ Some x → insert m k x ≡ m
+  put_back m k x is = same_finds (insert m k x) m (λ q. elim (cases_eq q k) [
+    | inl same ↦ inserted_here k x m q same ∙ sym is ∙ ap (get m) (sym same)
+    | inr apart ↦ inserted_other k x m q apart
+  ])
+
+  -- the second of two entries of one key stays
+  pub put_again : (m : PageMap X) (k : ℕ) (x y : X) → insert (insert m k x) k y ≡ insert m k y
+  put_again m k x y = same_finds (insert (insert m k x) k y) (insert m k y) (λ q. elim (cases_eq q k) [
+    | inl same ↦ inserted_here k y (insert m k x) q same ∙ sym (inserted_here k y m q same)
+    | inr apart ↦ inserted_other k y (insert m k x) q apart ∙ inserted_other k x m q apart ∙ sym (inserted_other k y m q apart)
+  ])

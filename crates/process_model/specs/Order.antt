@@ -1,5 +1,5 @@
 -- The order of the segments of an image and of the regions of a process, and what regions can be.
-use Rattle.std.specs.Prelude.{◌≡◌, ℕ, true, ◌+◌, ◌*◌, ◌≤◌, Some, List, [], ◌∷◌}
+use Rattle.std.specs.Prelude.{◌≡◌, ℕ, Bool, true, false, ◌+◌, ◌*◌, ◌≤◌, Some, List, [], ◌∷◌}
 use Rattle.process_model.specs.Bytes.{pages_for}
 use Rattle.process_model.specs.Images.{LoadSegment, end_of_loads, end_page}
 use Rattle.process_model.specs.Mappings.{longest_mapping}
@@ -40,6 +40,14 @@ EachRegion P (r ∷ rs) = P r × EachRegion P rs
 abbrev pub HasLeaves : Region → Type 0
 HasLeaves r = makes_leaf r ≡ true
 
+-- segments, guard and stack have no page of a file
+abbrev pub is_file : Source → Bool
+is_file (file n offset) = true
+is_file _ = false
+
+abbrev pub HasNoFile : Region → Type 0
+HasNoFile r = is_file r.source ≡ false
+
 -- so many pages of a file lie in the bytes that the longest mapping has, from the offset on: munmap moves the offset along, and its end
 -- stays
 abbrev pub IsInReach : Source → ℕ → Type 0
@@ -51,12 +59,13 @@ pub record IsMapping (m : Region) : Type 0 where
   pub reach : IsInReach m.source m.pages
 
 -- the parts end at the heap's base or below it, the heap below the mappings, and these below the trapframe; each part has so many
--- pages at least, and each mapping one at least
+-- pages at least, and none of a file, and each mapping one at least
 pub record HasOrder (least : ℕ) (p : Process) : Type 0 where
   pub parts : Row least 0 p.parts (page_of p.heap_base)
   pub room : page_of p.heap_base ≤ pages_for p.size
   pub above : Row 1 (pages_for p.size) p.mappings trapframe_page
   pub leaves : EachRegion HasLeaves p.parts
+  pub sources : EachRegion HasNoFile p.parts
   pub mapped : EachRegion IsMapping p.mappings
 
 -- in every process of the model each part has one too

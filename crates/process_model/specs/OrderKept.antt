@@ -19,7 +19,7 @@ use Rattle.sv39_entry.specs.Address.{page_of, trapframe_page}
 -- its pages do not matter
 pub same_order : (least : ℕ) (p : Process) (settled : PageMap Page) (tabled : NumberSet) (pending : Option Pending) → HasOrder least p
     → HasOrder least (record p { settled = settled; tabled = tabled; pending = pending })
-same_order least p settled tabled pending order = record { parts = order.parts; room = order.room; above = order.above; leaves = order.leaves; mapped = order.mapped }
+same_order least p settled tabled pending order = record { parts = order.parts; room = order.room; above = order.above; leaves = order.leaves; sources = order.sources; mapped = order.mapped }
 
 -- all its regions stand in one row
 pub regions_row : (least : ℕ) (p : Process) → HasOrder least p → Row 0 0 (regions p) trapframe_page
@@ -40,13 +40,14 @@ sized_order least p wanted none order =
       room = omega (arith, granted.0);
       above = above_limit (pages_for p.size) (pages_for (nat_abs wanted)) p.mappings granted.1 order.above;
       leaves = order.leaves;
+      sources = order.sources;
       mapped = order.mapped;
     }
 
 pub resized_order : (least : ℕ) (p : Process) (wanted : ℤ) → size_refusal p wanted ≡ None → HasOrder least p → HasOrder least (resized p (nat_abs wanted))
 resized_order least p wanted none order =
     let sized = sized_order least p wanted none order in
-    record { parts = sized.parts; room = sized.room; above = sized.above; leaves = sized.leaves; mapped = sized.mapped }
+    record { parts = sized.parts; room = sized.room; above = sized.above; leaves = sized.leaves; sources = sized.sources; mapped = sized.mapped }
 
 -- ---- mmap
 
@@ -61,6 +62,7 @@ with_mapping_order least p r fits some is order =
       above = with_mapping_row (pages_for p.size) trapframe_page r p.mappings
           (leb-true (pages_for p.size) r.first inner.0) some (leb-true (r.first + r.pages) trapframe_page inner.1) outer.1 order.above;
       leaves = order.leaves;
+      sources = order.sources;
       mapped = with_each IsMapping r p.mappings is order.mapped;
     }
 
@@ -80,5 +82,6 @@ unmapped_order least p m first end order around le = record {
   room = order.room;
   above = instead_row (pages_for p.size) trapframe_page first end p.mappings m le order.above around;
   leaves = order.leaves;
+  sources = order.sources;
   mapped = unmapped_each p.mappings m first end le around order.mapped;
 }

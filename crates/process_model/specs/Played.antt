@@ -1,6 +1,6 @@
--- How much of the model the program plays: images of segments, the policy full, and the steps of harts, of their buffers and of
--- accesses.
-use Rattle.std.specs.Prelude.{◌≡◌, [], All}
+-- How much of the model the program plays: images of segments, the policy full, and the steps of harts, of their buffers, of
+-- accesses, of their service, of heaps, of mappings and of the end of a process.
+use Rattle.std.specs.Prelude.{◌≡◌, All}
 use Rattle.process_model.specs.Script.{Script}
 use Rattle.process_model.specs.declared.config.Policy.TheVariants.{Full}
 use Rattle.process_model.specs.declared.image.Image.{Image}
@@ -27,6 +27,11 @@ IsPlayed (step.Fetch h a via) = Unit {0}
 IsPlayed (step.Load h a n via) = Unit {0}
 IsPlayed (step.Store h a n v via) = Unit {0}
 IsPlayed (step.TrampolineFetch h o via) = Unit {0}
+IsPlayed (step.Serve h) = Unit {0}
+IsPlayed (step.Sbrk h delta) = Unit {0}
+IsPlayed (step.Mmap h len protection flags n) = Unit {0}
+IsPlayed (step.Munmap h a len) = Unit {0}
+IsPlayed (step.Exit h status) = Unit {0}
 IsPlayed _ = ⊥
 
 -- of scripts
@@ -41,10 +46,12 @@ IsLinePlayed (command.Start n) = Unit {0}
 IsLinePlayed (command.On h s) = Unit {0}
 IsLinePlayed (command.Enter h) = Unit {0}
 IsLinePlayed (command.Leave h) = Unit {0}
+IsLinePlayed (command.Fix h) = Unit {0}
+IsLinePlayed (command.Show f offset n) = Unit {0}
+IsLinePlayed command.Audit = Unit {0}
 IsLinePlayed _ = ⊥
 
 pub record IsScriptPlayed (s : Script) : Type 0 where
   pub policy : s.config.policy ≡ Full
-  pub files : s.files ≡ []
   pub images : All HasSegments s.images
   pub commands : All IsLinePlayed s.commands
