@@ -1,0 +1,119 @@
+// The heap grows and shrinks.
+
+ghost use Rattle.std.specs.Prelude.{[], pos, ◌≡◌, ◌≤◌, ◌≤ℤ◌, IfErr, IfOk, Some};
+ghost use Rattle.address_space.specs.Agreement.{body_of, IsSpace};
+ghost use Rattle.address_space.specs.Ending.{Drops};
+ghost use Rattle.address_space.specs.Layouts.{LaysOut};
+ghost use Rattle.address_space.specs.Steps.{Takes};
+ghost use Rattle.frame_store.specs.Laws.{Fits, Keeps};
+ghost use Rattle.lazy_growth.specs.Resized.{Resizes};
+ghost use Rattle.lazy_growth.specs.Sizes.{IsNewSize, answer_of, refusal_of, size_before};
+ghost use Rattle.process_model.specs.Bytes.{pages_for};
+ghost use Rattle.process_model.specs.Heap as model;
+ghost use Rattle.process_model.specs.Order.{HasOrder};
+ghost use Rattle.process_model.specs.Process.{Process};
+ghost use Rattle.sv39_entry.specs.Address.{trapframe_page};
+ghost use Rattle.table_walk.specs.Tables.{Tables};
+
+use crate::refused::SizeError;
+use address_space::{Layout, Space};
+use frame_store::{FrameAccess, FrameSeat};
+use sv39_entry::{PAGE_SIZE, TRAPFRAME, Va, Vpn};
+
+/// Moves the end of the heap by so many bytes, and answers where it was. No frame is taken: a page gets its frame at the
+/// first access. The pages above the new end go, with their frames, and a page that returns later is zeros again.
+pub fn sbrk<S: FrameSeat, F: FrameAccess<Seat = S>>(
+    space: &mut Space<S>,
+    store: &mut F,
+    delta: i64,
+) -> Result<u64, SizeError>
+    requires fits { Fits F.rule store.old space.old.seat }
+    requires ready { (t : Tables) × (p : Process) × IsSpace (body_of S.view space.old) t p }
+    ensures answer { (t : Tables) (p : Process) → IsSpace (body_of S.view space.old) t p →
+        answer_of result ≡ size_before p (model.sbrk_result p delta) }
+    ensures resized { IfOk result (λ _. (t : Tables) (p : Process) →
+        IsSpace (body_of S.view space.old) t p →
+        Resizes (body_of S.view space.new) t p delta) }
+    ensures layout_stays { IfErr result (λ _. space.new.layout ≡ space.old.layout) }
+    ensures view_stays { IfErr result (λ _. S.view space.new.seat ≡ S.view space.old.seat) }
+    ensures store_stays { IfErr result (λ _. store.new ≡ store.old) }
+    ensures growing_keeps_view { pos 0 ≤ℤ delta → S.view space.new.seat ≡ S.view space.old.seat }
+    ensures growing_keeps_store { pos 0 ≤ℤ delta → store.new ≡ store.old }
+    ensures tallies { Takes (S.view space.old.seat) (S.view space.new.seat) 0 [] }
+    ensures root { space.new.root ≡ space.old.root }
+    ensures trapframe { space.new.trapframe ≡ space.old.trapframe }
+    ensures keeps { Keeps F.rule store.old space.old.seat store.new space.new.seat }
+    ensures free { F.alone → F.free store.old ≤ F.free store.new }
+{
+    let before = space.layout.size();
+    let size = size_asked(&space.layout, delta)?;
+    release_pages(space, store, end_page(size), end_page(before));
+    space.set_size(size);
+    Ok(before)
+}
+
+/// The size that is asked for, in bytes.
+fn size_asked(layout: &Layout, delta: i64) -> Result<u64, SizeError>
+    requires order { (p : Process) × LaysOut layout.now p × HasOrder 0 p }
+    ensures granted { IfOk result (λ size. (p : Process) → LaysOut layout.now p → IsNewSize p delta size) }
+    ensures refused { IfErr result (λ e. (p : Process) → LaysOut layout.now p →
+        model.size_refusal p (model.wanted_size p delta) ≡ Some (refusal_of e)) }
+{
+    let Some(size) = layout.size().checked_add_signed(delta) else {
+        return Err(SizeError::BadSize);
+    };
+    if size < layout.heap_base() {
+        return Err(SizeError::BadSize);
+    }
+    if size.div_ceil(PAGE_SIZE) > heap_limit(layout) {
+        return Err(SizeError::NoRoom);
+    }
+    Ok(size)
+}
+
+/// The page up to which the heap may reach: the lowest mapping, or the trapframe where there is none.
+fn heap_limit(layout: &Layout) -> u64
+    ensures { (p : Process) → LaysOut layout.now p → result ≡ model.heap_limit p.mappings }
+{
+    match layout.mappings().first() {
+        Some(mapping) => mapping.first,
+        None => TRAPFRAME.page().number(),
+    }
+}
+
+/// The first page above a heap of so many bytes.
+fn end_page(size: u64) -> Vpn
+    requires low { pages_for size ≤ trapframe_page }
+    ensures { result ≡ pages_for size }
+{
+    Va(size.div_ceil(PAGE_SIZE) * PAGE_SIZE).page()
+}
+
+/// Unmaps the settled pages from one page up to, and without, another, and lets their frames go. Where the second does not
+/// lie above the first, no table is read.
+fn release_pages<S: FrameSeat, F: FrameAccess<Seat = S>>(
+    space: &mut Space<S>,
+    store: &mut F,
+    first: Vpn,
+    end: Vpn,
+)
+    requires fits { Fits F.rule store.old space.old.seat }
+    requires ready { (t : Tables) × (p : Process) × IsSpace (body_of S.view space.old) t p }
+    requires low { end ≤ trapframe_page }
+    ensures released { (t : Tables) (p : Process) →
+        IsSpace (body_of S.view space.old) t p →
+        (u : Tables) × IsSpace (body_of S.view space.new) u (model.without_pages p first end) × Drops t u first end }
+    ensures kept_view { end ≤ first → S.view space.new.seat ≡ S.view space.old.seat }
+    ensures kept_store { end ≤ first → store.new ≡ store.old }
+    ensures layout { space.new.layout ≡ space.old.layout }
+    ensures tallies { Takes (S.view space.old.seat) (S.view space.new.seat) 0 [] }
+    ensures root { space.new.root ≡ space.old.root }
+    ensures trapframe { space.new.trapframe ≡ space.old.trapframe }
+    ensures keeps { Keeps F.rule store.old space.old.seat store.new space.new.seat }
+    ensures free { F.alone → F.free store.old ≤ F.free store.new }
+{
+    if end <= first {
+        return;
+    }
+    space.drop_pages(store, first, end);
+}
