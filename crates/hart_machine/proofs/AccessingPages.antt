@@ -1,10 +1,11 @@
 -- An access of the user changes bytes and what is pending alone: each page keeps its copy number.
-use Rattle.std.proofs.Common.{◌≡◌, ℕ, ◌%◌, ◌⊎◌, cond, Bool, true, false, Option, None, Some, refl, ap, sym, ◌∙◌, inl, inr}
+use Rattle.std.proofs.Common.{◌≡◌, ℕ, zero, suc, ◌<◌, ◌%◌, ◌⊎◌, cond, Bool, true, false, IsTrue, Option, None, Some, refl, ap, sym, subst, ◌∙◌, inl, inr, arith}
 use Rattle.std.proofs.lemmas.Bool.{cases_eq, eq-eqb, ne_eqb}
 use Rattle.std.proofs.lemmas.Option.{same_Some}
 use Rattle.std.specs.Cmp.{nat_cmp_total, unsigned_tied}
 use Rattle.std.specs.FinMap.Entries.{find, find-put}
 use Rattle.std.specs.Ordering.{eq_by_cmp, nat_cmp}
+use Rattle.process_model.specs.Bytes.{is_width}
 use Rattle.process_model.specs.PageMap as pages
 use Rattle.process_model.specs.PageMap.{each_sorted, each_value}
 use Rattle.process_model.specs.Process.{Page, Process, regions}
@@ -18,6 +19,7 @@ use Rattle.sv39_entry.specs.declared.access.Access.{Access}
 use Rattle.sv39_entry.specs.declared.access.Access.TheVariants.{Fetch, Load, Store}
 use Rattle.sv39_entry.specs.declared.rule.Rule.{Rule}
 use Rattle.hart_machine.specs.Accesses.{pending_after}
+use Rattle.hart_machine.specs.Tenants.{HasBytes}
 use Rattle.hart_machine.proofs.ProcessSteps.{HasCopies}
 
 -- a page in the place of another one with its copy number
@@ -90,3 +92,13 @@ module _ (p : Process) (x : Asked) where
 
   pub access_pending : ((user_access p x).process).pending ≡ pending_after x (user_access p x).reply
   access_pending = so.waits
+
+  width_some : (width : ℕ) → IsTrue (is_width width) → 0 < width
+  width_some zero h = absurd (cc)
+  width_some (suc n) h = omega arith
+
+  pub access_wide : IsTrue (is_width x.width) → HasBytes (user_access p x).process.pending
+  access_wide width = subst HasBytes (sym so.waits) (elim so.answers [
+    | inl fault ↦ rw fault.1 (width_some x.width width)
+    | inr answer ↦ elim answer [ inl value ↦ rw value.1 tt | inr stored ↦ rw stored tt ]
+  ])

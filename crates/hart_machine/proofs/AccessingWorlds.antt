@@ -23,7 +23,7 @@ module _ (b : Bank) (k : View) where
   abbrev pub Holds : List Tenant → Type 0
   Holds owners = BankRule b (k ∷ map view_of owners)
 
-  holds_front : ComesFront Holds
+  pub holds_front : ComesFront Holds
   holds_front = comes_front-map (λ (seats : List View). BankRule b (k ∷ seats)) view_of (comes_front-behind (BankRule b) k (to_front b.words b.counts b.free) (to_back b.words b.counts b.free))
 
   pub holds_back : GoesBack Holds

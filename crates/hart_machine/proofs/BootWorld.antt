@@ -12,6 +12,7 @@ use Rattle.hart_machine.specs.declared.hart.Hart.{Hart}
 use Rattle.hart_machine.specs.declared.machine.Machine.{Machine}
 use Rattle.hart_machine.specs.declared.tenant.Tenant.{Tenant}
 use Rattle.hart_tlb.specs.declared.entry.TlbEntry.{TlbEntry}
+use Rattle.process_model.specs.Files.{File}
 use Rattle.process_model.specs.Harts as model
 use Rattle.process_model.specs.World.{booted}
 use Rattle.process_model.specs.declared.config.Config.{Config}
@@ -47,13 +48,13 @@ nothing_buffered : (es : List TlbEntry) → map key_of es ≡ [] → (e : TlbEnt
 nothing_buffered [] none e h = absurd (omega (arith, h.1))
 nothing_buffered (a ∷ es) none e h = absurd (cc)
 
-module _ (m : Machine) (c : Config) (full : c.policy ≡ Full) (sized : m.kernel.seat.size ≡ c.frames) (stacks : List ℕ) (t : Tables)
+module _ (m : Machine) (c : Config) (files : List File) (full : c.policy ≡ Full) (sized : m.kernel.seat.size ≡ c.frames) (stacks : List ℕ) (t : Tables)
     (table : IsKernelTable m.kernel.seat m.kernel.root.0 c.frames c.slots stacks t) (rule : BankRule m.frames (m.kernel.seat ∷ []))
-    (slots : m.slots.items ≡ replicate c.slots None) (harts : map hart_of m.harts.items ≡ replicate c.harts model.idle_hart) where
+    (slots : m.slots.items ≡ replicate c.slots None) (harts : map hart_of m.harts.items ≡ replicate c.harts model.idle_hart) (filed : m.files ≡ files) where
   idle_at : (h : ℕ) (x : Hart) → slice_get m.harts.items h ≡ Some x → hart_of x ≡ model.idle_hart
   idle_at h x is = hart_idle c.harts m.harts.items harts h x is
 
-  pub boots : IsWorld m (booted c [])
+  pub boots : IsWorld m (booted c files)
   boots = record {
     tables = λ _. t;
     kernel = t;
@@ -65,6 +66,7 @@ module _ (m : Machine) (c : Config) (full : c.policy ≡ Full) (sized : m.kernel
     places = λ s. subst (λ ts. IsPlace (slice_get ts s) (slice_get (replicate c.slots None) s) t) (sym slots) (empty_place c.slots s t);
     copies = λ i j a b f g p q x y at. absurd (none_there c.slots i p at);
     counted = λ i n p a at. absurd (none_there c.slots i p at);
+    files = filed;
     harts = harts;
     hosted = λ h s x at on. absurd (let none = ap (λ (k : model.Hart). k.slot) (idle_at h x at) in let some = sym on ∙ none in cc);
     alone = λ s h k x y at also on. absurd (let none = ap (λ (z : model.Hart). z.slot) (idle_at h x at) in let some = sym on ∙ none in cc);

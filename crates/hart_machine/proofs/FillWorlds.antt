@@ -53,6 +53,7 @@ put_back m w is s x at =
       places = λ r. subst (λ (ps : List (Option Tenant)). IsPlace (slice_get ps r) (slice_get w.slots r) (is.tables r)) (sym same) (is.places r);
       copies = is.copies;
       counted = is.counted;
+      files = is.files;
       harts = is.harts;
       hosted = λ h r y there on. let old = is.hosted h r y there on in (old.0, ap (λ (ps : List (Option Tenant)). slice_get ps r) same ∙ old.1);
       alone = is.alone;

@@ -126,6 +126,10 @@ module _ (m : Machine) (w : World) (is : IsWorld m w) where
     go (Some None) there (Some (Some p)) place e = absurd place
     go (Some (Some x)) there (Some (Some p)) place e = (x, there)
 
+  -- the process that is in a slot is that of the model
+  pub tenant_is : (s : ℕ) (x : Tenant) (p : Process) → slice_get m.slots.items s ≡ Some (Some x) → slice_get w.slots s ≡ Some (Some p) → IsTenant x (is.tables s) p
+  tenant_is s x p place at = let found = process_at s x place in subst (λ (q : Process). IsTenant x (is.tables s) q) (same_Some found.0 p (same_Some _ _ (sym found.1 ∙ at))) found.2
+
   pub can_run_is : (slot : Option ℕ) (s : ℕ) → slot ≡ Some s → true ≡ is_some (process_in w s) → (b : Bool) → b ≡ list_any (λ x. has_slot s x.slot) m.harts.items → not b ≡ can_run w slot
   can_run_is slot s e there b any =
       rw (e, ← there) (ap not (any ∙ sym (on_any m.harts.items) ∙ ap (list_any (λ x. has_slot s x.slot)) is.harts)) where
@@ -156,6 +160,7 @@ module _ (m : Machine) (w : World) (is : IsWorld m w) where
       places = is.places;
       copies = is.copies;
       counted = is.counted;
+      files = is.files;
       harts = map-set hart_of m.harts.items h y ∙ ap (λ hs. slice_set hs h (hart_of y)) is.harts;
       hosted = λ k s z at. at_each k z at (λ (u : Hart). u.slot ≡ Some s → (t : Tenant) × (slice_get m.slots.items s ≡ Some (Some t))) (hosted s) (λ old. is.hosted k s z old);
       alone = λ s k l z u at also on upon. elim (new_or_old k z at) [

@@ -65,7 +65,7 @@ seats_credits (Some x ∷ items) (Some p ∷ slots) tables at =
     omega (arith, none, rest)
 
 -- the frame of a copy number
-record OnFrame (slots : List (Option Process)) (tables : ℕ → Tables) (f c : ℕ) : Type 0 where
+pub record OnFrame (slots : List (Option Process)) (tables : ℕ → Tables) (f c : ℕ) : Type 0 where
   pub slot : ℕ
   pub number : ℕ
   pub process : Process
@@ -198,6 +198,18 @@ module _ (m : Machine) (w : World) (is : IsWorld m w) where
   -- a frame has as many references of pages as processes have its copy number
   as_often : (f c : ℕ) → HasCopy f c → times f pages ≡ length (filter (has_copy c) all)
   as_often f c r = (places m w is).copied f c (of_copy f c r) ∙ sym (length-filter (has_copy c) all)
+
+  -- and no others
+  pub count_of_page : (f c : ℕ) → HasCopy f c → slice_index counts f ≡ length (filter (has_copy c) all)
+  count_of_page f c r =
+      let some = times_among f pages (in_pages f c r) in
+      elim (kind_of f) [
+        | inl x ↦ (let none = x.pages in absurd (omega (arith, none, some)))
+        | inr y ↦ elim y [
+          | inl x ↦ (let none = x.pages in absurd (omega (arith, none, some)))
+          | inr x ↦ x.all ∙ as_often f c r
+        ]
+      ]
 
   -- held frames
 

@@ -7,16 +7,20 @@ pub mod BootWorld
 pub mod BufferChanges
 mod BufferRows
 pub mod BufferSteps
+pub mod Calling
 pub mod CountedLists
+pub mod Emptying
 pub mod Entries
 pub mod Fences
 pub mod FillWorlds
 pub mod Fills
+pub mod Following
 pub mod HartSteps
 pub mod HeldFrames
 pub mod KernelFrames
 pub mod KeySets
 pub mod Leaves
+pub mod Mapping
 pub mod MatchedLists
 pub mod NumberLists
 pub mod PageCopies
@@ -25,6 +29,11 @@ pub mod PlayedSteps
 pub mod PresentTables
 pub mod ProcessSteps
 pub mod SeatFrames
+pub mod ServedPages
+pub mod ServedTenants
+pub mod ServedWorlds
+pub mod SharedPages
+pub mod Sizing
 pub mod StartSeats
 pub mod StartSlots
 pub mod StartedCopies

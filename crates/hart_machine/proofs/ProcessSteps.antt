@@ -13,11 +13,10 @@ use Rattle.process_model.specs.Process.{Page, Process}
 use Rattle.process_model.specs.World.{World, with_process}
 use Rattle.address_space.specs.Pending.{agrees_pending}
 use Rattle.address_space.specs.Kernel.{IsKernelTable}
-use Rattle.hart_machine.specs.Tenants.{IsTenant, pending_of, view_of}
+use Rattle.hart_machine.specs.Tenants.{IsTenant, view_of}
 use Rattle.hart_machine.specs.Worlds.{IsPlace, IsWorld, seats_of}
 use Rattle.hart_machine.specs.declared.hart.Hart.{Hart}
 use Rattle.hart_machine.specs.declared.machine.Machine.{Machine}
-use Rattle.hart_machine.specs.declared.tenant.Pending.{Pending}
 use Rattle.hart_machine.specs.declared.tenant.Tenant.{Tenant}
 
 -- each page that one process has, the other has with the same copy number
@@ -58,6 +57,7 @@ module _ (m : Machine) (w : World) (is : IsWorld m w) (s : ℕ) (x y : Tenant) (
           let second = old_page j n o c at_j in_j in
           subst (λ z. (f ≡ g) ↔ (z ≡ c.copy)) first.4 (subst (λ z. (f ≡ g) ↔ (first.1.copy ≡ z)) second.4 (is.copies i j k n f g first.0 second.0 first.1 second.1 first.2 second.2 first.3 second.3 on_i on_j));
       counted = λ i n r a at_i in_i. let old = old_page i n r a at_i in_i in subst (λ z. z < w.counter) old.4 (is.counted i n old.0 old.1 old.2 old.3);
+      files = is.files;
       harts = is.harts;
       hosted = hosted;
       alone = is.alone;
@@ -84,8 +84,8 @@ seats_stay (Some z ∷ places) (suc s) x y at e = ap (λ vs. view_of z ∷ vs) (
 
 module _ (m : Machine) (w : World) (is : IsWorld m w) (s : ℕ) (x : Tenant) (p : Process) (place : slice_get m.slots.items s ≡ Some (Some x)) (at : slice_get w.slots s ≡ Some (Some p))
     (tenant : IsTenant x (is.tables s) p) where
-  -- the process of a slot has another access pending
-  pub pending_changes : (o : Option Pending) → IsWorld (record m { slots = with_item m.slots s (Some (record x { pending = o })) }) (with_process w s (record p { pending = pending_of o }))
-  pending_changes o = process_changes m w is s x (record x { pending = o }) p (record p { pending = pending_of o }) place at (λ n a there. (a, there, refl)) m.frames
-      (subst (λ vs. BankRule m.frames (m.kernel.seat ∷ vs)) (sym (seats_stay m.slots.items s x (record x { pending = o }) place refl)) is.rule)
-      (record { agrees = agrees_pending _ _ _ _ _ p tenant.agrees (pending_of o); framed = tenant.framed; pending = refl })
+  -- the process of a slot has no access pending any more
+  pub nothing_pending : IsWorld (record m { slots = with_item m.slots s (Some (record x { pending = None })) }) (with_process w s (record p { pending = None }))
+  nothing_pending = process_changes m w is s x (record x { pending = None }) p (record p { pending = None }) place at (λ n a there. (a, there, refl)) m.frames
+      (subst (λ vs. BankRule m.frames (m.kernel.seat ∷ vs)) (sym (seats_stay m.slots.items s x (record x { pending = None }) place refl)) is.rule)
+      (record { agrees = agrees_pending _ _ _ _ _ p tenant.agrees None; framed = tenant.framed; pending = refl; wide = tt })

@@ -5,6 +5,7 @@ use Rattle.std.proofs.lemmas.Bool.{cases_lt}
 use Rattle.std.proofs.lemmas.Option.{same_Some, slice_get-get_or, slice_get_past}
 use Rattle.address_space.specs.Agreement.{HoldsTrampoline}
 use Rattle.address_space.specs.Kernel.{IsKernelTable}
+use Rattle.address_space.specs.Steps.{IsBare}
 use Rattle.frame_store.specs.Plain.{total_references}
 use Rattle.frame_store.specs.Holds.{hold_of-with_hold_same, hold_of-with_hold_other}
 use Rattle.frame_store.specs.Joins.{hold_of-joined}
@@ -119,3 +120,14 @@ module _ (v x : View) (code : references v 0 ≡ 1) (one : HoldsTrampoline x) wh
       subst (λ u. IsKernelTable u root frames slots stacks t) (sym is)
       (kernel_kept v (released 0 (joined v x)) root frames slots stacks t closed_at closed_code
       (ap (λ (u : View). u.credits) closed_is ∙ (let own = k.credits in let its = one.credits in omega (arith, own, its))) k)
+
+-- and when it takes one in that holds nothing
+module _ (v x : View) (bare : IsBare x) where
+  taken_at : (f : ℕ) → hold_of (joined v x) f ≡ hold_of v f
+  taken_at f = hold_of-joined v x f ∙ (let none = bare.none f in rw none refl)
+
+  pub taken_kernel : (w : View) → w ≡ joined v x → (root frames slots : ℕ) (stacks : List ℕ) (t : Tables) → IsKernelTable v root frames slots stacks t → IsKernelTable w root frames slots stacks t
+  taken_kernel w is root frames slots stacks t k =
+      subst (λ u. IsKernelTable u root frames slots stacks t) (sym is)
+      (kernel_kept v (joined v x) root frames slots stacks t (λ f far. taken_at f) (ap (λ (h : Hold). h.references) (taken_at 0) ∙ k.maps.holds.code)
+      (let own = k.credits in let its = bare.credits in omega (arith, own, its)) k)

@@ -11,7 +11,7 @@ use Rattle.frame_store.specs.Holds.{hold_of-empty, hold_of-with_hold_other, hold
 use Rattle.frame_store.specs.Laws.{Fits, Keeps}
 use Rattle.frame_store.specs.Plain.{Agrees, Bank, BankRule, to_back, to_front, total_references}
 use Rattle.frame_store.specs.Seats.{place_in}
-use Rattle.frame_store.specs.View.{empty_view, Hold, hold_of, IsSole, references, View}
+use Rattle.frame_store.specs.View.{empty_view, Hold, hold_of, IsSole, opening_view, references, sole_hold, View}
 use Rattle.hart_machine.specs.Tenants.{view_of}
 use Rattle.hart_machine.specs.Worlds.{seats_of}
 use Rattle.hart_machine.specs.declared.machine.Machine.{Machine}
@@ -19,6 +19,14 @@ use Rattle.hart_machine.specs.declared.tenant.Tenant.{Tenant}
 use Rattle.hart_machine.proofs.AccessingWorlds.{Holds, holds_back}
 use Rattle.hart_machine.proofs.StartSeats.{kernel_kept}
 use Rattle.table_walk.specs.Tables.{Tables}
+
+-- the first seat of a store
+pub opening_holds : (frames : ℕ) → HoldsTrampoline (opening_view frames)
+opening_holds frames = record {
+  once = ap (λ (h : Hold). h.references) (hold_of-with_hold_same 0 sole_hold (empty_view frames));
+  others = λ f apart. ap (λ (h : Hold). h.references) (hold_of-with_hold_other 0 sole_hold (empty_view frames) f apart ∙ hold_of-empty frames f);
+  credits = refl;
+}
 
 -- a seat that was opened
 

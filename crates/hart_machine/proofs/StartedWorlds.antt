@@ -35,7 +35,7 @@ use Rattle.hart_machine.proofs.StartedTables.{tables_here, tables_there, tables_
 use Rattle.hart_machine.proofs.StartedSeats.{held_inside, seat_comes}
 
 module _ (m n : Machine) (w : World) (is : IsWorld m w) (s : ℕ) (place : slice_get m.slots.items s ≡ Some None) (at : slice_get w.slots s ≡ Some None)
-    (ls : List LoadSegment) (y : Tenant) (t : Tables) (sized : n.kernel.seat.size ≡ m.kernel.seat.size) (slots : n.slots.items ≡ slice_set m.slots.items s (Some y)) (harts : n.harts ≡ m.harts)
+    (ls : List LoadSegment) (y : Tenant) (t : Tables) (sized : n.kernel.seat.size ≡ m.kernel.seat.size) (slots : n.slots.items ≡ slice_set m.slots.items s (Some y)) (harts : n.harts ≡ m.harts) (filed : n.files ≡ m.files)
     (agrees : IsSpace (body_in y) t (process_of w.counter ls)) (alone : OwnsAlone (view_of y) t) (pending : y.pending ≡ None)
     (rule : BankRule n.frames (n.kernel.seat ∷ view_of y ∷ seats_of m.slots.items))
     (table : IsKernelTable n.kernel.seat n.kernel.root.0 w.frames (length w.slots) is.stacks is.kernel) where
@@ -50,6 +50,7 @@ module _ (m n : Machine) (w : World) (is : IsWorld m w) (s : ℕ) (place : slice
         let leaf = agrees.stands.shows.on_trapframe in
         held_inside n.frames n.kernel.seat (view_of y) m.slots.items rule y.space.trapframe.0 (agrees.stands.owns.named y.space.trapframe.0 (leaf_node trapframe_page) (inr (leaf.0, leaf.1, leaf.2.names)));
     pending = rw pending refl;
+    wide = tt;
   }
 
   places_at : (k : ℕ) → IsPlace (slice_get (slice_set m.slots.items s (Some y)) k) (slice_get (slice_set w.slots s (Some (process_of w.counter ls))) k) (tables k)
@@ -86,6 +87,7 @@ module _ (m n : Machine) (w : World) (is : IsWorld m w) (s : ℕ) (place : slice
     places = λ k. subst (λ (xs : List (Option Tenant)). IsPlace (slice_get xs k) (slice_get (slice_set w.slots s (Some (process_of w.counter ls))) k) (tables k)) (sym slots) (places_at k);
     copies = started_copies m w is s at ls n.frames n.kernel.seat (view_of y) rule y.space.root.0 y.space.trapframe.0 t agrees.stands alone;
     counted = started_counted m w is s at ls;
+    files = filed ∙ is.files;
     harts = rw harts is.harts;
     hosted = λ h k x on slot. subst (λ (xs : List (Option Tenant)). (z : Tenant) × (slice_get xs k ≡ Some (Some z))) (sym slots) (hosted_at h k x (on_old h x on) slot);
     alone = λ s h k x z on also at upon. is.alone s h k x z (on_old h x on) (on_old k z also) at upon;
@@ -94,7 +96,7 @@ module _ (m n : Machine) (w : World) (is : IsWorld m w) (s : ℕ) (place : slice
   }
 
 -- the machine as it was, with another seat of the kernel
-module _ (m n : Machine) (w : World) (is : IsWorld m w) (sized : n.kernel.seat.size ≡ m.kernel.seat.size) (slots : n.slots ≡ m.slots) (harts : n.harts ≡ m.harts) (rule : BankRule n.frames (n.kernel.seat ∷ seats_of m.slots.items))
+module _ (m n : Machine) (w : World) (is : IsWorld m w) (sized : n.kernel.seat.size ≡ m.kernel.seat.size) (slots : n.slots ≡ m.slots) (harts : n.harts ≡ m.harts) (filed : n.files ≡ m.files) (rule : BankRule n.frames (n.kernel.seat ∷ seats_of m.slots.items))
     (table : IsKernelTable n.kernel.seat n.kernel.root.0 w.frames (length w.slots) is.stacks is.kernel) where
   pub stays : IsWorld n w
   stays = record {
@@ -108,6 +110,7 @@ module _ (m n : Machine) (w : World) (is : IsWorld m w) (sized : n.kernel.seat.s
     places = rw slots is.places;
     copies = is.copies;
     counted = is.counted;
+    files = filed ∙ is.files;
     harts = rw harts is.harts;
     hosted = rw (harts, slots) is.hosted;
     alone = rw harts is.alone;
@@ -123,7 +126,7 @@ module _ (w : World) (s : ℕ) (image : model.Image) (ls : List LoadSegment) (to
   started_dry : is_dry w (start_need ls) ≡ true → started w (image_loads image) (free_slot w) ≡ started_unless w s ls true
   started_dry dry = rw (to, loaded, dry) refl
 
-  module _ (m n : Machine) (is : IsWorld m w) (sized : n.kernel.seat.size ≡ m.kernel.seat.size) (harts : n.harts ≡ m.harts)
+  module _ (m n : Machine) (is : IsWorld m w) (sized : n.kernel.seat.size ≡ m.kernel.seat.size) (harts : n.harts ≡ m.harts) (filed : n.files ≡ m.files)
       (table : IsKernelTable n.kernel.seat n.kernel.root.0 w.frames (length w.slots) is.stacks is.kernel) where
     -- enough frames are free
     pub makes_started : (y : Tenant) (t : Tables) → n.slots.items ≡ slice_set m.slots.items s (Some y)
@@ -134,7 +137,7 @@ module _ (w : World) (s : ℕ) (image : model.Image) (ls : List LoadSegment) (to
         let was = free_is m w is in
         let wet : is_dry w (start_need ls) ≡ false = le-ltb (free w) (start_need ls) (omega (arith, enough, was)) in
         subst (λ (o : Outcome). Makes n (Started s) o) (sym (started_wet wet))
-        (refl, starts m n w is s (free_place m w is s to) (free_is_empty w s to) ls y t sized slots harts agrees alone pending rule table)
+        (refl, starts m n w is s (free_place m w is s to) (free_is_empty w s to) ls y t sized slots harts filed agrees alone pending rule table)
 
     -- too few are
     pub makes_refused : n.slots ≡ m.slots → BankRule n.frames (n.kernel.seat ∷ seats_of m.slots.items) → (start_need ls ≤ m.frames.free → ⊥)
@@ -142,4 +145,4 @@ module _ (w : World) (s : ℕ) (image : model.Image) (ls : List LoadSegment) (to
     makes_refused slots rule few =
         let was = free_is m w is in
         let dry : is_dry w (start_need ls) ≡ true = lt-ltb (free w) (start_need ls) (lt_of_not-le (λ le. few (omega (arith, was, le)))) in
-        subst (λ (o : Outcome). Makes n (Refused NoFrame) o) (sym (started_dry dry)) (refl, stays m n w is sized slots harts rule table)
+        subst (λ (o : Outcome). Makes n (Refused NoFrame) o) (sym (started_dry dry)) (refl, stays m n w is sized slots harts filed rule table)

@@ -18,7 +18,7 @@ use Rattle.hart_machine.specs.declared.hart.Hart.{Hart}
 use Rattle.hart_machine.specs.declared.machine.Machine.{Machine}
 use Rattle.hart_machine.specs.declared.tenant.Tenant.{Tenant}
 use Rattle.hart_machine.proofs.HartSteps.{hart_changes, hart_read, HasHart, impossible, its_process, makes, process_at, refused, runs, tenant_at}
-use Rattle.hart_machine.proofs.ProcessSteps.{pending_changes}
+use Rattle.hart_machine.proofs.ProcessSteps.{nothing_pending}
 
 pub user_is : (p : Phase) → model.is_user p ≡ true → p ≡ phase.User
 user_is phase.User e = refl
@@ -58,7 +58,7 @@ module _ (m : Machine) (w : World) (is : IsWorld m w) (h : ℕ) (p : Phase) (has
         let q = process_at m w is s t.0 t.1 in
         let n_is = made t.0 t.1 in
         let x_is : x ≡ has.hart = hart_read m w is h p has x (read ∙ ap (λ (k : Machine). get_or k.harts.items h x) n_is) in
-        let after = pending_changes m w is s t.0 q.0 t.1 q.1 q.2 None in
+        let after = nothing_pending m w is s t.0 q.0 t.1 q.1 q.2 in
         subst (λ (k : Machine). Makes (record k { harts = with_item k.harts h (record x { phase = phase.Enter0 }) }) Done (plain_step w (step.Trap h))) (sym n_is)
         (subst (λ (z : Hart). Makes (record m { slots = with_item m.slots s (Some (record t.0 { pending = None })); harts = with_item m.harts h (record z { phase = phase.Enter0 }) }) Done (plain_step w (step.Trap h))) (sym x_is)
         (makes _ Done _ _ (hart_changes _ _ after h has.hart (record has.hart { phase = phase.Enter0 }) has.there (λ r at. after.hosted h r has.hart has.there at) (λ r on k z at also. after.alone r k h z has.hart at has.there also on) (λ none. absurd (user_has_slot user none)) (λ e there. enters after.tables after.kernel has.hart (has.phased ∙ user_is p user) e (after.buffers h has.hart e has.there there)))

@@ -1,6 +1,8 @@
 pub mod Accesses
 pub mod Buffers
+pub mod Calls
 pub mod Harts
+pub mod Serving
 pub mod Tables
 pub mod Tenants
 pub mod Walked

@@ -12,6 +12,11 @@ abbrev pub pending_of : Option Pending → Option model.Pending
 pending_of None = None
 pending_of (Some x) = Some (record { access = x.access; address = x.va.0; width = x.width; served = x.served })
 
+-- an access that waits has bytes
+abbrev pub HasBytes : Option model.Pending → Type 0
+HasBytes None = Unit {0}
+HasBytes (Some a) = 0 < a.width
+
 -- what the seat of a process knows
 abbrev pub view_of : Tenant → View
 view_of x = x.space.seat
@@ -25,3 +30,4 @@ pub record IsTenant (x : Tenant) (t : Tables) (p : Process) : Type 0 where
   -- the number of a frame
   pub framed : x.space.trapframe.0 < 2 ^ 16
   pub pending : p.pending ≡ pending_of x.pending
+  pub wide : HasBytes p.pending

@@ -79,6 +79,7 @@ pub record IsWorld (m : Machine) (w : World) : Type 0 where
   pub places : (s : ℕ) → IsPlace (slice_get m.slots.items s) (slice_get w.slots s) (tables s)
   pub copies : HaveCopies w.slots tables
   pub counted : AreCounted w.slots w.counter
+  pub files : m.files ≡ w.files
   pub harts : map hart_of m.harts.items ≡ w.harts
   -- a hart's process is there
   pub hosted : (h s : ℕ) (x : Hart) → slice_get m.harts.items h ≡ Some x → x.slot ≡ Some s → (y : Tenant) × (slice_get m.slots.items s ≡ Some (Some y))

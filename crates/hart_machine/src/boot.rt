@@ -1,6 +1,6 @@
 // The machine boots.
 
-ghost use Rattle.std.specs.Prelude.{[], ◌≡◌, ◌↔◌, false, IfErr, IfOk, IsErrOf, map, None, replicate};
+ghost use Rattle.std.specs.Prelude.{◌≡◌, ◌↔◌, false, IfErr, IfOk, IsErrOf, map, None, replicate};
 ghost use Rattle.hart_machine.specs.Harts.{hart_of};
 ghost use Rattle.hart_machine.specs.Worlds.{IsWorld};
 ghost use Rattle.process_model.specs.Frames.{can_boot};
@@ -12,6 +12,7 @@ use crate::hart::Hart;
 use crate::machine::Machine;
 use crate::tenant::Tenant;
 use address_space::KernelTable;
+use file_cabinet::Cabinet;
 use frame_store::PlainFrames;
 use process_model::Config;
 use std::alloc::{AllocError, AllocFailed, Global};
@@ -48,11 +49,11 @@ impl From<AllocError> for BootError {
 }
 
 impl Machine {
-    /// A machine of these sizes: its slots empty, its harts idle, and the table of the kernel built. All room that it ever
-    /// needs is made here. Its steps have a meaning with the policy `full`.
-    pub fn boot(alloc: Global, config: Config) -> Result<Machine, BootError>
+    /// A machine of these sizes, with these files: its slots empty, its harts idle, and the table of the kernel built. All
+    /// room that it ever needs is made here. Its steps have a meaning with the policy `full`. A refusal drops the files.
+    pub fn boot(alloc: Global, config: Config, files: Cabinet) -> Result<Machine, BootError>
         ensures limits { IsErrOf result BootError.BadArgument ↔ (can_boot config.harts config.frames config.slots ≡ false) }
-        ensures booted { IfOk result (λ m. config.policy ≡ Full → IsWorld m (booted config [])) }
+        ensures booted { IfOk result (λ m. config.policy ≡ Full → IsWorld m (booted config files)) }
     {
         if !config.is_bootable() {
             return Err(BootError::BadArgument);
@@ -73,6 +74,7 @@ impl Machine {
             kernel,
             slots,
             harts,
+            files,
         })
     }
 }

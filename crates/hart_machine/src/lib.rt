@@ -4,9 +4,12 @@
 mod accessing;
 mod boot;
 mod buffering;
+mod calls;
+mod ending;
 mod filled;
 mod hart;
 mod machine;
+mod serving;
 mod starting;
 mod stepping;
 mod switching;

@@ -9,16 +9,18 @@ ghost use Rattle.process_model.specs.World.{process_in, report, World};
 use crate::hart::Hart;
 use crate::tenant::{Pending, Tenant};
 use address_space::KernelTable;
+use file_cabinet::Cabinet;
 use frame_store::{PlainFrames, PlainSeat};
 use process_model::{Phase, Report};
 
-/// One memory with the table of the kernel, processes in slots, and harts. All that it needs is made when it is booted.
+/// One memory with the table of the kernel, processes in slots, harts, and files. All that it needs is made when it is booted.
 #[derive(Drop)]
 pub struct Machine {
     pub(crate) frames: PlainFrames,
     pub(crate) kernel: KernelTable<PlainSeat>,
     pub(crate) slots: Vec<Option<Tenant>>,
     pub(crate) harts: Vec<Hart>,
+    pub(crate) files: Cabinet,
 }
 
 impl Machine {
@@ -27,6 +29,13 @@ impl Machine {
         ensures { (w : World) → IsWorld self.now w → result ≡ report w }
     {
         self.frames.report()
+    }
+
+    /// The files, as they are now.
+    pub fn files(&self) -> &Cabinet
+        ensures { (w : World) → IsWorld self.now w → result.now ≡ w.files }
+    {
+        &self.files
     }
 
     /// Where a hart is between user and kernel.

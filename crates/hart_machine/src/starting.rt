@@ -77,6 +77,7 @@ impl Machine {
         ensures free { self.new.frames.free ≡ self.old.frames.free }
         ensures slots { self.new.slots ≡ self.old.slots }
         ensures harts { self.new.harts ≡ self.old.harts }
+        ensures files { self.new.files ≡ self.old.files }
         ensures rule { (others : List View) → BankRule self.old.frames (self.old.kernel.seat ∷ others) → BankRule self.new.frames (self.new.kernel.seat ∷ result ∷ others) }
     {
         let Ok(seat) = opened_seat(&mut self.frames, &mut self.kernel.seat) else {
@@ -95,6 +96,7 @@ impl Machine {
         ensures size { self.new.kernel.seat.size ≡ self.old.kernel.seat.size }
         ensures slots { self.new.slots ≡ self.old.slots }
         ensures harts { self.new.harts ≡ self.old.harts }
+        ensures files { self.new.files ≡ self.old.files }
         ensures rule { (others : List View) → BankRule self.old.frames (self.old.kernel.seat ∷ seat ∷ others) → BankRule self.new.frames (self.new.kernel.seat ∷ others) }
     {
         self.frames.join(&mut self.kernel.seat, seat);

@@ -50,6 +50,21 @@ impl Machine {
                 via,
             } => self.access(hart, asked(Access::Store, address, width, value), via),
             Step::TrampolineFetch { hart, offset, via } => self.fetch_trampoline(hart, offset, via),
+            Step::Serve { hart } => self.serve(hart),
+            Step::Sbrk { hart, delta } => self.sbrk(hart, delta),
+            Step::Mmap {
+                hart,
+                length,
+                protection,
+                flags,
+                file,
+            } => self.mmap(hart, length, protection, flags, file),
+            Step::Munmap {
+                hart,
+                address,
+                length,
+            } => self.munmap(hart, address, length),
+            Step::Exit { hart, status } => self.exit(hart, status),
             // no other step is played
             _ => unreachable!(),
         }

@@ -85,7 +85,7 @@ impl Machine {
     }
 
     /// Whether an access of the process on a hart faulted and was not served.
-    fn awaits_service(&self, hart: usize) -> bool
+    pub(crate) fn awaits_service(&self, hart: usize) -> bool
         ensures { (w : World) (x : harts.Hart) → IsWorld self.now w → slice_get w.harts hart ≡ Some x → result ≡ model.awaits_service w x }
     {
         let Some(slot) = self.slot_of(hart) else {

@@ -49,9 +49,9 @@ returns-in-Ok-start-clause-made c w is =
     let ok = c.in-Ok-start in
     let others = seats_of m.slots.items in
     let y : Tenant = record { space = ok.space; pending = None } in
-    let n : Machine = record { frames = c.start.new.store; kernel = o.new.self.kernel; slots = with_item o.new.self.slots s (Some y); harts = o.new.self.harts } in
+    let n : Machine = record { frames = c.start.new.store; kernel = o.new.self.kernel; slots = with_item o.new.self.slots s (Some y); harts = o.new.self.harts; files = o.new.self.files } in
     makes_started w s c.args.image c.in-Ok.image (sym (c.free_slot.ensures w is) ∙ c.in-Some.is) (ap image_loads c.in-Segments.is ∙ sym c.from_segments.ensures ∙ c.in-Ok.is)
-    m n is o.ensures.size o.ensures.harts (open_kernel m o.new.self o.ensures.opener w.frames (length w.slots) is.stacks is.kernel is.of_kernel)
+    m n is o.ensures.size o.ensures.harts o.ensures.files (open_kernel m o.new.self o.ensures.opener w.frames (length w.slots) is.stacks is.kernel is.of_kernel)
     y ok.ensures.started.0 (rw o.ensures.slots refl)
     (ok.ensures.started.1 w.counter) ok.ensures.started.2 refl
     (second_steps o.new.self.frames c.start.new.store o.new.self.kernel.seat o.result ok.space.seat others ok.ensures.keeps (o.ensures.rule others is.rule))
@@ -67,7 +67,7 @@ returns-in-Err-start-clause-made c w is =
     let n = c.close_seat.new.self in
     let opened = open_kernel m o.new.self o.ensures.opener w.frames (length w.slots) is.stacks is.kernel is.of_kernel in
     makes_refused w s c.args.image c.in-Ok.image (sym (c.free_slot.ensures w is) ∙ c.in-Some.is) (ap image_loads c.in-Segments.is ∙ sym c.from_segments.ensures ∙ c.in-Ok.is)
-    m n is (c.close_seat.ensures.size ∙ o.ensures.size) (c.close_seat.ensures.harts ∙ o.ensures.harts)
+    m n is (c.close_seat.ensures.size ∙ o.ensures.size) (c.close_seat.ensures.harts ∙ o.ensures.harts) (c.close_seat.ensures.files ∙ o.ensures.files)
     (c.close_seat.ensures.kernel w.frames (length w.slots) is.stacks is.kernel opened)
     (c.close_seat.ensures.slots ∙ o.ensures.slots)
     (c.close_seat.ensures.rule others (second_steps o.new.self.frames c.start.new.store o.new.self.kernel.seat o.result e.seat others e.ensures.keeps_refused (o.ensures.rule others is.rule)))

@@ -1,5 +1,8 @@
-use Rattle.std.proofs.Common.{refl, subst}
+use Rattle.std.proofs.Common.{ℤ, refl, rules, subst, w32, w64}
+use Rattle.std.proofs.lemmas.Int.{to_z-of_z}
+use mir.Val.{SFits}
 use Rattle.process_model.specs.Service.{access_step}
+use Rattle.process_model.specs.Steps.{plain_step}
 use Rattle.process_model.specs.declared.step.Step.TheVariants as step
 use Rattle.hart_machine.specs.Worlds.{Makes}
 use Rattle.address_space.specs.declared.user.Asked.{Asked}
@@ -113,3 +116,61 @@ returns-in-TrampolineFetch-clause-each_buffer c w is = let x = c.in-TrampolineFe
 
 pub returns-in-TrampolineFetch-clause-buffers : goal.returns-in-TrampolineFetch-clause-buffers
 returns-in-TrampolineFetch-clause-buffers c w is = only_fills_add c.args.self.now c.fetch_trampoline.new.self is.tables is.kernel _ _ (returns-in-TrampolineFetch-clause-each_buffer c w is)
+
+pub returns-in-Mmap-clause-made : goal.returns-in-Mmap-clause-made
+returns-in-Mmap-clause-made c w is =
+    let x = c.in-Mmap in
+    steps c.args.self.now _ _ w is (step.Mmap x.hart x.length x.protection x.flags x.file) _ x.is (c.mmap.ensures.made w is)
+
+pub returns-in-Mmap-clause-each_buffer : goal.returns-in-Mmap-clause-each_buffer
+returns-in-Mmap-clause-each_buffer c w is = let x = c.in-Mmap in are_of c.args.self.now c.mmap.new.self is.tables is.kernel c.mmap.result c.in-Mmap.is (same_are c.args.self.now c.mmap.new.self is.tables is.kernel (step.Mmap x.hart x.length x.protection x.flags x.file) _ (λ h. refl) c.mmap.ensures.buffers)
+
+pub returns-in-Mmap-clause-buffers : goal.returns-in-Mmap-clause-buffers
+returns-in-Mmap-clause-buffers c w is = only_fills_add c.args.self.now c.mmap.new.self is.tables is.kernel _ _ (returns-in-Mmap-clause-each_buffer c w is)
+
+pub returns-in-Munmap-clause-made : goal.returns-in-Munmap-clause-made
+returns-in-Munmap-clause-made c w is =
+    let x = c.in-Munmap in
+    steps c.args.self.now _ _ w is (step.Munmap x.hart x.address x.length) _ x.is (c.munmap.ensures.made w is)
+
+pub returns-in-Munmap-clause-each_buffer : goal.returns-in-Munmap-clause-each_buffer
+returns-in-Munmap-clause-each_buffer c w is = let x = c.in-Munmap in are_of c.args.self.now c.munmap.new.self is.tables is.kernel c.munmap.result c.in-Munmap.is (same_are c.args.self.now c.munmap.new.self is.tables is.kernel (step.Munmap x.hart x.address x.length) _ (λ h. refl) c.munmap.ensures.buffers)
+
+pub returns-in-Munmap-clause-buffers : goal.returns-in-Munmap-clause-buffers
+returns-in-Munmap-clause-buffers c w is = only_fills_add c.args.self.now c.munmap.new.self is.tables is.kernel _ _ (returns-in-Munmap-clause-each_buffer c w is)
+
+pub returns-in-Sbrk-clause-made : goal.returns-in-Sbrk-clause-made
+returns-in-Sbrk-clause-made c w is =
+    let x = c.in-Sbrk in
+    let fits : SFits w64 x.delta = search rules in
+    steps c.args.self.now _ _ w is (step.Sbrk x.hart x.delta) _ x.is
+    (subst (λ (z : ℤ). Makes c.sbrk.new.self c.sbrk.result (plain_step w (step.Sbrk x.hart z))) (to_z-of_z w64 x.delta fits) (c.sbrk.ensures.made w is))
+
+pub returns-in-Sbrk-clause-each_buffer : goal.returns-in-Sbrk-clause-each_buffer
+returns-in-Sbrk-clause-each_buffer c w is = let x = c.in-Sbrk in are_of c.args.self.now c.sbrk.new.self is.tables is.kernel c.sbrk.result c.in-Sbrk.is (same_are c.args.self.now c.sbrk.new.self is.tables is.kernel (step.Sbrk x.hart x.delta) _ (λ h. refl) c.sbrk.ensures.buffers)
+
+pub returns-in-Sbrk-clause-buffers : goal.returns-in-Sbrk-clause-buffers
+returns-in-Sbrk-clause-buffers c w is = only_fills_add c.args.self.now c.sbrk.new.self is.tables is.kernel _ _ (returns-in-Sbrk-clause-each_buffer c w is)
+
+pub returns-in-Serve-clause-made : goal.returns-in-Serve-clause-made
+returns-in-Serve-clause-made c w is =
+    steps c.args.self.now _ _ w is (step.Serve c.in-Serve.hart) _ c.in-Serve.is (c.serve.ensures.made w is)
+
+pub returns-in-Serve-clause-each_buffer : goal.returns-in-Serve-clause-each_buffer
+returns-in-Serve-clause-each_buffer c w is = are_of c.args.self.now c.serve.new.self is.tables is.kernel c.serve.result c.in-Serve.is (same_are c.args.self.now c.serve.new.self is.tables is.kernel (step.Serve c.in-Serve.hart) _ (λ h. refl) c.serve.ensures.buffers)
+
+pub returns-in-Serve-clause-buffers : goal.returns-in-Serve-clause-buffers
+returns-in-Serve-clause-buffers c w is = only_fills_add c.args.self.now c.serve.new.self is.tables is.kernel _ _ (returns-in-Serve-clause-each_buffer c w is)
+
+pub returns-in-Exit-clause-made : goal.returns-in-Exit-clause-made
+returns-in-Exit-clause-made c w is =
+    let x = c.in-Exit in
+    let fits : SFits w32 x.status = search rules in
+    steps c.args.self.now _ _ w is (step.Exit x.hart x.status) _ x.is
+    (subst (λ (z : ℤ). Makes c.exit.new.self c.exit.result (plain_step w (step.Exit x.hart z))) (to_z-of_z w32 x.status fits) (c.exit.ensures.made w is))
+
+pub returns-in-Exit-clause-each_buffer : goal.returns-in-Exit-clause-each_buffer
+returns-in-Exit-clause-each_buffer c w is = let x = c.in-Exit in are_of c.args.self.now c.exit.new.self is.tables is.kernel c.exit.result c.in-Exit.is (same_are c.args.self.now c.exit.new.self is.tables is.kernel (step.Exit x.hart x.status) _ (λ h. refl) c.exit.ensures.buffers)
+
+pub returns-in-Exit-clause-buffers : goal.returns-in-Exit-clause-buffers
+returns-in-Exit-clause-buffers c w is = only_fills_add c.args.self.now c.exit.new.self is.tables is.kernel _ _ (returns-in-Exit-clause-each_buffer c w is)

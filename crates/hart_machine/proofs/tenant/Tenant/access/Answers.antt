@@ -1,7 +1,7 @@
 use Rattle.std.proofs.Common.{ap, sym, ◌∙◌}
 use Rattle.address_space.specs.Accesses.{asked_of}
 use Rattle.hart_machine.specs.Accesses.{pending_after}
-use Rattle.hart_machine.proofs.AccessingPages.{access_pending}
+use Rattle.hart_machine.proofs.AccessingPages.{access_pending, access_wide}
 use Rattle.hart_machine.proofs.tenant.Tenant.access.Goals as goal
 
 pub user_access-reply-requires : goal.user_access-reply-requires
@@ -21,6 +21,7 @@ returns-clause-after c t p tenant walks =
       agrees = c.user_access-reply.ensures.after t p tenant.agrees walks;
       framed = rw c.user_access-reply.ensures.trapframe tenant.framed;
       pending = access_pending p (asked_of c.args.asked) ∙ sym (c.pending-self.ensures ∙ ap (pending_after (asked_of c.args.asked)) reply);
+      wide = access_wide p (asked_of c.args.asked) c.requires.width;
     }
 
 pub returns-clause-keeps : goal.returns-clause-keeps

@@ -1,0 +1,311 @@
+-- The worlds that the service of a fault comes to.
+use Rattle.std.proofs.Common.{◌≡◌, ℕ, ◌+◌, ◌-◌, ◌^◌, ◌<◌, ◌≤◌, ◌==◌, ◌⊎◌, Bool, true, false, not, Option, None, Some, List, refl, ap, sym, subst, ◌∙◌, inl, inr, arith, slice_index, is_some}
+use Rattle.std.specs.Prelude.{Ok, Err, IfErr, IfOk, Result, slice_get}
+use Rattle.std.specs.FinMap as finite
+use Rattle.std.specs.Vec.{with_item}
+use Rattle.std.proofs.lemmas.Bool.{le-ltb, lt-ltb}
+use Rattle.std.proofs.lemmas.Option.{slice_get_within}
+use Rattle.address_space.specs.Agreement.{IsOn}
+use Rattle.fault_rules.specs.Resides.{gets_frame, is_counted, is_shared_by, IsPlaced}
+use Rattle.frame_store.specs.Laws.{Keeps}
+use Rattle.frame_store.specs.Plain.{Bank, BankRule}
+use Rattle.frame_store.specs.Seats.{place_set_back, place_set_same}
+use Rattle.frame_store.specs.View.{IsSole}
+use Rattle.process_model.specs.Around as model
+use Rattle.process_model.specs.Around.{is_shared_page, need_at, Progress, reached, unless_dry, unless_resident, resident_at}
+use Rattle.process_model.specs.Files.{File}
+use Rattle.process_model.specs.PageMap.{get}
+use Rattle.process_model.specs.Process.{Page, Pending, Process}
+use Rattle.process_model.specs.Residence.{is_resident, made_resident}
+use Rattle.process_model.specs.Service.{around, begun, ended, is_dry, served, served_or_ended}
+use Rattle.process_model.specs.World.{free, is_unserved_access, others_have, Outcome, with_process, World}
+use Rattle.process_model.specs.declared.step.Reply.TheVariants.{Ended, Ready}
+use Rattle.sv39_entry.specs.Address.{page_of}
+use Rattle.sv39_entry.specs.Word.{ppn}
+use Rattle.sv39_entry.specs.declared.access.Access.{Access}
+use Rattle.sv39_entry.specs.declared.access.Access.TheVariants as access
+use Rattle.sv39_entry.specs.declared.rule.Rule.{Rule}
+use Rattle.sv39_entry.specs.declared.rule.Rule.TheVariants.{NoFrame}
+use Rattle.table_walk.specs.Nodes.{leaf_node_is}
+use Rattle.table_walk.specs.Tables.{leaf_node, Tables}
+use Rattle.hart_machine.specs.Calls.{Follows, IsInKernel, IsKept, IsNew}
+use Rattle.hart_machine.specs.Harts.{hart_of}
+use Rattle.hart_machine.specs.Serving.{HasServed, IsEnding, MustEnd, rule_of, was_served, WhenShared}
+use Rattle.hart_machine.specs.Tenants.{IsTenant, view_of}
+use Rattle.hart_machine.specs.Worlds.{IsWorld, Makes}
+use Rattle.hart_machine.specs.declared.machine.Machine.{Machine}
+use Rattle.hart_machine.specs.declared.tenant.Tenant.{Tenant}
+use Rattle.hart_machine.proofs.AccessingWorlds.{bytes_change}
+use Rattle.hart_machine.proofs.Calling.{caller_quiet}
+use Rattle.hart_machine.proofs.Following.{call_changes}
+use Rattle.hart_machine.proofs.HartSteps.{tenant_is}
+use Rattle.hart_machine.proofs.HeldFrames.{free_is}
+use Rattle.hart_machine.proofs.ServedPages.{CopyIs, page_after, page_there, resident_stays, same_made}
+use Rattle.hart_machine.proofs.SharedPages.{others_have_page}
+use Rattle.hart_machine.proofs.StartedPages.{one_frame}
+
+-- an access waits
+pub some_pending : (o : Option Pending) → is_unserved_access o ≡ true → (a : Pending) × (o ≡ Some a)
+some_pending None waits = absurd (cc)
+some_pending (Some a) waits = (a, refl)
+
+-- whether the count of the frame of a leaf is not 1
+tells : (ℕ → ℕ) → Option ℕ → Bool
+tells count None = false
+tells count (Some leaf) = not (count (ppn leaf - 0x80000) == 1)
+
+tells_of : (count : ℕ → ℕ) (t : Tables) (page f : ℕ) → IsOn t page f → tells count (finite.get t.leaves (leaf_node page)) ≡ not (count f == 1)
+unfolding tells
+tells_of count t page f on =
+    let here : ppn on.0 - 0x80000 ≡ f = (let names = on.2 in omega (arith, names)) in
+    ap (tells count) on.1 ∙ ap (λ (n : ℕ). not (count n == 1)) here
+
+none_counted : (a : Access) → is_counted a None ≡ true → ⊥
+none_counted access.Fetch never = cc
+none_counted access.Load never = cc
+none_counted access.Store never = cc
+
+is_there : (o : Option ℕ) → is_some o ≡ true → (c : ℕ) × (o ≡ Some c)
+is_there None never = absurd (cc)
+is_there (Some c) there = (c, refl)
+
+-- a page of another number has another leaf
+other_leaf : (n page : ℕ) → n < 2 ^ 27 → page < 2 ^ 27 → (n ≡ page → ⊥) → leaf_node n ≡ leaf_node page → ⊥
+other_leaf n page low lower apart same =
+    let here = leaf_node_is n in
+    let there = leaf_node_is page in
+    apart (omega (arith, here, there, same, low, lower))
+
+module _ (m : Machine) (w : World) (is : IsWorld m w) (h s : ℕ) (k : IsInKernel m w h s true) (x y : Tenant) (place : slice_get m.slots.items s ≡ Some (Some x))
+    (b : Bank) (keeps : Keeps BankRule m.frames (view_of x) b (view_of y)) (a : Pending) (waits : (k.process).pending ≡ Some a) where
+  abbrev p : Process
+  p = k.process
+
+  abbrev t : Tables
+  t = is.tables s
+
+  abbrev page : ℕ
+  page = page_of a.address
+
+  abbrev shared : Bool
+  shared = is_shared_page (around w s) p page
+
+  abbrev need : ℕ
+  need = need_at (around w s) a.access page p
+
+  tenant : IsTenant x t p
+  tenant = tenant_is m w is s x p place k.in_slot
+
+  -- what is said of the frames that it takes holds of the model's number of them
+  told_of : (P : ℕ → Type 0) → WhenShared m.frames t p a P → P need
+  told_of P told = go (get p.settled page) refl where
+    go : (o : Option Page) → get p.settled page ≡ o → P need
+    go None e =
+        let some = told (tells (slice_index m.frames.counts) (finite.get t.leaves (leaf_node page))) (λ f on. tells_of (slice_index m.frames.counts) t page f on) in
+        rw e (rw e at some)
+    go (Some z) e =
+        let some = told (others_have w s z.copy) (λ f on. others_have_page m w is s page f p z k.in_slot e on) in
+        rw e (rw e at some)
+
+  -- a resident page takes no frame
+  resident_needs_none : is_resident p a.access page ≡ true → need ≡ 0
+  resident_needs_none through = go (get p.settled page) refl where
+    go : (o : Option Page) → get p.settled page ≡ o → need ≡ 0
+    go None e = absurd (let never = rw e at through in cc)
+    go (Some z) e = let goes = rw e at through in rw (e, goes) refl
+
+  -- the process has to end
+  module _ (rule : Rule) (must : MustEnd y t p a m.frames rule) where
+    abbrev unserved : Machine
+    unserved = record m { frames = b; slots = with_item m.slots s (Some y) }
+
+    still : IsWorld unserved w
+    still =
+        let after = bytes_change m w is s x y p p place k.in_slot tenant must.tenant b keeps (λ n z there. (z, there, refl)) in
+        subst (λ (v : World). IsWorld unserved v) (ap (λ (ps : List (Option Process)). let v : World = record w { slots = ps } in v) (place_set_back w.slots s (Some p) k.in_slot)) after
+
+    waits_still : reached (around w s) a.access a.address (begun w p) (rule_of p a) ≡ Err rule
+        → served w h (hart_of k.hart) s p (k.process).pending ≡ ended w h (hart_of k.hart) s p (Ended rule)
+    waits_still e = ap (served w h (hart_of k.hart) s p) waits ∙ ap (served_or_ended w h (hart_of k.hart) s p a) e
+
+    reaches : (why : (rule_of p a ≡ Some rule) ⊎ ((rule_of p a ≡ None) × (rule ≡ NoFrame) × WhenShared m.frames t p a (λ n. m.frames.free < n))) → reached (around w s) a.access a.address (begun w p) (rule_of p a) ≡ Err rule
+    unfolding resident_at
+    reaches (inl denied) = ap (reached (around w s) a.access a.address (begun w p)) denied
+    reaches (inr short) =
+        let few : m.frames.free < need = told_of (λ n. m.frames.free < n) short.2 in
+        let all = free_is m w is in
+        let dry : is_dry w (0 + need) ≡ true = lt-ltb (free w) (0 + need) (omega (arith, few, all)) in
+        ap (reached (around w s) a.access a.address (begun w p)) short.0 ∙ elim (is_resident p a.access page) as (λ r. is_resident p a.access page ≡ r → unless_resident (around w s) a.access page (begun w p) r ≡ Err rule) [
+          | true ↦ λ e. absurd (let none = resident_needs_none e in omega (arith, few, none))
+          | false ↦ λ _. ap (unless_dry (around w s) a.access page (begun w p) need) dry ∙ ap Err (sym short.1)
+        ] refl
+
+    pub is_ending : IsEnding m unserved w h s k rule
+    is_ending = record {
+      world = still;
+      there = record {
+        hart = k.hart;
+        there = k.there;
+        in_kernel = k.in_kernel;
+        on = k.on;
+        tenant = y;
+        place = place_set_same m.slots.items s (Some y) (slice_get_within m.slots.items s (Some x) place);
+        process = p;
+        in_slot = k.in_slot;
+        unserved = k.unserved;
+      };
+      hart = refl;
+      process = refl;
+      ends = waits_still (reaches must.why);
+    }
+
+  -- the page is resident
+  module _ (has : HasServed x y t p a m.files m.frames) where
+    abbrev from_count : Bool
+    from_count = is_shared_by has.count
+
+    -- the count that was read tells whether another process has the page
+    counted_so : is_counted a.access (get p.settled page) ≡ true → from_count ≡ shared
+    counted_so is_read = go (get p.settled page) refl where
+      go : (o : Option Page) → get p.settled page ≡ o → from_count ≡ shared
+      go None e = absurd (let never : is_counted a.access None ≡ true = ap (is_counted a.access) (sym e) ∙ is_read in none_counted a.access never)
+      go (Some z) e =
+          let shown = tenant.agrees.stands.shows.settled page z e in
+          let on : IsOn t page shown.frame = (shown.leaf, shown.mapped, shown.made.names) in
+          let c = is_there has.count (has.resides.counted ∙ is_read) in
+          ap is_shared_by c.1 ∙ ap (λ (n : ℕ). not (n == 1)) (has.counts shown.frame c.0 on c.1) ∙ sym (others_have_page m w is s page shown.frame p z k.in_slot e on)
+          ∙ ap (λ (o : Option Page). model.is_shared_by (others_have w s) o) (sym e)
+
+    abbrev fresh_page : Process
+    fresh_page = made_resident m.files w.counter from_count p a.access page
+
+    is_models : fresh_page ≡ made_resident w.files w.counter shared p a.access page
+    is_models = same_made w.counter page m.files from_count shared p a.access (get p.settled page) counted_so ∙ ap (λ (fs : List File). made_resident fs w.counter shared p a.access page) is.files
+
+    low : page < 2 ^ 27
+    low =
+        let z = page_there w.counter page m.files from_count p a.access (get p.settled page) refl in
+        let small = (has.tenant w.counter).agrees.stands.shows.low page z.0 z.1 in
+        omega (arith, small)
+
+    abbrev gets : Bool
+    gets = gets_frame from_count a.access (get p.settled page)
+
+    -- a page that keeps its frame
+    kept_on : (c : Bool) → gets ≡ c → c ≡ false → (z : Page) → get p.settled page ≡ Some z → (f : ℕ) → IsOn has.tables page f → IsOn t page f
+    kept_on c e off z settled f on =
+        let shown = tenant.agrees.stands.shows.settled page z settled in
+        let was : IsOn t page shown.frame = (shown.leaf, shown.mapped, shown.made.names) in
+        let now : IsOn has.tables page shown.frame = subst (λ (g : Bool). IsPlaced (view_of x) (view_of y) t has.tables page g) (e ∙ off) has.resides.placed shown.frame was in
+        let same : shown.frame ≡ f = one_frame (view_of y) y.space.root.0 y.space.trapframe.0 has.tables _ (has.tenant w.counter).agrees.stands page page shown.frame f now on refl in
+        subst (IsOn t page) same was
+
+    each : (high : ℕ) → (gets ≡ true → w.counter < high) → (n : ℕ) (z : Page) → get fresh_page.settled n ≡ Some z → IsKept t has.tables p n z ⊎ IsNew (view_of y) has.tables w.counter high n z
+    each high more n z there = elim (page_after w.counter page m.files from_count p a.access (get p.settled page) refl n z there) [
+      | inl other ↦ inl (record {
+        before = z;
+        settled = other.1;
+        copy = refl;
+        on = λ f on.
+            let small = tenant.agrees.stands.shows.low n z other.1 in
+            let same = has.resides.others (leaf_node n) (other_leaf n page (omega (arith, small)) low other.0) in
+            (on.0, sym same ∙ on.1, on.2);
+      })
+      | inr here ↦ go gets refl here.0 here.1
+    ] where
+      go : (c : Bool) → gets ≡ c → n ≡ page → CopyIs w.counter page gets z (get p.settled page) → IsKept t has.tables p n z ⊎ IsNew (view_of y) has.tables w.counter high n z
+      go true e at copy = inr (
+          let fresh : z.copy ≡ w.counter = subst (λ (g : Bool). CopyIs w.counter page g z (get p.settled page)) e copy in
+          let placed = subst (λ (g : Bool). IsPlaced (view_of x) (view_of y) t has.tables page g) e has.resides.placed in
+          let above = more e in
+          record {
+            given = omega (arith, fresh);
+            below = omega (arith, fresh, above);
+            sole = λ f on.
+                let same : placed.0 ≡ f = one_frame (view_of y) y.space.root.0 y.space.trapframe.0 has.tables _ (has.tenant w.counter).agrees.stands page n placed.0 f placed.1 on (sym at) in
+                subst (IsSole (view_of y)) same placed.3;
+          })
+      go false e at copy = inl (
+          let own = subst (λ (g : Bool). CopyIs w.counter page g z (get p.settled page)) e copy in
+          record {
+            before = own.0;
+            settled = ap (get p.settled) at ∙ own.1;
+            copy = own.2;
+            on = λ f on. subst (λ (i : ℕ). IsOn t i f) (sym at) (kept_on false e refl own.0 own.1 f (subst (λ (i : ℕ). IsOn has.tables i f) at on));
+          })
+
+    -- a page with a new copy number is the one that was made resident
+    new_here : (n : ℕ) (z : Page) → get fresh_page.settled n ≡ Some z → w.counter ≤ z.copy → n ≡ page
+    new_here n z there given = elim (page_after w.counter page m.files from_count p a.access (get p.settled page) refl n z there) [
+      | inl other ↦ absurd (let old = is.counted s n p z k.in_slot other.1 in omega (arith, old, given))
+      | inr here ↦ here.0
+    ]
+
+    follows : (high : ℕ) → w.counter ≤ high → (gets ≡ true → w.counter < high) → Follows (view_of y) t has.tables p (was_served fresh_page a) w.counter high
+    follows high order more = record {
+      each = each high more;
+      apart = λ l n c d at also given same. new_here l c at given ∙ sym (new_here n d also (let first = given in omega (arith, first, same)));
+      order = order;
+    }
+
+    world_after : (high : ℕ) → w.counter ≤ high → (gets ≡ true → w.counter < high)
+        → IsWorld (record m { frames = b; slots = with_item m.slots s (Some y) }) (record (with_process w s (was_served fresh_page a)) { counter = high })
+    world_after high order more =
+        subst (λ (fs : List File). IsWorld (record m { frames = b; slots = with_item m.slots s (Some y) }) (record (with_process w s (was_served fresh_page a)) { counter = high; files = fs })) is.files
+        (call_changes m w is s x y p (was_served fresh_page a) has.tables place k.in_slot (has.tenant w.counter) high (follows high order more) b keeps (caller_quiet m w is h s true k) m.files)
+
+    pub is_served : Makes (record m { frames = b; slots = with_item m.slots s (Some y) }) Ready (served w h (hart_of k.hart) s p (k.process).pending)
+    unfolding resident_at
+    is_served =
+        let few : need ≤ m.frames.free = told_of (λ n. n ≤ m.frames.free) has.enough in
+        let all = free_is m w is in
+        let wet : is_dry w (0 + need) ≡ false = le-ltb (free w) (0 + need) (omega (arith, few, all)) in
+        elim (is_resident p a.access page) as (λ r. is_resident p a.access page ≡ r → Makes (record m { frames = b; slots = with_item m.slots s (Some y) }) Ready (served w h (hart_of k.hart) s p (k.process).pending)) [
+          | true ↦ λ e.
+              let stays = resident_stays w.counter page m.files from_count p a.access (get p.settled page) e in
+              subst (λ (o : Outcome). Makes (record m { frames = b; slots = with_item m.slots s (Some y) }) Ready o)
+              (sym (reaches_by (Ok (begun w p)) (ap (unless_resident (around w s) a.access page (begun w p)) e))) (
+                refl,
+                subst (λ (q : Process). IsWorld (record m { frames = b; slots = with_item m.slots s (Some y) }) (record (with_process w s (was_served q a)) { counter = w.counter })) stays.0
+                    (world_after w.counter (omega arith) (λ gained. absurd (let kept = stays.1 in cc))),
+              )
+          | false ↦ λ e.
+              let g : Progress = record { process = made_resident w.files w.counter shared p a.access page; fresh = w.counter + 1; taken = 0 + need } in
+              subst (λ (o : Outcome). Makes (record m { frames = b; slots = with_item m.slots s (Some y) }) Ready o)
+              (sym (reaches_by (Ok g) (ap (unless_resident (around w s) a.access page (begun w p)) e ∙ ap (unless_dry (around w s) a.access page (begun w p) need) wet))) (
+                refl,
+                subst (λ (q : Process). IsWorld (record m { frames = b; slots = with_item m.slots s (Some y) }) (record (with_process w s (was_served q a)) { counter = w.counter + 1 })) is_models
+                    (world_after (w.counter + 1) (omega arith) (λ _. omega arith)),
+              )
+        ] refl where
+          reaches_by : (r : Result Progress Rule) → unless_resident (around w s) a.access page (begun w p) (is_resident p a.access page) ≡ r → served w h (hart_of k.hart) s p (k.process).pending ≡ served_or_ended w h (hart_of k.hart) s p a r
+          reaches_by r e = ap (served w h (hart_of k.hart) s p) waits ∙ ap (λ (o : Option Rule). served_or_ended w h (hart_of k.hart) s p a (reached (around w s) a.access a.address (begun w p) o)) has.allowed
+              ∙ ap (served_or_ended w h (hart_of k.hart) s p a) e
+
+-- by what the process's call told
+
+module _ (m : Machine) (s : ℕ) (x y : Tenant) (place : (w : World) (h : ℕ) → IsInKernel m w h s true → slice_get m.slots.items s ≡ Some (Some x))
+    (b : Bank) (keeps : Keeps BankRule m.frames (view_of x) b (view_of y)) (files : List File) (stay : files ≡ m.files) where
+  abbrev after : Machine
+  after = record m { frames = b; slots = with_item m.slots s (Some y); files = files }
+
+  files_are : (P : Machine → Type 0) → P (record m { frames = b; slots = with_item m.slots s (Some y) }) → P after
+  files_are P it = subst (λ (fs : List File). P (record m { frames = b; slots = with_item m.slots s (Some y); files = fs })) (sym stay) it
+
+  pub served_by : (r : Result (Unit {0}) Rule) → IfOk r (λ _. (t : Tables) (p : Process) (a : Pending) → IsTenant x t p → p.pending ≡ Some a → HasServed x y t p a m.files m.frames)
+      → IfOk r (λ _. (w : World) (h : ℕ) → IsWorld m w → (k : IsInKernel m w h s true) → Makes after Ready (served w h (hart_of k.hart) s k.process (k.process).pending))
+  served_by (Err e) told = tt
+  served_by (Ok u) told = λ w h is k.
+      let a = some_pending (k.process).pending k.unserved in
+      let at = place w h k in
+      files_are (λ n. Makes n Ready (served w h (hart_of k.hart) s k.process (k.process).pending))
+      (is_served m w is h s k x y at b keeps a.0 a.1 (told (is.tables s) k.process a.0 (tenant_is m w is s x k.process at k.in_slot) a.1))
+
+  pub ending_by : (r : Result (Unit {0}) Rule) → IfErr r (λ rule. (t : Tables) (p : Process) (a : Pending) → IsTenant x t p → p.pending ≡ Some a → MustEnd y t p a m.frames rule)
+      → IfErr r (λ rule. (w : World) (h : ℕ) → IsWorld m w → (k : IsInKernel m w h s true) → IsEnding m after w h s k rule)
+  ending_by (Ok u) told = tt
+  ending_by (Err rule) told = λ w h is k.
+      let a = some_pending (k.process).pending k.unserved in
+      let at = place w h k in
+      files_are (λ n. IsEnding m n w h s k rule)
+      (is_ending m w is h s k x y at b keeps a.0 a.1 rule (told (is.tables s) k.process a.0 (tenant_is m w is s x k.process at k.in_slot) a.1))

@@ -1,0 +1,62 @@
+use Rattle.std.proofs.Common.{◌∙◌, ◌<◌, ℤ, Some, ap, of_z, subst, sym, to_z, w64}
+use Rattle.std.specs.Vec.{with_item}
+use Rattle.std.proofs.lemmas.Int.{to_z-of_z}
+use Rattle.std.proofs.lemmas.Option.{get_or_from_slice_get, slice_get_within}
+use Rattle.std.proofs.lemmas.Result.{err_from_is_err_and}
+use Rattle.process_model.specs.Steps.{plain_step}
+use Rattle.process_model.specs.World.{refuses}
+use Rattle.process_model.specs.declared.step.Step.TheVariants as step
+use Rattle.hart_machine.specs.Calls.{size_or_refused}
+use Rattle.hart_machine.specs.Worlds.{Makes}
+use Rattle.hart_machine.specs.declared.machine.Machine.{Machine}
+use Rattle.hart_machine.proofs.AccessingWorlds.{seat_fits, slot_has}
+use Rattle.hart_machine.proofs.HartSteps.{process_at, refused}
+use Rattle.hart_machine.proofs.Sizing.{sizes}
+use Rattle.hart_machine.proofs.machine.Machine.resize.Goals as goal
+
+pub returns-in_err-slot-clause-made : goal.returns-in_err-slot-clause-made
+returns-in_err-slot-clause-made c w is =
+    let told = err_from_is_err_and c.from_residual.result c.from_residual.ensures.1 in
+    rw told.1 (refused c.args.self.now w is told.0 _ (c.in_err-slot.ensures.refused w _ is ∙ ap (refuses w) (sym told.2)))
+
+pub index_mut-requires : goal.index_mut-requires
+index_mut-requires c =
+    let m = c.args.self.now in
+    let r = c.requires.world in
+    let caller = c.in_ok-slot.ensures.there r.0 r.1 in
+    subst (λ n. c.in_ok-slot.slot < n) (sym m.slots.ok.0) (slice_get_within m.slots.items c.in_ok-slot.slot _ caller.place)
+
+pub unreachable-requires : goal.unreachable-requires
+unreachable-requires c =
+    let r = c.requires.world in
+    let caller = c.in_ok-slot.ensures.there r.0 r.1 in
+    let both = sym c.in_default.is ∙ c.index_mut.ensures.value ∙ get_or_from_slice_get c.args.self.now.slots.items c.in_ok-slot.slot (Some caller.tenant) _ caller.place in
+    cc
+
+pub sbrk-requires-clause-fits : goal.sbrk-requires-clause-fits
+sbrk-requires-clause-fits c =
+    let m = c.args.self.now in
+    let r = c.requires.world in
+    let caller = c.in_ok-slot.ensures.there r.0 r.1 in
+    let there = slot_has m.slots.items c.in_ok-slot.slot caller.tenant c.in-Some.tenant _ c.in-Some.is c.index_mut.ensures.value caller.place in
+    seat_fits m.frames m.kernel.seat m.slots.items c.in_ok-slot.slot c.in-Some.tenant there (r.1).rule
+
+pub sbrk-requires-clause-ready : goal.sbrk-requires-clause-ready
+sbrk-requires-clause-ready c =
+    let m = c.args.self.now in
+    let r = c.requires.world in
+    let caller = c.in_ok-slot.ensures.there r.0 r.1 in
+    let there = slot_has m.slots.items c.in_ok-slot.slot caller.tenant c.in-Some.tenant _ c.in-Some.is c.index_mut.ensures.value caller.place in
+    let found = process_at m r.0 r.1 c.in_ok-slot.slot c.in-Some.tenant there in
+    ((r.1).tables c.in_ok-slot.slot, found.0, found.2)
+
+pub returns-clause-made : goal.returns-clause-made
+returns-clause-made c w is =
+    let m = c.args.self.now in
+    let caller = c.in_ok-slot.ensures.there w is in
+    let there = slot_has m.slots.items c.in_ok-slot.slot caller.tenant c.in-Some.tenant _ c.in-Some.is c.index_mut.ensures.value caller.place in
+    let y = c.sbrk in
+    let n : Machine = record m { frames = y.new.frames; slots = with_item m.slots c.in_ok-slot.slot (Some y.new.self) } in
+    subst (λ (z : ℤ). Makes n (size_or_refused y.result) (plain_step w (step.Sbrk c.args.hart z))) (to_z-of_z w64 c.args.delta c.ranges.delta)
+    (sizes m w is c.args.hart c.in_ok-slot.slot caller c.in-Some.tenant y.new.self there (to_z w64 (of_z w64 c.args.delta)) y.new.frames y.result
+    y.ensures.answer y.ensures.resized y.ensures.stays y.ensures.frames_stay y.ensures.keeps)

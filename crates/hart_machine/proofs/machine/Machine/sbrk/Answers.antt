@@ -1,0 +1,22 @@
+use Rattle.std.proofs.Common.{ℤ, subst, w64}
+use Rattle.std.proofs.lemmas.Int.{to_z-of_z}
+use Rattle.process_model.specs.Steps.{plain_step}
+use Rattle.process_model.specs.declared.step.Reply.TheVariants.{OldSize, Refused}
+use Rattle.process_model.specs.declared.step.Step.TheVariants as step
+use Rattle.hart_machine.specs.Worlds.{Makes}
+use Rattle.hart_machine.proofs.BufferSteps.{same_harts}
+use Rattle.hart_machine.proofs.machine.Machine.sbrk.Goals as goal
+
+pub returns-in-Ok-clause-buffers : goal.returns-in-Ok-clause-buffers
+returns-in-Ok-clause-buffers c = same_harts c.args.self.now c.resize.new.self c.in-Ok.ensures.harts
+
+pub returns-in-Err-clause-buffers : goal.returns-in-Err-clause-buffers
+returns-in-Err-clause-buffers c = same_harts c.args.self.now c.resize.new.self c.in-Err.ensures.harts
+
+pub returns-in-Ok-clause-made : goal.returns-in-Ok-clause-made
+returns-in-Ok-clause-made c w is =
+    subst (λ (z : ℤ). Makes c.resize.new.self (OldSize c.in-Ok.size) (plain_step w (step.Sbrk c.args.hart z))) (to_z-of_z w64 c.args.delta c.ranges.delta) (c.in-Ok.ensures.made w is)
+
+pub returns-in-Err-clause-made : goal.returns-in-Err-clause-made
+returns-in-Err-clause-made c w is =
+    subst (λ (z : ℤ). Makes c.resize.new.self (Refused c.in-Err.refusal) (plain_step w (step.Sbrk c.args.hart z))) (to_z-of_z w64 c.args.delta c.ranges.delta) (c.in-Err.ensures.made w is)

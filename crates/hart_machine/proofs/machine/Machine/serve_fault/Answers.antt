@@ -1,0 +1,60 @@
+use Rattle.std.proofs.Common.{◌∙◌, ◌<◌, Some, ap, subst, sym}
+use Rattle.std.proofs.lemmas.Option.{get_or_from_slice_get, slice_get_within}
+use Rattle.process_model.specs.World.{is_unserved_access}
+use Rattle.hart_machine.proofs.AccessingWorlds.{seat_fits, slot_has}
+use Rattle.hart_machine.proofs.HartSteps.{tenant_is}
+use Rattle.hart_machine.proofs.ServedWorlds.{ending_by, served_by}
+use Rattle.hart_machine.proofs.machine.Machine.serve_fault.Goals as goal
+
+pub index_mut-requires : goal.index_mut-requires
+index_mut-requires c =
+    let m = c.args.self.now in
+    let r = c.requires.world in
+    let k = r.3 in
+    subst (λ n. c.args.slot < n) (sym m.slots.ok.0) (slice_get_within m.slots.items c.args.slot _ k.place)
+
+pub unreachable-requires : goal.unreachable-requires
+unreachable-requires c =
+    let r = c.requires.world in
+    let k = r.3 in
+    let both = sym c.in_default.is ∙ c.index_mut.ensures.value ∙ get_or_from_slice_get c.args.self.now.slots.items c.args.slot (Some k.tenant) _ k.place in
+    cc
+
+pub serve-requires-clause-fits : goal.serve-requires-clause-fits
+serve-requires-clause-fits c =
+    let m = c.args.self.now in
+    let r = c.requires.world in
+    let k = r.3 in
+    let there = slot_has m.slots.items c.args.slot k.tenant c.in-Some.tenant _ c.in-Some.is c.index_mut.ensures.value k.place in
+    seat_fits m.frames m.kernel.seat m.slots.items c.args.slot c.in-Some.tenant there (r.2).rule
+
+pub serve-requires-clause-ready : goal.serve-requires-clause-ready
+serve-requires-clause-ready c =
+    let m = c.args.self.now in
+    let r = c.requires.world in
+    let k = r.3 in
+    let there = slot_has m.slots.items c.args.slot k.tenant c.in-Some.tenant _ c.in-Some.is c.index_mut.ensures.value k.place in
+    ((r.2).tables c.args.slot, k.process, tenant_is m r.0 r.2 c.args.slot c.in-Some.tenant k.process there k.in_slot)
+
+pub serve-requires-clause-waits : goal.serve-requires-clause-waits
+serve-requires-clause-waits c t p tenant =
+    let m = c.args.self.now in
+    let r = c.requires.world in
+    let k = r.3 in
+    let there = slot_has m.slots.items c.args.slot k.tenant c.in-Some.tenant _ c.in-Some.is c.index_mut.ensures.value k.place in
+    let own = tenant_is m r.0 r.2 c.args.slot c.in-Some.tenant k.process there k.in_slot in
+    ap is_unserved_access (tenant.pending ∙ sym own.pending) ∙ k.unserved
+
+pub returns-clause-ready : goal.returns-clause-ready
+returns-clause-ready c =
+    let m = c.args.self.now in
+    let e = c.serve.ensures in
+    served_by m c.args.slot c.in-Some.tenant c.serve.new.self (λ w h k. slot_has m.slots.items c.args.slot k.tenant c.in-Some.tenant _ c.in-Some.is c.index_mut.ensures.value k.place)
+    c.serve.new.frames e.keeps c.serve.new.files e.files c.serve.result e.served
+
+pub returns-clause-must_end : goal.returns-clause-must_end
+returns-clause-must_end c =
+    let m = c.args.self.now in
+    let e = c.serve.ensures in
+    ending_by m c.args.slot c.in-Some.tenant c.serve.new.self (λ w h k. slot_has m.slots.items c.args.slot k.tenant c.in-Some.tenant _ c.in-Some.is c.index_mut.ensures.value k.place)
+    c.serve.new.frames e.keeps c.serve.new.files e.files c.serve.result e.must_end

@@ -1,0 +1,72 @@
+use Rattle.std.proofs.Common.{◌≡◌, ◌<◌, ◌∙◌, Some, ap, refl, subst, true}
+use Rattle.address_space.specs.Pending.{agrees_pending}
+use Rattle.fault_rules.specs.Allowed.{can_reside}
+use Rattle.fault_rules.specs.Resides.{is_shared_by}
+use Rattle.fault_rules.specs.declared.service.Served.TheVariants as served
+use Rattle.process_model.specs.Process as model
+use Rattle.process_model.specs.Residence.{made_resident}
+use Rattle.process_model.specs.World.{is_unserved_access}
+use Rattle.sv39_entry.specs.Address.{page_of}
+use Rattle.hart_machine.specs.Serving.{HasServed, MustEnd, WhenShared}
+use Rattle.hart_machine.specs.Tenants.{body_in}
+use Rattle.hart_machine.specs.declared.tenant.Tenant.{Tenant}
+use Rattle.hart_machine.proofs.ServedTenants.{allowed, has_bytes, in_model, it_is, only_reads, something_waits, why}
+use Rattle.hart_machine.proofs.tenant.Tenant.serve.Goals as goal
+
+pub unreachable-requires : goal.unreachable-requires
+unreachable-requires c =
+    let r = c.requires.ready in
+    something_waits c.args.self.now.pending (subst (λ o. is_unserved_access o ≡ true) r.2.pending (c.requires.waits r.0 r.1 r.2)) c.in_default.is
+
+pub returns-in-Ready-clause-served : goal.returns-in-Ready-clause-served
+returns-in-Ready-clause-served c t p a tenant is =
+    let x = c.args.self.now in
+    let z = c.in-Some.pending in
+    let e = c.in-Ready.ensures in
+    let b = in_model x z c.in-Some.is in
+    let free = allowed x z c.in-Some.is t p tenant served.Ready (e.ended t p tenant.agrees) refl in
+    let can = can_reside (body_in x) t p z.access z.va.0 z.width tenant.agrees free in
+    let r = e.ready refl t p can in
+    let y : Tenant = record { space = c.serve.new.space; pending = Some (record { access = z.access; va = z.va; width = z.width; served = true }) } in
+    subst (λ (q : model.Pending). HasServed x y t p q c.args.files.now c.args.frames.now) (it_is x z c.in-Some.is t p a tenant is) (record {
+      allowed = free;
+      tables = r.0;
+      count = r.1;
+      resides = r.2;
+      counts = λ f n on at. r.3 f n on at tt;
+      tenant = λ fresh. record {
+        agrees = agrees_pending _ _ _ _ _ (made_resident c.args.files.now fresh (is_shared_by r.1) p z.access (page_of z.va.0)) (r.2.agrees fresh) (Some (record b { served = true }));
+        framed = rw c.serve.ensures.trapframe tenant.framed;
+        pending = refl;
+        wide = has_bytes x z c.in-Some.is t p tenant;
+      };
+      enough = λ shared told. e.enough tt t p shared can told refl;
+    })
+
+pub returns-in-Ready-clause-files : goal.returns-in-Ready-clause-files
+returns-in-Ready-clause-files c =
+    let r = c.requires.ready in
+    c.in-Ready.ensures.moves (λ e un. cc) r.0 r.1 r.2.agrees ∙ only_reads c.args.files.now r.1 _ _
+
+pub returns-in-Ended-clause-must_end : goal.returns-in-Ended-clause-must_end
+returns-in-Ended-clause-must_end c t p a tenant is =
+    let x = c.args.self.now in
+    let z = c.in-Some.pending in
+    let e = c.in-Ended.ensures in
+    let b = in_model x z c.in-Some.is in
+    let y : Tenant = record { space = c.serve.new.space; pending = x.pending } in
+    subst (λ (q : model.Pending). MustEnd y t p q c.args.frames.now c.in-Ended.rule) (it_is x z c.in-Some.is t p a tenant is) (record {
+      tenant = record {
+        agrees = e.whole c.in-Ended.rule refl t p tenant.agrees;
+        framed = rw c.serve.ensures.trapframe tenant.framed;
+        pending = tenant.pending;
+        wide = tenant.wide;
+      };
+      why = why x z c.in-Some.is t p tenant (served.Ended c.in-Ended.rule) (e.ended t p tenant.agrees) c.in-Ended.rule refl (WhenShared c.args.frames.now t p b (λ need. (c.args.frames.now).free < need))
+          (λ free dry shared told. e.short tt t p shared (can_reside (body_in x) t p z.access z.va.0 z.width tenant.agrees free) told (ap served.Ended dry));
+    })
+
+pub returns-in-Ended-clause-files : goal.returns-in-Ended-clause-files
+returns-in-Ended-clause-files c =
+    let r = c.requires.ready in
+    c.in-Ended.ensures.moves (λ e un. cc) r.0 r.1 r.2.agrees ∙ only_reads c.args.files.now r.1 _ _
