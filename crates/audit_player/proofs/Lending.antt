@@ -17,6 +17,7 @@ use Rattle.process_model.specs.declared.step.Step.TheVariants.{Start}
 use Rattle.hart_machine.specs.Worlds.{Makes}
 use Rattle.hart_machine.specs.declared.machine.Machine.{Machine}
 use Rattle.audit_player.specs.Told.{Tells}
+use Rattle.audit_player.specs.declared.answer.Answer.TheVariants as answer
 
 -- a start reads nothing of an image but what is to be loaded
 pub starts : (w : World) (a b : Image) → image_loads a ≡ image_loads b → step w (Start a) ≡ step w (Start b)
@@ -29,7 +30,7 @@ named images n i lt is = ap lent is ∙ ap (λ (o : Option OwnedImage). lent (or
 
 -- so its line answers what the start of it does
 pub start_told : (m : Machine) (r : Reply) (images : List OwnedImage) (w : World) (n : ℕ) (i : OwnedImage) → n < length images → i ≡ get_or images n i → Makes m r (step w (Start (lent i)))
-    → Tells m r (played images w (command.Start n))
+    → Tells m (answer.Step r) (played images w (command.Start n))
 start_told m r images w n i lt is made =
     let there : Makes m r (step w (Start (image_at images n))) = subst (λ (x : Image). Makes m r (step w (Start x))) (named images n i lt is) made in
     (ap reply_text there.0, there.1)

@@ -1,3 +1,4 @@
+pub mod Fixing
 pub mod Lending
 pub mod Parts
 pub mod Played

@@ -1,11 +1,18 @@
 -- What a line answers.
-use Rattle.std.specs.Prelude.{◌≡◌}
+use Rattle.std.specs.Prelude.{◌≡◌, ℕ, List, ◌++◌, codes}
+use Rattle.std.specs.Fmt.{decimal}
 use Rattle.process_model.specs.Text.{Played}
-use Rattle.process_model.specs.Words.{reply_text}
-use Rattle.process_model.specs.declared.step.Reply.{Reply}
+use Rattle.process_model.specs.Words.{reply_text, report_text, bytes_text}
 use Rattle.hart_machine.specs.Worlds.{IsWorld}
 use Rattle.hart_machine.specs.declared.machine.Machine.{Machine}
+use Rattle.audit_player.specs.declared.answer.Answer.{Answer}
+use Rattle.audit_player.specs.declared.answer.Answer.TheVariants as answer
+
+abbrev pub answer_text : Answer → List ℕ
+answer_text (answer.Step reply) = reply_text reply
+answer_text (answer.File length shown) = codes "file " ++ decimal length ++ codes " " ++ bytes_text shown.items
+answer_text (answer.Audit report) = report_text report
 
 -- a line answers what the model's does, and the machine is in the world after it
-abbrev pub Tells : Machine → Reply → Played → Type 0
-Tells m reply p = (reply_text reply ≡ p.text) × IsWorld m p.world
+abbrev pub Tells : Machine → Answer → Played → Type 0
+Tells m a p = (answer_text a ≡ p.text) × IsWorld m p.world

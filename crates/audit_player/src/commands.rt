@@ -1,17 +1,19 @@
 // What the lines after `boot` do.
 
-ghost use Rattle.std.specs.Prelude.{◌≡◌, [], All};
+ghost use Rattle.std.specs.Prelude.{◌≡◌, All, List};
 ghost use Rattle.hart_machine.specs.Worlds.{IsWorld, Makes};
 ghost use Rattle.process_model.specs.Images.{image_loads};
 ghost use Rattle.process_model.specs.Played.{AreSegments, HasSegments, IsLinePlayed, IsPlayed};
 ghost use Rattle.process_model.specs.Steps as model;
 ghost use Rattle.process_model.specs.Text as words;
 ghost use Rattle.process_model.specs.World.{World};
+ghost use Rattle.process_model.specs.declared.file.FileText.{FileText};
 ghost use Rattle.process_model.specs.declared.step.Reply.TheVariants.{Done};
 ghost use Rattle.process_model.specs.declared.step.Step.TheVariants as steps;
 ghost use Rattle.script_reader.specs.Playable.{IsDeclared};
 ghost use Rattle.audit_player.specs.Told.{Tells};
 
+use crate::answer::{Answer, audit, show};
 use hart_machine::Machine;
 use process_model::{Command, Image, OwnedImage, Reply, Step};
 
@@ -35,19 +37,19 @@ fn start(machine: &mut Machine, image: &OwnedImage) -> Reply
     machine.step(Step::Start(lend(image)))
 }
 
-/// Makes several steps that have one reply: that of the first which is refused, and none is made after it.
-fn series(machine: &mut Machine, steps: &[Step<'_>]) -> Reply
+/// Makes several steps that have one reply: that of the first which is refused, and none is made after it; else the one given.
+fn series(machine: &mut Machine, steps: &[Step<'_>], reply: Reply) -> Reply
     requires world { (w : World) × IsWorld machine.old w }
     requires played { All IsPlayed steps.now }
-    ensures made { (w : World) → IsWorld machine.old w → Makes machine.new result (words.series_of w steps.now Done) }
+    ensures made { (w : World) → IsWorld machine.old w → Makes machine.new result (words.series_of w steps.now reply) }
 {
     for step in steps {
-        let reply = machine.step(*step);
-        if let Reply::Refused(_) = reply {
-            return reply;
+        let said = machine.step(*step);
+        if let Reply::Refused(_) = said {
+            return said;
         }
     }
-    Reply::Done
+    reply
 }
 
 /// Puts a process on a hart, and goes through the return to the user.
@@ -60,7 +62,7 @@ fn put_on(machine: &mut Machine, hart: usize, slot: usize) -> Reply
         slot: Some(slot),
     };
     let next = Step::Next { hart };
-    series(machine, &[switch, next, next, next])
+    series(machine, &[switch, next, next, next], Reply::Done)
 }
 
 /// Goes through the entry into the kernel.
@@ -69,36 +71,59 @@ fn enter(machine: &mut Machine, hart: usize) -> Reply
     ensures made { (w : World) → IsWorld machine.old w → Makes machine.new result (words.series_of w (words.enter_steps hart) Done) }
 {
     let next = Step::Next { hart };
-    series(machine, &[Step::Trap { hart }, next, next, next])
+    series(
+        machine,
+        &[Step::Trap { hart }, next, next, next],
+        Reply::Done,
+    )
 }
 
-/// Goes through the return to the user.
-fn leave(machine: &mut Machine, hart: usize) -> Reply
+/// Goes through the return to the user, or after a fault through the entry into the kernel.
+fn three_next(machine: &mut Machine, hart: usize, reply: Reply) -> Reply
     requires world { (w : World) × IsWorld machine.old w }
-    ensures made { (w : World) → IsWorld machine.old w → Makes machine.new result (words.series_of w (words.three_next hart) Done) }
+    ensures made { (w : World) → IsWorld machine.old w → Makes machine.new result (words.series_of w (words.three_next hart) reply) }
 {
     let next = Step::Next { hart };
-    series(machine, &[next, next, next])
+    series(machine, &[next, next, next], reply)
 }
 
-/// What a line after `boot` does.
-pub fn make(machine: &mut Machine, images: &[OwnedImage], command: &Command) -> Reply
+/// Goes into the kernel after a fault, is served, and returns to the user where the access will now answer.
+fn fix(machine: &mut Machine, hart: usize) -> Reply
+    requires world { (w : World) × IsWorld machine.old w }
+    ensures made { (w : World) → IsWorld machine.old w → Makes machine.new result (words.fixed w hart) }
+{
+    let entered = three_next(machine, hart, Reply::Done);
+    if let Reply::Refused(_) = entered {
+        return entered;
+    }
+    let served = machine.step(Step::Serve { hart });
+    if let Reply::Ready = served {
+        return three_next(machine, hart, served);
+    }
+    served
+}
+
+/// What a line after `boot` does, and what it answers.
+pub fn make(machine: &mut Machine, images: &[OwnedImage], command: &Command) -> Answer
     requires world { (w : World) × IsWorld machine.old w }
     requires played { IsLinePlayed command.now }
-    requires declared { IsDeclared [] images.now command.now }
+    requires declared { (files : List FileText) × IsDeclared files images.now command.now }
     requires segments { All HasSegments images.now }
     ensures told { (w : World) → IsWorld machine.old w → Tells machine.new result (words.played images.now w command.now) }
 {
     match command {
-        Command::One(step) => machine.step(*step),
-        Command::Start { image } => start(machine, &images[*image]),
-        Command::On { hart, slot } => put_on(machine, *hart, *slot),
-        Command::Enter { hart } => enter(machine, *hart),
-        Command::Leave { hart } => leave(machine, *hart),
-        Command::Exec { .. }
-        | Command::CopyOut { .. }
-        | Command::Fix { .. }
-        | Command::Show { .. }
-        | Command::Audit => unreachable!(),
+        Command::One(step) => Answer::Step(machine.step(*step)),
+        Command::Start { image } => Answer::Step(start(machine, &images[*image])),
+        Command::On { hart, slot } => Answer::Step(put_on(machine, *hart, *slot)),
+        Command::Enter { hart } => Answer::Step(enter(machine, *hart)),
+        Command::Leave { hart } => Answer::Step(three_next(machine, *hart, Reply::Done)),
+        Command::Fix { hart } => Answer::Step(fix(machine, *hart)),
+        Command::Show {
+            file,
+            offset,
+            count,
+        } => show(machine.files(), *file, *offset, *count),
+        Command::Audit => Answer::Audit(audit(machine)),
+        Command::Exec { .. } | Command::CopyOut { .. } => unreachable!(),
     }
 }

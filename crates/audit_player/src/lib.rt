@@ -1,6 +1,7 @@
 //! Scripts of steps: read whole, played, and answered line by line.
 #![tactic(auto)]
 
+mod answer;
 mod commands;
 mod fault;
 mod moving;
@@ -8,6 +9,7 @@ mod playing;
 mod sink;
 mod source;
 
+pub use answer::audit;
 pub use fault::PlayError;
 pub use playing::play;
 pub use sink::{Sink, Writer};

@@ -1,6 +1,6 @@
 // From the bytes of a script to the text of its replies.
 
-ghost use Rattle.std.specs.Prelude.{◌≡◌, ◌↔◌, ◌||◌, [], false, IfOk, IsTrue, IsErrOf};
+ghost use Rattle.std.specs.Prelude.{◌≡◌, ◌↔◌, ◌||◌, false, IfOk, IsTrue, IsErrOf};
 ghost use Rattle.std.specs.String.{string_bytes};
 ghost use Rattle.hart_machine.specs.Worlds.{IsWorld};
 ghost use Rattle.process_model.specs.Played.{IsScriptPlayed};
@@ -15,19 +15,20 @@ use crate::fault::PlayError;
 use crate::moving::{ReadError, read_all, write_all};
 use crate::sink::Sink;
 use crate::source::Source;
+use file_cabinet::Cabinet;
 use hart_machine::{BootError, Machine};
 use process_model::Config;
 use script_reader::{LONGEST_SCRIPT, Script, ScriptError};
 use std::alloc::{AllocError, Global};
 use std::fmt::Write;
 
-/// A machine of sizes that keep the limits: only memory may be refused.
-fn boot(alloc: Global, config: Config) -> Result<Machine, AllocError>
+/// A machine of sizes that keep the limits, with these files: only memory may be refused.
+fn boot(alloc: Global, config: Config, files: Cabinet) -> Result<Machine, AllocError>
     requires limits { CanBoot config }
     requires policy { config.policy ≡ Full }
-    ensures { IfOk result (λ machine. IsWorld machine (booted config [])) }
+    ensures { IfOk result (λ machine. IsWorld machine (booted config files)) }
 {
-    match Machine::boot(alloc, config) {
+    match Machine::boot(alloc, config, files) {
         Ok(machine) => Ok(machine),
         Err(BootError::Memory) => Err(AllocError),
         Err(BootError::BadArgument) => unreachable!(),
@@ -42,12 +43,13 @@ fn output(alloc: Global, script: &Script) -> Result<String, AllocError>
 {
     let images = script.images();
     let commands = script.commands();
-    let mut machine = boot(alloc, script.config())?;
+    let files = Cabinet::new(alloc, script.files())?;
+    let mut machine = boot(alloc, script.config(), files)?;
     let mut text = String::new(alloc);
     writeln!(text, "ok")?;
     for command in commands {
-        let reply = make(&mut machine, images, command);
-        writeln!(text, "{reply}")?;
+        let answer = make(&mut machine, images, command);
+        writeln!(text, "{answer}")?;
     }
     Ok(text)
 }

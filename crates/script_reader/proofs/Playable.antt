@@ -5,7 +5,7 @@ use Rattle.std.specs.List.{list_all}
 use Rattle.std.proofs.lemmas.List.Elements.{All-nil, All-cons, All-append}
 use Rattle.process_model.specs.Fields.{row_among, values_of}
 use Rattle.process_model.specs.Lines.{raw_lines, without_return, fields_of}
-use Rattle.process_model.specs.Script.{Format, Draft, Script, Read, ◌>>=◌, with_item, row_named, test, in_order, item_of, in_limits, has_room, has_file, item_line, is_comment, is_ascii, some_item, fields_line, line_of, with_line, next_line, read_lines, whole_with, whole, longest_script, script_by, no_lines}
+use Rattle.process_model.specs.Script.{Format, Draft, Script, Read, ◌>>=◌, with_item, row_named, test, in_order, item_of, in_limits, has_room, has_file, most_files, item_line, is_comment, is_ascii, some_item, fields_line, line_of, with_line, next_line, read_lines, whole_with, whole, longest_script, script_by, no_lines}
 use Rattle.process_model.specs.declared.config.Config.{Config}
 use Rattle.process_model.specs.declared.file.FileText.{FileText}
 use Rattle.process_model.specs.declared.image.OwnedImage.{OwnedImage}
@@ -29,6 +29,7 @@ CanBootIf (Some c) = CanBoot c
 
 record IsSound (d : Draft) : Type 0 where
   pub boots : CanBootIf d.config
+  pub few : length d.files ≤ most_files
   pub files : All FitsFile d.files
   pub commands : All (IsDeclared d.files d.images) d.commands
 
@@ -38,9 +39,13 @@ Fits d (item.Image i) = Unit {0}
 Fits d (item.Boot c) = CanBoot c
 Fits d (item.Command c) = IsDeclared d.files d.images c
 
+-- it is within its limits, and there is room for it
+abbrev HasPlace : Draft → Item → Type 0
+HasPlace d i = Fits d i × (has_room d i ≡ true)
+
 abbrev FitsIf : Draft → Option Item → Type 0
 FitsIf d None = Unit {0}
-FitsIf d (Some i) = Fits d i
+FitsIf d (Some i) = HasPlace d i
 
 abbrev IsSoundRead : Read → Type 0
 IsSoundRead (Ok x) = IsSound x.0
@@ -65,19 +70,27 @@ all_declared fs gs is js cs l m h = λ k d lt. still_declared fs gs is js (get_o
 pub all_and_one : {A : Type 0} (P : A → Type 0) (xs : List A) (x : A) → All P xs → P x → All P (xs ++ x ∷ [])
 all_and_one P xs x h one = All-append P xs (x ∷ []) h (All-cons P x [] one (All-nil P))
 
-item_kept : (d : Draft) (i : Item) → IsSound d → Fits d i → IsSound (with_item d i)
+below : (a b : ℕ) → nat_lt a b ≡ true → a < b
+below a b e = grind arith
+
+one_file_more : (fs : List FileText) (f : FileText) → nat_lt (length fs) most_files ≡ true → length (fs ++ f ∷ []) ≤ most_files
+one_file_more fs f room = omega (arith, length-append fs (f ∷ []), below (length fs) most_files room)
+
+item_kept : (d : Draft) (i : Item) → IsSound d → HasPlace d i → IsSound (with_item d i)
 item_kept d (item.File f) s fits = record {
   boots = s.boots;
-  files = all_and_one FitsFile d.files f s.files fits;
+  few = one_file_more d.files f fits.1;
+  files = all_and_one FitsFile d.files f s.files fits.0;
   commands = all_declared d.files (d.files ++ f ∷ []) d.images d.images d.commands (omega (arith, length-append d.files (f ∷ []))) (omega arith) s.commands;
 }
 item_kept d (item.Image i) s fits = record {
   boots = s.boots;
+  few = s.few;
   files = s.files;
   commands = all_declared d.files d.files d.images (d.images ++ i ∷ []) d.commands (omega arith) (omega (arith, length-append d.images (i ∷ []))) s.commands;
 }
-item_kept d (item.Boot c) s fits = record { boots = fits; files = s.files; commands = s.commands }
-item_kept d (item.Command c) s fits = record { boots = s.boots; files = s.files; commands = all_and_one (IsDeclared d.files d.images) d.commands c s.commands fits }
+item_kept d (item.Boot c) s fits = record { boots = fits.0; few = s.few; files = s.files; commands = s.commands }
+item_kept d (item.Command c) s fits = record { boots = s.boots; few = s.few; files = s.files; commands = all_and_one (IsDeclared d.files d.images) d.commands c s.commands fits.0 }
 
 -- steps in a row
 
@@ -89,12 +102,13 @@ pub then_fits : {A B : Type 0} (r : Result A Cause) (f : A → Result B Cause) (
 then_fits (Ok a) f P Q p g = g a p
 then_fits (Err e) f P Q p g = tt
 
+pub tested : (b : Bool) (c : Cause) → IfOk (test b c) (λ u. b ≡ true)
+tested true c = refl
+tested false c = tt
+
 limited : (d : Draft) (b : Bool) (i : Item) → (b ≡ true → Fits d i) → IfOk (in_limits b i) (Fits d)
 limited d true i p = p refl
 limited d false i p = tt
-
-below : (a b : ℕ) → nat_lt a b ≡ true → a < b
-below a b e = grind arith
 
 at_most : (a b : ℕ) → nat_le a b ≡ true → a ≤ b
 at_most a b e = grind arith
@@ -134,17 +148,17 @@ item_fits d word.Enter vs = tt
 item_fits d word.Leave vs = tt
 item_fits d word.Fix vs = tt
 
-item_line_fits : (form : Format) (d : Draft) (text : List ℕ) (fields : List (List ℕ)) → IfOk (item_line form d text fields) (Fits d)
+item_line_fits : (form : Format) (d : Draft) (text : List ℕ) (fields : List (List ℕ)) → IfOk (item_line form d text fields) (HasPlace d)
 unfolding item_line
 item_line_fits form d text fields =
-    followed (row_named (row_among form.table text)) _ (Fits d)
-    (λ r. followed (test (in_order d r.word) _) _ (Fits d)
-    (λ u. followed (values_of r fields) _ (Fits d)
-    (λ vs. followed (test (list_all form.takes vs) _) _ (Fits d)
-    (λ u. then_fits (item_of d r.word vs) _ (Fits d) (Fits d) (item_fits d r.word vs)
-    (λ i fits. followed (test (has_room d i) _) _ (Fits d) (λ u. fits))))))
+    followed (row_named (row_among form.table text)) _ (HasPlace d)
+    (λ r. followed (test (in_order d r.word) _) _ (HasPlace d)
+    (λ u. followed (values_of r fields) _ (HasPlace d)
+    (λ vs. followed (test (list_all form.takes vs) _) _ (HasPlace d)
+    (λ u. then_fits (item_of d r.word vs) _ (Fits d) (HasPlace d) (item_fits d r.word vs)
+    (λ i fits. then_fits (test (has_room d i) _) _ (λ u. has_room d i ≡ true) (HasPlace d) (tested (has_room d i) _) (λ u room. (fits, room)))))))
 
-some_fits : (d : Draft) (r : Result Item Cause) → IfOk r (Fits d) → IfOk (some_item r) (FitsIf d)
+some_fits : (d : Draft) (r : Result Item Cause) → IfOk r (HasPlace d) → IfOk (some_item r) (FitsIf d)
 some_fits d (Ok i) h = h
 some_fits d (Err c) h = tt
 
@@ -169,14 +183,14 @@ lines_kept form (Err f) (line ∷ lines) s = lines_kept form (Err f) lines tt
 
 whole_with_playable : (d : Draft) (n : ℕ) (c : Option Config) → c ≡ d.config → IsSound d → IfOk (whole_with d n c) IsPlayable
 whole_with_playable d n None e s = tt
-whole_with_playable d n (Some c) e s = record { boots = subst CanBootIf (sym e) s.boots; files = s.files; commands = s.commands }
+whole_with_playable d n (Some c) e s = record { boots = subst CanBootIf (sym e) s.boots; few = s.few; files = s.files; commands = s.commands }
 
 whole_playable : (read : Read) → IsSoundRead read → IfOk (whole read) IsPlayable
 whole_playable (Ok x) s = whole_with_playable x.0 x.1 (x.0).config refl s
 whole_playable (Err f) s = tt
 
 nothing_said : IsSound no_lines
-nothing_said = record { boots = tt; files = All-nil FitsFile; commands = All-nil (IsDeclared [] []) }
+nothing_said = record { boots = tt; few = omega arith; files = All-nil FitsFile; commands = All-nil (IsDeclared [] []) }
 
 -- what is read as a script can be played
 script_playable : (form : Format) (bytes : List ℕ) → IfOk (script_by form bytes) IsPlayable

@@ -1,5 +1,5 @@
--- What is read by the words that are played: the policy full, no files, images of segments, and lines that are played.
-use Rattle.std.proofs.Common.{◌≡◌, ℕ, ◌+◌, Bool, true, false, List, [], ◌∷◌, length, Option, Some, None, Result, Ok, Err, refl, sym, subst}
+-- What is read by the words that are played: the policy full, images of segments, and lines that are played.
+use Rattle.std.proofs.Common.{◌≡◌, ℕ, ◌+◌, true, false, List, [], ◌∷◌, length, Option, Some, None, Result, Ok, Err, refl, sym, subst}
 use Rattle.std.specs.Prelude.{IfOk, All, nat_le, if◌then◌else◌}
 use Rattle.std.specs.List.{list_all}
 use Rattle.std.proofs.lemmas.List.Elements.{All-nil}
@@ -13,7 +13,7 @@ use Rattle.process_model.specs.declared.script.Cause.{Cause}
 use Rattle.process_model.specs.declared.script.Cause.TheVariants as cause
 use Rattle.process_model.specs.declared.script.Item.{Item}
 use Rattle.process_model.specs.declared.script.Item.TheVariants as item
-use Rattle.script_reader.proofs.Playable.{all_and_one, followed, then_fits}
+use Rattle.script_reader.proofs.Playable.{all_and_one, followed, tested, then_fits}
 use Rattle.script_reader.specs.Gives.{Answers}
 use Rattle.script_reader.specs.Played.{played, played_table, is_played}
 use Rattle.script_reader.specs.declared.fault.ScriptError.{ScriptError}
@@ -27,7 +27,6 @@ IsFullIf (Some c) = c.policy ≡ policy.Full
 
 record IsDraftPlayed (d : Draft) : Type 0 where
   pub policy : IsFullIf d.config
-  pub files : d.files ≡ []
   pub images : All HasSegments d.images
   pub commands : All IsLinePlayed d.commands
 
@@ -40,14 +39,10 @@ IsReadPlayed (Ok x) = IsDraftPlayed x.0
 IsReadPlayed (Err f) = Unit {0}
 
 item_added : (d : Draft) (i : Item) → IsDraftPlayed d → IsItemPlayed i → IsDraftPlayed (with_item d i)
-item_added d (item.File f) s fits = absurd fits
-item_added d (item.Image i) s fits = record { policy = s.policy; files = s.files; images = all_and_one HasSegments d.images i s.images fits; commands = s.commands }
-item_added d (item.Boot c) s fits = record { policy = fits; files = s.files; images = s.images; commands = s.commands }
-item_added d (item.Command c) s fits = record { policy = s.policy; files = s.files; images = s.images; commands = all_and_one IsLinePlayed d.commands c s.commands fits }
-
-tested : (b : Bool) (c : Cause) → IfOk (test b c) (λ u. b ≡ true)
-tested true c = refl
-tested false c = tt
+item_added d (item.File f) s fits = record { policy = s.policy; images = s.images; commands = s.commands }
+item_added d (item.Image i) s fits = record { policy = s.policy; images = all_and_one HasSegments d.images i s.images fits; commands = s.commands }
+item_added d (item.Boot c) s fits = record { policy = fits; images = s.images; commands = s.commands }
+item_added d (item.Command c) s fits = record { policy = s.policy; images = s.images; commands = all_and_one IsLinePlayed d.commands c s.commands fits }
 
 item_line_played : (d : Draft) (text : List ℕ) (fields : List (List ℕ)) → IfOk (item_line played d text fields) IsItemPlayed
 unfolding item_line
@@ -83,14 +78,14 @@ lines_played (Err f) (line ∷ lines) s = lines_played (Err f) lines tt
 
 whole_with_played : (d : Draft) (n : ℕ) (c : Option Config) → c ≡ d.config → IsDraftPlayed d → IfOk (whole_with d n c) IsScriptPlayed
 whole_with_played d n None e s = tt
-whole_with_played d n (Some c) e s = record { policy = subst IsFullIf (sym e) s.policy; files = s.files; images = s.images; commands = s.commands }
+whole_with_played d n (Some c) e s = record { policy = subst IsFullIf (sym e) s.policy; images = s.images; commands = s.commands }
 
 whole_played : (read : Read) → IsReadPlayed read → IfOk (whole read) IsScriptPlayed
 whole_played (Ok x) s = whole_with_played x.0 x.1 (x.0).config refl s
 whole_played (Err f) s = tt
 
 nothing_said : IsDraftPlayed no_lines
-nothing_said = record { policy = tt; files = refl; images = All-nil HasSegments; commands = All-nil IsLinePlayed }
+nothing_said = record { policy = tt; images = All-nil HasSegments; commands = All-nil IsLinePlayed }
 
 script_played : (bytes : List ℕ) → IfOk (script_by played bytes) IsScriptPlayed
 script_played bytes =

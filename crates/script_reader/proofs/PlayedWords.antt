@@ -16,7 +16,7 @@ use Rattle.process_model.specs.declared.script.Keyword.TheVariants as word
 use Rattle.script_reader.specs.Played.{played_table, is_played}
 
 abbrev pub IsWordPlayed : Keyword → Type 0
-IsWordPlayed word.File = ⊥
+IsWordPlayed word.File = Unit {0}
 IsWordPlayed word.Image = Unit {0}
 IsWordPlayed word.Elf = ⊥
 IsWordPlayed word.Boot = Unit {0}
@@ -30,21 +30,21 @@ IsWordPlayed word.Fetch = Unit {0}
 IsWordPlayed word.Load = Unit {0}
 IsWordPlayed word.Store = Unit {0}
 IsWordPlayed word.Tramp = Unit {0}
-IsWordPlayed word.Serve = ⊥
+IsWordPlayed word.Serve = Unit {0}
 IsWordPlayed word.Fork = ⊥
 IsWordPlayed word.Exec = ⊥
-IsWordPlayed word.Sbrk = ⊥
-IsWordPlayed word.Mmap = ⊥
-IsWordPlayed word.Munmap = ⊥
+IsWordPlayed word.Sbrk = Unit {0}
+IsWordPlayed word.Mmap = Unit {0}
+IsWordPlayed word.Munmap = Unit {0}
 IsWordPlayed word.CopyIn = ⊥
 IsWordPlayed word.CopyOut = ⊥
-IsWordPlayed word.Exit = ⊥
-IsWordPlayed word.Show = ⊥
-IsWordPlayed word.Audit = ⊥
+IsWordPlayed word.Exit = Unit {0}
+IsWordPlayed word.Show = Unit {0}
+IsWordPlayed word.Audit = Unit {0}
 IsWordPlayed word.On = Unit {0}
 IsWordPlayed word.Enter = Unit {0}
 IsWordPlayed word.Leave = Unit {0}
-IsWordPlayed word.Fix = ⊥
+IsWordPlayed word.Fix = Unit {0}
 
 abbrev AllPlayed : List Row → Type 0
 AllPlayed [] = Unit {0}
@@ -62,9 +62,9 @@ row_played (r ∷ rows) text h = named_if r rows text (bytes_eq r.text text) h.0
 pub table_played : AllPlayed played_table
 table_played = search rules
 
--- what is said: images of segments, the policy full, and lines that are played
+-- what is said: files, images of segments, the policy full, and lines that are played
 abbrev pub IsItemPlayed : Item → Type 0
-IsItemPlayed (item.File f) = ⊥
+IsItemPlayed (item.File f) = Unit {0}
 IsItemPlayed (item.Image i) = HasSegments i
 IsItemPlayed (item.Boot c) = c.policy ≡ policy.Full
 IsItemPlayed (item.Command c) = IsLinePlayed c
@@ -91,7 +91,7 @@ policy_at (v ∷ vs) (suc k) e = policy_at vs k (grind arith)
 
 -- the item of a word that is played
 pub item_played : (d : Draft) (w : Keyword) (vs : List FieldValue) → IsWordPlayed w → list_all is_played vs ≡ true → IfOk (item_of d w vs) IsItemPlayed
-item_played d word.File vs h taken = absurd h
+item_played d word.File vs h taken = limited _ _ tt
 item_played d word.Image vs h taken = tt
 item_played d word.Elf vs h taken = absurd h
 item_played d word.Boot vs h taken = limited _ _ (policy_at vs 3 taken)
@@ -105,18 +105,18 @@ item_played d word.Fetch vs h taken = tt
 item_played d word.Load vs h taken = limited _ _ tt
 item_played d word.Store vs h taken = limited _ _ tt
 item_played d word.Tramp vs h taken = tt
-item_played d word.Serve vs h taken = absurd h
+item_played d word.Serve vs h taken = tt
 item_played d word.Fork vs h taken = absurd h
 item_played d word.Exec vs h taken = absurd h
-item_played d word.Sbrk vs h taken = absurd h
-item_played d word.Mmap vs h taken = absurd h
-item_played d word.Munmap vs h taken = absurd h
+item_played d word.Sbrk vs h taken = tt
+item_played d word.Mmap vs h taken = tt
+item_played d word.Munmap vs h taken = tt
 item_played d word.CopyIn vs h taken = absurd h
 item_played d word.CopyOut vs h taken = absurd h
-item_played d word.Exit vs h taken = absurd h
-item_played d word.Show vs h taken = absurd h
-item_played d word.Audit vs h taken = absurd h
+item_played d word.Exit vs h taken = limited _ _ tt
+item_played d word.Show vs h taken = limited _ _ tt
+item_played d word.Audit vs h taken = tt
 item_played d word.On vs h taken = tt
 item_played d word.Enter vs h taken = tt
 item_played d word.Leave vs h taken = tt
-item_played d word.Fix vs h taken = absurd h
+item_played d word.Fix vs h taken = tt

@@ -11,7 +11,8 @@ use Rattle.process_model.specs.declared.script.Tail.TheVariants as tail
 
 abbrev pub played_table : List Row
 played_table =
-    row (codes "image") word.Image (kind.Segment ∷ []) (tail.More kind.Segment)
+    row (codes "file") word.File (kind.Number ∷ kind.Mode ∷ kind.Hex ∷ []) tail.Nothing
+    ∷ row (codes "image") word.Image (kind.Segment ∷ []) (tail.More kind.Segment)
     ∷ row (codes "boot") word.Boot (kind.Number ∷ kind.Number ∷ kind.Number ∷ kind.Policy ∷ []) tail.Nothing
     ∷ row (codes "start") word.Start one_number tail.Nothing
     ∷ row (codes "switch") word.Switch (kind.Number ∷ kind.Slot ∷ []) tail.Nothing
@@ -23,9 +24,17 @@ played_table =
     ∷ row (codes "load") word.Load three_numbers (tail.Perhaps kind.Entry)
     ∷ row (codes "store") word.Store four_numbers (tail.Perhaps kind.Entry)
     ∷ row (codes "tramp") word.Tramp two_numbers (tail.Perhaps kind.Entry)
+    ∷ row (codes "serve") word.Serve one_number tail.Nothing
+    ∷ row (codes "sbrk") word.Sbrk (kind.Number ∷ kind.Signed ∷ []) tail.Nothing
+    ∷ row (codes "mmap") word.Mmap (kind.Number ∷ four_numbers) tail.Nothing
+    ∷ row (codes "munmap") word.Munmap three_numbers tail.Nothing
+    ∷ row (codes "exit") word.Exit (kind.Number ∷ kind.Signed ∷ []) tail.Nothing
+    ∷ row (codes "show") word.Show three_numbers tail.Nothing
+    ∷ row (codes "audit") word.Audit [] tail.Nothing
     ∷ row (codes "on") word.On two_numbers tail.Nothing
     ∷ row (codes "enter") word.Enter one_number tail.Nothing
     ∷ row (codes "leave") word.Leave one_number tail.Nothing
+    ∷ row (codes "fix") word.Fix one_number tail.Nothing
     ∷ []
 
 abbrev pub is_played : FieldValue → Bool

@@ -5,7 +5,7 @@ ghost use Rattle.std.specs.Option.{option_map};
 ghost use Rattle.process_model.specs.Fields.{row_among};
 ghost use Rattle.script_reader.specs.Played.{played_table};
 
-use process_model::FieldKind::{Entry, Number, Policy, Segment, Slot};
+use process_model::FieldKind::{Entry, Hex, Mode, Number, Policy, Segment, Signed, Slot};
 use process_model::{FieldKind, Keyword, Tail};
 
 /// A word, as it is written, the kinds of the fields that must follow it, and what may follow these.
@@ -34,36 +34,42 @@ fn make_row(text: &'static [u8], word: Keyword, kinds: &'static [FieldKind], tai
 impl Row {
     ghost use Rattle.script_reader.specs.Rows.{seen, kind_at};
 
-    fn all() -> [Row; 15]
+    fn all() -> [Row; 24]
         ensures { map seen result ≡ played_table }
     {
+        let none = Tail::Nothing;
         let entry = Tail::Perhaps(Entry);
+        let one: &'static [FieldKind] = &[Number];
+        let two: &'static [FieldKind] = &[Number, Number];
+        let three: &'static [FieldKind] = &[Number, Number, Number];
+        let four: &'static [FieldKind] = &[Number, Number, Number, Number];
+        let five: &'static [FieldKind] = &[Number, Number, Number, Number, Number];
+        let sizes: &'static [FieldKind] = &[Number, Number, Number, Policy];
         [
+            make_row(b"file", Keyword::File, &[Number, Mode, Hex], none),
             make_row(b"image", Keyword::Image, &[Segment], Tail::More(Segment)),
-            make_row(
-                b"boot",
-                Keyword::Boot,
-                &[Number, Number, Number, Policy],
-                Tail::Nothing,
-            ),
-            make_row(b"start", Keyword::Start, &[Number], Tail::Nothing),
-            make_row(b"switch", Keyword::Switch, &[Number, Slot], Tail::Nothing),
-            make_row(b"trap", Keyword::Trap, &[Number], Tail::Nothing),
-            make_row(b"next", Keyword::Next, &[Number], Tail::Nothing),
-            make_row(b"fill", Keyword::Fill, &[Number, Number], Tail::Nothing),
-            make_row(b"evict", Keyword::Evict, &[Number, Number], Tail::Nothing),
-            make_row(b"fetch", Keyword::Fetch, &[Number, Number], entry),
-            make_row(b"load", Keyword::Load, &[Number, Number, Number], entry),
-            make_row(
-                b"store",
-                Keyword::Store,
-                &[Number, Number, Number, Number],
-                entry,
-            ),
-            make_row(b"tramp", Keyword::Tramp, &[Number, Number], entry),
-            make_row(b"on", Keyword::On, &[Number, Number], Tail::Nothing),
-            make_row(b"enter", Keyword::Enter, &[Number], Tail::Nothing),
-            make_row(b"leave", Keyword::Leave, &[Number], Tail::Nothing),
+            make_row(b"boot", Keyword::Boot, sizes, none),
+            make_row(b"start", Keyword::Start, one, none),
+            make_row(b"switch", Keyword::Switch, &[Number, Slot], none),
+            make_row(b"trap", Keyword::Trap, one, none),
+            make_row(b"next", Keyword::Next, one, none),
+            make_row(b"fill", Keyword::Fill, two, none),
+            make_row(b"evict", Keyword::Evict, two, none),
+            make_row(b"fetch", Keyword::Fetch, two, entry),
+            make_row(b"load", Keyword::Load, three, entry),
+            make_row(b"store", Keyword::Store, four, entry),
+            make_row(b"tramp", Keyword::Tramp, two, entry),
+            make_row(b"serve", Keyword::Serve, one, none),
+            make_row(b"sbrk", Keyword::Sbrk, &[Number, Signed], none),
+            make_row(b"mmap", Keyword::Mmap, five, none),
+            make_row(b"munmap", Keyword::Munmap, three, none),
+            make_row(b"exit", Keyword::Exit, &[Number, Signed], none),
+            make_row(b"show", Keyword::Show, three, none),
+            make_row(b"audit", Keyword::Audit, &[], none),
+            make_row(b"on", Keyword::On, two, none),
+            make_row(b"enter", Keyword::Enter, one, none),
+            make_row(b"leave", Keyword::Leave, one, none),
+            make_row(b"fix", Keyword::Fix, one, none),
         ]
     }
 

@@ -217,6 +217,7 @@ module _ (ps : List Part) (is : regions_in ps ≡ standard_regions) (numbers : n
       room = omega (arith, base_is, above);
       above = omega (arith, low);
       leaves = order.leaves;
+      sources = order.sources;
       mapped = tt;
     };
     leaves = λ k s r at in_region.

@@ -1,8 +1,9 @@
 // Frames that are counted, and a space that is built of them.
 
-ghost use Rattle.std.specs.Prelude.{◌≡◌, ◌<◌, ◌≤◌, true};
+ghost use Rattle.std.specs.Prelude.{◌≡◌, ◌<◌, ◌≤◌, false, true};
 ghost use Rattle.address_space.specs.Layouts.{region_of};
 ghost use Rattle.address_space.specs.Parts.{AreParts};
+ghost use Rattle.process_model.specs.Order.{is_file};
 ghost use Rattle.process_model.specs.Regions.{makes_leaf};
 
 use address_space::{Part, Region, RegionKind, Source, Space, frames_needed};
@@ -15,6 +16,7 @@ fn readable<'a>(first: u64, pages: u64, bytes: &'a [u8]) -> Part<'a>
     ensures first { result.region.first ≡ first }
     ensures pages { result.region.pages ≡ pages }
     ensures leafy { makes_leaf (region_of result.region) ≡ true }
+    ensures without_file { is_file (region_of result.region).source ≡ false }
 {
     let region = Region {
         first,

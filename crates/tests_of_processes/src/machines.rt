@@ -6,6 +6,7 @@ ghost use Rattle.process_model.specs.Played.{AreSegments, IsPlayed};
 ghost use Rattle.process_model.specs.World.{World};
 ghost use Rattle.process_model.specs.declared.config.Policy.TheVariants.{Full};
 
+use file_cabinet::Cabinet;
 use hart_machine::{BootError, Machine};
 use process_model::{Bytes, Config, Image, Phase, Policy, Refusal, Reply, Segment, Step};
 use std::alloc::{AllocError, Global};
@@ -49,7 +50,10 @@ fn config(harts: usize, frames: usize, slots: usize) -> Config
 fn wrong_row(alloc: Global) -> Option<Row> {
     for row in rows() {
         let (harts, frames, slots, refusal) = row;
-        if Machine::boot(alloc, config(harts, frames, slots)).err() != refusal {
+        let Ok(files) = Cabinet::new(alloc, &[]) else {
+            return Some(row);
+        };
+        if Machine::boot(alloc, config(harts, frames, slots), files).err() != refusal {
             return Some(row);
         }
     }
@@ -65,7 +69,8 @@ fn boots_within_limits(rt: HostRuntime) {
 fn with_two_harts(alloc: Global, frames: usize) -> Option<Machine>
     ensures { IfSome result (λ m. (w : World) × IsWorld m w) }
 {
-    match Machine::boot(alloc, config(2, frames, 4)) {
+    let files = Cabinet::new(alloc, &[]).ok()?;
+    match Machine::boot(alloc, config(2, frames, 4), files) {
         Ok(machine) => Some(machine),
         Err(_) => None,
     }

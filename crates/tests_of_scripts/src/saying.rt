@@ -40,3 +40,17 @@ fn reads_a_whole_script(rt: HostRuntime) -> Result<(), Fail> {
     );
     Ok(())
 }
+
+#[test]
+fn reads_a_file(rt: HostRuntime) -> Result<(), Fail> {
+    let text = "file 5 ro 6162\nboot 1 16 1 full\n";
+    let script = Script::read(rt.alloc(), text.as_bytes())
+        .ok()
+        .ok_or("a script")?;
+    let [file] = script.files() else {
+        return Err(Fail::from("a file"));
+    };
+    assert_eq!(rt; (file.length, file.writable), (5, false));
+    assert_eq!(rt; file.bytes.as_slice(), b"ab".as_slice());
+    Ok(())
+}

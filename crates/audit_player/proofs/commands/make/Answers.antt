@@ -1,7 +1,10 @@
-use Rattle.std.proofs.Common.{◌<◌, length, sym, subst}
-use Rattle.process_model.specs.Text.{played}
+use Rattle.std.proofs.Common.{◌∙◌, ◌<◌, List, ap, length, sym, subst}
+use Rattle.std.specs.Prelude.{slice_get}
+use Rattle.process_model.specs.Files.{bytes_of, File}
+use Rattle.process_model.specs.Text.{played, show_text}
 use Rattle.process_model.specs.declared.script.Command.{Command}
 use Rattle.audit_player.specs.Told.{Tells}
+use Rattle.audit_player.specs.declared.answer.Answer.TheVariants as answer
 use Rattle.audit_player.proofs.Lending.{start_told}
 use Rattle.audit_player.proofs.commands.make.Goals as goal
 
@@ -9,7 +12,15 @@ pub returns-in-Start : goal.returns-in-Start
 returns-in-Start c = record {
   told = λ w here.
       let images = c.args.images.now in
-      let there : c.in-Start.image < length images = rw c.in-Start.is at c.requires.declared in
-      subst (λ (d : Command). Tells c.start.new.machine c.start.result (played images w d)) (sym c.in-Start.is)
+      let there : c.in-Start.image < length images = rw c.in-Start.is at (c.requires.declared).1 in
+      subst (λ (d : Command). Tells c.start.new.machine (answer.Step c.start.result) (played images w d)) (sym c.in-Start.is)
       (start_told _ _ images w c.in-Start.image _ there c.index-images-image.is (c.start.ensures.made w here));
+}
+
+pub returns-in-Show : goal.returns-in-Show
+returns-in-Show c = record {
+  told = λ w here.
+      let x = c.in-Show in
+      let shown = c.show.ensures.text ∙ ap (λ (files : List File). show_text (bytes_of (slice_get files x.file)) x.offset x.count) (c.files.ensures w here) in
+      subst (λ (d : Command). Tells c.args.machine.now c.show.result (played c.args.images.now w d)) (sym x.is) (shown, here);
 }

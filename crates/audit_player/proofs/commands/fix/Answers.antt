@@ -1,0 +1,20 @@
+use Rattle.audit_player.proofs.Fixing.{goes_back, in_world, not_back}
+use Rattle.audit_player.proofs.commands.fix.Goals as goal
+
+pub step-served-requires : goal.step-served-requires
+step-served-requires c = record { world = in_world _ _ _ (c.three_next-entered.ensures.made (c.requires.world).0 (c.requires.world).1); played = tt }
+
+pub three_next-requires : goal.three_next-requires
+three_next-requires c =
+    let entered = c.three_next-entered.ensures.made (c.requires.world).0 (c.requires.world).1 in
+    record { world = in_world _ _ _ (c.step-served.ensures.made _ entered.1) }
+
+pub returns-in-Ready : goal.returns-in-Ready
+returns-in-Ready c = record {
+  made = λ w here. goes_back w c.args.hart _ _ _ _ _ _ c.in_default.not-Refused c.in-Ready.is (c.three_next-entered.ensures.made w here) c.step-served.ensures.made c.three_next.ensures.made;
+}
+
+pub returns : goal.returns
+returns c = record {
+  made = λ w here. not_back w c.args.hart _ _ _ _ c.in_default.not-Refused c.in_default-served.not-Ready (c.three_next-entered.ensures.made w here) c.step-served.ensures.made;
+}
