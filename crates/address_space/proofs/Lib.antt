@@ -12,6 +12,7 @@ pub mod BuildWhole
 pub mod DroppedLeaf
 pub mod DroppedPages
 pub mod EndingSteps
+pub mod ForkMarks
 pub mod Found
 pub mod Grants
 pub mod KernelFrames

@@ -78,7 +78,7 @@ module _ {v : View} {root trapframe : ℕ} {l : Layout} {t : Tables} {p : Proces
               stands = turned_stands v w root trapframe nothing t p page s r found.0 leaf space.stands can.read.settled in_region tables word marked shown nothing
                   (no_table v t root nothing space.stands.tables space.stands.owns (leaf_node page) here.leaf found.0 here.mapped here.made.names) here.bytes
                   (owns_same v root t space.stands.tables page here.leaf leaf found.0 found.0 here.mapped here.made.names shown.names refl
-                  (page_sole v root trapframe l t p page s found.0 can here) nothing space.stands.owns);
+                  (λ _. page_sole v root trapframe l t p page s found.0 can here) nothing space.stands.owns);
               credits = ap (λ (x : View). x.credits) changes.1.1 ∙ space.credits;
             };
             on = λ f on. (

@@ -1,5 +1,5 @@
 -- The leaf of a page is turned to a frame that the seat has alone: the one that it names, or one that has no name yet.
-use Rattle.std.proofs.Common.{◌≡◌, ℕ, ◌+◌, Some, refl, ap, sym, subst, ◌∙◌, inl, inr, arith}
+use Rattle.std.proofs.Common.{◌≡◌, ℕ, ◌+◌, Some, true, refl, ap, sym, subst, ◌∙◌, inl, inr, arith}
 use Rattle.std.proofs.lemmas.Bool.{cases_eq}
 use Rattle.std.proofs.lemmas.Option.{same_Some}
 use Rattle.std.specs.FinMap.{get, insert}
@@ -9,7 +9,7 @@ use Rattle.process_model.specs.PageMap as pages
 use Rattle.process_model.specs.Process.{Page, Process, regions}
 use Rattle.process_model.specs.Regions.{Region, region_at}
 use Rattle.process_model.specs.Residence.{with_page}
-use Rattle.sv39_entry.specs.Address.{vpn}
+use Rattle.sv39_entry.specs.Address.{has, vpn}
 use Rattle.sv39_entry.specs.Frame.{ppn_of}
 use Rattle.sv39_entry.specs.Word.{ppn}
 use Rattle.table_walk.specs.Tables.{HasTables, Tables, last_table, leaf_node, with_leaf}
@@ -72,13 +72,17 @@ module _ (v : View) (root : ℕ) (t : Tables) (h : HasTables v root t) (page old
       | inr ne ↦ stayed x k ne name
     ]
 
-    pub owns_same : IsSole v g → (extra : ℕ → ℕ) → Owns v t extra → Owns v (with_leaf t (leaf_node page) leaf) extra
+    leaf_is : (k y : ℕ) → k ≡ leaf_node page → get (insert t.leaves (leaf_node page) leaf) k ≡ Some y → has y 2 ≡ true → has leaf 2 ≡ true
+    leaf_is k y is at writes = ap (λ z. has z 2) (same_Some leaf y (sym (insert_same t.leaves (leaf_node page) leaf k is) ∙ at)) ∙ writes
+
+    -- the seat has it alone where it may be written by the new leaf
+    pub owns_same : (has leaf 2 ≡ true → IsSole v g) → (extra : ℕ → ℕ) → Owns v t extra → Owns v (with_leaf t (leaf_node page) leaf) extra
     owns_same sole extra o = record {
       once = λ x j k a b. o.once x j k (back x j a) (back x k b);
       named = λ x k name. o.named x k (back x k name);
       bare = λ x none. o.bare x (λ k name. none k (on x k name));
       writable = λ x k y at name writes.
-          written x k y (λ is. subst (IsSole v) (sym (named_here x k is (inr (y, at, name)))) sole) (λ ne was. o.writable x k y was name writes) at;
+          written x k y (λ is. subst (IsSole v) (sym (named_here x k is (inr (y, at, name)))) (sole (leaf_is k y is at writes))) (λ ne was. o.writable x k y was name writes) at;
     }
 
   -- a frame without a name takes the place of the one that was named
@@ -185,10 +189,10 @@ module _ (v w : View) (root trapframe : ℕ) (extra : ℕ → ℕ) (t : Tables) 
   pub turned_sole : (x : ℕ) → IsSole v x → IsSole w x
   turned_sole x sole = let y = turned_words in words_sole y.0 v w y.1 x sole
 
-  turned_references : (x : ℕ) → references w x ≡ references v x
+  pub turned_references : (x : ℕ) → references w x ≡ references v x
   turned_references x = let y = turned_words in words_references y.0 v w y.1 x
 
-  turned_other : (x : ℕ) → ((k : ℕ) → get t.tables k ≡ Some x → ⊥) → hold_of w x ≡ hold_of v x
+  pub turned_other : (x : ℕ) → ((k : ℕ) → get t.tables k ≡ Some x → ⊥) → hold_of w x ≡ hold_of v x
   turned_other x apart =
       let y = table in
       words_other y.0 v w (_, word y.0 y.1) x (λ same. apart (last_table page) (y.1 ∙ ap Some (sym same)))

@@ -250,7 +250,7 @@ module _ {v : View} {root trapframe : ℕ} {l : Layout} {t : Tables} {p : Proces
       kept : (fresh : ℕ) (shared : Bool) → Stands w root trapframe nothing (with_leaf t (leaf_node page) leaf) (with_page p page (unmarked fresh shared s))
       kept fresh shared = turned_stands a w root trapframe nothing t p page s r f leaf own_stands can.settled in_region tables word (unmarked fresh shared s) made nothing bare
           (like_bytes v a like f s.bytes here.bytes)
-          (owns_same a root t own_stands.tables page can.on.0 leaf f f can.on.1 can.on.2 made.names refl sole nothing own_stands.owns)
+          (owns_same a root t own_stands.tables page can.on.0 leaf f f can.on.1 can.on.2 made.names refl (λ _. sole) nothing own_stands.owns)
 
       spent : Spends a w 0
       spent =

@@ -1,6 +1,7 @@
 pub mod Accesses
 pub mod Agreement
 pub mod Ending
+pub mod Forking
 pub mod Kernel
 pub mod Layouts
 pub mod Parts

@@ -1,11 +1,15 @@
 -- Settled pages, one after another.
-use Rattle.std.specs.Prelude.{◌≡◌, ℕ, ◌<◌, ◌≤◌, Option, None, Some}
+use Rattle.std.specs.Prelude.{◌≡◌, ℕ, ◌+◌, ◌<◌, ◌≤◌, false, List, [], ◌∷◌, Option, None, Some}
 use Rattle.process_model.specs.PageMap.{get}
 use Rattle.process_model.specs.Process.{Page, Process, regions}
 use Rattle.process_model.specs.Regions.{Region, region_at}
 use Rattle.table_walk.specs.Tables.{Tables}
 use Rattle.address_space.specs.Agreement.{is_dirty_page, IsOn}
 use Rattle.address_space.specs.declared.settled.SettledPage.{SettledPage}
+
+-- what stands in a place that no page has
+abbrev pub no_page : SettledPage
+no_page = record { page = 0; frame = record { 0 = 0 }; fork_mark = false; dirty = false }
 
 -- no page of a run is settled
 abbrev pub AreUnsettled : Process → ℕ → ℕ → Type 0
@@ -30,3 +34,8 @@ IsSettled t p page (Some x) = (x.page ≡ page) × IsSettledPage t p x
 abbrev pub IsNextSettled : Tables → Process → ℕ → ℕ → Option SettledPage → Type 0
 IsNextSettled t p first end None = AreUnsettled p first end
 IsNextSettled t p first end (Some x) = (first ≤ x.page) × (x.page < end) × AreUnsettled p first x.page × IsSettledPage t p x
+
+-- the settled pages of a run in ascending order, each once
+abbrev pub AreSettled : Tables → Process → ℕ → ℕ → List SettledPage → Type 0
+AreSettled t p first end [] = IsNextSettled t p first end None
+AreSettled t p first end (x ∷ xs) = IsNextSettled t p first end (Some x) × AreSettled t p (x.page + 1) end xs

@@ -7,7 +7,7 @@ ghost use Rattle.address_space.specs.Steps.{Spends};
 ghost use Rattle.frame_store.specs.Laws.{Fits, IsDry, Keeps};
 ghost use Rattle.frame_store.specs.View.{references, spent};
 ghost use Rattle.process_model.specs.Frames as model;
-ghost use Rattle.sv39_entry.specs.Word.{kind_of, leaf_word};
+ghost use Rattle.sv39_entry.specs.Word.{IsLeafOf, kind_of, leaf_word};
 ghost use Rattle.sv39_entry.specs.declared.entry.Kind.TheVariants.{Leaf};
 ghost use Rattle.table_walk.specs.Tables.{Tables};
 
@@ -92,7 +92,8 @@ fn need(frames: u16, slots: u16) -> usize
 }
 
 /// The leaf of a frame, for the kernel alone. Frame 0 has the trampoline's code, which nothing may write.
-fn leaf_of(frame: FrameNo) -> Entry
+pub fn leaf_for_kernel(frame: FrameNo) -> Entry
+    ensures made { IsLeafOf result frame.0 (frame_rights frame.0) false false true }
     ensures word { result ≡ leaf_word frame.0 (frame_rights frame.0) false false true }
     ensures kind { kind_of result ≡ Leaf }
 {
@@ -117,7 +118,13 @@ fn new_root<F: FrameSupply>(store: &mut F, seat: &mut F::Seat) -> FrameNo
     ensures free { F.alone → F.free store.new ≡ F.free store.old }
 {
     let root = new_table(store, seat);
-    map(store, seat, root, TRAMPOLINE.page(), leaf_of(FrameNo(0)));
+    map(
+        store,
+        seat,
+        root,
+        TRAMPOLINE.page(),
+        leaf_for_kernel(FrameNo(0)),
+    );
     root
 }
 
@@ -133,7 +140,13 @@ fn map_stacks<F: FrameSupply>(store: &mut F, seat: &mut F::Seat, root: FrameNo, 
 {
     for slot in 0..slots {
         let frame = store.claim(seat);
-        map(store, seat, root, kernel_stack(slot).page(), leaf_of(frame));
+        map(
+            store,
+            seat,
+            root,
+            kernel_stack(slot).page(),
+            leaf_for_kernel(frame),
+        );
     }
 }
 
@@ -154,7 +167,7 @@ fn map_frames<F: FrameSupply>(store: &mut F, seat: &mut F::Seat, root: FrameNo, 
             seat,
             root,
             Va(frame.address()).page(),
-            leaf_of(frame),
+            leaf_for_kernel(frame),
         );
     }
 }

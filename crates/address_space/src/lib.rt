@@ -16,7 +16,7 @@ mod settled;
 mod space;
 mod user;
 
-pub use kernel::KernelTable;
+pub use kernel::{KernelTable, leaf_for_kernel};
 pub use laws::walks_grant_what_is_resident;
 pub use layout::Layout;
 pub use needed::frames_needed;

@@ -1,16 +1,18 @@
-// The mark of pages that go back to a file.
+// The marks of pages: of those that go back to a file, and of those that a fork shares.
 
-ghost use Rattle.std.specs.Prelude.{◌≡◌, ℕ};
+ghost use Rattle.std.specs.Prelude.{◌≡◌, ℕ, Some};
 ghost use Rattle.address_space.specs.Agreement.{body_of};
+ghost use Rattle.address_space.specs.Forking.{HasMarkedForked, IsForking};
 ghost use Rattle.address_space.specs.Steps.{CanWrite, Marks};
 ghost use Rattle.frame_store.specs.Laws.{Fits, Keeps};
+ghost use Rattle.process_model.specs.PageMap.{get};
 ghost use Rattle.process_model.specs.Process.{Page, Process};
 ghost use Rattle.table_walk.specs.Tables.{Tables};
 
 use crate::pages::frame_of;
 use crate::space::Space;
 use frame_store::{FrameAccess, FrameSeat};
-use sv39_entry::Vpn;
+use sv39_entry::{Access, Vpn};
 use table_walk::protect;
 
 impl<S: FrameSeat> Space<S> {
@@ -35,6 +37,32 @@ impl<S: FrameSeat> Space<S> {
             unreachable!()
         };
         let leaf = region.leaf(frame, false, true);
+        protect(store, &mut self.seat, self.root, page, leaf);
+    }
+
+    /// Puts the fork mark on a settled page whose region grants writing: its leaf may not be written any more, and names the
+    /// frame that it named. A store has to make the page the process's own first (the xv6 book, "Page-fault exceptions").
+    pub fn mark_forked<F: FrameAccess<Seat = S>>(&mut self, store: &mut F, page: Vpn)
+        requires fits { Fits F.rule store.old self.old.seat }
+        requires ready { (t : Tables) × (p : Process) × (extra : ℕ → ℕ) × (s : Page) × IsForking (body_of S.view self.old) t p extra × (get p.settled page ≡ Some s) }
+        ensures marked { HasMarkedForked (body_of S.view self.old) (body_of S.view self.new) page }
+        ensures root { self.new.root ≡ self.old.root }
+        ensures trapframe { self.new.trapframe ≡ self.old.trapframe }
+        ensures layout { self.new.layout ≡ self.old.layout }
+        ensures keeps { Keeps F.rule store.old self.old.seat store.new self.new.seat }
+        ensures free { F.alone → F.free store.new ≡ F.free store.old }
+        ensures counts { F.alone → (f : ℕ) → F.count store.new f ≡ F.count store.old f }
+    {
+        let Some(region) = self.layout.region_at(page.number()) else {
+            unreachable!()
+        };
+        if region.lacks_right(Access::Store) {
+            return;
+        }
+        let Some((frame, dirty)) = frame_of(store, &mut self.seat, self.root, page) else {
+            unreachable!()
+        };
+        let leaf = region.leaf(frame, true, dirty);
         protect(store, &mut self.seat, self.root, page, leaf);
     }
 }

@@ -69,20 +69,19 @@ impl Region {
 
     /// The leaf of a page over a frame: with a fork mark it may not be written, and it is dirty where that is said and the
     /// region grants writing. The guard's is the kernel's alone.
-    pub(crate) fn leaf(&self, frame: FrameNo, mark: bool, dirty: bool) -> Entry
+    pub fn leaf(&self, frame: FrameNo, mark: bool, dirty: bool) -> Entry
         requires leafy { makes_leaf (region_of self.now) ≡ true }
-        requires marked { mark ≡ true → (region_of self.now).writes ≡ true }
         ensures leaf { IsPageLeaf result frame.0 (region_of self.now) mark (dirty && (region_of self.now).writes) }
         ensures kind { kind_of result ≡ Leaf }
     {
         if self.kind == RegionKind::Guard {
-            return Entry::leaf(frame, Rights::READ, false, false, dirty);
+            return Entry::leaf(frame, Rights::READ, false, mark, dirty);
         }
         Entry::leaf(frame, self.rights, true, mark, dirty)
     }
 
     /// Whether the leaf of a new page is dirty: where stores go back to a file it is so only from the first one on.
-    pub(crate) fn is_dirty_from_start(&self) -> bool
+    pub fn is_dirty_from_start(&self) -> bool
         ensures { result ≡ not (model.is_shared_kind (region_of self.now).kind) }
     {
         self.kind != RegionKind::SharedMapping

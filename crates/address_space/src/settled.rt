@@ -11,7 +11,7 @@ ghost use Rattle.table_walk.specs.Tables.{Tables};
 use crate::ending::first_mapped;
 use crate::space::Space;
 use frame_store::{FrameAccess, FrameSeat};
-use sv39_entry::{EntryFlags, FrameNo, Vpn};
+use sv39_entry::{EntryFlags, FrameNo, Va, Vpn};
 use table_walk::leaf_of;
 
 /// A settled page, its frame, whether a fork shared it so that a store has to make it the process's own first, and whether its
@@ -22,6 +22,22 @@ pub struct SettledPage {
     pub frame: FrameNo,
     pub fork_mark: bool,
     pub dirty: bool,
+}
+
+/// What stands in a place that no page has.
+impl Default for SettledPage {
+    ghost use Rattle.address_space.specs.Settled.{no_page};
+
+    ghost is_default = { λ x. x ≡ no_page };
+
+    fn default() -> SettledPage {
+        SettledPage {
+            page: Va(0).page(),
+            frame: FrameNo(0),
+            fork_mark: false,
+            dirty: false,
+        }
+    }
 }
 
 impl<S: FrameSeat> Space<S> {

@@ -5,7 +5,7 @@ use Rattle.std.specs.Cmp.{nat_cmp_total, unsigned_tied}
 use Rattle.std.specs.FinMap.Entries.{find, find-put, find-where_key}
 use Rattle.std.proofs.lemmas.Bool.{eqb-true}
 use Rattle.std.proofs.lemmas.Option.{same_Some}
-use Rattle.process_model.specs.PageMap.{PageMap, get, insert, only, with_values, each_value}
+use Rattle.process_model.specs.PageMap.{PageMap, get, insert, only}
 
 either : {A : Type 0} (b : Bool) (v x : A) (o : Option A) → cond b (Some v) o ≡ Some x → ((b ≡ true) × (v ≡ x)) ⊎ (o ≡ Some x)
 either true v x o e = inl (refl, same_Some v x e)
@@ -30,15 +30,3 @@ module _ {X : Type 0} where
   -- what was there
   pub found_only : (p : ℕ → Bool) (m : PageMap X) (q : ℕ) (x : X) → get (only p m) q ≡ Some x → get m q ≡ Some x
   found_only p m q x e = if_passed (p q) x (get m q) (sym (find-where_key nat_cmp p q (λ k t. ap p (sym (same_key q k (ap is_eq t)))) m.entries) ∙ e)
-
-  found_in : (f : ℕ → X → X) (es : List (ℕ × X)) (q : ℕ) (x : X) → find nat_cmp q (each_value f es) ≡ Some x → (y : X) × (find nat_cmp q es ≡ Some y) × (f q y ≡ x)
-  found_in f [] q x e = cc
-  found_in f (e ∷ es) q x is =
-      elim (eq_by_cmp nat_cmp q e.0) as (λ b. eq_by_cmp nat_cmp q e.0 ≡ b → cond b (Some (f e.0 e.1)) (find nat_cmp q (each_value f es)) ≡ Some x → (y : X) × (cond b (Some e.1) (find nat_cmp q es) ≡ Some y) × (f q y ≡ x)) [
-        | true ↦ λ t same. (e.1, refl, ap (λ (k : ℕ). f k e.1) (same_key q e.0 t) ∙ same_Some (f e.0 e.1) x same)
-        | false ↦ λ _ same. found_in f es q x same
-      ] refl is
-
-  -- the new value of what was there
-  pub found_each : (f : ℕ → X → X) (m : PageMap X) (q : ℕ) (x : X) → get (with_values f m) q ≡ Some x → (y : X) × (get m q ≡ Some y) × (f q y ≡ x)
-  found_each f m q x e = found_in f m.entries q x e

@@ -1,5 +1,6 @@
 pub mod Bytes
 pub mod PageMap
+pub mod EachValue
 pub mod Files
 pub mod Regions
 pub mod Process

@@ -10,7 +10,7 @@ pub const KERNBASE: u64 = 0x8000_0000;
 const FIRST_PPN: u64 = KERNBASE >> 12;
 
 /// A frame of physical memory, by its number: frame i is the one with PPN 0x80000 + i.
-#[derive(Clone, Copy, PartialEq, Eq, PartialOrd, Ord, Debug)]
+#[derive(Clone, Copy, PartialEq, Eq, PartialOrd, Ord, Debug, Default)]
 pub struct FrameNo(pub u16);
 
 impl FrameNo {

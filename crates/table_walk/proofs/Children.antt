@@ -89,10 +89,10 @@ module _ (m : ℕ → ℕ → Option ℕ) (root : ℕ) (t : Tables) (h : AreTabl
       let more : k + suc d ≡ suc (k + d) = omega arith in
       rw more (missing_from _ (k + d) (missing_below d k none) refl)
 
-  pub last_missing : (k : ℕ) → k ≤ top_level → get t.tables (node page k) ≡ None → get t.tables (node page top_level) ≡ None
-  last_missing k low none =
-      let whole : k + (top_level - k) ≡ top_level = omega arith in
-      rw whole at (missing_below (top_level - k) k none)
+  pub missing_at : (k d : ℕ) → k ≤ d → get t.tables (node page k) ≡ None → get t.tables (node page d) ≡ None
+  missing_at k d low none =
+      let whole : k + (d - k) ≡ d = omega arith in
+      rw whole at (missing_below (d - k) k none)
 
   one_more : (k : ℕ) → get t.tables (node page (suc k)) ≡ None → missing_to t page (suc k) ≡ missing_to t page k + 1
   one_more k none = rw none refl

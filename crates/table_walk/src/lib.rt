@@ -27,7 +27,7 @@ pub use leaf::physical_address;
 pub use leaves::next_leaf;
 pub use plain::PlainWords;
 pub use release::release_tables;
-pub use tables::missing_tables;
+pub use tables::{missing_tables, table_at};
 pub use translation::{has_byte, translate, translate_held};
 pub use walk::{Found, Walk};
 pub use words::Words;

@@ -58,6 +58,29 @@ fn deepest_table<F: FrameAccess>(
     (table, 0)
 }
 
+/// The table on the way to a page that is so many levels below the root.
+pub fn table_at<F: FrameAccess>(
+    store: &mut F,
+    seat: &mut F::Seat,
+    root: FrameNo,
+    page: Vpn,
+    depth: u32,
+) -> Option<FrameNo>
+    requires fits { Fits F.rule store.old seat.old }
+    requires held { (t : Tables) × HasTables (F.Seat.view seat.old) root.0 t }
+    requires low { depth ≤ top_level }
+    ensures table { (t : Tables) → HasTables (F.Seat.view seat.old) root.0 t → option_map (λ f. f.0) result ≡ get t.tables (node page depth) }
+    ensures view { F.Seat.view seat.new ≡ F.Seat.view seat.old }
+    ensures same { store.new ≡ store.old }
+    ensures keeps { Keeps F.rule store.old seat.old store.new seat.new }
+{
+    let mut table = root;
+    'depths: for step in 0..depth {
+        table = child(store, seat, table, page.index(TOP_LEVEL - step))?;
+    }
+    Some(table)
+}
+
 /// The last table on the way to a page, which has the page's leaf at the page's lowest index.
 pub(crate) fn table_of<F: FrameAccess>(
     store: &mut F,
@@ -72,8 +95,7 @@ pub(crate) fn table_of<F: FrameAccess>(
     ensures same { store.new ≡ store.old }
     ensures keeps { Keeps F.rule store.old seat.old store.new seat.new }
 {
-    let (table, level) = deepest_table(store, seat, root, page);
-    if level == 0 { Some(table) } else { None }
+    table_at(store, seat, root, page, TOP_LEVEL)
 }
 
 /// How many tables are missing on the way to a page.

@@ -6,16 +6,16 @@ use Rattle.address_space.proofs.KernelSteps.{frame_is_missing, frame_maps, frame
 use Rattle.address_space.proofs.KernelTables.{fewer_tables}
 use Rattle.address_space.proofs.kernel.map_frames.Given as given
 use Rattle.address_space.proofs.kernel.map_frames.Goals as goal
-use Rattle.address_space.proofs.kernel.map_frames.Goals.{After-leaf_of}
+use Rattle.address_space.proofs.kernel.map_frames.Goals.{After-leaf_for_kernel}
 
 pub loop-number-init : goal.loop-number-init
 loop-number-init g c = record { mapped = λ stacks t maps. (t, maps); spends = spends_none _; keeps = λ others r. r; free = λ a. refl }
 
 -- the frame's page
-page : (g : given.Over) (c : After-leaf_of g) → c.page.result ≡ first_direct + c.loop-number.number
+page : (g : given.Over) (c : After-leaf_for_kernel g) → c.page.result ≡ first_direct + c.loop-number.number
 page g c = frame_page_is _ _ _ c.page.ensures.number c.address.ensures
 
-few : (g : given.Over) (c : After-leaf_of g) → c.loop-number.number < 1024
+few : (g : given.Over) (c : After-leaf_for_kernel g) → c.loop-number.number < 1024
 few g c = omega (arith, c.loop-number-test.true, c.requires.few)
 
 pub map-requires-clause-fits : goal.map-requires-clause-fits
@@ -36,14 +36,14 @@ map-requires-clause-tables g c =
 
 pub loop-number-preserved : goal.loop-number-preserved
 loop-number-preserved g c =
-    let at = (goal.at.loop-number-preserved g c).After-leaf_of in
+    let at = (goal.at.loop-number-preserved g c).After-leaf_for_kernel in
     record {
       mapped = λ stacks t maps.
           let i = c.loop-number.invariant.mapped stacks t maps in
-          (_, frame_maps _ _ _ _ stacks i.0 i.1 (few g at) (page g at) _ _ c.leaf_of.ensures.word (c.map.ensures.tables i.0 i.1.tables));
+          (_, frame_maps _ _ _ _ stacks i.0 i.1 (few g at) (page g at) _ _ c.leaf_for_kernel.ensures.word (c.map.ensures.tables i.0 i.1.tables));
       spends =
           let i = c.loop-number.invariant.mapped c.requires.ready.0 c.requires.ready.1 c.requires.ready.2 in
-          frame_spends _ _ _ _ _ i.0 i.1 (few g at) (page g at) _ _ c.leaf_of.ensures.word (c.map.ensures.tables i.0 i.1.tables) _ c.loop-number.invariant.spends;
+          frame_spends _ _ _ _ _ i.0 i.1 (few g at) (page g at) _ _ c.leaf_for_kernel.ensures.word (c.map.ensures.tables i.0 i.1.tables) _ c.loop-number.invariant.spends;
       keeps = λ others r. c.map.ensures.keeps others (c.loop-number.invariant.keeps others r);
       free = λ a. c.map.ensures.free a ∙ c.loop-number.invariant.free a;
     }

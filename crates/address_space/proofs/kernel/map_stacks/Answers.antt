@@ -6,7 +6,7 @@ use Rattle.address_space.proofs.KernelFrames.{code_held, spends_is, spends_none,
 use Rattle.address_space.proofs.KernelSteps.{stack_held, stack_maps, stack_none_missing, stack_page_is, stack_spends, stack_tables}
 use Rattle.address_space.proofs.kernel.map_stacks.Given as given
 use Rattle.address_space.proofs.kernel.map_stacks.Goals as goal
-use Rattle.address_space.proofs.kernel.map_stacks.Goals.{After-leaf_of}
+use Rattle.address_space.proofs.kernel.map_stacks.Goals.{After-leaf_for_kernel}
 
 pub loop-slot-init : goal.loop-slot-init
 loop-slot-init g c = record { mapped = λ t maps. ([], t, maps, refl); spends = spends_none _; keeps = λ others r. r; free = λ a. refl }
@@ -29,10 +29,10 @@ map-requires-clause-fits g c =
     fits_after g.F.FrameAccess.rule c.claim-frame.ensures.keeps (fits_after g.F.FrameAccess.rule c.loop-slot.invariant.keeps c.requires.fits)
 
 -- the slot's page
-page : (g : given.Over) (c : After-leaf_of g) (n : ℕ) → n ≡ c.loop-slot.slot → c.page.result ≡ stack_page n
+page : (g : given.Over) (c : After-leaf_for_kernel g) (n : ℕ) → n ≡ c.loop-slot.slot → c.page.result ≡ stack_page n
 page g c n same = stack_page_is _ _ _ n c.page.ensures.number c.kernel_stack.ensures same
 
-few : (g : given.Over) (c : After-leaf_of g) (n : ℕ) → n ≡ c.loop-slot.slot → n < 64
+few : (g : given.Over) (c : After-leaf_for_kernel g) (n : ℕ) → n ≡ c.loop-slot.slot → n < 64
 few g c n same = omega (arith, same, c.loop-slot-test.true, c.requires.few)
 
 pub map-requires-clause-anchored : goal.map-requires-clause-anchored
@@ -50,7 +50,7 @@ map-requires-clause-tables g c =
 
 pub loop-slot-preserved : goal.loop-slot-preserved
 loop-slot-preserved g c =
-    let at = (goal.at.loop-slot-preserved g c).After-leaf_of in
+    let at = (goal.at.loop-slot-preserved g c).After-leaf_for_kernel in
     let claims = c.claim-frame.ensures in
     record {
       mapped = λ t maps.
@@ -58,7 +58,7 @@ loop-slot-preserved g c =
           let has = stack_tables _ _ _ _ _ i.0 i.1 i.2 (few g at _ i.3) claims.view claims.fresh (page g at _ i.3) in (
             i.0 ++ c.claim-frame.result.0 ∷ [],
             _,
-            stack_maps _ _ _ _ _ i.0 i.1 i.2 (few g at _ i.3) claims.view claims.fresh (page g at _ i.3) _ _ (omega arith) c.leaf_of.ensures.word
+            stack_maps _ _ _ _ _ i.0 i.1 i.2 (few g at _ i.3) claims.view claims.fresh (page g at _ i.3) _ _ (omega arith) c.leaf_for_kernel.ensures.word
                 (c.map.ensures.tables i.1 has),
             length_push i.0 c.claim-frame.result.0 ∙ ap (λ n. n + 1) i.3,
           );
@@ -66,7 +66,7 @@ loop-slot-preserved g c =
           let i = c.loop-slot.invariant.mapped c.requires.ready.0 c.requires.ready.1 in
           let has = stack_tables _ _ _ _ _ i.0 i.1 i.2 (few g at _ i.3) claims.view claims.fresh (page g at _ i.3) in
           spends_on _ _ _ _ _ c.loop-slot.invariant.spends
-          (stack_spends _ _ _ _ _ i.0 i.1 i.2 (few g at _ i.3) claims.view claims.fresh (page g at _ i.3) _ _ (omega arith) c.leaf_of.ensures.word
+          (stack_spends _ _ _ _ _ i.0 i.1 i.2 (few g at _ i.3) claims.view claims.fresh (page g at _ i.3) _ _ (omega arith) c.leaf_for_kernel.ensures.word
           (c.map.ensures.tables i.1 has));
       keeps = λ others r. c.map.ensures.keeps others (claims.keeps others (c.loop-slot.invariant.keeps others r));
       free = λ a. c.map.ensures.free a ∙ claims.free a ∙ c.loop-slot.invariant.free a;

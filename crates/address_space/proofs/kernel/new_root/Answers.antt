@@ -14,9 +14,9 @@ map-requires-clause-tables g c =
 pub returns-clause-mapped : goal.returns-clause-mapped
 returns-clause-mapped g c =
     let root = c.new_table-root.ensures in
-    (_, root_maps _ _ _ _ _ _ root.view root.fresh c.requires.once c.requires.bare c.page.ensures.number c.leaf_of.ensures.word (c.map.ensures.tables _ root.root))
+    (_, root_maps _ _ _ _ _ _ root.view root.fresh c.requires.once c.requires.bare c.page.ensures.number c.leaf_for_kernel.ensures.word (c.map.ensures.tables _ root.root))
 
 pub returns-clause-spends : goal.returns-clause-spends
 returns-clause-spends g c =
     let root = c.new_table-root.ensures in
-    root_spends _ _ _ _ _ _ root.view root.fresh c.requires.once c.requires.bare c.page.ensures.number c.leaf_of.ensures.word (c.map.ensures.tables _ root.root)
+    root_spends _ _ _ _ _ _ root.view root.fresh c.requires.once c.requires.bare c.page.ensures.number c.leaf_for_kernel.ensures.word (c.map.ensures.tables _ root.root)

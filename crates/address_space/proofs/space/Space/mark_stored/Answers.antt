@@ -19,10 +19,11 @@ unreachable-requires-in_default-frame_of g c =
     let some = mark_some can c.frame_of.result (c.frame_of.ensures.frame c.requires.ready.0 can.read.agrees.stands.tables) in
     cc (some, c.in_default-frame_of.is)
 
-pub leaf-leaf-requires-clause-leafy : goal.leaf-leaf-requires-clause-leafy
-leaf-leaf-requires-clause-leafy g c =
+pub leaf-leaf-requires : goal.leaf-leaf-requires
+leaf-leaf-requires g c =
     let r = c.requires.ready in
-    mark_leafy r.3 _ (sym (rw c.number.ensures.value at (c.region_at.ensures r.1 r.3.read.agrees.lays)) ∙ ap (option_map region_of) c.in-Some.is)
+    let at = sym (rw c.number.ensures.value at (c.region_at.ensures r.1 r.3.read.agrees.lays)) ∙ ap (option_map region_of) c.in-Some.is in
+    record { leafy = mark_leafy r.3 _ at }
 
 pub protect-requires-clause-fits : goal.protect-requires-clause-fits
 protect-requires-clause-fits g c = fits_after g.F.FrameAccess.rule c.frame_of.ensures.keeps c.requires.fits

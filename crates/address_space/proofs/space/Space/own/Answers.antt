@@ -34,10 +34,11 @@ dirty_is g c t p s f can =
     own_stays_dirty can c.frame_of.result _ (c.frame_of.ensures.frame t can.agrees.stands.tables) c.in-Some-frame_of.is
     (region_of c.in-Some.region) (region_is g c t p s f can)
 
-pub leaf-requires-clause-leafy : goal.leaf-requires-clause-leafy
-leaf-requires-clause-leafy g c =
+pub leaf-requires : goal.leaf-requires
+leaf-requires g c =
     let r = c.requires.ready in
-    leafy_at r.1 r.4.agrees.sound.order c.args.page _ (sym (rw c.number.ensures.value at (c.region_at.ensures r.1 r.4.agrees.lays)) ∙ ap (option_map region_of) c.in-Some.is)
+    let at = sym (rw c.number.ensures.value at (c.region_at.ensures r.1 r.4.agrees.lays)) ∙ ap (option_map region_of) c.in-Some.is in
+    record { leafy = leafy_at r.1 r.4.agrees.sound.order c.args.page _ at }
 
 counted : (g : given.Over) (c : After-look-sole g) → g.F.FrameAccess.alone → (f : ℕ) → c.in-Some-frame_of.shared.0 ≡ f → c.look-sole.result ≡ g.F.FrameAccess.count c.args.store.now f
 counted g c alone f is =
