@@ -1,0 +1,222 @@
+-- The child's tables, one settled page after another.
+use Rattle.std.proofs.Common.{◌≡◌, ℕ, suc, ◌+◌, ◌-◌, ◌^◌, ◌<◌, ◌≤◌, Bool, true, false, not, ◌&&◌, ◌||◌, Some, inl, inr, refl, ap, sym, subst, ◌∙◌, arith, List, ◌∷◌, drop, length, slice_index_or}
+use Rattle.std.proofs.lemmas.Bool.{cases_eq, cases_lt}
+use Rattle.std.proofs.lemmas.List.{at_drop_all, at_drop_more}
+use Rattle.std.proofs.lemmas.List.Elements.{All-contains_itself}
+use Rattle.std.proofs.lemmas.Option.{same_Some}
+use Rattle.std.specs.FinMap.{get}
+use Rattle.std.specs.Prelude.{All, Contains}
+use Rattle.frame_store.specs.Tallies.{spent_is}
+use Rattle.frame_store.specs.View.{IsHeld, View}
+use Rattle.process_model.specs.Frames.{tables_needed}
+use Rattle.process_model.specs.Inserted.{behind, first_or, in_front}
+use Rattle.process_model.specs.Order.{HasLeaves, HasOrder, IsMapping}
+use Rattle.process_model.specs.PageMap as pages
+use Rattle.process_model.specs.Process.{grants_write, heap_of, Page, Process, regions}
+use Rattle.process_model.specs.RegionRows.{each_append, each_as, each_at}
+use Rattle.process_model.specs.Regions.{is_shared_kind, lacks_right, makes_leaf, Region, region_at}
+use Rattle.process_model.specs.Residence.{child_page}
+use Rattle.sv39_entry.specs.Address.{trampoline_page, trapframe_page}
+use Rattle.sv39_entry.specs.declared.access.Access.TheVariants.{Store}
+use Rattle.table_walk.specs.Counted.{AreTablesOf}
+use Rattle.table_walk.specs.Keys.{insert_other, insert_same}
+use Rattle.table_walk.specs.Nodes.{leaf_node_is}
+use Rattle.table_walk.specs.Tables.{ChangesTables, HasTables, IsGrown, leaf_node, missing, Tables, with_leaf}
+use Rattle.table_walk.specs.Walk.{top_level}
+use Rattle.address_space.specs.Agreement.{is_dirty_page, IsPageLeaf}
+use Rattle.address_space.specs.Layouts.{Layout}
+use Rattle.address_space.specs.Settled.{AreSettled, AreUnsettled, IsNextSettled}
+use Rattle.address_space.specs.declared.settled.SettledPage.{SettledPage}
+use Rattle.cow_fork.specs.Children.{CanCopy, CanOpen, CopiesPages, CopiesTree, HasChildLeaf}
+use Rattle.cow_fork.proofs.Counting.{found_in, in_keys}
+use Rattle.cow_fork.proofs.NeededTables.{AreAmong, same_members, tables_same, tables_up}
+use Rattle.cow_fork.proofs.Opening.{held_beside, Makes, makes_more}
+
+-- ---- leaves
+
+-- the pages of each region can have leaves
+pub leafy_at : (p : Process) → HasOrder 0 p → (n : ℕ) (r : Region) → region_at (regions p) n ≡ Some r → makes_leaf r ≡ true
+leafy_at p order n r at = each_at HasLeaves (regions p) n r (each_append HasLeaves p.parts (heap_of p ∷ p.mappings) order.leaves (refl, each_as IsMapping HasLeaves (λ m is. is.leaves) p.mappings order.mapped)) at
+
+twice : (b : Bool) → not (not b) ≡ b
+twice true = refl
+twice false = refl
+
+-- a mark that the page had, and one that it gets
+pub mark_had : (mark had writes : Bool) → mark ≡ had → had ≡ true → mark ≡ (had || writes)
+mark_had mark had writes is had_is = is ∙ had_is ∙ sym (ap (λ b. b || writes) had_is)
+
+pub mark_new : (mark had lacks writes : Bool) → mark ≡ not lacks → had ≡ false → lacks ≡ not writes → mark ≡ (had || writes)
+mark_new mark had lacks writes is none lacks_is = is ∙ ap not lacks_is ∙ twice writes ∙ sym (ap (λ b. b || writes) none)
+
+-- the leaf has the fork mark where the page had it or the region grants writing
+pub child_leaf : (p : Process) (n : ℕ) (s : Page) (r : Region) (x frame : ℕ) (mark dirty : Bool) → region_at (regions p) n ≡ Some r → mark ≡ (s.fork_mark || r.writes) → dirty ≡ not (is_shared_kind r.kind)
+    → IsPageLeaf x frame r mark (dirty && r.writes) → IsPageLeaf x frame r (child_page p n s).fork_mark (is_dirty_page r (child_page p n s))
+child_leaf p n s r x frame mark dirty in_region mark_is dirty_is made =
+    let grants : grants_write p n ≡ r.writes = ap (λ o. not (lacks_right Store o)) in_region ∙ twice r.writes in
+    let is : mark ≡ (child_page p n s).fork_mark = mark_is ∙ ap (λ b. s.fork_mark || b) (sym grants) in
+    subst (λ m. IsPageLeaf x frame r m (is_dirty_page r (child_page p n s))) is (subst (λ d. IsPageLeaf x frame r mark (d && r.writes)) dirty_is made)
+
+-- pages below 2 ^ 27 have different leaves
+leaf_apart : (m n : ℕ) → m < 2 ^ 27 → n < 2 ^ 27 → (m ≡ n → ⊥) → leaf_node m ≡ leaf_node n → ⊥
+leaf_apart m n low small apart same = let at = leaf_node_is m in let is = leaf_node_is n in apart (omega (arith, at, is, same, low, small))
+
+-- ---- as far as some pages were gone through
+
+pub open_first : (o : View) (l : Layout) (t : Tables) (p : Process) (trapframe : ℕ) (list : List SettledPage) → 3 ≤ tables_needed (pages.keys p.settled) → CanCopy o l t p trapframe list → CanOpen o trapframe
+open_first o l t p trapframe list three can = record { anchored = can.anchored; saved = can.saved; apart = can.apart; credits = (let some = can.credits in omega (arith, some, three)) }
+
+module _ (o v : View) (l : Layout) (t u : Tables) (p : Process) (root trapframe bound : ℕ) (done : List ℕ) (list : List SettledPage) (can : CanCopy o l t p trapframe list) (so_far : CopiesPages o v t u p root trapframe bound done) where
+  makes : Makes o v u.tables (tables_needed done)
+  makes = record { fresh = so_far.fresh; same = so_far.same; credits = so_far.credits; tallies = so_far.tallies }
+
+  pub still_anchored : IsHeld v 0
+  still_anchored = held_beside o v u.tables (tables_needed done) 0 makes can.anchored
+
+  pub done_low : All (λ n. n < 512 ^ suc top_level) done
+  done_low = λ i d less.
+      let page = so_far.there _ (All-contains_itself done i d less) in
+      let low = can.low _ page.0 page.1 in
+      omega (arith, low)
+
+  are_keys : AreAmong done (pages.keys p.settled)
+  are_keys n h = let page = so_far.there n h in in_keys p.settled.entries n page.0 page.1
+
+  -- none is left
+  pub copies_all : AreUnsettled p bound trapframe_page → CopiesTree o v t u p root trapframe
+  copies_all none =
+      let below : (n : ℕ) (s : Page) → pages.get p.settled n ≡ Some s → n < bound = λ n s at. elim (cases_lt n bound) [
+        | inl less ↦ less
+        | inr late ↦ absurd (let gone = none n (omega (arith, late)) (can.low n s at) in let both = sym gone ∙ at in cc)
+      ] in
+      let back : AreAmong (pages.keys p.settled) done = λ n h. (let s = found_in p.settled.entries n h in so_far.all n s.0 s.1 (below n s.0 s.1)) in
+      let same = tables_same done (pages.keys p.settled) are_keys back in
+      record {
+        tables = so_far.tables;
+        on_trampoline = so_far.on_trampoline;
+        on_trapframe = so_far.on_trapframe;
+        settled = λ n s at. so_far.settled n s at (below n s at);
+        only = so_far.only;
+        tabled = same_members u done (pages.keys p.settled) are_keys back so_far.tabled;
+        fresh = so_far.fresh;
+        same = so_far.same;
+        credits = subst (λ n. v.credits ≡ o.credits - n) same so_far.credits;
+        tallies = spent_is o.tallies v.tallies _ _ same so_far.tallies;
+      }
+
+  module _ (a : SettledPage) (next : IsNextSettled t p bound trapframe_page (Some a)) where
+    pub page_low : a.page < 512 ^ suc top_level
+    page_low = let low = next.1 in omega (arith, low)
+
+    next_keys : AreAmong (a.page ∷ done) (pages.keys p.settled)
+    next_keys n h = elim (first_or a.page n done h) [
+      | inl same ↦ subst (λ k. Contains (pages.keys p.settled) k) same (in_keys p.settled.entries a.page (next.3).page (next.3).settled)
+      | inr later ↦ are_keys n later
+    ]
+
+    module _ (law : missing u a.page ≡ tables_needed (a.page ∷ done) - tables_needed done) where
+      pub enough : missing u a.page ≤ v.credits
+      enough =
+          let up = tables_up (a.page ∷ done) (pages.keys p.settled) next_keys in
+          let all = can.credits in
+          let left = so_far.credits in
+          omega (arith, up, all, left, law)
+
+      more_needed : tables_needed done + missing u a.page ≡ tables_needed (a.page ∷ done)
+      more_needed = let up = tables_up done (a.page ∷ done) (λ n h. behind a.page n done h) in omega (arith, up, law)
+
+      module _ (w : View) (s : Tables) (x : ℕ) (r : Region) (in_region : region_at (regions p) a.page ≡ Some r)
+          (made : IsPageLeaf x (a.frame).0 r (child_page p a.page (next.3).page).fork_mark (is_dirty_page r (child_page p a.page (next.3).page)))
+          (grown : IsGrown u s a.page top_level) (tables : HasTables w root (with_leaf s (leaf_node a.page) x)) (changes : ChangesTables v w u s (missing u a.page)) (tabled : AreTablesOf s (a.page ∷ done)) where
+        abbrev after : Tables
+        after = with_leaf s (leaf_node a.page) x
+
+        passed : (k : ℕ) → (k ≡ leaf_node a.page → ⊥) → get after.leaves k ≡ get u.leaves k
+        passed k apart = insert_other s.leaves (leaf_node a.page) x k apart ∙ ap (λ leaves. get leaves k) grown.leaves
+
+        -- another page has the leaf that it had
+        stays : (n : ℕ) → n < 2 ^ 27 → (n ≡ a.page → ⊥) → get after.leaves (leaf_node n) ≡ get u.leaves (leaf_node n)
+        stays n low apart = passed (leaf_node n) (leaf_apart n a.page low (let small = next.1 in omega (arith, small)) apart)
+
+        made_all : Makes o w s.tables (tables_needed done + missing u a.page)
+        made_all = makes_more o v w u s a.page top_level (missing u a.page) (tables_needed done) makes grown changes
+
+        child_leaves : (n : ℕ) (q : Page) → pages.get p.settled n ≡ Some q → n < a.page + 1 → HasChildLeaf t after p n q
+        child_leaves n q at below = elim (cases_eq n a.page) [
+          | inl same ↦ (
+              let here : pages.get p.settled a.page ≡ Some q = sym (ap (pages.get p.settled) same) ∙ at in
+              let is : (next.3).page ≡ q = same_Some (next.3).page q (sym (next.3).settled ∙ here) in
+              let first : HasChildLeaf t after p a.page (next.3).page = record {
+                region = r;
+                frame = (a.frame).0;
+                leaf = x;
+                in_region = in_region;
+                on = (next.3).on;
+                mapped = insert_same s.leaves (leaf_node a.page) x (leaf_node a.page) refl;
+                made = made;
+              } in
+              subst (λ k. HasChildLeaf t after p k q) (sym same) (subst (λ z. HasChildLeaf t after p a.page z) is first))
+          | inr apart ↦ elim (cases_lt n bound) [
+            | inl before ↦ (
+                let old = so_far.settled n q at before in
+                let low = can.low n q at in
+                record {
+                  region = old.region;
+                  frame = old.frame;
+                  leaf = old.leaf;
+                  in_region = old.in_region;
+                  on = old.on;
+                  mapped = stays n (omega (arith, low)) apart ∙ old.mapped;
+                  made = old.made;
+                })
+            | inr late ↦ absurd (let gone = next.2 n (omega (arith, late)) (omega (arith, below, apart)) in let both = sym gone ∙ at in cc)
+          ]
+        ]
+
+        all_done : (n : ℕ) (q : Page) → pages.get p.settled n ≡ Some q → n < a.page + 1 → Contains (a.page ∷ done) n
+        all_done n q at below = elim (cases_eq n a.page) [
+          | inl same ↦ subst (λ k. Contains (a.page ∷ done) k) (sym same) (in_front a.page done)
+          | inr apart ↦ elim (cases_lt n bound) [
+            | inl before ↦ behind a.page n done (so_far.all n q at before)
+            | inr late ↦ absurd (let gone = next.2 n (omega (arith, late)) (omega (arith, below, apart)) in let both = sym gone ∙ at in cc)
+          ]
+        ]
+
+        pub copies_more : CopiesPages o w t after p root trapframe (a.page + 1) (a.page ∷ done)
+        copies_more =
+            let small = next.1 in
+            record {
+              tables = tables;
+              on_trampoline = (let leaf = so_far.on_trampoline in (leaf.0, stays trampoline_page (omega arith) (λ same. omega (arith, same, small)) ∙ leaf.1, leaf.2));
+              on_trapframe = (let leaf = so_far.on_trapframe in (leaf.0, stays trapframe_page (omega arith) (λ same. omega (arith, same, small)) ∙ leaf.1, leaf.2));
+              settled = child_leaves;
+              only = λ k z at. elim (cases_eq k (leaf_node a.page)) [
+                | inl same ↦ inr (inr (a.page, (next.3).page, same, (next.3).settled))
+                | inr apart ↦ so_far.only k z (sym (passed k apart) ∙ at)
+              ];
+              all = all_done;
+              there = λ n h. elim (first_or a.page n done h) [
+                | inl same ↦ ((next.3).page, sym (ap (pages.get p.settled) same) ∙ (next.3).settled)
+                | inr later ↦ so_far.there n later
+              ];
+              tabled = tabled;
+              fresh = made_all.fresh;
+              same = made_all.same;
+              credits = subst (λ n. w.credits ≡ o.credits - n) more_needed made_all.credits;
+              tallies = spent_is o.tallies w.tallies _ _ more_needed made_all.tallies;
+            }
+
+-- ---- in the list of settled pages
+
+-- the pages before a place of the list were gone through, and those from there on are left
+abbrev pub IsCopied : View → View → Tables → Process → ℕ → ℕ → List SettledPage → ℕ → Type 0
+IsCopied o v t p root trapframe list i = (u : Tables) × (bound : ℕ) × (done : List ℕ) × CopiesPages o v t u p root trapframe bound done × AreSettled t p bound trapframe_page (drop i list)
+
+module _ (t : Tables) (p : Process) (bound i : ℕ) (list : List SettledPage) (left : AreSettled t p bound trapframe_page (drop i list)) where
+  pub next_left : (a : SettledPage) → i < length list → a ≡ slice_index_or list i a → IsNextSettled t p bound trapframe_page (Some a) × AreSettled t p (a.page + 1) trapframe_page (drop (i + 1) list)
+  next_left a less is =
+      let whole : drop i list ≡ a ∷ drop (i + 1) list = at_drop_more (λ (xs : List SettledPage). xs) list i a less ∙ ap (λ (b : SettledPage). b ∷ drop (i + 1) list) (sym is) in
+      subst (AreSettled t p bound trapframe_page) whole left
+
+  pub none_left : length list ≤ i → AreUnsettled p bound trapframe_page
+  none_left past = subst (AreSettled t p bound trapframe_page) (at_drop_all (λ (xs : List SettledPage). xs) list i past) left

@@ -1,0 +1,254 @@
+-- The tables below a root are listed, level by level.
+use Rattle.std.proofs.Common.{◌≡◌, ℕ, zero, suc, ◌+◌, ◌-◌, ◌*◌, ◌/◌, ◌^◌, ◌<◌, ◌≤◌, inl, inr, refl, ap, sym, ◌∙◌, arith, length, List, [], ◌∷◌, ◌++◌, map, Some, None}
+use Rattle.std.specs.FinMap.{get}
+use Rattle.std.specs.Prelude.{◌==◌, if◌then◌else◌}
+use Rattle.std.proofs.lemmas.Bool.{cases_eq, cases_lt, eq-eqb, ne_eqb}
+use Rattle.std.proofs.lemmas.List.{length-append}
+use Rattle.std.proofs.lemmas.Nat.{le-div}
+use Rattle.std.proofs.lemmas.Option.{same_Some}
+use Rattle.std.proofs.Math.Nat.{le-div_iff_mul-le}
+use Rattle.frame_store.specs.View.{IsHeld, View}
+use Rattle.process_model.specs.ValueSets.{div_up}
+use Rattle.sv39_entry.specs.declared.frame.FrameNo.{FrameNo}
+use Rattle.table_walk.specs.Changed.{IsNextLeaf, places}
+use Rattle.table_walk.specs.Nodes.{above, leaf_node_is, node_below, node_from, power_next, power_some, power_up}
+use Rattle.table_walk.specs.Tables.{HasTables, leaf_node, node, Tables}
+use Rattle.table_walk.specs.Walk.{top_level}
+use Rattle.cow_fork.specs.Lists.{times}
+use Rattle.cow_fork.specs.Listing.{CanList, IsFirstPage, IsLed, IsListing, ListsTables}
+use Rattle.cow_fork.proofs.Pigeons.{few}
+
+-- ---- the first page that has a leaf
+
+leaf_place : (n : ℕ) → n < 2 ^ 27 → leaf_node n ≡ 1 * 512 ^ suc top_level + n
+leaf_place n low = let is = leaf_node_is n in omega (arith, is, low)
+
+pub no_page : (t : Tables) (from : ℕ) → IsNextLeaf t from None → IsFirstPage t from None
+no_page t from bare n late low = ap (get t.leaves) (leaf_place n low) ∙ bare n late low
+
+pub one_page : (t : Tables) (from page w : ℕ) → IsNextLeaf t from (Some (page, w)) → IsFirstPage t from (Some page)
+one_page t from page w next = (
+  next.0,
+  next.1,
+  (w, ap (get t.leaves) (leaf_place page next.1) ∙ next.2),
+  λ n late before. ap (get t.leaves) (leaf_place n (let low = next.1 in omega (arith, low, before))) ∙ next.3 n late before,
+)
+
+-- ---- numbers of tables
+
+node_at : (n d : ℕ) → d ≤ top_level → n < 2 ^ 27 → node n d ≡ 512 ^ d + n / places (top_level - d)
+node_at n zero deep low = omega arith
+node_at n (suc zero) deep low = omega arith
+node_at n (suc (suc zero)) deep low = omega arith
+node_at n (suc (suc (suc d))) deep low = absurd (omega (arith, deep))
+
+in_level : (n d : ℕ) → d ≤ top_level → n < 2 ^ 27 → n / places (top_level - d) < 512 ^ d
+in_level n zero deep low = omega arith
+in_level n (suc zero) deep low = omega arith
+in_level n (suc (suc zero)) deep low = omega arith
+in_level n (suc (suc (suc d))) deep low = absurd (omega (arith, deep))
+
+few_at : (n d : ℕ) → d ≤ top_level → n ≤ 512 ^ d → n * places (top_level - d) ≤ 2 ^ 27
+few_at n zero deep low = omega arith
+few_at n (suc zero) deep low = omega arith
+few_at n (suc (suc zero)) deep low = omega arith
+few_at n (suc (suc (suc d))) deep low = absurd (omega (arith, deep))
+
+-- the numbers of a level belong to its tables alone
+same_depth : (k n e d : ℕ) → k ≡ node n e → 512 ^ d ≤ k → k < 512 ^ suc d → e ≡ d
+same_depth k n e d is from to = elim (cases_lt e d) [
+  | inl less ↦ absurd (
+      let far = power_up (suc e) d less in
+      let next = power_next e in
+      let high = node_below n e in
+      let some = power_some e in
+      omega (arith, far, next, high, some, is, from))
+  | inr more ↦ elim (cases_eq e d) [
+    | inl same ↦ same
+    | inr apart ↦ absurd (
+        let far = power_up (suc d) e (omega (arith, more, apart)) in
+        let low = node_from n e in
+        omega (arith, far, low, is, to))
+  ]
+]
+
+-- ---- lists that get one more
+
+times_push : (f g : ℕ) (L : List ℕ) → times f (L ++ g ∷ []) ≡ times f L + (if g == f then 1 else 0)
+times_push f g [] = omega arith
+times_push f g (x ∷ L) = let rest = times_push f g L in omega (arith, rest)
+
+push_same : (f : ℕ) (L : List ℕ) → times f (L ++ f ∷ []) ≡ times f L + 1
+push_same f L = rw (eq-eqb f f refl) at (times_push f f L)
+
+push_other : (f g : ℕ) (L : List ℕ) → (f ≡ g → ⊥) → times f (L ++ g ∷ []) ≡ times f L
+push_other f g L apart = let more = rw (ne_eqb g f (λ e. apart (sym e))) at (times_push f g L) in omega (arith, more)
+
+pub map_push : (xs : List FrameNo) (x : FrameNo) → map (λ (f : FrameNo). f.0) (xs ++ x ∷ []) ≡ map (λ (f : FrameNo). f.0) xs ++ x.0 ∷ []
+map_push [] x = refl
+map_push (y ∷ xs) x = ap (λ (ns : List ℕ). y.0 ∷ ns) (map_push xs x)
+
+pub length_numbers : (xs : List FrameNo) → length (map (λ (f : FrameNo). f.0) xs) ≡ length xs
+length_numbers [] = refl
+length_numbers (x ∷ xs) = ap suc (length_numbers xs)
+
+-- ---- tables above a table
+
+module _ (v : View) (root : ℕ) (t : Tables) (h : HasTables v root t) (page : ℕ) where
+  parent_there : (k f : ℕ) → get t.tables (node page (suc k)) ≡ Some f → (g : ℕ) × (get t.tables (node page k) ≡ Some g)
+  parent_there k f at = elim (h.known.hung _ f at) [
+    | inl is ↦ absurd (let far = node_from page (suc k) in let next = power_next k in let some = power_some k in omega (arith, is, far, next, some))
+    | inr p ↦ (p.0, rw (above page k) at p.1)
+  ]
+
+  there_from : (j e f : ℕ) → get t.tables (node page (e + j)) ≡ Some f → (g : ℕ) × (get t.tables (node page e) ≡ Some g)
+  there_from zero e f at = let same : e + 0 ≡ e = omega arith in (f, rw same at at)
+  there_from (suc j) e f at =
+      let more : e + suc j ≡ suc (e + j) = omega arith in
+      let p = parent_there (e + j) f (rw more at at) in
+      there_from j e p.0 p.1
+
+  -- those on the way to a leaf are all there
+  pub way_there : (d w : ℕ) → d ≤ top_level → get t.leaves (leaf_node page) ≡ Some w → (g : ℕ) × (get t.tables (node page d) ≡ Some g)
+  way_there d w deep leaf =
+      let hung = (h.known.leaf_hung _ w leaf).2 in
+      let whole : d + (top_level - d) ≡ top_level = omega (arith, deep) in
+      there_from (top_level - d) d hung.0 (rw whole (rw (above page top_level) at hung.1))
+
+-- ---- the tables of a level, from one on
+
+module _ (v : View) (root : ℕ) (t : Tables) (L M : List ℕ) (d pages table : ℕ) (deep : d ≤ top_level) (size : pages ≡ places (top_level - d))
+    (s : IsListing v root t (512 ^ d + table) L M) where
+  pub some : 0 < pages
+  some = let more = power_some (suc (top_level - d)) in omega (arith, more, size)
+
+  number_at : (n : ℕ) → n < 2 ^ 27 → node n d ≡ 512 ^ d + n / pages
+  number_at n low = rw size (node_at n d deep low)
+
+  -- one that is not listed yet is on the way to a leaf at or behind it
+  late : (k f : ℕ) → get t.tables k ≡ Some f → 512 ^ d + table ≤ k → k < 512 ^ suc d
+      → (n w : ℕ) × (n < 2 ^ 27) × (table * pages ≤ n) × (k ≡ 512 ^ d + n / pages) × (get t.leaves (leaf_node n) ≡ Some w)
+  late k f at from to =
+      let l = s.led k f at in
+      let depth = same_depth k l.0 l.1 d l.5 (omega (arith, from)) to in
+      let number : k ≡ 512 ^ d + l.0 / pages = l.5 ∙ ap (node l.0) depth ∙ number_at l.0 l.4 in
+      (l.0, l.2, l.4, (le-div_iff_mul-le some).0 (omega (arith, number, from)), number, l.6)
+
+  pub level_done : IsFirstPage t (table * pages) None → table ≤ 512 ^ d → IsListing v root t (512 ^ suc d) L M
+  level_done none near = record {
+    tables = s.tables;
+    led = s.led;
+    can = s.can;
+    listed = λ f. elim (s.listed f) [
+      | inl p ↦ inl (p.0, (let next = power_next d in let low = p.1 in omega (arith, next, low, near)), p.2, p.3)
+      | inr q ↦ inr (
+        (λ k low at. elim (cases_lt k (512 ^ d + table)) [
+          | inl before ↦ q.0 k before at
+          | inr after ↦ (let l = late k f at (omega (arith, after)) low in let gone = none l.0 l.3 l.2 in let there = l.5 in cc)
+        ]),
+        q.1,
+      )
+    ];
+  }
+
+  pub from_low : table ≤ 512 ^ d → table * pages ≤ 2 ^ 27
+  from_low near = rw size (few_at table d deep near)
+
+  -- the next page that has a leaf
+  module _ (page : ℕ) (x : IsFirstPage t (table * pages) (Some page)) where
+    number : node page d ≡ 512 ^ d + page / pages
+    number = number_at page x.1
+
+    pub goes_up : table < page / pages + 1
+    goes_up = let up = le-div table page pages some x.0 in omega (arith, up)
+
+    pub still_near : page / pages + 1 ≤ 512 ^ d
+    still_near = let low : page / pages < 512 ^ d = rw size (in_level page d deep x.1) in omega (arith, low)
+
+    pub table_there : (g : ℕ) × (get t.tables (node page d) ≡ Some g)
+    table_there = way_there v root t s.tables page d x.2.0 deep x.2.1
+
+    module _ (f : ℕ) (at : get t.tables (node page d) ≡ Some f) where
+      unlisted : times f M ≡ 0
+      unlisted = elim (s.listed f) [
+        | inl p ↦ absurd (
+            let same = s.tables.known.apart p.0 (node page d) f p.2 at in
+            let is = number in
+            let up = goes_up in
+            let low = p.1 in
+            omega (arith, same, is, up, low))
+        | inr q ↦ q.1 ∙ s.can.other (node page d) f at
+      ]
+
+      -- between the last that is listed and this one there is none
+      only : (k g : ℕ) → get t.tables k ≡ Some g → 512 ^ d + table ≤ k → k < 512 ^ d + (page / pages + 1) → g ≡ f
+      only k g there from to =
+          let next = power_next d in
+          let near = still_near in
+          let l = late k g there from (omega (arith, next, near, to)) in
+          let behind : page ≤ l.0 = elim (cases_lt l.0 page) [
+            | inl before ↦ absurd (let gone = x.3 l.0 l.3 before in let leaf = l.5 in cc)
+            | inr after ↦ omega (arith, after)
+          ] in
+          let over = div_up pages some page l.0 behind in
+          let same : k ≡ node page d = let here = l.4 in let is = number in omega (arith, here, is, over, to) in
+          same_Some g f (sym there ∙ ap (get t.tables) same ∙ at)
+
+      pub one_more : IsListing v root t (512 ^ d + (page / pages + 1)) L (M ++ f ∷ [])
+      one_more = record {
+        tables = s.tables;
+        led = s.led;
+        can = s.can;
+        listed = λ g. elim (cases_eq g f) [
+          | inl same ↦ inl (
+            node page d,
+            (let is = number in omega (arith, is)),
+            rw same at,
+            rw same (let none = unlisted in let one = push_same f M in omega (arith, none, one)),
+          )
+          | inr apart ↦ (let still = push_other g f M apart in elim (s.listed g) [
+            | inl p ↦ inl (p.0, (let up = goes_up in let low = p.1 in omega (arith, up, low)), p.2, still ∙ p.3)
+            | inr q ↦ inr (
+              (λ k low there. elim (cases_lt k (512 ^ d + table)) [
+                | inl before ↦ q.0 k before there
+                | inr after ↦ apart (only k g there (omega (arith, after)) low)
+              ]),
+              still ∙ q.1,
+            )
+          ])
+        ];
+      }
+
+      -- the list has room
+      module _ (small : (g : ℕ) → IsHeld v g → g < 1024) where
+        once : (g : ℕ) → times g (M ++ f ∷ []) ≤ 1
+        once g = elim (one_more.listed g) [
+          | inl p ↦ (let one = p.3 in omega (arith, one))
+          | inr q ↦ (let same = q.1 in let most = s.can.once g in omega (arith, same, most))
+        ]
+
+        low : (g : ℕ) → 0 < times g (M ++ f ∷ []) → g < 1024
+        low g more = elim (one_more.listed g) [
+          | inl p ↦ small g (s.tables.own p.0 g p.2).0
+          | inr q ↦ s.can.low g (let same = q.1 in omega (arith, same, more))
+        ]
+
+        pub room : length M < 1024
+        room = let most = few 1024 (M ++ f ∷ []) once low in let longer = length-append M (f ∷ []) in omega (arith, most, longer)
+
+-- ---- all the levels
+
+module _ (v : View) (root : ℕ) (t : Tables) (L : List ℕ) where
+  pub none_listed : HasTables v root t → IsLed t → CanList t L → IsListing v root t (512 ^ 0) L L
+  none_listed h led can = record {
+    tables = h;
+    led = led;
+    can = can;
+    listed = λ f. inr ((λ k low at. let from = (h.known.below k f at).0 in omega (arith, from, low)), refl);
+  }
+
+  pub all_listed : (M : List ℕ) → IsListing v root t (512 ^ suc top_level) L M → ListsTables t L M
+  all_listed M s f = elim (s.listed f) [
+    | inl p ↦ inl (p.0, p.2, p.3)
+    | inr q ↦ inr ((λ k at. q.0 k (s.tables.known.below k f at).1 at), q.1)
+  ]

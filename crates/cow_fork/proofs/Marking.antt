@@ -1,0 +1,164 @@
+-- The parent's settled pages get the fork mark, one after another.
+use Rattle.std.proofs.Common.{◌≡◌, ℕ, ◌+◌, ◌<◌, ◌≤◌, Option, None, Some, List, ◌∷◌, drop, length, slice_index_or, refl, ap, sym, subst, ◌∙◌, inl, inr, arith}
+use Rattle.std.specs.FinMap as finite
+use Rattle.std.specs.Prelude.{option_map}
+use Rattle.std.proofs.lemmas.Bool.{cases_eq, cases_lt}
+use Rattle.std.proofs.lemmas.List.{at_drop_all, at_drop_more}
+use Rattle.process_model.specs.EachValue.{each_answer}
+use Rattle.process_model.specs.Inserted.{inserted_here, inserted_other, same_finds}
+use Rattle.process_model.specs.OrderKept.{same_order}
+use Rattle.process_model.specs.PageMap.{get, insert, PageMap, with_values}
+use Rattle.process_model.specs.Process as of_model
+use Rattle.process_model.specs.Process.{Page, Process}
+use Rattle.process_model.specs.Residence.{marked, marked_page}
+use Rattle.sv39_entry.specs.Address.{trapframe_page}
+use Rattle.table_walk.specs.Tables.{Tables}
+use Rattle.address_space.specs.Agreement.{Body}
+use Rattle.address_space.specs.Forking.{HasMarkedForked, IsForking, TurnsLeaves}
+use Rattle.address_space.specs.Settled.{AreSettled, AreUnsettled}
+use Rattle.address_space.specs.declared.settled.SettledPage.{SettledPage}
+
+-- a process that stands while a fork is under way does so whatever it has pending
+forking_pending : (x : Body) (t : Tables) (p : Process) (extra : ℕ → ℕ) (o : Option of_model.Pending) → IsForking x t p extra
+    → IsForking x t (record p { pending = o }) extra
+forking_pending x t p extra o a = record {
+  sound = record { order = same_order 0 p p.settled p.tabled o a.sound.order; tabled = a.sound.tabled };
+  lays = record { parts = a.lays.parts; mappings = a.lays.mappings; heap_base = a.lays.heap_base; size = a.lays.size };
+  stands = record {
+    tables = a.stands.tables;
+    owns = a.stands.owns;
+    shows = record {
+      on_trampoline = a.stands.shows.on_trampoline;
+      on_trapframe = a.stands.shows.on_trapframe;
+      settled = λ n s there. let shown = a.stands.shows.settled n s there in record {
+        region = shown.region;
+        frame = shown.frame;
+        leaf = shown.leaf;
+        in_region = shown.in_region;
+        mapped = shown.mapped;
+        made = shown.made;
+        bytes = shown.bytes;
+      };
+      only = a.stands.shows.only;
+      low = a.stands.shows.low;
+    };
+    tabled = a.stands.tabled;
+    tabled_low = a.stands.tabled_low;
+  };
+}
+
+-- leaves that were turned, none and twice
+
+turns_none : (x : Body) (t : Tables) → TurnsLeaves x x t t
+turns_none x t = record { on = λ n f on. on; tables = refl; same = λ f apart. refl; count = λ f. refl; credits = refl; tallies = refl; size = refl }
+
+turns_on : (x y z : Body) (t u w : Tables) → TurnsLeaves x y t u → TurnsLeaves y z u w → TurnsLeaves x z t w
+turns_on x y z t u w a b = record {
+  on = λ n f on. a.on n f (b.on n f on);
+  tables = b.tables ∙ a.tables;
+  same = λ f apart. b.same f (λ k at. apart k (ap (λ m. finite.get m k) (sym a.tables) ∙ at)) ∙ a.same f apart;
+  count = λ f. b.count f ∙ a.count f;
+  credits = b.credits ∙ a.credits;
+  tallies = b.tallies ∙ a.tallies;
+  size = b.size ∙ a.size;
+}
+
+-- the settled pages below a place have the fork mark where their regions grant writing, and the others are as they were
+pub record AreMarkedBelow (p : Process) (bound : ℕ) (done : PageMap Page) : Type 0 where
+  pub below : (n : ℕ) → n < bound → get done n ≡ option_map (marked_page p n) (get p.settled n)
+  pub above : (n : ℕ) → bound ≤ n → get done n ≡ get p.settled n
+
+-- and so it stands in memory, where these pages are left
+pub record IsMarking (x y : Body) (t u : Tables) (p : Process) (extra : ℕ → ℕ) (rest : List SettledPage) : Type 0 where
+  pub tables : Tables
+  pub bound : ℕ
+  pub done : PageMap Page
+  pub forking : IsForking y tables (record p { settled = done }) extra
+  pub turns : TurnsLeaves x y t tables
+  pub marks : AreMarkedBelow p bound done
+  pub left : AreSettled u p bound trapframe_page rest
+
+module _ (p : Process) (bound : ℕ) (done : PageMap Page) (marks : AreMarkedBelow p bound done) where
+  -- the next settled page is marked
+  marks_next : (k : ℕ) (s : Page) → bound ≤ k → AreUnsettled p bound k → get p.settled k ≡ Some s
+      → AreMarkedBelow p (k + 1) (insert done k (marked_page p k s))
+  marks_next k s behind none here = record {
+    below = λ n before. elim (cases_eq n k) [
+      | inl same ↦
+          inserted_here k (marked_page p k s) done n same
+          ∙ sym (ap (option_map (marked_page p k)) here)
+          ∙ ap (λ m. option_map (marked_page p m) (get p.settled m)) (sym same)
+      | inr apart ↦ inserted_other k (marked_page p k s) done n apart ∙ elim (cases_lt n bound) [
+        | inl low ↦ marks.below n low
+        | inr high ↦ (
+            let empty = none n (omega (arith, high)) (omega (arith, before, apart)) in
+            marks.above n (omega (arith, high)) ∙ empty ∙ sym (ap (option_map (marked_page p n)) empty))
+      ]
+    ];
+    above = λ n after. inserted_other k (marked_page p k s) done n (λ same. omega (arith, after, same)) ∙ marks.above n (omega (arith, after, behind));
+  }
+
+  -- where none is left, all are
+  marks_all : AreUnsettled p bound trapframe_page → ((n : ℕ) (s : Page) → get p.settled n ≡ Some s → n < trapframe_page)
+      → done ≡ with_values (marked_page p) p.settled
+  marks_all none low = same_finds done (with_values (marked_page p) p.settled) (λ n. all n ∙ sym (each_answer (marked_page p) p.settled n)) where
+    high_none : (n : ℕ) (o : Option Page) → get p.settled n ≡ o → bound ≤ n → get p.settled n ≡ None
+    high_none n None is high = is
+    high_none n (Some s) is high = none n high (low n s is)
+
+    all : (n : ℕ) → get done n ≡ option_map (marked_page p n) (get p.settled n)
+    all n = elim (cases_lt n bound) [
+      | inl before ↦ marks.below n before
+      | inr after ↦ (
+          let empty = high_none n (get p.settled n) refl (omega (arith, after)) in
+          marks.above n (omega (arith, after)) ∙ empty ∙ sym (ap (option_map (marked_page p n)) empty))
+    ]
+
+module _ (x : Body) (t u : Tables) (p : Process) (extra : ℕ → ℕ) (settled : List SettledPage) where
+  pub marking_none : IsForking x t p extra → AreSettled u p 0 trapframe_page settled → IsMarking x x t u p extra settled
+  marking_none can are = record {
+    tables = t;
+    bound = 0;
+    done = p.settled;
+    forking = can;
+    turns = turns_none x t;
+    marks = record { below = λ n before. absurd (omega (arith, before)); above = λ n after. refl };
+    left = are;
+  }
+
+  module _ (y : Body) (i : ℕ) (m : IsMarking x y t u p extra (drop i settled)) where
+    module _ (a : SettledPage) (lt : i < length settled) (is : a ≡ slice_index_or settled i a) where
+      here : drop i settled ≡ a ∷ drop (i + 1) settled
+      here = at_drop_more (λ l. l) settled i a lt ∙ ap (λ (b : SettledPage). b ∷ drop (i + 1) settled) (sym is)
+
+      left : AreSettled u p m.bound trapframe_page (a ∷ drop (i + 1) settled)
+      left = subst (AreSettled u p m.bound trapframe_page) here m.left
+
+      page_there : get m.done a.page ≡ Some left.0.3.page
+      page_there = m.marks.above a.page left.0.0 ∙ left.0.3.settled
+
+      pub marking_ready : (t : Tables) × (p : Process) × (extra : ℕ → ℕ) × (s : Page) × IsForking y t p extra × (get p.settled a.page ≡ Some s)
+      marking_ready = (m.tables, record p { settled = m.done }, extra, left.0.3.page, m.forking, page_there)
+
+      pub marking_next : (z : Body) → HasMarkedForked y z a.page → IsMarking x z t u p extra (drop (i + 1) settled)
+      marking_next z has =
+          let after = has m.tables (record p { settled = m.done }) extra left.0.3.page m.forking page_there in
+          record {
+            tables = after.0;
+            bound = a.page + 1;
+            done = insert m.done a.page (marked_page p a.page left.0.3.page);
+            forking = after.1.forking;
+            turns = turns_on x y z t m.tables after.0 m.turns after.1.turns;
+            marks = marks_next p m.bound m.done m.marks a.page left.0.3.page left.0.0 left.0.2 left.0.3.settled;
+            left = left.1;
+          }
+
+    pub marking_all : IsForking x t p extra → length settled ≤ i → (w : Tables) × IsForking y w (marked p) extra × TurnsLeaves x y t w
+    marking_all can past =
+        let none : AreUnsettled p m.bound trapframe_page = subst (AreSettled u p m.bound trapframe_page) (at_drop_all (λ l. l) settled i past) m.left in
+        let same = marks_all p m.bound m.done m.marks none can.stands.shows.low in (
+          m.tables,
+          forking_pending y m.tables (record p { settled = with_values (marked_page p) p.settled }) extra None
+              (subst (λ d. IsForking y m.tables (record p { settled = d }) extra) same m.forking),
+          m.turns,
+        )

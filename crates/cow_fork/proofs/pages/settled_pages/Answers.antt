@@ -1,0 +1,95 @@
+use Rattle.std.proofs.Common.{◌≡◌, ◌+◌, ◌-◌, ◌<◌, ap, refl, subst, ◌∙◌, arith, [], ◌∷◌, ◌++◌, length, List}
+use Rattle.std.proofs.lemmas.List.{append_assoc, append-nil, length-map, map-append}
+use Rattle.address_space.specs.Settled.{AreSettled}
+use Rattle.address_space.specs.declared.settled.SettledPage.{SettledPage}
+use Rattle.frame_store.specs.Laws.{fits_after}
+use Rattle.sv39_entry.specs.Address.{trapframe_page}
+use Rattle.cow_fork.specs.Sharing.{frames_of}
+use Rattle.cow_fork.proofs.Going.{going_all, going_few, going_more, going_none}
+use Rattle.cow_fork.proofs.Walking.{same_body}
+use Rattle.cow_fork.proofs.pages.settled_pages.Goals as goal
+
+pub pages-init : goal.pages-init
+pages-init g c = record {
+  near = omega arith;
+  root = refl;
+  trapframe = refl;
+  layout = refl;
+  view = refl;
+  same = refl;
+  keeps = λ others r. r;
+  going = λ t p space. rw c.new-pages.ensures (going_none _ t p space);
+  settled = λ t p space more rest. rw c.new-pages.ensures rest;
+}
+
+pub next_settled-requires-clause-fits : goal.next_settled-requires-clause-fits
+next_settled-requires-clause-fits g c = fits_after g.F.FrameAccess.rule c.pages.invariant.keeps c.requires.fits
+
+pub next_settled-requires-clause-ready : goal.next_settled-requires-clause-ready
+next_settled-requires-clause-ready g c =
+    let r = c.requires.ready in
+    let i = c.pages.invariant in
+    let body = same_body g.S.FrameSeat.view c.pages.space c.args.space.now i.view i.root i.trapframe i.layout in
+    (r.0, r.1, rw body r.2)
+
+pub push-requires : goal.push-requires
+push-requires g c =
+    let r = c.requires.ready in
+    let law = g.met.F.FrameAccess.within _ _ c.requires.fits.0 c.requires.fits.1 in
+    let most = going_few _ r.0 r.1 r.2 c.pages.from (0 ∷ frames_of c.pages.pages.items) (c.pages.invariant.going r.0 r.1 r.2) (λ f held. let low = law.1 f held in omega (arith, low, law.0)) in
+    let few : length c.pages.pages.items < 1024 = omega (arith, most, length-map c.pages.pages.items (λ (x : SettledPage). (x.frame).0)) in
+    (omega arith, few)
+
+pub pages-smaller : goal.pages-smaller
+pages-smaller g c =
+    let r = c.requires.ready in
+    let i = c.pages.invariant in
+    let body = same_body g.S.FrameSeat.view c.pages.space c.args.space.now i.view i.root i.trapframe i.layout in
+    let next = rw (c.in-Some.is, c.page.ensures.number) at c.next_settled.ensures.page r.0 r.1 (rw body r.2) in
+    let less : trapframe_page - (c.number-from.result + 1) < trapframe_page - c.pages.from = omega (arith, c.number-from.ensures.value, next.0, next.1) in
+    less
+
+pub pages-preserved : goal.pages-preserved
+pages-preserved g c =
+    let r = c.requires.ready in
+    let i = c.pages.invariant in
+    let n = c.next_settled.ensures in
+    let body = same_body g.S.FrameSeat.view c.pages.space c.args.space.now i.view i.root i.trapframe i.layout in
+    let near_next = rw (c.in-Some.is, c.page.ensures.number) at n.page r.0 r.1 (rw body r.2) in
+    let items = c.push.ensures.items in
+    record {
+      near = omega (arith, c.number-from.ensures.value, near_next.1);
+      root = n.root ∙ i.root;
+      trapframe = n.trapframe ∙ i.trapframe;
+      layout = n.layout ∙ i.layout;
+      view = n.view ∙ i.view;
+      same = n.same ∙ i.same;
+      keeps = λ others s. n.keeps others (i.keeps others s);
+      going = λ t p space.
+          let next = rw (c.in-Some.is, c.page.ensures.number) at n.page t p (rw body space) in
+          let longer : frames_of c.push.new.self.items ≡ frames_of c.pages.pages.items ++ (c.in-Some.found.frame).0 ∷ [] =
+          ap frames_of items ∙ map-append (λ (x : SettledPage). (x.frame).0) c.pages.pages.items (c.in-Some.found ∷ []) in
+          rw (c.number-from.ensures.value, longer) (going_more _ t p space c.pages.from (0 ∷ frames_of c.pages.pages.items) (i.going t p space) c.in-Some.found next);
+      settled = λ t p space more rest.
+          let next = rw (c.in-Some.is, c.page.ensures.number) at n.page t p (rw body space) in
+          let longer : c.push.new.self.items ++ more ≡ c.pages.pages.items ++ c.in-Some.found ∷ more =
+          ap (λ (l : List SettledPage). l ++ more) items ∙ append_assoc c.pages.pages.items (c.in-Some.found ∷ []) more in
+          rw longer (i.settled t p space (c.in-Some.found ∷ more) (next, rw c.number-from.ensures.value at rest));
+    }
+
+pub returns-clause-settled : goal.returns-clause-settled
+returns-clause-settled g c t p space =
+    let i = c.pages.invariant in
+    let body = same_body g.S.FrameSeat.view c.pages.space c.args.space.now i.view i.root i.trapframe i.layout in
+    let none = rw (c.in_default.is, c.page.ensures.number) at c.next_settled.ensures.page t p (rw body space) in
+    subst (AreSettled t p 0 trapframe_page) (append-nil c.pages.pages.items) (i.settled t p space [] none)
+
+pub returns-clause-going : goal.returns-clause-going
+returns-clause-going g c t p space =
+    let i = c.pages.invariant in
+    let body = same_body g.S.FrameSeat.view c.pages.space c.args.space.now i.view i.root i.trapframe i.layout in
+    let none = rw (c.in_default.is, c.page.ensures.number) at c.next_settled.ensures.page t p (rw body space) in
+    going_all _ t p space c.pages.from (0 ∷ frames_of c.pages.pages.items) (i.going t p space) none
+
+pub returns-clause-keeps : goal.returns-clause-keeps
+returns-clause-keeps g c others r = c.next_settled.ensures.keeps others (c.pages.invariant.keeps others r)

@@ -1,0 +1,126 @@
+use Rattle.std.proofs.Common.{◌≡◌, ◌||◌, Some, None, [], refl, ap, sym, ◌∙◌, arith}
+use Rattle.frame_store.specs.Laws.{fits_after}
+use Rattle.process_model.specs.PageMap as pages
+use Rattle.process_model.specs.Process.{regions}
+use Rattle.process_model.specs.Regions.{region_at}
+use Rattle.process_model.specs.ValueSets.{none_in}
+use Rattle.table_walk.specs.Tables.{leaf_node, with_leaf}
+use Rattle.address_space.specs.Layouts.{LaysOut, region_of}
+use Rattle.cow_fork.proofs.Copying.{child_leaf, copies_all, copies_more, done_low, enough, leafy_at, mark_had, mark_new, next_left, none_left, open_first, page_low, still_anchored}
+use Rattle.cow_fork.proofs.NeededTables.{tables_up, three_needed}
+use Rattle.cow_fork.proofs.tree.copy_tree.Goals as goal
+use Rattle.cow_fork.proofs.tree.copy_tree.Goals.{else-page, then-page}
+
+pub open_tables-root-requires-clause-ready : goal.open_tables-root-requires-clause-ready
+open_tables-root-requires-clause-ready g c =
+    let r = c.requires.ready in
+    let up = tables_up [] (pages.keys r.1.settled) (λ n h. absurd (none_in n h)) in
+    let three = three_needed in
+    open_first _ _ r.0 r.1 _ _ (omega (arith, up, three)) r.2
+
+pub pages-init : goal.pages-init
+pages-init g c =
+    let e = c.open_tables-root.ensures in
+    record {
+      root = refl;
+      trapframe = refl;
+      layout = refl;
+      keeps = e.keeps;
+      free = e.free;
+      copied = λ t p can. (e.opened.0, 0, [], e.opened.1 t p, can.settled);
+    }
+
+pub unreachable-requires : goal.unreachable-requires
+unreachable-requires g c =
+    let r = c.requires.ready in
+    let i = c.pages.invariant in
+    let k = i.copied r.0 r.1 r.2 in
+    let next = (next_left r.0 r.1 k.1 c.pages.page-index c.args.settled.now k.4 c.page-item.result c.pages-test.true c.page-item.is).0 in
+    let lays : LaysOut c.pages.space.layout r.1 = rw i.layout r.2.lays in
+    let none : region_at (regions r.1) c.page-item.result.page ≡ None = sym (rw (c.in_default.is, c.number.ensures.value) at c.region_at.ensures r.1 lays) in
+    let both = sym none ∙ (next.3).in_region in
+    cc
+
+pub leaf-leaf-requires : goal.leaf-leaf-requires
+leaf-leaf-requires g c =
+    let r = c.requires.ready in
+    let lays : LaysOut c.pages.space.layout r.1 = rw c.pages.invariant.layout r.2.lays in
+    let at : region_at (regions r.1) c.page-item.result.page ≡ Some (region_of c.in-Some.region) = sym (rw (c.in-Some.is, c.number.ensures.value) at c.region_at.ensures r.1 lays) in
+    record { leafy = leafy_at r.1 r.2.order c.page-item.result.page (region_of c.in-Some.region) at }
+
+pub map-requires-clause-fits : goal.map-requires-clause-fits
+map-requires-clause-fits g c = fits_after g.F.FrameAccess.rule c.pages.invariant.keeps c.requires.fits
+
+pub map-requires-clause-anchored : goal.map-requires-clause-anchored
+map-requires-clause-anchored g c =
+    let r = c.requires.ready in
+    let k = c.pages.invariant.copied r.0 r.1 r.2 in
+    still_anchored _ _ _ r.0 k.0 r.1 _ _ k.1 k.2 _ r.2 k.3
+
+pub map-requires-clause-tables : goal.map-requires-clause-tables
+map-requires-clause-tables g c =
+    let r = c.requires.ready in
+    let k = c.pages.invariant.copied r.0 r.1 r.2 in
+    let a = c.page-item.result in
+    let next = (next_left r.0 r.1 k.1 c.pages.page-index c.args.settled.now k.4 a c.pages-test.true c.page-item.is).0 in
+    let low = done_low _ _ _ r.0 k.0 r.1 _ _ k.1 k.2 _ r.2 k.3 in
+    let small = page_low _ _ _ r.0 k.0 r.1 _ _ k.1 k.2 _ r.2 k.3 a next in
+    let law = c.missing_is_growth.ensures.missing k.0 k.2 a.page k.3.tabled low small in
+    (k.0, k.3.tables, enough _ _ _ r.0 k.0 r.1 _ _ k.1 k.2 _ r.2 k.3 a next law)
+
+pub pages-preserved : goal.pages-preserved
+pages-preserved g c =
+    let i = c.pages.invariant in
+    let m = c.map.ensures in
+    let a = c.page-item.result in
+    let r = region_of c.in-Some.region in
+    let mark_is : c.if-page.mark ≡ (a.fork_mark || r.writes) = elim c.if-page.branch [
+      | then-page w ↦ mark_had c.if-page.mark a.fork_mark r.writes w.mark-is w.if-page.true
+      | else-page w ↦ mark_new c.if-page.mark a.fork_mark w.lacks_right.result r.writes w.mark-is w.if-page.false w.lacks_right.ensures
+    ] in
+    record {
+      root = i.root;
+      trapframe = i.trapframe;
+      layout = i.layout;
+      keeps = λ others s. m.keeps others (i.keeps others s);
+      free = λ alone. m.free alone ∙ i.free alone;
+      copied = λ t p can.
+          let k = i.copied t p can in
+          let both = next_left t p k.1 c.pages.page-index c.args.settled.now k.4 a c.pages-test.true c.page-item.is in
+          let next = both.0 in
+          let low = done_low _ _ _ t k.0 p _ _ k.1 k.2 _ can k.3 in
+          let small = page_low _ _ _ t k.0 p _ _ k.1 k.2 _ can k.3 a next in
+          let law = c.missing_is_growth.ensures.missing k.0 k.2 a.page k.3.tabled low small in
+          let lays : LaysOut c.pages.space.layout p = rw i.layout can.lays in
+          let at : region_at (regions p) a.page ≡ Some r = sym (rw (c.in-Some.is, c.number.ensures.value) at c.region_at.ensures p lays) in
+          let mark_was = mark_is ∙ ap (λ b. b || r.writes) (next.3).fork_mark in
+          let made = child_leaf p a.page (next.3).page r c.leaf-leaf.result (a.frame).0 c.if-page.mark c.is_dirty_from_start.result at mark_was c.is_dirty_from_start.ensures c.leaf-leaf.ensures.leaf in
+          let n = m.tables k.0 k.3.tables in
+          let tabled = c.missing_is_growth.ensures.grown k.0 n.0 k.2 a.page k.3.tabled n.1 in (
+            with_leaf n.0 (leaf_node a.page) c.leaf-leaf.result,
+            _,
+            _,
+            copies_more _ _ _ t k.0 p _ _ k.1 k.2 _ can k.3 a next law _ n.0 c.leaf-leaf.result r at made n.1 n.2 n.3 tabled,
+            both.1,
+          );
+    }
+
+pub returns-clause-copied : goal.returns-clause-copied
+returns-clause-copied g c t p can =
+    let k = c.pages.invariant.copied t p can in
+    (k.0, copies_all _ _ _ t k.0 p _ _ k.1 k.2 _ can k.3 (none_left t p k.1 c.pages.page-index c.args.settled.now k.4 c.pages-test.false))
+
+pub returns-clause-root : goal.returns-clause-root
+returns-clause-root g c = c.pages.invariant.root
+
+pub returns-clause-trapframe : goal.returns-clause-trapframe
+returns-clause-trapframe g c = c.pages.invariant.trapframe
+
+pub returns-clause-layout : goal.returns-clause-layout
+returns-clause-layout g c = c.pages.invariant.layout
+
+pub returns-clause-keeps : goal.returns-clause-keeps
+returns-clause-keeps g c = c.pages.invariant.keeps
+
+pub returns-clause-free : goal.returns-clause-free
+returns-clause-free g c = c.pages.invariant.free

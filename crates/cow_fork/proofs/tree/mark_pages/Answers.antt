@@ -1,0 +1,39 @@
+use Rattle.std.proofs.Common.{◌∙◌, refl}
+use Rattle.cow_fork.proofs.Marking.{marking_all, marking_next, marking_none, marking_ready}
+use Rattle.cow_fork.proofs.tree.mark_pages.Goals as goal
+
+pub pages-init : goal.pages-init
+pages-init g c = record {
+  marking = λ t u p extra can are. marking_none _ t u p extra c.args.settled.now can are;
+  root = refl;
+  trapframe = refl;
+  layout = refl;
+  keeps = λ others r. r;
+  free = λ alone. refl;
+}
+
+pub mark_forked-requires-clause-fits : goal.mark_forked-requires-clause-fits
+mark_forked-requires-clause-fits g c = let f = c.requires.fits in (f.0, c.pages.invariant.keeps f.0 f.1)
+
+pub mark_forked-requires-clause-ready : goal.mark_forked-requires-clause-ready
+mark_forked-requires-clause-ready g c =
+    let r = c.requires.ready in
+    marking_ready _ r.0 r.1 r.2 r.3 c.args.settled.now _ c.pages.page-index (c.pages.invariant.marking r.0 r.1 r.2 r.3 r.4 r.5) c.page-item.result c.pages-test.true c.page-item.is
+
+pub pages-preserved : goal.pages-preserved
+pages-preserved g c =
+    let i = c.pages.invariant in
+    let e = c.mark_forked.ensures in
+    record {
+      marking = λ t u p extra can are.
+          marking_next _ t u p extra c.args.settled.now _ c.pages.page-index (i.marking t u p extra can are) c.page-item.result c.pages-test.true c.page-item.is _ e.marked;
+      root = e.root ∙ i.root;
+      trapframe = e.trapframe ∙ i.trapframe;
+      layout = e.layout ∙ i.layout;
+      keeps = λ others r. e.keeps others (i.keeps others r);
+      free = λ alone. e.free alone ∙ i.free alone;
+    }
+
+pub returns-clause-marked : goal.returns-clause-marked
+returns-clause-marked g c t u p extra can are =
+    marking_all _ t u p extra c.args.settled.now _ c.pages.page-index (c.pages.invariant.marking t u p extra can are) can c.pages-test.false

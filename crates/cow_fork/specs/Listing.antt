@@ -1,0 +1,39 @@
+-- The tables below a root, each once in a list.
+use Rattle.std.specs.Prelude.{◌≡◌, ◌⊎◌, ℕ, ◌^◌, ◌<◌, ◌≤◌, List, Option, None, Some}
+use Rattle.std.specs.FinMap.{get}
+use Rattle.frame_store.specs.View.{View}
+use Rattle.table_walk.specs.Tables.{HasTables, leaf_node, node, Tables}
+use Rattle.table_walk.specs.Walk.{top_level}
+use Rattle.cow_fork.specs.Lists.{times}
+
+-- each table is on the way to a leaf
+abbrev pub IsLed : Tables → Type 0
+IsLed t = (k f : ℕ) → get t.tables k ≡ Some f → (n d w : ℕ) × (d ≤ top_level) × (n < 2 ^ 27) × (k ≡ node n d) × (get t.leaves (leaf_node n) ≡ Some w)
+
+-- the list has numbers of frames, each once, and no table's
+pub record CanList (t : Tables) (L : List ℕ) : Type 0 where
+  pub once : (f : ℕ) → times f L ≤ 1
+  pub low : (f : ℕ) → 0 < times f L → f < 1024
+  pub other : (k f : ℕ) → get t.tables k ≡ Some f → times f L ≡ 0
+
+-- the second list has every table once more than the first, and else the same
+abbrev pub ListsTables : Tables → List ℕ → List ℕ → Type 0
+ListsTables t L M = (f : ℕ) → ((k : ℕ) × (get t.tables k ≡ Some f) × (times f M ≡ 1)) ⊎ (((k : ℕ) → get t.tables k ≡ Some f → ⊥) × (times f M ≡ times f L))
+
+-- so it is for the tables with numbers below a bound
+abbrev pub ListsBelow : Tables → ℕ → List ℕ → List ℕ → Type 0
+ListsBelow t bound L M = (f : ℕ) → ((k : ℕ) × (k < bound) × (get t.tables k ≡ Some f) × (times f M ≡ 1))
+    ⊎ (((k : ℕ) → k < bound → get t.tables k ≡ Some f → ⊥) × (times f M ≡ times f L))
+
+-- the tables with numbers below a bound are listed, behind the list L
+pub record IsListing (v : View) (root : ℕ) (t : Tables) (bound : ℕ) (L M : List ℕ) : Type 0 where
+  pub tables : HasTables v root t
+  pub led : IsLed t
+  pub can : CanList t L
+  pub listed : ListsBelow t bound L M
+
+-- the first page from one on that has a leaf, of those below 2 ^ 27
+abbrev pub IsFirstPage : Tables → ℕ → Option ℕ → Type 0
+IsFirstPage t from None = (n : ℕ) → from ≤ n → n < 2 ^ 27 → get t.leaves (leaf_node n) ≡ None
+IsFirstPage t from (Some page) = (from ≤ page) × (page < 2 ^ 27) × ((w : ℕ) × (get t.leaves (leaf_node page) ≡ Some w))
+    × ((n : ℕ) → from ≤ n → n < page → get t.leaves (leaf_node n) ≡ None)

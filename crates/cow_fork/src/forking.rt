@@ -1,0 +1,192 @@
+// Fork by copy-on-write.
+
+ghost use Rattle.std.specs.Prelude.{[], ◌∷◌, ◌≡◌, ◌-◌, ◌↔◌, ◌<◌, ◌≤◌, if◌then◌else◌, IfErr, IfOk, is_ok, IsOk, length, List, map, ℕ};
+ghost use Rattle.address_space.specs.Agreement.{body, body_of, IsSpace};
+ghost use Rattle.address_space.specs.Steps.{RunsDry, Takes};
+ghost use Rattle.cow_fork.specs.Forks.{CanDivide, Forks, HasChild, HasForked, IsBack, IsFull, IsShort, Prepares};
+ghost use Rattle.cow_fork.specs.Lists.{times};
+ghost use Rattle.cow_fork.specs.Sharing.{frames_of};
+ghost use Rattle.frame_store.specs.Laws.{Fits, IsAnchored, IsDry, Keeps};
+ghost use Rattle.frame_store.specs.View.{IsHeld, View};
+ghost use Rattle.process_model.specs.Frames as model;
+ghost use Rattle.process_model.specs.Process.{Process};
+ghost use Rattle.table_walk.specs.Tables.{Tables};
+
+use crate::need::fork_need;
+use crate::pages::settled_pages;
+use crate::sharing::{let_go, share_frames};
+use crate::tables::list_tables;
+use crate::tree::{copy_tree, mark_pages};
+use address_space::{SettledPage, Space};
+use arrayvec::ArrayVec;
+use frame_bytes::fill_frame;
+use frame_store::{FrameSeat, FrameSupply, NoFrame, SharersFull};
+use process_model::Refusal;
+use sv39_entry::FrameNo;
+
+/// Why a fork is refused.
+#[derive(Clone, Copy, PartialEq, Eq, Debug)]
+pub enum ForkError {
+    /// Too few frames are free.
+    NoFrame,
+    /// A frame that the child would name too has 65,535 references, as many as can be counted.
+    SharersFull,
+}
+
+impl From<NoFrame> for ForkError {
+    ghost use Rattle.std.specs.Prelude.{◌≡◌};
+    ghost use Rattle.cow_fork.specs.declared.forking.ForkError.TheVariants as refused;
+
+    ghost from_gives = { λ none error. error ≡ refused.NoFrame };
+
+    fn from(_: NoFrame) -> ForkError {
+        ForkError::NoFrame
+    }
+}
+
+impl From<SharersFull> for ForkError {
+    ghost use Rattle.std.specs.Prelude.{◌≡◌};
+    ghost use Rattle.cow_fork.specs.declared.forking.ForkError.TheVariants as refused;
+
+    ghost from_gives = { λ full error. error ≡ refused.SharersFull };
+
+    fn from(_: SharersFull) -> ForkError {
+        ForkError::SharersFull
+    }
+}
+
+impl From<ForkError> for Refusal {
+    ghost use Rattle.std.specs.Prelude.{◌≡◌};
+    ghost use Rattle.cow_fork.specs.Forks.{refusal_of};
+
+    ghost from_gives = { λ error refusal. refusal ≡ refusal_of error };
+
+    fn from(error: ForkError) -> Refusal {
+        match error {
+            ForkError::NoFrame => Refusal::NoFrame,
+            ForkError::SharersFull => Refusal::SharersFull,
+        }
+    }
+}
+
+/// The child of a process, which has its regions and pages (the MIT 6.1810 lab on copy-on-write): no data is copied, and each
+/// page whose region grants writing has the fork mark in both. It takes the child's trapframe and the tables that the settled
+/// pages need, reserved with the parent's seat before anything changes. A refusal leaves the parent as it was.
+pub fn fork<S: FrameSeat, F: FrameSupply<Seat = S>>(
+    space: &mut Space<S>,
+    store: &mut F,
+) -> Result<Space<S>, ForkError>
+    requires fits { Fits F.rule store.old space.old.seat }
+    requires ready { (t : Tables) × (p : Process) × IsSpace (body_of S.view space.old) t p }
+    ensures forked { IfOk result (λ child. HasForked (body_of S.view space.old) (body_of S.view space.new) (body_of S.view child)) }
+    ensures whole { IfErr result (λ _. (t : Tables) (p : Process) → IsSpace (body_of S.view space.old) t p → IsSpace (body_of S.view space.new) t p) }
+    ensures dry { IsShort result → (t : Tables) (p : Process) → IsSpace (body_of S.view space.old) t p → RunsDry (S.view space.old.seat) (S.view space.new.seat) (model.fork_need p) [] }
+    ensures full { IsFull result → Takes (S.view space.old.seat) (S.view space.new.seat) 0 (65535 ∷ []) }
+    ensures short { F.alone → (t : Tables) (p : Process) → IsSpace (body_of S.view space.old) t p → IsShort result ↔ (F.free store.old < model.fork_need p) }
+    ensures sharers { F.alone → IsFull result → (f : ℕ) × IsHeld (S.view space.old.seat) f × (F.count store.old f < 65535 → ⊥) }
+    ensures free { F.alone → (t : Tables) (p : Process) → IsSpace (body_of S.view space.old) t p → (IsFull result → ⊥) →
+        F.free store.new ≡ F.free store.old - (if is_ok result then model.fork_need p else 0) }
+    ensures root { space.new.root ≡ space.old.root }
+    ensures trapframe { space.new.trapframe ≡ space.old.trapframe }
+    ensures layout { space.new.layout ≡ space.old.layout }
+    ensures keeps { IfOk result (λ child. (others : List S) → F.rule store.old (space.old.seat ∷ others) → F.rule store.new (space.new.seat ∷ child.seat ∷ others)) }
+    ensures keeps_refused { IfErr result (λ _. Keeps F.rule store.old space.old.seat store.new space.new.seat) }
+{
+    let settled = settled_pages(space, store);
+    let need = fork_need(space, store);
+    let mut frames = ArrayVec::new();
+    if let Err(refusal) = prepare(space, store, settled.as_slice(), need, &mut frames) {
+        return Err(refusal);
+    }
+    Ok(divide(space, store, settled.as_slice(), &mut frames))
+}
+
+/// Reserves so many frames, and takes one more reference of frame 0 and of the frame of each settled page. Where either is
+/// refused nothing is kept.
+fn prepare<S: FrameSeat, F: FrameSupply<Seat = S>>(
+    space: &mut Space<S>,
+    store: &mut F,
+    settled: &[SettledPage],
+    need: usize,
+    frames: &mut ArrayVec<FrameNo, 1024>,
+) -> Result<(), ForkError>
+    requires fits { Fits F.rule store.old space.old.seat }
+    requires anchored { IsAnchored (S.view space.old.seat) }
+    requires once { (f : ℕ) → times f (0 ∷ frames_of settled.now) ≤ 1 }
+    requires held { (f : ℕ) → 0 < times f (0 ∷ frames_of settled.now) → IsHeld (S.view space.old.seat) f }
+    requires few { length settled.now < 1024 }
+    requires empty { frames.old.items ≡ [] }
+    requires credits { (S.view space.old.seat).credits ≡ 0 }
+    ensures prepared { IfOk result (λ _. Prepares (S.view space.old.seat) (S.view space.new.seat) need (map (λ f. f.0) frames.new.items) (0 ∷ frames_of settled.now)) }
+    ensures dry { IsShort result → IsDry need (S.view space.old.seat) (S.view space.new.seat) }
+    ensures back { IsFull result → IsBack (S.view space.old.seat) (S.view space.new.seat) }
+    ensures short { F.alone → IsShort result ↔ (F.free store.old < need) }
+    ensures sharers { F.alone → IsFull result → (f : ℕ) × (0 < times f (0 ∷ frames_of settled.now)) × (F.count store.old f < 65535 → ⊥) }
+    ensures free { F.alone → (IsFull result → ⊥) → F.free store.new ≡ F.free store.old - (if is_ok result then need else 0) }
+    ensures root { space.new.root ≡ space.old.root }
+    ensures trapframe { space.new.trapframe ≡ space.old.trapframe }
+    ensures layout { space.new.layout ≡ space.old.layout }
+    ensures keeps { Keeps F.rule store.old space.old.seat store.new space.new.seat }
+{
+    store.reserve(&mut space.seat, need)?;
+    if let Err(full) = share_frames(space, store, settled, frames) {
+        let_go(space, store, frames.as_slice());
+        store.give_back(&mut space.seat, need);
+        return Err(full.into());
+    }
+    Ok(())
+}
+
+/// Makes the child, now that nothing can be refused any more.
+fn divide<S: FrameSeat, F: FrameSupply<Seat = S>>(
+    space: &mut Space<S>,
+    store: &mut F,
+    settled: &[SettledPage],
+    frames: &mut ArrayVec<FrameNo, 1024>,
+) -> Space<S>
+    requires fits { Fits F.rule store.old space.old.seat }
+    requires ready { (v : View) × (t : Tables) × (p : Process) × CanDivide v (body_of S.view space.old) t p settled.now (map (λ f. f.0) frames.old.items) }
+    ensures divided { (v : View) (t : Tables) (p : Process) → CanDivide v (body_of S.view space.old) t p settled.now (map (λ f. f.0) frames.old.items) →
+        (u w : Tables) × Forks (body v space.old.root.0 space.old.trapframe.0 space.old.layout) (body_of S.view space.new) (body_of S.view result) t u w p }
+    ensures root { space.new.root ≡ space.old.root }
+    ensures trapframe { space.new.trapframe ≡ space.old.trapframe }
+    ensures layout { space.new.layout ≡ space.old.layout }
+    ensures keeps { (others : List S) → F.rule store.old (space.old.seat ∷ others) → F.rule store.new (space.new.seat ∷ result.seat ∷ others) }
+    ensures free { F.alone → F.free store.new ≡ F.free store.old }
+{
+    let (root, trapframe) = build_child(space, store, settled, frames);
+    mark_pages(space, store, settled);
+    let seat = store.split(&mut space.seat, frames.as_slice());
+    Space {
+        seat,
+        root,
+        trapframe,
+        layout: space.layout.copied(),
+    }
+}
+
+/// Builds the child's tables of the credits, over a trapframe of its own, and lists the frames of both. Answers the root, and
+/// the trapframe's frame.
+fn build_child<S: FrameSeat, F: FrameSupply<Seat = S>>(
+    space: &mut Space<S>,
+    store: &mut F,
+    settled: &[SettledPage],
+    frames: &mut ArrayVec<FrameNo, 1024>,
+) -> (FrameNo, FrameNo)
+    requires fits { Fits F.rule store.old space.old.seat }
+    requires ready { (v : View) × (t : Tables) × (p : Process) × CanDivide v (body_of S.view space.old) t p settled.now (map (λ f. f.0) frames.old.items) }
+    ensures built { (v : View) (t : Tables) (p : Process) → CanDivide v (body_of S.view space.old) t p settled.now (map (λ f. f.0) frames.old.items) →
+        (u : Tables) × HasChild v (S.view space.new.seat) t u p result.0.0 result.1.0 (map (λ f. f.0) frames.new.items) }
+    ensures root { space.new.root ≡ space.old.root }
+    ensures trapframe { space.new.trapframe ≡ space.old.trapframe }
+    ensures layout { space.new.layout ≡ space.old.layout }
+    ensures keeps { Keeps F.rule store.old space.old.seat store.new space.new.seat }
+    ensures free { F.alone → F.free store.new ≡ F.free store.old }
+{
+    let trapframe = store.claim(&mut space.seat);
+    fill_frame(store, &mut space.seat, trapframe, &[]);
+    frames.push(trapframe);
+    let root = copy_tree(space, store, trapframe, settled);
+    list_tables(store, &mut space.seat, root, frames);
+    (root, trapframe)
+}

@@ -1,0 +1,41 @@
+// The settled pages of a process.
+
+ghost use Rattle.std.specs.Prelude.{◌≡◌, ◌∷◌, map};
+ghost use Rattle.address_space.specs.Agreement.{body_of, IsSpace};
+ghost use Rattle.address_space.specs.Settled.{AreSettled};
+ghost use Rattle.cow_fork.specs.Sharing.{AreGoing, frames_of};
+ghost use Rattle.frame_store.specs.Laws.{Fits, Keeps};
+ghost use Rattle.process_model.specs.Process.{Process};
+ghost use Rattle.sv39_entry.specs.Address.{trapframe_page};
+ghost use Rattle.table_walk.specs.Tables.{Tables};
+
+use address_space::{SettledPage, Space};
+use arrayvec::ArrayVec;
+use frame_store::{FrameAccess, FrameSeat};
+use sv39_entry::TRAPFRAME;
+
+/// The settled pages in ascending order. They are found by the leaves that are there; a store has at most 1,024 frames, of
+/// which one is the trampoline's.
+pub(crate) fn settled_pages<S: FrameSeat, F: FrameAccess<Seat = S>>(
+    space: &mut Space<S>,
+    store: &mut F,
+) -> ArrayVec<SettledPage, 1024>
+    requires fits { Fits F.rule store.old space.old.seat }
+    requires ready { (t : Tables) × (p : Process) × IsSpace (body_of S.view space.old) t p }
+    ensures settled { (t : Tables) (p : Process) → IsSpace (body_of S.view space.old) t p → AreSettled t p 0 trapframe_page result.items }
+    ensures going { (t : Tables) (p : Process) → IsSpace (body_of S.view space.old) t p → AreGoing t p trapframe_page (0 ∷ frames_of result.items) }
+    ensures root { space.new.root ≡ space.old.root }
+    ensures trapframe { space.new.trapframe ≡ space.old.trapframe }
+    ensures layout { space.new.layout ≡ space.old.layout }
+    ensures view { S.view space.new.seat ≡ S.view space.old.seat }
+    ensures same { store.new ≡ store.old }
+    ensures keeps { Keeps F.rule store.old space.old.seat store.new space.new.seat }
+{
+    let mut pages = ArrayVec::new();
+    let mut from = 0;
+    'pages: while let Some(found) = space.next_settled(store, from, TRAPFRAME.page()) {
+        from = found.page.number() + 1;
+        pages.push(found);
+    }
+    pages
+}

@@ -1,0 +1,86 @@
+// The frames of the tables below a root.
+
+ghost use Rattle.std.specs.Prelude.{◌≡◌, ◌≤◌, ◌^◌, List, map, ℕ, suc, ◌-◌};
+ghost use Rattle.cow_fork.specs.Listing.{CanList, IsFirstPage, IsLed, IsListing, ListsTables};
+ghost use Rattle.frame_store.specs.Laws.{Fits, Keeps};
+ghost use Rattle.table_walk.specs.Changed.{places};
+ghost use Rattle.table_walk.specs.Tables.{HasTables, Tables};
+ghost use Rattle.table_walk.specs.Walk.{top_level};
+
+use arrayvec::ArrayVec;
+use frame_store::{FrameAccess, FrameSeat};
+use sv39_entry::{FrameNo, Vpn};
+use table_walk::{next_leaf, table_at};
+
+/// Lists the tables below a root, each of which is on the way to a leaf: level by level, and in each level by the leaves.
+pub(crate) fn list_tables<S: FrameSeat, F: FrameAccess<Seat = S>>(
+    store: &mut F,
+    seat: &mut S,
+    root: FrameNo,
+    frames: &mut ArrayVec<FrameNo, 1024>,
+)
+    requires fits { Fits F.rule store.old seat.old }
+    requires ready { (t : Tables) × HasTables (S.view seat.old) root.0 t × IsLed t × CanList t (map (λ f. f.0) frames.old.items) }
+    ensures listed { (t : Tables) → HasTables (S.view seat.old) root.0 t → IsLed t → CanList t (map (λ f. f.0) frames.old.items) →
+        ListsTables t (map (λ f. f.0) frames.old.items) (map (λ f. f.0) frames.new.items) }
+    ensures view { S.view seat.new ≡ S.view seat.old }
+    ensures same { store.new ≡ store.old }
+    ensures keeps { Keeps F.rule store.old seat.old store.new seat.new }
+{
+    // The root is for 2^27 pages, a table of level 1 for 2^18, and one of level 0 for 2^9 (RISC-V Privileged Architecture
+    // 20211203, 4.4.1).
+    list_level(store, seat, root, 0, 1 << 27, frames);
+    list_level(store, seat, root, 1, 1 << 18, frames);
+    list_level(store, seat, root, 2, 1 << 9, frames);
+}
+
+/// Lists the tables that are so many levels below the root, each for so many pages. Once a leaf is found, the search goes
+/// on at the next table.
+fn list_level<S: FrameSeat, F: FrameAccess<Seat = S>>(
+    store: &mut F,
+    seat: &mut S,
+    root: FrameNo,
+    depth: u32,
+    pages: u64,
+    frames: &mut ArrayVec<FrameNo, 1024>,
+)
+    requires fits { Fits F.rule store.old seat.old }
+    requires deep { depth ≤ top_level }
+    requires size { pages ≡ places (top_level - depth) }
+    requires ready { (t : Tables) × (L : List ℕ) × IsListing (S.view seat.old) root.0 t (512 ^ depth) L (map (λ f. f.0) frames.old.items) }
+    ensures listed { (t : Tables) (L : List ℕ) → IsListing (S.view seat.old) root.0 t (512 ^ depth) L (map (λ f. f.0) frames.old.items) →
+        IsListing (S.view seat.old) root.0 t (512 ^ suc depth) L (map (λ f. f.0) frames.new.items) }
+    ensures view { S.view seat.new ≡ S.view seat.old }
+    ensures same { store.new ≡ store.old }
+    ensures keeps { Keeps F.rule store.old seat.old store.new seat.new }
+{
+    let mut table = 0;
+    'tables: while let Some(page) = first_page(store, seat, root, table * pages) {
+        let Some(frame) = table_at(store, seat, root, page, depth) else {
+            unreachable!()
+        };
+        if frames.try_push(frame).is_err() {
+            unreachable!()
+        }
+        table = page.number() / pages + 1;
+    }
+}
+
+/// The first page from one number on that has a leaf.
+fn first_page<S: FrameSeat, F: FrameAccess<Seat = S>>(
+    store: &mut F,
+    seat: &mut S,
+    root: FrameNo,
+    from: u64,
+) -> Option<Vpn>
+    requires fits { Fits F.rule store.old seat.old }
+    requires held { (t : Tables) × HasTables (S.view seat.old) root.0 t }
+    requires low { from ≤ 2 ^ 27 }
+    ensures page { (t : Tables) → HasTables (S.view seat.old) root.0 t → IsFirstPage t from result }
+    ensures view { S.view seat.new ≡ S.view seat.old }
+    ensures same { store.new ≡ store.old }
+    ensures keeps { Keeps F.rule store.old seat.old store.new seat.new }
+{
+    let (page, _) = next_leaf(store, seat, root, Vpn::new(from)?)?;
+    Some(page)
+}

@@ -1,0 +1,92 @@
+// The page tables of the child, and those of the parent once the child has its own.
+
+ghost use Rattle.std.specs.Prelude.{[], ◌≡◌, ◌≤◌, ℕ};
+ghost use Rattle.address_space.specs.Agreement.{body_of};
+ghost use Rattle.address_space.specs.Forking.{IsForking, TurnsLeaves};
+ghost use Rattle.address_space.specs.Settled.{AreSettled};
+ghost use Rattle.cow_fork.specs.Children.{CanCopy, CanOpen, CopiesPages, CopiesTree};
+ghost use Rattle.frame_store.specs.Laws.{Fits, Keeps};
+ghost use Rattle.process_model.specs.Process.{Process};
+ghost use Rattle.process_model.specs.Residence.{marked};
+ghost use Rattle.sv39_entry.specs.Address.{trapframe_page};
+ghost use Rattle.table_walk.specs.Tables.{Tables};
+
+use crate::sharing::TRAMPOLINE_FRAME;
+use address_space::{SettledPage, Space, leaf_for_kernel};
+use frame_store::{FrameAccess, FrameSeat, FrameSupply};
+use sv39_entry::{Access, FrameNo, TRAMPOLINE, TRAPFRAME};
+use table_walk::{map, missing_is_growth, new_table};
+
+/// The child's page tables, made of credits of the parent's seat: each settled page has a leaf over the frame that it has in
+/// the parent, with the fork mark where its region grants writing. Answers the root.
+pub(crate) fn copy_tree<S: FrameSeat, F: FrameSupply<Seat = S>>(
+    space: &mut Space<S>,
+    store: &mut F,
+    trapframe: FrameNo,
+    settled: &[SettledPage],
+) -> FrameNo
+    requires fits { Fits F.rule store.old space.old.seat }
+    requires ready { (t : Tables) × (p : Process) × CanCopy (S.view space.old.seat) space.old.layout t p trapframe.0 settled.now }
+    ensures copied { (t : Tables) (p : Process) → CanCopy (S.view space.old.seat) space.old.layout t p trapframe.0 settled.now →
+        (u : Tables) × CopiesTree (S.view space.old.seat) (S.view space.new.seat) t u p result.0 trapframe.0 }
+    ensures root { space.new.root ≡ space.old.root }
+    ensures trapframe { space.new.trapframe ≡ space.old.trapframe }
+    ensures layout { space.new.layout ≡ space.old.layout }
+    ensures keeps { Keeps F.rule store.old space.old.seat store.new space.new.seat }
+    ensures free { F.alone → F.free store.new ≡ F.free store.old }
+{
+    // by its law these are the tables that the pages need beside those of others
+    missing_is_growth();
+    let root = open_tables(store, &mut space.seat, trapframe);
+    'pages: for page in settled {
+        let Some(region) = space.layout.region_at(page.page.number()) else {
+            unreachable!()
+        };
+        let mark = page.fork_mark || !region.lacks_right(Access::Store);
+        let leaf = region.leaf(page.frame, mark, region.is_dirty_from_start());
+        map(store, &mut space.seat, root, page.page, leaf);
+    }
+    root
+}
+
+/// Tables with the two pages of the kernel, of three credits. Answers the root.
+fn open_tables<S: FrameSeat, F: FrameSupply<Seat = S>>(
+    store: &mut F,
+    seat: &mut S,
+    trapframe: FrameNo,
+) -> FrameNo
+    requires fits { Fits F.rule store.old seat.old }
+    requires ready { CanOpen (S.view seat.old) trapframe.0 }
+    ensures opened { (u : Tables) × ((t : Tables) (p : Process) → CopiesPages (S.view seat.old) (S.view seat.new) t u p result.0 trapframe.0 0 []) }
+    ensures keeps { Keeps F.rule store.old seat.old store.new seat.new }
+    ensures free { F.alone → F.free store.new ≡ F.free store.old }
+{
+    missing_is_growth();
+    let root = new_table(store, seat);
+    let code = leaf_for_kernel(TRAMPOLINE_FRAME);
+    map(store, seat, root, TRAMPOLINE.page(), code);
+    let saved = leaf_for_kernel(trapframe);
+    map(store, seat, root, TRAPFRAME.page(), saved);
+    root
+}
+
+/// Puts the fork mark on the parent's pages whose regions grant writing.
+pub(crate) fn mark_pages<S: FrameSeat, F: FrameAccess<Seat = S>>(
+    space: &mut Space<S>,
+    store: &mut F,
+    settled: &[SettledPage],
+)
+    requires fits { Fits F.rule store.old space.old.seat }
+    requires ready { (t u : Tables) × (p : Process) × (extra : ℕ → ℕ) × IsForking (body_of S.view space.old) t p extra × AreSettled u p 0 trapframe_page settled.now }
+    ensures marked { (t u : Tables) (p : Process) (extra : ℕ → ℕ) → IsForking (body_of S.view space.old) t p extra → AreSettled u p 0 trapframe_page settled.now →
+        (w : Tables) × IsForking (body_of S.view space.new) w (marked p) extra × TurnsLeaves (body_of S.view space.old) (body_of S.view space.new) t w }
+    ensures root { space.new.root ≡ space.old.root }
+    ensures trapframe { space.new.trapframe ≡ space.old.trapframe }
+    ensures layout { space.new.layout ≡ space.old.layout }
+    ensures keeps { Keeps F.rule store.old space.old.seat store.new space.new.seat }
+    ensures free { F.alone → F.free store.new ≡ F.free store.old }
+{
+    'pages: for page in settled {
+        space.mark_forked(store, page.page);
+    }
+}
