@@ -15,6 +15,9 @@ pub mod Fences
 pub mod FillWorlds
 pub mod Fills
 pub mod Following
+pub mod ForkOutcomes
+pub mod ForkedTenants
+pub mod ForkedWorlds
 pub mod HartSteps
 pub mod HeldFrames
 pub mod KernelFrames

@@ -1,10 +1,12 @@
 -- Seats for spaces: the kernel's seat shares frame 0.
 use Rattle.std.proofs.Common.{◌≡◌, ℕ, suc, ◌-◌, ◌<◌, ◌≤◌, IsTrue, Option, None, Some, List, [], ◌∷◌, length, inl, inr, refl, slice_index, ap, sym, ◌∙◌, subst, arith}
+use Rattle.std.specs.FinMap as finite
+use Rattle.std.specs.Ordering.{nat_cmp}
 use Rattle.std.specs.Prelude.{slice_get}
 use Rattle.std.proofs.lemmas.Bool.{cases_lt}
 use Rattle.std.proofs.lemmas.Option.{same_Some, slice_get-get_or, slice_get_past}
 use Rattle.address_space.specs.Agreement.{HoldsTrampoline}
-use Rattle.address_space.specs.Kernel.{IsKernelTable}
+use Rattle.address_space.specs.Kernel.{HoldsKernel, IsKernelTable}
 use Rattle.address_space.specs.Steps.{IsBare}
 use Rattle.frame_store.specs.Plain.{total_references}
 use Rattle.frame_store.specs.Holds.{hold_of-with_hold_same, hold_of-with_hold_other}
@@ -17,29 +19,45 @@ use Rattle.hart_machine.specs.declared.machine.Machine.{Machine}
 use Rattle.hart_machine.specs.declared.tenant.Tenant.{Tenant}
 use Rattle.process_model.specs.Process.{Process}
 use Rattle.process_model.specs.World.{World}
-use Rattle.sv39_entry.specs.Address.{trampoline_page}
-use Rattle.table_walk.specs.Tables.{Tables, leaf_node}
+use Rattle.table_walk.specs.Tables.{Tables}
 use Rattle.table_walk.specs.Same.{same_tables}
 
--- each process names frame 0 once, for the trampoline
-tenant_has_code : (o : Option (Option Tenant)) (q : Option (Option Process)) (t : Tables) (x : Tenant) → o ≡ Some (Some x) → IsPlace o q t → references (view_of x) 0 ≡ 1
-tenant_has_code None q t x is place = absurd (cc)
-tenant_has_code (Some None) q t x is place = absurd (cc)
-tenant_has_code (Some (Some y)) None t x is place = absurd place
-tenant_has_code (Some (Some y)) (Some None) t x is place = absurd place
-tenant_has_code (Some (Some y)) (Some (Some p)) t x is place =
-    let stands = place.agrees.stands in
-    let leaf = stands.shows.on_trampoline in
-    let here = stands.owns.named 0 (leaf_node trampoline_page) (inr (leaf.0, leaf.1, leaf.2.names)) in
-    subst (λ (z : Tenant). references (view_of z) 0 ≡ 1) (same_Some _ _ (same_Some _ _ is)) here
+-- a process names no frame twice
+names_once : (f : ℕ) (o : Option (Option Tenant)) (q : Option (Option Process)) (t : Tables) (x : Tenant) → o ≡ Some (Some x) → IsPlace o q t → references (view_of x) f ≤ 1
+names_once f None q t x is place = absurd (cc)
+names_once f (Some None) q t x is place = absurd (cc)
+names_once f (Some (Some y)) None t x is place = absurd place
+names_once f (Some (Some y)) (Some None) t x is place = absurd place
+names_once f (Some (Some y)) (Some (Some p)) t x is place =
+    let owns = place.agrees.stands.owns in
+    let here : references (view_of y) f ≤ 1 = elim (cases_lt 1 (references (view_of y) f)) [
+      | inl more ↦ (
+          let none : references (view_of y) f ≡ 0 = owns.bare f (λ k names. let one : references (view_of y) f ≡ 1 = owns.named f k names in omega (arith, one, more)) in
+          absurd (omega (arith, none, more)))
+      | inr few ↦ few
+    ] in
+    subst (λ (z : Tenant). references (view_of z) f ≤ 1) (same_Some _ _ (same_Some _ _ is)) here
 
-seats_total : (places : List (Option Tenant)) → ((i : ℕ) (x : Tenant) → slice_get places i ≡ Some (Some x) → references (view_of x) 0 ≡ 1) → total_references 0 (seats_of places) ≤ length places
-seats_total [] one = omega arith
-seats_total (None ∷ places) one = let rest = seats_total places (λ i x at. one (suc i) x at) in omega (arith, rest)
-seats_total (Some x ∷ places) one =
-    let rest = seats_total places (λ i y at. one (suc i) y at) in
-    let here = one 0 x refl in
+seats_total : (f : ℕ) (places : List (Option Tenant)) → ((i : ℕ) (x : Tenant) → slice_get places i ≡ Some (Some x) → references (view_of x) f ≤ 1)
+    → total_references f (seats_of places) ≤ length places
+seats_total f [] once = omega arith
+seats_total f (None ∷ places) once = let rest = seats_total f places (λ i x at. once (suc i) x at) in omega (arith, rest)
+seats_total f (Some x ∷ places) once =
+    let rest = seats_total f places (λ i y at. once (suc i) y at) in
+    let here = once 0 x refl in
     omega (arith, rest, here)
+
+-- nor does the kernel
+kernel_once : (f : ℕ) (v : View) (stacks : List ℕ) (tables : finite.FinMap nat_cmp ℕ) → HoldsKernel v stacks tables → references v f ≤ 1
+kernel_once f v stacks tables h = elim (cases_lt 1 (references v f)) [
+  | inl more ↦ (
+      let none = h.bare f
+      (λ first. let one = h.code in let same = ap (references v) first in omega (arith, one, same, more))
+      (λ s at. let one = (h.stack s f at).0 in omega (arith, one, more))
+      (λ k at. let one = h.table k f at in omega (arith, one, more)) in
+      absurd (omega (arith, none, more)))
+  | inr few ↦ few
+]
 
 -- places of both have one number
 as_many : (o : Option (Option Tenant)) (q : Option (Option Process)) (t : Tables) (a : Option Tenant) → o ≡ Some a → IsPlace o q t → q ≡ None → ⊥
@@ -55,14 +73,17 @@ module _ (m : Machine) (w : World) (is : IsWorld m w) where
     | inr few ↦ few
   ]
 
-  -- so frame 0 has few references
-  pub code_shared : slice_index m.frames.counts 0 < 65535
-  code_shared =
+  -- so each frame has few references
+  pub few_shared : (f : ℕ) → slice_index m.frames.counts f < 65535
+  few_shared f =
       let few = few_places in
-      let seats = seats_total m.slots.items (λ i x at. tenant_has_code _ _ (is.tables i) x at (is.places i)) in
-      let all = is.rule.counted 0 in
-      let own = is.of_kernel.maps.holds.code in
+      let seats = seats_total f m.slots.items (λ i x at. names_once f _ _ (is.tables i) x at (is.places i)) in
+      let all = is.rule.counted f in
+      let own = kernel_once f m.kernel.seat is.stacks is.kernel.tables is.of_kernel.maps.holds in
       omega (arith, few, seats, all, own)
+
+  pub code_shared : slice_index m.frames.counts 0 < 65535
+  code_shared = few_shared 0
 
 -- the kernel's table stands on frames that are not frame 0, and on one reference of that
 pub kernel_kept : (v w : View) (root frames slots : ℕ) (stacks : List ℕ) (t : Tables) → ((f : ℕ) → (f ≡ 0 → ⊥) → hold_of w f ≡ hold_of v f) → references w 0 ≡ 1 → w.credits ≡ 0

@@ -7,6 +7,7 @@ mod buffering;
 mod calls;
 mod ending;
 mod filled;
+mod forking;
 mod hart;
 mod machine;
 mod serving;

@@ -51,6 +51,7 @@ impl Machine {
             } => self.access(hart, asked(Access::Store, address, width, value), via),
             Step::TrampolineFetch { hart, offset, via } => self.fetch_trampoline(hart, offset, via),
             Step::Serve { hart } => self.serve(hart),
+            Step::Fork { hart } => self.fork(hart),
             Step::Sbrk { hart, delta } => self.sbrk(hart, delta),
             Step::Mmap {
                 hart,

@@ -1,5 +1,5 @@
 -- How much of the model the program plays: images of segments, the policy full, and the steps of harts, of their buffers, of
--- accesses, of their service, of heaps, of mappings and of the end of a process.
+-- accesses, of their service, of forks, of heaps, of mappings and of the end of a process.
 use Rattle.std.specs.Prelude.{◌≡◌, All}
 use Rattle.process_model.specs.Script.{Script}
 use Rattle.process_model.specs.declared.config.Policy.TheVariants.{Full}
@@ -28,6 +28,7 @@ IsPlayed (step.Load h a n via) = Unit {0}
 IsPlayed (step.Store h a n v via) = Unit {0}
 IsPlayed (step.TrampolineFetch h o via) = Unit {0}
 IsPlayed (step.Serve h) = Unit {0}
+IsPlayed (step.Fork h) = Unit {0}
 IsPlayed (step.Sbrk h delta) = Unit {0}
 IsPlayed (step.Mmap h len protection flags n) = Unit {0}
 IsPlayed (step.Munmap h a len) = Unit {0}

@@ -25,6 +25,7 @@ played_table =
     ∷ row (codes "store") word.Store four_numbers (tail.Perhaps kind.Entry)
     ∷ row (codes "tramp") word.Tramp two_numbers (tail.Perhaps kind.Entry)
     ∷ row (codes "serve") word.Serve one_number tail.Nothing
+    ∷ row (codes "fork") word.Fork one_number tail.Nothing
     ∷ row (codes "sbrk") word.Sbrk (kind.Number ∷ kind.Signed ∷ []) tail.Nothing
     ∷ row (codes "mmap") word.Mmap (kind.Number ∷ four_numbers) tail.Nothing
     ∷ row (codes "munmap") word.Munmap three_numbers tail.Nothing

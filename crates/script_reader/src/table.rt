@@ -34,7 +34,7 @@ fn make_row(text: &'static [u8], word: Keyword, kinds: &'static [FieldKind], tai
 impl Row {
     ghost use Rattle.script_reader.specs.Rows.{seen, kind_at};
 
-    fn all() -> [Row; 24]
+    fn all() -> [Row; 25]
         ensures { map seen result ≡ played_table }
     {
         let none = Tail::Nothing;
@@ -60,6 +60,7 @@ impl Row {
             make_row(b"store", Keyword::Store, four, entry),
             make_row(b"tramp", Keyword::Tramp, two, entry),
             make_row(b"serve", Keyword::Serve, one, none),
+            make_row(b"fork", Keyword::Fork, one, none),
             make_row(b"sbrk", Keyword::Sbrk, &[Number, Signed], none),
             make_row(b"mmap", Keyword::Mmap, five, none),
             make_row(b"munmap", Keyword::Munmap, three, none),

@@ -162,6 +162,16 @@ returns-in-Serve-clause-each_buffer c w is = are_of c.args.self.now c.serve.new.
 pub returns-in-Serve-clause-buffers : goal.returns-in-Serve-clause-buffers
 returns-in-Serve-clause-buffers c w is = only_fills_add c.args.self.now c.serve.new.self is.tables is.kernel _ _ (returns-in-Serve-clause-each_buffer c w is)
 
+pub returns-in-Fork-clause-made : goal.returns-in-Fork-clause-made
+returns-in-Fork-clause-made c w is =
+    steps c.args.self.now _ _ w is (step.Fork c.in-Fork.hart) _ c.in-Fork.is (c.fork.ensures.made w is)
+
+pub returns-in-Fork-clause-each_buffer : goal.returns-in-Fork-clause-each_buffer
+returns-in-Fork-clause-each_buffer c w is = are_of c.args.self.now c.fork.new.self is.tables is.kernel c.fork.result c.in-Fork.is (same_are c.args.self.now c.fork.new.self is.tables is.kernel (step.Fork c.in-Fork.hart) _ (λ h. refl) c.fork.ensures.buffers)
+
+pub returns-in-Fork-clause-buffers : goal.returns-in-Fork-clause-buffers
+returns-in-Fork-clause-buffers c w is = only_fills_add c.args.self.now c.fork.new.self is.tables is.kernel _ _ (returns-in-Fork-clause-each_buffer c w is)
+
 pub returns-in-Exit-clause-made : goal.returns-in-Exit-clause-made
 returns-in-Exit-clause-made c w is =
     let x = c.in-Exit in

@@ -1,0 +1,57 @@
+use Rattle.std.proofs.Common.{◌≡◌, ◌∙◌, ap, inr, refl, sym}
+use Rattle.std.specs.Prelude.{Err}
+use Rattle.std.proofs.lemmas.Result.{err_from_is_err_and}
+use Rattle.cow_fork.specs.Forks.{refusal_of}
+use Rattle.frame_store.specs.View.{references}
+use Rattle.sv39_entry.specs.Address.{trapframe_page}
+use Rattle.table_walk.specs.Tables.{leaf_node}
+use Rattle.hart_machine.proofs.ForkedTenants.{second_inside, which}
+use Rattle.hart_machine.proofs.tenant.Tenant.fork.Goals as goal
+
+pub returns-in_err-space-clause-dry : goal.returns-in_err-space-clause-dry
+returns-in_err-space-clause-dry c =
+    let told = err_from_is_err_and c.from_residual.result c.from_residual.ensures.1 in
+    let e = c.fork.ensures in
+    let only = which c.fork.result c.in_err-space.field-0.0 c.in_err-space.was (λ full. let f = e.sharers tt full in f.2 (c.requires.few f.0 f.1)) in
+    rw told.1 (told.2 ∙ ap refusal_of only, λ t p tenant. (e.short tt t p tenant.agrees).0 (c.in_err-space.was ∙ ap Err only))
+
+pub returns-in_err-space-clause-whole : goal.returns-in_err-space-clause-whole
+returns-in_err-space-clause-whole c =
+    let told = err_from_is_err_and c.from_residual.result c.from_residual.ensures.1 in
+    rw told.1 (λ t p tenant. record {
+      agrees = c.in_err-space.ensures.whole t p tenant.agrees;
+      framed = rw c.fork.ensures.trapframe tenant.framed;
+      pending = tenant.pending;
+      wide = tenant.wide;
+    })
+
+pub returns-clause-forked : goal.returns-clause-forked
+returns-clause-forked c = λ t p tenant.
+    let r = c.in_ok-space.ensures in
+    let fits = c.requires.fits in
+    let f = r.forked t p tenant.agrees in
+    let z = c.in_ok-space.space in
+    let stands = f.2.child.stands in
+    let leaf = stands.shows.on_trapframe in
+    let one : references z.seat z.trapframe.0 ≡ 1 = stands.owns.named z.trapframe.0 (leaf_node trapframe_page) (inr (leaf.0, leaf.1, leaf.2.names)) in
+    record {
+      after = f.0;
+      of_child = f.1;
+      parent = record {
+        agrees = f.2.parent;
+        framed = rw c.fork.ensures.trapframe tenant.framed;
+        pending = refl;
+        wide = tt;
+      };
+      child = record {
+        agrees = f.2.child;
+        framed = second_inside c.fork.new.store c.fork.new.space.seat z.seat fits.0 (r.keeps fits.0 fits.1) z.trapframe.0 one;
+        pending = refl;
+        wide = tt;
+      };
+      on_parent = f.2.on_parent;
+      on_child = f.2.on_child;
+    }
+
+pub returns-clause-enough : goal.returns-clause-enough
+returns-clause-enough c = λ t p tenant few. let both = sym c.in_ok-space.was ∙ (c.fork.ensures.short tt t p tenant.agrees).1 few in cc

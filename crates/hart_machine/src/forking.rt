@@ -1,0 +1,79 @@
+// Processes fork.
+
+ghost use Rattle.std.specs.Prelude.{◌≡◌, ◌∷◌, ◌<◌, IfErr, IfOk, List, ℕ, slice_index};
+ghost use Rattle.frame_store.specs.Laws.{Fits, Keeps};
+ghost use Rattle.frame_store.specs.Plain.{BankRule};
+ghost use Rattle.frame_store.specs.View.{IsHeld, View};
+ghost use Rattle.hart_machine.specs.Buffers.{SameBuffers};
+ghost use Rattle.hart_machine.specs.Forked.{forked_or_refused, HasForkedTenant};
+ghost use Rattle.hart_machine.specs.Tenants.{IsTenant, view_of};
+ghost use Rattle.hart_machine.specs.Worlds.{IsWorld, Makes};
+ghost use Rattle.process_model.specs.Frames.{fork_need};
+ghost use Rattle.process_model.specs.Process.{Process};
+ghost use Rattle.process_model.specs.Steps.{plain_step};
+ghost use Rattle.process_model.specs.World.{World};
+ghost use Rattle.process_model.specs.declared.step.Refusal.TheVariants as refusal;
+ghost use Rattle.process_model.specs.declared.step.Step.TheVariants as step;
+ghost use Rattle.table_walk.specs.Tables.{Tables};
+
+use crate::machine::Machine;
+use crate::tenant::Tenant;
+use frame_store::PlainFrames;
+use process_model::{Refusal, Reply};
+
+impl Machine {
+    /// The process on a hart forks: its child comes to be in the lowest slot without a process.
+    pub(crate) fn fork(&mut self, hart: usize) -> Reply
+        requires world { (w : World) × IsWorld self.old w }
+        ensures made { (w : World) → IsWorld self.old w → Makes self.new result (plain_step w (step.Fork hart)) }
+        ensures buffers { SameBuffers self.old self.new }
+    {
+        match self.fork_into(hart) {
+            Ok(slot) => Reply::Forked(slot),
+            Err(refusal) => Reply::Refused(refusal),
+        }
+    }
+
+    /// The same, with the slot of the child, or why there is none.
+    fn fork_into(&mut self, hart: usize) -> Result<usize, Refusal>
+        requires world { (w : World) × IsWorld self.old w }
+        ensures made { (w : World) → IsWorld self.old w → Makes self.new (forked_or_refused result) (plain_step w (step.Fork hart)) }
+        ensures harts { self.new.harts ≡ self.old.harts }
+    {
+        let slot = self.in_kernel(hart, false)?;
+        let Some(place) = self.free_slot() else {
+            return Err(Refusal::NoSlot);
+        };
+        let frames = &mut self.frames;
+        let slots = &mut self.slots;
+        let Some(tenant) = &mut slots[slot] else {
+            unreachable!()
+        };
+        let child = tenant.fork(frames)?;
+        self.slots[place] = Some(child);
+        Ok(place)
+    }
+}
+
+impl Tenant {
+    /// The child of the process. Then nothing is pending for either.
+    fn fork(&mut self, frames: &mut PlainFrames) -> Result<Tenant, Refusal>
+        requires fits { Fits BankRule frames.old (view_of self.old) }
+        requires ready { (t : Tables) × (p : Process) × IsTenant self.old t p }
+        requires few { (f : ℕ) → IsHeld (view_of self.old) f → slice_index frames.old.counts f < 65535 }
+        ensures forked { IfOk result (λ child. (t : Tables) (p : Process) → IsTenant self.old t p → HasForkedTenant self.new child t p) }
+        ensures enough { IfOk result (λ _. (t : Tables) (p : Process) → IsTenant self.old t p → frames.old.free < fork_need p → ⊥) }
+        ensures dry { IfErr result (λ e. (e ≡ refusal.NoFrame) × ((t : Tables) (p : Process) → IsTenant self.old t p → frames.old.free < fork_need p)) }
+        ensures whole { IfErr result (λ _. (t : Tables) (p : Process) → IsTenant self.old t p → IsTenant self.new t p) }
+        ensures keeps { IfOk result (λ child. (others : List View) → BankRule frames.old (view_of self.old ∷ others) → BankRule frames.new (view_of self.new ∷ view_of child ∷ others)) }
+        ensures keeps_refused { IfErr result (λ _. Keeps BankRule frames.old (view_of self.old) frames.new (view_of self.new)) }
+    {
+        let space = cow_fork::fork(&mut self.space, frames)?;
+        let child = Tenant {
+            space,
+            pending: None,
+        };
+        self.pending = None;
+        Ok(child)
+    }
+}
