@@ -1,6 +1,6 @@
 -- A space gets a page: its frame is claimed and filled, the tables that were missing are made, and a leaf names the frame.
 use Rattle.std.proofs.Common.{◌≡◌, ℕ, ◌<◌, None, Some, List, ◌∷◌, not, ◌&&◌, false, refl, ap, sym, ◌∙◌, inl, inr, arith}
-use Rattle.std.specs.Prelude.{◌^◌, Contains}
+use Rattle.std.specs.Prelude.{◌^◌}
 use Rattle.std.proofs.lemmas.Bool.{cases_eq}
 use Rattle.std.proofs.lemmas.Option.{same_Some}
 use Rattle.std.specs.FinMap.{get}
@@ -14,7 +14,7 @@ use Rattle.process_model.specs.Regions.{Region, is_shared_kind}
 use Rattle.sv39_entry.specs.Address.{trampoline_page, trapframe_page}
 use Rattle.sv39_entry.specs.Frame.{ppn_of}
 use Rattle.sv39_entry.specs.Word.{ppn}
-use Rattle.table_walk.specs.Counted.{AreTablesOf}
+use Rattle.table_walk.specs.Counted.{AreTablesOf, same_members}
 use Rattle.table_walk.specs.Tables.{ChangesTables, HasTables, Tables, IsGrown, leaf_node, missing, with_leaf}
 use Rattle.table_walk.specs.Keys.{insert_other, insert_same, is_none}
 use Rattle.table_walk.specs.Walk.{top_level}
@@ -22,17 +22,7 @@ use Rattle.address_space.specs.Agreement.{IsLeafNumber, IsPageLeaf, nothing, one
 use Rattle.address_space.specs.Steps.{Adds, CanAdd, settled_with}
 use Rattle.address_space.proofs.AddingFrames.{Comes, come_owns, come_tables, come_unnamed, f_same, leaf_owns, leaf_same, not_held_before}
 use Rattle.address_space.proofs.Owned.{named_held, one_page, same_bytes, same_sole}
-use Rattle.process_model.specs.Inserted.{all_keys, behind_more, inserted_here, inserted_other, key_in, key_out}
-
--- tables of the same pages in another order
-same_members : (u : Tables) (xs ys : List ℕ) → ((y : ℕ) → Contains xs y → Contains ys y) → ((y : ℕ) → Contains ys y → Contains xs y)
-    → AreTablesOf u xs → AreTablesOf u ys
-same_members u xs ys there back are k =
-    let kernel = λ (xs ys : List ℕ) (into : (y : ℕ) → Contains xs y → Contains ys y).
-    behind_more trampoline_page (trapframe_page ∷ xs) (trapframe_page ∷ ys) (behind_more trapframe_page xs ys into) in (
-      (λ some. let way = (are k).0 some in (way.0, way.1, kernel xs ys there way.0 way.2, way.3, way.4)),
-      (λ way. (are k).1 (way.0, way.1, kernel ys xs back way.0 way.2, way.3, way.4)),
-    )
+use Rattle.process_model.specs.Inserted.{all_keys, inserted_here, inserted_other, key_in, key_out}
 
 module _ (v : View) (root trapframe : ℕ) (t : Tables) (p : Process) (page : ℕ) (region : Region) (can : CanAdd v root trapframe t p page region) where
   -- the page's leaf is no other one

@@ -6,6 +6,7 @@ use Rattle.frame_store.specs.Laws.{IsDry}
 use Rattle.frame_store.specs.Tallies.{spent_is, spent_taken}
 use Rattle.frame_store.specs.View.{spent, View, hold_of, with_credits}
 use Rattle.process_model.specs.Frames.{settle_need, tables_needed}
+use Rattle.process_model.specs.OrderKept.{leafy_at}
 use Rattle.process_model.specs.PageMap as pages
 use Rattle.process_model.specs.Process.{Process, regions}
 use Rattle.process_model.specs.Regions.{Region, region_at}
@@ -15,7 +16,7 @@ use Rattle.address_space.specs.Agreement.{body, IsSpace, nothing}
 use Rattle.address_space.specs.Layouts.{Layout}
 use Rattle.address_space.specs.Steps.{Adds, CanAdd, CanSettle, RunsDry, Settles}
 use Rattle.address_space.proofs.Owned.{same_references, same_stands}
-use Rattle.address_space.proofs.Sound.{leafy_at, low_at, sound_more}
+use Rattle.address_space.proofs.Sound.{low_at, sound_more}
 
 -- an error of a reservation
 

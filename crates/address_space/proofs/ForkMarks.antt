@@ -6,6 +6,7 @@ use Rattle.std.specs.FinMap.{get}
 use Rattle.std.specs.Prelude.{option_and_then, option_map}
 use Rattle.frame_store.specs.View.{View, with_word}
 use Rattle.process_model.specs.Inserted.{put_back}
+use Rattle.process_model.specs.OrderKept.{leafy_at}
 use Rattle.process_model.specs.PageMap as pages
 use Rattle.process_model.specs.Process.{Page, Process, regions}
 use Rattle.process_model.specs.Regions.{is_shared_kind, lacks_right, makes_leaf, Region, region_at}
@@ -22,7 +23,7 @@ use Rattle.address_space.specs.Forking.{IsForking, MarksForked}
 use Rattle.address_space.specs.Layouts.{Layout}
 use Rattle.address_space.proofs.Owned.{no_table}
 use Rattle.address_space.proofs.Owning.{owns_same, turned_other, turned_references, turned_stands, turned_words}
-use Rattle.address_space.proofs.Sound.{leafy_at, sound_page}
+use Rattle.address_space.proofs.Sound.{sound_page}
 use Rattle.address_space.proofs.Writing.{HasPage, lays_with, page_found, page_here}
 
 or_false : (b : Bool) → (b || false) ≡ b

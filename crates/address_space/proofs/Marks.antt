@@ -4,6 +4,7 @@ use Rattle.std.proofs.lemmas.Option.{same_Some}
 use Rattle.std.specs.FinMap.{get}
 use Rattle.std.specs.Prelude.{option_and_then, option_map}
 use Rattle.frame_store.specs.View.{View, with_word}
+use Rattle.process_model.specs.OrderKept.{leafy_at}
 use Rattle.process_model.specs.Process.{Page, Process, regions}
 use Rattle.process_model.specs.Regions.{is_shared_kind, keeps_stores, makes_leaf, Region, region_at}
 use Rattle.process_model.specs.Residence.{marked_stored, region_on}
@@ -18,7 +19,7 @@ use Rattle.address_space.specs.Layouts.{Layout}
 use Rattle.address_space.specs.Steps.{CanWrite, Marks}
 use Rattle.address_space.proofs.Owned.{no_table}
 use Rattle.address_space.proofs.Owning.{owns_same, turned_stands, turned_words}
-use Rattle.address_space.proofs.Sound.{leafy_at, sound_page}
+use Rattle.address_space.proofs.Sound.{sound_page}
 use Rattle.address_space.proofs.Writing.{HasPage, lays_with, page_found, page_here, page_sole, words_take}
 
 -- what stores go back from is marked, and all else is dirty from the start

@@ -11,6 +11,7 @@ use Rattle.frame_store.specs.Tallies.{spent_none}
 use Rattle.frame_store.specs.View as views
 use Rattle.frame_store.specs.View.{counted, Hold, View, hold_of, IsSole, looked, references, with_credits, with_word}
 use Rattle.process_model.specs.Frames.{part_need}
+use Rattle.process_model.specs.OrderKept.{leafy_at}
 use Rattle.process_model.specs.Process.{Page, Process, regions}
 use Rattle.process_model.specs.Regions.{is_shared_kind, makes_leaf, Region, region_at}
 use Rattle.process_model.specs.Residence.{unmarked, with_page}
@@ -24,7 +25,7 @@ use Rattle.address_space.specs.Agreement.{body, IsSpace, is_dirty_page, IsPageLe
 use Rattle.address_space.specs.Layouts.{Layout}
 use Rattle.address_space.specs.Separating.{CanSeparate, Separates}
 use Rattle.address_space.specs.Steps.{CanOwn, Owned, Spends, Takes, RunsDry}
-use Rattle.address_space.proofs.Sound.{leafy_at, sound_page}
+use Rattle.address_space.proofs.Sound.{sound_page}
 use Rattle.address_space.proofs.Owned.{no_table, Recounts, recounted_stands}
 use Rattle.address_space.proofs.Owning.{owns_same, turned_sole, turned_stands, turned_words}
 use Rattle.address_space.proofs.OwningSteps.{parting_page, words_spend}

@@ -1,15 +1,15 @@
 -- What the order of a process's regions gives of each of them, and what keeps a process sound.
-use Rattle.std.proofs.Common.{◌≡◌, ℕ, true, ◌<◌, inl, inr, refl, ap, sym, ◌∙◌, List, ◌∷◌, Some}
+use Rattle.std.proofs.Common.{◌≡◌, ℕ, ◌<◌, inl, inr, ap, sym, ◌∙◌, List, Some}
 use Rattle.std.proofs.lemmas.Bool.{cases_eq}
 use Rattle.std.specs.Prelude.{is_some}
 use Rattle.process_model.specs.Inserted.{inserted_here, inserted_other}
-use Rattle.process_model.specs.Order.{HasLeaves, HasOrder, IsMapping, IsSound}
+use Rattle.process_model.specs.Order.{HasOrder, IsSound}
 use Rattle.process_model.specs.OrderKept.{regions_row, same_order}
 use Rattle.process_model.specs.PageMap as pages
 use Rattle.process_model.specs.PageMap.{PageMap}
-use Rattle.process_model.specs.Process.{heap_of, Page, Process, regions}
-use Rattle.process_model.specs.RegionRows.{each_append, each_as, each_at, row_within}
-use Rattle.process_model.specs.Regions.{makes_leaf, Region, region_at}
+use Rattle.process_model.specs.Process.{Page, Process, regions}
+use Rattle.process_model.specs.RegionRows.{row_within}
+use Rattle.process_model.specs.Regions.{Region, region_at}
 use Rattle.process_model.specs.Residence.{with_page}
 use Rattle.sv39_entry.specs.Address.{trapframe_page}
 use Rattle.address_space.specs.Steps.{settled_with}
@@ -19,9 +19,6 @@ use Rattle.address_space.specs.Steps.{settled_with}
 module _ (p : Process) (order : HasOrder 0 p) where
   pub low_at : (n : ℕ) (r : Region) → region_at (regions p) n ≡ Some r → n < trapframe_page
   low_at n r at = (row_within 0 0 trapframe_page n (regions p) r (regions_row 0 p order) at).1
-
-  pub leafy_at : (n : ℕ) (r : Region) → region_at (regions p) n ≡ Some r → makes_leaf r ≡ true
-  leafy_at n r at = each_at HasLeaves (regions p) n r (each_append HasLeaves p.parts (heap_of p ∷ p.mappings) order.leaves (refl, each_as IsMapping HasLeaves (λ m is. is.leaves) p.mappings order.mapped)) at
 
 -- ---- what keeps a process sound
 

@@ -10,15 +10,13 @@ use Rattle.frame_store.specs.Tallies.{spent_is}
 use Rattle.frame_store.specs.View.{IsHeld, View}
 use Rattle.process_model.specs.Frames.{tables_needed}
 use Rattle.process_model.specs.Inserted.{behind, first_or, in_front}
-use Rattle.process_model.specs.Order.{HasLeaves, HasOrder, IsMapping}
 use Rattle.process_model.specs.PageMap as pages
-use Rattle.process_model.specs.Process.{grants_write, heap_of, Page, Process, regions}
-use Rattle.process_model.specs.RegionRows.{each_append, each_as, each_at}
-use Rattle.process_model.specs.Regions.{is_shared_kind, lacks_right, makes_leaf, Region, region_at}
+use Rattle.process_model.specs.Process.{grants_write, Page, Process, regions}
+use Rattle.process_model.specs.Regions.{is_shared_kind, lacks_right, Region, region_at}
 use Rattle.process_model.specs.Residence.{child_page}
 use Rattle.sv39_entry.specs.Address.{trampoline_page, trapframe_page}
 use Rattle.sv39_entry.specs.declared.access.Access.TheVariants.{Store}
-use Rattle.table_walk.specs.Counted.{AreTablesOf}
+use Rattle.table_walk.specs.Counted.{AreTablesOf, same_members}
 use Rattle.table_walk.specs.Keys.{insert_other, insert_same}
 use Rattle.table_walk.specs.Nodes.{leaf_node_is}
 use Rattle.table_walk.specs.Tables.{ChangesTables, HasTables, IsGrown, leaf_node, missing, Tables, with_leaf}
@@ -29,14 +27,10 @@ use Rattle.address_space.specs.Settled.{AreSettled, AreUnsettled, IsNextSettled}
 use Rattle.address_space.specs.declared.settled.SettledPage.{SettledPage}
 use Rattle.cow_fork.specs.Children.{CanCopy, CanOpen, CopiesPages, CopiesTree, HasChildLeaf}
 use Rattle.cow_fork.proofs.Counting.{found_in, in_keys}
-use Rattle.cow_fork.proofs.NeededTables.{AreAmong, same_members, tables_same, tables_up}
+use Rattle.cow_fork.proofs.NeededTables.{AreAmong, tables_same, tables_up}
 use Rattle.cow_fork.proofs.Opening.{held_beside, Makes, makes_more}
 
 -- ---- leaves
-
--- the pages of each region can have leaves
-pub leafy_at : (p : Process) → HasOrder 0 p → (n : ℕ) (r : Region) → region_at (regions p) n ≡ Some r → makes_leaf r ≡ true
-leafy_at p order n r at = each_at HasLeaves (regions p) n r (each_append HasLeaves p.parts (heap_of p ∷ p.mappings) order.leaves (refl, each_as IsMapping HasLeaves (λ m is. is.leaves) p.mappings order.mapped)) at
 
 twice : (b : Bool) → not (not b) ≡ b
 twice true = refl

@@ -16,7 +16,7 @@ use Rattle.process_model.specs.Residence.{child_of, child_page, marked, marked_p
 use Rattle.process_model.specs.ValueSets.{none_in}
 use Rattle.sv39_entry.specs.Address.{trampoline_page, trapframe_page}
 use Rattle.sv39_entry.specs.Word.{ppn}
-use Rattle.table_walk.specs.Counted.{AreTablesOf}
+use Rattle.table_walk.specs.Counted.{AreTablesOf, same_members}
 use Rattle.table_walk.specs.Nodes.{leaf_number}
 use Rattle.table_walk.specs.Same.{same_tables}
 use Rattle.table_walk.specs.Tables.{HasTables, leaf_node, Tables}
@@ -94,15 +94,6 @@ module _ (v : View) (u : Tables) (L : List ℕ) (for_child : AreForChild u (λ f
 
 -- ---- the pages that the child's tables are for
 
--- the same pages as a set
-same_pages : (u : Tables) (xs ys : List ℕ) → ((y : ℕ) → Contains xs y → Contains ys y) → ((y : ℕ) → Contains ys y → Contains xs y) → AreTablesOf u xs → AreTablesOf u ys
-same_pages u xs ys there back are k =
-    let kernel = λ (xs ys : List ℕ) (into : (y : ℕ) → Contains xs y → Contains ys y).
-    behind_more trampoline_page (trapframe_page ∷ xs) (trapframe_page ∷ ys) (behind_more trapframe_page xs ys into) in (
-      (λ some. let way = (are k).0 some in (way.0, way.1, kernel xs ys there way.0 way.2, way.3, way.4)),
-      (λ way. (are k).1 (way.0, way.1, kernel ys xs back way.0 way.2, way.3, way.4)),
-    )
-
 set_in : (xs : List ℕ) (y : ℕ) → Contains xs y → Contains (pages.keys (numbers xs)) y
 set_in [] y h = h
 set_in (x ∷ xs) y h = key_in x tt (numbers xs) y (behind_more x xs (pages.keys (numbers xs)) (set_in xs) y h)
@@ -123,7 +114,7 @@ set_has (x ∷ xs) y h = elim (cases_eq y x) [
 
 module _ (p : Process) (low : (n : ℕ) (s : Page) → pages.get p.settled n ≡ Some s → n < trapframe_page) where
   pub child_tabled : (u : Tables) → AreTablesOf u (pages.keys p.settled) → AreTablesOf u (pages.keys (child_of p).tabled)
-  child_tabled u are = same_pages u (pages.keys p.settled) (pages.keys (numbers (pages.keys p.settled))) (set_in (pages.keys p.settled)) (set_out (pages.keys p.settled)) are
+  child_tabled u are = same_members u (pages.keys p.settled) (pages.keys (numbers (pages.keys p.settled))) (set_in (pages.keys p.settled)) (set_out (pages.keys p.settled)) are
 
   each_low : (y : ℕ) → Contains (pages.keys p.settled) y → y < trapframe_page
   each_low y h = let s = found_in p.settled.entries y h in low y s.0 s.1

@@ -8,8 +8,6 @@ use Rattle.process_model.specs.Inserted.{behind_more}
 use Rattle.process_model.specs.PageMap.{contains, count}
 use Rattle.process_model.specs.ValueSets.{count_next, same_count, values}
 use Rattle.sv39_entry.specs.Address.{trampoline_page, trapframe_page}
-use Rattle.table_walk.specs.Counted.{AreTablesOf}
-use Rattle.table_walk.specs.Tables.{Tables}
 
 -- each member of the first list is one of the second
 abbrev pub AreAmong : List ℕ → List ℕ → Type 0
@@ -52,10 +50,3 @@ tables_same xs ys there back = let up = tables_up xs ys there in let down = tabl
 pub three_needed : tables_needed [] ≡ 3
 unfolding tables_needed
 three_needed = refl
-
--- tables of the same pages in another order
-pub same_members : (u : Tables) (xs ys : List ℕ) → AreAmong xs ys → AreAmong ys xs → AreTablesOf u xs → AreTablesOf u ys
-same_members u xs ys there back are k = (
-  (λ some. let way = (are k).0 some in (way.0, way.1, with_kernel xs ys there way.0 way.2, way.3, way.4)),
-  (λ way. (are k).1 (way.0, way.1, with_kernel ys xs back way.0 way.2, way.3, way.4)),
-)

@@ -1,5 +1,5 @@
 -- The order of a process's regions: what it gives of them, and the changes that keep it.
-use Rattle.std.proofs.Common.{◌≡◌, ◌≢◌, ℕ, ℤ, true, false, ◌&&◌, ◌+◌, ◌≤◌, arith, List, ◌∷◌, ◌++◌, Option, None, Some}
+use Rattle.std.proofs.Common.{◌≡◌, ◌≢◌, ℕ, ℤ, true, false, ◌&&◌, ◌+◌, ◌≤◌, arith, refl, List, ◌∷◌, ◌++◌, Option, None, Some}
 use Rattle.std.specs.Prelude.{nat_abs, nat_le}
 use Rattle.std.specs.List.{list_all}
 use Rattle.std.proofs.lemmas.Bool.{and_parts, leb-true}
@@ -9,11 +9,11 @@ use Rattle.process_model.specs.Granted.{good_mapping, new_mapping, size_granted}
 use Rattle.process_model.specs.Heap.{resized, size_refusal, without_pages}
 use Rattle.process_model.specs.MappingRows.{above_limit, instead_row, unmapped_each, with_each, with_mapping_row}
 use Rattle.process_model.specs.Mappings.{back_of, fits_at, front_of, is_apart, is_bad_mapping, mapping_around, mapping_of, with_instead, with_mapping}
-use Rattle.process_model.specs.Order.{HasOrder, IsMapping, Row}
+use Rattle.process_model.specs.Order.{HasLeaves, HasOrder, IsMapping, Row}
 use Rattle.process_model.specs.PageMap.{NumberSet, PageMap}
 use Rattle.process_model.specs.Process.{Page, Pending, Process, heap_of, regions}
-use Rattle.process_model.specs.RegionRows.{row_append, row_least, row_lower}
-use Rattle.process_model.specs.Regions.{Region}
+use Rattle.process_model.specs.RegionRows.{each_append, each_as, each_at, row_append, row_least, row_lower}
+use Rattle.process_model.specs.Regions.{makes_leaf, Region, region_at}
 use Rattle.sv39_entry.specs.Address.{page_of, trapframe_page}
 
 -- its pages do not matter
@@ -29,6 +29,11 @@ regions_row least p order =
     row_append 0 0 (page_of p.heap_base) trapframe_page p.parts (heap_of p ∷ p.mappings)
     (row_least least 0 (page_of p.heap_base) p.parts order.parts)
     (omega arith, omega arith, row_lower 0 _ (pages_for p.size) trapframe_page p.mappings (omega (arith, room)) mappings)
+
+-- each of them can have leaves
+pub leafy_at : (p : Process) → HasOrder 0 p → (n : ℕ) (r : Region) → region_at (regions p) n ≡ Some r → makes_leaf r ≡ true
+leafy_at p order n r at =
+    each_at HasLeaves (regions p) n r (each_append HasLeaves p.parts (heap_of p ∷ p.mappings) order.leaves (refl, each_as IsMapping HasLeaves (λ m is. is.leaves) p.mappings order.mapped)) at
 
 -- ---- sbrk
 

@@ -1,12 +1,13 @@
 use Rattle.std.proofs.Common.{◌≡◌, ◌||◌, Some, None, [], refl, ap, sym, ◌∙◌, arith}
 use Rattle.frame_store.specs.Laws.{fits_after}
 use Rattle.process_model.specs.PageMap as pages
+use Rattle.process_model.specs.OrderKept.{leafy_at}
 use Rattle.process_model.specs.Process.{regions}
 use Rattle.process_model.specs.Regions.{region_at}
 use Rattle.process_model.specs.ValueSets.{none_in}
 use Rattle.table_walk.specs.Tables.{leaf_node, with_leaf}
 use Rattle.address_space.specs.Layouts.{LaysOut, region_of}
-use Rattle.cow_fork.proofs.Copying.{child_leaf, copies_all, copies_more, done_low, enough, leafy_at, mark_had, mark_new, next_left, none_left, open_first, page_low, still_anchored}
+use Rattle.cow_fork.proofs.Copying.{child_leaf, copies_all, copies_more, done_low, enough, mark_had, mark_new, next_left, none_left, open_first, page_low, still_anchored}
 use Rattle.cow_fork.proofs.NeededTables.{tables_up, three_needed}
 use Rattle.cow_fork.proofs.tree.copy_tree.Goals as goal
 use Rattle.cow_fork.proofs.tree.copy_tree.Goals.{else-page, then-page}

@@ -2,6 +2,7 @@ use Rattle.std.proofs.Common.{◌≡◌, ℕ, Some, ◌&&◌, false, true, refl,
 use Rattle.std.specs.Prelude.{is_ok, option_map}
 use Rattle.std.proofs.lemmas.Result.{err_from_is_err_and}
 use Rattle.frame_store.specs.Laws.{fits_after}
+use Rattle.process_model.specs.OrderKept.{leafy_at}
 use Rattle.process_model.specs.Process.{Page, Process, regions}
 use Rattle.process_model.specs.Regions.{region_at}
 use Rattle.table_walk.specs.Tables.{Tables}
@@ -9,7 +10,6 @@ use Rattle.address_space.specs.Agreement.{body_of, is_dirty_page}
 use Rattle.address_space.specs.Layouts.{region_of}
 use Rattle.address_space.specs.Steps.{CanOwn}
 use Rattle.address_space.proofs.OwningCounts.{exact_kept, exact_parted, exact_refused, free_kept, free_parted, free_refused, look_at, own_frame, own_kept, own_one, own_part, own_parted, own_some, own_stands, own_stays_dirty, refused_agrees, refused_dry}
-use Rattle.address_space.proofs.Sound.{leafy_at}
 use Rattle.address_space.proofs.space.Space.own.Given as given
 use Rattle.address_space.proofs.space.Space.own.Goals as goal
 use Rattle.address_space.proofs.space.Space.own.Goals.{After-from_residual, After-look-sole, In-Some-frame_of}
