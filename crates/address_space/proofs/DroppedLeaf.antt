@@ -5,7 +5,7 @@ use Rattle.std.proofs.lemmas.Bool.{cases_eq}
 use Rattle.std.specs.FinMap.{get}
 use Rattle.frame_store.specs.Laws.{IsAnchored}
 use Rattle.frame_store.specs.Tallies.{spent_taken, taken_none, taken_on}
-use Rattle.frame_store.specs.View.{View, hold_of, IsHeld, references, released}
+use Rattle.frame_store.specs.View.{View, hold_of, IsHeld, references, released, taken}
 use Rattle.sv39_entry.specs.Address.{trampoline_page}
 use Rattle.sv39_entry.specs.Frame.{frame_at, ppn_of}
 use Rattle.sv39_entry.specs.Word.{ppn}
@@ -140,6 +140,12 @@ takes_none v w same = record { tallies = same ∙ taken_none v.tallies }
 
 pub takes_then : (u v w : View) → Takes u v 0 [] → Takes v w 0 [] → Takes u w 0 []
 takes_then u v w first second = record { tallies = taken_on u.tallies v.tallies w.tallies 0 0 [] [] first.tallies second.tallies }
+
+-- frames are taken after none was
+pub takes_after : (u v w : View) (n : ℕ) → Takes u v 0 [] → Takes v w n [] → Takes u w n []
+takes_after u v w n first second =
+    let same : 0 + n ≡ n = omega arith in
+    record { tallies = taken_on u.tallies v.tallies w.tallies 0 n [] [] first.tallies second.tallies ∙ ap (λ k. taken k [] u.tallies) same }
 
 pub changes_take : (v w : View) (t u : Tables) → ChangesTables v w t u 0 → Takes v w 0 []
 changes_take v w t u c = record { tallies = spent_taken v.tallies w.tallies 0 c.tallies }

@@ -19,7 +19,7 @@ use Rattle.sv39_entry.specs.declared.frame.FrameNo.{FrameNo}
 use Rattle.table_walk.specs.Tables.{HasTables, Tables, last_table, leaf_node, with_leaf}
 use Rattle.table_walk.specs.Keys.{insert_other, insert_same}
 use Rattle.address_space.specs.Agreement.{body, is_dirty_page, IsOn, IsPageLeaf}
-use Rattle.address_space.specs.Forking.{IsForking, MarksForked}
+use Rattle.address_space.specs.Standing.{IsStanding, MarksForked}
 use Rattle.address_space.specs.Layouts.{Layout}
 use Rattle.address_space.proofs.Owned.{no_table}
 use Rattle.address_space.proofs.Owning.{owns_same, turned_other, turned_references, turned_stands, turned_words}
@@ -43,7 +43,7 @@ never : (w : Bool) → (w && false) ≡ true → ⊥
 never false e = cc
 never true e = cc
 
-module _ {v : View} {root trapframe : ℕ} {l : Layout} {t : Tables} {p : Process} {extra : ℕ → ℕ} (page : ℕ) {s : Page} (can : IsForking (body v root trapframe l) t p extra)
+module _ {v : View} {root trapframe : ℕ} {l : Layout} {t : Tables} {p : Process} {extra : ℕ → ℕ} (page : ℕ) {s : Page} (can : IsStanding (body v root trapframe l) t p extra)
     (settled : pages.get p.settled page ≡ Some s) where
   pub found : (f : ℕ) × HasPage v t p page s f
   found = page_here v root trapframe extra t p page s can.stands settled
@@ -68,7 +68,7 @@ module _ {v : View} {root trapframe : ℕ} {l : Layout} {t : Tables} {p : Proces
 
       pub fork_kept : MarksForked (body v root trapframe l) (body v root trapframe l) t t p extra page s
       fork_kept = record {
-        forking = subst (λ q. IsForking (body v root trapframe l) t q extra) (sym same_process) can;
+        forking = subst (λ q. IsStanding (body v root trapframe l) t q extra) (sym same_process) can;
         turns = record {
           on = λ n f on. on;
           tables = refl;

@@ -12,16 +12,17 @@ use Rattle.sv39_entry.specs.Frame.{frame_at, ppn_of}
 use Rattle.sv39_entry.specs.Word.{has_flag, ppn}
 use Rattle.sv39_entry.specs.declared.frame.FrameNo.{FrameNo}
 use Rattle.table_walk.specs.Tables.{Tables, leaf_node}
-use Rattle.address_space.specs.Agreement.{body, IsSpace}
+use Rattle.address_space.specs.Agreement.{body, nothing}
 use Rattle.address_space.specs.Ending.{AreUnmapped, IsFirstMapped}
 use Rattle.address_space.specs.Layouts.{Layout}
 use Rattle.address_space.specs.ProcessLeaves.{frame_is}
 use Rattle.address_space.specs.Settled.{AreUnsettled, IsNextSettled, IsSettled, IsSettledPage}
+use Rattle.address_space.specs.Standing.{IsStanding}
 use Rattle.address_space.specs.declared.settled.SettledPage.{SettledPage}
 use Rattle.address_space.proofs.Owned.{one_page}
 use Rattle.address_space.proofs.Writing.{HasPage, page_here}
 
-module _ (v : View) (root trapframe : ℕ) (l : Layout) (t : Tables) (p : Process) (space : IsSpace (body v root trapframe l) t p) where
+module _ (v : View) (root trapframe : ℕ) (l : Layout) (t : Tables) (p : Process) (space : IsStanding (body v root trapframe l) t p nothing) where
   none_settled : (first end n : ℕ) (o : Option Page) → AreUnmapped t first end → first ≤ n → n < end → pages.get p.settled n ≡ o → o ≡ None
   none_settled first end n None bare from less at = refl
   none_settled first end n (Some s) bare from less at =

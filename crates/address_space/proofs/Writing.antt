@@ -28,6 +28,7 @@ use Rattle.table_walk.specs.Same.{same_tables}
 use Rattle.address_space.specs.Agreement.{body, IsSpace, is_dirty_page, IsPageLeaf, IsLeafNumber, IsOn, IsShown, Names, nothing, OthersKeep, Owns, Shows, Stands}
 use Rattle.address_space.specs.Layouts.{Layout, LaysOut}
 use Rattle.address_space.specs.ProcessLeaves.{frame_is}
+use Rattle.address_space.specs.Standing.{IsAt}
 use Rattle.address_space.specs.Steps.{CanRead, CanWrite, Takes}
 use Rattle.address_space.proofs.Sound.{sound_page}
 use Rattle.address_space.proofs.Owned.{named_held, no_table, one_frame, one_page, same_bytes, same_owns}
@@ -95,10 +96,10 @@ module _ (v : View) (t : Tables) (p : Process) (page : ℕ) (s : Page) (f : ℕ)
   page_on x found = subst (HasPage v t p page s) (ap (λ (x : FrameNo × Bool). (x.0).0) (same_Some _ x (sym page_found ∙ found))) here
 
 -- the frame of the leaf is the page's
-pub on_page : (v : View) (root trapframe : ℕ) (l : Layout) (t : Tables) (p : Process) (page : ℕ) (s : Page) (f : ℕ) → CanRead (body v root trapframe l) t p page s
+pub on_page : (v : View) (root trapframe : ℕ) (l : Layout) (t : Tables) (p : Process) (page : ℕ) (s : Page) (f : ℕ) → IsAt (body v root trapframe l) t p page s
     → IsOn t page f → HasPage v t p page s f
 on_page v root trapframe l t p page s f can on =
-    let here = page_here v root trapframe nothing t p page s can.agrees.stands can.settled in
+    let here = page_here v root trapframe nothing t p page s can.standing.stands can.settled in
     let same : here.0 ≡ f = one_frame here.0 f (sym here.1.made.names ∙ ap ppn (same_Some here.1.leaf on.0 (sym here.1.mapped ∙ on.1)) ∙ on.2) in
     subst (HasPage v t p page s) same here.1
 

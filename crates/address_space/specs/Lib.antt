@@ -1,7 +1,8 @@
 pub mod Accesses
 pub mod Agreement
+pub mod Beside
 pub mod Ending
-pub mod Forking
+pub mod Standing
 pub mod Kernel
 pub mod Layouts
 pub mod Parts

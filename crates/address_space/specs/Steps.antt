@@ -13,6 +13,7 @@ use Rattle.process_model.specs.Residence.{marked_stored, region_on, stored, unma
 use Rattle.sv39_entry.specs.Address.{page_of, trapframe_page}
 use Rattle.table_walk.specs.Tables.{Tables, missing}
 use Rattle.address_space.specs.Agreement.{Body, IsSpace, IsOn, nothing, OthersKeep, Stands}
+use Rattle.address_space.specs.Standing.{IsAt, standing}
 
 -- so many credits became frames, and no count was read
 pub record Spends (v w : View) (n : ℕ) : Type 0 where
@@ -116,6 +117,9 @@ HasOwned x y page IsCount = (t : Tables) (p : Process) (s : Page) (f : ℕ) → 
 pub record CanRead (x : Body) (t : Tables) (p : Process) (page : ℕ) (s : Page) : Type 0 where
   pub agrees : IsSpace x t p
   pub settled : pages.get p.settled page ≡ Some s
+
+pub at_page : {x : Body} {t : Tables} {p : Process} {page : ℕ} {s : Page} → CanRead x t p page s → IsAt x t p page s
+at_page can = record { standing = standing can.agrees; settled = can.settled }
 
 -- no other process has the page, and its region grants writing
 pub record CanWrite (x : Body) (t : Tables) (p : Process) (page : ℕ) (s : Page) : Type 0 where

@@ -2,6 +2,7 @@
 
 ghost use Rattle.std.specs.Prelude.{[], ◌≡◌, ◌-◌, ◌≤◌, ◌↔◌, if◌then◌else◌, IfErr, IfOk, is_ok, IsOk, ℕ};
 ghost use Rattle.address_space.specs.Agreement.{body_of, IsSpace, HoldsTrampoline, HoldsTrapframe};
+ghost use Rattle.address_space.specs.Ending.{CanEnd};
 ghost use Rattle.address_space.specs.Parts.{AreParts, bare_process, build_need, CanFill, CanOpen, Fills, Opens, OwnsAlone, pages_need, pages_of, part_pages, process_of_parts, StandsAlone, tree_need};
 ghost use Rattle.address_space.specs.Steps.{Takes};
 ghost use Rattle.frame_store.specs.Laws.{Fits, IsDry, Keeps};
@@ -9,6 +10,7 @@ ghost use Rattle.frame_store.specs.View.{hold_of};
 ghost use Rattle.process_model.specs.Process.{Process};
 ghost use Rattle.table_walk.specs.Tables.{Tables};
 
+use crate::ending::{drop_run, release_emptied};
 use crate::layout::Layout;
 use crate::needed::frames_needed;
 use crate::pages::add_page;
@@ -51,7 +53,7 @@ impl<S: FrameSeat> Space<S> {
     }
 
     /// The same of credits that the seat has, over a frame for the trapframe that it holds: what that has stays.
-    pub fn build_reserved<F: FrameSupply<Seat = S>>(
+    fn build_reserved<F: FrameSupply<Seat = S>>(
         store: &mut F,
         mut seat: S,
         trapframe: FrameNo,
@@ -76,6 +78,33 @@ impl<S: FrameSeat> Space<S> {
             trapframe,
             layout: Layout::new(parts),
         }
+    }
+
+    /// Puts the process that begins with these parts in the place of the one in the space, by credits that the seat has for
+    /// it: the old pages and tables go, and the new ones come. The trapframe keeps its frame, with what that has.
+    pub fn rebuild<F: FrameSupply<Seat = S>>(&mut self, store: &mut F, parts: &[Part])
+        requires fits { Fits F.rule store.old self.old.seat }
+        requires parts { AreParts parts.now }
+        requires ready { (t : Tables) × (p : Process) × CanEnd (body_of S.view self.old) t p }
+        requires credits { (S.view self.old.seat).credits ≡ tree_need parts.now }
+        ensures built { (t : Tables) × ((fresh : ℕ) → IsSpace (body_of S.view self.new) t (process_of_parts fresh parts.now)) × OwnsAlone (S.view self.new.seat) t }
+        ensures trapframe { self.new.trapframe ≡ self.old.trapframe }
+        ensures saved { hold_of (S.view self.new.seat) self.old.trapframe.0 ≡ hold_of (S.view self.old.seat) self.old.trapframe.0 }
+        ensures takes { Takes (S.view self.old.seat) (S.view self.new.seat) (tree_need parts.now) [] }
+        ensures free { F.alone → F.free store.old ≤ F.free store.new }
+        ensures keeps { Keeps F.rule store.old self.old.seat store.new self.new.seat }
+    {
+        drop_run(
+            store,
+            &mut self.seat,
+            self.root,
+            Va(0).page(),
+            TRAPFRAME.page(),
+        );
+        release_emptied(store, &mut self.seat, self.root);
+        self.root = open_tables(store, &mut self.seat, self.trapframe);
+        fill_parts(store, &mut self.seat, self.root, parts);
+        self.layout = Layout::new(parts);
     }
 }
 

@@ -55,7 +55,13 @@ fn drop_leaf<F: FrameAccess>(store: &mut F, seat: &mut F::Seat, root: FrameNo, p
 }
 
 /// Unmaps the settled pages of a run, and lets their frames go. The tables stay.
-fn drop_run<F: FrameAccess>(store: &mut F, seat: &mut F::Seat, root: FrameNo, first: Vpn, end: Vpn)
+pub(crate) fn drop_run<F: FrameAccess>(
+    store: &mut F,
+    seat: &mut F::Seat,
+    root: FrameNo,
+    first: Vpn,
+    end: Vpn,
+)
     requires fits { Fits F.rule store.old seat.old }
     requires ready { (trapframe : ℕ) × (t : Tables) × (p : Process) × Stands (F.Seat.view seat.old) root.0 trapframe nothing t p }
     requires low { end ≤ trapframe_page }
@@ -73,7 +79,7 @@ fn drop_run<F: FrameAccess>(store: &mut F, seat: &mut F::Seat, root: FrameNo, fi
 
 /// Takes the tables of a space without pages away: TRAPFRAME's leaf goes, then TRAMPOLINE's, and then the tables. The
 /// frames of these two pages stay.
-fn release_emptied<F: FrameAccess>(store: &mut F, seat: &mut F::Seat, root: FrameNo)
+pub(crate) fn release_emptied<F: FrameAccess>(store: &mut F, seat: &mut F::Seat, root: FrameNo)
     requires fits { Fits F.rule store.old seat.old }
     requires emptied { (trapframe : ℕ) × (t : Tables) × IsEmptied (F.Seat.view seat.old) root.0 trapframe t }
     ensures strips { (trapframe : ℕ) (t : Tables) → IsEmptied (F.Seat.view seat.old) root.0 trapframe t →
@@ -107,7 +113,7 @@ impl<S: FrameSeat> Space<S> {
 
     /// Takes the space apart: its pages go, and then its tables. The seat keeps its credits, frame 0, and the trapframe's
     /// frame with what that has.
-    pub fn strip<F: FrameAccess<Seat = S>>(self, store: &mut F) -> (S, FrameNo)
+    fn strip<F: FrameAccess<Seat = S>>(self, store: &mut F) -> (S, FrameNo)
         requires fits { Fits F.rule store.old self.seat }
         requires ready { (t : Tables) × (p : Process) × CanEnd (body_of S.view self) t p }
         ensures trapframe { result.1 ≡ self.trapframe }

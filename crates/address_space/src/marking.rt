@@ -2,7 +2,7 @@
 
 ghost use Rattle.std.specs.Prelude.{◌≡◌, ℕ, Some};
 ghost use Rattle.address_space.specs.Agreement.{body_of};
-ghost use Rattle.address_space.specs.Forking.{HasMarkedForked, IsForking};
+ghost use Rattle.address_space.specs.Standing.{HasMarkedForked, IsStanding};
 ghost use Rattle.address_space.specs.Steps.{CanWrite, Marks};
 ghost use Rattle.frame_store.specs.Laws.{Fits, Keeps};
 ghost use Rattle.process_model.specs.PageMap.{get};
@@ -44,7 +44,7 @@ impl<S: FrameSeat> Space<S> {
     /// frame that it named. A store has to make the page the process's own first (the xv6 book, "Page-fault exceptions").
     pub fn mark_forked<F: FrameAccess<Seat = S>>(&mut self, store: &mut F, page: Vpn)
         requires fits { Fits F.rule store.old self.old.seat }
-        requires ready { (t : Tables) × (p : Process) × (extra : ℕ → ℕ) × (s : Page) × IsForking (body_of S.view self.old) t p extra × (get p.settled page ≡ Some s) }
+        requires ready { (t : Tables) × (p : Process) × (extra : ℕ → ℕ) × (s : Page) × IsStanding (body_of S.view self.old) t p extra × (get p.settled page ≡ Some s) }
         ensures marked { HasMarkedForked (body_of S.view self.old) (body_of S.view self.new) page }
         ensures root { self.new.root ≡ self.old.root }
         ensures trapframe { self.new.trapframe ≡ self.old.trapframe }

@@ -1,8 +1,9 @@
 // Settled pages, one after another.
 
 ghost use Rattle.std.specs.Prelude.{◌≡◌, ◌<◌, ◌≤◌, ℕ};
-ghost use Rattle.address_space.specs.Agreement.{body_of, IsSpace};
+ghost use Rattle.address_space.specs.Agreement.{body_of, nothing};
 ghost use Rattle.address_space.specs.Settled.{IsNextSettled, IsSettled};
+ghost use Rattle.address_space.specs.Standing.{IsStanding};
 ghost use Rattle.frame_store.specs.Laws.{Fits, Keeps};
 ghost use Rattle.process_model.specs.Process.{Process};
 ghost use Rattle.sv39_entry.specs.Address.{trapframe_page};
@@ -48,9 +49,9 @@ impl<S: FrameSeat> Space<S> {
         page: Vpn,
     ) -> Option<SettledPage>
         requires fits { Fits F.rule store.old self.old.seat }
-        requires ready { (t : Tables) × (p : Process) × IsSpace (body_of S.view self.old) t p }
+        requires ready { (t : Tables) × (p : Process) × IsStanding (body_of S.view self.old) t p nothing }
         requires low { page < trapframe_page }
-        ensures page { (t : Tables) (p : Process) → IsSpace (body_of S.view self.old) t p → IsSettled t p page result }
+        ensures page { (t : Tables) (p : Process) → IsStanding (body_of S.view self.old) t p nothing → IsSettled t p page result }
         ensures root { self.new.root ≡ self.old.root }
         ensures trapframe { self.new.trapframe ≡ self.old.trapframe }
         ensures layout { self.new.layout ≡ self.old.layout }
@@ -79,9 +80,9 @@ impl<S: FrameSeat> Space<S> {
         end: Vpn,
     ) -> Option<SettledPage>
         requires fits { Fits F.rule store.old self.old.seat }
-        requires ready { (t : Tables) × (p : Process) × IsSpace (body_of S.view self.old) t p }
+        requires ready { (t : Tables) × (p : Process) × IsStanding (body_of S.view self.old) t p nothing }
         requires low { end ≤ trapframe_page }
-        ensures page { (t : Tables) (p : Process) → IsSpace (body_of S.view self.old) t p → IsNextSettled t p first end result }
+        ensures page { (t : Tables) (p : Process) → IsStanding (body_of S.view self.old) t p nothing → IsNextSettled t p first end result }
         ensures root { self.new.root ≡ self.old.root }
         ensures trapframe { self.new.trapframe ≡ self.old.trapframe }
         ensures layout { self.new.layout ≡ self.old.layout }

@@ -3,6 +3,7 @@
 ghost use Rattle.std.specs.Prelude.{[], ◌≡◌, ◌%◌, ◌<◌, ℕ, IsTrue, length, option_map};
 ghost use Rattle.address_space.specs.Agreement.{body_of, IsSpace, IsOn};
 ghost use Rattle.address_space.specs.Layouts.{granted_unless, region_of};
+ghost use Rattle.address_space.specs.Standing.{IsAt};
 ghost use Rattle.address_space.specs.Steps.{CanRead, CanWrite, HasRelaid, HasStored, left_with, mapped_with, sized, stored_at, Takes};
 ghost use Rattle.frame_store.specs.Laws.{Fits, Keeps};
 ghost use Rattle.process_model.specs.Bytes.{is_width};
@@ -88,7 +89,7 @@ impl<S: FrameSeat> Space<S> {
         )
     }
 
-    /// The 4,096 bytes of a settled page, into an array.
+    /// The 4,096 bytes of a settled page, into an array. The seat may have credits.
     pub fn page_bytes<F: FrameAccess<Seat = S>>(
         &mut self,
         store: &mut F,
@@ -96,8 +97,8 @@ impl<S: FrameSeat> Space<S> {
         bytes: &mut [u8; 4096],
     )
         requires fits { Fits F.rule store.old self.old.seat }
-        requires ready { (t : Tables) × (p : Process) × (s : Page) × CanRead (body_of S.view self.old) t p page s }
-        ensures bytes { (t : Tables) (p : Process) (s : Page) → CanRead (body_of S.view self.old) t p page s → bytes.new ≡ s.bytes }
+        requires ready { (t : Tables) × (p : Process) × (s : Page) × IsAt (body_of S.view self.old) t p page s }
+        ensures bytes { (t : Tables) (p : Process) (s : Page) → IsAt (body_of S.view self.old) t p page s → bytes.new ≡ s.bytes }
         ensures root { self.new.root ≡ self.old.root }
         ensures trapframe { self.new.trapframe ≡ self.old.trapframe }
         ensures layout { self.new.layout ≡ self.old.layout }
@@ -196,8 +197,8 @@ impl<S: FrameSeat> Space<S> {
     /// The frame of a settled page.
     fn page_frame<F: FrameAccess<Seat = S>>(&mut self, store: &mut F, page: Vpn) -> FrameNo
         requires fits { Fits F.rule store.old self.old.seat }
-        requires ready { (t : Tables) × (p : Process) × (s : Page) × CanRead (body_of S.view self.old) t p page s }
-        ensures frame { (t : Tables) (p : Process) (s : Page) → CanRead (body_of S.view self.old) t p page s → IsOn t page result.0 }
+        requires ready { (t : Tables) × (p : Process) × (s : Page) × IsAt (body_of S.view self.old) t p page s }
+        ensures frame { (t : Tables) (p : Process) (s : Page) → IsAt (body_of S.view self.old) t p page s → IsOn t page result.0 }
         ensures root { self.new.root ≡ self.old.root }
         ensures trapframe { self.new.trapframe ≡ self.old.trapframe }
         ensures layout { self.new.layout ≡ self.old.layout }

@@ -3,7 +3,7 @@
 ghost use Rattle.std.specs.Prelude.{◌≡◌, All, List};
 ghost use Rattle.hart_machine.specs.Worlds.{IsWorld, Makes};
 ghost use Rattle.process_model.specs.Images.{image_loads};
-ghost use Rattle.process_model.specs.Played.{AreSegments, HasSegments, IsLinePlayed, IsPlayed};
+ghost use Rattle.process_model.specs.Played.{IsLinePlayed, IsPlayed};
 ghost use Rattle.process_model.specs.Steps as model;
 ghost use Rattle.process_model.specs.Text as words;
 ghost use Rattle.process_model.specs.World.{World};
@@ -20,7 +20,6 @@ use process_model::{Command, Image, OwnedImage, Reply, Step};
 /// An image of a script, as a step borrows it.
 fn lend(image: &OwnedImage) -> Image<'_>
     ensures loads { image_loads result ≡ image_loads (words.lent image.now) }
-    ensures segments { HasSegments image.now → AreSegments result }
 {
     match image {
         OwnedImage::Elf(bytes) => Image::Elf(bytes.as_slice()),
@@ -31,10 +30,18 @@ fn lend(image: &OwnedImage) -> Image<'_>
 /// Starts a process of an image.
 fn start(machine: &mut Machine, image: &OwnedImage) -> Reply
     requires world { (w : World) × IsWorld machine.old w }
-    requires segments { HasSegments image.now }
     ensures made { (w : World) → IsWorld machine.old w → Makes machine.new result (model.step w (steps.Start (words.lent image.now))) }
 {
     machine.step(Step::Start(lend(image)))
+}
+
+/// Puts the process of an image in the place of the one on a hart.
+fn exec(machine: &mut Machine, hart: usize, image: &OwnedImage) -> Reply
+    requires world { (w : World) × IsWorld machine.old w }
+    ensures made { (w : World) → IsWorld machine.old w → Makes machine.new result (model.step w (steps.Exec hart (words.lent image.now))) }
+{
+    let image = lend(image);
+    machine.step(Step::Exec { hart, image })
 }
 
 /// Makes several steps that have one reply: that of the first which is refused, and none is made after it; else the one given.
@@ -108,12 +115,12 @@ pub fn make(machine: &mut Machine, images: &[OwnedImage], command: &Command) -> 
     requires world { (w : World) × IsWorld machine.old w }
     requires played { IsLinePlayed command.now }
     requires declared { (files : List FileText) × IsDeclared files images.now command.now }
-    requires segments { All HasSegments images.now }
     ensures told { (w : World) → IsWorld machine.old w → Tells machine.new result (words.played images.now w command.now) }
 {
     match command {
         Command::One(step) => Answer::Step(machine.step(*step)),
         Command::Start { image } => Answer::Step(start(machine, &images[*image])),
+        Command::Exec { hart, image } => Answer::Step(exec(machine, *hart, &images[*image])),
         Command::On { hart, slot } => Answer::Step(put_on(machine, *hart, *slot)),
         Command::Enter { hart } => Answer::Step(enter(machine, *hart)),
         Command::Leave { hart } => Answer::Step(three_next(machine, *hart, Reply::Done)),
@@ -124,6 +131,6 @@ pub fn make(machine: &mut Machine, images: &[OwnedImage], command: &Command) -> 
             count,
         } => show(machine.files(), *file, *offset, *count),
         Command::Audit => Answer::Audit(audit(machine)),
-        Command::Exec { .. } | Command::CopyOut { .. } => unreachable!(),
+        Command::CopyOut { .. } => unreachable!(),
     }
 }

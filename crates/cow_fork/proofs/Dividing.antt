@@ -21,7 +21,7 @@ use Rattle.table_walk.specs.Nodes.{leaf_number}
 use Rattle.table_walk.specs.Same.{same_tables}
 use Rattle.table_walk.specs.Tables.{HasTables, leaf_node, Tables}
 use Rattle.address_space.specs.Agreement.{body, IsOn, IsSpace, Names}
-use Rattle.address_space.specs.Forking.{IsForking, TurnsLeaves}
+use Rattle.address_space.specs.Standing.{IsStanding, TurnsLeaves}
 use Rattle.address_space.specs.Layouts.{Layout}
 use Rattle.cow_fork.specs.Children.{HasChildLeaf}
 use Rattle.cow_fork.specs.Forks.{Forks, HasChild}
@@ -129,7 +129,7 @@ module _ (p : Process) (low : (n : ℕ) (s : Page) → pages.get p.settled n ≡
 
 module _ (v w x : View) (root saved : ℕ) (l : Layout) (t r u : Tables) (p : Process) (croot own : ℕ) (L : List ℕ)
     (space : IsSpace (body v root saved l) t p) (child : HasChild v w t u p croot own L)
-    (marks : IsForking (body x root saved l) r (marked p) (λ f. times f L)) (turns : TurnsLeaves (body w root saved l) (body x root saved l) t r) where
+    (marks : IsStanding (body x root saved l) r (marked p) (λ f. times f L)) (turns : TurnsLeaves (body w root saved l) (body x root saved l) t r) where
   counts : (f : ℕ) → references x f ≡ references v f + times f L
   counts f = let was = child.counts f in let is = turns.count f in omega (arith, was, is)
 

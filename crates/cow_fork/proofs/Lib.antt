@@ -1,4 +1,3 @@
-pub mod Beside
 pub mod Building
 pub mod Copying
 pub mod Counting

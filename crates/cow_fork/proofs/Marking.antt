@@ -14,13 +14,13 @@ use Rattle.process_model.specs.Residence.{marked, marked_page}
 use Rattle.sv39_entry.specs.Address.{trapframe_page}
 use Rattle.table_walk.specs.Tables.{Tables}
 use Rattle.address_space.specs.Agreement.{Body}
-use Rattle.address_space.specs.Forking.{HasMarkedForked, IsForking, TurnsLeaves}
+use Rattle.address_space.specs.Standing.{HasMarkedForked, IsStanding, TurnsLeaves}
 use Rattle.address_space.specs.Settled.{AreSettled, AreUnsettled}
 use Rattle.address_space.specs.declared.settled.SettledPage.{SettledPage}
 
 -- a process that stands while a fork is under way does so whatever it has pending
-forking_pending : (x : Body) (t : Tables) (p : Process) (extra : ℕ → ℕ) (o : Option of_model.Pending) → IsForking x t p extra
-    → IsForking x t (record p { pending = o }) extra
+forking_pending : (x : Body) (t : Tables) (p : Process) (extra : ℕ → ℕ) (o : Option of_model.Pending) → IsStanding x t p extra
+    → IsStanding x t (record p { pending = o }) extra
 forking_pending x t p extra o a = record {
   sound = record { order = same_order 0 p p.settled p.tabled o a.sound.order; tabled = a.sound.tabled };
   lays = record { parts = a.lays.parts; mappings = a.lays.mappings; heap_base = a.lays.heap_base; size = a.lays.size };
@@ -73,7 +73,7 @@ pub record IsMarking (x y : Body) (t u : Tables) (p : Process) (extra : ℕ → 
   pub tables : Tables
   pub bound : ℕ
   pub done : PageMap Page
-  pub forking : IsForking y tables (record p { settled = done }) extra
+  pub forking : IsStanding y tables (record p { settled = done }) extra
   pub turns : TurnsLeaves x y t tables
   pub marks : AreMarkedBelow p bound done
   pub left : AreSettled u p bound trapframe_page rest
@@ -115,7 +115,7 @@ module _ (p : Process) (bound : ℕ) (done : PageMap Page) (marks : AreMarkedBel
     ]
 
 module _ (x : Body) (t u : Tables) (p : Process) (extra : ℕ → ℕ) (settled : List SettledPage) where
-  pub marking_none : IsForking x t p extra → AreSettled u p 0 trapframe_page settled → IsMarking x x t u p extra settled
+  pub marking_none : IsStanding x t p extra → AreSettled u p 0 trapframe_page settled → IsMarking x x t u p extra settled
   marking_none can are = record {
     tables = t;
     bound = 0;
@@ -137,7 +137,7 @@ module _ (x : Body) (t u : Tables) (p : Process) (extra : ℕ → ℕ) (settled 
       page_there : get m.done a.page ≡ Some left.0.3.page
       page_there = m.marks.above a.page left.0.0 ∙ left.0.3.settled
 
-      pub marking_ready : (t : Tables) × (p : Process) × (extra : ℕ → ℕ) × (s : Page) × IsForking y t p extra × (get p.settled a.page ≡ Some s)
+      pub marking_ready : (t : Tables) × (p : Process) × (extra : ℕ → ℕ) × (s : Page) × IsStanding y t p extra × (get p.settled a.page ≡ Some s)
       marking_ready = (m.tables, record p { settled = m.done }, extra, left.0.3.page, m.forking, page_there)
 
       pub marking_next : (z : Body) → HasMarkedForked y z a.page → IsMarking x z t u p extra (drop (i + 1) settled)
@@ -153,12 +153,12 @@ module _ (x : Body) (t u : Tables) (p : Process) (extra : ℕ → ℕ) (settled 
             left = left.1;
           }
 
-    pub marking_all : IsForking x t p extra → length settled ≤ i → (w : Tables) × IsForking y w (marked p) extra × TurnsLeaves x y t w
+    pub marking_all : IsStanding x t p extra → length settled ≤ i → (w : Tables) × IsStanding y w (marked p) extra × TurnsLeaves x y t w
     marking_all can past =
         let none : AreUnsettled p m.bound trapframe_page = subst (AreSettled u p m.bound trapframe_page) (at_drop_all (λ l. l) settled i past) m.left in
         let same = marks_all p m.bound m.done m.marks none can.stands.shows.low in (
           m.tables,
           forking_pending y m.tables (record p { settled = with_values (marked_page p) p.settled }) extra None
-              (subst (λ d. IsForking y m.tables (record p { settled = d }) extra) same m.forking),
+              (subst (λ d. IsStanding y m.tables (record p { settled = d }) extra) same m.forking),
           m.turns,
         )

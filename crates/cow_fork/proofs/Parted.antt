@@ -21,7 +21,7 @@ use Rattle.table_walk.specs.Nodes.{leaf_node_is}
 use Rattle.table_walk.specs.Same.{same_tables}
 use Rattle.table_walk.specs.Tables.{HasTables, leaf_node, Tables}
 use Rattle.address_space.specs.Agreement.{body, code_rights, data_rights, HasKernelLeaf, IsLeafNumber, IsOn, IsShown, IsSpace, Names, nothing, Owns, Shows}
-use Rattle.address_space.specs.Forking.{IsForking}
+use Rattle.address_space.specs.Standing.{IsStanding}
 use Rattle.address_space.specs.Layouts.{Layout}
 use Rattle.cow_fork.specs.Children.{HasChildLeaf}
 use Rattle.cow_fork.specs.Parting.{AreForChild, IsParted, IsUnnamed}
@@ -53,7 +53,7 @@ pub one_named : (f g : ℕ) → ppn_of f ≡ ppn_of g → f ≡ g
 one_named f g same = omega (arith, same)
 
 module _ (v a b : View) (root saved : ℕ) (l : Layout) (t u : Tables) (p : Process) (extra : ℕ → ℕ)
-    (parent : IsForking (body v root saved l) t (marked p) extra) (for_child : AreForChild u extra) (parts : IsParted v a b u) (none : v.credits ≡ 0) where
+    (parent : IsStanding (body v root saved l) t (marked p) extra) (for_child : AreForChild u extra) (parts : IsParted v a b u) (none : v.credits ≡ 0) where
   abbrev owns : Owns v t extra
   owns = parent.stands.owns
 

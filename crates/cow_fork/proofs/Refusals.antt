@@ -19,7 +19,7 @@ use Rattle.cow_fork.specs.Lists.{times}
 use Rattle.cow_fork.specs.Sharing.{AreGoing, frames_of}
 use Rattle.cow_fork.specs.declared.forking.ForkError.{ForkError}
 use Rattle.cow_fork.specs.declared.forking.ForkError.TheVariants.{NoFrame, SharersFull}
-use Rattle.cow_fork.proofs.Beside.{stands_beside}
+use Rattle.address_space.specs.Beside.{stands_beside}
 use Rattle.cow_fork.proofs.Going.{going_few, going_held}
 use Rattle.cow_fork.proofs.Walking.{body_between}
 

@@ -2,7 +2,7 @@
 
 ghost use Rattle.std.specs.Prelude.{[], ◌≡◌, ◌≤◌, ℕ};
 ghost use Rattle.address_space.specs.Agreement.{body_of};
-ghost use Rattle.address_space.specs.Forking.{IsForking, TurnsLeaves};
+ghost use Rattle.address_space.specs.Standing.{IsStanding, TurnsLeaves};
 ghost use Rattle.address_space.specs.Settled.{AreSettled};
 ghost use Rattle.cow_fork.specs.Children.{CanCopy, CanOpen, CopiesPages, CopiesTree};
 ghost use Rattle.frame_store.specs.Laws.{Fits, Keeps};
@@ -77,9 +77,9 @@ pub(crate) fn mark_pages<S: FrameSeat, F: FrameAccess<Seat = S>>(
     settled: &[SettledPage],
 )
     requires fits { Fits F.rule store.old space.old.seat }
-    requires ready { (t u : Tables) × (p : Process) × (extra : ℕ → ℕ) × IsForking (body_of S.view space.old) t p extra × AreSettled u p 0 trapframe_page settled.now }
-    ensures marked { (t u : Tables) (p : Process) (extra : ℕ → ℕ) → IsForking (body_of S.view space.old) t p extra → AreSettled u p 0 trapframe_page settled.now →
-        (w : Tables) × IsForking (body_of S.view space.new) w (marked p) extra × TurnsLeaves (body_of S.view space.old) (body_of S.view space.new) t w }
+    requires ready { (t u : Tables) × (p : Process) × (extra : ℕ → ℕ) × IsStanding (body_of S.view space.old) t p extra × AreSettled u p 0 trapframe_page settled.now }
+    ensures marked { (t u : Tables) (p : Process) (extra : ℕ → ℕ) → IsStanding (body_of S.view space.old) t p extra → AreSettled u p 0 trapframe_page settled.now →
+        (w : Tables) × IsStanding (body_of S.view space.new) w (marked p) extra × TurnsLeaves (body_of S.view space.old) (body_of S.view space.new) t w }
     ensures root { space.new.root ≡ space.old.root }
     ensures trapframe { space.new.trapframe ≡ space.old.trapframe }
     ensures layout { space.new.layout ≡ space.old.layout }

@@ -3,3 +3,4 @@ pub mod Files
 pub mod Headers
 pub mod Judged
 pub mod LittleNumbers
+pub mod Reserved

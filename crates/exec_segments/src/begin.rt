@@ -42,7 +42,7 @@ pub fn start<F: FrameSupply<Seat = S>, S: FrameSeat>(
 
 /// The parts of a process: its segments, and after the last one a guard page and a stack page (the xv6 book, "Code:
 /// exec").
-fn parts_of<'a>(loads: &[Load<'a>]) -> ArrayVec<Part<'a>, 18>
+pub(crate) fn parts_of<'a>(loads: &[Load<'a>]) -> ArrayVec<Part<'a>, 18>
     requires { AreLoads (map load_of loads.now) }
     ensures parts { AreParts result.items }
     ensures process { (fresh : ℕ) → process_of_parts fresh result.items ≡ model.process_of fresh (map load_of loads.now) }

@@ -3,6 +3,7 @@
 ghost use Rattle.std.specs.Prelude.{◌≡◌};
 ghost use Rattle.process_model.specs.Images as model;
 
+use crate::elf::read_image;
 use crate::judging::Judging;
 use crate::load::Load;
 use arrayvec::ArrayVec;
@@ -28,6 +29,16 @@ impl<'a> Model for Image<'a> {
 }
 
 impl<'a> Image<'a> {
+    /// Judges an image as a step borrows it: the bytes of an ELF file, or a list of segments.
+    pub fn judged(image: process_model::Image<'a>) -> Result<Image<'a>, BadImage>
+        ensures { result ≡ model.image_loads image.entry }
+    {
+        match image {
+            process_model::Image::Elf(bytes) => read_image(bytes),
+            process_model::Image::Segments(segments) => Image::from_segments(segments),
+        }
+    }
+
     /// Judges a list of segments. The first check that fails is told, as for the program headers of a file.
     pub fn from_segments(segments: &'a [Segment]) -> Result<Image<'a>, BadImage>
         ensures { result ≡ model.segment_loads segments.now }

@@ -7,7 +7,9 @@ mod fields;
 mod image;
 mod judging;
 mod load;
+mod replacing;
 
 pub use begin::start;
 pub use elf::read_image;
 pub use image::Image;
+pub use replacing::exec;

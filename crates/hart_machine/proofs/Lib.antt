@@ -11,6 +11,7 @@ pub mod Calling
 pub mod CountedLists
 pub mod Emptying
 pub mod Entries
+pub mod Executes
 pub mod Fences
 pub mod FillWorlds
 pub mod Fills

@@ -6,6 +6,7 @@ mod boot;
 mod buffering;
 mod calls;
 mod ending;
+mod executing;
 mod filled;
 mod forking;
 mod hart;

@@ -8,7 +8,6 @@ ghost use Rattle.frame_store.specs.Plain.{BankRule};
 ghost use Rattle.frame_store.specs.View.{references, View};
 ghost use Rattle.hart_machine.specs.Buffers.{SameBuffers};
 ghost use Rattle.hart_machine.specs.Worlds.{IsWorld, Makes};
-ghost use Rattle.process_model.specs.Played.{AreSegments};
 ghost use Rattle.process_model.specs.Steps.{plain_step};
 ghost use Rattle.process_model.specs.World.{free_slot, World};
 ghost use Rattle.process_model.specs.declared.step.Step.TheVariants as step;
@@ -22,20 +21,16 @@ use process_model::{Refusal, Reply};
 use sv39_entry::FrameNo;
 
 impl Machine {
-    /// A process of an image of segments comes to be in the lowest slot without one.
+    /// A process of an image comes to be in the lowest slot without one.
     pub(crate) fn start(&mut self, image: process_model::Image<'_>) -> Reply
         requires world { (w : World) × IsWorld self.old w }
-        requires segments { AreSegments image }
         ensures made { (w : World) → IsWorld self.old w → Makes self.new result (plain_step w (step.Start image.entry)) }
         ensures buffers { SameBuffers self.old self.new }
     {
         let Some(slot) = self.free_slot() else {
             return Reply::Refused(Refusal::NoSlot);
         };
-        let process_model::Image::Segments(segments) = image else {
-            unreachable!()
-        };
-        let image = match Image::from_segments(segments) {
+        let image = match Image::judged(image) {
             Ok(image) => image,
             Err(part) => return Reply::Refused(Refusal::BadImage(part)),
         };

@@ -52,6 +52,7 @@ impl Machine {
             Step::TrampolineFetch { hart, offset, via } => self.fetch_trampoline(hart, offset, via),
             Step::Serve { hart } => self.serve(hart),
             Step::Fork { hart } => self.fork(hart),
+            Step::Exec { hart, image } => self.exec(hart, image),
             Step::Sbrk { hart, delta } => self.sbrk(hart, delta),
             Step::Mmap {
                 hart,

@@ -1,7 +1,8 @@
 // What was stored to shared mappings goes back to their files.
 
 ghost use Rattle.std.specs.Prelude.{[], ◌≡◌, ◌<◌, ◌≤◌, ◌+◌, IfErr, IfOk, length, ℕ};
-ghost use Rattle.address_space.specs.Agreement.{body_of, IsSpace};
+ghost use Rattle.address_space.specs.Agreement.{body_of, IsSpace, nothing};
+ghost use Rattle.address_space.specs.Standing.{IsStanding};
 ghost use Rattle.frame_store.specs.Laws.{Fits, Keeps};
 ghost use Rattle.mmap_regions.specs.Runs.{IsRunOf, moves_in, run_of};
 ghost use Rattle.process_model.specs.Mappings.{all_written_back};
@@ -55,9 +56,9 @@ pub(crate) fn write_run<S: FrameSeat, F: FrameAccess<Seat = S>, C: Files>(
     run: &Run,
 )
     requires fits { Fits F.rule store.old space.old.seat }
-    requires ready { (t : Tables) × (p : Process) × IsSpace (body_of S.view space.old) t p × IsRunOf p (run_of run.now) × (length (moves_in p (run_of run.now)) ≤ C.room files.old) }
-    ensures moves { (t : Tables) (p : Process) → IsSpace (body_of S.view space.old) t p → IsRunOf p (run_of run.now) → C.becomes files.old (moves_in p (run_of run.now)) files.new }
-    ensures rest { (t : Tables) (p : Process) → IsSpace (body_of S.view space.old) t p → IsRunOf p (run_of run.now) → C.room files.old ≤ length (moves_in p (run_of run.now)) + C.room files.new }
+    requires ready { (t : Tables) × (p : Process) × IsStanding (body_of S.view space.old) t p nothing × IsRunOf p (run_of run.now) × (length (moves_in p (run_of run.now)) ≤ C.room files.old) }
+    ensures moves { (t : Tables) (p : Process) → IsStanding (body_of S.view space.old) t p nothing → IsRunOf p (run_of run.now) → C.becomes files.old (moves_in p (run_of run.now)) files.new }
+    ensures rest { (t : Tables) (p : Process) → IsStanding (body_of S.view space.old) t p nothing → IsRunOf p (run_of run.now) → C.room files.old ≤ length (moves_in p (run_of run.now)) + C.room files.new }
     ensures root { space.new.root ≡ space.old.root }
     ensures trapframe { space.new.trapframe ≡ space.old.trapframe }
     ensures layout { space.new.layout ≡ space.old.layout }
@@ -107,16 +108,16 @@ pub fn promise_write_back<S: FrameSeat, F: FrameAccess<Seat = S>, C: Files>(
 }
 
 /// Writes the pages of all mappings back that have the stored mark, in order of address: what an exit, an end by a rule and
-/// exec do before the pages go. The pages stay, with their marks.
+/// exec do before the pages go. The pages stay, with their marks. The seat may have credits.
 pub fn write_back<S: FrameSeat, F: FrameAccess<Seat = S>, C: Files>(
     space: &mut Space<S>,
     store: &mut F,
     files: &mut C,
 )
     requires fits { Fits F.rule store.old space.old.seat }
-    requires ready { (t : Tables) × (p : Process) × IsSpace (body_of S.view space.old) t p × (length (all_moves p) ≤ C.room files.old) }
-    ensures moves { (t : Tables) (p : Process) → IsSpace (body_of S.view space.old) t p → C.becomes files.old (all_moves p) files.new }
-    ensures written { (t : Tables) (p : Process) → IsSpace (body_of S.view space.old) t p → C.files files.new ≡ all_written_back (C.files files.old) p }
+    requires ready { (t : Tables) × (p : Process) × IsStanding (body_of S.view space.old) t p nothing × (length (all_moves p) ≤ C.room files.old) }
+    ensures moves { (t : Tables) (p : Process) → IsStanding (body_of S.view space.old) t p nothing → C.becomes files.old (all_moves p) files.new }
+    ensures written { (t : Tables) (p : Process) → IsStanding (body_of S.view space.old) t p nothing → C.files files.new ≡ all_written_back (C.files files.old) p }
     ensures root { space.new.root ≡ space.old.root }
     ensures trapframe { space.new.trapframe ≡ space.old.trapframe }
     ensures layout { space.new.layout ≡ space.old.layout }

@@ -1,23 +1,15 @@
--- How much of the model the program plays: images of segments, the policy full, and the steps of harts, of their buffers, of
--- accesses, of their service, of forks, of heaps, of mappings and of the end of a process.
+-- How much of the model the program plays: the policy full, and the steps of harts, of their buffers, of accesses, of their service, of
+-- images, of forks, of heaps, of mappings and of the end of a process.
 use Rattle.std.specs.Prelude.{◌≡◌, All}
 use Rattle.process_model.specs.Script.{Script}
 use Rattle.process_model.specs.declared.config.Policy.TheVariants.{Full}
-use Rattle.process_model.specs.declared.image.Image.{Image}
-use Rattle.process_model.specs.declared.image.Image.TheVariants as image
-use Rattle.process_model.specs.declared.image.OwnedImage.{OwnedImage}
-use Rattle.process_model.specs.declared.image.OwnedImage.TheVariants as owned
 use Rattle.process_model.specs.declared.script.Command.{Command}
 use Rattle.process_model.specs.declared.script.Command.TheVariants as command
 use Rattle.process_model.specs.declared.step.Step.{Step}
 use Rattle.process_model.specs.declared.step.Step.TheVariants as step
 
-abbrev pub AreSegments : Image → Type 0
-AreSegments (image.Segments s) = Unit {0}
-AreSegments (image.Elf bytes) = ⊥
-
 abbrev pub IsPlayed : Step → Type 0
-IsPlayed (step.Start i) = AreSegments i
+IsPlayed (step.Start i) = Unit {0}
 IsPlayed (step.Switch h s) = Unit {0}
 IsPlayed (step.Trap h) = Unit {0}
 IsPlayed (step.Next h) = Unit {0}
@@ -29,6 +21,7 @@ IsPlayed (step.Store h a n v via) = Unit {0}
 IsPlayed (step.TrampolineFetch h o via) = Unit {0}
 IsPlayed (step.Serve h) = Unit {0}
 IsPlayed (step.Fork h) = Unit {0}
+IsPlayed (step.Exec h i) = Unit {0}
 IsPlayed (step.Sbrk h delta) = Unit {0}
 IsPlayed (step.Mmap h len protection flags n) = Unit {0}
 IsPlayed (step.Munmap h a len) = Unit {0}
@@ -37,13 +30,10 @@ IsPlayed _ = ⊥
 
 -- of scripts
 
-abbrev pub HasSegments : OwnedImage → Type 0
-HasSegments (owned.Segments s) = Unit {0}
-HasSegments (owned.Elf bytes) = ⊥
-
 abbrev pub IsLinePlayed : Command → Type 0
 IsLinePlayed (command.One s) = IsPlayed s
 IsLinePlayed (command.Start n) = Unit {0}
+IsLinePlayed (command.Exec h n) = Unit {0}
 IsLinePlayed (command.On h s) = Unit {0}
 IsLinePlayed (command.Enter h) = Unit {0}
 IsLinePlayed (command.Leave h) = Unit {0}
@@ -54,5 +44,4 @@ IsLinePlayed _ = ⊥
 
 pub record IsScriptPlayed (s : Script) : Type 0 where
   pub policy : s.config.policy ≡ Full
-  pub images : All HasSegments s.images
   pub commands : All IsLinePlayed s.commands

@@ -1,11 +1,11 @@
--- What is read by the words that are played: the policy full, images of segments, and lines that are played.
+-- What is read by the words that are played: the policy full, and lines that are played.
 use Rattle.std.proofs.Common.{◌≡◌, ℕ, ◌+◌, true, false, List, [], ◌∷◌, length, Option, Some, None, Result, Ok, Err, refl, sym, subst}
 use Rattle.std.specs.Prelude.{IfOk, All, nat_le, if◌then◌else◌}
 use Rattle.std.specs.List.{list_all}
 use Rattle.std.proofs.lemmas.List.Elements.{All-nil}
 use Rattle.process_model.specs.Fields.{row_among, values_of}
 use Rattle.process_model.specs.Lines.{raw_lines, without_return, fields_of}
-use Rattle.process_model.specs.Played.{HasSegments, IsLinePlayed, IsScriptPlayed}
+use Rattle.process_model.specs.Played.{IsLinePlayed, IsScriptPlayed}
 use Rattle.process_model.specs.Script.{Draft, Script, Read, with_item, row_named, test, in_order, item_of, has_room, item_line, is_comment, is_ascii, some_item, fields_line, line_of, with_line, next_line, read_lines, whole_with, whole, longest_script, script_by, no_lines}
 use Rattle.process_model.specs.declared.config.Config.{Config}
 use Rattle.process_model.specs.declared.config.Policy.TheVariants as policy
@@ -27,7 +27,6 @@ IsFullIf (Some c) = c.policy ≡ policy.Full
 
 record IsDraftPlayed (d : Draft) : Type 0 where
   pub policy : IsFullIf d.config
-  pub images : All HasSegments d.images
   pub commands : All IsLinePlayed d.commands
 
 abbrev IsPlayedIf : Option Item → Type 0
@@ -39,10 +38,10 @@ IsReadPlayed (Ok x) = IsDraftPlayed x.0
 IsReadPlayed (Err f) = Unit {0}
 
 item_added : (d : Draft) (i : Item) → IsDraftPlayed d → IsItemPlayed i → IsDraftPlayed (with_item d i)
-item_added d (item.File f) s fits = record { policy = s.policy; images = s.images; commands = s.commands }
-item_added d (item.Image i) s fits = record { policy = s.policy; images = all_and_one HasSegments d.images i s.images fits; commands = s.commands }
-item_added d (item.Boot c) s fits = record { policy = fits; images = s.images; commands = s.commands }
-item_added d (item.Command c) s fits = record { policy = s.policy; images = s.images; commands = all_and_one IsLinePlayed d.commands c s.commands fits }
+item_added d (item.File f) s fits = record { policy = s.policy; commands = s.commands }
+item_added d (item.Image i) s fits = record { policy = s.policy; commands = s.commands }
+item_added d (item.Boot c) s fits = record { policy = fits; commands = s.commands }
+item_added d (item.Command c) s fits = record { policy = s.policy; commands = all_and_one IsLinePlayed d.commands c s.commands fits }
 
 item_line_played : (d : Draft) (text : List ℕ) (fields : List (List ℕ)) → IfOk (item_line played d text fields) IsItemPlayed
 unfolding item_line
@@ -78,14 +77,14 @@ lines_played (Err f) (line ∷ lines) s = lines_played (Err f) lines tt
 
 whole_with_played : (d : Draft) (n : ℕ) (c : Option Config) → c ≡ d.config → IsDraftPlayed d → IfOk (whole_with d n c) IsScriptPlayed
 whole_with_played d n None e s = tt
-whole_with_played d n (Some c) e s = record { policy = subst IsFullIf (sym e) s.policy; images = s.images; commands = s.commands }
+whole_with_played d n (Some c) e s = record { policy = subst IsFullIf (sym e) s.policy; commands = s.commands }
 
 whole_played : (read : Read) → IsReadPlayed read → IfOk (whole read) IsScriptPlayed
 whole_played (Ok x) s = whole_with_played x.0 x.1 (x.0).config refl s
 whole_played (Err f) s = tt
 
 nothing_said : IsDraftPlayed no_lines
-nothing_said = record { policy = tt; images = All-nil HasSegments; commands = All-nil IsLinePlayed }
+nothing_said = record { policy = tt; commands = All-nil IsLinePlayed }
 
 script_played : (bytes : List ℕ) → IfOk (script_by played bytes) IsScriptPlayed
 script_played bytes =

@@ -4,7 +4,7 @@ use Rattle.std.specs.Prelude.{IfOk, slice_get, if◌then◌else◌}
 use Rattle.std.specs.List.{list_all}
 use Rattle.std.specs.Str.{bytes_eq}
 use Rattle.process_model.specs.Fields.{Row, row_among}
-use Rattle.process_model.specs.Played.{HasSegments, IsLinePlayed}
+use Rattle.process_model.specs.Played.{IsLinePlayed}
 use Rattle.process_model.specs.Script.{Draft, row_named, as_policy, item_of, in_limits}
 use Rattle.process_model.specs.declared.config.Policy.TheVariants as policy
 use Rattle.process_model.specs.declared.script.FieldValue.{FieldValue}
@@ -18,7 +18,7 @@ use Rattle.script_reader.specs.Played.{played_table, is_played}
 abbrev pub IsWordPlayed : Keyword → Type 0
 IsWordPlayed word.File = Unit {0}
 IsWordPlayed word.Image = Unit {0}
-IsWordPlayed word.Elf = ⊥
+IsWordPlayed word.Elf = Unit {0}
 IsWordPlayed word.Boot = Unit {0}
 IsWordPlayed word.Start = Unit {0}
 IsWordPlayed word.Switch = Unit {0}
@@ -32,7 +32,7 @@ IsWordPlayed word.Store = Unit {0}
 IsWordPlayed word.Tramp = Unit {0}
 IsWordPlayed word.Serve = Unit {0}
 IsWordPlayed word.Fork = Unit {0}
-IsWordPlayed word.Exec = ⊥
+IsWordPlayed word.Exec = Unit {0}
 IsWordPlayed word.Sbrk = Unit {0}
 IsWordPlayed word.Mmap = Unit {0}
 IsWordPlayed word.Munmap = Unit {0}
@@ -62,10 +62,10 @@ row_played (r ∷ rows) text h = named_if r rows text (bytes_eq r.text text) h.0
 pub table_played : AllPlayed played_table
 table_played = search rules
 
--- what is said: files, images of segments, the policy full, and lines that are played
+-- what is said: files, images, the policy full, and lines that are played
 abbrev pub IsItemPlayed : Item → Type 0
 IsItemPlayed (item.File f) = Unit {0}
-IsItemPlayed (item.Image i) = HasSegments i
+IsItemPlayed (item.Image i) = Unit {0}
 IsItemPlayed (item.Boot c) = c.policy ≡ policy.Full
 IsItemPlayed (item.Command c) = IsLinePlayed c
 
@@ -93,7 +93,7 @@ policy_at (v ∷ vs) (suc k) e = policy_at vs k (grind arith)
 pub item_played : (d : Draft) (w : Keyword) (vs : List FieldValue) → IsWordPlayed w → list_all is_played vs ≡ true → IfOk (item_of d w vs) IsItemPlayed
 item_played d word.File vs h taken = limited _ _ tt
 item_played d word.Image vs h taken = tt
-item_played d word.Elf vs h taken = absurd h
+item_played d word.Elf vs h taken = tt
 item_played d word.Boot vs h taken = limited _ _ (policy_at vs 3 taken)
 item_played d word.Start vs h taken = limited _ _ tt
 item_played d word.Switch vs h taken = tt
@@ -107,7 +107,7 @@ item_played d word.Store vs h taken = limited _ _ tt
 item_played d word.Tramp vs h taken = tt
 item_played d word.Serve vs h taken = tt
 item_played d word.Fork vs h taken = tt
-item_played d word.Exec vs h taken = absurd h
+item_played d word.Exec vs h taken = limited _ _ tt
 item_played d word.Sbrk vs h taken = tt
 item_played d word.Mmap vs h taken = tt
 item_played d word.Munmap vs h taken = tt

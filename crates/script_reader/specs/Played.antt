@@ -13,6 +13,7 @@ abbrev pub played_table : List Row
 played_table =
     row (codes "file") word.File (kind.Number ∷ kind.Mode ∷ kind.Hex ∷ []) tail.Nothing
     ∷ row (codes "image") word.Image (kind.Segment ∷ []) (tail.More kind.Segment)
+    ∷ row (codes "elf") word.Elf (kind.Hex ∷ []) tail.Nothing
     ∷ row (codes "boot") word.Boot (kind.Number ∷ kind.Number ∷ kind.Number ∷ kind.Policy ∷ []) tail.Nothing
     ∷ row (codes "start") word.Start one_number tail.Nothing
     ∷ row (codes "switch") word.Switch (kind.Number ∷ kind.Slot ∷ []) tail.Nothing
@@ -26,6 +27,7 @@ played_table =
     ∷ row (codes "tramp") word.Tramp two_numbers (tail.Perhaps kind.Entry)
     ∷ row (codes "serve") word.Serve one_number tail.Nothing
     ∷ row (codes "fork") word.Fork one_number tail.Nothing
+    ∷ row (codes "exec") word.Exec two_numbers tail.Nothing
     ∷ row (codes "sbrk") word.Sbrk (kind.Number ∷ kind.Signed ∷ []) tail.Nothing
     ∷ row (codes "mmap") word.Mmap (kind.Number ∷ four_numbers) tail.Nothing
     ∷ row (codes "munmap") word.Munmap three_numbers tail.Nothing

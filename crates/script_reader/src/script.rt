@@ -35,7 +35,7 @@ impl Model for Script {
 
 impl Script {
     /// Reads a script whole, or finds its first fault. What is read is what the whole format says, and it can be
-    /// played: only a step can still be refused. It has only images of segments, and only lines that are played.
+    /// played: only a step can still be refused. It has only lines that are played.
     pub fn read(alloc: Global, bytes: &[u8]) -> Result<Script, ScriptError>
         ensures read { Answers (λ s. s) result (words.script_by played bytes.now) }
         ensures same { IfOk result (λ s. words.script_of bytes.now ≡ Ok s) }

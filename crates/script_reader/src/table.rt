@@ -34,7 +34,7 @@ fn make_row(text: &'static [u8], word: Keyword, kinds: &'static [FieldKind], tai
 impl Row {
     ghost use Rattle.script_reader.specs.Rows.{seen, kind_at};
 
-    fn all() -> [Row; 25]
+    fn all() -> [Row; 27]
         ensures { map seen result ≡ played_table }
     {
         let none = Tail::Nothing;
@@ -48,6 +48,7 @@ impl Row {
         [
             make_row(b"file", Keyword::File, &[Number, Mode, Hex], none),
             make_row(b"image", Keyword::Image, &[Segment], Tail::More(Segment)),
+            make_row(b"elf", Keyword::Elf, &[Hex], none),
             make_row(b"boot", Keyword::Boot, sizes, none),
             make_row(b"start", Keyword::Start, one, none),
             make_row(b"switch", Keyword::Switch, &[Number, Slot], none),
@@ -61,6 +62,7 @@ impl Row {
             make_row(b"tramp", Keyword::Tramp, two, entry),
             make_row(b"serve", Keyword::Serve, one, none),
             make_row(b"fork", Keyword::Fork, one, none),
+            make_row(b"exec", Keyword::Exec, two, none),
             make_row(b"sbrk", Keyword::Sbrk, &[Number, Signed], none),
             make_row(b"mmap", Keyword::Mmap, five, none),
             make_row(b"munmap", Keyword::Munmap, three, none),

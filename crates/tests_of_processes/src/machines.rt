@@ -2,7 +2,7 @@
 
 ghost use Rattle.std.specs.Prelude.{◌≡◌, All, IfOk, IfSome};
 ghost use Rattle.hart_machine.specs.Worlds.{IsWorld};
-ghost use Rattle.process_model.specs.Played.{AreSegments, IsPlayed};
+ghost use Rattle.process_model.specs.Played.{IsPlayed};
 ghost use Rattle.process_model.specs.World.{World};
 ghost use Rattle.process_model.specs.declared.config.Policy.TheVariants.{Full};
 
@@ -116,7 +116,6 @@ fn switch<'a>(hart: usize, slot: usize) -> Step<'a>
 
 /// Two processes of one image, each on a hart of its own.
 fn steps(image: Image<'_>) -> [Step<'_>; 23]
-    requires { AreSegments image }
     ensures { All IsPlayed result }
 {
     [
@@ -324,8 +323,7 @@ fn accounts(machine: &Machine) -> Accounts {
 
 /// The accounts when a process has started, or was refused.
 fn after_start(machine: &mut Machine, image: Image<'_>) -> Accounts
-    requires world { (w : World) × IsWorld machine.old w }
-    requires segments { AreSegments image }
+    requires { (w : World) × IsWorld machine.old w }
     ensures { (w : World) × IsWorld machine.new w }
 {
     machine.step(Step::Start(image));

@@ -3,9 +3,10 @@ use Rattle.std.specs.Prelude.{slice_get}
 use Rattle.process_model.specs.Files.{bytes_of, File}
 use Rattle.process_model.specs.Text.{played, show_text}
 use Rattle.process_model.specs.declared.script.Command.{Command}
+use Rattle.process_model.specs.declared.step.Step.TheVariants.{Exec, Start}
 use Rattle.audit_player.specs.Told.{Tells}
 use Rattle.audit_player.specs.declared.answer.Answer.TheVariants as answer
-use Rattle.audit_player.proofs.Lending.{start_told}
+use Rattle.audit_player.proofs.Lending.{line_told}
 use Rattle.audit_player.proofs.commands.make.Goals as goal
 
 pub returns-in-Start : goal.returns-in-Start
@@ -14,7 +15,17 @@ returns-in-Start c = record {
       let images = c.args.images.now in
       let there : c.in-Start.image < length images = rw c.in-Start.is at (c.requires.declared).1 in
       subst (λ (d : Command). Tells c.start.new.machine (answer.Step c.start.result) (played images w d)) (sym c.in-Start.is)
-      (start_told _ _ images w c.in-Start.image _ there c.index-images-image.is (c.start.ensures.made w here));
+      (line_told _ _ images w Start c.in-Start.image _ there c.index-images-image.is (c.start.ensures.made w here));
+}
+
+pub returns-in-Exec : goal.returns-in-Exec
+returns-in-Exec c = record {
+  told = λ w here.
+      let images = c.args.images.now in
+      let x = c.in-Exec in
+      let there : x.image < length images = rw x.is at (c.requires.declared).1 in
+      subst (λ (d : Command). Tells c.exec.new.machine (answer.Step c.exec.result) (played images w d)) (sym x.is)
+      (line_told _ _ images w (Exec x.hart) x.image _ there c.index-images-image-in-Exec.is (c.exec.ensures.made w here));
 }
 
 pub returns-in-Show : goal.returns-in-Show

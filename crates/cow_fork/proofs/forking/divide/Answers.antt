@@ -1,6 +1,6 @@
 use Rattle.std.proofs.Common.{◌≡◌, ℕ, sym, subst, ◌∙◌, List, map}
 use Rattle.address_space.specs.Agreement.{body, body_of}
-use Rattle.address_space.specs.Forking.{IsForking, TurnsLeaves}
+use Rattle.address_space.specs.Standing.{IsStanding, TurnsLeaves}
 use Rattle.frame_store.specs.Laws.{fits_after}
 use Rattle.frame_store.specs.View.{View}
 use Rattle.process_model.specs.Process.{Process}
@@ -9,7 +9,7 @@ use Rattle.sv39_entry.specs.declared.frame.FrameNo.{FrameNo}
 use Rattle.table_walk.specs.Tables.{Tables}
 use Rattle.cow_fork.specs.Forks.{CanDivide, HasChild}
 use Rattle.cow_fork.specs.Lists.{times}
-use Rattle.cow_fork.proofs.Beside.{forking_beside}
+use Rattle.address_space.specs.Beside.{forking_beside}
 use Rattle.cow_fork.proofs.Dividing.{divide_left, divide_may, divide_right, divides}
 use Rattle.cow_fork.proofs.Walking.{body_on}
 use Rattle.cow_fork.proofs.forking.divide.Given as given
@@ -24,14 +24,14 @@ module _ (g : given.Over) (c : After-build_child g) (v : View) (t : Tables) (p :
   child : (u : Tables) × HasChild v (g.S.FrameSeat.view c.build_child.new.space.seat) t u p c.build_child.result.0.0 c.build_child.result.1.0 (map (λ f. f.0) c.build_child.new.frames.items)
   child = c.build_child.ensures.built v t p can
 
-  forking : IsForking (body (g.S.FrameSeat.view c.build_child.new.space.seat) c.args.space.now.root.0 c.args.space.now.trapframe.0 c.args.space.now.layout) t p (λ f. times f (map (λ f. f.0) c.build_child.new.frames.items))
+  forking : IsStanding (body (g.S.FrameSeat.view c.build_child.new.space.seat) c.args.space.now.root.0 c.args.space.now.trapframe.0 c.args.space.now.layout) t p (λ f. times f (map (λ f. f.0) c.build_child.new.frames.items))
   forking = forking_beside v _ (λ f. times f frames) child.1.counts child.1.same _ _ _ t p can.space
 
   now : body (g.S.FrameSeat.view c.build_child.new.space.seat) c.args.space.now.root.0 c.args.space.now.trapframe.0 c.args.space.now.layout ≡ body_of g.S.FrameSeat.view c.build_child.new.space
   now = body_on g.S.FrameSeat.view c.build_child.new.space c.args.space.now c.build_child.ensures.root c.build_child.ensures.trapframe c.build_child.ensures.layout
 
-  forking_now : IsForking (body_of g.S.FrameSeat.view c.build_child.new.space) t p (λ f. times f (map (λ f. f.0) c.build_child.new.frames.items))
-  forking_now = subst (λ b. IsForking b t p (λ f. times f frames)) now forking
+  forking_now : IsStanding (body_of g.S.FrameSeat.view c.build_child.new.space) t p (λ f. times f (map (λ f. f.0) c.build_child.new.frames.items))
+  forking_now = subst (λ b. IsStanding b t p (λ f. times f frames)) now forking
 
 module _ (g : given.Over) (c : After-mark_pages g) where
   marked_root : c.mark_pages.new.space.root ≡ c.args.space.now.root
@@ -50,9 +50,9 @@ module _ (g : given.Over) (c : After-mark_pages g) where
   second = body_on g.S.FrameSeat.view c.mark_pages.new.space c.args.space.now marked_root marked_trapframe marked_layout
 
   module _ (t r : Tables) (p : Process) (extra : ℕ → ℕ) where
-    forking_marked : IsForking (body_of g.S.FrameSeat.view c.mark_pages.new.space) r (marked p) extra
-        → IsForking (body (g.S.FrameSeat.view c.mark_pages.new.space.seat) c.args.space.now.root.0 c.args.space.now.trapframe.0 c.args.space.now.layout) r (marked p) extra
-    forking_marked f = subst (λ b. IsForking b r (marked p) extra) (sym second) f
+    forking_marked : IsStanding (body_of g.S.FrameSeat.view c.mark_pages.new.space) r (marked p) extra
+        → IsStanding (body (g.S.FrameSeat.view c.mark_pages.new.space.seat) c.args.space.now.root.0 c.args.space.now.trapframe.0 c.args.space.now.layout) r (marked p) extra
+    forking_marked f = subst (λ b. IsStanding b r (marked p) extra) (sym second) f
 
     turned_marked : TurnsLeaves (body_of g.S.FrameSeat.view c.build_child.new.space) (body_of g.S.FrameSeat.view c.mark_pages.new.space) t r
         → TurnsLeaves (body (g.S.FrameSeat.view c.build_child.new.space.seat) c.args.space.now.root.0 c.args.space.now.trapframe.0 c.args.space.now.layout)

@@ -1,5 +1,6 @@
 use Rattle.std.proofs.Common.{◌+◌, ◌-◌, ◌/◌, ◌<◌, ap, ◌∙◌, arith}
 use Rattle.frame_store.specs.Laws.{fits_after}
+use Rattle.address_space.specs.Standing.{standing}
 use Rattle.sv39_entry.specs.Address.{trapframe_page}
 use Rattle.cow_fork.proofs.Counting.{counts_more, goes_up, still_near, top_counted, top_new}
 use Rattle.cow_fork.proofs.Walking.{same_body}
@@ -13,14 +14,14 @@ next_settled-requires-clause-ready g c =
     let r = c.requires.ready in
     let i = c.tables.invariant in
     let body = same_body g.S.FrameSeat.view c.tables.space c.args.space.now i.view i.root i.trapframe i.layout in
-    (r.0, r.1, rw body r.2)
+    (r.0, r.1, standing (rw body r.2))
 
 pub tables-smaller : goal.tables-smaller
 tables-smaller g c =
     let r = c.requires.ready in
     let i = c.tables.invariant in
     let body = same_body g.S.FrameSeat.view c.tables.space c.args.space.now i.view i.root i.trapframe i.layout in
-    let next = rw (c.in-Some.is, c.page.ensures.number) at c.next_settled.ensures.page r.0 r.1 (rw body r.2) in
+    let next = rw (c.in-Some.is, c.page.ensures.number) at c.next_settled.ensures.page r.0 r.1 (standing (rw body r.2)) in
     let counted = i.counted r.0 r.1 r.2 in
     let higher = goes_up c.args.pages c.requires.some r.0 r.1 c.tables.count c.tables.table counted c.in-Some.found next in
     let near = still_near c.args.pages c.requires.some r.0 r.1 c.tables.count c.tables.table counted c.in-Some.found next in
@@ -33,7 +34,7 @@ tables-preserved g c =
     let r = c.requires.ready in
     let i = c.tables.invariant in
     let body = same_body g.S.FrameSeat.view c.tables.space c.args.space.now i.view i.root i.trapframe i.layout in
-    let near_next = rw (c.in-Some.is, c.page.ensures.number) at c.next_settled.ensures.page r.0 r.1 (rw body r.2) in
+    let near_next = rw (c.in-Some.is, c.page.ensures.number) at c.next_settled.ensures.page r.0 r.1 (standing (rw body r.2)) in
     let near_counted = i.counted r.0 r.1 r.2 in
     let higher = goes_up c.args.pages c.requires.some r.0 r.1 c.tables.count c.tables.table near_counted c.in-Some.found near_next in
     let near = still_near c.args.pages c.requires.some r.0 r.1 c.tables.count c.tables.table near_counted c.in-Some.found near_next in
@@ -49,7 +50,7 @@ tables-preserved g c =
       same = c.next_settled.ensures.same ∙ i.same;
       keeps = λ others s. c.next_settled.ensures.keeps others (i.keeps others s);
       counted = λ t p space.
-          let next = rw (c.in-Some.is, c.page.ensures.number) at c.next_settled.ensures.page t p (rw body space) in
+          let next = rw (c.in-Some.is, c.page.ensures.number) at c.next_settled.ensures.page t p (standing (rw body space)) in
           rw c.number.ensures.value (counts_more c.args.pages c.requires.some t p c.tables.count c.tables.table (i.counted t p space) c.in-Some.found next);
     }
 
@@ -57,7 +58,7 @@ pub returns-then-table-number-clause-count : goal.returns-then-table-number-clau
 returns-then-table-number-clause-count g c t p space =
     let i = c.tables.invariant in
     let body = same_body g.S.FrameSeat.view c.tables.space c.args.space.now i.view i.root i.trapframe i.layout in
-    let none = rw (c.in_default.is, c.page.ensures.number) at c.next_settled.ensures.page t p (rw body space) in
+    let none = rw (c.in_default.is, c.page.ensures.number) at c.next_settled.ensures.page t p (standing (rw body space)) in
     let less = rw (c.number-2.ensures.value, c.page-2.ensures.number) at c.if-table-number.true in
     top_counted c.args.pages c.requires.some t p c.tables.count c.tables.table (i.counted t p space) none space.stands.shows.low i.near c.requires.top less
 
@@ -68,7 +69,7 @@ pub returns-else-table-number-clause-count : goal.returns-else-table-number-clau
 returns-else-table-number-clause-count g c t p space =
     let i = c.tables.invariant in
     let body = same_body g.S.FrameSeat.view c.tables.space c.args.space.now i.view i.root i.trapframe i.layout in
-    let none = rw (c.in_default.is, c.page.ensures.number) at c.next_settled.ensures.page t p (rw body space) in
+    let none = rw (c.in_default.is, c.page.ensures.number) at c.next_settled.ensures.page t p (standing (rw body space)) in
     let le = rw (c.number-2.ensures.value, c.page-2.ensures.number) at c.if-table-number.false in
     top_new c.args.pages c.requires.some t p c.tables.count c.tables.table (i.counted t p space) none space.stands.shows.low i.near c.requires.top le
 

@@ -1,6 +1,6 @@
 use Rattle.std.proofs.Common.{◌≡◌, ℕ, drop}
 use Rattle.address_space.specs.Agreement.{body_of}
-use Rattle.address_space.specs.Forking.{IsForking}
+use Rattle.address_space.specs.Standing.{IsStanding}
 use Rattle.address_space.specs.Settled.{AreSettled}
 use Rattle.frame_store.specs.Laws.{Keeps}
 use Rattle.process_model.specs.Process.{Process}
@@ -12,7 +12,7 @@ use Rattle.cow_fork.proofs.tree.mark_pages.Given as goal
 -- the pages before this one were marked
 abbrev pub invariant-pages : goal.invariant-pages
 invariant-pages g l = record {
-  marking : (t u : Tables) (p : Process) (extra : ℕ → ℕ) → IsForking (body_of g.S.FrameSeat.view l.fn.space) t p extra → AreSettled u p 0 trapframe_page l.settled
+  marking : (t u : Tables) (p : Process) (extra : ℕ → ℕ) → IsStanding (body_of g.S.FrameSeat.view l.fn.space) t p extra → AreSettled u p 0 trapframe_page l.settled
       → IsMarking (body_of g.S.FrameSeat.view l.fn.space) (body_of g.S.FrameSeat.view l.space) t u p extra (drop l.page-index l.settled);
   root : l.space.root ≡ l.fn.space.root;
   trapframe : l.space.trapframe ≡ l.fn.space.trapframe;

@@ -7,11 +7,15 @@ use Rattle.fault_rules.specs.Resides.{CanReside, HasReside, IsShort, Resides, Ru
 use Rattle.fault_rules.proofs.Results.{carried, none_gone, too_few}
 use Rattle.fault_rules.proofs.StillResident.{page_low, same_body, still_moves, still_need, still_resides}
 use Rattle.frame_store.specs.Laws.{fits_after}
+use Rattle.address_space.specs.Standing.{standing}
 use Rattle.process_model.specs.PageMap.{get}
 use Rattle.sv39_entry.specs.contracts.access.Access.{the_type}
 use Rattle.sv39_entry.specs.declared.access.Access.{Access}
 use Rattle.sv39_entry.specs.declared.access.Access.TheVariants.{Store}
 use Rattle.fault_rules.proofs.residence.make_resident.Goals as goal
+
+pub settled_page-requires-clause-ready : goal.settled_page-requires-clause-ready
+settled_page-requires-clause-ready g c = let r = c.requires.ready in (r.0, r.1, standing r.2.agrees)
 
 pub settled_page-requires-clause-low : goal.settled_page-requires-clause-low
 settled_page-requires-clause-low g c =
@@ -34,7 +38,7 @@ pub settle_initial-requires-clause-unsettled : goal.settle_initial-requires-clau
 settle_initial-requires-clause-unsettled g c t p space =
     let read = c.settled_page.ensures in
     let body = same_body g.S.FrameSeat.view c.settled_page.new.self c.args.space.now read.view read.root read.trapframe read.layout in
-    c.in_default.ensures.page t p (subst (λ b. IsSpace b t p) body space)
+    c.in_default.ensures.page t p (standing (subst (λ b. IsSpace b t p) body space))
 
 pub returns-in_default-clause-resident : goal.returns-in_default-clause-resident
 returns-in_default-clause-resident g c =
@@ -101,7 +105,7 @@ take_over-requires-clause-ready g c =
     let body = same_body g.S.FrameSeat.view c.settled_page.new.self c.args.space.now read.view read.root read.trapframe read.layout in
     let is : c.args.access ≡ Store = same_true the_type (search rules) _ _ (sym c.eq.ensures ∙ c.if-eq.true) in
     let r = c.requires.ready in
-    let page = (c.in-Some.ensures.page r.0 r.1 r.2.agrees).0 in
+    let page = (c.in-Some.ensures.page r.0 r.1 (standing r.2.agrees)).0 in
     let now = body_of g.S.FrameSeat.view c.settled_page.new.self in
     (r.0, r.1, subst (λ n. CanReside now r.0 r.1 Store n) (sym page) (subst (λ a. CanReside now r.0 r.1 a c.args.page) is (subst (λ b. CanReside b r.0 r.1 c.args.access c.args.page) (sym body) r.2)))
 
@@ -109,7 +113,7 @@ pub take_over-requires-clause-settled : goal.take_over-requires-clause-settled
 take_over-requires-clause-settled g c t p space =
     let read = c.settled_page.ensures in
     let body = same_body g.S.FrameSeat.view c.settled_page.new.self c.args.space.now read.view read.root read.trapframe read.layout in
-    (c.in-Some.ensures.page t p (subst (λ b. IsSpace b t p) body space)).1
+    (c.in-Some.ensures.page t p (standing (subst (λ b. IsSpace b t p) body space))).1
 
 pub returns-in_err-take_over-clause-dry : goal.returns-in_err-take_over-clause-dry
 returns-in_err-take_over-clause-dry g c short =
@@ -117,7 +121,7 @@ returns-in_err-take_over-clause-dry g c short =
     let body = same_body g.S.FrameSeat.view c.settled_page.new.self c.args.space.now read.view read.root read.trapframe read.layout in
     let is : c.args.access ≡ Store = same_true the_type (search rules) _ _ (sym c.eq.ensures ∙ c.if-eq.true) in
     let r = c.requires.ready in
-    let page = (c.in-Some.ensures.page r.0 r.1 r.2.agrees).0 in
+    let page = (c.in-Some.ensures.page r.0 r.1 (standing r.2.agrees)).0 in
     carried (λ b s a n. RunsShort b (body_of g.S.FrameSeat.view c.take_over.new.space) a n) body read.same (sym is) page
     (c.in_err-take_over.ensures.dry)
 
@@ -129,7 +133,7 @@ returns-in_err-take_over-clause-whole g c short t p space =
 
 pub returns-in_err-take_over-clause-moves : goal.returns-in_err-take_over-clause-moves
 returns-in_err-take_over-clause-moves g c given t p can =
-    let found = c.in-Some.ensures.page t p can.agrees in
+    let found = c.in-Some.ensures.page t p (standing can.agrees) in
     let none = still_moves can found.1.page (ap (get p.settled) (sym found.0) ∙ found.1.settled) (g.C.Files.files c.args.files.now) in
     subst (λ ms. g.C.Files.becomes c.args.files.now ms c.args.files.now) (sym none) (g.met.C.Files.stays c.args.files.now)
 
@@ -139,7 +143,7 @@ returns-in_err-take_over-clause-short g c alone t p shared can told short =
     let body = same_body g.S.FrameSeat.view c.settled_page.new.self c.args.space.now read.view read.root read.trapframe read.layout in
     let is : c.args.access ≡ Store = same_true the_type (search rules) _ _ (sym c.eq.ensures ∙ c.if-eq.true) in
     let r = c.requires.ready in
-    let page = (c.in-Some.ensures.page r.0 r.1 r.2.agrees).0 in
+    let page = (c.in-Some.ensures.page r.0 r.1 (standing r.2.agrees)).0 in
     carried (λ b s a n. WhenReside b a n (g.F.FrameAccess.count s) (λ need. g.F.FrameAccess.free s < need)) body read.same (sym is) page
     (λ u q sh ready by. too_few _ _ (c.in_err-take_over.ensures.exact alone u q sh ready by).1) t p shared can told
 
@@ -149,7 +153,7 @@ returns-in_err-take_over-clause-free g c alone =
     let body = same_body g.S.FrameSeat.view c.settled_page.new.self c.args.space.now read.view read.root read.trapframe read.layout in
     let is : c.args.access ≡ Store = same_true the_type (search rules) _ _ (sym c.eq.ensures ∙ c.if-eq.true) in
     let r = c.requires.ready in
-    let page = (c.in-Some.ensures.page r.0 r.1 r.2.agrees).0 in
+    let page = (c.in-Some.ensures.page r.0 r.1 (standing r.2.agrees)).0 in
     carried (λ b s a n. WhenReside b a n (g.F.FrameAccess.count s) (λ need. g.F.FrameAccess.free c.take_over.new.store ≡ g.F.FrameAccess.free s - taken_of c.from_residual.result need)) body read.same (sym is) page
     (λ u q sh ready by. none_gone c.from_residual.result _ _ _ c.from_residual.ensures.0 (c.in_err-take_over.ensures.free alone u q sh ready by))
 
@@ -163,13 +167,13 @@ returns-in_ok-take_over-clause-resident g c =
     let body = same_body g.S.FrameSeat.view c.settled_page.new.self c.args.space.now read.view read.root read.trapframe read.layout in
     let is : c.args.access ≡ Store = same_true the_type (search rules) _ _ (sym c.eq.ensures ∙ c.if-eq.true) in
     let r = c.requires.ready in
-    let page = (c.in-Some.ensures.page r.0 r.1 r.2.agrees).0 in
+    let page = (c.in-Some.ensures.page r.0 r.1 (standing r.2.agrees)).0 in
     carried (λ b s a n. HasReside b (body_of g.S.FrameSeat.view c.take_over.new.space) (g.C.Files.files c.args.files.now) a n (λ f k. g.F.FrameAccess.alone → k ≡ g.F.FrameAccess.count s f)) body read.same (sym is) page
     (c.in_ok-take_over.ensures.resident (g.C.Files.files c.args.files.now))
 
 pub returns-in_ok-take_over-clause-moves : goal.returns-in_ok-take_over-clause-moves
 returns-in_ok-take_over-clause-moves g c given t p can =
-    let found = c.in-Some.ensures.page t p can.agrees in
+    let found = c.in-Some.ensures.page t p (standing can.agrees) in
     let none = still_moves can found.1.page (ap (get p.settled) (sym found.0) ∙ found.1.settled) (g.C.Files.files c.args.files.now) in
     subst (λ ms. g.C.Files.becomes c.args.files.now ms c.args.files.now) (sym none) (g.met.C.Files.stays c.args.files.now)
 
@@ -179,7 +183,7 @@ returns-in_ok-take_over-clause-enough g c alone t p shared can told ok =
     let body = same_body g.S.FrameSeat.view c.settled_page.new.self c.args.space.now read.view read.root read.trapframe read.layout in
     let is : c.args.access ≡ Store = same_true the_type (search rules) _ _ (sym c.eq.ensures ∙ c.if-eq.true) in
     let r = c.requires.ready in
-    let page = (c.in-Some.ensures.page r.0 r.1 r.2.agrees).0 in
+    let page = (c.in-Some.ensures.page r.0 r.1 (standing r.2.agrees)).0 in
     carried (λ b s a n. WhenReside b a n (g.F.FrameAccess.count s) (λ need. need ≤ g.F.FrameAccess.free s)) body read.same (sym is) page
     (λ u q sh ready by. (c.in_ok-take_over.ensures.exact alone u q sh ready by).0 refl) t p shared can told
 
@@ -189,7 +193,7 @@ returns-in_ok-take_over-clause-free g c alone =
     let body = same_body g.S.FrameSeat.view c.settled_page.new.self c.args.space.now read.view read.root read.trapframe read.layout in
     let is : c.args.access ≡ Store = same_true the_type (search rules) _ _ (sym c.eq.ensures ∙ c.if-eq.true) in
     let r = c.requires.ready in
-    let page = (c.in-Some.ensures.page r.0 r.1 r.2.agrees).0 in
+    let page = (c.in-Some.ensures.page r.0 r.1 (standing r.2.agrees)).0 in
     carried (λ b s a n. WhenReside b a n (g.F.FrameAccess.count s) (λ need. g.F.FrameAccess.free c.take_over.new.store ≡ g.F.FrameAccess.free s - need)) body read.same (sym is) page
     (c.in_ok-take_over.ensures.free alone)
 
@@ -203,7 +207,7 @@ pub returns-else-eq-clause-resident : goal.returns-else-eq-clause-resident
 returns-else-eq-clause-resident g c t p can =
     let read = c.settled_page.ensures in
     let body = same_body g.S.FrameSeat.view c.settled_page.new.self c.args.space.now read.view read.root read.trapframe read.layout in
-    let found = c.in-Some.ensures.page t p can.agrees in
+    let found = c.in-Some.ensures.page t p (standing can.agrees) in
     let settled = ap (get p.settled) (sym found.0) ∙ found.1.settled in
     let other = λ (is : c.args.access ≡ Store). false≢true (sym c.if-eq.false ∙ c.eq.ensures ∙ (rw is refl)) in
     let now = body_of g.S.FrameSeat.view c.args.space.now in
@@ -211,13 +215,13 @@ returns-else-eq-clause-resident g c t p can =
 
 pub returns-else-eq-clause-moves : goal.returns-else-eq-clause-moves
 returns-else-eq-clause-moves g c given t p can =
-    let found = c.in-Some.ensures.page t p can.agrees in
+    let found = c.in-Some.ensures.page t p (standing can.agrees) in
     let none = still_moves can found.1.page (ap (get p.settled) (sym found.0) ∙ found.1.settled) (g.C.Files.files c.args.files.now) in
     subst (λ ms. g.C.Files.becomes c.args.files.now ms c.args.files.now) (sym none) (g.met.C.Files.stays c.args.files.now)
 
 pub returns-else-eq-clause-enough : goal.returns-else-eq-clause-enough
 returns-else-eq-clause-enough g c alone t p shared can told ok =
-    let found = c.in-Some.ensures.page t p can.agrees in
+    let found = c.in-Some.ensures.page t p (standing can.agrees) in
     let settled = ap (get p.settled) (sym found.0) ∙ found.1.settled in
     let other = λ (is : c.args.access ≡ Store). false≢true (sym c.if-eq.false ∙ c.eq.ensures ∙ (rw is refl)) in
     let none = still_need can found.1.page settled other shared in
@@ -225,7 +229,7 @@ returns-else-eq-clause-enough g c alone t p shared can told ok =
 
 pub returns-else-eq-clause-free : goal.returns-else-eq-clause-free
 returns-else-eq-clause-free g c alone t p shared can told =
-    let found = c.in-Some.ensures.page t p can.agrees in
+    let found = c.in-Some.ensures.page t p (standing can.agrees) in
     let settled = ap (get p.settled) (sym found.0) ∙ found.1.settled in
     let other = λ (is : c.args.access ≡ Store). false≢true (sym c.if-eq.false ∙ c.eq.ensures ∙ (rw is refl)) in
     let none = still_need can found.1.page settled other shared in

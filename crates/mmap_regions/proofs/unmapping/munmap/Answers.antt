@@ -4,6 +4,7 @@ use Rattle.std.specs.Prelude.{option_map}
 use Rattle.address_space.specs.Agreement.{body_of, IsSpace}
 use Rattle.address_space.specs.Layouts.{region_of}
 use Rattle.frame_store.specs.Laws.{fits_after}
+use Rattle.address_space.specs.Standing.{standing}
 use Rattle.mmap_regions.proofs.Leaving.{asked, drops_asked, refused, relaid_as, run_of_mapping}
 use Rattle.mmap_regions.proofs.Walking.{same_body}
 use Rattle.mmap_regions.specs.Runs.{run_of}
@@ -56,7 +57,7 @@ write_run-requires-clause-ready g c =
     let body = same_body g.S.FrameSeat.view c.count_run-pages.new.space c.args.space.now n.view n.root n.trapframe n.layout in
     let promised = c.in_ok-promise.ensures.promised in
     let count = n.count r.0 r.1 r.2 run in
-    (r.0, r.1, rw body r.2, run, omega (arith, promised, count))
+    (r.0, r.1, standing (rw body r.2), run, omega (arith, promised, count))
 
 pub drop_pages-requires-clause-fits : goal.drop_pages-requires-clause-fits
 drop_pages-requires-clause-fits g c = fits_after g.F.FrameAccess.rule c.write_run.ensures.keeps (fits_after g.F.FrameAccess.rule c.count_run-pages.ensures.keeps c.requires.fits)
@@ -102,7 +103,7 @@ returns-clause-unmapped g c t p space =
     let here : IsSpace (body_of g.S.FrameSeat.view c.write_run.new.space) t p = rw (again, body) space in
     let dropped = c.drop_pages.ensures.dropped t p here in
     let laws = g.met.C.Files in
-    let moved = laws.goes_on _ _ _ _ _ c.in_ok-promise.ensures.same (w.moves t p counted run) in
+    let moved = laws.goes_on _ _ _ _ _ c.in_ok-promise.ensures.same (w.moves t p (standing counted) run) in
     record {
       what = unmapped_from (g.C.Files.files c.args.files.now) p (region_of c.in_ok-run.run'.mapping) c.in_ok-run.run'.first c.in_ok-run.run'.end;
       is = is.is (g.C.Files.files c.args.files.now);
@@ -121,7 +122,7 @@ returns-clause-moves g c t p space =
     let run = run_of_mapping p c.args.address c.args.length (run_of c.in_ok-run.run') is space.sound.order in
     let body = same_body g.S.FrameSeat.view c.count_run-pages.new.space c.args.space.now n.view n.root n.trapframe n.layout in
     let counted : IsSpace (body_of g.S.FrameSeat.view c.count_run-pages.new.space) t p = rw body space in
-    let moved = g.met.C.Files.goes_on _ _ _ _ _ c.in_ok-promise.ensures.same (w.moves t p counted run) in
+    let moved = g.met.C.Files.goes_on _ _ _ _ _ c.in_ok-promise.ensures.same (w.moves t p (standing counted) run) in
     subst (λ ms. g.C.Files.becomes c.args.files.now ms c.write_run.new.files) (sym (ap (moves_asked p) ok)) moved
 
 pub returns-clause-keeps : goal.returns-clause-keeps

@@ -1,6 +1,7 @@
 use Rattle.std.proofs.Common.{◌+◌, ◌-◌, ◌<◌, ap, sym, refl, ◌∙◌, length, arith}
 use Rattle.address_space.specs.Layouts.{region_of}
 use Rattle.frame_store.specs.Laws.{fits_after}
+use Rattle.address_space.specs.Standing.{standing}
 use Rattle.mmap_regions.specs.Runs.{run_of}
 use Rattle.mmap_regions.proofs.Moves.{none_written, run_begins}
 use Rattle.mmap_regions.proofs.Walking.{goes_on_clean, none_of, one_more, over, same_body, some_of}
@@ -36,14 +37,14 @@ next_settled-requires-clause-ready g c =
     let r = c.requires.ready in
     let i = c.pages.invariant in
     let body = same_body g.S.FrameSeat.view c.pages.space c.args.space.now i.view i.root i.trapframe i.layout in
-    (r.0, r.1, rw body r.2)
+    (r.0, r.1, standing (rw body r.2))
 
 pub pages-smaller : goal.pages-smaller
 pages-smaller g c =
     let r = c.requires.ready in
     let i = c.pages.invariant in
     let body = same_body g.S.FrameSeat.view c.pages.space c.args.space.now i.view i.root i.trapframe i.layout in
-    let next = rw c.in-Some.is at c.next_settled.ensures.page r.0 r.1 (rw body r.2) in
+    let next = rw c.in-Some.is at c.next_settled.ensures.page r.0 r.1 (standing (rw body r.2)) in
     let number = c.number-from-in-Some.ensures.value in
     let less : c.args.run.now.end - (c.number-from-in-Some.result + 1) < c.args.run.now.end - c.pages.from = omega (arith, next.0, next.1, number) in
     less
@@ -53,7 +54,7 @@ pages-preserved g c =
     let r = c.requires.ready in
     let i = c.pages.invariant in
     let body = same_body g.S.FrameSeat.view c.pages.space c.args.space.now i.view i.root i.trapframe i.layout in
-    let near = rw c.in-Some.is at c.next_settled.ensures.page r.0 r.1 (rw body r.2) in
+    let near = rw c.in-Some.is at c.next_settled.ensures.page r.0 r.1 (standing (rw body r.2)) in
     let number = c.number-from-in-Some.ensures.value in
     let after = i.after in
     record {
@@ -70,7 +71,7 @@ pages-preserved g c =
       same = c.next_settled.ensures.same ∙ i.same;
       keeps = λ others s. c.next_settled.ensures.keeps others (i.keeps others s);
       count = λ t p space run.
-          let next = rw c.in-Some.is at c.next_settled.ensures.page t p (rw body space) in
+          let next = rw c.in-Some.is at c.next_settled.ensures.page t p (standing (rw body space)) in
           let file = some_of c.file.result c.if-is_none.ensures in
           let at = sym c.file.ensures ∙ file.1 in
           rw number (elim c.if-found.branch [
@@ -83,7 +84,7 @@ pub returns-clause-count : goal.returns-clause-count
 returns-clause-count g c t p space run =
     let i = c.pages.invariant in
     let body = same_body g.S.FrameSeat.view c.pages.space c.args.space.now i.view i.root i.trapframe i.layout in
-    let next = rw c.in_default.is at c.next_settled.ensures.page t p (rw body space) in
+    let next = rw c.in_default.is at c.next_settled.ensures.page t p (standing (rw body space)) in
     i.count t p space run ∙ sym (ap length (over t p (run_of c.args.run.now) run c.pages.from next i.after i.within))
 
 pub returns-clause-keeps : goal.returns-clause-keeps

@@ -1,6 +1,7 @@
 use Rattle.std.proofs.Common.{ap, subst, refl, ◌∙◌, length, arith}
 use Rattle.std.proofs.lemmas.List.{length-append}
-use Rattle.address_space.specs.Agreement.{body_of, IsSpace}
+use Rattle.address_space.specs.Agreement.{body_of, nothing}
+use Rattle.address_space.specs.Standing.{IsStanding}
 use Rattle.frame_store.specs.Laws.{fits_after}
 use Rattle.mmap_regions.specs.Runs.{IsRunOf, moves_in, MappedRun, run_of}
 use Rattle.mmap_regions.proofs.Places.{blank, mapping_at}
@@ -67,13 +68,13 @@ runs-preserved g c =
       moves = λ t p space.
           let at = mapping_at p c.mappings.result.now c.args.space.now.layout c.runs.i blank is space.lays within in
           let run : IsRunOf p (run_of c.whole-run.result) = rw c.whole-run.ensures (whole_run p space.sound.order c.runs.i _ at) in
-          let here : IsSpace (body_of g.S.FrameSeat.view c.runs.space) t p = rw body space in
+          let here : IsStanding (body_of g.S.FrameSeat.view c.runs.space) t p nothing = rw body space in
           let more = subst (λ (x : MappedRun). g.C.Files.becomes c.runs.files (moves_in p x) c.write_run.new.files) c.whole-run.ensures (n.moves t p here run) in
           rw (one_further p c.runs.i _ at) (g.met.C.Files.goes_on c.args.files.now c.runs.files c.write_run.new.files _ _ (i.moves t p space) more);
       rest = λ t p space.
           let at = mapping_at p c.mappings.result.now c.args.space.now.layout c.runs.i blank is space.lays within in
           let run : IsRunOf p (run_of c.whole-run.result) = rw c.whole-run.ensures (whole_run p space.sound.order c.runs.i _ at) in
-          let here : IsSpace (body_of g.S.FrameSeat.view c.runs.space) t p = rw body space in
+          let here : IsStanding (body_of g.S.FrameSeat.view c.runs.space) t p nothing = rw body space in
           let left = n.rest t p here run in
           let all = ap length (one_further p c.runs.i _ at) ∙ length-append (moves_before p c.runs.i) _ in
           let so_far = i.rest t p space in

@@ -1,5 +1,6 @@
 use Rattle.std.proofs.Common.{◌≡◌, ◌≤◌, ◌+◌, length}
-use Rattle.address_space.specs.Agreement.{body_of, IsSpace}
+use Rattle.address_space.specs.Agreement.{body_of, nothing}
+use Rattle.address_space.specs.Standing.{IsStanding}
 use Rattle.frame_store.specs.Laws.{Keeps}
 use Rattle.mmap_regions.proofs.Wholes.{moves_before}
 use Rattle.process_model.specs.Process.{Process}
@@ -15,7 +16,7 @@ invariant-runs g l = record {
   view : g.S.FrameSeat.view l.space.seat ≡ g.S.FrameSeat.view l.fn.space.seat;
   same : l.store ≡ l.fn.store;
   keeps : Keeps g.F.FrameAccess.rule l.fn.store l.fn.space.seat l.store l.space.seat;
-  moves : (t : Tables) (p : Process) → IsSpace (body_of g.S.FrameSeat.view l.fn.space) t p → g.C.Files.becomes l.fn.files (moves_before p l.i) l.files;
-  rest : (t : Tables) (p : Process) → IsSpace (body_of g.S.FrameSeat.view l.fn.space) t p
+  moves : (t : Tables) (p : Process) → IsStanding (body_of g.S.FrameSeat.view l.fn.space) t p nothing → g.C.Files.becomes l.fn.files (moves_before p l.i) l.files;
+  rest : (t : Tables) (p : Process) → IsStanding (body_of g.S.FrameSeat.view l.fn.space) t p nothing
       → g.C.Files.room l.fn.files ≤ length (moves_before p l.i) + g.C.Files.room l.files;
 }

@@ -54,7 +54,7 @@ page_bytes-requires-clause-ready g c =
       r.0,
       r.1,
       next.3.page,
-      record { agrees = rw (again, body) r.2; settled = next.3.settled },
+      record { standing = rw (again, body) r.2; settled = next.3.settled },
     )
 
 pub overflow_sub-at : goal.overflow_sub-at
@@ -145,7 +145,7 @@ pages-preserved g c =
           rw number (elim c.if-settled.branch [
             | then-settled w ↦
                 let again = same_body g.S.FrameSeat.view c.next_settled.new.self c.pages.space n.view n.root n.trapframe n.layout in
-                let read = w.page_bytes.ensures.bytes t p next.3.page (record { agrees = rw (again, body) space; settled = next.3.settled }) in
+                let read = w.page_bytes.ensures.bytes t p next.3.page (record { standing = rw (again, body) space; settled = next.3.settled }) in
                 let number = w.number.ensures.value in
                 let at : c.in-Some.offset + (w.number.result - c.args.run.now.mapping.first) * 4096 ≡ c.in-Some.offset + 4096 * (c.in-Some-next_settled.settled.page - c.args.run.now.mapping.first) = omega (arith, number) in
                 let one = subst (λ o. g.C.Files.becomes c.pages.files (page_write c.in-Some.file o next.3.page.bytes ∷ []) w.write_page.new.self) at

@@ -1,5 +1,6 @@
 use Rattle.std.proofs.Common.{◌≡◌, ◌≤◌, ◌+◌, ◌-◌, length}
-use Rattle.address_space.specs.Agreement.{body_of, IsSpace}
+use Rattle.address_space.specs.Agreement.{body_of, nothing}
+use Rattle.address_space.specs.Standing.{IsStanding}
 use Rattle.address_space.specs.Layouts.{region_of}
 use Rattle.frame_store.specs.Laws.{Keeps}
 use Rattle.mmap_regions.specs.Runs.{IsRunOf, run_of}
@@ -19,9 +20,9 @@ invariant-pages g l = record {
   view : g.S.FrameSeat.view l.space.seat ≡ g.S.FrameSeat.view l.fn.space.seat;
   same : l.store ≡ l.fn.store;
   keeps : Keeps g.F.FrameAccess.rule l.fn.store l.fn.space.seat l.store l.space.seat;
-  moves : (t : Tables) (p : Process) → IsSpace (body_of g.S.FrameSeat.view l.fn.space) t p → IsRunOf p (run_of l.run)
+  moves : (t : Tables) (p : Process) → IsStanding (body_of g.S.FrameSeat.view l.fn.space) t p nothing → IsRunOf p (run_of l.run)
       → g.C.Files.becomes l.fn.files (run_moves p (region_of l.run.mapping) l.run.first l.from) l.files;
-  rest : (t : Tables) (p : Process) → IsSpace (body_of g.S.FrameSeat.view l.fn.space) t p → IsRunOf p (run_of l.run)
+  rest : (t : Tables) (p : Process) → IsStanding (body_of g.S.FrameSeat.view l.fn.space) t p nothing → IsRunOf p (run_of l.run)
       → g.C.Files.room l.fn.files ≤ length (run_moves p (region_of l.run.mapping) l.run.first l.from) + g.C.Files.room l.files;
 }
 

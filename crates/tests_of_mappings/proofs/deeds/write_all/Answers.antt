@@ -1,3 +1,4 @@
+use Rattle.address_space.specs.Standing.{standing}
 use Rattle.frame_store.specs.Laws.{fits_after}
 use Rattle.tests_of_mappings.proofs.Living.{alive_still, space_still}
 use Rattle.tests_of_mappings.proofs.deeds.write_all.Goals as goal
@@ -14,7 +15,7 @@ write_back-requires-clause-ready g c =
     let alive = c.requires.alive in
     let asked = c.promise_write_back.ensures in
     let still = space_still _ _ _ _ _ _ _ _ asked.view asked.root asked.trapframe asked.layout alive.0 alive.1 alive.2 in
-    (alive.0, alive.1, still, c.in_ok-promise_write_back.ensures.promised alive.0 alive.1 alive.2)
+    (alive.0, alive.1, standing still, c.in_ok-promise_write_back.ensures.promised alive.0 alive.1 alive.2)
 
 pub returns-clause-alive : goal.returns-clause-alive
 returns-clause-alive g c =

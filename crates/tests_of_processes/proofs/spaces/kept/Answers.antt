@@ -1,4 +1,5 @@
 use Rattle.std.proofs.Common.{◌%◌}
+use Rattle.address_space.specs.Steps.{at_page}
 use Rattle.frame_store.specs.Laws.{fits_after}
 use Rattle.process_model.specs.Bytes.{low_bytes}
 use Rattle.process_model.specs.Residence.{stored, with_page}
@@ -30,7 +31,8 @@ page_bytes-requires-clause-ready g c =
     let read = c.read-read.ensures in
     let written = c.write.ensures.agrees r.0 r.1 r.3.page (can_write _ _ _ _ r.0 r.1 _ r.2 r.3) in
     let s = stored r.3.page (c.args.va.0 % 4096) (low_bytes c.args.value 8) in
-    rw (c.page.ensures.number, read.view, read.root, read.trapframe, read.layout) (can_read _ _ _ _ r.0 (with_page r.1 (page_of c.args.va.0) s) _ written (still_writable r.1 _ s r.3.unmarked _ r.3))
+    let can = can_read _ _ _ _ r.0 (with_page r.1 (page_of c.args.va.0) s) _ written (still_writable r.1 _ s r.3.unmarked _ r.3) in
+    rw (c.page.ensures.number, read.view, read.root, read.trapframe, read.layout) (can.0, can.1, can.2, at_page can.3)
 
 pub returns-clause-agrees : goal.returns-clause-agrees
 returns-clause-agrees g c t p agrees writable =

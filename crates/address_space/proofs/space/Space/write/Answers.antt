@@ -1,9 +1,10 @@
 use Rattle.std.proofs.Common.{ap, sym, ◌∙◌}
 use Rattle.frame_store.specs.Laws.{fits_after}
+use Rattle.address_space.specs.Steps.{at_page}
 use Rattle.address_space.proofs.space.Space.write.Goals as goal
 
 pub page_frame-frame-requires-clause-ready : goal.page_frame-frame-requires-clause-ready
-page_frame-frame-requires-clause-ready g c = let r = c.requires.ready in (r.0, r.1, r.2, rw c.page.ensures.number r.3.read)
+page_frame-frame-requires-clause-ready g c = let r = c.requires.ready in (r.0, r.1, r.2, rw c.page.ensures.number (at_page r.3.read))
 
 pub write_at-requires-clause-fits : goal.write_at-requires-clause-fits
 write_at-requires-clause-fits g c = fits_after g.F.FrameAccess.rule c.page_frame-frame.ensures.keeps c.requires.fits
@@ -12,12 +13,12 @@ pub write_at-requires-clause-ready : goal.write_at-requires-clause-ready
 write_at-requires-clause-ready g c =
     let r = c.requires.ready in
     let found = rw c.page.ensures.number at c.page_frame-frame.ensures in
-    (r.0, r.1, r.2, rw (found.view, found.root, found.trapframe, found.layout) r.3, found.frame r.0 r.1 r.2 r.3.read)
+    (r.0, r.1, r.2, rw (found.view, found.root, found.trapframe, found.layout) r.3, found.frame r.0 r.1 r.2 (at_page r.3.read))
 
 pub returns-clause-agrees : goal.returns-clause-agrees
 returns-clause-agrees g c t p s can =
     let found = rw c.page.ensures.number at c.page_frame-frame.ensures in
-    c.write_at.ensures.agrees t p s (rw (found.view, found.root, found.trapframe, found.layout) can) (found.frame t p s can.read)
+    c.write_at.ensures.agrees t p s (rw (found.view, found.root, found.trapframe, found.layout) can) (found.frame t p s (at_page can.read))
 
 pub returns-clause-keeps : goal.returns-clause-keeps
 returns-clause-keeps g c others r = c.write_at.ensures.keeps others (c.page_frame-frame.ensures.keeps others r)

@@ -1,9 +1,8 @@
-use Rattle.std.proofs.Common.{◌≤◌, None, Some, length, ap, refl, subst, sym, ◌∙◌}
+use Rattle.std.proofs.Common.{◌≤◌, None, Some, length, refl, subst, sym, ◌∙◌}
 use Rattle.std.specs.Vec.{with_item}
 use Rattle.address_space.specs.Agreement.{HoldsTrampoline}
 use Rattle.frame_store.specs.View.{View}
 use Rattle.process_model.specs.Frames.{start_need}
-use Rattle.process_model.specs.Images.{image_loads}
 use Rattle.hart_machine.specs.Worlds.{seats_of}
 use Rattle.hart_machine.specs.declared.machine.Machine.{Machine}
 use Rattle.hart_machine.specs.declared.tenant.Tenant.{Tenant}
@@ -50,7 +49,7 @@ returns-in-Ok-start-clause-made c w is =
     let others = seats_of m.slots.items in
     let y : Tenant = record { space = ok.space; pending = None } in
     let n : Machine = record { frames = c.start.new.store; kernel = o.new.self.kernel; slots = with_item o.new.self.slots s (Some y); harts = o.new.self.harts; files = o.new.self.files } in
-    makes_started w s c.args.image c.in-Ok.image (sym (c.free_slot.ensures w is) ∙ c.in-Some.is) (ap image_loads c.in-Segments.is ∙ sym c.from_segments.ensures ∙ c.in-Ok.is)
+    makes_started w s c.args.image c.in-Ok.image (sym (c.free_slot.ensures w is) ∙ c.in-Some.is) (sym c.judged.ensures ∙ c.in-Ok.is)
     m n is o.ensures.size o.ensures.harts o.ensures.files (open_kernel m o.new.self o.ensures.opener w.frames (length w.slots) is.stacks is.kernel is.of_kernel)
     y ok.ensures.started.0 (rw o.ensures.slots refl)
     (ok.ensures.started.1 w.counter) ok.ensures.started.2 refl
@@ -66,7 +65,7 @@ returns-in-Err-start-clause-made c w is =
     let others = seats_of m.slots.items in
     let n = c.close_seat.new.self in
     let opened = open_kernel m o.new.self o.ensures.opener w.frames (length w.slots) is.stacks is.kernel is.of_kernel in
-    makes_refused w s c.args.image c.in-Ok.image (sym (c.free_slot.ensures w is) ∙ c.in-Some.is) (ap image_loads c.in-Segments.is ∙ sym c.from_segments.ensures ∙ c.in-Ok.is)
+    makes_refused w s c.args.image c.in-Ok.image (sym (c.free_slot.ensures w is) ∙ c.in-Some.is) (sym c.judged.ensures ∙ c.in-Ok.is)
     m n is (c.close_seat.ensures.size ∙ o.ensures.size) (c.close_seat.ensures.harts ∙ o.ensures.harts) (c.close_seat.ensures.files ∙ o.ensures.files)
     (c.close_seat.ensures.kernel w.frames (length w.slots) is.stacks is.kernel opened)
     (c.close_seat.ensures.slots ∙ o.ensures.slots)

@@ -172,6 +172,17 @@ returns-in-Fork-clause-each_buffer c w is = are_of c.args.self.now c.fork.new.se
 pub returns-in-Fork-clause-buffers : goal.returns-in-Fork-clause-buffers
 returns-in-Fork-clause-buffers c w is = only_fills_add c.args.self.now c.fork.new.self is.tables is.kernel _ _ (returns-in-Fork-clause-each_buffer c w is)
 
+pub returns-in-Exec-clause-made : goal.returns-in-Exec-clause-made
+returns-in-Exec-clause-made c w is =
+    let x = c.in-Exec in
+    steps c.args.self.now _ _ w is (step.Exec x.hart x.image) _ x.is (c.exec.ensures.made w is)
+
+pub returns-in-Exec-clause-each_buffer : goal.returns-in-Exec-clause-each_buffer
+returns-in-Exec-clause-each_buffer c w is = let x = c.in-Exec in are_of c.args.self.now c.exec.new.self is.tables is.kernel c.exec.result c.in-Exec.is (same_are c.args.self.now c.exec.new.self is.tables is.kernel (step.Exec x.hart x.image) _ (λ h. refl) c.exec.ensures.buffers)
+
+pub returns-in-Exec-clause-buffers : goal.returns-in-Exec-clause-buffers
+returns-in-Exec-clause-buffers c w is = only_fills_add c.args.self.now c.exec.new.self is.tables is.kernel _ _ (returns-in-Exec-clause-each_buffer c w is)
+
 pub returns-in-Exit-clause-made : goal.returns-in-Exit-clause-made
 returns-in-Exit-clause-made c w is =
     let x = c.in-Exit in

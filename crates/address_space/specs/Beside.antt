@@ -1,11 +1,12 @@
--- A process stands, whatever references its seat has beside it.
+-- A process stands, whatever references its seat has beside it, and whatever credits.
 use Rattle.std.proofs.Common.{◌≡◌, ℕ, ◌+◌, IsTrue, ap, sym, subst, ◌∙◌, inl, inr, arith}
 use Rattle.std.specs.FinMap as finite
-use Rattle.frame_store.specs.View.{hold_of, IsHeld, references, View}
+use Rattle.frame_store.specs.Holds.{hold_of-frames}
+use Rattle.frame_store.specs.View.{Hold, hold_of, IsHeld, references, View}
 use Rattle.process_model.specs.Process.{Process}
 use Rattle.table_walk.specs.Tables.{leaf_node, Tables}
 use Rattle.address_space.specs.Agreement.{body, Names, nothing, IsSpace, Stands}
-use Rattle.address_space.specs.Forking.{IsForking}
+use Rattle.address_space.specs.Standing.{IsStanding}
 use Rattle.address_space.specs.Layouts.{Layout}
 
 -- so many references more of each frame, and the same of those that were held
@@ -63,6 +64,17 @@ module _ (v w : View) (more : ℕ → ℕ) (counts : (f : ℕ) → references w 
 -- a space that begins to fork
 pub forking_beside : (v w : View) (more : ℕ → ℕ) → ((f : ℕ) → references w f ≡ references v f + more f)
     → ((f : ℕ) → IsHeld v f → ((hold_of w f).words ≡ (hold_of v f).words) × ((hold_of w f).sole ≡ (hold_of v f).sole)) → (root saved : ℕ) (l : Layout) (t : Tables) (p : Process)
-    → IsSpace (body v root saved l) t p → IsForking (body w root saved l) t p more
+    → IsSpace (body v root saved l) t p → IsStanding (body w root saved l) t p more
 forking_beside v w more counts same root saved l t p space =
     record { sound = space.sound; lays = space.lays; stands = stands_beside v w more counts same root saved t p space.stands }
+
+-- the seat has the frames that it had
+module _ (v w : View) (frames : w.frames ≡ v.frames) (root saved : ℕ) (l : Layout) (t : Tables) (p : Process) (space : IsSpace (body v root saved l) t p) where
+  -- whatever its credits
+  pub standing_still : IsStanding (body w root saved l) t p nothing
+  standing_still = forking_beside v w nothing (λ f. let here = ap (λ (h : Hold). h.references) (hold_of-frames w v frames f) in omega (arith, here))
+      (λ f held. let here = hold_of-frames w v frames f in (ap (λ (h : Hold). h.words) here, ap (λ (h : Hold). h.sole) here)) root saved l t p space
+
+  -- and where it has no more credits, the space is one between calls
+  pub space_still : w.credits ≡ v.credits → IsSpace (body w root saved l) t p
+  space_still credits = record { sound = standing_still.sound; lays = standing_still.lays; stands = standing_still.stands; credits = credits ∙ space.credits }

@@ -1,4 +1,4 @@
--- A space while a fork is under way, and what the fork mark of a page does to it.
+-- A space while a call is under way, and what the fork mark of a page does to it.
 use Rattle.std.specs.Prelude.{◌≡◌, ℕ, Some}
 use Rattle.std.specs.FinMap.{get}
 use Rattle.frame_store.specs.View.{hold_of, references}
@@ -7,14 +7,23 @@ use Rattle.process_model.specs.PageMap as pages
 use Rattle.process_model.specs.Process.{Page, Process}
 use Rattle.process_model.specs.Residence.{marked_page, with_page}
 use Rattle.table_walk.specs.Tables.{Tables}
-use Rattle.address_space.specs.Agreement.{Body, IsOn, Stands}
+use Rattle.address_space.specs.Agreement.{Body, IsOn, IsSpace, nothing, Stands}
 use Rattle.address_space.specs.Layouts.{LaysOut}
 
 -- the process stands, whatever its seat has of credits, and of references beside the process's
-pub record IsForking (x : Body) (t : Tables) (p : Process) (extra : ℕ → ℕ) : Type 0 where
+pub record IsStanding (x : Body) (t : Tables) (p : Process) (extra : ℕ → ℕ) : Type 0 where
   pub sound : IsSound p
   pub lays : LaysOut x.layout p
   pub stands : Stands x.view x.root x.trapframe extra t p
+
+-- a space between calls does
+pub standing : {x : Body} {t : Tables} {p : Process} → IsSpace x t p → IsStanding x t p nothing
+standing space = record { sound = space.sound; lays = space.lays; stands = space.stands }
+
+-- a page of it is settled
+pub record IsAt (x : Body) (t : Tables) (p : Process) (page : ℕ) (s : Page) : Type 0 where
+  pub standing : IsStanding x t p nothing
+  pub settled : pages.get p.settled page ≡ Some s
 
 -- the leaves of a process were turned, each to the frame that it names: of each frame the seat has what it had, but for the words of the
 -- process's tables
@@ -29,9 +38,9 @@ pub record TurnsLeaves (x y : Body) (t u : Tables) : Type 0 where
 
 -- a settled page got the fork mark, where its region grants writing
 pub record MarksForked (x y : Body) (t u : Tables) (p : Process) (extra : ℕ → ℕ) (page : ℕ) (s : Page) : Type 0 where
-  pub forking : IsForking y u (with_page p page (marked_page p page s)) extra
+  pub forking : IsStanding y u (with_page p page (marked_page p page s)) extra
   pub turns : TurnsLeaves x y t u
 
 abbrev pub HasMarkedForked : Body → Body → ℕ → Type 0
-HasMarkedForked x y page = (t : Tables) (p : Process) (extra : ℕ → ℕ) (s : Page) → IsForking x t p extra → pages.get p.settled page ≡ Some s
+HasMarkedForked x y page = (t : Tables) (p : Process) (extra : ℕ → ℕ) (s : Page) → IsStanding x t p extra → pages.get p.settled page ≡ Some s
     → (u : Tables) × MarksForked x y t u p extra page s
