@@ -12,6 +12,7 @@ mod own;
 mod pages;
 mod part;
 mod region;
+mod runs;
 mod settled;
 mod space;
 mod user;

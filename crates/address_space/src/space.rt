@@ -195,7 +195,11 @@ impl<S: FrameSeat> Space<S> {
     }
 
     /// The frame of a settled page.
-    fn page_frame<F: FrameAccess<Seat = S>>(&mut self, store: &mut F, page: Vpn) -> FrameNo
+    pub(crate) fn page_frame<F: FrameAccess<Seat = S>>(
+        &mut self,
+        store: &mut F,
+        page: Vpn,
+    ) -> FrameNo
         requires fits { Fits F.rule store.old self.old.seat }
         requires ready { (t : Tables) × (p : Process) × (s : Page) × IsAt (body_of S.view self.old) t p page s }
         ensures frame { (t : Tables) (p : Process) (s : Page) → IsAt (body_of S.view self.old) t p page s → IsOn t page result.0 }

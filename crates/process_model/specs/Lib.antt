@@ -27,6 +27,9 @@ pub mod Around
 pub mod World
 pub mod Service
 pub mod Copies
+pub mod ReachedPages
+pub mod CopyRuns
+pub mod CopySplits
 pub mod Calls
 pub mod Stale
 pub mod Steps

@@ -21,4 +21,4 @@ pub use image::{BadImage, Image, OwnedImage, Segment};
 pub use phase::Phase;
 pub use script::{Cause, Command, FieldKind, FieldValue, Item, Keyword, Tail};
 pub use sequence::{Bytes, Sequence};
-pub use step::{Refusal, Reply, Report, Step, is_width};
+pub use step::{LONGEST_COPY, Refusal, Reply, Report, Step, is_width};

@@ -8,6 +8,9 @@ use crate::phase::Phase;
 use arrayvec::ArrayVec;
 use sv39_entry::Rule;
 
+/// How many bytes the kernel copies in one call, at most.
+pub const LONGEST_COPY: usize = 256;
+
 /// One event of the machine: one instruction of the trampoline, one access, one action of a buffer, or one kernel call.
 ///
 /// Addresses are in bytes. `via` names an entry of the hart's buffer, from 0 in the order of filling; without it the

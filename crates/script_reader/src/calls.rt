@@ -6,11 +6,8 @@ ghost use Rattle.script_reader.specs.Alone.{item_alone};
 
 use crate::limits::{in_limits, one};
 use crate::places::{index_at, number_at, signed_at, take_bytes};
-use process_model::{Cause, Command, FieldValue, Item, Keyword, Step};
+use process_model::{Cause, Command, FieldValue, Item, Keyword, LONGEST_COPY, Step};
 use std::alloc::Global;
-
-/// How many bytes the kernel copies in one call.
-pub const LONGEST_COPY: usize = 256;
 
 pub fn serve(values: &[FieldValue]) -> Step<'static>
     ensures { Ok (words.one result) ≡ item_alone Keyword.Serve values.now }

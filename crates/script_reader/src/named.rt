@@ -4,11 +4,10 @@ ghost use Rattle.std.specs.Prelude.{◌≡◌, Ok};
 ghost use Rattle.process_model.specs.Script as words;
 ghost use Rattle.script_reader.specs.Alone.{item_alone};
 
-use crate::calls::LONGEST_COPY;
 use crate::draft::Draft;
 use crate::limits::in_limits;
 use crate::places::{index_at, number_at};
-use process_model::{Cause, Command, FieldValue, Item, Keyword};
+use process_model::{Cause, Command, FieldValue, Item, Keyword, LONGEST_COPY};
 
 pub fn start(draft: &Draft, values: &[FieldValue]) -> Result<Item, Cause>
     ensures { result ≡ words.item_of draft.now Keyword.Start values.now }

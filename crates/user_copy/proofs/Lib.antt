@@ -1,0 +1,3 @@
+mod Reached
+mod Chains
+mod Nearby

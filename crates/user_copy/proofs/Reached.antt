@@ -1,0 +1,97 @@
+-- What a copy knows of a page that it has reached.
+use Rattle.std.proofs.Common.{◌≡◌, ℕ, Bool, false, true, not, ◌||◌, refl, ap, sym, subst, ◌∙◌, ◌<◌, List, Option, None, Some, Result, Ok, Err}
+use Rattle.std.proofs.lemmas.Bool.{and_parts, leb-false}
+use Rattle.address_space.specs.Agreement.{body_of, IsSpace}
+use Rattle.address_space.specs.Steps.{CanRead, CanWrite}
+use Rattle.address_space.specs.declared.space.Space.{Space}
+use Rattle.fault_rules.specs.Allowed.{can_reside}
+use Rattle.fault_rules.specs.Resides.{CanReside}
+use Rattle.fault_rules.specs.Serves.{IsEnd}
+use Rattle.fault_rules.specs.declared.service.Served.TheVariants as served
+use Rattle.frame_store.specs.View.{View}
+use Rattle.process_model.specs.Granted.{none_true}
+use Rattle.process_model.specs.PageMap.{get}
+use Rattle.process_model.specs.Process.{Page, Process, regions}
+use Rattle.process_model.specs.ReachedPages.{made_settles, no_alignment}
+use Rattle.process_model.specs.Regions.{copy_rule, copy_tests, keeps_stores, Region, region_at}
+use Rattle.process_model.specs.Residence.{is_resident, is_resident_page, made_resident, region_on}
+use Rattle.sv39_entry.specs.Address.{maxva, page_of}
+use Rattle.sv39_entry.specs.declared.access.Access.{Access}
+use Rattle.sv39_entry.specs.declared.access.Access.TheVariants as access
+use Rattle.sv39_entry.specs.declared.rule.Rule.{Rule}
+use Rattle.table_walk.specs.Tables.{Tables}
+use Rattle.user_copy.specs.Reaching.{body_at, Place, Reaches, StillStands, Words}
+use Rattle.user_copy.specs.declared.short.Stop.{Stop}
+use Rattle.user_copy.specs.declared.short.Stop.TheVariants.{Denied, Unpromised}
+
+-- a space that is as it was
+same_body : {S : Type 0} (view : S → View) (x y : Space S) → view x.seat ≡ view y.seat → x.root ≡ y.root → x.trapframe ≡ y.trapframe → x.layout ≡ y.layout → body_of view x ≡ body_of view y
+same_body view x y seat root trapframe layout = λ i. record { view = seat i; root = (root i).0; trapframe = (trapframe i).0; layout = layout i }
+
+-- an address that no rule denies is low
+low : (rs : List Region) (access : Access) (address : ℕ) → copy_rule rs access address ≡ None → address < maxva
+low rs access address none = let tests = none_true (copy_tests rs access address) none in leb-false maxva address tests.0
+
+module _ {Seat Frames Cabinet : Type 0} (l : Words Seat Frames Cabinet) (a b : Place Seat Frames Cabinet) (access : Access) (address : ℕ) where
+  module _ (e : Reaches l a b access address (Ok tt)) (t : Tables) (p : Process) (space : IsSpace (body_at l a) t p) where
+    -- no rule denies an address that was reached
+    allowed : copy_rule (regions p) access address ≡ None
+    allowed = by (copy_rule (regions p) access address) (e.ended t p space)
+      where
+        by : (o : Option Rule) → IsEnd o served.Ready → o ≡ None
+        by None is = refl
+        by (Some rule) is = absurd (cc)
+
+    can : CanReside (body_at l a) t p access (page_of address)
+    can = can_reside (body_at l a) t p access address 1 space (no_alignment (regions p) access address ∙ allowed)
+
+    -- so it is low
+    pub reached_low : address < maxva
+    reached_low = low (regions p) access address allowed
+
+    -- and its page may be read
+    pub may_load : (u : Tables) × (q : Process) × (s : Page) × CanRead (body_at l b) u q (page_of address) s
+    may_load =
+        let made = e.ready refl t p can in
+        let there = (made_settles (l.files a.files) 0 _ access (page_of address) p).settled in
+        (made.0, _, there.0, record { agrees = made.2.agrees 0; settled = there.1 })
+
+  -- a process stands there still
+  pub still_reaches : (r : Result (Unit {0}) Stop) → Reaches l a b access address r → StillStands (body_at l a) (body_at l b)
+  still_reaches (Ok tt) e t p space = let made = e.ready refl t p (can e t p space) in (made.0, _, made.2.agrees 0)
+  still_reaches (Err (Denied rule)) e t p space = (t, p, e.whole rule refl t p space)
+  still_reaches (Err (Unpromised refusal)) e t p space =
+      (t, p, subst (λ x. IsSpace x t p) (same_body l.view a.space b.space (sym (e.view_stays (λ is. cc, λ is. cc))) (sym e.root) (sym e.trapframe) (sym e.layout)) space)
+
+module _ {Seat Frames Cabinet : Type 0} (l : Words Seat Frames Cabinet) (a b : Place Seat Frames Cabinet) (address : ℕ) where
+  -- a page that was reached for a store is the process's own
+  pub may_store : Reaches l a b access.Store address (Ok tt) → (t : Tables) (p : Process) → IsSpace (body_at l a) t p
+      → (u : Tables) × (q : Process) × (s : Page) × CanWrite (body_at l b) u q (page_of address) s
+  may_store e t p space =
+      let granted = can l a b access.Store address e t p space in
+      let made = e.ready refl t p granted in
+      let there = made_settles (l.files a.files) 0 _ access.Store (page_of address) p in (
+        made.0,
+        _,
+        (there.settled).0,
+        record {
+          read = record { agrees = made.2.agrees 0; settled = (there.settled).1 };
+          unmarked = own (made_resident (l.files a.files) 0 _ p access.Store (page_of address)) (there.settled).0 (there.settled).1 there.resident;
+          region = granted.region;
+          in_region = ap (λ rs. region_at rs (page_of address)) there.regions ∙ granted.in_region;
+          writes = may (granted.region).writes granted.right;
+        },
+      )
+    where
+      may : (w : Bool) → not w ≡ false → w ≡ true
+      may true is = refl
+      may false is = absurd (cc)
+
+      unmarked : (mark : Bool) → not mark ≡ true → mark ≡ false
+      unmarked true is = absurd (cc)
+      unmarked false is = refl
+
+      own : (q : Process) (s : Page) → get q.settled (page_of address) ≡ Some s → is_resident q access.Store (page_of address) ≡ true → s.fork_mark ≡ false
+      own q s settled resident =
+          let goes = ap (is_resident_page access.Store (region_on q (page_of address))) (sym settled) ∙ resident in
+          unmarked s.fork_mark (and_parts (not s.fork_mark) (s.stored_mark || not (keeps_stores (region_on q (page_of address)))) goes).0

@@ -1,0 +1,25 @@
+use Rattle.process_model.specs.Process.{regions}
+use Rattle.process_model.specs.ReachedPages.{no_alignment}
+use Rattle.user_copy.proofs.copying.reach.Goals as goal
+
+pub returns-clause-reaches : goal.returns-clause-reaches
+returns-clause-reaches g c =
+    let e = rw (← c.told.ensures) at c.serve.ensures in
+    record {
+      ended = λ t p space. rw (← no_alignment (regions p) c.args.access c.args.va.0) (e.ended t p space);
+      ready = e.ready;
+      dry = e.dry;
+      whole = e.whole;
+      unpromised = e.unpromised;
+      view_stays = e.view_stays;
+      store_stays = e.store_stays;
+      files_stay = e.files_stay;
+      moves = λ done t p space. rw (← no_alignment (regions p) c.args.access c.args.va.0) (e.moves done t p space);
+      enough = e.enough;
+      short = e.short;
+      free = e.free;
+      root = e.root;
+      trapframe = e.trapframe;
+      layout = e.layout;
+      keeps = e.keeps;
+    }
