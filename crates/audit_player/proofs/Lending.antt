@@ -1,8 +1,12 @@
--- An image that is lent makes the process that it says, wherever its bytes stand.
-use Rattle.std.proofs.Common.{◌≡◌, ℕ, ◌<◌, true, List, length, get_or, Option, Result, sym, ap, subst, ◌∙◌}
+-- An image that is lent makes the process that it says, and bytes that are lent are copied, wherever they stand.
+use Rattle.std.proofs.Common.{◌≡◌, ℕ, ◌<◌, true, Bor, List, length, get_or, Option, Result, sym, ap, subst, ◌∙◌}
 use Rattle.std.proofs.lemmas.Option.{slice_get-get_or}
-use Rattle.process_model.specs.Calls.{replaced, started}
+use Rattle.std.specs.Prelude.{nat_le}
+use Rattle.process_model.specs.Calls.{replaced, started, told_out}
+use Rattle.process_model.specs.Copies.{copied_out, longest_copy}
 use Rattle.process_model.specs.Images.{LoadSegment, image_loads}
+use Rattle.process_model.specs.Process.{without_pending}
+use Rattle.process_model.specs.Service.{around, begun}
 use Rattle.process_model.specs.Stale.{with_stale_slots}
 use Rattle.process_model.specs.Steps.{step}
 use Rattle.process_model.specs.Text.{lent, or_no_image, image_at, told}
@@ -13,7 +17,7 @@ use Rattle.process_model.specs.declared.image.Image.{Image}
 use Rattle.process_model.specs.declared.image.OwnedImage.{OwnedImage}
 use Rattle.process_model.specs.declared.step.Reply.{Reply}
 use Rattle.process_model.specs.declared.step.Step.{Step}
-use Rattle.process_model.specs.declared.step.Step.TheVariants.{Exec, Start}
+use Rattle.process_model.specs.declared.step.Step.TheVariants.{CopyOut, Exec, Start}
 use Rattle.hart_machine.specs.Worlds.{Makes}
 use Rattle.hart_machine.specs.declared.machine.Machine.{Machine}
 use Rattle.audit_player.specs.Told.{Tells}
@@ -29,6 +33,13 @@ pub execs : (w : World) (h : ℕ) (a b : Image) → image_loads a ≡ image_load
 unfolding step
 execs w h a b e = ap (λ (loads : Result (List LoadSegment) BadImage). with_stale_slots w.policy w (kernel_call w h true (λ hart s p. replaced w s p loads))) e
 
+-- a copy reads nothing of its bytes but what they are
+pub copies : (w : World) (h address : ℕ) (a b : Bor (List ℕ)) → a.now ≡ b.now → step w (CopyOut h address a) ≡ step w (CopyOut h address b)
+unfolding step
+copies w h address a b e =
+    ap (λ (bytes : List ℕ). with_stale_slots w.policy w (kernel_call w h (nat_le (length bytes) longest_copy)
+    (λ hart s p. told_out w s (copied_out (around w s) (begun w (without_pending p)) address bytes)))) e
+
 -- the image that a line names
 named : (images : List OwnedImage) (n : ℕ) (i : OwnedImage) → n < length images → i ≡ get_or images n i → lent i ≡ image_at images n
 named images n i lt is = ap lent is ∙ ap (λ (o : Option OwnedImage). lent (or_no_image o)) (sym (slice_get-get_or images n i lt))
@@ -38,4 +49,12 @@ pub line_told : (m : Machine) (r : Reply) (images : List OwnedImage) (w : World)
     → Makes m r (step w (step_of (lent i))) → Tells m (answer.Step r) (told (step w (step_of (image_at images n))))
 line_told m r images w step_of n i lt is made =
     let there : Makes m r (step w (step_of (image_at images n))) = subst (λ (x : Image). Makes m r (step w (step_of x))) (named images n i lt is) made in
+    (ap reply_text there.0, there.1)
+
+-- and the line of bytes what the step with them does
+pub bytes_told : (m : Machine) (r : Reply) (w : World) (h address : ℕ) (given bytes : List ℕ) → given ≡ bytes
+    → Makes m r (step w (CopyOut h address (record { ref_ptr = (0, 0); now = given }))) → Tells m (answer.Step r) (told (step w (CopyOut h address (record { ref_ptr = (0, 0); now = bytes }))))
+bytes_told m r w h address given bytes is made =
+    let there : Makes m r (step w (CopyOut h address (record { ref_ptr = (0, 0); now = bytes }))) =
+    subst (λ (b : List ℕ). Makes m r (step w (CopyOut h address (record { ref_ptr = (0, 0); now = b })))) is made in
     (ap reply_text there.0, there.1)

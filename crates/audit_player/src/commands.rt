@@ -44,6 +44,18 @@ fn exec(machine: &mut Machine, hart: usize, image: &OwnedImage) -> Reply
     machine.step(Step::Exec { hart, image })
 }
 
+/// Copies bytes to the process on a hart.
+fn copy_out(machine: &mut Machine, hart: usize, address: u64, bytes: &[u8]) -> Reply
+    requires world { (w : World) × IsWorld machine.old w }
+    ensures made { (w : World) → IsWorld machine.old w → Makes machine.new result (model.step w (steps.CopyOut hart address (record { ref_ptr = (0, 0); now = bytes.now }))) }
+{
+    machine.step(Step::CopyOut {
+        hart,
+        address,
+        bytes,
+    })
+}
+
 /// Makes several steps that have one reply: that of the first which is refused, and none is made after it; else the one given.
 fn series(machine: &mut Machine, steps: &[Step<'_>], reply: Reply) -> Reply
     requires world { (w : World) × IsWorld machine.old w }
@@ -131,6 +143,10 @@ pub fn make(machine: &mut Machine, images: &[OwnedImage], command: &Command) -> 
             count,
         } => show(machine.files(), *file, *offset, *count),
         Command::Audit => Answer::Audit(audit(machine)),
-        Command::CopyOut { .. } => unreachable!(),
+        Command::CopyOut {
+            hart,
+            address,
+            bytes,
+        } => Answer::Step(copy_out(machine, *hart, *address, bytes.as_slice())),
     }
 }

@@ -25,7 +25,7 @@ use Rattle.hart_machine.proofs.ProcessSteps.{HasCopies}
 -- a page in the place of another one with its copy number
 
 module _ (p : Process) (k : ℕ) (old new : Page) (is : pages.get p.settled k ≡ Some old) (same : new.copy ≡ old.copy) where
-  has_copies : HasCopies (with_page p k new) p
+  pub has_copies : HasCopies (with_page p k new) p
   has_copies n a there = go (cases_eq n k) (sym (find-put nat_cmp nat_cmp_total n k new p.settled.entries) ∙ there) where
     go : (n ≡ k) ⊎ (n ≡ k → ⊥) → cond (eq_by_cmp nat_cmp n k) (Some new) (find nat_cmp n p.settled.entries) ≡ Some a
         → (b : Page) × (pages.get p.settled n ≡ Some b) × (b.copy ≡ a.copy)

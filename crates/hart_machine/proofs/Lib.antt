@@ -8,6 +8,10 @@ pub mod BufferChanges
 mod BufferRows
 pub mod BufferSteps
 pub mod Calling
+pub mod CopiedRuns
+pub mod CopiedWorlds
+pub mod CopyShifts
+pub mod CopySteps
 pub mod CountedLists
 pub mod Emptying
 pub mod Entries

@@ -17,9 +17,9 @@ use Rattle.process_model.specs.Files.{File}
 use Rattle.process_model.specs.PageMap.{get}
 use Rattle.process_model.specs.Process.{Page, Pending, Process}
 use Rattle.process_model.specs.Residence.{is_resident, made_resident}
-use Rattle.process_model.specs.Service.{around, begun, ended, is_dry, served, served_or_ended}
+use Rattle.process_model.specs.Service.{around, begun, is_dry, served, served_or_ended, with_progress}
 use Rattle.process_model.specs.World.{free, is_unserved_access, others_have, Outcome, with_process, World}
-use Rattle.process_model.specs.declared.step.Reply.TheVariants.{Ended, Ready}
+use Rattle.process_model.specs.declared.step.Reply.TheVariants.{Ready}
 use Rattle.sv39_entry.specs.Address.{page_of}
 use Rattle.sv39_entry.specs.Word.{ppn}
 use Rattle.sv39_entry.specs.declared.access.Access.{Access}
@@ -76,8 +76,9 @@ other_leaf n page low lower apart same =
     let there = leaf_node_is page in
     apart (omega (arith, here, there, same, low, lower))
 
-module _ (m : Machine) (w : World) (is : IsWorld m w) (h s : ℕ) (k : IsInKernel m w h s true) (x y : Tenant) (place : slice_get m.slots.items s ≡ Some (Some x))
-    (b : Bank) (keeps : Keeps BankRule m.frames (view_of x) b (view_of y)) (a : Pending) (waits : (k.process).pending ≡ Some a) where
+-- a page is made resident for an access, or it can't be: by the service of a fault, or for a copy
+module _ (m : Machine) (w : World) (is : IsWorld m w) (h s : ℕ) (waits : Bool) (k : IsInKernel m w h s waits) (x y : Tenant) (place : slice_get m.slots.items s ≡ Some (Some x))
+    (b : Bank) (keeps : Keeps BankRule m.frames (view_of x) b (view_of y)) (a : Pending) where
   abbrev p : Process
   p = k.process
 
@@ -114,19 +115,13 @@ module _ (m : Machine) (w : World) (is : IsWorld m w) (h s : ℕ) (k : IsInKerne
     go None e = absurd (let never = rw e at through in cc)
     go (Some z) e = let goes = rw e at through in rw (e, goes) refl
 
-  -- the process has to end
+  -- it can't be
   module _ (rule : Rule) (must : MustEnd y t p a m.frames rule) where
-    abbrev unserved : Machine
-    unserved = record m { frames = b; slots = with_item m.slots s (Some y) }
-
-    still : IsWorld unserved w
-    still =
+    pub unreached : IsWorld (record m { frames = b; slots = with_item m.slots s (Some y) }) w
+    unreached =
         let after = bytes_change m w is s x y p p place k.in_slot tenant must.tenant b keeps (λ n z there. (z, there, refl)) in
-        subst (λ (v : World). IsWorld unserved v) (ap (λ (ps : List (Option Process)). let v : World = record w { slots = ps } in v) (place_set_back w.slots s (Some p) k.in_slot)) after
-
-    waits_still : reached (around w s) a.access a.address (begun w p) (rule_of p a) ≡ Err rule
-        → served w h (hart_of k.hart) s p (k.process).pending ≡ ended w h (hart_of k.hart) s p (Ended rule)
-    waits_still e = ap (served w h (hart_of k.hart) s p) waits ∙ ap (served_or_ended w h (hart_of k.hart) s p a) e
+        subst (λ (v : World). IsWorld (record m { frames = b; slots = with_item m.slots s (Some y) }) v)
+        (ap (λ (ps : List (Option Process)). let v : World = record w { slots = ps } in v) (place_set_back w.slots s (Some p) k.in_slot)) after
 
     reaches : (why : (rule_of p a ≡ Some rule) ⊎ ((rule_of p a ≡ None) × (rule ≡ NoFrame) × WhenShared m.frames t p a (λ n. m.frames.free < n))) → reached (around w s) a.access a.address (begun w p) (rule_of p a) ≡ Err rule
     unfolding resident_at
@@ -140,27 +135,25 @@ module _ (m : Machine) (w : World) (is : IsWorld m w) (h s : ℕ) (k : IsInKerne
           | false ↦ λ _. ap (unless_dry (around w s) a.access page (begun w p) need) dry ∙ ap Err (sym short.1)
         ] refl
 
-    pub is_ending : IsEnding m unserved w h s k rule
-    is_ending = record {
-      world = still;
-      there = record {
-        hart = k.hart;
-        there = k.there;
-        in_kernel = k.in_kernel;
-        on = k.on;
-        tenant = y;
-        place = place_set_same m.slots.items s (Some y) (slice_get_within m.slots.items s (Some x) place);
-        process = p;
-        in_slot = k.in_slot;
-        unserved = k.unserved;
-      };
-      hart = refl;
-      process = refl;
-      ends = waits_still (reaches must.why);
+    pub reaches_not : reached (around w s) a.access a.address (begun w p) (rule_of p a) ≡ Err rule
+    reaches_not = reaches must.why
+
+    -- the caller is there as before
+    unfoldable pub still_there : IsInKernel (record m { frames = b; slots = with_item m.slots s (Some y) }) w h s waits
+    still_there = record {
+      hart = k.hart;
+      there = k.there;
+      in_kernel = k.in_kernel;
+      on = k.on;
+      tenant = y;
+      place = place_set_same m.slots.items s (Some y) (slice_get_within m.slots.items s (Some x) place);
+      process = p;
+      in_slot = k.in_slot;
+      unserved = k.unserved;
     }
 
   -- the page is resident
-  module _ (has : HasServed x y t p a m.files m.frames) where
+  module _ (waiting : Option Pending) (has : HasServed x y t p a waiting m.files m.frames b) where
     abbrev from_count : Bool
     from_count = is_shared_by has.count
 
@@ -187,6 +180,9 @@ module _ (m : Machine) (w : World) (is : IsWorld m w) (h s : ℕ) (k : IsInKerne
         let z = page_there w.counter page m.files from_count p a.access (get p.settled page) refl in
         let small = (has.tenant w.counter).agrees.stands.shows.low page z.0 z.1 in
         omega (arith, small)
+
+    abbrev with_waiting : Process → Process
+    with_waiting q = record q { pending = waiting }
 
     abbrev gets : Bool
     gets = gets_frame from_count a.access (get p.settled page)
@@ -241,7 +237,7 @@ module _ (m : Machine) (w : World) (is : IsWorld m w) (h s : ℕ) (k : IsInKerne
       | inr here ↦ here.0
     ]
 
-    follows : (high : ℕ) → w.counter ≤ high → (gets ≡ true → w.counter < high) → Follows (view_of y) t has.tables p (was_served fresh_page a) w.counter high
+    follows : (high : ℕ) → w.counter ≤ high → (gets ≡ true → w.counter < high) → Follows (view_of y) t has.tables p (with_waiting fresh_page) w.counter high
     follows high order more = record {
       each = each high more;
       apart = λ l n c d at also given same. new_here l c at given ∙ sym (new_here n d also (let first = given in omega (arith, first, same)));
@@ -249,38 +245,66 @@ module _ (m : Machine) (w : World) (is : IsWorld m w) (h s : ℕ) (k : IsInKerne
     }
 
     world_after : (high : ℕ) → w.counter ≤ high → (gets ≡ true → w.counter < high)
-        → IsWorld (record m { frames = b; slots = with_item m.slots s (Some y) }) (record (with_process w s (was_served fresh_page a)) { counter = high })
+        → IsWorld (record m { frames = b; slots = with_item m.slots s (Some y) }) (record (with_process w s (with_waiting fresh_page)) { counter = high })
     world_after high order more =
-        subst (λ (fs : List File). IsWorld (record m { frames = b; slots = with_item m.slots s (Some y) }) (record (with_process w s (was_served fresh_page a)) { counter = high; files = fs })) is.files
-        (call_changes m w is s x y p (was_served fresh_page a) has.tables place k.in_slot (has.tenant w.counter) high (follows high order more) b keeps (caller_quiet m w is h s true k) m.files)
+        subst (λ (fs : List File). IsWorld (record m { frames = b; slots = with_item m.slots s (Some y) }) (record (with_process w s (with_waiting fresh_page)) { counter = high; files = fs })) is.files
+        (call_changes m w is s x y p (with_waiting fresh_page) has.tables place k.in_slot (has.tenant w.counter) high (follows high order more) b keeps (caller_quiet m w is h s waits k) m.files)
 
-    pub is_served : Makes (record m { frames = b; slots = with_item m.slots s (Some y) }) Ready (served w h (hart_of k.hart) s p (k.process).pending)
+    -- the machine is in the world in which the model has reached it
+    pub is_reached : (g : Progress) × (reached (around w s) a.access a.address (begun w p) (rule_of p a) ≡ Ok g)
+        × IsWorld (record m { frames = b; slots = with_item m.slots s (Some y) }) (with_progress w s (record g { process = with_waiting g.process })) × (b.free + g.taken ≡ m.frames.free)
     unfolding resident_at
-    is_served =
+    is_reached =
         let few : need ≤ m.frames.free = told_of (λ n. n ≤ m.frames.free) has.enough in
+        let left : b.free ≡ m.frames.free - need = told_of (λ n. b.free ≡ m.frames.free - n) has.free in
         let all = free_is m w is in
         let wet : is_dry w (0 + need) ≡ false = le-ltb (free w) (0 + need) (omega (arith, few, all)) in
-        elim (is_resident p a.access page) as (λ r. is_resident p a.access page ≡ r → Makes (record m { frames = b; slots = with_item m.slots s (Some y) }) Ready (served w h (hart_of k.hart) s p (k.process).pending)) [
+        let allow : (r : Result Progress Rule) → unless_resident (around w s) a.access page (begun w p) (is_resident p a.access page) ≡ r → reached (around w s) a.access a.address (begun w p) (rule_of p a) ≡ r =
+        λ r e. ap (reached (around w s) a.access a.address (begun w p)) has.allowed ∙ e in
+        elim (is_resident p a.access page) as (λ r. is_resident p a.access page ≡ r → (g : Progress) × (reached (around w s) a.access a.address (begun w p) (rule_of p a) ≡ Ok g)
+        × IsWorld (record m { frames = b; slots = with_item m.slots s (Some y) }) (with_progress w s (record g { process = with_waiting g.process })) × (b.free + g.taken ≡ m.frames.free)) [
           | true ↦ λ e.
               let stays = resident_stays w.counter page m.files from_count p a.access (get p.settled page) e in
-              subst (λ (o : Outcome). Makes (record m { frames = b; slots = with_item m.slots s (Some y) }) Ready o)
-              (sym (reaches_by (Ok (begun w p)) (ap (unless_resident (around w s) a.access page (begun w p)) e))) (
-                refl,
-                subst (λ (q : Process). IsWorld (record m { frames = b; slots = with_item m.slots s (Some y) }) (record (with_process w s (was_served q a)) { counter = w.counter })) stays.0
+              let none = resident_needs_none e in (
+                begun w p,
+                allow (Ok (begun w p)) (ap (unless_resident (around w s) a.access page (begun w p)) e),
+                subst (λ (q : Process). IsWorld (record m { frames = b; slots = with_item m.slots s (Some y) }) (record (with_process w s (with_waiting q)) { counter = w.counter })) stays.0
                     (world_after w.counter (omega arith) (λ gained. absurd (let kept = stays.1 in cc))),
+                omega (arith, left, none),
               )
           | false ↦ λ e.
-              let g : Progress = record { process = made_resident w.files w.counter shared p a.access page; fresh = w.counter + 1; taken = 0 + need } in
-              subst (λ (o : Outcome). Makes (record m { frames = b; slots = with_item m.slots s (Some y) }) Ready o)
-              (sym (reaches_by (Ok g) (ap (unless_resident (around w s) a.access page (begun w p)) e ∙ ap (unless_dry (around w s) a.access page (begun w p) need) wet))) (
-                refl,
-                subst (λ (q : Process). IsWorld (record m { frames = b; slots = with_item m.slots s (Some y) }) (record (with_process w s (was_served q a)) { counter = w.counter + 1 })) is_models
+              let g : Progress = record { process = made_resident w.files w.counter shared p a.access page; fresh = w.counter + 1; taken = 0 + need } in (
+                g,
+                allow (Ok g) (ap (unless_resident (around w s) a.access page (begun w p)) e ∙ ap (unless_dry (around w s) a.access page (begun w p) need) wet),
+                subst (λ (q : Process). IsWorld (record m { frames = b; slots = with_item m.slots s (Some y) }) (record (with_process w s (with_waiting q)) { counter = w.counter + 1 })) is_models
                     (world_after (w.counter + 1) (omega arith) (λ _. omega arith)),
+                omega (arith, left, few),
               )
-        ] refl where
-          reaches_by : (r : Result Progress Rule) → unless_resident (around w s) a.access page (begun w p) (is_resident p a.access page) ≡ r → served w h (hart_of k.hart) s p (k.process).pending ≡ served_or_ended w h (hart_of k.hart) s p a r
-          reaches_by r e = ap (served w h (hart_of k.hart) s p) waits ∙ ap (λ (o : Option Rule). served_or_ended w h (hart_of k.hart) s p a (reached (around w s) a.access a.address (begun w p) o)) has.allowed
-              ∙ ap (served_or_ended w h (hart_of k.hart) s p a) e
+        ] refl
+
+-- the service of an access that waits
+module _ (m : Machine) (w : World) (is : IsWorld m w) (h s : ℕ) (k : IsInKernel m w h s true) (x y : Tenant) (place : slice_get m.slots.items s ≡ Some (Some x))
+    (b : Bank) (keeps : Keeps BankRule m.frames (view_of x) b (view_of y)) (a : Pending) (waits : (k.process).pending ≡ Some a) where
+  -- it is what the model makes of how far it came
+  serves_by : (r : Result Progress Rule) → reached (around w s) a.access a.address (begun w k.process) (rule_of k.process a) ≡ r
+      → served w h (hart_of k.hart) s k.process (k.process).pending ≡ served_or_ended w h (hart_of k.hart) s k.process a r
+  serves_by r e = ap (served w h (hart_of k.hart) s k.process) waits ∙ ap (served_or_ended w h (hart_of k.hart) s k.process a) e
+
+  pub is_served : HasServed x y (is.tables s) k.process a (was_served a) m.files m.frames b
+      → Makes (record m { frames = b; slots = with_item m.slots s (Some y) }) Ready (served w h (hart_of k.hart) s k.process (k.process).pending)
+  is_served has =
+      let made = is_reached m w is h s true k x y place b keeps a (was_served a) has in
+      subst (λ (o : Outcome). Makes (record m { frames = b; slots = with_item m.slots s (Some y) }) Ready o) (sym (serves_by (Ok made.0) made.1)) (refl, made.2)
+
+  pub is_ending : (rule : Rule) → MustEnd y (is.tables s) k.process a m.frames rule → IsEnding m (record m { frames = b; slots = with_item m.slots s (Some y) }) w h s k rule
+  unfolding still_there
+  is_ending rule must = record {
+    world = unreached m w is h s true k x y place b keeps a rule must;
+    there = still_there m w is h s true k x y place b keeps a rule must;
+    hart = refl;
+    process = refl;
+    ends = serves_by (Err rule) (reaches_not m w is h s true k x y place b keeps a rule must);
+  }
 
 -- by what the process's call told
 
@@ -292,7 +316,7 @@ module _ (m : Machine) (s : ℕ) (x y : Tenant) (place : (w : World) (h : ℕ) �
   files_are : (P : Machine → Type 0) → P (record m { frames = b; slots = with_item m.slots s (Some y) }) → P after
   files_are P it = subst (λ (fs : List File). P (record m { frames = b; slots = with_item m.slots s (Some y); files = fs })) (sym stay) it
 
-  pub served_by : (r : Result (Unit {0}) Rule) → IfOk r (λ _. (t : Tables) (p : Process) (a : Pending) → IsTenant x t p → p.pending ≡ Some a → HasServed x y t p a m.files m.frames)
+  pub served_by : (r : Result (Unit {0}) Rule) → IfOk r (λ _. (t : Tables) (p : Process) (a : Pending) → IsTenant x t p → p.pending ≡ Some a → HasServed x y t p a (was_served a) m.files m.frames b)
       → IfOk r (λ _. (w : World) (h : ℕ) → IsWorld m w → (k : IsInKernel m w h s true) → Makes after Ready (served w h (hart_of k.hart) s k.process (k.process).pending))
   served_by (Err e) told = tt
   served_by (Ok u) told = λ w h is k.

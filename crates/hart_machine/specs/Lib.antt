@@ -1,6 +1,7 @@
 pub mod Accesses
 pub mod Buffers
 pub mod Calls
+pub mod Copied
 pub mod Executed
 pub mod Forked
 pub mod Harts

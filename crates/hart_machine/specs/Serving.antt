@@ -1,5 +1,5 @@
 -- What the service of a fault makes of a process.
-use Rattle.std.specs.Prelude.{◌≡◌, ◌⊎◌, ℕ, Bool, true, not, ◌<◌, ◌≤◌, ◌==◌, List, Option, None, Some, slice_index}
+use Rattle.std.specs.Prelude.{◌≡◌, ◌⊎◌, ℕ, Bool, true, not, ◌-◌, ◌<◌, ◌≤◌, ◌==◌, List, Option, None, Some, slice_index}
 use Rattle.address_space.specs.Agreement.{IsOn}
 use Rattle.fault_rules.specs.Resides.{is_shared_by, Resides}
 use Rattle.frame_store.specs.Plain.{Bank}
@@ -27,22 +27,23 @@ abbrev pub rule_of : Process → Pending → Option Rule
 rule_of p a = first_rule (regions p) a.access a.address a.width
 
 -- the access was served
-abbrev pub was_served : Process → Pending → Process
-was_served p a = record p { pending = Some (record a { served = true }) }
+abbrev pub was_served : Pending → Option Pending
+was_served a = Some (record a { served = true })
 
 -- of the frames that making its page resident takes, by whether another process has the page's
 abbrev pub WhenShared : Bank → Tables → Process → Pending → (ℕ → Type 0) → Type 0
 WhenShared b t p a P = (shared : Bool) → ((f : ℕ) → IsOn t (page_of a.address) f → shared ≡ not (slice_index b.counts f == 1)) → P (resident_need shared p a.access (page_of a.address))
 
--- the page of an access that no rule denies is resident, and the access will be answered
-pub record HasServed (x y : Tenant) (t : Tables) (p : Process) (a : Pending) (files : List File) (b : Bank) : Type 0 where
+-- the page of an access that no rule denies is resident; what is pending then is told
+pub record HasServed (x y : Tenant) (t : Tables) (p : Process) (a : Pending) (waiting : Option Pending) (files : List File) (b c : Bank) : Type 0 where
   pub allowed : rule_of p a ≡ None
   pub tables : Tables
   pub count : Option ℕ
   pub resides : Resides (view_of x) (body_in y) t tables p files a.access (page_of a.address) count
   pub counts : (f c : ℕ) → IsOn t (page_of a.address) f → count ≡ Some c → c ≡ slice_index b.counts f
-  pub tenant : (fresh : ℕ) → IsTenant y tables (was_served (made_resident files fresh (is_shared_by count) p a.access (page_of a.address)) a)
+  pub tenant : (fresh : ℕ) → IsTenant y tables (record (made_resident files fresh (is_shared_by count) p a.access (page_of a.address)) { pending = waiting })
   pub enough : WhenShared b t p a (λ need. need ≤ b.free)
+  pub free : WhenShared b t p a (λ need. c.free ≡ b.free - need)
 
 -- the process has to end by a rule: one denies the access, or too few frames are free
 pub record MustEnd (y : Tenant) (t : Tables) (p : Process) (a : Pending) (b : Bank) (rule : Rule) : Type 0 where

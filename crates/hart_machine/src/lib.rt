@@ -5,6 +5,7 @@ mod accessing;
 mod boot;
 mod buffering;
 mod calls;
+mod copying;
 mod ending;
 mod executing;
 mod filled;

@@ -6,7 +6,7 @@ ghost use Rattle.frame_store.specs.Plain.{BankRule};
 ghost use Rattle.hart_machine.specs.Buffers.{SameBuffers};
 ghost use Rattle.hart_machine.specs.Calls.{IsInKernel};
 ghost use Rattle.hart_machine.specs.Harts.{hart_of};
-ghost use Rattle.hart_machine.specs.Serving.{HasServed, IsEnding, MustEnd};
+ghost use Rattle.hart_machine.specs.Serving.{HasServed, IsEnding, MustEnd, was_served};
 ghost use Rattle.hart_machine.specs.Tenants.{IsTenant, view_of};
 ghost use Rattle.hart_machine.specs.Worlds.{IsWorld, Makes};
 ghost use Rattle.process_model.specs.Process as model;
@@ -69,7 +69,7 @@ impl Tenant {
         requires fits { Fits BankRule frames.old (view_of self.old) }
         requires ready { (t : Tables) × (p : Process) × IsTenant self.old t p }
         requires waits { (t : Tables) (p : Process) → IsTenant self.old t p → is_unserved_access p.pending ≡ true }
-        ensures served { IfOk result (λ _. (t : Tables) (p : Process) (a : model.Pending) → IsTenant self.old t p → p.pending ≡ Some a → HasServed self.old self.new t p a files.old frames.old) }
+        ensures served { IfOk result (λ _. (t : Tables) (p : Process) (a : model.Pending) → IsTenant self.old t p → p.pending ≡ Some a → HasServed self.old self.new t p a (was_served a) files.old frames.old frames.new) }
         ensures must_end { IfErr result (λ rule. (t : Tables) (p : Process) (a : model.Pending) → IsTenant self.old t p → p.pending ≡ Some a → MustEnd self.new t p a frames.old rule) }
         ensures files { files.new ≡ files.old }
         ensures keeps { Keeps BankRule frames.old (view_of self.old) frames.new (view_of self.new) }

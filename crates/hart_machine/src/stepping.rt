@@ -66,9 +66,17 @@ impl Machine {
                 address,
                 length,
             } => self.munmap(hart, address, length),
+            Step::CopyIn {
+                hart,
+                address,
+                count,
+            } => self.copy_in(hart, address, count),
+            Step::CopyOut {
+                hart,
+                address,
+                bytes,
+            } => self.copy_out(hart, address, bytes),
             Step::Exit { hart, status } => self.exit(hart, status),
-            // no other step is played
-            _ => unreachable!(),
         }
     }
 

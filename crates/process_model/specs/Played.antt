@@ -25,8 +25,9 @@ IsPlayed (step.Exec h i) = Unit {0}
 IsPlayed (step.Sbrk h delta) = Unit {0}
 IsPlayed (step.Mmap h len protection flags n) = Unit {0}
 IsPlayed (step.Munmap h a len) = Unit {0}
+IsPlayed (step.CopyIn h a n) = Unit {0}
+IsPlayed (step.CopyOut h a bytes) = Unit {0}
 IsPlayed (step.Exit h status) = Unit {0}
-IsPlayed _ = ⊥
 
 -- of scripts
 
@@ -40,7 +41,7 @@ IsLinePlayed (command.Leave h) = Unit {0}
 IsLinePlayed (command.Fix h) = Unit {0}
 IsLinePlayed (command.Show f offset n) = Unit {0}
 IsLinePlayed command.Audit = Unit {0}
-IsLinePlayed _ = ⊥
+IsLinePlayed (command.CopyOut h a bytes) = Unit {0}
 
 pub record IsScriptPlayed (s : Script) : Type 0 where
   pub policy : s.config.policy ≡ Full

@@ -31,6 +31,8 @@ played_table =
     ∷ row (codes "sbrk") word.Sbrk (kind.Number ∷ kind.Signed ∷ []) tail.Nothing
     ∷ row (codes "mmap") word.Mmap (kind.Number ∷ four_numbers) tail.Nothing
     ∷ row (codes "munmap") word.Munmap three_numbers tail.Nothing
+    ∷ row (codes "copyin") word.CopyIn three_numbers tail.Nothing
+    ∷ row (codes "copyout") word.CopyOut (kind.Number ∷ kind.Number ∷ kind.Hex ∷ []) tail.Nothing
     ∷ row (codes "exit") word.Exit (kind.Number ∷ kind.Signed ∷ []) tail.Nothing
     ∷ row (codes "show") word.Show three_numbers tail.Nothing
     ∷ row (codes "audit") word.Audit [] tail.Nothing

@@ -34,7 +34,7 @@ fn make_row(text: &'static [u8], word: Keyword, kinds: &'static [FieldKind], tai
 impl Row {
     ghost use Rattle.script_reader.specs.Rows.{seen, kind_at};
 
-    fn all() -> [Row; 27]
+    fn all() -> [Row; 29]
         ensures { map seen result ≡ played_table }
     {
         let none = Tail::Nothing;
@@ -66,6 +66,8 @@ impl Row {
             make_row(b"sbrk", Keyword::Sbrk, &[Number, Signed], none),
             make_row(b"mmap", Keyword::Mmap, five, none),
             make_row(b"munmap", Keyword::Munmap, three, none),
+            make_row(b"copyin", Keyword::CopyIn, three, none),
+            make_row(b"copyout", Keyword::CopyOut, &[Number, Number, Hex], none),
             make_row(b"exit", Keyword::Exit, &[Number, Signed], none),
             make_row(b"show", Keyword::Show, three, none),
             make_row(b"audit", Keyword::Audit, &[], none),

@@ -19,6 +19,10 @@ pub(crate) enum Deed {
     Load(u64, u64),
     /// So many bytes of a value are stored at an address, the lowest first.
     Store(u64, u64, u64),
+    /// So many bytes from an address on are copied from the process by the kernel.
+    CopyIn(u64, usize),
+    /// So many bytes are copied to the process by the kernel, from an address on: counted up from the first one.
+    CopyOut(u64, u8, usize),
     /// All mappings are written back.
     WriteBack,
     /// The files tell the eight bytes of a file from an offset on.

@@ -4,6 +4,7 @@ ghost use Rattle.address_space.specs.Agreement.{body_of};
 ghost use Rattle.frame_store.specs.Laws.{Fits, Keeps};
 ghost use Rattle.tests_of_mappings.specs.Alive.{IsAlive};
 
+use crate::copying::{copy_from, copy_to};
 use crate::deed::{Deed, Row};
 use crate::serving::serve;
 use address_space::{Asked, Space};
@@ -69,6 +70,10 @@ fn perform<S: FrameSeat, F: FrameSupply<Seat = S>, C: Files>(
         }
         Deed::Store(address, width, value) => {
             access(space, store, asked(Access::Store, address, width, value))
+        }
+        Deed::CopyIn(address, count) => copy_from(space, store, files, Va(address), count),
+        Deed::CopyOut(address, first, count) => {
+            copy_to(space, store, files, Va(address), first, count)
         }
         Deed::WriteBack => done(Reply::Done, write_all(space, store, files)),
         Deed::Look(file, offset) => look(files, file, offset),

@@ -1,4 +1,4 @@
-//! Tests of mappings, through what their crate exports: what a process does with them is data, with the replies that it is
+//! Tests of mappings, and of the kernel's copies from and to them, through what their crates export: what a process does with them is data, with the replies that it is
 //! to get, and is played over both stores. Nothing stands on it.
 #![tactic(auto)]
 
@@ -6,6 +6,10 @@
 mod beginning;
 #[cfg(test)]
 mod cabinets;
+#[cfg(test)]
+mod copies;
+#[cfg(test)]
+mod copying;
 #[cfg(test)]
 mod deed;
 #[cfg(test)]

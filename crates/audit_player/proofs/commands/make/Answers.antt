@@ -6,7 +6,7 @@ use Rattle.process_model.specs.declared.script.Command.{Command}
 use Rattle.process_model.specs.declared.step.Step.TheVariants.{Exec, Start}
 use Rattle.audit_player.specs.Told.{Tells}
 use Rattle.audit_player.specs.declared.answer.Answer.TheVariants as answer
-use Rattle.audit_player.proofs.Lending.{line_told}
+use Rattle.audit_player.proofs.Lending.{bytes_told, line_told}
 use Rattle.audit_player.proofs.commands.make.Goals as goal
 
 pub returns-in-Start : goal.returns-in-Start
@@ -26,6 +26,14 @@ returns-in-Exec c = record {
       let there : x.image < length images = rw x.is at (c.requires.declared).1 in
       subst (λ (d : Command). Tells c.exec.new.machine (answer.Step c.exec.result) (played images w d)) (sym x.is)
       (line_told _ _ images w (Exec x.hart) x.image _ there c.index-images-image-in-Exec.is (c.exec.ensures.made w here));
+}
+
+pub returns-in-CopyOut : goal.returns-in-CopyOut
+returns-in-CopyOut c = record {
+  told = λ w here.
+      let x = c.in-CopyOut in
+      subst (λ (d : Command). Tells c.copy_out.new.machine (answer.Step c.copy_out.result) (played c.args.images.now w d)) (sym x.is)
+      (bytes_told _ _ w x.hart x.address _ x.bytes c.as_slice.ensures (c.copy_out.ensures.made w here));
 }
 
 pub returns-in-Show : goal.returns-in-Show

@@ -183,6 +183,26 @@ returns-in-Exec-clause-each_buffer c w is = let x = c.in-Exec in are_of c.args.s
 pub returns-in-Exec-clause-buffers : goal.returns-in-Exec-clause-buffers
 returns-in-Exec-clause-buffers c w is = only_fills_add c.args.self.now c.exec.new.self is.tables is.kernel _ _ (returns-in-Exec-clause-each_buffer c w is)
 
+pub returns-in-CopyIn-clause-made : goal.returns-in-CopyIn-clause-made
+returns-in-CopyIn-clause-made c w is =
+    steps c.args.self.now _ _ w is (step.CopyIn c.in-CopyIn.hart c.in-CopyIn.address c.in-CopyIn.count) _ c.in-CopyIn.is (c.copy_in.ensures.made w is)
+
+pub returns-in-CopyIn-clause-each_buffer : goal.returns-in-CopyIn-clause-each_buffer
+returns-in-CopyIn-clause-each_buffer c w is = are_of c.args.self.now c.copy_in.new.self is.tables is.kernel c.copy_in.result c.in-CopyIn.is (same_are c.args.self.now c.copy_in.new.self is.tables is.kernel (step.CopyIn c.in-CopyIn.hart c.in-CopyIn.address c.in-CopyIn.count) _ (λ h. refl) c.copy_in.ensures.buffers)
+
+pub returns-in-CopyIn-clause-buffers : goal.returns-in-CopyIn-clause-buffers
+returns-in-CopyIn-clause-buffers c w is = only_fills_add c.args.self.now c.copy_in.new.self is.tables is.kernel _ _ (returns-in-CopyIn-clause-each_buffer c w is)
+
+pub returns-in-CopyOut-clause-made : goal.returns-in-CopyOut-clause-made
+returns-in-CopyOut-clause-made c w is =
+    steps c.args.self.now _ _ w is (step.CopyOut c.in-CopyOut.hart c.in-CopyOut.address c.in-CopyOut.bytes) _ c.in-CopyOut.is (c.copy_out.ensures.made w is)
+
+pub returns-in-CopyOut-clause-each_buffer : goal.returns-in-CopyOut-clause-each_buffer
+returns-in-CopyOut-clause-each_buffer c w is = are_of c.args.self.now c.copy_out.new.self is.tables is.kernel c.copy_out.result c.in-CopyOut.is (same_are c.args.self.now c.copy_out.new.self is.tables is.kernel (step.CopyOut c.in-CopyOut.hart c.in-CopyOut.address c.in-CopyOut.bytes) _ (λ h. refl) c.copy_out.ensures.buffers)
+
+pub returns-in-CopyOut-clause-buffers : goal.returns-in-CopyOut-clause-buffers
+returns-in-CopyOut-clause-buffers c w is = only_fills_add c.args.self.now c.copy_out.new.self is.tables is.kernel _ _ (returns-in-CopyOut-clause-each_buffer c w is)
+
 pub returns-in-Exit-clause-made : goal.returns-in-Exit-clause-made
 returns-in-Exit-clause-made c w is =
     let x = c.in-Exit in

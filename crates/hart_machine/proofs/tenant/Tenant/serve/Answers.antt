@@ -7,7 +7,7 @@ use Rattle.process_model.specs.Process as model
 use Rattle.process_model.specs.Residence.{made_resident}
 use Rattle.process_model.specs.World.{is_unserved_access}
 use Rattle.sv39_entry.specs.Address.{page_of}
-use Rattle.hart_machine.specs.Serving.{HasServed, MustEnd, WhenShared}
+use Rattle.hart_machine.specs.Serving.{HasServed, MustEnd, was_served, WhenShared}
 use Rattle.hart_machine.specs.Tenants.{body_in}
 use Rattle.hart_machine.specs.declared.tenant.Tenant.{Tenant}
 use Rattle.hart_machine.proofs.ServedTenants.{allowed, has_bytes, in_model, it_is, only_reads, something_waits, why}
@@ -28,7 +28,7 @@ returns-in-Ready-clause-served c t p a tenant is =
     let can = can_reside (body_in x) t p z.access z.va.0 z.width tenant.agrees free in
     let r = e.ready refl t p can in
     let y : Tenant = record { space = c.serve.new.space; pending = Some (record { access = z.access; va = z.va; width = z.width; served = true }) } in
-    subst (λ (q : model.Pending). HasServed x y t p q c.args.files.now c.args.frames.now) (it_is x z c.in-Some.is t p a tenant is) (record {
+    subst (λ (q : model.Pending). HasServed x y t p q (was_served q) c.args.files.now c.args.frames.now c.serve.new.store) (it_is x z c.in-Some.is t p a tenant is) (record {
       allowed = free;
       tables = r.0;
       count = r.1;
@@ -41,6 +41,7 @@ returns-in-Ready-clause-served c t p a tenant is =
         wide = has_bytes x z c.in-Some.is t p tenant;
       };
       enough = λ shared told. e.enough tt t p shared can told refl;
+      free = λ shared told. e.free tt t p shared can told;
     })
 
 pub returns-in-Ready-clause-files : goal.returns-in-Ready-clause-files

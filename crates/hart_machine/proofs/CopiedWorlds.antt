@@ -1,0 +1,294 @@
+-- The worlds that a copy comes to, page by page.
+use Rattle.std.proofs.Common.{◌≡◌, ℕ, ◌+◌, ◌%◌, ◌<◌, Bool, true, false, not, ◌||◌, Option, None, Some, Result, Ok, Err, List, refl, ap, sym, subst, ◌∙◌, inl, inr, arith}
+use Rattle.std.specs.Prelude.{◌⊎◌, nat_lt, slice_get, slice_set}
+use Rattle.std.specs.Vec.{with_item}
+use Rattle.std.proofs.lemmas.Bool.{and_parts}
+use Rattle.std.proofs.lemmas.List.{set-set}
+use Rattle.std.proofs.lemmas.Option.{slice_get_within}
+use Rattle.address_space.specs.Pending.{agrees_pending}
+use Rattle.address_space.specs.Steps.{CanWrite}
+use Rattle.fault_rules.specs.Allowed.{can_reside}
+use Rattle.fault_rules.specs.Resides.{CanReside, is_shared_by}
+use Rattle.fault_rules.specs.Serves.{IsEnd}
+use Rattle.fault_rules.specs.declared.service.Served.TheVariants as served
+use Rattle.frame_store.specs.Plain.{Bank}
+use Rattle.frame_store.specs.Seats.{place_set_same}
+use Rattle.frame_store.specs.View.{View}
+use Rattle.process_model.specs.Around.{Progress, reached}
+use Rattle.process_model.specs.Copies.{reached_in}
+use Rattle.process_model.specs.Files.{File}
+use Rattle.process_model.specs.PageMap.{get}
+use Rattle.process_model.specs.Process.{Page, Pending, Process, regions}
+use Rattle.process_model.specs.ReachedPages.{no_alignment, reached_serves}
+use Rattle.process_model.specs.Regions.{copy_rule, keeps_stores}
+use Rattle.process_model.specs.Residence.{is_resident, is_resident_page, made_resident, region_on, stored, with_page}
+use Rattle.process_model.specs.Service.{around, begun, with_progress}
+use Rattle.process_model.specs.World.{free, is_unserved_access, others_have, World}
+use Rattle.sv39_entry.specs.Address.{page_of}
+use Rattle.sv39_entry.specs.declared.access.Access.{Access}
+use Rattle.sv39_entry.specs.declared.rule.Rule.{Rule}
+use Rattle.sv39_entry.specs.declared.rule.Rule.TheVariants.{NoFrame}
+use Rattle.sv39_entry.specs.declared.access.Access.TheVariants as access
+use Rattle.user_copy.specs.Reaching.{Place, Reaches}
+use Rattle.user_copy.specs.Runs.{Puts}
+use Rattle.user_copy.specs.declared.short.Stop.TheVariants.{Denied}
+use Rattle.hart_machine.specs.Calls.{IsCaller}
+use Rattle.hart_machine.specs.Copied.{plain_words}
+use Rattle.hart_machine.specs.Serving.{HasServed, MustEnd, rule_of, WhenShared}
+use Rattle.hart_machine.specs.Tenants.{body_in, HasBytes, IsTenant}
+use Rattle.hart_machine.specs.Worlds.{IsWorld}
+use Rattle.hart_machine.specs.declared.machine.Machine.{Machine}
+use Rattle.hart_machine.specs.declared.tenant.Tenant.{Tenant}
+use Rattle.hart_machine.proofs.AccessingPages.{has_copies}
+use Rattle.hart_machine.proofs.AccessingWorlds.{bytes_change}
+use Rattle.hart_machine.proofs.CopyShifts.{later, lt_shift, reached_later, shifted}
+use Rattle.hart_machine.proofs.HartSteps.{tenant_is}
+use Rattle.hart_machine.proofs.HeldFrames.{free_is}
+use Rattle.hart_machine.proofs.ServedTenants.{only_reads}
+use Rattle.hart_machine.proofs.ServedWorlds.{is_reached, reaches_not, unreached}
+
+-- whose list of places is the same
+same_slots : (m n : Machine) (w : World) → m.frames ≡ n.frames → m.kernel ≡ n.kernel → m.slots.items ≡ n.slots.items → m.files ≡ n.files → m.harts ≡ n.harts → IsWorld m w → IsWorld n w
+same_slots m n w frames kernel slots files harts is = record {
+  tables = is.tables;
+  kernel = is.kernel;
+  stacks = is.stacks;
+  policy = is.policy;
+  frames = rw (← kernel) is.frames;
+  rule = rw (← frames, ← kernel, ← slots) is.rule;
+  of_kernel = rw (← kernel) is.of_kernel;
+  places = rw (← slots) is.places;
+  copies = is.copies;
+  counted = is.counted;
+  files = rw (← files) is.files;
+  harts = rw (← harts) is.harts;
+  hosted = rw (← harts, ← slots) is.hosted;
+  alone = rw (← harts) is.alone;
+  idle = rw (← harts) is.idle;
+  buffers = rw (← harts) is.buffers;
+}
+
+-- the access that a copy makes, as one that waits
+abbrev pub asked : Access → ℕ → Pending
+asked a address = record { access = a; address = address; width = 1; served = false }
+
+module _ (m : Machine) (w : World) (is : IsWorld m w) (h s : ℕ) (k : IsCaller m w h s) where
+  abbrev pub Spot : Type 0
+  Spot = Place View Bank (List File)
+
+  abbrev pub tenant_at : Spot → Tenant
+  tenant_at a = record { space = a.space; pending = None }
+
+  abbrev pub machine_at : Spot → Machine
+  machine_at a = record m { frames = a.store; slots = with_item m.slots s (Some (tenant_at a)); files = a.files }
+
+  -- a copy is under way: it has come so far, and the machine is in the world of that moment
+  pub record IsUnderWay (a : Spot) (g : Progress) : Type 0 where
+    pub world : IsWorld (machine_at a) (with_progress w s g)
+    pub left : a.store.free + g.taken ≡ m.frames.free
+    pub quiet : g.process.pending ≡ None
+
+  module _ (a : Spot) (g : Progress) (u : IsUnderWay a g) where
+    abbrev there : World
+    there = with_progress w s g
+
+    at : slice_get (slice_set w.slots s (Some g.process)) s ≡ Some (Some g.process)
+    at = place_set_same w.slots s (Some g.process) (slice_get_within w.slots s (Some k.process) k.in_slot)
+
+    placed : slice_get (slice_set m.slots.items s (Some (tenant_at a))) s ≡ Some (Some (tenant_at a))
+    placed = place_set_same m.slots.items s (Some (tenant_at a)) (slice_get_within m.slots.items s (Some k.tenant) k.place)
+
+    abbrev caller : IsCaller (machine_at a) there h s
+    caller = record {
+      hart = k.hart;
+      there = k.there;
+      in_kernel = k.in_kernel;
+      on = k.on;
+      tenant = tenant_at a;
+      place = placed;
+      process = g.process;
+      in_slot = at;
+      unserved = ap is_unserved_access u.quiet;
+    }
+
+    pub tenant : IsTenant (tenant_at a) (u.world.tables s) g.process
+    tenant = tenant_is (machine_at a) there u.world s (tenant_at a) g.process placed at
+
+    others : (c : ℕ) → others_have there s c ≡ others_have w s c
+    others c = rw (set-set w.slots s (Some g.process) None) refl
+
+    -- frames that were taken are gone
+    frees : free w ≡ free there + g.taken
+    frees =
+        let now = free_is (machine_at a) there u.world in
+        let before = free_is m w is in
+        let left = u.left in
+        omega (arith, now, before, left)
+
+    -- a page is reached
+
+    module _ (b : Spot) (kind : Access) (address : ℕ) where
+      -- the machine between, whose slot was set twice
+      abbrev between : Machine
+      between = record m { frames = b.store; slots = with_item (with_item m.slots s (Some (tenant_at a))) s (Some (tenant_at b)); files = a.files }
+
+      abbrev waiting : Pending
+      waiting = asked kind address
+
+      shift : (r : Result Progress Rule) → reached (around there s) kind address (begun there g.process) (rule_of g.process waiting) ≡ r → reached_in (around w s) kind g address ≡ shifted g.taken r
+      shift r e =
+          reached_later (around there s) (around w s) refl others g.taken
+          (λ page need. lt_shift (free there) need g.taken ∙ ap (λ n. nat_lt n (g.taken + need)) (sym frees)) g.process g.fresh kind address (copy_rule (regions g.process) kind address)
+          ∙ ap (shifted g.taken) (ap (reached (around there s) kind address (begun there g.process)) (sym (no_alignment (regions g.process) kind address)) ∙ e)
+
+      module _ (e : Reaches plain_words a b kind address (Ok tt)) where
+        allowed : rule_of g.process waiting ≡ None
+        allowed = no_alignment (regions g.process) kind address ∙ by (copy_rule (regions g.process) kind address) (e.ended (u.world.tables s) g.process tenant.agrees)
+          where
+            by : (o : Option Rule) → IsEnd o served.Ready → o ≡ None
+            by None told = refl
+            by (Some rule) told = absurd (cc)
+
+        can : CanReside (body_in (tenant_at a)) (u.world.tables s) g.process kind (page_of address)
+        can = can_reside (body_in (tenant_at a)) (u.world.tables s) g.process kind address 1 tenant.agrees allowed
+
+        has : HasServed (tenant_at a) (tenant_at b) (u.world.tables s) g.process waiting None a.files a.store b.store
+        has =
+            let r = e.ready refl (u.world.tables s) g.process can in
+            record {
+              allowed = allowed;
+              tables = r.0;
+              count = r.1;
+              resides = r.2;
+              counts = λ f n on told. r.3 f n on told tt;
+              tenant = λ fresh. record {
+                agrees = agrees_pending _ _ _ _ _ (made_resident a.files fresh (is_shared_by r.1) g.process kind (page_of address)) (r.2.agrees fresh) None;
+                framed = rw e.trapframe tenant.framed;
+                pending = refl;
+                wide = tt;
+              };
+              enough = λ shared told. e.enough tt (u.world.tables s) g.process shared can told refl;
+              free = λ shared told. e.free tt (u.world.tables s) g.process shared can told;
+            }
+
+        files_stay : b.files ≡ a.files
+        files_stay = e.moves (λ x un. cc) (u.world.tables s) g.process tenant.agrees ∙ only_reads a.files g.process (page_of address) (copy_rule (regions g.process) kind address)
+
+        pub reaches : (j : Progress) × (reached_in (around w s) kind g address ≡ Ok j) × IsUnderWay b j
+        reaches =
+            let made = is_reached (machine_at a) there u.world h s false caller (tenant_at a) (tenant_at b) placed b.store e.keeps waiting None has in
+            let i = made.0 in
+            let j = later g.taken i in
+            let reached_j = shift (Ok i) made.1 in
+            let quiet : i.process.pending ≡ None = (reached_serves (around w s) kind g j address reached_j).pending ∙ u.quiet in
+            let gone = made.3 in
+            let before = u.left in (
+              j,
+              reached_j,
+              record {
+                world = same_slots between (machine_at b) (with_progress w s j)
+                    refl refl (set-set m.slots.items s (Some (tenant_at a)) (Some (tenant_at b))) (sym files_stay) refl (same_world i quiet made.2);
+                left = omega (arith, gone, before);
+                quiet = quiet;
+              },
+            )
+          where
+            same_world : (i : Progress) → i.process.pending ≡ None → IsWorld between (with_progress there s (record i { process = record i.process { pending = None } }))
+                → IsWorld between (with_progress w s i)
+            same_world i quiet it =
+                subst (λ (q : Process). IsWorld between (with_progress w s (record i { process = q }))) (ap (λ (o : Option Pending). let q : Process = record i.process { pending = o } in q) (sym quiet))
+                (subst (λ (ps : List (Option Process)). let v : World = record w { slots = ps; counter = i.fresh } in IsWorld between v)
+                (set-set w.slots s (Some g.process) (let q : Process = record i.process { pending = None } in Some q)) it)
+
+      module _ (rule : Rule) (e : Reaches plain_words a b kind address (Err (Denied rule))) where
+        must : MustEnd (tenant_at b) (u.world.tables s) g.process waiting a.store rule
+        must = record {
+          tenant = record {
+            agrees = e.whole rule refl (u.world.tables s) g.process tenant.agrees;
+            framed = rw e.trapframe tenant.framed;
+            pending = u.quiet;
+            wide = subst HasBytes (sym u.quiet) tt;
+          };
+          why = by (copy_rule (regions g.process) kind address) refl (e.ended (u.world.tables s) g.process tenant.agrees);
+        }
+          where
+            aligned : rule_of g.process waiting ≡ copy_rule (regions g.process) kind address
+            aligned = no_alignment (regions g.process) kind address
+
+            same_end : (r q : Rule) → served.Ended q ≡ served.Ended r → q ≡ r
+            same_end r q same = cc
+
+            by : (o : Option Rule) → copy_rule (regions g.process) kind address ≡ o → IsEnd o (served.Ended rule)
+                → (rule_of g.process waiting ≡ Some rule) ⊎ ((rule_of g.process waiting ≡ None) × (rule ≡ NoFrame) × WhenShared a.store (u.world.tables s) g.process waiting (λ need. a.store.free < need))
+            by None none told =
+                let dry = told rule refl in
+                inr (
+                  aligned ∙ none,
+                  dry,
+                  λ shared one. e.short tt (u.world.tables s) g.process shared (can_reside (body_in (tenant_at a)) (u.world.tables s) g.process kind address 1 tenant.agrees (aligned ∙ none)) one
+                      (ap served.Ended dry),
+                )
+            by (Some r) some told = inl (aligned ∙ some ∙ ap Some (sym (same_end r rule told)))
+
+        pub stops : (reached_in (around w s) kind g address ≡ Err rule) × IsWorld (machine_at b) there
+        stops =
+            let not = reaches_not (machine_at a) there u.world h s false caller (tenant_at a) (tenant_at b) placed b.store e.keeps waiting rule must in
+            let still = unreached (machine_at a) there u.world h s false caller (tenant_at a) (tenant_at b) placed b.store e.keeps waiting rule must in (
+              shift (Err rule) not,
+              same_slots between (machine_at b) there
+                  refl refl (set-set m.slots.items s (Some (tenant_at a)) (Some (tenant_at b))) (sym files_stop) refl still,
+            )
+          where
+            files_stop : b.files ≡ a.files
+            files_stop = e.moves (λ x un. cc) (u.world.tables s) g.process tenant.agrees ∙ only_reads a.files g.process (page_of address) (copy_rule (regions g.process) kind address)
+
+    -- bytes are put into a page that was reached for a store
+
+    module _ (d : Spot) (address : ℕ) (given : List ℕ) (x : Page) (settled : get g.process.settled (page_of address) ≡ Some x) (resident : is_resident g.process access.Store (page_of address) ≡ true)
+        (allowed : copy_rule (regions g.process) access.Store address ≡ None) (put : Puts plain_words a d address given) where
+      abbrev after : Process
+      after = with_page g.process (page_of address) (stored x (address % 4096) given)
+
+      can_write : CanWrite (body_in (tenant_at a)) (u.world.tables s) g.process (page_of address) x
+      can_write =
+          let can = can_reside (body_in (tenant_at a)) (u.world.tables s) g.process access.Store address 1 tenant.agrees (no_alignment (regions g.process) access.Store address ∙ allowed) in
+          let goes = ap (is_resident_page access.Store (region_on g.process (page_of address))) (sym settled) ∙ resident in
+          record {
+            read = record { agrees = tenant.agrees; settled = settled };
+            unmarked = is_not x.fork_mark (and_parts (not x.fork_mark) (x.stored_mark || not (keeps_stores (region_on g.process (page_of address)))) goes).0;
+            region = can.region;
+            in_region = can.in_region;
+            writes = is_so (can.region).writes can.right;
+          }
+        where
+          is_not : (b : Bool) → not b ≡ true → b ≡ false
+          is_not true told = absurd (cc)
+          is_not false told = refl
+
+          is_so : (b : Bool) → not b ≡ false → b ≡ true
+          is_so true told = refl
+          is_so false told = absurd (cc)
+
+      put_tenant : IsTenant (tenant_at d) (u.world.tables s) after
+      put_tenant = record {
+        agrees = put.agrees (u.world.tables s) g.process x can_write;
+        framed = rw put.trapframe tenant.framed;
+        pending = u.quiet;
+        wide = subst HasBytes (sym u.quiet) tt;
+      }
+
+      abbrev put_between : Machine
+      put_between = record m { frames = d.store; slots = with_item (with_item m.slots s (Some (tenant_at a))) s (Some (tenant_at d)); files = a.files }
+
+      pub puts : IsUnderWay d (record g { process = after })
+      puts =
+          let changed = bytes_change (machine_at a) there u.world s (tenant_at a) (tenant_at d) g.process after placed at tenant put_tenant d.store put.keeps
+          (has_copies g.process (page_of address) x (stored x (address % 4096) given) settled refl) in
+          let free = put.free tt in
+          let before = u.left in
+          record {
+            world = same_slots put_between (machine_at d) (with_progress w s (record g { process = after })) refl refl (set-set m.slots.items s (Some (tenant_at a)) (Some (tenant_at d))) (sym put.files) refl
+                (subst (λ (ps : List (Option Process)). let v : World = record w { slots = ps; counter = g.fresh } in IsWorld put_between v) (set-set w.slots s (Some g.process) (Some after)) changed);
+            left = omega (arith, free, before);
+            quiet = u.quiet;
+          }

@@ -1,0 +1,117 @@
+// What the kernel copies from mappings and to them, and where it stops. The byte of file 2 at a place is place / 256 + 128.
+
+use crate::copying::counted;
+use crate::deed::Deed::{CopyIn, CopyOut, Load, Map, Unmap};
+use crate::deed::Row;
+use crate::stores::{Story, first_fault};
+use process_model::{Refusal, Reply};
+use std::test::Fail;
+use sv39_entry::Rule;
+
+/// Two pages of file 2 are mapped, of which stores stay in the process, and 250 bytes are copied across the end of the first one.
+fn across() -> [Row; 8] {
+    [
+        (Map(8_192, 3, 2, 2), Reply::MappedAt(0x3fffffc000)),
+        (CopyOut(0x3fffffcf81, 1, 250), Reply::CopiedOut(250)),
+        (CopyIn(0x3fffffcf81, 250), Reply::CopiedIn(counted(1, 250))),
+        // the bytes before and behind them are the file's
+        (Load(0x3fffffcf80, 2), Reply::Value(0x018f)),
+        (Load(0x3fffffd07a, 2), Reply::Value(0x90fa)),
+        (CopyIn(0x3fffffcf7f, 1), Reply::CopiedIn(counted(0x8f, 1))),
+        // no byte is copied from or to any address
+        (
+            CopyIn(0x8000000000000000, 0),
+            Reply::CopiedIn(counted(0, 0)),
+        ),
+        (CopyOut(0x1000, 0, 0), Reply::CopiedOut(0)),
+    ]
+}
+
+/// Copies that stop: behind the last page, at the trapframe, below which 16 bytes are left, and where nothing may be written.
+fn denied() -> [Row; 9] {
+    [
+        (CopyOut(0xff8, 0x41, 16), Reply::ShortOut(Rule::NoRegion, 8)),
+        (
+            CopyIn(0xff8, 16),
+            Reply::ShortIn(Rule::NoRegion, counted(0x41, 8)),
+        ),
+        (
+            CopyIn(0x1000, 16),
+            Reply::ShortIn(Rule::NoRegion, counted(0, 0)),
+        ),
+        (Map(4_096, 3, 2, 2), Reply::MappedAt(0x3fffffd000)),
+        (
+            CopyOut(0x3fffffdff0, 7, 256),
+            Reply::ShortOut(Rule::KernelPage, 16),
+        ),
+        (
+            CopyIn(0x3fffffdff0, 17),
+            Reply::ShortIn(Rule::KernelPage, counted(7, 16)),
+        ),
+        (Map(4_096, 1, 2, 2), Reply::MappedAt(0x3fffffc000)),
+        (
+            CopyOut(0x3fffffcfff, 7, 2),
+            Reply::ShortOut(Rule::NoWrite, 0),
+        ),
+        (CopyIn(0x3fffffcfff, 1), Reply::CopiedIn(counted(0x8f, 1))),
+    ]
+}
+
+/// There is a frame for the first of two pages alone: what was copied to it stays.
+fn dry() -> [Row; 5] {
+    [
+        (Map(8_192, 3, 2, 2), Reply::MappedAt(0x3fffffc000)),
+        (
+            CopyOut(0x3fffffcf81, 1, 250),
+            Reply::ShortOut(Rule::NoFrame, 127),
+        ),
+        (
+            CopyIn(0x3fffffcf81, 250),
+            Reply::ShortIn(Rule::NoFrame, counted(1, 127)),
+        ),
+        (Load(0x3fffffd000, 1), Reply::Fault(13)),
+        (CopyIn(0x3fffffcf81, 127), Reply::CopiedIn(counted(1, 127))),
+    ]
+}
+
+/// The files promise one page, refuse one, and promise all others: a refusal tells no byte, and what was copied stays.
+fn unpromised() -> [Row; 8] {
+    [
+        (Map(8_192, 3, 2, 2), Reply::MappedAt(0x3fffffc000)),
+        (
+            CopyOut(0x3fffffcf81, 1, 250),
+            Reply::Refused(Refusal::Memory),
+        ),
+        (Load(0x3fffffd000, 1), Reply::Fault(13)),
+        (CopyIn(0x3fffffcf81, 127), Reply::CopiedIn(counted(1, 127))),
+        (CopyOut(0x3fffffcf81, 2, 250), Reply::CopiedOut(250)),
+        (CopyIn(0x3fffffcf81, 250), Reply::CopiedIn(counted(2, 250))),
+        (Unmap(0x3fffffc000, 8_192), Reply::Done),
+        (
+            CopyIn(0x3fffffcf81, 250),
+            Reply::ShortIn(Rule::NoRegion, counted(0, 0)),
+        ),
+    ]
+}
+
+#[test]
+fn copies_up_to_the_stop(rt: HostRuntime) -> Result<(), Fail> {
+    let (across, denied, dry, unpromised) = (across(), denied(), dry(), unpromised());
+    let stories = [
+        (10, None, &across[..]),
+        (10, None, &denied[..]),
+        (9, None, &dry[..]),
+        (10, Some(1), &unpromised[..]),
+    ];
+    for (frames, promises, rows) in stories {
+        let story = Story {
+            frames,
+            page: 0,
+            promises,
+            rows,
+            changes: &[],
+        };
+        assert_eq!(rt; first_fault(&rt, rt.alloc(), &story)?, None);
+    }
+    Ok(())
+}
