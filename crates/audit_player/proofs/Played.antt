@@ -2,8 +2,7 @@
 use Rattle.std.proofs.Common.{◌≡◌, ℕ, ◌<◌, false, List, [], ◌++◌, length, length-append, Option, None, Some, Result, Err, inl, inr, refl, sym, ap, subst, ◌∙◌, arith}
 use Rattle.std.specs.Prelude.{nat_le}
 use Rattle.process_model.specs.declared.script.Cause.TheVariants as cause
-use Rattle.process_model.specs.Script.{script_by, longest_script}
-use Rattle.script_reader.specs.Played as reader
+use Rattle.process_model.specs.Script.{script_of, longest_script}
 use Rattle.audit_player.proofs.Parts.{appends_nothing}
 use Rattle.audit_player.specs.declared.fault.PlayError.{PlayError}
 use Rattle.audit_player.specs.declared.fault.PlayError.TheVariants as error
@@ -13,23 +12,23 @@ use Rattle.audit_player.specs.Taken.{IsInput}
 not_within : (n : ℕ) → longest_script < n → nat_le n longest_script ≡ false
 not_within n lt = grind arith
 
-too_long : (bytes : List ℕ) → longest_script < length bytes → script_by reader.played bytes ≡ Err (0, cause.TooLong)
+too_long : (bytes : List ℕ) → longest_script < length bytes → script_of bytes ≡ Err (0, cause.TooLong)
 too_long bytes lt = rw (not_within (length bytes) lt) refl
 
 longer : (bytes rest xs : List ℕ) → xs ≡ bytes ++ rest → longest_script < length bytes → longest_script < length xs
 longer bytes rest xs e lt = let more : length xs ≡ length (bytes ++ rest) = ap length e in omega (arith, more, length-append bytes rest)
 
 -- bytes of which all, or too many, were read say the same script
-same_script : (xs bytes : List ℕ) → IsInput longest_script (Some xs) bytes → script_by reader.played bytes ≡ script_by reader.played xs
-same_script xs bytes (inl e) = ap (script_by reader.played) e
+same_script : (xs bytes : List ℕ) → IsInput longest_script (Some xs) bytes → script_of bytes ≡ script_of xs
+same_script xs bytes (inl e) = ap script_of e
 same_script xs bytes (inr (lt, (rest, e))) = too_long bytes lt ∙ sym (too_long xs (longer bytes rest xs e lt))
 
 -- what holds of the bytes that were read holds of those that the reader had
-pub played : (read old new : Option (List ℕ)) (bytes : List ℕ) (result : Result (Unit {0}) PlayError) → IsInput longest_script read bytes → PlaysScript old new result (script_by reader.played bytes) → Plays read old new result
+pub played : (read old new : Option (List ℕ)) (bytes : List ℕ) (result : Result (Unit {0}) PlayError) → IsInput longest_script read bytes → PlaysScript old new result (script_of bytes) → Plays read old new result
 played None old new bytes result input h = (bytes, h)
 played (Some xs) old new bytes result input h = subst (PlaysScript old new result) (same_script xs bytes input) h
 
 -- nothing is a beginning of every text
 pub read_failed : (read known : Option (List ℕ)) → Plays read known known (Err error.Io)
-read_failed None known = ([], (text_or_none (script_by reader.played []), ([], refl, appends_nothing known)))
-read_failed (Some bytes) known = (text_or_none (script_by reader.played bytes), ([], refl, appends_nothing known))
+read_failed None known = ([], (text_or_none (script_of []), ([], refl, appends_nothing known)))
+read_failed (Some bytes) known = (text_or_none (script_of bytes), ([], refl, appends_nothing known))

@@ -1,10 +1,9 @@
 -- What playing a script answers and writes.
 use Rattle.std.specs.Prelude.{◌≡◌, ℕ, List, [], Option, None, Some, Result, Ok, Err}
 use Rattle.std.specs.Io.KnownBytes.{Appends, Keeps}
-use Rattle.process_model.specs.Script.{Script, script_by}
+use Rattle.process_model.specs.Script.{Script, script_of}
 use Rattle.process_model.specs.Text.{text_of}
 use Rattle.process_model.specs.declared.script.Cause.{Cause}
-use Rattle.script_reader.specs.Played.{played}
 use Rattle.audit_player.specs.Taken.{WroteSome}
 use Rattle.audit_player.specs.declared.fault.PlayError.{PlayError}
 use Rattle.audit_player.specs.declared.fault.PlayError.TheVariants as error
@@ -33,5 +32,5 @@ PlaysScript old new (Err e) script = Refuses old new e script
 -- The bytes that the reader has, and what the writer holds before and after; where the reader does not tell its bytes,
 -- there are some of which the same holds.
 abbrev pub Plays : Option (List ℕ) → Option (List ℕ) → Option (List ℕ) → Result (Unit {0}) PlayError → Type 0
-Plays None old new result = (bytes : List ℕ) × PlaysScript old new result (script_by played bytes)
-Plays (Some bytes) old new result = PlaysScript old new result (script_by played bytes)
+Plays None old new result = (bytes : List ℕ) × PlaysScript old new result (script_of bytes)
+Plays (Some bytes) old new result = PlaysScript old new result (script_of bytes)

@@ -1,9 +1,8 @@
 // What the lines after `boot` do.
 
-ghost use Rattle.std.specs.Prelude.{◌≡◌, All, List};
+ghost use Rattle.std.specs.Prelude.{◌≡◌, List};
 ghost use Rattle.hart_machine.specs.Worlds.{IsWorld, Makes};
 ghost use Rattle.process_model.specs.Images.{image_loads};
-ghost use Rattle.process_model.specs.Played.{IsLinePlayed, IsPlayed};
 ghost use Rattle.process_model.specs.Steps as model;
 ghost use Rattle.process_model.specs.Text as words;
 ghost use Rattle.process_model.specs.World.{World};
@@ -59,7 +58,6 @@ fn copy_out(machine: &mut Machine, hart: usize, address: u64, bytes: &[u8]) -> R
 /// Makes several steps that have one reply: that of the first which is refused, and none is made after it; else the one given.
 fn series(machine: &mut Machine, steps: &[Step<'_>], reply: Reply) -> Reply
     requires world { (w : World) × IsWorld machine.old w }
-    requires played { All IsPlayed steps.now }
     ensures made { (w : World) → IsWorld machine.old w → Makes machine.new result (words.series_of w steps.now reply) }
 {
     for step in steps {
@@ -125,7 +123,6 @@ fn fix(machine: &mut Machine, hart: usize) -> Reply
 /// What a line after `boot` does, and what it answers.
 pub fn make(machine: &mut Machine, images: &[OwnedImage], command: &Command) -> Answer
     requires world { (w : World) × IsWorld machine.old w }
-    requires played { IsLinePlayed command.now }
     requires declared { (files : List FileText) × IsDeclared files images.now command.now }
     ensures told { (w : World) → IsWorld machine.old w → Tells machine.new result (words.played images.now w command.now) }
 {

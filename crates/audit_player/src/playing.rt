@@ -3,7 +3,6 @@
 ghost use Rattle.std.specs.Prelude.{◌≡◌, ◌↔◌, ◌||◌, false, IfOk, IsTrue, IsErrOf};
 ghost use Rattle.std.specs.String.{string_bytes};
 ghost use Rattle.hart_machine.specs.Worlds.{IsWorld};
-ghost use Rattle.process_model.specs.Played.{IsScriptPlayed};
 ghost use Rattle.process_model.specs.Text as words;
 ghost use Rattle.process_model.specs.World.{booted};
 ghost use Rattle.process_model.specs.declared.config.Policy.TheVariants.{Full};
@@ -38,7 +37,6 @@ fn boot(alloc: Global, config: Config, files: Cabinet) -> Result<Machine, AllocE
 /// The text of a whole run.
 fn output(alloc: Global, script: &Script) -> Result<String, AllocError>
     requires playable { IsPlayable script.now }
-    requires played { IsScriptPlayed script.now }
     ensures { IfOk result (λ text. string_bytes text ≡ words.text_of script.now) }
 {
     let images = script.images();
@@ -56,8 +54,7 @@ fn output(alloc: Global, script: &Script) -> Result<String, AllocError>
 
 /// Reads a script, plays it, and writes its replies, a line each.
 ///
-/// What is accepted means the same in the whole format (`Script::read`). A script that is refused, and want of memory,
-/// come before anything is written. `Io` comes just where the reader or the writer failed, and what was written is then a
+/// A script that is refused, and want of memory, come before anything is written. `Io` comes just where the reader or the writer failed, and what was written is then a
 /// beginning of the text.
 pub fn play<R: Source, W: Sink>(
     alloc: Global,

@@ -41,7 +41,7 @@ use Rattle.hart_machine.specs.declared.machine.Machine.{Machine}
 use Rattle.hart_machine.specs.declared.tenant.Tenant.{Tenant}
 use Rattle.hart_machine.proofs.AccessingPages.{has_copies}
 use Rattle.hart_machine.proofs.AccessingWorlds.{bytes_change}
-use Rattle.hart_machine.proofs.CopyShifts.{later, lt_shift, reached_later, shifted}
+use Rattle.process_laws.proofs.Later.{later, lt_shift, reached_later, shifted}
 use Rattle.hart_machine.proofs.HartSteps.{tenant_is}
 use Rattle.hart_machine.proofs.HeldFrames.{free_is}
 use Rattle.hart_machine.proofs.ServedTenants.{only_reads}

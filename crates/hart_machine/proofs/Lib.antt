@@ -10,7 +10,6 @@ pub mod BufferSteps
 pub mod Calling
 pub mod CopiedRuns
 pub mod CopiedWorlds
-pub mod CopyShifts
 pub mod CopySteps
 pub mod CountedLists
 pub mod Emptying
@@ -33,7 +32,7 @@ pub mod MatchedLists
 pub mod NumberLists
 pub mod PageCopies
 pub mod PlaceFrames
-pub mod PlayedSteps
+pub mod FullSteps
 pub mod PresentTables
 pub mod ProcessSteps
 pub mod SeatFrames

@@ -1,12 +1,15 @@
 // Steps of the machine, and lists of steps.
 
-ghost use Rattle.std.specs.Prelude.{◌≡◌, All, IfOk, map, OnErr, OnOk, option_copied, option_map, slice_get};
+ghost use Rattle.std.specs.Prelude.{◌≡◌, IfOk, List, map, OnErr, OnOk, option_copied, option_map, slice_get};
 ghost use Rattle.hart_machine.specs.Buffers.{buffer_of, BuffersAre, OnlyFillsAdd};
 ghost use Rattle.hart_machine.specs.Harts.{key_of};
 ghost use Rattle.hart_machine.specs.Worlds.{IsWorld, Makes};
-ghost use Rattle.process_model.specs.Played.{IsPlayed};
+ghost use Rattle.process_laws.specs.Headline.{Headline};
+ghost use Rattle.process_model.specs.Files.{File};
 ghost use Rattle.process_model.specs.Steps as model;
-ghost use Rattle.process_model.specs.World.{World};
+ghost use Rattle.process_model.specs.World.{booted, World};
+ghost use Rattle.process_model.specs.declared.config.Config.{Config};
+ghost use Rattle.process_model.specs.declared.step.Step as declared;
 
 use crate::hart::BUFFER_SIZE;
 use crate::machine::Machine;
@@ -21,7 +24,6 @@ impl Machine {
     /// the page (RISC-V Privileged Architecture 20211203, 4.2.1). Each buffer is told exactly, in the order of filling.
     pub fn step(&mut self, step: Step<'_>) -> Reply
         requires world { (w : World) × IsWorld self.old w }
-        requires played { IsPlayed step }
         ensures made { (w : World) → IsWorld self.old w → Makes self.new result (model.step w step.entry) }
         ensures buffers { (w : World) (is : IsWorld self.old w) → OnlyFillsAdd self.old self.new is.tables is.kernel step.entry }
         ensures each_buffer { (w : World) (is : IsWorld self.old w) → BuffersAre self.old self.new is.tables is.kernel step.entry result }
@@ -81,10 +83,13 @@ impl Machine {
     }
 
     /// Makes the steps of a list, in order. Room for all replies is taken first: where it is refused, no step is made.
+    ///
+    /// To a machine that was booted and then made any earlier steps, the replies meet the headline (`Headline` in
+    /// `process_laws`).
     pub fn run(&mut self, alloc: Global, steps: &[Step<'_>]) -> Result<Vec<Reply>, AllocError>
         requires world { (w : World) × IsWorld self.old w }
-        requires played { All IsPlayed steps.now }
         ensures replies { IfOk result (λ replies. (w : World) → IsWorld self.old w → replies.items ≡ (model.run w steps.now).replies) }
+        ensures headline { IfOk result (λ replies. (c : Config) (files : List File) (earlier : List declared.Step) → IsWorld self.old (model.run (booted c files) earlier).world → Headline c files earlier steps.now replies.items) }
         ensures world { OnOk result ((w : World) → IsWorld self.old w → IsWorld self.new (model.run w steps.now).world) }
         ensures unmade { OnErr result (self.new ≡ self.old) }
     {

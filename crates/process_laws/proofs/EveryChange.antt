@@ -138,7 +138,7 @@ module _ (P : ℕ → Process → Type 0) where
     pub keeps : P g.fresh g.process
     pub rises : n ≤ g.fresh
 
-  data GoesIfOk (n : ℕ) : Result Progress Rule → Type 0 where
+  pub data GoesIfOk (n : ℕ) : Result Progress Rule → Type 0 where
     stopped : {r : Rule} → GoesIfOk n (Err r)
     went : {g : Progress} → Goes n g → GoesIfOk n (Ok g)
 
@@ -157,7 +157,7 @@ module _ (P : ℕ → Process → Type 0) where
     }
 
     -- a process is put into a slot
-    put_holds : (w v : World) (s : ℕ) (p : Process) → v.slots ≡ slice_set w.slots s (Some p) → w.counter ≤ v.counter → P v.counter p → Holds w → Holds v
+    pub put_holds : (w v : World) (s : ℕ) (p : Process) → v.slots ≡ slice_set w.slots s (Some p) → w.counter ≤ v.counter → P v.counter p → Holds w → Holds v
     put_holds w v s p slots counter f h = set_holds w v s (Some p) slots counter (λ q e. subst (P v.counter) (same_Some p q e) f) h
 
     -- a slot is emptied
@@ -236,12 +236,12 @@ module _ (P : ℕ → Process → Type 0) where
       at_goes access address granted = unless_goes access address _ granted
 
       -- what no rule denies is made resident
-      reached_goes : (access : Access) (address : ℕ) (r : Option Rule) → (r ≡ None → copy_rule (regions g.process) access address ≡ None) → GoesIfOk n (reached a access address g r)
+      pub reached_goes : (access : Access) (address : ℕ) (r : Option Rule) → (r ≡ None → copy_rule (regions g.process) access address ≡ None) → GoesIfOk n (reached a access address g r)
       reached_goes access address (Some r) granted = stopped
       reached_goes access address None granted = at_goes access address (granted refl)
 
       -- a byte that a copy puts
-      byte_on_goes : (address b : ℕ) (o : Option Page) → get (g.process).settled (page_of address) ≡ o → Goes n (record g { process = with_byte_on g.process address b o })
+      pub byte_on_goes : (address b : ℕ) (o : Option Page) → get (g.process).settled (page_of address) ≡ o → Goes n (record g { process = with_byte_on g.process address b o })
       byte_on_goes address b None e = record { keeps = h.keeps; rises = h.rises }
       byte_on_goes address b (Some x) e = record {
         keeps = k.written g.fresh g.process (page_of address) x (write_bytes x.bytes (address % 4096) (b ∷ [])) e (length_written x.bytes (b ∷ []) (address % 4096) (omega arith)) h.keeps;

@@ -13,7 +13,7 @@ use Rattle.process_model.specs.Files.{File}
 use Rattle.process_model.specs.Residence.{is_resident_page, is_resident, region_on}
 use Rattle.process_model.specs.Around.{Around, Progress, unless_dry, unless_resident, resident_at, reached}
 use Rattle.process_model.specs.World.{World, flat, process_in, has_slot, lowest_free}
-use Rattle.process_laws.specs.Latest.{slot_on}
+use Rattle.process_laws.specs.Moments.{slot_on}
 use Rattle.process_laws.proofs.PageBytes.{contents, AllSized, byte_in, SettlesPage, stays_settled, resident_settles}
 
 pub none_some : {A : Type 0} {x : A} → None ≡ Some x → ⊥

@@ -21,11 +21,12 @@ use Rattle.process_model.specs.Service.{around, begun, with_progress}
 use Rattle.process_model.specs.declared.config.Config.{Config}
 use Rattle.process_model.specs.declared.config.Policy.{Policy}
 use Rattle.process_model.specs.declared.config.Policy.TheVariants.{Full, Asid}
-use Rattle.process_model.specs.declared.step.Reply.{Reply}
 use Rattle.process_model.specs.declared.step.Reply.TheVariants.{Value}
 use Rattle.process_model.specs.declared.step.Step.{Step}
 use Rattle.process_model.specs.declared.step.Step.TheVariants as step
-use Rattle.process_laws.specs.Latest.{Moment, moments_from, latest, Knowledge, known_after, slot_on, byte_at, bytes_in, IsLatest}
+use Rattle.process_laws.specs.Latest.{latest, byte_at, bytes_in, IsLatest}
+use Rattle.process_laws.specs.Moments.{Moment, moment_of, moments_from, slot_on}
+use Rattle.process_laws.proofs.LatestAfter.{latest_after}
 use Rattle.process_laws.proofs.PageBytes.{bytes_on, contents, byte_from}
 use Rattle.process_laws.proofs.HeldBytes.{none_some, byte_held, held, in_range, Puts, set_puts, Sized}
 use Rattle.process_laws.proofs.OnHarts.{kernel_good, access_good}
@@ -50,23 +51,20 @@ booted_held c files s a = ap (λ o. byte_held o a) (slot_free c.slots s)
 
 -- runs
 
--- the world holds the latest bytes
-pub record HoldsLatest (moments : List Moment) (w : World) : Type 0 where
+-- the latest byte is the one that a world holds, where it holds one
+pub record HoldsLatest (past : List Moment) (w : World) : Type 0 where
   pub sized : Sized w
-  pub told : (s a : ℕ) → latest moments s a ≡ held w s a
+  pub told : (s a b : ℕ) → held w s a ≡ Some b → latest past s a ≡ Some b
 
-same_knowledge : (w : World) (st : Step) (r : Reply) (old new : Knowledge) → ((s a : ℕ) → old s a ≡ new s a) → (s a : ℕ) → known_after w st r old s a ≡ known_after w st r new s a
-same_knowledge w st r old new e s a = λ i. known_after w st r (λ t b. e t b i) s a
-
-run_holds : (steps : List Step) (w : World) (earlier : List Moment) → HoldsLatest earlier w → HoldsLatest (moments_from earlier w steps) (run w steps).world
-run_holds [] w earlier l = l
-run_holds (st ∷ steps) w earlier l =
-    let o : Outcome = Steps.step w st in
-    let k : Known w st o = step_known w l.sized st in
-    run_holds steps o.world (record { before = w; step = st; reply = o.reply } ∷ earlier) (record { sized = k.sized; told = λ s a. same_knowledge w st o.reply (latest earlier) (held w) l.told s a ∙ sym (k.told s a) })
+pub run_holds : (steps : List Step) (w : World) (past : List Moment) → HoldsLatest past w → HoldsLatest (moments_from past w steps) (run w steps).world
+run_holds [] w past l = l
+run_holds (x ∷ xs) w past l =
+    let m = moment_of w x in
+    let k : Known w x (Steps.step w x) = step_known w l.sized x in
+    run_holds xs m.after (m ∷ past) (record { sized = k.sized; told = λ s a b is. latest_after m (latest past) s a b (λ t. l.told t a) is (k.told s a) })
 
 pub latest_held : (c : Config) (files : List File) (steps : List Step) → HoldsLatest (moments_from [] (booted c files) steps) (run (booted c files) steps).world
-latest_held c files steps = run_holds steps (booted c files) [] (record { sized = booted_sized c files; told = λ s a. sym (booted_held c files s a) })
+latest_held c files steps = run_holds steps (booted c files) [] (record { sized = booted_sized c files; told = λ s a b is. absurd (none_some (sym (booted_held c files s a) ∙ is)) })
 
 pub run_one_more : (steps : List Step) (w : World) (st : Step) → (run w (steps ++ st ∷ [])).world ≡ (Steps.step (run w steps).world st).world
 run_one_more [] w st = refl
@@ -141,11 +139,11 @@ read_is_latest moments w s address width v l r =
           let within : i < width = omega arith in
           let same_page : page_of (address + i) ≡ page_of address = omega arith in
           let place : (address + i) % 4096 ≡ o + i = omega arith in
-          l.told s (address + i) ∙ ap (λ q. byte_held q (address + i)) r.here
+          l.told s (address + i) _ (ap (λ q. byte_held q (address + i)) r.here
           ∙ ap (λ n. byte_from (contents r.process.settled n) ((address + i) % 4096)) same_page
           ∙ ap (λ n. byte_from (contents r.process.settled (page_of address)) n) place
           ∙ ap (λ u. byte_from u (o + i)) there
-          ∙ ap Some (sym (get_or-take width (drop o bs) i 0 within ∙ get_or-drop o bs i 0));
+          ∙ ap Some (sym (get_or-take width (drop o bs) i 0 within ∙ get_or-drop o bs i 0)));
     }
 
 -- copies to the kernel

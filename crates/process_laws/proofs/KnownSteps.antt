@@ -32,7 +32,9 @@ use Rattle.process_model.specs.declared.step.Reply.{Reply}
 use Rattle.process_model.specs.declared.step.Reply.TheVariants as reply
 use Rattle.process_model.specs.declared.step.Step.{Step}
 use Rattle.process_model.specs.declared.step.Step.TheVariants as step
-use Rattle.process_laws.specs.Latest.{slot_on, known_after, image_byte, or_initial, initial_byte, is_in_served, is_in_pending, is_released, is_unmapped, of_slot, byte_at, is_among, is_in_their_pages, put_by}
+use Rattle.process_laws.specs.Latest.{image_byte, initial_byte, of_slot, byte_at, is_among}
+use Rattle.process_laws.specs.Moments.{slot_on}
+use Rattle.process_laws.proofs.KnownAfter.{known_after, or_initial, is_in_served, is_in_pending, is_released, is_unmapped, is_in_their_pages, put_by}
 use Rattle.process_laws.proofs.PageBytes.{bytes_on, contents, AllSized, byte_in, byte_from, same_sized, put_same, contents-marked, contents-child, or_start, SettlesPage, byte_in-stored, stored_sized, byte_in-without, without_sized, image_sized, byte_in-image}
 use Rattle.process_laws.proofs.OnHarts.{asks, on_hart_good, its_good, kernel_good, access_good}
 use Rattle.process_laws.proofs.CopyBytes.{CameIn, CameOut, copy_came_in, copy_came_out}

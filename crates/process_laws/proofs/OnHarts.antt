@@ -17,7 +17,7 @@ use Rattle.process_model.specs.World.{World, Outcome, refuses, process_in, can_c
 use Rattle.process_model.specs.Service.{Answer, Asked, faulted, answered, if_resident, if_settled, told, unless_denied, access_step}
 use Rattle.process_model.specs.declared.phase.Phase.{Phase}
 use Rattle.process_model.specs.declared.step.Refusal.{Refusal}
-use Rattle.process_laws.specs.Latest.{slot_at, slot_on}
+use Rattle.process_laws.specs.Moments.{slot_at, slot_on}
 
 abbrev pub asks : Access → ℕ → ℕ → ℕ → Asked
 asks access address width value = record { access = access; address = address; width = width; value = value }

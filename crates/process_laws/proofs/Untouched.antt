@@ -14,7 +14,7 @@ use Rattle.process_model.specs.Calls.{started_unless, started_as, started, repla
 use Rattle.process_model.specs.Stale.{with_stale_slots}
 use Rattle.process_model.specs.Steps.{plain_step}
 use Rattle.process_model.specs.Steps as steps
-use Rattle.process_laws.specs.Others.{IsOfAnother}
+use Rattle.process_laws.proofs.Makers.{IsOfAnother}
 use Rattle.sv39_entry.specs.declared.access.Access.{Access}
 use Rattle.sv39_entry.specs.declared.access.Access.TheVariants as access
 use Rattle.sv39_entry.specs.declared.rule.Rule.{Rule}

@@ -1,7 +1,9 @@
-pub mod Others
 pub mod Denied
 pub mod Apart
 pub mod Numbered
-pub mod Answered
+pub mod Words
+pub mod Headline
+pub mod ScriptRuns
+pub mod Moments
 pub mod Latest
 pub mod FilePlaces

@@ -5,24 +5,19 @@
 
 mod accounts;
 mod files;
-mod latest;
+mod headline;
 mod places;
 mod regions;
 mod service;
 mod worlds;
 
-pub use accounts::{
-    fork_shares_every_page, fork_takes_its_need, frames_add_up, service_takes_its_need,
-    start_takes_its_need,
-};
+pub use accounts::{fork_shares_every_page, frames_add_up};
 pub use files::{
     later_mapping_reads_what_was_written, loaded_page_is_never_written_back,
     one_service_sets_every_mark,
 };
-pub use latest::{copy_reads_the_latest, fetch_reads_the_latest, load_reads_the_latest};
+pub use headline::{headline_holds, script_tells_a_run};
 pub use places::{no_room_means_none, place_is_the_greatest, unmapping_leaves_one_run};
-pub use regions::{
-    first_rule_is_first, guard_grants_nothing, regions_never_meet, regions_stay_in_order,
-};
-pub use service::{made_resident_is_resident, returned_page_is_initial, served_access_answers};
-pub use worlds::{copy_numbers_are_new, step_leaves_others};
+pub use regions::{first_rule_is_first, regions_never_meet, regions_stay_in_order};
+pub use service::{made_resident_is_resident, returned_page_is_initial};
+pub use worlds::copy_numbers_are_new;

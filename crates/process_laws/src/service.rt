@@ -1,6 +1,5 @@
 // Laws of service.
-ghost use Rattle.std.specs.Prelude.{◌≡◌, ℕ, ℤ, Bool, List, [], ◌∷◌, None, Some, Ok, true, option_map, ◌≤◌, ◌<◌, ◌+◌};
-ghost use Rattle.process_laws.specs.Answered.{IsAccessOn, IsAnswer};
+ghost use Rattle.std.specs.Prelude.{◌≡◌, ℕ, ℤ, Bool, List, None, Some, Ok, true, option_map, ◌≤◌, ◌<◌, ◌+◌};
 ghost use Rattle.process_model.specs.Bytes.{pages_for};
 ghost use Rattle.process_model.specs.Files.{File};
 ghost use Rattle.process_model.specs.Heap.{sbrk_result};
@@ -8,11 +7,6 @@ ghost use Rattle.process_model.specs.Mappings.{Unmapped, unmapped};
 ghost use Rattle.process_model.specs.PageMap.{get};
 ghost use Rattle.process_model.specs.Process.{Page, Process};
 ghost use Rattle.process_model.specs.Residence.{initial_page, is_resident, made_resident};
-ghost use Rattle.process_model.specs.Steps.{run, step};
-ghost use Rattle.process_model.specs.World.{World};
-ghost use Rattle.process_model.specs.declared.step.Reply.TheVariants.{Done, Fault, Ready};
-ghost use Rattle.process_model.specs.declared.step.Step.{Step};
-ghost use Rattle.process_model.specs.declared.step.Step.TheVariants.{Next, Serve};
 ghost use Rattle.sv39_entry.specs.Address.{page_of};
 ghost use Rattle.sv39_entry.specs.declared.access.Access.{Access};
 
@@ -20,14 +14,6 @@ ghost use Rattle.sv39_entry.specs.declared.access.Access.{Access};
 pub fn made_resident_is_resident()
     ensures { (files : List File) (fresh : ℕ) (shared : Bool) (p : Process) (access : Access) (page : ℕ)
         → is_resident (made_resident files fresh shared p access page) access page ≡ true }
-{}
-
-/// One fault is enough: an access that faulted and was made ready is answered when it is tried again, a load or a fetch by a
-/// value, a store by being stored.
-pub fn served_access_answers()
-    ensures { (w : World) (h cause : ℕ) (access : Access) (s : Step) → IsAccessOn h access s
-        → (run w (s ∷ Next h ∷ Next h ∷ Next h ∷ Serve h ∷ [])).replies ≡ Fault cause ∷ Done ∷ Done ∷ Done ∷ Ready ∷ []
-        → IsAnswer access (step (run w (s ∷ Next h ∷ Next h ∷ Next h ∷ Serve h ∷ Next h ∷ Next h ∷ Next h ∷ [])).world s).reply }
 {}
 
 /// A page that was released is not settled, and when it is settled again it has its initial bytes.

@@ -39,4 +39,3 @@ pub mod Words
 pub mod Fields
 pub mod Script
 pub mod Text
-pub mod Played

@@ -98,10 +98,6 @@ abbrev pub as_writable : Option FieldValue → Bool
 as_writable (Some (value.Writable b)) = b
 as_writable v = false
 
-abbrev pub as_policy : Option FieldValue → Policy
-as_policy (Some (value.Policy p)) = p
-as_policy v = policy.Full
-
 abbrev pub number_at : List FieldValue → ℕ → ℕ
 number_at vs k = as_number (slice_get vs k)
 
@@ -125,8 +121,9 @@ segments_in (v ∷ vs) = segments_in vs
 abbrev pub file_of_values : List FieldValue → FileText
 file_of_values vs = record { length = number_at vs 0; writable = as_writable (slice_get vs 1); bytes = bytes_at vs 2 }
 
+-- the policy is the only one that has a word
 abbrev pub config_of : List FieldValue → Config
-config_of vs = record { harts = number_at vs 0; frames = number_at vs 1; slots = number_at vs 2; policy = as_policy (slice_get vs 3) }
+config_of vs = record { harts = number_at vs 0; frames = number_at vs 1; slots = number_at vs 2; policy = policy.Full }
 
 -- limits
 
@@ -201,22 +198,12 @@ has_room s (item.Image i) = nat_lt (length s.images) most_images
 has_room s (item.Boot c) = true
 has_room s (item.Command c) = nat_lt (length s.commands) most_commands
 
--- how much of the format is read: the words by their rows, and the values of fields that are taken
-pub record Format : Type 0 where
-  pub table : List Row
-  pub takes : FieldValue → Bool
-
--- all of it
-abbrev pub whole_format : Format
-whole_format = record { table = command_table; takes = λ v. true }
-
 -- what a line with a word says: the causes in the order in which they are tried
-unfoldable pub item_line : Format → Draft → List ℕ → List (List ℕ) → Result Item Cause
-item_line form s text fields = do
-  r ← row_named (row_among form.table text)
+unfoldable pub item_line : Draft → List ℕ → List (List ℕ) → Result Item Cause
+item_line s text fields = do
+  r ← row_named (row_among command_table text)
   ordered ← test (in_order s r.word) cause.Order
   vs ← values_of r fields
-  taken ← test (list_all form.takes vs) cause.Field
   i ← item_of s r.word vs
   room ← test (has_room s i) cause.TooMany
   Ok i
@@ -233,9 +220,9 @@ some_item (Ok i) = Ok (Some i)
 some_item (Err c) = Err c
 
 -- an empty line and a comment say nothing
-abbrev pub fields_line : Format → Draft → List (List ℕ) → Result (Option Item) Cause
-fields_line form s [] = Ok None
-fields_line form s (text ∷ fields) = if is_comment text then Ok None else some_item (item_line form s text fields)
+abbrev pub fields_line : Draft → List (List ℕ) → Result (Option Item) Cause
+fields_line s [] = Ok None
+fields_line s (text ∷ fields) = if is_comment text then Ok None else some_item (item_line s text fields)
 
 -- how long a line may be, without its end, and how long a script
 abbrev pub longest_line : ℕ
@@ -244,11 +231,11 @@ longest_line = 2097664
 abbrev pub longest_script : ℕ
 longest_script = 16777216
 
-unfoldable pub line_of : Format → Draft → List ℕ → Result (Option Item) Cause
-line_of form s line = do
+unfoldable pub line_of : Draft → List ℕ → Result (Option Item) Cause
+line_of s line = do
   short ← test (nat_le (length line) longest_line) cause.TooLong
   ascii ← test (is_ascii line) cause.NotAscii
-  fields_line form s (fields_of line)
+  fields_line s (fields_of line)
 
 -- what the lines so far say and how many they are, or a fault with the number of its line
 abbrev pub Read : Type 0
@@ -259,13 +246,13 @@ with_line s n (Ok None) = Ok (s, n)
 with_line s n (Ok (Some i)) = Ok (with_item s i, n)
 with_line s n (Err c) = Err (n, c)
 
-abbrev pub next_line : Format → Read → List ℕ → Read
-next_line form (Ok x) line = with_line x.0 (x.1 + 1) (line_of form x.0 (without_return line))
-next_line form (Err f) line = Err f
+abbrev pub next_line : Read → List ℕ → Read
+next_line (Ok x) line = with_line x.0 (x.1 + 1) (line_of x.0 (without_return line))
+next_line (Err f) line = Err f
 
-abbrev pub read_lines : Format → Read → List (List ℕ) → Read
-read_lines form read [] = read
-read_lines form read (line ∷ lines) = read_lines form (next_line form read line) lines
+abbrev pub read_lines : Read → List (List ℕ) → Read
+read_lines read [] = read
+read_lines read (line ∷ lines) = read_lines (next_line read line) lines
 
 -- a script has a boot; where there is none, the fault is in the line after the last
 abbrev pub whole_with : Draft → ℕ → Option Config → Result Script (ℕ × Cause)
@@ -277,12 +264,8 @@ whole (Ok x) = whole_with x.0 x.1 (x.0).config
 whole (Err f) = Err f
 
 -- what a script says, or its first fault: the line and the cause; a script that is too long has its fault in line 0
-abbrev pub script_by : Format → List ℕ → Result Script (ℕ × Cause)
-script_by form bytes = if nat_le (length bytes) longest_script then whole (read_lines form (Ok (no_lines, 0)) (raw_lines bytes)) else Err (0, cause.TooLong)
-
--- by the whole format
 abbrev pub script_of : List ℕ → Result Script (ℕ × Cause)
-script_of bytes = script_by whole_format bytes
+script_of bytes = if nat_le (length bytes) longest_script then whole (read_lines (Ok (no_lines, 0)) (raw_lines bytes)) else Err (0, cause.TooLong)
 
 -- a declared file: its first bytes, and zeros up to its length
 abbrev pub file_of : FileText → File

@@ -6,6 +6,3 @@ pub mod FieldKinds
 pub mod FieldValues
 pub mod Pairs
 pub mod Playable
-pub mod PlayedLines
-pub mod PlayedWords
-pub mod WholeFormat

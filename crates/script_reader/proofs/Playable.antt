@@ -1,12 +1,12 @@
 -- What is read as a script can be played: the machine boots, and what a line names was declared.
 use Rattle.std.proofs.Common.{◌≡◌, ℕ, ◌+◌, ◌<◌, ◌≤◌, Bool, true, false, List, [], ◌∷◌, ◌++◌, length, Option, Some, None, Result, Ok, Err, refl, sym, subst, arith, get_or, length-append}
 use Rattle.std.specs.Prelude.{IfOk, All, nat_lt, nat_le, ◌&&◌, if◌then◌else◌}
-use Rattle.std.specs.List.{list_all}
 use Rattle.std.proofs.lemmas.List.Elements.{All-nil, All-cons, All-append}
-use Rattle.process_model.specs.Fields.{row_among, values_of}
+use Rattle.process_model.specs.Fields.{command_table, row_among, values_of}
 use Rattle.process_model.specs.Lines.{raw_lines, without_return, fields_of}
-use Rattle.process_model.specs.Script.{Format, Draft, Script, Read, ◌>>=◌, with_item, row_named, test, in_order, item_of, in_limits, has_room, has_file, most_files, item_line, is_comment, is_ascii, some_item, fields_line, line_of, with_line, next_line, read_lines, whole_with, whole, longest_script, script_by, no_lines}
+use Rattle.process_model.specs.Script.{Draft, Script, Read, ◌>>=◌, with_item, row_named, test, in_order, item_of, in_limits, has_room, has_file, most_files, item_line, is_comment, is_ascii, some_item, fields_line, line_of, with_line, next_line, read_lines, whole_with, whole, longest_script, script_of, no_lines}
 use Rattle.process_model.specs.declared.config.Config.{Config}
+use Rattle.process_model.specs.declared.config.Policy.TheVariants.{Full}
 use Rattle.process_model.specs.declared.file.FileText.{FileText}
 use Rattle.process_model.specs.declared.image.OwnedImage.{OwnedImage}
 use Rattle.process_model.specs.declared.script.Cause.{Cause}
@@ -25,7 +25,7 @@ use Rattle.script_reader.specs.declared.fault.ScriptError.{ScriptError}
 -- what holds of the lines so far, of an item after them, and of what a line says
 abbrev CanBootIf : Option Config → Type 0
 CanBootIf None = Unit {0}
-CanBootIf (Some c) = CanBoot c
+CanBootIf (Some c) = CanBoot c × (c.policy ≡ Full)
 
 record IsSound (d : Draft) : Type 0 where
   pub boots : CanBootIf d.config
@@ -36,7 +36,7 @@ record IsSound (d : Draft) : Type 0 where
 abbrev Fits : Draft → Item → Type 0
 Fits d (item.File f) = FitsFile f
 Fits d (item.Image i) = Unit {0}
-Fits d (item.Boot c) = CanBoot c
+Fits d (item.Boot c) = CanBoot c × (c.policy ≡ Full)
 Fits d (item.Command c) = IsDeclared d.files d.images c
 
 -- it is within its limits, and there is room for it
@@ -121,7 +121,7 @@ item_fits : (d : Draft) (w : Keyword) (vs : List FieldValue) → IfOk (item_of d
 item_fits d word.File vs = limited d _ _ (λ e. e)
 item_fits d word.Image vs = tt
 item_fits d word.Elf vs = tt
-item_fits d word.Boot vs = limited d _ _ (λ e. e)
+item_fits d word.Boot vs = limited d _ _ (λ e. (e, refl))
 item_fits d word.Start vs = limited d _ _ (λ e. below _ _ e)
 item_fits d word.Switch vs = tt
 item_fits d word.Trap vs = tt
@@ -148,42 +148,41 @@ item_fits d word.Enter vs = tt
 item_fits d word.Leave vs = tt
 item_fits d word.Fix vs = tt
 
-item_line_fits : (form : Format) (d : Draft) (text : List ℕ) (fields : List (List ℕ)) → IfOk (item_line form d text fields) (HasPlace d)
+item_line_fits : (d : Draft) (text : List ℕ) (fields : List (List ℕ)) → IfOk (item_line d text fields) (HasPlace d)
 unfolding item_line
-item_line_fits form d text fields =
-    followed (row_named (row_among form.table text)) _ (HasPlace d)
+item_line_fits d text fields =
+    followed (row_named (row_among command_table text)) _ (HasPlace d)
     (λ r. followed (test (in_order d r.word) _) _ (HasPlace d)
     (λ u. followed (values_of r fields) _ (HasPlace d)
-    (λ vs. followed (test (list_all form.takes vs) _) _ (HasPlace d)
-    (λ u. then_fits (item_of d r.word vs) _ (Fits d) (HasPlace d) (item_fits d r.word vs)
-    (λ i fits. then_fits (test (has_room d i) _) _ (λ u. has_room d i ≡ true) (HasPlace d) (tested (has_room d i) _) (λ u room. (fits, room)))))))
+    (λ vs. then_fits (item_of d r.word vs) _ (Fits d) (HasPlace d) (item_fits d r.word vs)
+    (λ i fits. then_fits (test (has_room d i) _) _ (λ u. has_room d i ≡ true) (HasPlace d) (tested (has_room d i) _) (λ u room. (fits, room))))))
 
 some_fits : (d : Draft) (r : Result Item Cause) → IfOk r (HasPlace d) → IfOk (some_item r) (FitsIf d)
 some_fits d (Ok i) h = h
 some_fits d (Err c) h = tt
 
-fields_fit : (form : Format) (d : Draft) (fields : List (List ℕ)) → IfOk (fields_line form d fields) (FitsIf d)
-fields_fit form d [] = tt
-fields_fit form d (text ∷ fields) = elim (is_comment text) as (λ b. IfOk (if b then Ok None else some_item (item_line form d text fields)) (FitsIf d)) [ true ↦ tt | false ↦ some_fits d _ (item_line_fits form d text fields) ]
+fields_fit : (d : Draft) (fields : List (List ℕ)) → IfOk (fields_line d fields) (FitsIf d)
+fields_fit d [] = tt
+fields_fit d (text ∷ fields) = elim (is_comment text) as (λ b. IfOk (if b then Ok None else some_item (item_line d text fields)) (FitsIf d)) [ true ↦ tt | false ↦ some_fits d _ (item_line_fits d text fields) ]
 
-line_fits : (form : Format) (d : Draft) (line : List ℕ) → IfOk (line_of form d line) (FitsIf d)
+line_fits : (d : Draft) (line : List ℕ) → IfOk (line_of d line) (FitsIf d)
 unfolding line_of
-line_fits form d line =
-    followed (test (nat_le (length line) _) _) _ (FitsIf d) (λ u. followed (test (is_ascii line) _) _ (FitsIf d) (λ u. fields_fit form d (fields_of line)))
+line_fits d line =
+    followed (test (nat_le (length line) _) _) _ (FitsIf d) (λ u. followed (test (is_ascii line) _) _ (FitsIf d) (λ u. fields_fit d (fields_of line)))
 
 line_kept : (d : Draft) (n : ℕ) (r : Result (Option Item) Cause) → IsSound d → IfOk r (FitsIf d) → IsSoundRead (with_line d n r)
 line_kept d n (Ok None) s fits = s
 line_kept d n (Ok (Some i)) s fits = item_kept d i s fits
 line_kept d n (Err c) s fits = tt
 
-lines_kept : (form : Format) (read : Read) (lines : List (List ℕ)) → IsSoundRead read → IsSoundRead (read_lines form read lines)
-lines_kept form read [] s = s
-lines_kept form (Ok x) (line ∷ lines) s = lines_kept form (next_line form (Ok x) line) lines (line_kept x.0 (x.1 + 1) (line_of form x.0 (without_return line)) s (line_fits form x.0 (without_return line)))
-lines_kept form (Err f) (line ∷ lines) s = lines_kept form (Err f) lines tt
+lines_kept : (read : Read) (lines : List (List ℕ)) → IsSoundRead read → IsSoundRead (read_lines read lines)
+lines_kept read [] s = s
+lines_kept (Ok x) (line ∷ lines) s = lines_kept (next_line (Ok x) line) lines (line_kept x.0 (x.1 + 1) (line_of x.0 (without_return line)) s (line_fits x.0 (without_return line)))
+lines_kept (Err f) (line ∷ lines) s = lines_kept (Err f) lines tt
 
 whole_with_playable : (d : Draft) (n : ℕ) (c : Option Config) → c ≡ d.config → IsSound d → IfOk (whole_with d n c) IsPlayable
 whole_with_playable d n None e s = tt
-whole_with_playable d n (Some c) e s = record { boots = subst CanBootIf (sym e) s.boots; few = s.few; files = s.files; commands = s.commands }
+whole_with_playable d n (Some c) e s = let fits_booted : CanBootIf (Some c) = subst CanBootIf (sym e) s.boots in record { boots = (fits_booted).0; policy = fits_booted.1; few = s.few; files = s.files; commands = s.commands }
 
 whole_playable : (read : Read) → IsSoundRead read → IfOk (whole read) IsPlayable
 whole_playable (Ok x) s = whole_with_playable x.0 x.1 (x.0).config refl s
@@ -193,13 +192,13 @@ nothing_said : IsSound no_lines
 nothing_said = record { boots = tt; few = omega arith; files = All-nil FitsFile; commands = All-nil (IsDeclared [] []) }
 
 -- what is read as a script can be played
-script_playable : (form : Format) (bytes : List ℕ) → IfOk (script_by form bytes) IsPlayable
-script_playable form bytes =
-    elim (nat_le (length bytes) longest_script) as (λ b. IfOk (if b then whole (read_lines form (Ok (no_lines, 0)) (raw_lines bytes)) else Err (0, cause.TooLong)) IsPlayable) [
-      | true ↦ whole_playable (read_lines form (Ok (no_lines, 0)) (raw_lines bytes)) (lines_kept form (Ok (no_lines, 0)) (raw_lines bytes) nothing_said)
+script_playable : (bytes : List ℕ) → IfOk (script_of bytes) IsPlayable
+script_playable bytes =
+    elim (nat_le (length bytes) longest_script) as (λ b. IfOk (if b then whole (read_lines (Ok (no_lines, 0)) (raw_lines bytes)) else Err (0, cause.TooLong)) IsPlayable) [
+      | true ↦ whole_playable (read_lines (Ok (no_lines, 0)) (raw_lines bytes)) (lines_kept (Ok (no_lines, 0)) (raw_lines bytes) nothing_said)
       | false ↦ tt
     ]
 
-pub answer_playable : (form : Format) (bytes : List ℕ) (r : Result Script ScriptError) → Answers (λ s. s) r (script_by form bytes) → IfOk r IsPlayable
-answer_playable form bytes (Ok s) e = let P : Result Script (ℕ × Cause) → Type 0 = λ r. IfOk r IsPlayable in subst P e (script_playable form bytes)
-answer_playable form bytes (Err e) h = tt
+pub answer_playable : (bytes : List ℕ) (r : Result Script ScriptError) → Answers (λ s. s) r (script_of bytes) → IfOk r IsPlayable
+answer_playable bytes (Ok s) e = let P : Result Script (ℕ × Cause) → Type 0 = λ r. IfOk r IsPlayable in subst P e (script_playable bytes)
+answer_playable bytes (Err e) h = tt

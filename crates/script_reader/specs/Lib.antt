@@ -3,5 +3,4 @@ pub mod Gives
 pub mod Listed
 pub mod Pieces
 pub mod Playable
-pub mod Played
 pub mod Rows

@@ -1,4 +1,4 @@
-//! Scripts, read whole: the words that are played, each line's first fault, and what an accepted script says.
+//! Scripts, read whole: each line, the first fault, and what an accepted script says.
 #![tactic(auto)]
 
 mod accesses;

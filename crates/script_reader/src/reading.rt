@@ -1,11 +1,9 @@
 // Lines, one after the other, up to the first fault.
 
 ghost use Rattle.std.specs.Prelude.{◌≡◌, ◌≤◌, length, IfOk};
-ghost use Rattle.std.specs.List.{list_all};
 ghost use Rattle.process_model.specs.Lines.{fields_of, raw_lines};
 ghost use Rattle.process_model.specs.Script as words;
 ghost use Rattle.script_reader.specs.Gives.{Gives, Answers};
-ghost use Rattle.script_reader.specs.Played.{played, is_played};
 
 use crate::draft::Draft;
 use crate::fault::{LineFault, ScriptError};
@@ -13,7 +11,7 @@ use crate::items::make_item;
 use crate::lines::{first_field, first_line, trim_return};
 use crate::table::Row;
 use crate::values::read_values;
-use process_model::{Cause, FieldValue, Item, Policy};
+use process_model::{Cause, Item};
 use std::alloc::Global;
 
 /// How many bytes a line may have, without its end: an image of 1 MiB in digits, and its word.
@@ -29,27 +27,14 @@ fn test(holds: bool, cause: Cause) -> Result<(), LineFault>
     }
 }
 
-fn is_played(value: &FieldValue) -> bool
-    ensures { result ≡ is_played value.now }
-{
-    !matches!(value, FieldValue::Policy(Policy::Asid))
-}
-
-fn all_played(values: &[FieldValue]) -> bool
-    ensures { result ≡ list_all is_played values.now }
-{
-    values.iter().all(|value| is_played(value))
-}
-
 /// What a line with a word says.
 #[tactic(auto, unfolding(process_model::specs::Script::item_line))]
 fn item_line(alloc: Global, draft: &Draft, text: &[u8], fields: &[u8]) -> Result<Item, LineFault>
-    ensures { Gives (λ x. x) result (words.item_line played draft.now text.now (fields_of fields.now)) }
+    ensures { Gives (λ x. x) result (words.item_line draft.now text.now (fields_of fields.now)) }
 {
     let row = Row::find(text).ok_or(LineFault::Cause(Cause::Word))?;
     test(draft.in_order(row.word), Cause::Order)?;
     let values = read_values(alloc, &row, fields)??;
-    test(all_played(values.as_slice()), Cause::Field)?;
     let item = make_item(alloc, draft, row.word, values)?;
     test(draft.has_room(&item), Cause::TooMany)?;
     Ok(item)
@@ -69,7 +54,7 @@ fn is_ascii(line: &[u8]) -> bool
 
 /// What the fields of a line say; nothing where there are none, or a comment.
 fn fields_line(alloc: Global, draft: &Draft, line: &[u8]) -> Result<Option<Item>, LineFault>
-    ensures { Gives (λ x. x) result (words.fields_line played draft.now (fields_of line.now)) }
+    ensures { Gives (λ x. x) result (words.fields_line draft.now (fields_of line.now)) }
 {
     let Some((text, fields)) = first_field(line) else {
         return Ok(None);
@@ -83,7 +68,7 @@ fn fields_line(alloc: Global, draft: &Draft, line: &[u8]) -> Result<Option<Item>
 
 #[tactic(auto, unfolding(process_model::specs::Script::line_of))]
 fn read_line(alloc: Global, draft: &Draft, line: &[u8]) -> Result<Option<Item>, LineFault>
-    ensures { Gives (λ x. x) result (words.line_of played draft.now line.now) }
+    ensures { Gives (λ x. x) result (words.line_of draft.now line.now) }
 {
     test(line.len() <= LONGEST_LINE, Cause::TooLong)?;
     test(is_ascii(line), Cause::NotAscii)?;
@@ -92,7 +77,7 @@ fn read_line(alloc: Global, draft: &Draft, line: &[u8]) -> Result<Option<Item>, 
 
 /// Adds what a line says to the lines before it.
 fn add_line(alloc: Global, draft: &mut Draft, number: u64, line: &[u8]) -> Result<(), ScriptError>
-    ensures { Answers (λ u. (draft.new, number)) result (words.with_line draft.old number (words.line_of played draft.old line.now)) }
+    ensures { Answers (λ u. (draft.new, number)) result (words.with_line draft.old number (words.line_of draft.old line.now)) }
 {
     match read_line(alloc, draft, line) {
         Ok(None) => Ok(()),
@@ -107,7 +92,7 @@ fn add_line(alloc: Global, draft: &mut Draft, number: u64, line: &[u8]) -> Resul
 
 /// What all lines say, and how many there are.
 pub fn read_lines(alloc: Global, bytes: &[u8]) -> Result<(Draft, u64), ScriptError>
-    ensures read { Answers (λ x. x) result (words.read_lines played (Ok (words.no_lines, 0)) (raw_lines bytes.now)) }
+    ensures read { Answers (λ x. x) result (words.read_lines (Ok (words.no_lines, 0)) (raw_lines bytes.now)) }
     ensures small { IfOk result (λ x. x.1 ≤ length bytes.now) }
 {
     let mut draft = Draft::new(alloc);

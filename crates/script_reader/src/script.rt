@@ -1,11 +1,9 @@
 // Scripts, read whole before anything runs.
 
-ghost use Rattle.std.specs.Prelude.{◌≡◌, IfOk, Ok};
-ghost use Rattle.process_model.specs.Played.{IsScriptPlayed};
+ghost use Rattle.std.specs.Prelude.{◌≡◌, IfOk};
 ghost use Rattle.process_model.specs.Script as words;
 ghost use Rattle.script_reader.specs.Gives.{Answers};
 ghost use Rattle.script_reader.specs.Playable.{IsPlayable};
-ghost use Rattle.script_reader.specs.Played.{played};
 
 use crate::fault::ScriptError;
 use crate::reading::read_lines;
@@ -34,19 +32,16 @@ impl Model for Script {
 }
 
 impl Script {
-    /// Reads a script whole, or finds its first fault. What is read is what the whole format says, and it can be
-    /// played: only a step can still be refused. It has only lines that are played.
+    /// Reads a script whole, or finds its first fault. What is read can be played: only a step can still be refused.
     pub fn read(alloc: Global, bytes: &[u8]) -> Result<Script, ScriptError>
-        ensures read { Answers (λ s. s) result (words.script_by played bytes.now) }
-        ensures same { IfOk result (λ s. words.script_of bytes.now ≡ Ok s) }
+        ensures read { Answers (λ s. s) result (words.script_of bytes.now) }
         ensures playable { IfOk result IsPlayable }
-        ensures played { IfOk result IsScriptPlayed }
     {
         Script::read_whole(alloc, bytes)
     }
 
     fn read_whole(alloc: Global, bytes: &[u8]) -> Result<Script, ScriptError>
-        ensures { Answers (λ s. s) result (words.script_by played bytes.now) }
+        ensures { Answers (λ s. s) result (words.script_of bytes.now) }
     {
         if bytes.len() > LONGEST_SCRIPT {
             return Err(ScriptError::Line(0, Cause::TooLong));

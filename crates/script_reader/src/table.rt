@@ -2,8 +2,7 @@
 
 ghost use Rattle.std.specs.Prelude.{◌≡◌, map};
 ghost use Rattle.std.specs.Option.{option_map};
-ghost use Rattle.process_model.specs.Fields.{row_among};
-ghost use Rattle.script_reader.specs.Played.{played_table};
+ghost use Rattle.process_model.specs.Fields.{command_table, row_among};
 
 use process_model::FieldKind::{Entry, Hex, Mode, Number, Policy, Segment, Signed, Slot};
 use process_model::{FieldKind, Keyword, Tail};
@@ -35,7 +34,7 @@ impl Row {
     ghost use Rattle.script_reader.specs.Rows.{seen, kind_at};
 
     fn all() -> [Row; 29]
-        ensures { map seen result ≡ played_table }
+        ensures { map seen result ≡ command_table }
     {
         let none = Tail::Nothing;
         let entry = Tail::Perhaps(Entry);
@@ -91,7 +90,7 @@ impl Row {
 
     /// The row of a word.
     pub fn find(text: &[u8]) -> Option<Row>
-        ensures { option_map seen result ≡ row_among played_table text.now }
+        ensures { option_map seen result ≡ row_among command_table text.now }
     {
         Row::find_among(&Row::all(), text)
     }

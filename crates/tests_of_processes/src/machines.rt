@@ -1,8 +1,7 @@
 // What a machine is booted with, and steps of whole machines.
 
-ghost use Rattle.std.specs.Prelude.{◌≡◌, All, IfOk, IfSome};
+ghost use Rattle.std.specs.Prelude.{◌≡◌, IfSome};
 ghost use Rattle.hart_machine.specs.Worlds.{IsWorld};
-ghost use Rattle.process_model.specs.Played.{IsPlayed};
 ghost use Rattle.process_model.specs.World.{World};
 ghost use Rattle.process_model.specs.declared.config.Policy.TheVariants.{Full};
 
@@ -88,9 +87,7 @@ fn page(alloc: Global) -> Result<Segment, AllocError> {
 }
 
 /// A load without the buffer.
-fn load<'a>(hart: usize, address: u64, width: u64) -> Step<'a>
-    ensures { IsPlayed result }
-{
+fn load<'a>(hart: usize, address: u64, width: u64) -> Step<'a> {
     Step::Load {
         hart,
         address,
@@ -99,15 +96,11 @@ fn load<'a>(hart: usize, address: u64, width: u64) -> Step<'a>
     }
 }
 
-fn next<'a>(hart: usize) -> Step<'a>
-    ensures { IsPlayed result }
-{
+fn next<'a>(hart: usize) -> Step<'a> {
     Step::Next { hart }
 }
 
-fn switch<'a>(hart: usize, slot: usize) -> Step<'a>
-    ensures { IsPlayed result }
-{
+fn switch<'a>(hart: usize, slot: usize) -> Step<'a> {
     Step::Switch {
         hart,
         slot: Some(slot),
@@ -115,9 +108,7 @@ fn switch<'a>(hart: usize, slot: usize) -> Step<'a>
 }
 
 /// Two processes of one image, each on a hart of its own.
-fn steps(image: Image<'_>) -> [Step<'_>; 23]
-    ensures { All IsPlayed result }
-{
+fn steps(image: Image<'_>) -> [Step<'_>; 23] {
     [
         Step::Start(image),
         Step::Start(image),
@@ -174,6 +165,30 @@ const REPLIES: &str =
     Stored, Value(1432778632), Filled(0), Value(13124), Fault(12), Refused(Impossible(Enter0)), Done, Done, Done, \
     Value(1799), Value(0), Done, InFrame(0), Refused(NoEntry), Refused(BadArgument)]";
 
+/// A process begins, comes on a hart and into user mode, stores, and loads what it stored, and two bytes of it.
+fn first_steps(image: Image<'_>) -> [Step<'_>; 8] {
+    [
+        Step::Start(image),
+        switch(0, 0),
+        next(0),
+        next(0),
+        next(0),
+        Step::Store {
+            hart: 0,
+            address: 0x1000,
+            width: 8,
+            value: 0x1122334455667788,
+            via: None,
+        },
+        load(0, 0x1000, 8),
+        load(0, 0x1004, 2),
+    ]
+}
+
+/// What they are answered: the values are 0x1122334455667788 and 0x3344.
+const FIRST_REPLIES: &str =
+    "[Started(0), Done, Done, Done, Done, Stored, Value(1234605616436508552), Value(13124)]";
+
 /// How many entries a buffer has, and the page of the first.
 type Buffered = (usize, Option<Vpn>);
 
@@ -192,7 +207,6 @@ fn text_of(alloc: Global, replies: &[Reply]) -> Option<String> {
 /// The replies to steps that are made at once, as text.
 fn told_at_once(alloc: Global, machine: &mut Machine, steps: &[Step<'_>]) -> Option<String>
     requires world { (w : World) × IsWorld machine.old w }
-    requires played { All IsPlayed steps.now }
     ensures { (w : World) × IsWorld machine.new w }
 {
     match machine.run(alloc, steps) {
@@ -204,7 +218,6 @@ fn told_at_once(alloc: Global, machine: &mut Machine, steps: &[Step<'_>]) -> Opt
 /// The replies to the same steps, made one by one.
 fn told_singly(alloc: Global, machine: &mut Machine, steps: &[Step<'_>]) -> Option<String>
     requires world { (w : World) × IsWorld machine.old w }
-    requires played { All IsPlayed steps.now }
     ensures { (w : World) × IsWorld machine.new w }
 {
     let mut told = Vec::new(alloc);
@@ -217,7 +230,6 @@ fn told_singly(alloc: Global, machine: &mut Machine, steps: &[Step<'_>]) -> Opti
 /// The replies to steps that are made in the one way or the other.
 fn told(alloc: Global, machine: &mut Machine, steps: &[Step<'_>], at_once: bool) -> Option<String>
     requires world { (w : World) × IsWorld machine.old w }
-    requires played { All IsPlayed steps.now }
     ensures { (w : World) × IsWorld machine.new w }
 {
     if at_once {
@@ -271,10 +283,25 @@ fn steps_on_two_harts(rt: HostRuntime) {
     }
 }
 
+/// The replies to the first steps, in one run.
+fn first_replies(alloc: Global) -> Option<String> {
+    let segments = [page(alloc).ok()?];
+    let mut machine = with_two_harts(alloc, 64)?;
+    told_at_once(
+        alloc,
+        &mut machine,
+        &first_steps(Image::Segments(&segments)),
+    )
+}
+
+#[test]
+fn runs_eight_steps_at_once(rt: HostRuntime) {
+    let told = first_replies(rt.alloc()).expect(&rt, "memory is ample");
+    assert_eq!(rt; told.as_str(), FIRST_REPLIES);
+}
+
 /// So many steps of an idle hart to the next phase.
-fn idle_steps<'a>(alloc: Global, count: usize) -> Result<Vec<Step<'a>>, AllocError>
-    ensures { IfOk result (λ steps. All IsPlayed steps.items) }
-{
+fn idle_steps<'a>(alloc: Global, count: usize) -> Result<Vec<Step<'a>>, AllocError> {
     Vec::from_elem(alloc, Step::Next { hart: 0 }, count)
 }
 
@@ -291,7 +318,6 @@ fn are_idle(replies: &[Reply]) -> bool {
 /// How many replies steps have that are made at once, if each is the refusal of an idle hart.
 fn idle_replies(alloc: Global, machine: &mut Machine, steps: &[Step<'_>]) -> Option<usize>
     requires world { (w : World) × IsWorld machine.old w }
-    requires played { All IsPlayed steps.now }
 {
     match machine.run(alloc, steps) {
         Ok(told) if are_idle(&told) => Some(told.len()),

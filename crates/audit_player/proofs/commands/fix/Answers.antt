@@ -2,7 +2,7 @@ use Rattle.audit_player.proofs.Fixing.{goes_back, in_world, not_back}
 use Rattle.audit_player.proofs.commands.fix.Goals as goal
 
 pub step-served-requires : goal.step-served-requires
-step-served-requires c = record { world = in_world _ _ _ (c.three_next-entered.ensures.made (c.requires.world).0 (c.requires.world).1); played = tt }
+step-served-requires c = record { world = in_world _ _ _ (c.three_next-entered.ensures.made (c.requires.world).0 (c.requires.world).1) }
 
 pub three_next-requires : goal.three_next-requires
 three_next-requires c =

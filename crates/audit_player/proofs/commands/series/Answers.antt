@@ -1,10 +1,10 @@
 use Rattle.audit_player.proofs.Runs.{goes_on, stops, ends}
 use Rattle.audit_player.proofs.commands.series.Goals as goal
 
-pub step-said-requires-clause-world : goal.step-said-requires-clause-world
-step-said-requires-clause-world c =
+pub step-said-requires : goal.step-said-requires
+step-said-requires c =
     let lead = c.loop-step.invariant (c.requires.world).0 (c.requires.world).1 in
-    (lead.0, (lead.1).0)
+    record { world = (lead.0, (lead.1).0) }
 
 pub returns-in-Refused : goal.returns-in-Refused
 returns-in-Refused c = record {

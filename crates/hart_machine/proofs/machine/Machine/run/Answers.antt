@@ -1,12 +1,17 @@
-use Rattle.std.proofs.Common.{◌+◌, arith, drop, subst, sym}
-use Rattle.hart_machine.proofs.PlayedSteps.{HasRun, all_run, next_left, none_left, one_more}
+use Rattle.std.proofs.Common.{◌+◌, arith, drop, List, subst, sym}
+use Rattle.process_laws.proofs.Told.{headline_holds}
+use Rattle.process_laws.specs.Headline.{Headline}
+use Rattle.process_model.specs.Steps.{run}
+use Rattle.process_model.specs.World.{booted}
+use Rattle.process_model.specs.declared.step.Reply.{Reply}
+use Rattle.hart_machine.proofs.FullSteps.{HasRun, all_run, next_left, none_left, one_more}
 use Rattle.hart_machine.proofs.machine.Machine.run.Goals as goal
 
-pub step-requires-clause-world : goal.step-requires-clause-world
-step-requires-clause-world c =
+pub step-requires : goal.step-requires
+step-requires c =
     let r = c.requires.world in
     let has = c.steps.invariant.has_run r.0 r.1 in
-    (has.world, has.is_in)
+    record { world = (has.world, has.is_in) }
 
 pub steps-preserved : goal.steps-preserved
 steps-preserved c = record {
@@ -25,3 +30,9 @@ returns-clause-replies c = λ w is. (all_run c.steps.self c.args.steps.now c.ste
 
 pub returns-clause-world : goal.returns-clause-world
 returns-clause-world c = λ w is. (all_run c.steps.self c.args.steps.now c.steps.replies.items w (none_left c.steps.self c.args.steps.now c.steps.step-index c.steps.replies.items w (omega (arith, c.steps-test.false)) (c.steps.invariant.has_run w is))).1
+
+pub returns-clause-headline : goal.returns-clause-headline
+returns-clause-headline c config files earlier is =
+    let w = (run (booted config files) earlier).world in
+    let replies = (all_run c.steps.self c.args.steps.now c.steps.replies.items w (none_left c.steps.self c.args.steps.now c.steps.step-index c.steps.replies.items w (omega (arith, c.steps-test.false)) (c.steps.invariant.has_run w is))).0 in
+    subst (λ (rs : List Reply). Headline config files earlier c.args.steps.now rs) (sym replies) (headline_holds config files earlier c.args.steps.now)

@@ -2,7 +2,7 @@ use Rattle.std.proofs.Common.{◌≡◌, ◌≤◌, drop, length, vec_len}
 use Rattle.std.specs.Vec.{vec_capacity}
 use Rattle.process_model.specs.World.{World}
 use Rattle.hart_machine.specs.Worlds.{IsWorld}
-use Rattle.hart_machine.proofs.PlayedSteps.{HasRun}
+use Rattle.hart_machine.proofs.FullSteps.{HasRun}
 use Rattle.hart_machine.proofs.machine.Machine.run.Given as goal
 
 abbrev pub invariant-steps : goal.invariant-steps

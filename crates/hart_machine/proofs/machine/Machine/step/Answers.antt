@@ -7,7 +7,7 @@ use Rattle.process_model.specs.declared.step.Step.TheVariants as step
 use Rattle.hart_machine.specs.Worlds.{Makes}
 use Rattle.address_space.specs.declared.user.Asked.{Asked}
 use Rattle.hart_machine.proofs.BufferChanges.{are_of, only_fills_add, same_are}
-use Rattle.hart_machine.proofs.PlayedSteps.{steps}
+use Rattle.hart_machine.proofs.FullSteps.{steps}
 use Rattle.hart_machine.proofs.machine.Machine.step.Goals as goal
 
 pub returns-in-Start-clause-made : goal.returns-in-Start-clause-made

@@ -1,0 +1,183 @@
+-- The way of a process from its start into user mode and back into the kernel.
+use Rattle.std.proofs.Common.{◌≡◌, ◌≢◌, ◌⊎◌, ◌==◌, ℕ, zero, suc, Bool, true, false, ◌&&◌, inl, inr, refl, sym, ap, subst, ◌∙◌, arith, List, [], ◌∷◌, Option, None, Some}
+use Rattle.std.specs.Prelude.{Ok, option_map, slice_get, slice_set, unwrap_or}
+use Rattle.std.specs.List.{list_any}
+use Rattle.std.proofs.lemmas.Bool.{eqb-true, false≢true}
+use Rattle.std.proofs.lemmas.Option.{slice_get-map}
+use Rattle.process_laws.proofs.HeldBytes.{free_there, Puts, set_puts}
+use Rattle.process_laws.proofs.Possible.{stands}
+use Rattle.process_laws.proofs.Running.{has_it, hart_runs, process_runs, step_process, step_reply}
+use Rattle.process_laws.specs.Moments.{slot_at, slot_on}
+use Rattle.process_laws.specs.Words.{IsIn, IsOn, tells_no_frame}
+use Rattle.process_model.specs.Calls.{started, started_unless, with_image}
+use Rattle.process_model.specs.Frames.{start_need}
+use Rattle.process_model.specs.Harts.{cleaned_at, cleaned_for, cleaned_if, emptied_if, fenced, Hart, is_kernel, is_user, may_switch, next_phase, phase_for}
+use Rattle.process_model.specs.Images.{image_loads, LoadSegment}
+use Rattle.process_model.specs.Loading.{process_of}
+use Rattle.process_model.specs.Process.{Process, without_pending}
+use Rattle.process_model.specs.Service.{is_dry}
+use Rattle.process_model.specs.Stale.{changed_slots, with_stale, with_stale_slots}
+use Rattle.process_model.specs.Steps.{advanced, plain_step, step}
+use Rattle.process_model.specs.World.{always, answers, can_go_on, can_run, free_slot, has_slot, is_unserved_access, Outcome, process_in, with_hart, with_its_process, with_process, World}
+use Rattle.process_model.specs.declared.config.Policy.{Policy}
+use Rattle.process_model.specs.declared.config.Policy.TheVariants.{Full, Asid}
+use Rattle.process_model.specs.declared.image.Image.{Image}
+use Rattle.process_model.specs.declared.phase.Phase.{Phase}
+use Rattle.process_model.specs.declared.phase.Phase.TheVariants.{Idle, User, Enter0, Enter1, Enter2, Kernel, Leave1, Leave2}
+use Rattle.process_model.specs.declared.step.Reply.TheVariants.{Done, Started}
+use Rattle.process_model.specs.declared.step.Step.{Step}
+use Rattle.process_model.specs.declared.step.Step.TheVariants.{Next, Start, Switch, Trap}
+
+-- a place of a list that is set
+
+set_there : {A : Type 0} (xs : List A) (i : ℕ) (x y : A) → slice_get xs i ≡ Some x → slice_get (slice_set xs i y) i ≡ Some y
+set_there [] i x y e = absurd cc
+set_there (z ∷ zs) zero x y e = refl
+set_there (z ∷ zs) (suc i) x y e = set_there zs i x y e
+
+-- fences change no slot
+
+emptied_slot : (hart : Hart) (b : Bool) → (emptied_if hart b).slot ≡ hart.slot
+emptied_slot hart true = refl
+emptied_slot hart false = refl
+
+cleaned_slot : (hart : Hart) (s : ℕ) (b : Bool) → (cleaned_if hart s b).slot ≡ hart.slot
+cleaned_slot hart s true = refl
+cleaned_slot hart s false = refl
+
+cleaned_for_slot : (hart : Hart) (o : Option ℕ) → (cleaned_for hart o).slot ≡ hart.slot
+cleaned_for_slot hart None = refl
+cleaned_for_slot hart (Some s) = cleaned_slot hart s _
+
+cleaned_at_slot : (hart : Hart) (phase : Phase) → (cleaned_at hart phase).slot ≡ hart.slot
+cleaned_at_slot hart Leave2 = cleaned_for_slot hart _
+cleaned_at_slot hart Idle = refl
+cleaned_at_slot hart User = refl
+cleaned_at_slot hart Enter0 = refl
+cleaned_at_slot hart Enter1 = refl
+cleaned_at_slot hart Enter2 = refl
+cleaned_at_slot hart Kernel = refl
+cleaned_at_slot hart Leave1 = refl
+
+fenced_slot : (policy : Policy) (hart : Hart) → (fenced policy hart).slot ≡ hart.slot
+fenced_slot Full hart = emptied_slot hart _
+fenced_slot Asid hart = cleaned_at_slot hart _
+
+-- a hart has that slot, and is in that phase
+record At (w : World) (h : ℕ) (slot : Option ℕ) (phase : Phase) : Type 0 where
+  on : slot_on w h ≡ slot
+  is_in : IsIn w h phase
+
+-- marks change neither
+marks_at : (policy : Policy) (w : World) (o : Outcome) (h : ℕ) (slot : Option ℕ) (phase : Phase) → At o.world h slot phase → At (with_stale_slots policy w o).world h slot phase
+marks_at Full w o h slot phase a = a
+marks_at Asid w o h slot phase a =
+    let f = with_stale (changed_slots 0 w.slots (o.world).slots) in
+    let is = slice_get-map f (o.world).harts h in
+    record { on = ap slot_at is ∙ same_slot f (slice_get (o.world).harts h) ∙ a.on; is_in = ap (option_map (λ (hart : Hart). hart.phase)) is ∙ same_phase f (slice_get (o.world).harts h) ∙ a.is_in }
+  where
+    same_slot : (f : Hart → Hart) (x : Option Hart) → slot_at (option_map (with_stale (changed_slots 0 w.slots (o.world).slots)) x) ≡ slot_at x
+    same_slot f None = refl
+    same_slot f (Some hart) = refl
+
+    same_phase : (f : Hart → Hart) (x : Option Hart) → option_map (λ (hart : Hart). hart.phase) (option_map (with_stale (changed_slots 0 w.slots (o.world).slots)) x) ≡ option_map (λ (hart : Hart). hart.phase) x
+    same_phase f None = refl
+    same_phase f (Some hart) = refl
+
+step_at : (w : World) (x : Step) (h : ℕ) (slot : Option ℕ) (phase : Phase) → At (plain_step w x).world h slot phase → At (step w x).world h slot phase
+unfolding step
+step_at w x h slot phase a = marks_at w.policy w (plain_step w x) h slot phase a
+
+-- the hart that is put in its place
+put_at : (w : World) (h : ℕ) (before after : Hart) → slice_get w.harts h ≡ Some before → At (with_hart w h after) h after.slot after.phase
+put_at w h before after there = let is = set_there w.harts h before after there in record { on = ap slot_at is; is_in = ap (option_map (λ (hart : Hart). hart.phase)) is }
+
+-- ---- the next instruction
+
+quiet_in : (phase : Phase) (b : Bool) → (phase ≡ Kernel → b ≡ false) → (is_kernel phase && b) ≡ false
+quiet_in Kernel b e = e refl
+quiet_in Idle b e = refl
+quiet_in User b e = refl
+quiet_in Enter0 b e = refl
+quiet_in Enter1 b e = refl
+quiet_in Enter2 b e = refl
+quiet_in Leave1 b e = refl
+quiet_in Leave2 b e = refl
+
+pub next_goes : (w : World) (h s : ℕ) (p : Process) (phase after : Phase) → IsOn w h s p → IsIn w h phase → next_phase phase ≡ Some after → (phase ≡ Kernel → is_unserved_access p.pending ≡ false)
+    → IsOn (step w (Next h)).world h s p × IsIn (step w (Next h)).world h after
+next_goes w h s p phase after on in_phase next quiet =
+    let k = stands w h phase in_phase in
+    let runs = has_it w h s k.hart on.there k.there in
+    let can : can_go_on w k.hart ≡ true = rw (k.in_phase, runs, on.lives, next, quiet_in phase (is_unserved_access p.pending) quiet) refl in
+    let goes = hart_runs w h true (can_go_on w) always (advanced w h) k.hart k.there refl can refl in
+    let hart = record (fenced w.policy k.hart) { phase = unwrap_or (next_phase k.hart.phase) k.hart.phase } in
+    let at : At (with_hart w h hart) h hart.slot hart.phase = put_at w h k.hart hart k.there in
+    let there = step_at w (Next h) h hart.slot hart.phase (subst (λ (o : Outcome). At o.world h hart.slot hart.phase) (sym goes) at) in
+    let lives : process_in (step w (Next h)).world s ≡ Some p = step_process w (Next h) s ∙ ap (λ (o : Outcome). process_in o.world s) goes ∙ on.lives in
+    let moved : hart.phase ≡ after = rw (k.in_phase, next) refl in
+    (record { there = there.on ∙ fenced_slot w.policy k.hart ∙ runs; lives = lives }, there.is_in ∙ ap Some moved)
+
+-- ---- a switch
+
+slot_elsewhere : (harts : List Hart) (s : ℕ) → ((k : ℕ) → slot_at (slice_get harts k) ≢ Some s) → list_any (λ (hart : Hart). has_slot s hart.slot) harts ≡ false
+slot_elsewhere [] s apart = refl
+slot_elsewhere (hart ∷ harts) s apart = rw (not_it hart.slot (apart 0)) (slot_elsewhere harts s (λ k. apart (suc k)))
+  where
+    not_it : (o : Option ℕ) → o ≢ Some s → has_slot s o ≡ false
+    not_it None e = refl
+    not_it (Some t) e = by (t == s) refl
+      where
+        by : (b : Bool) → (t == s) ≡ b → b ≡ false
+        by true is = absurd (e (ap Some (eqb-true t s is)))
+        by false is = refl
+
+pub switch_goes : (w : World) (h s : ℕ) (p : Process) → process_in w s ≡ Some p → ((k : ℕ) → slot_on w k ≢ Some s) → IsIn w h Idle ⊎ IsIn w h Kernel
+    → IsOn (step w (Switch h (Some s))).world h s p × IsIn (step w (Switch h (Some s))).world h Kernel
+switch_goes w h s p lives apart phase = by phase
+  where
+    runs_on : can_run w (Some s) ≡ true
+    runs_on = rw (lives, slot_elsewhere w.harts s apart) refl
+
+    goes_in : (from : Phase) → may_switch from ≡ true → IsIn w h from → IsOn (step w (Switch h (Some s))).world h s p × IsIn (step w (Switch h (Some s))).world h Kernel
+    goes_in from may in_phase =
+        let k = stands w h from in_phase in
+        let can : (may_switch k.hart.phase && can_run w (Some s)) ≡ true = rw (k.in_phase, may, runs_on) refl in
+        let hart = record k.hart { phase = Kernel; slot = Some s } in
+        let goes = hart_runs w h true (λ hart. may_switch hart.phase && can_run w (Some s)) always (λ hart. answers (with_hart w h (record hart { phase = phase_for (Some s); slot = Some s })) Done) k.hart k.there refl can refl in
+        let at : At (with_hart w h hart) h (Some s) Kernel = put_at w h k.hart hart k.there in
+        let there = step_at w (Switch h (Some s)) h (Some s) Kernel (subst (λ (o : Outcome). At o.world h (Some s) Kernel) (sym goes) at) in
+        let alive : process_in (step w (Switch h (Some s))).world s ≡ Some p = step_process w (Switch h (Some s)) s ∙ ap (λ (o : Outcome). process_in o.world s) goes ∙ lives in
+        (record { there = there.on; lives = alive }, there.is_in)
+
+    by : IsIn w h Idle ⊎ IsIn w h Kernel → IsOn (step w (Switch h (Some s))).world h s p × IsIn (step w (Switch h (Some s))).world h Kernel
+    by (inl idle) = goes_in Idle refl idle
+    by (inr kernel) = goes_in Kernel refl kernel
+
+-- ---- a trap
+
+pub trap_goes : (w : World) (h s : ℕ) (p : Process) → IsOn w h s p → IsIn w h User → IsIn (step w (Trap h)).world h Enter0
+trap_goes w h s p on user =
+    let k = stands w h User user in
+    let runs = has_it w h s k.hart on.there k.there in
+    let run = λ (hart : Hart) (s : ℕ) (p : Process). answers (with_hart (with_process w s (without_pending p)) h (record hart { phase = Enter0 })) Done in
+    let goes = hart_runs w h true (λ hart. is_user hart.phase) always (λ hart. with_its_process w hart (run hart)) k.hart k.there refl (ap is_user k.in_phase) refl ∙ process_runs w k.hart (run k.hart) s p runs on.lives in
+    let hart = record k.hart { phase = Enter0 } in
+    let at : At (with_hart (with_process w s (without_pending p)) h hart) h hart.slot Enter0 = put_at (with_process w s (without_pending p)) h k.hart hart k.there in
+    (step_at w (Trap h) h hart.slot Enter0 (subst (λ (o : Outcome). At o.world h hart.slot Enter0) (sym goes) at)).is_in
+
+-- ---- a start
+
+pub start_goes : (w : World) (image : Image) (s : ℕ) (ls : List LoadSegment) → free_slot w ≡ Some s → image_loads image ≡ Ok ls → tells_no_frame (step w (Start image)).reply ≡ false
+    → ((step w (Start image)).reply ≡ Started s) × (p : Process) × (process_in (step w (Start image)).world s ≡ Some p)
+start_goes w image s ls free loads quiet = by (is_dry w (start_need ls)) is
+  where
+    is : plain_step w (Start image) ≡ started_unless w s ls (is_dry w (start_need ls))
+    is = ap (λ r. started w r (free_slot w)) loads ∙ ap (started w (Ok ls)) free
+
+    put : Puts w s (Some (process_of w.counter ls)) (with_image w s ls)
+    put = set_puts w (with_image w s ls) s (Some (process_of w.counter ls)) (let room = free_there w.slots 0 s free in omega (arith, room)) refl
+
+    by : (b : Bool) → plain_step w (Start image) ≡ started_unless w s ls b → ((step w (Start image)).reply ≡ Started s) × (p : Process) × (process_in (step w (Start image)).world s ≡ Some p)
+    by true e = absurd (false≢true (sym quiet ∙ ap tells_no_frame (step_reply w (Start image) ∙ ap (λ (o : Outcome). o.reply) e)))
+    by false e = (step_reply w (Start image) ∙ ap (λ (o : Outcome). o.reply) e, process_of w.counter ls, step_process w (Start image) s ∙ ap (λ (o : Outcome). process_in o.world s) e ∙ put.here)

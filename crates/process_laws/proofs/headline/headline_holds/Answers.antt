@@ -1,0 +1,5 @@
+use Rattle.process_laws.proofs.Told.{headline_holds}
+use Rattle.process_laws.proofs.headline.headline_holds.Goals as goal
+
+pub returns : goal.returns
+returns c = headline_holds

@@ -1,0 +1,131 @@
+-- THE HEADLINE: what a process of xv6 on Sv39 may rely on, whatever the harts do.
+--
+-- The harts have made any list of steps since boot, and now make one more. `past` is what has been, the newest first; `m` is the step
+-- with its reply, the world before it and the world after it. A world has files and, in its slots, processes with their regions and the
+-- bytes of their pages. The words are in `Words`.
+use Rattle.std.specs.Prelude.{◌≡◌, ◌≢◌, ◌⊎◌, ℕ, false, true, ◌+◌, ◌-◌, ◌<◌, ◌≤◌, nat_lt, Option, None, Some, Ok, List, [], ◌∷◌, length}
+use Rattle.std.specs.Borrow.{Bor}
+use Rattle.process_laws.specs.Latest.{AreLatest, bytes_in, IsLatest}
+use Rattle.process_laws.specs.Moments.{Moment, moment_of, moments_from, slot_on}
+use Rattle.process_laws.specs.Words.{Asked, Asks, byte, Calls, copied, Forbids, in_memory, IsAnswer, IsGranted, IsIn, IsMade, IsOn, maker, takes_frames, stopped_by, tells_no_frame, waiting, WasServed}
+use Rattle.process_model.specs.Bytes.{is_width}
+use Rattle.process_model.specs.Copies.{longest_copy}
+use Rattle.process_model.specs.Files.{File}
+use Rattle.process_model.specs.Harts.{next_phase}
+use Rattle.process_model.specs.Images.{image_loads, LoadSegment}
+use Rattle.process_model.specs.Process.{Process}
+use Rattle.process_model.specs.Steps.{run}
+use Rattle.process_model.specs.World.{booted, free, free_slot, is_unserved_access, process_in, World}
+use Rattle.process_model.specs.declared.config.Config.{Config}
+use Rattle.process_model.specs.declared.image.Image.{Image}
+use Rattle.process_model.specs.declared.phase.Phase.{Phase}
+use Rattle.process_model.specs.declared.phase.Phase.TheVariants.{Enter0, Idle, Kernel, User}
+use Rattle.process_model.specs.declared.step.Refusal.{Refusal}
+use Rattle.process_model.specs.declared.step.Refusal.TheVariants.{Impossible}
+use Rattle.process_model.specs.declared.step.Reply.{Reply}
+use Rattle.process_model.specs.declared.step.Reply.TheVariants.{Done, Ended, Fault, Ready, Refused, Started, Value}
+use Rattle.process_model.specs.declared.step.Step.{Step}
+use Rattle.process_model.specs.declared.step.Step.TheVariants.{CopyIn, CopyOut, Exec, Next, Serve, Start, Switch, Trap}
+use Rattle.sv39_entry.specs.declared.access.Access.{Access}
+use Rattle.sv39_entry.specs.declared.access.Access.TheVariants.{Load, Store}
+use Rattle.sv39_entry.specs.declared.rule.Rule.{Rule}
+use Rattle.sv39_entry.specs.declared.rule.Rule.TheVariants.{NoFrame}
+
+-- (a) An access `a` of the process p by the user. A page of data at 0x1000 and the guard behind it: `load 0 0x1000 1` answers `value 0x61`;
+-- `load 0 0x2000 1` answers `fault 13`, and its service `ended 4 GuardPage`
+pub record AnswersUsers (past : List Moment) (m : Moment) : Type 0 where
+  -- is not both granted and forbidden
+  pub apart : (s : ℕ) (p : Process) (a : Asked) (rule : Rule) → process_in m.before s ≡ Some p → IsGranted p a → Forbids p a rule → ⊥
+  -- is answered, by a value or by being stored, only where it is granted; else it faults, and then the process waits
+  pub tried : (h s : ℕ) (p : Process) (a : Asked) (via : Option ℕ) → IsOn m.before h s p → Asks h via a m.step → IsMade m.reply
+      → (IsGranted p a × IsAnswer a.access m.reply) ⊎ ((cause : ℕ) × (m.reply ≡ Fault cause) × (process_in m.after s ≡ Some (waiting p a)))
+  -- where it is granted, its service makes it ready, or finds too few frames
+  pub served : (h s : ℕ) (p : Process) (a : Asked) → IsOn m.before h s (waiting p a) → m.step ≡ Serve h → IsMade m.reply → IsGranted p a → (m.reply ≡ Ready) ⊎ (m.reply ≡ Ended NoFrame)
+  -- where it is not, its service ends the process by the first rule that forbids it
+  pub ended : (h s : ℕ) (p : Process) (a : Asked) → IsOn m.before h s (waiting p a) → m.step ≡ Serve h → IsMade m.reply → (IsGranted p a → ⊥)
+      → (rule : Rule) × (m.reply ≡ Ended rule) × Forbids p a rule
+  -- one fault is enough: once it was made ready it is answered, on any hart, as long as the process is as it was then
+  pub retried : (h s : ℕ) (p : Process) (a : Asked) (via : Option ℕ) → WasServed past s a p → IsOn m.before h s p → Asks h via a m.step → IsMade m.reply → IsAnswer a.access m.reply
+
+-- (b) A kernel copy of n bytes ends after k: all are copied, or the next is forbidden, or has no frame. `copyin 0 0x1ffc 8`, of which the
+-- last four are the guard's, answers `short 4 GuardPage done 4 00000000`
+pub data EndsAfter (p : Process) (access : Access) (address n k : ℕ) : Option Rule → Type 0 where
+  whole : k ≡ n → EndsAfter p access address n k None
+  forbidden : {rule : Rule} → k < n → Forbids p (byte access (address + k)) rule → EndsAfter p access address n k (Some rule)
+  no_frame : k < n → IsGranted p (byte access (address + k)) → EndsAfter p access address n k (Some NoFrame)
+
+pub record Copies (p : Process) (access : Access) (address n k : ℕ) (stop : Option Rule) : Type 0 where
+  pub granted : (i : ℕ) → i < k → IsGranted p (byte access (address + i))
+  pub ends : EndsAfter p access address n k stop
+
+pub record CopiesForKernel (m : Moment) : Type 0 where
+  pub from : (h s address n : ℕ) (p : Process) → IsOn m.before h s p → m.step ≡ CopyIn h address n → IsMade m.reply → Copies p Load address n (copied m.reply) (stopped_by m.reply)
+  pub to : (h s address : ℕ) (bytes : Bor (List ℕ)) (p : Process) → IsOn m.before h s p → m.step ≡ CopyOut h address bytes → IsMade m.reply
+      → Copies p Store address (length bytes.now) (copied m.reply) (stopped_by m.reply)
+
+-- (c) NoFrame is told just where the step takes more frames, n, than are free. What it takes is the same in every memory: a start of nine
+-- pages takes 17, so it is refused with 16 free frames, and made with 17
+abbrev pub IsDry : Moment → ℕ → Type 0
+IsDry m n = tells_no_frame m.reply ≡ nat_lt (free m.before) n
+
+abbrev pub Takes : Moment → ℕ → Type 0
+Takes m n = IsDry m n × (tells_no_frame m.reply ≡ false → free m.before - free m.after ≡ n)
+
+abbrev pub elsewhere : Moment → ℕ → Moment
+elsewhere m frames = moment_of (in_memory m.before frames) m.step
+
+pub record CountsFrames (m : Moment) : Type 0 where
+  pub takes : takes_frames m.step ≡ true → (n : ℕ) × Takes m n × ((frames : ℕ) → Takes (elsewhere m frames) n)
+  -- exec takes what a start of the image does, but for a page that the process keeps; the frames of the old pages do not count as free
+  pub replaces : (h : ℕ) (image : Image) → m.step ≡ Exec h image → (n : ℕ) × IsDry m n × ((frames : ℕ) → IsDry (elsewhere m frames) n)
+      × (m.reply ≡ Done → (u : World) (s : ℕ) → free_slot u ≡ Some s → IsDry (moment_of u (Start image)) (n + 1))
+  -- no other step tells it
+  pub no_other : takes_frames m.step ≡ false → ((h : ℕ) (image : Image) → m.step ≢ Exec h image) → tells_no_frame m.reply ≡ false
+
+-- (d) Every byte that is read is the latest that was left there since its page was settled, else the page's initial one: the child of a
+-- fork reads what its parent stored before, and not what it stores after
+pub record ReadsLatest (past : List Moment) (m : Moment) : Type 0 where
+  pub read : (h s v : ℕ) (a : Asked) (via : Option ℕ) → slot_on m.before h ≡ Some s → Asks h via a m.step → m.reply ≡ Value v → IsLatest past s a.address a.width v
+  pub copied : (h s address n : ℕ) → slot_on m.before h ≡ Some s → m.step ≡ CopyIn h address n → AreLatest (m ∷ past) s address (bytes_in m.reply)
+
+-- (e) A process q is changed by its own steps alone: its bytes, its regions, their rights and all else. What a page of a file will begin
+-- with is what the file has then, which others may change by what they write back
+pub record LeavesOthers (m : Moment) : Type 0 where
+  pub kept : (s : ℕ) (q : Process) → ((h : ℕ) → maker m.step ≡ Some h → slot_on m.before h ≢ Some s) → process_in m.before s ≡ Some q → process_in m.after s ≡ Some q
+  pub refused : (e : Refusal) → m.reply ≡ Refused e → m.after ≡ m.before
+
+-- (f) These steps are made: a start in the lowest free slot, of a good image and with enough frames; the way of a process onto a hart, into
+-- user mode and back; an access by the user, by what the memory says now; a service in the kernel, of a process that waits for it; and a
+-- call of the kernel, for a process that does not, is refused for what it asks alone
+pub record MakesSteps (m : Moment) : Type 0 where
+  pub start : (image : Image) (s : ℕ) (ls : List LoadSegment) → free_slot m.before ≡ Some s → image_loads image ≡ Ok ls → m.step ≡ Start image → tells_no_frame m.reply ≡ false
+      → (m.reply ≡ Started s) × (p : Process) × (process_in m.after s ≡ Some p)
+  pub switch : (h s : ℕ) (p : Process) → process_in m.before s ≡ Some p → ((k : ℕ) → slot_on m.before k ≢ Some s) → IsIn m.before h Idle ⊎ IsIn m.before h Kernel → m.step ≡ Switch h (Some s)
+      → IsOn m.after h s p × IsIn m.after h Kernel
+  pub next : (h s : ℕ) (p : Process) (phase after : Phase) → IsOn m.before h s p → IsIn m.before h phase → next_phase phase ≡ Some after → (phase ≡ Kernel → is_unserved_access p.pending ≡ false) → m.step ≡ Next h
+      → IsOn m.after h s p × IsIn m.after h after
+  pub trap : (h s : ℕ) (p : Process) → IsOn m.before h s p → IsIn m.before h User → m.step ≡ Trap h → IsIn m.after h Enter0
+  pub access : (h s : ℕ) (p : Process) (a : Asked) → IsOn m.before h s p → IsIn m.before h User → Asks h None a m.step → is_width a.width ≡ true → IsMade m.reply
+  pub service : (h s : ℕ) (p : Process) (a : Asked) → IsOn m.before h s (waiting p a) → IsIn m.before h Kernel → m.step ≡ Serve h → IsMade m.reply
+  pub call : (h s : ℕ) (p : Process) (phase : Phase) → IsOn m.before h s p → is_unserved_access p.pending ≡ false → IsIn m.before h Kernel → Calls h m.step → m.reply ≢ Refused (Impossible phase)
+  pub copy_in : (h s address n : ℕ) (p : Process) → IsOn m.before h s p → is_unserved_access p.pending ≡ false → IsIn m.before h Kernel → m.step ≡ CopyIn h address n → n ≤ longest_copy → IsMade m.reply
+  pub copy_out : (h s address : ℕ) (bytes : Bor (List ℕ)) (p : Process) → IsOn m.before h s p → is_unserved_access p.pending ≡ false → IsIn m.before h Kernel → m.step ≡ CopyOut h address bytes
+      → length bytes.now ≤ longest_copy → IsMade m.reply
+
+pub record Holds (past : List Moment) (m : Moment) : Type 0 where
+  pub users : AnswersUsers past m
+  pub copies : CopiesForKernel m
+  pub frames : CountsFrames m
+  pub bytes : ReadsLatest past m
+  pub others : LeavesOthers m
+  pub made : MakesSteps m
+
+-- of each step of a list, and its reply, from a world on
+abbrev pub AllHold : List Moment → World → List Step → List Reply → Type 0
+AllHold past w [] rs = rs ≡ []
+AllHold past w (x ∷ xs) [] = ⊥
+AllHold past w (x ∷ xs) (r ∷ rs) = let m = record (moment_of w x) { reply = r } in Holds past m × AllHold (m ∷ past) m.after xs rs
+
+-- after boot the harts made those earlier steps, and to the steps that they make then these are the replies
+abbrev pub Headline : Config → List File → List Step → List Step → List Reply → Type 0
+Headline c files earlier steps replies = AllHold (moments_from [] (booted c files) earlier) (run (booted c files) earlier).world steps replies

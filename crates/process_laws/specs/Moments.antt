@@ -1,0 +1,32 @@
+-- What has been: the steps of a run, with what they answered and the worlds between.
+use Rattle.std.specs.Prelude.{ℕ, Option, None, Some, List, [], ◌∷◌, slice_get}
+use Rattle.process_model.specs.Harts.{Hart}
+use Rattle.process_model.specs.Steps.{step}
+use Rattle.process_model.specs.World.{World}
+use Rattle.process_model.specs.declared.step.Reply.{Reply}
+use Rattle.process_model.specs.declared.step.Step.{Step}
+
+-- a step, with the world before it, what it answered, and the world after it
+pub record Moment : Type 0 where
+  pub before : World
+  pub step : Step
+  pub reply : Reply
+  pub after : World
+
+-- what the model answers
+abbrev pub moment_of : World → Step → Moment
+moment_of w x = let o = step w x in record { before = w; step = x; reply = o.reply; after = o.world }
+
+-- the moments of a run, the newest first, after those that were
+abbrev pub moments_from : List Moment → World → List Step → List Moment
+moments_from past w [] = past
+moments_from past w (x ∷ xs) = let m = moment_of w x in moments_from (m ∷ past) m.after xs
+
+-- the slot of the process on a hart
+
+abbrev pub slot_at : Option Hart → Option ℕ
+slot_at None = None
+slot_at (Some hart) = hart.slot
+
+abbrev pub slot_on : World → ℕ → Option ℕ
+slot_on w h = slot_at (slice_get w.harts h)
