@@ -1,0 +1,90 @@
+-- What a story knows of the space that it is of.
+use Rattle.std.proofs.Common.{◌≡◌, ℕ, ℤ, refl, subst, sym, List, None, Option, Some, Result, Ok, Err}
+use Rattle.std.specs.Prelude.{IfErr, IfOk}
+use Rattle.frame_store.specs.View.{View}
+use Rattle.process_model.specs.Files.{File}
+use Rattle.process_model.specs.Process.{Process, regions}
+use Rattle.process_model.specs.Regions.{first_rule}
+use Rattle.process_model.specs.declared.step.Refusal.{Refusal}
+use Rattle.sv39_entry.specs.Address.{page_of, trapframe_page}
+use Rattle.sv39_entry.specs.declared.access.Access.{Access}
+use Rattle.sv39_entry.specs.declared.frame.FrameNo.{FrameNo}
+use Rattle.sv39_entry.specs.declared.rule.Rule.{Rule}
+use Rattle.table_walk.specs.Tables.{Tables}
+use Rattle.address_space.specs.Agreement.{Body, body, IsSpace}
+use Rattle.address_space.specs.Layouts.{Layout}
+use Rattle.cow_fork.specs.Forks.{HasForked}
+use Rattle.fault_rules.specs.Allowed.{can_reside}
+use Rattle.fault_rules.specs.Resides.{HasReside}
+use Rattle.fault_rules.specs.Serves.{DoesNothing, IsEnd}
+use Rattle.fault_rules.specs.declared.service.Served.{Served}
+use Rattle.fault_rules.specs.declared.service.Served.TheVariants.{Ended, Ready, Unserved}
+use Rattle.lazy_growth.specs.Resized.{Resizes}
+use Rattle.lazy_growth.specs.declared.refused.SizeError.{SizeError}
+use Rattle.mmap_regions.specs.Unmapped.{Unmaps}
+use Rattle.user_copy.specs.Reaching.{StillStands}
+use Rattle.tests_of_refusals.specs.Family.{IsAlive}
+
+-- a space that became another process
+pub alive_as : (x y : Body) (other : Process → Process) → ((t : Tables) (p : Process) → IsSpace x t p → IsSpace y t (other p)) → IsAlive x → IsAlive y
+alive_as x y other becomes alive = (alive.0, other alive.1, becomes alive.0 alive.1 alive.2)
+
+-- a space from or to which was copied
+pub alive_copied : (x y : Body) → StillStands x y → IsAlive x → IsAlive y
+alive_copied x y stands alive = stands alive.0 alive.1 alive.2
+
+-- an access that is served is denied by no rule
+granted : (o : Option Rule) → IsEnd o Ready → o ≡ None
+granted None is = refl
+granted (Some rule) is = absurd (cc)
+
+module _ (v w : View) (root root_after trapframe trapframe_after : FrameNo) (l m : Layout) where
+  -- a space that was only read
+  pub space_still : w ≡ v → root_after ≡ root → trapframe_after ≡ trapframe → m ≡ l
+      → (t : Tables) (p : Process) → IsSpace (body v root.0 trapframe.0 l) t p → IsSpace (body w root_after.0 trapframe_after.0 m) t p
+  space_still view root_is trapframe_is layout t p agrees = rw (view, root_is, trapframe_is, layout) agrees
+
+  pub alive_still : w ≡ v → root_after ≡ root → trapframe_after ≡ trapframe → m ≡ l → IsAlive (body v root.0 trapframe.0 l) → IsAlive (body w root_after.0 trapframe_after.0 m)
+  alive_still view root_is trapframe_is layout alive = (alive.0, alive.1, space_still view root_is trapframe_is layout alive.0 alive.1 alive.2)
+
+  -- a space of which sbrk was asked
+  pub alive_resized : (delta : ℤ) (r : Result ℕ SizeError)
+      → IfOk r (λ _. (t : Tables) (p : Process) → IsSpace (body v root.0 trapframe.0 l) t p → Resizes (body w root_after.0 trapframe_after.0 m) t p delta)
+      → IfErr r (λ _. w ≡ v) → root_after ≡ root → trapframe_after ≡ trapframe → IfErr r (λ _. m ≡ l)
+      → IsAlive (body v root.0 trapframe.0 l) → IsAlive (body w root_after.0 trapframe_after.0 m)
+  alive_resized delta (Ok _) resized view root_is trapframe_is layout alive = let made = resized alive.0 alive.1 alive.2 in (made.tables, made.process, made.agrees)
+  alive_resized delta (Err _) resized view root_is trapframe_is layout alive = alive_still view root_is trapframe_is layout alive
+
+  -- a space of which munmap was asked
+  pub alive_unmapped : (before after : List File) (address len : ℕ) (r : Result (Unit {0}) Refusal)
+      → IfOk r (λ _. (t : Tables) (p : Process) → IsSpace (body v root.0 trapframe.0 l) t p → Unmaps (body w root_after.0 trapframe_after.0 m) t p before after address len)
+      → IfErr r (λ _. w ≡ v) → root_after ≡ root → trapframe_after ≡ trapframe → IfErr r (λ _. m ≡ l)
+      → IsAlive (body v root.0 trapframe.0 l) → IsAlive (body w root_after.0 trapframe_after.0 m)
+  alive_unmapped before after address len (Ok _) unmapped view root_is trapframe_is layout alive = let made = unmapped alive.0 alive.1 alive.2 in (made.tables, (made.what).process, made.agrees)
+  alive_unmapped before after address len (Err _) unmapped view root_is trapframe_is layout alive = alive_still view root_is trapframe_is layout alive
+
+  -- a space of which a fault was served
+  pub alive_served : (files : List File) (access : Access) (address width : ℕ) (IsCount : ℕ → ℕ → Type 0) (r : Served)
+      → ((t : Tables) (p : Process) → IsSpace (body v root.0 trapframe.0 l) t p → IsEnd (first_rule (regions p) access address width) r)
+      → (r ≡ Ready → HasReside (body v root.0 trapframe.0 l) (body w root_after.0 trapframe_after.0 m) files access (page_of address) IsCount)
+      → ((rule : Rule) → r ≡ Ended rule → (t : Tables) (p : Process) → IsSpace (body v root.0 trapframe.0 l) t p → IsSpace (body w root_after.0 trapframe_after.0 m) t p)
+      → (DoesNothing r → w ≡ v) → root_after ≡ root → trapframe_after ≡ trapframe → m ≡ l
+      → IsAlive (body v root.0 trapframe.0 l) → IsAlive (body w root_after.0 trapframe_after.0 m)
+  alive_served files access address width IsCount Ready ended ready whole view root_is trapframe_is layout alive =
+      let none = granted (first_rule (regions alive.1) access address width) (ended alive.0 alive.1 alive.2) in
+      let made = ready refl alive.0 alive.1 (can_reside _ alive.0 alive.1 access address width alive.2 none) in
+      (made.0, _, made.2.agrees 0)
+  alive_served files access address width IsCount (Ended rule) ended ready whole view root_is trapframe_is layout alive =
+      (alive.0, alive.1, whole rule refl alive.0 alive.1 alive.2)
+  alive_served files access address width IsCount (Unserved e) ended ready whole view root_is trapframe_is layout alive =
+      alive_still (view (λ is. cc, λ is. cc)) root_is trapframe_is layout alive
+
+-- a space in whose place another one came
+pub alive_replaced : (x y : Body) (other : ℕ → Process) (Alone : Tables → Type 0) (r : Result (Unit {0}) Refusal) → IfOk r (λ _. (t : Tables) × ((fresh : ℕ) → IsSpace y t (other fresh)) × Alone t)
+    → IfErr r (λ _. (t : Tables) (p : Process) → IsSpace x t p → IsSpace y t p) → IsAlive x → IsAlive y
+alive_replaced x y other Alone (Ok _) ok err alive = (ok.0, other 0, ok.1 0)
+alive_replaced x y other Alone (Err _) ok err alive = (alive.0, alive.1, err alive.0 alive.1 alive.2)
+
+-- a parent, and the child where there is one now
+pub alive_forked : (x y z : Body) → HasForked x y z → IsAlive x → IsAlive y × IsAlive z
+alive_forked x y z forked alive = let made = forked alive.0 alive.1 alive.2 in ((made.0, _, made.2.parent), (made.1, _, made.2.child))

@@ -1,0 +1,222 @@
+// Children of one process, each on a thread of its own: they part from it while it goes on.
+
+ghost use Rattle.std.specs.Prelude.{◌≡◌, ◌<◌, All, IfOk};
+ghost use Rattle.address_space.specs.Agreement.{body_of};
+ghost use Rattle.frame_store.specs.Laws.{Fits, Keeps};
+ghost use Rattle.shared_frames.specs.Fits.{FitsIn};
+ghost use Rattle.tests_of_refusals.specs.Family.{IsAlive};
+ghost use Rattle.tests_of_refusals.specs.Ready.{IsReady};
+
+use crate::beginning::begun;
+use crate::given::standard_segments;
+use address_space::{Asked, Space};
+use cow_fork::fork;
+use exec_segments::Image;
+use fault_rules::{Served, serve};
+use file_cabinet::{Cabinet, Files};
+use frame_store::{FrameAccess, FrameSeat, FrameSupply};
+use process_model::Reply;
+use shared_frames::{SharedFrames, SharedSeat, Totals};
+use std::alloc::Global;
+use std::sync::Wait;
+use std::test::Fail;
+use std::thread::{Threads, map_vec};
+use sv39_entry::{Access, Mode, Va};
+
+/// A process on a thread: where it stores numbers, and which, from the first up to, and without, the last.
+#[derive(Drop)]
+struct Job {
+    space: Space<SharedSeat>,
+    files: Cabinet,
+    addresses: [u64; 2],
+    first: u64,
+    last: u64,
+}
+
+/// An access of the user to eight bytes.
+fn access<S: FrameSeat, F: FrameAccess<Seat = S>>(
+    space: &mut Space<S>,
+    store: &mut F,
+    access: Access,
+    address: u64,
+    value: u64,
+) -> Reply
+    requires fits { Fits F.rule store.old space.old.seat }
+    requires alive { IsAlive (body_of S.view space.old) }
+    ensures alive { IsAlive (body_of S.view space.new) }
+    ensures keeps { Keeps F.rule store.old space.old.seat store.new space.new.seat }
+{
+    let asked = Asked {
+        access,
+        va: Va(address),
+        width: 8,
+        value,
+    };
+    let walk = space.translate(store, asked.va, access, Mode::User);
+    space.user_access(store, walk, asked)
+}
+
+/// Stores a number, once its fault is served where it has one, and says whether that was done.
+fn store_served<S: FrameSeat, F: FrameSupply<Seat = S>, C: Files>(
+    space: &mut Space<S>,
+    store: &mut F,
+    files: &mut C,
+    address: u64,
+    number: u64,
+) -> bool
+    requires fits { Fits F.rule store.old space.old.seat }
+    requires alive { IsAlive (body_of S.view space.old) }
+    ensures alive { IsAlive (body_of S.view space.new) }
+    ensures keeps { Keeps F.rule store.old space.old.seat store.new space.new.seat }
+{
+    if access(space, store, Access::Store, address, number) == Reply::Stored {
+        return true;
+    }
+    if serve(space, store, files, Va(address), 8, Access::Store) != Served::Ready {
+        return false;
+    }
+    access(space, store, Access::Store, address, number) == Reply::Stored
+}
+
+/// Stores a number at two addresses, reads both back, and says whether it was there.
+fn keep<S: FrameSeat, F: FrameSupply<Seat = S>, C: Files>(
+    space: &mut Space<S>,
+    store: &mut F,
+    files: &mut C,
+    addresses: [u64; 2],
+    number: u64,
+) -> bool
+    requires fits { Fits F.rule store.old space.old.seat }
+    requires alive { IsAlive (body_of S.view space.old) }
+    ensures alive { IsAlive (body_of S.view space.new) }
+    ensures keeps { Keeps F.rule store.old space.old.seat store.new space.new.seat }
+{
+    let [one, other] = addresses;
+    let first = store_served(space, store, files, one, number);
+    let second = store_served(space, store, files, other, number);
+    let there = access(space, store, Access::Load, one, 0);
+    let there_too = access(space, store, Access::Load, other, 0);
+    let read = Reply::Value(number);
+    first && second && there == read && there_too == read
+}
+
+/// Does a job, and says whether each number was kept. The process has ended then.
+fn done<R: Wait>(rt: &R, frames: &SharedFrames, job: Job) -> (SharedSeat, bool)
+    requires ready { IsReady frames.now.table job.space }
+    ensures { FitsIn frames.now.table result.0 }
+{
+    let mut store = frames.supply(rt);
+    let Job {
+        mut space,
+        mut files,
+        addresses,
+        first,
+        last,
+    } = job;
+    let mut all = true;
+    'numbers: for number in first..last {
+        if !keep(&mut space, &mut store, &mut files, addresses, number) {
+            all = false;
+        }
+    }
+    (space.destroy(&mut store), all)
+}
+
+/// A child on the same frames, with its job: it stores its number at 0x1000 and at 0x2000.
+fn child<R: Wait>(
+    rt: &R,
+    alloc: Global,
+    frames: &SharedFrames,
+    parent: &mut Space<SharedSeat>,
+    number: u64,
+) -> Result<Job, Fail>
+    requires number { number < 100 }
+    requires ready { IsReady frames.now.table parent.old }
+    ensures ready { IsReady frames.now.table parent.new }
+    ensures job { IfOk result (λ job. IsReady frames.now.table job.space) }
+{
+    let files = Cabinet::new(alloc, &[])?;
+    let space = fork(parent, &mut frames.supply(rt))?;
+    Ok(Job {
+        space,
+        files,
+        addresses: [0x1000, 0x2000],
+        first: number,
+        last: number + 1,
+    })
+}
+
+/// The jobs of eight children, and last that of the parent, which stores a thousand numbers at 0x1000.
+fn jobs<R: Wait>(
+    rt: &R,
+    alloc: Global,
+    frames: &SharedFrames,
+    mut parent: Space<SharedSeat>,
+) -> Result<Vec<Job>, Fail>
+    requires ready { IsReady frames.now.table parent }
+    ensures ready { IfOk result (λ jobs. All (λ job. IsReady frames.now.table job.space) jobs.items) }
+{
+    let mut jobs = Vec::new(alloc);
+    'children: for number in 1..9 {
+        jobs.push(child(rt, alloc, frames, &mut parent, number)?)?;
+    }
+    jobs.push(Job {
+        space: parent,
+        files: Cabinet::new(alloc, &[])?,
+        addresses: [0x1000, 0x1000],
+        first: 1_000,
+        last: 2_000,
+    })?;
+    Ok(jobs)
+}
+
+/// Does all jobs, each on a thread of its own, and joins their seats to one. Says whether each number was kept.
+fn join_all<R: Threads + Wait + Sync>(
+    rt: &R,
+    frames: &SharedFrames,
+    jobs: Vec<Job>,
+    seat: &mut SharedSeat,
+) -> Result<bool, Fail>
+    requires fits { FitsIn frames.now.table seat.old }
+    requires ready { All (λ job. IsReady frames.now.table job.space) jobs.items }
+    ensures fits { IfOk result (λ _. FitsIn frames.now.table seat.new) }
+{
+    let mut seats = map_vec(
+        rt,
+        jobs,
+        &|job: Job| -> (SharedSeat, bool)
+            requires { IsReady frames.now.table job.space }
+            ensures { FitsIn frames.entry.now.table result.0 }
+        { done(rt, frames, job) },
+    )?;
+    let mut all = true;
+    'seats: while let Some((other, kept)) = seats.pop() {
+        frames.access().join(seat, other);
+        all &= kept;
+    }
+    Ok(all)
+}
+
+/// What the totals are when all processes have ended, if each number was kept.
+fn totals_after<R: Threads + Wait + Sync>(rt: &R, alloc: Global) -> Result<Option<Totals>, Fail> {
+    let segments = standard_segments(alloc)?;
+    let image = Image::from_segments(&segments)?;
+    let (frames, mut seat) = SharedFrames::new(alloc, 256)?;
+    let parent = begun(&mut frames.supply(rt), &mut seat, &image, 0, 0)?;
+    let jobs = jobs(rt, alloc, &frames, parent)?;
+    let all = join_all(rt, &frames, jobs, &mut seat)?;
+    let totals = frames.close(seat);
+    Ok(if all { Some(totals) } else { None })
+}
+
+#[test]
+fn eight_children_part_at_once(rt: HostRuntime) -> Result<(), Fail> {
+    // frame 0 is held by the opening seat alone
+    let totals = Totals {
+        free: 255,
+        held: 1,
+        trampoline: 1,
+    };
+    assert_eq!(rt; totals_after(&rt, rt.alloc())?, Some(totals));
+    Ok(())
+}
