@@ -1,12 +1,12 @@
 -- What a story knows of the space that it is of.
-use Rattle.std.proofs.Common.{◌≡◌, ℕ, ℤ, refl, subst, sym, List, None, Option, Some, Result, Ok, Err}
+use Rattle.std.proofs.Common.{◌≡◌, ℕ, ℤ, refl, List, None, Option, Some, Result, Ok, Err}
 use Rattle.std.specs.Prelude.{IfErr, IfOk}
 use Rattle.frame_store.specs.View.{View}
 use Rattle.process_model.specs.Files.{File}
 use Rattle.process_model.specs.Process.{Process, regions}
 use Rattle.process_model.specs.Regions.{first_rule}
 use Rattle.process_model.specs.declared.step.Refusal.{Refusal}
-use Rattle.sv39_entry.specs.Address.{page_of, trapframe_page}
+use Rattle.sv39_entry.specs.Address.{page_of}
 use Rattle.sv39_entry.specs.declared.access.Access.{Access}
 use Rattle.sv39_entry.specs.declared.frame.FrameNo.{FrameNo}
 use Rattle.sv39_entry.specs.declared.rule.Rule.{Rule}

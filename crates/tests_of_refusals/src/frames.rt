@@ -104,8 +104,8 @@ fn refuses_below_the_need(rt: HostRuntime) -> Result<(), Fail> {
     Ok(())
 }
 
-/// A child shares the pages of the data. With none, one and two frames the bytes up to page 2 are copied, those in page 1, and
-/// all; and only a page that got a frame is then the process's own.
+/// A child shares the pages of the data. With no frame nothing is copied, with one the two bytes in page 1, with two all four;
+/// and only a page that got a frame is then the process's own.
 fn copies() -> [[Row; 5]; 3] {
     let fork = (Fork, Done, false);
     let short = |done: usize| Short(Denied(Rule::NoFrame), done, 0);

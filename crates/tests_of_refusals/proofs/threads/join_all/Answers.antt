@@ -1,4 +1,4 @@
-use Rattle.std.proofs.Common.{◌<◌, Bool, Some, arith, length, subst, sym}
+use Rattle.std.proofs.Common.{Bool, Some, arith, subst, sym}
 use Rattle.std.proofs.lemmas.List.Elements.{All-pop}
 use Rattle.shared_frames.specs.Fits.{FitsIn, fits_joined, may_join}
 use Rattle.shared_frames.specs.declared.seat.SharedSeat.{SharedSeat}
