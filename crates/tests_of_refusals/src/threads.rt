@@ -146,7 +146,7 @@ fn child<R: Wait>(
     })
 }
 
-/// The jobs of eight children, and last that of the parent, which stores a thousand numbers at 0x1000.
+/// The jobs of eight children, and last that of the parent, which stores a hundred thousand numbers at 0x1000.
 fn jobs<R: Wait>(
     rt: &R,
     alloc: Global,
@@ -165,7 +165,7 @@ fn jobs<R: Wait>(
         files: Cabinet::new(alloc, &[])?,
         addresses: [0x1000, 0x1000],
         first: 1_000,
-        last: 2_000,
+        last: 101_000,
     })?;
     Ok(jobs)
 }
