@@ -29,6 +29,7 @@ module _ (r x : Region) (like : LeafLike r x) where
     accessed = made.accessed;
     dirty = made.dirty ∙ same_dirty s;
     copy_on_write = made.copy_on_write;
+    unused = made.unused;
   }
 
 module _ (v : View) (root trapframe : ℕ) (l m : Layout) (t : Tables) (p q : Process) (space : IsSpace (body v root trapframe l) t p) (can : CanRelay p q) where

@@ -58,7 +58,8 @@ pub record HoldsTrapframe (v : View) (trapframe : ℕ) : Type 0 where
 abbrev pub is_dirty_page : Region → Page → Bool
 is_dirty_page r s = (s.stored_mark || not (is_shared_kind r.kind)) && r.writes
 
--- The leaf of a page of a region over a frame (flags as the standard has them, 4.4.1; bit 8 is copy-on-write, our own choice). The
+-- The leaf of a page of a region over a frame (flags as the standard has them, 4.4.1; of the two bits for the kernel's use, bit 8 is
+-- copy-on-write and bit 9 is clear, our own choice). The
 -- guard's grants nothing to the user, and may be read by the kernel alone.
 pub record IsPageLeaf (w f : ℕ) (r : Region) (mark is_dirty : Bool) : Type 0 where
   pub names : ppn w ≡ ppn_of f
@@ -71,6 +72,7 @@ pub record IsPageLeaf (w f : ℕ) (r : Region) (mark is_dirty : Bool) : Type 0 w
   pub accessed : has w 6 ≡ true
   pub dirty : has w 7 ≡ is_dirty
   pub copy_on_write : has w 8 ≡ mark
+  pub unused : has w 9 ≡ false
 
 -- read and execute, and read and write
 abbrev pub code_rights : ℕ

@@ -8,6 +8,7 @@ pub mod Layouts
 pub mod Parts
 pub mod Pending
 pub mod ProcessLeaves
+pub mod SameLeaves
 pub mod Separating
 pub mod Settled
 pub mod Steps

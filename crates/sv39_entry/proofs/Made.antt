@@ -104,6 +104,7 @@ leaf_read frame rights u c d lt =
       accessed = low f s 6 (omega arith) ∙ alike (flag 6) (λ r w x u c d. true) refl r w x u c d;
       modified = low f s 7 (omega arith) ∙ alike (flag 7) (λ r w x u c d. d && w) refl r w x u c d;
       copy_on_write = low f s 8 (omega arith) ∙ alike (flag 8) (λ r w x u c d. c) refl r w x u c d;
+      unused = low f s 9 (omega arith) ∙ alike (flag 9) (λ r w x u c d. false) refl r w x u c d;
       readable = λ e. kind_split f s (omega arith) small ∙ readable r w x u c d e;
       executable = λ e none. kind_split f s (omega arith) small ∙ executable r w x u c d e none;
     }

@@ -71,6 +71,7 @@ pub record IsLeafOf (w frame rights : ℕ) (user cow dirty : Bool) : Type 0 wher
   pub accessed : has w 6 ≡ true
   pub modified : has w 7 ≡ (dirty && writes rights)
   pub copy_on_write : has w 8 ≡ cow
+  pub unused : has w 9 ≡ false
   pub readable : reads rights ≡ true → kind_of w ≡ Leaf
   pub executable : executes rights ≡ true → writes rights ≡ false → kind_of w ≡ Leaf
 

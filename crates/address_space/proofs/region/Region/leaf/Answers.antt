@@ -18,4 +18,5 @@ returns-clause-leaf c =
       accessed = made.accessed;
       dirty = made.modified;
       copy_on_write = made.copy_on_write;
+      unused = made.unused;
     }
