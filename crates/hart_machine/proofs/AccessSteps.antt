@@ -9,7 +9,6 @@ use Rattle.process_model.specs.Harts.{entry_serves}
 use Rattle.process_model.specs.Process.{Process}
 use Rattle.process_model.specs.Service.{access_step, Answer, Asked, is_fault, told, told_if, user_access}
 use Rattle.process_model.specs.World.{answers, Outcome, refuses, with_hart, with_process, World}
-use Rattle.process_model.specs.declared.config.Policy.TheVariants.{Full}
 use Rattle.process_model.specs.declared.phase.Phase.{Phase}
 use Rattle.process_model.specs.declared.phase.Phase.TheVariants as phase
 use Rattle.process_model.specs.declared.step.Refusal.TheVariants.{BadArgument, Impossible, NoEntry}
@@ -23,7 +22,7 @@ use Rattle.hart_machine.specs.declared.machine.Machine.{Machine}
 use Rattle.hart_machine.proofs.AccessingPages.{access_answers, IsAnswer}
 use Rattle.hart_machine.proofs.HartSteps.{hart_changes, HasHart, impossible, improper, its_process, refused, runs, without_entry, without_hart}
 use Rattle.hart_machine.proofs.Trapping.{user_has_slot}
-use Rattle.hart_machine.proofs.Trapping.{enters, user_is}
+use Rattle.hart_machine.proofs.Trapping.{user_is}
 
 abbrev asks : Access → ℕ → ℕ → ℕ → Asked
 asks access a width value = record { access = access; address = a; width = width; value = value }
@@ -57,16 +56,16 @@ module _ (m : Machine) (w : World) (is : IsWorld m w) (h : ℕ) (access : Access
       pub in_user : has.hart.phase ≡ phase.User
       in_user = has.phased ∙ user_is p user
 
-      pub no_entry : (n : Machine) → IsWorld n w → entry_serves Full (hart_of has.hart) a via ≡ false → Makes n (Refused NoEntry) (access_step w h access a width value via)
+      pub no_entry : (n : Machine) → IsWorld n w → entry_serves m.policy (hart_of has.hart) a via ≡ false → Makes n (Refused NoEntry) (access_step w h access a width value via)
       no_entry n after fails = refused n w after NoEntry _ (without_entry w h (is_width width) (λ x. model.is_user x.phase) (λ x. entry_serves w.policy x a via) _ (hart_of has.hart) has.in_model well can
-          (ap (λ q. entry_serves q (hart_of has.hart) a via) is.policy ∙ fails))
+          (ap (λ q. entry_serves q (hart_of has.hart) a via) (sym is.policy) ∙ fails))
 
-      module _ (s : ℕ) (on : has.hart.slot ≡ Some s) (serves : entry_serves Full (hart_of has.hart) a via ≡ true) (q : Process) (at : slice_get w.slots s ≡ Some (Some q)) where
+      module _ (s : ℕ) (on : has.hart.slot ≡ Some s) (serves : entry_serves m.policy (hart_of has.hart) a via ≡ true) (q : Process) (at : slice_get w.slots s ≡ Some (Some q)) where
         abbrev comes : Answer
         comes = user_access q (asks access a width value)
 
         step_is : access_step w h access a width value via ≡ told w h (hart_of has.hart) s comes
-        step_is = runs w h (is_width width) (λ x. model.is_user x.phase) (λ x. entry_serves w.policy x a via) _ (hart_of has.hart) has.in_model well can (ap (λ z. entry_serves z (hart_of has.hart) a via) is.policy ∙ serves)
+        step_is = runs w h (is_width width) (λ x. model.is_user x.phase) (λ x. entry_serves w.policy x a via) _ (hart_of has.hart) has.in_model well can (ap (λ z. entry_serves z (hart_of has.hart) a via) (sym is.policy) ∙ serves)
             ∙ its_process w (hart_of has.hart) _ s q on at
 
         module _ (n : Machine) (same : n.harts ≡ m.harts) (r : Reply) (made : (r ≡ comes.reply) × IsWorld n (with_process w s comes.process)) where
@@ -84,5 +83,5 @@ module _ (m : Machine) (w : World) (is : IsWorld m w) (h : ℕ) (access : Access
                 subst (λ (z : Hart). IsWorld (record n { harts = with_item n.harts h (record z { phase = phase.Enter0 }) }) (with_hart (with_process w s comes.process) h (record (hart_of has.hart) { phase = phase.Enter0 })))
                     (sym (read ∙ get_or_from_slice_get n.harts.items h has.hart x there))
                     (hart_changes n _ after h has.hart (record has.hart { phase = phase.Enter0 }) there (λ k on. after.hosted h k has.hart there on) (λ r on k z at also. after.alone r k h z has.hart at there also on) (λ none. absurd (user_has_slot m w is h p has user none))
-                    (λ e old. enters after.tables after.kernel has.hart in_user e (after.buffers h has.hart e there old))),
+                    (λ e. after.local h has.hart e there)),
               )

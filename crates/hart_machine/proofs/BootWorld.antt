@@ -1,5 +1,5 @@
 -- The world in which a machine is at first.
-use Rattle.std.proofs.Common.{◌≡◌, ℕ, zero, suc, refl, ap, sym, subst, ◌∙◌, None, Some, option_map, List, [], ◌∷◌, map, replicate, arith}
+use Rattle.std.proofs.Common.{◌≡◌, ℕ, ◌≤◌, ◌&&◌, nat_le, true, zero, suc, refl, ap, sym, subst, ◌∙◌, None, Some, option_map, List, [], ◌∷◌, map, replicate, arith}
 use Rattle.std.specs.Prelude.{Contains, slice_get}
 use Rattle.std.proofs.lemmas.List.{length-replicate}
 use Rattle.std.proofs.lemmas.Option.{same_Some, slice_get-map}
@@ -7,16 +7,20 @@ use Rattle.address_space.specs.Kernel.{IsKernelTable}
 use Rattle.frame_store.specs.Plain.{BankRule}
 use Rattle.frame_store.specs.Seats.{present}
 use Rattle.hart_machine.specs.Harts.{hart_of, key_of}
+use Rattle.hart_machine.specs.Serves.{IsIn}
 use Rattle.hart_machine.specs.Worlds.{IsPlace, IsWorld, seats_of}
 use Rattle.hart_machine.specs.declared.hart.Hart.{Hart}
 use Rattle.hart_machine.specs.declared.machine.Machine.{Machine}
 use Rattle.hart_machine.specs.declared.tenant.Tenant.{Tenant}
 use Rattle.hart_tlb.specs.declared.entry.TlbEntry.{TlbEntry}
 use Rattle.process_model.specs.Files.{File}
+use Rattle.process_model.specs.Frames.{can_boot, kernel_frames}
+use Rattle.std.proofs.lemmas.Bool.{and_parts}
+use Rattle.std.proofs.lemmas.Bool.Decides.{nat_tests}
 use Rattle.process_model.specs.Harts as model
 use Rattle.process_model.specs.World.{booted}
 use Rattle.process_model.specs.declared.config.Config.{Config}
-use Rattle.process_model.specs.declared.config.Policy.TheVariants.{Full}
+use Rattle.hart_machine.specs.Slots.{most_slots}
 use Rattle.table_walk.specs.Tables.{Tables}
 
 -- what is there at first
@@ -48,7 +52,14 @@ nothing_buffered : (es : List TlbEntry) → map key_of es ≡ [] → (e : TlbEnt
 nothing_buffered [] none e h = absurd (omega (arith, h.1))
 nothing_buffered (a ∷ es) none e h = absurd (cc)
 
-module _ (m : Machine) (c : Config) (files : List File) (full : c.policy ≡ Full) (sized : m.kernel.seat.size ≡ c.frames) (stacks : List ℕ) (t : Tables)
+-- the limits of boot
+pub few_slots : (c : Config) → can_boot c.harts c.frames c.slots ≡ true → c.slots ≤ most_slots
+few_slots c is =
+    let rest = and_parts (nat_le 1 c.harts && nat_le c.harts 8 && nat_le 16 c.frames && nat_le c.frames 1024 && nat_le 1 c.slots && nat_le c.slots 64) (nat_le (kernel_frames c.frames c.slots) c.frames) is in
+    let low = and_parts (nat_le 1 c.harts && nat_le c.harts 8 && nat_le 16 c.frames && nat_le c.frames 1024 && nat_le 1 c.slots) (nat_le c.slots 64) rest.0 in
+    grind (arith, nat_tests, low.1)
+
+module _ (m : Machine) (c : Config) (files : List File) (ruled : m.policy ≡ c.policy) (small : c.slots ≤ most_slots) (sized : m.kernel.seat.size ≡ c.frames) (stacks : List ℕ) (t : Tables)
     (table : IsKernelTable m.kernel.seat m.kernel.root.0 c.frames c.slots stacks t) (rule : BankRule m.frames (m.kernel.seat ∷ []))
     (slots : m.slots.items ≡ replicate c.slots None) (harts : map hart_of m.harts.items ≡ replicate c.harts model.idle_hart) (filed : m.files ≡ files) where
   idle_at : (h : ℕ) (x : Hart) → slice_get m.harts.items h ≡ Some x → hart_of x ≡ model.idle_hart
@@ -59,7 +70,8 @@ module _ (m : Machine) (c : Config) (files : List File) (full : c.policy ≡ Ful
     tables = λ _. t;
     kernel = t;
     stacks = stacks;
-    policy = full;
+    policy = ruled;
+    few = subst (λ n. n ≤ most_slots) (sym (length-replicate c.slots None)) small;
     frames = sized;
     rule = subst (λ ts. BankRule m.frames (m.kernel.seat ∷ seats_of ts)) (sym slots) (rw (present_none {A = Tenant} c.slots) rule);
     of_kernel = subst (λ n. IsKernelTable m.kernel.seat m.kernel.root.0 c.frames n stacks t) (sym (length-replicate c.slots None)) table;
@@ -71,5 +83,13 @@ module _ (m : Machine) (c : Config) (files : List File) (full : c.policy ≡ Ful
     hosted = λ h s x at on. absurd (let none = ap (λ (k : model.Hart). k.slot) (idle_at h x at) in let some = sym on ∙ none in cc);
     alone = λ s h k x y at also on. absurd (let none = ap (λ (z : model.Hart). z.slot) (idle_at h x at) in let some = sym on ∙ none in cc);
     idle = λ h x at none. ap (λ (k : model.Hart). k.phase) (idle_at h x at);
+    local = λ h x e at in_it. absurd (nothing_buffered x.buffer (ap (λ (k : model.Hart). k.keys) (idle_at h x at)) e in_it);
+  }
+
+  -- no buffer has an entry
+  pub boots_in : IsIn m (booted c files)
+  boots_in = record {
+    world = boots;
     buffers = λ h x e at in_it. absurd (nothing_buffered x.buffer (ap (λ (k : model.Hart). k.keys) (idle_at h x at)) e in_it);
+    clean = λ asid h x at s user on. absurd (let none = ap (λ (k : model.Hart). k.slot) (idle_at h x at) in let some = sym on ∙ none in cc);
   }

@@ -6,7 +6,7 @@ use Rattle.std.proofs.lemmas.Bool.{cases_eq, eqb-true, eq-eqb}
 use Rattle.std.proofs.lemmas.Bool.Decides.{nat_tests}
 use Rattle.std.proofs.lemmas.Option.{same_Some}
 use Rattle.hart_tlb.specs.declared.entry.TlbEntry.{TlbEntry}
-use Rattle.process_model.specs.Harts.{is_before_fence}
+use Rattle.process_model.specs.Harts.{present_asid}
 use Rattle.process_model.specs.Text.{is_refused}
 use Rattle.process_model.specs.declared.step.Reply.{Reply}
 use Rattle.process_model.specs.declared.step.Reply.TheVariants.{Done, Filled}
@@ -14,7 +14,7 @@ use Rattle.process_model.specs.declared.step.Step.{Step}
 use Rattle.process_model.specs.declared.step.Step.TheVariants as step
 use Rattle.table_walk.specs.Tables.{Tables}
 use Rattle.hart_machine.specs.Buffers.{buffer_after, BuffersAre, HasEntry, is_about, OnlyFillsAdd, SameBuffers, WasFilled}
-use Rattle.hart_machine.specs.Harts.{advanced, with_entry}
+use Rattle.hart_machine.specs.Harts.{advanced, hart_of, with_entry}
 use Rattle.hart_machine.specs.Tables.{tables_of, present_table}
 use Rattle.hart_machine.specs.Walked.{entry_for}
 use Rattle.hart_machine.specs.declared.hart.Hart.{Hart}
@@ -23,6 +23,7 @@ use Rattle.hart_machine.specs.declared.tables.Table.{Table}
 use Rattle.hart_machine.proofs.AccessingEntries.{same_hart}
 use Rattle.hart_machine.proofs.Entries.{in_remove}
 use Rattle.hart_machine.proofs.Fills.{in_newest}
+use Rattle.hart_machine.proofs.HartSteps.{in_fenced}
 
 abbrev buffer_at : List Hart → ℕ → Option (List TlbEntry)
 buffer_at hs k = option_map (λ (x : Hart). x.buffer) (slice_get hs k)
@@ -63,7 +64,7 @@ and_right false b is = absurd (cc)
 module _ (m n : Machine) (tables : ℕ → Tables) (kernel : Tables) where
   -- a step that is about no buffer leaves each
   pub same_are : (s : Step) (reply : Reply) → ((h : ℕ) → is_about s h ≡ false) → SameBuffers m n → BuffersAre m n tables kernel s reply
-  same_are s reply apart same h = same h ∙ sym (ap (λ (b : Bool). option_map (λ (x : Hart). if b then buffer_after tables kernel s x else x.buffer) (slice_get m.harts.items h)) (and_false (not (is_refused reply)) (is_about s h) (apart h)))
+  same_are s reply apart same h = same h ∙ sym (ap (λ (b : Bool). option_map (λ (x : Hart). if b then buffer_after m.policy tables kernel s x else x.buffer) (slice_get m.harts.items h)) (and_false (not (is_refused reply)) (is_about s h) (apart h)))
 
   -- what is told of a step is told of the one that it is
   pub are_of : (reply : Reply) {s t : Step} → t ≡ s → BuffersAre m n tables kernel s reply → BuffersAre m n tables kernel t reply
@@ -75,17 +76,18 @@ module _ (m : Machine) (h : ℕ) (x y : Hart) (read : x ≡ get_or m.harts.items
   changed = record m { harts = with_item m.harts h y }
 
   pub evicted_are : (n : ℕ) → y.buffer ≡ remove x.buffer n → BuffersAre m changed tables kernel (step.Evict h n) Done
-  evicted_are n made = set_is m.harts.items h x y read (buffer_after tables kernel (step.Evict h n)) made
+  evicted_are n made = set_is m.harts.items h x y read (buffer_after m.policy tables kernel (step.Evict h n)) made
 
-  pub advanced_are : y ≡ advanced x → BuffersAre m changed tables kernel (step.Next h) Done
-  advanced_are made = set_is m.harts.items h x y read (buffer_after tables kernel (step.Next h)) (ap (λ (u : Hart). u.buffer) made)
+  pub advanced_are : y ≡ advanced m.policy x → BuffersAre m changed tables kernel (step.Next h) Done
+  advanced_are made = set_is m.harts.items h x y read (buffer_after m.policy tables kernel (step.Next h)) (ap (λ (u : Hart). u.buffer) made)
 
   -- a fill by the table that satp has
-  pub filled_are : (z : Hart) → slice_get m.harts.items h ≡ Some z → (t : Table) → t ≡ present_table z → (a : ℕ) → y ≡ with_entry x (entry_for (tables_of tables kernel t) 0 a)
+  pub filled_are : (z : Hart) → slice_get m.harts.items h ≡ Some z → (t : Table) → t ≡ present_table z → (a i : ℕ) → i ≡ present_asid m.policy (hart_of x) → y ≡ with_entry x (entry_for (tables_of tables kernel t) i a)
       → (n : ℕ) → BuffersAre m changed tables kernel (step.Fill h a) (Filled n)
-  filled_are z at t present a made n = set_is m.harts.items h x y read (buffer_after tables kernel (step.Fill h a)) (ap (λ (u : Hart). u.buffer) made ∙ ap (λ (u : Table). (with_entry x (entry_for (tables_of tables kernel u) 0 a)).buffer) satp) where
-    satp : t ≡ present_table x
-    satp = present ∙ ap present_table (sym (same_hart m.harts.items h z x read at))
+  filled_are z at t present a i tagged made n = set_is m.harts.items h x y read (buffer_after m.policy tables kernel (step.Fill h a)) (ap (λ (u : Hart). u.buffer) made
+      ∙ ap (λ (j : ℕ). (with_entry x (entry_for (tables_of tables kernel t) j a)).buffer) tagged ∙ ap (λ (u : Table). (with_entry x (entry_for (tables_of tables kernel u) (present_asid m.policy (hart_of x)) a)).buffer) satp) where
+        satp : t ≡ present_table x
+        satp = present ∙ ap present_table (sym (same_hart m.harts.items h z x read at))
 
 -- a step of which each buffer is told adds none but by a fill
 module _ (old : Machine) (tables : ℕ → Tables) (kernel : Tables) (h : ℕ) (x : Hart) (at : slice_get old.harts.items h ≡ Some x) (e : TlbEntry) where
@@ -95,25 +97,22 @@ module _ (old : Machine) (tables : ℕ → Tables) (kernel : Tables) (h : ℕ) (
   was_there : Contains x.buffer e → HasEntry old h e
   was_there there = (x.buffer, ap (option_map (λ (u : Hart). u.buffer)) at, there)
 
-  by_step : (s : Step) → is_about s h ≡ true → Contains (buffer_after tables kernel s x) e → Told s
-  by_step (step.Fill k a) about there = elim (in_newest x.buffer (entry_for (tables_of tables kernel (present_table x)) 0 a) e there) [
+  by_step : (s : Step) → is_about s h ≡ true → Contains (buffer_after old.policy tables kernel s x) e → Told s
+  by_step (step.Fill k a) about there = elim (in_newest x.buffer (entry_for (tables_of tables kernel (present_table x)) (present_asid old.policy (hart_of x)) a) e there) [
     | inl old ↦ inl (was_there old)
     | inr is ↦ inr (a, x, ap (λ n. step.Fill n a) (eqb-true k h about), at, is)
   ]
   by_step (step.Evict k n) about there = inl (was_there (in_remove x.buffer n e there))
-  by_step (step.Next k) about there = inl (was_there (go (is_before_fence x.phase) there)) where
-    go : (b : Bool) → Contains (if b then [] else x.buffer) e → Contains x.buffer e
-    go true there = absurd (omega (arith, there.1))
-    go false there = there
+  by_step (step.Next k) about there = inl (was_there (in_fenced old.policy x e there))
   by_step s about there = absurd (cc)
 
-  by_reply : (s : Step) (b : Bool) → (b ≡ true → is_about s h ≡ true) → Contains (if b then buffer_after tables kernel s x else x.buffer) e → Told s
+  by_reply : (s : Step) (b : Bool) → (b ≡ true → is_about s h ≡ true) → Contains (if b then buffer_after old.policy tables kernel s x else x.buffer) e → Told s
   by_reply s true about there = by_step s (about refl) there
   by_reply s false about there = inl (was_there there)
 
 pub only_fills_add : (old new : Machine) (tables : ℕ → Tables) (kernel : Tables) (s : Step) (reply : Reply) → BuffersAre old new tables kernel s reply → OnlyFillsAdd old new tables kernel s
 only_fills_add old new tables kernel s reply are h e (es, in_new, there) = go (slice_get old.harts.items h) refl (sym (are h) ∙ in_new) where
-  go : (o : Option Hart) → slice_get old.harts.items h ≡ o → option_map (λ (x : Hart). if not (is_refused reply) && is_about s h then buffer_after tables kernel s x else x.buffer) o ≡ Some es
+  go : (o : Option Hart) → slice_get old.harts.items h ≡ o → option_map (λ (x : Hart). if not (is_refused reply) && is_about s h then buffer_after old.policy tables kernel s x else x.buffer) o ≡ Some es
       → HasEntry old h e ⊎ WasFilled old tables kernel s h e
   go None at is = absurd (cc)
   go (Some x) at is = by_reply old tables kernel h x at e s (not (is_refused reply) && is_about s h) (and_right (not (is_refused reply)) (is_about s h)) (subst (λ (l : List TlbEntry). Contains l e) (sym (same_Some _ es is)) there)

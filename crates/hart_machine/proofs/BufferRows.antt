@@ -1,6 +1,7 @@
 -- Worked rows: what a step makes of a buffer in which two entries have one key.
 use Rattle.std.proofs.Common.{◌≡◌, ℕ, false, None, Some, [], ◌∷◌, refl}
 use Rattle.hart_tlb.specs.declared.entry.TlbEntry.{TlbEntry}
+use Rattle.process_model.specs.declared.config.Policy.TheVariants.{Full}
 use Rattle.process_model.specs.declared.phase.Phase.{Phase}
 use Rattle.process_model.specs.declared.phase.Phase.TheVariants as phase
 use Rattle.process_model.specs.declared.step.Step.TheVariants as step
@@ -18,25 +19,25 @@ abbrev second : TlbEntry
 second = record { page = 1; asid = 0; global = false; leaf = Some (page_leaf 31) }
 
 abbrev hart : Phase → Hart
-hart p = record { phase = p; slot = Some 3; buffer = first ∷ second ∷ [] }
+hart p = record { phase = p; slot = Some 3; buffer = first ∷ second ∷ []; stale = [] }
 
 module _ (tables : ℕ → Tables) (kernel : Tables) where
-  the_first_goes : buffer_after tables kernel (step.Evict 0 0) (hart phase.User) ≡ second ∷ []
+  the_first_goes : buffer_after Full tables kernel (step.Evict 0 0) (hart phase.User) ≡ second ∷ []
   the_first_goes = refl
 
-  the_second_goes : buffer_after tables kernel (step.Evict 0 1) (hart phase.User) ≡ first ∷ []
+  the_second_goes : buffer_after Full tables kernel (step.Evict 0 1) (hart phase.User) ≡ first ∷ []
   the_second_goes = refl
 
-  none_goes : buffer_after tables kernel (step.Evict 0 2) (hart phase.User) ≡ first ∷ second ∷ []
+  none_goes : buffer_after Full tables kernel (step.Evict 0 2) (hart phase.User) ≡ first ∷ second ∷ []
   none_goes = refl
 
   -- the write of satp leaves both, and the fence after it neither
-  satp_is_written : buffer_after tables kernel (step.Next 0) (hart phase.Leave1) ≡ first ∷ second ∷ []
+  satp_is_written : buffer_after Full tables kernel (step.Next 0) (hart phase.Leave1) ≡ first ∷ second ∷ []
   satp_is_written = refl
 
-  all_go : buffer_after tables kernel (step.Next 0) (hart phase.Leave2) ≡ []
+  all_go : buffer_after Full tables kernel (step.Next 0) (hart phase.Leave2) ≡ []
   all_go = refl
 
   -- and a fill in between keeps what the process's table says
-  filled_last : buffer_after tables kernel (step.Fill 0 4096) (hart phase.Leave2) ≡ first ∷ second ∷ entry_for (tables 3) 0 4096 ∷ []
+  filled_last : buffer_after Full tables kernel (step.Fill 0 4096) (hart phase.Leave2) ≡ first ∷ second ∷ entry_for (tables 3) 0 4096 ∷ []
   filled_last = refl

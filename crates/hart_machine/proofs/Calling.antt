@@ -2,7 +2,7 @@
 use Rattle.std.proofs.Common.{◌≡◌, ◌⊎◌, ℕ, Bool, true, false, not, ◌&&◌, None, Some, option_map, refl, ap, sym, ◌∙◌, inl, inr}
 use Rattle.std.specs.Bool.{beq}
 use Rattle.std.specs.Prelude.{slice_get}
-use Rattle.std.proofs.lemmas.Option.{same_Some, slice_get-map}
+use Rattle.std.proofs.lemmas.Option.{slice_get-map}
 use Rattle.process_model.specs.Harts as model
 use Rattle.process_model.specs.Process.{Process}
 use Rattle.process_model.specs.World.{always, awaits_service, flat, is_unserved, Outcome, process_of_slot, refuses, World}
@@ -11,8 +11,7 @@ use Rattle.process_model.specs.declared.phase.Phase.TheVariants as phase
 use Rattle.process_model.specs.declared.step.Refusal.TheVariants.{Impossible}
 use Rattle.hart_machine.specs.Calls.{call_while, IsInKernel, waits_as}
 use Rattle.hart_machine.specs.Harts.{hart_of}
-use Rattle.hart_machine.specs.Worlds.{IsWorld, may_have_own}
-use Rattle.hart_machine.specs.declared.hart.Hart.{Hart}
+use Rattle.hart_machine.specs.Worlds.{IsWorld}
 use Rattle.hart_machine.specs.declared.machine.Machine.{Machine}
 use Rattle.hart_machine.proofs.HartSteps.{HasHart, impossible, its_process, process_at, runs}
 
@@ -82,10 +81,3 @@ module _ (m : Machine) (w : World) (is : IsWorld m w) (h s : ℕ) (waits : Bool)
 
         can : (model.is_kernel k.hart.phase && waits_as (awaits_service w (hart_of k.hart)) waits) ≡ true
         can = rw (k.in_kernel, k.on, k.in_slot, k.unserved) (as_it_is waits)
-
-  -- no hart on which the process is may have entries of its table
-  pub caller_quiet : (j : ℕ) (z : Hart) → slice_get m.harts.items j ≡ Some z → z.slot ≡ Some s → may_have_own z.phase ≡ false
-  caller_quiet j z there on =
-      let is_same : j ≡ h = is.alone s j h z k.hart there k.there on k.on in
-      let is_it : z ≡ k.hart = same_Some z k.hart (sym there ∙ ap (slice_get m.harts.items) is_same ∙ k.there) in
-      ap (λ (x : Hart). may_have_own x.phase) is_it ∙ ap may_have_own k.in_kernel

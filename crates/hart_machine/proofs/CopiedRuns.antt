@@ -12,7 +12,7 @@ use Rattle.process_model.specs.CopyRuns.{more_in, more_out, run_in, run_in_stops
 use Rattle.process_model.specs.CopySplits.{copied_in_split, copied_out_split}
 use Rattle.process_model.specs.Files.{File}
 use Rattle.process_model.specs.ReachedPages.{granted_again, reached_serves}
-use Rattle.process_model.specs.Service.{around, with_progress}
+use Rattle.process_model.specs.Service.{around}
 use Rattle.process_model.specs.World.{World}
 use Rattle.process_model.specs.declared.step.Refusal.{Refusal}
 use Rattle.sv39_entry.specs.Address.{page_of}
@@ -26,7 +26,7 @@ use Rattle.hart_machine.specs.Calls.{IsCaller}
 use Rattle.hart_machine.specs.Copied.{plain_words}
 use Rattle.hart_machine.specs.Worlds.{IsWorld}
 use Rattle.hart_machine.specs.declared.machine.Machine.{Machine}
-use Rattle.hart_machine.proofs.CopiedWorlds.{IsUnderWay, machine_at, puts, reaches, stops, tenant}
+use Rattle.hart_machine.proofs.CopiedWorlds.{IsCopied, IsUnderWay, puts, reaches, stops, tenant}
 
 -- the model's copy, run by run
 
@@ -172,10 +172,10 @@ module _ (m : Machine) (w : World) (is : IsWorld m w) (h s : ℕ) (k : IsCaller 
 
   pub runs_end_in : (rs : List (ℕ × ℕ)) → AreRuns rs → (a : Spot) (g : Progress) → IsUnderWay m w is h s k a g → (c : Spot) (done bytes : List ℕ) (stop : Option Rule)
       → CopiesIn plain_words rs a c done bytes (option_map Denied stop)
-      → (j : Progress) × (runs_in (around w s) (so_far g done None) rs ≡ so_far j bytes stop) × IsWorld (machine_at m w is h s k c) (with_progress w s j)
+      → (j : Progress) × (runs_in (around w s) (so_far g done None) rs ≡ so_far j bytes stop) × IsCopied m w is h s k c j
   runs_end_in [] are a g u c done bytes stop (at, same, none) =
       let never = option_none stop none in
-      (g, ap (λ (bs : List ℕ). so_far g bs None) (sym same) ∙ ap (so_far g bytes) (sym never), subst (λ (x : Spot). IsWorld (machine_at m w is h s k x) (with_progress w s g)) (sym at) u.world)
+      (g, ap (λ (bs : List ℕ). so_far g bs None) (sym same) ∙ ap (so_far g bytes) (sym never), subst (λ (x : Spot). IsCopied m w is h s k x g) (sym at) (record { world = u.world; old = u.old }))
   runs_end_in (r ∷ rs) are a g u c done bytes stop (b, Ok tt, e, (d, got, read, rest)) =
       let to = reaches m w is h s k a g u b Load r.0 e in
       let j = to.0 in
@@ -196,16 +196,16 @@ module _ (m : Machine) (w : World) (is : IsWorld m w) (h s : ℕ) (k : IsCaller 
         g,
         ap (λ (x : Copied). runs_in (around w s) x rs) (run_in_stops (around w s) g done r.0 rule r.1 (are.0).0 halt.0) ∙ rest_stopped_in (around w s) rule g done rs
             ∙ ap (λ (bs : List ℕ). so_far g bs (Some rule)) (sym same) ∙ ap (so_far g bytes) (sym told),
-        subst (λ (x : Spot). IsWorld (machine_at m w is h s k x) (with_progress w s g)) (sym at) halt.1,
+        subst (λ (x : Spot). IsCopied m w is h s k x g) (sym at) halt.1,
       )
   runs_end_in (r ∷ rs) are a g u c done bytes stop (b, Err (Unpromised refusal), e, stopped) = absurd ((e.unpromised refusal refl).1)
 
   pub runs_end_out : (rs : List (ℕ × List ℕ)) → AreGiven rs → (a : Spot) (g : Progress) → IsUnderWay m w is h s k a g → (c : Spot) (done : List ℕ) (count : ℕ) (stop : Option Rule)
       → CopiesOut plain_words rs a c (length done) count (option_map Denied stop)
-      → (j : Progress) × (sent : List ℕ) × (runs_out (around w s) (so_far g done None) rs ≡ so_far j sent stop) × (length sent ≡ count) × IsWorld (machine_at m w is h s k c) (with_progress w s j)
+      → (j : Progress) × (sent : List ℕ) × (runs_out (around w s) (so_far g done None) rs ≡ so_far j sent stop) × (length sent ≡ count) × IsCopied m w is h s k c j
   runs_end_out [] are a g u c done count stop (at, same, none) =
       let never = option_none stop none in
-      (g, done, ap (so_far g done) (sym never), sym same, subst (λ (x : Spot). IsWorld (machine_at m w is h s k x) (with_progress w s g)) (sym at) u.world)
+      (g, done, ap (so_far g done) (sym never), sym same, subst (λ (x : Spot). IsCopied m w is h s k x g) (sym at) (record { world = u.world; old = u.old }))
   runs_end_out (r ∷ rs) (some, inside, are) a g u c done count stop (b, Ok tt, e, (d, put, rest)) =
       let to = reaches m w is h s k a g u b Store r.0 e in
       let j = to.0 in
@@ -224,6 +224,6 @@ module _ (m : Machine) (w : World) (is : IsWorld m w) (h s : ℕ) (k : IsCaller 
         done,
         ap (λ (x : Copied). runs_out (around w s) x rs) (run_out_stops (around w s) g done r.0 rule r.1 some halt.0) ∙ rest_stopped_out (around w s) rule g done rs ∙ ap (so_far g done) (sym is_stop),
         sym same,
-        subst (λ (x : Spot). IsWorld (machine_at m w is h s k x) (with_progress w s g)) (sym at) halt.1,
+        subst (λ (x : Spot). IsCopied m w is h s k x g) (sym at) halt.1,
       )
   runs_end_out (r ∷ rs) are a g u c done count stop (b, Err (Unpromised refusal), e, stopped) = absurd ((e.unpromised refusal refl).1)

@@ -1,10 +1,11 @@
 -- The worlds that a copy comes to, page by page.
-use Rattle.std.proofs.Common.{◌≡◌, ℕ, ◌+◌, ◌%◌, ◌<◌, Bool, true, false, not, ◌||◌, Option, None, Some, Result, Ok, Err, List, refl, ap, sym, subst, ◌∙◌, inl, inr, arith}
+use Rattle.std.proofs.Common.{◌≡◌, ℕ, ◌+◌, ◌%◌, ◌<◌, ◌≤◌, Bool, true, false, not, ◌||◌, Option, None, Some, Result, Ok, Err, List, refl, ap, sym, subst, ◌∙◌, inl, inr, arith}
 use Rattle.std.specs.Prelude.{◌⊎◌, nat_lt, slice_get, slice_set}
 use Rattle.std.specs.Vec.{with_item}
 use Rattle.std.proofs.lemmas.Bool.{and_parts}
 use Rattle.std.proofs.lemmas.List.{set-set}
 use Rattle.std.proofs.lemmas.Option.{slice_get_within}
+use Rattle.address_space.specs.Agreement.{IsOn}
 use Rattle.address_space.specs.Pending.{agrees_pending}
 use Rattle.address_space.specs.Steps.{CanWrite}
 use Rattle.fault_rules.specs.Allowed.{can_reside}
@@ -14,12 +15,12 @@ use Rattle.fault_rules.specs.declared.service.Served.TheVariants as served
 use Rattle.frame_store.specs.Plain.{Bank}
 use Rattle.frame_store.specs.Seats.{place_set_same}
 use Rattle.frame_store.specs.View.{View}
-use Rattle.process_model.specs.Around.{Progress, reached}
+use Rattle.process_model.specs.Around.{Around, need_at, Progress, reached, resident_at, unless_dry, unless_resident}
 use Rattle.process_model.specs.Copies.{reached_in}
 use Rattle.process_model.specs.Files.{File}
 use Rattle.process_model.specs.PageMap.{get}
 use Rattle.process_model.specs.Process.{Page, Pending, Process, regions}
-use Rattle.process_model.specs.ReachedPages.{no_alignment, reached_serves}
+use Rattle.process_model.specs.ReachedPages.{no_alignment, reached_parts, reached_serves}
 use Rattle.process_model.specs.Regions.{copy_rule, keeps_stores}
 use Rattle.process_model.specs.Residence.{is_resident, is_resident_page, made_resident, region_on, stored, with_page}
 use Rattle.process_model.specs.Service.{around, begun, with_progress}
@@ -29,14 +30,15 @@ use Rattle.sv39_entry.specs.declared.access.Access.{Access}
 use Rattle.sv39_entry.specs.declared.rule.Rule.{Rule}
 use Rattle.sv39_entry.specs.declared.rule.Rule.TheVariants.{NoFrame}
 use Rattle.sv39_entry.specs.declared.access.Access.TheVariants as access
+use Rattle.table_walk.specs.Tables.{Tables}
 use Rattle.user_copy.specs.Reaching.{Place, Reaches}
 use Rattle.user_copy.specs.Runs.{Puts}
 use Rattle.user_copy.specs.declared.short.Stop.TheVariants.{Denied}
-use Rattle.hart_machine.specs.Calls.{IsCaller}
+use Rattle.hart_machine.specs.Calls.{Follows, IsCaller}
 use Rattle.hart_machine.specs.Copied.{plain_words}
 use Rattle.hart_machine.specs.Serving.{HasServed, MustEnd, rule_of, WhenShared}
 use Rattle.hart_machine.specs.Tenants.{body_in, HasBytes, IsTenant}
-use Rattle.hart_machine.specs.Worlds.{IsWorld}
+use Rattle.hart_machine.specs.Worlds.{HaveSameLeaves, IsWorld}
 use Rattle.hart_machine.specs.declared.machine.Machine.{Machine}
 use Rattle.hart_machine.specs.declared.tenant.Tenant.{Tenant}
 use Rattle.hart_machine.proofs.AccessingPages.{has_copies}
@@ -44,16 +46,18 @@ use Rattle.hart_machine.proofs.AccessingWorlds.{bytes_change}
 use Rattle.process_laws.proofs.Later.{later, lt_shift, reached_later, shifted}
 use Rattle.hart_machine.proofs.HartSteps.{tenant_is}
 use Rattle.hart_machine.proofs.HeldFrames.{free_is}
+use Rattle.hart_machine.proofs.KeptTables.{same_tenant}
 use Rattle.hart_machine.proofs.ServedTenants.{only_reads}
-use Rattle.hart_machine.proofs.ServedWorlds.{is_reached, reaches_not, unreached}
+use Rattle.hart_machine.proofs.ServedWorlds.{is_reached, reached_follows, reaches_not, unreached}
 
 -- whose list of places is the same
-same_slots : (m n : Machine) (w : World) → m.frames ≡ n.frames → m.kernel ≡ n.kernel → m.slots.items ≡ n.slots.items → m.files ≡ n.files → m.harts ≡ n.harts → IsWorld m w → IsWorld n w
-same_slots m n w frames kernel slots files harts is = record {
+same_slots : (m n : Machine) (w : World) → m.frames ≡ n.frames → m.kernel ≡ n.kernel → m.slots.items ≡ n.slots.items → m.files ≡ n.files → m.harts ≡ n.harts → m.policy ≡ n.policy → IsWorld m w → IsWorld n w
+same_slots m n w frames kernel slots files harts ruled is = record {
   tables = is.tables;
   kernel = is.kernel;
   stacks = is.stacks;
-  policy = is.policy;
+  policy = sym ruled ∙ is.policy;
+  few = is.few;
   frames = rw (← kernel) is.frames;
   rule = rw (← frames, ← kernel, ← slots) is.rule;
   of_kernel = rw (← kernel) is.of_kernel;
@@ -65,8 +69,29 @@ same_slots m n w frames kernel slots files harts is = record {
   hosted = rw (← harts, ← slots) is.hosted;
   alone = rw (← harts) is.alone;
   idle = rw (← harts) is.idle;
-  buffers = rw (← harts) is.buffers;
+  local = rw (← harts) is.local;
 }
+
+-- a page is on the frame that it was on, where its leaf is the one that it had
+same_on : (t u : Tables) → HaveSameLeaves t u → (n f : ℕ) → IsOn u n f → IsOn t n f
+same_on t u same n f on = (on.0, sym (same n) ∙ on.1, on.2)
+
+-- no copy number is given twice: the counter only grows
+module _ (a : Around) (kind : Access) (g h : Progress) where
+  same_progress : (x y : Progress) → ◌≡◌ {A = Result Progress Rule} (Ok x) (Ok y) → x ≡ y
+  same_progress x y is = cc
+
+  dry_grows : (page need : ℕ) (b : Bool) → unless_dry a kind page g need b ≡ Ok h → g.fresh ≤ h.fresh
+  dry_grows page need true is = absurd (cc)
+  dry_grows page need false is = let one = ap (λ (x : Progress). x.fresh) (same_progress _ h is) in omega (arith, one)
+
+  resident_grows : (page : ℕ) (b : Bool) → unless_resident a kind page g b ≡ Ok h → g.fresh ≤ h.fresh
+  resident_grows page true is = let one = ap (λ (x : Progress). x.fresh) (same_progress g h is) in omega (arith, one)
+  resident_grows page false is = let need = need_at a kind page g.process in dry_grows page need (a.is_dry page (g.taken + need)) is
+
+  reached_grows : (address : ℕ) → reached_in a kind g address ≡ Ok h → g.fresh ≤ h.fresh
+  unfolding resident_at
+  reached_grows address is = resident_grows (page_of address) (is_resident g.process kind (page_of address)) (reached_parts a kind g h address is).1
 
 -- the access that a copy makes, as one that waits
 abbrev pub asked : Access → ℕ → Pending
@@ -82,11 +107,42 @@ module _ (m : Machine) (w : World) (is : IsWorld m w) (h s : ℕ) (k : IsCaller 
   abbrev pub machine_at : Spot → Machine
   machine_at a = record m { frames = a.store; slots = with_item m.slots s (Some (tenant_at a)); files = a.files }
 
+  -- below these tables, each page with an old copy number is on the frame that it was on when the copy began
+  abbrev pub AreOld : Tables → Process → Type 0
+  AreOld t q = (n f : ℕ) (z : Page) → get q.settled n ≡ Some z → z.copy < w.counter → IsOn t n f → IsOn (is.tables s) n f
+
+  -- the machine is in the world of some moment of a copy
+  pub record IsCopied (a : Spot) (g : Progress) : Type 0 where
+    pub world : IsWorld (machine_at a) (with_progress w s g)
+    pub old : AreOld (world.tables s) g.process
+
   -- a copy is under way: it has come so far, and the machine is in the world of that moment
   pub record IsUnderWay (a : Spot) (g : Progress) : Type 0 where
     pub world : IsWorld (machine_at a) (with_progress w s g)
     pub left : a.store.free + g.taken ≡ m.frames.free
     pub quiet : g.process.pending ≡ None
+    pub order : w.counter ≤ g.fresh
+    pub old : AreOld (world.tables s) g.process
+
+  module _ (a : Spot) (g : Progress) (v : IsWorld (machine_at a) (with_progress w s g)) where
+    -- the process has the tables that the world tells
+    pub tenant_in : IsTenant (tenant_at a) (v.tables s) g.process
+    tenant_in =
+        let in_slot = place_set_same w.slots s (Some g.process) (slice_get_within w.slots s (Some k.process) k.in_slot) in
+        let place = place_set_same m.slots.items s (Some (tenant_at a)) (slice_get_within m.slots.items s (Some k.tenant) k.place) in
+        tenant_is (machine_at a) (with_progress w s g) v s (tenant_at a) g.process place in_slot
+
+    -- what holds below some tables of the process holds below those
+    pub old_in : (t : Tables) (q : Process) → IsTenant (tenant_at a) t q → AreOld t g.process → AreOld (v.tables s) g.process
+    old_in t q tenant old n f z there below on =
+        old n f z there below (same_on t (v.tables s) (same_tenant (tenant_at a) (tenant_at a) q g.process t (v.tables s) refl tenant tenant_in) n f on)
+
+  -- and it holds of a process that follows it
+  old_follows : (v : View) (t u : Tables) (p q : Process) (low high : ℕ) → Follows v t u p q low high → w.counter ≤ low → AreOld t p → AreOld u q
+  old_follows v t u p q low high follows order old n f z there below on = elim (follows.each n z there) [
+    | inl kept ↦ let copy = kept.copy in old n f kept.before kept.settled (omega (arith, copy, below)) (kept.on f on)
+    | inr new ↦ absurd (let given = new.given in omega (arith, given, below, order))
+  ]
 
   module _ (a : Spot) (g : Progress) (u : IsUnderWay a g) where
     abbrev there : World
@@ -182,14 +238,22 @@ module _ (m : Machine) (w : World) (is : IsWorld m w) (h s : ℕ) (k : IsCaller 
             let reached_j = shift (Ok i) made.1 in
             let quiet : i.process.pending ≡ None = (reached_serves (around w s) kind g j address reached_j).pending ∙ u.quiet in
             let gone = made.3 in
-            let before = u.left in (
+            let before = u.left in
+            let world : IsWorld (machine_at b) (with_progress w s j) = same_slots between (machine_at b) (with_progress w s j)
+            refl refl (set-set m.slots.items s (Some (tenant_at a)) (Some (tenant_at b))) (sym files_stay) refl refl (same_world i quiet made.2) in
+            let grown = reached_grows (around w s) kind g j address reached_j in
+            let began = u.order in
+            let follows = reached_follows (machine_at a) there u.world h s false caller (tenant_at a) (tenant_at b) placed b.store e.keeps waiting None has in
+            let old_then : AreOld has.tables i.process = λ n f z settled.
+            old_follows _ (u.world.tables s) has.tables g.process _ g.fresh (g.fresh + 1) follows began u.old n f z (ap (λ (q : Process). get q.settled n) made.4 ∙ settled) in (
               j,
               reached_j,
               record {
-                world = same_slots between (machine_at b) (with_progress w s j)
-                    refl refl (set-set m.slots.items s (Some (tenant_at a)) (Some (tenant_at b))) (sym files_stay) refl (same_world i quiet made.2);
+                world = world;
                 left = omega (arith, gone, before);
                 quiet = quiet;
+                order = omega (arith, grown, began);
+                old = old_in b j world has.tables _ (has.tenant g.fresh) old_then;
               },
             )
           where
@@ -230,14 +294,13 @@ module _ (m : Machine) (w : World) (is : IsWorld m w) (h s : ℕ) (k : IsCaller 
                 )
             by (Some r) some told = inl (aligned ∙ some ∙ ap Some (sym (same_end r rule told)))
 
-        pub stops : (reached_in (around w s) kind g address ≡ Err rule) × IsWorld (machine_at b) there
+        pub stops : (reached_in (around w s) kind g address ≡ Err rule) × IsCopied b g
         stops =
             let not = reaches_not (machine_at a) there u.world h s false caller (tenant_at a) (tenant_at b) placed b.store e.keeps waiting rule must in
-            let still = unreached (machine_at a) there u.world h s false caller (tenant_at a) (tenant_at b) placed b.store e.keeps waiting rule must in (
-              shift (Err rule) not,
-              same_slots between (machine_at b) there
-                  refl refl (set-set m.slots.items s (Some (tenant_at a)) (Some (tenant_at b))) (sym files_stop) refl still,
-            )
+            let still = unreached (machine_at a) there u.world h s false caller (tenant_at a) (tenant_at b) placed b.store e.keeps waiting rule must in
+            let world : IsWorld (machine_at b) there = same_slots between (machine_at b) there
+            refl refl (set-set m.slots.items s (Some (tenant_at a)) (Some (tenant_at b))) (sym files_stop) refl refl still in
+            (shift (Err rule) not, record { world = world; old = old_in b g world (u.world.tables s) g.process must.tenant u.old })
           where
             files_stop : b.files ≡ a.files
             files_stop = e.moves (λ x un. cc) (u.world.tables s) g.process tenant.agrees ∙ only_reads a.files g.process (page_of address) (copy_rule (regions g.process) kind address)
@@ -282,13 +345,19 @@ module _ (m : Machine) (w : World) (is : IsWorld m w) (h s : ℕ) (k : IsCaller 
 
       pub puts : IsUnderWay d (record g { process = after })
       puts =
-          let changed = bytes_change (machine_at a) there u.world s (tenant_at a) (tenant_at d) g.process after placed at tenant put_tenant d.store put.keeps
-          (has_copies g.process (page_of address) x (stored x (address % 4096) given) settled refl) in
+          let copies = has_copies g.process (page_of address) x (stored x (address % 4096) given) settled refl in
+          let changed = bytes_change (machine_at a) there u.world s (tenant_at a) (tenant_at d) g.process after placed at tenant put_tenant d.store put.keeps copies in
           let free = put.free tt in
           let before = u.left in
+          let world : IsWorld (machine_at d) (with_progress w s (record g { process = after })) =
+          same_slots put_between (machine_at d) (with_progress w s (record g { process = after })) refl refl (set-set m.slots.items s (Some (tenant_at a)) (Some (tenant_at d))) (sym put.files) refl refl
+          (subst (λ (ps : List (Option Process)). let v : World = record w { slots = ps; counter = g.fresh } in IsWorld put_between v) (set-set w.slots s (Some g.process) (Some after)) changed) in
+          let old_then : AreOld (u.world.tables s) after = λ n f z there below on.
+          let one = copies n z there in let copy = one.2 in u.old n f one.0 one.1 (omega (arith, copy, below)) on in
           record {
-            world = same_slots put_between (machine_at d) (with_progress w s (record g { process = after })) refl refl (set-set m.slots.items s (Some (tenant_at a)) (Some (tenant_at d))) (sym put.files) refl
-                (subst (λ (ps : List (Option Process)). let v : World = record w { slots = ps; counter = g.fresh } in IsWorld put_between v) (set-set w.slots s (Some g.process) (Some after)) changed);
+            world = world;
             left = omega (arith, free, before);
             quiet = u.quiet;
+            order = u.order;
+            old = old_in d (record g { process = after }) world (u.world.tables s) after put_tenant old_then;
           }

@@ -1,5 +1,5 @@
 -- Worlds in which a process ended: its slot is empty, and its hart idle.
-use Rattle.std.proofs.Common.{◌≡◌, ℕ, Bool, Option, None, Some, List, ◌∷◌, length, refl, ap, sym, subst, ◌∙◌, inl, inr}
+use Rattle.std.proofs.Common.{◌≡◌, ℕ, ◌≤◌, Bool, Option, None, Some, List, ◌∷◌, length, refl, ap, sym, subst, ◌∙◌, inl, inr}
 use Rattle.std.specs.Prelude.{slice_get, slice_set}
 use Rattle.std.specs.Vec.{with_item}
 use Rattle.std.proofs.lemmas.Bool.{cases_eq}
@@ -20,6 +20,7 @@ use Rattle.process_model.specs.declared.step.Reply.{Reply}
 use Rattle.table_walk.specs.Tables.{Tables}
 use Rattle.hart_machine.specs.Calls.{IsInKernel}
 use Rattle.hart_machine.specs.Harts.{hart_of}
+use Rattle.hart_machine.specs.Slots.{most_slots}
 use Rattle.hart_machine.specs.Tenants.{view_of}
 use Rattle.hart_machine.specs.Worlds.{IsPlace, IsWorld, seats_of}
 use Rattle.hart_machine.specs.declared.hart.Hart.{Hart}
@@ -35,11 +36,7 @@ idled x = record x { phase = phase.Idle; slot = None }
 
 module _ (m : Machine) (w : World) (is : IsWorld m w) (h s : ℕ) (waits : Bool) (k : IsInKernel m w h s waits) where
   pub idles : IsWorld (record m { harts = with_item m.harts h (idled k.hart) }) (with_hart w h (hart_of (idled k.hart)))
-  idles = hart_changes m w is h k.hart (idled k.hart) k.there (λ r on. absurd (cc)) (λ r on j z at also. absurd (cc)) (λ none. refl)
-      (λ e there. elim (is.buffers h k.hart e k.there there) [
-        | inl of_kernel ↦ inl (refl, of_kernel.1)
-        | inr own ↦ absurd (let never = own.1 in let kernel = k.in_kernel in cc)
-      ])
+  idles = hart_changes m w is h k.hart (idled k.hart) k.there (λ r on. absurd (cc)) (λ r on j z at also. absurd (cc)) (λ none. refl) (λ e. is.local h k.hart e k.there)
 
   -- then no hart has the slot
   pub on_none : (j : ℕ) (z : Hart) → slice_get (slice_set m.harts.items h (idled k.hart)) j ≡ Some z → z.slot ≡ Some s → ⊥
@@ -74,13 +71,14 @@ module _ (m : Machine) (w : World) (is : IsWorld m w) (s : ℕ) (x : Tenant) (p 
       let apart : r ≡ s → ⊥ = λ same. free h z on (slot ∙ ap Some same) in
       (old.0, place_set_other m.slots.items s r None apart ∙ old.1)
 
-  pub empties : (n : Machine) → n.kernel.seat.size ≡ m.kernel.seat.size → n.slots.items ≡ slice_set m.slots.items s None → n.harts ≡ m.harts → BankRule n.frames (n.kernel.seat ∷ seats_of (slice_set m.slots.items s None))
+  pub empties : (n : Machine) → n.policy ≡ m.policy → n.kernel.seat.size ≡ m.kernel.seat.size → n.slots.items ≡ slice_set m.slots.items s None → n.harts ≡ m.harts → BankRule n.frames (n.kernel.seat ∷ seats_of (slice_set m.slots.items s None))
       → IsKernelTable n.kernel.seat n.kernel.root.0 w.frames (length w.slots) is.stacks is.kernel → IsWorld n (record w { slots = slice_set w.slots s None; files = n.files })
-  empties n sized slots harts rule table = record {
+  empties n ruled sized slots harts rule table = record {
     tables = is.tables;
     kernel = is.kernel;
     stacks = is.stacks;
-    policy = is.policy;
+    policy = ruled ∙ is.policy;
+    few = subst (λ i. i ≤ most_slots) (sym (length-set w.slots s None)) is.few;
     frames = sized ∙ is.frames;
     rule = rw slots rule;
     of_kernel = subst (λ i. IsKernelTable n.kernel.seat n.kernel.root.0 w.frames i is.stacks is.kernel) (sym (length-set w.slots s None)) table;
@@ -92,7 +90,7 @@ module _ (m : Machine) (w : World) (is : IsWorld m w) (s : ℕ) (x : Tenant) (p 
     hosted = rw (harts, slots) hosted;
     alone = rw harts is.alone;
     idle = rw harts is.idle;
-    buffers = rw harts is.buffers;
+    local = rw harts is.local;
   }
 
 -- the seats, when the process of a slot has ended with a seat that holds nothing
@@ -102,12 +100,12 @@ seat_left b c k places s x v at keeps rule = second_steps b c k (view_of x) v (s
 
 module _ (m : Machine) (w : World) (is : IsWorld m w) (h s : ℕ) (waits : Bool) (k : IsInKernel m w h s waits) where
   -- the process with which a hart is in the kernel ends
-  pub ends : (x : Tenant) → slice_get m.slots.items s ≡ Some (Some x) → (n : Machine) → n.kernel.seat.size ≡ m.kernel.seat.size → n.slots.items ≡ slice_set m.slots.items s None
+  pub ends : (x : Tenant) → slice_get m.slots.items s ≡ Some (Some x) → (n : Machine) → n.policy ≡ m.policy → n.kernel.seat.size ≡ m.kernel.seat.size → n.slots.items ≡ slice_set m.slots.items s None
       → n.harts ≡ with_item m.harts h (idled k.hart) → n.files ≡ all_written_back m.files k.process → BankRule n.frames (n.kernel.seat ∷ seats_of (slice_set m.slots.items s None))
       → ((frames slots : ℕ) (stacks : List ℕ) (t : Tables) → IsKernelTable m.kernel.seat m.kernel.root.0 frames slots stacks t → IsKernelTable n.kernel.seat n.kernel.root.0 frames slots stacks t)
       → (reply : Reply) → IsWorld n (ended w h (hart_of k.hart) s k.process reply).world
-  ends x place n sized slots harts files rule table reply =
+  ends x place n ruled sized slots harts files rule table reply =
       let idle : Machine = record m { harts = with_item m.harts h (idled k.hart) } in
       let world = idles m w is h s waits k in
-      let after = empties idle (with_hart w h (hart_of (idled k.hart))) world s x k.process place k.in_slot (on_none m w is h s waits k) n sized slots harts rule (table _ _ _ _ world.of_kernel) in
+      let after = empties idle (with_hart w h (hart_of (idled k.hart))) world s x k.process place k.in_slot (on_none m w is h s waits k) n ruled sized slots harts rule (table _ _ _ _ world.of_kernel) in
       subst (λ (fs : List File). IsWorld n (record (with_hart w h (hart_of (idled k.hart))) { slots = slice_set w.slots s None; files = fs })) (files ∙ ap (λ (fs : List File). all_written_back fs k.process) is.files) after

@@ -52,7 +52,7 @@ module _ (m : Machine) (w : World) (is : IsWorld m w) (h n : ℕ) where
     evicts within y made =
         subst (λ (z : Hart). Makes (record m { harts = with_item m.harts h z }) Done (plain_step w (step.Evict h n))) (sym (made ∙ ap (λ (z : Hart). record z { buffer = remove z.buffer n }) is_hart))
         (makes _ Done _ _ (hart_changes m w is h has.hart (record has.hart { buffer = remove has.hart.buffer n }) has.there (λ s on. is.hosted h s has.hart has.there on) (λ s on k z at also. is.alone s k h z has.hart at has.there also on) (λ none. is.idle h has.hart has.there none)
-        (λ e there. is.buffers h has.hart e has.there (in_remove has.hart.buffer n e there)))
+        (λ e there. is.local h has.hart e has.there (in_remove has.hart.buffer n e there)))
         (runs w h true always (λ z. nat_lt n (length z.keys)) _ (hart_of has.hart) has.in_model refl refl (keys_are ∙ grind (arith, within))
         ∙ ap (λ ks. answers (with_hart w h (record (hart_of has.hart) { keys = ks })) Done) (sym (map-remove key_of has.hart.buffer n))))
 
@@ -60,5 +60,5 @@ module _ (m : Machine) (w : World) (is : IsWorld m w) (h n : ℕ) where
     evicts_nothing beyond y same =
         subst (λ (z : Hart). Makes (record m { harts = with_item m.harts h z }) (Refused NoEntry) (plain_step w (step.Evict h n))) (sym (same ∙ is_hart))
         (refused _ w (subst (λ (v : World). IsWorld (record m { harts = with_item m.harts h has.hart }) v) (ap (λ hs. record w { harts = hs }) (place_set_back w.harts h (hart_of has.hart) has.in_model))
-        (hart_changes m w is h has.hart has.hart has.there (λ s on. is.hosted h s has.hart has.there on) (λ s on k z at also. is.alone s k h z has.hart at has.there also on) (λ none. is.idle h has.hart has.there none) (λ e there. is.buffers h has.hart e has.there there))) NoEntry _
+        (hart_changes m w is h has.hart has.hart has.there (λ s on. is.hosted h s has.hart has.there on) (λ s on k z at also. is.alone s k h z has.hart at has.there also on) (λ none. is.idle h has.hart has.there none) (λ e. is.local h has.hart e has.there))) NoEntry _
         (without_entry w h true always (λ z. nat_lt n (length z.keys)) _ (hart_of has.hart) has.in_model refl refl (keys_are ∙ let past : length x.buffer ≤ n = omega (arith, beyond) in grind (arith, past))))

@@ -1,6 +1,6 @@
 -- The worlds that exec comes to.
 use Rattle.std.proofs.Common.{◌≡◌, ℕ, ◌+◌, ◌<◌, ◌≤◌, true, false, Option, Some, List, refl, ap, sym, subst, ◌∙◌, inl, inr, arith, length}
-use Rattle.std.specs.Prelude.{Err, IfErr, IfOk, Ok, Result, slice_get}
+use Rattle.std.specs.Prelude.{Err, IfErr, IfOk, Ok, Result, slice_get, slice_set}
 use Rattle.std.specs.Vec.{with_item}
 use Rattle.std.proofs.lemmas.Bool.{le-ltb, lt-ltb}
 use Rattle.exec_segments.specs.Replaced.{IsExecRefusal}
@@ -16,7 +16,7 @@ use Rattle.process_model.specs.Mappings.{all_written_back}
 use Rattle.process_model.specs.Process.{Process}
 use Rattle.process_model.specs.Service.{is_dry}
 use Rattle.process_model.specs.Steps.{plain_step}
-use Rattle.process_model.specs.World.{free, Outcome, with_process, World}
+use Rattle.process_model.specs.World.{free, Outcome, refuses, with_process, World}
 use Rattle.process_model.specs.declared.image.BadImage.{BadImage}
 use Rattle.process_model.specs.declared.image.Image.{Image}
 use Rattle.process_model.specs.declared.step.Refusal.{Refusal}
@@ -31,7 +31,7 @@ use Rattle.hart_machine.specs.Worlds.{IsWorld, Makes}
 use Rattle.hart_machine.specs.declared.machine.Machine.{Machine}
 use Rattle.hart_machine.specs.declared.tenant.Tenant.{Tenant}
 use Rattle.hart_machine.proofs.AccessingWorlds.{bytes_change}
-use Rattle.hart_machine.proofs.Calling.{call_runs, caller_quiet}
+use Rattle.hart_machine.proofs.Calling.{call_runs}
 use Rattle.hart_machine.proofs.Following.{call_changes}
 use Rattle.hart_machine.proofs.HartSteps.{process_at, refused}
 use Rattle.hart_machine.proofs.HeldFrames.{free_is}
@@ -47,12 +47,27 @@ module _ (m : Machine) (w : World) (is : IsWorld m w) (h s : ℕ) (caller : IsCa
   exec_step p at = call_runs m w is h s false caller (λ hart k q. replaced w k q (image_loads image)) p at
 
   -- the image fails a check
+  pub bad_image : (e : BadImage) → image_loads image ≡ Err e → plain_step w (step.Exec h image) ≡ refuses w (refusal.BadImage e)
+  bad_image e bad = exec_step caller.process caller.in_slot ∙ ap (replaced w s caller.process) bad
+
   pub no_image : (e : BadImage) → image_loads image ≡ Err e → Makes m (Refused (refusal.BadImage e)) (plain_step w (step.Exec h image))
-  no_image e bad = refused m w is (refusal.BadImage e) _ (exec_step caller.process caller.in_slot ∙ ap (replaced w s caller.process) bad)
+  no_image e bad = refused m w is (refusal.BadImage e) _ (bad_image e bad)
 
   module _ (ls : List LoadSegment) (accepted : image_loads image ≡ Ok ls) (x y : Tenant) (place : slice_get m.slots.items s ≡ Some (Some x)) (b : Bank) (files : List File) where
     replaces : (p : Process) → slice_get w.slots s ≡ Some (Some p) → plain_step w (step.Exec h image) ≡ replaced_unless w s p ls (is_dry w (exec_need ls))
     replaces p at = exec_step p at ∙ ap (replaced w s p) accepted
+
+    dries : exec_need ls ≤ m.frames.free → is_dry w (exec_need ls) ≡ false
+    dries enough = let all = free_is m w is in le-ltb (free w) (exec_need ls) (omega (arith, enough, all))
+
+    pub exec_sets : (p : Process) → slice_get w.slots s ≡ Some (Some p) → exec_need ls ≤ m.frames.free → ((plain_step w (step.Exec h image)).world).slots ≡ slice_set w.slots s (Some (process_of w.counter ls))
+    exec_sets p at enough = ap (λ (o : Outcome). (o.world).slots) (replaces p at ∙ ap (replaced_unless w s p ls) (dries enough))
+
+    pub exec_dry : m.frames.free < exec_need ls → plain_step w (step.Exec h image) ≡ refuses w refusal.NoFrame
+    exec_dry few =
+        let q = process_at m w is s x place in
+        let all = free_is m w is in
+        replaces q.0 q.1 ∙ ap (replaced_unless w s q.0 ls) (lt-ltb (free w) (exec_need ls) (omega (arith, few, all)))
 
     -- each page is new
     each_new : (p : Process) (has : HasExecuted y p ls m.files files) → Follows (view_of y) (is.tables s) has.tables p (process_of w.counter ls) w.counter (w.counter + length (image_pages ls))
@@ -80,7 +95,7 @@ module _ (m : Machine) (w : World) (is : IsWorld m w) (h s : ℕ) (caller : IsCa
         let wet : is_dry w (exec_need ls) ≡ false = le-ltb (free w) (exec_need ls) (omega (arith, enough, all)) in
         let n : Machine = record m { frames = b; slots = with_item m.slots s (Some y); files = files } in
         let after = call_changes m w is s x y q.0 (process_of w.counter ls) has.tables place q.1 (has.tenant w.counter) (w.counter + length (image_pages ls))
-        (each_new q.0 has) b keeps (caller_quiet m w is h s false caller) files in
+        (each_new q.0 has) b keeps files in
         subst (λ (o : Outcome). Makes n Done o) (sym (replaces q.0 q.1 ∙ ap (replaced_unless w s q.0 ls) wet)) (
           refl,
           subst (λ (fs : List File). IsWorld n (record (with_process w s (process_of w.counter ls)) { counter = w.counter + length (image_pages ls); files = fs }))

@@ -1,5 +1,5 @@
 -- A world in which a hart's buffer has another entry.
-use Rattle.std.proofs.Common.{◌≡◌, ℕ, ◌-◌, ◌≤◌, ◌<◌, length, get_or, true, Option, None, Some, option_map, List, ◌∷◌, refl, ap, sym, subst, ◌∙◌, inl, inr}
+use Rattle.std.proofs.Common.{◌≡◌, ℕ, ◌-◌, ◌≤◌, ◌<◌, length, get_or, true, false, Option, None, Some, option_map, List, ◌∷◌, refl, ap, sym, subst, ◌∙◌, inl, inr}
 use Rattle.std.specs.Prelude.{Contains, slice_get, slice_set}
 use Rattle.std.specs.Vec.{with_item}
 use Rattle.std.proofs.lemmas.Option.{slice_get-map, slice_get_within}
@@ -22,7 +22,7 @@ use Rattle.hart_machine.specs.Tables.{tables_of, IsThere, present_table}
 use Rattle.hart_machine.specs.Tenants.{view_of}
 use Rattle.hart_machine.specs.Walked.{entry_for, IsEntryOf}
 use Rattle.table_walk.specs.Leaves.{LeavesAreLocal, LeavesAreThere}
-use Rattle.hart_machine.specs.Worlds.{IsPlace, IsServing, IsWorld, Makes, seats_of}
+use Rattle.hart_machine.specs.Worlds.{IsPlace, IsWorld, Makes, seats_of}
 use Rattle.hart_machine.specs.declared.hart.Hart.{Hart}
 use Rattle.hart_machine.specs.declared.machine.Machine.{Machine}
 use Rattle.hart_machine.specs.declared.tables.Table.{Table}
@@ -33,11 +33,11 @@ use Rattle.hart_machine.proofs.Fills.{in_newest, kept_is, number_is}
 use Rattle.hart_machine.proofs.HartSteps.{hart_changes, HasHart, makes, no_hart, process_at, refused, runs, without_hart}
 use Rattle.address_space.specs.ProcessLeaves.{process_local, process_there}
 use Rattle.hart_machine.proofs.Leaves.{kernel_local, kernel_there}
-use Rattle.hart_machine.proofs.PresentTables.{present_serves, present_there}
+use Rattle.hart_machine.proofs.PresentTables.{present_there}
 
 -- an entry that is made by a table tells what the table says
-pub entry_is : (t : Tables) (a : ℕ) → IsEntryOf t 0 (entry_for t 0 a)
-entry_is t a = record { of_space = refl; local = refl; leaf = sym (leaf_on_page t a) }
+pub entry_is : (t : Tables) (asid a : ℕ) → IsEntryOf t asid (entry_for t asid a)
+entry_is t asid a = record { of_space = refl; local = refl; leaf = sym (leaf_on_page t a) }
 
 -- a process that is put back changes nothing
 abbrev pub put_back : (m : Machine) (w : World) (is : IsWorld m w) (s : ℕ) (x : Tenant) → slice_get m.slots.items s ≡ Some (Some x) → IsWorld (record m { slots = with_item m.slots s (Some x) }) w
@@ -47,6 +47,7 @@ put_back m w is s x at =
       kernel = is.kernel;
       stacks = is.stacks;
       policy = is.policy;
+      few = is.few;
       frames = is.frames;
       rule = subst (λ (ps : List (Option Tenant)). BankRule m.frames (m.kernel.seat ∷ seats_of ps)) (sym same) is.rule;
       of_kernel = is.of_kernel;
@@ -58,7 +59,7 @@ put_back m w is s x at =
       hosted = λ h r y there on. let old = is.hosted h r y there on in (old.0, ap (λ (ps : List (Option Tenant)). slice_get ps r) same ∙ old.1);
       alone = is.alone;
       idle = is.idle;
-      buffers = is.buffers;
+      local = is.local;
     }
 
 -- the table that a hart's satp has is there
@@ -76,12 +77,12 @@ has_at m w is h x at = record {
 }
 
 -- a hart that keeps the entry of a table keeps that of the table that was taken
-module _ (m : Machine) (w : World) (is : IsWorld m w) (a : ℕ) (x y : Hart) (t : Table) where
+module _ (m : Machine) (w : World) (is : IsWorld m w) (asid a : ℕ) (x y : Hart) (t : Table) where
   abbrev KeepsOf : View → ℕ → Type 0
-  KeepsOf v root = (i : Tables) → HasTables v root i → LeavesAreThere i → LeavesAreLocal i → y ≡ with_entry x (entry_for i 0 a)
+  KeepsOf v root = (i : Tables) → HasTables v root i → LeavesAreThere i → LeavesAreLocal i → y ≡ with_entry x (entry_for i asid a)
 
   abbrev Keeps : Table → Type 0
-  Keeps u = y ≡ with_entry x (entry_for (tables_of is.tables is.kernel u) 0 a)
+  Keeps u = y ≡ with_entry x (entry_for (tables_of is.tables is.kernel u) asid a)
 
   pub keeps_of_kernel : t ≡ OfKernel → KeepsOf m.kernel.seat m.kernel.root.0 → Keeps t
   keeps_of_kernel of_kernel kept =
@@ -101,32 +102,33 @@ module _ (m : Machine) (w : World) (is : IsWorld m w) (h a : ℕ) where
     go (Some x) none = absurd (cc)
 
   module _ (x : Hart) (at : slice_get m.harts.items h ≡ Some x) (few : length x.buffer ≤ buffer_size) where
+    abbrev asid : ℕ
+    asid = present_asid m.policy (hart_of x)
+
     abbrev entry : TlbEntry
-    entry = entry_for (tables_of is.tables is.kernel (present_table x)) 0 a
+    entry = entry_for (tables_of is.tables is.kernel (present_table x)) asid a
 
     abbrev key : Key
-    key = record { page = page_of a; asid = 0 }
+    key = record { page = page_of a; asid = asid }
 
     step_is : plain_step w (step.Fill h a) ≡ answers (with_hart w h (record (hart_of x) { keys = with_key (hart_of x).keys key })) (Filled (length (with_key (hart_of x).keys key) - 1))
     step_is = runs w h true always always (filled w h a) (hart_of x) (has_at m w is h x at).in_model refl refl refl
-        ∙ ap (λ (q : Policy). let ks = with_key (hart_of x).keys (record { page = page_of a; asid = present_asid q (hart_of x) }) in answers (with_hart w h (record (hart_of x) { keys = ks })) (Filled (length ks - 1))) is.policy
+        ∙ ap (λ (q : Policy). let ks = with_key (hart_of x).keys (record { page = page_of a; asid = present_asid q (hart_of x) }) in answers (with_hart w h (record (hart_of x) { keys = ks })) (Filled (length ks - 1))) (sym is.policy)
 
     fills_at : (y : Hart) → y ≡ with_entry x entry → (n : ℕ) → n ≡ next_number x.buffer → Makes (record m { harts = with_item m.harts h y }) (Filled n) (plain_step w (step.Fill h a))
     fills_at y made n number =
         subst (λ (z : Hart). Makes (record m { harts = with_item m.harts h z }) (Filled n) (plain_step w (step.Fill h a))) (sym made)
-        (makes _ (Filled n) _ _ (hart_changes m w is h x (with_entry x entry) at (λ s on. is.hosted h s x at on) (λ s on k z there also. is.alone s k h z x there at also on) (λ none. is.idle h x at none) serves)
+        (makes _ (Filled n) _ _ (hart_changes m w is h x (with_entry x entry) at (λ s on. is.hosted h s x at on) (λ s on k z there also. is.alone s k h z x there at also on) (λ none. is.idle h x at none) local)
         (step_is ∙ rw (number ∙ number_is x.buffer few key, kept_is x entry few) refl)) where
-          serves : (e : TlbEntry) → Contains (with_entry x entry).buffer e → IsServing (with_entry x entry) is.tables is.kernel e
-          serves e there = elim (in_newest x.buffer entry e there) [
-            | inl old ↦ is.buffers h x e at old
-            | inr new ↦ rw new (present_serves is.tables is.kernel x (λ none. is.idle h x at none) entry (entry_is _ a))
-          ]
+          local : (e : TlbEntry) → Contains (with_entry x entry).buffer e → e.global ≡ false
+          local e there = elim (in_newest x.buffer entry e there) [ inl old ↦ is.local h x e at old | inr new ↦ rw new refl ]
 
   -- the hart that is read keeps an entry of the table that its satp has
-  pub fills : (x : Hart) → slice_get m.harts.items h ≡ Some x → (t : Table) → t ≡ present_table x → (z : Hart) → z ≡ get_or m.harts.items h z → length z.buffer ≤ buffer_size
-      → (y : Hart) → y ≡ with_entry z (entry_for (tables_of is.tables is.kernel t) 0 a) → (n : ℕ) → n ≡ next_number z.buffer → Makes (record m { harts = with_item m.harts h y }) (Filled n) (plain_step w (step.Fill h a))
-  fills x at t present z read few y made n number =
+  pub fills : (x : Hart) → slice_get m.harts.items h ≡ Some x → (t : Table) → t ≡ present_table x → (z : Hart) → z ≡ get_or m.harts.items h z → length z.buffer ≤ buffer_size → (i : ℕ) → i ≡ present_asid m.policy (hart_of z)
+      → (y : Hart) → y ≡ with_entry z (entry_for (tables_of is.tables is.kernel t) i a) → (n : ℕ) → n ≡ next_number z.buffer → Makes (record m { harts = with_item m.harts h y }) (Filled n) (plain_step w (step.Fill h a))
+  fills x at t present z read few i tagged y made n number =
       let same : z ≡ x = same_hart m.harts.items h x z read at in
       fills_at x at (subst (λ (u : Hart). length u.buffer ≤ buffer_size) same few) y
-      (made ∙ ap (λ (u : Hart). with_entry u (entry_for (tables_of is.tables is.kernel t) 0 a)) same ∙ ap (λ (u : Table). with_entry x (entry_for (tables_of is.tables is.kernel u) 0 a)) present) n
+      (made ∙ ap (λ (j : ℕ). with_entry z (entry_for (tables_of is.tables is.kernel t) j a)) tagged ∙ ap (λ (u : Hart). with_entry u (entry_for (tables_of is.tables is.kernel t) (present_asid m.policy (hart_of u)) a)) same
+      ∙ ap (λ (u : Table). with_entry x (entry_for (tables_of is.tables is.kernel u) (present_asid m.policy (hart_of x)) a)) present) n
       (number ∙ ap (λ (u : Hart). next_number u.buffer) same)

@@ -1,5 +1,5 @@
 -- Worlds in which the process of one slot is another, with other tables and pages, by its own seat.
-use Rattle.std.proofs.Common.{◌≡◌, ◌⊎◌, ◌↔◌, ℕ, ◌<◌, ◌≤◌, false, true, Option, None, Some, List, ◌∷◌, refl, ap, sym, subst, ◌∙◌, inl, inr, arith}
+use Rattle.std.proofs.Common.{◌≡◌, ◌⊎◌, ◌↔◌, ℕ, ◌<◌, ◌≤◌, Option, None, Some, List, ◌∷◌, refl, ap, sym, subst, ◌∙◌, inl, inr, arith}
 use Rattle.std.specs.Prelude.{slice_get, slice_set}
 use Rattle.std.specs.Vec.{with_item}
 use Rattle.std.proofs.lemmas.Bool.{cases_eq}
@@ -11,7 +11,6 @@ use Rattle.frame_store.specs.Laws.{Keeps}
 use Rattle.frame_store.specs.Plain.{Bank, BankRule}
 use Rattle.frame_store.specs.Seats.{place_out, place_set_other, place_set_same}
 use Rattle.frame_store.specs.View.{IsSole, references, View}
-use Rattle.hart_tlb.specs.declared.entry.TlbEntry.{TlbEntry}
 use Rattle.process_model.specs.Files.{File}
 use Rattle.process_model.specs.PageMap as pages
 use Rattle.process_model.specs.Process.{Page, Process}
@@ -19,8 +18,8 @@ use Rattle.process_model.specs.World.{with_process, World}
 use Rattle.table_walk.specs.Tables.{leaf_node, Tables}
 use Rattle.hart_machine.specs.Calls.{Follows, IsKept}
 use Rattle.hart_machine.specs.Tenants.{IsTenant, view_of}
-use Rattle.hart_machine.specs.Walked.{IsEntryOf}
-use Rattle.hart_machine.specs.Worlds.{AreCounted, HaveCopies, IsPlace, IsServing, IsWorld, may_have_own, seats_of}
+use Rattle.hart_machine.specs.Slots.{most_slots}
+use Rattle.hart_machine.specs.Worlds.{AreCounted, HaveCopies, IsPlace, IsWorld, seats_of}
 use Rattle.hart_machine.specs.declared.hart.Hart.{Hart}
 use Rattle.hart_machine.specs.declared.machine.Machine.{Machine}
 use Rattle.hart_machine.specs.declared.tenant.Tenant.{Tenant}
@@ -182,23 +181,14 @@ module _ (m : Machine) (w : World) (is : IsWorld m w) (s : ℕ) (x y : Tenant) (
     | inr apart ↦ let old = is.hosted h k z on slot in (old.0, place_set_other m.slots.items s k (Some y) apart ∙ old.1)
   ]
 
-  -- no hart on which the process is may have entries of its table
-  abbrev pub IsQuiet : Type 0
-  IsQuiet = (h : ℕ) (z : Hart) → slice_get m.harts.items h ≡ Some z → z.slot ≡ Some s → may_have_own z.phase ≡ false
-
-  serving : IsQuiet → (h : ℕ) (z : Hart) (e : TlbEntry) → slice_get m.harts.items h ≡ Some z → IsServing z is.tables is.kernel e → IsServing z tables is.kernel e
-  serving quiet h z e there (inl of_kernel) = inl of_kernel
-  serving quiet h z e there (inr own) =
-      let apart : own.0 ≡ s → ⊥ = λ same. let none = quiet h z there (own.2 ∙ ap Some same) in let both : true ≡ false = sym own.1 ∙ none in cc in
-      inr (own.0, own.1, own.2, subst (λ (t : Tables). IsEntryOf t 0 e) (sym (tables_there is.tables s u own.0 apart)) own.3)
-
   -- the process of a slot follows the one that was there, and files are others
-  pub call_changes : IsQuiet → (files : List File) → IsWorld (record m { frames = b; slots = with_item m.slots s (Some y); files = files }) (record (with_process w s q) { counter = high; files = files })
-  call_changes quiet files = record {
+  pub call_changes : (files : List File) → IsWorld (record m { frames = b; slots = with_item m.slots s (Some y); files = files }) (record (with_process w s q) { counter = high; files = files })
+  call_changes files = record {
     tables = tables;
     kernel = is.kernel;
     stacks = is.stacks;
     policy = is.policy;
+    few = subst (λ n. n ≤ most_slots) (sym (length-set w.slots s (Some q))) is.few;
     frames = is.frames;
     rule = rule;
     of_kernel = subst (λ n. IsKernelTable m.kernel.seat m.kernel.root.0 w.frames n is.stacks is.kernel) (sym (length-set w.slots s (Some q))) is.of_kernel;
@@ -210,5 +200,5 @@ module _ (m : Machine) (w : World) (is : IsWorld m w) (s : ℕ) (x y : Tenant) (
     hosted = hosted;
     alone = is.alone;
     idle = is.idle;
-    buffers = λ h z e there in_it. serving quiet h z e there (is.buffers h z e there in_it);
+    local = is.local;
   }

@@ -1,6 +1,6 @@
 -- The worlds that a fork comes to.
 use Rattle.std.proofs.Common.{◌≡◌, ℕ, ◌<◌, true, false, Option, None, Some, List, ◌∷◌, refl, ap, sym, subst, ◌∙◌, inl, inr, arith}
-use Rattle.std.specs.Prelude.{slice_get}
+use Rattle.std.specs.Prelude.{slice_get, slice_set}
 use Rattle.std.specs.Vec.{with_item}
 use Rattle.std.proofs.lemmas.Bool.{cases_lt, le-ltb, lt-ltb}
 use Rattle.frame_store.specs.Laws.{Keeps}
@@ -10,9 +10,10 @@ use Rattle.frame_store.specs.View.{View}
 use Rattle.process_model.specs.Calls.{forked, forked_unless}
 use Rattle.process_model.specs.Frames.{fork_need}
 use Rattle.process_model.specs.Process.{Process}
+use Rattle.process_model.specs.Residence.{child_of, marked}
 use Rattle.process_model.specs.Service.{is_dry}
 use Rattle.process_model.specs.Steps.{plain_step}
-use Rattle.process_model.specs.World.{free, free_slot, Outcome, World}
+use Rattle.process_model.specs.World.{free, free_slot, Outcome, refuses, World}
 use Rattle.process_model.specs.declared.step.Refusal.TheVariants.{NoFrame, NoSlot}
 use Rattle.process_model.specs.declared.step.Reply.TheVariants.{Forked, Refused}
 use Rattle.process_model.specs.declared.step.Step.TheVariants as step
@@ -24,7 +25,7 @@ use Rattle.hart_machine.specs.Worlds.{IsWorld, Makes}
 use Rattle.hart_machine.specs.declared.machine.Machine.{Machine}
 use Rattle.hart_machine.specs.declared.tenant.Tenant.{Tenant}
 use Rattle.hart_machine.proofs.AccessingWorlds.{bytes_change}
-use Rattle.hart_machine.proofs.Calling.{call_runs, caller_quiet}
+use Rattle.hart_machine.proofs.Calling.{call_runs}
 use Rattle.hart_machine.proofs.ForkedWorlds.{forks, seats_split}
 use Rattle.hart_machine.proofs.HartSteps.{process_at, refused}
 use Rattle.hart_machine.proofs.HeldFrames.{free_is}
@@ -35,12 +36,31 @@ module _ (m : Machine) (w : World) (is : IsWorld m w) (h s : ℕ) (caller : IsCa
   fork_step p at = call_runs m w is h s false caller (λ hart k q. forked w k q (free_slot w)) p at
 
   -- each slot has a process
+  pub no_slot : free_slot w ≡ None → plain_step w (step.Fork h) ≡ refuses w NoSlot
+  no_slot none = fork_step caller.process caller.in_slot ∙ ap (forked w s caller.process) none
+
   pub without_slot : free_slot w ≡ None → Makes m (Refused NoSlot) (plain_step w (step.Fork h))
-  without_slot none = refused m w is NoSlot _ (fork_step caller.process caller.in_slot ∙ ap (forked w s caller.process) none)
+  without_slot none = refused m w is NoSlot _ (no_slot none)
 
   module _ (x y : Tenant) (place : slice_get m.slots.items s ≡ Some (Some x)) (b : Bank) (e : ℕ) (to : free_slot w ≡ Some e) where
     splits : (p : Process) → slice_get w.slots s ≡ Some (Some p) → plain_step w (step.Fork h) ≡ forked_unless w s p e (is_dry w (fork_need p))
     splits p at = fork_step p at ∙ ap (forked w s p) to
+
+    pub no_frame : ((t : Tables) (p : Process) → IsTenant x t p → m.frames.free < fork_need p) → plain_step w (step.Fork h) ≡ refuses w NoFrame
+    no_frame short =
+        let q = process_at m w is s x place in
+        let few = short (is.tables s) q.0 q.2 in
+        let all = free_is m w is in
+        splits q.0 q.1 ∙ ap (forked_unless w s q.0 e) (lt-ltb (free w) (fork_need q.0) (omega (arith, few, all)))
+
+    pub fork_sets : (p : Process) → slice_get w.slots s ≡ Some (Some p) → (m.frames.free < fork_need p → ⊥) → ((plain_step w (step.Fork h)).world).slots ≡ slice_set (slice_set w.slots s (Some (marked p))) e (Some (child_of p))
+    fork_sets p at enough =
+        let all = free_is m w is in
+        let wet : is_dry w (fork_need p) ≡ false = elim (cases_lt m.frames.free (fork_need p)) [
+          | inl few ↦ absurd (enough few)
+          | inr many ↦ le-ltb (free w) (fork_need p) (omega (arith, many, all))
+        ] in
+        ap (λ (o : Outcome). (o.world).slots) (splits p at ∙ ap (forked_unless w s p e) wet)
 
     -- too few frames are free
     pub forks_dry : ((t : Tables) (p : Process) → IsTenant x t p → m.frames.free < fork_need p) → ((t : Tables) (p : Process) → IsTenant x t p → IsTenant y t p)
@@ -75,5 +95,5 @@ module _ (m : Machine) (w : World) (is : IsWorld m w) (h s : ℕ) (caller : IsCa
         subst (λ (o : Outcome). Makes n (Forked e) o) (sym (splits q.0 q.1 ∙ ap (forked_unless w s q.0 e) wet)) (
           refl,
           forks m w is s e x y z q.0 has.after has.of_child place q.1 empty (free_is_empty w e to) has.parent has.child has.on_parent has.on_child b
-              (seats_split m.frames b m.kernel.seat m.slots.items s e x y z place empty keeps is.rule) (caller_quiet m w is h s false caller),
+              (seats_split m.frames b m.kernel.seat m.slots.items s e x y z place empty keeps is.rule),
         )

@@ -1,5 +1,5 @@
 -- The world in which a process has forked: each of its pages, and of the child's, is one that it had.
-use Rattle.std.proofs.Common.{◌≡◌, ◌↔◌, ℕ, ◌<◌, true, false, Option, None, Some, List, [], ◌∷◌, refl, ap, sym, subst, ◌∙◌, inl, inr}
+use Rattle.std.proofs.Common.{◌≡◌, ◌↔◌, ℕ, ◌<◌, ◌≤◌, Option, None, Some, List, [], ◌∷◌, refl, ap, sym, subst, ◌∙◌, inl, inr}
 use Rattle.std.specs.Prelude.{slice_get, slice_set}
 use Rattle.std.specs.Vec.{with_item}
 use Rattle.std.proofs.lemmas.Bool.{cases_eq}
@@ -10,7 +10,6 @@ use Rattle.address_space.specs.Kernel.{IsKernelTable}
 use Rattle.frame_store.specs.Plain.{Bank, BankRule, to_front}
 use Rattle.frame_store.specs.Seats.{place_set_other, place_set_same, place_split, places_apart}
 use Rattle.frame_store.specs.View.{View}
-use Rattle.hart_tlb.specs.declared.entry.TlbEntry.{TlbEntry}
 use Rattle.process_model.specs.EachValue.{found_each}
 use Rattle.process_model.specs.PageMap as pages
 use Rattle.process_model.specs.PageMap.{each_value, PageMap, with_values}
@@ -19,8 +18,8 @@ use Rattle.process_model.specs.Residence.{child_of, child_page, marked, marked_p
 use Rattle.process_model.specs.World.{with_process, World}
 use Rattle.table_walk.specs.Tables.{Tables}
 use Rattle.hart_machine.specs.Tenants.{IsTenant, view_of}
-use Rattle.hart_machine.specs.Walked.{IsEntryOf}
-use Rattle.hart_machine.specs.Worlds.{AreCounted, HaveCopies, IsPlace, IsServing, IsWorld, may_have_own, seats_of}
+use Rattle.hart_machine.specs.Slots.{most_slots}
+use Rattle.hart_machine.specs.Worlds.{AreCounted, HaveCopies, IsPlace, IsWorld, seats_of}
 use Rattle.hart_machine.specs.declared.hart.Hart.{Hart}
 use Rattle.hart_machine.specs.declared.machine.Machine.{Machine}
 use Rattle.hart_machine.specs.declared.tenant.Tenant.{Tenant}
@@ -153,22 +152,13 @@ module _ (m : Machine) (w : World) (is : IsWorld m w) (s e : ℕ) (x y z : Tenan
     ]
   ]
 
-  -- no hart on which the parent is may have entries of its table
-  serving : ((h : ℕ) (v : Hart) → slice_get m.harts.items h ≡ Some v → v.slot ≡ Some s → may_have_own v.phase ≡ false) → (h : ℕ) (v : Hart) (q : TlbEntry) → slice_get m.harts.items h ≡ Some v
-      → IsServing v is.tables is.kernel q → IsServing v tables is.kernel q
-  serving quiet h v q there (inl of_kernel) = inl of_kernel
-  serving quiet h v q there (inr own) =
-      let off : own.0 ≡ s → ⊥ = λ same. let none = quiet h v there (own.2 ∙ ap Some same) in let both : true ≡ false = sym own.1 ∙ none in cc in
-      let far : own.0 ≡ e → ⊥ = λ same. let old = is.hosted h own.0 v there own.2 in places_apart m.slots.items own.0 e old.0 old.1 empty (sym same) in
-      inr (own.0, own.1, own.2, subst (λ (k : Tables). IsEntryOf k 0 q) (sym (at_other own.0 far off).2) own.3)
-
-  pub forks : ((h : ℕ) (v : Hart) → slice_get m.harts.items h ≡ Some v → v.slot ≡ Some s → may_have_own v.phase ≡ false)
-      → IsWorld (record m { frames = b; slots = with_item (with_item m.slots s (Some y)) e (Some z) }) (with_process (with_process w s (marked p)) e (child_of p))
-  forks quiet = record {
+  pub forks : IsWorld (record m { frames = b; slots = with_item (with_item m.slots s (Some y)) e (Some z) }) (with_process (with_process w s (marked p)) e (child_of p))
+  forks = record {
     tables = tables;
     kernel = is.kernel;
     stacks = is.stacks;
     policy = is.policy;
+    few = subst (λ n. n ≤ most_slots) (sym (length-set (slice_set w.slots s (Some (marked p))) e (Some (child_of p)) ∙ length-set w.slots s (Some (marked p)))) is.few;
     frames = is.frames;
     rule = rule;
     of_kernel = subst (λ n. IsKernelTable m.kernel.seat m.kernel.root.0 w.frames n is.stacks is.kernel) (sym (length-set (slice_set w.slots s (Some (marked p))) e (Some (child_of p)) ∙ length-set w.slots s (Some (marked p)))) is.of_kernel;
@@ -180,5 +170,5 @@ module _ (m : Machine) (w : World) (is : IsWorld m w) (s e : ℕ) (x y z : Tenan
     hosted = hosted;
     alone = is.alone;
     idle = is.idle;
-    buffers = λ h v q there in_it. serving quiet h v q there (is.buffers h v q there in_it);
+    local = is.local;
   }

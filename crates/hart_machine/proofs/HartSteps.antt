@@ -1,32 +1,36 @@
 -- Steps on one hart: what they are refused for, and worlds in which one hart is another.
-use Rattle.std.proofs.Common.{◌≡◌, ℕ, zero, suc, ◌<◌, get_or, ◌⊎◌, inl, inr, Bool, true, false, Option, None, Some, option_map, is_some, List, [], ◌∷◌, map, not, ◌||◌, ◌&&◌, refl, ap, sym, subst, ◌∙◌, arith}
+use Rattle.std.proofs.Common.{◌≡◌, ℕ, zero, suc, ◌+◌, ◌==◌, ◌<◌, get_or, filter, ◌⊎◌, inl, inr, Bool, true, false, Option, None, Some, option_map, is_some, List, [], ◌∷◌, map, not, ◌||◌, ◌&&◌, refl, ap, sym, subst, ◌∙◌, arith, if◌then◌else◌}
 use Rattle.std.specs.Prelude.{Contains, slice_get, slice_set, unwrap_or}
 use Rattle.std.specs.List.{list_any}
 use Rattle.std.specs.Vec.{vec_len, with_item}
-use Rattle.std.proofs.lemmas.Bool.{cases_eq, eq-eqb}
+use Rattle.std.proofs.lemmas.Bool.{cases_eq, eq-eqb, ne_eqb}
 use Rattle.std.proofs.lemmas.List.{map-set}
 use Rattle.std.proofs.lemmas.Option.{get_or_from_slice_get, same_Some, slice_get-map, slice_get_within}
+use Rattle.std.proofs.Math.Path.{fun_ext}
 use Rattle.frame_store.specs.Seats.{place_set_other, place_set_same}
+use Rattle.hart_tlb.specs.Entries.{is_fenced}
 use Rattle.hart_tlb.specs.declared.entry.TlbEntry.{TlbEntry}
 use Rattle.process_model.specs.Harts as model
 use Rattle.process_model.specs.Process.{Process}
 use Rattle.process_model.specs.Steps.{plain_step}
 use Rattle.process_model.specs.declared.step.Step.TheVariants as step
 use Rattle.process_model.specs.World.{World, Outcome, always, answers, can_go_on, can_run, flat, has_slot, on_hart, on_hart_at, process_in, refuses, with_hart, with_its_process, with_process_of, with_slot_of}
-use Rattle.process_model.specs.declared.config.Policy.TheVariants.{Full}
+use Rattle.process_model.specs.declared.config.Policy.{Policy}
+use Rattle.process_model.specs.declared.config.Policy.TheVariants.{Asid, Full}
 use Rattle.process_model.specs.declared.phase.Phase.{Phase}
 use Rattle.process_model.specs.declared.phase.Phase.TheVariants as phase
 use Rattle.process_model.specs.declared.step.Refusal.TheVariants.{BadArgument, Impossible, NoEntry}
 use Rattle.process_model.specs.declared.step.Reply.{Reply}
 use Rattle.process_model.specs.declared.step.Reply.TheVariants.{Done, Refused}
 use Rattle.process_model.specs.declared.step.Refusal.{Refusal}
-use Rattle.table_walk.specs.Tables.{Tables}
-use Rattle.hart_machine.specs.Harts.{advanced, hart_of}
+use Rattle.hart_machine.specs.Harts.{advanced, cleaned, cleaned_for, cleaned_if, emptied, fenced, hart_of, is_before_user, key_of}
+use Rattle.hart_machine.specs.Slots.{marks_of, most_slots}
 use Rattle.hart_machine.specs.Tenants.{IsTenant}
-use Rattle.hart_machine.specs.Worlds.{IsPlace, IsServing, IsWorld, Makes, may_have_kernel, may_have_own}
+use Rattle.hart_machine.specs.Worlds.{IsPlace, IsWorld, Makes}
 use Rattle.hart_machine.specs.declared.hart.Hart.{Hart}
 use Rattle.hart_machine.specs.declared.machine.Machine.{Machine}
 use Rattle.hart_machine.specs.declared.tenant.Tenant.{Tenant}
+use Rattle.hart_machine.proofs.Filtered.{in_filter, later}
 
 -- refusals
 
@@ -137,6 +141,15 @@ module _ (m : Machine) (w : World) (is : IsWorld m w) where
         on_any [] = refl
         on_any (x ∷ hs) = ap (λ b. has_slot s x.slot || b) (on_any hs)
 
+  -- the slot of a hart is one of those that there may be
+  pub slot_low : (h : ℕ) (x : Hart) → slice_get m.harts.items h ≡ Some x → (s : ℕ) → x.slot ≡ Some s → s < most_slots
+  slot_low h x at s on =
+      let t = is.hosted h s x at on in
+      let p = process_at s t.0 t.1 in
+      let low = slice_get_within w.slots s (Some p.0) p.1 in
+      let few = is.few in
+      omega (arith, low, few)
+
   -- the hart that is read
   pub hart_read : (h : ℕ) (p : Phase) (has : HasHart m w h p) (x : Hart) → x ≡ get_or m.harts.items h x → x ≡ has.hart
   hart_read h p has x e = e ∙ get_or_from_slice_get m.harts.items h has.hart x has.there
@@ -148,12 +161,13 @@ module _ (m : Machine) (w : World) (is : IsWorld m w) where
     IsAlone = (s : ℕ) → y.slot ≡ Some s → (k : ℕ) (z : Hart) → slice_get m.harts.items k ≡ Some z → z.slot ≡ Some s → k ≡ h
 
     pub hart_changes : ((s : ℕ) → y.slot ≡ Some s → (t : Tenant) × (slice_get m.slots.items s ≡ Some (Some t))) → IsAlone → (y.slot ≡ None → y.phase ≡ phase.Idle)
-        → ((e : TlbEntry) → Contains y.buffer e → IsServing y is.tables is.kernel e) → IsWorld (record m { harts = with_item m.harts h y }) (with_hart w h (hart_of y))
-    hart_changes hosted alone idle serves = record {
+        → ((e : TlbEntry) → Contains y.buffer e → e.global ≡ false) → IsWorld (record m { harts = with_item m.harts h y }) (with_hart w h (hart_of y))
+    hart_changes hosted alone idle local = record {
       tables = is.tables;
       kernel = is.kernel;
       stacks = is.stacks;
       policy = is.policy;
+      few = is.few;
       frames = is.frames;
       rule = is.rule;
       of_kernel = is.of_kernel;
@@ -174,7 +188,7 @@ module _ (m : Machine) (w : World) (is : IsWorld m w) where
         ]
       ];
       idle = λ k z at. at_each k z at (λ (u : Hart). u.slot ≡ None → u.phase ≡ phase.Idle) idle (λ old. is.idle k z old);
-      buffers = λ k z e at. at_each k z at (λ (u : Hart). Contains u.buffer e → IsServing u is.tables is.kernel e) (serves e) (λ old. is.buffers k z e old);
+      local = λ k z e at. at_each k z at (λ (u : Hart). Contains u.buffer e → e.global ≡ false) (local e) (λ old. is.local k z e old);
     } where
       new_or_old : (k : ℕ) (z : Hart) → slice_get (slice_set m.harts.items h y) k ≡ Some z → ((k ≡ h) × (y ≡ z)) ⊎ (slice_get m.harts.items k ≡ Some z)
       new_or_old k z at = elim (cases_eq k h) [
@@ -210,16 +224,6 @@ not_both true b (inl e) = absurd (cc)
 not_both true b (inr e) = e
 not_both false b e = refl
 
-none_of_own : (p : Phase) → model.may_switch p ≡ true → may_have_own p ≡ true → ⊥
-none_of_own phase.Idle may own = cc
-none_of_own phase.User may own = cc
-none_of_own phase.Enter0 may own = cc
-none_of_own phase.Enter1 may own = cc
-none_of_own phase.Enter2 may own = cc
-none_of_own phase.Kernel may own = cc
-none_of_own phase.Leave1 may own = cc
-none_of_own phase.Leave2 may own = cc
-
 abbrev switched : Hart → Option ℕ → Hart
 switched x slot = record x { phase = model.phase_for slot; slot = slot }
 
@@ -233,7 +237,7 @@ module _ (m : Machine) (w : World) (is : IsWorld m w) (h : ℕ) (slot : Option �
 
     pub switches : (x y : Hart) → x ≡ get_or m.harts.items h x → y ≡ switched x slot → model.may_switch p ≡ true → can_run w slot ≡ true
         → Makes (record m { harts = with_item m.harts h y }) Done (plain_step w (step.Switch h slot))
-    switches x y read made may can = subst (λ (z : Hart). Makes (record m { harts = with_item m.harts h z }) Done (plain_step w (step.Switch h slot))) (sym (made ∙ ap (λ z. switched z slot) (hart_read m w is h p has x read))) (makes _ Done _ _ (hart_changes m w is h has.hart (switched has.hart slot) has.there (hosts slot can) (lone slot can) (idles slot) (serves slot))
+    switches x y read made may can = subst (λ (z : Hart). Makes (record m { harts = with_item m.harts h z }) Done (plain_step w (step.Switch h slot))) (sym (made ∙ ap (λ z. switched z slot) (hart_read m w is h p has x read))) (makes _ Done _ _ (hart_changes m w is h has.hart (switched has.hart slot) has.there (hosts slot can) (lone slot can) (idles slot) (λ e. is.local h has.hart e has.there))
         (runs w h true (λ x. model.may_switch x.phase && can_run w slot) always _ (hart_of has.hart) has.in_model refl (rw (has.phased, may, can) refl) refl)) where
           hosts : (o : Option ℕ) → can_run w o ≡ true → (s : ℕ) → o ≡ Some s → (t : Tenant) × (slice_get m.slots.items s ≡ Some (Some t))
           hosts None can s e = absurd (cc)
@@ -250,63 +254,126 @@ module _ (m : Machine) (w : World) (is : IsWorld m w) (h : ℕ) (slot : Option �
           idles None e = refl
           idles (Some r) e = absurd (cc)
 
-          serves : (o : Option ℕ) (e : TlbEntry) → Contains has.hart.buffer e → IsServing (switched has.hart o) is.tables is.kernel e
-          serves o e there = elim (is.buffers h has.hart e has.there there) [
-            | inl of_kernel ↦ inl (kept o, of_kernel.1)
-            | inr own ↦ absurd (none_of_own has.hart.phase (ap model.may_switch has.phased ∙ may) own.1)
-          ] where
-            kept : (o : Option ℕ) → may_have_kernel (model.phase_for o) ≡ true
-            kept None = refl
-            kept (Some r) = refl
-
 -- a hart makes the next instruction of the trampoline
 
-advanced_is : (x : Hart) → hart_of (advanced x) ≡ record (model.fenced Full (hart_of x)) { phase = unwrap_or (model.next_phase x.phase) x.phase }
-advanced_is x = go x.phase x.slot x.buffer where
-  go : (p : Phase) (slot : Option ℕ) (es : List TlbEntry) → hart_of (advanced (record { phase = p; slot = slot; buffer = es }))
-      ≡ record (model.fenced Full (hart_of (record { phase = p; slot = slot; buffer = es }))) { phase = unwrap_or (model.next_phase p) p }
-  go phase.Idle slot es = refl
-  go phase.User slot es = refl
-  go phase.Enter0 slot es = refl
-  go phase.Enter1 slot es = refl
-  go phase.Enter2 slot es = refl
-  go phase.Kernel slot es = refl
-  go phase.Leave1 slot es = refl
-  go phase.Leave2 slot es = refl
+-- the entries that a fence of an identifier leaves have the keys that the model leaves
+kept_keys : (asid : ℕ) (es : List TlbEntry) → ((e : TlbEntry) → Contains es e → e.global ≡ false)
+    → map key_of (filter (λ e. not (is_fenced None (Some asid) e)) es) ≡ filter (λ k. not (k.asid == asid)) (map key_of es)
+kept_keys asid [] local = refl
+kept_keys asid (e ∷ es) local =
+    let rest = kept_keys asid es (λ x there. local x (later e es x there)) in
+    let same : is_fenced None (Some asid) e ≡ (e.asid == asid) = fenced_of (e.asid == asid) e.global (local e (zero, omega arith, refl)) in
+    go (e.asid == asid) (is_fenced None (Some asid) e) same rest where
+      fenced_of : (own global : Bool) → global ≡ false → (own && not global && true) ≡ own
+      fenced_of true global is = rw is refl
+      fenced_of false global is = refl
 
-no_entry : {A : Type 0} (e : A) → Contains [] e → ⊥
-no_entry e there = omega (arith, there.1)
+      go : (own taken : Bool) → taken ≡ own → map key_of (filter (λ x. not (is_fenced None (Some asid) x)) es) ≡ filter (λ k. not (k.asid == asid)) (map key_of es)
+          → map key_of (if not taken then e ∷ filter (λ x. not (is_fenced None (Some asid) x)) es else filter (λ x. not (is_fenced None (Some asid) x)) es)
+          ≡ (if not own then key_of e ∷ filter (λ k. not (k.asid == asid)) (map key_of es) else filter (λ k. not (k.asid == asid)) (map key_of es))
+      go true true same rest = rest
+      go true false same rest = absurd (cc)
+      go false true same rest = absurd (cc)
+      go false false same rest = ap (λ ks. key_of e ∷ ks) rest
 
-module _ (tables : ℕ → Tables) (kernel : Tables) where
-  -- a buffer of which all entries serve
-  abbrev Serves : Hart → Type 0
-  Serves x = (e : TlbEntry) → Contains x.buffer e → IsServing x tables kernel e
+-- a mark is taken off
+without_mark : (bs : List Bool) (s : ℕ) → marks_of (slice_set bs s false) ≡ (λ n. not (n == s) && marks_of bs n)
+without_mark bs s = fun_ext (λ n. elim (cases_eq n s) [
+  | inl same ↦ rw (eq-eqb n s same) (taken n s bs same)
+  | inr apart ↦ rw (ne_eqb n s apart) (ap (λ o. unwrap_or o false) (place_set_other bs s n false apart))
+]) where
+  past_set : (bs : List Bool) (s : ℕ) → slice_get bs s ≡ None → slice_get (slice_set bs s false) s ≡ None
+  past_set [] s is = is
+  past_set (b ∷ bs) zero is = absurd (cc)
+  past_set (b ∷ bs) (suc s) is = past_set bs s is
 
-  advanced_serves : (x : Hart) → is_some (model.next_phase x.phase) ≡ true → Serves x → Serves (advanced x)
-  advanced_serves x = go x.phase x.slot x.buffer where
-    go : (p : Phase) (slot : Option ℕ) (es : List TlbEntry) → is_some (model.next_phase p) ≡ true → Serves (record { phase = p; slot = slot; buffer = es })
-        → Serves (advanced (record { phase = p; slot = slot; buffer = es }))
-    go phase.Idle slot es goes old e there = absurd (cc)
-    go phase.User slot es goes old e there = absurd (cc)
-    go phase.Enter0 slot es goes old e there = absurd (no_entry e there)
-    go phase.Enter1 slot es goes old e there = elim (old e there) [ inl of_kernel ↦ absurd (let never = of_kernel.0 in cc) | inr own ↦ inr own ]
-    go phase.Enter2 slot es goes old e there = absurd (no_entry e there)
-    go phase.Kernel slot es goes old e there = absurd (no_entry e there)
-    go phase.Leave1 slot es goes old e there = elim (old e there) [ inl of_kernel ↦ inl of_kernel | inr own ↦ absurd (let never = own.1 in cc) ]
-    go phase.Leave2 slot es goes old e there = absurd (no_entry e there)
+  taken : (n s : ℕ) (bs : List Bool) → n ≡ s → marks_of (slice_set bs s false) n ≡ false
+  taken n s bs same = go (slice_get bs s) refl where
+    go : (o : Option Bool) → slice_get bs s ≡ o → marks_of (slice_set bs s false) n ≡ false
+    go (Some b) at = ap (λ o. unwrap_or o false) (ap (slice_get (slice_set bs s false)) same ∙ place_set_same bs s false (slice_get_within bs s b at))
+    go None past = ap (λ o. unwrap_or o false) (ap (slice_get (slice_set bs s false)) same ∙ past_set bs s past)
+
+abbrev pub HasLocal : Hart → Type 0
+HasLocal x = (e : TlbEntry) → Contains x.buffer e → e.global ≡ false
+
+pub cleaned_is : (x : Hart) → HasLocal x → hart_of (cleaned x) ≡ model.fenced Asid (hart_of x)
+cleaned_is x local = at_phase x.phase refl where
+  if_marked : (s : ℕ) (b : Bool) → hart_of (cleaned_if x s b) ≡ model.cleaned_if (hart_of x) s b
+  if_marked s true = λ i. let y : model.Hart = record (hart_of x) { keys = kept_keys (s + 1) x.buffer local i; stale = without_mark x.stale s i } in y
+  if_marked s false = refl
+
+  for_slot : (o : Option ℕ) → hart_of (cleaned_for x o) ≡ model.cleaned_for (hart_of x) o
+  for_slot None = refl
+  for_slot (Some s) = if_marked s (marks_of x.stale s)
+
+  at_phase : (p : Phase) → x.phase ≡ p → hart_of (if is_before_user p then cleaned_for x x.slot else x) ≡ model.cleaned_at (hart_of x) p
+  at_phase phase.Leave2 e = for_slot x.slot
+  at_phase phase.Idle e = refl
+  at_phase phase.User e = refl
+  at_phase phase.Enter0 e = refl
+  at_phase phase.Enter1 e = refl
+  at_phase phase.Enter2 e = refl
+  at_phase phase.Kernel e = refl
+  at_phase phase.Leave1 e = refl
+
+emptied_is : (x : Hart) → hart_of (emptied x) ≡ model.fenced Full (hart_of x)
+emptied_is x = go (model.is_before_fence x.phase) where
+  go : (b : Bool) → hart_of (record x { buffer = if b then [] else x.buffer }) ≡ model.emptied_if (hart_of x) b
+  go true = refl
+  go false = refl
+
+pub advanced_is : (policy : Policy) (x : Hart) → HasLocal x → hart_of (advanced policy x) ≡ record (model.fenced policy (hart_of x)) { phase = unwrap_or (model.next_phase x.phase) x.phase }
+advanced_is Full x local = ap (λ (y : model.Hart). let z : model.Hart = record y { phase = unwrap_or (model.next_phase x.phase) x.phase } in z) (emptied_is x)
+advanced_is Asid x local = ap (λ (y : model.Hart). let z : model.Hart = record y { phase = unwrap_or (model.next_phase x.phase) x.phase } in z) (cleaned_is x local)
+
+-- what a fence leaves was there
+pub in_fenced : (policy : Policy) (x : Hart) (e : TlbEntry) → Contains (fenced policy x).buffer e → Contains x.buffer e
+in_fenced Full x e = go (model.is_before_fence x.phase) where
+  go : (b : Bool) → Contains (if b then [] else x.buffer) e → Contains x.buffer e
+  go true there = absurd (omega (arith, there.1))
+  go false there = there
+in_fenced Asid x e = go (is_before_user x.phase) x.slot where
+  if_marked : (s : ℕ) (b : Bool) → Contains (cleaned_if x s b).buffer e → Contains x.buffer e
+  if_marked s true there = (in_filter (λ a. not (is_fenced None (Some (s + 1)) a)) x.buffer e there).0
+  if_marked s false there = there
+
+  go : (b : Bool) (o : Option ℕ) → Contains (if b then cleaned_for x o else x).buffer e → Contains x.buffer e
+  go true None there = there
+  go true (Some s) there = if_marked s (marks_of x.stale s) there
+  go false o there = there
+
+-- a fence changes neither the slot nor the phase
+pub fenced_slot : (policy : Policy) (x : Hart) → (fenced policy x).slot ≡ x.slot
+fenced_slot Full x = refl
+fenced_slot Asid x = go (is_before_user x.phase) x.slot where
+  if_marked : (s : ℕ) (b : Bool) → (cleaned_if x s b).slot ≡ x.slot
+  if_marked s true = refl
+  if_marked s false = refl
+
+  go : (b : Bool) (o : Option ℕ) → (if b then cleaned_for x o else x).slot ≡ x.slot
+  go true None = refl
+  go true (Some s) = if_marked s (marks_of x.stale s)
+  go false o = refl
 
 module _ (m : Machine) (w : World) (is : IsWorld m w) (h : ℕ) (p : Phase) (has : HasHart m w h p) where
   pub next_refused : can_go_on w (hart_of has.hart) ≡ false → Makes m (Refused (Impossible p)) (plain_step w (step.Next h))
   next_refused fails = refused m w is (Impossible p) _
       (impossible w h true (can_go_on w) always _ (hart_of has.hart) has.in_model refl fails ∙ ap (λ q. refuses w (Impossible q)) has.phased)
 
-  pub goes_on : (x y : Hart) → x ≡ get_or m.harts.items h x → y ≡ advanced x → can_go_on w (hart_of has.hart) ≡ true
+  pub goes_on : (x y : Hart) → x ≡ get_or m.harts.items h x → y ≡ advanced m.policy x → can_go_on w (hart_of has.hart) ≡ true
       → Makes (record m { harts = with_item m.harts h y }) Done (plain_step w (step.Next h))
-  goes_on x y read made can = subst (λ (z : Hart). Makes (record m { harts = with_item m.harts h z }) Done (plain_step w (step.Next h))) (sym (made ∙ ap advanced (hart_read m w is h p has x read)))
-      (makes _ Done _ _ (hart_changes m w is h has.hart (advanced has.hart) has.there (λ s on. is.hosted h s has.hart has.there on) (λ s on k z at also. is.alone s k h z has.hart at has.there also on) idles (advanced_serves is.tables is.kernel has.hart goes (λ e. is.buffers h has.hart e has.there)))
-      (runs w h true (can_go_on w) always _ (hart_of has.hart) has.in_model refl can refl ∙ rw (is.policy, ← advanced_is has.hart) refl)) where
+  goes_on x y read made can = subst (λ (z : Hart). Makes (record m { harts = with_item m.harts h z }) Done (plain_step w (step.Next h))) (sym (made ∙ ap (advanced m.policy) (hart_read m w is h p has x read)))
+      (makes _ Done _ _ (hart_changes m w is h has.hart (advanced m.policy has.hart) has.there (λ s on. is.hosted h s has.hart has.there (sym slot_is ∙ on))
+      (λ s on k z at also. is.alone s k h z has.hart at has.there also (sym slot_is ∙ on)) idles (λ e there. local e (in_fenced m.policy has.hart e there)))
+      (runs w h true (can_go_on w) always _ (hart_of has.hart) has.in_model refl can refl ∙ rw (← is.policy, ← advanced_is m.policy has.hart local) refl)) where
+        local : HasLocal has.hart
+        local e = is.local h has.hart e has.there
+
+        slot_is : (advanced m.policy has.hart).slot ≡ has.hart.slot
+        slot_is = fenced_slot m.policy has.hart
+
         goes : is_some (model.next_phase has.hart.phase) ≡ true
         goes = and_left _ _ can
 
-        idles : has.hart.slot ≡ None → (advanced has.hart).phase ≡ phase.Idle
-        idles none = absurd (let never : is_some (model.next_phase phase.Idle) ≡ true = ap (λ q. is_some (model.next_phase q)) (sym (is.idle h has.hart has.there none)) ∙ goes in cc)
+        idles : (advanced m.policy has.hart).slot ≡ None → (advanced m.policy has.hart).phase ≡ phase.Idle
+        idles none = absurd (let never : is_some (model.next_phase phase.Idle) ≡ true = ap (λ q. is_some (model.next_phase q)) (sym (is.idle h has.hart has.there (sym slot_is ∙ none))) ∙ goes in cc)

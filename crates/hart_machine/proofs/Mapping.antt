@@ -1,6 +1,6 @@
 -- The worlds that mmap and munmap come to.
 use Rattle.std.proofs.Common.{◌≡◌, ℕ, ◌+◌, Bool, true, false, Option, None, Some, List, refl, ap, sym, subst, ◌∙◌, inl, inr}
-use Rattle.std.specs.Prelude.{Err, IfErr, IfOk, Ok, Result, slice_get}
+use Rattle.std.specs.Prelude.{Err, IfErr, IfOk, Ok, Result, slice_get, slice_set}
 use Rattle.std.specs.FinMap as finite
 use Rattle.std.specs.Vec.{with_item}
 use Rattle.address_space.specs.Agreement.{IsOn}
@@ -22,7 +22,7 @@ use Rattle.process_model.specs.Process.{Page, Process, without_pending}
 use Rattle.process_model.specs.Regions.{Region}
 use Rattle.process_model.specs.Released.{was_settled}
 use Rattle.process_model.specs.Steps.{plain_step}
-use Rattle.process_model.specs.World.{Outcome, World}
+use Rattle.process_model.specs.World.{Outcome, refuses, World}
 use Rattle.process_model.specs.declared.step.Refusal.{Refusal}
 use Rattle.process_model.specs.declared.step.Reply.TheVariants.{Refused}
 use Rattle.process_model.specs.declared.step.Step.TheVariants as step
@@ -34,7 +34,7 @@ use Rattle.hart_machine.specs.Worlds.{IsWorld, Makes}
 use Rattle.hart_machine.specs.declared.machine.Machine.{Machine}
 use Rattle.hart_machine.specs.declared.tenant.Tenant.{Tenant}
 use Rattle.hart_machine.proofs.AccessingWorlds.{bytes_change}
-use Rattle.hart_machine.proofs.Calling.{call_runs, caller_quiet}
+use Rattle.hart_machine.proofs.Calling.{call_runs}
 use Rattle.hart_machine.proofs.FillWorlds.{put_back}
 use Rattle.hart_machine.proofs.Following.{call_changes, keeps_follow}
 use Rattle.hart_machine.proofs.HartSteps.{process_at}
@@ -99,6 +99,12 @@ dropped_on t u first end drops n f on =
     let still = drops.others (leaf_node n) (λ k from to same. let both : Some on.0 ≡ None = sym on.1 ∙ ap (finite.get u.leaves) same ∙ drops.gone k from to in cc) in
     (on.0, sym still ∙ on.1, on.2)
 
+-- a process with one more mapping, or none, is below its tables
+pub below_mapped : (x y : Tenant) (t : Tables) (p : Process) → IsTenant x t p → (r : Result ℕ Refusal) (f : Process → Process)
+    → IfOk r (λ _. (u : Tables) (q : Process) → IsTenant x u q → IsTenant y u (without_pending (f q))) → IfErr r (λ _. y ≡ x) → (q : Process) × IsTenant y t q
+below_mapped x y t p tenant (Ok a) f after refused = (without_pending (f p), after t p tenant)
+below_mapped x y t p tenant (Err e) f after refused = (p, subst (λ (z : Tenant). IsTenant z t p) (sym refused) tenant)
+
 module _ (m : Machine) (w : World) (is : IsWorld m w) (h s : ℕ) (caller : IsCaller m w h s) (x y : Tenant) (place : slice_get m.slots.items s ≡ Some (Some x)) where
   -- mmap
 
@@ -145,6 +151,12 @@ module _ (m : Machine) (w : World) (is : IsWorld m w) (h s : ℕ) (caller : IsCa
     unmap_step : (p : Process) → slice_get w.slots s ≡ Some (Some p) → plain_step w (step.Munmap h address len) ≡ unmapped_to w s (unmapped m.files p address len)
     unmap_step p at = call_runs m w is h s false caller (λ hart k q. unmapped_to w k (unmapped w.files q address len)) p at ∙ ap (λ fs. unmapped_to w s (unmapped fs p address len)) (sym is.files)
 
+    pub unmap_refused : (e : Refusal) → ((t : Tables) (p : Process) → IsTenant x t p → unmapped m.files p address len ≡ Err e) → plain_step w (step.Munmap h address len) ≡ refuses w e
+    unmap_refused e refused = let q = process_at m w is s x place in unmap_step q.0 q.1 ∙ ap (unmapped_to w s) (refused (is.tables s) q.0 q.2)
+
+    pub unmap_sets : (p : Process) → slice_get w.slots s ≡ Some (Some p) → (u : Unmapped) → unmapped m.files p address len ≡ Ok u → ((plain_step w (step.Munmap h address len)).world).slots ≡ slice_set w.slots s (Some (without_pending u.process))
+    unmap_sets p at u told = ap (λ (o : Outcome). (o.world).slots) (unmap_step p at ∙ ap (unmapped_to w s) told)
+
     follows : (p : Process) → slice_get w.slots s ≡ Some (Some p) → (has : HasUnmapped y (is.tables s) p m.files files address len)
         → Follows (view_of y) (is.tables s) has.tables p (without_pending has.what.process) w.counter w.counter
     follows p at has = keeps_follow (view_of y) (is.tables s) has.tables p (without_pending has.what.process) w.counter
@@ -164,7 +176,7 @@ module _ (m : Machine) (w : World) (is : IsWorld m w) (h s : ℕ) (caller : IsCa
         subst (λ (o : Outcome). Makes (record m { frames = b; slots = with_item m.slots s (Some y); files = files }) (done_or_refused (done_with a)) o) (sym (unmap_step q.0 q.1 ∙ ap (unmapped_to w s) has.is)) (
           refl,
           subst (λ (fs : List File). IsWorld (record m { frames = b; slots = with_item m.slots s (Some y); files = fs }) (unmapped_to w s (Ok has.what)).world) (sym has.files)
-              (call_changes m w is s x y q.0 (without_pending has.what.process) has.tables place q.1 has.tenant w.counter (follows q.0 q.1 has) b keeps (caller_quiet m w is h s false caller) has.what.files),
+              (call_changes m w is s x y q.0 (without_pending has.what.process) has.tables place q.1 has.tenant w.counter (follows q.0 q.1 has) b keeps has.what.files),
         )
     unmaps {A = A} (Err e) told refused same files_stay frames_stay keeps =
         let q = process_at m w is s x place in

@@ -1,5 +1,5 @@
 -- The table that a hart's satp has: it is one of which the hart's buffer may have entries.
-use Rattle.std.proofs.Common.{◌≡◌, ◌⊎◌, ℕ, ◌<◌, get_or, Option, None, Some, List, true, refl, ap, sym, subst, ◌∙◌, inl, inr}
+use Rattle.std.proofs.Common.{◌≡◌, ◌⊎◌, ℕ, ◌<◌, get_or, Option, None, Some, true, refl, ap, sym, subst, ◌∙◌, inl, inr}
 use Rattle.std.specs.Prelude.{slice_get}
 use Rattle.std.specs.Vec.{vec_len}
 use Rattle.std.proofs.lemmas.Option.{get_or_from_slice_get, slice_get_within}
@@ -13,7 +13,7 @@ use Rattle.table_walk.specs.declared.walk.Walk.{Walk}
 use Rattle.hart_machine.specs.Tables.{tables_of, IsServed, IsThere, present_table}
 use Rattle.hart_machine.specs.Walked.{IsEntryOf}
 use Rattle.table_walk.specs.Leaves.{walk_answer}
-use Rattle.hart_machine.specs.Worlds.{IsServing, may_have_kernel, may_have_own}
+use Rattle.hart_machine.specs.Serves.{IsFenced, may_have_kernel, may_have_own}
 use Rattle.hart_machine.specs.declared.hart.Hart.{Hart}
 use Rattle.hart_machine.specs.declared.machine.Machine.{Machine}
 use Rattle.hart_machine.specs.declared.tables.Table.{Table}
@@ -26,24 +26,24 @@ abbrev IsPresent : Hart → Table → Type 0
 IsPresent x t = ((may_have_kernel x.phase ≡ true) × (t ≡ OfKernel)) ⊎ ((s : ℕ) × (may_have_own x.phase ≡ true) × (x.slot ≡ Some s) × (t ≡ OfProcess s))
 
 pub present_is : (x : Hart) → (x.slot ≡ None → x.phase ≡ phase.Idle) → IsPresent x (present_table x)
-present_is x = go x.phase x.slot x.buffer where
-  go : (p : Phase) (slot : Option ℕ) (es : List TlbEntry) → (slot ≡ None → p ≡ phase.Idle) → IsPresent (record { phase = p; slot = slot; buffer = es }) (present_table (record { phase = p; slot = slot; buffer = es }))
-  go phase.Idle slot es idle = inl (refl, refl)
-  go phase.Enter2 slot es idle = inl (refl, refl)
-  go phase.Kernel slot es idle = inl (refl, refl)
-  go phase.Leave1 slot es idle = inl (refl, refl)
-  go phase.User None es idle = absurd (let never : phase.User ≡ phase.Idle = idle refl in cc)
-  go phase.Enter0 None es idle = absurd (let never : phase.Enter0 ≡ phase.Idle = idle refl in cc)
-  go phase.Enter1 None es idle = absurd (let never : phase.Enter1 ≡ phase.Idle = idle refl in cc)
-  go phase.Leave2 None es idle = absurd (let never : phase.Leave2 ≡ phase.Idle = idle refl in cc)
-  go phase.User (Some s) es idle = inr (s, refl, refl, refl)
-  go phase.Enter0 (Some s) es idle = inr (s, refl, refl, refl)
-  go phase.Enter1 (Some s) es idle = inr (s, refl, refl, refl)
-  go phase.Leave2 (Some s) es idle = inr (s, refl, refl, refl)
+present_is x = go x.phase x.slot where
+  go : (p : Phase) (slot : Option ℕ) → (slot ≡ None → p ≡ phase.Idle) → IsPresent (record x { phase = p; slot = slot }) (present_table (record x { phase = p; slot = slot }))
+  go phase.Idle slot idle = inl (refl, refl)
+  go phase.Enter2 slot idle = inl (refl, refl)
+  go phase.Kernel slot idle = inl (refl, refl)
+  go phase.Leave1 slot idle = inl (refl, refl)
+  go phase.User None idle = absurd (let never : phase.User ≡ phase.Idle = idle refl in cc)
+  go phase.Enter0 None idle = absurd (let never : phase.Enter0 ≡ phase.Idle = idle refl in cc)
+  go phase.Enter1 None idle = absurd (let never : phase.Enter1 ≡ phase.Idle = idle refl in cc)
+  go phase.Leave2 None idle = absurd (let never : phase.Leave2 ≡ phase.Idle = idle refl in cc)
+  go phase.User (Some s) idle = inr (s, refl, refl, refl)
+  go phase.Enter0 (Some s) idle = inr (s, refl, refl, refl)
+  go phase.Enter1 (Some s) idle = inr (s, refl, refl, refl)
+  go phase.Leave2 (Some s) idle = inr (s, refl, refl, refl)
 
 module _ (tables : ℕ → Tables) (kernel : Tables) (x : Hart) (idle : x.slot ≡ None → x.phase ≡ phase.Idle) where
   -- an entry that is made by it serves
-  pub present_serves : (e : TlbEntry) → IsEntryOf (tables_of tables kernel (present_table x)) 0 e → IsServing x tables kernel e
+  pub present_serves : (e : TlbEntry) → IsEntryOf (tables_of tables kernel (present_table x)) 0 e → IsFenced x tables kernel e
   present_serves e entry = elim (present_is x idle) [
     | inl of_kernel ↦ inl (of_kernel.0, subst (λ (t : Table). IsEntryOf (tables_of tables kernel t) 0 e) of_kernel.1 entry)
     | inr own ↦ inr (own.0, own.1, own.2, subst (λ (t : Table). IsEntryOf (tables_of tables kernel t) 0 e) own.3 entry)
@@ -53,7 +53,7 @@ module _ (tables : ℕ → Tables) (kernel : Tables) (x : Hart) (idle : x.slot �
   pub present_served : (a : ℕ) (access : Access) (mode : Mode) (z : Walk) → z ≡ walk_answer (tables_of tables kernel (present_table x)) a access mode → IsServed x tables kernel a access mode z
   present_served a access mode z walked = elim (present_is x idle) [
     | inl of_kernel ↦ inl (of_kernel.0, walked ∙ ap (λ (t : Table). walk_answer (tables_of tables kernel t) a access mode) of_kernel.1)
-    | inr own ↦ inr (own.0, own.1, own.2, walked ∙ ap (λ (t : Table). walk_answer (tables_of tables kernel t) a access mode) own.3)
+    | inr own ↦ inr (inl (own.0, own.1, own.2, walked ∙ ap (λ (t : Table). walk_answer (tables_of tables kernel t) a access mode) own.3))
   ]
 
 -- and it is there

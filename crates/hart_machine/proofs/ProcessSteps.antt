@@ -1,5 +1,5 @@
 -- Worlds in which one process is another, with the same pages and tables.
-use Rattle.std.proofs.Common.{◌≡◌, ℕ, ◌<◌, zero, suc, ◌↔◌, Option, None, Some, List, [], ◌∷◌, refl, ap, sym, subst, ◌∙◌, inl, inr}
+use Rattle.std.proofs.Common.{◌≡◌, ℕ, ◌<◌, ◌≤◌, zero, suc, ◌↔◌, Option, None, Some, List, [], ◌∷◌, refl, ap, sym, subst, ◌∙◌, inl, inr}
 use Rattle.std.specs.Prelude.{slice_get, slice_set}
 use Rattle.std.specs.Vec.{with_item}
 use Rattle.std.proofs.lemmas.Bool.{cases_eq}
@@ -13,6 +13,7 @@ use Rattle.process_model.specs.Process.{Page, Process}
 use Rattle.process_model.specs.World.{World, with_process}
 use Rattle.address_space.specs.Pending.{agrees_pending}
 use Rattle.address_space.specs.Kernel.{IsKernelTable}
+use Rattle.hart_machine.specs.Slots.{most_slots}
 use Rattle.hart_machine.specs.Tenants.{IsTenant, view_of}
 use Rattle.hart_machine.specs.Worlds.{IsPlace, IsWorld, seats_of}
 use Rattle.hart_machine.specs.declared.hart.Hart.{Hart}
@@ -48,6 +49,7 @@ module _ (m : Machine) (w : World) (is : IsWorld m w) (s : ℕ) (x y : Tenant) (
       kernel = is.kernel;
       stacks = is.stacks;
       policy = is.policy;
+      few = subst (λ n. n ≤ most_slots) (sym (length-set w.slots s (Some q))) is.few;
       frames = is.frames;
       rule = rule;
       of_kernel = subst (λ n. IsKernelTable m.kernel.seat m.kernel.root.0 w.frames n is.stacks is.kernel) (sym (length-set w.slots s (Some q))) is.of_kernel;
@@ -62,7 +64,7 @@ module _ (m : Machine) (w : World) (is : IsWorld m w) (s : ℕ) (x y : Tenant) (
       hosted = hosted;
       alone = is.alone;
       idle = is.idle;
-      buffers = is.buffers;
+      local = is.local;
     } where
       places : (k : ℕ) → IsPlace (slice_get (slice_set m.slots.items s (Some y)) k) (slice_get (slice_set w.slots s (Some q)) k) (is.tables k)
       places k = elim (cases_eq k s) [

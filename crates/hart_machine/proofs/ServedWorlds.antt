@@ -1,6 +1,6 @@
 -- The worlds that the service of a fault comes to.
 use Rattle.std.proofs.Common.{◌≡◌, ℕ, ◌+◌, ◌-◌, ◌^◌, ◌<◌, ◌≤◌, ◌==◌, ◌⊎◌, Bool, true, false, not, Option, None, Some, List, refl, ap, sym, subst, ◌∙◌, inl, inr, arith, slice_index, is_some}
-use Rattle.std.specs.Prelude.{Ok, Err, IfErr, IfOk, Result, slice_get}
+use Rattle.std.specs.Prelude.{Ok, Err, IfErr, IfOk, Result, slice_get, slice_set}
 use Rattle.std.specs.FinMap as finite
 use Rattle.std.specs.Vec.{with_item}
 use Rattle.std.proofs.lemmas.Bool.{le-ltb, lt-ltb}
@@ -16,8 +16,10 @@ use Rattle.process_model.specs.Around.{is_shared_page, need_at, Progress, reache
 use Rattle.process_model.specs.Files.{File}
 use Rattle.process_model.specs.PageMap.{get}
 use Rattle.process_model.specs.Process.{Page, Pending, Process}
+use Rattle.process_model.specs.ReachedPages.{made_settles}
 use Rattle.process_model.specs.Residence.{is_resident, made_resident}
 use Rattle.process_model.specs.Service.{around, begun, is_dry, served, served_or_ended, with_progress}
+use Rattle.process_model.specs.Stale.{is_changed}
 use Rattle.process_model.specs.World.{free, is_unserved_access, others_have, Outcome, with_process, World}
 use Rattle.process_model.specs.declared.step.Reply.TheVariants.{Ready}
 use Rattle.sv39_entry.specs.Address.{page_of}
@@ -30,18 +32,21 @@ use Rattle.table_walk.specs.Nodes.{leaf_node_is}
 use Rattle.table_walk.specs.Tables.{leaf_node, Tables}
 use Rattle.hart_machine.specs.Calls.{Follows, IsInKernel, IsKept, IsNew}
 use Rattle.hart_machine.specs.Harts.{hart_of}
+use Rattle.hart_machine.specs.Marks.{AreMarked, slot_if}
 use Rattle.hart_machine.specs.Serving.{HasServed, IsEnding, MustEnd, rule_of, was_served, WhenShared}
 use Rattle.hart_machine.specs.Tenants.{IsTenant, view_of}
-use Rattle.hart_machine.specs.Worlds.{IsWorld, Makes}
+use Rattle.hart_machine.specs.Worlds.{HaveSameLeaves, IsWorld, KeepsTables, Makes}
 use Rattle.hart_machine.specs.declared.machine.Machine.{Machine}
 use Rattle.hart_machine.specs.declared.tenant.Tenant.{Tenant}
 use Rattle.hart_machine.proofs.AccessingWorlds.{bytes_change}
-use Rattle.hart_machine.proofs.Calling.{caller_quiet}
 use Rattle.hart_machine.proofs.Following.{call_changes}
 use Rattle.hart_machine.proofs.HartSteps.{tenant_is}
 use Rattle.hart_machine.proofs.HeldFrames.{free_is}
+use Rattle.hart_machine.proofs.KeptLeaves.{followed_same, old_on, slot_keeps_by}
+use Rattle.hart_machine.proofs.MarkedCalls.{resident_changes, resident_keeps}
 use Rattle.hart_machine.proofs.ServedPages.{CopyIs, page_after, page_there, resident_stays, same_made}
 use Rattle.hart_machine.proofs.SharedPages.{others_have_page}
+use Rattle.hart_machine.proofs.SlotMarks.{set_marks}
 use Rattle.hart_machine.proofs.StartedPages.{one_frame}
 
 -- an access waits
@@ -248,11 +253,15 @@ module _ (m : Machine) (w : World) (is : IsWorld m w) (h s : ℕ) (waits : Bool)
         → IsWorld (record m { frames = b; slots = with_item m.slots s (Some y) }) (record (with_process w s (with_waiting fresh_page)) { counter = high })
     world_after high order more =
         subst (λ (fs : List File). IsWorld (record m { frames = b; slots = with_item m.slots s (Some y) }) (record (with_process w s (with_waiting fresh_page)) { counter = high; files = fs })) is.files
-        (call_changes m w is s x y p (with_waiting fresh_page) has.tables place k.in_slot (has.tenant w.counter) high (follows high order more) b keeps (caller_quiet m w is h s waits k) m.files)
+        (call_changes m w is s x y p (with_waiting fresh_page) has.tables place k.in_slot (has.tenant w.counter) high (follows high order more) b keeps m.files)
+
+    -- each page was there, with its copy number, or has a new one
+    pub reached_follows : Follows (view_of y) t has.tables p (with_waiting fresh_page) w.counter (w.counter + 1)
+    reached_follows = follows (w.counter + 1) (omega arith) (λ _. omega arith)
 
     -- the machine is in the world in which the model has reached it
     pub is_reached : (g : Progress) × (reached (around w s) a.access a.address (begun w p) (rule_of p a) ≡ Ok g)
-        × IsWorld (record m { frames = b; slots = with_item m.slots s (Some y) }) (with_progress w s (record g { process = with_waiting g.process })) × (b.free + g.taken ≡ m.frames.free)
+        × IsWorld (record m { frames = b; slots = with_item m.slots s (Some y) }) (with_progress w s (record g { process = with_waiting g.process })) × (b.free + g.taken ≡ m.frames.free) × (fresh_page ≡ g.process)
     unfolding resident_at
     is_reached =
         let few : need ≤ m.frames.free = told_of (λ n. n ≤ m.frames.free) has.enough in
@@ -262,7 +271,7 @@ module _ (m : Machine) (w : World) (is : IsWorld m w) (h s : ℕ) (waits : Bool)
         let allow : (r : Result Progress Rule) → unless_resident (around w s) a.access page (begun w p) (is_resident p a.access page) ≡ r → reached (around w s) a.access a.address (begun w p) (rule_of p a) ≡ r =
         λ r e. ap (reached (around w s) a.access a.address (begun w p)) has.allowed ∙ e in
         elim (is_resident p a.access page) as (λ r. is_resident p a.access page ≡ r → (g : Progress) × (reached (around w s) a.access a.address (begun w p) (rule_of p a) ≡ Ok g)
-        × IsWorld (record m { frames = b; slots = with_item m.slots s (Some y) }) (with_progress w s (record g { process = with_waiting g.process })) × (b.free + g.taken ≡ m.frames.free)) [
+        × IsWorld (record m { frames = b; slots = with_item m.slots s (Some y) }) (with_progress w s (record g { process = with_waiting g.process })) × (b.free + g.taken ≡ m.frames.free) × (fresh_page ≡ g.process)) [
           | true ↦ λ e.
               let stays = resident_stays w.counter page m.files from_count p a.access (get p.settled page) e in
               let none = resident_needs_none e in (
@@ -271,6 +280,7 @@ module _ (m : Machine) (w : World) (is : IsWorld m w) (h s : ℕ) (waits : Bool)
                 subst (λ (q : Process). IsWorld (record m { frames = b; slots = with_item m.slots s (Some y) }) (record (with_process w s (with_waiting q)) { counter = w.counter })) stays.0
                     (world_after w.counter (omega arith) (λ gained. absurd (let kept = stays.1 in cc))),
                 omega (arith, left, none),
+                stays.0,
               )
           | false ↦ λ e.
               let g : Progress = record { process = made_resident w.files w.counter shared p a.access page; fresh = w.counter + 1; taken = 0 + need } in (
@@ -279,8 +289,22 @@ module _ (m : Machine) (w : World) (is : IsWorld m w) (h s : ℕ) (waits : Bool)
                 subst (λ (q : Process). IsWorld (record m { frames = b; slots = with_item m.slots s (Some y) }) (record (with_process w s (with_waiting q)) { counter = w.counter + 1 })) is_models
                     (world_after (w.counter + 1) (omega arith) (λ _. omega arith)),
                 omega (arith, left, few),
+                is_models,
               )
         ] refl
+
+    -- whether a leaf of the process is another afterwards: where its page was not resident
+    pub leaves_told : (told : Bool) → told ≡ not (is_resident p a.access page) → told ≡ is_changed (Some p) (Some (with_waiting fresh_page))
+    leaves_told told e = e ∙ elim (is_resident p a.access page) as (λ r. is_resident p a.access page ≡ r → not r ≡ is_changed (Some p) (Some (with_waiting fresh_page))) [
+      | true ↦ λ there. sym (resident_keeps m.files w.counter from_count p a.access page waiting there)
+      | false ↦ λ gone. sym (resident_changes m.files w.counter from_count p a.access page waiting gone)
+    ] refl
+
+    -- where none is another, each page has the leaf that it had
+    pub leaves_as_before : y.space.trapframe ≡ x.space.trapframe → is_changed (Some p) (Some (with_waiting fresh_page)) ≡ false → HaveSameLeaves t has.tables
+    leaves_as_before trapframe unchanged = followed_same x y t has.tables p (with_waiting fresh_page) tenant (has.tenant w.counter) unchanged trapframe (made_settles m.files w.counter from_count a.access page p).regions
+        w.counter (λ n z there. is.counted s n p z k.in_slot there)
+        (old_on (view_of y) t has.tables p (with_waiting fresh_page) w.counter (w.counter + 1) reached_follows)
 
 -- the service of an access that waits
 module _ (m : Machine) (w : World) (is : IsWorld m w) (h s : ℕ) (k : IsInKernel m w h s true) (x y : Tenant) (place : slice_get m.slots.items s ≡ Some (Some x))
@@ -295,6 +319,28 @@ module _ (m : Machine) (w : World) (is : IsWorld m w) (h s : ℕ) (k : IsInKerne
   is_served has =
       let made = is_reached m w is h s true k x y place b keeps a (was_served a) has in
       subst (λ (o : Outcome). Makes (record m { frames = b; slots = with_item m.slots s (Some y) }) Ready o) (sym (serves_by (Ok made.0) made.1)) (refl, made.2)
+
+  -- of the slots, it makes one another
+  module _ (has : HasServed x y (is.tables s) k.process a (was_served a) m.files m.frames b) where
+    abbrev now_served : Process
+    now_served = record (made_resident m.files w.counter (is_shared_by has.count) k.process a.access (page_of a.address)) { pending = was_served a }
+
+    served_sets : (served w h (hart_of k.hart) s k.process (k.process).pending).world.slots ≡ slice_set w.slots s (Some now_served)
+    served_sets =
+        let made = is_reached m w is h s true k x y place b keeps a (was_served a) has in
+        ap (λ (o : Outcome). (o.world).slots) (serves_by (Ok made.0) made.1) ∙ ap (λ (q : Process). slice_set w.slots s (Some (record q { pending = was_served a }))) (sym made.4)
+
+    pub is_marked : (told : Bool) → told ≡ not (is_resident k.process a.access (page_of a.address)) → AreMarked w (served w h (hart_of k.hart) s k.process (k.process).pending) (slot_if s told) None
+    is_marked told e =
+        set_marks w (served w h (hart_of k.hart) s k.process (k.process).pending) s k.process now_served told k.in_slot served_sets
+        (leaves_told m w is h s true k x y place b keeps a (was_served a) has told e)
+
+    pub keeps_leaves : y.space.trapframe ≡ x.space.trapframe
+        → KeepsTables m (record m { frames = b; slots = with_item m.slots s (Some y) }) w.slots (served w h (hart_of k.hart) s k.process (k.process).pending).world.slots
+    keeps_leaves trapframe =
+        slot_keeps_by m (record m { frames = b; slots = with_item m.slots s (Some y) }) w.slots _ s x y k.process now_served (is.tables s) has.tables
+        (tenant_is m w is s x k.process place k.in_slot) (has.tenant w.counter) place k.in_slot refl served_sets refl
+        (leaves_as_before m w is h s true k x y place b keeps a (was_served a) has trapframe)
 
   pub is_ending : (rule : Rule) → MustEnd y (is.tables s) k.process a m.frames rule → IsEnding m (record m { frames = b; slots = with_item m.slots s (Some y) }) w h s k rule
   unfolding still_there
@@ -316,7 +362,7 @@ module _ (m : Machine) (s : ℕ) (x y : Tenant) (place : (w : World) (h : ℕ) �
   files_are : (P : Machine → Type 0) → P (record m { frames = b; slots = with_item m.slots s (Some y) }) → P after
   files_are P it = subst (λ (fs : List File). P (record m { frames = b; slots = with_item m.slots s (Some y); files = fs })) (sym stay) it
 
-  pub served_by : (r : Result (Unit {0}) Rule) → IfOk r (λ _. (t : Tables) (p : Process) (a : Pending) → IsTenant x t p → p.pending ≡ Some a → HasServed x y t p a (was_served a) m.files m.frames b)
+  pub served_by : (r : Result Bool Rule) → IfOk r (λ _. (t : Tables) (p : Process) (a : Pending) → IsTenant x t p → p.pending ≡ Some a → HasServed x y t p a (was_served a) m.files m.frames b)
       → IfOk r (λ _. (w : World) (h : ℕ) → IsWorld m w → (k : IsInKernel m w h s true) → Makes after Ready (served w h (hart_of k.hart) s k.process (k.process).pending))
   served_by (Err e) told = tt
   served_by (Ok u) told = λ w h is k.
@@ -325,7 +371,27 @@ module _ (m : Machine) (s : ℕ) (x y : Tenant) (place : (w : World) (h : ℕ) �
       files_are (λ n. Makes n Ready (served w h (hart_of k.hart) s k.process (k.process).pending))
       (is_served m w is h s k x y at b keeps a.0 a.1 (told (is.tables s) k.process a.0 (tenant_is m w is s x k.process at k.in_slot) a.1))
 
-  pub ending_by : (r : Result (Unit {0}) Rule) → IfErr r (λ rule. (t : Tables) (p : Process) (a : Pending) → IsTenant x t p → p.pending ≡ Some a → MustEnd y t p a m.frames rule)
+  pub marked_by : (r : Result Bool Rule) → IfOk r (λ _. (t : Tables) (p : Process) (a : Pending) → IsTenant x t p → p.pending ≡ Some a → HasServed x y t p a (was_served a) m.files m.frames b)
+      → IfOk r (λ told. (t : Tables) (p : Process) (a : Pending) → IsTenant x t p → p.pending ≡ Some a → told ≡ not (is_resident p a.access (page_of a.address)))
+      → IfOk r (λ told. (w : World) (h : ℕ) → IsWorld m w → (k : IsInKernel m w h s true) → AreMarked w (served w h (hart_of k.hart) s k.process (k.process).pending) (slot_if s told) None)
+  marked_by (Err e) served tells = tt
+  marked_by (Ok told) served tells = λ w h is k.
+      let a = some_pending (k.process).pending k.unserved in
+      let at = place w h k in
+      let tenant = tenant_is m w is s x k.process at k.in_slot in
+      is_marked m w is h s k x y at b keeps a.0 a.1 (served (is.tables s) k.process a.0 tenant a.1) told (tells (is.tables s) k.process a.0 tenant a.1)
+
+  pub tables_by : (r : Result Bool Rule) → IfOk r (λ _. (t : Tables) (p : Process) (a : Pending) → IsTenant x t p → p.pending ≡ Some a → HasServed x y t p a (was_served a) m.files m.frames b)
+      → y.space.trapframe ≡ x.space.trapframe
+      → IfOk r (λ _. (w : World) (h : ℕ) → IsWorld m w → (k : IsInKernel m w h s true) → KeepsTables m after w.slots (served w h (hart_of k.hart) s k.process (k.process).pending).world.slots)
+  tables_by (Err e) told trapframe = tt
+  tables_by (Ok u) told trapframe = λ w h is k.
+      let a = some_pending (k.process).pending k.unserved in
+      let at = place w h k in
+      files_are (λ n. KeepsTables m n w.slots (served w h (hart_of k.hart) s k.process (k.process).pending).world.slots)
+      (keeps_leaves m w is h s k x y at b keeps a.0 a.1 (told (is.tables s) k.process a.0 (tenant_is m w is s x k.process at k.in_slot) a.1) trapframe)
+
+  pub ending_by : (r : Result Bool Rule) → IfErr r (λ rule. (t : Tables) (p : Process) (a : Pending) → IsTenant x t p → p.pending ≡ Some a → MustEnd y t p a m.frames rule)
       → IfErr r (λ rule. (w : World) (h : ℕ) → IsWorld m w → (k : IsInKernel m w h s true) → IsEnding m after w h s k rule)
   ending_by (Ok u) told = tt
   ending_by (Err rule) told = λ w h is k.

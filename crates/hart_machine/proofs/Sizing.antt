@@ -1,6 +1,6 @@
 -- The worlds that sbrk comes to.
 use Rattle.std.proofs.Common.{◌≡◌, ℕ, ℤ, false, Option, None, Some, List, refl, ap, sym, subst, ◌∙◌}
-use Rattle.std.specs.Prelude.{Err, IfErr, IfOk, Ok, Result, slice_get}
+use Rattle.std.specs.Prelude.{Err, IfErr, IfOk, Ok, Result, slice_get, slice_set}
 use Rattle.std.specs.Vec.{with_item}
 use Rattle.frame_store.specs.Laws.{Keeps}
 use Rattle.frame_store.specs.Plain.{Bank, BankRule}
@@ -14,17 +14,17 @@ use Rattle.process_model.specs.PageMap.{PageMap}
 use Rattle.process_model.specs.Process.{Page, Process, without_pending}
 use Rattle.process_model.specs.Released.{was_settled}
 use Rattle.process_model.specs.Steps.{plain_step}
-use Rattle.process_model.specs.World.{Outcome, with_process, World}
+use Rattle.process_model.specs.World.{Outcome, refuses, with_process, World}
 use Rattle.process_model.specs.declared.step.Refusal.{Refusal}
 use Rattle.process_model.specs.declared.step.Reply.TheVariants.{OldSize, Refused}
 use Rattle.process_model.specs.declared.step.Step.TheVariants as step
 use Rattle.table_walk.specs.Tables.{Tables}
-use Rattle.hart_machine.specs.Calls.{Follows, HasResized, IsCaller, size_or_refused}
+use Rattle.hart_machine.specs.Calls.{Follows, HasResized, IsCaller, size_of, size_or_refused}
 use Rattle.hart_machine.specs.Tenants.{IsTenant, view_of}
 use Rattle.hart_machine.specs.Worlds.{IsWorld, Makes}
 use Rattle.hart_machine.specs.declared.machine.Machine.{Machine}
 use Rattle.hart_machine.specs.declared.tenant.Tenant.{Tenant}
-use Rattle.hart_machine.proofs.Calling.{call_runs, caller_quiet}
+use Rattle.hart_machine.proofs.Calling.{call_runs}
 use Rattle.hart_machine.proofs.FillWorlds.{put_back}
 use Rattle.hart_machine.proofs.Following.{call_changes, keeps_follow}
 use Rattle.hart_machine.proofs.HartSteps.{process_at}
@@ -57,6 +57,12 @@ module _ (m : Machine) (w : World) (is : IsWorld m w) (h s : ℕ) (caller : IsCa
   size_step : (p : Process) → slice_get w.slots s ≡ Some (Some p) → plain_step w (step.Sbrk h delta) ≡ resized_to w s p (sbrk_result p delta)
   size_step p at = call_runs m w is h s false caller (λ hart k q. resized_to w k q (sbrk_result q delta)) p at
 
+  pub size_refused : (e : Refusal) → ((t : Tables) (p : Process) → IsTenant x t p → Err e ≡ size_before p (sbrk_result p delta)) → plain_step w (step.Sbrk h delta) ≡ refuses w e
+  size_refused e answer = let q = process_at m w is s x place in size_step q.0 q.1 ∙ ap (resized_to w s q.0) (refusal_is q.0 e (sbrk_result q.0 delta) (answer (is.tables s) q.0 q.2))
+
+  pub size_sets : (p q : Process) → slice_get w.slots s ≡ Some (Some p) → sbrk_result p delta ≡ Ok q → ((plain_step w (step.Sbrk h delta)).world).slots ≡ slice_set w.slots s (Some (without_pending q))
+  size_sets p q at told = ap (λ (o : Outcome). (o.world).slots) (size_step p at ∙ ap (resized_to w s p) told)
+
   follows : (p : Process) → slice_get w.slots s ≡ Some (Some p) → (has : HasResized y (is.tables s) p delta) → Follows (view_of y) (is.tables s) has.tables p (without_pending has.process) w.counter w.counter
   follows p at has = keeps_follow (view_of y) (is.tables s) has.tables p (without_pending has.process) w.counter
       (λ k a there. is.counted s k p a at there)
@@ -66,14 +72,14 @@ module _ (m : Machine) (w : World) (is : IsWorld m w) (h s : ℕ) (caller : IsCa
       record { before = a; settled = was.0; copy = refl; on = dropped_on (is.tables s) has.tables _ _ has.drops k })
 
   -- the heap of the caller's process grows or shrinks
-  pub sizes : (r : Result ℕ Refusal) → ((t : Tables) (p : Process) → IsTenant x t p → r ≡ size_before p (sbrk_result p delta))
+  pub sizes : {A : Type 0} (r : Result (ℕ × A) Refusal) → ((t : Tables) (p : Process) → IsTenant x t p → size_of r ≡ size_before p (sbrk_result p delta))
       → IfOk r (λ _. (t : Tables) (p : Process) → IsTenant x t p → HasResized y t p delta) → IfErr r (λ _. y ≡ x) → IfErr r (λ _. b ≡ m.frames)
       → Keeps BankRule m.frames (view_of x) b (view_of y)
       → Makes (record m { frames = b; slots = with_item m.slots s (Some y) }) (size_or_refused r) (plain_step w (step.Sbrk h delta))
-  sizes (Ok n) answer told same frames_stay keeps =
+  sizes (Ok (n, a)) answer told same frames_stay keeps =
       let q = process_at m w is s x place in
       let has = told (is.tables s) q.0 q.2 in
-      let after = call_changes m w is s x y q.0 (without_pending has.process) has.tables place q.1 has.tenant w.counter (follows q.0 q.1 has) b keeps (caller_quiet m w is h s false caller) m.files in
+      let after = call_changes m w is s x y q.0 (without_pending has.process) has.tables place q.1 has.tenant w.counter (follows q.0 q.1 has) b keeps m.files in
       subst (λ (o : Outcome). Makes (record m { frames = b; slots = with_item m.slots s (Some y) }) (OldSize n) o) (sym (size_step q.0 q.1 ∙ ap (resized_to w s q.0) has.is)) (
         ap OldSize (size_is q.0 has.process n (sbrk_result q.0 delta) (answer (is.tables s) q.0 q.2) has.is),
         subst (λ (fs : List File). IsWorld (record m { frames = b; slots = with_item m.slots s (Some y) }) (record (with_process w s (without_pending has.process)) { files = fs })) is.files after,

@@ -1,5 +1,5 @@
 -- The world in which a process starts, and the one that refuses it.
-use Rattle.std.proofs.Common.{◌≡◌, ℕ, ◌≤◌, true, false, sym, subst, ◌∙◌, refl, arith, inl, inr, List, ◌∷◌, Option, None, Some, length}
+use Rattle.std.proofs.Common.{◌≡◌, ℕ, ◌≤◌, true, false, ap, sym, subst, ◌∙◌, refl, arith, inl, inr, List, ◌∷◌, Option, None, Some, length}
 use Rattle.std.specs.Prelude.{Ok, slice_get, slice_set}
 use Rattle.std.proofs.Math.Nat.{lt_of_not-le}
 use Rattle.std.proofs.lemmas.Bool.{cases_eq, le-ltb, lt-ltb}
@@ -10,21 +10,20 @@ use Rattle.address_space.specs.Kernel.{IsKernelTable}
 use Rattle.address_space.specs.Parts.{OwnsAlone}
 use Rattle.frame_store.specs.Plain.{BankRule}
 use Rattle.frame_store.specs.Seats.{place_set_other, place_set_same, places_apart}
-use Rattle.hart_tlb.specs.declared.entry.TlbEntry.{TlbEntry}
 use Rattle.process_model.specs.Calls.{started, started_unless, with_image}
 use Rattle.process_model.specs.Frames.{start_need}
 use Rattle.process_model.specs.Images.{image_loads, LoadSegment}
 use Rattle.process_model.specs.Loading.{process_of}
 use Rattle.process_model.specs.Service.{is_dry}
-use Rattle.process_model.specs.World.{free, free_slot, Outcome, World}
+use Rattle.process_model.specs.World.{free, free_slot, Outcome, refuses, World}
 use Rattle.process_model.specs.declared.image.Image as model
 use Rattle.process_model.specs.declared.step.Refusal.TheVariants.{NoFrame}
 use Rattle.process_model.specs.declared.step.Reply.TheVariants.{Refused, Started}
 use Rattle.sv39_entry.specs.Address.{trapframe_page}
 use Rattle.table_walk.specs.Tables.{Tables, leaf_node}
 use Rattle.hart_machine.specs.Tenants.{IsTenant, body_in, view_of}
-use Rattle.hart_machine.specs.Walked.{IsEntryOf}
-use Rattle.hart_machine.specs.Worlds.{IsPlace, IsServing, IsWorld, Makes, seats_of}
+use Rattle.hart_machine.specs.Slots.{most_slots}
+use Rattle.hart_machine.specs.Worlds.{IsPlace, IsWorld, Makes, seats_of}
 use Rattle.hart_machine.specs.declared.hart.Hart.{Hart}
 use Rattle.hart_machine.specs.declared.machine.Machine.{Machine}
 use Rattle.hart_machine.specs.declared.tenant.Tenant.{Tenant}
@@ -35,7 +34,7 @@ use Rattle.hart_machine.proofs.StartedTables.{tables_here, tables_there, tables_
 use Rattle.hart_machine.proofs.StartedSeats.{held_inside, seat_comes}
 
 module _ (m n : Machine) (w : World) (is : IsWorld m w) (s : ℕ) (place : slice_get m.slots.items s ≡ Some None) (at : slice_get w.slots s ≡ Some None)
-    (ls : List LoadSegment) (y : Tenant) (t : Tables) (sized : n.kernel.seat.size ≡ m.kernel.seat.size) (slots : n.slots.items ≡ slice_set m.slots.items s (Some y)) (harts : n.harts ≡ m.harts) (filed : n.files ≡ m.files)
+    (ls : List LoadSegment) (y : Tenant) (t : Tables) (sized : n.kernel.seat.size ≡ m.kernel.seat.size) (slots : n.slots.items ≡ slice_set m.slots.items s (Some y)) (harts : n.harts ≡ m.harts) (filed : n.files ≡ m.files) (ruled : n.policy ≡ m.policy)
     (agrees : IsSpace (body_in y) t (process_of w.counter ls)) (alone : OwnsAlone (view_of y) t) (pending : y.pending ≡ None)
     (rule : BankRule n.frames (n.kernel.seat ∷ view_of y ∷ seats_of m.slots.items))
     (table : IsKernelTable n.kernel.seat n.kernel.root.0 w.frames (length w.slots) is.stacks is.kernel) where
@@ -69,18 +68,13 @@ module _ (m n : Machine) (w : World) (is : IsWorld m w) (s : ℕ) (place : slice
   hosted_at : (h k : ℕ) (x : Hart) → slice_get m.harts.items h ≡ Some x → x.slot ≡ Some k → (z : Tenant) × (slice_get (slice_set m.slots.items s (Some y)) k ≡ Some (Some z))
   hosted_at h k x on slot = let z = is.hosted h k x on slot in (z.0, place_set_other m.slots.items s k (Some y) (apart_of h k x on slot) ∙ z.1)
 
-  serving : (h : ℕ) (x : Hart) (e : TlbEntry) → slice_get m.harts.items h ≡ Some x → IsServing x is.tables is.kernel e → IsServing x tables is.kernel e
-  serving h x e on old = elim old [
-    | inl of_kernel ↦ inl of_kernel
-    | inr own ↦ inr (own.0, own.1, own.2, subst (λ (u : Tables). IsEntryOf u 0 e) (sym (tables_there is.tables s t own.0 (apart_of h own.0 x on own.2))) own.3)
-  ]
-
   pub starts : IsWorld n (with_image w s ls)
   starts = record {
     tables = tables;
     kernel = is.kernel;
     stacks = is.stacks;
-    policy = is.policy;
+    policy = ruled ∙ is.policy;
+    few = subst (λ k. k ≤ most_slots) (sym (length-set w.slots s (Some (process_of w.counter ls)))) is.few;
     frames = sized ∙ is.frames;
     rule = subst (λ (xs : List (Option Tenant)). BankRule n.frames (n.kernel.seat ∷ seats_of xs)) (sym slots) (seat_comes n.frames n.kernel.seat m.slots.items s y place rule);
     of_kernel = subst (λ k. IsKernelTable n.kernel.seat n.kernel.root.0 w.frames k is.stacks is.kernel) (sym (length-set w.slots s (Some (process_of w.counter ls)))) table;
@@ -92,18 +86,19 @@ module _ (m n : Machine) (w : World) (is : IsWorld m w) (s : ℕ) (place : slice
     hosted = λ h k x on slot. subst (λ (xs : List (Option Tenant)). (z : Tenant) × (slice_get xs k ≡ Some (Some z))) (sym slots) (hosted_at h k x (on_old h x on) slot);
     alone = λ s h k x z on also at upon. is.alone s h k x z (on_old h x on) (on_old k z also) at upon;
     idle = λ h x on none. is.idle h x (on_old h x on) none;
-    buffers = λ h x e on in_it. serving h x e (on_old h x on) (is.buffers h x e (on_old h x on) in_it);
+    local = λ h x e on. is.local h x e (on_old h x on);
   }
 
 -- the machine as it was, with another seat of the kernel
-module _ (m n : Machine) (w : World) (is : IsWorld m w) (sized : n.kernel.seat.size ≡ m.kernel.seat.size) (slots : n.slots ≡ m.slots) (harts : n.harts ≡ m.harts) (filed : n.files ≡ m.files) (rule : BankRule n.frames (n.kernel.seat ∷ seats_of m.slots.items))
+module _ (m n : Machine) (w : World) (is : IsWorld m w) (sized : n.kernel.seat.size ≡ m.kernel.seat.size) (slots : n.slots ≡ m.slots) (harts : n.harts ≡ m.harts) (filed : n.files ≡ m.files) (ruled : n.policy ≡ m.policy) (rule : BankRule n.frames (n.kernel.seat ∷ seats_of m.slots.items))
     (table : IsKernelTable n.kernel.seat n.kernel.root.0 w.frames (length w.slots) is.stacks is.kernel) where
   pub stays : IsWorld n w
   stays = record {
     tables = is.tables;
     kernel = is.kernel;
     stacks = is.stacks;
-    policy = is.policy;
+    policy = ruled ∙ is.policy;
+    few = is.few;
     frames = sized ∙ is.frames;
     rule = rw slots rule;
     of_kernel = table;
@@ -115,7 +110,7 @@ module _ (m n : Machine) (w : World) (is : IsWorld m w) (sized : n.kernel.seat.s
     hosted = rw (harts, slots) is.hosted;
     alone = rw harts is.alone;
     idle = rw harts is.idle;
-    buffers = rw harts is.buffers;
+    local = rw harts is.local;
   }
 
 -- what the step of the model makes
@@ -126,7 +121,7 @@ module _ (w : World) (s : ℕ) (image : model.Image) (ls : List LoadSegment) (to
   started_dry : is_dry w (start_need ls) ≡ true → started w (image_loads image) (free_slot w) ≡ started_unless w s ls true
   started_dry dry = rw (to, loaded, dry) refl
 
-  module _ (m n : Machine) (is : IsWorld m w) (sized : n.kernel.seat.size ≡ m.kernel.seat.size) (harts : n.harts ≡ m.harts) (filed : n.files ≡ m.files)
+  module _ (m n : Machine) (is : IsWorld m w) (sized : n.kernel.seat.size ≡ m.kernel.seat.size) (harts : n.harts ≡ m.harts) (filed : n.files ≡ m.files) (ruled : n.policy ≡ m.policy)
       (table : IsKernelTable n.kernel.seat n.kernel.root.0 w.frames (length w.slots) is.stacks is.kernel) where
     -- enough frames are free
     pub makes_started : (y : Tenant) (t : Tables) → n.slots.items ≡ slice_set m.slots.items s (Some y)
@@ -137,7 +132,7 @@ module _ (w : World) (s : ℕ) (image : model.Image) (ls : List LoadSegment) (to
         let was = free_is m w is in
         let wet : is_dry w (start_need ls) ≡ false = le-ltb (free w) (start_need ls) (omega (arith, enough, was)) in
         subst (λ (o : Outcome). Makes n (Started s) o) (sym (started_wet wet))
-        (refl, starts m n w is s (free_place m w is s to) (free_is_empty w s to) ls y t sized slots harts filed agrees alone pending rule table)
+        (refl, starts m n w is s (free_place m w is s to) (free_is_empty w s to) ls y t sized slots harts filed ruled agrees alone pending rule table)
 
     -- too few are
     pub makes_refused : n.slots ≡ m.slots → BankRule n.frames (n.kernel.seat ∷ seats_of m.slots.items) → (start_need ls ≤ m.frames.free → ⊥)
@@ -145,4 +140,11 @@ module _ (w : World) (s : ℕ) (image : model.Image) (ls : List LoadSegment) (to
     makes_refused slots rule few =
         let was = free_is m w is in
         let dry : is_dry w (start_need ls) ≡ true = lt-ltb (free w) (start_need ls) (lt_of_not-le (λ le. few (omega (arith, was, le)))) in
-        subst (λ (o : Outcome). Makes n (Refused NoFrame) o) (sym (started_dry dry)) (refl, stays m n w is sized slots harts filed rule table)
+        subst (λ (o : Outcome). Makes n (Refused NoFrame) o) (sym (started_dry dry)) (refl, stays m n w is sized slots harts filed ruled rule table)
+
+  module _ (m : Machine) (is : IsWorld m w) where
+    pub start_sets : start_need ls ≤ m.frames.free → ((started w (image_loads image) (free_slot w)).world).slots ≡ slice_set w.slots s (Some (process_of w.counter ls))
+    start_sets enough = let was = free_is m w is in ap (λ (o : Outcome). (o.world).slots) (started_wet (le-ltb (free w) (start_need ls) (omega (arith, enough, was))))
+
+    pub start_dry : (start_need ls ≤ m.frames.free → ⊥) → started w (image_loads image) (free_slot w) ≡ refuses w NoFrame
+    start_dry few = let was = free_is m w is in started_dry (lt-ltb (free w) (start_need ls) (lt_of_not-le (λ le. few (omega (arith, was, le)))))

@@ -10,7 +10,6 @@ use Rattle.process_model.specs.Harts.{entry_serves}
 use Rattle.process_model.specs.Process.{Process}
 use Rattle.process_model.specs.Steps.{plain_step}
 use Rattle.process_model.specs.World.{World, answers, refuses}
-use Rattle.process_model.specs.declared.config.Policy.TheVariants.{Full}
 use Rattle.process_model.specs.declared.phase.Phase.{Phase}
 use Rattle.process_model.specs.declared.step.Refusal.{Refusal}
 use Rattle.process_model.specs.declared.step.Refusal.TheVariants.{BadArgument, Impossible, NoEntry}
@@ -18,7 +17,7 @@ use Rattle.process_model.specs.declared.step.Reply.TheVariants.{InFrame, Refused
 use Rattle.process_model.specs.declared.step.Step.TheVariants as step
 use Rattle.sv39_entry.specs.Address.{is_canonical, page_of, trampoline_page}
 use Rattle.sv39_entry.specs.Frame.{frame_at, ppn_of}
-use Rattle.sv39_entry.specs.Word.{leaf_word, permits, ppn}
+use Rattle.sv39_entry.specs.Word.{IsLeafOf, kind_of, leaf_word, permits, ppn}
 use Rattle.sv39_entry.specs.declared.access.Access.TheVariants.{Fetch}
 use Rattle.sv39_entry.specs.declared.access.Mode.TheVariants.{Supervisor}
 use Rattle.sv39_entry.specs.declared.frame.FrameNo.{FrameNo}
@@ -30,7 +29,8 @@ use Rattle.address_space.specs.Agreement.{code_rights, Shows}
 use Rattle.address_space.specs.Kernel.{IsKernelTable}
 use Rattle.hart_machine.specs.Harts.{hart_of}
 use Rattle.hart_machine.specs.Tables.{IsServed}
-use Rattle.table_walk.specs.Leaves.{lands, walk_answer}
+use Rattle.table_walk.specs.Leaves.{answer, lands, Leaf, leaf_at, walk_answer}
+use Rattle.hart_machine.specs.Serves.{IsCode}
 use Rattle.hart_machine.specs.Worlds.{IsWorld, Makes}
 use Rattle.hart_machine.specs.declared.hart.Hart.{Hart}
 use Rattle.hart_machine.specs.declared.machine.Machine.{Machine}
@@ -39,13 +39,13 @@ use Rattle.hart_machine.proofs.HartSteps.{HasHart, impossible, improper, makes, 
 -- tables
 
 -- the leaf of the page leads to frame 0, and the kernel may fetch by it
-record IsCode (t : Tables) : Type 0 where
+record HasCode (t : Tables) : Type 0 where
   word : ℕ
   mapped : get t.leaves (leaf_node trampoline_page) ≡ Some word
   names : ppn word ≡ ppn_of 0
   lets : permits Supervisor Fetch word ≡ true
 
-process_code : (v : View) (trapframe : ℕ) (t : Tables) (p : Process) → Shows v trapframe t p → IsCode t
+process_code : (v : View) (trapframe : ℕ) (t : Tables) (p : Process) → Shows v trapframe t p → HasCode t
 process_code v trapframe t p shows = let leaf = shows.on_trampoline in record {
   word = leaf.0;
   mapped = leaf.1;
@@ -53,13 +53,44 @@ process_code v trapframe t p shows = let leaf = shows.on_trampoline in record {
   lets = rw (leaf.2.for_user, leaf.2.execute, leaf.2.accessed) refl;
 }
 
-kernel_code : (v : View) (root frames slots : ℕ) (stacks : List ℕ) (t : Tables) → IsKernelTable v root frames slots stacks t → IsCode t
+kernel_code : (v : View) (root frames slots : ℕ) (stacks : List ℕ) (t : Tables) → IsKernelTable v root frames slots stacks t → HasCode t
 kernel_code v root frames slots stacks t k = record {
   word = leaf_word 0 code_rights false false true;
   mapped = k.maps.leaves trampoline_page (omega arith);
   names = omega arith;
   lets = refl;
 }
+
+-- the same of an entry of a buffer that tells of the page
+
+code_leaf : (t : Tables) (word a : ℕ) → get t.leaves (leaf_node trampoline_page) ≡ Some word → IsLeafOf word 0 code_rights false false true → page_of a ≡ trampoline_page → IsCode (leaf_at t a)
+code_leaf t word a mapped made page =
+    let canonical : is_canonical a ≡ true = rw (eq-eqb (a / 2 ^ 38) 0 (omega (arith, page))) refl in
+    (word, rw (canonical, page, mapped) refl, made)
+
+kernel_leaf : IsLeafOf (leaf_word 0 code_rights false false true) 0 code_rights false false true
+unfolding kind_of
+kernel_leaf = record {
+  names = omega arith;
+  valid = refl;
+  read = refl;
+  write = refl;
+  execute = refl;
+  for_user = refl;
+  global = refl;
+  accessed = refl;
+  modified = refl;
+  copy_on_write = refl;
+  unused = refl;
+  readable = λ e. refl;
+  executable = λ e none. refl;
+}
+
+pub kernel_code_leaf : (v : View) (root frames slots : ℕ) (stacks : List ℕ) (t : Tables) → IsKernelTable v root frames slots stacks t → (a : ℕ) → page_of a ≡ trampoline_page → IsCode (leaf_at t a)
+kernel_code_leaf v root frames slots stacks t k a page = code_leaf t (leaf_word 0 code_rights false false true) a (k.maps.leaves trampoline_page (omega arith)) kernel_leaf page
+
+pub process_code_leaf : (v : View) (trapframe : ℕ) (t : Tables) (p : Process) → Shows v trapframe t p → (a : ℕ) → page_of a ≡ trampoline_page → IsCode (leaf_at t a)
+process_code_leaf v trapframe t p shows a page = let leaf = shows.on_trampoline in code_leaf t leaf.0 a leaf.1 leaf.2 page
 
 module _ (offset : ℕ) (low : offset < 4096) where
   abbrev address : ℕ
@@ -69,20 +100,28 @@ module _ (offset : ℕ) (low : offset < 4096) where
   abbrev IsFetched : Walk → Type 0
   IsFetched z = (w : ℕ) × (z ≡ walk.Leaf w 0 (physical_address w 0 address)) × (ppn w ≡ ppn_of 0)
 
-  by_table : (t : Tables) → IsCode t → (z : Walk) → z ≡ walk_answer t address Fetch Supervisor → IsFetched z
+  by_table : (t : Tables) → HasCode t → (z : Walk) → z ≡ walk_answer t address Fetch Supervisor → IsFetched z
   by_table t code z is =
       let page : page_of address ≡ trampoline_page = omega (arith, low) in
       let canonical : is_canonical address ≡ true = rw (eq-eqb (address / 2 ^ 38) 0 (omega (arith, low))) refl in
       (code.word, is ∙ rw (canonical, page, code.mapped, code.lets) refl, code.names)
 
+  by_leaf : (l : Option Leaf) → IsCode l → (z : Walk) → z ≡ answer l address Fetch Supervisor → IsFetched z
+  by_leaf l (word, is_leaf, made) z is =
+      let lets : permits Supervisor Fetch word ≡ true = rw (made.for_user, made.execute, made.accessed) refl in
+      (word, is ∙ ap (λ (o : Option Leaf). answer o address Fetch Supervisor) is_leaf ∙ rw lets refl, made.names)
+
   module _ (m : Machine) (w : World) (is : IsWorld m w) (h : ℕ) (x : Hart) (at : slice_get m.harts.items h ≡ Some x) (z : Walk) (served : IsServed x is.tables is.kernel address Fetch Supervisor z) where
     is_fetched : IsFetched z
     is_fetched = elim served [
       | inl of_kernel ↦ by_table is.kernel (kernel_code _ _ _ _ _ _ is.of_kernel) z of_kernel.1
-      | inr own ↦
-          let y = is.hosted h own.0 x at own.2 in
-          let p = process_at m w is own.0 y.0 y.1 in
-          by_table (is.tables own.0) (process_code _ _ _ p.0 (p.2).agrees.stands.shows) z own.3
+      | inr more ↦ elim more [
+        | inl own ↦
+            let y = is.hosted h own.0 x at own.2 in
+            let p = process_at m w is own.0 y.0 y.1 in
+            by_table (is.tables own.0) (process_code _ _ _ p.0 (p.2).agrees.stands.shows) z own.3
+        | inr code ↦ by_leaf (code.1).1 (code.1).2 z (code.1).3
+      ]
     ]
 
     -- a leaf is found
@@ -124,13 +163,13 @@ module _ (m : Machine) (w : World) (is : IsWorld m w) (h offset : ℕ) (via : Op
         (impossible w h _ (λ x. model.in_trampoline x.phase) _ _ (hart_of has.hart) has.in_model (is_proper offset aligned low) (ap model.in_trampoline has.phased ∙ fails) ∙ ap (λ q. refuses w (Impossible q)) has.phased)
 
     module _ (inside : model.in_trampoline p ≡ true) (n : Machine) (after : IsWorld n w) where
-      pub no_entry : entry_serves Full (hart_of has.hart) (4096 * trampoline_page + offset) via ≡ false → Makes n (Refused NoEntry) (plain_step w (step.TrampolineFetch h offset via))
+      pub no_entry : entry_serves m.policy (hart_of has.hart) (4096 * trampoline_page + offset) via ≡ false → Makes n (Refused NoEntry) (plain_step w (step.TrampolineFetch h offset via))
       no_entry fails = refused n w after NoEntry _
           (without_entry w h _ (λ x. model.in_trampoline x.phase) (λ x. entry_serves w.policy x (4096 * trampoline_page + offset) via) _ (hart_of has.hart) has.in_model (is_proper offset aligned low)
-          (ap model.in_trampoline has.phased ∙ inside) (ap (λ q. entry_serves q (hart_of has.hart) (4096 * trampoline_page + offset) via) is.policy ∙ fails))
+          (ap model.in_trampoline has.phased ∙ inside) (ap (λ q. entry_serves q (hart_of has.hart) (4096 * trampoline_page + offset) via) (sym is.policy) ∙ fails))
 
-      pub fetches_code : entry_serves Full (hart_of has.hart) (4096 * trampoline_page + offset) via ≡ true → (f : FrameNo) → Some f ≡ Some (record { 0 = 0 })
+      pub fetches_code : entry_serves m.policy (hart_of has.hart) (4096 * trampoline_page + offset) via ≡ true → (f : FrameNo) → Some f ≡ Some (record { 0 = 0 })
           → Makes n (InFrame f.0) (plain_step w (step.TrampolineFetch h offset via))
       fetches_code serves f found = rw (same_Some _ _ found) (makes n (InFrame 0) w _ after
           (runs w h _ (λ x. model.in_trampoline x.phase) (λ x. entry_serves w.policy x (4096 * trampoline_page + offset) via) (λ x. answers w (InFrame 0)) (hart_of has.hart) has.in_model (is_proper offset aligned low)
-          (ap model.in_trampoline has.phased ∙ inside) (ap (λ q. entry_serves q (hart_of has.hart) (4096 * trampoline_page + offset) via) is.policy ∙ serves)))
+          (ap model.in_trampoline has.phased ∙ inside) (ap (λ q. entry_serves q (hart_of has.hart) (4096 * trampoline_page + offset) via) (sym is.policy) ∙ serves)))

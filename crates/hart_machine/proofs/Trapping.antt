@@ -1,8 +1,7 @@
 -- A process enters the kernel.
-use Rattle.std.proofs.Common.{◌≡◌, ℕ, get_or, true, false, Option, None, Some, refl, ap, sym, subst, ◌∙◌, inl, inr}
+use Rattle.std.proofs.Common.{◌≡◌, ℕ, get_or, true, false, Option, None, Some, refl, ap, sym, subst, ◌∙◌}
 use Rattle.std.specs.Prelude.{option_and_then, slice_get}
 use Rattle.std.specs.Vec.{with_item}
-use Rattle.hart_tlb.specs.declared.entry.TlbEntry.{TlbEntry}
 use Rattle.process_model.specs.Harts as model
 use Rattle.process_model.specs.Steps.{plain_step}
 use Rattle.process_model.specs.World.{World, always, refuses}
@@ -11,9 +10,8 @@ use Rattle.process_model.specs.declared.phase.Phase.TheVariants as phase
 use Rattle.process_model.specs.declared.step.Refusal.TheVariants.{Impossible}
 use Rattle.process_model.specs.declared.step.Reply.TheVariants.{Done, Refused}
 use Rattle.process_model.specs.declared.step.Step.TheVariants as step
-use Rattle.table_walk.specs.Tables.{Tables}
 use Rattle.hart_machine.specs.Harts.{hart_of}
-use Rattle.hart_machine.specs.Worlds.{IsServing, IsWorld, Makes, may_have_kernel}
+use Rattle.hart_machine.specs.Worlds.{IsWorld, Makes}
 use Rattle.hart_machine.specs.declared.hart.Hart.{Hart}
 use Rattle.hart_machine.specs.declared.machine.Machine.{Machine}
 use Rattle.hart_machine.specs.declared.tenant.Tenant.{Tenant}
@@ -29,11 +27,6 @@ user_is phase.Enter2 e = absurd (cc)
 user_is phase.Kernel e = absurd (cc)
 user_is phase.Leave1 e = absurd (cc)
 user_is phase.Leave2 e = absurd (cc)
-
--- an entry that serves the user serves where the hart enters the kernel
-pub enters : (tables : ℕ → Tables) (kernel : Tables) (x : Hart) → x.phase ≡ phase.User → (e : TlbEntry) → IsServing x tables kernel e → IsServing (record x { phase = phase.Enter0 }) tables kernel e
-enters tables kernel x at e (inl of_kernel) = absurd (let never : may_have_kernel phase.User ≡ true = ap may_have_kernel (sym at) ∙ of_kernel.0 in cc)
-enters tables kernel x at e (inr own) = inr (own.0, refl, own.2, own.3)
 
 module _ (m : Machine) (w : World) (is : IsWorld m w) (h : ℕ) (p : Phase) (has : HasHart m w h p) where
   pub slot_there : (o : Option ℕ) → o ≡ option_and_then (λ x. x.slot) (slice_get m.harts.items h) → has.hart.slot ≡ o
@@ -61,7 +54,7 @@ module _ (m : Machine) (w : World) (is : IsWorld m w) (h : ℕ) (p : Phase) (has
         let after = nothing_pending m w is s t.0 q.0 t.1 q.1 q.2 in
         subst (λ (k : Machine). Makes (record k { harts = with_item k.harts h (record x { phase = phase.Enter0 }) }) Done (plain_step w (step.Trap h))) (sym n_is)
         (subst (λ (z : Hart). Makes (record m { slots = with_item m.slots s (Some (record t.0 { pending = None })); harts = with_item m.harts h (record z { phase = phase.Enter0 }) }) Done (plain_step w (step.Trap h))) (sym x_is)
-        (makes _ Done _ _ (hart_changes _ _ after h has.hart (record has.hart { phase = phase.Enter0 }) has.there (λ r at. after.hosted h r has.hart has.there at) (λ r on k z at also. after.alone r k h z has.hart at has.there also on) (λ none. absurd (user_has_slot user none)) (λ e there. enters after.tables after.kernel has.hart (has.phased ∙ user_is p user) e (after.buffers h has.hart e has.there there)))
+        (makes _ Done _ _ (hart_changes _ _ after h has.hart (record has.hart { phase = phase.Enter0 }) has.there (λ r at. after.hosted h r has.hart has.there at) (λ r on k z at also. after.alone r k h z has.hart at has.there also on) (λ none. absurd (user_has_slot user none)) (λ e. after.local h has.hart e has.there))
         (runs w h true (λ z. model.is_user z.phase) always _ (hart_of has.hart) has.in_model refl (ap model.is_user has.phased ∙ user) refl ∙ its_process w (hart_of has.hart) _ s q.0 on q.1)))
 
 -- a process that is in a world is there in each machine that is in the world

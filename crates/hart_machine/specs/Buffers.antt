@@ -2,12 +2,14 @@
 use Rattle.std.specs.Prelude.{◌≡◌, ◌⊎◌, ◌==◌, ◌&&◌, ℕ, Bool, false, not, Option, Some, List, [], ◌∷◌, ◌++◌, Contains, option_map, remove, slice_get, if◌then◌else◌}
 use Rattle.hart_tlb.specs.Buffer.{newest_entries}
 use Rattle.hart_tlb.specs.declared.entry.TlbEntry.{TlbEntry}
-use Rattle.process_model.specs.Harts.{buffer_size, is_before_fence}
+use Rattle.process_model.specs.Harts.{buffer_size, present_asid}
 use Rattle.process_model.specs.Text.{is_refused}
+use Rattle.process_model.specs.declared.config.Policy.{Policy}
 use Rattle.process_model.specs.declared.step.Reply.{Reply}
 use Rattle.process_model.specs.declared.step.Step.{Step}
 use Rattle.process_model.specs.declared.step.Step.TheVariants as step
 use Rattle.table_walk.specs.Tables.{Tables}
+use Rattle.hart_machine.specs.Harts.{fenced, hart_of}
 use Rattle.hart_machine.specs.Tables.{tables_of, present_table}
 use Rattle.hart_machine.specs.Walked.{entry_for}
 use Rattle.hart_machine.specs.declared.hart.Hart.{Hart}
@@ -28,7 +30,7 @@ SameBuffers old new = (h : ℕ) → buffer_of new h ≡ buffer_of old h
 -- the step is a fill on the hart, and the entry says what the table that satp has says of the page
 abbrev pub WasFilled : Machine → (ℕ → Tables) → Tables → Step → ℕ → TlbEntry → Type 0
 WasFilled old tables kernel s h e =
-    (address : ℕ) × (x : Hart) × (s ≡ step.Fill h address) × (slice_get old.harts.items h ≡ Some x) × (e ≡ entry_for (tables_of tables kernel (present_table x)) 0 address)
+    (address : ℕ) × (x : Hart) × (s ≡ step.Fill h address) × (slice_get old.harts.items h ≡ Some x) × (e ≡ entry_for (tables_of tables kernel (present_table x)) (present_asid old.policy (hart_of x)) address)
 
 -- a hart may keep what a walk found at its fill, and nothing else (RISC-V Privileged Architecture 20211203, 4.2.1): each entry
 -- was there before, or the step filled it
@@ -43,15 +45,16 @@ is_about (step.Next h) k = h == k
 is_about s k = false
 
 -- what a step makes of its hart's buffer (RISC-V Privileged Architecture 20211203, 4.2.1): a fill puts what the table that satp has
--- says of the page last, and a full buffer loses its first entry; an eviction takes the entry with that number; an instruction of the
--- trampoline that is a fence of everything takes all
-abbrev pub buffer_after : (ℕ → Tables) → Tables → Step → Hart → List TlbEntry
-buffer_after tables kernel (step.Fill h address) x = newest_entries buffer_size (x.buffer ++ entry_for (tables_of tables kernel (present_table x)) 0 address ∷ [])
-buffer_after tables kernel (step.Evict h n) x = remove x.buffer n
-buffer_after tables kernel (step.Next h) x = if is_before_fence x.phase then [] else x.buffer
-buffer_after tables kernel s x = x.buffer
+-- says of the page last, with the identifier that satp has, and a full buffer loses its first entry; an eviction takes the entry with that
+-- number; an instruction of the trampoline that is a fence takes what it covers
+abbrev pub buffer_after : Policy → (ℕ → Tables) → Tables → Step → Hart → List TlbEntry
+buffer_after policy tables kernel (step.Fill h address) x =
+    newest_entries buffer_size (x.buffer ++ entry_for (tables_of tables kernel (present_table x)) (present_asid policy (hart_of x)) address ∷ [])
+buffer_after policy tables kernel (step.Evict h n) x = remove x.buffer n
+buffer_after policy tables kernel (step.Next h) x = (fenced policy x).buffer
+buffer_after policy tables kernel s x = x.buffer
 
 -- the buffer of the hart that a step is about is what the step makes of it, where it was not refused; each other is what it was
 abbrev pub BuffersAre : Machine → Machine → (ℕ → Tables) → Tables → Step → Reply → Type 0
 BuffersAre old new tables kernel s reply =
-    (h : ℕ) → buffer_of new h ≡ option_map (λ x. if not (is_refused reply) && is_about s h then buffer_after tables kernel s x else x.buffer) (slice_get old.harts.items h)
+    (h : ℕ) → buffer_of new h ≡ option_map (λ x. if not (is_refused reply) && is_about s h then buffer_after old.policy tables kernel s x else x.buffer) (slice_get old.harts.items h)

@@ -80,9 +80,13 @@ abbrev pub done_or_refused : {A : Type 0} → Result A Refusal → Reply
 done_or_refused (Ok x) = Done
 done_or_refused (Err e) = Refused e
 
-abbrev pub size_or_refused : Result ℕ Refusal → Reply
-size_or_refused (Ok size) = OldSize size
+abbrev pub size_or_refused : {A : Type 0} → Result (ℕ × A) Refusal → Reply
+size_or_refused (Ok x) = OldSize x.0
 size_or_refused (Err e) = Refused e
+
+abbrev pub size_of : {A : Type 0} → Result (ℕ × A) Refusal → Result ℕ Refusal
+size_of (Ok x) = Ok x.0
+size_of (Err e) = Err e
 
 -- munmap
 

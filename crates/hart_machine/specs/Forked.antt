@@ -11,8 +11,8 @@ use Rattle.address_space.specs.Agreement.{IsOn}
 use Rattle.hart_machine.specs.Tenants.{IsTenant}
 use Rattle.hart_machine.specs.declared.tenant.Tenant.{Tenant}
 
-abbrev pub forked_or_refused : Result ℕ Refusal → Reply
-forked_or_refused (Ok slot) = Forked slot
+abbrev pub forked_or_refused : {A : Type 0} → Result (ℕ × A) Refusal → Reply
+forked_or_refused (Ok x) = Forked x.0
 forked_or_refused (Err e) = Refused e
 
 -- parent and child, each settled page of which is on the frame that the parent had

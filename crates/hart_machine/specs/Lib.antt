@@ -5,7 +5,10 @@ pub mod Copied
 pub mod Executed
 pub mod Forked
 pub mod Harts
+pub mod Marks
+pub mod Serves
 pub mod Serving
+pub mod Slots
 pub mod Tables
 pub mod Tenants
 pub mod Walked

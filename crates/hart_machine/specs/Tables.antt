@@ -5,8 +5,10 @@ use Rattle.sv39_entry.specs.declared.access.Access.{Access}
 use Rattle.sv39_entry.specs.declared.access.Mode.{Mode}
 use Rattle.table_walk.specs.Tables.{Tables}
 use Rattle.table_walk.specs.declared.walk.Walk.{Walk}
-use Rattle.table_walk.specs.Leaves.{walk_answer}
-use Rattle.hart_machine.specs.Worlds.{may_have_kernel, may_have_own}
+use Rattle.process_model.specs.declared.phase.Phase.TheVariants.{User}
+use Rattle.sv39_entry.specs.Address.{page_of, trampoline_page}
+use Rattle.table_walk.specs.Leaves.{answer, Leaf, walk_answer}
+use Rattle.hart_machine.specs.Serves.{IsCode, may_have_kernel, may_have_own}
 use Rattle.hart_machine.specs.declared.hart.Hart.{Hart}
 use Rattle.hart_machine.specs.declared.machine.Machine.{Machine}
 use Rattle.hart_machine.specs.declared.tables.Table.{Table}
@@ -30,8 +32,17 @@ abbrev pub tables_of : (ℕ → Tables) → Tables → Table → Tables
 tables_of tables kernel OfKernel = kernel
 tables_of tables kernel (OfProcess s) = tables s
 
--- an access is translated by a table of which the hart's buffer may have entries
+-- an access is translated to the kernel's code in TRAMPOLINE's page
+abbrev pub IsCodeWalk : ℕ → Access → Mode → Walk → Type 0
+IsCodeWalk address access mode z = (page_of address ≡ trampoline_page) × (l : Option Leaf) × IsCode l × (z ≡ answer l address access mode)
+
+-- an access is translated by a table of which the hart's buffer may have entries; where the user does not run, also to the kernel's code
 abbrev pub IsServed : Hart → (ℕ → Tables) → Tables → ℕ → Access → Mode → Walk → Type 0
 IsServed x tables kernel address access mode z =
     ((may_have_kernel x.phase ≡ true) × (z ≡ walk_answer kernel address access mode))
-    ⊎ ((s : ℕ) × (may_have_own x.phase ≡ true) × (x.slot ≡ Some s) × (z ≡ walk_answer (tables s) address access mode))
+    ⊎ (((s : ℕ) × (may_have_own x.phase ≡ true) × (x.slot ≡ Some s) × (z ≡ walk_answer (tables s) address access mode))
+    ⊎ ((x.phase ≡ User → ⊥) × IsCodeWalk address access mode z))
+
+-- what is asked of memory: by the user where it runs, or else in TRAMPOLINE's page
+abbrev pub MayAsk : Hart → ℕ → Type 0
+MayAsk x address = (x.phase ≡ User) ⊎ (page_of address ≡ trampoline_page)

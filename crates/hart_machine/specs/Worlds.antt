@@ -1,22 +1,22 @@
 -- A machine and a world of the model: its frames, tables and buffers are the processes and harts of the other.
-use Rattle.std.specs.Prelude.{◌≡◌, ◌⊎◌, ◌↔◌, ℕ, ◌<◌, Bool, true, false, Option, None, Some, List, ◌∷◌, length, map, slice_get, Contains}
+use Rattle.std.specs.Prelude.{◌≡◌, ◌↔◌, ℕ, ◌<◌, ◌≤◌, false, Option, None, Some, List, ◌∷◌, length, map, slice_get, Contains}
+use Rattle.std.specs.FinMap.{get}
 use Rattle.frame_store.specs.Plain.{BankRule}
 use Rattle.frame_store.specs.Seats.{present}
 use Rattle.frame_store.specs.View.{View}
 use Rattle.process_model.specs.PageMap as pages
 use Rattle.process_model.specs.Process.{Page, Process}
+use Rattle.process_model.specs.Stale.{is_changed}
 use Rattle.process_model.specs.World.{Outcome, World}
-use Rattle.process_model.specs.declared.config.Policy.TheVariants.{Full}
-use Rattle.process_model.specs.declared.phase.Phase.{Phase}
 use Rattle.process_model.specs.declared.phase.Phase.TheVariants as phase
 use Rattle.process_model.specs.declared.step.Reply.{Reply}
 use Rattle.hart_tlb.specs.declared.entry.TlbEntry.{TlbEntry}
-use Rattle.table_walk.specs.Tables.{Tables}
+use Rattle.table_walk.specs.Tables.{leaf_node, Tables}
 use Rattle.address_space.specs.Agreement.{IsOn}
 use Rattle.address_space.specs.Kernel.{IsKernelTable}
 use Rattle.hart_machine.specs.Harts.{hart_of}
 use Rattle.hart_machine.specs.Tenants.{IsTenant, view_of}
-use Rattle.hart_machine.specs.Walked.{IsEntryOf}
+use Rattle.hart_machine.specs.Slots.{most_slots}
 use Rattle.hart_machine.specs.declared.hart.Hart.{Hart}
 use Rattle.hart_machine.specs.declared.machine.Machine.{Machine}
 use Rattle.hart_machine.specs.declared.tenant.Tenant.{Tenant}
@@ -40,39 +40,18 @@ HaveCopies slots tables =
 abbrev pub AreCounted : List (Option Process) → ℕ → Type 0
 AreCounted slots counter = (i n : ℕ) (p : Process) (a : Page) → slice_get slots i ≡ Some (Some p) → pages.get p.settled n ≡ Some a → a.copy < counter
 
--- buffers
-
--- in these phases a buffer may have entries of the process's table
-abbrev pub may_have_own : Phase → Bool
-may_have_own phase.Idle = false
-may_have_own phase.Kernel = false
-may_have_own phase.Leave1 = false
-may_have_own _ = true
-
--- and in these of the kernel's: where satp has its table, and after a write of satp until the next fence, when entries of both tables
--- may stand
-abbrev pub may_have_kernel : Phase → Bool
-may_have_kernel phase.User = false
-may_have_kernel phase.Enter0 = false
-may_have_kernel phase.Enter1 = false
-may_have_kernel _ = true
-
--- an entry tells what the kernel's table says, or that of the hart's process
-abbrev pub IsServing : Hart → (ℕ → Tables) → Tables → TlbEntry → Type 0
-IsServing x tables kernel e =
-    ((may_have_kernel x.phase ≡ true) × IsEntryOf kernel 0 e) ⊎ ((s : ℕ) × (may_have_own x.phase ≡ true) × (x.slot ≡ Some s) × IsEntryOf (tables s) 0 e)
-
 -- what the seats of the processes know
 abbrev pub seats_of : List (Option Tenant) → List View
 seats_of places = map view_of (present places)
 
--- the machine is in this world
+-- the memory, the processes and the harts of the machine are those of a world, whatever its buffers tell
 pub record IsWorld (m : Machine) (w : World) : Type 0 where
   -- the tables of the process in each slot, and of the kernel
   pub tables : ℕ → Tables
   pub kernel : Tables
   pub stacks : List ℕ
-  pub policy : w.policy ≡ Full
+  pub policy : m.policy ≡ w.policy
+  pub few : length w.slots ≤ most_slots
   pub frames : m.kernel.seat.size ≡ w.frames
   pub rule : BankRule m.frames (m.kernel.seat ∷ seats_of m.slots.items)
   pub of_kernel : IsKernelTable m.kernel.seat m.kernel.root.0 w.frames (length w.slots) stacks kernel
@@ -87,7 +66,37 @@ pub record IsWorld (m : Machine) (w : World) : Type 0 where
   pub alone : (s h k : ℕ) (x y : Hart) → slice_get m.harts.items h ≡ Some x → slice_get m.harts.items k ≡ Some y → x.slot ≡ Some s → y.slot ≡ Some s → h ≡ k
   -- and one without is idle
   pub idle : (h : ℕ) (x : Hart) → slice_get m.harts.items h ≡ Some x → x.slot ≡ None → x.phase ≡ phase.Idle
-  pub buffers : (h : ℕ) (x : Hart) (e : TlbEntry) → slice_get m.harts.items h ≡ Some x → Contains x.buffer e → IsServing x tables kernel e
+  -- no entry of a buffer has G
+  pub local : (h : ℕ) (x : Hart) (e : TlbEntry) → slice_get m.harts.items h ≡ Some x → Contains x.buffer e → e.global ≡ false
+
+-- tables, as buffers may have entries of them
+
+-- each page has the leaf that it had
+abbrev pub HaveSameLeaves : Tables → Tables → Type 0
+HaveSameLeaves t u = (page : ℕ) → get u.leaves (leaf_node page) ≡ get t.leaves (leaf_node page)
+
+-- the kernel has its table, and each process of which no page's leaf changes, as the model has it, has the leaves that it had
+pub record KeepsTables (m n : Machine) (before after : List (Option Process)) : Type 0 where
+  pub many : length n.slots.items ≡ length m.slots.items
+  pub kernel : (frames slots : ℕ) (stacks : List ℕ) (t : Tables) → IsKernelTable m.kernel.seat m.kernel.root.0 frames slots stacks t → IsKernelTable n.kernel.seat n.kernel.root.0 frames slots stacks t
+  pub leaves : (s : ℕ) (x y : Tenant) (p q : Process) (t u : Tables) → slice_get m.slots.items s ≡ Some (Some x) → slice_get n.slots.items s ≡ Some (Some y) → slice_get before s ≡ Some (Some p)
+      → slice_get after s ≡ Some (Some q) → is_changed (Some p) (Some q) ≡ false → IsTenant x t p → IsTenant y u q → HaveSameLeaves t u
+
+-- each slot but one has what it had, and the kernel has its table
+pub record KeepsOthers (m n : Machine) (s : ℕ) : Type 0 where
+  pub many : length n.slots.items ≡ length m.slots.items
+  pub kernel : (frames slots : ℕ) (stacks : List ℕ) (t : Tables) → IsKernelTable m.kernel.seat m.kernel.root.0 frames slots stacks t → IsKernelTable n.kernel.seat n.kernel.root.0 frames slots stacks t
+  pub others : (r : ℕ) → (r ≡ s → ⊥) → slice_get n.slots.items r ≡ slice_get m.slots.items r
+
+-- each process is below the tables that it was below, and the kernel has its table
+pub record SameTables (m n : Machine) : Type 0 where
+  pub many : length n.slots.items ≡ length m.slots.items
+  pub kernel : n.kernel ≡ m.kernel
+  pub below : (s : ℕ) (x y : Tenant) (p : Process) (t : Tables) → slice_get m.slots.items s ≡ Some (Some x) → slice_get n.slots.items s ≡ Some (Some y) → IsTenant x t p → (q : Process) × IsTenant y t q
+
+-- each slot has what it had, and the kernel its table
+abbrev pub SamePlaces : Machine → Machine → Type 0
+SamePlaces m n = (n.slots.items ≡ m.slots.items) × (n.kernel ≡ m.kernel)
 
 -- whatever world the machine was in, it is still in, by the same tables
 abbrev pub StaysIn : Machine → Machine → Type 0

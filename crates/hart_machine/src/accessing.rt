@@ -8,7 +8,8 @@ ghost use Rattle.hart_machine.specs.Accesses.{pending_after};
 ghost use Rattle.hart_machine.specs.Buffers.{SameBuffers};
 ghost use Rattle.hart_machine.specs.Tenants.{IsTenant, pending_of, view_of};
 ghost use Rattle.table_walk.specs.Leaves.{walk_answer};
-ghost use Rattle.hart_machine.specs.Worlds.{IsWorld, Makes};
+ghost use Rattle.hart_machine.specs.Serves.{IsIn};
+ghost use Rattle.hart_machine.specs.Worlds.{IsWorld, Makes, SameTables};
 ghost use Rattle.hart_machine.specs.declared.tenant.Tenant.{Tenant};
 ghost use Rattle.process_model.specs.Bytes as bytes;
 ghost use Rattle.process_model.specs.Process.{Process};
@@ -30,9 +31,10 @@ impl Machine {
     /// The process on a hart accesses memory, by a walk or by the entry of the hart's buffer with the number `via`. A fault
     /// is pending, and enters the kernel.
     pub(crate) fn access(&mut self, hart: usize, asked: Asked, via: Option<usize>) -> Reply
-        requires world { (w : World) × IsWorld self.old w }
-        ensures made { (w : World) → IsWorld self.old w → Makes self.new result (service.access_step w hart asked.access asked.va.0 asked.width asked.value via) }
+        requires world { (w : World) × IsIn self.old w }
+        ensures made { (w : World) → IsIn self.old w → Makes self.new result (service.access_step w hart asked.access asked.va.0 asked.width asked.value via) }
         ensures buffers { SameBuffers self.old self.new }
+        ensures tables { SameTables self.old self.new }
     {
         let Some(phase) = self.phase_of(hart) else {
             return Reply::Refused(Refusal::BadArgument);
@@ -66,6 +68,7 @@ impl Machine {
             → (result ≡ (service.user_access p (asked_of asked)).reply)
             × IsWorld self.new (with_process w slot (service.user_access p (asked_of asked)).process) }
         ensures harts { self.new.harts ≡ self.old.harts }
+        ensures tables { SameTables self.old self.new }
     {
         let frames = &mut self.frames;
         let slots = &mut self.slots;

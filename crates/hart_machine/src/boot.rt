@@ -2,11 +2,10 @@
 
 ghost use Rattle.std.specs.Prelude.{◌≡◌, ◌↔◌, false, IfErr, IfOk, IsErrOf, map, None, replicate};
 ghost use Rattle.hart_machine.specs.Harts.{hart_of};
-ghost use Rattle.hart_machine.specs.Worlds.{IsWorld};
+ghost use Rattle.hart_machine.specs.Serves.{IsIn};
 ghost use Rattle.process_model.specs.Frames.{can_boot};
 ghost use Rattle.process_model.specs.Harts as model;
 ghost use Rattle.process_model.specs.World.{booted};
-ghost use Rattle.process_model.specs.declared.config.Policy.TheVariants.{Full};
 
 use crate::hart::Hart;
 use crate::machine::Machine;
@@ -50,10 +49,10 @@ impl From<AllocError> for BootError {
 
 impl Machine {
     /// A machine of these sizes, with these files: its slots empty, its harts idle, and the table of the kernel built. All
-    /// room that it ever needs is made here. Its steps have a meaning with the policy `full`. A refusal drops the files.
+    /// room that it ever needs is made here. A refusal drops the files.
     pub fn boot(alloc: Global, config: Config, files: Cabinet) -> Result<Machine, BootError>
         ensures limits { IsErrOf result BootError.BadArgument ↔ (can_boot config.harts config.frames config.slots ≡ false) }
-        ensures booted { IfOk result (λ m. config.policy ≡ Full → IsWorld m (booted config files)) }
+        ensures booted { IfOk result (λ m. IsIn m (booted config files)) }
     {
         if !config.is_bootable() {
             return Err(BootError::BadArgument);
@@ -70,6 +69,7 @@ impl Machine {
             unreachable!()
         };
         Ok(Machine {
+            policy: config.policy,
             frames,
             kernel,
             slots,

@@ -2,7 +2,7 @@
 
 ghost use Rattle.std.specs.Prelude.{◌≡◌};
 ghost use Rattle.hart_machine.specs.Buffers.{BuffersAre};
-ghost use Rattle.hart_machine.specs.Worlds.{IsWorld, Makes};
+ghost use Rattle.hart_machine.specs.Worlds.{IsWorld, Makes, SamePlaces};
 ghost use Rattle.process_model.specs.Steps.{plain_step};
 ghost use Rattle.process_model.specs.World.{World};
 ghost use Rattle.process_model.specs.declared.step.Step.TheVariants as step;
@@ -17,6 +17,7 @@ impl Machine {
         requires world { (w : World) × IsWorld self.old w }
         ensures made { (w : World) → IsWorld self.old w → Makes self.new result (plain_step w (step.Fill hart va.0)) }
         ensures buffers { (w : World) (is : IsWorld self.old w) → BuffersAre self.old self.new is.tables is.kernel (step.Fill hart va.0) result }
+        ensures places { SamePlaces self.old self.new }
     {
         let Some(table) = self.table_of(hart) else {
             return Reply::Refused(Refusal::BadArgument);
@@ -29,6 +30,7 @@ impl Machine {
         requires world { (w : World) × IsWorld self.old w }
         ensures made { (w : World) → IsWorld self.old w → Makes self.new result (plain_step w (step.Evict hart entry)) }
         ensures buffers { (w : World) (is : IsWorld self.old w) → BuffersAre self.old self.new is.tables is.kernel (step.Evict hart entry) result }
+        ensures places { SamePlaces self.old self.new }
     {
         if hart >= self.harts.len() {
             return Reply::Refused(Refusal::BadArgument);

@@ -1,18 +1,20 @@
 // Calls of the kernel for the process on a hart.
 
-ghost use Rattle.std.specs.Prelude.{◌≡◌, ℕ, Err, IfErr, IfOk, true};
+ghost use Rattle.std.specs.Prelude.{◌≡◌, ℕ, Err, IfErr, IfOk, None, Ok, Some, true};
 ghost use Rattle.frame_store.specs.Laws.{Fits, Keeps};
 ghost use Rattle.frame_store.specs.Plain.{BankRule};
 ghost use Rattle.hart_machine.specs.Buffers.{SameBuffers};
-ghost use Rattle.hart_machine.specs.Calls.{call_while, done_or_refused, HasResized, HasUnmapped, IsInKernel, mapped_or_refused, size_or_refused};
+ghost use Rattle.hart_machine.specs.Calls.{call_while, done_or_refused, HasResized, HasUnmapped, IsInKernel, mapped_or_refused, size_of, size_or_refused};
+ghost use Rattle.hart_machine.specs.Marks.{AreMarked, marked_by, marked_with};
 ghost use Rattle.hart_machine.specs.Tenants.{IsTenant, view_of};
-ghost use Rattle.hart_machine.specs.Worlds.{IsWorld, Makes};
+ghost use Rattle.hart_machine.specs.Worlds.{IsWorld, KeepsTables, Makes, SameTables};
 ghost use Rattle.lazy_growth.specs.Sizes.{size_before};
 ghost use Rattle.mmap_regions.specs.Mapped.{address_of_mapped, process_mapped};
 ghost use Rattle.process_model.specs.Harts as harts;
 ghost use Rattle.process_model.specs.Heap.{sbrk_result};
 ghost use Rattle.process_model.specs.Mappings as mappings;
 ghost use Rattle.process_model.specs.Process.{Process, without_pending};
+ghost use Rattle.process_model.specs.Stale.{is_changed};
 ghost use Rattle.process_model.specs.Steps.{plain_step};
 ghost use Rattle.process_model.specs.World.{Outcome, refuses, World};
 ghost use Rattle.process_model.specs.declared.step.Step.TheVariants as step;
@@ -20,10 +22,12 @@ ghost use Rattle.table_walk.specs.Tables.{Tables};
 
 use crate::hart::is_kernel;
 use crate::machine::Machine;
+use crate::marking::{Made, slot_if};
 use crate::tenant::Tenant;
 use file_cabinet::Cabinet;
 use frame_store::PlainFrames;
 use process_model::{Refusal, Reply};
+use sv39_entry::{PAGE_SIZE, Va};
 
 impl Machine {
     /// The slot of the process with which a hart is in the kernel, while an access of it waits for its service, or while none
@@ -57,6 +61,7 @@ impl Machine {
         requires world { (w : World) × IsWorld self.old w }
         ensures made { (w : World) → IsWorld self.old w → Makes self.new result (plain_step w (step.Mmap hart length protection flags file)) }
         ensures buffers { SameBuffers self.old self.new }
+        ensures tables { SameTables self.old self.new }
     {
         match self.map_file(hart, length, protection, flags, file) {
             Ok(address) => Reply::MappedAt(address),
@@ -76,6 +81,7 @@ impl Machine {
         requires world { (w : World) × IsWorld self.old w }
         ensures made { (w : World) → IsWorld self.old w → Makes self.new (mapped_or_refused result) (plain_step w (step.Mmap hart length protection flags file)) }
         ensures harts { self.new.harts ≡ self.old.harts }
+        ensures tables { SameTables self.old self.new }
     {
         let slot = self.in_kernel(hart, false)?;
         let files = &self.files;
@@ -87,22 +93,26 @@ impl Machine {
     }
 
     /// The process on a hart takes a range of addresses out of a mapping.
-    pub(crate) fn munmap(&mut self, hart: usize, address: u64, length: u64) -> Reply
+    pub(crate) fn munmap(&mut self, hart: usize, address: u64, length: u64) -> Made
         requires world { (w : World) × IsWorld self.old w }
-        ensures made { (w : World) → IsWorld self.old w → Makes self.new result (plain_step w (step.Munmap hart address length)) }
+        ensures made { (w : World) → IsWorld self.old w → Makes self.new result.reply (plain_step w (step.Munmap hart address length)) }
         ensures buffers { SameBuffers self.old self.new }
+        ensures tables { (w : World) → IsWorld self.old w → KeepsTables self.old self.new w.slots (plain_step w (step.Munmap hart address length)).world.slots }
+        ensures changed { (w : World) → IsWorld self.old w → AreMarked w (plain_step w (step.Munmap hart address length)) result.changed result.born }
     {
         match self.unmap(hart, address, length) {
-            Ok(()) => Reply::Done,
-            Err(refusal) => Reply::Refused(refusal),
+            Ok(changed) => Made::by(Reply::Done, changed),
+            Err(refusal) => Made::quiet(Reply::Refused(refusal)),
         }
     }
 
-    /// The same, or why it is refused.
-    fn unmap(&mut self, hart: usize, address: u64, length: u64) -> Result<(), Refusal>
+    /// The same, with the slot of the process where a page of it went, or why it is refused.
+    fn unmap(&mut self, hart: usize, address: u64, length: u64) -> Result<Option<usize>, Refusal>
         requires world { (w : World) × IsWorld self.old w }
         ensures made { (w : World) → IsWorld self.old w → Makes self.new (done_or_refused result) (plain_step w (step.Munmap hart address length)) }
+        ensures changed { (w : World) → IsWorld self.old w → AreMarked w (plain_step w (step.Munmap hart address length)) (marked_by result) None }
         ensures harts { self.new.harts ≡ self.old.harts }
+        ensures tables { (w : World) → IsWorld self.old w → KeepsTables self.old self.new w.slots (plain_step w (step.Munmap hart address length)).world.slots }
     {
         let slot = self.in_kernel(hart, false)?;
         let frames = &mut self.frames;
@@ -111,26 +121,31 @@ impl Machine {
         let Some(tenant) = &mut slots[slot] else {
             unreachable!()
         };
-        tenant.munmap(frames, files, address, length)
+        let released = tenant.munmap(frames, files, address, length)?;
+        Ok(slot_if(slot, released))
     }
 
     /// The heap of the process on a hart grows by so many bytes, or shrinks.
-    pub(crate) fn sbrk(&mut self, hart: usize, delta: i64) -> Reply
+    pub(crate) fn sbrk(&mut self, hart: usize, delta: i64) -> Made
         requires world { (w : World) × IsWorld self.old w }
-        ensures made { (w : World) → IsWorld self.old w → Makes self.new result (plain_step w (step.Sbrk hart delta)) }
+        ensures made { (w : World) → IsWorld self.old w → Makes self.new result.reply (plain_step w (step.Sbrk hart delta)) }
         ensures buffers { SameBuffers self.old self.new }
+        ensures tables { (w : World) → IsWorld self.old w → KeepsTables self.old self.new w.slots (plain_step w (step.Sbrk hart delta)).world.slots }
+        ensures changed { (w : World) → IsWorld self.old w → AreMarked w (plain_step w (step.Sbrk hart delta)) result.changed result.born }
     {
         match self.resize(hart, delta) {
-            Ok(size) => Reply::OldSize(size),
-            Err(refusal) => Reply::Refused(refusal),
+            Ok((size, changed)) => Made::by(Reply::OldSize(size), changed),
+            Err(refusal) => Made::quiet(Reply::Refused(refusal)),
         }
     }
 
-    /// The same, with the size that it had, or why it keeps it.
-    fn resize(&mut self, hart: usize, delta: i64) -> Result<u64, Refusal>
+    /// The same, with the size that it had and the slot of the process where a page of it went, or why it keeps its size.
+    fn resize(&mut self, hart: usize, delta: i64) -> Result<(u64, Option<usize>), Refusal>
         requires world { (w : World) × IsWorld self.old w }
         ensures made { (w : World) → IsWorld self.old w → Makes self.new (size_or_refused result) (plain_step w (step.Sbrk hart delta)) }
+        ensures changed { (w : World) → IsWorld self.old w → AreMarked w (plain_step w (step.Sbrk hart delta)) (marked_with result) None }
         ensures harts { self.new.harts ≡ self.old.harts }
+        ensures tables { (w : World) → IsWorld self.old w → KeepsTables self.old self.new w.slots (plain_step w (step.Sbrk hart delta)).world.slots }
     {
         let slot = self.in_kernel(hart, false)?;
         let frames = &mut self.frames;
@@ -138,7 +153,8 @@ impl Machine {
         let Some(tenant) = &mut slots[slot] else {
             unreachable!()
         };
-        tenant.sbrk(frames, delta)
+        let (size, released) = tenant.sbrk(frames, delta)?;
+        Ok((size, slot_if(slot, released)))
     }
 }
 
@@ -165,40 +181,66 @@ impl Tenant {
         Ok(address)
     }
 
-    /// Takes a range of addresses out of a mapping. Then nothing is pending.
+    /// Takes a range of addresses out of a mapping, and tells whether a page went. Then nothing is pending.
     fn munmap(
         &mut self,
         frames: &mut PlainFrames,
         files: &mut Cabinet,
         address: u64,
         length: u64,
-    ) -> Result<(), Refusal>
+    ) -> Result<bool, Refusal>
         requires fits { Fits BankRule frames.old (view_of self.old) }
         requires ready { (t : Tables) × (p : Process) × IsTenant self.old t p }
         ensures unmapped { IfOk result (λ _. (t : Tables) (p : Process) → IsTenant self.old t p → HasUnmapped self.new t p files.old files.new address length) }
+        ensures changed { IfOk result (λ b. (t : Tables) (p : Process) → IsTenant self.old t p → (u : mappings.Unmapped) → mappings.unmapped files.old p address length ≡ Ok u → b ≡ is_changed (Some p) (Some (without_pending u.process))) }
         ensures refused { IfErr result (λ e. (t : Tables) (p : Process) → IsTenant self.old t p → mappings.unmapped files.old p address length ≡ Err e) }
         ensures stays { IfErr result (λ _. self.new ≡ self.old) }
+        ensures trapframe { self.new.space.trapframe ≡ self.old.space.trapframe }
         ensures files_stay { IfErr result (λ _. files.new ≡ files.old) }
         ensures frames_stay { IfErr result (λ _. frames.new ≡ frames.old) }
         ensures keeps { Keeps BankRule frames.old (view_of self.old) frames.new (view_of self.new) }
     {
+        let first = Va(address).page().number();
+        let released = self.has_settled(frames, first, first + length.div_ceil(PAGE_SIZE));
         mmap_regions::munmap(&mut self.space, frames, files, address, length)?;
         self.pending = None;
-        Ok(())
+        Ok(released)
     }
 
-    /// The heap grows by so many bytes, or shrinks. Then nothing is pending.
-    fn sbrk(&mut self, frames: &mut PlainFrames, delta: i64) -> Result<u64, Refusal>
+    /// The heap grows by so many bytes, or shrinks. The size that it had, and whether a page went, are told. Then nothing is
+    /// pending.
+    fn sbrk(&mut self, frames: &mut PlainFrames, delta: i64) -> Result<(u64, bool), Refusal>
         requires fits { Fits BankRule frames.old (view_of self.old) }
         requires ready { (t : Tables) × (p : Process) × IsTenant self.old t p }
-        ensures answer { (t : Tables) (p : Process) → IsTenant self.old t p → result ≡ size_before p (sbrk_result p delta) }
+        ensures answer { (t : Tables) (p : Process) → IsTenant self.old t p → size_of result ≡ size_before p (sbrk_result p delta) }
+        ensures changed { IfOk result (λ x. (t : Tables) (p : Process) → IsTenant self.old t p → (q : Process) → sbrk_result p delta ≡ Ok q → x.1 ≡ is_changed (Some p) (Some (without_pending q))) }
         ensures resized { IfOk result (λ _. (t : Tables) (p : Process) → IsTenant self.old t p → HasResized self.new t p delta) }
         ensures stays { IfErr result (λ _. self.new ≡ self.old) }
+        ensures trapframe { self.new.space.trapframe ≡ self.old.space.trapframe }
         ensures frames_stay { IfErr result (λ _. frames.new ≡ frames.old) }
         ensures keeps { Keeps BankRule frames.old (view_of self.old) frames.new (view_of self.new) }
     {
-        let size = lazy_growth::sbrk(&mut self.space, frames, delta)?;
+        let released = self.loses_page(frames, delta);
+        let before = lazy_growth::sbrk(&mut self.space, frames, delta)?;
         self.pending = None;
-        Ok(size)
+        Ok((before, released))
+    }
+
+    /// Whether a page goes where the heap grows by so many bytes, or shrinks.
+    fn loses_page(&mut self, frames: &mut PlainFrames, delta: i64) -> bool
+        requires fits { Fits BankRule frames.old (view_of self.old) }
+        requires ready { (t : Tables) × (p : Process) × IsTenant self.old t p }
+        ensures changed { (t : Tables) (p : Process) → IsTenant self.old t p → (q : Process) → sbrk_result p delta ≡ Ok q → result ≡ is_changed (Some p) (Some (without_pending q)) }
+        ensures same { self.new ≡ self.old }
+        ensures frames { frames.new ≡ frames.old }
+    {
+        let size = self.space.layout.size();
+        match size.checked_add_signed(delta) {
+            Some(wanted) => {
+                self.has_settled(frames, wanted.div_ceil(PAGE_SIZE), size.div_ceil(PAGE_SIZE))
+            }
+            // the call is refused
+            None => false,
+        }
     }
 }

@@ -7,7 +7,8 @@ ghost use Rattle.hart_machine.specs.Buffers.{SameBuffers};
 ghost use Rattle.hart_machine.specs.Calls.{IsCaller};
 ghost use Rattle.hart_machine.specs.Copied.{CopiesFrom, CopiesTo};
 ghost use Rattle.hart_machine.specs.Tenants.{IsTenant, view_of};
-ghost use Rattle.hart_machine.specs.Worlds.{IsWorld, Makes};
+ghost use Rattle.hart_machine.specs.Marks.{AreMarked, TellsResidence};
+ghost use Rattle.hart_machine.specs.Worlds.{IsWorld, KeepsTables, Makes};
 ghost use Rattle.process_model.specs.Calls as model;
 ghost use Rattle.process_model.specs.Copies.{copied_in, copied_out, longest_copy};
 ghost use Rattle.process_model.specs.Process.{Process, without_pending};
@@ -15,39 +16,47 @@ ghost use Rattle.process_model.specs.Service.{around, begun};
 ghost use Rattle.process_model.specs.Steps.{plain_step};
 ghost use Rattle.process_model.specs.World.{World};
 ghost use Rattle.process_model.specs.declared.step.Step.TheVariants as step;
+ghost use Rattle.sv39_entry.specs.declared.access.Access.TheVariants.{Load, Store};
 ghost use Rattle.table_walk.specs.Tables.{Tables};
 
 use crate::machine::Machine;
+use crate::marking::{Made, slot_if};
 use crate::tenant::Tenant;
 use file_cabinet::Cabinet;
 use frame_store::PlainFrames;
 use process_model::{LONGEST_COPY, Refusal, Reply};
-use sv39_entry::Va;
+use sv39_entry::{Access, Va};
 use user_copy::Stop;
 
 impl Machine {
     /// The kernel copies bytes from the process on a hart.
-    pub(crate) fn copy_in(&mut self, hart: usize, address: u64, count: usize) -> Reply
+    pub(crate) fn copy_in(&mut self, hart: usize, address: u64, count: usize) -> Made
         requires world { (w : World) × IsWorld self.old w }
-        ensures made { (w : World) → IsWorld self.old w → Makes self.new result (plain_step w (step.CopyIn hart address count)) }
+        ensures made { (w : World) → IsWorld self.old w → Makes self.new result.reply (plain_step w (step.CopyIn hart address count)) }
         ensures buffers { SameBuffers self.old self.new }
+        ensures tables { (w : World) → IsWorld self.old w → KeepsTables self.old self.new w.slots (plain_step w (step.CopyIn hart address count)).world.slots }
+        ensures changed { (w : World) → IsWorld self.old w → AreMarked w (plain_step w (step.CopyIn hart address count)) result.changed result.born }
     {
         if count > LONGEST_COPY {
-            return Reply::Refused(Refusal::BadArgument);
+            return Made::quiet(Reply::Refused(Refusal::BadArgument));
         }
         let slot = match self.in_kernel(hart, false) {
             Ok(slot) => slot,
-            Err(refusal) => return Reply::Refused(refusal),
+            Err(refusal) => return Made::quiet(Reply::Refused(refusal)),
         };
         self.copy_from(slot, Va(address), count)
     }
 
     /// The same for the process in a slot.
-    fn copy_from(&mut self, slot: usize, va: Va, count: usize) -> Reply
+    fn copy_from(&mut self, slot: usize, va: Va, count: usize) -> Made
         requires world { (w : World) × (h : ℕ) × IsWorld self.old w × IsCaller self.old w h slot }
         requires few { count ≤ longest_copy }
         ensures made { (w : World) (h : ℕ) → IsWorld self.old w → (k : IsCaller self.old w h slot) →
-            Makes self.new result (model.told_in w slot (copied_in (around w slot) (begun w (without_pending k.process)) va.0 count)) }
+            Makes self.new result.reply (model.told_in w slot (copied_in (around w slot) (begun w (without_pending k.process)) va.0 count)) }
+        ensures changed { (w : World) (h : ℕ) → IsWorld self.old w → (k : IsCaller self.old w h slot) →
+            AreMarked w (model.told_in w slot (copied_in (around w slot) (begun w (without_pending k.process)) va.0 count)) result.changed result.born }
+        ensures tables { (w : World) (h : ℕ) → IsWorld self.old w → (k : IsCaller self.old w h slot) →
+            KeepsTables self.old self.new w.slots (model.told_in w slot (copied_in (around w slot) (begun w (without_pending k.process)) va.0 count)).world.slots }
         ensures harts { self.new.harts ≡ self.old.harts }
     {
         let frames = &mut self.frames;
@@ -56,31 +65,38 @@ impl Machine {
         let Some(tenant) = &mut slots[slot] else {
             unreachable!()
         };
-        tenant.copy_in(frames, files, va, count)
+        let (reply, settled) = tenant.copy_in(frames, files, va, count);
+        Made::by(reply, slot_if(slot, settled))
     }
 
     /// The kernel copies bytes to the process on a hart.
-    pub(crate) fn copy_out(&mut self, hart: usize, address: u64, bytes: &[u8]) -> Reply
+    pub(crate) fn copy_out(&mut self, hart: usize, address: u64, bytes: &[u8]) -> Made
         requires world { (w : World) × IsWorld self.old w }
-        ensures made { (w : World) → IsWorld self.old w → Makes self.new result (plain_step w (step.CopyOut hart address bytes.entry)) }
+        ensures made { (w : World) → IsWorld self.old w → Makes self.new result.reply (plain_step w (step.CopyOut hart address bytes.entry)) }
         ensures buffers { SameBuffers self.old self.new }
+        ensures tables { (w : World) → IsWorld self.old w → KeepsTables self.old self.new w.slots (plain_step w (step.CopyOut hart address bytes.entry)).world.slots }
+        ensures changed { (w : World) → IsWorld self.old w → AreMarked w (plain_step w (step.CopyOut hart address bytes.entry)) result.changed result.born }
     {
         if bytes.len() > LONGEST_COPY {
-            return Reply::Refused(Refusal::BadArgument);
+            return Made::quiet(Reply::Refused(Refusal::BadArgument));
         }
         let slot = match self.in_kernel(hart, false) {
             Ok(slot) => slot,
-            Err(refusal) => return Reply::Refused(refusal),
+            Err(refusal) => return Made::quiet(Reply::Refused(refusal)),
         };
         self.copy_to(slot, Va(address), bytes)
     }
 
     /// The same for the process in a slot.
-    fn copy_to(&mut self, slot: usize, va: Va, bytes: &[u8]) -> Reply
+    fn copy_to(&mut self, slot: usize, va: Va, bytes: &[u8]) -> Made
         requires world { (w : World) × (h : ℕ) × IsWorld self.old w × IsCaller self.old w h slot }
         requires few { length bytes.now ≤ longest_copy }
         ensures made { (w : World) (h : ℕ) → IsWorld self.old w → (k : IsCaller self.old w h slot) →
-            Makes self.new result (model.told_out w slot (copied_out (around w slot) (begun w (without_pending k.process)) va.0 bytes.now)) }
+            Makes self.new result.reply (model.told_out w slot (copied_out (around w slot) (begun w (without_pending k.process)) va.0 bytes.now)) }
+        ensures changed { (w : World) (h : ℕ) → IsWorld self.old w → (k : IsCaller self.old w h slot) →
+            AreMarked w (model.told_out w slot (copied_out (around w slot) (begun w (without_pending k.process)) va.0 bytes.now)) result.changed result.born }
+        ensures tables { (w : World) (h : ℕ) → IsWorld self.old w → (k : IsCaller self.old w h slot) →
+            KeepsTables self.old self.new w.slots (model.told_out w slot (copied_out (around w slot) (begun w (without_pending k.process)) va.0 bytes.now)).world.slots }
         ensures harts { self.new.harts ≡ self.old.harts }
     {
         let frames = &mut self.frames;
@@ -89,23 +105,42 @@ impl Machine {
         let Some(tenant) = &mut slots[slot] else {
             unreachable!()
         };
-        tenant.copy_out(frames, files, va, bytes)
+        let (reply, settled) = tenant.copy_out(frames, files, va, bytes);
+        Made::by(reply, slot_if(slot, settled))
     }
 }
 
 impl Tenant {
-    /// Copies bytes from the process. Then nothing is pending.
+    /// Copies bytes from the process, and tells whether a page was made resident for it. Then nothing is pending.
     fn copy_in(
         &mut self,
         frames: &mut PlainFrames,
         files: &mut Cabinet,
         va: Va,
         count: usize,
-    ) -> Reply
+    ) -> (Reply, bool)
+        requires fits { Fits BankRule frames.old (view_of self.old) }
+        requires ready { (t : Tables) × (p : Process) × IsTenant self.old t p }
+        requires few { count ≤ longest_copy }
+        ensures copied { CopiesFrom self.old self.new frames.old frames.new files.old files.new va.0 count result.0 }
+        ensures changed { (t u : Tables) (p q : Process) → IsTenant self.old t p → IsTenant self.new u q → TellsResidence result.1 p q Load va.0 }
+        ensures trapframe { self.new.space.trapframe ≡ self.old.space.trapframe }
+        ensures keeps { Keeps BankRule frames.old (view_of self.old) frames.new (view_of self.new) }
+    {
+        let before = self.residence(frames, va, Access::Load);
+        let reply = self.send(frames, files, va, count);
+        let after = self.residence(frames, va, Access::Load);
+        (reply, before.0 != after.0 || before.1 != after.1)
+    }
+
+    /// The same, without that flag.
+    fn send(&mut self, frames: &mut PlainFrames, files: &mut Cabinet, va: Va, count: usize) -> Reply
         requires fits { Fits BankRule frames.old (view_of self.old) }
         requires ready { (t : Tables) × (p : Process) × IsTenant self.old t p }
         requires few { count ≤ longest_copy }
         ensures copied { CopiesFrom self.old self.new frames.old frames.new files.old files.new va.0 count result }
+        ensures still { (t : Tables) (p : Process) → IsTenant self.old t p → (u : Tables) × (q : Process) × IsTenant self.new u q }
+        ensures trapframe { self.new.space.trapframe ≡ self.old.space.trapframe }
         ensures keeps { Keeps BankRule frames.old (view_of self.old) frames.new (view_of self.new) }
     {
         self.pending = None;
@@ -119,8 +154,30 @@ impl Tenant {
         }
     }
 
-    /// Copies bytes to the process. Then nothing is pending.
+    /// Copies bytes to the process, and tells whether a page was made resident for it. Then nothing is pending.
     fn copy_out(
+        &mut self,
+        frames: &mut PlainFrames,
+        files: &mut Cabinet,
+        va: Va,
+        bytes: &[u8],
+    ) -> (Reply, bool)
+        requires fits { Fits BankRule frames.old (view_of self.old) }
+        requires ready { (t : Tables) × (p : Process) × IsTenant self.old t p }
+        requires few { length bytes.now ≤ longest_copy }
+        ensures copied { CopiesTo self.old self.new frames.old frames.new files.old files.new va.0 bytes.now result.0 }
+        ensures changed { (t u : Tables) (p q : Process) → IsTenant self.old t p → IsTenant self.new u q → TellsResidence result.1 p q Store va.0 }
+        ensures trapframe { self.new.space.trapframe ≡ self.old.space.trapframe }
+        ensures keeps { Keeps BankRule frames.old (view_of self.old) frames.new (view_of self.new) }
+    {
+        let before = self.residence(frames, va, Access::Store);
+        let reply = self.receive(frames, files, va, bytes);
+        let after = self.residence(frames, va, Access::Store);
+        (reply, before.0 != after.0 || before.1 != after.1)
+    }
+
+    /// The same, without that flag.
+    fn receive(
         &mut self,
         frames: &mut PlainFrames,
         files: &mut Cabinet,
@@ -131,6 +188,8 @@ impl Tenant {
         requires ready { (t : Tables) × (p : Process) × IsTenant self.old t p }
         requires few { length bytes.now ≤ longest_copy }
         ensures copied { CopiesTo self.old self.new frames.old frames.new files.old files.new va.0 bytes.now result }
+        ensures still { (t : Tables) (p : Process) → IsTenant self.old t p → (u : Tables) × (q : Process) × IsTenant self.new u q }
+        ensures trapframe { self.new.space.trapframe ≡ self.old.space.trapframe }
         ensures keeps { Keeps BankRule frames.old (view_of self.old) frames.new (view_of self.new) }
     {
         self.pending = None;

@@ -10,7 +10,7 @@ ghost use Rattle.hart_machine.specs.Buffers.{SameBuffers};
 ghost use Rattle.hart_machine.specs.Calls.{IsInKernel};
 ghost use Rattle.hart_machine.specs.Harts.{hart_of};
 ghost use Rattle.hart_machine.specs.Tenants.{IsTenant, view_of};
-ghost use Rattle.hart_machine.specs.Worlds.{IsWorld, Makes};
+ghost use Rattle.hart_machine.specs.Worlds.{IsWorld, KeepsOthers, KeepsTables, Makes};
 ghost use Rattle.process_model.specs.Mappings.{all_written_back};
 ghost use Rattle.process_model.specs.Process.{Process};
 ghost use Rattle.process_model.specs.Service.{ended};
@@ -33,6 +33,7 @@ impl Machine {
         requires world { (w : World) × IsWorld self.old w }
         ensures made { (w : World) → IsWorld self.old w → Makes self.new result (plain_step w (step.Exit hart status)) }
         ensures buffers { SameBuffers self.old self.new }
+        ensures tables { (w : World) → IsWorld self.old w → KeepsTables self.old self.new w.slots (plain_step w (step.Exit hart status)).world.slots }
     {
         match self.in_kernel(hart, false) {
             Ok(slot) => {
@@ -49,6 +50,7 @@ impl Machine {
         requires world { (w : World) × (waits : Bool) × IsWorld self.old w × IsInKernel self.old w hart slot waits }
         ensures ended { (w : World) (waits : Bool) (reply : Reply) → IsWorld self.old w → (k : IsInKernel self.old w hart slot waits) → IsWorld self.new (ended w hart (hart_of k.hart) slot k.process reply).world }
         ensures buffers { SameBuffers self.old self.new }
+        ensures others { KeepsOthers self.old self.new slot }
     {
         self.harts[hart].take(None);
         let Some(tenant) = self.slots[slot].take() else {
@@ -68,6 +70,7 @@ impl Machine {
         ensures slots { self.new.slots ≡ self.old.slots }
         ensures harts { self.new.harts ≡ self.old.harts }
         ensures files { self.new.files ≡ self.old.files }
+        ensures policy { self.new.policy ≡ self.old.policy }
         ensures rule { (others : List View) → BankRule self.old.frames (self.old.kernel.seat ∷ seat ∷ others) → BankRule self.new.frames (self.new.kernel.seat ∷ others) }
     {
         self.frames.join(&mut self.kernel.seat, seat);

@@ -1,13 +1,14 @@
 // Processes execute images.
 
-ghost use Rattle.std.specs.Prelude.{◌≡◌, ◌<◌, ◌≤◌, IfErr, IfOk};
+ghost use Rattle.std.specs.Prelude.{◌≡◌, ◌<◌, ◌≤◌, IfErr, IfOk, None};
 ghost use Rattle.frame_store.specs.Laws.{Fits, Keeps};
 ghost use Rattle.frame_store.specs.Plain.{BankRule};
 ghost use Rattle.hart_machine.specs.Buffers.{SameBuffers};
 ghost use Rattle.hart_machine.specs.Calls.{done_or_refused};
 ghost use Rattle.hart_machine.specs.Executed.{HasExecuted};
 ghost use Rattle.hart_machine.specs.Tenants.{IsTenant, view_of};
-ghost use Rattle.hart_machine.specs.Worlds.{IsWorld, Makes};
+ghost use Rattle.hart_machine.specs.Marks.{AreMarked, slot_of_ok};
+ghost use Rattle.hart_machine.specs.Worlds.{IsWorld, KeepsTables, Makes};
 ghost use Rattle.process_model.specs.Frames.{exec_need};
 ghost use Rattle.process_model.specs.Process.{Process};
 ghost use Rattle.process_model.specs.Steps.{plain_step};
@@ -17,6 +18,7 @@ ghost use Rattle.process_model.specs.declared.step.Step.TheVariants as step;
 ghost use Rattle.table_walk.specs.Tables.{Tables};
 
 use crate::machine::Machine;
+use crate::marking::Made;
 use crate::tenant::Tenant;
 use exec_segments::Image;
 use file_cabinet::Cabinet;
@@ -25,22 +27,26 @@ use process_model::{Refusal, Reply};
 
 impl Machine {
     /// The process on a hart executes an image: that of the image comes in its place.
-    pub(crate) fn exec(&mut self, hart: usize, image: process_model::Image<'_>) -> Reply
+    pub(crate) fn exec(&mut self, hart: usize, image: process_model::Image<'_>) -> Made
         requires world { (w : World) × IsWorld self.old w }
-        ensures made { (w : World) → IsWorld self.old w → Makes self.new result (plain_step w (step.Exec hart image.entry)) }
+        ensures made { (w : World) → IsWorld self.old w → Makes self.new result.reply (plain_step w (step.Exec hart image.entry)) }
         ensures buffers { SameBuffers self.old self.new }
+        ensures tables { (w : World) → IsWorld self.old w → KeepsTables self.old self.new w.slots (plain_step w (step.Exec hart image.entry)).world.slots }
+        ensures changed { (w : World) → IsWorld self.old w → AreMarked w (plain_step w (step.Exec hart image.entry)) result.changed result.born }
     {
         match self.replace(hart, image) {
-            Ok(()) => Reply::Done,
-            Err(refusal) => Reply::Refused(refusal),
+            Ok(slot) => Made::by(Reply::Done, Some(slot)),
+            Err(refusal) => Made::quiet(Reply::Refused(refusal)),
         }
     }
 
-    /// The same, or why it is refused.
-    fn replace(&mut self, hart: usize, image: process_model::Image<'_>) -> Result<(), Refusal>
+    /// The same, with the slot of the process, or why it is refused.
+    fn replace(&mut self, hart: usize, image: process_model::Image<'_>) -> Result<usize, Refusal>
         requires world { (w : World) × IsWorld self.old w }
         ensures made { (w : World) → IsWorld self.old w → Makes self.new (done_or_refused result) (plain_step w (step.Exec hart image.entry)) }
+        ensures changed { (w : World) → IsWorld self.old w → AreMarked w (plain_step w (step.Exec hart image.entry)) (slot_of_ok result) None }
         ensures harts { self.new.harts ≡ self.old.harts }
+        ensures tables { (w : World) → IsWorld self.old w → KeepsTables self.old self.new w.slots (plain_step w (step.Exec hart image.entry)).world.slots }
     {
         let slot = self.in_kernel(hart, false)?;
         let image = match Image::judged(image) {
@@ -53,7 +59,8 @@ impl Machine {
         let Some(tenant) = &mut slots[slot] else {
             unreachable!()
         };
-        tenant.exec(frames, files, &image)
+        tenant.exec(frames, files, &image)?;
+        Ok(slot)
     }
 }
 
@@ -72,6 +79,7 @@ impl Tenant {
         ensures dry { IfErr result (λ e. (e ≡ refusal.NoFrame) × (frames.old.free < exec_need image.now)) }
         ensures whole { IfErr result (λ _. (t : Tables) (p : Process) → IsTenant self.old t p → IsTenant self.new t p) }
         ensures files_stay { IfErr result (λ _. files.new ≡ files.old) }
+        ensures trapframe { self.new.space.trapframe ≡ self.old.space.trapframe }
         ensures keeps { Keeps BankRule frames.old (view_of self.old) frames.new (view_of self.new) }
     {
         exec_segments::exec(&mut self.space, frames, image, files)?;

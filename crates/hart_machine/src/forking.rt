@@ -7,7 +7,8 @@ ghost use Rattle.frame_store.specs.View.{IsHeld, View};
 ghost use Rattle.hart_machine.specs.Buffers.{SameBuffers};
 ghost use Rattle.hart_machine.specs.Forked.{forked_or_refused, HasForkedTenant};
 ghost use Rattle.hart_machine.specs.Tenants.{IsTenant, view_of};
-ghost use Rattle.hart_machine.specs.Worlds.{IsWorld, Makes};
+ghost use Rattle.hart_machine.specs.Marks.{AreMarked, child_in, marked_with};
+ghost use Rattle.hart_machine.specs.Worlds.{IsWorld, KeepsTables, Makes};
 ghost use Rattle.process_model.specs.Frames.{fork_need};
 ghost use Rattle.process_model.specs.Process.{Process};
 ghost use Rattle.process_model.specs.Steps.{plain_step};
@@ -17,28 +18,38 @@ ghost use Rattle.process_model.specs.declared.step.Step.TheVariants as step;
 ghost use Rattle.table_walk.specs.Tables.{Tables};
 
 use crate::machine::Machine;
+use crate::marking::{Made, slot_if};
 use crate::tenant::Tenant;
 use frame_store::PlainFrames;
 use process_model::{Refusal, Reply};
 
 impl Machine {
     /// The process on a hart forks: its child comes to be in the lowest slot without a process.
-    pub(crate) fn fork(&mut self, hart: usize) -> Reply
+    pub(crate) fn fork(&mut self, hart: usize) -> Made
         requires world { (w : World) × IsWorld self.old w }
-        ensures made { (w : World) → IsWorld self.old w → Makes self.new result (plain_step w (step.Fork hart)) }
+        ensures made { (w : World) → IsWorld self.old w → Makes self.new result.reply (plain_step w (step.Fork hart)) }
         ensures buffers { SameBuffers self.old self.new }
+        ensures tables { (w : World) → IsWorld self.old w → KeepsTables self.old self.new w.slots (plain_step w (step.Fork hart)).world.slots }
+        ensures changed { (w : World) → IsWorld self.old w → AreMarked w (plain_step w (step.Fork hart)) result.changed result.born }
     {
         match self.fork_into(hart) {
-            Ok(slot) => Reply::Forked(slot),
-            Err(refusal) => Reply::Refused(refusal),
+            Ok((slot, changed)) => Made {
+                reply: Reply::Forked(slot),
+                changed,
+                born: Some(slot),
+            },
+            Err(refusal) => Made::quiet(Reply::Refused(refusal)),
         }
     }
 
-    /// The same, with the slot of the child, or why there is none.
-    fn fork_into(&mut self, hart: usize) -> Result<usize, Refusal>
+    /// The same, with the slot of the child, and that of the process where a page of it got a fork mark, or why there is no
+    /// child.
+    fn fork_into(&mut self, hart: usize) -> Result<(usize, Option<usize>), Refusal>
         requires world { (w : World) × IsWorld self.old w }
         ensures made { (w : World) → IsWorld self.old w → Makes self.new (forked_or_refused result) (plain_step w (step.Fork hart)) }
+        ensures changed { (w : World) → IsWorld self.old w → AreMarked w (plain_step w (step.Fork hart)) (marked_with result) (child_in result) }
         ensures harts { self.new.harts ≡ self.old.harts }
+        ensures tables { (w : World) → IsWorld self.old w → KeepsTables self.old self.new w.slots (plain_step w (step.Fork hart)).world.slots }
     {
         let slot = self.in_kernel(hart, false)?;
         let Some(place) = self.free_slot() else {
@@ -49,9 +60,10 @@ impl Machine {
         let Some(tenant) = &mut slots[slot] else {
             unreachable!()
         };
+        let unmarked = tenant.has_unmarked(frames);
         let child = tenant.fork(frames)?;
         self.slots[place] = Some(child);
-        Ok(place)
+        Ok((place, slot_if(slot, unmarked)))
     }
 }
 
@@ -62,6 +74,7 @@ impl Tenant {
         requires ready { (t : Tables) × (p : Process) × IsTenant self.old t p }
         requires few { (f : ℕ) → IsHeld (view_of self.old) f → slice_index frames.old.counts f < 65535 }
         ensures forked { IfOk result (λ child. (t : Tables) (p : Process) → IsTenant self.old t p → HasForkedTenant self.new child t p) }
+        ensures trapframe { self.new.space.trapframe ≡ self.old.space.trapframe }
         ensures enough { IfOk result (λ _. (t : Tables) (p : Process) → IsTenant self.old t p → frames.old.free < fork_need p → ⊥) }
         ensures dry { IfErr result (λ e. (e ≡ refusal.NoFrame) × ((t : Tables) (p : Process) → IsTenant self.old t p → frames.old.free < fork_need p)) }
         ensures whole { IfErr result (λ _. (t : Tables) (p : Process) → IsTenant self.old t p → IsTenant self.new t p) }

@@ -1,17 +1,19 @@
 // Harts between user and kernel.
 
-ghost use Rattle.std.specs.Prelude.{◌≡◌, ◌≤◌, length};
+ghost use Rattle.std.specs.Prelude.{◌≡◌, ◌+◌, ◌<◌, ◌≤◌, ℕ, length, Some};
 ghost use Rattle.frame_store.specs.Laws.{Fits};
-ghost use Rattle.hart_machine.specs.Harts.{advanced, fenced, hart_of, next_number, with_entry};
+ghost use Rattle.hart_machine.specs.Harts.{advanced, cleaned, emptied, hart_of, is_before_user, next_number, with_entry};
+ghost use Rattle.hart_machine.specs.Slots.{most_slots};
 ghost use Rattle.hart_machine.specs.Walked.{entry_for};
 ghost use Rattle.table_walk.specs.Leaves.{LeavesAreLocal, LeavesAreThere};
 ghost use Rattle.process_model.specs.Harts as model;
 ghost use Rattle.table_walk.specs.Tables.{HasTables, Tables};
 
 use crate::filled::filled;
+use crate::slots::SlotSet;
 use frame_store::{FrameAccess, FrameSeat};
 use hart_tlb::Buffer;
-use process_model::Phase;
+use process_model::{Phase, Policy};
 use sv39_entry::{FrameNo, Va};
 
 /// How many entries the translation buffer of a hart holds.
@@ -23,6 +25,8 @@ pub(crate) struct Hart {
     pub(crate) phase: Phase,
     pub(crate) slot: Option<usize>,
     pub(crate) buffer: Buffer<BUFFER_SIZE>,
+    /// With address-space identifiers: the slots of which old entries may stand in the buffer.
+    pub(crate) stale: SlotSet,
 }
 
 impl Hart {
@@ -34,41 +38,76 @@ impl Hart {
             phase: Phase::Idle,
             slot: None,
             buffer: Buffer::new(),
+            stale: SlotSet::empty(),
         }
     }
 
-    /// Makes the next instruction of the trampoline, which is a fence of everything or a write of satp. Where there is none
-    /// in this phase nothing happens.
-    pub(crate) fn advance(&mut self)
-        ensures { self.new ≡ advanced self.old }
+    /// Makes the next instruction of the trampoline, which is a fence or a write of satp. Where there is none in this phase
+    /// nothing happens.
+    pub(crate) fn advance(&mut self, policy: Policy)
+        requires slot { (s : ℕ) → self.old.slot ≡ Some s → s < most_slots }
+        ensures { self.new ≡ advanced policy self.old }
     {
-        self.fence();
+        match policy {
+            Policy::Full => self.fence(),
+            Policy::Asid => self.clean(),
+        }
         if let Some(phase) = next_phase(self.phase) {
             self.phase = phase;
         }
     }
 
-    /// Empties the buffer where the next instruction is a fence.
+    /// With fences of everything: empties the buffer where the next instruction is one.
     fn fence(&mut self)
-        ensures { self.new ≡ fenced self.old }
+        ensures { self.new ≡ emptied self.old }
     {
         if is_before_fence(self.phase) {
             self.buffer.fence(None, None);
         }
     }
 
-    /// Translates the page of an address by the tables below a root, and keeps the outcome. It tells the number of the new
-    /// entry.
+    /// With address-space identifiers: where the next instruction is the last of the return and the slot is marked, takes the
+    /// entries of the slot's identifier out of the buffer, and the mark off.
+    fn clean(&mut self)
+        requires slot { (s : ℕ) → self.old.slot ≡ Some s → s < most_slots }
+        ensures { self.new ≡ cleaned self.old }
+    {
+        if !is_before_user(self.phase) {
+            return;
+        }
+        let Some(slot) = self.slot else {
+            return;
+        };
+        if self.stale.contains(slot) {
+            self.buffer.fence(None, Some(asid_of(slot)));
+            self.stale.remove(slot);
+        }
+    }
+
+    /// The address-space identifier that satp has.
+    pub(crate) fn asid(&self, policy: Policy) -> u16
+        requires slot { (s : ℕ) → self.now.slot ≡ Some s → s < most_slots }
+        ensures { result ≡ model.present_asid policy (hart_of self.now) }
+    {
+        match (policy, self.slot) {
+            (Policy::Asid, Some(slot)) if has_user_satp(self.phase) => asid_of(slot),
+            _ => 0,
+        }
+    }
+
+    /// Translates the page of an address by the tables below a root, and keeps the outcome under an address-space identifier. It
+    /// tells the number of the new entry.
     pub(crate) fn fill<F: FrameAccess>(
         &mut self,
         store: &mut F,
         seat: &mut F::Seat,
         root: FrameNo,
+        asid: u16,
         va: Va,
     ) -> usize
         requires fits { Fits F.rule store.old seat.old }
         requires held { (t : Tables) × HasTables (F.Seat.view seat.old) root.0 t }
-        ensures kept { (t : Tables) → HasTables (F.Seat.view seat.old) root.0 t → LeavesAreThere t → LeavesAreLocal t → self.new ≡ with_entry self.old (entry_for t 0 va.0) }
+        ensures kept { (t : Tables) → HasTables (F.Seat.view seat.old) root.0 t → LeavesAreThere t → LeavesAreLocal t → self.new ≡ with_entry self.old (entry_for t asid va.0) }
         ensures number { result ≡ next_number self.old.buffer }
         ensures few { length self.old.buffer ≤ model.buffer_size }
         ensures view { F.Seat.view seat.new ≡ F.Seat.view seat.old }
@@ -76,8 +115,7 @@ impl Hart {
     {
         // a full buffer loses its first entry
         let number = self.buffer.len().min(31);
-        // all entries are made under the address-space identifier 0
-        filled(&mut self.buffer, store, seat, root, 0, va);
+        filled(&mut self.buffer, store, seat, root, asid, va);
         number
     }
 
@@ -106,6 +144,21 @@ pub(crate) fn next_phase(phase: Phase) -> Option<Phase>
         Phase::Leave2 => Some(Phase::User),
         Phase::Idle | Phase::User => None,
     }
+}
+
+/// The address-space identifier of the process in a slot. That of the kernel is 0.
+fn asid_of(slot: usize) -> u16
+    requires { slot < most_slots }
+    ensures { result ≡ slot + 1 }
+{
+    slot as u16 + 1
+}
+
+/// Whether that instruction is the last of the return.
+fn is_before_user(phase: Phase) -> bool
+    ensures { result ≡ is_before_user phase }
+{
+    matches!(phase, Phase::Leave2)
 }
 
 /// Whether that instruction is a fence.

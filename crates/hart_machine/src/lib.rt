@@ -12,13 +12,16 @@ mod filled;
 mod forking;
 mod hart;
 mod machine;
+mod marking;
 mod serving;
+mod slots;
 mod starting;
 mod stepping;
 mod switching;
 mod tables;
 mod tenant;
 mod trampoline;
+mod watching;
 
 pub use boot::BootError;
 pub use hart::BUFFER_SIZE;

@@ -3,6 +3,7 @@
 ghost use Rattle.std.specs.Prelude.{◌≡◌, is_some, option_and_then, option_map, slice_get, Some};
 ghost use Rattle.std.specs.Vec.{with_item};
 ghost use Rattle.hart_machine.specs.declared.tenant.Tenant.{Tenant};
+ghost use Rattle.hart_machine.specs.Serves.{IsIn};
 ghost use Rattle.hart_machine.specs.Worlds.{IsWorld};
 ghost use Rattle.process_model.specs.World.{process_in, report, World};
 
@@ -11,11 +12,12 @@ use crate::tenant::{Pending, Tenant};
 use address_space::KernelTable;
 use file_cabinet::Cabinet;
 use frame_store::{PlainFrames, PlainSeat};
-use process_model::{Phase, Report};
+use process_model::{Phase, Policy, Report};
 
 /// One memory with the table of the kernel, processes in slots, harts, and files. All that it needs is made when it is booted.
 #[derive(Drop)]
 pub struct Machine {
+    pub(crate) policy: Policy,
     pub(crate) frames: PlainFrames,
     pub(crate) kernel: KernelTable<PlainSeat>,
     pub(crate) slots: Vec<Option<Tenant>>,
@@ -26,14 +28,14 @@ pub struct Machine {
 impl Machine {
     /// The accounts of the frames.
     pub fn report(&self) -> Report
-        ensures { (w : World) → IsWorld self.now w → result ≡ report w }
+        ensures { (w : World) → IsIn self.now w → result ≡ report w }
     {
         self.frames.report()
     }
 
     /// The files, as they are now.
     pub fn files(&self) -> &Cabinet
-        ensures { (w : World) → IsWorld self.now w → result.now ≡ w.files }
+        ensures { (w : World) → IsIn self.now w → result.now ≡ w.files }
     {
         &self.files
     }

@@ -7,13 +7,15 @@ ghost use Rattle.frame_store.specs.Opened.{opened, opener};
 ghost use Rattle.frame_store.specs.Plain.{BankRule};
 ghost use Rattle.frame_store.specs.View.{references, View};
 ghost use Rattle.hart_machine.specs.Buffers.{SameBuffers};
-ghost use Rattle.hart_machine.specs.Worlds.{IsWorld, Makes};
+ghost use Rattle.hart_machine.specs.Marks.{AreMarked};
+ghost use Rattle.hart_machine.specs.Worlds.{IsWorld, KeepsTables, Makes};
 ghost use Rattle.process_model.specs.Steps.{plain_step};
 ghost use Rattle.process_model.specs.World.{free_slot, World};
 ghost use Rattle.process_model.specs.declared.step.Step.TheVariants as step;
 ghost use Rattle.table_walk.specs.Tables as tables;
 
 use crate::machine::Machine;
+use crate::marking::Made;
 use crate::tenant::Tenant;
 use exec_segments::{Image, start};
 use frame_store::{FrameAccess, PlainSeat, opened_seat};
@@ -22,17 +24,19 @@ use sv39_entry::FrameNo;
 
 impl Machine {
     /// A process of an image comes to be in the lowest slot without one.
-    pub(crate) fn start(&mut self, image: process_model::Image<'_>) -> Reply
+    pub(crate) fn start(&mut self, image: process_model::Image<'_>) -> Made
         requires world { (w : World) × IsWorld self.old w }
-        ensures made { (w : World) → IsWorld self.old w → Makes self.new result (plain_step w (step.Start image.entry)) }
+        ensures made { (w : World) → IsWorld self.old w → Makes self.new result.reply (plain_step w (step.Start image.entry)) }
         ensures buffers { SameBuffers self.old self.new }
+        ensures tables { (w : World) → IsWorld self.old w → KeepsTables self.old self.new w.slots (plain_step w (step.Start image.entry)).world.slots }
+        ensures changed { (w : World) → IsWorld self.old w → AreMarked w (plain_step w (step.Start image.entry)) result.changed result.born }
     {
         let Some(slot) = self.free_slot() else {
-            return Reply::Refused(Refusal::NoSlot);
+            return Made::quiet(Reply::Refused(Refusal::NoSlot));
         };
         let image = match Image::judged(image) {
             Ok(image) => image,
-            Err(part) => return Reply::Refused(Refusal::BadImage(part)),
+            Err(part) => return Made::quiet(Reply::Refused(Refusal::BadImage(part))),
         };
         let seat = self.open_seat();
         match start(&mut self.frames, seat, &image) {
@@ -41,11 +45,15 @@ impl Machine {
                     space,
                     pending: None,
                 });
-                Reply::Started(slot)
+                Made {
+                    reply: Reply::Started(slot),
+                    changed: None,
+                    born: Some(slot),
+                }
             }
             Err((_, seat)) => {
                 self.close_seat(seat);
-                Reply::Refused(Refusal::NoFrame)
+                Made::quiet(Reply::Refused(Refusal::NoFrame))
             }
         }
     }
@@ -73,6 +81,7 @@ impl Machine {
         ensures slots { self.new.slots ≡ self.old.slots }
         ensures harts { self.new.harts ≡ self.old.harts }
         ensures files { self.new.files ≡ self.old.files }
+        ensures policy { self.new.policy ≡ self.old.policy }
         ensures rule { (others : List View) → BankRule self.old.frames (self.old.kernel.seat ∷ others) → BankRule self.new.frames (self.new.kernel.seat ∷ result ∷ others) }
     {
         let Ok(seat) = opened_seat(&mut self.frames, &mut self.kernel.seat) else {
@@ -92,6 +101,7 @@ impl Machine {
         ensures slots { self.new.slots ≡ self.old.slots }
         ensures harts { self.new.harts ≡ self.old.harts }
         ensures files { self.new.files ≡ self.old.files }
+        ensures policy { self.new.policy ≡ self.old.policy }
         ensures rule { (others : List View) → BankRule self.old.frames (self.old.kernel.seat ∷ seat ∷ others) → BankRule self.new.frames (self.new.kernel.seat ∷ others) }
     {
         self.frames.join(&mut self.kernel.seat, seat);

@@ -3,7 +3,7 @@
 ghost use Rattle.std.specs.Prelude.{◌≡◌, slice_get, Some};
 ghost use Rattle.std.specs.List.{list_any};
 ghost use Rattle.hart_machine.specs.Buffers.{BuffersAre, SameBuffers};
-ghost use Rattle.hart_machine.specs.Worlds.{IsWorld, Makes};
+ghost use Rattle.hart_machine.specs.Worlds.{IsWorld, Makes, SamePlaces, SameTables};
 ghost use Rattle.process_model.specs.Harts as harts;
 ghost use Rattle.process_model.specs.Steps.{plain_step};
 ghost use Rattle.process_model.specs.World as model;
@@ -20,6 +20,7 @@ impl Machine {
         requires world { (w : World) × IsWorld self.old w }
         ensures made { (w : World) → IsWorld self.old w → Makes self.new result (plain_step w (step.Switch hart slot)) }
         ensures buffers { SameBuffers self.old self.new }
+        ensures places { SamePlaces self.old self.new }
     {
         let Some(phase) = self.phase_of(hart) else {
             return Reply::Refused(Refusal::BadArgument);
@@ -46,6 +47,7 @@ impl Machine {
         requires world { (w : World) × IsWorld self.old w }
         ensures made { (w : World) → IsWorld self.old w → Makes self.new result (plain_step w (step.Trap hart)) }
         ensures buffers { SameBuffers self.old self.new }
+        ensures tables { SameTables self.old self.new }
     {
         let Some(phase) = self.phase_of(hart) else {
             return Reply::Refused(Refusal::BadArgument);
@@ -66,6 +68,7 @@ impl Machine {
         requires world { (w : World) × IsWorld self.old w }
         ensures made { (w : World) → IsWorld self.old w → Makes self.new result (plain_step w (step.Next hart)) }
         ensures buffers { (w : World) (is : IsWorld self.old w) → BuffersAre self.old self.new is.tables is.kernel (step.Next hart) result }
+        ensures places { SamePlaces self.old self.new }
     {
         let Some(phase) = self.phase_of(hart) else {
             return Reply::Refused(Refusal::BadArgument);
@@ -73,7 +76,8 @@ impl Machine {
         if !self.can_go_on(hart, phase) {
             return Reply::Refused(Refusal::Impossible(phase));
         }
-        self.harts[hart].advance();
+        let policy = self.policy;
+        self.harts[hart].advance(policy);
         Reply::Done
     }
 

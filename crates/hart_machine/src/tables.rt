@@ -3,14 +3,14 @@
 ghost use Rattle.std.specs.Prelude.{◌≡◌, IfOk, is_ok, option_map, slice_get, Some};
 ghost use Rattle.hart_machine.specs.Buffers.{BuffersAre};
 ghost use Rattle.hart_machine.specs.Harts.{hart_of};
-ghost use Rattle.hart_machine.specs.Tables.{tables_of, IsServed, IsThere, present_table};
+ghost use Rattle.hart_machine.specs.Serves.{IsIn};
+ghost use Rattle.hart_machine.specs.Tables.{tables_of, IsServed, IsThere, MayAsk, present_table};
 ghost use Rattle.table_walk.specs.Leaves.{walk_answer};
-ghost use Rattle.hart_machine.specs.Worlds.{IsWorld, Makes, StaysIn};
+ghost use Rattle.hart_machine.specs.Worlds.{IsWorld, Makes, SamePlaces, StaysIn};
 ghost use Rattle.hart_machine.specs.declared.hart.Hart.{Hart};
 ghost use Rattle.process_model.specs.Harts.{entry_serves};
 ghost use Rattle.process_model.specs.Steps.{plain_step};
 ghost use Rattle.process_model.specs.World.{World};
-ghost use Rattle.process_model.specs.declared.config.Policy.TheVariants.{Full};
 ghost use Rattle.process_model.specs.declared.step.Reply.TheVariants.{Filled};
 ghost use Rattle.process_model.specs.declared.step.Step.TheVariants as step;
 
@@ -63,9 +63,12 @@ impl Machine {
     ) -> Result<Walk, NoEntry>
         requires hart { (x : Hart) × (slice_get self.old.harts.items hart ≡ Some x) }
         requires world { (w : World) × IsWorld self.old w }
-        ensures serves { (w : World) (x : Hart) → IsWorld self.old w → slice_get self.old.harts.items hart ≡ Some x → is_ok result ≡ entry_serves Full (hart_of x) va.0 via }
-        ensures walk { IfOk result (λ z. (w : World) (is : IsWorld self.old w) (x : Hart) → slice_get self.old.harts.items hart ≡ Some x → IsServed x is.tables is.kernel va.0 access mode z) }
+        ensures serves { (w : World) (x : Hart) → IsWorld self.old w → slice_get self.old.harts.items hart ≡ Some x → is_ok result ≡ entry_serves self.old.policy (hart_of x) va.0 via }
+        ensures walk { IfOk result (λ z. (w : World) (is : IsIn self.old w) (x : Hart) → slice_get self.old.harts.items hart ≡ Some x → MayAsk x va.0 →
+            IsServed x (is.world).tables (is.world).kernel va.0 access mode z) }
         ensures world { StaysIn self.old self.new }
+        ensures places { SamePlaces self.old self.new }
+        ensures policy { self.new.policy ≡ self.old.policy }
         ensures harts { self.new.harts ≡ self.old.harts }
     {
         if let Some(entry) = via {
@@ -86,14 +89,16 @@ impl Machine {
         access: Access,
         mode: Mode,
     ) -> Result<Walk, NoEntry>
-        ensures serves { (w : World) (x : Hart) → IsWorld self.now w → slice_get self.now.harts.items hart ≡ Some x → is_ok result ≡ entry_serves Full (hart_of x) va.0 (Some entry) }
-        ensures walk { IfOk result (λ z. (w : World) (is : IsWorld self.now w) (x : Hart) → slice_get self.now.harts.items hart ≡ Some x → IsServed x is.tables is.kernel va.0 access mode z) }
+        requires world { (w : World) × IsWorld self.now w }
+        ensures serves { (w : World) (x : Hart) → IsWorld self.now w → slice_get self.now.harts.items hart ≡ Some x → is_ok result ≡ entry_serves self.now.policy (hart_of x) va.0 (Some entry) }
+        ensures walk { IfOk result (λ z. (w : World) (is : IsIn self.now w) (x : Hart) → slice_get self.now.harts.items hart ≡ Some x → MayAsk x va.0 →
+            IsServed x (is.world).tables (is.world).kernel va.0 access mode z) }
     {
         let Some(hart) = self.harts.get(hart) else {
             return Err(NoEntry);
         };
-        // all entries are made under the address-space identifier 0
-        hart.buffer.use_entry(entry, va, 0, access, mode)
+        let asid = hart.asid(self.policy);
+        hart.buffer.use_entry(entry, va, asid, access, mode)
     }
 
     /// Translates an access by the tables in memory.
@@ -102,6 +107,8 @@ impl Machine {
         requires world { (w : World) × IsWorld self.old w }
         ensures walk { (w : World) (is : IsWorld self.old w) → result ≡ walk_answer (tables_of is.tables is.kernel table) va.0 access mode }
         ensures world { StaysIn self.old self.new }
+        ensures places { SamePlaces self.old self.new }
+        ensures policy { self.new.policy ≡ self.old.policy }
         ensures harts { self.new.harts ≡ self.old.harts }
     {
         let frames = &mut self.frames;
@@ -127,13 +134,16 @@ impl Machine {
         requires world { (w : World) × IsWorld self.old w }
         ensures made { (w : World) → IsWorld self.old w → Makes self.new (Filled result) (plain_step w (step.Fill hart va.0)) }
         ensures buffers { (w : World) (is : IsWorld self.old w) → BuffersAre self.old self.new is.tables is.kernel (step.Fill hart va.0) (Filled result) }
+        ensures places { SamePlaces self.old self.new }
     {
+        let policy = self.policy;
         let frames = &mut self.frames;
         let hart = &mut self.harts[hart];
+        let asid = hart.asid(policy);
         match table {
             Table::OfKernel => {
                 let kernel = &mut self.kernel;
-                hart.fill(frames, &mut kernel.seat, kernel.root, va)
+                hart.fill(frames, &mut kernel.seat, kernel.root, asid, va)
             }
             Table::OfProcess(slot) => {
                 let slots = &mut self.slots;
@@ -141,7 +151,7 @@ impl Machine {
                     unreachable!()
                 };
                 let space = &mut tenant.space;
-                hart.fill(frames, &mut space.seat, space.root, va)
+                hart.fill(frames, &mut space.seat, space.root, asid, va)
             }
         }
     }

@@ -2,7 +2,8 @@
 
 ghost use Rattle.std.specs.Prelude.{◌≡◌};
 ghost use Rattle.hart_machine.specs.Buffers.{SameBuffers};
-ghost use Rattle.hart_machine.specs.Worlds.{IsWorld, Makes};
+ghost use Rattle.hart_machine.specs.Serves.{IsIn};
+ghost use Rattle.hart_machine.specs.Worlds.{Makes, SamePlaces};
 ghost use Rattle.process_model.specs.Steps.{plain_step};
 ghost use Rattle.process_model.specs.World.{World};
 ghost use Rattle.process_model.specs.declared.step.Step.TheVariants as step;
@@ -17,9 +18,10 @@ impl Machine {
     /// The kernel's code in the trampoline page is fetched on a hart, by a walk or by the entry of the hart's buffer with
     /// the number `via`.
     pub(crate) fn fetch_trampoline(&mut self, hart: usize, offset: u64, via: Option<usize>) -> Reply
-        requires world { (w : World) × IsWorld self.old w }
-        ensures made { (w : World) → IsWorld self.old w → Makes self.new result (plain_step w (step.TrampolineFetch hart offset via)) }
+        requires world { (w : World) × IsIn self.old w }
+        ensures made { (w : World) → IsIn self.old w → Makes self.new result (plain_step w (step.TrampolineFetch hart offset via)) }
         ensures buffers { SameBuffers self.old self.new }
+        ensures places { SamePlaces self.old self.new }
     {
         let Some(phase) = self.phase_of(hart) else {
             return Reply::Refused(Refusal::BadArgument);

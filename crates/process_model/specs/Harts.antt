@@ -1,6 +1,5 @@
 -- Harts: the phases between user and kernel, and the keys of the translation buffer.
 use Rattle.std.specs.Prelude.{ℕ, Bool, true, false, not, ◌+◌, nat_lt, ◌==◌, ◌&&◌, Option, None, Some, List, [], ◌∷◌, ◌++◌, drop, length, filter, slice_get, if◌then◌else◌}
-use Rattle.process_model.specs.PageMap.{NumberSet, only, contains, empty}
 use Rattle.sv39_entry.specs.Address.{page_of}
 use Rattle.process_model.specs.declared.config.Policy.{Policy}
 use Rattle.process_model.specs.declared.config.Policy.TheVariants.{Full, Asid}
@@ -19,11 +18,11 @@ pub record Hart : Type 0 where
   pub slot : Option ℕ
   -- one for each entry of the buffer, in the order of filling
   pub keys : List Key
-  -- the slots of which old entries may stand in the buffer
-  pub stale : NumberSet
+  -- the slots that are marked: of these, old entries may stand in the buffer
+  pub stale : ℕ → Bool
 
 abbrev pub idle_hart : Hart
-idle_hart = record { phase = Idle; slot = None; keys = []; stale = empty (Unit {0}) }
+idle_hart = record { phase = Idle; slot = None; keys = []; stale = λ s. false }
 
 -- phases (the xv6 book, "Traps from user space")
 
@@ -118,12 +117,12 @@ emptied_if hart false = hart
 -- with address-space identifiers: where the slot is stale, the last fence of the return removes the slot's own entries, so that it
 -- is stale no more; no other fence does anything
 abbrev pub cleaned_if : Hart → ℕ → Bool → Hart
-cleaned_if hart s true = record hart { keys = filter (λ k. not (k.asid == s + 1)) hart.keys; stale = only (λ n. not (n == s)) hart.stale }
+cleaned_if hart s true = record hart { keys = filter (λ k. not (k.asid == s + 1)) hart.keys; stale = λ n. not (n == s) && hart.stale n }
 cleaned_if hart s false = hart
 
 abbrev pub cleaned_for : Hart → Option ℕ → Hart
 cleaned_for hart None = hart
-cleaned_for hart (Some s) = cleaned_if hart s (contains hart.stale s)
+cleaned_for hart (Some s) = cleaned_if hart s (hart.stale s)
 
 abbrev pub cleaned_at : Hart → Phase → Hart
 cleaned_at hart Leave2 = cleaned_for hart hart.slot

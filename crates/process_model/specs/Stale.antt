@@ -1,6 +1,6 @@
 -- With address-space identifiers: the slots of which the buffers may have old entries after a step.
-use Rattle.std.specs.Prelude.{ℕ, Bool, true, false, not, ◌+◌, ◌==◌, ◌&&◌, Option, None, Some, List, [], ◌∷◌, map, if◌then◌else◌}
-use Rattle.process_model.specs.PageMap.{with_numbers}
+use Rattle.std.specs.Prelude.{ℕ, Bool, true, false, not, ◌+◌, ◌==◌, ◌&&◌, ◌||◌, Option, None, Some, List, [], ◌∷◌, map, if◌then◌else◌}
+use Rattle.std.specs.List.{list_any}
 use Rattle.process_model.specs.Process.{Process, Page}
 use Rattle.process_model.specs.Harts.{Hart}
 use Rattle.process_model.specs.World.{World, Outcome}
@@ -35,7 +35,7 @@ changed_slots n (p ∷ ps) (q ∷ qs) = if is_changed p q then n ∷ changed_slo
 changed_slots n _ _ = []
 
 abbrev pub with_stale : List ℕ → Hart → Hart
-with_stale slots hart = record hart { stale = with_numbers hart.stale slots }
+with_stale slots hart = record hart { stale = λ s. list_any (λ n. n == s) slots || hart.stale s }
 
 -- every hart may have old entries of the changed slots
 abbrev pub with_stale_slots : Policy → World → Outcome → Outcome

@@ -1,7 +1,7 @@
 use Rattle.std.proofs.Common.{◌∙◌, ◌<◌, Some, subst, sym}
 use Rattle.std.proofs.lemmas.Option.{get_or_from_slice_get, slice_get_within}
 use Rattle.hart_machine.proofs.AccessingWorlds.{seat_fits, slot_has}
-use Rattle.hart_machine.proofs.CopySteps.{copies_in}
+use Rattle.hart_machine.proofs.CopySteps.{copies_in, keeps_in, marks_in}
 use Rattle.hart_machine.proofs.HartSteps.{tenant_is}
 use Rattle.hart_machine.proofs.machine.Machine.copy_from.Goals as goal
 
@@ -17,16 +17,16 @@ unreachable-requires c =
     let both = sym c.in_default.is ∙ c.index_mut.ensures.value ∙ get_or_from_slice_get c.args.self.now.slots.items c.args.slot (Some k.tenant) _ k.place in
     cc
 
-pub copy_in-requires-clause-fits : goal.copy_in-requires-clause-fits
-copy_in-requires-clause-fits c =
+pub copy_in-reply-requires-clause-fits : goal.copy_in-reply-requires-clause-fits
+copy_in-reply-requires-clause-fits c =
     let m = c.args.self.now in
     let r = c.requires.world in
     let k = r.3 in
     let there = slot_has m.slots.items c.args.slot k.tenant c.in-Some.tenant _ c.in-Some.is c.index_mut.ensures.value k.place in
     seat_fits m.frames m.kernel.seat m.slots.items c.args.slot c.in-Some.tenant there (r.2).rule
 
-pub copy_in-requires-clause-ready : goal.copy_in-requires-clause-ready
-copy_in-requires-clause-ready c =
+pub copy_in-reply-requires-clause-ready : goal.copy_in-reply-requires-clause-ready
+copy_in-reply-requires-clause-ready c =
     let m = c.args.self.now in
     let r = c.requires.world in
     let k = r.3 in
@@ -37,5 +37,19 @@ pub returns-clause-made : goal.returns-clause-made
 returns-clause-made c w h is k =
     let m = c.args.self.now in
     let there = slot_has m.slots.items c.args.slot k.tenant c.in-Some.tenant _ c.in-Some.is c.index_mut.ensures.value k.place in
-    let y = c.copy_in in
-    copies_in m w is h c.args.slot k c.in-Some.tenant y.new.self there y.new.frames y.new.files c.args.va.0 c.args.count y.result c.requires.few y.ensures.copied
+    let y = c.copy_in-reply in
+    rw c.by.ensures (copies_in m w is h c.args.slot k c.in-Some.tenant y.new.self there y.new.frames y.new.files c.args.va.0 c.args.count y.result.0 c.requires.few y.ensures.copied)
+
+pub returns-clause-changed : goal.returns-clause-changed
+returns-clause-changed c w h is k =
+    let m = c.args.self.now in
+    let there = slot_has m.slots.items c.args.slot k.tenant c.in-Some.tenant _ c.in-Some.is c.index_mut.ensures.value k.place in
+    let y = c.copy_in-reply in
+    rw (c.by.ensures, c.slot_if.ensures) (marks_in m w is h c.args.slot k c.in-Some.tenant y.new.self there y.new.frames y.new.files c.args.va.0 c.args.count y.result.0 c.requires.few y.ensures.copied y.result.1 y.ensures.changed)
+
+pub returns-clause-tables : goal.returns-clause-tables
+returns-clause-tables c w h is k =
+    let m = c.args.self.now in
+    let there = slot_has m.slots.items c.args.slot k.tenant c.in-Some.tenant _ c.in-Some.is c.index_mut.ensures.value k.place in
+    let y = c.copy_in-reply in
+    keeps_in m w is h c.args.slot k c.in-Some.tenant y.new.self there y.new.frames y.new.files c.args.va.0 c.args.count y.result.0 c.requires.few y.ensures.copied y.ensures.trapframe

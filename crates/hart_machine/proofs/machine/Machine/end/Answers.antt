@@ -1,8 +1,10 @@
-use Rattle.std.proofs.Common.{◌∙◌, ◌<◌, Option, None, Some, ap, subst, sym}
+use Rattle.std.proofs.Common.{◌∙◌, ◌<◌, length, Option, None, Some, List, ap, subst, sym}
 use Rattle.std.specs.Prelude.{option_map, slice_get, slice_set}
 use Rattle.std.specs.Global.{Vec}
 use Rattle.std.specs.Vec.{with_item}
+use Rattle.std.proofs.lemmas.List.{length-set}
 use Rattle.std.proofs.lemmas.Option.{get_or_from_slice_get, slice_get_within}
+use Rattle.frame_store.specs.Seats.{place_set_other}
 use Rattle.hart_machine.specs.Worlds.{seats_of}
 use Rattle.hart_machine.specs.declared.hart.Hart.{Hart}
 use Rattle.hart_machine.specs.declared.tenant.Tenant.{Tenant}
@@ -66,7 +68,7 @@ returns-clause-ended c w waits reply is k =
     let read = c.index_mut.ensures.value ∙ get_or_from_slice_get m.harts.items c.args.hart k.hart _ k.there in
     let e = c.end_seat.ensures in
     let others = seats_of (slice_set m.slots.items c.args.slot None) in
-    ends m w is c.args.hart c.args.slot waits k c.in-Some.tenant there c.end_seat.new.self e.size (ap (λ (v : Vec (Option Tenant)). v.items) e.slots ∙ ap (slice_set m.slots.items c.args.slot) c.take-2.ensures.after) (e.harts ∙ ap (with_item m.harts c.args.hart) (c.take.ensures ∙ ap idled read))
+    ends m w is c.args.hart c.args.slot waits k c.in-Some.tenant there c.end_seat.new.self e.policy e.size (ap (λ (v : Vec (Option Tenant)). v.items) e.slots ∙ ap (slice_set m.slots.items c.args.slot) c.take-2.ensures.after) (e.harts ∙ ap (with_item m.harts c.args.hart) (c.take.ensures ∙ ap idled read))
     (e.files ∙ c.end-seat.ensures.written (is.tables c.args.slot) k.process (tenant_is m w is c.args.slot c.in-Some.tenant k.process there k.in_slot))
     (e.rule others (seat_left m.frames c.end-seat.new.frames m.kernel.seat m.slots.items c.args.slot c.in-Some.tenant c.end-seat.result there c.end-seat.ensures.keeps is.rule))
     e.kernel reply
@@ -75,3 +77,14 @@ pub returns-clause-buffers : goal.returns-clause-buffers
 returns-clause-buffers c h =
     ap (λ (hs : Vec Hart). option_map (λ x. x.buffer) (slice_get hs.items h)) c.end_seat.ensures.harts
     ∙ same_buffers c.args.self.now c.args.hart c.index_mut.result.now c.take.new.self c.index_mut.ensures.value (ap (λ (x : Hart). x.buffer) c.take.ensures) h
+
+pub returns-clause-others : goal.returns-clause-others
+returns-clause-others c =
+    let m = c.args.self.now in
+    let e = c.end_seat.ensures in
+    let slots = ap (λ (v : Vec (Option Tenant)). v.items) e.slots ∙ ap (slice_set m.slots.items c.args.slot) c.take-2.ensures.after in
+    record {
+      many = ap length slots ∙ length-set m.slots.items c.args.slot None;
+      kernel = e.kernel;
+      others = λ r apart. ap (λ (xs : List (Option Tenant)). slice_get xs r) slots ∙ place_set_other m.slots.items c.args.slot r None apart;
+    }

@@ -1,4 +1,4 @@
-use Rattle.std.proofs.Common.{◌∙◌, ap, sym, arith}
+use Rattle.std.proofs.Common.{◌∙◌, ap, inr, sym, arith}
 use Rattle.std.specs.Prelude.{is_ok}
 use Rattle.hart_machine.proofs.HartSteps.{has_hart, no_hart}
 use Rattle.hart_machine.proofs.Trampolines.{beyond, elsewhere, fetches_code, finds_code, finds_leaf, misaligned, no_entry, nowhere}
@@ -6,24 +6,28 @@ use Rattle.hart_machine.proofs.machine.Machine.fetch_trampoline.Goals as goal
 use Rattle.hart_machine.proofs.machine.Machine.fetch_trampoline.Goals.{then-offset-ne0-via-then-offset-ne0, then-offset-ne0-via-else-offset-ne0+then-offset-ge-PAGE_SIZE}
 
 pub returns-in_default-clause-made : goal.returns-in_default-clause-made
-returns-in_default-clause-made c w is =
+returns-in_default-clause-made c w buffered =
+    let is = buffered.world in
     nowhere c.args.self.now w is c.args.hart c.args.offset c.args.via (no_hart c.args.self.now w is c.args.hart (sym c.in_default.is ∙ c.phase_of.ensures))
 
 pub returns-then-offset-ne0-clause-made : goal.returns-then-offset-ne0-clause-made
-returns-then-offset-ne0-clause-made c w is =
+returns-then-offset-ne0-clause-made c w buffered =
+    let is = buffered.world in
     elim c.then-offset-ne0.branch [
       | then-offset-ne0-via-then-offset-ne0 b ↦ misaligned c.args.self.now w is c.args.hart c.args.offset c.args.via b.if-offset-ne0.true
       | then-offset-ne0-via-else-offset-ne0+then-offset-ge-PAGE_SIZE b ↦ beyond c.args.self.now w is c.args.hart c.args.offset c.args.via b.if-offset-ge-PAGE_SIZE.true
     ]
 
 pub returns-then-not-in_trampoline-clause-made : goal.returns-then-not-in_trampoline-clause-made
-returns-then-not-in_trampoline-clause-made c w is =
+returns-then-not-in_trampoline-clause-made c w buffered =
+    let is = buffered.world in
     let has = has_hart c.args.self.now w is c.args.hart c.in-Some.phase (sym c.in-Some.is ∙ c.phase_of.ensures) in
     elsewhere c.args.self.now w is c.args.hart c.args.offset c.args.via c.if-offset-ne0.false (omega (arith, c.if-offset-ge-PAGE_SIZE.false)) c.in-Some.phase has
     (sym c.in_trampoline.ensures ∙ c.if-not-in_trampoline.true)
 
 pub returns-in_default-translated-clause-made : goal.returns-in_default-translated-clause-made
-returns-in_default-translated-clause-made c w is =
+returns-in_default-translated-clause-made c w buffered =
+    let is = buffered.world in
     let has = has_hart c.args.self.now w is c.args.hart c.in-Some.phase (sym c.in-Some.is ∙ c.phase_of.ensures) in
     no_entry c.args.self.now w is c.args.hart c.args.offset c.args.via c.if-offset-ne0.false (omega (arith, c.if-offset-ge-PAGE_SIZE.false)) c.in-Some.phase has
     (sym c.in_trampoline.ensures ∙ c.if-not-in_trampoline.false) c.translated.new.self ((c.translated.ensures.world w is).0)
@@ -32,24 +36,25 @@ returns-in_default-translated-clause-made c w is =
 pub unreachable-requires : goal.unreachable-requires
 unreachable-requires c =
     let r = c.requires.world in
-    let has = has_hart c.args.self.now r.0 r.1 c.args.hart c.in-Some.phase (sym c.in-Some.is ∙ c.phase_of.ensures) in
-    finds_leaf c.args.offset (omega (arith, c.if-offset-ge-PAGE_SIZE.false)) c.args.self.now r.0 r.1 c.args.hart has.hart has.there c.in-Ok.walk
-    (c.in-Ok.ensures.walk r.0 r.1 has.hart has.there) c.in_default-walk.not-Leaf
+    let has = has_hart c.args.self.now r.0 (r.1).world c.args.hart c.in-Some.phase (sym c.in-Some.is ∙ c.phase_of.ensures) in
+    finds_leaf c.args.offset (omega (arith, c.if-offset-ge-PAGE_SIZE.false)) c.args.self.now r.0 (r.1).world c.args.hart has.hart has.there c.in-Ok.walk
+    (c.in-Ok.ensures.walk r.0 r.1 has.hart has.there (inr (omega (arith, c.if-offset-ge-PAGE_SIZE.false)))) c.in_default-walk.not-Leaf
 
 pub unreachable-requires-in_default-from_ppn : goal.unreachable-requires-in_default-from_ppn
 unreachable-requires-in_default-from_ppn c =
     let r = c.requires.world in
-    let has = has_hart c.args.self.now r.0 r.1 c.args.hart c.in-Some.phase (sym c.in-Some.is ∙ c.phase_of.ensures) in
-    let code = finds_code c.args.offset (omega (arith, c.if-offset-ge-PAGE_SIZE.false)) c.args.self.now r.0 r.1 c.args.hart has.hart has.there c.in-Ok.walk
-    (c.in-Ok.ensures.walk r.0 r.1 has.hart has.there) c.in-Leaf.word c.in-Leaf.level c.in-Leaf.address c.in-Leaf.is in
+    let has = has_hart c.args.self.now r.0 (r.1).world c.args.hart c.in-Some.phase (sym c.in-Some.is ∙ c.phase_of.ensures) in
+    let code = finds_code c.args.offset (omega (arith, c.if-offset-ge-PAGE_SIZE.false)) c.args.self.now r.0 (r.1).world c.args.hart has.hart has.there c.in-Ok.walk
+    (c.in-Ok.ensures.walk r.0 r.1 has.hart has.there (inr (omega (arith, c.if-offset-ge-PAGE_SIZE.false)))) c.in-Leaf.word c.in-Leaf.level c.in-Leaf.address c.in-Leaf.is in
     let both = sym c.in_default-from_ppn.is ∙ c.from_ppn.ensures ∙ code in
     cc
 
 pub returns-clause-made : goal.returns-clause-made
-returns-clause-made c w is =
+returns-clause-made c w buffered =
+    let is = buffered.world in
     let has = has_hart c.args.self.now w is c.args.hart c.in-Some.phase (sym c.in-Some.is ∙ c.phase_of.ensures) in
     let code = finds_code c.args.offset (omega (arith, c.if-offset-ge-PAGE_SIZE.false)) c.args.self.now w is c.args.hart has.hart has.there c.in-Ok.walk
-    (c.in-Ok.ensures.walk w is has.hart has.there) c.in-Leaf.word c.in-Leaf.level c.in-Leaf.address c.in-Leaf.is in
+    (c.in-Ok.ensures.walk w buffered has.hart has.there (inr (omega (arith, c.if-offset-ge-PAGE_SIZE.false)))) c.in-Leaf.word c.in-Leaf.level c.in-Leaf.address c.in-Leaf.is in
     rw c.from.ensures (fetches_code c.args.self.now w is c.args.hart c.args.offset c.args.via c.if-offset-ne0.false (omega (arith, c.if-offset-ge-PAGE_SIZE.false)) c.in-Some.phase has
     (sym c.in_trampoline.ensures ∙ c.if-not-in_trampoline.false) c.translated.new.self ((c.translated.ensures.world w is).0)
     (sym (c.translated.ensures.serves w has.hart is has.there) ∙ ap is_ok c.in-Ok.is) c.in-Some-from_ppn.frame (sym c.in-Some-from_ppn.is ∙ c.from_ppn.ensures ∙ code))

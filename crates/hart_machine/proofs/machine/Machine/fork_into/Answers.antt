@@ -1,21 +1,28 @@
-use Rattle.std.proofs.Common.{◌≡◌, ◌∙◌, ◌<◌, ℕ, Some, ap, subst, sym}
-use Rattle.std.specs.Prelude.{Err, Result}
+use Rattle.std.proofs.Common.{◌∙◌, ◌<◌, ◌∷◌, Some, ap, refl, subst, sym}
+use Rattle.std.specs.Prelude.{slice_set}
+use Rattle.frame_store.specs.Laws.{Keeps}
+use Rattle.frame_store.specs.Plain.{Bank, BankRule}
+use Rattle.process_model.specs.Frames.{fork_need}
+use Rattle.process_model.specs.Residence.{child_of, marked}
 use Rattle.std.specs.Vec.{with_item}
 use Rattle.std.proofs.lemmas.Option.{get_or_from_slice_get, slice_get_within}
 use Rattle.std.proofs.lemmas.Result.{err_from_is_err_and}
 use Rattle.process_model.specs.Steps.{plain_step}
 use Rattle.process_model.specs.World.{refuses}
-use Rattle.process_model.specs.declared.step.Refusal.{Refusal}
-use Rattle.process_model.specs.declared.step.Refusal.TheVariants.{NoFrame}
+use Rattle.process_model.specs.declared.step.Refusal.TheVariants.{NoFrame, NoSlot}
 use Rattle.process_model.specs.declared.step.Step.TheVariants as step
-use Rattle.hart_machine.specs.Forked.{forked_or_refused}
-use Rattle.hart_machine.specs.Worlds.{Makes}
+use Rattle.hart_machine.specs.Tenants.{IsTenant, view_of}
 use Rattle.hart_machine.specs.declared.machine.Machine.{Machine}
+use Rattle.hart_machine.specs.declared.tenant.Tenant.{Tenant}
 use Rattle.hart_machine.proofs.AccessingWorlds.{seat_fits, slot_has}
-use Rattle.hart_machine.proofs.ForkOutcomes.{forks_dry, forks_wet, without_slot}
+use Rattle.hart_machine.proofs.ForkOutcomes.{fork_sets, forks_dry, forks_wet, no_frame, no_slot, without_slot}
 use Rattle.hart_machine.proofs.HartSteps.{process_at, refused}
 use Rattle.hart_machine.proofs.StartSeats.{few_shared}
-use Rattle.hart_machine.proofs.StartSlots.{free_within}
+use Rattle.hart_machine.proofs.StartSlots.{free_is_empty, free_place, free_within}
+use Rattle.hart_machine.proofs.KeptLeaves.{followed_same, slot_keeps_by, was_alike}
+use Rattle.hart_machine.proofs.KeptTables.{one_below, same_places, same_tables, then_born}
+use Rattle.hart_machine.proofs.MarkedCalls.{tells_marks}
+use Rattle.hart_machine.proofs.SlotMarks.{fork_marks, refused_as}
 use Rattle.hart_machine.proofs.machine.Machine.fork_into.Goals as goal
 
 pub returns-in_err-slot-clause-made : goal.returns-in_err-slot-clause-made
@@ -42,42 +49,111 @@ unreachable-requires c =
     let both = sym c.in_default-index_mut.is ∙ c.index_mut.ensures.value ∙ read in
     cc
 
+pub has_unmarked-unmarked-requires-clause-fits : goal.has_unmarked-unmarked-requires-clause-fits
+has_unmarked-unmarked-requires-clause-fits c =
+    let r = c.requires.world in
+    let m = c.args.self.now in
+    let s = c.in_ok-slot.slot in
+    let caller = c.in_ok-slot.ensures.there r.0 r.1 in
+    let x = c.in-Some-index_mut.tenant in
+    let there = slot_has m.slots.items s caller.tenant x _ c.in-Some-index_mut.is c.index_mut.ensures.value caller.place in
+    seat_fits m.frames m.kernel.seat m.slots.items s x there (r.1).rule
+
+pub has_unmarked-unmarked-requires-clause-ready : goal.has_unmarked-unmarked-requires-clause-ready
+has_unmarked-unmarked-requires-clause-ready c =
+    let r = c.requires.world in
+    let m = c.args.self.now in
+    let s = c.in_ok-slot.slot in
+    let caller = c.in_ok-slot.ensures.there r.0 r.1 in
+    let x = c.in-Some-index_mut.tenant in
+    let there = slot_has m.slots.items s caller.tenant x _ c.in-Some-index_mut.is c.index_mut.ensures.value caller.place in
+    let found = process_at m r.0 r.1 s x there in
+    ((r.1).tables s, found.0, found.2)
+
 pub fork-requires-clause-fits : goal.fork-requires-clause-fits
 fork-requires-clause-fits c =
-    let m = c.args.self.now in
     let r = c.requires.world in
+    let m = c.args.self.now in
+    let s = c.in_ok-slot.slot in
     let caller = c.in_ok-slot.ensures.there r.0 r.1 in
-    let x = c.in-Some-index_mut in
-    let there = slot_has m.slots.items c.in_ok-slot.slot caller.tenant x.tenant _ x.is c.index_mut.ensures.value caller.place in
-    seat_fits m.frames m.kernel.seat m.slots.items c.in_ok-slot.slot x.tenant there (r.1).rule
+    let x = c.in-Some-index_mut.tenant in
+    let there = slot_has m.slots.items s caller.tenant x _ c.in-Some-index_mut.is c.index_mut.ensures.value caller.place in
+    let u = c.has_unmarked-unmarked in
+    rw (u.ensures.same, u.ensures.frames) (seat_fits m.frames m.kernel.seat m.slots.items s x there (r.1).rule)
 
 pub fork-requires-clause-ready : goal.fork-requires-clause-ready
 fork-requires-clause-ready c =
-    let m = c.args.self.now in
     let r = c.requires.world in
+    let m = c.args.self.now in
+    let s = c.in_ok-slot.slot in
     let caller = c.in_ok-slot.ensures.there r.0 r.1 in
-    let x = c.in-Some-index_mut in
-    let there = slot_has m.slots.items c.in_ok-slot.slot caller.tenant x.tenant _ x.is c.index_mut.ensures.value caller.place in
-    let found = process_at m r.0 r.1 c.in_ok-slot.slot x.tenant there in
-    ((r.1).tables c.in_ok-slot.slot, found.0, found.2)
+    let x = c.in-Some-index_mut.tenant in
+    let there = slot_has m.slots.items s caller.tenant x _ c.in-Some-index_mut.is c.index_mut.ensures.value caller.place in
+    let u = c.has_unmarked-unmarked in
+    let found = process_at m r.0 r.1 s x there in
+    rw u.ensures.same ((r.1).tables s, found.0, found.2)
 
 pub fork-requires-clause-few : goal.fork-requires-clause-few
-fork-requires-clause-few c f held = let r = c.requires.world in few_shared c.args.self.now r.0 r.1 f
+fork-requires-clause-few c = rw (c.has_unmarked-unmarked.ensures.same, c.has_unmarked-unmarked.ensures.frames) (λ f held. let r = c.requires.world in few_shared c.args.self.now r.0 r.1 f)
+
+pub returns-in_err-slot-clause-changed : goal.returns-in_err-slot-clause-changed
+returns-in_err-slot-clause-changed c w is =
+    let told = err_from_is_err_and c.from_residual.result c.from_residual.ensures.1 in
+    rw told.1 (refused_as w (plain_step w (step.Fork c.args.hart)) told.0 (c.in_err-slot.ensures.refused w _ is ∙ ap (refuses w) (sym told.2)))
+
+pub returns-in_err-slot-clause-tables : goal.returns-in_err-slot-clause-tables
+returns-in_err-slot-clause-tables c w is = same_places c.args.self.now c.args.self.now _ _ (refl, refl)
+
+pub returns-in_default-clause-changed : goal.returns-in_default-clause-changed
+returns-in_default-clause-changed c w is =
+    refused_as w (plain_step w (step.Fork c.args.hart)) NoSlot (no_slot c.args.self.now w is c.args.hart c.in_ok-slot.slot (c.in_ok-slot.ensures.there w is) (sym (c.free_slot.ensures w is) ∙ c.in_default.is))
+
+pub returns-in_default-clause-tables : goal.returns-in_default-clause-tables
+returns-in_default-clause-tables c w is = same_places c.args.self.now c.args.self.now _ _ (refl, refl)
 
 pub returns-in_err-child-clause-made : goal.returns-in_err-child-clause-made
 returns-in_err-child-clause-made c w is =
     let m = c.args.self.now in
     let s = c.in_ok-slot.slot in
     let caller = c.in_ok-slot.ensures.there w is in
-    let x = c.in-Some-index_mut in
-    let there = slot_has m.slots.items s caller.tenant x.tenant _ x.is c.index_mut.ensures.value caller.place in
+    let x = c.in-Some-index_mut.tenant in
+    let there = slot_has m.slots.items s caller.tenant x _ c.in-Some-index_mut.is c.index_mut.ensures.value caller.place in
+    let to = sym (c.free_slot.ensures w is) ∙ c.in-Some.is in
+    let u = c.has_unmarked-unmarked in
     let y = c.fork.new in
     let e = c.in_err-child.ensures in
     let told = err_from_is_err_and c.from_residual-in_err-child.result c.from_residual-in_err-child.ensures.1 in
-    let n : Machine = record m { frames = y.frames; slots = with_item m.slots s (Some y.self) } in
-    let short : c.from_residual-in_err-child.result ≡ Err NoFrame = told.1 ∙ ap (λ (z : Refusal). let r : Result ℕ Refusal = Err z in r) (told.2 ∙ e.dry.0) in
-    subst (λ (r : Result ℕ Refusal). Makes n (forked_or_refused r) (plain_step w (step.Fork c.args.hart))) (sym short)
-    (forks_dry m w is c.args.hart s caller x.tenant y.self there y.frames c.in-Some.place (sym (c.free_slot.ensures w is) ∙ c.in-Some.is) e.dry.1 e.whole e.keeps_refused)
+    rw (told.1, told.2, e.dry.0) (forks_dry m w is c.args.hart s caller x y.self there y.frames c.in-Some.place to
+    (λ t p a. subst (λ (b : Bank). b.free < fork_need p) u.ensures.frames (e.dry.1 t p (subst (λ (z : Tenant). IsTenant z t p) (sym u.ensures.same) a)))
+    (λ t p a. e.whole t p (subst (λ (z : Tenant). IsTenant z t p) (sym u.ensures.same) a))
+    (subst (λ (z : Tenant). Keeps BankRule m.frames (view_of z) y.frames (view_of y.self)) u.ensures.same (subst (λ (b : Bank). Keeps BankRule b (view_of u.new.self) y.frames (view_of y.self)) u.ensures.frames e.keeps_refused)))
+
+pub returns-in_err-child-clause-changed : goal.returns-in_err-child-clause-changed
+returns-in_err-child-clause-changed c w is =
+    let m = c.args.self.now in
+    let s = c.in_ok-slot.slot in
+    let caller = c.in_ok-slot.ensures.there w is in
+    let x = c.in-Some-index_mut.tenant in
+    let there = slot_has m.slots.items s caller.tenant x _ c.in-Some-index_mut.is c.index_mut.ensures.value caller.place in
+    let to = sym (c.free_slot.ensures w is) ∙ c.in-Some.is in
+    let u = c.has_unmarked-unmarked in
+    let y = c.fork.new in
+    let e = c.in_err-child.ensures in
+    let told = err_from_is_err_and c.from_residual-in_err-child.result c.from_residual-in_err-child.ensures.1 in
+    rw told.1 (refused_as w (plain_step w (step.Fork c.args.hart)) NoFrame (no_frame m w is c.args.hart s caller x y.self there y.frames c.in-Some.place to
+    (λ t p a. subst (λ (b : Bank). b.free < fork_need p) u.ensures.frames (e.dry.1 t p (subst (λ (z : Tenant). IsTenant z t p) (sym u.ensures.same) a)))))
+
+pub returns-in_err-child-clause-tables : goal.returns-in_err-child-clause-tables
+returns-in_err-child-clause-tables c w is =
+    let m = c.args.self.now in
+    let s = c.in_ok-slot.slot in
+    let caller = c.in_ok-slot.ensures.there w is in
+    let x = c.in-Some-index_mut.tenant in
+    let there = slot_has m.slots.items s caller.tenant x _ c.in-Some-index_mut.is c.index_mut.ensures.value caller.place in
+    let to = sym (c.free_slot.ensures w is) ∙ c.in-Some.is in
+    let u = c.has_unmarked-unmarked in
+    let y = c.fork.new in
+    same_tables m _ _ _ (one_below m _ s x y.self there refl refl (λ t p a. (p, c.in_err-child.ensures.whole t p (subst (λ (z : Tenant). IsTenant z t p) (sym u.ensures.same) a))))
 
 pub index_mut-requires-2 : goal.index_mut-requires-2
 index_mut-requires-2 c =
@@ -89,8 +165,52 @@ returns-clause-made c w is =
     let m = c.args.self.now in
     let s = c.in_ok-slot.slot in
     let caller = c.in_ok-slot.ensures.there w is in
-    let x = c.in-Some-index_mut in
-    let there = slot_has m.slots.items s caller.tenant x.tenant _ x.is c.index_mut.ensures.value caller.place in
+    let x = c.in-Some-index_mut.tenant in
+    let there = slot_has m.slots.items s caller.tenant x _ c.in-Some-index_mut.is c.index_mut.ensures.value caller.place in
+    let to = sym (c.free_slot.ensures w is) ∙ c.in-Some.is in
+    let u = c.has_unmarked-unmarked in
+    let y = c.fork.new in
     let e = c.in_ok-child.ensures in
-    forks_wet m w is c.args.hart s caller x.tenant c.fork.new.self there c.fork.new.frames c.in-Some.place (sym (c.free_slot.ensures w is) ∙ c.in-Some.is)
-    c.in_ok-child.child e.forked e.enough e.keeps
+    forks_wet m w is c.args.hart s caller x y.self there y.frames c.in-Some.place to c.in_ok-child.child
+    (λ t p a. e.forked t p (subst (λ (z : Tenant). IsTenant z t p) (sym u.ensures.same) a))
+    (λ t p a few. e.enough t p (subst (λ (z : Tenant). IsTenant z t p) (sym u.ensures.same) a) (subst (λ (b : Bank). b.free < fork_need p) (sym u.ensures.frames) few))
+    (λ others rule. e.keeps others (subst (λ (z : Tenant). BankRule u.new.frames (view_of z ∷ others)) (sym u.ensures.same) (subst (λ (b : Bank). BankRule b (view_of x ∷ others)) (sym u.ensures.frames) rule)))
+
+pub returns-clause-changed : goal.returns-clause-changed
+returns-clause-changed c w is =
+    let m = c.args.self.now in
+    let s = c.in_ok-slot.slot in
+    let caller = c.in_ok-slot.ensures.there w is in
+    let x = c.in-Some-index_mut.tenant in
+    let there = slot_has m.slots.items s caller.tenant x _ c.in-Some-index_mut.is c.index_mut.ensures.value caller.place in
+    let to = sym (c.free_slot.ensures w is) ∙ c.in-Some.is in
+    let u = c.has_unmarked-unmarked in
+    let y = c.fork.new in
+    let e = c.in_ok-child.ensures in
+    let q = process_at m w is s x there in
+    let before = subst (λ (z : Tenant). IsTenant z (is.tables s) q.0) (sym u.ensures.same) q.2 in
+    rw c.slot_if.ensures (fork_marks w (plain_step w (step.Fork c.args.hart)) s c.in-Some.place q.0 (marked q.0) (child_of q.0) u.result q.1 (free_is_empty w c.in-Some.place to)
+    (fork_sets m w is c.args.hart s caller x y.self there y.frames c.in-Some.place to q.0 q.1 (λ few. e.enough (is.tables s) q.0 before (subst (λ (b : Bank). b.free < fork_need q.0) (sym u.ensures.frames) few)))
+    (tells_marks q.0 u.result (λ yes. u.ensures.some yes (is.tables s) q.0 q.2) (λ no_one. u.ensures.none no_one (is.tables s) q.0 q.2)))
+
+pub returns-clause-tables : goal.returns-clause-tables
+returns-clause-tables c w is =
+    let m = c.args.self.now in
+    let s = c.in_ok-slot.slot in
+    let caller = c.in_ok-slot.ensures.there w is in
+    let x = c.in-Some-index_mut.tenant in
+    let there = slot_has m.slots.items s caller.tenant x _ c.in-Some-index_mut.is c.index_mut.ensures.value caller.place in
+    let to = sym (c.free_slot.ensures w is) ∙ c.in-Some.is in
+    let u = c.has_unmarked-unmarked in
+    let y = c.fork.new in
+    let e = c.in_ok-child.ensures in
+    let q = process_at m w is s x there in
+    let before = subst (λ (z : Tenant). IsTenant z (is.tables s) q.0) (sym u.ensures.same) q.2 in
+    let has = e.forked (is.tables s) q.0 before in
+    let frame = c.fork.ensures.trapframe ∙ ap (λ (z : Tenant). z.space.trapframe) u.ensures.same in
+    let between : Machine = record m { slots = with_item m.slots s (Some y.self) } in
+    let parent = slot_keeps_by m between w.slots (slice_set w.slots s (Some (marked q.0))) s x y.self q.0 (marked q.0) (is.tables s) has.after q.2 has.parent there q.1 refl refl refl
+    (λ unchanged. followed_same x y.self (is.tables s) has.after q.0 (marked q.0) q.2 has.parent unchanged frame refl w.counter (λ n a at. is.counted s n q.0 a q.1 at)
+    (λ n f z at low. let old = was_alike q.0 (marked q.0) unchanged n z at in has.on_parent n f old.0 old.1)) in
+    then_born m between _ w.slots _ _ c.in-Some.place c.in_ok-child.child (child_of q.0) parent (free_place m w is c.in-Some.place to) refl refl
+    (fork_sets m w is c.args.hart s caller x y.self there y.frames c.in-Some.place to q.0 q.1 (λ few. e.enough (is.tables s) q.0 before (subst (λ (b : Bank). b.free < fork_need q.0) (sym u.ensures.frames) few)))

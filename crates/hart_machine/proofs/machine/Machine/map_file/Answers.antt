@@ -1,10 +1,13 @@
-use Rattle.std.proofs.Common.{◌∙◌, ◌<◌, Some, ap, subst, sym}
+use Rattle.std.proofs.Common.{◌∙◌, ◌<◌, Some, ap, refl, subst, sym}
 use Rattle.std.proofs.lemmas.Option.{get_or_from_slice_get, slice_get_within}
 use Rattle.std.proofs.lemmas.Result.{err_from_is_err_and}
+use Rattle.mmap_regions.specs.Mapped.{process_mapped}
+use Rattle.process_model.specs.Mappings.{mapped}
 use Rattle.process_model.specs.World.{refuses}
 use Rattle.hart_machine.proofs.AccessingWorlds.{slot_has}
 use Rattle.hart_machine.proofs.HartSteps.{process_at, refused}
-use Rattle.hart_machine.proofs.Mapping.{maps}
+use Rattle.hart_machine.proofs.KeptTables.{nothing_moved, one_below}
+use Rattle.hart_machine.proofs.Mapping.{below_mapped, maps}
 use Rattle.hart_machine.proofs.machine.Machine.map_file.Goals as goal
 
 pub returns-in_err-slot-clause-made : goal.returns-in_err-slot-clause-made
@@ -45,3 +48,15 @@ returns-clause-made c w is =
     let y = c.mmap in
     maps m w is c.args.hart c.in_ok-slot.slot caller c.in-Some.tenant y.new.self there c.args.length c.args.protection c.args.flags c.args.file y.result
     y.ensures.view y.ensures.answer y.ensures.after y.ensures.refused
+
+pub returns-in_err-slot-clause-tables : goal.returns-in_err-slot-clause-tables
+returns-in_err-slot-clause-tables c = nothing_moved c.args.self.now
+
+pub returns-clause-tables : goal.returns-clause-tables
+returns-clause-tables c =
+    let m = c.args.self.now in
+    let r = c.requires.world in
+    let caller = c.in_ok-slot.ensures.there r.0 r.1 in
+    let there = slot_has m.slots.items c.in_ok-slot.slot caller.tenant c.in-Some.tenant _ c.in-Some.is c.index_mut.ensures.value caller.place in
+    let y = c.mmap in
+    one_below m _ c.in_ok-slot.slot c.in-Some.tenant y.new.self there refl refl (λ t p a. below_mapped c.in-Some.tenant y.new.self t p a y.result (λ q. process_mapped q (mapped m.files q c.args.length c.args.protection c.args.flags c.args.file)) y.ensures.after y.ensures.refused)

@@ -1,7 +1,7 @@
-use Rattle.std.proofs.Common.{◌∙◌, sym}
+use Rattle.std.proofs.Common.{◌∙◌, Some, ap, sym}
 use Rattle.process_model.specs.declared.step.Refusal.TheVariants.{BadArgument}
 use Rattle.hart_machine.proofs.BufferChanges.{advanced_are}
-use Rattle.hart_machine.proofs.HartSteps.{goes_on, has_hart, next_refused, no_hart, refused, without_hart}
+use Rattle.hart_machine.proofs.HartSteps.{goes_on, hart_read, has_hart, next_refused, no_hart, refused, slot_low, without_hart}
 use Rattle.hart_machine.proofs.machine.Machine.next.Goals as goal
 
 pub returns-in_default-clause-made : goal.returns-in_default-clause-made
@@ -27,3 +27,10 @@ returns-clause-made c w is =
 
 pub returns-clause-buffers : goal.returns-clause-buffers
 returns-clause-buffers c w is = advanced_are c.args.self.now c.args.hart c.index_mut.result.now c.advance.new.self c.index_mut.ensures.value is.tables is.kernel c.advance.ensures
+
+pub advance-requires : goal.advance-requires
+advance-requires c =
+    let r = c.requires.world in
+    let has = has_hart c.args.self.now r.0 r.1 c.args.hart c.in-Some.phase (sym c.in-Some.is ∙ c.phase_of.ensures) in
+    let x = c.index_mut.result.now in
+    record { slot = slot_low c.args.self.now r.0 r.1 c.args.hart x (has.there ∙ ap Some (sym (hart_read c.args.self.now r.0 r.1 c.args.hart c.in-Some.phase has x c.index_mut.ensures.value))) }

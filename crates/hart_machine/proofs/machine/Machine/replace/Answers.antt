@@ -1,10 +1,19 @@
-use Rattle.std.proofs.Common.{◌∙◌, ◌<◌, Some, ap, subst, sym}
+use Rattle.std.proofs.Common.{◌≡◌, ◌∙◌, ◌<◌, true, false, Some, ap, refl, subst, sym}
+use Rattle.std.specs.Prelude.{Err, Ok}
 use Rattle.std.proofs.lemmas.Option.{get_or_from_slice_get, slice_get_within}
 use Rattle.std.proofs.lemmas.Result.{err_from_is_err_and}
+use Rattle.process_model.specs.Loading.{process_of}
+use Rattle.process_model.specs.Steps.{plain_step}
 use Rattle.process_model.specs.World.{refuses}
+use Rattle.process_model.specs.declared.step.Refusal.TheVariants as refusal
+use Rattle.process_model.specs.declared.step.Step.TheVariants as step
 use Rattle.hart_machine.proofs.AccessingWorlds.{seat_fits, slot_has}
-use Rattle.hart_machine.proofs.Executes.{executes, no_image}
+use Rattle.hart_machine.proofs.Executes.{bad_image, exec_dry, exec_sets, executes, no_image}
 use Rattle.hart_machine.proofs.HartSteps.{process_at, refused}
+use Rattle.hart_machine.proofs.KeptLeaves.{slot_keeps_by}
+use Rattle.hart_machine.proofs.KeptTables.{one_below, same_places, same_tables}
+use Rattle.hart_machine.proofs.MarkedCalls.{exec_changes}
+use Rattle.hart_machine.proofs.SlotMarks.{refused_as, set_marks}
 use Rattle.hart_machine.proofs.machine.Machine.replace.Goals as goal
 
 pub returns-in_err-slot-clause-made : goal.returns-in_err-slot-clause-made
@@ -47,6 +56,54 @@ exec-requires-clause-ready c =
     let found = process_at m r.0 r.1 c.in_ok-slot.slot c.in-Some.tenant there in
     ((r.1).tables c.in_ok-slot.slot, found.0, found.2)
 
+pub returns-in_err-slot-clause-changed : goal.returns-in_err-slot-clause-changed
+returns-in_err-slot-clause-changed c w is =
+    let told = err_from_is_err_and c.from_residual.result c.from_residual.ensures.1 in
+    rw told.1 (refused_as w (plain_step w (step.Exec c.args.hart c.args.image)) told.0 (c.in_err-slot.ensures.refused w _ is ∙ ap (refuses w) (sym told.2)))
+
+pub returns-in_err-slot-clause-tables : goal.returns-in_err-slot-clause-tables
+returns-in_err-slot-clause-tables c w is = same_places c.args.self.now c.args.self.now _ _ (refl, refl)
+
+pub returns-in-Err-clause-changed : goal.returns-in-Err-clause-changed
+returns-in-Err-clause-changed c w is =
+    refused_as w (plain_step w (step.Exec c.args.hart c.args.image)) (refusal.BadImage c.in-Err.part) (bad_image c.args.self.now w is c.args.hart c.in_ok-slot.slot (c.in_ok-slot.ensures.there w is) c.args.image c.in-Err.part (sym c.judged.ensures ∙ c.in-Err.is))
+
+pub returns-in-Err-clause-tables : goal.returns-in-Err-clause-tables
+returns-in-Err-clause-tables c w is = same_places c.args.self.now c.args.self.now _ _ (refl, refl)
+
+pub returns-in_err-exec-clause-made : goal.returns-in_err-exec-clause-made
+returns-in_err-exec-clause-made c w is =
+    let m = c.args.self.now in
+    let s = c.in_ok-slot.slot in
+    let caller = c.in_ok-slot.ensures.there w is in
+    let x = c.in-Some.tenant in
+    let there = slot_has m.slots.items s caller.tenant x _ c.in-Some.is c.index_mut.ensures.value caller.place in
+    let y = c.exec in
+    let e = c.in_err-exec.ensures in
+    let told = err_from_is_err_and c.from_residual-in_err-exec.result c.from_residual-in_err-exec.ensures.1 in
+    rw (told.1, told.2) (executes m w is c.args.hart s caller c.args.image c.in-Ok.image (sym c.judged.ensures ∙ c.in-Ok.is) x y.new.self there y.new.frames y.new.files (Err c.in_err-exec.field-0.0)
+    tt tt e.dry e.whole e.files_stay y.ensures.keeps)
+
+pub returns-in_err-exec-clause-changed : goal.returns-in_err-exec-clause-changed
+returns-in_err-exec-clause-changed c w is =
+    let m = c.args.self.now in
+    let s = c.in_ok-slot.slot in
+    let caller = c.in_ok-slot.ensures.there w is in
+    let x = c.in-Some.tenant in
+    let there = slot_has m.slots.items s caller.tenant x _ c.in-Some.is c.index_mut.ensures.value caller.place in
+    let y = c.exec in
+    let told = err_from_is_err_and c.from_residual-in_err-exec.result c.from_residual-in_err-exec.ensures.1 in
+    rw told.1 (refused_as w (plain_step w (step.Exec c.args.hart c.args.image)) refusal.NoFrame (exec_dry m w is c.args.hart s caller c.args.image c.in-Ok.image (sym c.judged.ensures ∙ c.in-Ok.is) x y.new.self there y.new.frames y.new.files c.in_err-exec.ensures.dry.1))
+
+pub returns-in_err-exec-clause-tables : goal.returns-in_err-exec-clause-tables
+returns-in_err-exec-clause-tables c w is =
+    let m = c.args.self.now in
+    let s = c.in_ok-slot.slot in
+    let caller = c.in_ok-slot.ensures.there w is in
+    let x = c.in-Some.tenant in
+    let there = slot_has m.slots.items s caller.tenant x _ c.in-Some.is c.index_mut.ensures.value caller.place in
+    same_tables m _ _ _ (one_below m _ s x c.exec.new.self there refl refl (λ t p a. (p, c.in_err-exec.ensures.whole t p a)))
+
 pub returns-clause-made : goal.returns-clause-made
 returns-clause-made c w is =
     let m = c.args.self.now in
@@ -55,6 +112,35 @@ returns-clause-made c w is =
     let x = c.in-Some.tenant in
     let there = slot_has m.slots.items s caller.tenant x _ c.in-Some.is c.index_mut.ensures.value caller.place in
     let y = c.exec in
-    let e = y.ensures in
-    executes m w is c.args.hart s caller c.args.image c.in-Ok.image (sym c.judged.ensures ∙ c.in-Ok.is) x y.new.self there y.new.frames y.new.files y.result
-    e.executed e.enough e.dry e.whole e.files_stay e.keeps
+    let e = c.in_ok-exec.ensures in
+    executes m w is c.args.hart s caller c.args.image c.in-Ok.image (sym c.judged.ensures ∙ c.in-Ok.is) x y.new.self there y.new.frames y.new.files (Ok c.in_ok-exec.field-0)
+    e.executed e.enough tt tt tt y.ensures.keeps
+
+pub returns-clause-changed : goal.returns-clause-changed
+returns-clause-changed c w is =
+    let m = c.args.self.now in
+    let s = c.in_ok-slot.slot in
+    let caller = c.in_ok-slot.ensures.there w is in
+    let x = c.in-Some.tenant in
+    let there = slot_has m.slots.items s caller.tenant x _ c.in-Some.is c.index_mut.ensures.value caller.place in
+    let y = c.exec in
+    let e = c.in_ok-exec.ensures in
+    let q = process_at m w is s x there in
+    set_marks w (plain_step w (step.Exec c.args.hart c.args.image)) s q.0 (process_of w.counter c.in-Ok.image) true q.1
+    (exec_sets m w is c.args.hart s caller c.args.image c.in-Ok.image (sym c.judged.ensures ∙ c.in-Ok.is) x y.new.self there y.new.frames y.new.files q.0 q.1 e.enough)
+    (sym (exec_changes q.0 w.counter c.in-Ok.image (λ n a at. is.counted s n q.0 a q.1 at)))
+
+pub returns-clause-tables : goal.returns-clause-tables
+returns-clause-tables c w is =
+    let m = c.args.self.now in
+    let s = c.in_ok-slot.slot in
+    let caller = c.in_ok-slot.ensures.there w is in
+    let x = c.in-Some.tenant in
+    let there = slot_has m.slots.items s caller.tenant x _ c.in-Some.is c.index_mut.ensures.value caller.place in
+    let y = c.exec in
+    let e = c.in_ok-exec.ensures in
+    let q = process_at m w is s x there in
+    let has = e.executed (is.tables s) q.0 q.2 in
+    slot_keeps_by m _ w.slots _ s x y.new.self q.0 (process_of w.counter c.in-Ok.image) (is.tables s) has.tables q.2 (has.tenant w.counter) there q.1 refl
+    (exec_sets m w is c.args.hart s caller c.args.image c.in-Ok.image (sym c.judged.ensures ∙ c.in-Ok.is) x y.new.self there y.new.frames y.new.files q.0 q.1 e.enough) refl
+    (λ unchanged. absurd (let both : true ≡ false = sym (exec_changes q.0 w.counter c.in-Ok.image (λ n a at. is.counted s n q.0 a q.1 at)) ∙ unchanged in cc))

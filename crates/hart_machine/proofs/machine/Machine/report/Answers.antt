@@ -3,4 +3,4 @@ use Rattle.hart_machine.proofs.HeldFrames.{report_is}
 use Rattle.hart_machine.proofs.machine.Machine.report.Goals as goal
 
 pub returns : goal.returns
-returns c w is = c.report.ensures ∙ report_is c.args.self.now w is
+returns c w buffered = c.report.ensures ∙ report_is c.args.self.now w buffered.world

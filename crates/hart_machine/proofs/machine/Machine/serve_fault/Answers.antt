@@ -1,9 +1,14 @@
-use Rattle.std.proofs.Common.{◌∙◌, ◌<◌, Some, ap, subst, sym}
+use Rattle.std.proofs.Common.{◌∙◌, ◌<◌, ℕ, Bool, Some, ap, refl, subst, sym}
+use Rattle.std.specs.Prelude.{Err, IfErr, Ok, Result}
 use Rattle.std.proofs.lemmas.Option.{get_or_from_slice_get, slice_get_within}
 use Rattle.process_model.specs.World.{is_unserved_access}
+use Rattle.sv39_entry.specs.declared.rule.Rule.{Rule}
+use Rattle.hart_machine.specs.Worlds.{KeepsOthers}
+use Rattle.hart_machine.specs.declared.machine.Machine.{Machine}
 use Rattle.hart_machine.proofs.AccessingWorlds.{seat_fits, slot_has}
 use Rattle.hart_machine.proofs.HartSteps.{tenant_is}
-use Rattle.hart_machine.proofs.ServedWorlds.{ending_by, served_by}
+use Rattle.hart_machine.proofs.KeptTables.{one_other}
+use Rattle.hart_machine.proofs.ServedWorlds.{ending_by, marked_by, served_by, tables_by}
 use Rattle.hart_machine.proofs.machine.Machine.serve_fault.Goals as goal
 
 pub index_mut-requires : goal.index_mut-requires
@@ -58,3 +63,25 @@ returns-clause-must_end c =
     let e = c.serve.ensures in
     ending_by m c.args.slot c.in-Some.tenant c.serve.new.self (λ w h k. slot_has m.slots.items c.args.slot k.tenant c.in-Some.tenant _ c.in-Some.is c.index_mut.ensures.value k.place)
     c.serve.new.frames e.keeps c.serve.new.files e.files c.serve.result e.must_end
+
+pub returns-clause-changed : goal.returns-clause-changed
+returns-clause-changed c =
+    let m = c.args.self.now in
+    let e = c.serve.ensures in
+    marked_by m c.args.slot c.in-Some.tenant c.serve.new.self (λ w h k. slot_has m.slots.items c.args.slot k.tenant c.in-Some.tenant _ c.in-Some.is c.index_mut.ensures.value k.place)
+    c.serve.new.frames e.keeps c.serve.new.files e.files c.serve.result e.served e.changed
+
+pub returns-clause-tables : goal.returns-clause-tables
+returns-clause-tables c =
+    let m = c.args.self.now in
+    let e = c.serve.ensures in
+    tables_by m c.args.slot c.in-Some.tenant c.serve.new.self (λ w h k. slot_has m.slots.items c.args.slot k.tenant c.in-Some.tenant _ c.in-Some.is c.index_mut.ensures.value k.place)
+    c.serve.new.frames e.keeps c.serve.new.files e.files c.serve.result e.served e.trapframe
+
+-- what holds whatever is answered holds of an error
+if_err : (r : Result Bool Rule) (m n : Machine) (s : ℕ) → KeepsOthers m n s → IfErr r (λ _. KeepsOthers m n s)
+if_err (Ok b) m n s keeps = tt
+if_err (Err e) m n s keeps = keeps
+
+pub returns-clause-others : goal.returns-clause-others
+returns-clause-others c = if_err c.serve.result c.args.self.now _ c.args.slot (one_other c.args.self.now _ c.args.slot (Some c.serve.new.self) refl refl)

@@ -1,10 +1,12 @@
-use Rattle.std.proofs.Common.{◌<◌, ◌∙◌, ap, refl, sym, subst}
+use Rattle.std.proofs.Common.{◌<◌, ◌∙◌, None, ap, refl, sym, subst}
 use Rattle.std.specs.Vec.{vec_len}
+use Rattle.address_space.specs.Pending.{agrees_pending}
 use Rattle.process_model.specs.declared.step.Refusal.TheVariants.{BadArgument}
 use Rattle.hart_machine.specs.Buffers.{buffer_of}
 use Rattle.hart_machine.specs.declared.machine.Machine.{Machine}
 use Rattle.hart_machine.proofs.BufferSteps.{same_buffers}
 use Rattle.hart_machine.proofs.HartSteps.{has_hart, no_hart, refused, without_hart}
+use Rattle.hart_machine.proofs.KeptTables.{nothing_moved, one_below}
 use Rattle.hart_machine.proofs.Trapping.{slot_there, trap_refused, traps, user_has_slot, user_tenant}
 use Rattle.hart_machine.proofs.machine.Machine.trap.Goals as goal
 
@@ -54,3 +56,23 @@ returns-clause-buffers c h =
     let t = user_tenant c.args.self.now r.0 r.1 c.args.hart c.in-Some.phase has c.in-Some-slot_of.slot
     (slot_there c.args.self.now r.0 r.1 c.args.hart c.in-Some.phase has _ (sym c.in-Some-slot_of.is ∙ c.slot_of.ensures)) in
     same_buffers c.set_pending.new.self c.args.hart c.index_mut.result.now _ c.index_mut.ensures.value refl h ∙ ap (λ (n : Machine). buffer_of n h) (c.set_pending.ensures t.0 t.1)
+
+pub returns-in_default-clause-tables : goal.returns-in_default-clause-tables
+returns-in_default-clause-tables c = nothing_moved c.args.self.now
+
+pub returns-then-not-is_user-clause-tables : goal.returns-then-not-is_user-clause-tables
+returns-then-not-is_user-clause-tables c = nothing_moved c.args.self.now
+
+pub returns-in_default-slot_of-clause-tables : goal.returns-in_default-slot_of-clause-tables
+returns-in_default-slot_of-clause-tables c = nothing_moved c.args.self.now
+
+pub returns-clause-tables : goal.returns-clause-tables
+returns-clause-tables c =
+    let m = c.args.self.now in
+    let r = c.requires.world in
+    let has = has_hart m r.0 r.1 c.args.hart c.in-Some.phase (sym c.in-Some.is ∙ c.phase_of.ensures) in
+    let t = user_tenant m r.0 r.1 c.args.hart c.in-Some.phase has c.in-Some-slot_of.slot
+    (slot_there m r.0 r.1 c.args.hart c.in-Some.phase has _ (sym c.in-Some-slot_of.is ∙ c.slot_of.ensures)) in
+    let n_is = c.set_pending.ensures t.0 t.1 in
+    one_below m _ c.in-Some-slot_of.slot t.0 (record t.0 { pending = None }) t.1 (ap (λ (n : Machine). n.slots.items) n_is) (ap (λ (n : Machine). n.kernel) n_is)
+    (λ u p a. (record p { pending = None }, record { agrees = agrees_pending _ _ _ _ _ p a.agrees None; framed = a.framed; pending = refl; wide = tt }))

@@ -1,4 +1,5 @@
-use Rattle.std.proofs.Common.{◌∙◌, ap, refl, sym}
+use Rattle.std.proofs.Common.{◌∙◌, Some, ap, refl, sym}
+use Rattle.frame_store.specs.Seats.{place_set_back}
 use Rattle.hart_machine.specs.Tables.{tables_of}
 use Rattle.table_walk.specs.Leaves.{walk_answer}
 use Rattle.hart_machine.specs.declared.tables.Table.{Table}
@@ -51,3 +52,12 @@ returns-in-Some-clause-world c w is =
     let m = c.args.self.now in
     let at = tenant_is m c.args.table c.in-OfProcess.slot c.in-OfProcess.is c.requires.there _ c.index_mut.ensures.value c.in-Some.tenant c.in-Some.is in
     rw (c.translate.ensures.same, c.translate.ensures.view, c.translate.ensures.root, c.translate.ensures.trapframe, c.translate.ensures.layout) (put_back m w is c.in-OfProcess.slot c.in-Some.tenant at, refl)
+
+pub returns-in-OfKernel-clause-places : goal.returns-in-OfKernel-clause-places
+returns-in-OfKernel-clause-places c = rw c.translate_held.ensures.view (refl, refl)
+
+pub returns-in-Some-clause-places : goal.returns-in-Some-clause-places
+returns-in-Some-clause-places c =
+    let m = c.args.self.now in
+    let at = tenant_is m c.args.table c.in-OfProcess.slot c.in-OfProcess.is c.requires.there _ c.index_mut.ensures.value c.in-Some.tenant c.in-Some.is in
+    rw (c.translate.ensures.view, c.translate.ensures.root, c.translate.ensures.trapframe, c.translate.ensures.layout) (place_set_back m.slots.items c.in-OfProcess.slot (Some c.in-Some.tenant) at, refl)

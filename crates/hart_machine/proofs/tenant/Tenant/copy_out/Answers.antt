@@ -1,12 +1,41 @@
-use Rattle.std.proofs.Common.{length, None, refl, Some}
-use Rattle.hart_machine.proofs.CopiedRuns.{never_out}
+use Rattle.std.proofs.Common.{inl, inr, sym, subst, ◌∙◌}
+use Rattle.std.proofs.lemmas.Bool.{true≢false}
+use Rattle.frame_store.specs.Laws.{fits_after}
+use Rattle.frame_store.specs.Plain.{BankRule}
+use Rattle.sv39_entry.specs.declared.access.Access.TheVariants.{Store}
+use Rattle.hart_machine.specs.Tenants.{IsTenant}
+use Rattle.hart_machine.specs.declared.tenant.Tenant.{Tenant}
+use Rattle.hart_machine.proofs.Watched.{alike, tells_residence, unlike}
 use Rattle.hart_machine.proofs.tenant.Tenant.copy_out.Goals as goal
+use Rattle.hart_machine.proofs.tenant.Tenant.copy_out.Goals.{then-before-after, else-before-after}
 
-pub returns-in-Ok-clause-copied : goal.returns-in-Ok-clause-copied
-returns-in-Ok-clause-copied c = record { count = length c.args.bytes.now; stop = None; told = refl; copies = c.in-Ok.ensures.copied; quiet = refl }
+pub receive-reply-requires-clause-ready : goal.receive-reply-requires-clause-ready
+receive-reply-requires-clause-ready c = rw c.residence-before.ensures.same c.requires.ready
 
-pub returns-in-Denied-clause-copied : goal.returns-in-Denied-clause-copied
-returns-in-Denied-clause-copied c = record { count = c.in-Err.short.done; stop = Some c.in-Denied.rule; told = refl; copies = rw c.in-Denied.is at c.in-Err.ensures.stopped; quiet = refl }
+pub residence-after-requires-clause-fits : goal.residence-after-requires-clause-fits
+residence-after-requires-clause-fits c = let b = c.residence-before.ensures in fits_after BankRule c.receive-reply.ensures.keeps (rw (b.frames, b.same) c.requires.fits)
 
-pub unreachable-requires : goal.unreachable-requires
-unreachable-requires c = never_out _ _ _ _ _ _ (rw c.in-Unpromised.is at c.in-Err.ensures.stopped)
+pub residence-after-requires-clause-ready : goal.residence-after-requires-clause-ready
+residence-after-requires-clause-ready c = let r = c.requires.ready in c.receive-reply.ensures.still r.0 r.1 (rw c.residence-before.ensures.same r.2)
+
+pub returns-clause-changed : goal.returns-clause-changed
+returns-clause-changed c t u p q tenant after =
+    let b = c.residence-before in
+    let a = c.residence-after in
+    let left : IsTenant c.receive-reply.new.self u q = subst (λ (w : Tenant). IsTenant w u q) a.ensures.same after in
+    tells_residence p q Store c.args.va.0 b.result.0 b.result.1 a.result.0 a.result.1 (b.ensures.first t p tenant) (b.ensures.next t p tenant) (a.ensures.first u q left) (a.ensures.next u q left)
+    c.if-before-after.result
+    (elim c.if-before-after.branch [
+      | then-before-after w ↦ λ is. absurd (true≢false (sym w.if-before-after.true ∙ sym w.result-is ∙ is))
+      | else-before-after w ↦ λ is. (alike _ _ w.if-before-after.false, alike _ _ (sym w.result-is ∙ is))
+    ])
+    (elim c.if-before-after.branch [
+      | then-before-after w ↦ λ is. inl (unlike _ _ w.if-before-after.true)
+      | else-before-after w ↦ λ is. inr (unlike _ _ (sym w.result-is ∙ is))
+    ])
+
+pub returns-clause-keeps : goal.returns-clause-keeps
+returns-clause-keeps c others r =
+    let b = c.residence-before.ensures in
+    let a = c.residence-after.ensures in
+    rw (a.same, a.frames) (c.receive-reply.ensures.keeps others (rw (b.frames, b.same) r))

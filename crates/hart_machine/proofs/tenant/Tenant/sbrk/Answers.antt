@@ -3,53 +3,58 @@ use Rattle.std.specs.Prelude.{Err, Result}
 use Rattle.std.proofs.lemmas.Int.{to_z-of_z}
 use Rattle.std.proofs.lemmas.Result.{err_from_is_err_and}
 use Rattle.address_space.specs.Pending.{agrees_pending}
-use Rattle.address_space.specs.declared.space.Space.{Space}
-use Rattle.frame_store.specs.View.{View}
 use Rattle.lazy_growth.specs.Sizes.{answer_of, size_before}
 use Rattle.lazy_growth.specs.Resized.{Resizes}
 use Rattle.process_model.specs.Heap.{sbrk_result}
 use Rattle.address_space.specs.Agreement.{body_of}
 use Rattle.process_model.specs.declared.step.Refusal.{Refusal}
-use Rattle.hart_machine.specs.declared.tenant.Tenant.{Tenant}
-use Rattle.hart_machine.proofs.Mapping.{same_space}
+use Rattle.hart_machine.specs.Calls.{size_of}
+use Rattle.hart_machine.proofs.Watched.{same_tenant}
 use Rattle.hart_machine.proofs.tenant.Tenant.sbrk.Goals as goal
 
 pub sbrk-requires-clause-fits : goal.sbrk-requires-clause-fits
-sbrk-requires-clause-fits c = c.requires.fits
+sbrk-requires-clause-fits c = let h = c.loses_page-released.ensures in rw (h.frames, h.same) c.requires.fits
 
 pub sbrk-requires-clause-ready : goal.sbrk-requires-clause-ready
-sbrk-requires-clause-ready c = let r = c.requires.ready in (r.0, r.1, r.2.agrees)
+sbrk-requires-clause-ready c = let r = c.requires.ready in (r.0, r.1, rw c.loses_page-released.ensures.same r.2.agrees)
 
-pub returns-in_err-size-clause-answer : goal.returns-in_err-size-clause-answer
-returns-in_err-size-clause-answer c t p tenant =
+pub returns-in_err-before-clause-answer : goal.returns-in_err-before-clause-answer
+returns-in_err-before-clause-answer c t p tenant =
     let told = err_from_is_err_and c.from_residual.result c.from_residual.ensures.1 in
-    told.1 ∙ ap (λ (e : Refusal). let r : Result ℕ Refusal = Err e in r) told.2 ∙ ap answer_of (sym c.in_err-size.was) ∙ c.sbrk.ensures.answer t p tenant.agrees
+    ap size_of told.1 ∙ ap (λ (e : Refusal). let r : Result ℕ Refusal = Err e in r) told.2 ∙ ap answer_of (sym c.in_err-before.was) ∙ c.sbrk.ensures.answer t p (rw c.loses_page-released.ensures.same tenant.agrees)
     ∙ ap (λ (z : ℤ). size_before p (sbrk_result p z)) (to_z-of_z w64 c.args.delta c.ranges.delta)
 
-pub returns-in_err-size-clause-stays : goal.returns-in_err-size-clause-stays
-returns-in_err-size-clause-stays c =
+pub returns-in_err-before-clause-stays : goal.returns-in_err-before-clause-stays
+returns-in_err-before-clause-stays c =
     let told = err_from_is_err_and c.from_residual.result c.from_residual.ensures.1 in
-    let x = c.args.self.now in
+    let x = c.loses_page-released.new.self in
     let e = c.sbrk.ensures in
-    let r = c.in_err-size.ensures in
-    rw told.1 (ap (λ (z : Space View). let after : Tenant = record { space = z; pending = x.pending } in after) (same_space c.sbrk.new.space x.space r.view_stays e.root e.trapframe r.layout_stays))
+    let r = c.in_err-before.ensures in
+    rw told.1 (same_tenant x c.sbrk.new.space r.view_stays e.root e.trapframe r.layout_stays ∙ c.loses_page-released.ensures.same)
 
 pub returns-clause-answer : goal.returns-clause-answer
 returns-clause-answer c t p tenant =
-    ap answer_of (sym c.in_ok-size.was) ∙ c.sbrk.ensures.answer t p tenant.agrees ∙ ap (λ (z : ℤ). size_before p (sbrk_result p z)) (to_z-of_z w64 c.args.delta c.ranges.delta)
+    ap answer_of (sym c.in_ok-before.was) ∙ c.sbrk.ensures.answer t p (rw c.loses_page-released.ensures.same tenant.agrees) ∙ ap (λ (z : ℤ). size_before p (sbrk_result p z)) (to_z-of_z w64 c.args.delta c.ranges.delta)
 
 pub returns-clause-resized : goal.returns-clause-resized
 returns-clause-resized c = λ t p tenant.
-    let u = subst (λ (z : ℤ). Resizes (body_of (λ v. v) c.sbrk.new.space) t p z) (to_z-of_z w64 c.args.delta c.ranges.delta) (c.in_ok-size.ensures.resized t p tenant.agrees) in
+    let same = c.loses_page-released.ensures.same in
+    let u = subst (λ (z : ℤ). Resizes (body_of (λ v. v) c.sbrk.new.space) t p z) (to_z-of_z w64 c.args.delta c.ranges.delta) (c.in_ok-before.ensures.resized t p (rw same tenant.agrees)) in
     record {
       process = u.process;
       is = u.is;
       tables = u.tables;
       tenant = record {
         agrees = agrees_pending _ _ _ _ _ u.process u.agrees None;
-        framed = rw c.sbrk.ensures.trapframe tenant.framed;
+        framed = rw (c.sbrk.ensures.trapframe, same) tenant.framed;
         pending = refl;
         wide = tt;
       };
       drops = u.drops;
     }
+
+pub returns-clause-changed : goal.returns-clause-changed
+returns-clause-changed c = λ t p tenant q is. c.loses_page-released.ensures.changed t p tenant q (ap (sbrk_result p) (to_z-of_z w64 c.args.delta c.ranges.delta) ∙ is)
+
+pub returns-clause-keeps : goal.returns-clause-keeps
+returns-clause-keeps c others r = let h = c.loses_page-released.ensures in c.sbrk.ensures.keeps others (rw (h.frames, h.same) r)

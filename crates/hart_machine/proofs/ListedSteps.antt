@@ -1,33 +1,23 @@
--- Steps of the model where the policy is full.
+-- Lists of steps.
 use Rattle.std.proofs.Common.{◌≡◌, ℕ, ◌<◌, ◌≤◌, ◌+◌, get_or, length, drop, List, [], ◌∷◌, ◌++◌, ap, sym, subst, ◌∙◌}
 use Rattle.std.proofs.lemmas.List.{append-nil, append_assoc, at_drop_more, drop_all}
-use Rattle.process_model.specs.Stale.{with_stale_slots}
-use Rattle.process_model.specs.Steps.{plain_step, run, step}
-use Rattle.process_model.specs.World.{Outcome, World}
-use Rattle.process_model.specs.declared.config.Policy.TheVariants.{Full}
+use Rattle.process_model.specs.Steps.{run, step}
+use Rattle.process_model.specs.World.{World}
 use Rattle.process_model.specs.declared.step.Reply.{Reply}
 use Rattle.process_model.specs.declared.step.Step.{Step}
-use Rattle.hart_machine.specs.Worlds.{IsWorld, Makes}
+use Rattle.hart_machine.specs.Serves.{IsIn}
 use Rattle.hart_machine.specs.declared.machine.Machine.{Machine}
-
--- no marks follow
-pub without_marks : (w : World) → w.policy ≡ Full → (s : Step) → step w s ≡ plain_step w s
-unfolding step
-without_marks w full s = ap (λ p. with_stale_slots p w (plain_step w s)) full
-
-pub steps : (m n : Machine) (reply : Reply) (w : World) → IsWorld m w → (s t : Step) → t ≡ s → Makes n reply (plain_step w s) → Makes n reply (step w t)
-steps m n reply w is s t e made = subst (λ (o : Outcome). Makes n reply o) (sym (ap (step w) e ∙ without_marks w is.policy s)) made
 
 -- lists of steps: some of them were made, and from the world that they came to the others answer the rest
 pub record HasRun (m : Machine) (all left : List Step) (replies : List Reply) (w : World) : Type 0 where
   pub world : World
-  pub is_in : IsWorld m world
+  pub is_in : IsIn m world
   pub replied : (run w all).replies ≡ replies ++ (run world left).replies
   pub comes_to : (run w all).world ≡ (run world left).world
 
 -- one more
 pub one_more : (m n : Machine) (all rest : List Step) (s : Step) (replies : List Reply) (reply : Reply) (w : World) → HasRun m all (s ∷ rest) replies w
-    → ((v : World) → IsWorld m v → Makes n reply (step v s)) → HasRun n all rest (replies ++ reply ∷ []) w
+    → ((v : World) → IsIn m v → (reply ≡ (step v s).reply) × IsIn n (step v s).world) → HasRun n all rest (replies ++ reply ∷ []) w
 one_more m n all rest s replies reply w has makes =
     let made = makes has.world has.is_in in
     record {
@@ -38,8 +28,8 @@ one_more m n all rest s replies reply w has makes =
     }
 
 -- all of them
-pub all_run : (m : Machine) (all : List Step) (replies : List Reply) (w : World) → HasRun m all [] replies w → (replies ≡ (run w all).replies) × IsWorld m (run w all).world
-all_run m all replies w has = (sym (has.replied ∙ append-nil replies), subst (λ (v : World). IsWorld m v) (sym has.comes_to) has.is_in)
+pub all_run : (m : Machine) (all : List Step) (replies : List Reply) (w : World) → HasRun m all [] replies w → (replies ≡ (run w all).replies) × IsIn m (run w all).world
+all_run m all replies w has = (sym (has.replied ∙ append-nil replies), subst (λ (v : World). IsIn m v) (sym has.comes_to) has.is_in)
 
 -- what is left begins with the step that is next
 pub next_left : (m : Machine) (all : List Step) (i : ℕ) (s : Step) (replies : List Reply) (w : World) → i < length all → s ≡ get_or all i s

@@ -1,0 +1,120 @@
+-- A call by which the process of a slot keeps each page with its copy number and its marks leaves each leaf what it was.
+use Rattle.std.proofs.Common.{◌≡◌, ℕ, ◌<◌, Bool, true, false, not, length, Option, None, Some, List, refl, ap, sym, subst, ◌∙◌, inl, inr, arith}
+use Rattle.std.specs.Prelude.{slice_get, slice_set}
+use Rattle.std.specs.FinMap as finite
+use Rattle.std.proofs.lemmas.Bool.{cases_eq}
+use Rattle.std.proofs.lemmas.List.{length-set}
+use Rattle.std.proofs.lemmas.Option.{same_Some, slice_get_within}
+use Rattle.address_space.specs.Agreement.{IsOn}
+use Rattle.address_space.specs.Ending.{Drops}
+use Rattle.address_space.specs.Kernel.{IsKernelTable}
+use Rattle.address_space.specs.SameLeaves.{leaves_stay, WasAlike}
+use Rattle.frame_store.specs.Seats.{place_set_other, place_set_same}
+use Rattle.frame_store.specs.View.{View}
+use Rattle.process_model.specs.PageMap as pages
+use Rattle.process_model.specs.Process.{Page, Process, regions}
+use Rattle.process_model.specs.Stale.{is_changed}
+use Rattle.table_walk.specs.Tables.{leaf_node, Tables}
+use Rattle.hart_machine.specs.Calls.{Follows}
+use Rattle.hart_machine.specs.Tenants.{body_in, IsTenant}
+use Rattle.hart_machine.specs.Worlds.{HaveSameLeaves, KeepsTables}
+use Rattle.hart_machine.specs.declared.machine.Machine.{Machine}
+use Rattle.hart_machine.specs.declared.tenant.Tenant.{Tenant}
+use Rattle.hart_machine.proofs.ChangedSlots.{pages_are_same, sign, sign_of}
+use Rattle.hart_machine.proofs.KeptTables.{same_tenant}
+
+not_false : (b : Bool) → not b ≡ false → b ≡ true
+not_false true e = refl
+not_false false e = absurd (cc)
+
+module _ (p q : Process) (unchanged : is_changed (Some p) (Some q) ≡ false) where
+  pub same_signs : (n : ℕ) → sign_of (pages.get p.settled n) ≡ sign_of (pages.get q.settled n)
+  same_signs n = pages_are_same p.settled q.settled (not_false _ unchanged) n
+
+  -- a page that was settled is settled
+  pub still_settled : (n : ℕ) (a : Page) → pages.get p.settled n ≡ Some a → (z : Page) × (pages.get q.settled n ≡ Some z)
+  still_settled n a there = go (pages.get q.settled n) refl (sym (ap sign_of there) ∙ same_signs n) where
+    go : (o : Option Page) → pages.get q.settled n ≡ o → Some (sign a) ≡ sign_of o → (z : Page) × (pages.get q.settled n ≡ Some z)
+    go None is same = absurd (cc)
+    go (Some z) is same = (z, is)
+
+  -- and a page that is settled was, with the same sign
+  pub was_alike : (n : ℕ) (z : Page) → pages.get q.settled n ≡ Some z → (a : Page) × (pages.get p.settled n ≡ Some a) × (z.copy ≡ a.copy) × (z.fork_mark ≡ a.fork_mark) × (z.stored_mark ≡ a.stored_mark)
+  was_alike n z there = go (pages.get p.settled n) refl (same_signs n ∙ ap sign_of there) where
+    go : (o : Option Page) → pages.get p.settled n ≡ o → sign_of o ≡ Some (sign z) → (a : Page) × (pages.get p.settled n ≡ Some a) × (z.copy ≡ a.copy) × (z.fork_mark ≡ a.fork_mark) × (z.stored_mark ≡ a.stored_mark)
+    go None is same = absurd (cc)
+    go (Some a) is same = let one = same_Some (sign a) (sign z) same in (a, is, ap (λ t. t.0) (sym one), ap (λ t. t.1) (sym one), ap (λ t. t.2) (sym one))
+
+module _ (x y : Tenant) (t u : Tables) (p q : Process) (before : IsTenant x t p) (after : IsTenant y u q) (unchanged : is_changed (Some p) (Some q) ≡ false) where
+  -- where a run of pages was dropped, none of it was settled
+  pub dropped_none : (first end : ℕ) → Drops t u first end → HaveSameLeaves t u
+  dropped_none first end drops page = go (finite.get u.leaves (leaf_node page)) refl (finite.get t.leaves (leaf_node page)) refl where
+    none_left : (w : ℕ) → finite.get t.leaves (leaf_node page) ≡ Some w → finite.get u.leaves (leaf_node page) ≡ None → ⊥
+    none_left w at none = elim (before.agrees.stands.shows.only (leaf_node page) w at) [
+      | inl same ↦ (let leaf = after.agrees.stands.shows.on_trampoline in let both : None ≡ Some leaf.0 = sym none ∙ ap (finite.get u.leaves) same ∙ leaf.1 in cc)
+      | inr more ↦ elim more [
+        | inl same ↦ (let leaf = after.agrees.stands.shows.on_trapframe in let both : None ≡ Some leaf.0 = sym none ∙ ap (finite.get u.leaves) same ∙ leaf.1 in cc)
+        | inr settled ↦ (
+            let z = still_settled p q unchanged settled.0 settled.1 settled.3 in
+            let shown = after.agrees.stands.shows.settled settled.0 z.0 z.1 in
+            let both : None ≡ Some shown.leaf = sym none ∙ ap (finite.get u.leaves) settled.2 ∙ shown.mapped in cc)
+      ]
+    ]
+
+    go : (o : Option ℕ) → finite.get u.leaves (leaf_node page) ≡ o → (r : Option ℕ) → finite.get t.leaves (leaf_node page) ≡ r → finite.get u.leaves (leaf_node page) ≡ finite.get t.leaves (leaf_node page)
+    go (Some w) now r was = drops.others (leaf_node page) (λ n from to same. let both : Some w ≡ None = sym now ∙ ap (finite.get u.leaves) same ∙ drops.gone n from to in cc)
+    go None now None was = now ∙ sym was
+    go None now (Some w) was = absurd (none_left w was now)
+
+  -- where each page follows one that was there, or is new
+  module _ (trapframe : y.space.trapframe ≡ x.space.trapframe) (same_regions : regions q ≡ regions p) (low : ℕ) (counted : (n : ℕ) (a : Page) → pages.get p.settled n ≡ Some a → a.copy < low)
+      (on : (n f : ℕ) (z : Page) → pages.get q.settled n ≡ Some z → z.copy < low → IsOn u n f → IsOn t n f) where
+    alike : (n : ℕ) (z : Page) → pages.get q.settled n ≡ Some z → WasAlike t u p n z
+    alike n z there =
+        let old = was_alike p q unchanged n z there in
+        let below = counted n old.0 old.1 in
+        let copy = old.2 in
+        record { before = old.0; settled = old.1; fork_mark = old.3; stored_mark = old.4; on = λ f. on n f z there (omega (arith, below, copy)) }
+
+    pub followed_same : HaveSameLeaves t u
+    followed_same page = leaves_stay (body_in x) (body_in y) t u p q before.agrees after.agrees (ap (λ f. f.0) trapframe) same_regions (still_settled p q unchanged) alike (leaf_node page)
+
+-- a page that follows one is on its frame, where its copy number is an old one
+pub old_on : (v : View) (t u : Tables) (p q : Process) (low high : ℕ) → Follows v t u p q low high → (n f : ℕ) (z : Page) → pages.get q.settled n ≡ Some z → z.copy < low → IsOn u n f → IsOn t n f
+old_on v t u p q low high follows n f z there below on = elim (follows.each n z there) [
+  | inl kept ↦ kept.on f on
+  | inr new ↦ absurd (let given = new.given in omega (arith, given, below))
+]
+
+-- the process of one slot is another
+module _ (m n : Machine) (before after : List (Option Process)) (s : ℕ) (x y : Tenant) (p q : Process) (place : slice_get m.slots.items s ≡ Some (Some x)) (at : slice_get before s ≡ Some (Some p))
+    (slots : n.slots.items ≡ slice_set m.slots.items s (Some y)) (model : after ≡ slice_set before s (Some q)) (kernel : n.kernel ≡ m.kernel)
+    (here : (t u : Tables) → is_changed (Some p) (Some q) ≡ false → IsTenant x t p → IsTenant y u q → HaveSameLeaves t u) where
+  now_here : slice_get n.slots.items s ≡ Some (Some y)
+  now_here = ap (λ xs. slice_get xs s) slots ∙ place_set_same m.slots.items s (Some y) (slice_get_within m.slots.items s (Some x) place)
+
+  now_in : slice_get after s ≡ Some (Some q)
+  now_in = ap (λ xs. slice_get xs s) model ∙ place_set_same before s (Some q) (slice_get_within before s (Some p) at)
+
+  pub slot_keeps : KeepsTables m n before after
+  slot_keeps = record {
+    many = ap length slots ∙ length-set m.slots.items s (Some y);
+    kernel = λ frames slots stacks t is. subst (λ k. IsKernelTable k.seat k.root.0 frames slots stacks t) (sym kernel) is;
+    leaves = λ r a b c d t u at_m at_n at_w at_v unchanged of_a of_b. elim (cases_eq r s) [
+      | inl same ↦
+          let a_is : a ≡ x = same_Some a x (same_Some _ _ (sym at_m ∙ ap (slice_get m.slots.items) same ∙ place)) in
+          let b_is : b ≡ y = same_Some b y (same_Some _ _ (sym at_n ∙ ap (slice_get n.slots.items) same ∙ now_here)) in
+          let c_is : c ≡ p = same_Some c p (same_Some _ _ (sym at_w ∙ ap (slice_get before) same ∙ at)) in
+          let d_is : d ≡ q = same_Some d q (same_Some _ _ (sym at_v ∙ ap (slice_get after) same ∙ now_in)) in
+          here t u (ap (λ o. is_changed o (Some q)) (ap Some (sym c_is)) ∙ ap (λ o. is_changed (Some c) o) (ap Some (sym d_is)) ∙ unchanged)
+          (subst (λ z. IsTenant z t p) a_is (subst (λ z. IsTenant a t z) c_is of_a)) (subst (λ z. IsTenant z u q) b_is (subst (λ z. IsTenant b u z) d_is of_b))
+      | inr apart ↦
+          same_tenant a b c d t u (same_Some a b (same_Some _ _ (sym at_m ∙ sym (place_set_other m.slots.items s r (Some y) apart) ∙ ap (λ xs. slice_get xs r) (sym slots) ∙ at_n))) of_a of_b
+    ];
+  }
+
+-- it is told by one pair of tables
+pub slot_keeps_by : (m n : Machine) (before after : List (Option Process)) (s : ℕ) (x y : Tenant) (p q : Process) (t u : Tables) → IsTenant x t p → IsTenant y u q → slice_get m.slots.items s ≡ Some (Some x) → slice_get before s ≡ Some (Some p)
+    → n.slots.items ≡ slice_set m.slots.items s (Some y) → after ≡ slice_set before s (Some q) → n.kernel ≡ m.kernel → (is_changed (Some p) (Some q) ≡ false → HaveSameLeaves t u) → KeepsTables m n before after
+slot_keeps_by m n before after s x y p q t u of_x of_y place at slots model kernel same = slot_keeps m n before after s x y p q place at slots model kernel
+    (λ a b unchanged in_a in_b page. same_tenant y y q q u b refl of_y in_b page ∙ same unchanged page ∙ same_tenant x x p p a t refl in_a of_x page)
