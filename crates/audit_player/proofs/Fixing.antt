@@ -7,7 +7,8 @@ use Rattle.process_model.specs.declared.step.Refusal.{Refusal}
 use Rattle.process_model.specs.declared.step.Reply.{Reply}
 use Rattle.process_model.specs.declared.step.Reply.TheVariants as reply
 use Rattle.process_model.specs.declared.step.Step.TheVariants.{Serve}
-use Rattle.hart_machine.specs.Worlds.{IsWorld, Makes}
+use Rattle.hart_machine.specs.Serves.{IsIn}
+use Rattle.audit_player.specs.Told.{Follows}
 use Rattle.hart_machine.specs.declared.machine.Machine.{Machine}
 use Rattle.audit_player.proofs.Runs.{not_refused}
 
@@ -33,7 +34,7 @@ not_ready (reply.Exited status) h = refl
 not_ready (reply.Refused x) h = refl
 
 -- after a step the machine is in some world
-pub in_world : (m : Machine) (r : Reply) (o : Outcome) → Makes m r o → (w : World) × IsWorld m w
+pub in_world : (m : Machine) (r : Reply) (o : Outcome) → Follows m r o → (w : World) × IsIn m w
 in_world m r o made = (o.world, made.1)
 
 -- the steps into the kernel, and what the line comes to after them
@@ -45,24 +46,24 @@ module _ (w : World) (h : ℕ) where
   service = step entry.world (Serve h)
 
   -- one of them is refused
-  pub not_entered : (m : Machine) (r : Reply) (x : Refusal) → r ≡ reply.Refused x → Makes m r entry → Makes m r (fixed w h)
-  not_entered m r x refused made = subst (λ (b : Bool). Makes m r (fixed_after h entry b)) (sym (ap is_refused (sym made.0 ∙ refused))) made
+  pub not_entered : (m : Machine) (r : Reply) (x : Refusal) → r ≡ reply.Refused x → Follows m r entry → Follows m r (fixed w h)
+  not_entered m r x refused made = subst (λ (b : Bool). Follows m r (fixed_after h entry b)) (sym (ap is_refused (sym made.0 ∙ refused))) made
 
-  entered : (m : Machine) (r : Reply) → ((x : Refusal) → r ≡ reply.Refused x → ⊥) → Makes m r entry → fixed w h ≡ after_service h service
+  entered : (m : Machine) (r : Reply) → ((x : Refusal) → r ≡ reply.Refused x → ⊥) → Follows m r entry → fixed w h ≡ after_service h service
   entered m r other made = ap (fixed_after h entry) (ap is_refused (sym made.0) ∙ not_refused r other)
 
   -- the access still does not answer
-  pub not_back : (l m : Machine) (r s : Reply) → ((x : Refusal) → r ≡ reply.Refused x → ⊥) → (s ≡ reply.Ready → ⊥) → Makes l r entry → ((v : World) → IsWorld l v → Makes m s (step v (Serve h))) → Makes m s (fixed w h)
+  pub not_back : (l m : Machine) (r s : Reply) → ((x : Refusal) → r ≡ reply.Refused x → ⊥) → (s ≡ reply.Ready → ⊥) → Follows l r entry → ((v : World) → IsIn l v → Follows m s (step v (Serve h))) → Follows m s (fixed w h)
   not_back l m r s other ends made serves =
-      let served : Makes m s service = serves entry.world made.1 in
+      let served : Follows m s service = serves entry.world made.1 in
       let still : is_ready service.reply ≡ false = ap is_ready (sym served.0) ∙ not_ready s ends in
-      subst (Makes m s) (sym (entered l r other made ∙ ap (back_if h service) still)) served
+      subst (Follows m s) (sym (entered l r other made ∙ ap (back_if h service) still)) served
 
   -- it will answer, and the hart goes back
-  pub goes_back : (l m n : Machine) (r s q : Reply) → ((x : Refusal) → r ≡ reply.Refused x → ⊥) → s ≡ reply.Ready → Makes l r entry → ((v : World) → IsWorld l v → Makes m s (step v (Serve h)))
-      → ((v : World) → IsWorld m v → Makes n q (series_of v (three_next h) s)) → Makes n q (fixed w h)
+  pub goes_back : (l m n : Machine) (r s q : Reply) → ((x : Refusal) → r ≡ reply.Refused x → ⊥) → s ≡ reply.Ready → Follows l r entry → ((v : World) → IsIn l v → Follows m s (step v (Serve h)))
+      → ((v : World) → IsIn m v → Follows n q (series_of v (three_next h) s)) → Follows n q (fixed w h)
   goes_back l m n r s q other ready made serves leaves =
-      let served : Makes m s service = serves entry.world made.1 in
+      let served : Follows m s service = serves entry.world made.1 in
       let will : is_ready service.reply ≡ true = ap is_ready (sym served.0 ∙ ready) in
-      let left : Makes n q (series_of service.world (three_next h) reply.Ready) = subst (λ (last : Reply). Makes n q (series_of service.world (three_next h) last)) ready (leaves service.world served.1) in
-      subst (Makes n q) (sym (entered l r other made ∙ ap (back_if h service) will)) left
+      let left : Follows n q (series_of service.world (three_next h) reply.Ready) = subst (λ (last : Reply). Follows n q (series_of service.world (three_next h) last)) ready (leaves service.world served.1) in
+      subst (Follows n q) (sym (entered l r other made ∙ ap (back_if h service) will)) left

@@ -9,18 +9,18 @@ use Rattle.process_model.specs.Process.{without_pending}
 use Rattle.process_model.specs.Service.{around, begun}
 use Rattle.process_model.specs.Stale.{with_stale_slots}
 use Rattle.process_model.specs.Steps.{step}
-use Rattle.process_model.specs.Text.{lent, or_no_image, image_at, told}
+use Rattle.process_model.specs.Text.{lent, or_no_image, image_at, played, told}
 use Rattle.process_model.specs.Words.{reply_text}
-use Rattle.process_model.specs.World.{World, free_slot, kernel_call}
+use Rattle.process_model.specs.World.{Outcome, World, free_slot, kernel_call}
 use Rattle.process_model.specs.declared.image.BadImage.{BadImage}
 use Rattle.process_model.specs.declared.image.Image.{Image}
 use Rattle.process_model.specs.declared.image.OwnedImage.{OwnedImage}
+use Rattle.process_model.specs.declared.script.Command.{Command}
 use Rattle.process_model.specs.declared.step.Reply.{Reply}
 use Rattle.process_model.specs.declared.step.Step.{Step}
 use Rattle.process_model.specs.declared.step.Step.TheVariants.{CopyOut, Exec, Start}
-use Rattle.hart_machine.specs.Worlds.{Makes}
 use Rattle.hart_machine.specs.declared.machine.Machine.{Machine}
-use Rattle.audit_player.specs.Told.{Tells}
+use Rattle.audit_player.specs.Told.{Follows, Tells}
 use Rattle.audit_player.specs.declared.answer.Answer.TheVariants as answer
 
 -- start and exec read nothing of an image but what is to be loaded
@@ -46,15 +46,21 @@ named images n i lt is = ap lent is ∙ ap (λ (o : Option OwnedImage). lent (or
 
 -- so its line answers what the step with it does
 pub line_told : (m : Machine) (r : Reply) (images : List OwnedImage) (w : World) (step_of : Image → Step) (n : ℕ) (i : OwnedImage) → n < length images → i ≡ get_or images n i
-    → Makes m r (step w (step_of (lent i))) → Tells m (answer.Step r) (told (step w (step_of (image_at images n))))
+    → Follows m r (step w (step_of (lent i))) → Tells m (answer.Step r) (told (step w (step_of (image_at images n))))
 line_told m r images w step_of n i lt is made =
-    let there : Makes m r (step w (step_of (image_at images n))) = subst (λ (x : Image). Makes m r (step w (step_of x))) (named images n i lt is) made in
+    let there : Follows m r (step w (step_of (image_at images n))) = subst (λ (x : Image). Follows m r (step w (step_of x))) (named images n i lt is) made in
     (ap reply_text there.0, there.1)
 
 -- and the line of bytes what the step with them does
 pub bytes_told : (m : Machine) (r : Reply) (w : World) (h address : ℕ) (given bytes : List ℕ) → given ≡ bytes
-    → Makes m r (step w (CopyOut h address (record { ref_ptr = (0, 0); now = given }))) → Tells m (answer.Step r) (told (step w (CopyOut h address (record { ref_ptr = (0, 0); now = bytes }))))
+    → Follows m r (step w (CopyOut h address (record { ref_ptr = (0, 0); now = given }))) → Tells m (answer.Step r) (told (step w (CopyOut h address (record { ref_ptr = (0, 0); now = bytes }))))
 bytes_told m r w h address given bytes is made =
-    let there : Makes m r (step w (CopyOut h address (record { ref_ptr = (0, 0); now = bytes }))) =
-    subst (λ (b : List ℕ). Makes m r (step w (CopyOut h address (record { ref_ptr = (0, 0); now = b })))) is made in
+    let there : Follows m r (step w (CopyOut h address (record { ref_ptr = (0, 0); now = bytes }))) =
+    subst (λ (b : List ℕ). Follows m r (step w (CopyOut h address (record { ref_ptr = (0, 0); now = b })))) is made in
     (ap reply_text there.0, there.1)
+
+-- a line of steps answers what they reply
+pub steps_told : (m : Machine) (r : Reply) (images : List OwnedImage) (w : World) (o : Outcome) (c d : Command) → c ≡ d → played images w d ≡ told o → Follows m r o → Tells m (answer.Step r) (played images w c)
+steps_told m r images w o c d is plays follows =
+    let says : Tells m (answer.Step r) (told o) = (ap reply_text follows.0, follows.1) in
+    subst (Tells m (answer.Step r)) (sym (ap (played images w) is ∙ plays)) says

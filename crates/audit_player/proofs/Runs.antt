@@ -9,12 +9,13 @@ use Rattle.process_model.specs.declared.step.Refusal.{Refusal}
 use Rattle.process_model.specs.declared.step.Reply.{Reply}
 use Rattle.process_model.specs.declared.step.Reply.TheVariants as reply
 use Rattle.process_model.specs.declared.step.Step.{Step}
-use Rattle.hart_machine.specs.Worlds.{IsWorld, Makes}
+use Rattle.hart_machine.specs.Serves.{IsIn}
+use Rattle.audit_player.specs.Told.{Follows}
 use Rattle.hart_machine.specs.declared.machine.Machine.{Machine}
 
 -- what is left of a series comes to this outcome
 abbrev pub Leads : Machine → List Step → Reply → Outcome → Type 0
-Leads m rest last o = (v : World) × (IsWorld m v × (series_of v rest last ≡ o))
+Leads m rest last o = (v : World) × (IsIn m v × (series_of v rest last ≡ o))
 
 pub not_refused : (r : Reply) → ((x : Refusal) → r ≡ reply.Refused x → ⊥) → is_refused r ≡ false
 not_refused reply.Done h = refl
@@ -37,29 +38,29 @@ not_refused (reply.ShortOut r n) h = refl
 not_refused (reply.Exited status) h = refl
 not_refused (reply.Refused x) h = absurd (h x refl)
 
-module _ (m n : Machine) (ss : List Step) (i : ℕ) (s : Step) (r last : Reply) (o : Outcome) (is : s ≡ get_or ss i s) (lt : i < length ss) (made : (v : World) → IsWorld m v → Makes n r (step v s)) where
+module _ (m n : Machine) (ss : List Step) (i : ℕ) (s : Step) (r last : Reply) (o : Outcome) (is : s ≡ get_or ss i s) (lt : i < length ss) (made : (v : World) → IsIn m v → Follows n r (step v s)) where
   this_first : drop i ss ≡ s ∷ drop (i + 1) ss
   this_first = at_drop_more (λ (rest : List Step). rest) ss i s lt ∙ ap (λ (x : Step). x ∷ drop (i + 1) ss) (sym is)
 
   -- a step that is not refused is one of them
   pub goes_on : ((x : Refusal) → r ≡ reply.Refused x → ⊥) → Leads m (drop i ss) last o → Leads n (drop (i + 1) ss) last o
   goes_on other (v, (h, e)) =
-      let does : Makes n r (step v s) = made v h in
+      let does : Follows n r (step v s) = made v h in
       let next : is_refused (step v s).reply ≡ false = ap is_refused (sym does.0) ∙ not_refused r other in
       let from : series_of v (s ∷ drop (i + 1) ss) last ≡ o = ap (λ (rest : List Step). series_of v rest last) (sym this_first) ∙ e in
       ((step v s).world, (does.1, rw next at from))
 
   -- one that is refused is the last
-  pub stops : (x : Refusal) → r ≡ reply.Refused x → Leads m (drop i ss) last o → Makes n r o
+  pub stops : (x : Refusal) → r ≡ reply.Refused x → Leads m (drop i ss) last o → Follows n r o
   stops x refused (v, (h, e)) =
-      let does : Makes n r (step v s) = made v h in
+      let does : Follows n r (step v s) = made v h in
       let refuses : is_refused (step v s).reply ≡ true = ap is_refused (sym does.0 ∙ refused) in
       let from : series_of v (s ∷ drop (i + 1) ss) last ≡ o = ap (λ (rest : List Step). series_of v rest last) (sym this_first) ∙ e in
       let whole : step v s ≡ o = rw refuses at from in
-      subst (Makes n r) whole does
+      subst (Follows n r) whole does
 
 -- and where none is left, all were made
-pub ends : (m : Machine) (ss : List Step) (i : ℕ) (last : Reply) (o : Outcome) → length ss ≤ i → Leads m (drop i ss) last o → Makes m last o
+pub ends : (m : Machine) (ss : List Step) (i : ℕ) (last : Reply) (o : Outcome) → length ss ≤ i → Leads m (drop i ss) last o → Follows m last o
 ends m ss i last o past (v, (h, e)) =
-    let done : Makes m last (record { reply = last; world = v }) = (refl, h) in
-    subst (Makes m last) (sym (at_drop_all (λ (rest : List Step). series_of v rest last) ss i past) ∙ e) done
+    let done : Follows m last (record { reply = last; world = v }) = (refl, h) in
+    subst (Follows m last) (sym (at_drop_all (λ (rest : List Step). series_of v rest last) ss i past) ∙ e) done

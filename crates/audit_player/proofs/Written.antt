@@ -7,7 +7,7 @@ use Rattle.process_model.specs.World.{World}
 use Rattle.process_model.specs.declared.file.FileText.{FileText}
 use Rattle.process_model.specs.declared.image.OwnedImage.{OwnedImage}
 use Rattle.process_model.specs.declared.script.Command.{Command}
-use Rattle.hart_machine.specs.Worlds.{IsWorld}
+use Rattle.hart_machine.specs.Serves.{IsIn}
 use Rattle.hart_machine.specs.declared.machine.Machine.{Machine}
 use Rattle.script_reader.specs.Playable.{IsDeclared}
 use Rattle.audit_player.specs.Told.{Tells, answer_text}
@@ -15,11 +15,11 @@ use Rattle.audit_player.specs.declared.answer.Answer.{Answer}
 
 -- what is written so far, and what the lines that are left say, is the whole
 abbrev pub IsWritten : Machine → List OwnedImage → List Command → List ℕ → List ℕ → Type 0
-IsWritten m images rest text whole = (w : World) × (IsWorld m w × (text ++ commands_text images w rest ≡ whole))
+IsWritten m images rest text whole = (w : World) × (IsIn m w × (text ++ commands_text images w rest ≡ whole))
 
 -- one line more
 pub line_more : (m n : Machine) (images : List OwnedImage) (cs : List Command) (i : ℕ) (c : Command) (a : Answer) (text after whole : List ℕ) → c ≡ get_or cs i c → i < length cs
-    → ((w : World) → IsWorld m w → Tells n a (played images w c)) → after ≡ text ++ line_text (answer_text a) → IsWritten m images (drop i cs) text whole → IsWritten n images (drop (i + 1) cs) after whole
+    → ((w : World) → IsIn m w → Tells n a (played images w c)) → after ≡ text ++ line_text (answer_text a) → IsWritten m images (drop i cs) text whole → IsWritten n images (drop (i + 1) cs) after whole
 line_more m n images cs i c a text after whole is lt tells more (w, (h, e)) =
     let told : Tells n a (played images w c) = tells w h in
     let first : drop i cs ≡ c ∷ drop (i + 1) cs = at_drop_more (λ (rest : List Command). rest) cs i c lt ∙ ap (λ (x : Command). x ∷ drop (i + 1) cs) (sym is) in

@@ -1,7 +1,7 @@
 // What a line after `boot` answers.
 
 ghost use Rattle.std.specs.Prelude.{◌≡◌, ◌≤◌, Some, slice_get};
-ghost use Rattle.hart_machine.specs.Worlds.{IsWorld};
+ghost use Rattle.hart_machine.specs.Serves.{IsIn};
 ghost use Rattle.process_model.specs.Copies.{longest_copy};
 ghost use Rattle.process_model.specs.Files.{bytes_of};
 ghost use Rattle.process_model.specs.Text.{show_text};
@@ -63,7 +63,7 @@ pub fn show(files: &Cabinet, file: usize, offset: u64, count: usize) -> Answer
 
 /// The accounts of a machine's frames.
 pub fn audit(machine: &Machine) -> Report
-    ensures { (w : World) → IsWorld machine.now w → result ≡ report w }
+    ensures { (w : World) → IsIn machine.now w → result ≡ report w }
 {
     machine.report()
 }

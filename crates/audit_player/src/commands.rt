@@ -1,7 +1,7 @@
 // What the lines after `boot` do.
 
 ghost use Rattle.std.specs.Prelude.{◌≡◌, List};
-ghost use Rattle.hart_machine.specs.Worlds.{IsWorld, Makes};
+ghost use Rattle.hart_machine.specs.Serves.{IsIn};
 ghost use Rattle.process_model.specs.Images.{image_loads};
 ghost use Rattle.process_model.specs.Steps as model;
 ghost use Rattle.process_model.specs.Text as words;
@@ -10,7 +10,7 @@ ghost use Rattle.process_model.specs.declared.file.FileText.{FileText};
 ghost use Rattle.process_model.specs.declared.step.Reply.TheVariants.{Done};
 ghost use Rattle.process_model.specs.declared.step.Step.TheVariants as steps;
 ghost use Rattle.script_reader.specs.Playable.{IsDeclared};
-ghost use Rattle.audit_player.specs.Told.{Tells};
+ghost use Rattle.audit_player.specs.Told.{Follows, Tells};
 
 use crate::answer::{Answer, audit, show};
 use hart_machine::Machine;
@@ -28,16 +28,16 @@ fn lend(image: &OwnedImage) -> Image<'_>
 
 /// Starts a process of an image.
 fn start(machine: &mut Machine, image: &OwnedImage) -> Reply
-    requires world { (w : World) × IsWorld machine.old w }
-    ensures made { (w : World) → IsWorld machine.old w → Makes machine.new result (model.step w (steps.Start (words.lent image.now))) }
+    requires world { (w : World) × IsIn machine.old w }
+    ensures made { (w : World) → IsIn machine.old w → Follows machine.new result (model.step w (steps.Start (words.lent image.now))) }
 {
     machine.step(Step::Start(lend(image)))
 }
 
 /// Puts the process of an image in the place of the one on a hart.
 fn exec(machine: &mut Machine, hart: usize, image: &OwnedImage) -> Reply
-    requires world { (w : World) × IsWorld machine.old w }
-    ensures made { (w : World) → IsWorld machine.old w → Makes machine.new result (model.step w (steps.Exec hart (words.lent image.now))) }
+    requires world { (w : World) × IsIn machine.old w }
+    ensures made { (w : World) → IsIn machine.old w → Follows machine.new result (model.step w (steps.Exec hart (words.lent image.now))) }
 {
     let image = lend(image);
     machine.step(Step::Exec { hart, image })
@@ -45,8 +45,8 @@ fn exec(machine: &mut Machine, hart: usize, image: &OwnedImage) -> Reply
 
 /// Copies bytes to the process on a hart.
 fn copy_out(machine: &mut Machine, hart: usize, address: u64, bytes: &[u8]) -> Reply
-    requires world { (w : World) × IsWorld machine.old w }
-    ensures made { (w : World) → IsWorld machine.old w → Makes machine.new result (model.step w (steps.CopyOut hart address (record { ref_ptr = (0, 0); now = bytes.now }))) }
+    requires world { (w : World) × IsIn machine.old w }
+    ensures made { (w : World) → IsIn machine.old w → Follows machine.new result (model.step w (steps.CopyOut hart address (record { ref_ptr = (0, 0); now = bytes.now }))) }
 {
     machine.step(Step::CopyOut {
         hart,
@@ -57,8 +57,8 @@ fn copy_out(machine: &mut Machine, hart: usize, address: u64, bytes: &[u8]) -> R
 
 /// Makes several steps that have one reply: that of the first which is refused, and none is made after it; else the one given.
 fn series(machine: &mut Machine, steps: &[Step<'_>], reply: Reply) -> Reply
-    requires world { (w : World) × IsWorld machine.old w }
-    ensures made { (w : World) → IsWorld machine.old w → Makes machine.new result (words.series_of w steps.now reply) }
+    requires world { (w : World) × IsIn machine.old w }
+    ensures made { (w : World) → IsIn machine.old w → Follows machine.new result (words.series_of w steps.now reply) }
 {
     for step in steps {
         let said = machine.step(*step);
@@ -71,8 +71,8 @@ fn series(machine: &mut Machine, steps: &[Step<'_>], reply: Reply) -> Reply
 
 /// Puts a process on a hart, and goes through the return to the user.
 fn put_on(machine: &mut Machine, hart: usize, slot: usize) -> Reply
-    requires world { (w : World) × IsWorld machine.old w }
-    ensures made { (w : World) → IsWorld machine.old w → Makes machine.new result (words.series_of w (words.on_steps hart slot) Done) }
+    requires world { (w : World) × IsIn machine.old w }
+    ensures made { (w : World) → IsIn machine.old w → Follows machine.new result (words.series_of w (words.on_steps hart slot) Done) }
 {
     let switch = Step::Switch {
         hart,
@@ -84,8 +84,8 @@ fn put_on(machine: &mut Machine, hart: usize, slot: usize) -> Reply
 
 /// Goes through the entry into the kernel.
 fn enter(machine: &mut Machine, hart: usize) -> Reply
-    requires world { (w : World) × IsWorld machine.old w }
-    ensures made { (w : World) → IsWorld machine.old w → Makes machine.new result (words.series_of w (words.enter_steps hart) Done) }
+    requires world { (w : World) × IsIn machine.old w }
+    ensures made { (w : World) → IsIn machine.old w → Follows machine.new result (words.series_of w (words.enter_steps hart) Done) }
 {
     let next = Step::Next { hart };
     series(
@@ -97,8 +97,8 @@ fn enter(machine: &mut Machine, hart: usize) -> Reply
 
 /// Goes through the return to the user, or after a fault through the entry into the kernel.
 fn three_next(machine: &mut Machine, hart: usize, reply: Reply) -> Reply
-    requires world { (w : World) × IsWorld machine.old w }
-    ensures made { (w : World) → IsWorld machine.old w → Makes machine.new result (words.series_of w (words.three_next hart) reply) }
+    requires world { (w : World) × IsIn machine.old w }
+    ensures made { (w : World) → IsIn machine.old w → Follows machine.new result (words.series_of w (words.three_next hart) reply) }
 {
     let next = Step::Next { hart };
     series(machine, &[next, next, next], reply)
@@ -106,8 +106,8 @@ fn three_next(machine: &mut Machine, hart: usize, reply: Reply) -> Reply
 
 /// Goes into the kernel after a fault, is served, and returns to the user where the access will now answer.
 fn fix(machine: &mut Machine, hart: usize) -> Reply
-    requires world { (w : World) × IsWorld machine.old w }
-    ensures made { (w : World) → IsWorld machine.old w → Makes machine.new result (words.fixed w hart) }
+    requires world { (w : World) × IsIn machine.old w }
+    ensures made { (w : World) → IsIn machine.old w → Follows machine.new result (words.fixed w hart) }
 {
     let entered = three_next(machine, hart, Reply::Done);
     if let Reply::Refused(_) = entered {
@@ -122,9 +122,9 @@ fn fix(machine: &mut Machine, hart: usize) -> Reply
 
 /// What a line after `boot` does, and what it answers.
 pub fn make(machine: &mut Machine, images: &[OwnedImage], command: &Command) -> Answer
-    requires world { (w : World) × IsWorld machine.old w }
+    requires world { (w : World) × IsIn machine.old w }
     requires declared { (files : List FileText) × IsDeclared files images.now command.now }
-    ensures told { (w : World) → IsWorld machine.old w → Tells machine.new result (words.played images.now w command.now) }
+    ensures told { (w : World) → IsIn machine.old w → Tells machine.new result (words.played images.now w command.now) }
 {
     match command {
         Command::One(step) => Answer::Step(machine.step(*step)),

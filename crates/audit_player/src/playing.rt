@@ -2,10 +2,9 @@
 
 ghost use Rattle.std.specs.Prelude.{◌≡◌, ◌↔◌, ◌||◌, false, IfOk, IsTrue, IsErrOf};
 ghost use Rattle.std.specs.String.{string_bytes};
-ghost use Rattle.hart_machine.specs.Worlds.{IsWorld};
+ghost use Rattle.hart_machine.specs.Serves.{IsIn};
 ghost use Rattle.process_model.specs.Text as words;
 ghost use Rattle.process_model.specs.World.{booted};
-ghost use Rattle.process_model.specs.declared.config.Policy.TheVariants.{Full};
 ghost use Rattle.script_reader.specs.Playable.{CanBoot, IsPlayable};
 ghost use Rattle.audit_player.specs.Played.{Plays};
 
@@ -24,8 +23,7 @@ use std::fmt::Write;
 /// A machine of sizes that keep the limits, with these files: only memory may be refused.
 fn boot(alloc: Global, config: Config, files: Cabinet) -> Result<Machine, AllocError>
     requires limits { CanBoot config }
-    requires policy { config.policy ≡ Full }
-    ensures { IfOk result (λ machine. IsWorld machine (booted config files)) }
+    ensures { IfOk result (λ machine. IsIn machine (booted config files)) }
 {
     match Machine::boot(alloc, config, files) {
         Ok(machine) => Ok(machine),

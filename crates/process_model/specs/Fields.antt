@@ -101,7 +101,7 @@ abbrev pub mode_value : List ℕ → Result FieldValue Cause
 mode_value field = if bytes_eq field (codes "rw") then Ok (value.Writable true) else (if bytes_eq field (codes "ro") then Ok (value.Writable false) else Err cause.Field)
 
 abbrev pub policy_value : List ℕ → Result FieldValue Cause
-policy_value field = if bytes_eq field (codes "full") then Ok (value.Policy policy.Full) else Err cause.Field
+policy_value field = if bytes_eq field (codes "full") then Ok (value.Policy policy.Full) else (if bytes_eq field (codes "asid") then Ok (value.Policy policy.Asid) else Err cause.Field)
 
 -- @N
 abbrev pub entry_number : List ℕ → Option ℕ

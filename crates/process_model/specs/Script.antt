@@ -98,6 +98,10 @@ abbrev pub as_writable : Option FieldValue → Bool
 as_writable (Some (value.Writable b)) = b
 as_writable v = false
 
+abbrev pub as_policy : Option FieldValue → Policy
+as_policy (Some (value.Policy p)) = p
+as_policy v = policy.Full
+
 abbrev pub number_at : List FieldValue → ℕ → ℕ
 number_at vs k = as_number (slice_get vs k)
 
@@ -121,9 +125,8 @@ segments_in (v ∷ vs) = segments_in vs
 abbrev pub file_of_values : List FieldValue → FileText
 file_of_values vs = record { length = number_at vs 0; writable = as_writable (slice_get vs 1); bytes = bytes_at vs 2 }
 
--- the policy is the only one that has a word
 abbrev pub config_of : List FieldValue → Config
-config_of vs = record { harts = number_at vs 0; frames = number_at vs 1; slots = number_at vs 2; policy = policy.Full }
+config_of vs = record { harts = number_at vs 0; frames = number_at vs 1; slots = number_at vs 2; policy = as_policy (slice_get vs 3) }
 
 -- limits
 

@@ -3,8 +3,6 @@ use Prim.Native.String.{String}
 use Rattle.std.specs.Prelude.{◌≡◌, ℕ, List, [], ◌∷◌, map, Result, Ok, Err, codes, flat_map}
 use Rattle.process_model.specs.Script.{script_of, Script}
 use Rattle.process_model.specs.Text.{text_of, line_text}
-use Rattle.process_model.specs.declared.config.Policy.{Policy}
-use Rattle.process_model.specs.declared.config.Policy.TheVariants.{Asid, Full}
 use Rattle.process_model.specs.declared.script.Cause.{Cause}
 
 -- a line that is answered nothing, or a line with its answer
@@ -13,13 +11,13 @@ pub data Line : Type 0 where
   silent : String → Line
   ◌⇒◌ : String → String → Line
 
-abbrev text_or : Policy → Result Script (ℕ × Cause) → Result (List ℕ) (ℕ × Cause)
-text_or policy (Ok s) = Ok (text_of (record s { config = record s.config { policy = policy } }))
-text_or policy (Err e) = Err e
+abbrev text_or : Result Script (ℕ × Cause) → Result (List ℕ) (ℕ × Cause)
+text_or (Ok s) = Ok (text_of s)
+text_or (Err e) = Err e
 
 -- what a script of these lines writes, or its first fault
-abbrev played : Policy → List (List ℕ) → Result (List ℕ) (ℕ × Cause)
-played policy lines = text_or policy (script_of (flat_map line_text lines))
+abbrev played : List (List ℕ) → Result (List ℕ) (ℕ × Cause)
+played lines = text_or (script_of (flat_map line_text lines))
 
 abbrev asked : Line → List ℕ
 asked (silent l) = codes l
@@ -32,12 +30,8 @@ answers ((l ⇒ a) ∷ ls) = codes a ∷ answers ls
 
 -- playing the lines writes their answers
 abbrev pub Plays : List Line → Type 0
-Plays ls = played Full (map asked ls) ≡ Ok (flat_map line_text (answers ls))
-
--- the same where the process of a slot has an address-space identifier of its own, for which a script has no word
-abbrev pub PlaysTagged : List Line → Type 0
-PlaysTagged ls = played Asid (map asked ls) ≡ Ok (flat_map line_text (answers ls))
+Plays ls = played (map asked ls) ≡ Ok (flat_map line_text (answers ls))
 
 -- the lines are refused for a fault in one of them
 abbrev pub IsRefused : List Line → ℕ → Cause → Type 0
-IsRefused ls n cause = played Full (map asked ls) ≡ Err (n, cause)
+IsRefused ls n cause = played (map asked ls) ≡ Err (n, cause)

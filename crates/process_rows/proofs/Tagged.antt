@@ -12,11 +12,11 @@ use Rattle.process_model.specs.Script.{item_line, line_of}
 use Rattle.process_model.specs.Around.{resident_at}
 use Rattle.process_model.specs.Steps.{step}
 use Rattle.process_model.specs.World.{on_hart, with_its_process}
-use Rattle.process_rows.proofs.Playing.{PlaysTagged, silent, ◌⇒◌}
+use Rattle.process_rows.proofs.Playing.{Plays, silent, ◌⇒◌}
 
-fork_leaves_no_old_entry : PlaysTagged (
+fork_leaves_no_old_entry : Plays (
     silent "image 0x0:0x1000:rx:13050000 0x1000:0x1800:rw:-"
-    ∷ "boot 1 64 4 full" ⇒ "ok"
+    ∷ "boot 1 64 4 asid" ⇒ "ok"
     ∷ "start 0" ⇒ "slot 0"
     ∷ "on 0 0" ⇒ "ok"
     ∷ "fill 0 0x1000" ⇒ "entry 0"
@@ -31,9 +31,9 @@ fork_leaves_no_old_entry : PlaysTagged (
 unfolding number low_bytes digits item_line line_of elf_loads segment_loads process_of tables_needed on_hart with_its_process resident_at sbrk_result mapped unmapped copied_in copied_out step
 fork_leaves_no_old_entry = refl
 
-entries_on_two_harts_with_numbers : PlaysTagged (
+entries_on_two_harts_with_numbers : Plays (
     silent "image 0x0:0x1000:rx:13050000 0x1000:0x1800:rw:-"
-    ∷ "boot 2 64 4 full" ⇒ "ok"
+    ∷ "boot 2 64 4 asid" ⇒ "ok"
     ∷ "start 0" ⇒ "slot 0"
     ∷ "on 0 0" ⇒ "ok"
     ∷ "store 0 0x1000 1 0x41" ⇒ "stored"
@@ -55,9 +55,9 @@ entries_on_two_harts_with_numbers : PlaysTagged (
 unfolding number low_bytes digits item_line line_of elf_loads segment_loads process_of tables_needed on_hart with_its_process resident_at sbrk_result mapped unmapped copied_in copied_out step
 entries_on_two_harts_with_numbers = refl
 
-slot_that_is_used_again : PlaysTagged (
+slot_that_is_used_again : Plays (
     silent "image 0x0:0x1000:rx:13050000 0x1000:0x1800:rw:-"
-    ∷ "boot 1 64 4 full" ⇒ "ok"
+    ∷ "boot 1 64 4 asid" ⇒ "ok"
     ∷ "start 0" ⇒ "slot 0"
     ∷ "on 0 0" ⇒ "ok"
     ∷ "store 0 0x1000 1 0x41" ⇒ "stored"
@@ -72,9 +72,9 @@ slot_that_is_used_again : PlaysTagged (
 unfolding number low_bytes digits item_line line_of elf_loads segment_loads process_of tables_needed on_hart with_its_process resident_at sbrk_result mapped unmapped copied_in copied_out step
 slot_that_is_used_again = refl
 
-entry_that_is_kept : PlaysTagged (
+entry_that_is_kept : Plays (
     silent "image 0x0:0x1000:rx:13050000 0x1000:0x1800:rw:-"
-    ∷ "boot 1 64 4 full" ⇒ "ok"
+    ∷ "boot 1 64 4 asid" ⇒ "ok"
     ∷ "start 0" ⇒ "slot 0"
     ∷ "start 0" ⇒ "slot 1"
     ∷ "on 0 0" ⇒ "ok"
@@ -90,10 +90,10 @@ unfolding number low_bytes digits item_line line_of elf_loads segment_loads proc
 entry_that_is_kept = refl
 
 -- the stored mark is in the leaf too
-first_store_leaves_no_old_entry : PlaysTagged (
+first_store_leaves_no_old_entry : Plays (
     silent "file 16 rw -"
     ∷ silent "image 0x0:0x1000:rx:13050000 0x1000:0x1800:rw:-"
-    ∷ "boot 1 64 4 full" ⇒ "ok"
+    ∷ "boot 1 64 4 asid" ⇒ "ok"
     ∷ "start 0" ⇒ "slot 0"
     ∷ "on 0 0" ⇒ "ok"
     ∷ "enter 0" ⇒ "ok"

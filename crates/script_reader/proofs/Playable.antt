@@ -6,7 +6,6 @@ use Rattle.process_model.specs.Fields.{command_table, row_among, values_of}
 use Rattle.process_model.specs.Lines.{raw_lines, without_return, fields_of}
 use Rattle.process_model.specs.Script.{Draft, Script, Read, ◌>>=◌, with_item, row_named, test, in_order, item_of, in_limits, has_room, has_file, most_files, item_line, is_comment, is_ascii, some_item, fields_line, line_of, with_line, next_line, read_lines, whole_with, whole, longest_script, script_of, no_lines}
 use Rattle.process_model.specs.declared.config.Config.{Config}
-use Rattle.process_model.specs.declared.config.Policy.TheVariants.{Full}
 use Rattle.process_model.specs.declared.file.FileText.{FileText}
 use Rattle.process_model.specs.declared.image.OwnedImage.{OwnedImage}
 use Rattle.process_model.specs.declared.script.Cause.{Cause}
@@ -25,7 +24,7 @@ use Rattle.script_reader.specs.declared.fault.ScriptError.{ScriptError}
 -- what holds of the lines so far, of an item after them, and of what a line says
 abbrev CanBootIf : Option Config → Type 0
 CanBootIf None = Unit {0}
-CanBootIf (Some c) = CanBoot c × (c.policy ≡ Full)
+CanBootIf (Some c) = CanBoot c
 
 record IsSound (d : Draft) : Type 0 where
   pub boots : CanBootIf d.config
@@ -36,7 +35,7 @@ record IsSound (d : Draft) : Type 0 where
 abbrev Fits : Draft → Item → Type 0
 Fits d (item.File f) = FitsFile f
 Fits d (item.Image i) = Unit {0}
-Fits d (item.Boot c) = CanBoot c × (c.policy ≡ Full)
+Fits d (item.Boot c) = CanBoot c
 Fits d (item.Command c) = IsDeclared d.files d.images c
 
 -- it is within its limits, and there is room for it
@@ -121,7 +120,7 @@ item_fits : (d : Draft) (w : Keyword) (vs : List FieldValue) → IfOk (item_of d
 item_fits d word.File vs = limited d _ _ (λ e. e)
 item_fits d word.Image vs = tt
 item_fits d word.Elf vs = tt
-item_fits d word.Boot vs = limited d _ _ (λ e. (e, refl))
+item_fits d word.Boot vs = limited d _ _ (λ e. e)
 item_fits d word.Start vs = limited d _ _ (λ e. below _ _ e)
 item_fits d word.Switch vs = tt
 item_fits d word.Trap vs = tt
@@ -182,7 +181,7 @@ lines_kept (Err f) (line ∷ lines) s = lines_kept (Err f) lines tt
 
 whole_with_playable : (d : Draft) (n : ℕ) (c : Option Config) → c ≡ d.config → IsSound d → IfOk (whole_with d n c) IsPlayable
 whole_with_playable d n None e s = tt
-whole_with_playable d n (Some c) e s = let fits_booted : CanBootIf (Some c) = subst CanBootIf (sym e) s.boots in record { boots = (fits_booted).0; policy = fits_booted.1; few = s.few; files = s.files; commands = s.commands }
+whole_with_playable d n (Some c) e s = record { boots = subst CanBootIf (sym e) s.boots; few = s.few; files = s.files; commands = s.commands }
 
 whole_playable : (read : Read) → IsSoundRead read → IfOk (whole read) IsPlayable
 whole_playable (Ok x) s = whole_with_playable x.0 x.1 (x.0).config refl s

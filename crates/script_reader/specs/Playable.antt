@@ -4,7 +4,6 @@ use Rattle.process_model.specs.Copies.{longest_copy}
 use Rattle.process_model.specs.Frames.{can_boot}
 use Rattle.process_model.specs.Script.{Script, fits_file, most_files}
 use Rattle.process_model.specs.declared.config.Config.{Config}
-use Rattle.process_model.specs.declared.config.Policy.TheVariants.{Full}
 use Rattle.process_model.specs.declared.file.FileText.{FileText}
 use Rattle.process_model.specs.declared.image.OwnedImage.{OwnedImage}
 use Rattle.process_model.specs.declared.script.Command.{Command}
@@ -26,7 +25,6 @@ FitsFile f = IsTrue (fits_file f)
 
 pub record IsPlayable (s : Script) : Type 0 where
   pub boots : CanBoot s.config
-  pub policy : s.config.policy ≡ Full
   pub few : length s.files ≤ most_files
   pub files : All FitsFile s.files
   pub commands : All (IsDeclared s.files s.images) s.commands

@@ -4,8 +4,8 @@ ghost use Rattle.std.specs.Prelude.{◌≡◌, Ok, IfOk};
 ghost use Rattle.script_reader.specs.Alone.{item_alone};
 
 use crate::limits::in_limits;
-use crate::places::{index_at, take_bytes, take_segments, writable_at};
-use process_model::{Cause, Config, FieldValue, FileText, Item, Keyword, OwnedImage, Policy};
+use crate::places::{index_at, policy_at, take_bytes, take_segments, writable_at};
+use process_model::{Cause, Config, FieldValue, FileText, Item, Keyword, OwnedImage};
 use std::alloc::{AllocError, Global};
 
 /// How many bytes a file may have.
@@ -46,7 +46,7 @@ pub fn boot(values: &[FieldValue]) -> Result<Item, Cause>
         harts: index_at(values, 0),
         frames: index_at(values, 1),
         slots: index_at(values, 2),
-        policy: Policy::Full,
+        policy: policy_at(values, 3),
     };
     in_limits(config.is_bootable(), Item::Boot(config))
 }

@@ -3,7 +3,7 @@
 ghost use Rattle.std.specs.Prelude.{◌≡◌, IfOk, slice_get};
 ghost use Rattle.process_model.specs.Script as words;
 
-use process_model::{Bytes, FieldValue, Segment, Sequence};
+use process_model::{Bytes, FieldValue, Policy, Segment, Sequence};
 use std::alloc::{AllocError, Global};
 
 pub fn number_at(values: &[FieldValue], place: usize) -> u64
@@ -47,6 +47,15 @@ pub fn writable_at(values: &[FieldValue], place: usize) -> bool
     match values.get(place) {
         Some(FieldValue::Writable(writable)) => *writable,
         _ => false,
+    }
+}
+
+pub fn policy_at(values: &[FieldValue], place: usize) -> Policy
+    ensures { result ≡ words.as_policy (slice_get values.now place) }
+{
+    match values.get(place) {
+        Some(FieldValue::Policy(policy)) => *policy,
+        _ => Policy::Full,
     }
 }
 

@@ -43,6 +43,7 @@ fn read_policy(field: &[u8]) -> Result<FieldValue, Cause>
 {
     match field {
         b"full" => Ok(FieldValue::Policy(Policy::Full)),
+        b"asid" => Ok(FieldValue::Policy(Policy::Asid)),
         _ => Err(Cause::Field),
     }
 }

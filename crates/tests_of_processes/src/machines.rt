@@ -1,15 +1,16 @@
 // What a machine is booted with, and steps of whole machines.
 
 ghost use Rattle.std.specs.Prelude.{◌≡◌, IfSome};
-ghost use Rattle.hart_machine.specs.Worlds.{IsWorld};
+ghost use Rattle.hart_machine.specs.Serves.{IsIn};
 ghost use Rattle.process_model.specs.World.{World};
-ghost use Rattle.process_model.specs.declared.config.Policy.TheVariants.{Full};
 
 use file_cabinet::Cabinet;
 use hart_machine::{BootError, Machine};
 use process_model::{Bytes, Config, Image, Phase, Policy, Refusal, Reply, Segment, Step};
 use std::alloc::{AllocError, Global};
 use sv39_entry::{Va, Vpn};
+
+const POLICIES: [Policy; 2] = [Policy::Full, Policy::Asid];
 
 /// How many harts, frames and slots a machine is to have, and why it is not booted with them.
 type Row = (usize, usize, usize, Option<BootError>);
@@ -34,25 +35,20 @@ fn rows() -> [Row; 14] {
     ]
 }
 
-fn config(harts: usize, frames: usize, slots: usize) -> Config
-    ensures { result.policy ≡ Full }
-{
-    Config {
-        harts,
-        frames,
-        slots,
-        policy: Policy::Full,
-    }
-}
-
-/// The first row that is booted or refused otherwise.
-fn wrong_row(alloc: Global) -> Option<Row> {
+/// The first row that is booted or refused otherwise with this policy.
+fn wrong_row(alloc: Global, policy: Policy) -> Option<Row> {
     for row in rows() {
         let (harts, frames, slots, refusal) = row;
+        let config = Config {
+            harts,
+            frames,
+            slots,
+            policy,
+        };
         let Ok(files) = Cabinet::new(alloc, &[]) else {
             return Some(row);
         };
-        if Machine::boot(alloc, config(harts, frames, slots), files).err() != refusal {
+        if Machine::boot(alloc, config, files).err() != refusal {
             return Some(row);
         }
     }
@@ -61,15 +57,23 @@ fn wrong_row(alloc: Global) -> Option<Row> {
 
 #[test]
 fn boots_within_limits(rt: HostRuntime) {
-    assert_eq!(rt; wrong_row(rt.alloc()), None);
+    for policy in POLICIES {
+        assert_eq!(rt; wrong_row(rt.alloc(), policy), None);
+    }
 }
 
 /// A machine with two harts, so many frames and room for some processes.
-fn with_two_harts(alloc: Global, frames: usize) -> Option<Machine>
-    ensures { IfSome result (λ m. (w : World) × IsWorld m w) }
+fn with_two_harts(alloc: Global, frames: usize, policy: Policy) -> Option<Machine>
+    ensures { IfSome result (λ m. (w : World) × IsIn m w) }
 {
     let files = Cabinet::new(alloc, &[]).ok()?;
-    match Machine::boot(alloc, config(2, frames, 4), files) {
+    let config = Config {
+        harts: 2,
+        frames,
+        slots: 4,
+        policy,
+    };
+    match Machine::boot(alloc, config, files) {
         Ok(machine) => Some(machine),
         Err(_) => None,
     }
@@ -206,8 +210,8 @@ fn text_of(alloc: Global, replies: &[Reply]) -> Option<String> {
 
 /// The replies to steps that are made at once, as text.
 fn told_at_once(alloc: Global, machine: &mut Machine, steps: &[Step<'_>]) -> Option<String>
-    requires world { (w : World) × IsWorld machine.old w }
-    ensures { (w : World) × IsWorld machine.new w }
+    requires world { (w : World) × IsIn machine.old w }
+    ensures { (w : World) × IsIn machine.new w }
 {
     match machine.run(alloc, steps) {
         Ok(told) => text_of(alloc, &told),
@@ -217,8 +221,8 @@ fn told_at_once(alloc: Global, machine: &mut Machine, steps: &[Step<'_>]) -> Opt
 
 /// The replies to the same steps, made one by one.
 fn told_singly(alloc: Global, machine: &mut Machine, steps: &[Step<'_>]) -> Option<String>
-    requires world { (w : World) × IsWorld machine.old w }
-    ensures { (w : World) × IsWorld machine.new w }
+    requires world { (w : World) × IsIn machine.old w }
+    ensures { (w : World) × IsIn machine.new w }
 {
     let mut told = Vec::new(alloc);
     'steps: for step in steps {
@@ -229,8 +233,8 @@ fn told_singly(alloc: Global, machine: &mut Machine, steps: &[Step<'_>]) -> Opti
 
 /// The replies to steps that are made in the one way or the other.
 fn told(alloc: Global, machine: &mut Machine, steps: &[Step<'_>], at_once: bool) -> Option<String>
-    requires world { (w : World) × IsWorld machine.old w }
-    ensures { (w : World) × IsWorld machine.new w }
+    requires world { (w : World) × IsIn machine.old w }
+    ensures { (w : World) × IsIn machine.new w }
 {
     if at_once {
         return told_at_once(alloc, machine, steps);
@@ -248,9 +252,9 @@ struct Outcome {
 }
 
 /// The steps and then an eviction on a machine of their own; none where memory is missing.
-fn played(alloc: Global, at_once: bool) -> Option<Outcome> {
+fn played(alloc: Global, policy: Policy, at_once: bool) -> Option<Outcome> {
     let segments = [page(alloc).ok()?];
-    let mut machine = with_two_harts(alloc, 64)?;
+    let mut machine = with_two_harts(alloc, 64, policy)?;
     let steps = steps(Image::Segments(&segments));
     let replies = told(alloc, &mut machine, &steps, at_once)?;
     let (there, nowhere) = (buffered(&machine, 0), buffered(&machine, 9));
@@ -265,8 +269,12 @@ fn played(alloc: Global, at_once: bool) -> Option<Outcome> {
 #[test]
 fn steps_on_two_harts(rt: HostRuntime) {
     let page = Va(0x1008).page();
-    for at_once in [true, false] {
-        let outcome = played(rt.alloc(), at_once);
+    for (policy, at_once) in [
+        (Policy::Full, true),
+        (Policy::Full, false),
+        (Policy::Asid, true),
+    ] {
+        let outcome = played(rt.alloc(), policy, at_once);
         let Outcome {
             replies,
             buffers,
@@ -286,7 +294,7 @@ fn steps_on_two_harts(rt: HostRuntime) {
 /// The replies to the first steps, in one run.
 fn first_replies(alloc: Global) -> Option<String> {
     let segments = [page(alloc).ok()?];
-    let mut machine = with_two_harts(alloc, 64)?;
+    let mut machine = with_two_harts(alloc, 64, Policy::Full)?;
     told_at_once(
         alloc,
         &mut machine,
@@ -298,6 +306,45 @@ fn first_replies(alloc: Global) -> Option<String> {
 fn runs_eight_steps_at_once(rt: HostRuntime) {
     let told = first_replies(rt.alloc()).expect(&rt, "memory is ample");
     assert_eq!(rt; told.as_str(), FIRST_REPLIES);
+}
+
+/// A process comes on a hart and into user mode, its page is filled into the buffer, and it goes into the kernel and back.
+fn there_and_back(image: Image<'_>) -> [Step<'_>; 13] {
+    [
+        Step::Start(image),
+        switch(0, 0),
+        next(0),
+        next(0),
+        next(0),
+        Step::Fill {
+            hart: 0,
+            address: 0x1000,
+        },
+        Step::Trap { hart: 0 },
+        next(0),
+        next(0),
+        next(0),
+        next(0),
+        next(0),
+        next(0),
+    ]
+}
+
+/// How many entries the buffer has then.
+fn entries_left(alloc: Global, policy: Policy) -> Option<usize> {
+    let segments = [page(alloc).ok()?];
+    let mut machine = with_two_harts(alloc, 64, policy)?;
+    let steps = there_and_back(Image::Segments(&segments));
+    told_at_once(alloc, &mut machine, &steps)?;
+    let (entries, _) = buffered(&machine, 0)?;
+    Some(entries)
+}
+
+/// The fences of everything take the entry. With address-space identifiers no page of the process has changed, and it stays.
+#[test]
+fn keeps_entries_by_identifiers(rt: HostRuntime) {
+    assert_eq!(rt; entries_left(rt.alloc(), Policy::Full), Some(0));
+    assert_eq!(rt; entries_left(rt.alloc(), Policy::Asid), Some(1));
 }
 
 /// So many steps of an idle hart to the next phase.
@@ -317,7 +364,7 @@ fn are_idle(replies: &[Reply]) -> bool {
 
 /// How many replies steps have that are made at once, if each is the refusal of an idle hart.
 fn idle_replies(alloc: Global, machine: &mut Machine, steps: &[Step<'_>]) -> Option<usize>
-    requires world { (w : World) × IsWorld machine.old w }
+    requires world { (w : World) × IsIn machine.old w }
 {
     match machine.run(alloc, steps) {
         Ok(told) if are_idle(&told) => Some(told.len()),
@@ -327,7 +374,7 @@ fn idle_replies(alloc: Global, machine: &mut Machine, steps: &[Step<'_>]) -> Opt
 
 /// The same of so many steps of an idle hart.
 fn replies_when_idle(alloc: Global, count: usize) -> Option<usize> {
-    let mut machine = with_two_harts(alloc, 64)?;
+    let mut machine = with_two_harts(alloc, 64, Policy::Full)?;
     match idle_steps(alloc, count) {
         Ok(steps) => idle_replies(alloc, &mut machine, &steps),
         Err(_) => None,
@@ -349,8 +396,8 @@ fn accounts(machine: &Machine) -> Accounts {
 
 /// The accounts when a process has started, or was refused.
 fn after_start(machine: &mut Machine, image: Image<'_>) -> Accounts
-    requires { (w : World) × IsWorld machine.old w }
-    ensures { (w : World) × IsWorld machine.new w }
+    requires { (w : World) × IsIn machine.old w }
+    ensures { (w : World) × IsIn machine.new w }
 {
     machine.step(Step::Start(image));
     accounts(machine)
@@ -360,7 +407,7 @@ fn after_start(machine: &mut Machine, image: Image<'_>) -> Accounts
 /// none where memory is missing.
 fn accounts_with(alloc: Global, frames: usize) -> Option<[Accounts; 3]> {
     let segments = [page(alloc).ok()?];
-    let mut machine = with_two_harts(alloc, frames)?;
+    let mut machine = with_two_harts(alloc, frames, Policy::Full)?;
     let booted = accounts(&machine);
     let first = after_start(&mut machine, Image::Segments(&segments));
     let second = after_start(&mut machine, Image::Segments(&segments));

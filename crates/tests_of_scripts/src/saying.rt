@@ -54,3 +54,13 @@ fn reads_a_file(rt: HostRuntime) -> Result<(), Fail> {
     assert_eq!(rt; file.bytes.as_slice(), b"ab".as_slice());
     Ok(())
 }
+
+#[test]
+fn reads_a_policy(rt: HostRuntime) -> Result<(), Fail> {
+    let text = "boot 1 16 1 asid\n";
+    let script = Script::read(rt.alloc(), text.as_bytes())
+        .ok()
+        .ok_or("a script")?;
+    assert_eq!(rt; script.config().policy, Policy::Asid);
+    Ok(())
+}

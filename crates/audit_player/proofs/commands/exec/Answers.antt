@@ -1,10 +1,10 @@
 use Rattle.std.proofs.Common.{subst}
-use Rattle.hart_machine.specs.Worlds.{Makes}
+use Rattle.audit_player.specs.Told.{Follows}
 use Rattle.process_model.specs.Text.{lent}
 use Rattle.audit_player.proofs.Lending.{execs}
 use Rattle.audit_player.proofs.commands.exec.Goals as goal
 
 pub returns : goal.returns
 returns c = record {
-  made = λ w here. subst (Makes c.step.new.self c.step.result) (execs w c.args.hart c.lend-image.result (lent c.args.image.now) c.lend-image.ensures.loads) (c.step.ensures.made w here);
+  made = λ w here. subst (Follows c.step.new.self c.step.result) (execs w c.args.hart c.lend-image.result (lent c.args.image.now) c.lend-image.ensures.loads) (c.step.ensures.made w here);
 }

@@ -1,4 +1,4 @@
-use Rattle.audit_player.proofs.Fixing.{goes_back, in_world, not_back}
+use Rattle.audit_player.proofs.Fixing.{goes_back, in_world, not_back, not_entered}
 use Rattle.audit_player.proofs.commands.fix.Goals as goal
 
 pub step-served-requires : goal.step-served-requires
@@ -8,6 +8,9 @@ pub three_next-requires : goal.three_next-requires
 three_next-requires c =
     let entered = c.three_next-entered.ensures.made (c.requires.world).0 (c.requires.world).1 in
     record { world = in_world _ _ _ (c.step-served.ensures.made _ entered.1) }
+
+pub returns-in-Refused : goal.returns-in-Refused
+returns-in-Refused c = record { made = λ w here. not_entered w c.args.hart _ _ c.in-Refused.field-0 c.in-Refused.is (c.three_next-entered.ensures.made w here) }
 
 pub returns-in-Ready : goal.returns-in-Ready
 returns-in-Ready c = record {

@@ -1,6 +1,6 @@
 use Rattle.process_model.specs.World.{World}
-use Rattle.hart_machine.specs.Worlds.{IsWorld}
+use Rattle.hart_machine.specs.Serves.{IsIn}
 use Rattle.tests_of_processes.proofs.machines.told_singly.Given as goal
 
 abbrev pub invariant-steps : goal.invariant-steps
-invariant-steps l = (w : World) × IsWorld l.machine w
+invariant-steps l = (w : World) × IsIn l.machine w
