@@ -1,15 +1,19 @@
 -- The text of a run, line by line.
-use Rattle.std.proofs.Common.{◌≡◌, ℕ, ◌+◌, ◌<◌, List, ◌∷◌, ◌++◌, length, drop, get_or, sym, ap, subst, ◌∙◌, append_assoc}
-use Rattle.std.specs.Prelude.{All}
-use Rattle.std.proofs.lemmas.List.{at_drop_more}
-use Rattle.process_model.specs.Text.{line_text, commands_text, played}
-use Rattle.process_model.specs.World.{World}
+use Rattle.std.proofs.Common.{◌≡◌, ℕ, ◌+◌, ◌<◌, ◌≤◌, List, [], ◌∷◌, ◌++◌, length, drop, get_or, map, Option, sym, ap, subst, ◌∙◌, append_assoc}
+use Rattle.std.specs.Prelude.{All, codes}
+use Rattle.std.specs.Io.KnownBytes.{Appends}
+use Rattle.std.proofs.lemmas.List.{append-nil, at_drop_more, at_drop_all}
+use Rattle.process_model.specs.Script.{Script, file_of}
+use Rattle.process_model.specs.Text.{line_text, commands_text, played, text_of}
+use Rattle.process_model.specs.World.{World, booted}
 use Rattle.process_model.specs.declared.file.FileText.{FileText}
 use Rattle.process_model.specs.declared.image.OwnedImage.{OwnedImage}
 use Rattle.process_model.specs.declared.script.Command.{Command}
 use Rattle.hart_machine.specs.Serves.{IsIn}
 use Rattle.hart_machine.specs.declared.machine.Machine.{Machine}
 use Rattle.script_reader.specs.Playable.{IsDeclared}
+use Rattle.audit_player.proofs.Parts.{appends_more, appends_nothing}
+use Rattle.audit_player.specs.Taken.{WroteSome}
 use Rattle.audit_player.specs.Told.{Tells, answer_text}
 use Rattle.audit_player.specs.declared.answer.Answer.{Answer}
 
@@ -35,3 +39,50 @@ declared fs is images cs commands i c same lines this lt all =
     let there : IsDeclared fs is (get_or cs i c) = all i c (subst (λ (l : List Command). i < length l) lines lt) in
     let here : IsDeclared fs is c = subst (IsDeclared fs is) (sym (this ∙ ap (λ (l : List Command). get_or l i c) lines)) there in
     (fs, subst (λ (l : List OwnedImage). IsDeclared fs l c) (sym same) here)
+
+-- what the sink took, what stands on the page, and what the lines that are left say, is the whole
+abbrev pub IsWriting : Option (List ℕ) → Option (List ℕ) → Machine → List OwnedImage → List Command → List ℕ → List ℕ → Type 0
+IsWriting old new m images rest page whole = (front : List ℕ) × (Appends old new front × IsWritten m images rest (front ++ page) whole)
+
+-- the line of `boot` comes first
+pub begun : (s : Script) (known : Option (List ℕ)) (m : Machine) (images : List OwnedImage) (cs : List Command) (page : List ℕ) → images ≡ s.images → cs ≡ s.commands → page ≡ line_text (codes "ok")
+    → IsIn m (booted s.config (map file_of s.files)) → IsWriting known known m images (drop 0 cs) page (text_of s)
+begun s known m images cs page same lines first is =
+    let w : World = booted s.config (map file_of s.files) in
+    let rest : commands_text images w cs ≡ commands_text s.images w s.commands = ap (λ (is : List OwnedImage). commands_text is w cs) same ∙ ap (λ (l : List Command). commands_text s.images w l) lines in
+    ([], (appends_nothing known, (w, (is, ap (λ (l : List ℕ). l ++ commands_text images w cs) first ∙ ap (λ (l : List ℕ). line_text (codes "ok") ++ l) rest))))
+
+module _ (old mid new : Option (List ℕ)) (m : Machine) (images : List OwnedImage) (rest : List Command) (page whole : List ℕ) (writing : IsWriting old mid m images rest page whole) where
+  -- a page that was written is empty
+  pub turned : (empty : List ℕ) → Appends mid new page → empty ≡ [] → IsWriting old new m images rest empty whole
+  turned empty wrote none =
+      let so_far : (writing.0 ++ page) ++ empty ≡ writing.0 ++ page = ap (λ (l : List ℕ). (writing.0 ++ page) ++ l) none ∙ append-nil (writing.0 ++ page) in
+      (writing.0 ++ page, (appends_more old mid new writing.0 page writing.1.0 wrote, subst (λ (t : List ℕ). IsWritten m images rest t whole) (sym so_far) writing.1.1))
+
+  -- where a write failed, a beginning of the whole was written
+  pub cut : WroteSome mid new page → WroteSome old new whole
+  cut (left, (front, split, wrote)) =
+      let all = writing.1.1.1.1 in
+      let after : List ℕ = commands_text images writing.1.1.0 rest in (
+        left ++ after,
+        (
+          writing.0 ++ front,
+          append_assoc writing.0 front (left ++ after) ∙ ap (λ (l : List ℕ). writing.0 ++ l) (sym (append_assoc front left after)) ∙ ap (λ (l : List ℕ). writing.0 ++ (l ++ after)) split
+              ∙ sym (append_assoc writing.0 page after) ∙ all,
+          appends_more old mid new writing.0 front writing.1.0 wrote,
+        ),
+      )
+
+-- and where no line is left, the whole
+pub ended : (old mid new : Option (List ℕ)) (m : Machine) (images : List OwnedImage) (cs : List Command) (i : ℕ) (page whole : List ℕ) → length cs ≤ i → IsWriting old mid m images (drop i cs) page whole → Appends mid new page → Appends old new whole
+ended old mid new m images cs i page whole past (front, (took, (w, (is, all)))) wrote =
+    let nothing : commands_text images w (drop i cs) ≡ [] = at_drop_all (commands_text images w) cs i past in
+    let same : front ++ page ≡ whole = sym (append-nil (front ++ page)) ∙ ap (λ (l : List ℕ). (front ++ page) ++ l) (sym nothing) ∙ all in
+    subst (Appends old new) same (appends_more old mid new front page took wrote)
+
+-- one line more on the page
+pub page_more : (old new : Option (List ℕ)) (m n : Machine) (images : List OwnedImage) (cs : List Command) (i : ℕ) (c : Command) (a : Answer) (page after whole : List ℕ) → c ≡ get_or cs i c → i < length cs
+    → ((w : World) → IsIn m w → Tells n a (played images w c)) → after ≡ page ++ line_text (answer_text a) → IsWriting old new m images (drop i cs) page whole → IsWriting old new n images (drop (i + 1) cs) after whole
+page_more old new m n images cs i c a page after whole is lt tells more (front, (took, written)) =
+    let line : front ++ after ≡ (front ++ page) ++ line_text (answer_text a) = ap (λ (l : List ℕ). front ++ l) more ∙ sym (append_assoc front page (line_text (answer_text a))) in
+    (front, (took, line_more m n images cs i c a (front ++ page) (front ++ after) whole is lt tells line written))

@@ -6,6 +6,7 @@ mod commands;
 mod fault;
 mod moving;
 mod playing;
+mod running;
 mod sink;
 mod source;
 

@@ -1,54 +1,15 @@
 // From the bytes of a script to the text of its replies.
 
-ghost use Rattle.std.specs.Prelude.{◌≡◌, ◌↔◌, ◌||◌, false, IfOk, IsTrue, IsErrOf};
-ghost use Rattle.std.specs.String.{string_bytes};
-ghost use Rattle.hart_machine.specs.Serves.{IsIn};
-ghost use Rattle.process_model.specs.Text as words;
-ghost use Rattle.process_model.specs.World.{booted};
-ghost use Rattle.script_reader.specs.Playable.{CanBoot, IsPlayable};
+ghost use Rattle.std.specs.Prelude.{◌≡◌, ◌↔◌, ◌||◌, false, IsTrue, IsErrOf};
 ghost use Rattle.audit_player.specs.Played.{Plays};
 
-use crate::commands::make;
 use crate::fault::PlayError;
-use crate::moving::{ReadError, read_all, write_all};
+use crate::moving::{ReadError, read_all};
+use crate::running::run;
 use crate::sink::Sink;
 use crate::source::Source;
-use file_cabinet::Cabinet;
-use hart_machine::{BootError, Machine};
-use process_model::Config;
 use script_reader::{LONGEST_SCRIPT, Script, ScriptError};
-use std::alloc::{AllocError, Global};
-use std::fmt::Write;
-
-/// A machine of sizes that keep the limits, with these files: only memory may be refused.
-fn boot(alloc: Global, config: Config, files: Cabinet) -> Result<Machine, AllocError>
-    requires limits { CanBoot config }
-    ensures { IfOk result (λ machine. IsIn machine (booted config files)) }
-{
-    match Machine::boot(alloc, config, files) {
-        Ok(machine) => Ok(machine),
-        Err(BootError::Memory) => Err(AllocError),
-        Err(BootError::BadArgument) => unreachable!(),
-    }
-}
-
-/// The text of a whole run.
-fn output(alloc: Global, script: &Script) -> Result<String, AllocError>
-    requires playable { IsPlayable script.now }
-    ensures { IfOk result (λ text. string_bytes text ≡ words.text_of script.now) }
-{
-    let images = script.images();
-    let commands = script.commands();
-    let files = Cabinet::new(alloc, script.files())?;
-    let mut machine = boot(alloc, script.config(), files)?;
-    let mut text = String::new(alloc);
-    writeln!(text, "ok")?;
-    for command in commands {
-        let answer = make(&mut machine, images, command);
-        writeln!(text, "{answer}")?;
-    }
-    Ok(text)
-}
+use std::alloc::Global;
 
 /// Reads a script, plays it, and writes its replies, a line each.
 ///
@@ -73,12 +34,5 @@ pub fn play<R: Source, W: Sink>(
         Err(ScriptError::Memory) => return Err(PlayError::Memory),
         Err(ScriptError::Line(line, cause)) => return Err(PlayError::Script(line, cause)),
     };
-    let Ok(text) = output(alloc, &script) else {
-        return Err(PlayError::Memory);
-    };
-    if write_all(writer, text.as_bytes()) {
-        Ok(())
-    } else {
-        Err(PlayError::Io)
-    }
+    run(alloc, &script, writer)
 }

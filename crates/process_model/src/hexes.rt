@@ -1,37 +1,43 @@
 // Bytes in hexadecimal digits.
 
-ghost use Rattle.std.specs.Prelude.{Some};
+ghost use Rattle.std.specs.Prelude.{◌≡◌, ◌+◌, ◌*◌, ◌≤◌, ◌++◌, length, vec_len, vec_capacity};
+ghost use Rattle.std.specs.List.{flat_map};
 ghost use Rattle.process_model.specs.Words.{bytes_text, two_digits};
 
-use std::fmt;
+use crate::digits::{glyph, put};
 
-/// A byte, in two digits.
-#[derive(Drop)]
-struct Digits(u8);
-
-impl fmt::Display for Digits {
-    ghost output = { λ d. Some (two_digits d.0) };
-
-    fn fmt<W: fmt::Write>(&self, f: &mut fmt::Formatter<W>) -> fmt::Result {
-        let byte = self.0;
-        write!(f, "{byte:02x}")
+/// Puts a few bytes, two digits each.
+#[inline(always)]
+fn put_few(text: &mut Vec<u8>, bytes: &[u8])
+    requires few { length bytes.now ≤ 32 }
+    requires room { vec_len text.old + 2 * length bytes.now ≤ vec_capacity text.old }
+    ensures text { text.new.items ≡ text.old.items ++ flat_map two_digits bytes.now }
+    ensures len { vec_len text.new ≡ vec_len text.old + 2 * length bytes.now }
+    ensures capacity { vec_capacity text.old ≤ vec_capacity text.new }
+{
+    let mut digits = [b'0'; 64];
+    'bytes: for (i, byte) in bytes.iter().enumerate() {
+        digits[2 * i] = glyph(*byte / 16);
+        digits[2 * i + 1] = glyph(*byte % 16);
     }
+    put(text, &digits[..2 * bytes.len()]);
 }
 
-/// Bytes, two lower-case digits each, `-` for none.
-#[derive(Drop)]
-pub struct Hexes<'a>(pub &'a [u8]);
-
-impl fmt::Display for Hexes<'_> {
-    ghost output = { λ h. Some (bytes_text h.0.now) };
-
-    fn fmt<W: fmt::Write>(&self, f: &mut fmt::Formatter<W>) -> fmt::Result {
-        if self.0.is_empty() {
-            return write!(f, "-");
-        }
-        for byte in self.0 {
-            write!(f, "{}", Digits(*byte))?;
-        }
-        Ok(())
+/// Puts bytes, two lower-case digits each, `-` for none.
+pub fn put_bytes(text: &mut Vec<u8>, bytes: &[u8])
+    requires room { vec_len text.old + (2 * length bytes.now + 1) ≤ vec_capacity text.old }
+    ensures text { text.new.items ≡ text.old.items ++ bytes_text bytes.now }
+    ensures len { vec_len text.new ≤ vec_len text.old + (2 * length bytes.now + 1) }
+    ensures capacity { vec_capacity text.old ≤ vec_capacity text.new }
+{
+    if bytes.is_empty() {
+        put(text, b"-");
+        return;
+    }
+    let mut rest = bytes;
+    'pieces: while !rest.is_empty() {
+        let (few, after) = rest.split_at(rest.len().min(32));
+        put_few(text, few);
+        rest = after;
     }
 }

@@ -1,10 +1,11 @@
 //! The model of whole processes: what a step, a reply, a refusal and a script are, and in `specs/` what they mean.
 //!
 //! There are data types here and their printed form, and no machinery: no code of this crate walks a table, counts a
-//! frame or keeps a buffer. Each crate above is proved against the definitions in `specs/`.
+//! frame or keeps a translation. Each crate above is proved against the definitions in `specs/`.
 #![tactic(auto)]
 
 mod config;
+mod digits;
 mod file;
 mod hexes;
 mod image;
@@ -15,10 +16,12 @@ mod step;
 mod text;
 
 pub use config::{Config, Policy, kernel_frames};
+pub use digits::{put, put_decimal};
 pub use file::FileText;
-pub use hexes::Hexes;
+pub use hexes::put_bytes;
 pub use image::{BadImage, Image, OwnedImage, Segment};
 pub use phase::Phase;
 pub use script::{Cause, Command, FieldKind, FieldValue, Item, Keyword, Tail};
 pub use sequence::{Bytes, Sequence};
 pub use step::{LONGEST_COPY, Refusal, Reply, Report, Step, is_width};
+pub use text::{LONGEST_TEXT, put_reply, put_report};

@@ -1,50 +1,59 @@
-// How replies, refusals and causes are printed.
+// How replies, refusals and causes are named and printed.
 
-ghost use Rattle.std.specs.Prelude.{Some};
+ghost use Rattle.std.specs.Prelude.{◌≡◌, ◌+◌, ◌≤◌, ◌++◌, false, Some, codes, length, vec_len, vec_capacity};
+ghost use Rattle.std.specs.Fmt.{decimal, digits};
+ghost use Rattle.sv39_entry.specs.RuleText.{rule_text};
 ghost use Rattle.process_model.specs.Words as words;
+ghost use Rattle.process_model.specs.declared.step.Reply.TheVariants.{Exited, Refused};
 
-use crate::hexes::Hexes;
+use crate::digits::{put, put_decimal, put_hexadecimal};
+use crate::hexes::put_bytes;
 use crate::image::BadImage;
 use crate::phase::Phase;
 use crate::script::Cause;
 use crate::step::{Refusal, Reply, Report};
+use itoa::Buffer;
 use std::fmt;
+use sv39_entry::Rule;
 
-impl fmt::Display for Phase {
-    ghost output = { λ p. Some (words.phase_text p) };
+/// How many bytes the text of a reply or a report has, at most.
+pub const LONGEST_TEXT: usize = 700;
 
-    fn fmt<W: fmt::Write>(&self, f: &mut fmt::Formatter<W>) -> fmt::Result {
-        match self {
-            Phase::Idle => write!(f, "idle"),
-            Phase::User => write!(f, "user"),
-            Phase::Enter0 => write!(f, "enter0"),
-            Phase::Enter1 => write!(f, "enter1"),
-            Phase::Enter2 => write!(f, "enter2"),
-            Phase::Kernel => write!(f, "kernel"),
-            Phase::Leave1 => write!(f, "leave1"),
-            Phase::Leave2 => write!(f, "leave2"),
-        }
+/// The name of a phase.
+fn phase_name(phase: Phase) -> &'static str
+    ensures text { result.now ≡ words.phase_text phase }
+    ensures short { length result.now ≤ 6 }
+{
+    match phase {
+        Phase::Idle => "idle",
+        Phase::User => "user",
+        Phase::Enter0 => "enter0",
+        Phase::Enter1 => "enter1",
+        Phase::Enter2 => "enter2",
+        Phase::Kernel => "kernel",
+        Phase::Leave1 => "leave1",
+        Phase::Leave2 => "leave2",
     }
 }
 
-impl fmt::Display for BadImage {
-    ghost output = { λ p. Some (words.part_text p) };
-
-    fn fmt<W: fmt::Write>(&self, f: &mut fmt::Formatter<W>) -> fmt::Result {
-        match self {
-            BadImage::TooLong => write!(f, "TooLong"),
-            BadImage::Header => write!(f, "Header"),
-            BadImage::Magic => write!(f, "Magic"),
-            BadImage::ProgramHeader => write!(f, "ProgramHeader"),
-            BadImage::Sizes => write!(f, "Sizes"),
-            BadImage::Wraps => write!(f, "Wraps"),
-            BadImage::Align => write!(f, "Align"),
-            BadImage::Contents => write!(f, "Contents"),
-            BadImage::TooHigh => write!(f, "TooHigh"),
-            BadImage::Order => write!(f, "Order"),
-            BadImage::TooMany => write!(f, "TooMany"),
-            BadImage::NoLoad => write!(f, "NoLoad"),
-        }
+/// The name of a check of an image.
+fn part_name(part: BadImage) -> &'static str
+    ensures text { result.now ≡ words.part_text part }
+    ensures short { length result.now ≤ 13 }
+{
+    match part {
+        BadImage::TooLong => "TooLong",
+        BadImage::Header => "Header",
+        BadImage::Magic => "Magic",
+        BadImage::ProgramHeader => "ProgramHeader",
+        BadImage::Sizes => "Sizes",
+        BadImage::Wraps => "Wraps",
+        BadImage::Align => "Align",
+        BadImage::Contents => "Contents",
+        BadImage::TooHigh => "TooHigh",
+        BadImage::Order => "Order",
+        BadImage::TooMany => "TooMany",
+        BadImage::NoLoad => "NoLoad",
     }
 }
 
@@ -66,71 +75,152 @@ impl fmt::Display for Cause {
     }
 }
 
-impl fmt::Display for Refusal {
-    ghost output = { λ r. Some (words.refusal_text r) };
-
-    fn fmt<W: fmt::Write>(&self, f: &mut fmt::Formatter<W>) -> fmt::Result {
-        match self {
-            Refusal::NoFrame => write!(f, "9 NoFrame"),
-            Refusal::NoSlot => write!(f, "10 NoSlot"),
-            Refusal::SharersFull => write!(f, "11 SharersFull"),
-            Refusal::BadImage(part) => write!(f, "12 BadImage {part}"),
-            Refusal::BadSize => write!(f, "13 BadSize"),
-            Refusal::NoRoom => write!(f, "14 NoRoom"),
-            Refusal::BadArgument => write!(f, "15 BadArgument"),
-            Refusal::FileNotWritable => write!(f, "16 FileNotWritable"),
-            Refusal::MappingsFull => write!(f, "17 MappingsFull"),
-            Refusal::HoleInMapping => write!(f, "18 HoleInMapping"),
-            Refusal::Impossible(phase) => write!(f, "19 Impossible {phase}"),
-            Refusal::NoEntry => write!(f, "20 NoEntry"),
-            Refusal::Memory => write!(f, "21 Memory"),
-            Refusal::JournalFull => write!(f, "22 JournalFull"),
-        }
+/// The number and the name of a refusal, and what was refused in particular.
+fn refusal_words(refusal: Refusal) -> (&'static str, &'static str)
+    ensures text { result.0.now ++ result.1.now ≡ words.refusal_text refusal }
+    ensures short { length result.0.now + length result.1.now ≤ 26 }
+{
+    match refusal {
+        Refusal::NoFrame => ("9 NoFrame", ""),
+        Refusal::NoSlot => ("10 NoSlot", ""),
+        Refusal::SharersFull => ("11 SharersFull", ""),
+        Refusal::BadImage(part) => ("12 BadImage ", part_name(part)),
+        Refusal::BadSize => ("13 BadSize", ""),
+        Refusal::NoRoom => ("14 NoRoom", ""),
+        Refusal::BadArgument => ("15 BadArgument", ""),
+        Refusal::FileNotWritable => ("16 FileNotWritable", ""),
+        Refusal::MappingsFull => ("17 MappingsFull", ""),
+        Refusal::HoleInMapping => ("18 HoleInMapping", ""),
+        Refusal::Impossible(phase) => ("19 Impossible ", phase_name(phase)),
+        Refusal::NoEntry => ("20 NoEntry", ""),
+        Refusal::Memory => ("21 Memory", ""),
+        Refusal::JournalFull => ("22 JournalFull", ""),
     }
 }
 
-impl fmt::Display for Reply {
-    ghost output = { λ r. Some (words.reply_text r) };
+/// Puts words and a number.
+#[inline(always)]
+fn put_count(text: &mut Vec<u8>, name: &[u8], count: u64)
+    requires short { length name.now ≤ 20 }
+    requires room { vec_len text.old + 40 ≤ vec_capacity text.old }
+    ensures text { text.new.items ≡ text.old.items ++ (name.now ++ decimal count) }
+    ensures len { vec_len text.new ≤ vec_len text.old + 40 }
+    ensures capacity { vec_capacity text.old ≤ vec_capacity text.new }
+{
+    put(text, name);
+    put_decimal(text, count);
+}
 
-    fn fmt<W: fmt::Write>(&self, f: &mut fmt::Formatter<W>) -> fmt::Result {
-        match self {
-            Reply::Done => write!(f, "ok"),
-            Reply::Started(slot) | Reply::Forked(slot) => write!(f, "slot {slot}"),
-            Reply::Value(value) => write!(f, "value 0x{value:x}"),
-            Reply::Stored => write!(f, "stored"),
-            Reply::Fault(cause) => write!(f, "fault {cause}"),
-            Reply::Filled(entry) => write!(f, "entry {entry}"),
-            Reply::NothingFilled => write!(f, "nothing"),
-            Reply::InFrame(frame) => write!(f, "frame {frame}"),
-            Reply::Ready => write!(f, "ready"),
-            Reply::Ended(rule) => write!(f, "ended {rule}"),
-            Reply::OldSize(size) => write!(f, "old 0x{size:x}"),
-            Reply::MappedAt(address) => write!(f, "at 0x{address:x}"),
-            Reply::CopiedIn(bytes) => {
-                write!(f, "copied {} {}", bytes.len(), Hexes(bytes.as_slice()))
-            }
-            Reply::CopiedOut(count) => write!(f, "copied {count}"),
-            Reply::ShortIn(rule, bytes) => write!(
-                f,
-                "short {rule} done {} {}",
-                bytes.len(),
-                Hexes(bytes.as_slice())
-            ),
-            Reply::ShortOut(rule, count) => write!(f, "short {rule} done {count}"),
-            Reply::Exited(status) => write!(f, "exited {status}"),
-            Reply::Refused(refusal) => write!(f, "refused {refusal}"),
+/// Puts words and a number in hexadecimal digits.
+#[inline(always)]
+fn put_value(text: &mut Vec<u8>, name: &[u8], value: u64)
+    requires short { length name.now ≤ 20 }
+    requires room { vec_len text.old + 40 ≤ vec_capacity text.old }
+    ensures text { text.new.items ≡ text.old.items ++ (name.now ++ digits 16 false value) }
+    ensures len { vec_len text.new ≤ vec_len text.old + 40 }
+    ensures capacity { vec_capacity text.old ≤ vec_capacity text.new }
+{
+    put(text, name);
+    put_hexadecimal(text, value);
+}
+
+/// Puts words and a rule.
+fn put_rule(text: &mut Vec<u8>, name: &[u8], rule: Rule)
+    requires short { length name.now ≤ 20 }
+    requires room { vec_len text.old + 60 ≤ vec_capacity text.old }
+    ensures text { text.new.items ≡ text.old.items ++ (name.now ++ rule_text rule) }
+    ensures len { vec_len text.new ≤ vec_len text.old + 60 }
+    ensures capacity { vec_capacity text.old ≤ vec_capacity text.new }
+{
+    put_count(text, name, rule.number());
+    put(text, b" ");
+    put(text, rule.name().as_bytes());
+}
+
+/// Puts how many bytes there are, and the bytes.
+fn put_counted(text: &mut Vec<u8>, name: &[u8], bytes: &[u8])
+    requires short { length name.now ≤ 20 }
+    requires few { length bytes.now ≤ 256 }
+    requires room { vec_len text.old + 600 ≤ vec_capacity text.old }
+    ensures text { text.new.items ≡ text.old.items ++ (name.now ++ decimal (length bytes.now) ++ codes " " ++ words.bytes_text bytes.now) }
+    ensures len { vec_len text.new ≤ vec_len text.old + 600 }
+    ensures capacity { vec_capacity text.old ≤ vec_capacity text.new }
+{
+    put_count(text, name, bytes.len() as u64);
+    put(text, b" ");
+    put_bytes(text, bytes);
+}
+
+/// Puts the status of a process that exited.
+fn put_exit(text: &mut Vec<u8>, status: i32)
+    requires room { vec_len text.old + 40 ≤ vec_capacity text.old }
+    ensures text { text.new.items ≡ text.old.items ++ words.reply_text (Exited status) }
+    ensures len { vec_len text.new ≤ vec_len text.old + 40 }
+    ensures capacity { vec_capacity text.old ≤ vec_capacity text.new }
+{
+    let mut buffer = Buffer::new();
+    put(text, b"exited ");
+    put(text, buffer.format(status).as_bytes());
+}
+
+/// Puts a refusal.
+#[inline(always)]
+fn put_refusal(text: &mut Vec<u8>, refusal: Refusal)
+    requires room { vec_len text.old + 60 ≤ vec_capacity text.old }
+    ensures text { text.new.items ≡ text.old.items ++ words.reply_text (Refused refusal) }
+    ensures len { vec_len text.new ≤ vec_len text.old + 60 }
+    ensures capacity { vec_capacity text.old ≤ vec_capacity text.new }
+{
+    let (name, detail) = refusal_words(refusal);
+    put(text, b"refused ");
+    put(text, name.as_bytes());
+    put(text, detail.as_bytes());
+}
+
+/// Puts the text of the reply.
+pub fn put_reply(text: &mut Vec<u8>, reply: &Reply)
+    requires room { vec_len text.old + LONGEST_TEXT ≤ vec_capacity text.old }
+    ensures text { text.new.items ≡ text.old.items ++ words.reply_text reply.now }
+    ensures len { vec_len text.new ≤ vec_len text.old + LONGEST_TEXT }
+    ensures capacity { vec_capacity text.old ≤ vec_capacity text.new }
+{
+    match reply {
+        Reply::Done => put(text, b"ok"),
+        Reply::Started(slot) | Reply::Forked(slot) => put_count(text, b"slot ", *slot as u64),
+        Reply::Value(value) => put_value(text, b"value 0x", *value),
+        Reply::Stored => put(text, b"stored"),
+        Reply::Fault(cause) => put_count(text, b"fault ", *cause),
+        Reply::Filled(entry) => put_count(text, b"entry ", *entry as u64),
+        Reply::NothingFilled => put(text, b"nothing"),
+        Reply::InFrame(frame) => put_count(text, b"frame ", *frame as u64),
+        Reply::Ready => put(text, b"ready"),
+        Reply::Ended(rule) => put_rule(text, b"ended ", *rule),
+        Reply::OldSize(size) => put_value(text, b"old 0x", *size),
+        Reply::MappedAt(address) => put_value(text, b"at 0x", *address),
+        Reply::CopiedIn(bytes) => put_counted(text, b"copied ", bytes.as_slice()),
+        Reply::CopiedOut(count) => put_count(text, b"copied ", *count as u64),
+        Reply::ShortIn(rule, bytes) => {
+            put_rule(text, b"short ", *rule);
+            put_counted(text, b" done ", bytes.as_slice());
         }
+        Reply::ShortOut(rule, count) => {
+            put_rule(text, b"short ", *rule);
+            put_count(text, b" done ", *count as u64);
+        }
+        Reply::Exited(status) => put_exit(text, *status),
+        Reply::Refused(refusal) => put_refusal(text, *refusal),
     }
 }
 
-impl fmt::Display for Report {
-    ghost output = { λ r. Some (words.report_text r) };
-
-    fn fmt<W: fmt::Write>(&self, f: &mut fmt::Formatter<W>) -> fmt::Result {
-        write!(
-            f,
-            "free {} held {} shared {} references {}",
-            self.free, self.held, self.shared, self.references
-        )
-    }
+/// Puts the text of the report.
+pub fn put_report(text: &mut Vec<u8>, report: &Report)
+    requires room { vec_len text.old + LONGEST_TEXT ≤ vec_capacity text.old }
+    ensures text { text.new.items ≡ text.old.items ++ words.report_text report.now }
+    ensures len { vec_len text.new ≤ vec_len text.old + LONGEST_TEXT }
+    ensures capacity { vec_capacity text.old ≤ vec_capacity text.new }
+{
+    put_count(text, b"free ", report.free as u64);
+    put_count(text, b" held ", report.held as u64);
+    put_count(text, b" shared ", report.shared as u64);
+    put_count(text, b" references ", report.references as u64);
 }

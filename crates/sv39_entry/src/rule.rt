@@ -1,9 +1,7 @@
 // Why an access or a kernel copy is denied.
 
-ghost use Rattle.std.specs.Prelude.{◌≡◌, Some};
+ghost use Rattle.std.specs.Prelude.{◌≡◌};
 ghost use Rattle.sv39_entry.specs.RuleText as words;
-
-use std::fmt;
 
 /// Why an access or a kernel copy is denied, in the order in which the rules are tried. The order, the numbers and the
 /// names are the project's own.
@@ -61,14 +59,5 @@ impl Rule {
             Rule::NoExec => "NoExec",
             Rule::NoFrame => "NoFrame",
         }
-    }
-}
-
-/// The number and the name.
-impl fmt::Display for Rule {
-    ghost output = { λ r. Some (words.rule_text r) };
-
-    fn fmt<W: fmt::Write>(&self, f: &mut fmt::Formatter<W>) -> fmt::Result {
-        write!(f, "{} {}", self.number(), self.name())
     }
 }

@@ -43,7 +43,7 @@ fn push_times(text: &mut String, piece: &str, count: usize) -> Result<(), AllocE
     Ok(())
 }
 
-/// More than 2 MiB of text, in one piece.
+/// More than 2 MiB of text, in pieces of at least 64 KiB and a last one.
 #[test]
 fn takes_a_hundred_thousand_lines(rt: HostRuntime) -> Result<(), Fail> {
     let mut script = String::from_str(rt.alloc(), "boot 1 16 1 full\n")?;
@@ -51,7 +51,7 @@ fn takes_a_hundred_thousand_lines(rt: HostRuntime) -> Result<(), Fail> {
     let reply = "refused 19 Impossible idle\n".len();
     assert_eq!(rt;
         counted(rt.alloc(), script.as_bytes()),
-        (Ok(()), (1, 3 + 100_000 * reply))
+        (Ok(()), (42, 3 + 100_000 * reply))
     );
     script.push_str("on 0 0")?;
     let refused = Err(PlayError::Script(300_002, Cause::TooMany));

@@ -1,7 +1,9 @@
 // Replies as they are printed.
 
 use arrayvec::ArrayVec;
-use process_model::{Hexes, Refusal, Reply, Report};
+use process_model::{
+    LONGEST_TEXT, Refusal, Reply, Report, put, put_bytes, put_decimal, put_reply, put_report,
+};
 use std::test::Fail;
 use sv39_entry::Rule;
 
@@ -27,23 +29,51 @@ fn prints_replies(rt: HostRuntime) -> Result<(), Fail> {
         (Reply::Ended(Rule::GuardPage), "ended 4 GuardPage"),
         (Reply::OldSize(0x5000), "old 0x5000"),
         (Reply::MappedAt(0x3f_ffff_c000), "at 0x3fffffc000"),
+        (Reply::Value(0), "value 0x0"),
+        (Reply::Value(u64::MAX), "value 0xffffffffffffffff"),
+        (Reply::Fault(15), "fault 15"),
         (Reply::Exited(-1), "exited -1"),
+        (Reply::Exited(i32::MIN), "exited -2147483648"),
         (Reply::Refused(Refusal::BadSize), "refused 13 BadSize"),
     ];
     for (reply, want) in rows {
-        let said = format!(in rt.alloc(); "{reply}")?;
-        assert_eq!(rt; said.as_str(), want);
+        let mut said = Vec::with_capacity(rt.alloc(), LONGEST_TEXT)?;
+        put_reply(&mut said, &reply);
+        assert_eq!(rt; said.as_slice(), want.as_bytes());
     }
+    Ok(())
+}
+
+#[test]
+fn prints_accounts(rt: HostRuntime) -> Result<(), Fail> {
     let report = Report {
         free: 43,
         held: 21,
         shared: 1,
         references: 22,
     };
-    let said = format!(in rt.alloc(); "{report}, {}", Hexes(b"xv"))?;
+    let mut said = Vec::with_capacity(rt.alloc(), LONGEST_TEXT)?;
+    put_report(&mut said, &report);
     assert_eq!(rt;
-        said.as_str(),
-        "free 43 held 21 shared 1 references 22, 7876"
+        said.as_slice(),
+        b"free 43 held 21 shared 1 references 22".as_slice()
+    );
+    Ok(())
+}
+
+/// The longest number, and bytes of more than one piece, on a page with no more room.
+#[test]
+fn prints_numbers_and_bytes(rt: HostRuntime) -> Result<(), Fail> {
+    let mut said = Vec::with_capacity(rt.alloc(), 22 + 2 * 33 + 1)?;
+    put_decimal(&mut said, u64::MAX);
+    put(&mut said, b", ");
+    put_bytes(&mut said, b"0123456789abcdef0123456789abcdef!");
+    assert_eq!(rt;
+        said.as_slice(),
+        b"18446744073709551615, \
+        3031323334353637383961626364656630313233343536373839616263646566\
+        21"
+            .as_slice()
     );
     Ok(())
 }

@@ -12,7 +12,7 @@ use std::{fs, io};
 
 /// Plays the script of the file that the words name, `-` for standard input.
 ///
-/// The script is read in blocks, and its text is written in one piece.
+/// The script is read in blocks, and its text is written in pieces of 64 KiB and more.
 fn run(rt: &HostRuntime) -> Result<(), Fault> {
     let words = Words::from_env(rt)?;
     let mut writer = Writer::new(io::writer(rt));

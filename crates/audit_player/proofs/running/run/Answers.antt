@@ -1,0 +1,67 @@
+use Rattle.std.proofs.Common.{◌≡◌, ◌+◌, ◌≤◌, true, length, drop, subst, arith, rules}
+use Rattle.std.specs.Io.KnownBytes.{Appends}
+use Rattle.process_model.specs.Text.{text_of}
+use Rattle.audit_player.specs.Taken.{WroteSome}
+use Rattle.audit_player.proofs.Written.{declared, page_more, turned, cut, ended}
+use Rattle.audit_player.proofs.running.run.Goals as goal
+
+pub make-answer-requires-clause-declared : goal.make-answer-requires-clause-declared
+make-answer-requires-clause-declared g c =
+    let script = c.args.script.now in
+    declared script.files script.images _ script.commands _ c.lines.command-index _ c.images-images.ensures c.commands-commands.ensures c.command-item.is c.lines-test.true c.requires.playable.commands
+
+pub lines-preserved-then-len-lt-PAGE : goal.lines-preserved-then-len-lt-PAGE
+lines-preserved-then-len-lt-PAGE g c =
+    let old = g.W.Sink.contents c.args.writer.now in
+    let mid = g.W.Sink.contents c.lines.writer in
+    record {
+      fine = c.lines.invariant.fine;
+      low = search rules;
+      room = omega (arith, c.lines.invariant.room, c.put_line.ensures.capacity);
+      text = page_more old mid c.lines.machine c.make-answer.new.machine c.images-images.result.now c.commands-commands.result.now c.lines.command-index _ c.make-answer.result c.lines.page.items c.put_line.new.text.items (text_of c.args.script.now) c.command-item.is c.lines-test.true c.make-answer.ensures.told c.put_line.ensures.text c.lines.invariant.text;
+    }
+
+pub returns-then-not-write_all-clause-plays : goal.returns-then-not-write_all-clause-plays
+returns-then-not-write_all-clause-plays g c =
+    let old = g.W.Sink.contents c.args.writer.now in
+    let mid = g.W.Sink.contents c.lines.writer in
+    let new = g.W.Sink.contents c.write_all.new.sink in
+    let images = c.images-images.result.now in
+    let commands = c.commands-commands.result.now in
+    let whole = text_of c.args.script.now in
+    let more = page_more old mid c.lines.machine c.make-answer.new.machine images commands c.lines.command-index _ c.make-answer.result c.lines.page.items c.put_line.new.text.items whole c.command-item.is c.lines-test.true c.make-answer.ensures.told c.put_line.ensures.text c.lines.invariant.text in
+    cut old mid new c.make-answer.new.machine images (drop (c.lines.command-index + 1) commands) c.put_line.new.text.items whole more (subst (WroteSome mid new) c.as_slice.ensures.value c.write_all.ensures.part)
+
+pub lines-preserved : goal.lines-preserved
+lines-preserved g c =
+    let old = g.W.Sink.contents c.args.writer.now in
+    let mid = g.W.Sink.contents c.lines.writer in
+    let new = g.W.Sink.contents c.write_all.new.sink in
+    let images = c.images-images.result.now in
+    let commands = c.commands-commands.result.now in
+    let whole = text_of c.args.script.now in
+    let more = page_more old mid c.lines.machine c.make-answer.new.machine images commands c.lines.command-index _ c.make-answer.result c.lines.page.items c.put_line.new.text.items whole c.command-item.is c.lines-test.true c.make-answer.ensures.told c.put_line.ensures.text c.lines.invariant.text in
+    let written : c.write_all.result ≡ true = search rules in
+    record {
+      fine = search rules;
+      low = omega (arith, c.clear.ensures.len);
+      room = omega (arith, c.lines.invariant.room, c.put_line.ensures.capacity, c.clear.ensures.capacity);
+      text = turned old mid new c.make-answer.new.machine images (drop (c.lines.command-index + 1) commands) c.put_line.new.text.items whole more c.clear.new.self.items (subst (Appends mid new) c.as_slice.ensures.value (c.write_all.ensures.whole written)) c.clear.ensures.items;
+    }
+
+pub returns-then-write_all-clause-plays : goal.returns-then-write_all-clause-plays
+returns-then-write_all-clause-plays g c =
+    let old = g.W.Sink.contents c.args.writer.now in
+    let mid = g.W.Sink.contents c.lines.writer in
+    let new = g.W.Sink.contents c.write_all-2.new.sink in
+    let commands = c.commands-commands.result.now in
+    let past : length commands ≤ c.lines.command-index = search rules in
+    let written : c.write_all-2.result ≡ true = search rules in
+    ended old mid new c.lines.machine c.images-images.result.now commands c.lines.command-index c.lines.page.items (text_of c.args.script.now) past c.lines.invariant.text (subst (Appends mid new) c.as_slice-2.ensures.value (c.write_all-2.ensures.whole written))
+
+pub returns-clause-plays : goal.returns-clause-plays
+returns-clause-plays g c =
+    let old = g.W.Sink.contents c.args.writer.now in
+    let mid = g.W.Sink.contents c.lines.writer in
+    let new = g.W.Sink.contents c.write_all-2.new.sink in
+    cut old mid new c.lines.machine c.images-images.result.now (drop c.lines.command-index c.commands-commands.result.now) c.lines.page.items (text_of c.args.script.now) c.lines.invariant.text (subst (WroteSome mid new) c.as_slice-2.ensures.value c.write_all-2.ensures.part)

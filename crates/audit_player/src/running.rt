@@ -1,0 +1,78 @@
+// From a script to the text of its replies, written while the machine runs.
+
+ghost use Rattle.std.specs.Prelude.{◌≡◌, ◌↔◌, ◌≤◌, ◌+◌, false, [], map, IfOk, IsTrue, IsErrOf, vec_capacity};
+ghost use Rattle.hart_machine.specs.Serves.{IsIn};
+ghost use Rattle.process_model.specs.Script.{file_of};
+ghost use Rattle.process_model.specs.World.{booted};
+ghost use Rattle.script_reader.specs.Playable.{CanBoot, IsPlayable};
+ghost use Rattle.audit_player.specs.Played.{PlaysScript};
+
+use crate::commands::make;
+use crate::fault::PlayError;
+use crate::moving::write_all;
+use crate::sink::Sink;
+use file_cabinet::Cabinet;
+use hart_machine::{BootError, Machine};
+use process_model::{Config, LONGEST_TEXT, put};
+use script_reader::Script;
+use std::alloc::{AllocError, Global};
+
+/// How many bytes of text come together before they are written.
+const PAGE: usize = 65536;
+
+/// A machine of sizes that keep the limits, with these files: only memory may be refused.
+fn boot(alloc: Global, config: Config, files: Cabinet) -> Result<Machine, AllocError>
+    requires limits { CanBoot config }
+    ensures { IfOk result (λ machine. IsIn machine (booted config files)) }
+{
+    match Machine::boot(alloc, config, files) {
+        Ok(machine) => Ok(machine),
+        Err(BootError::Memory) => Err(AllocError),
+        Err(BootError::BadArgument) => unreachable!(),
+    }
+}
+
+/// All the memory of a run: the machine of a script, and an empty page for its text.
+fn prepare(alloc: Global, script: &Script) -> Result<(Machine, Vec<u8>), AllocError>
+    requires playable { IsPlayable script.now }
+    ensures machine { IfOk result (λ made. IsIn made.0 (booted script.now.config (map file_of script.now.files))) }
+    ensures page { IfOk result (λ made. made.1.items ≡ []) }
+    ensures room { IfOk result (λ made. PAGE + LONGEST_TEXT + 1 ≤ vec_capacity made.1) }
+{
+    let files = Cabinet::new(alloc, script.files())?;
+    let machine = boot(alloc, script.config(), files)?;
+    let page = Vec::with_capacity(alloc, PAGE + LONGEST_TEXT + 1)?;
+    Ok((machine, page))
+}
+
+/// Plays a script, and writes its replies, a line each.
+///
+/// Want of memory comes before anything is written. No step is made after a write that failed.
+pub fn run<W: Sink>(alloc: Global, script: &Script, writer: &mut W) -> Result<(), PlayError>
+    requires playable { IsPlayable script.now }
+    ensures plays { PlaysScript (W.contents writer.old) (W.contents writer.new) result (Ok script.now) }
+    ensures io { W.broken writer.old ≡ false → (IsErrOf result PlayError.Io ↔ IsTrue (W.broken writer.new)) }
+{
+    let Ok((mut machine, mut page)) = prepare(alloc, script) else {
+        return Err(PlayError::Memory);
+    };
+    let images = script.images();
+    let commands = script.commands();
+    put(&mut page, b"ok\n");
+    'lines: for command in commands {
+        let answer = make(&mut machine, images, command);
+        answer.put_line(&mut page);
+        if page.len() < PAGE {
+            continue;
+        }
+        if !write_all(writer, page.as_slice()) {
+            return Err(PlayError::Io);
+        }
+        page.clear();
+    }
+    if write_all(writer, page.as_slice()) {
+        Ok(())
+    } else {
+        Err(PlayError::Io)
+    }
+}

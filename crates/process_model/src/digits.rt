@@ -1,0 +1,71 @@
+// Text that is put to a buffer with room for it.
+
+ghost use Rattle.std.specs.Prelude.{◌≡◌, ◌+◌, ◌<◌, ◌≤◌, ◌++◌, false, length, vec_len, vec_capacity};
+ghost use Rattle.std.specs.Fmt.{decimal, digits, digit_glyph};
+
+use itoa::Buffer;
+
+/// Puts bytes.
+#[inline(always)]
+pub fn put(text: &mut Vec<u8>, piece: &[u8])
+    requires room { vec_len text.old + length piece.now ≤ vec_capacity text.old }
+    ensures text { text.new.items ≡ text.old.items ++ piece.now }
+    ensures len { vec_len text.new ≡ vec_len text.old + length piece.now }
+    ensures capacity { vec_capacity text.old ≤ vec_capacity text.new }
+{
+    if text.extend_from_slice(piece).is_err() {
+        unreachable!()
+    }
+}
+
+/// Puts a number in decimal digits.
+#[inline(always)]
+pub fn put_decimal(text: &mut Vec<u8>, number: u64)
+    requires room { vec_len text.old + 20 ≤ vec_capacity text.old }
+    ensures text { text.new.items ≡ text.old.items ++ decimal number }
+    ensures len { vec_len text.new ≤ vec_len text.old + 20 }
+    ensures capacity { vec_capacity text.old ≤ vec_capacity text.new }
+{
+    if number < 10 {
+        text.push_reserved(b'0' + number as u8);
+        return;
+    }
+    let mut buffer = Buffer::new();
+    put(text, buffer.format(number).as_bytes());
+}
+
+/// The digit of a number below 16.
+#[inline(always)]
+pub fn glyph(number: u8) -> u8
+    requires { number < 16 }
+    ensures { result ≡ digit_glyph false number }
+{
+    if number < 10 {
+        b'0' + number
+    } else {
+        b'a' + (number - 10)
+    }
+}
+
+/// Puts a number in hexadecimal digits.
+#[inline(always)]
+pub fn put_hexadecimal(text: &mut Vec<u8>, number: u64)
+    requires room { vec_len text.old + 16 ≤ vec_capacity text.old }
+    ensures text { text.new.items ≡ text.old.items ++ digits 16 false number }
+    ensures len { vec_len text.new ≤ vec_len text.old + 16 }
+    ensures capacity { vec_capacity text.old ≤ vec_capacity text.new }
+{
+    let mut digits = [b'0'; 16];
+    let mut rest = number;
+    let mut at = 16;
+    'digits: loop {
+        at -= 1;
+        digits[at] = glyph((rest % 16) as u8);
+        if rest < 16 {
+            let (_, written) = digits.split_at(at);
+            put(text, written);
+            return;
+        }
+        rest /= 16;
+    }
+}
