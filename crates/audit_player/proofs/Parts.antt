@@ -1,7 +1,11 @@
 -- One part after the other.
-use Rattle.std.proofs.Common.{◌≡◌, ℕ, List, [], ◌++◌, take, drop, Option, None, Some, sym, ap, subst, ◌∙◌, append_assoc}
-use Rattle.std.specs.Io.KnownBytes.{Appends}
-use Rattle.std.proofs.lemmas.List.{append-nil, take-append-drop}
+use Rattle.std.proofs.Common.{◌≡◌, ◌≤◌, ℕ, zero, suc, refl, List, [], ◌++◌, ◌+◌, ◌-◌, ◌<◌, false, length, length-append, arith, take, drop, Option, None, Some, sym, ap, subst, ◌∙◌, append_assoc}
+use Rattle.std.specs.Io.KnownBytes.{Appends, Consumes}
+use Rattle.std.proofs.lemmas.List.{append-nil, length-take-le, take-append-drop}
+use Rattle.std.specs.Prelude.{nat_lt}
+use Rattle.std.proofs.lemmas.Bool.{ltb-false}
+use Rattle.process_model.specs.Script.{longest_script}
+use Rattle.script_reader.specs.Reading.{HasRead, Reading}
 use Rattle.audit_player.specs.Taken.{WroteUpTo}
 
 -- nothing is a beginning of every text
@@ -28,3 +32,20 @@ pub wrote_all : (old new : Option (List ℕ)) (text rest : List ℕ) → rest �
 wrote_all old new text rest e w =
     let whole : w.0 ≡ text = sym (append-nil w.0) ∙ ap (λ (l : List ℕ). w.0 ++ l) (sym e) ∙ w.1 in
     subst (Appends old new) whole w.2
+
+-- each piece brings a script nearer to its end
+pub nearer : (bytes piece : List ℕ) (r s : Reading) → HasRead bytes r → HasRead (bytes ++ piece) s → 0 < length piece → nat_lt longest_script r.length ≡ false → longest_script + 1 - s.length < longest_script + 1 - r.length
+nearer bytes piece r s h k some short = omega (arith, h.long, k.long, length-append bytes piece, some, ltb-false longest_script r.length short)
+
+pub consumed_more : (old mid new : Option (List ℕ)) (a b : List ℕ) → Consumes old mid a → Consumes mid new b → Consumes old new (a ++ b)
+consumed_more None mid new a b p q = tt
+consumed_more (Some xs) None new a b p q = absurd p
+consumed_more (Some xs) (Some ys) None a b p q = absurd q
+consumed_more (Some xs) (Some ys) (Some zs) a b p q = p ∙ ap (λ (l : List ℕ). a ++ l) q ∙ sym (append_assoc a b zs)
+
+not_none : (n : ℕ) → (n ≡ 0 → ⊥) → 0 < n
+not_none zero some = absurd (some refl)
+not_none (suc n) some = omega arith
+
+pub piece_comes : (buffer : List ℕ) (n : ℕ) → n ≤ length buffer → (n ≡ 0 → ⊥) → 0 < length (take n buffer)
+piece_comes buffer n within some = omega (arith, length-take-le n buffer within, not_none n some)

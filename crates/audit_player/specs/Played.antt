@@ -4,6 +4,8 @@ use Rattle.std.specs.Io.KnownBytes.{Appends, Keeps}
 use Rattle.process_model.specs.Script.{Script, script_of}
 use Rattle.process_model.specs.Text.{text_of}
 use Rattle.process_model.specs.declared.script.Cause.{Cause}
+use Rattle.script_reader.specs.declared.fault.ScriptError.{ScriptError}
+use Rattle.script_reader.specs.declared.fault.ScriptError.TheVariants as script
 use Rattle.audit_player.specs.Taken.{WroteSome}
 use Rattle.audit_player.specs.declared.fault.PlayError.{PlayError}
 use Rattle.audit_player.specs.declared.fault.PlayError.TheVariants as error
@@ -34,3 +36,8 @@ PlaysScript old new (Err e) script = Refuses old new e script
 abbrev pub Plays : Option (List ℕ) → Option (List ℕ) → Option (List ℕ) → Result (Unit {0}) PlayError → Type 0
 Plays None old new result = (bytes : List ℕ) × PlaysScript old new result (script_of bytes)
 Plays (Some bytes) old new result = PlaysScript old new result (script_of bytes)
+
+-- why a script was not read, as the player tells it
+abbrev pub told : ScriptError → PlayError
+told script.Memory = error.Memory
+told (script.Line n c) = error.Script n c

@@ -1,12 +1,13 @@
 // All of what is read, and all of what is written.
 
-ghost use Rattle.std.specs.Prelude.{◌≡◌, ◌↔◌, ◌<◌, ◌^◌, false, true, not, IsTrue, IfOk, IsErrOf};
+ghost use Rattle.std.specs.Prelude.{◌≡◌, ◌↔◌, false, true, not, IsTrue, IfOk, IsErrOf};
 ghost use Rattle.std.specs.Io.KnownBytes.{Appends};
-ghost use Rattle.audit_player.specs.Taken.{IsInput, WroteSome};
+ghost use Rattle.audit_player.specs.Taken.{HasReadAll, WroteSome};
 ghost use Rattle.audit_player.specs.declared.moving.ReadError.TheVariants as errors;
 
 use crate::sink::Sink;
 use crate::source::Source;
+use script_reader::Reading;
 use std::alloc::{AllocError, Global};
 
 /// Why nothing could be read.
@@ -41,26 +42,21 @@ pub fn write_all<S: Sink>(sink: &mut S, text: &[u8]) -> bool
     true
 }
 
-/// Reads all there is, but not far past a limit.
-pub fn read_all<S: Source>(
-    alloc: Global,
-    source: &mut S,
-    limit: usize,
-) -> Result<Vec<u8>, ReadError>
-    requires { limit < 2 ^ 32 }
+/// Reads a script in pieces: all there is, but not far past what a script may have.
+pub fn read_all<S: Source>(alloc: Global, source: &mut S) -> Result<Reading, ReadError>
     ensures io { S.broken source.old ≡ false → (IsErrOf result ReadError.Io ↔ IsTrue (S.broken source.new)) }
-    ensures bytes { IfOk result (λ bytes. IsInput limit (S.remaining source.old) bytes.items) }
+    ensures bytes { IfOk result (HasReadAll (S.remaining source.old)) }
 {
-    let mut bytes = Vec::new(alloc);
-    let mut buffer = [0u8; 8192];
-    'reading: while bytes.len() <= limit {
-        let Some(count) = source.read(&mut buffer) else {
+    let mut reading = Reading::new(alloc);
+    let mut piece = [0u8; 32768];
+    'reading: while !reading.is_too_long() {
+        let Some(count) = source.read(&mut piece) else {
             return Err(ReadError::Io);
         };
         if count == 0 {
-            return Ok(bytes);
+            return Ok(reading);
         }
-        bytes.extend_from_slice(&buffer[..count])?;
+        reading.add(&piece[..count])?;
     }
-    Ok(bytes)
+    Ok(reading)
 }

@@ -1,15 +1,25 @@
 // From the bytes of a script to the text of its replies.
 
 ghost use Rattle.std.specs.Prelude.{◌≡◌, ◌↔◌, ◌||◌, false, IsTrue, IsErrOf};
-ghost use Rattle.audit_player.specs.Played.{Plays};
+ghost use Rattle.audit_player.specs.Played.{Plays, told};
 
 use crate::fault::PlayError;
 use crate::moving::{ReadError, read_all};
 use crate::running::run;
 use crate::sink::Sink;
 use crate::source::Source;
-use script_reader::{LONGEST_SCRIPT, Script, ScriptError};
+use script_reader::ScriptError;
 use std::alloc::Global;
+
+/// Why a script was not read, as the player tells it.
+fn told(error: ScriptError) -> PlayError
+    ensures { result ≡ told error }
+{
+    match error {
+        ScriptError::Memory => PlayError::Memory,
+        ScriptError::Line(line, cause) => PlayError::Script(line, cause),
+    }
+}
 
 /// Reads a script, plays it, and writes its replies, a line each.
 ///
@@ -24,15 +34,14 @@ pub fn play<R: Source, W: Sink>(
     ensures io { R.broken reader.old ≡ false → W.broken writer.old ≡ false
         → (IsErrOf result PlayError.Io ↔ IsTrue (R.broken reader.new || W.broken writer.new)) }
 {
-    let bytes = match read_all(alloc, reader, LONGEST_SCRIPT) {
-        Ok(bytes) => bytes,
+    let reading = match read_all(alloc, reader) {
+        Ok(reading) => reading,
         Err(ReadError::Memory) => return Err(PlayError::Memory),
         Err(ReadError::Io) => return Err(PlayError::Io),
     };
-    let script = match Script::read(alloc, bytes.as_slice()) {
+    let script = match reading.finish() {
         Ok(script) => script,
-        Err(ScriptError::Memory) => return Err(PlayError::Memory),
-        Err(ScriptError::Line(line, cause)) => return Err(PlayError::Script(line, cause)),
+        Err(error) => return Err(told(error)),
     };
     run(alloc, &script, writer)
 }

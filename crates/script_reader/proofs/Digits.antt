@@ -1,8 +1,9 @@
 -- Digits that say too much.
-use Rattle.std.proofs.Common.{◌≡◌, ℕ, ◌+◌, ◌*◌, ◌^◌, ◌<◌, ◌≤◌, List, [], ◌∷◌, Option, Some, None, length, drop, get_or, refl, sym, ap, ◌∙◌, arith}
-use Rattle.std.proofs.lemmas.Bool.{le-ltb, lt-ltb}
+use Rattle.std.proofs.Common.{◌≡◌, ℕ, ◌+◌, ◌*◌, ◌^◌, ◌-◌, ◌<◌, ◌≤◌, Bool, true, false, List, [], ◌∷◌, Option, Some, None, cond, subst, length, drop, get_or, refl, sym, ap, ◌∙◌, arith}
+use Rattle.std.proofs.lemmas.Bool.{and_parts, le-ltb, lt-ltb, ltb-true}
 use Rattle.std.proofs.lemmas.List.{at_drop_more, at_drop_all}
 use Rattle.std.proofs.Math.Nat.{mul-le-mul_left}
+use Rattle.std.specs.Prelude.{◌&&◌, nat_le, nat_lt}
 use Rattle.process_model.specs.Numbers.{digit_of, one_more, digits_from, if_below}
 
 pub from_none : (base : ℕ) (digits : List ℕ) → digits_from base None digits ≡ None
@@ -48,3 +49,18 @@ pub whole : (base value i : ℕ) (digits : List ℕ) (total : Option ℕ) → le
 whole base value i digits total past lt so_far =
     let all : if_below (2 ^ 64) (digits_from base (Some value) (drop i digits)) ≡ Some value = rw (at_drop_all (digits_from base (Some value)) digits i past, lt-ltb value (2 ^ 64) lt) refl in
     sym all ∙ so_far
+
+-- a digit is below the base
+small_if : (t : Bool) (n : ℕ) (other : Option ℕ) (P : ℕ → Type 0) → (t ≡ true → P n) → ((d : ℕ) → other ≡ Some d → P d) → (d : ℕ) → cond t (Some n) other ≡ Some d → P d
+small_if true n other P here there d e = let same : n ≡ d = cc in subst P same (here refl)
+small_if false n other P here there d e = there d e
+
+in_range : (base n : ℕ) (t : Bool) → (t && nat_lt n base) ≡ true → n < base
+in_range base n t h = ltb-true n base (and_parts t (nat_lt n base) h).1
+
+pub is_small : (base b d : ℕ) → digit_of base b ≡ Some d → d < base
+is_small base b d e =
+    let P : ℕ → Type 0 = λ n. n < base in
+    small_if (nat_le 48 b && nat_le b 57 && nat_lt (b - 48) base) (b - 48) _ P (in_range base (b - 48) (nat_le 48 b && nat_le b 57))
+    (small_if (nat_le 97 b && nat_le b 102 && nat_lt (b - 87) base) (b - 87) _ P (in_range base (b - 87) (nat_le 97 b && nat_le b 102))
+    (small_if (nat_le 65 b && nat_le b 70 && nat_lt (b - 55) base) (b - 55) None P (in_range base (b - 55) (nat_le 65 b && nat_le b 70)) (λ k none. absurd (cc)))) d e

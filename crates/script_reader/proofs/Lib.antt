@@ -1,8 +1,10 @@
 pub mod Colons
 pub mod Cutting
 pub mod Digits
+pub mod Ends
 pub mod Faults
 pub mod FieldKinds
 pub mod FieldValues
 pub mod Pairs
 pub mod Playable
+pub mod QuickLines

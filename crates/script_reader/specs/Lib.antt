@@ -1,6 +1,9 @@
 pub mod Alone
+pub mod Digits
 pub mod Gives
 pub mod Listed
 pub mod Pieces
 pub mod Playable
+pub mod Quick
+pub mod Reading
 pub mod Rows

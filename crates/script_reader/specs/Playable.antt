@@ -1,5 +1,5 @@
 -- What holds of each script that is read: nothing in it is left to be refused but by a step.
-use Rattle.std.specs.Prelude.{◌≡◌, ◌<◌, ◌≤◌, List, length, IsTrue, All}
+use Rattle.std.specs.Prelude.{◌<◌, ◌≤◌, List, length, IsTrue, All}
 use Rattle.process_model.specs.Copies.{longest_copy}
 use Rattle.process_model.specs.Frames.{can_boot}
 use Rattle.process_model.specs.Script.{Script, fits_file, most_files}

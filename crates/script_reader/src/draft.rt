@@ -1,6 +1,7 @@
 // What the lines so far say.
 
-ghost use Rattle.std.specs.Prelude.{◌≡◌, OnOk, OnErr};
+ghost use Rattle.std.specs.Prelude.{◌≡◌, ◌&&◌, OnOk, OnErr, is_some, length, nat_lt};
+ghost use Rattle.process_model.specs.declared.script.Item.TheVariants as item;
 ghost use Rattle.process_model.specs.Script as words;
 
 use process_model::{Command, Config, FileText, Item, Keyword, OwnedImage};
@@ -99,6 +100,22 @@ impl Draft {
             Item::Boot(config) => self.config = Some(config),
             Item::Command(command) => self.commands.push(command)?,
         }
+        Ok(())
+    }
+
+    /// Whether the machine was booted, and one more line may stand behind.
+    pub fn takes_commands(&self) -> bool
+        ensures { result ≡ (is_some (self.now).config && nat_lt (length (self.now).commands) words.most_commands) }
+    {
+        self.config.is_some() && self.commands.len() < MOST_COMMANDS
+    }
+
+    /// Puts a line behind `boot` after those before it. Where memory is refused, nothing changes.
+    pub fn add_command(&mut self, command: Command) -> Result<(), AllocError>
+        ensures added { OnOk result (self.new ≡ words.with_item self.old (item.Command command)) }
+        ensures kept { OnErr result (self.new ≡ self.old) }
+    {
+        self.commands.push(command)?;
         Ok(())
     }
 

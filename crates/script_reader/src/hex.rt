@@ -3,7 +3,7 @@
 ghost use Rattle.std.specs.Prelude.{◌≡◌, ◌<◌, IfOk, MatchOption, None, Some, length};
 ghost use Rattle.process_model.specs.Numbers.{pairs_of, hex_of, then_bytes};
 
-use crate::numbers::digit;
+use crate::numbers::hexadecimal_digit;
 use process_model::Bytes;
 use std::alloc::{AllocError, Global};
 
@@ -15,8 +15,8 @@ fn first_byte(digits: &[u8]) -> Option<(u8, &[u8])>
 {
     match digits {
         [high, low, rest @ ..] => {
-            let high = digit(16, *high)?;
-            let low = digit(16, *low)?;
+            let high = hexadecimal_digit(*high)?;
+            let low = hexadecimal_digit(*low)?;
             Some(((high * 16 + low) as u8, rest))
         }
         _ => None,

@@ -12,8 +12,11 @@ mod limits;
 mod lines;
 mod named;
 mod numbers;
+mod piecewise;
 mod places;
+mod quick;
 mod reading;
+mod said;
 mod script;
 mod segments;
 mod steps;
@@ -21,4 +24,5 @@ mod table;
 mod values;
 
 pub use fault::ScriptError;
-pub use script::{LONGEST_SCRIPT, Script};
+pub use piecewise::{LONGEST_SCRIPT, Reading};
+pub use script::Script;

@@ -1,38 +1,84 @@
 // Numbers, as fields spell them.
 
 ghost use Rattle.std.specs.Prelude.{◌≡◌, ◌≤◌, ◌^◌, Some};
+ghost use Rattle.script_reader.specs.Digits.{value_or_255};
 ghost use Rattle.process_model.specs.Numbers.{digit_of, digits_in, if_below, number_of, signed_of, as_negative};
 
-/// The value of a digit in a base.
-pub fn digit(base: u64, byte: u8) -> Option<u64>
-    requires { base ≤ 16 }
-    ensures { result ≡ digit_of base byte }
+/// The value of each byte as a hexadecimal digit of either case; of a byte that is none, 255.
+static HEXADECIMAL_DIGITS: [u8; 256] = [
+    255, 255, 255, 255, 255, 255, 255, 255, 255, 255, 255, 255, 255, 255, 255, 255, 255, 255, 255,
+    255, 255, 255, 255, 255, 255, 255, 255, 255, 255, 255, 255, 255, 255, 255, 255, 255, 255, 255,
+    255, 255, 255, 255, 255, 255, 255, 255, 255, 255, 0, 1, 2, 3, 4, 5, 6, 7, 8, 9, 255, 255, 255,
+    255, 255, 255, 255, 10, 11, 12, 13, 14, 15, 255, 255, 255, 255, 255, 255, 255, 255, 255, 255,
+    255, 255, 255, 255, 255, 255, 255, 255, 255, 255, 255, 255, 255, 255, 255, 255, 10, 11, 12, 13,
+    14, 15, 255, 255, 255, 255, 255, 255, 255, 255, 255, 255, 255, 255, 255, 255, 255, 255, 255,
+    255, 255, 255, 255, 255, 255, 255, 255, 255, 255, 255, 255, 255, 255, 255, 255, 255, 255, 255,
+    255, 255, 255, 255, 255, 255, 255, 255, 255, 255, 255, 255, 255, 255, 255, 255, 255, 255, 255,
+    255, 255, 255, 255, 255, 255, 255, 255, 255, 255, 255, 255, 255, 255, 255, 255, 255, 255, 255,
+    255, 255, 255, 255, 255, 255, 255, 255, 255, 255, 255, 255, 255, 255, 255, 255, 255, 255, 255,
+    255, 255, 255, 255, 255, 255, 255, 255, 255, 255, 255, 255, 255, 255, 255, 255, 255, 255, 255,
+    255, 255, 255, 255, 255, 255, 255, 255, 255, 255, 255, 255, 255, 255, 255, 255, 255, 255, 255,
+    255, 255, 255, 255, 255, 255, 255, 255, 255, 255, 255, 255, 255, 255, 255, 255, 255, 255, 255,
+    255, 255, 255,
+];
+
+/// The value of a byte as a hexadecimal digit; of a byte that is none, 255.
+fn hexadecimal_value(byte: u8) -> u8
+    ensures { result ≡ value_or_255 (digit_of 16 byte) }
 {
-    let value = match byte {
-        b'0'..=b'9' => byte - b'0',
-        b'a'..=b'f' => byte - b'a' + 10,
-        b'A'..=b'F' => byte - b'A' + 10,
-        _ => return None,
-    };
-    if u64::from(value) < base {
+    HEXADECIMAL_DIGITS[byte as usize]
+}
+
+/// The value of a hexadecimal digit of either case.
+pub fn hexadecimal_digit(byte: u8) -> Option<u64>
+    ensures { result ≡ digit_of 16 byte }
+{
+    let value = hexadecimal_value(byte);
+    if value < 16 {
         Some(u64::from(value))
     } else {
         None
     }
 }
 
-/// The number that digits say in a base, below 2^64.
-fn digits(base: u64, digits: &[u8]) -> Option<u64>
-    requires low { 2 ≤ base }
-    requires high { base ≤ 16 }
-    ensures { result ≡ if_below (2 ^ 64) (digits_in base digits.now) }
+/// The value of a decimal digit.
+fn decimal_digit(byte: u8) -> Option<u64>
+    ensures { result ≡ digit_of 10 byte }
+{
+    match byte {
+        b'0'..=b'9' => Some(u64::from(byte - b'0')),
+        _ => None,
+    }
+}
+
+/// The number that hexadecimal digits say, below 2^64.
+fn hexadecimal(digits: &[u8]) -> Option<u64>
+    ensures { result ≡ if_below (2 ^ 64) (digits_in 16 digits.now) }
 {
     if digits.is_empty() {
         return None;
     }
     let mut value = 0u64;
     for byte in digits {
-        value = value.checked_mul(base)?.checked_add(digit(base, *byte)?)?;
+        let digit = hexadecimal_digit(*byte)?;
+        if value >= 1 << 60 {
+            return None;
+        }
+        value = value * 16 + digit;
+    }
+    Some(value)
+}
+
+/// The number that decimal digits say, below 2^64.
+fn decimal(digits: &[u8]) -> Option<u64>
+    ensures { result ≡ if_below (2 ^ 64) (digits_in 10 digits.now) }
+{
+    if digits.is_empty() {
+        return None;
+    }
+    let mut value = 0u64;
+    for byte in digits {
+        value = value.checked_mul(10)?.checked_add(decimal_digit(*byte)?)?;
     }
     Some(value)
 }
@@ -42,8 +88,8 @@ pub fn number(field: &[u8]) -> Option<u64>
     ensures { result ≡ number_of field.now }
 {
     match field {
-        [b'0', b'x', hex @ ..] => digits(16, hex),
-        _ => digits(10, field),
+        [b'0', b'x', hex @ ..] => hexadecimal(hex),
+        _ => decimal(field),
     }
 }
 

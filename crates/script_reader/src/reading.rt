@@ -1,17 +1,19 @@
-// Lines, one after the other, up to the first fault.
+// What one line says, or its fault.
 
-ghost use Rattle.std.specs.Prelude.{◌≡◌, ◌≤◌, length, IfOk};
-ghost use Rattle.process_model.specs.Lines.{fields_of, raw_lines};
+ghost use Rattle.std.specs.Prelude.{◌≡◌, IfSome, Ok, Some};
+ghost use Rattle.process_model.specs.Lines.{fields_of};
+ghost use Rattle.process_model.specs.declared.script.Item.TheVariants as item;
 ghost use Rattle.process_model.specs.Script as words;
 ghost use Rattle.script_reader.specs.Gives.{Gives, Answers};
 
 use crate::draft::Draft;
 use crate::fault::{LineFault, ScriptError};
 use crate::items::make_item;
-use crate::lines::{first_field, first_line, trim_return};
+use crate::lines::first_field;
+use crate::quick::quick_command;
 use crate::table::Row;
 use crate::values::read_values;
-use process_model::{Cause, Item};
+use process_model::{Cause, Command, Item};
 use std::alloc::Global;
 
 /// How many bytes a line may have, without its end: an image of 1 MiB in digits, and its word.
@@ -49,7 +51,7 @@ fn is_comment(text: &[u8]) -> bool
 fn is_ascii(line: &[u8]) -> bool
     ensures { result ≡ words.is_ascii line.now }
 {
-    line.iter().all(|byte| *byte < 128)
+    line.is_ascii()
 }
 
 /// What the fields of a line say; nothing where there are none, or a comment.
@@ -75,10 +77,33 @@ fn read_line(alloc: Global, draft: &Draft, line: &[u8]) -> Result<Option<Item>, 
     fields_line(alloc, draft, line)
 }
 
+/// The command of a line that can be read at once, where one more may stand.
+fn quick_line(draft: &Draft, line: &[u8]) -> Option<Command>
+    ensures { IfSome result (λ c. words.line_of draft.now line.now ≡ Ok (Some (item.Command c))) }
+{
+    let (text, fields) = first_field(line)?;
+    let command = quick_command(text, fields)?;
+    if !draft.takes_commands() || line.len() > LONGEST_LINE || !is_ascii(line) {
+        return None;
+    }
+    Some(command)
+}
+
 /// Adds what a line says to the lines before it.
-fn add_line(alloc: Global, draft: &mut Draft, number: u64, line: &[u8]) -> Result<(), ScriptError>
+pub fn add_line(
+    alloc: Global,
+    draft: &mut Draft,
+    number: u64,
+    line: &[u8],
+) -> Result<(), ScriptError>
     ensures { Answers (λ u. (draft.new, number)) result (words.with_line draft.old number (words.line_of draft.old line.now)) }
 {
+    if let Some(command) = quick_line(draft, line) {
+        return match draft.add_command(command) {
+            Ok(()) => Ok(()),
+            Err(_) => Err(ScriptError::Memory),
+        };
+    }
     match read_line(alloc, draft, line) {
         Ok(None) => Ok(()),
         Ok(Some(item)) => match draft.add(item) {
@@ -88,21 +113,4 @@ fn add_line(alloc: Global, draft: &mut Draft, number: u64, line: &[u8]) -> Resul
         Err(LineFault::Memory) => Err(ScriptError::Memory),
         Err(LineFault::Cause(cause)) => Err(ScriptError::Line(number, cause)),
     }
-}
-
-/// What all lines say, and how many there are.
-pub fn read_lines(alloc: Global, bytes: &[u8]) -> Result<(Draft, u64), ScriptError>
-    ensures read { Answers (λ x. x) result (words.read_lines (Ok (words.no_lines, 0)) (raw_lines bytes.now)) }
-    ensures small { IfOk result (λ x. x.1 ≤ length bytes.now) }
-{
-    let mut draft = Draft::new(alloc);
-    let mut number = 0u64;
-    let mut rest = bytes;
-    while !rest.is_empty() {
-        let (line, after) = first_line(rest);
-        number += 1;
-        add_line(alloc, &mut draft, number, trim_return(line))?;
-        rest = after;
-    }
-    Ok((draft, number))
 }

@@ -1,18 +1,16 @@
 // Scripts, read whole before anything runs.
 
-ghost use Rattle.std.specs.Prelude.{◌≡◌, IfOk};
+ghost use Rattle.std.specs.Prelude.{◌≡◌, ◌+◌, ◌<◌, IfOk};
 ghost use Rattle.process_model.specs.Script as words;
 ghost use Rattle.script_reader.specs.Gives.{Answers};
 ghost use Rattle.script_reader.specs.Playable.{IsPlayable};
 
+use crate::draft::Draft;
 use crate::fault::ScriptError;
-use crate::reading::read_lines;
+use crate::piecewise::{LONGEST_SCRIPT, Reading};
 use process_model::{Cause, Command, Config, FileText, OwnedImage};
 use std::alloc::Global;
 use std::marker::Model;
-
-/// How many bytes a script may have.
-pub const LONGEST_SCRIPT: usize = 16_777_216;
 
 /// A script: files, images, what the machine is booted with, and the lines after `boot`.
 #[derive(Drop)]
@@ -37,16 +35,21 @@ impl Script {
         ensures read { Answers (λ s. s) result (words.script_of bytes.now) }
         ensures playable { IfOk result IsPlayable }
     {
-        Script::read_whole(alloc, bytes)
-    }
-
-    fn read_whole(alloc: Global, bytes: &[u8]) -> Result<Script, ScriptError>
-        ensures { Answers (λ s. s) result (words.script_of bytes.now) }
-    {
         if bytes.len() > LONGEST_SCRIPT {
             return Err(ScriptError::Line(0, Cause::TooLong));
         }
-        let (draft, number) = read_lines(alloc, bytes)?;
+        let mut reading = Reading::new(alloc);
+        let Ok(()) = reading.add(bytes) else {
+            return Err(ScriptError::Memory);
+        };
+        reading.finish()
+    }
+
+    /// What the lines of a script say, of which there are so many, where a boot is among them.
+    pub(crate) fn of(draft: Draft, lines: u64) -> Result<Script, ScriptError>
+        requires { lines < words.longest_script + 1 }
+        ensures { Answers (λ s. s) result (words.whole_with draft lines (draft.config)) }
+    {
         let (files, images, config, commands) = draft.into_parts();
         match config {
             Some(config) => Ok(Script {
@@ -55,7 +58,7 @@ impl Script {
                 config,
                 commands,
             }),
-            None => Err(ScriptError::Line(number + 1, Cause::Order)),
+            None => Err(ScriptError::Line(lines + 1, Cause::Order)),
         }
     }
 

@@ -1,5 +1,5 @@
-use Rattle.script_reader.proofs.Playable.{answer_playable}
+use Rattle.std.proofs.Common.{[]}
 use Rattle.script_reader.proofs.script.Script.read.Goals as goal
 
-pub returns-clause-playable : goal.returns-clause-playable
-returns-clause-playable c = answer_playable c.args.bytes.now c.read_whole.result c.read_whole.ensures
+pub returns-clause-read : goal.returns-clause-read
+returns-clause-read c = c.finish.ensures.read c.args.bytes.now (c.in-Ok.ensures.read [] c.new-reading.ensures)

@@ -1,6 +1,0 @@
-use Rattle.std.proofs.Common.{◌≡◌, ◌^◌, ◌<◌, Some, drop}
-use Rattle.process_model.specs.Numbers.{digits_from, digits_in, if_below}
-use Rattle.script_reader.proofs.numbers.digits.Given as goal
-
-abbrev pub invariant-loop-byte : goal.invariant-loop-byte
-invariant-loop-byte l = record { small : l.value < 2 ^ 64; says : if_below (2 ^ 64) (digits_from l.base (Some l.value) (drop l.byte-index l.digits)) ≡ if_below (2 ^ 64) (digits_in l.base l.digits) }

@@ -1,0 +1,193 @@
+// Lines that are one step of numbers, read at once: each field once, into its place in the step. A line of another form, and one with
+// a fault, is nothing here: it is read field by field then, and its fault is found.
+
+ghost use Rattle.std.specs.Prelude.{◌≡◌, IfSome, codes, true, [], ◌∷◌};
+ghost use Rattle.process_model.specs.Fields.{one_number, two_numbers};
+ghost use Rattle.process_model.specs.declared.script.FieldKind.TheVariants as kind;
+ghost use Rattle.process_model.specs.declared.script.FieldValue.TheVariants as value;
+ghost use Rattle.process_model.specs.Lines.{fields_of};
+ghost use Rattle.script_reader.specs.Quick.{EndsWith, IsNext, Reads, SaysCommand};
+
+use crate::lines::first_field;
+use crate::numbers::number;
+use process_model::{Command, LONGEST_COPY, Step, is_width};
+
+/// The number that comes next, and what follows it.
+fn next_number(line: &[u8]) -> Option<(u64, &[u8])>
+    ensures { IfSome result (λ found. IsNext line.now found.1.now kind.Number (value.Number found.0)) }
+{
+    let (field, rest) = first_field(line)?;
+    Some((number(field)?, rest))
+}
+
+/// Whether no field is left.
+fn is_over(line: &[u8]) -> bool
+    ensures { result ≡ true → fields_of line.now ≡ [] }
+{
+    line.is_empty() || first_field(line).is_none()
+}
+
+/// The entry that is named behind the other fields, or none where no field is left.
+fn last_entry(line: &[u8]) -> Option<Option<usize>>
+    ensures { IfSome result (λ via. EndsWith line.now via) }
+{
+    let Some((field, rest)) = first_field(line) else {
+        return Some(None);
+    };
+    match field {
+        [b'@', digits @ ..] if is_over(rest) => Some(Some(number(digits)? as usize)),
+        _ => None,
+    }
+}
+
+/// One number, and no other field.
+fn one(line: &[u8]) -> Option<usize>
+    ensures { IfSome result (λ n. Reads line.now one_number (value.Number n ∷ [])) }
+{
+    let (number, line) = next_number(line)?;
+    if !is_over(line) {
+        return None;
+    }
+    Some(number as usize)
+}
+
+/// Two numbers, and no other field.
+fn two(line: &[u8]) -> Option<(usize, u64)>
+    ensures { IfSome result (λ n. Reads line.now two_numbers (value.Number n.0 ∷ value.Number n.1 ∷ [])) }
+{
+    let (first, line) = next_number(line)?;
+    let second = one(line)?;
+    Some((first as usize, second as u64))
+}
+
+fn fetch(line: &[u8]) -> Option<Command>
+    ensures { IfSome result (λ c. SaysCommand (codes "fetch") line.now c) }
+{
+    let (hart, line) = next_number(line)?;
+    let (address, line) = next_number(line)?;
+    let via = last_entry(line)?;
+    Some(Command::One(Step::Fetch {
+        hart: hart as usize,
+        address,
+        via,
+    }))
+}
+
+fn load(line: &[u8]) -> Option<Command>
+    ensures { IfSome result (λ c. SaysCommand (codes "load") line.now c) }
+{
+    let (hart, line) = next_number(line)?;
+    let (address, line) = next_number(line)?;
+    let (width, line) = next_number(line)?;
+    let via = last_entry(line)?;
+    if !is_width(width) {
+        return None;
+    }
+    Some(Command::One(Step::Load {
+        hart: hart as usize,
+        address,
+        width,
+        via,
+    }))
+}
+
+fn store(line: &[u8]) -> Option<Command>
+    ensures { IfSome result (λ c. SaysCommand (codes "store") line.now c) }
+{
+    let (hart, line) = next_number(line)?;
+    let (address, line) = next_number(line)?;
+    let (width, line) = next_number(line)?;
+    let (value, line) = next_number(line)?;
+    let via = last_entry(line)?;
+    if !is_width(width) {
+        return None;
+    }
+    Some(Command::One(Step::Store {
+        hart: hart as usize,
+        address,
+        width,
+        value,
+        via,
+    }))
+}
+
+fn fill(line: &[u8]) -> Option<Command>
+    ensures { IfSome result (λ c. SaysCommand (codes "fill") line.now c) }
+{
+    let (hart, address) = two(line)?;
+    Some(Command::One(Step::Fill { hart, address }))
+}
+
+fn fork(line: &[u8]) -> Option<Command>
+    ensures { IfSome result (λ c. SaysCommand (codes "fork") line.now c) }
+{
+    let hart = one(line)?;
+    Some(Command::One(Step::Fork { hart }))
+}
+
+/// A copy is short enough.
+fn copy_in(line: &[u8]) -> Option<Command>
+    ensures { IfSome result (λ c. SaysCommand (codes "copyin") line.now c) }
+{
+    let (hart, line) = next_number(line)?;
+    let (address, line) = next_number(line)?;
+    let count = one(line)?;
+    if count > LONGEST_COPY {
+        return None;
+    }
+    Some(Command::One(Step::CopyIn {
+        hart: hart as usize,
+        address,
+        count,
+    }))
+}
+
+fn on(line: &[u8]) -> Option<Command>
+    ensures { IfSome result (λ c. SaysCommand (codes "on") line.now c) }
+{
+    let (hart, slot) = two(line)?;
+    Some(Command::On {
+        hart,
+        slot: slot as usize,
+    })
+}
+
+fn enter(line: &[u8]) -> Option<Command>
+    ensures { IfSome result (λ c. SaysCommand (codes "enter") line.now c) }
+{
+    let hart = one(line)?;
+    Some(Command::Enter { hart })
+}
+
+fn leave(line: &[u8]) -> Option<Command>
+    ensures { IfSome result (λ c. SaysCommand (codes "leave") line.now c) }
+{
+    let hart = one(line)?;
+    Some(Command::Leave { hart })
+}
+
+fn fix(line: &[u8]) -> Option<Command>
+    ensures { IfSome result (λ c. SaysCommand (codes "fix") line.now c) }
+{
+    let hart = one(line)?;
+    Some(Command::Fix { hart })
+}
+
+/// The command of a word and the fields after it, where they are numbers of the right count.
+pub fn quick_command(text: &[u8], line: &[u8]) -> Option<Command>
+    ensures { IfSome result (λ c. SaysCommand text.now line.now c) }
+{
+    match text {
+        b"load" => load(line),
+        b"store" => store(line),
+        b"fetch" => fetch(line),
+        b"fill" => fill(line),
+        b"fix" => fix(line),
+        b"enter" => enter(line),
+        b"leave" => leave(line),
+        b"on" => on(line),
+        b"fork" => fork(line),
+        b"copyin" => copy_in(line),
+        _ => None,
+    }
+}
