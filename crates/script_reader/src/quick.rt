@@ -111,6 +111,20 @@ fn store(line: &[u8]) -> Option<Command>
     }))
 }
 
+fn trap(line: &[u8]) -> Option<Command>
+    ensures { IfSome result (λ c. SaysCommand (codes "trap") line.now c) }
+{
+    let hart = one(line)?;
+    Some(Command::One(Step::Trap { hart }))
+}
+
+fn next(line: &[u8]) -> Option<Command>
+    ensures { IfSome result (λ c. SaysCommand (codes "next") line.now c) }
+{
+    let hart = one(line)?;
+    Some(Command::One(Step::Next { hart }))
+}
+
 fn fill(line: &[u8]) -> Option<Command>
     ensures { IfSome result (λ c. SaysCommand (codes "fill") line.now c) }
 {
@@ -182,6 +196,8 @@ pub fn quick_command(text: &[u8], line: &[u8]) -> Option<Command>
         b"store" => store(line),
         b"fetch" => fetch(line),
         b"fill" => fill(line),
+        b"trap" => trap(line),
+        b"next" => next(line),
         b"fix" => fix(line),
         b"enter" => enter(line),
         b"leave" => leave(line),
