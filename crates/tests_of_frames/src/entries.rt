@@ -126,7 +126,7 @@ fn knows_canonical_addresses(rt: HostRuntime) {
 }
 
 #[test]
-fn names_causes_and_rules(rt: HostRuntime) -> Result<(), Fail> {
+fn names_causes_and_rules(rt: HostRuntime) {
     let rows = [
         (Access::Fetch, 0, 1, 12),
         (Access::Load, 4, 5, 13),
@@ -137,7 +137,12 @@ fn names_causes_and_rules(rt: HostRuntime) -> Result<(), Fail> {
         assert_eq!(rt; access.access_fault_cause(), outside);
         assert_eq!(rt; access.page_fault_cause(), page);
     }
-    let said = format!(in rt.alloc(); "{} {}", Rule::GuardPage, Rule::NoFrame)?;
-    assert_eq!(rt; said.as_str(), "4 GuardPage 9 NoFrame");
-    Ok(())
+    let rules = [
+        (Rule::GuardPage, 4, "GuardPage"),
+        (Rule::NoFrame, 9, "NoFrame"),
+    ];
+    for (rule, number, name) in rules {
+        assert_eq!(rt; rule.number(), number);
+        assert_eq!(rt; rule.name(), name);
+    }
 }
