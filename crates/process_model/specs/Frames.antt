@@ -96,6 +96,11 @@ abbrev pub can_boot : ℕ → ℕ → ℕ → Bool
 can_boot harts frames slots =
     nat_le 1 harts && nat_le harts 8 && nat_le 16 frames && nat_le frames 1024 && nat_le 1 slots && nat_le slots 64 && nat_le (kernel_frames frames slots) frames
 
+-- frames that threads share
+abbrev pub can_share : ℕ → ℕ → Bool
+can_share frames slots =
+    nat_le 16 frames && nat_le frames 256 && nat_le 1 slots && nat_le slots 64 && nat_le (kernel_frames frames slots) frames
+
 -- accounts
 
 abbrev pub live : List (Option Process) → List Process

@@ -36,6 +36,10 @@ pub mod Steps
 pub mod Lines
 pub mod Numbers
 pub mod Words
+pub mod Briefs
 pub mod Fields
+pub mod ReadLines
 pub mod Script
+pub mod ThreadScript
 pub mod Text
+pub mod Threads

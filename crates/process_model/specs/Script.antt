@@ -4,6 +4,7 @@ use Rattle.std.specs.List.{list_all}
 use Rattle.process_model.specs.Bytes.{is_width, padded}
 use Rattle.process_model.specs.Lines.{raw_lines, without_return, fields_of}
 use Rattle.process_model.specs.Fields.{Row, command_table, row_among, values_of}
+pub use Rattle.process_model.specs.ReadLines.{◌>>=◌, test, row_named, in_limits, item_by, is_comment, is_ascii, some_item, fields_by, longest_line, longest_script, line_by, ReadTo, with_said, next_by, lines_by}
 use Rattle.process_model.specs.Files.{File}
 use Rattle.process_model.specs.Frames.{can_boot}
 use Rattle.process_model.specs.Copies.{longest_copy}
@@ -49,20 +50,6 @@ with_item s (item.File f) = record s { files = s.files ++ f ∷ [] }
 with_item s (item.Image i) = record s { images = s.images ++ i ∷ [] }
 with_item s (item.Boot c) = record s { config = Some c }
 with_item s (item.Command c) = record s { commands = s.commands ++ c ∷ [] }
-
--- steps that may fail, in a row
-
-infixl 10 ◌>>=◌
-abbrev pub ◌>>=◌ : {A B : Type 0} → Result A Cause → (A → Result B Cause) → Result B Cause
-(Ok x) >>= f = f x
-(Err e) >>= f = Err e
-
-abbrev pub test : Bool → Cause → Result (Unit {0}) Cause
-test holds c = if holds then Ok tt else Err c
-
-abbrev pub row_named : Option Row → Result Row Cause
-row_named None = Err cause.Word
-row_named (Some r) = Ok r
 
 -- the order of lines: declarations, one boot, steps
 
@@ -148,9 +135,6 @@ abbrev pub is_status : ℤ → Bool
 is_status (pos n) = nat_lt n (2 ^ 31)
 is_status (negsuc n) = nat_lt n (2 ^ 31)
 
-abbrev pub in_limits : Bool → Item → Result Item Cause
-in_limits within i = if within then Ok i else Err cause.Limits
-
 abbrev pub one : Step → Item
 one s = item.Command (command.One s)
 
@@ -184,6 +168,8 @@ item_of s word.On vs = Ok (item.Command (command.On (number_at vs 0) (number_at 
 item_of s word.Enter vs = Ok (item.Command (command.Enter (number_at vs 0)))
 item_of s word.Leave vs = Ok (item.Command (command.Leave (number_at vs 0)))
 item_of s word.Fix vs = Ok (item.Command (command.Fix (number_at vs 0)))
+item_of s word.Pool vs = Err cause.Word
+item_of s word.List vs = Err cause.Word
 
 -- how many files and images there may be, and how many lines after boot
 abbrev pub most_files : ℕ
@@ -201,61 +187,28 @@ has_room s (item.Image i) = nat_lt (length s.images) most_images
 has_room s (item.Boot c) = true
 has_room s (item.Command c) = nat_lt (length s.commands) most_commands
 
--- what a line with a word says: the causes in the order in which they are tried
+-- what a line with a word says
 unfoldable pub item_line : Draft → List ℕ → List (List ℕ) → Result Item Cause
-item_line s text fields = do
-  r ← row_named (row_among command_table text)
-  ordered ← test (in_order s r.word) cause.Order
-  vs ← values_of r fields
-  i ← item_of s r.word vs
-  room ← test (has_room s i) cause.TooMany
-  Ok i
+item_line s text fields = item_by command_table (in_order s) (item_of s) (has_room s) text fields
 
-abbrev pub is_comment : List ℕ → Bool
-is_comment [] = false
-is_comment (b ∷ text) = b == 35
-
-abbrev pub is_ascii : List ℕ → Bool
-is_ascii line = list_all (λ b. nat_lt b 128) line
-
-abbrev pub some_item : Result Item Cause → Result (Option Item) Cause
-some_item (Ok i) = Ok (Some i)
-some_item (Err c) = Err c
-
--- an empty line and a comment say nothing
 abbrev pub fields_line : Draft → List (List ℕ) → Result (Option Item) Cause
-fields_line s [] = Ok None
-fields_line s (text ∷ fields) = if is_comment text then Ok None else some_item (item_line s text fields)
-
--- how long a line may be, without its end, and how long a script
-abbrev pub longest_line : ℕ
-longest_line = 2097664
-
-abbrev pub longest_script : ℕ
-longest_script = 16777216
+fields_line s fields = fields_by (item_line s) fields
 
 unfoldable pub line_of : Draft → List ℕ → Result (Option Item) Cause
-line_of s line = do
-  short ← test (nat_le (length line) longest_line) cause.TooLong
-  ascii ← test (is_ascii line) cause.NotAscii
-  fields_line s (fields_of line)
+line_of s line = line_by (item_line s) line
 
 -- what the lines so far say and how many they are, or a fault with the number of its line
 abbrev pub Read : Type 0
-Read = Result (Draft × ℕ) (ℕ × Cause)
+Read = ReadTo Draft
 
 abbrev pub with_line : Draft → ℕ → Result (Option Item) Cause → Read
-with_line s n (Ok None) = Ok (s, n)
-with_line s n (Ok (Some i)) = Ok (with_item s i, n)
-with_line s n (Err c) = Err (n, c)
+with_line s n said = with_said with_item s n said
 
 abbrev pub next_line : Read → List ℕ → Read
-next_line (Ok x) line = with_line x.0 (x.1 + 1) (line_of x.0 (without_return line))
-next_line (Err f) line = Err f
+next_line read line = next_by line_of with_item read line
 
 abbrev pub read_lines : Read → List (List ℕ) → Read
-read_lines read [] = read
-read_lines read (line ∷ lines) = read_lines (next_line read line) lines
+read_lines read lines = lines_by next_line read lines
 
 -- a script has a boot; where there is none, the fault is in the line after the last
 abbrev pub whole_with : Draft → ℕ → Option Config → Result Script (ℕ × Cause)

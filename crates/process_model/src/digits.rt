@@ -1,7 +1,7 @@
 // Text that is put to a buffer with room for it.
 
 ghost use Rattle.std.specs.Prelude.{◌≡◌, ◌+◌, ◌<◌, ◌≤◌, ◌++◌, false, length, vec_len, vec_capacity};
-ghost use Rattle.std.specs.Fmt.{decimal, digits, digit_glyph};
+ghost use Rattle.std.specs.Fmt.{decimal, signed_decimal, digits, digit_glyph};
 
 use itoa::Buffer;
 
@@ -30,6 +30,17 @@ pub fn put_decimal(text: &mut Vec<u8>, number: u64)
         text.push_reserved(b'0' + number as u8);
         return;
     }
+    let mut buffer = Buffer::new();
+    put(text, buffer.format(number).as_bytes());
+}
+
+/// Puts a number in decimal digits, with a sign where it is below 0.
+pub fn put_signed(text: &mut Vec<u8>, number: i32)
+    requires room { vec_len text.old + 11 ≤ vec_capacity text.old }
+    ensures text { text.new.items ≡ text.old.items ++ signed_decimal number }
+    ensures len { vec_len text.new ≤ vec_len text.old + 11 }
+    ensures capacity { vec_capacity text.old ≤ vec_capacity text.new }
+{
     let mut buffer = Buffer::new();
     put(text, buffer.format(number).as_bytes());
 }

@@ -1,5 +1,6 @@
 // What a script says, line by line.
 
+use crate::call::{ListedCall, ListedStart, Pool};
 use crate::config::{Config, Policy};
 use crate::file::FileText;
 use crate::image::{OwnedImage, Segment};
@@ -15,7 +16,7 @@ pub enum Cause {
     NotAscii,
     /// The first field is no command.
     Word,
-    /// A declaration after `boot`, a step before it, a second `boot`, or none.
+    /// A declaration after `boot`, a step before it, a second `boot`, or none; among lists of calls, a line out of their order.
     Order,
     /// The number of fields is wrong.
     Count,
@@ -61,6 +62,8 @@ pub enum Keyword {
     Enter,
     Leave,
     Fix,
+    Pool,
+    List,
 }
 
 /// How a further field is read.
@@ -160,4 +163,17 @@ pub enum Item {
     Image(OwnedImage),
     Boot(Config),
     Command(Command),
+}
+
+/// What a line of a file for threads says that is no comment.
+#[derive(Drop)]
+pub enum ThreadItem {
+    File(FileText),
+    Image(OwnedImage),
+    Pool(Pool),
+    /// The list of this number begins.
+    List(usize),
+    /// A call of the list that was begun last.
+    Call(ListedCall),
+    Start(ListedStart),
 }

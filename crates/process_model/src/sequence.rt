@@ -1,7 +1,8 @@
 // Lists that are kept.
 
-ghost use Rattle.std.specs.Prelude.{◌≡◌, List};
+ghost use Rattle.std.specs.Prelude.{◌≡◌, ◌++◌, ◌∷◌, [], List, OnOk, OnErr};
 
+use std::alloc::AllocError;
 use std::marker::Model;
 
 /// A list on the heap, which contracts see as a list.
@@ -30,5 +31,16 @@ impl<T> Sequence<T> {
         ensures { result.now ≡ self.now }
     {
         self.items.as_slice()
+    }
+}
+
+impl<T: Drop> Sequence<T> {
+    /// Puts an item behind the others. Where memory is refused, nothing changes.
+    pub fn push(&mut self, item: T) -> Result<(), AllocError>
+        ensures added { OnOk result (self.new ≡ self.old ++ item ∷ []) }
+        ensures kept { OnErr result (self.new ≡ self.old) }
+    {
+        self.items.push(item)?;
+        Ok(())
     }
 }

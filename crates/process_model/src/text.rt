@@ -3,16 +3,17 @@
 ghost use Rattle.std.specs.Prelude.{◌≡◌, ◌+◌, ◌≤◌, ◌++◌, false, Some, codes, length, vec_len, vec_capacity};
 ghost use Rattle.std.specs.Fmt.{decimal, digits};
 ghost use Rattle.sv39_entry.specs.RuleText.{rule_text};
+ghost use Rattle.process_model.specs.Briefs.{of_brief};
 ghost use Rattle.process_model.specs.Words as words;
 ghost use Rattle.process_model.specs.declared.step.Reply.TheVariants.{Exited, Refused};
 
-use crate::digits::{put, put_decimal, put_hexadecimal};
+use crate::brief::Brief;
+use crate::digits::{put, put_decimal, put_hexadecimal, put_signed};
 use crate::hexes::put_bytes;
 use crate::image::BadImage;
 use crate::phase::Phase;
 use crate::script::Cause;
 use crate::step::{Refusal, Reply, Report};
-use itoa::Buffer;
 use std::fmt;
 use sv39_entry::Rule;
 
@@ -76,7 +77,7 @@ impl fmt::Display for Cause {
 }
 
 /// The number and the name of a refusal, and what was refused in particular.
-fn refusal_words(refusal: Refusal) -> (&'static str, &'static str)
+pub(crate) fn refusal_words(refusal: Refusal) -> (&'static str, &'static str)
     ensures text { result.0.now ++ result.1.now ≡ words.refusal_text refusal }
     ensures short { length result.0.now + length result.1.now ≤ 26 }
 {
@@ -100,7 +101,7 @@ fn refusal_words(refusal: Refusal) -> (&'static str, &'static str)
 
 /// Puts words and a number.
 #[inline(always)]
-fn put_count(text: &mut Vec<u8>, name: &[u8], count: u64)
+pub(crate) fn put_count(text: &mut Vec<u8>, name: &[u8], count: u64)
     requires short { length name.now ≤ 20 }
     requires room { vec_len text.old + 40 ≤ vec_capacity text.old }
     ensures text { text.new.items ≡ text.old.items ++ (name.now ++ decimal count) }
@@ -125,7 +126,7 @@ fn put_value(text: &mut Vec<u8>, name: &[u8], value: u64)
 }
 
 /// Puts words and a rule.
-fn put_rule(text: &mut Vec<u8>, name: &[u8], rule: Rule)
+pub(crate) fn put_rule(text: &mut Vec<u8>, name: &[u8], rule: Rule)
     requires short { length name.now ≤ 20 }
     requires room { vec_len text.old + 60 ≤ vec_capacity text.old }
     ensures text { text.new.items ≡ text.old.items ++ (name.now ++ rule_text rule) }
@@ -158,9 +159,8 @@ fn put_exit(text: &mut Vec<u8>, status: i32)
     ensures len { vec_len text.new ≤ vec_len text.old + 40 }
     ensures capacity { vec_capacity text.old ≤ vec_capacity text.new }
 {
-    let mut buffer = Buffer::new();
     put(text, b"exited ");
-    put(text, buffer.format(status).as_bytes());
+    put_signed(text, status);
 }
 
 /// Puts a refusal.
@@ -177,6 +177,36 @@ fn put_refusal(text: &mut Vec<u8>, refusal: Refusal)
     put(text, detail.as_bytes());
 }
 
+/// Puts the text of a reply that carries no bytes.
+pub fn put_brief(text: &mut Vec<u8>, brief: Brief)
+    requires room { vec_len text.old + LONGEST_TEXT ≤ vec_capacity text.old }
+    ensures text { text.new.items ≡ text.old.items ++ words.reply_text (of_brief brief) }
+    ensures len { vec_len text.new ≤ vec_len text.old + LONGEST_TEXT }
+    ensures capacity { vec_capacity text.old ≤ vec_capacity text.new }
+{
+    match brief {
+        Brief::Done => put(text, b"ok"),
+        Brief::Started(slot) | Brief::Forked(slot) => put_count(text, b"slot ", slot as u64),
+        Brief::Value(value) => put_value(text, b"value 0x", value),
+        Brief::Stored => put(text, b"stored"),
+        Brief::Fault(cause) => put_count(text, b"fault ", cause),
+        Brief::Filled(entry) => put_count(text, b"entry ", entry as u64),
+        Brief::NothingFilled => put(text, b"nothing"),
+        Brief::InFrame(frame) => put_count(text, b"frame ", frame as u64),
+        Brief::Ready => put(text, b"ready"),
+        Brief::Ended(rule) => put_rule(text, b"ended ", rule),
+        Brief::OldSize(size) => put_value(text, b"old 0x", size),
+        Brief::MappedAt(address) => put_value(text, b"at 0x", address),
+        Brief::CopiedOut(count) => put_count(text, b"copied ", count as u64),
+        Brief::ShortOut(rule, count) => {
+            put_rule(text, b"short ", rule);
+            put_count(text, b" done ", count as u64);
+        }
+        Brief::Exited(status) => put_exit(text, status),
+        Brief::Refused(refusal) => put_refusal(text, refusal),
+    }
+}
+
 /// Puts the text of the reply.
 pub fn put_reply(text: &mut Vec<u8>, reply: &Reply)
     requires room { vec_len text.old + LONGEST_TEXT ≤ vec_capacity text.old }
@@ -185,30 +215,28 @@ pub fn put_reply(text: &mut Vec<u8>, reply: &Reply)
     ensures capacity { vec_capacity text.old ≤ vec_capacity text.new }
 {
     match reply {
-        Reply::Done => put(text, b"ok"),
-        Reply::Started(slot) | Reply::Forked(slot) => put_count(text, b"slot ", *slot as u64),
-        Reply::Value(value) => put_value(text, b"value 0x", *value),
-        Reply::Stored => put(text, b"stored"),
-        Reply::Fault(cause) => put_count(text, b"fault ", *cause),
-        Reply::Filled(entry) => put_count(text, b"entry ", *entry as u64),
-        Reply::NothingFilled => put(text, b"nothing"),
-        Reply::InFrame(frame) => put_count(text, b"frame ", *frame as u64),
-        Reply::Ready => put(text, b"ready"),
-        Reply::Ended(rule) => put_rule(text, b"ended ", *rule),
-        Reply::OldSize(size) => put_value(text, b"old 0x", *size),
-        Reply::MappedAt(address) => put_value(text, b"at 0x", *address),
+        Reply::Done => put_brief(text, Brief::Done),
+        Reply::Started(slot) => put_brief(text, Brief::Started(*slot)),
+        Reply::Forked(slot) => put_brief(text, Brief::Forked(*slot)),
+        Reply::Value(value) => put_brief(text, Brief::Value(*value)),
+        Reply::Stored => put_brief(text, Brief::Stored),
+        Reply::Fault(cause) => put_brief(text, Brief::Fault(*cause)),
+        Reply::Filled(entry) => put_brief(text, Brief::Filled(*entry)),
+        Reply::NothingFilled => put_brief(text, Brief::NothingFilled),
+        Reply::InFrame(frame) => put_brief(text, Brief::InFrame(*frame)),
+        Reply::Ready => put_brief(text, Brief::Ready),
+        Reply::Ended(rule) => put_brief(text, Brief::Ended(*rule)),
+        Reply::OldSize(size) => put_brief(text, Brief::OldSize(*size)),
+        Reply::MappedAt(address) => put_brief(text, Brief::MappedAt(*address)),
         Reply::CopiedIn(bytes) => put_counted(text, b"copied ", bytes.as_slice()),
-        Reply::CopiedOut(count) => put_count(text, b"copied ", *count as u64),
+        Reply::CopiedOut(count) => put_brief(text, Brief::CopiedOut(*count)),
         Reply::ShortIn(rule, bytes) => {
             put_rule(text, b"short ", *rule);
             put_counted(text, b" done ", bytes.as_slice());
         }
-        Reply::ShortOut(rule, count) => {
-            put_rule(text, b"short ", *rule);
-            put_count(text, b" done ", *count as u64);
-        }
-        Reply::Exited(status) => put_exit(text, *status),
-        Reply::Refused(refusal) => put_refusal(text, *refusal),
+        Reply::ShortOut(rule, count) => put_brief(text, Brief::ShortOut(*rule, *count)),
+        Reply::Exited(status) => put_brief(text, Brief::Exited(*status)),
+        Reply::Refused(refusal) => put_brief(text, Brief::Refused(*refusal)),
     }
 }
 
