@@ -10,7 +10,7 @@ use Rattle.process_model.specs.PageMap.{PageMap}
 use Rattle.process_model.specs.Process.{Page, Process}
 use Rattle.process_model.specs.Released.{still_settled, was_settled}
 use Rattle.sv39_entry.specs.Address.{trampoline_page, trapframe_page}
-use Rattle.table_walk.specs.Changed.{IsNextLeaf}
+use Rattle.table_walk.specs.Changed.{IsNextLeafBefore}
 use Rattle.table_walk.specs.Tables.{Tables, leaf_node, without_leaf}
 use Rattle.table_walk.specs.Keys.{remove_same, remove_other}
 use Rattle.table_walk.specs.Nodes.{leaf_node_is}
@@ -27,19 +27,17 @@ use Rattle.address_space.proofs.Owned.{one_page, same_bytes}
 leaf_place : (n : ℕ) → n < 2 ^ 27 → leaf_node n ≡ 1 * 512 ^ suc 2 + n
 leaf_place n low = let at = leaf_node_is n in omega (arith, at, low)
 
-unmapped_to : (t : Tables) (first place end : ℕ) → IsBare t 1 (512 ^ suc 2) first place → end ≤ 2 ^ 27 → end ≤ place → AreUnmapped t first end
-unmapped_to t first place end bare low le n from less = ap (get t.leaves) (leaf_place n (omega arith)) ∙ bare n from (omega arith)
+unmapped_to : (t : Tables) (first end : ℕ) → IsBare t 1 (512 ^ suc 2) first end → end ≤ 2 ^ 27 → AreUnmapped t first end
+unmapped_to t first end bare low n from less = ap (get t.leaves) (leaf_place n (omega arith)) ∙ bare n from less
 
-pub none_mapped : (t : Tables) (first end : ℕ) → IsNextLeaf t first None → end ≤ 2 ^ 27 → IsFirstMapped t first end None
-none_mapped t first end bare low = unmapped_to t first (2 ^ 27) end bare low low
+pub none_mapped : (t : Tables) (first end : ℕ) → IsNextLeafBefore t first end None → end ≤ 2 ^ 27 → IsFirstMapped t first end None
+none_mapped t first end bare low = unmapped_to t first end bare low
 
-pub none_before : (t : Tables) (first end page w : ℕ) → IsNextLeaf t first (Some (page, w)) → end ≤ 2 ^ 27 → end ≤ page → IsFirstMapped t first end None
-none_before t first end page w next low past = unmapped_to t first page end next.3 low past
-
-pub one_mapped : (t : Tables) (first end page w : ℕ) → IsNextLeaf t first (Some (page, w)) → end ≤ 2 ^ 27 → page < end → IsFirstMapped t first end (Some page)
-one_mapped t first end page w next low before =
-    let some : get t.leaves (leaf_node page) ≡ Some w = ap (get t.leaves) (leaf_place page (omega arith)) ∙ next.2 in
-    (next.0, before, rw some refl, unmapped_to t first page page next.3 (omega arith) (omega arith))
+pub one_mapped : (t : Tables) (first end page w : ℕ) → IsNextLeafBefore t first end (Some (page, w)) → end ≤ 2 ^ 27 → IsFirstMapped t first end (Some page)
+one_mapped t first end page w next low =
+    let before = next.0 in
+    let some : get t.leaves (leaf_node page) ≡ Some w = ap (get t.leaves) (leaf_place page (omega (arith, before, low))) ∙ next.1.2 in
+    (next.1.0, before, rw some refl, unmapped_to t first page next.1.3 (omega (arith, before, low)))
 
 everywhere : (first n : ℕ) → (n < first) ⊎ (first ≤ n)
 everywhere first n = elim (cases_lt n first) [ inl before ↦ inl before | inr after ↦ inr (omega (arith, after)) ]

@@ -1,36 +1,46 @@
 -- A space that ends, once its pages are gone: TRAPFRAME's leaf goes, then TRAMPOLINE's, and then the tables; and at the very end the
 -- frames of these two pages.
-use Rattle.std.proofs.Common.{◌≡◌, ℕ, ◌⊎◌, None, Some, refl, ap, sym, ◌∙◌, inl, inr, arith}
+use Rattle.std.proofs.Common.{◌≡◌, ℕ, ◌<◌, ◌⊎◌, None, Some, refl, ap, sym, ◌∙◌, inl, inr, arith}
 use Rattle.std.specs.Prelude.{[]}
 use Rattle.std.proofs.lemmas.Bool.{cases_eq}
 use Rattle.std.specs.FinMap.{get}
 use Rattle.frame_store.specs.Laws.{IsAnchored}
 use Rattle.frame_store.specs.View.{Hold, View, hold_of, IsHeld, IsSole, not_held, references, released}
 use Rattle.process_model.specs.Heap.{without_pages}
-use Rattle.process_model.specs.Process.{Process}
+use Rattle.process_model.specs.PageMap as pages
+use Rattle.process_model.specs.Process.{Page, Process, regions}
+use Rattle.process_model.specs.Regions.{Region, region_at}
 use Rattle.sv39_entry.specs.Address.{trampoline_page, trapframe_page}
 use Rattle.sv39_entry.specs.Word.{ppn}
 use Rattle.sv39_entry.specs.Frame.{ppn_of}
 use Rattle.table_walk.specs.Tables.{ChangesTables, HasTables, Tables, leaf_node, without_leaf}
 use Rattle.table_walk.specs.Keys.{is_none, remove_other}
 use Rattle.table_walk.specs.Released.{AreLast, SameTallies}
-use Rattle.address_space.specs.Agreement.{HoldsTrapframe, Names, nothing, one_of, Owns, Stands}
+use Rattle.address_space.specs.Agreement.{Body, HoldsTrapframe, Names, nothing, one_of, Owns, Stands}
 use Rattle.address_space.specs.Ending.{IsEmptied, Strips}
+use Rattle.address_space.specs.Standing.{IsStanding}
 use Rattle.address_space.specs.Steps.{IsBare, Takes}
 use Rattle.address_space.proofs.DroppedLeaf.{changes_take, leaf_goes, left, no_name, released_credits, released_takes, takes_none, takes_then, unmapped}
 use Rattle.process_model.specs.Released.{was_settled}
 use Rattle.address_space.proofs.Owned.{both_of, no_table, one_else, one_here, one_page, released_here, released_other, same_references, same_sole}
 
+-- each settled page is one of a region
+pub below : {x : Body} (t : Tables) (p : Process) → IsStanding x t p nothing → (end : ℕ) → ((n : ℕ) (r : Region) → region_at (regions p) n ≡ Some r → n < end)
+    → (n : ℕ) (s : Page) → pages.get p.settled n ≡ Some s → n < end
+below t p space end no_region n s is = let shown = space.stands.shows.settled n s is in no_region n shown.region shown.in_region
+
 -- no page is settled
-module _ (v : View) (root trapframe : ℕ) (u : Tables) (p : Process) (a : Stands v root trapframe nothing u (without_pages p 0 trapframe_page)) where
+module _ (v : View) (root trapframe : ℕ) (u : Tables) (p : Process) (end : ℕ) (all : (n : ℕ) (s : Page) → pages.get p.settled n ≡ Some s → n < end)
+    (a : Stands v root trapframe nothing u (without_pages p 0 end)) where
   two_left : (k w : ℕ) → get u.leaves k ≡ Some w → (k ≡ leaf_node trampoline_page) ⊎ (k ≡ leaf_node trapframe_page)
   two_left k w leaf = elim (a.shows.only k w leaf) as (λ _. (k ≡ leaf_node trampoline_page) ⊎ (k ≡ leaf_node trapframe_page)) [
     | inl trampoline ↦ inl trampoline
     | inr rest ↦ elim rest as (λ _. (k ≡ leaf_node trampoline_page) ⊎ (k ≡ leaf_node trapframe_page)) [
       | inl frame ↦ inr frame
       | inr there ↦ absurd (
-          let low = a.shows.low there.0 there.1 there.3 in
-          elim (was_settled p 0 trapframe_page there.0 there.1 there.3).1 as (λ _. ⊥) [
+          let was = was_settled p 0 end there.0 there.1 there.3 in
+          let low = all there.0 there.1 was.0 in
+          elim was.1 as (λ _. ⊥) [
             | inl before ↦ omega (arith, before)
             | inr after ↦ omega (arith, after, low)
           ])

@@ -33,3 +33,4 @@ pub mod Sound
 pub mod UserAnswers
 pub mod Users
 pub mod Writing
+pub mod RegionEnds

@@ -1,11 +1,13 @@
 -- The first leaf of a run is the first settled page's.
-use Rattle.std.proofs.Common.{◌≡◌, ℕ, ◌+◌, ◌<◌, ◌≤◌, Option, None, Some, refl, ap, sym, ◌∙◌, inl, inr, arith}
+use Rattle.std.proofs.Common.{◌≡◌, ℕ, ◌+◌, ◌<◌, ◌≤◌, min, Option, None, Some, refl, ap, sym, ◌∙◌, inl, inr, arith}
 use Rattle.std.specs.Prelude.{IsSome}
+use Rattle.std.proofs.lemmas.Bool.{cases_lt}
 use Rattle.std.proofs.lemmas.Option.{same_Some}
 use Rattle.std.specs.FinMap.{get}
 use Rattle.frame_store.specs.View.{View}
 use Rattle.process_model.specs.PageMap as pages
-use Rattle.process_model.specs.Process.{Page, Process}
+use Rattle.process_model.specs.Process.{Page, Process, regions}
+use Rattle.process_model.specs.Regions.{Region, region_at}
 use Rattle.sv39_entry.specs.Address.{has, trampoline_page, trapframe_page}
 use Rattle.sv39_entry.specs.Flags.{has_flag_is}
 use Rattle.sv39_entry.specs.Frame.{frame_at, ppn_of}
@@ -32,6 +34,21 @@ module _ (v : View) (root trapframe : ℕ) (l : Layout) (t : Tables) (p : Proces
 
   pub unsettled : (first end : ℕ) → AreUnmapped t first end → AreUnsettled p first end
   unsettled first end bare n from less = none_settled first end n (pages.get p.settled n) bare from less refl
+
+  -- from a page on that no region has none is settled
+  module _ (end : ℕ) (no_region : (n : ℕ) (r : Region) → region_at (regions p) n ≡ Some r → n < end) where
+    none_above : (n : ℕ) (o : Option Page) → end ≤ n → pages.get p.settled n ≡ o → o ≡ None
+    none_above n None above at = refl
+    none_above n (Some s) above at =
+        let shown = space.stands.shows.settled n s at in
+        let below = no_region n shown.region shown.in_region in
+        absurd (omega (arith, above, below))
+
+    pub unsettled_above : (first up : ℕ) → AreUnmapped t first (min up end) → AreUnsettled p first up
+    unsettled_above first up bare n from less = elim (cases_lt n end) [
+      | inl below ↦ unsettled first (min up end) bare n from (omega (arith, below, less))
+      | inr above ↦ none_above n (pages.get p.settled n) above refl
+    ]
 
   -- a leaf below the trapframe's is a settled page's
   of_leaf : (page w : ℕ) → page < trapframe_page → get t.leaves (leaf_node page) ≡ Some w → (s : Page) × (pages.get p.settled page ≡ Some s)
@@ -84,9 +101,9 @@ module _ (v : View) (root trapframe : ℕ) (l : Layout) (t : Tables) (p : Proces
           dirty = has_flag_is w 7 ∙ ap (λ x. has x 7) (sym leaf_is) ∙ here.1.made.dirty;
         }
 
-  module _ (first end page : ℕ) (found : IsFirstMapped t first end (Some page)) (up : end ≤ trapframe_page) where
+  module _ (first last end page : ℕ) (found : IsFirstMapped t first last (Some page)) (sooner : last ≤ end) (up : end ≤ trapframe_page) where
     pub low_page : page < trapframe_page
-    low_page = omega (arith, found.1, up)
+    low_page = let before = found.1 in omega (arith, before, sooner, up)
 
     -- the first page with a leaf is the first that is settled
     pub next_is : (o : Option SettledPage) → IsSettled t p page o → IsNextSettled t p first end o
@@ -97,6 +114,6 @@ module _ (v : View) (root trapframe : ℕ) (l : Layout) (t : Tables) (p : Proces
         go (Some w) leaf some = let there = (of_leaf page w low_page leaf).1 in cc
     next_is (Some x) is =
         let from : first ≤ x.page = rw is.0 found.0 in
-        let to : x.page < end = rw is.0 found.1 in
+        let to : x.page < end = rw is.0 (let before = found.1 in omega (arith, before, sooner)) in
         let before : AreUnsettled p first x.page = rw is.0 (unsettled first page found.3) in
         (from, to, before, is.1)

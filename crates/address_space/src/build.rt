@@ -99,7 +99,7 @@ impl<S: FrameSeat> Space<S> {
             &mut self.seat,
             self.root,
             Va(0).page(),
-            TRAPFRAME.page(),
+            TRAPFRAME.page().number(),
         );
         release_emptied(store, &mut self.seat, self.root);
         self.root = open_tables(store, &mut self.seat, self.trapframe);

@@ -2,7 +2,8 @@
 
 ghost use Rattle.std.specs.Prelude.{[], ◌≡◌, ◌^◌, ◌≤◌, ℕ};
 ghost use Rattle.address_space.specs.Agreement.{body_of, HoldsTrapframe, IsSpace, nothing, Stands};
-ghost use Rattle.address_space.specs.Ending.{CanDrop, CanEnd, Drops, DropsLeaf, DropsRun, IsEmptied, IsFirstMapped, Strips};
+ghost use Rattle.address_space.specs.Ending.{CanDrop, Drops, DropsLeaf, DropsRun, IsEmptied, IsFirstMapped, Strips};
+ghost use Rattle.address_space.specs.Standing.{IsStanding};
 ghost use Rattle.address_space.specs.Steps.{IsBare, Takes};
 ghost use Rattle.frame_store.specs.Laws.{Fits, Keeps};
 ghost use Rattle.frame_store.specs.View.{hold_of};
@@ -14,15 +15,15 @@ ghost use Rattle.table_walk.specs.Tables.{HasTables, Tables};
 use crate::space::Space;
 use frame_store::{FrameAccess, FrameSeat};
 use sv39_entry::{FrameNo, TRAMPOLINE, TRAPFRAME, Va, Vpn};
-use table_walk::{next_leaf, release_tables, unmap};
+use table_walk::{next_leaf_before, release_tables, unmap};
 
-/// The first page that has a leaf, of those from one number up to, and without, a page.
+/// The first page that has a leaf, of those from one number up to, and without, another.
 pub(crate) fn first_mapped<F: FrameAccess>(
     store: &mut F,
     seat: &mut F::Seat,
     root: FrameNo,
     first: u64,
-    end: Vpn,
+    end: u64,
 ) -> Option<Vpn>
     requires fits { Fits F.rule store.old seat.old }
     requires held { (t : Tables) × HasTables (F.Seat.view seat.old) root.0 t }
@@ -32,8 +33,8 @@ pub(crate) fn first_mapped<F: FrameAccess>(
     ensures same { store.new ≡ store.old }
     ensures keeps { Keeps F.rule store.old seat.old store.new seat.new }
 {
-    let (page, _) = next_leaf(store, seat, root, Vpn::new(first)?)?;
-    if page < end { Some(page) } else { None }
+    let (page, _) = next_leaf_before(store, seat, root, Vpn::new(first)?, end)?;
+    Some(page)
 }
 
 /// Takes the leaf of a page away, and then the frame that it named: no leaf ever names a frame that was let go.
@@ -54,13 +55,14 @@ fn drop_leaf<F: FrameAccess>(store: &mut F, seat: &mut F::Seat, root: FrameNo, p
     store.release(seat, frame);
 }
 
-/// Unmaps the settled pages of a run, and lets their frames go. The tables stay.
+/// Unmaps the settled pages from one page up to, and without, another, which is given by its number, and lets their frames
+/// go. The tables stay.
 pub(crate) fn drop_run<F: FrameAccess>(
     store: &mut F,
     seat: &mut F::Seat,
     root: FrameNo,
     first: Vpn,
-    end: Vpn,
+    end: u64,
 )
     requires fits { Fits F.rule store.old seat.old }
     requires ready { (trapframe : ℕ) × (t : Tables) × (p : Process) × Stands (F.Seat.view seat.old) root.0 trapframe nothing t p }
@@ -108,14 +110,14 @@ impl<S: FrameSeat> Space<S> {
         ensures keeps { Keeps F.rule store.old self.old.seat store.new self.new.seat }
         ensures free { F.alone → F.free store.old ≤ F.free store.new }
     {
-        drop_run(store, &mut self.seat, self.root, first, end);
+        drop_run(store, &mut self.seat, self.root, first, end.number());
     }
 
     /// Takes the space apart: its pages go, and then its tables. The seat keeps its credits, frame 0, and the trapframe's
     /// frame with what that has.
     fn strip<F: FrameAccess<Seat = S>>(self, store: &mut F) -> (S, FrameNo)
         requires fits { Fits F.rule store.old self.seat }
-        requires ready { (t : Tables) × (p : Process) × CanEnd (body_of S.view self) t p }
+        requires ready { (t : Tables) × (p : Process) × IsStanding (body_of S.view self) t p nothing }
         ensures trapframe { result.1 ≡ self.trapframe }
         ensures holds { HoldsTrapframe (S.view result.0) self.trapframe.0 }
         ensures saved { hold_of (S.view result.0) self.trapframe.0 ≡ hold_of (S.view self.seat) self.trapframe.0 }
@@ -124,13 +126,14 @@ impl<S: FrameSeat> Space<S> {
         ensures keeps { Keeps F.rule store.old self.seat store.new result.0 }
         ensures free { F.alone → F.free store.old ≤ F.free store.new }
     {
+        let end = self.layout.end();
         let Space {
             mut seat,
             root,
             trapframe,
             ..
         } = self;
-        drop_run(store, &mut seat, root, Va(0).page(), TRAPFRAME.page());
+        drop_run(store, &mut seat, root, Va(0).page(), end);
         release_emptied(store, &mut seat, root);
         (seat, trapframe)
     }

@@ -1,9 +1,10 @@
 // The regions of a process.
 
-ghost use Rattle.std.specs.Prelude.{[], ◌≡◌, ◌+◌, ◌*◌, ◌<◌, ◌≤◌, All, length, map, nat_le, not, option_map, option_to_list, ◌==◌};
+ghost use Rattle.std.specs.Prelude.{[], ◌≡◌, ◌+◌, ◌*◌, ◌<◌, ◌≤◌, All, length, map, nat_le, not, option_map, option_to_list, ◌==◌, ℕ, Some};
 ghost use Rattle.std.specs.List.{prefix_len};
 ghost use Rattle.sv39_entry.specs.Address.{trapframe_page};
 ghost use Rattle.process_model.specs.Mappings.{most_mappings, with_instead, with_mapping};
+ghost use Rattle.process_model.specs.Order.{HasOrder};
 ghost use Rattle.process_model.specs.Process.{heap_of, Process, regions};
 ghost use Rattle.process_model.specs.Regions as model;
 ghost use Rattle.address_space.specs.Layouts.{granted_unless, last_page, LaysOut, region_of};
@@ -162,6 +163,18 @@ impl Layout {
             rights,
             kind: RegionKind::Heap,
             source: Source::Zeros,
+        }
+    }
+
+    /// The number of a page from which on no region has any: where the heap ends, or TRAPFRAME's where there are mappings.
+    pub fn end(&self) -> u64
+        ensures low { (p : Process) → LaysOut self.now p → HasOrder 0 p → result ≤ trapframe_page }
+        ensures end { (p : Process) → LaysOut self.now p → HasOrder 0 p → (n : ℕ) (r : model.Region) → model.region_at (regions p) n ≡ Some r → n < result }
+    {
+        if self.mappings.is_empty() {
+            self.size.div_ceil(PAGE_SIZE)
+        } else {
+            TRAPFRAME.page().number()
         }
     }
 

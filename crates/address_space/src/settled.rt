@@ -90,6 +90,7 @@ impl<S: FrameSeat> Space<S> {
         ensures same { store.new ≡ store.old }
         ensures keeps { Keeps F.rule store.old self.old.seat store.new self.new.seat }
     {
+        let end = end.number().min(self.layout.end());
         let page = first_mapped(store, &mut self.seat, self.root, first, end)?;
         self.settled_page(store, page)
     }

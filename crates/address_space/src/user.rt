@@ -4,6 +4,7 @@ ghost use Rattle.std.specs.Prelude.{◌≡◌, IsTrue};
 ghost use Rattle.address_space.specs.Accesses.{asked_of, IsWalkOf};
 ghost use Rattle.address_space.specs.Agreement.{body_of, IsSpace};
 ghost use Rattle.frame_store.specs.Laws.{Fits, Keeps};
+ghost use Rattle.process_model.specs.Briefs.{of_brief};
 ghost use Rattle.process_model.specs.Bytes.{is_width};
 ghost use Rattle.process_model.specs.Process.{Process};
 ghost use Rattle.process_model.specs.Service as service;
@@ -12,7 +13,7 @@ ghost use Rattle.table_walk.specs.Tables.{Tables};
 
 use crate::space::Space;
 use frame_store::{FrameAccess, FrameSeat};
-use process_model::Reply;
+use process_model::{Brief, Reply};
 use sv39_entry::{Access, FrameNo, Mode, PAGE_SIZE, Va};
 use table_walk::{Walk, translate_held};
 
@@ -49,6 +50,47 @@ impl<S: FrameSeat> Space<S> {
 
     /// Makes an access of the user that was translated, or tells its fault. A misaligned access is told before any other
     /// fault.
+    pub fn user_access_briefly<F: FrameAccess<Seat = S>>(
+        &mut self,
+        store: &mut F,
+        walk: Walk,
+        asked: Asked,
+    ) -> Brief
+        requires fits { Fits F.rule store.old self.old.seat }
+        requires ready { (t : Tables) × (p : Process) × IsSpace (body_of S.view self.old) t p × IsWalkOf t asked walk }
+        requires width { IsTrue (is_width asked.width) }
+        ensures reply { (t : Tables) (p : Process) → IsSpace (body_of S.view self.old) t p → IsWalkOf t asked walk →
+            of_brief result ≡ (service.user_access p (asked_of asked)).reply }
+        ensures after { (t : Tables) (p : Process) → IsSpace (body_of S.view self.old) t p → IsWalkOf t asked walk →
+            IsSpace (body_of S.view self.new) t (service.user_access p (asked_of asked)).process }
+        ensures root { self.new.root ≡ self.old.root }
+        ensures trapframe { self.new.trapframe ≡ self.old.trapframe }
+        ensures layout { self.new.layout ≡ self.old.layout }
+        ensures keeps { Keeps F.rule store.old self.old.seat store.new self.new.seat }
+        ensures free { F.alone → F.free store.new ≡ F.free store.old }
+    {
+        if asked.va.0 % asked.width != 0 {
+            return Brief::Fault(asked.access.misaligned_cause());
+        }
+        let address = match walk {
+            Walk::Leaf { address, .. } => address,
+            Walk::PageFault(cause) | Walk::AccessFault(cause) => return Brief::Fault(cause),
+        };
+        let Some(frame) = FrameNo::from_ppn(address / PAGE_SIZE) else {
+            unreachable!()
+        };
+        match asked.access {
+            Access::Store => {
+                self.write_at(store, frame, asked.va, asked.width, asked.value);
+                Brief::Stored
+            }
+            Access::Fetch | Access::Load => {
+                Brief::Value(self.read_at(store, frame, asked.va, asked.width))
+            }
+        }
+    }
+
+    /// The same, with the reply that has room for bytes.
     pub fn user_access<F: FrameAccess<Seat = S>>(
         &mut self,
         store: &mut F,
@@ -68,24 +110,6 @@ impl<S: FrameSeat> Space<S> {
         ensures keeps { Keeps F.rule store.old self.old.seat store.new self.new.seat }
         ensures free { F.alone → F.free store.new ≡ F.free store.old }
     {
-        if asked.va.0 % asked.width != 0 {
-            return Reply::Fault(asked.access.misaligned_cause());
-        }
-        let address = match walk {
-            Walk::Leaf { address, .. } => address,
-            Walk::PageFault(cause) | Walk::AccessFault(cause) => return Reply::Fault(cause),
-        };
-        let Some(frame) = FrameNo::from_ppn(address / PAGE_SIZE) else {
-            unreachable!()
-        };
-        match asked.access {
-            Access::Store => {
-                self.write_at(store, frame, asked.va, asked.width, asked.value);
-                Reply::Stored
-            }
-            Access::Fetch | Access::Load => {
-                Reply::Value(self.read_at(store, frame, asked.va, asked.width))
-            }
-        }
+        self.user_access_briefly(store, walk, asked).reply()
     }
 }

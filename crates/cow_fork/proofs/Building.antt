@@ -1,5 +1,5 @@
 -- The child's tables beside the parent's: what the seat has of each frame, and which frames the child has.
-use Rattle.std.proofs.Common.{◌≡◌, ◌⊎◌, ℕ, ◌+◌, ◌-◌, ◌<◌, ◌≤◌, ◌^◌, refl, ap, sym, subst, ◌∙◌, inl, inr, Some, List, [], ◌∷◌, ◌++◌, length, arith}
+use Rattle.std.proofs.Common.{◌≡◌, ◌⊎◌, ℕ, ◌+◌, ◌-◌, ◌<◌, ◌≤◌, ◌^◌, refl, ap, sym, subst, ◌∙◌, inl, inr, Option, None, Some, List, [], ◌∷◌, ◌++◌, length, arith}
 use Rattle.std.specs.Prelude.{Contains, is_some}
 use Rattle.std.specs.FinMap.{get}
 use Rattle.std.proofs.lemmas.Bool.{cases_eq}
@@ -10,7 +10,8 @@ use Rattle.frame_store.specs.View.{claimed, Hold, hold_of, IsHeld, IsSole, refer
 use Rattle.process_model.specs.Frames.{fork_need, tables_needed}
 use Rattle.process_model.specs.Inserted.{first_or}
 use Rattle.process_model.specs.PageMap as pages
-use Rattle.process_model.specs.Process.{Page, Process}
+use Rattle.process_model.specs.Process.{Page, Process, regions}
+use Rattle.process_model.specs.Regions.{Region, region_at}
 use Rattle.sv39_entry.specs.Address.{trampoline_page, trapframe_page}
 use Rattle.sv39_entry.specs.Frame.{ppn_of}
 use Rattle.sv39_entry.specs.Word.{ppn}
@@ -20,12 +21,12 @@ use Rattle.address_space.specs.Layouts.{Layout}
 use Rattle.address_space.specs.declared.settled.SettledPage.{SettledPage}
 use Rattle.cow_fork.specs.Children.{CanCopy, CopiesTree, HasChildLeaf}
 use Rattle.cow_fork.specs.Forks.{CanDivide, HasChild}
-use Rattle.cow_fork.specs.Listing.{CanList, IsLed, ListsTables}
+use Rattle.cow_fork.specs.Listing.{CanList, IsEdged, IsLed, ListsTables}
 use Rattle.cow_fork.specs.Lists.{times}
 use Rattle.cow_fork.specs.Parting.{IsUnnamed}
 use Rattle.cow_fork.specs.Sharing.{AreGoing, HasMore, IsGoing}
 use Rattle.cow_fork.proofs.Counting.{found_in}
-use Rattle.cow_fork.proofs.Going.{going_held, times_last_other, times_last_same}
+use Rattle.cow_fork.proofs.Going.{going_held, one_page, times_last_other, times_last_same}
 use Rattle.cow_fork.proofs.Parted.{one_leaf, one_named}
 use Rattle.cow_fork.proofs.Pigeons.{few}
 use Rattle.cow_fork.proofs.Releasing.{times_other, times_same}
@@ -119,6 +120,11 @@ module _ (v : View) (x : Body) (t : Tables) (p : Process) (list : List SettledPa
         ]) in
         omega (arith, most)
 
+-- ---- each settled page is one of a region
+pub settled_below : {x : Body} (t : Tables) (p : Process) → IsSpace x t p → (end : ℕ) → ((n : ℕ) (r : Region) → region_at (regions p) n ≡ Some r → n < end)
+    → (n : ℕ) (s : Page) → pages.get p.settled n ≡ Some s → n < end
+settled_below t p space end no_region n s is = let shown = space.stands.shows.settled n s is in no_region n shown.region shown.in_region
+
 -- ---- each of the child's tables is on the way to a leaf
 
 module _ (v w : View) (t u : Tables) (p : Process) (root own : ℕ) (tree : CopiesTree v w t u p root own) (low : (n : ℕ) (s : Page) → pages.get p.settled n ≡ Some s → n < trapframe_page) where
@@ -143,6 +149,25 @@ module _ (v w : View) (t u : Tables) (p : Process) (root own : ℕ) (tree : Copi
       let way = (tree.tabled k).0 (ap is_some at) in
       let leaf = leaf_there way.0 way.2 in
       (way.0, way.1, leaf.1.0, way.3, leaf.0, way.4, leaf.1.1)
+
+  -- and none of its leaves stands between the regions and TRAPFRAME
+  module _ (end : ℕ) (up : end ≤ trapframe_page) (settled_below : (n : ℕ) (s : Page) → pages.get p.settled n ≡ Some s → n < end) where
+    no_leaf : (n : ℕ) (o : Option ℕ) → end ≤ n → n < trapframe_page → get u.leaves (leaf_node n) ≡ o → o ≡ None
+    no_leaf n None late before is = refl
+    no_leaf n (Some x) late before is = absurd (elim (tree.only (leaf_node n) x is) as (λ _. ⊥) [
+      | inl same ↦ let at = one_page n trampoline_page (omega (arith, before)) (omega arith) same in omega (arith, at, before)
+      | inr rest ↦ elim rest as (λ _. ⊥) [
+        | inl same ↦ let at = one_page n trapframe_page (omega (arith, before)) (omega arith) same in omega (arith, at, before)
+        | inr there ↦
+            let far = low there.0 there.1 there.3 in
+            let at = one_page n there.0 (omega (arith, before)) (omega (arith, far)) there.2 in
+            let less = settled_below there.0 there.1 there.3 in
+            omega (arith, at, less, late)
+      ]
+    ])
+
+    pub tables_edged : IsEdged u end
+    tables_edged = record { low = up; bare = λ n late before. no_leaf n (get u.leaves (leaf_node n)) late before refl; there = (tree.on_trapframe.0, tree.on_trapframe.1) }
 
 -- ---- all together
 

@@ -10,12 +10,13 @@ use Rattle.std.proofs.Math.Nat.{le-div_iff_mul-le}
 use Rattle.frame_store.specs.View.{IsHeld, View}
 use Rattle.process_model.specs.ValueSets.{div_up}
 use Rattle.sv39_entry.specs.declared.frame.FrameNo.{FrameNo}
-use Rattle.table_walk.specs.Changed.{IsNextLeaf, places}
+use Rattle.sv39_entry.specs.Address.{trapframe_page}
+use Rattle.table_walk.specs.Changed.{IsNextLeaf, IsNextLeafBefore, places}
 use Rattle.table_walk.specs.Nodes.{above, leaf_node_is, node_below, node_from, power_next, power_some, power_up}
 use Rattle.table_walk.specs.Tables.{HasTables, leaf_node, node, Tables}
 use Rattle.table_walk.specs.Walk.{top_level}
 use Rattle.cow_fork.specs.Lists.{times}
-use Rattle.cow_fork.specs.Listing.{CanList, IsFirstPage, IsLed, IsListing, ListsTables}
+use Rattle.cow_fork.specs.Listing.{CanList, IsEdged, IsFirstPage, IsLed, IsListing, ListsTables}
 use Rattle.cow_fork.proofs.Pigeons.{few}
 
 -- ---- the first page that has a leaf
@@ -32,6 +33,20 @@ one_page t from page w next = (
   next.1,
   (w, ap (get t.leaves) (leaf_place page next.1) ∙ next.2),
   λ n late before. ap (get t.leaves) (leaf_place n (let low = next.1 in omega (arith, low, before))) ∙ next.3 n late before,
+)
+
+pub page_before : (t : Tables) (from end page w : ℕ) → IsNextLeafBefore t from end (Some (page, w)) → IsFirstPage t from (Some page)
+page_before t from end page w next = one_page t from page w next.1
+
+pub page_at_edge : (t : Tables) (from end : ℕ) → IsNextLeafBefore t from end None → IsEdged t end → from ≤ trapframe_page → IsFirstPage t from (Some trapframe_page)
+page_at_edge t from end bare edged late = (
+  late,
+  omega arith,
+  edged.there,
+  λ n after before. elim (cases_lt n end) [
+    | inl less ↦ ap (get t.leaves) (leaf_place n (omega (arith, before))) ∙ bare n after less
+    | inr more ↦ edged.bare n (omega (arith, more)) before
+  ],
 )
 
 -- ---- numbers of tables

@@ -1,5 +1,5 @@
 -- The parent's settled pages get the fork mark, one after another.
-use Rattle.std.proofs.Common.{◌≡◌, ℕ, ◌+◌, ◌<◌, ◌≤◌, Option, None, Some, List, ◌∷◌, drop, length, slice_index_or, refl, ap, sym, subst, ◌∙◌, inl, inr, arith}
+use Rattle.std.proofs.Common.{◌≡◌, ℕ, Bool, true, ◌||◌, ◌+◌, ◌<◌, ◌≤◌, Option, None, Some, List, ◌∷◌, drop, length, slice_index_or, refl, ap, sym, subst, ◌∙◌, inl, inr, arith}
 use Rattle.std.specs.FinMap as finite
 use Rattle.std.specs.Prelude.{option_map}
 use Rattle.std.proofs.lemmas.Bool.{cases_eq, cases_lt}
@@ -9,7 +9,7 @@ use Rattle.process_model.specs.Inserted.{inserted_here, inserted_other, same_fin
 use Rattle.process_model.specs.OrderKept.{same_order}
 use Rattle.process_model.specs.PageMap.{get, insert, PageMap, with_values}
 use Rattle.process_model.specs.Process as of_model
-use Rattle.process_model.specs.Process.{Page, Process}
+use Rattle.process_model.specs.Process.{grants_write, Page, Process}
 use Rattle.process_model.specs.Residence.{marked, marked_page}
 use Rattle.sv39_entry.specs.Address.{trapframe_page}
 use Rattle.table_walk.specs.Tables.{Tables}
@@ -98,6 +98,26 @@ module _ (p : Process) (bound : ℕ) (done : PageMap Page) (marks : AreMarkedBel
     above = λ n after. inserted_other k (marked_page p k s) done n (λ same. omega (arith, after, same)) ∙ marks.above n (omega (arith, after, behind));
   }
 
+  marked_same : (k : ℕ) (s : Page) → s.fork_mark ≡ true → marked_page p k s ≡ s
+  marked_same k s has = ap (λ (b : Bool). record s { fork_mark = b || grants_write p k }) has ∙ ap (λ (b : Bool). record s { fork_mark = b }) (sym has)
+
+  -- where it has the mark, it stays as it is
+  marks_passed : (k : ℕ) (s : Page) → bound ≤ k → AreUnsettled p bound k → get p.settled k ≡ Some s → s.fork_mark ≡ true → AreMarkedBelow p (k + 1) done
+  marks_passed k s behind none here has = record {
+    below = λ n before. elim (cases_eq n k) [
+      | inl same ↦
+          subst (λ m. get done m ≡ option_map (marked_page p m) (get p.settled m)) (sym same)
+          (marks.above k behind ∙ here ∙ sym (ap (λ (q : Page). Some q) (marked_same k s has)) ∙ sym (ap (option_map (marked_page p k)) here))
+      | inr apart ↦ elim (cases_lt n bound) [
+        | inl low ↦ marks.below n low
+        | inr high ↦ (
+            let empty = none n (omega (arith, high)) (omega (arith, before, apart)) in
+            marks.above n (omega (arith, high)) ∙ empty ∙ sym (ap (option_map (marked_page p n)) empty))
+      ]
+    ];
+    above = λ n after. marks.above n (omega (arith, after, behind));
+  }
+
   -- where none is left, all are
   marks_all : AreUnsettled p bound trapframe_page → ((n : ℕ) (s : Page) → get p.settled n ≡ Some s → n < trapframe_page)
       → done ≡ with_values (marked_page p) p.settled
@@ -152,6 +172,18 @@ module _ (x : Body) (t u : Tables) (p : Process) (extra : ℕ → ℕ) (settled 
             marks = marks_next p m.bound m.done m.marks a.page left.0.3.page left.0.0 left.0.2 left.0.3.settled;
             left = left.1;
           }
+
+      -- a page that has the mark is passed over
+      pub marking_passed : a.fork_mark ≡ true → IsMarking x y t u p extra (drop (i + 1) settled)
+      marking_passed has = record {
+        tables = m.tables;
+        bound = a.page + 1;
+        done = m.done;
+        forking = m.forking;
+        turns = m.turns;
+        marks = marks_passed p m.bound m.done m.marks a.page left.0.3.page left.0.0 left.0.2 left.0.3.settled (sym left.0.3.fork_mark ∙ has);
+        left = left.1;
+      }
 
     pub marking_all : IsStanding x t p extra → length settled ≤ i → (w : Tables) × IsStanding y w (marked p) extra × TurnsLeaves x y t w
     marking_all can past =

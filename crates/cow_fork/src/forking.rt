@@ -187,6 +187,7 @@ fn build_child<S: FrameSeat, F: FrameSupply<Seat = S>>(
     fill_frame(store, &mut space.seat, trapframe, &[]);
     frames.push(trapframe);
     let root = copy_tree(space, store, trapframe, settled);
-    list_tables(store, &mut space.seat, root, frames);
+    let end = space.layout.end();
+    list_tables(store, &mut space.seat, root, end, frames);
     (root, trapframe)
 }

@@ -1,27 +1,30 @@
 // The frames of the tables below a root.
 
 ghost use Rattle.std.specs.Prelude.{◌≡◌, ◌≤◌, ◌^◌, List, map, ℕ, suc, ◌-◌};
-ghost use Rattle.cow_fork.specs.Listing.{CanList, IsFirstPage, IsLed, IsListing, ListsTables};
+ghost use Rattle.cow_fork.specs.Listing.{CanList, IsEdged, IsFirstPage, IsLed, IsListing, ListsTables};
 ghost use Rattle.frame_store.specs.Laws.{Fits, Keeps};
+ghost use Rattle.sv39_entry.specs.Address.{trapframe_page};
 ghost use Rattle.table_walk.specs.Changed.{places};
 ghost use Rattle.table_walk.specs.Tables.{HasTables, Tables};
 ghost use Rattle.table_walk.specs.Walk.{top_level};
 
 use arrayvec::ArrayVec;
 use frame_store::{FrameAccess, FrameSeat};
-use sv39_entry::{FrameNo, Vpn};
-use table_walk::{next_leaf, table_at};
+use sv39_entry::{FrameNo, TRAPFRAME, Vpn};
+use table_walk::{next_leaf, next_leaf_before, table_at};
 
 /// Lists the tables below a root, each of which is on the way to a leaf: level by level, and in each level by the leaves.
+/// Those before TRAPFRAME's stand before an end, which is given by the number of a page.
 pub(crate) fn list_tables<S: FrameSeat, F: FrameAccess<Seat = S>>(
     store: &mut F,
     seat: &mut S,
     root: FrameNo,
+    end: u64,
     frames: &mut ArrayVec<FrameNo, 1024>,
 )
     requires fits { Fits F.rule store.old seat.old }
-    requires ready { (t : Tables) × HasTables (S.view seat.old) root.0 t × IsLed t × CanList t (map (λ f. f.0) frames.old.items) }
-    ensures listed { (t : Tables) → HasTables (S.view seat.old) root.0 t → IsLed t → CanList t (map (λ f. f.0) frames.old.items) →
+    requires ready { (t : Tables) × HasTables (S.view seat.old) root.0 t × IsLed t × CanList t (map (λ f. f.0) frames.old.items) × IsEdged t end }
+    ensures listed { (t : Tables) → HasTables (S.view seat.old) root.0 t → IsLed t → CanList t (map (λ f. f.0) frames.old.items) → IsEdged t end →
         ListsTables t (map (λ f. f.0) frames.old.items) (map (λ f. f.0) frames.new.items) }
     ensures view { S.view seat.new ≡ S.view seat.old }
     ensures same { store.new ≡ store.old }
@@ -29,9 +32,9 @@ pub(crate) fn list_tables<S: FrameSeat, F: FrameAccess<Seat = S>>(
 {
     // The root is for 2^27 pages, a table of level 1 for 2^18, and one of level 0 for 2^9 (RISC-V Privileged Architecture
     // 20211203, 4.4.1).
-    list_level(store, seat, root, 0, 1 << 27, frames);
-    list_level(store, seat, root, 1, 1 << 18, frames);
-    list_level(store, seat, root, 2, 1 << 9, frames);
+    list_level(store, seat, root, end, 0, 1 << 27, frames);
+    list_level(store, seat, root, end, 1, 1 << 18, frames);
+    list_level(store, seat, root, end, 2, 1 << 9, frames);
 }
 
 /// Lists the tables that are so many levels below the root, each for so many pages. Once a leaf is found, the search goes
@@ -40,6 +43,7 @@ fn list_level<S: FrameSeat, F: FrameAccess<Seat = S>>(
     store: &mut F,
     seat: &mut S,
     root: FrameNo,
+    end: u64,
     depth: u32,
     pages: u64,
     frames: &mut ArrayVec<FrameNo, 1024>,
@@ -47,40 +51,49 @@ fn list_level<S: FrameSeat, F: FrameAccess<Seat = S>>(
     requires fits { Fits F.rule store.old seat.old }
     requires deep { depth ≤ top_level }
     requires size { pages ≡ places (top_level - depth) }
-    requires ready { (t : Tables) × (L : List ℕ) × IsListing (S.view seat.old) root.0 t (512 ^ depth) L (map (λ f. f.0) frames.old.items) }
-    ensures listed { (t : Tables) (L : List ℕ) → IsListing (S.view seat.old) root.0 t (512 ^ depth) L (map (λ f. f.0) frames.old.items) →
+    requires ready { (t : Tables) × (L : List ℕ) × IsListing (S.view seat.old) root.0 t (512 ^ depth) L (map (λ f. f.0) frames.old.items) × IsEdged t end }
+    ensures listed { (t : Tables) (L : List ℕ) → IsListing (S.view seat.old) root.0 t (512 ^ depth) L (map (λ f. f.0) frames.old.items) → IsEdged t end →
         IsListing (S.view seat.old) root.0 t (512 ^ suc depth) L (map (λ f. f.0) frames.new.items) }
     ensures view { S.view seat.new ≡ S.view seat.old }
     ensures same { store.new ≡ store.old }
     ensures keeps { Keeps F.rule store.old seat.old store.new seat.new }
 {
     let mut table = 0;
-    'tables: while let Some(page) = first_page(store, seat, root, table * pages) {
+    'tables: while let Some(page) = first_page(store, seat, root, table * pages, end) {
         let Some(frame) = table_at(store, seat, root, page, depth) else {
             unreachable!()
         };
-        if frames.try_push(frame).is_err() {
-            unreachable!()
-        }
+        frames.push(frame);
         table = page.number() / pages + 1;
     }
 }
 
-/// The first page from one number on that has a leaf.
+/// The first page from one number on that has a leaf. Between an end and TRAPFRAME's page there is none, so nothing is
+/// looked for.
 fn first_page<S: FrameSeat, F: FrameAccess<Seat = S>>(
     store: &mut F,
     seat: &mut S,
     root: FrameNo,
     from: u64,
+    end: u64,
 ) -> Option<Vpn>
     requires fits { Fits F.rule store.old seat.old }
     requires held { (t : Tables) × HasTables (S.view seat.old) root.0 t }
     requires low { from ≤ 2 ^ 27 }
-    ensures page { (t : Tables) → HasTables (S.view seat.old) root.0 t → IsFirstPage t from result }
+    requires edge { end ≤ trapframe_page }
+    ensures page { (t : Tables) → HasTables (S.view seat.old) root.0 t → IsEdged t end → IsFirstPage t from result }
     ensures view { S.view seat.new ≡ S.view seat.old }
     ensures same { store.new ≡ store.old }
     ensures keeps { Keeps F.rule store.old seat.old store.new seat.new }
 {
-    let (page, _) = next_leaf(store, seat, root, Vpn::new(from)?)?;
+    let first = Vpn::new(from)?;
+    if let Some(found) = next_leaf_before(store, seat, root, first, end) {
+        return Some(found.0);
+    }
+    let trapframe = TRAPFRAME.page();
+    if from <= trapframe.number() {
+        return Some(trapframe);
+    }
+    let (page, _) = next_leaf(store, seat, root, first)?;
     Some(page)
 }

@@ -70,7 +70,7 @@ fn open_tables<S: FrameSeat, F: FrameSupply<Seat = S>>(
     root
 }
 
-/// Puts the fork mark on the parent's pages whose regions grant writing.
+/// Puts the fork mark on the parent's pages whose regions grant writing. A page that an earlier fork shared has it.
 pub(crate) fn mark_pages<S: FrameSeat, F: FrameAccess<Seat = S>>(
     space: &mut Space<S>,
     store: &mut F,
@@ -87,6 +87,8 @@ pub(crate) fn mark_pages<S: FrameSeat, F: FrameAccess<Seat = S>>(
     ensures free { F.alone → F.free store.new ≡ F.free store.old }
 {
     'pages: for page in settled {
-        space.mark_forked(store, page.page);
+        if !page.fork_mark {
+            space.mark_forked(store, page.page);
+        }
     }
 }

@@ -1,12 +1,16 @@
 -- A page without a frame is made resident.
-use Rattle.std.proofs.Common.{◌≡◌, ℕ, Bool, false, true, ◌-◌, ◌*◌, refl, ap, sym, subst, ◌∙◌, List, [], Option, None, Some, length}
+use Rattle.std.proofs.Common.{◌≡◌, ℕ, Bool, false, true, ◌-◌, ◌*◌, refl, ap, sym, subst, ◌∙◌, List, [], Option, None, Some}
 use Rattle.std.specs.Prelude.{is_some, option_to_list}
 use Rattle.address_space.specs.Agreement.{Body, IsSpace}
+use Rattle.address_space.specs.Layouts.{region_of}
+use Rattle.address_space.specs.declared.region.Region.{Region as Run}
+use Rattle.address_space.specs.declared.region.Source.TheVariants as from
 use Rattle.address_space.specs.Steps.{CanSettle, RunsDry, Takes}
 use Rattle.fault_rules.specs.Resides.{CanReside, gets_frame, is_counted, is_shared_by, IsPlaced, moves_for, moves_from, reside_moves, Resides}
 use Rattle.fault_rules.specs.Settling.{settled_as, SettlesAs}
-use Rattle.fault_rules.proofs.Sources.{padded_whole}
+use Rattle.fault_rules.proofs.Sources.{no_file_moves}
 use Rattle.frame_store.specs.View.{View}
+use Rattle.process_model.specs.Bytes.{padded}
 use Rattle.process_model.specs.Files.{File}
 use Rattle.process_model.specs.Frames.{resident_need, resident_need_of, settle_need}
 use Rattle.process_model.specs.PageMap.{get, insert}
@@ -49,6 +53,9 @@ module _ {x : Body} {t : Tables} {p : Process} {a : Access} {page : ℕ} (can : 
       ∙ ap (λ (x : Region). moves_from files x.source (4096 * (page - x.first))) is
       ∙ sym (ap (λ o. moves_for files (region_on p page) o page) unsettled ∙ ap (λ o. moves_for files o None page) can.in_region)
 
+  pub first_moves_none : (files : List File) (r : Run) → region_of r ≡ can.region → ((n offset : ℕ) → r.source ≡ from.File n offset → ⊥) → [] ≡ reside_moves files p page
+  first_moves_none files r is none = sym (no_file_moves files r.source (4096 * (page - r.first)) none) ∙ first_moves files (region_of r) page is refl
+
   abbrev anew : ℕ → List ℕ → Bool → Process
   anew fresh bytes mark = record p {
     settled = insert p.settled page (record { bytes = bytes; copy = fresh; fork_mark = false; stored_mark = mark });
@@ -56,13 +63,12 @@ module _ {x : Body} {t : Tables} {p : Process} {a : Access} {page : ℕ} (can : 
   }
 
   module _ (y : Body) (u : Tables) (files : List File) (bytes : List ℕ) (mark : Bool) (f : ℕ)
-      (whole : length bytes ≡ 4096)
-      (from : bytes ≡ source_page files can.region.source (4096 * (page - can.region.first)))
+      (begins : padded 4096 bytes ≡ source_page files can.region.source (4096 * (page - can.region.first)))
       (marks : mark ≡ leaves_mark a (Some can.region))
       (settles : SettlesAs x.view y t u p page bytes mark f) where
     made_is : (fresh : ℕ) (shared : Bool) → settled_as fresh bytes mark p page ≡ made_resident files fresh shared p a page
     made_is fresh shared =
-        ap (λ bs. anew fresh bs mark) (padded_whole bytes whole ∙ from)
+        ap (λ bs. anew fresh bs mark) begins
         ∙ ap (λ b. anew fresh (region_page files (Some can.region) page) b) marks
         ∙ ap (λ o. anew fresh (region_page files o page) (leaves_mark a o)) (sym can.in_region)
         ∙ sym (ap (made_resident_from files fresh shared p a page) unsettled)

@@ -17,7 +17,7 @@ ghost use Rattle.table_walk.specs.Tables.{Tables};
 
 use crate::settling::{initial_bytes, settle_as};
 use crate::taking::take_over;
-use address_space::{Region, RegionKind, Space};
+use address_space::{Region, RegionKind, Source, Space};
 use file_cabinet::{Files, PromiseError};
 use frame_store::{FrameSeat, FrameSupply, NoFrame};
 use sv39_entry::{Access, Vpn};
@@ -93,6 +93,43 @@ pub fn make_resident<S: FrameSeat, F: FrameSupply<Seat = S>, C: Files>(
 /// Gives a page its first frame, with the bytes that its region has for it, and the stored mark where it is to be stored to
 /// and stores go back to a file.
 fn settle_initial<S: FrameSeat, F: FrameSupply<Seat = S>, C: Files>(
+    space: &mut Space<S>,
+    store: &mut F,
+    files: &mut C,
+    page: Vpn,
+    access: Access,
+) -> Result<(), Unresident>
+    requires fits { Fits F.rule store.old space.old.seat }
+    requires ready { (t : Tables) × (p : Process) × CanReside (body_of S.view space.old) t p access page }
+    requires unsettled { (t : Tables) (p : Process) → IsSpace (body_of S.view space.old) t p → get p.settled page ≡ None }
+    ensures resident { IfOk result (λ _. HasReside (body_of S.view space.old) (body_of S.view space.new) (C.files files.old) access page (λ f c. F.alone → c ≡ F.count store.old f)) }
+    ensures dry { IsShort result → RunsShort (body_of S.view space.old) (body_of S.view space.new) access page }
+    ensures whole { IsShort result → (t : Tables) (p : Process) → IsSpace (body_of S.view space.old) t p → IsSpace (body_of S.view space.new) t p }
+    ensures unpromised { (e : PromiseError) → result ≡ Err (Unpromised e) → C.can_refuse files.old 1 e }
+    ensures view_stays { (e : PromiseError) → result ≡ Err (Unpromised e) → S.view space.new.seat ≡ S.view space.old.seat }
+    ensures store_stays { (e : PromiseError) → result ≡ Err (Unpromised e) → store.new ≡ store.old }
+    ensures files_stay { (e : PromiseError) → result ≡ Err (Unpromised e) → C.becomes files.old [] files.new }
+    ensures moves { ((e : PromiseError) → result ≢ Err (Unpromised e)) → (t : Tables) (p : Process) → CanReside (body_of S.view space.old) t p access page → C.becomes files.old (reside_moves (C.files files.old) p page) files.new }
+    ensures enough { F.alone → WhenReside (body_of S.view space.old) access page (F.count store.old) (λ need. IsOk result → need ≤ F.free store.old) }
+    ensures short { F.alone → WhenReside (body_of S.view space.old) access page (F.count store.old) (λ need. IsShort result → F.free store.old < need) }
+    ensures free { F.alone → WhenReside (body_of S.view space.old) access page (F.count store.old) (λ need. F.free store.new ≡ F.free store.old - taken_of result need) }
+    ensures root { space.new.root ≡ space.old.root }
+    ensures trapframe { space.new.trapframe ≡ space.old.trapframe }
+    ensures layout { space.new.layout ≡ space.old.layout }
+    ensures keeps { Keeps F.rule store.old space.old.seat store.new space.new.seat }
+{
+    let Some(region) = space.layout.region_at(page.number()) else {
+        unreachable!()
+    };
+    if let Source::File { .. } = region.source {
+        return settle_from_file(space, store, files, page, access);
+    }
+    settle_as(space, store, page, &[], is_to_mark(&region, access))?;
+    Ok(())
+}
+
+/// The same of a page of a file, by way of an array.
+fn settle_from_file<S: FrameSeat, F: FrameSupply<Seat = S>, C: Files>(
     space: &mut Space<S>,
     store: &mut F,
     files: &mut C,

@@ -1,6 +1,6 @@
 // A page gets its first frame.
 
-ghost use Rattle.std.specs.Prelude.{[], ◌≡◌, ◌-◌, ◌*◌, ◌<◌, ◌≤◌, ◌↔◌, if◌then◌else◌, IfErr, IfOk, is_ok, IsOk, Some, true};
+ghost use Rattle.std.specs.Prelude.{[], ◌≡◌, ◌-◌, ◌*◌, ◌<◌, ◌≤◌, ◌↔◌, if◌then◌else◌, IfErr, IfOk, is_ok, IsOk, length, Some, true};
 ghost use Rattle.address_space.specs.Agreement.{body_of, IsSpace};
 ghost use Rattle.address_space.specs.Layouts.{region_of};
 ghost use Rattle.address_space.specs.Steps.{CanSettle, RunsDry};
@@ -44,16 +44,17 @@ pub(crate) fn initial_bytes<C: Files>(
     Ok(())
 }
 
-/// Gives a page of a region a frame with these bytes, and the stored mark where that is said and stores go back to a file.
+/// Gives a page of a region a frame with these bytes and zeros behind them, and the stored mark where that is said and stores go back to a file.
 pub(crate) fn settle_as<S: FrameSeat, F: FrameSupply<Seat = S>>(
     space: &mut Space<S>,
     store: &mut F,
     page: Vpn,
-    bytes: &[u8; 4096],
+    bytes: &[u8],
     mark: bool,
 ) -> Result<(), NoFrame>
     requires fits { Fits F.rule store.old space.old.seat }
     requires ready { (t : Tables) × (p : Process) × CanSettle (body_of S.view space.old) t p page }
+    requires inside { length bytes.now ≤ 4096 }
     requires kept { (t : Tables) (p : Process) → CanSettle (body_of S.view space.old) t p page → mark ≡ true → keeps_stores (region_on p page) ≡ true }
     ensures settled { IfOk result (λ _. HasSettledAs (body_of S.view space.old) (body_of S.view space.new) page bytes.now mark) }
     ensures dry { IfErr result (λ _. (t : Tables) (p : Process) → CanSettle (body_of S.view space.old) t p page → RunsDry (S.view space.old.seat) (S.view space.new.seat) (settle_need p page) []) }

@@ -89,8 +89,8 @@ past (b ∷ bs) (suc k) h = past bs k (omega arith)
 pub past_end : (bs : List ℕ) (start : ℕ) → length bs ≤ start → number (drop start bs) 8 ≡ 0
 past_end bs start over = number_same 8 start 0 bs [] (λ k h. past bs (start + k) (omega (arith, over))) ∙ number-nil 8
 
-pub whole_word : (bs word : List ℕ) (start : ℕ) → start + 8 ≤ length bs → word ≡ take 8 (drop start bs) → from_le_bytes w64 word ≡ number (drop start bs) 8
-whole_word bs word start room is =
+pub word_of_eight : (bs word : List ℕ) (start : ℕ) → start + 8 ≤ length bs → word ≡ take 8 (drop start bs) → from_le_bytes w64 word ≡ number (drop start bs) 8
+word_of_eight bs word start room is =
     let left : 8 ≤ length (drop start bs) = rw (length-drop start bs) (omega (arith, room)) in
     from_le_is word bs start (ap length is ∙ length-take-le 8 (drop start bs) left)
     (λ k h. ap (λ cs. slice_index cs k) is ∙ get_or-take 8 (drop start bs) k 0 h ∙ get_or-drop start bs k 0)

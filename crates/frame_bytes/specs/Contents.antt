@@ -11,6 +11,10 @@ pub record HasBytes (v : View) (f : ℕ) (bytes : List ℕ) : Type 0 where
   pub small : (k : ℕ) → slice_index bytes k < 2 ^ 8
   pub words : (i : ℕ) → i < 512 → known_word v f i ≡ Some (number (drop (8 * i) bytes) 8)
 
+-- a seat knows that the first words of a frame, so many, are those of some bytes, with zeros behind them
+abbrev pub HasWords : View → ℕ → List ℕ → ℕ → Type 0
+HasWords v f bytes n = (i : ℕ) → i < n → known_word v f i ≡ Some (number (drop (8 * i) bytes) 8)
+
 -- the view with other words of a frame
 abbrev pub with_words : ℕ → FinMap nat_cmp ℕ → View → View
 with_words f words v = with_hold f (record (hold_of v f) { words = words }) v

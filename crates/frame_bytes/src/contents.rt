@@ -1,8 +1,8 @@
 // A page of 4,096 bytes in the 512 words of a frame. The lowest byte of a word comes first, as loads and stores of RV64
 // have it.
 
-ghost use Rattle.std.specs.Prelude.{◌≡◌, ◌≢◌, ◌+◌, ◌*◌, ◌%◌, ◌^◌, ◌<◌, ◌≤◌, ℕ, drop, IsTrue, length, List};
-ghost use Rattle.frame_bytes.specs.Contents.{ChangesWords, HasBytes};
+ghost use Rattle.std.specs.Prelude.{◌≡◌, ◌≢◌, ◌+◌, ◌*◌, ◌/◌, ◌%◌, ◌^◌, ◌<◌, ◌≤◌, ℕ, drop, IsTrue, length, List};
+ghost use Rattle.frame_bytes.specs.Contents.{ChangesWords, HasBytes, HasWords};
 ghost use Rattle.frame_store.specs.Laws.{Fits, Keeps};
 ghost use Rattle.frame_store.specs.View.{IsHeld, IsSole};
 ghost use Rattle.process_model.specs.Bytes.{is_width, low_bytes, number, padded, write_bytes};
@@ -120,24 +120,80 @@ pub fn fill_frame<F: FrameAccess>(store: &mut F, seat: &mut F::Seat, frame: Fram
     ensures free { F.alone → F.free store.new ≡ F.free store.old }
     ensures counts { F.alone → (f : ℕ) → F.count store.new f ≡ F.count store.old f }
 {
-    for index in 0..512 {
-        store.store(seat, frame, index, word_from(bytes, 8 * index));
+    fill_words(store, seat, frame, bytes);
+    let filled = fill_part(store, seat, frame, bytes);
+    zero_words(store, seat, frame, filled);
+}
+
+/// Fills the first words of a frame with the bytes that make whole words.
+fn fill_words<F: FrameAccess>(store: &mut F, seat: &mut F::Seat, frame: FrameNo, bytes: &[u8])
+    requires fits { Fits F.rule store.old seat.old }
+    requires sole { IsSole (F.Seat.view seat.old) frame.0 }
+    requires inside { length bytes.now ≤ 4096 }
+    ensures words { HasWords (F.Seat.view seat.new) frame.0 bytes.now (length bytes.now / 8) }
+    ensures others { ChangesWords frame.0 (F.Seat.view seat.old) (F.Seat.view seat.new) }
+    ensures keeps { Keeps F.rule store.old seat.old store.new seat.new }
+    ensures free { F.alone → F.free store.new ≡ F.free store.old }
+    ensures counts { F.alone → (f : ℕ) → F.count store.new f ≡ F.count store.old f }
+{
+    'words: for index in 0..bytes.len() / 8 {
+        store.store(seat, frame, index, whole_word(bytes, index));
     }
 }
 
-/// The word of the eight bytes from an index on, with zeros where the bytes end.
-fn word_from(bytes: &[u8], start: usize) -> u64
-    ensures { result ≡ number (drop start bytes.now) 8 }
+/// Puts the bytes behind the last whole word, if there are any, into a word of their own, with zeros behind them. Answers
+/// how many words then have bytes.
+fn fill_part<F: FrameAccess>(
+    store: &mut F,
+    seat: &mut F::Seat,
+    frame: FrameNo,
+    bytes: &[u8],
+) -> usize
+    requires fits { Fits F.rule store.old seat.old }
+    requires sole { IsSole (F.Seat.view seat.old) frame.0 }
+    requires inside { length bytes.now ≤ 4096 }
+    ensures words { HasWords (F.Seat.view seat.old) frame.0 bytes.now (length bytes.now / 8) →
+        HasWords (F.Seat.view seat.new) frame.0 bytes.now result }
+    ensures all { length bytes.now ≤ 8 * result }
+    ensures few { result ≤ 512 }
+    ensures others { ChangesWords frame.0 (F.Seat.view seat.old) (F.Seat.view seat.new) }
+    ensures keeps { Keeps F.rule store.old seat.old store.new seat.new }
+    ensures free { F.alone → F.free store.new ≡ F.free store.old }
+    ensures counts { F.alone → (f : ℕ) → F.count store.new f ≡ F.count store.old f }
 {
-    if bytes.len() <= start {
-        return 0;
+    let whole = bytes.len() / 8;
+    if bytes.len() % 8 == 0 {
+        return whole;
     }
-    let rest = &bytes[start..];
-    if rest.len() < 8 {
-        return last_word(rest);
+    store.store(seat, frame, whole, last_word(&bytes[8 * whole..]));
+    whole + 1
+}
+
+/// Makes each word of a frame 0 from an index on.
+fn zero_words<F: FrameAccess>(store: &mut F, seat: &mut F::Seat, frame: FrameNo, first: usize)
+    requires fits { Fits F.rule store.old seat.old }
+    requires sole { IsSole (F.Seat.view seat.old) frame.0 }
+    requires few { first ≤ 512 }
+    ensures words { (bytes : List ℕ) → length bytes ≤ 8 * first → HasWords (F.Seat.view seat.old) frame.0 bytes first →
+        HasWords (F.Seat.view seat.new) frame.0 bytes 512 }
+    ensures others { ChangesWords frame.0 (F.Seat.view seat.old) (F.Seat.view seat.new) }
+    ensures keeps { Keeps F.rule store.old seat.old store.new seat.new }
+    ensures free { F.alone → F.free store.new ≡ F.free store.old }
+    ensures counts { F.alone → (f : ℕ) → F.count store.new f ≡ F.count store.old f }
+{
+    'words: for index in first..512 {
+        store.store(seat, frame, index, 0);
     }
+}
+
+/// The word of the eight bytes that begin at eight times an index.
+fn whole_word(bytes: &[u8], index: usize) -> u64
+    requires { 8 * index + 8 ≤ length bytes.now }
+    ensures { result ≡ number (drop (8 * index) bytes.now) 8 }
+{
+    let start = 8 * index;
     let mut word = [0; 8];
-    word.copy_from_slice(&rest[..8]);
+    word.copy_from_slice(&bytes[start..start + 8]);
     u64::from_le_bytes(word)
 }
 

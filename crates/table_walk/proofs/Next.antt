@@ -4,14 +4,16 @@ use Rattle.std.proofs.Math.Nat.{div-div-eq-div-mul, mul-le-mul_right}
 use Rattle.std.proofs.lemmas.Bool.{cases_lt}
 use Rattle.std.proofs.lemmas.Nat.{div-add-mod', div-mul-add, mod_below, pow-add}
 use Rattle.std.specs.FinMap.{get}
+use Rattle.frame_store.specs.View.{View, known_word}
 use Rattle.sv39_entry.specs.Word.{kind_of}
 use Rattle.sv39_entry.specs.declared.entry.Kind.TheVariants.{Invalid}
-use Rattle.table_walk.specs.Changed.{IsNextLeafIn, IsTableAt}
-use Rattle.table_walk.specs.Tables.{Tables, AreTables, first_leaf}
-use Rattle.table_walk.specs.Places.{IsBare, IsFirstLeaf}
+use Rattle.table_walk.specs.Changed.{IsTableAt}
+use Rattle.table_walk.specs.Tables.{Tables, AreTables, HasTables, first_leaf}
+use Rattle.table_walk.specs.Places.{AreZeros, IsBare, IsBareTo, IsFirstLeaf, IsFirstLeafTo}
 use Rattle.table_walk.specs.Walk.{top_level}
+use Rattle.table_walk.proofs.Children.{child_none}
 use Rattle.table_walk.proofs.TableWords.{kind-zero, word_leaf}
-use Rattle.table_walk.specs.Nodes.{power_next, power_up}
+use Rattle.table_walk.specs.Nodes.{power_next, power_some, power_up}
 
 -- so many times nine bits
 pub nine_bits : (k : ℕ) → 2 ^ (9 * k) ≡ 512 ^ k
@@ -26,41 +28,63 @@ nine_bits (suc k) =
 at_index : (k i width m : ℕ) → k * (512 * width) + (i * width + m) ≡ (k * 512 + i) * width + m
 at_index k i width m = omega arith
 
-module _ (t : Tables) (k width from i place : ℕ) where
-  pub bare_more : IsBare t k (512 * width) from (i * width + place) → IsBare t (k * 512 + i) width place width → IsBare t k (512 * width) from (i * width + width)
-  bare_more before here n le lt = elim (cases_lt n (i * width + place)) [
-    | inl less ↦ before n le less
+module _ (t : Tables) (k width from i place end : ℕ) where
+  pub bare_more : IsBareTo t k (512 * width) from (i * width + place) end → IsBareTo t (k * 512 + i) width place width (end - i * width)
+      → IsBareTo t k (512 * width) from (i * width + width) end
+  bare_more before here n le lt to = elim (cases_lt n (i * width + place)) [
+    | inl less ↦ before n le less to
     | inr more ↦
         let m = n - i * width in
         let split : n ≡ i * width + m = omega (arith, more) in
         let last : m < width = omega (arith, more, lt) in
-        ap (get t.leaves) (ap (λ x. k * (512 * width) + x) split ∙ at_index k i width m) ∙ here m (omega (arith, more)) last
+        let inside : m < end - i * width = omega (arith, more, to) in
+        ap (get t.leaves) (ap (λ x. k * (512 * width) + x) split ∙ at_index k i width m) ∙ here m (omega (arith, more)) last inside
   ]
 
-  pub first_more : (p : ℕ × ℕ) → IsBare t k (512 * width) from (i * width + place) → from ≤ i * width + place → i < 512
-      → IsFirstLeaf t (k * 512 + i) width place (Some p) → IsFirstLeaf t k (512 * width) from (Some (i * width + p.0, p.1))
+  pub first_more : (p : ℕ × ℕ) → IsBareTo t k (512 * width) from (i * width + place) end → from ≤ i * width + place → i < 512
+      → IsFirstLeafTo t (k * 512 + i) width place (end - i * width) (Some p) → IsFirstLeafTo t k (512 * width) from end (Some (i * width + p.0, p.1))
   first_more p before on low here = (
     omega (arith, here.0, on),
     (let row = mul-le-mul_right {m = suc i} {n = 512} width (omega (arith, low)) in omega (arith, here.1, row)),
     ap (get t.leaves) (at_index k i width p.0) ∙ here.2,
-    λ n le lt. elim (cases_lt n (i * width + place)) [
-      | inl less ↦ before n le less
+    λ n le lt to. elim (cases_lt n (i * width + place)) [
+      | inl less ↦ before n le less to
       | inr more ↦
           let m = n - i * width in
           let split : n ≡ i * width + m = omega (arith, more) in
-          ap (get t.leaves) (ap (λ x. k * (512 * width) + x) split ∙ at_index k i width m) ∙ here.3 m (omega (arith, more)) (omega (arith, more, lt))
+          let inside : m < end - i * width = omega (arith, more, to) in
+          ap (get t.leaves) (ap (λ x. k * (512 * width) + x) split ∙ at_index k i width m) ∙ here.3 m (omega (arith, more)) (omega (arith, more, lt)) inside
     ],
   )
 
--- where a place is, by its index
-pub split_at : (from w width : ℕ) → w ≡ width → 0 < w → (from % w < width) × (from ≤ from / w * width + from % w) × (from / w * width + from % w ≤ from)
-split_at from w width same some =
-    let whole = div-add-mod' from w in
-    let rest : from / w * width + from % w ≡ from = rw (← same) whole in
-    (subst (λ x. from % w < x) same (mod_below from w some), omega (arith, rest), omega (arith, rest))
+pub bare_none : (t : Tables) (k width from to end : ℕ) → to ≤ from → IsBareTo t k width from to end
+bare_none t k width from to end over n le lt _ = absurd (omega (arith, over, le, lt))
 
-pub bare_none : (t : Tables) (k width from end : ℕ) → end ≤ from → IsBare t k width from end
-bare_none t k width from end over n le lt = absurd (omega (arith, over, le, lt))
+-- ---- up to an end
+
+pub up_to : (t : Tables) (k width from end : ℕ) (o : Option (ℕ × ℕ)) → IsFirstLeaf t k width from o → IsFirstLeafTo t k width from end o
+up_to t k width from end None first = λ n le lt _. first n le lt
+up_to t k width from end (Some p) first = (first.0, first.1, first.2, λ n le lt _. first.3 n le lt)
+
+-- where the end is behind all places
+pub of_all : (t : Tables) (k width from end : ℕ) (o : Option (ℕ × ℕ)) → width ≤ end → IsFirstLeafTo t k width from end o → IsFirstLeaf t k width from o
+of_all t k width from end None all first = λ n le lt. first n le lt (omega (arith, all, lt))
+of_all t k width from end (Some p) all first = (
+  first.0,
+  first.1,
+  first.2,
+  let low = first.1 in
+      λ n le lt. first.3 n le lt (omega (arith, all, lt, low)),
+)
+
+pub none_to : (t : Tables) (k width from end : ℕ) → end ≤ width → IsFirstLeafTo t k width from end None → IsBare t k width from end
+none_to t k width from end low first n le lt = first n le (omega (arith, low, lt)) lt
+
+pub past_to : (t : Tables) (k width from end : ℕ) (p : ℕ × ℕ) → end ≤ p.0 → IsFirstLeafTo t k width from end (Some p) → IsBare t k width from end
+past_to t k width from end p past first n le lt = first.3 n le (omega (arith, past, lt)) lt
+
+pub before_to : (t : Tables) (k width from end : ℕ) (p : ℕ × ℕ) → p.0 < end → IsFirstLeafTo t k width from end (Some p) → IsFirstLeaf t k width from (Some p)
+before_to t k width from end p before first = (first.0, first.1, first.2, λ n le lt. first.3 n le lt (omega (arith, before, lt)))
 
 -- ---- levels
 
@@ -73,16 +97,20 @@ table_child k level i at low small some =
     let below : k * 512 + i < 2 * 512 ^ (top_level - (level - 1)) = rw more (omega (arith, next, at.1, small)) in
     (omega (arith, far, at.1, small), (from, below))
 
-pub first_in : (t : Tables) (k level width from : ℕ) (o : Option (ℕ × ℕ)) → 512 ^ suc level ≡ width → IsNextLeafIn t k level from o → IsFirstLeaf t k width from o
-first_in t k level width from None same in_level = subst (λ (w : ℕ). IsFirstLeaf t k w from None) same in_level
-first_in t k level width from (Some p) same in_level = subst (λ (w : ℕ). IsFirstLeaf t k w from (Some p)) same in_level
-
-pub in_level : (t : Tables) (k level width from : ℕ) (o : Option (ℕ × ℕ)) → 512 ^ suc level ≡ width → IsFirstLeaf t k width from o → IsNextLeafIn t k level from o
-in_level t k level width from None same first = subst (λ (w : ℕ). IsFirstLeaf t k w from None) (sym same) first
-in_level t k level width from (Some p) same first = subst (λ (w : ℕ). IsFirstLeaf t k w from (Some p)) (sym same) first
+pub same_places : (t : Tables) (k v w from end : ℕ) (o : Option (ℕ × ℕ)) → v ≡ w → IsFirstLeafTo t k v from end o → IsFirstLeafTo t k w from end o
+same_places t k v w from end None same first = subst (λ (x : ℕ). IsFirstLeafTo t k x from end None) same first
+same_places t k v w from end (Some p) same first = subst (λ (x : ℕ). IsFirstLeafTo t k x from end (Some p)) same first
 
 pub fits_word : (w i found : ℕ) → w ≤ 512 ^ top_level → i < 512 → found < w → i * w + found < 2 ^ 64
 fits_word w i found few low less = let row = mul-le-mul_right {m = suc i} {n = 512} w (omega (arith, low)) in omega (arith, few, less, row)
+
+-- an index at or after a place's has its end behind the place
+pub past_index : (place width i : ℕ) → 1 ≤ width → place / width ≤ i → place < i * width + width
+past_index place width i some from =
+    let whole = div-add-mod' place width in
+    let rest = mod_below place width some in
+    let row = mul-le-mul_right {m = place / width} {n = i} width from in
+    omega (arith, whole, rest, row)
 
 -- ---- one index
 
@@ -146,3 +174,51 @@ module _ (m : ℕ → ℕ → Option ℕ) (root : ℕ) (t : Tables) (h : AreTabl
           ap (get t.leaves) same ∙ leaf_of (k * 512 + i) w (get t.leaves (k * 512 + i)) refl (one_word k f i w at low small read) some),
       (λ n le lt. absurd (omega (arith, lt))),
     )
+
+-- where the word is 0 there is neither a leaf nor a table
+module _ (v : View) (root : ℕ) (t : Tables) (h : HasTables v root t) where
+  no_child : (k f i w : ℕ) → get t.tables k ≡ Some f → i < 512 → k * 512 + i < first_leaf → ((x : ℕ) → known_word v f i ≡ Some x → w ≡ x) → w ≡ 0
+      → get t.tables (k * 512 + i) ≡ None
+  no_child k f i w at small high read nil = sym (child_none v root t h k f i at small high w read (λ is. (let invalid : kind_of w ≡ Invalid = ap kind_of nil ∙ kind-zero in cc)))
+
+  pub bare_zero : (k f i level w : ℕ) → get t.tables k ≡ Some f → IsTableAt k level → level ≤ top_level → i < 512 → ((x : ℕ) → known_word v f i ≡ Some x → w ≡ x)
+      → (from : ℕ) → w ≡ 0 → IsBare t (k * 512 + i) (512 ^ level) from (512 ^ level)
+  bare_zero k f i zero w at is low small read from nil = bare_word (known_word v) root t h.known k f i w at is.0 small read from nil
+  bare_zero k f i (suc l) w at is low small read from nil =
+      let below = table_child k (suc l) i is low small (λ e. absurd (omega (arith, e))) in
+      let some = power_some (top_level - (suc l - 1)) in
+      no_table (known_word v) root t h.known (k * 512 + i) l from (omega (arith, some, below.1.0)) (no_child k f i w at small below.0 read nil)
+
+  pub zeros_none : (k f level : ℕ) → get t.tables k ≡ Some f → IsTableAt k level → level ≤ top_level → (level ≡ 0 → ⊥) → (a b : ℕ) → AreZeros v f a b
+      → (i : ℕ) → a ≤ i → i < b → b ≤ 512 → get t.tables (k * 512 + i) ≡ None
+  zeros_none k f level at is low some a b zeros i from before small =
+      let inside : i < 512 = omega (arith, before, small) in
+      no_child k f i 0 at inside (table_child k level i is low inside some).0 (λ x known. sym (zeros i x from before known)) refl
+
+  -- words that are 0 are passed over
+  module _ (k f level : ℕ) (at : get t.tables k ≡ Some f) (is : IsTableAt k level) (low : level ≤ top_level) (b from : ℕ) (zeros : AreZeros v f (from / 512 ^ level) b) (small : b ≤ 512) where
+    zeros_bare : (n : ℕ) → from ≤ n → n < b * 512 ^ level → get t.leaves (k * (512 * 512 ^ level) + n) ≡ None
+    zeros_bare n le lt =
+        let width = 512 ^ level in
+        let i = n / width in
+        let some = power_some level in
+        let whole = div-add-mod' n width in
+        let rest = mod_below n width some in
+        let start = div-add-mod' from width in
+        let after : from / width ≤ i = elim (cases_lt i (from / width)) [
+          | inl less ↦ absurd (let row = mul-le-mul_right {m = suc i} {n = from / width} width (omega (arith, less)) in omega (arith, row, whole, rest, start, le))
+          | inr more ↦ omega (arith, more)
+        ] in
+        let before : i < b = elim (cases_lt i b) [
+          | inl less ↦ less
+          | inr more ↦ absurd (let row = mul-le-mul_right {m = b} {n = i} width (omega (arith, more)) in omega (arith, row, whole, lt))
+        ] in
+        let place : i * width + n % width ≡ n = omega (arith, whole) in
+        ap (get t.leaves) (ap (λ x. k * (512 * width) + x) (sym place) ∙ at_index k i width (n % width))
+        ∙ bare_zero k f i level 0 at is low (omega (arith, before, small)) (λ x known. sym (zeros i x after before known)) 0 refl (n % width) (omega arith) rest
+
+    pub bare_skip : (first end : ℕ) → IsBareTo t k (512 * 512 ^ level) first from end → IsBareTo t k (512 * 512 ^ level) first (b * 512 ^ level + (from - b * 512 ^ level)) end
+    bare_skip first end before n le lt to = elim (cases_lt n from) [
+      | inl less ↦ before n le less to
+      | inr more ↦ zeros_bare n (omega (arith, more)) (omega (arith, more, lt))
+    ]

@@ -1,8 +1,9 @@
 -- What a change of tables does to walks, and what an enumeration finds.
-use Rattle.std.specs.Prelude.{◌≢◌, ◌↔◌, ℕ, suc, ◌-◌, ◌*◌, ◌^◌, ◌<◌, ◌≤◌, Option}
+use Rattle.std.specs.Prelude.{◌≡◌, ◌≢◌, ◌↔◌, ℕ, suc, ◌+◌, ◌-◌, ◌*◌, ◌^◌, ◌<◌, ◌≤◌, Option, None, Some}
+use Rattle.std.specs.FinMap.{get}
 use Rattle.table_walk.specs.Tables.{Tables, leaf_node}
 use Rattle.table_walk.specs.Memory.{Memory}
-use Rattle.table_walk.specs.Places.{IsFirstLeaf}
+use Rattle.table_walk.specs.Places.{IsBare, IsFirstLeaf}
 use Rattle.table_walk.specs.Walk.{Maps, top_level}
 
 -- every page with other indices than one page has is mapped to what it was mapped to
@@ -24,3 +25,8 @@ IsNextLeafIn t k level from found = IsFirstLeaf t k (places level) from found
 -- the first leaf from a page on, and its page; the root is table 1
 abbrev pub IsNextLeaf : Tables → ℕ → Option (ℕ × ℕ) → Type 0
 IsNextLeaf t from found = IsNextLeafIn t 1 top_level from found
+
+-- the first leaf from a page on and before another, and its page
+abbrev pub IsNextLeafBefore : Tables → ℕ → ℕ → Option (ℕ × ℕ) → Type 0
+IsNextLeafBefore t from end None = IsBare t 1 (places top_level) from end
+IsNextLeafBefore t from end (Some p) = (p.0 < end) × IsNextLeaf t from (Some p)

@@ -3,15 +3,19 @@
 ghost use Rattle.std.specs.FinMap.{get};
 ghost use Rattle.std.specs.Prelude.{◌≡◌, ◌+◌, ◌*◌, ◌^◌, ◌<◌, ◌≤◌, ℕ, Some};
 ghost use Rattle.frame_store.specs.Laws.{Fits, Keeps};
-ghost use Rattle.table_walk.specs.Changed.{IsNextLeaf, IsNextLeafIn, IsTableAt};
+ghost use Rattle.table_walk.specs.Changed.{IsNextLeaf, IsNextLeafBefore, IsTableAt, places};
 ghost use Rattle.table_walk.specs.Tables.{HasTables, Tables};
-ghost use Rattle.table_walk.specs.Places.{IsFirstLeaf};
+ghost use Rattle.table_walk.specs.Places.{IsFirstLeafTo};
 ghost use Rattle.table_walk.specs.Walk.{top_level};
 
+use crate::entries::next_entry;
 use crate::find::TOP_LEVEL;
 use crate::tables::child;
 use frame_store::{FrameAccess, FrameSeat};
 use sv39_entry::{Entry, FrameNo, Vpn};
+
+/// How many pages the indices of three levels tell apart.
+const PAGES: u64 = 1 << 27;
 
 /// The first leaf at or after a page, and its page. Pages are numbered by their indices alone, which is the page number
 /// below 2^26: of the pages above, which no process has, the answer's number has the indices and not the upper bits.
@@ -29,12 +33,36 @@ pub fn next_leaf<F: FrameAccess>(
     ensures same { store.new ≡ store.old }
     ensures keeps { Keeps F.rule store.old seat.old store.new seat.new }
 {
-    let (number, word) = next_below(store, seat, root, TOP_LEVEL, from.number())?;
+    let (number, word) = next_below(store, seat, root, TOP_LEVEL, from.number(), PAGES)?;
+    Some((Vpn::new(number)?, Entry::from_word(word)))
+}
+
+/// The first leaf at or after a page and before another one, which is given by its number, and its page. The tables of pages
+/// behind that one are not read.
+pub fn next_leaf_before<F: FrameAccess>(
+    store: &mut F,
+    seat: &mut F::Seat,
+    root: FrameNo,
+    from: Vpn,
+    end: u64,
+) -> Option<(Vpn, Entry)>
+    requires fits { Fits F.rule store.old seat.old }
+    requires held { (t : Tables) × HasTables (F.Seat.view seat.old) root.0 t }
+    requires low { end ≤ 2 ^ 27 }
+    ensures leaf { (t : Tables) → HasTables (F.Seat.view seat.old) root.0 t → IsNextLeafBefore t from end result }
+    ensures view { F.Seat.view seat.new ≡ F.Seat.view seat.old }
+    ensures same { store.new ≡ store.old }
+    ensures keeps { Keeps F.rule store.old seat.old store.new seat.new }
+{
+    let (number, word) = next_below(store, seat, root, TOP_LEVEL, from.number(), end)?;
+    if end <= number {
+        return None;
+    }
     Some((Vpn::new(number)?, Entry::from_word(word)))
 }
 
 /// The same below a table of a level, by places: at level 0 those are the indices, and above it each index has 512 times as
-/// many as those of the level below.
+/// many as those of the level below. The search goes up to the index that has the last place before an end.
 #[cycle(leaves)]
 fn next_below<F: FrameAccess>(
     store: &mut F,
@@ -42,22 +70,30 @@ fn next_below<F: FrameAccess>(
     table: FrameNo,
     level: u32,
     from: u64,
+    end: u64,
 ) -> Option<(u64, u64)>
     requires fits { Fits F.rule store.old seat.old }
     requires low { level ≤ top_level }
     requires held { (root k : ℕ) × (t : Tables) × HasTables (F.Seat.view seat.old) root t × (get t.tables k ≡ Some table.0) × IsTableAt k level }
-    ensures leaf { (root k : ℕ) (t : Tables) → HasTables (F.Seat.view seat.old) root t → get t.tables k ≡ Some table.0 → IsTableAt k level → IsNextLeafIn t k level from result }
+    ensures leaf { (root k : ℕ) (t : Tables) → HasTables (F.Seat.view seat.old) root t → get t.tables k ≡ Some table.0 → IsTableAt k level → IsFirstLeafTo t k (places level) from end result }
     ensures view { F.Seat.view seat.new ≡ F.Seat.view seat.old }
     ensures same { store.new ≡ store.old }
     ensures keeps { Keeps F.rule store.old seat.old store.new seat.new }
 {
     let width = index_places(level);
-    let mut place = from % width;
-    'indices: for index in from / width..512 {
-        if let Some((found, word)) = next_at(store, seat, table, level, index as usize, place) {
-            return Some((index * width + found, word));
+    let mut at = from;
+    'indices: while at < 512 * width {
+        let index = next_entry(store, seat, table, (at / width) as usize);
+        let start = index as u64 * width;
+        if index == 512 || end <= start {
+            return None;
         }
-        place = 0;
+        let place = at.saturating_sub(start);
+        let next = next_at(store, seat, table, level, index, place, end - start);
+        if let Some((found, word)) = next {
+            return Some((start + found, word));
+        }
+        at = start + width;
     }
     None
 }
@@ -71,23 +107,27 @@ fn next_at<F: FrameAccess>(
     level: u32,
     index: usize,
     from: u64,
+    end: u64,
 ) -> Option<(u64, u64)>
     requires fits { Fits F.rule store.old seat.old }
     requires low { level ≤ top_level }
     requires in_table { index < 512 }
     requires within { from < 512 ^ level }
     requires held { (root k : ℕ) × (t : Tables) × HasTables (F.Seat.view seat.old) root t × (get t.tables k ≡ Some table.0) × IsTableAt k level }
-    ensures leaf { (root k : ℕ) (t : Tables) → HasTables (F.Seat.view seat.old) root t → get t.tables k ≡ Some table.0 → IsTableAt k level → IsFirstLeaf t (k * 512 + index) (512 ^ level) from result }
+    ensures leaf { (root k : ℕ) (t : Tables) → HasTables (F.Seat.view seat.old) root t → get t.tables k ≡ Some table.0 → IsTableAt k level → IsFirstLeafTo t (k * 512 + index) (512 ^ level) from end result }
     ensures view { F.Seat.view seat.new ≡ F.Seat.view seat.old }
     ensures same { store.new ≡ store.old }
     ensures keeps { Keeps F.rule store.old seat.old store.new seat.new }
 {
+    let word = store.load(seat, table, index);
+    if word == 0 {
+        return None;
+    }
     if level == 0 {
-        let word = store.load(seat, table, index);
-        return if word == 0 { None } else { Some((0, word)) };
+        return Some((0, word));
     }
     let next = child(store, seat, table, index)?;
-    next_below(store, seat, next, level - 1, from)
+    next_below(store, seat, next, level - 1, from, end)
 }
 
 /// The places of each index of a table of a level.

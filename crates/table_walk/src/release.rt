@@ -9,6 +9,7 @@ ghost use Rattle.table_walk.specs.Tables.{HasTables, Tables};
 ghost use Rattle.table_walk.specs.Released.{AreLast, LetsGo, SameTallies};
 ghost use Rattle.table_walk.specs.Walk.{top_level};
 
+use crate::entries::next_entry;
 use crate::find::TOP_LEVEL;
 use crate::tables::child;
 use frame_store::{FrameAccess, FrameSeat};
@@ -41,8 +42,10 @@ fn release_below<F: FrameAccess>(store: &mut F, seat: &mut F::Seat, table: Frame
     if level == 0 {
         return;
     }
-    'indices: for index in 0..512 {
+    let mut index = next_entry(store, seat, table, 0);
+    'indices: while index < 512 {
         release_at(store, seat, table, level, index);
+        index = next_entry(store, seat, table, index + 1);
     }
 }
 

@@ -25,7 +25,11 @@ pub(crate) fn child<F: FrameAccess>(
     ensures same { store.new ≡ store.old }
     ensures keeps { Keeps F.rule store.old seat.old store.new seat.new }
 {
-    let entry = Entry::from_word(store.load(seat, table, index));
+    let word = store.load(seat, table, index);
+    if word == 0 {
+        return None;
+    }
+    let entry = Entry::from_word(word);
     if entry.kind() == Kind::Pointer {
         return FrameNo::from_ppn(entry.ppn());
     }

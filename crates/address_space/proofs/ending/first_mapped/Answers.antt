@@ -1,5 +1,5 @@
 use Rattle.std.proofs.Common.{◌≡◌, rules}
-use Rattle.address_space.proofs.DroppedPages.{none_before, none_mapped, one_mapped}
+use Rattle.address_space.proofs.DroppedPages.{none_mapped, one_mapped}
 use Rattle.address_space.proofs.ending.first_mapped.Goals as goal
 
 pub returns-in_err-page-clause-page : goal.returns-in_err-page-clause-page
@@ -8,14 +8,8 @@ returns-in_err-page-clause-page g c t h =
     let next = rw from at c.in_err-page.ensures.leaf t h in
     rw c.from_residual-in_err-page.ensures (none_mapped t c.args.first c.args.end next c.requires.low)
 
-pub returns-then-lt-clause-page : goal.returns-then-lt-clause-page
-returns-then-lt-clause-page g c t h =
+pub returns-clause-page : goal.returns-clause-page
+returns-clause-page g c t h =
     let from : c.in_ok-new.field-0 ≡ c.args.first = search rules in
     let next = rw from at c.in_ok-page.ensures.leaf t h in
-    one_mapped t c.args.first c.args.end c.in_ok-page.page _ next c.requires.low (search rules)
-
-pub returns-else-lt-clause-page : goal.returns-else-lt-clause-page
-returns-else-lt-clause-page g c t h =
-    let from : c.in_ok-new.field-0 ≡ c.args.first = search rules in
-    let next = rw from at c.in_ok-page.ensures.leaf t h in
-    none_before t c.args.first c.args.end c.in_ok-page.page _ next c.requires.low (search rules)
+    one_mapped t c.args.first c.args.end c.in_ok-page.page _ next c.requires.low

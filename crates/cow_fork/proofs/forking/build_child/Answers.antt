@@ -9,7 +9,7 @@ use Rattle.address_space.specs.Agreement.{body_of}
 use Rattle.cow_fork.specs.Children.{CopiesTree}
 use Rattle.cow_fork.specs.Forks.{CanDivide, HasChild}
 use Rattle.cow_fork.specs.Listing.{CanList, ListsTables}
-use Rattle.cow_fork.proofs.Building.{can_copy, can_list, claimed_once, claimed_other, claimed_sole, claimed_spends, claims_sole, divide_anchored, has_child, room_for_own, tables_led}
+use Rattle.cow_fork.proofs.Building.{can_copy, can_list, claimed_once, claimed_other, claimed_sole, claimed_spends, claims_sole, divide_anchored, has_child, room_for_own, settled_below, tables_edged, tables_led}
 use Rattle.cow_fork.proofs.forking.build_child.Given as given
 use Rattle.cow_fork.proofs.forking.build_child.Goals as goal
 use Rattle.cow_fork.proofs.forking.build_child.Goals.{After-copy_tree-root}
@@ -92,6 +92,8 @@ list_tables-requires-clause-ready g c =
       copied.1.tables,
       tables_led _ _ r.1 copied.0 r.2 _ _ copied.1 r.3.space.stands.shows.low,
       rw (longer g at) (listing g at r.0 r.1 r.2 r.3 (within_now g at)),
+      tables_edged _ _ r.1 copied.0 r.2 _ _ copied.1 r.3.space.stands.shows.low c.end-end.result (c.end-end.ensures.low r.2 (rw c.copy_tree-root.ensures.layout r.3.space.lays) r.3.space.sound.order)
+          (settled_below r.1 r.2 r.3.space c.end-end.result (c.end-end.ensures.end r.2 (rw c.copy_tree-root.ensures.layout r.3.space.lays) r.3.space.sound.order)),
     )
 
 pub returns-clause-built : goal.returns-clause-built
@@ -99,7 +101,10 @@ returns-clause-built g c v t p can =
     let at = (goal.at.returns-clause-built g c).After-copy_tree-root in
     let copied = tree g at v t p can in
     let led = tables_led _ _ t copied.0 p _ _ copied.1 can.space.stands.shows.low in
-    let listed = c.list_tables.ensures.listed copied.0 copied.1.tables led (rw (longer g at) (listing g at v t p can (within_now g at))) in
+    let edged =
+    tables_edged _ _ t copied.0 p _ _ copied.1 can.space.stands.shows.low c.end-end.result (c.end-end.ensures.low p (rw c.copy_tree-root.ensures.layout can.space.lays) can.space.sound.order)
+    (settled_below t p can.space c.end-end.result (c.end-end.ensures.end p (rw c.copy_tree-root.ensures.layout can.space.lays) can.space.sound.order)) in
+    let listed = c.list_tables.ensures.listed copied.0 copied.1.tables led (rw (longer g at) (listing g at v t p can (within_now g at))) edged in
     (copied.0, rw c.list_tables.ensures.view (built g at v t p can _ (rw (longer g at) at listed)))
 
 pub returns-clause-keeps : goal.returns-clause-keeps

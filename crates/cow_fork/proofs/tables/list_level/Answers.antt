@@ -13,14 +13,17 @@ pub overflow_mul-table : goal.overflow_mul-table
 overflow_mul-table g c =
     let r = c.requires.ready in
     let i = c.tables.invariant in
-    let low = from_low _ _ r.0 r.1 _ c.args.depth c.args.pages c.tables.table c.requires.deep c.requires.size (i.listed r.0 r.1 r.2) i.near in
+    let low = from_low _ _ r.0 r.1 _ c.args.depth c.args.pages c.tables.table c.requires.deep c.requires.size (i.listed r.0 r.1 r.2 r.3) i.near in
     omega (arith, low)
 
 pub first_page-requires-clause-low : goal.first_page-requires-clause-low
 first_page-requires-clause-low g c =
     let r = c.requires.ready in
     let i = c.tables.invariant in
-    from_low _ _ r.0 r.1 _ c.args.depth c.args.pages c.tables.table c.requires.deep c.requires.size (i.listed r.0 r.1 r.2) i.near
+    from_low _ _ r.0 r.1 _ c.args.depth c.args.pages c.tables.table c.requires.deep c.requires.size (i.listed r.0 r.1 r.2 r.3) i.near
+
+pub first_page-requires-clause-edge : goal.first_page-requires-clause-edge
+first_page-requires-clause-edge g c = c.requires.ready.3.low
 
 pub table_at-requires-clause-held : goal.table_at-requires-clause-held
 table_at-requires-clause-held g c =
@@ -32,8 +35,8 @@ pub unreachable-requires : goal.unreachable-requires
 unreachable-requires g c =
     let r = c.requires.ready in
     let i = c.tables.invariant in
-    let next = c.in-Some.ensures.page r.0 (rw i.view r.2.tables) in
-    let there = table_there _ _ r.0 r.1 _ c.args.depth c.args.pages c.tables.table c.requires.deep c.requires.size (i.listed r.0 r.1 r.2) c.in-Some.page next in
+    let next = c.in-Some.ensures.page r.0 (rw i.view r.2.tables) r.3 in
+    let there = table_there _ _ r.0 r.1 _ c.args.depth c.args.pages c.tables.table c.requires.deep c.requires.size (i.listed r.0 r.1 r.2 r.3) c.in-Some.page next in
     let same = c.in-Some.ensures.view ∙ i.view in
     let told = rw c.in_default-table_at.is at c.table_at.ensures.table r.0 (rw same r.2.tables) in
     let found = there.1 in
@@ -46,31 +49,31 @@ frame_is g c t h =
     let same = c.in-Some.ensures.view ∙ c.tables.invariant.view in
     sym (rw c.in-Some-table_at.is at c.table_at.ensures.table t (rw same h))
 
-pub unreachable-requires-then-is_err : goal.unreachable-requires-then-is_err
-unreachable-requires-then-is_err g c =
+pub push-requires : goal.push-requires
+push-requires g c =
     let r = c.requires.ready in
     let i = c.tables.invariant in
-    let next = c.in-Some.ensures.page r.0 (rw i.view r.2.tables) in
+    let next = c.in-Some.ensures.page r.0 (rw i.view r.2.tables) r.3 in
     let law = g.met.F.FrameAccess.within _ _ c.requires.fits.0 c.requires.fits.1 in
-    let free = room _ _ r.0 r.1 _ c.args.depth c.args.pages c.tables.table c.requires.deep c.requires.size (i.listed r.0 r.1 r.2) c.in-Some.page next _
-    (frame_is g (goal.at.unreachable-requires-then-is_err g c).In-Some-table_at r.0 r.2.tables)
+    let free = room _ _ r.0 r.1 _ c.args.depth c.args.pages c.tables.table c.requires.deep c.requires.size (i.listed r.0 r.1 r.2 r.3) c.in-Some.page next _
+    (frame_is g (goal.at.push-requires g c).In-Some-table_at r.0 r.2.tables)
     (λ f held. let low = law.1 f held in let most = law.0 in omega (arith, low, most)) in
     let same = length_numbers c.tables.frames.items in
     let less : length c.tables.frames.items < 1024 = omega (arith, free, same) in
-    search rules
+    (omega arith, less)
 
 pub nonzero_div-table : goal.nonzero_div-table
 nonzero_div-table g c =
     let r = c.requires.ready in
     let i = c.tables.invariant in
-    some _ _ r.0 r.1 _ c.args.depth c.args.pages c.tables.table c.requires.deep c.requires.size (i.listed r.0 r.1 r.2)
+    some _ _ r.0 r.1 _ c.args.depth c.args.pages c.tables.table c.requires.deep c.requires.size (i.listed r.0 r.1 r.2 r.3)
 
 pub tables-smaller : goal.tables-smaller
 tables-smaller g c =
     let r = c.requires.ready in
     let i = c.tables.invariant in
-    let s = i.listed r.0 r.1 r.2 in
-    let next = c.in-Some.ensures.page r.0 (rw i.view r.2.tables) in
+    let s = i.listed r.0 r.1 r.2 r.3 in
+    let next = c.in-Some.ensures.page r.0 (rw i.view r.2.tables) r.3 in
     let up = goes_up _ _ r.0 r.1 _ c.args.depth c.args.pages c.tables.table c.requires.deep c.requires.size s c.in-Some.page next in
     let near = still_near _ _ r.0 r.1 _ c.args.depth c.args.pages c.tables.table c.requires.deep c.requires.size s c.in-Some.page next in
     let number = ap (λ n. n / c.args.pages) c.number.ensures.value in
@@ -81,24 +84,24 @@ pub tables-preserved : goal.tables-preserved
 tables-preserved g c =
     let r = c.requires.ready in
     let i = c.tables.invariant in
-    let first = c.in-Some.ensures.page r.0 (rw i.view r.2.tables) in
-    let low = still_near _ _ r.0 r.1 _ c.args.depth c.args.pages c.tables.table c.requires.deep c.requires.size (i.listed r.0 r.1 r.2) c.in-Some.page first in
+    let first = c.in-Some.ensures.page r.0 (rw i.view r.2.tables) r.3 in
+    let low = still_near _ _ r.0 r.1 _ c.args.depth c.args.pages c.tables.table c.requires.deep c.requires.size (i.listed r.0 r.1 r.2 r.3) c.in-Some.page first in
     let number = ap (λ n. n / c.args.pages) c.number.ensures.value in
-    let pushed : c.try_push.new.self.items ≡ c.tables.frames.items ++ c.in-Some-table_at.frame ∷ [] = search rules in
+    let pushed = c.push.ensures.items in
     record {
       near = omega (arith, low, number);
       view = c.in-Some-table_at.ensures.view ∙ c.in-Some.ensures.view ∙ i.view;
       same = c.in-Some-table_at.ensures.same ∙ c.in-Some.ensures.same ∙ i.same;
       keeps = λ others s. c.in-Some-table_at.ensures.keeps others (c.in-Some.ensures.keeps others (i.keeps others s));
-      listed = λ t L s.
-          let next = c.in-Some.ensures.page t (rw i.view s.tables) in
+      listed = λ t L s edged.
+          let next = c.in-Some.ensures.page t (rw i.view s.tables) edged in
           let at = frame_is g (goal.at.tables-preserved g c).In-Some-table_at t s.tables in
           rw (c.number.ensures.value, pushed, map_push c.tables.frames.items c.in-Some-table_at.frame)
-          (one_more _ _ t L _ c.args.depth c.args.pages c.tables.table c.requires.deep c.requires.size (i.listed t L s) c.in-Some.page next _ at);
+          (one_more _ _ t L _ c.args.depth c.args.pages c.tables.table c.requires.deep c.requires.size (i.listed t L s edged) c.in-Some.page next _ at);
     }
 
 pub returns-clause-listed : goal.returns-clause-listed
-returns-clause-listed g c t L s =
+returns-clause-listed g c t L s edged =
     let i = c.tables.invariant in
-    let none = c.in_default.ensures.page t (rw i.view s.tables) in
-    level_done _ _ t L _ c.args.depth c.args.pages c.tables.table c.requires.deep c.requires.size (i.listed t L s) none i.near
+    let none = c.in_default.ensures.page t (rw i.view s.tables) edged in
+    level_done _ _ t L _ c.args.depth c.args.pages c.tables.table c.requires.deep c.requires.size (i.listed t L s edged) none i.near

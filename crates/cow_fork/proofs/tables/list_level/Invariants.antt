@@ -1,7 +1,7 @@
 use Rattle.std.proofs.Common.{◌≡◌, ◌≤◌, ◌+◌, ◌-◌, ◌^◌, ℕ, List, map}
 use Rattle.frame_store.specs.Laws.{Keeps}
 use Rattle.table_walk.specs.Tables.{Tables}
-use Rattle.cow_fork.specs.Listing.{IsListing}
+use Rattle.cow_fork.specs.Listing.{IsEdged, IsListing}
 use Rattle.cow_fork.proofs.tables.list_level.Given as goal
 
 -- of the level's tables those before this one are listed
@@ -11,7 +11,7 @@ invariant-tables g l = record {
   view : g.S.FrameSeat.view l.seat ≡ g.S.FrameSeat.view l.fn.seat;
   same : l.store ≡ l.fn.store;
   keeps : Keeps g.F.FrameAccess.rule l.fn.store l.fn.seat l.store l.seat;
-  listed : (t : Tables) (L : List ℕ) → IsListing (g.S.FrameSeat.view l.fn.seat) l.fn.root.0 t (512 ^ l.depth) L (map (λ f. f.0) l.fn.frames.items)
+  listed : (t : Tables) (L : List ℕ) → IsListing (g.S.FrameSeat.view l.fn.seat) l.fn.root.0 t (512 ^ l.depth) L (map (λ f. f.0) l.fn.frames.items) → IsEdged t l.end
       → IsListing (g.S.FrameSeat.view l.fn.seat) l.fn.root.0 t (512 ^ l.depth + l.table) L (map (λ f. f.0) l.frames.items);
 }
 

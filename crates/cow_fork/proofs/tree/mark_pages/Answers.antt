@@ -1,6 +1,7 @@
-use Rattle.std.proofs.Common.{◌∙◌, refl}
-use Rattle.cow_fork.proofs.Marking.{marking_all, marking_next, marking_none, marking_ready}
+use Rattle.std.proofs.Common.{◌∙◌, ap, refl}
+use Rattle.cow_fork.proofs.Marking.{marking_all, marking_next, marking_none, marking_passed, marking_ready}
 use Rattle.cow_fork.proofs.tree.mark_pages.Goals as goal
+use Rattle.cow_fork.proofs.tree.mark_pages.Goals.{then-not-page, else-not-page}
 
 pub pages-init : goal.pages-init
 pages-init g c = record {
@@ -23,16 +24,30 @@ mark_forked-requires-clause-ready g c =
 pub pages-preserved : goal.pages-preserved
 pages-preserved g c =
     let i = c.pages.invariant in
-    let e = c.mark_forked.ensures in
-    record {
-      marking = λ t u p extra can are.
-          marking_next _ t u p extra c.args.settled.now _ c.pages.page-index (i.marking t u p extra can are) c.page-item.result c.pages-test.true c.page-item.is _ e.marked;
-      root = e.root ∙ i.root;
-      trapframe = e.trapframe ∙ i.trapframe;
-      layout = e.layout ∙ i.layout;
-      keeps = λ others r. e.keeps others (i.keeps others r);
-      free = λ alone. e.free alone ∙ i.free alone;
-    }
+    elim c.if-not-page.branch [
+      | then-not-page w ↦
+          let e = w.mark_forked.ensures in
+          record {
+            marking = λ t u p extra can are.
+                rw w.space-is
+                (marking_next _ t u p extra c.args.settled.now _ c.pages.page-index (i.marking t u p extra can are) c.page-item.result c.pages-test.true c.page-item.is _ e.marked);
+            root = ap (λ s. s.root) w.space-is ∙ e.root ∙ i.root;
+            trapframe = ap (λ s. s.trapframe) w.space-is ∙ e.trapframe ∙ i.trapframe;
+            layout = ap (λ s. s.layout) w.space-is ∙ e.layout ∙ i.layout;
+            keeps = λ others r. rw (w.space-is, w.store-is) (e.keeps others (i.keeps others r));
+            free = λ alone. rw w.store-is (e.free alone ∙ i.free alone);
+          }
+      | else-not-page w ↦ record {
+        marking = λ t u p extra can are.
+            rw w.space-is
+            (marking_passed _ t u p extra c.args.settled.now _ c.pages.page-index (i.marking t u p extra can are) c.page-item.result c.pages-test.true c.page-item.is w.if-not-page.false);
+        root = ap (λ s. s.root) w.space-is ∙ i.root;
+        trapframe = ap (λ s. s.trapframe) w.space-is ∙ i.trapframe;
+        layout = ap (λ s. s.layout) w.space-is ∙ i.layout;
+        keeps = λ others r. rw (w.space-is, w.store-is) (i.keeps others r);
+        free = λ alone. rw w.store-is (i.free alone);
+      }
+    ]
 
 pub returns-clause-marked : goal.returns-clause-marked
 returns-clause-marked g c t u p extra can are =

@@ -1,34 +1,20 @@
-use Rattle.std.proofs.Common.{◌≡◌, ℕ, ◌*◌, ◌∙◌, Option, Some, drop, refl, ap, arith}
-use Rattle.process_model.specs.Bytes.{number}
-use Rattle.frame_bytes.specs.Changed.{changes_none, changes_one, changes_both, changed_sole, known_more}
+use Rattle.std.proofs.Common.{arith}
+use Rattle.frame_bytes.specs.Changed.{changes_both, changed_sole}
 use Rattle.frame_bytes.proofs.Filled.{filled}
 use Rattle.frame_bytes.proofs.contents.fill_frame.Goals as goal
 
-pub loop-index-init : goal.loop-index-init
-loop-index-init g c = record {
-  fits = c.requires.fits;
-  words = λ i h. absurd (omega arith);
-  others = changes_none _ _ c.requires.sole;
-  keeps = λ others r. r;
-  free = λ a. refl;
-  counts = λ a f. refl;
-}
+pub fill_part-filled-requires-clause-sole : goal.fill_part-filled-requires-clause-sole
+fill_part-filled-requires-clause-sole g c = changed_sole _ _ _ c.fill_words.ensures.others _ c.requires.sole
 
-pub store-requires-clause-sole : goal.store-requires-clause-sole
-store-requires-clause-sole g c = changed_sole _ _ _ c.loop-index.invariant.others _ c.requires.sole
-
-pub loop-index-preserved : goal.loop-index-preserved
-loop-index-preserved g c =
-    let i = c.loop-index.invariant in
-    let word : ℕ → Option ℕ → Type 0 = λ q k. k ≡ Some (number (drop (8 * q) c.args.bytes.now) 8) in
-    record {
-      fits = (i.fits.0, c.store.ensures.keeps i.fits.0 i.fits.1);
-      words = known_more _ _ _ _ _ c.store.ensures.view word i.words (ap (λ w. Some w) c.word_from.ensures);
-      others = changes_both _ _ _ _ i.others (changes_one _ _ _ _ _ c.store.ensures.view);
-      keeps = λ others r. c.store.ensures.keeps others (i.keeps others r);
-      free = λ a. c.store.ensures.free a ∙ i.free a;
-      counts = λ a f. c.store.ensures.counts a f ∙ i.counts a f;
-    }
+pub zero_words-requires-clause-sole : goal.zero_words-requires-clause-sole
+zero_words-requires-clause-sole g c =
+    changed_sole _ _ _ c.fill_part-filled.ensures.others _ (changed_sole _ _ _ c.fill_words.ensures.others _ c.requires.sole)
 
 pub returns-clause-bytes : goal.returns-clause-bytes
-returns-clause-bytes g c = filled _ _ _ c.requires.inside (λ k. omega (arith, c.type_inv.bytes k)) (λ i h. c.loop-index.invariant.words i (omega arith))
+returns-clause-bytes g c =
+    let words = c.zero_words.ensures.words c.args.bytes.now c.fill_part-filled.ensures.all (c.fill_part-filled.ensures.words c.fill_words.ensures.words) in
+    filled _ _ _ c.requires.inside (λ k. omega (arith, c.type_inv.bytes k)) words
+
+pub returns-clause-others : goal.returns-clause-others
+returns-clause-others g c =
+    changes_both _ _ _ _ c.fill_words.ensures.others (changes_both _ _ _ _ c.fill_part-filled.ensures.others c.zero_words.ensures.others)

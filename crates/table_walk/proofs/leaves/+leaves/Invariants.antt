@@ -1,9 +1,9 @@
-use Rattle.std.proofs.Common.{◌≡◌, ℕ, ◌+◌, ◌*◌, ◌^◌, ◌<◌, ◌≤◌, Some}
+use Rattle.std.proofs.Common.{◌≡◌, ℕ, ◌+◌, ◌-◌, ◌*◌, ◌^◌, ◌≤◌, Some}
 use Rattle.std.specs.FinMap.{get}
 use Rattle.frame_store.specs.Laws.{Keeps}
 use Rattle.table_walk.specs.Changed.{IsTableAt}
 use Rattle.table_walk.specs.Tables.{HasTables, Tables}
-use Rattle.table_walk.specs.Places.{IsBare}
+use Rattle.table_walk.specs.Places.{IsBareTo}
 use Rattle.table_walk.proofs.leaves.+leaves.Given as goal
 
 abbrev pub decreases-next_below : goal.decreases-next_below
@@ -18,7 +18,9 @@ invariant-next_below-indices g l = record {
   view : g.F.Seat.FrameSeat.view l.seat ≡ g.F.Seat.FrameSeat.view l.initial.seat;
   same : l.store ≡ l.initial.store;
   keeps : Keeps g.F.FrameAccess.rule l.initial.store l.initial.seat l.store l.seat;
-  within : l.place < 512 ^ l.level;
-  on : l.fn.from ≤ l.index * 512 ^ l.level + l.place;
-  bare : (root k : ℕ) (t : Tables) → HasTables (g.F.Seat.FrameSeat.view l.initial.seat) root t → get t.tables k ≡ Some l.table.0 → IsTableAt k l.level → IsBare t k (512 * 512 ^ l.level) l.fn.from (l.index * 512 ^ l.level + l.place);
+  on : l.fn.from ≤ l.at;
+  bare : (root k : ℕ) (t : Tables) → HasTables (g.F.Seat.FrameSeat.view l.initial.seat) root t → get t.tables k ≡ Some l.table.0 → IsTableAt k l.level → IsBareTo t k (512 * 512 ^ l.level) l.fn.from l.at l.end;
 }
+
+abbrev pub decreases-next_below-indices : goal.decreases-next_below-indices
+decreases-next_below-indices g l = 512 * 512 ^ l.level - l.at

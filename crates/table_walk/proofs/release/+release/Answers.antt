@@ -1,10 +1,11 @@
-use Rattle.std.proofs.Common.{◌≡◌, ℕ, ◌+◌, ◌-◌, ◌*◌, ◌<◌, Some, refl, sym, subst, ◌∙◌, arith, rules}
+use Rattle.std.proofs.Common.{◌≡◌, ℕ, ◌+◌, ◌-◌, ◌*◌, ◌<◌, Some, inl, inr, refl, ap, sym, subst, ◌∙◌, arith, rules}
+use Rattle.std.proofs.lemmas.Bool.{cases_lt}
 use Rattle.std.specs.FinMap.{get}
 use Rattle.frame_store.specs.Laws.{Fits, fits_after}
 use Rattle.table_walk.specs.Changed.{IsTableAt}
 use Rattle.table_walk.specs.Tables.{HasTables, Tables}
 use Rattle.table_walk.specs.Released.{AreLast}
-use Rattle.table_walk.proofs.Next.{table_child}
+use Rattle.table_walk.proofs.Next.{table_child, zeros_none}
 use Rattle.table_walk.proofs.Shed.{above_sole, at_index, index_anchored, index_held, lets_index, lets_last, lets_next, lets_none, some_level, still_last}
 use Rattle.table_walk.proofs.release.+release.Goals as goal
 
@@ -59,11 +60,18 @@ release_below-returns-then-level-eq0-clause-below g u c root k t has last at is 
     lets_last _ root k c.args.table.0 t has (subst (IsTableAt k) c.if-level-eq0.true is)
 
 pub release_below-indices-init : goal.release_below-indices-init
-release_below-indices-init g u c = record {
-  keeps = λ others r. r;
-  free = λ alone. omega arith;
-  below = λ root k t has last at is. (t, lets_none _ root k t has, λ i less. absurd (omega (arith, less)));
-}
+release_below-indices-init g u c =
+    let e = c.next_entry-index.ensures in
+    record {
+      low = e.low;
+      keeps = λ others r. e.keeps others r;
+      free = λ alone. (let same = ap g.F.FrameAccess.free e.same in omega (arith, same));
+      below = λ root k t has last at is. (
+        t,
+        rw e.view (lets_none _ root k t has),
+        λ i less. zeros_none _ root t has k c.args.table.0 c.args.level at is c.requires.low c.if-level-eq0.false 0 _ e.zeros i (omega arith) less e.low,
+      );
+    }
 
 pub release_below-release_at-requires : goal.release_below-release_at-requires
 release_below-release_at-requires g u c =
@@ -76,21 +84,41 @@ release_below-release_at-requires g u c =
     (h.0, h.1, so_far.0, so_far.1.tables, still_last _ _ h.0 h.1 h.2 so_far.0 so_far.1 h.4, so_far.1.stay h.1 _ (omega arith) h.5, h.6) in
     search (rules, fits, some, bare)
 
+pub release_below-next_entry-index-requires-in-indices-clause-held : goal.release_below-next_entry-index-requires-in-indices-clause-held
+release_below-next_entry-index-requires-in-indices-clause-held g u c =
+    let h = c.requires.bare in
+    let so_far = c.indices.invariant.below h.0 h.1 h.2 h.3 h.4 h.5 h.6 in
+    let here =
+    c.release_at.ensures.here h.0 h.1 so_far.0 so_far.1.tables (still_last _ _ h.0 h.1 h.2 so_far.0 so_far.1 h.4) (so_far.1.stay h.1 _ (omega arith) h.5) h.6 in
+    let next = lets_next _ _ _ h.0 h.1 c.indices.index h.2 h.3 so_far here in
+    (next.1.tables.own h.1 _ (next.1.stay h.1 _ (omega arith) h.5)).0
+
 pub release_below-indices-preserved : goal.release_below-indices-preserved
 release_below-indices-preserved g u c =
     let i = c.indices.invariant in
+    let e = c.next_entry-index-in-indices.ensures in
     record {
-      keeps = λ others r. c.release_at.ensures.keeps others (i.keeps others r);
-      free = λ alone. (let first = i.free alone in let next = c.release_at.ensures.free alone in omega (arith, first, next));
+      low = e.low;
+      keeps = λ others r. e.keeps others (c.release_at.ensures.keeps others (i.keeps others r));
+      free = λ alone. (let first = i.free alone in let next = c.release_at.ensures.free alone in let same = ap g.F.FrameAccess.free e.same in omega (arith, first, next, same));
       below = λ root k t has last at is.
           let so_far = i.below root k t has last at is in
-          lets_next _ _ _ root k c.indices.index t has so_far (c.release_at.ensures.here root k so_far.0 so_far.1.tables (still_last _ _ root k t so_far.0 so_far.1 last) (so_far.1.stay k _ (omega arith) at) is);
+          let next =
+          lets_next _ _ _ root k c.indices.index t has so_far (c.release_at.ensures.here root k so_far.0 so_far.1.tables (still_last _ _ root k t so_far.0 so_far.1 last) (so_far.1.stay k _ (omega arith) at) is) in (
+            next.0,
+            rw e.view next.1,
+            λ j less. elim (cases_lt j (c.indices.index + 1)) [
+              | inl before ↦ next.2 j before
+              | inr after ↦
+                  zeros_none _ root next.0 next.1.tables k c.args.table.0 c.args.level (next.1.stay k _ (omega arith) at) is c.requires.low c.if-level-eq0.false (c.indices.index + 1) _ e.zeros j (omega (arith, after)) less e.low
+            ],
+          );
     }
 
 pub release_below-returns-clause-below : goal.release_below-returns-clause-below
 release_below-returns-clause-below g u c root k t has last at is =
-    let low : c.indices.index ≡ 512 = omega (arith, c.indices-test.false) in
-    rw low at (c.indices.invariant.below root k t has last at is)
+    let all : c.indices.index ≡ 512 = omega (arith, c.indices-test.false, c.indices.invariant.low) in
+    rw all at (c.indices.invariant.below root k t has last at is)
 
 pub release_below-returns-clause-keeps : goal.release_below-returns-clause-keeps
 release_below-returns-clause-keeps g u c = c.indices.invariant.keeps

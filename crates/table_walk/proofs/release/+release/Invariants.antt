@@ -1,4 +1,4 @@
-use Rattle.std.proofs.Common.{◌≡◌, ℕ, ◌+◌, ◌*◌, ◌<◌, ◌≤◌, None, Some}
+use Rattle.std.proofs.Common.{◌≡◌, ℕ, ◌+◌, ◌-◌, ◌*◌, ◌<◌, ◌≤◌, None, Some}
 use Rattle.std.specs.FinMap.{get}
 use Rattle.frame_store.specs.Laws.{Keeps}
 use Rattle.table_walk.specs.Changed.{IsTableAt}
@@ -15,8 +15,12 @@ decreases-release_at g l = 2 * l.level
 -- no table stands at the indices so far
 abbrev pub invariant-release_below-indices : goal.invariant-release_below-indices
 invariant-release_below-indices g l = record {
-  keeps : Keeps g.F.FrameAccess.rule l.initial.store l.initial.seat l.store l.seat;
-  free : g.F.FrameAccess.alone → g.F.FrameAccess.free l.initial.store ≤ g.F.FrameAccess.free l.store;
-  below : (root k : ℕ) (t : Tables) → HasTables (g.F.Seat.FrameSeat.view l.initial.seat) root t → AreLast (g.F.Seat.FrameSeat.view l.initial.seat) t → get t.tables k ≡ Some l.table.0 → IsTableAt k l.level
-      → (u : Tables) × LetsGo (g.F.Seat.FrameSeat.view l.initial.seat) (g.F.Seat.FrameSeat.view l.seat) root k t u × ((i : ℕ) → i < l.index → get u.tables (k * 512 + i) ≡ None);
+  low : l.index ≤ 512;
+  keeps : Keeps g.F.FrameAccess.rule l.fn.store l.fn.seat l.store l.seat;
+  free : g.F.FrameAccess.alone → g.F.FrameAccess.free l.fn.store ≤ g.F.FrameAccess.free l.store;
+  below : (root k : ℕ) (t : Tables) → HasTables (g.F.Seat.FrameSeat.view l.fn.seat) root t → AreLast (g.F.Seat.FrameSeat.view l.fn.seat) t → get t.tables k ≡ Some l.table.0 → IsTableAt k l.level
+      → (u : Tables) × LetsGo (g.F.Seat.FrameSeat.view l.fn.seat) (g.F.Seat.FrameSeat.view l.seat) root k t u × ((i : ℕ) → i < l.index → get u.tables (k * 512 + i) ≡ None);
 }
+
+abbrev pub decreases-release_below-indices : goal.decreases-release_below-indices
+decreases-release_below-indices g l = 512 - l.index

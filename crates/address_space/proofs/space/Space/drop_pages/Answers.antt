@@ -6,7 +6,7 @@ drop_run-requires-clause-ready g c = let r = c.requires.ready in (c.args.self.no
 
 pub returns-clause-dropped : goal.returns-clause-dropped
 returns-clause-dropped g c t p a =
-    let far = c.drop_run.ensures.dropped c.args.self.now.trapframe.0 t p a.stands in
+    let far = rw c.number.ensures.value at (c.drop_run.ensures.dropped c.args.self.now.trapframe.0 t p a.stands) in
     (far.0, agrees_dropped _ _ _ _ c.args.self.now.layout t far.0 p c.args.first c.args.end a far.1, far.1.drops)
 
 pub returns-clause-tallies : goal.returns-clause-tallies

@@ -15,16 +15,16 @@ use Rattle.address_space.proofs.space.Space.rebuild.Goals.{After-drop_run, After
 
 module _ (g : given.Over) (c : After-drop_run g) where
   dropped : (u : Tables) × DropsRun (g.S.FrameSeat.view c.args.self.now.seat) (g.S.FrameSeat.view c.drop_run.new.seat) c.args.self.now.root.0 c.args.self.now.trapframe.0 c.requires.ready.0 u c.requires.ready.1 0 trapframe_page
-  dropped = let r = c.requires.ready in rw (c.page.ensures.number, c.page-2.ensures.number) at c.drop_run.ensures.dropped c.args.self.now.trapframe.0 r.0 r.1 r.2
+  dropped = let r = c.requires.ready in rw (c.page.ensures.number, c.number.ensures.value, c.page-2.ensures.number) at c.drop_run.ensures.dropped c.args.self.now.trapframe.0 r.0 r.1 r.2
 
 module _ (g : given.Over) (c : After-release_emptied g) where
   far : (u : Tables) × DropsRun (g.S.FrameSeat.view c.args.self.now.seat) (g.S.FrameSeat.view c.drop_run.new.seat) c.args.self.now.root.0 c.args.self.now.trapframe.0 c.requires.ready.0 u c.requires.ready.1 0 trapframe_page
-  far = let r = c.requires.ready in rw (c.page.ensures.number, c.page-2.ensures.number) at c.drop_run.ensures.dropped c.args.self.now.trapframe.0 r.0 r.1 r.2
+  far = let r = c.requires.ready in rw (c.page.ensures.number, c.number.ensures.value, c.page-2.ensures.number) at c.drop_run.ensures.dropped c.args.self.now.trapframe.0 r.0 r.1 r.2
 
   stripped : Strips (g.S.FrameSeat.view c.drop_run.new.seat) (g.S.FrameSeat.view c.release_emptied.new.seat) c.args.self.now.trapframe.0
   stripped =
       let r = c.requires.ready in
-      c.release_emptied.ensures.strips c.args.self.now.trapframe.0 far.0 (emptied _ c.args.self.now.root.0 _ far.0 r.1 far.1.stands)
+      c.release_emptied.ensures.strips c.args.self.now.trapframe.0 far.0 (emptied _ c.args.self.now.root.0 _ far.0 r.1 trapframe_page r.2.shows.low far.1.stands)
 
   credits : (g.S.FrameSeat.view c.release_emptied.new.seat).credits ≡ tree_need c.args.parts.now
   credits = stripped.credits ∙ far.1.credits ∙ c.requires.credits
@@ -36,7 +36,7 @@ pub release_emptied-requires-clause-emptied : goal.release_emptied-requires-clau
 release_emptied-requires-clause-emptied g c =
     let r = c.requires.ready in
     let run = dropped g (goal.at.release_emptied-requires-clause-emptied g c).After-drop_run in
-    (c.args.self.now.trapframe.0, run.0, emptied _ c.args.self.now.root.0 _ run.0 r.1 run.1.stands)
+    (c.args.self.now.trapframe.0, run.0, emptied _ c.args.self.now.root.0 _ run.0 r.1 trapframe_page r.2.shows.low run.1.stands)
 
 -- ---- and the new one comes
 

@@ -1,0 +1,17 @@
+use Rattle.std.proofs.Common.{◌≡◌, ℕ, ◌≤◌, ◌*◌, List, length}
+use Rattle.frame_store.specs.Laws.{Fits, Keeps}
+use Rattle.frame_bytes.specs.Contents.{ChangesWords, HasWords}
+use Rattle.frame_bytes.proofs.contents.zero_words.Given as goal
+
+-- the words up to an index are those of the bytes
+abbrev pub invariant-words : goal.invariant-words
+invariant-words g l = record {
+  fits : Fits g.F.FrameAccess.rule l.store l.seat;
+  from : l.first ≤ l.index;
+  words : (bytes : List ℕ) → length bytes ≤ 8 * l.first → HasWords (g.F.Seat.FrameSeat.view l.initial.seat) l.frame.0 bytes l.first
+      → HasWords (g.F.Seat.FrameSeat.view l.seat) l.frame.0 bytes l.index;
+  others : ChangesWords l.frame.0 (g.F.Seat.FrameSeat.view l.initial.seat) (g.F.Seat.FrameSeat.view l.seat);
+  keeps : Keeps g.F.FrameAccess.rule l.initial.store l.initial.seat l.store l.seat;
+  free : g.F.FrameAccess.alone → g.F.FrameAccess.free l.store ≡ g.F.FrameAccess.free l.initial.store;
+  counts : g.F.FrameAccess.alone → (f : ℕ) → g.F.FrameAccess.count l.store f ≡ g.F.FrameAccess.count l.initial.store f;
+}
