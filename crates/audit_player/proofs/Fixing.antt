@@ -1,8 +1,11 @@
 -- The service of a fault between two times three steps.
 use Rattle.std.proofs.Common.{◌≡◌, ℕ, Bool, true, false, refl, sym, ap, subst, ◌∙◌}
+use Rattle.process_model.specs.Briefs.{of_brief, same_brief}
 use Rattle.process_model.specs.Steps.{step}
 use Rattle.process_model.specs.Text.{after_service, back_if, fixed, fixed_after, is_ready, is_refused, series_of, three_next}
 use Rattle.process_model.specs.World.{World, Outcome}
+use Rattle.process_model.specs.declared.brief.Brief.{Brief}
+use Rattle.process_model.specs.declared.brief.Brief.TheVariants as brief
 use Rattle.process_model.specs.declared.step.Refusal.{Refusal}
 use Rattle.process_model.specs.declared.step.Reply.{Reply}
 use Rattle.process_model.specs.declared.step.Reply.TheVariants as reply
@@ -32,6 +35,10 @@ not_ready (reply.ShortIn r bytes) h = refl
 not_ready (reply.ShortOut r n) h = refl
 not_ready (reply.Exited status) h = refl
 not_ready (reply.Refused x) h = refl
+
+-- a reply without room for bytes that is not that an access will answer is not so with it
+pub no_ready : (b : Brief) → (b ≡ brief.Ready → ⊥) → of_brief b ≡ reply.Ready → ⊥
+no_ready b apart e = apart (same_brief b brief.Ready e)
 
 -- after a step the machine is in some world
 pub in_world : (m : Machine) (r : Reply) (o : Outcome) → Follows m r o → (w : World) × IsIn m w

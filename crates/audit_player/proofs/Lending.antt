@@ -1,5 +1,5 @@
 -- An image that is lent makes the process that it says, and bytes that are lent are copied, wherever they stand.
-use Rattle.std.proofs.Common.{◌≡◌, ℕ, ◌<◌, true, Bor, List, length, get_or, Option, Result, sym, ap, subst, ◌∙◌}
+use Rattle.std.proofs.Common.{◌≡◌, ℕ, ◌<◌, ◌++◌, true, Bor, List, length, get_or, Option, Result, sym, ap, subst, ◌∙◌}
 use Rattle.std.proofs.lemmas.Option.{slice_get-get_or}
 use Rattle.std.specs.Prelude.{nat_le}
 use Rattle.process_model.specs.Calls.{replaced, started, told_out}
@@ -21,7 +21,6 @@ use Rattle.process_model.specs.declared.step.Step.{Step}
 use Rattle.process_model.specs.declared.step.Step.TheVariants.{CopyOut, Exec, Start}
 use Rattle.hart_machine.specs.declared.machine.Machine.{Machine}
 use Rattle.audit_player.specs.Told.{Follows, Tells}
-use Rattle.audit_player.specs.declared.answer.Answer.TheVariants as answer
 
 -- start and exec read nothing of an image but what is to be loaded
 
@@ -45,22 +44,26 @@ named : (images : List OwnedImage) (n : ℕ) (i : OwnedImage) → n < length ima
 named images n i lt is = ap lent is ∙ ap (λ (o : Option OwnedImage). lent (or_no_image o)) (sym (slice_get-get_or images n i lt))
 
 -- so its line answers what the step with it does
-pub line_told : (m : Machine) (r : Reply) (images : List OwnedImage) (w : World) (step_of : Image → Step) (n : ℕ) (i : OwnedImage) → n < length images → i ≡ get_or images n i
-    → Follows m r (step w (step_of (lent i))) → Tells m (answer.Step r) (told (step w (step_of (image_at images n))))
-line_told m r images w step_of n i lt is made =
+pub line_told : (m : Machine) (r : Reply) (images : List OwnedImage) (w : World) (step_of : Image → Step) (n : ℕ) (i : OwnedImage) (before after : List ℕ) → n < length images → i ≡ get_or images n i
+    → Follows m r (step w (step_of (lent i))) → after ≡ before ++ reply_text r → Tells m before after (told (step w (step_of (image_at images n))))
+line_told m r images w step_of n i before after lt is made put =
     let there : Follows m r (step w (step_of (image_at images n))) = subst (λ (x : Image). Follows m r (step w (step_of x))) (named images n i lt is) made in
-    (ap reply_text there.0, there.1)
+    (put ∙ ap (λ (x : Reply). before ++ reply_text x) there.0, there.1)
 
 -- and the line of bytes what the step with them does
-pub bytes_told : (m : Machine) (r : Reply) (w : World) (h address : ℕ) (given bytes : List ℕ) → given ≡ bytes
-    → Follows m r (step w (CopyOut h address (record { ref_ptr = (0, 0); now = given }))) → Tells m (answer.Step r) (told (step w (CopyOut h address (record { ref_ptr = (0, 0); now = bytes }))))
-bytes_told m r w h address given bytes is made =
+pub bytes_told : (m : Machine) (r : Reply) (w : World) (h address : ℕ) (given bytes before after : List ℕ) → given ≡ bytes
+    → Follows m r (step w (CopyOut h address (record { ref_ptr = (0, 0); now = given }))) → after ≡ before ++ reply_text r
+    → Tells m before after (told (step w (CopyOut h address (record { ref_ptr = (0, 0); now = bytes }))))
+bytes_told m r w h address given bytes before after is made put =
     let there : Follows m r (step w (CopyOut h address (record { ref_ptr = (0, 0); now = bytes }))) =
     subst (λ (b : List ℕ). Follows m r (step w (CopyOut h address (record { ref_ptr = (0, 0); now = b })))) is made in
-    (ap reply_text there.0, there.1)
+    (put ∙ ap (λ (x : Reply). before ++ reply_text x) there.0, there.1)
+
+-- steps of which the reply was put are told
+pub told_by : (m : Machine) (r : Reply) (o : Outcome) (before after : List ℕ) → Follows m r o → after ≡ before ++ reply_text r → Tells m before after (told o)
+told_by m r o before after follows put = (put ∙ ap (λ (x : Reply). before ++ reply_text x) follows.0, follows.1)
 
 -- a line of steps answers what they reply
-pub steps_told : (m : Machine) (r : Reply) (images : List OwnedImage) (w : World) (o : Outcome) (c d : Command) → c ≡ d → played images w d ≡ told o → Follows m r o → Tells m (answer.Step r) (played images w c)
-steps_told m r images w o c d is plays follows =
-    let says : Tells m (answer.Step r) (told o) = (ap reply_text follows.0, follows.1) in
-    subst (Tells m (answer.Step r)) (sym (ap (played images w) is ∙ plays)) says
+pub steps_told : (m : Machine) (r : Reply) (images : List OwnedImage) (w : World) (o : Outcome) (c d : Command) (before after : List ℕ) → c ≡ d → played images w d ≡ told o → Follows m r o
+    → after ≡ before ++ reply_text r → Tells m before after (played images w c)
+steps_told m r images w o c d before after is plays follows put = subst (Tells m before after) (sym (ap (played images w) is ∙ plays)) (told_by m r o before after follows put)

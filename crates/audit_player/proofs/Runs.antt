@@ -1,14 +1,18 @@
 -- Several steps, one after the other.
-use Rattle.std.proofs.Common.{◌≡◌, ℕ, ◌+◌, ◌<◌, true, false, List, ◌∷◌, length, drop, get_or, refl, sym, ap, subst, ◌∙◌}
+use Rattle.std.proofs.Common.{◌≡◌, ℕ, zero, suc, ◌+◌, ◌<◌, arith, true, false, List, ◌∷◌, length, drop, get_or, refl, sym, ap, subst, ◌∙◌}
 use Rattle.std.proofs.lemmas.List.{at_drop_more, at_drop_all}
 use Rattle.std.specs.Prelude.{◌≤◌}
+use Rattle.process_model.specs.Briefs.{of_brief, same_brief}
 use Rattle.process_model.specs.Steps.{step}
-use Rattle.process_model.specs.Text.{is_refused, series_of}
+use Rattle.process_model.specs.Text.{is_refused, series_of, three_next}
 use Rattle.process_model.specs.World.{World, Outcome}
+use Rattle.process_model.specs.declared.brief.Brief.{Brief}
+use Rattle.process_model.specs.declared.brief.Brief.TheVariants as brief
 use Rattle.process_model.specs.declared.step.Refusal.{Refusal}
 use Rattle.process_model.specs.declared.step.Reply.{Reply}
 use Rattle.process_model.specs.declared.step.Reply.TheVariants as reply
 use Rattle.process_model.specs.declared.step.Step.{Step}
+use Rattle.process_model.specs.declared.step.Step.TheVariants.{Next}
 use Rattle.hart_machine.specs.Serves.{IsIn}
 use Rattle.audit_player.specs.Told.{Follows}
 use Rattle.hart_machine.specs.declared.machine.Machine.{Machine}
@@ -38,6 +42,10 @@ not_refused (reply.ShortOut r n) h = refl
 not_refused (reply.Exited status) h = refl
 not_refused (reply.Refused x) h = absurd (h x refl)
 
+-- a reply without room for bytes that is no refusal is none with it
+pub no_refusal : (b : Brief) → ((x : Refusal) → b ≡ brief.Refused x → ⊥) → (x : Refusal) → of_brief b ≡ reply.Refused x → ⊥
+no_refusal b apart x e = apart x (same_brief b (brief.Refused x) e)
+
 module _ (m n : Machine) (ss : List Step) (i : ℕ) (s : Step) (r last : Reply) (o : Outcome) (is : s ≡ get_or ss i s) (lt : i < length ss) (made : (v : World) → IsIn m v → Follows n r (step v s)) where
   this_first : drop i ss ≡ s ∷ drop (i + 1) ss
   this_first = at_drop_more (λ (rest : List Step). rest) ss i s lt ∙ ap (λ (x : Step). x ∷ drop (i + 1) ss) (sym is)
@@ -64,3 +72,10 @@ pub ends : (m : Machine) (ss : List Step) (i : ℕ) (last : Reply) (o : Outcome)
 ends m ss i last o past (v, (h, e)) =
     let done : Follows m last (record { reply = last; world = v }) = (refl, h) in
     subst (Follows m last) (sym (at_drop_all (λ (rest : List Step). series_of v rest last) ss i past) ∙ e) done
+
+-- each of three instructions of the trampoline is one
+pub is_next : (h i : ℕ) → i < 3 → Next h ≡ get_or (three_next h) i (Next h)
+is_next h zero lt = refl
+is_next h (suc zero) lt = refl
+is_next h (suc (suc zero)) lt = refl
+is_next h (suc (suc (suc i))) lt = absurd (omega arith)

@@ -14,23 +14,22 @@ use Rattle.hart_machine.specs.declared.machine.Machine.{Machine}
 use Rattle.script_reader.specs.Playable.{IsDeclared}
 use Rattle.audit_player.proofs.Parts.{appends_more, appends_nothing}
 use Rattle.audit_player.specs.Taken.{WroteSome}
-use Rattle.audit_player.specs.Told.{Tells, answer_text}
-use Rattle.audit_player.specs.declared.answer.Answer.{Answer}
+use Rattle.audit_player.specs.Told.{Tells}
 
 -- what is written so far, and what the lines that are left say, is the whole
 abbrev pub IsWritten : Machine → List OwnedImage → List Command → List ℕ → List ℕ → Type 0
 IsWritten m images rest text whole = (w : World) × (IsIn m w × (text ++ commands_text images w rest ≡ whole))
 
 -- one line more
-pub line_more : (m n : Machine) (images : List OwnedImage) (cs : List Command) (i : ℕ) (c : Command) (a : Answer) (text after whole : List ℕ) → c ≡ get_or cs i c → i < length cs
-    → ((w : World) → IsIn m w → Tells n a (played images w c)) → after ≡ text ++ line_text (answer_text a) → IsWritten m images (drop i cs) text whole → IsWritten n images (drop (i + 1) cs) after whole
-line_more m n images cs i c a text after whole is lt tells more (w, (h, e)) =
-    let told : Tells n a (played images w c) = tells w h in
+pub line_more : (m n : Machine) (images : List OwnedImage) (cs : List Command) (i : ℕ) (c : Command) (text told after whole : List ℕ) → c ≡ get_or cs i c → i < length cs
+    → ((w : World) → IsIn m w → Tells n text told (played images w c)) → after ≡ told ++ 10 ∷ [] → IsWritten m images (drop i cs) text whole → IsWritten n images (drop (i + 1) cs) after whole
+line_more m n images cs i c text told after whole is lt tells more (w, (h, e)) =
+    let says : Tells n text told (played images w c) = tells w h in
     let first : drop i cs ≡ c ∷ drop (i + 1) cs = at_drop_more (λ (rest : List Command). rest) cs i c lt ∙ ap (λ (x : Command). x ∷ drop (i + 1) cs) (sym is) in
     let rest : List ℕ = commands_text images (played images w c).world (drop (i + 1) cs) in
     let line : text ++ commands_text images w (c ∷ drop (i + 1) cs) ≡ whole = ap (λ (l : List Command). text ++ commands_text images w l) (sym first) ∙ e in
-    let so_far : after ≡ text ++ line_text (played images w c).text = more ∙ ap (λ (t : List ℕ). text ++ line_text t) told.0 in
-    ((played images w c).world, (told.1, ap (λ (t : List ℕ). t ++ rest) so_far ∙ append_assoc text (line_text (played images w c).text) rest ∙ line))
+    let so_far : after ≡ text ++ line_text (played images w c).text = more ∙ ap (λ (t : List ℕ). t ++ 10 ∷ []) says.0 ∙ append_assoc text (played images w c).text (10 ∷ []) in
+    ((played images w c).world, (says.1, ap (λ (t : List ℕ). t ++ rest) so_far ∙ append_assoc text (line_text (played images w c).text) rest ∙ line))
 
 -- what a line names was declared
 pub declared : (fs : List FileText) (is images : List OwnedImage) (cs commands : List Command) (i : ℕ) (c : Command) → images ≡ is → commands ≡ cs → c ≡ get_or commands i c → i < length commands
@@ -81,8 +80,10 @@ ended old mid new m images cs i page whole past (front, (took, (w, (is, all)))) 
     subst (Appends old new) same (appends_more old mid new front page took wrote)
 
 -- one line more on the page
-pub page_more : (old new : Option (List ℕ)) (m n : Machine) (images : List OwnedImage) (cs : List Command) (i : ℕ) (c : Command) (a : Answer) (page after whole : List ℕ) → c ≡ get_or cs i c → i < length cs
-    → ((w : World) → IsIn m w → Tells n a (played images w c)) → after ≡ page ++ line_text (answer_text a) → IsWriting old new m images (drop i cs) page whole → IsWriting old new n images (drop (i + 1) cs) after whole
-page_more old new m n images cs i c a page after whole is lt tells more (front, (took, written)) =
-    let line : front ++ after ≡ (front ++ page) ++ line_text (answer_text a) = ap (λ (l : List ℕ). front ++ l) more ∙ sym (append_assoc front page (line_text (answer_text a))) in
-    (front, (took, line_more m n images cs i c a (front ++ page) (front ++ after) whole is lt tells line written))
+pub page_more : (old new : Option (List ℕ)) (m n : Machine) (images : List OwnedImage) (cs : List Command) (i : ℕ) (c : Command) (page told after whole : List ℕ) → c ≡ get_or cs i c → i < length cs
+    → ((w : World) → IsIn m w → Tells n page told (played images w c)) → after ≡ told ++ 10 ∷ [] → IsWriting old new m images (drop i cs) page whole → IsWriting old new n images (drop (i + 1) cs) after whole
+page_more old new m n images cs i c page told after whole is lt tells more (front, (took, written)) =
+    let says : (w : World) → IsIn m w → Tells n (front ++ page) (front ++ told) (played images w c) =
+    λ w h. let line = tells w h in (ap (λ (l : List ℕ). front ++ l) line.0 ∙ sym (append_assoc front page (played images w c).text), line.1) in
+    let ended : front ++ after ≡ (front ++ told) ++ 10 ∷ [] = ap (λ (l : List ℕ). front ++ l) more ∙ sym (append_assoc front told (10 ∷ [])) in
+    (front, (took, line_more m n images cs i c (front ++ page) (front ++ told) (front ++ after) whole is lt says ended written))

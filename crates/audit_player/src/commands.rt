@@ -1,7 +1,8 @@
 // What the lines after `boot` do.
 
-ghost use Rattle.std.specs.Prelude.{◌≡◌, List};
+ghost use Rattle.std.specs.Prelude.{◌≡◌, ◌∷◌, ◌≤◌, ◌+◌, List, true, vec_len, vec_capacity};
 ghost use Rattle.hart_machine.specs.Serves.{IsIn};
+ghost use Rattle.process_model.specs.Briefs.{is_brief, of_brief};
 ghost use Rattle.process_model.specs.Images.{image_loads};
 ghost use Rattle.process_model.specs.Steps as model;
 ghost use Rattle.process_model.specs.Text as words;
@@ -12,9 +13,11 @@ ghost use Rattle.process_model.specs.declared.step.Step.TheVariants as steps;
 ghost use Rattle.script_reader.specs.Playable.{IsDeclared};
 ghost use Rattle.audit_player.specs.Told.{Follows, Tells};
 
-use crate::answer::{Answer, audit, show};
+use crate::answer::{audit, put_shown};
 use hart_machine::Machine;
-use process_model::{Command, Image, OwnedImage, Reply, Step};
+use process_model::{
+    Brief, Command, Image, LONGEST_TEXT, OwnedImage, Step, put_brief, put_reply, put_report,
+};
 
 /// An image of a script, as a step borrows it.
 fn lend(image: &OwnedImage) -> Image<'_>
@@ -27,123 +30,155 @@ fn lend(image: &OwnedImage) -> Image<'_>
 }
 
 /// Starts a process of an image.
-fn start(machine: &mut Machine, image: &OwnedImage) -> Reply
+fn start(machine: &mut Machine, image: &OwnedImage) -> Brief
     requires world { (w : World) × IsIn machine.old w }
-    ensures made { (w : World) → IsIn machine.old w → Follows machine.new result (model.step w (steps.Start (words.lent image.now))) }
+    ensures made { (w : World) → IsIn machine.old w → Follows machine.new (of_brief result) (model.step w (steps.Start (words.lent image.now))) }
 {
-    machine.step(Step::Start(lend(image)))
+    machine.step_briefly(Step::Start(lend(image)))
 }
 
 /// Puts the process of an image in the place of the one on a hart.
-fn exec(machine: &mut Machine, hart: usize, image: &OwnedImage) -> Reply
+fn exec(machine: &mut Machine, hart: usize, image: &OwnedImage) -> Brief
     requires world { (w : World) × IsIn machine.old w }
-    ensures made { (w : World) → IsIn machine.old w → Follows machine.new result (model.step w (steps.Exec hart (words.lent image.now))) }
+    ensures made { (w : World) → IsIn machine.old w → Follows machine.new (of_brief result) (model.step w (steps.Exec hart (words.lent image.now))) }
 {
     let image = lend(image);
-    machine.step(Step::Exec { hart, image })
+    machine.step_briefly(Step::Exec { hart, image })
 }
 
 /// Copies bytes to the process on a hart.
-fn copy_out(machine: &mut Machine, hart: usize, address: u64, bytes: &[u8]) -> Reply
+fn copy_out(machine: &mut Machine, hart: usize, address: u64, bytes: &[u8]) -> Brief
     requires world { (w : World) × IsIn machine.old w }
-    ensures made { (w : World) → IsIn machine.old w → Follows machine.new result (model.step w (steps.CopyOut hart address (record { ref_ptr = (0, 0); now = bytes.now }))) }
+    ensures made { (w : World) → IsIn machine.old w → Follows machine.new (of_brief result) (model.step w (steps.CopyOut hart address (record { ref_ptr = (0, 0); now = bytes.now }))) }
 {
-    machine.step(Step::CopyOut {
+    machine.step_briefly(Step::CopyOut {
         hart,
         address,
         bytes,
     })
 }
 
-/// Makes several steps that have one reply: that of the first which is refused, and none is made after it; else the one given.
-fn series(machine: &mut Machine, steps: &[Step<'_>], reply: Reply) -> Reply
+/// Makes three instructions of the trampoline: through the return to the user, or after a fault through the entry into the
+/// kernel. The reply is that of the first which is refused, and none is made after it; else the one given.
+fn three_next(machine: &mut Machine, hart: usize, reply: Brief) -> Brief
     requires world { (w : World) × IsIn machine.old w }
-    ensures made { (w : World) → IsIn machine.old w → Follows machine.new result (words.series_of w steps.now reply) }
+    ensures made { (w : World) → IsIn machine.old w → Follows machine.new (of_brief result) (words.series_of w (words.three_next hart) (of_brief reply)) }
 {
-    for step in steps {
-        let said = machine.step(*step);
-        if let Reply::Refused(_) = said {
+    'instructions: for _ in 0..3usize {
+        let said = machine.step_briefly(Step::Next { hart });
+        if let Brief::Refused(_) = said {
             return said;
         }
     }
     reply
 }
 
-/// Puts a process on a hart, and goes through the return to the user.
-fn put_on(machine: &mut Machine, hart: usize, slot: usize) -> Reply
+/// Makes a step, and after it these three where it was not refused.
+fn go_through(machine: &mut Machine, hart: usize, step: Step<'_>) -> Brief
     requires world { (w : World) × IsIn machine.old w }
-    ensures made { (w : World) → IsIn machine.old w → Follows machine.new result (words.series_of w (words.on_steps hart slot) Done) }
+    requires brief { is_brief step ≡ true }
+    ensures made { (w : World) → IsIn machine.old w → Follows machine.new (of_brief result) (words.series_of w (step.entry ∷ words.three_next hart) Done) }
 {
-    let switch = Step::Switch {
-        hart,
-        slot: Some(slot),
-    };
-    let next = Step::Next { hart };
-    series(machine, &[switch, next, next, next], Reply::Done)
+    let first = machine.step_briefly(step);
+    if let Brief::Refused(_) = first {
+        return first;
+    }
+    three_next(machine, hart, Brief::Done)
+}
+
+/// Puts a process on a hart, and goes through the return to the user.
+fn put_on(machine: &mut Machine, hart: usize, slot: usize) -> Brief
+    requires world { (w : World) × IsIn machine.old w }
+    ensures made { (w : World) → IsIn machine.old w → Follows machine.new (of_brief result) (words.series_of w (words.on_steps hart slot) Done) }
+{
+    let slot = Some(slot);
+    go_through(machine, hart, Step::Switch { hart, slot })
 }
 
 /// Goes through the entry into the kernel.
-fn enter(machine: &mut Machine, hart: usize) -> Reply
+fn enter(machine: &mut Machine, hart: usize) -> Brief
     requires world { (w : World) × IsIn machine.old w }
-    ensures made { (w : World) → IsIn machine.old w → Follows machine.new result (words.series_of w (words.enter_steps hart) Done) }
+    ensures made { (w : World) → IsIn machine.old w → Follows machine.new (of_brief result) (words.series_of w (words.enter_steps hart) Done) }
 {
-    let next = Step::Next { hart };
-    series(
-        machine,
-        &[Step::Trap { hart }, next, next, next],
-        Reply::Done,
-    )
-}
-
-/// Goes through the return to the user, or after a fault through the entry into the kernel.
-fn three_next(machine: &mut Machine, hart: usize, reply: Reply) -> Reply
-    requires world { (w : World) × IsIn machine.old w }
-    ensures made { (w : World) → IsIn machine.old w → Follows machine.new result (words.series_of w (words.three_next hart) reply) }
-{
-    let next = Step::Next { hart };
-    series(machine, &[next, next, next], reply)
+    go_through(machine, hart, Step::Trap { hart })
 }
 
 /// Goes into the kernel after a fault, is served, and returns to the user where the access will now answer.
-fn fix(machine: &mut Machine, hart: usize) -> Reply
+fn fix(machine: &mut Machine, hart: usize) -> Brief
     requires world { (w : World) × IsIn machine.old w }
-    ensures made { (w : World) → IsIn machine.old w → Follows machine.new result (words.fixed w hart) }
+    ensures made { (w : World) → IsIn machine.old w → Follows machine.new (of_brief result) (words.fixed w hart) }
 {
-    let entered = three_next(machine, hart, Reply::Done);
-    if let Reply::Refused(_) = entered {
+    let entered = three_next(machine, hart, Brief::Done);
+    if let Brief::Refused(_) = entered {
         return entered;
     }
-    let served = machine.step(Step::Serve { hart });
-    if let Reply::Ready = served {
+    let served = machine.step_briefly(Step::Serve { hart });
+    if let Brief::Ready = served {
         return three_next(machine, hart, served);
     }
     served
 }
 
-/// What a line after `boot` does, and what it answers.
-pub fn make(machine: &mut Machine, images: &[OwnedImage], command: &Command) -> Answer
+/// Makes a step, and puts its whole reply. It stands apart, so that a line whose reply carries no bytes makes no room for
+/// them.
+#[inline(never)]
+fn put_whole(machine: &mut Machine, step: Step<'_>, text: &mut Vec<u8>)
+    requires world { (w : World) × IsIn machine.old w }
+    requires room { vec_len text.old + LONGEST_TEXT ≤ vec_capacity text.old }
+    ensures told { (w : World) → IsIn machine.old w → Tells machine.new text.old.items text.new.items (words.told (model.step w step.entry)) }
+    ensures len { vec_len text.new ≤ vec_len text.old + LONGEST_TEXT }
+    ensures capacity { vec_capacity text.old ≤ vec_capacity text.new }
+{
+    put_reply(text, &machine.step(step));
+}
+
+/// Makes a step, and puts its reply.
+fn put_step(machine: &mut Machine, step: Step<'_>, text: &mut Vec<u8>)
+    requires world { (w : World) × IsIn machine.old w }
+    requires room { vec_len text.old + LONGEST_TEXT ≤ vec_capacity text.old }
+    ensures told { (w : World) → IsIn machine.old w → Tells machine.new text.old.items text.new.items (words.told (model.step w step.entry)) }
+    ensures len { vec_len text.new ≤ vec_len text.old + LONGEST_TEXT }
+    ensures capacity { vec_capacity text.old ≤ vec_capacity text.new }
+{
+    if let Step::CopyIn { .. } = step {
+        put_whole(machine, step, text);
+    } else {
+        put_brief(text, machine.step_briefly(step));
+    }
+}
+
+/// Does what a line after `boot` says, and puts what it answers.
+pub fn put_answer(
+    machine: &mut Machine,
+    images: &[OwnedImage],
+    command: &Command,
+    text: &mut Vec<u8>,
+)
     requires world { (w : World) × IsIn machine.old w }
     requires declared { (files : List FileText) × IsDeclared files images.now command.now }
-    ensures told { (w : World) → IsIn machine.old w → Tells machine.new result (words.played images.now w command.now) }
+    requires room { vec_len text.old + LONGEST_TEXT ≤ vec_capacity text.old }
+    ensures told { (w : World) → IsIn machine.old w → Tells machine.new text.old.items text.new.items (words.played images.now w command.now) }
+    ensures len { vec_len text.new ≤ vec_len text.old + LONGEST_TEXT }
+    ensures capacity { vec_capacity text.old ≤ vec_capacity text.new }
 {
     match command {
-        Command::One(step) => Answer::Step(machine.step(*step)),
-        Command::Start { image } => Answer::Step(start(machine, &images[*image])),
-        Command::Exec { hart, image } => Answer::Step(exec(machine, *hart, &images[*image])),
-        Command::On { hart, slot } => Answer::Step(put_on(machine, *hart, *slot)),
-        Command::Enter { hart } => Answer::Step(enter(machine, *hart)),
-        Command::Leave { hart } => Answer::Step(three_next(machine, *hart, Reply::Done)),
-        Command::Fix { hart } => Answer::Step(fix(machine, *hart)),
+        Command::One(step) => put_step(machine, *step, text),
+        Command::Start { image } => put_brief(text, start(machine, &images[*image])),
+        Command::Exec { hart, image } => put_brief(text, exec(machine, *hart, &images[*image])),
+        Command::On { hart, slot } => put_brief(text, put_on(machine, *hart, *slot)),
+        Command::Enter { hart } => put_brief(text, enter(machine, *hart)),
+        Command::Leave { hart } => put_brief(text, three_next(machine, *hart, Brief::Done)),
+        Command::Fix { hart } => put_brief(text, fix(machine, *hart)),
         Command::Show {
             file,
             offset,
             count,
-        } => show(machine.files(), *file, *offset, *count),
-        Command::Audit => Answer::Audit(audit(machine)),
+        } => put_shown(text, machine.files(), *file, *offset, *count),
+        Command::Audit => put_report(text, &audit(machine)),
         Command::CopyOut {
             hart,
             address,
             bytes,
-        } => Answer::Step(copy_out(machine, *hart, *address, bytes.as_slice())),
+        } => put_brief(text, copy_out(machine, *hart, *address, bytes.as_slice())),
     }
 }

@@ -7,7 +7,7 @@ ghost use Rattle.process_model.specs.World.{booted};
 ghost use Rattle.script_reader.specs.Playable.{CanBoot, IsPlayable};
 ghost use Rattle.audit_player.specs.Played.{PlaysScript};
 
-use crate::commands::make;
+use crate::commands::put_answer;
 use crate::fault::PlayError;
 use crate::moving::write_all;
 use crate::sink::Sink;
@@ -60,8 +60,8 @@ pub fn run<W: Sink>(alloc: Global, script: &Script, writer: &mut W) -> Result<()
     let commands = script.commands();
     put(&mut page, b"ok\n");
     'lines: for command in commands {
-        let answer = make(&mut machine, images, command);
-        answer.put_line(&mut page);
+        put_answer(&mut machine, images, command, &mut page);
+        page.push_reserved(b'\n');
         if page.len() < PAGE {
             continue;
         }

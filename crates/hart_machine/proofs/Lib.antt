@@ -4,6 +4,7 @@ pub mod AccessingPages
 pub mod AccessingWorlds
 pub mod AllReferences
 pub mod BootWorld
+pub mod BriefReplies
 pub mod BufferChanges
 mod BufferRows
 pub mod BufferSteps

@@ -10,6 +10,7 @@ ghost use Rattle.hart_machine.specs.Tenants.{IsTenant, view_of};
 ghost use Rattle.hart_machine.specs.Worlds.{IsWorld, KeepsTables, Makes, SameTables};
 ghost use Rattle.lazy_growth.specs.Sizes.{size_before};
 ghost use Rattle.mmap_regions.specs.Mapped.{address_of_mapped, process_mapped};
+ghost use Rattle.process_model.specs.Briefs.{of_brief};
 ghost use Rattle.process_model.specs.Harts as harts;
 ghost use Rattle.process_model.specs.Heap.{sbrk_result};
 ghost use Rattle.process_model.specs.Mappings as mappings;
@@ -26,7 +27,7 @@ use crate::marking::{Made, slot_if};
 use crate::tenant::Tenant;
 use file_cabinet::Cabinet;
 use frame_store::PlainFrames;
-use process_model::{Refusal, Reply};
+use process_model::{Brief, Refusal};
 use sv39_entry::{PAGE_SIZE, Va};
 
 impl Machine {
@@ -50,6 +51,7 @@ impl Machine {
     }
 
     /// The process on a hart maps a file.
+    #[inline(never)]
     pub(crate) fn mmap(
         &mut self,
         hart: usize,
@@ -57,15 +59,15 @@ impl Machine {
         protection: u64,
         flags: u64,
         file: usize,
-    ) -> Reply
+    ) -> Brief
         requires world { (w : World) × IsWorld self.old w }
-        ensures made { (w : World) → IsWorld self.old w → Makes self.new result (plain_step w (step.Mmap hart length protection flags file)) }
+        ensures made { (w : World) → IsWorld self.old w → Makes self.new (of_brief result) (plain_step w (step.Mmap hart length protection flags file)) }
         ensures buffers { SameBuffers self.old self.new }
         ensures tables { SameTables self.old self.new }
     {
         match self.map_file(hart, length, protection, flags, file) {
-            Ok(address) => Reply::MappedAt(address),
-            Err(refusal) => Reply::Refused(refusal),
+            Ok(address) => Brief::MappedAt(address),
+            Err(refusal) => Brief::Refused(refusal),
         }
     }
 
@@ -93,16 +95,17 @@ impl Machine {
     }
 
     /// The process on a hart takes a range of addresses out of a mapping.
-    pub(crate) fn munmap(&mut self, hart: usize, address: u64, length: u64) -> Made
+    #[inline(never)]
+    pub(crate) fn munmap(&mut self, hart: usize, address: u64, length: u64) -> Made<Brief>
         requires world { (w : World) × IsWorld self.old w }
-        ensures made { (w : World) → IsWorld self.old w → Makes self.new result.reply (plain_step w (step.Munmap hart address length)) }
+        ensures made { (w : World) → IsWorld self.old w → Makes self.new (of_brief result.reply) (plain_step w (step.Munmap hart address length)) }
         ensures buffers { SameBuffers self.old self.new }
         ensures tables { (w : World) → IsWorld self.old w → KeepsTables self.old self.new w.slots (plain_step w (step.Munmap hart address length)).world.slots }
         ensures changed { (w : World) → IsWorld self.old w → AreMarked w (plain_step w (step.Munmap hart address length)) result.changed result.born }
     {
         match self.unmap(hart, address, length) {
-            Ok(changed) => Made::by(Reply::Done, changed),
-            Err(refusal) => Made::quiet(Reply::Refused(refusal)),
+            Ok(changed) => Made::by(Brief::Done, changed),
+            Err(refusal) => Made::quiet(Brief::Refused(refusal)),
         }
     }
 
@@ -126,16 +129,17 @@ impl Machine {
     }
 
     /// The heap of the process on a hart grows by so many bytes, or shrinks.
-    pub(crate) fn sbrk(&mut self, hart: usize, delta: i64) -> Made
+    #[inline(never)]
+    pub(crate) fn sbrk(&mut self, hart: usize, delta: i64) -> Made<Brief>
         requires world { (w : World) × IsWorld self.old w }
-        ensures made { (w : World) → IsWorld self.old w → Makes self.new result.reply (plain_step w (step.Sbrk hart delta)) }
+        ensures made { (w : World) → IsWorld self.old w → Makes self.new (of_brief result.reply) (plain_step w (step.Sbrk hart delta)) }
         ensures buffers { SameBuffers self.old self.new }
         ensures tables { (w : World) → IsWorld self.old w → KeepsTables self.old self.new w.slots (plain_step w (step.Sbrk hart delta)).world.slots }
         ensures changed { (w : World) → IsWorld self.old w → AreMarked w (plain_step w (step.Sbrk hart delta)) result.changed result.born }
     {
         match self.resize(hart, delta) {
-            Ok((size, changed)) => Made::by(Reply::OldSize(size), changed),
-            Err(refusal) => Made::quiet(Reply::Refused(refusal)),
+            Ok((size, changed)) => Made::by(Brief::OldSize(size), changed),
+            Err(refusal) => Made::quiet(Brief::Refused(refusal)),
         }
     }
 

@@ -11,6 +11,7 @@ ghost use Rattle.hart_machine.specs.Calls.{IsInKernel};
 ghost use Rattle.hart_machine.specs.Harts.{hart_of};
 ghost use Rattle.hart_machine.specs.Tenants.{IsTenant, view_of};
 ghost use Rattle.hart_machine.specs.Worlds.{IsWorld, KeepsOthers, KeepsTables, Makes};
+ghost use Rattle.process_model.specs.Briefs.{of_brief};
 ghost use Rattle.process_model.specs.Mappings.{all_written_back};
 ghost use Rattle.process_model.specs.Process.{Process};
 ghost use Rattle.process_model.specs.Service.{ended};
@@ -25,22 +26,23 @@ use crate::tenant::Tenant;
 use file_cabinet::Cabinet;
 use frame_store::{FrameAccess, PlainFrames, PlainSeat};
 use mmap_regions::{promise_write_back, write_back};
-use process_model::Reply;
+use process_model::Brief;
 
 impl Machine {
     /// The process on a hart exits.
-    pub(crate) fn exit(&mut self, hart: usize, status: i32) -> Reply
+    #[inline(never)]
+    pub(crate) fn exit(&mut self, hart: usize, status: i32) -> Brief
         requires world { (w : World) × IsWorld self.old w }
-        ensures made { (w : World) → IsWorld self.old w → Makes self.new result (plain_step w (step.Exit hart status)) }
+        ensures made { (w : World) → IsWorld self.old w → Makes self.new (of_brief result) (plain_step w (step.Exit hart status)) }
         ensures buffers { SameBuffers self.old self.new }
         ensures tables { (w : World) → IsWorld self.old w → KeepsTables self.old self.new w.slots (plain_step w (step.Exit hart status)).world.slots }
     {
         match self.in_kernel(hart, false) {
             Ok(slot) => {
                 self.end(hart, slot);
-                Reply::Exited(status)
+                Brief::Exited(status)
             }
-            Err(refusal) => Reply::Refused(refusal),
+            Err(refusal) => Brief::Refused(refusal),
         }
     }
 

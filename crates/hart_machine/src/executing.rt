@@ -9,6 +9,7 @@ ghost use Rattle.hart_machine.specs.Executed.{HasExecuted};
 ghost use Rattle.hart_machine.specs.Tenants.{IsTenant, view_of};
 ghost use Rattle.hart_machine.specs.Marks.{AreMarked, slot_of_ok};
 ghost use Rattle.hart_machine.specs.Worlds.{IsWorld, KeepsTables, Makes};
+ghost use Rattle.process_model.specs.Briefs.{of_brief};
 ghost use Rattle.process_model.specs.Frames.{exec_need};
 ghost use Rattle.process_model.specs.Process.{Process};
 ghost use Rattle.process_model.specs.Steps.{plain_step};
@@ -23,20 +24,21 @@ use crate::tenant::Tenant;
 use exec_segments::Image;
 use file_cabinet::Cabinet;
 use frame_store::PlainFrames;
-use process_model::{Refusal, Reply};
+use process_model::{Brief, Refusal};
 
 impl Machine {
     /// The process on a hart executes an image: that of the image comes in its place.
-    pub(crate) fn exec(&mut self, hart: usize, image: process_model::Image<'_>) -> Made
+    #[inline(never)]
+    pub(crate) fn exec(&mut self, hart: usize, image: process_model::Image<'_>) -> Made<Brief>
         requires world { (w : World) × IsWorld self.old w }
-        ensures made { (w : World) → IsWorld self.old w → Makes self.new result.reply (plain_step w (step.Exec hart image.entry)) }
+        ensures made { (w : World) → IsWorld self.old w → Makes self.new (of_brief result.reply) (plain_step w (step.Exec hart image.entry)) }
         ensures buffers { SameBuffers self.old self.new }
         ensures tables { (w : World) → IsWorld self.old w → KeepsTables self.old self.new w.slots (plain_step w (step.Exec hart image.entry)).world.slots }
         ensures changed { (w : World) → IsWorld self.old w → AreMarked w (plain_step w (step.Exec hart image.entry)) result.changed result.born }
     {
         match self.replace(hart, image) {
-            Ok(slot) => Made::by(Reply::Done, Some(slot)),
-            Err(refusal) => Made::quiet(Reply::Refused(refusal)),
+            Ok(slot) => Made::by(Brief::Done, Some(slot)),
+            Err(refusal) => Made::quiet(Brief::Refused(refusal)),
         }
     }
 

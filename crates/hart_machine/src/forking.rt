@@ -9,6 +9,7 @@ ghost use Rattle.hart_machine.specs.Forked.{forked_or_refused, HasForkedTenant};
 ghost use Rattle.hart_machine.specs.Tenants.{IsTenant, view_of};
 ghost use Rattle.hart_machine.specs.Marks.{AreMarked, child_in, marked_with};
 ghost use Rattle.hart_machine.specs.Worlds.{IsWorld, KeepsTables, Makes};
+ghost use Rattle.process_model.specs.Briefs.{of_brief};
 ghost use Rattle.process_model.specs.Frames.{fork_need};
 ghost use Rattle.process_model.specs.Process.{Process};
 ghost use Rattle.process_model.specs.Steps.{plain_step};
@@ -21,24 +22,25 @@ use crate::machine::Machine;
 use crate::marking::{Made, slot_if};
 use crate::tenant::Tenant;
 use frame_store::PlainFrames;
-use process_model::{Refusal, Reply};
+use process_model::{Brief, Refusal};
 
 impl Machine {
     /// The process on a hart forks: its child comes to be in the lowest slot without a process.
-    pub(crate) fn fork(&mut self, hart: usize) -> Made
+    #[inline(never)]
+    pub(crate) fn fork(&mut self, hart: usize) -> Made<Brief>
         requires world { (w : World) × IsWorld self.old w }
-        ensures made { (w : World) → IsWorld self.old w → Makes self.new result.reply (plain_step w (step.Fork hart)) }
+        ensures made { (w : World) → IsWorld self.old w → Makes self.new (of_brief result.reply) (plain_step w (step.Fork hart)) }
         ensures buffers { SameBuffers self.old self.new }
         ensures tables { (w : World) → IsWorld self.old w → KeepsTables self.old self.new w.slots (plain_step w (step.Fork hart)).world.slots }
         ensures changed { (w : World) → IsWorld self.old w → AreMarked w (plain_step w (step.Fork hart)) result.changed result.born }
     {
         match self.fork_into(hart) {
             Ok((slot, changed)) => Made {
-                reply: Reply::Forked(slot),
+                reply: Brief::Forked(slot),
                 changed,
                 born: Some(slot),
             },
-            Err(refusal) => Made::quiet(Reply::Refused(refusal)),
+            Err(refusal) => Made::quiet(Brief::Refused(refusal)),
         }
     }
 

@@ -8,21 +8,21 @@ ghost use Rattle.hart_machine.specs.Slots.{most_slots};
 
 use crate::hart::Hart;
 use crate::machine::Machine;
-use process_model::{Policy, Reply};
+use process_model::Policy;
 
-/// What a step made: its reply, and of which slots the leaves in memory are others than before.
+/// What a step made: its reply, with or without room for bytes, and of which slots the leaves in memory are others than before.
 #[derive(Drop)]
-pub(crate) struct Made {
-    pub(crate) reply: Reply,
+pub(crate) struct Made<R> {
+    pub(crate) reply: R,
     /// The process of a slot that was there.
     pub(crate) changed: Option<usize>,
     /// One that began.
     pub(crate) born: Option<usize>,
 }
 
-impl Made {
+impl<R> Made<R> {
     /// A reply, and no leaf is another.
-    pub(crate) fn quiet(reply: Reply) -> Made
+    pub(crate) fn quiet(reply: R) -> Made<R>
         ensures { result ≡ record { reply = reply; changed = None; born = None } }
     {
         Made {
@@ -33,7 +33,7 @@ impl Made {
     }
 
     /// A reply, and the slot of a process that was there and of which a leaf is another, if there is one.
-    pub(crate) fn by(reply: Reply, changed: Option<usize>) -> Made
+    pub(crate) fn by(reply: R, changed: Option<usize>) -> Made<R>
         ensures { result ≡ record { reply = reply; changed = changed; born = None } }
     {
         Made {

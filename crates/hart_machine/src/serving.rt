@@ -10,6 +10,7 @@ ghost use Rattle.hart_machine.specs.Serving.{HasServed, IsEnding, MustEnd, was_s
 ghost use Rattle.hart_machine.specs.Tenants.{IsTenant, view_of};
 ghost use Rattle.hart_machine.specs.Marks.{AreMarked, slot_if};
 ghost use Rattle.hart_machine.specs.Worlds.{IsWorld, KeepsOthers, KeepsTables, Makes};
+ghost use Rattle.process_model.specs.Briefs.{of_brief};
 ghost use Rattle.process_model.specs.Process as model;
 ghost use Rattle.process_model.specs.Process.{Process};
 ghost use Rattle.process_model.specs.Residence.{is_resident};
@@ -27,27 +28,28 @@ use crate::tenant::{Pending, Tenant};
 use fault_rules::Served;
 use file_cabinet::Cabinet;
 use frame_store::PlainFrames;
-use process_model::Reply;
+use process_model::Brief;
 use sv39_entry::Rule;
 
 impl Machine {
     /// The kernel serves the fault of the process on a hart: the access will answer, or the process ends.
-    pub(crate) fn serve(&mut self, hart: usize) -> Made
+    #[inline(never)]
+    pub(crate) fn serve(&mut self, hart: usize) -> Made<Brief>
         requires world { (w : World) × IsWorld self.old w }
-        ensures made { (w : World) → IsWorld self.old w → Makes self.new result.reply (plain_step w (step.Serve hart)) }
+        ensures made { (w : World) → IsWorld self.old w → Makes self.new (of_brief result.reply) (plain_step w (step.Serve hart)) }
         ensures buffers { SameBuffers self.old self.new }
         ensures tables { (w : World) → IsWorld self.old w → KeepsTables self.old self.new w.slots (plain_step w (step.Serve hart)).world.slots }
         ensures changed { (w : World) → IsWorld self.old w → AreMarked w (plain_step w (step.Serve hart)) result.changed result.born }
     {
         let slot = match self.in_kernel(hart, true) {
             Ok(slot) => slot,
-            Err(refusal) => return Made::quiet(Reply::Refused(refusal)),
+            Err(refusal) => return Made::quiet(Brief::Refused(refusal)),
         };
         match self.serve_fault(slot) {
-            Ok(settled) => Made::by(Reply::Ready, slot_if(slot, settled)),
+            Ok(settled) => Made::by(Brief::Ready, slot_if(slot, settled)),
             Err(rule) => {
                 self.end(hart, slot);
-                Made::quiet(Reply::Ended(rule))
+                Made::quiet(Brief::Ended(rule))
             }
         }
     }

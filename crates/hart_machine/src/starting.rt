@@ -9,6 +9,7 @@ ghost use Rattle.frame_store.specs.View.{references, View};
 ghost use Rattle.hart_machine.specs.Buffers.{SameBuffers};
 ghost use Rattle.hart_machine.specs.Marks.{AreMarked};
 ghost use Rattle.hart_machine.specs.Worlds.{IsWorld, KeepsTables, Makes};
+ghost use Rattle.process_model.specs.Briefs.{of_brief};
 ghost use Rattle.process_model.specs.Steps.{plain_step};
 ghost use Rattle.process_model.specs.World.{free_slot, World};
 ghost use Rattle.process_model.specs.declared.step.Step.TheVariants as step;
@@ -19,24 +20,25 @@ use crate::marking::Made;
 use crate::tenant::Tenant;
 use exec_segments::{Image, start};
 use frame_store::{FrameAccess, PlainSeat, opened_seat};
-use process_model::{Refusal, Reply};
+use process_model::{Brief, Refusal};
 use sv39_entry::FrameNo;
 
 impl Machine {
     /// A process of an image comes to be in the lowest slot without one.
-    pub(crate) fn start(&mut self, image: process_model::Image<'_>) -> Made
+    #[inline(never)]
+    pub(crate) fn start(&mut self, image: process_model::Image<'_>) -> Made<Brief>
         requires world { (w : World) × IsWorld self.old w }
-        ensures made { (w : World) → IsWorld self.old w → Makes self.new result.reply (plain_step w (step.Start image.entry)) }
+        ensures made { (w : World) → IsWorld self.old w → Makes self.new (of_brief result.reply) (plain_step w (step.Start image.entry)) }
         ensures buffers { SameBuffers self.old self.new }
         ensures tables { (w : World) → IsWorld self.old w → KeepsTables self.old self.new w.slots (plain_step w (step.Start image.entry)).world.slots }
         ensures changed { (w : World) → IsWorld self.old w → AreMarked w (plain_step w (step.Start image.entry)) result.changed result.born }
     {
         let Some(slot) = self.free_slot() else {
-            return Made::quiet(Reply::Refused(Refusal::NoSlot));
+            return Made::quiet(Brief::Refused(Refusal::NoSlot));
         };
         let image = match Image::judged(image) {
             Ok(image) => image,
-            Err(part) => return Made::quiet(Reply::Refused(Refusal::BadImage(part))),
+            Err(part) => return Made::quiet(Brief::Refused(Refusal::BadImage(part))),
         };
         let seat = self.open_seat();
         match start(&mut self.frames, seat, &image) {
@@ -46,14 +48,14 @@ impl Machine {
                     pending: None,
                 });
                 Made {
-                    reply: Reply::Started(slot),
+                    reply: Brief::Started(slot),
                     changed: None,
                     born: Some(slot),
                 }
             }
             Err((_, seat)) => {
                 self.close_seat(seat);
-                Made::quiet(Reply::Refused(Refusal::NoFrame))
+                Made::quiet(Brief::Refused(Refusal::NoFrame))
             }
         }
     }

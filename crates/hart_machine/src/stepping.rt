@@ -1,12 +1,13 @@
 // Steps of the machine, and lists of steps.
 
-ghost use Rattle.std.specs.Prelude.{◌≡◌, IfOk, List, map, OnErr, OnOk, option_copied, option_map, slice_get};
+ghost use Rattle.std.specs.Prelude.{◌≡◌, IfOk, List, map, OnErr, OnOk, option_copied, option_map, slice_get, true};
 ghost use Rattle.hart_machine.specs.Buffers.{buffer_of, BuffersAre, OnlyFillsAdd};
 ghost use Rattle.hart_machine.specs.Harts.{key_of};
 ghost use Rattle.hart_machine.specs.Marks.{AreMarked};
 ghost use Rattle.hart_machine.specs.Serves.{AreTrue, IsIn};
 ghost use Rattle.hart_machine.specs.Worlds.{KeepsTables, Makes};
 ghost use Rattle.process_laws.specs.Headline.{Headline};
+ghost use Rattle.process_model.specs.Briefs.{is_brief, of_brief};
 ghost use Rattle.process_model.specs.Files.{File};
 ghost use Rattle.process_model.specs.Steps as model;
 ghost use Rattle.process_model.specs.World.{booted, World};
@@ -19,7 +20,7 @@ use crate::machine::Machine;
 use crate::marking::Made;
 use address_space::Asked;
 use hart_tlb::Buffer;
-use process_model::{Reply, Step};
+use process_model::{Brief, Reply, Step};
 use std::alloc::{AllocError, Global};
 use sv39_entry::{Access, Va};
 
@@ -36,6 +37,33 @@ impl Machine {
         ensures each_buffer { (w : World) (is : IsIn self.old w) → BuffersAre self.old self.new (is.world).tables (is.world).kernel step.entry result }
         ensures identifiers { (w : World) → IsIn self.old w → w.policy ≡ Asid → AreTrue self.new }
     {
+        let Step::CopyIn {
+            hart,
+            address,
+            count,
+        } = step
+        else {
+            return self.step_briefly(step).reply();
+        };
+        let Made {
+            reply,
+            changed,
+            born,
+        } = self.copy_in(hart, address, count);
+        self.mark(changed);
+        self.mark(born);
+        reply
+    }
+
+    /// Makes a step that is no copy from the process: its reply carries no bytes, and has no room for them.
+    pub fn step_briefly(&mut self, step: Step<'_>) -> Brief
+        requires world { (w : World) × IsIn self.old w }
+        requires brief { is_brief step ≡ true }
+        ensures made { (w : World) → IsIn self.old w → (of_brief result ≡ (model.step w step.entry).reply) × IsIn self.new (model.step w step.entry).world }
+        ensures buffers { (w : World) (is : IsIn self.old w) → OnlyFillsAdd self.old self.new (is.world).tables (is.world).kernel step.entry }
+        ensures each_buffer { (w : World) (is : IsIn self.old w) → BuffersAre self.old self.new (is.world).tables (is.world).kernel step.entry (of_brief result) }
+        ensures identifiers { (w : World) → IsIn self.old w → w.policy ≡ Asid → AreTrue self.new }
+    {
         let Made {
             reply,
             changed,
@@ -46,13 +74,15 @@ impl Machine {
         reply
     }
 
-    /// The same, but for the marks of harts.
-    fn make(&mut self, step: Step<'_>) -> Made
+    /// The same, but for the marks of harts. A function pays at entry for the size of its locals: so calls of the kernel,
+    /// which have large ones, stand apart (`inline(never)`), and other steps are made without them.
+    fn make(&mut self, step: Step<'_>) -> Made<Brief>
         requires world { (w : World) × IsIn self.old w }
-        ensures made { (w : World) → IsIn self.old w → Makes self.new result.reply (model.plain_step w step.entry) }
+        requires brief { is_brief step ≡ true }
+        ensures made { (w : World) → IsIn self.old w → Makes self.new (of_brief result.reply) (model.plain_step w step.entry) }
         ensures changed { (w : World) → IsIn self.old w → AreMarked w (model.plain_step w step.entry) result.changed result.born }
         ensures tables { (w : World) → IsIn self.old w → KeepsTables self.old self.new w.slots (model.plain_step w step.entry).world.slots }
-        ensures each_buffer { (w : World) (is : IsIn self.old w) → BuffersAre self.old self.new (is.world).tables (is.world).kernel step.entry result.reply }
+        ensures each_buffer { (w : World) (is : IsIn self.old w) → BuffersAre self.old self.new (is.world).tables (is.world).kernel step.entry (of_brief result.reply) }
     {
         match step {
             Step::Start(image) => self.start(image),
@@ -96,11 +126,8 @@ impl Machine {
                 address,
                 length,
             } => self.munmap(hart, address, length),
-            Step::CopyIn {
-                hart,
-                address,
-                count,
-            } => self.copy_in(hart, address, count),
+            // its reply carries bytes
+            Step::CopyIn { .. } => unreachable!(),
             Step::CopyOut {
                 hart,
                 address,

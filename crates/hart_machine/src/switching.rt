@@ -4,6 +4,7 @@ ghost use Rattle.std.specs.Prelude.{◌≡◌, slice_get, Some};
 ghost use Rattle.std.specs.List.{list_any};
 ghost use Rattle.hart_machine.specs.Buffers.{BuffersAre, SameBuffers};
 ghost use Rattle.hart_machine.specs.Worlds.{IsWorld, Makes, SamePlaces, SameTables};
+ghost use Rattle.process_model.specs.Briefs.{of_brief};
 ghost use Rattle.process_model.specs.Harts as harts;
 ghost use Rattle.process_model.specs.Steps.{plain_step};
 ghost use Rattle.process_model.specs.World as model;
@@ -12,24 +13,24 @@ ghost use Rattle.process_model.specs.declared.step.Step.TheVariants as step;
 
 use crate::hart::{Hart, is_kernel, is_user, may_switch, next_phase};
 use crate::machine::Machine;
-use process_model::{Phase, Refusal, Reply};
+use process_model::{Brief, Phase, Refusal};
 
 impl Machine {
     /// The process of a slot comes on a hart, or none does.
-    pub(crate) fn switch(&mut self, hart: usize, slot: Option<usize>) -> Reply
+    pub(crate) fn switch(&mut self, hart: usize, slot: Option<usize>) -> Brief
         requires world { (w : World) × IsWorld self.old w }
-        ensures made { (w : World) → IsWorld self.old w → Makes self.new result (plain_step w (step.Switch hart slot)) }
+        ensures made { (w : World) → IsWorld self.old w → Makes self.new (of_brief result) (plain_step w (step.Switch hart slot)) }
         ensures buffers { SameBuffers self.old self.new }
         ensures places { SamePlaces self.old self.new }
     {
         let Some(phase) = self.phase_of(hart) else {
-            return Reply::Refused(Refusal::BadArgument);
+            return Brief::Refused(Refusal::BadArgument);
         };
         if !may_switch(phase) || !self.can_run(slot) {
-            return Reply::Refused(Refusal::Impossible(phase));
+            return Brief::Refused(Refusal::Impossible(phase));
         }
         self.harts[hart].take(slot);
-        Reply::Done
+        Brief::Done
     }
 
     /// Whether the process of a slot is there and on no hart.
@@ -43,42 +44,42 @@ impl Machine {
     }
 
     /// The process on a hart enters the kernel of its own accord.
-    pub(crate) fn trap(&mut self, hart: usize) -> Reply
+    pub(crate) fn trap(&mut self, hart: usize) -> Brief
         requires world { (w : World) × IsWorld self.old w }
-        ensures made { (w : World) → IsWorld self.old w → Makes self.new result (plain_step w (step.Trap hart)) }
+        ensures made { (w : World) → IsWorld self.old w → Makes self.new (of_brief result) (plain_step w (step.Trap hart)) }
         ensures buffers { SameBuffers self.old self.new }
         ensures tables { SameTables self.old self.new }
     {
         let Some(phase) = self.phase_of(hart) else {
-            return Reply::Refused(Refusal::BadArgument);
+            return Brief::Refused(Refusal::BadArgument);
         };
         if !is_user(phase) {
-            return Reply::Refused(Refusal::Impossible(phase));
+            return Brief::Refused(Refusal::Impossible(phase));
         }
         let Some(slot) = self.slot_of(hart) else {
-            return Reply::Refused(Refusal::Impossible(phase));
+            return Brief::Refused(Refusal::Impossible(phase));
         };
         self.set_pending(slot, None);
         self.harts[hart].phase = Phase::Enter0;
-        Reply::Done
+        Brief::Done
     }
 
     /// A hart makes the next instruction of the trampoline.
-    pub(crate) fn next(&mut self, hart: usize) -> Reply
+    pub(crate) fn next(&mut self, hart: usize) -> Brief
         requires world { (w : World) × IsWorld self.old w }
-        ensures made { (w : World) → IsWorld self.old w → Makes self.new result (plain_step w (step.Next hart)) }
-        ensures buffers { (w : World) (is : IsWorld self.old w) → BuffersAre self.old self.new is.tables is.kernel (step.Next hart) result }
+        ensures made { (w : World) → IsWorld self.old w → Makes self.new (of_brief result) (plain_step w (step.Next hart)) }
+        ensures buffers { (w : World) (is : IsWorld self.old w) → BuffersAre self.old self.new is.tables is.kernel (step.Next hart) (of_brief result) }
         ensures places { SamePlaces self.old self.new }
     {
         let Some(phase) = self.phase_of(hart) else {
-            return Reply::Refused(Refusal::BadArgument);
+            return Brief::Refused(Refusal::BadArgument);
         };
         if !self.can_go_on(hart, phase) {
-            return Reply::Refused(Refusal::Impossible(phase));
+            return Brief::Refused(Refusal::Impossible(phase));
         }
         let policy = self.policy;
         self.harts[hart].advance(policy);
-        Reply::Done
+        Brief::Done
     }
 
     /// Whether a hart in this phase has a next instruction of the trampoline, and may make it.

@@ -1,8 +1,10 @@
 use Rattle.std.proofs.Common.{◌∙◌, ℕ, ap, inl, refl, sym}
 use Rattle.std.specs.Prelude.{is_ok}
+use Rattle.process_model.specs.Briefs.{of_brief}
 use Rattle.sv39_entry.specs.declared.access.Mode.TheVariants.{User}
 use Rattle.table_walk.specs.Leaves.{walk_answer}
 use Rattle.table_walk.specs.Tables.{Tables}
+use Rattle.hart_machine.proofs.BriefReplies.{no_fault}
 use Rattle.hart_machine.proofs.AccessingEntries.{user_served}
 use Rattle.hart_machine.proofs.AccessSteps.{answers_access, faults_access, in_user, no_entry, no_user, no_width, nowhere}
 use Rattle.hart_machine.proofs.BufferSteps.{same_buffers, same_harts}
@@ -94,8 +96,8 @@ returns-in-Fault-clause-made c w buffered =
     user_served is.tables is.kernel has.hart s a.va.0 a.access User c.in-Ok.walk runs on (c.in-Ok.ensures.walk w buffered has.hart has.there (inl runs))
     ∙ ap (λ (ts : ℕ → Tables). walk_answer (ts s) a.va.0 a.access User) (sym after.1) in
     faults_access m w is c.args.hart a.access a.va.0 a.width a.value c.args.via c.in-Some.phase has well user s on
-    (sym (c.translated.ensures.serves w has.hart is has.there) ∙ ap is_ok c.in-Ok.is) q.0 q.1 c.answered-reply.new.self (c.answered-reply.ensures.harts ∙ c.translated.ensures.harts) c.answered-reply.result
-    (c.answered-reply.ensures.made w after.0 q.0 q.1 walked) c.in-Fault.field-0 c.in-Fault.is c.index_mut.result.now c.index_mut.ensures.value
+    (sym (c.translated.ensures.serves w has.hart is has.there) ∙ ap is_ok c.in-Ok.is) q.0 q.1 c.answered-reply.new.self (c.answered-reply.ensures.harts ∙ c.translated.ensures.harts) (of_brief c.answered-reply.result)
+    (c.answered-reply.ensures.made w after.0 q.0 q.1 walked) c.in-Fault.field-0 (ap of_brief c.in-Fault.is) c.index_mut.result.now c.index_mut.ensures.value
 
 pub returns-in-Fault-clause-buffers : goal.returns-in-Fault-clause-buffers
 returns-in-Fault-clause-buffers c h =
@@ -120,8 +122,8 @@ returns-in_default-reply-clause-made c w buffered =
     user_served is.tables is.kernel has.hart s a.va.0 a.access User c.in-Ok.walk runs on (c.in-Ok.ensures.walk w buffered has.hart has.there (inl runs))
     ∙ ap (λ (ts : ℕ → Tables). walk_answer (ts s) a.va.0 a.access User) (sym after.1) in
     answers_access m w is c.args.hart a.access a.va.0 a.width a.value c.args.via c.in-Some.phase has well user s on
-    (sym (c.translated.ensures.serves w has.hart is has.there) ∙ ap is_ok c.in-Ok.is) q.0 q.1 c.answered-reply.new.self (c.answered-reply.ensures.harts ∙ c.translated.ensures.harts) c.answered-reply.result
-    (c.answered-reply.ensures.made w after.0 q.0 q.1 walked) c.in_default-reply.not-Fault
+    (sym (c.translated.ensures.serves w has.hart is has.there) ∙ ap is_ok c.in-Ok.is) q.0 q.1 c.answered-reply.new.self (c.answered-reply.ensures.harts ∙ c.translated.ensures.harts) (of_brief c.answered-reply.result)
+    (c.answered-reply.ensures.made w after.0 q.0 q.1 walked) (no_fault c.answered-reply.result c.in_default-reply.not-Fault)
 
 pub returns-in_default-clause-tables : goal.returns-in_default-clause-tables
 returns-in_default-clause-tables c = nothing_moved c.args.self.now

@@ -1,4 +1,5 @@
 use Rattle.std.proofs.Common.{◌∙◌, arith, refl, subst, sym}
+use Rattle.process_model.specs.Briefs.{of_brief}
 use Rattle.process_model.specs.World.{Outcome}
 use Rattle.process_model.specs.declared.step.Refusal.TheVariants.{BadArgument}
 use Rattle.hart_machine.specs.Marks.{AreMarked}
@@ -38,7 +39,7 @@ copy_to-requires-clause-world c = let r = c.requires.world in (r.0, c.args.hart,
 pub returns-clause-made : goal.returns-clause-made
 returns-clause-made c w is =
     let k = c.in-Ok.ensures.there w is in
-    subst (λ (o : Outcome). Makes c.copy_to.new.self c.copy_to.result.reply o) (sym (step_out c.args.self.now w is c.args.hart c.in-Ok.slot k c.args.address c.args.bytes (omega (arith, c.if-bytes-gt-LONGEST_COPY.false))))
+    subst (λ (o : Outcome). Makes c.copy_to.new.self (of_brief c.copy_to.result.reply) o) (sym (step_out c.args.self.now w is c.args.hart c.in-Ok.slot k c.args.address c.args.bytes (omega (arith, c.if-bytes-gt-LONGEST_COPY.false))))
     (c.copy_to.ensures.made w c.args.hart is k)
 
 pub returns-clause-changed : goal.returns-clause-changed

@@ -1,5 +1,6 @@
 use Rattle.std.proofs.Common.{◌∙◌, ◌<◌, Some, subst, sym}
 use Rattle.std.proofs.lemmas.Option.{get_or_from_slice_get, slice_get_within}
+use Rattle.process_model.specs.Briefs.{of_brief}
 use Rattle.hart_machine.proofs.AccessingWorlds.{seat_fits, slot_has}
 use Rattle.hart_machine.proofs.CopySteps.{copies_out, keeps_out, marks_out}
 use Rattle.hart_machine.proofs.HartSteps.{tenant_is}
@@ -38,18 +39,18 @@ returns-clause-made c w h is k =
     let m = c.args.self.now in
     let there = slot_has m.slots.items c.args.slot k.tenant c.in-Some.tenant _ c.in-Some.is c.index_mut.ensures.value k.place in
     let y = c.copy_out-reply in
-    rw c.by.ensures (copies_out m w is h c.args.slot k c.in-Some.tenant y.new.self there y.new.frames y.new.files c.args.va.0 c.args.bytes.now y.result.0 c.requires.few y.ensures.copied)
+    rw c.by.ensures (copies_out m w is h c.args.slot k c.in-Some.tenant y.new.self there y.new.frames y.new.files c.args.va.0 c.args.bytes.now (of_brief y.result.0) c.requires.few y.ensures.copied)
 
 pub returns-clause-changed : goal.returns-clause-changed
 returns-clause-changed c w h is k =
     let m = c.args.self.now in
     let there = slot_has m.slots.items c.args.slot k.tenant c.in-Some.tenant _ c.in-Some.is c.index_mut.ensures.value k.place in
     let y = c.copy_out-reply in
-    rw (c.by.ensures, c.slot_if.ensures) (marks_out m w is h c.args.slot k c.in-Some.tenant y.new.self there y.new.frames y.new.files c.args.va.0 c.args.bytes.now y.result.0 c.requires.few y.ensures.copied y.result.1 y.ensures.changed)
+    rw (c.by.ensures, c.slot_if.ensures) (marks_out m w is h c.args.slot k c.in-Some.tenant y.new.self there y.new.frames y.new.files c.args.va.0 c.args.bytes.now (of_brief y.result.0) c.requires.few y.ensures.copied y.result.1 y.ensures.changed)
 
 pub returns-clause-tables : goal.returns-clause-tables
 returns-clause-tables c w h is k =
     let m = c.args.self.now in
     let there = slot_has m.slots.items c.args.slot k.tenant c.in-Some.tenant _ c.in-Some.is c.index_mut.ensures.value k.place in
     let y = c.copy_out-reply in
-    keeps_out m w is h c.args.slot k c.in-Some.tenant y.new.self there y.new.frames y.new.files c.args.va.0 c.args.bytes.now y.result.0 c.requires.few y.ensures.copied y.ensures.trapframe
+    keeps_out m w is h c.args.slot k c.in-Some.tenant y.new.self there y.new.frames y.new.files c.args.va.0 c.args.bytes.now (of_brief y.result.0) c.requires.few y.ensures.copied y.ensures.trapframe

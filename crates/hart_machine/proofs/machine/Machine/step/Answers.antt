@@ -1,34 +1,80 @@
+use Rattle.std.proofs.Common.{refl}
+use Rattle.process_model.specs.Briefs.{is_brief_step}
 use Rattle.process_model.specs.Steps.{plain_step}
+use Rattle.process_model.specs.declared.step.Step.TheVariants as step
+use Rattle.hart_machine.proofs.BufferChanges.{are_of, same_are}
 use Rattle.hart_machine.proofs.MarkedSteps.{are_after, fills_alone, made_after, true_after}
 use Rattle.hart_machine.proofs.MarkedWorlds.{born_low, changed_low}
+use Rattle.hart_machine.proofs.StepsMade.{keeps_by, made_by, marked_by}
 use Rattle.hart_machine.proofs.machine.Machine.step.Goals as goal
+
+pub step_briefly-requires-clause-brief : goal.step_briefly-requires-clause-brief
+step_briefly-requires-clause-brief c = is_brief_step c.args.step c.in_default.not-CopyIn
+
+pub returns-in_default-clause-made : goal.returns-in_default-clause-made
+returns-in_default-clause-made c w inn = rw c.reply.ensures (c.step_briefly.ensures.made w inn)
+
+pub returns-in_default-clause-each_buffer : goal.returns-in_default-clause-each_buffer
+returns-in_default-clause-each_buffer c w inn = rw c.reply.ensures (c.step_briefly.ensures.each_buffer w inn)
 
 pub mark-requires : goal.mark-requires
 mark-requires c s is =
     let r = c.requires.world in
-    changed_low r.0 (plain_step r.0 c.args.step) _ _ (c.make-reply.ensures.changed r.0 r.1) (r.1).world.few s is
+    let x = c.in-CopyIn in
+    let y = c.copy_in-reply in
+    changed_low r.0 (plain_step r.0 (step.CopyIn x.hart x.address x.count)) _ _ (y.ensures.changed r.0 (r.1).world) (r.1).world.few s is
 
 pub mark-requires-2 : goal.mark-requires-2
 mark-requires-2 c s is =
     let r = c.requires.world in
-    born_low r.0 (plain_step r.0 c.args.step) _ _ (c.make-reply.ensures.changed r.0 r.1) (r.1).world.few s is
+    let x = c.in-CopyIn in
+    let y = c.copy_in-reply in
+    born_low r.0 (plain_step r.0 (step.CopyIn x.hart x.address x.count)) _ _ (y.ensures.changed r.0 (r.1).world) (r.1).world.few s is
 
 pub returns-clause-made : goal.returns-clause-made
 returns-clause-made c w inn =
-    let y = c.make-reply.ensures in
-    made_after c.args.self.now c.make-reply.new.self c.mark.new.self c.mark-2.new.self w c.args.step inn c.make-reply.result.reply c.make-reply.result.changed c.make-reply.result.born (y.made w inn) (y.changed w inn) (y.tables w inn) (y.each_buffer w inn) c.mark.ensures.harts c.mark.ensures.buffers c.mark.ensures.others c.mark-2.ensures.harts c.mark-2.ensures.buffers c.mark-2.ensures.others
+    let x = c.in-CopyIn in
+    let y = c.copy_in-reply in
+    let m = c.args.self.now in
+    let is = inn.world in
+    let made = made_by y.new.self y.result.reply w (step.CopyIn x.hart x.address x.count) _ x.is (y.ensures.made w is) in
+    let marks = marked_by w (step.CopyIn x.hart x.address x.count) _ x.is y.result.changed y.result.born (y.ensures.changed w is) in
+    let keeps = keeps_by m y.new.self w (step.CopyIn x.hart x.address x.count) _ x.is (y.ensures.tables w is) in
+    let are = are_of m y.new.self is.tables is.kernel y.result.reply x.is (same_are m y.new.self is.tables is.kernel (step.CopyIn x.hart x.address x.count) _ (λ h. refl) y.ensures.buffers) in
+    made_after c.args.self.now y.new.self c.mark.new.self c.mark-2.new.self w c.args.step inn y.result.reply y.result.changed y.result.born made marks keeps are c.mark.ensures.harts c.mark.ensures.buffers c.mark.ensures.others c.mark-2.ensures.harts c.mark-2.ensures.buffers c.mark-2.ensures.others
 
 pub returns-clause-buffers : goal.returns-clause-buffers
 returns-clause-buffers c w inn =
-    let y = c.make-reply.ensures in
-    fills_alone c.args.self.now c.make-reply.new.self c.mark.new.self c.mark-2.new.self w c.args.step inn c.make-reply.result.reply c.make-reply.result.changed c.make-reply.result.born (y.made w inn) (y.changed w inn) (y.tables w inn) (y.each_buffer w inn) c.mark.ensures.harts c.mark.ensures.buffers c.mark.ensures.others c.mark-2.ensures.harts c.mark-2.ensures.buffers c.mark-2.ensures.others
+    let x = c.in-CopyIn in
+    let y = c.copy_in-reply in
+    let m = c.args.self.now in
+    let is = inn.world in
+    let made = made_by y.new.self y.result.reply w (step.CopyIn x.hart x.address x.count) _ x.is (y.ensures.made w is) in
+    let marks = marked_by w (step.CopyIn x.hart x.address x.count) _ x.is y.result.changed y.result.born (y.ensures.changed w is) in
+    let keeps = keeps_by m y.new.self w (step.CopyIn x.hart x.address x.count) _ x.is (y.ensures.tables w is) in
+    let are = are_of m y.new.self is.tables is.kernel y.result.reply x.is (same_are m y.new.self is.tables is.kernel (step.CopyIn x.hart x.address x.count) _ (λ h. refl) y.ensures.buffers) in
+    fills_alone c.args.self.now y.new.self c.mark.new.self c.mark-2.new.self w c.args.step inn y.result.reply y.result.changed y.result.born made marks keeps are c.mark.ensures.harts c.mark.ensures.buffers c.mark.ensures.others c.mark-2.ensures.harts c.mark-2.ensures.buffers c.mark-2.ensures.others
 
 pub returns-clause-each_buffer : goal.returns-clause-each_buffer
 returns-clause-each_buffer c w inn =
-    let y = c.make-reply.ensures in
-    are_after c.args.self.now c.make-reply.new.self c.mark.new.self c.mark-2.new.self w c.args.step inn c.make-reply.result.reply c.make-reply.result.changed c.make-reply.result.born (y.made w inn) (y.changed w inn) (y.tables w inn) (y.each_buffer w inn) c.mark.ensures.harts c.mark.ensures.buffers c.mark.ensures.others c.mark-2.ensures.harts c.mark-2.ensures.buffers c.mark-2.ensures.others
+    let x = c.in-CopyIn in
+    let y = c.copy_in-reply in
+    let m = c.args.self.now in
+    let is = inn.world in
+    let made = made_by y.new.self y.result.reply w (step.CopyIn x.hart x.address x.count) _ x.is (y.ensures.made w is) in
+    let marks = marked_by w (step.CopyIn x.hart x.address x.count) _ x.is y.result.changed y.result.born (y.ensures.changed w is) in
+    let keeps = keeps_by m y.new.self w (step.CopyIn x.hart x.address x.count) _ x.is (y.ensures.tables w is) in
+    let are = are_of m y.new.self is.tables is.kernel y.result.reply x.is (same_are m y.new.self is.tables is.kernel (step.CopyIn x.hart x.address x.count) _ (λ h. refl) y.ensures.buffers) in
+    are_after c.args.self.now y.new.self c.mark.new.self c.mark-2.new.self w c.args.step inn y.result.reply y.result.changed y.result.born made marks keeps are c.mark.ensures.harts c.mark.ensures.buffers c.mark.ensures.others c.mark-2.ensures.harts c.mark-2.ensures.buffers c.mark-2.ensures.others
 
 pub returns-clause-identifiers : goal.returns-clause-identifiers
 returns-clause-identifiers c w inn asid =
-    let y = c.make-reply.ensures in
-    true_after c.args.self.now c.make-reply.new.self c.mark.new.self c.mark-2.new.self w c.args.step inn c.make-reply.result.reply c.make-reply.result.changed c.make-reply.result.born (y.made w inn) (y.changed w inn) (y.tables w inn) (y.each_buffer w inn) c.mark.ensures.harts c.mark.ensures.buffers c.mark.ensures.others c.mark-2.ensures.harts c.mark-2.ensures.buffers c.mark-2.ensures.others asid
+    let x = c.in-CopyIn in
+    let y = c.copy_in-reply in
+    let m = c.args.self.now in
+    let is = inn.world in
+    let made = made_by y.new.self y.result.reply w (step.CopyIn x.hart x.address x.count) _ x.is (y.ensures.made w is) in
+    let marks = marked_by w (step.CopyIn x.hart x.address x.count) _ x.is y.result.changed y.result.born (y.ensures.changed w is) in
+    let keeps = keeps_by m y.new.self w (step.CopyIn x.hart x.address x.count) _ x.is (y.ensures.tables w is) in
+    let are = are_of m y.new.self is.tables is.kernel y.result.reply x.is (same_are m y.new.self is.tables is.kernel (step.CopyIn x.hart x.address x.count) _ (λ h. refl) y.ensures.buffers) in
+    true_after c.args.self.now y.new.self c.mark.new.self c.mark-2.new.self w c.args.step inn y.result.reply y.result.changed y.result.born made marks keeps are c.mark.ensures.harts c.mark.ensures.buffers c.mark.ensures.others c.mark-2.ensures.harts c.mark-2.ensures.buffers c.mark-2.ensures.others asid

@@ -7,7 +7,6 @@ use Rattle.hart_machine.specs.Tenants.{IsTenant}
 use Rattle.hart_machine.specs.declared.tenant.Tenant.{Tenant}
 use Rattle.hart_machine.proofs.Watched.{alike, tells_residence, unlike}
 use Rattle.hart_machine.proofs.tenant.Tenant.copy_out.Goals as goal
-use Rattle.hart_machine.proofs.tenant.Tenant.copy_out.Goals.{then-before-after, else-before-after}
 
 pub receive-reply-requires-clause-ready : goal.receive-reply-requires-clause-ready
 receive-reply-requires-clause-ready c = rw c.residence-before.ensures.same c.requires.ready
@@ -18,24 +17,30 @@ residence-after-requires-clause-fits c = let b = c.residence-before.ensures in f
 pub residence-after-requires-clause-ready : goal.residence-after-requires-clause-ready
 residence-after-requires-clause-ready c = let r = c.requires.ready in c.receive-reply.ensures.still r.0 r.1 (rw c.residence-before.ensures.same r.2)
 
-pub returns-clause-changed : goal.returns-clause-changed
-returns-clause-changed c t u p q tenant after =
+pub returns-then-before-after-clause-changed : goal.returns-then-before-after-clause-changed
+returns-then-before-after-clause-changed c t u p q tenant after =
     let b = c.residence-before in
     let a = c.residence-after in
     let left : IsTenant c.receive-reply.new.self u q = subst (λ (w : Tenant). IsTenant w u q) a.ensures.same after in
-    tells_residence p q Store c.args.va.0 b.result.0 b.result.1 a.result.0 a.result.1 (b.ensures.first t p tenant) (b.ensures.next t p tenant) (a.ensures.first u q left) (a.ensures.next u q left)
-    c.if-before-after.result
-    (elim c.if-before-after.branch [
-      | then-before-after w ↦ λ is. absurd (true≢false (sym w.if-before-after.true ∙ sym w.result-is ∙ is))
-      | else-before-after w ↦ λ is. (alike _ _ w.if-before-after.false, alike _ _ (sym w.result-is ∙ is))
-    ])
-    (elim c.if-before-after.branch [
-      | then-before-after w ↦ λ is. inl (unlike _ _ w.if-before-after.true)
-      | else-before-after w ↦ λ is. inr (unlike _ _ (sym w.result-is ∙ is))
-    ])
+    tells_residence p q Store c.args.va.0 b.result.0 b.result.1 a.result.0 a.result.1 (b.ensures.first t p tenant) (b.ensures.next t p tenant) (a.ensures.first u q left) (a.ensures.next u q left) _
+    (λ is. absurd (true≢false (sym c.if-before-after.true ∙ is))) (λ is. inl (unlike _ _ c.if-before-after.true))
 
-pub returns-clause-keeps : goal.returns-clause-keeps
-returns-clause-keeps c others r =
+pub returns-then-before-after-clause-keeps : goal.returns-then-before-after-clause-keeps
+returns-then-before-after-clause-keeps c others r =
+    let b = c.residence-before.ensures in
+    let a = c.residence-after.ensures in
+    rw (a.same, a.frames) (c.receive-reply.ensures.keeps others (rw (b.frames, b.same) r))
+
+pub returns-else-before-after-clause-changed : goal.returns-else-before-after-clause-changed
+returns-else-before-after-clause-changed c t u p q tenant after =
+    let b = c.residence-before in
+    let a = c.residence-after in
+    let left : IsTenant c.receive-reply.new.self u q = subst (λ (w : Tenant). IsTenant w u q) a.ensures.same after in
+    tells_residence p q Store c.args.va.0 b.result.0 b.result.1 a.result.0 a.result.1 (b.ensures.first t p tenant) (b.ensures.next t p tenant) (a.ensures.first u q left) (a.ensures.next u q left) _
+    (λ is. (alike _ _ c.if-before-after.false, alike _ _ is)) (λ is. inr (unlike _ _ is))
+
+pub returns-else-before-after-clause-keeps : goal.returns-else-before-after-clause-keeps
+returns-else-before-after-clause-keeps c others r =
     let b = c.residence-before.ensures in
     let a = c.residence-after.ensures in
     rw (a.same, a.frames) (c.receive-reply.ensures.keeps others (rw (b.frames, b.same) r))
