@@ -56,10 +56,10 @@ field_step b n line e = let one : 1 + n ≡ suc n = omega arith in rw one (ap (o
 abbrev Cuts : List ℕ → ℕ → Type 0
 Cuts line n = fields_of line ≡ take n line ∷ fields_of (drop n line)
 
-field_alone : (b : ℕ) (line : List ℕ) → is_blank b ≡ false → ends_field line ≡ true → fields_of (b ∷ line) ≡ (b ∷ []) ∷ fields_of line
+pub field_alone : (b : ℕ) (line : List ℕ) → is_blank b ≡ false → ends_field line ≡ true → fields_of (b ∷ line) ≡ (b ∷ []) ∷ fields_of line
 field_alone b line e f = rw (e, f) refl
 
-field_goes_on : (b : ℕ) (line : List ℕ) → is_blank b ≡ false → ends_field line ≡ false → fields_of (b ∷ line) ≡ onto_first b (fields_of line)
+pub field_goes_on : (b : ℕ) (line : List ℕ) → is_blank b ≡ false → ends_field line ≡ false → fields_of (b ∷ line) ≡ onto_first b (fields_of line)
 field_goes_on b line e f = rw (e, f) refl
 
 -- a field ends before the first blank, or with the line

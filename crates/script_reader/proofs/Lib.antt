@@ -5,6 +5,12 @@ pub mod Ends
 pub mod Faults
 pub mod FieldKinds
 pub mod FieldValues
+pub mod FrontNumbers
+pub mod Kept
+pub mod OpenList
 pub mod Pairs
 pub mod Playable
 pub mod QuickLines
+pub mod Splitting
+pub mod ThreadExamples
+pub mod ThreadsKept

@@ -1,10 +1,10 @@
 -- What is read as a script can be played: the machine boots, and what a line names was declared.
-use Rattle.std.proofs.Common.{◌≡◌, ℕ, ◌+◌, ◌<◌, ◌≤◌, Bool, true, false, List, [], ◌∷◌, ◌++◌, length, Option, Some, None, Result, Ok, Err, refl, sym, subst, arith, get_or, length-append}
-use Rattle.std.specs.Prelude.{IfOk, All, nat_lt, nat_le, ◌&&◌, if◌then◌else◌}
-use Rattle.std.proofs.lemmas.List.Elements.{All-nil, All-cons, All-append}
-use Rattle.process_model.specs.Fields.{command_table, row_among, values_of}
-use Rattle.process_model.specs.Lines.{raw_lines, without_return, fields_of}
-use Rattle.process_model.specs.Script.{Draft, Script, Read, ◌>>=◌, with_item, row_named, test, in_order, item_of, in_limits, has_room, has_file, most_files, item_line, is_comment, is_ascii, some_item, fields_line, line_of, with_line, next_line, read_lines, whole_with, whole, longest_script, script_of, no_lines}
+use Rattle.std.proofs.Common.{◌≡◌, ℕ, ◌<◌, ◌≤◌, true, false, List, [], ◌∷◌, ◌++◌, length, Option, Some, None, Result, Ok, Err, refl, sym, subst, arith, get_or, length-append}
+use Rattle.std.specs.Prelude.{IfOk, All, nat_le, ◌&&◌, if◌then◌else◌}
+use Rattle.std.proofs.lemmas.List.Elements.{All-nil}
+use Rattle.process_model.specs.Fields.{command_table}
+use Rattle.process_model.specs.Lines.{raw_lines}
+use Rattle.process_model.specs.Script.{Draft, Script, Read, with_item, in_order, item_of, has_room, has_file, most_files, item_line, line_of, read_lines, whole_with, whole, longest_script, script_of, no_lines}
 use Rattle.process_model.specs.declared.config.Config.{Config}
 use Rattle.process_model.specs.declared.file.FileText.{FileText}
 use Rattle.process_model.specs.declared.image.OwnedImage.{OwnedImage}
@@ -20,6 +20,7 @@ use Rattle.process_model.specs.declared.script.Keyword.TheVariants as word
 use Rattle.script_reader.specs.Gives.{Answers}
 use Rattle.script_reader.specs.Playable.{CanBoot, FitsFile, IsDeclared, IsPlayable}
 use Rattle.script_reader.specs.declared.fault.ScriptError.{ScriptError}
+use Rattle.script_reader.proofs.Kept.{limited, below, at_most, all_and_one, one_file_more, HasPlace, item_has_place, IfItem, line_fits, IfRead, lines_kept}
 
 -- what holds of the lines so far, of an item after them, and of what a line says
 abbrev CanBootIf : Option Config → Type 0
@@ -38,18 +39,6 @@ Fits d (item.Image i) = Unit {0}
 Fits d (item.Boot c) = CanBoot c
 Fits d (item.Command c) = IsDeclared d.files d.images c
 
--- it is within its limits, and there is room for it
-abbrev HasPlace : Draft → Item → Type 0
-HasPlace d i = Fits d i × (has_room d i ≡ true)
-
-abbrev FitsIf : Draft → Option Item → Type 0
-FitsIf d None = Unit {0}
-FitsIf d (Some i) = HasPlace d i
-
-abbrev IsSoundRead : Read → Type 0
-IsSoundRead (Ok x) = IsSound x.0
-IsSoundRead (Err f) = Unit {0}
-
 -- more files and images keep what is said of them
 still_declared : (fs gs : List FileText) (is js : List OwnedImage) (c : Command) → length fs ≤ length gs → length is ≤ length js → IsDeclared fs is c → IsDeclared gs js c
 still_declared fs gs is js (command.One s) l m h = tt
@@ -66,16 +55,7 @@ still_declared fs gs is js command.Audit l m h = tt
 all_declared : (fs gs : List FileText) (is js : List OwnedImage) (cs : List Command) → length fs ≤ length gs → length is ≤ length js → All (IsDeclared fs is) cs → All (IsDeclared gs js) cs
 all_declared fs gs is js cs l m h = λ k d lt. still_declared fs gs is js (get_or cs k d) l m (h k d lt)
 
-pub all_and_one : {A : Type 0} (P : A → Type 0) (xs : List A) (x : A) → All P xs → P x → All P (xs ++ x ∷ [])
-all_and_one P xs x h one = All-append P xs (x ∷ []) h (All-cons P x [] one (All-nil P))
-
-below : (a b : ℕ) → nat_lt a b ≡ true → a < b
-below a b e = grind arith
-
-one_file_more : (fs : List FileText) (f : FileText) → nat_lt (length fs) most_files ≡ true → length (fs ++ f ∷ []) ≤ most_files
-one_file_more fs f room = omega (arith, length-append fs (f ∷ []), below (length fs) most_files room)
-
-item_kept : (d : Draft) (i : Item) → IsSound d → HasPlace d i → IsSound (with_item d i)
+item_kept : (d : Draft) (i : Item) → IsSound d → HasPlace (Fits d) (has_room d) i → IsSound (with_item d i)
 item_kept d (item.File f) s fits = record {
   boots = s.boots;
   few = one_file_more d.files f fits.1;
@@ -91,99 +71,56 @@ item_kept d (item.Image i) s fits = record {
 item_kept d (item.Boot c) s fits = record { boots = fits.0; few = s.few; files = s.files; commands = s.commands }
 item_kept d (item.Command c) s fits = record { boots = s.boots; few = s.few; files = s.files; commands = all_and_one (IsDeclared d.files d.images) d.commands c s.commands fits.0 }
 
--- steps in a row
-
-pub followed : {A B : Type 0} (r : Result A Cause) (f : A → Result B Cause) (Q : B → Type 0) → ((a : A) → IfOk (f a) Q) → IfOk (r >>= f) Q
-followed (Ok a) f Q g = g a
-followed (Err e) f Q g = tt
-
-pub then_fits : {A B : Type 0} (r : Result A Cause) (f : A → Result B Cause) (P : A → Type 0) (Q : B → Type 0) → IfOk r P → ((a : A) → P a → IfOk (f a) Q) → IfOk (r >>= f) Q
-then_fits (Ok a) f P Q p g = g a p
-then_fits (Err e) f P Q p g = tt
-
-pub tested : (b : Bool) (c : Cause) → IfOk (test b c) (λ u. b ≡ true)
-tested true c = refl
-tested false c = tt
-
-limited : (d : Draft) (b : Bool) (i : Item) → (b ≡ true → Fits d i) → IfOk (in_limits b i) (Fits d)
-limited d true i p = p refl
-limited d false i p = tt
-
-at_most : (a b : ℕ) → nat_le a b ≡ true → a ≤ b
-at_most a b e = grind arith
-
 shown : (d : Draft) (n count most : ℕ) → (has_file d n && nat_le count most) ≡ true → (n < length d.files) × (count ≤ most)
 shown d n count most e = (grind arith, grind arith)
 
 -- an item fits the lines before it
 item_fits : (d : Draft) (w : Keyword) (vs : List FieldValue) → IfOk (item_of d w vs) (Fits d)
-item_fits d word.File vs = limited d _ _ (λ e. e)
+item_fits d word.File vs = limited (Fits d) _ _ (λ e. e)
 item_fits d word.Image vs = tt
 item_fits d word.Elf vs = tt
-item_fits d word.Boot vs = limited d _ _ (λ e. e)
-item_fits d word.Start vs = limited d _ _ (λ e. below _ _ e)
+item_fits d word.Boot vs = limited (Fits d) _ _ (λ e. e)
+item_fits d word.Start vs = limited (Fits d) _ _ (λ e. below _ _ e)
 item_fits d word.Switch vs = tt
 item_fits d word.Trap vs = tt
 item_fits d word.Next vs = tt
 item_fits d word.Fill vs = tt
 item_fits d word.Evict vs = tt
 item_fits d word.Fetch vs = tt
-item_fits d word.Load vs = limited d _ _ (λ e. tt)
-item_fits d word.Store vs = limited d _ _ (λ e. tt)
+item_fits d word.Load vs = limited (Fits d) _ _ (λ e. tt)
+item_fits d word.Store vs = limited (Fits d) _ _ (λ e. tt)
 item_fits d word.Tramp vs = tt
 item_fits d word.Serve vs = tt
 item_fits d word.Fork vs = tt
-item_fits d word.Exec vs = limited d _ _ (λ e. below _ _ e)
+item_fits d word.Exec vs = limited (Fits d) _ _ (λ e. below _ _ e)
 item_fits d word.Sbrk vs = tt
 item_fits d word.Mmap vs = tt
 item_fits d word.Munmap vs = tt
-item_fits d word.CopyIn vs = limited d _ _ (λ e. tt)
-item_fits d word.CopyOut vs = limited d _ _ (λ e. at_most _ _ e)
-item_fits d word.Exit vs = limited d _ _ (λ e. tt)
-item_fits d word.Show vs = limited d _ _ (λ e. shown d _ _ _ e)
+item_fits d word.CopyIn vs = limited (Fits d) _ _ (λ e. tt)
+item_fits d word.CopyOut vs = limited (Fits d) _ _ (λ e. at_most _ _ e)
+item_fits d word.Exit vs = limited (Fits d) _ _ (λ e. tt)
+item_fits d word.Show vs = limited (Fits d) _ _ (λ e. shown d _ _ _ e)
 item_fits d word.Audit vs = tt
 item_fits d word.On vs = tt
 item_fits d word.Enter vs = tt
 item_fits d word.Leave vs = tt
 item_fits d word.Fix vs = tt
+item_fits d word.Pool vs = tt
+item_fits d word.List vs = tt
 
-item_line_fits : (d : Draft) (text : List ℕ) (fields : List (List ℕ)) → IfOk (item_line d text fields) (HasPlace d)
+item_line_fits : (d : Draft) (text : List ℕ) (fields : List (List ℕ)) → IfOk (item_line d text fields) (HasPlace (Fits d) (has_room d))
 unfolding item_line
-item_line_fits d text fields =
-    followed (row_named (row_among command_table text)) _ (HasPlace d)
-    (λ r. followed (test (in_order d r.word) _) _ (HasPlace d)
-    (λ u. followed (values_of r fields) _ (HasPlace d)
-    (λ vs. then_fits (item_of d r.word vs) _ (Fits d) (HasPlace d) (item_fits d r.word vs)
-    (λ i fits. then_fits (test (has_room d i) _) _ (λ u. has_room d i ≡ true) (HasPlace d) (tested (has_room d i) _) (λ u room. (fits, room))))))
+item_line_fits d text fields = item_has_place command_table (in_order d) (item_of d) (has_room d) (Fits d) (item_fits d) text fields
 
-some_fits : (d : Draft) (r : Result Item Cause) → IfOk r (HasPlace d) → IfOk (some_item r) (FitsIf d)
-some_fits d (Ok i) h = h
-some_fits d (Err c) h = tt
-
-fields_fit : (d : Draft) (fields : List (List ℕ)) → IfOk (fields_line d fields) (FitsIf d)
-fields_fit d [] = tt
-fields_fit d (text ∷ fields) = elim (is_comment text) as (λ b. IfOk (if b then Ok None else some_item (item_line d text fields)) (FitsIf d)) [ true ↦ tt | false ↦ some_fits d _ (item_line_fits d text fields) ]
-
-line_fits : (d : Draft) (line : List ℕ) → IfOk (line_of d line) (FitsIf d)
+line_has_place : (d : Draft) (line : List ℕ) → IfOk (line_of d line) (IfItem (HasPlace (Fits d) (has_room d)))
 unfolding line_of
-line_fits d line =
-    followed (test (nat_le (length line) _) _) _ (FitsIf d) (λ u. followed (test (is_ascii line) _) _ (FitsIf d) (λ u. fields_fit d (fields_of line)))
-
-line_kept : (d : Draft) (n : ℕ) (r : Result (Option Item) Cause) → IsSound d → IfOk r (FitsIf d) → IsSoundRead (with_line d n r)
-line_kept d n (Ok None) s fits = s
-line_kept d n (Ok (Some i)) s fits = item_kept d i s fits
-line_kept d n (Err c) s fits = tt
-
-lines_kept : (read : Read) (lines : List (List ℕ)) → IsSoundRead read → IsSoundRead (read_lines read lines)
-lines_kept read [] s = s
-lines_kept (Ok x) (line ∷ lines) s = lines_kept (next_line (Ok x) line) lines (line_kept x.0 (x.1 + 1) (line_of x.0 (without_return line)) s (line_fits x.0 (without_return line)))
-lines_kept (Err f) (line ∷ lines) s = lines_kept (Err f) lines tt
+line_has_place d line = line_fits (item_line d) (HasPlace (Fits d) (has_room d)) (item_line_fits d) line
 
 whole_with_playable : (d : Draft) (n : ℕ) (c : Option Config) → c ≡ d.config → IsSound d → IfOk (whole_with d n c) IsPlayable
 whole_with_playable d n None e s = tt
 whole_with_playable d n (Some c) e s = record { boots = subst CanBootIf (sym e) s.boots; few = s.few; files = s.files; commands = s.commands }
 
-whole_playable : (read : Read) → IsSoundRead read → IfOk (whole read) IsPlayable
+whole_playable : (read : Read) → IfRead IsSound read → IfOk (whole read) IsPlayable
 whole_playable (Ok x) s = whole_with_playable x.0 x.1 (x.0).config refl s
 whole_playable (Err f) s = tt
 
@@ -194,7 +131,7 @@ nothing_said = record { boots = tt; few = omega arith; files = All-nil FitsFile;
 script_playable : (bytes : List ℕ) → IfOk (script_of bytes) IsPlayable
 script_playable bytes =
     elim (nat_le (length bytes) longest_script) as (λ b. IfOk (if b then whole (read_lines (Ok (no_lines, 0)) (raw_lines bytes)) else Err (0, cause.TooLong)) IsPlayable) [
-      | true ↦ whole_playable (read_lines (Ok (no_lines, 0)) (raw_lines bytes)) (lines_kept (Ok (no_lines, 0)) (raw_lines bytes) nothing_said)
+      | true ↦ whole_playable (read_lines (Ok (no_lines, 0)) (raw_lines bytes)) (lines_kept line_of with_item IsSound (λ d i. HasPlace (Fits d) (has_room d) i) line_has_place item_kept (Ok (no_lines, 0)) (raw_lines bytes) nothing_said)
       | false ↦ tt
     ]
 

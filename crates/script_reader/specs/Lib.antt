@@ -1,5 +1,6 @@
 pub mod Alone
 pub mod Digits
+pub mod NumberFronts
 pub mod Gives
 pub mod Listed
 pub mod Pieces
@@ -7,3 +8,6 @@ pub mod Playable
 pub mod Quick
 pub mod Reading
 pub mod Rows
+pub mod WordOf
+pub mod CallAlone
+pub mod ThreadsPlayable

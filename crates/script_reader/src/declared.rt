@@ -1,6 +1,8 @@
 // Declarations: files, images, and what the machine is booted with.
 
-ghost use Rattle.std.specs.Prelude.{◌≡◌, Ok, IfOk};
+ghost use Rattle.std.specs.Prelude.{◌≡◌, IfOk};
+ghost use Rattle.process_model.specs.Script as words;
+ghost use Rattle.process_model.specs.declared.image.OwnedImage.TheVariants as owned;
 ghost use Rattle.script_reader.specs.Alone.{item_alone};
 
 use crate::limits::in_limits;
@@ -11,8 +13,8 @@ use std::alloc::{AllocError, Global};
 /// How many bytes a file may have.
 const LONGEST_FILE: usize = 65_536;
 
-pub fn file(alloc: Global, values: Vec<FieldValue>) -> Result<Item, Cause>
-    ensures { result ≡ item_alone Keyword.File values.items }
+pub fn file(alloc: Global, values: Vec<FieldValue>) -> Result<FileText, Cause>
+    ensures { result ≡ words.in_limits (words.fits_file (words.file_of_values values.items)) (words.file_of_values values.items) }
 {
     let length = index_at(&values, 0);
     let writable = writable_at(&values, 1);
@@ -23,20 +25,20 @@ pub fn file(alloc: Global, values: Vec<FieldValue>) -> Result<Item, Cause>
         writable,
         bytes,
     };
-    in_limits(within, Item::File(text))
+    in_limits(within, text)
 }
 
-pub fn image(alloc: Global, values: Vec<FieldValue>) -> Result<Item, AllocError>
-    ensures { IfOk result (λ item. Ok item ≡ item_alone Keyword.Image values.items) }
+pub fn image(alloc: Global, values: Vec<FieldValue>) -> Result<OwnedImage, AllocError>
+    ensures { IfOk result (λ image. image ≡ owned.Segments (words.segments_in values.items)) }
 {
     let segments = take_segments(alloc, values)?;
-    Ok(Item::Image(OwnedImage::Segments(segments)))
+    Ok(OwnedImage::Segments(segments))
 }
 
-pub fn elf(alloc: Global, values: Vec<FieldValue>) -> Item
-    ensures { Ok result ≡ item_alone Keyword.Elf values.items }
+pub fn elf(alloc: Global, values: Vec<FieldValue>) -> OwnedImage
+    ensures { result ≡ owned.Elf (words.bytes_at values.items 0) }
 {
-    Item::Image(OwnedImage::Elf(take_bytes(alloc, values, 0)))
+    OwnedImage::Elf(take_bytes(alloc, values, 0))
 }
 
 pub fn boot(values: &[FieldValue]) -> Result<Item, Cause>

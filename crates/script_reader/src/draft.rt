@@ -9,13 +9,13 @@ use std::alloc::{AllocError, Global};
 use std::marker::Model;
 
 /// How many files a script may declare.
-const MOST_FILES: usize = 16;
+pub const MOST_FILES: usize = 16;
 
 /// How many images a script may declare.
-const MOST_IMAGES: usize = 64;
+pub const MOST_IMAGES: usize = 64;
 
 /// How many lines may stand after `boot`.
-const MOST_COMMANDS: usize = 100_000;
+pub const MOST_COMMANDS: usize = 100_000;
 
 /// What the lines so far say.
 #[derive(Drop)]

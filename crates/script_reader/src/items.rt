@@ -11,7 +11,7 @@ use crate::fault::LineFault;
 use crate::limits::one;
 use crate::named::{enter, exec, fix, leave, on, show, start};
 use crate::steps::{evict, fetch, fill, next, switch, tramp, trap};
-use process_model::{Command, FieldValue, Item, Keyword};
+use process_model::{Cause, Command, FieldValue, Item, Keyword};
 use std::alloc::Global;
 
 /// The item that the values after a word make.
@@ -25,9 +25,9 @@ pub fn make_item(
 {
     let v = values.as_slice();
     match word {
-        Keyword::File => Ok(file(alloc, values)?),
-        Keyword::Image => Ok(image(alloc, values)?),
-        Keyword::Elf => Ok(elf(alloc, values)),
+        Keyword::File => Ok(Item::File(file(alloc, values)?)),
+        Keyword::Image => Ok(Item::Image(image(alloc, values)?)),
+        Keyword::Elf => Ok(Item::Image(elf(alloc, values))),
         Keyword::Boot => Ok(boot(v)?),
         Keyword::Start => Ok(start(draft, v)?),
         Keyword::Switch => Ok(one(switch(v))),
@@ -54,5 +54,6 @@ pub fn make_item(
         Keyword::Enter => Ok(enter(v)),
         Keyword::Leave => Ok(leave(v)),
         Keyword::Fix => Ok(fix(v)),
+        Keyword::Pool | Keyword::List => Err(LineFault::Cause(Cause::Word)),
     }
 }

@@ -36,7 +36,7 @@ pub fn trim_return(line: &[u8]) -> &[u8]
     }
 }
 
-fn is_blank(byte: u8) -> bool
+pub fn is_blank(byte: u8) -> bool
     ensures { result ≡ words.is_blank byte }
 {
     byte == b' ' || byte == b'\t'

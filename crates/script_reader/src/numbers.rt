@@ -42,7 +42,7 @@ pub fn hexadecimal_digit(byte: u8) -> Option<u64>
 }
 
 /// The value of a decimal digit.
-fn decimal_digit(byte: u8) -> Option<u64>
+pub fn decimal_digit(byte: u8) -> Option<u64>
     ensures { result ≡ digit_of 10 byte }
 {
     match byte {

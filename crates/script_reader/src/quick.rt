@@ -6,19 +6,12 @@ ghost use Rattle.process_model.specs.Fields.{one_number, two_numbers};
 ghost use Rattle.process_model.specs.declared.script.FieldKind.TheVariants as kind;
 ghost use Rattle.process_model.specs.declared.script.FieldValue.TheVariants as value;
 ghost use Rattle.process_model.specs.Lines.{fields_of};
-ghost use Rattle.script_reader.specs.Quick.{EndsWith, IsNext, Reads, SaysCommand};
+ghost use Rattle.script_reader.specs.Quick.{EndsWith, Reads, SaysCommand};
 
+use crate::fronts::next_number;
 use crate::lines::first_field;
 use crate::numbers::number;
 use process_model::{Command, LONGEST_COPY, Step, is_width};
-
-/// The number that comes next, and what follows it.
-fn next_number(line: &[u8]) -> Option<(u64, &[u8])>
-    ensures { IfSome result (λ found. IsNext line.now found.1.now kind.Number (value.Number found.0)) }
-{
-    let (field, rest) = first_field(line)?;
-    Some((number(field)?, rest))
-}
 
 /// Whether no field is left.
 fn is_over(line: &[u8]) -> bool

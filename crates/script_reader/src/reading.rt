@@ -1,10 +1,12 @@
 // What one line says, or its fault.
 
 ghost use Rattle.std.specs.Prelude.{◌≡◌, IfSome, Ok, Some};
+ghost use Rattle.std.specs.Option.{option_map};
 ghost use Rattle.process_model.specs.Lines.{fields_of};
 ghost use Rattle.process_model.specs.declared.script.Item.TheVariants as item;
 ghost use Rattle.process_model.specs.Script as words;
 ghost use Rattle.script_reader.specs.Gives.{Gives, Answers};
+ghost use Rattle.script_reader.specs.WordOf.{as_fields, word_in, word_of};
 
 use crate::draft::Draft;
 use crate::fault::{LineFault, ScriptError};
@@ -19,7 +21,7 @@ use std::alloc::Global;
 /// How many bytes a line may have, without its end: an image of 1 MiB in digits, and its word.
 const LONGEST_LINE: usize = 2_097_664;
 
-fn test(holds: bool, cause: Cause) -> Result<(), LineFault>
+pub fn test(holds: bool, cause: Cause) -> Result<(), LineFault>
     ensures { Gives (λ u. tt) result (words.test holds cause) }
 {
     if holds {
@@ -54,27 +56,35 @@ fn is_ascii(line: &[u8]) -> bool
     line.is_ascii()
 }
 
-/// What the fields of a line say; nothing where there are none, or a comment.
-fn fields_line(alloc: Global, draft: &Draft, line: &[u8]) -> Result<Option<Item>, LineFault>
-    ensures { Gives (λ x. x) result (words.fields_line draft.now (fields_of line.now)) }
+/// The word of a line, and the fields after it; nothing where there are none, or a comment.
+fn word_of_fields(line: &[u8]) -> Option<(&[u8], &[u8])>
+    ensures { option_map as_fields result ≡ word_in (fields_of line.now) }
 {
-    let Some((text, fields)) = first_field(line) else {
-        return Ok(None);
-    };
+    let (text, fields) = first_field(line)?;
     if is_comment(text) {
-        return Ok(None);
+        None
+    } else {
+        Some((text, fields))
     }
-    let item = item_line(alloc, draft, text, fields)?;
-    Ok(Some(item))
 }
 
-#[tactic(auto, unfolding(process_model::specs::Script::line_of))]
-fn read_line(alloc: Global, draft: &Draft, line: &[u8]) -> Result<Option<Item>, LineFault>
-    ensures { Gives (λ x. x) result (words.line_of draft.now line.now) }
+/// The same of a line that is neither too long nor has other bytes than ASCII.
+pub fn read_word(line: &[u8]) -> Result<Option<(&[u8], &[u8])>, LineFault>
+    ensures { Gives (option_map as_fields) result (word_of line.now) }
 {
     test(line.len() <= LONGEST_LINE, Cause::TooLong)?;
     test(is_ascii(line), Cause::NotAscii)?;
-    fields_line(alloc, draft, line)
+    Ok(word_of_fields(line))
+}
+
+fn read_line(alloc: Global, draft: &Draft, line: &[u8]) -> Result<Option<Item>, LineFault>
+    ensures { Gives (λ x. x) result (words.line_of draft.now line.now) }
+{
+    let Some((text, fields)) = read_word(line)? else {
+        return Ok(None);
+    };
+    let item = item_line(alloc, draft, text, fields)?;
+    Ok(Some(item))
 }
 
 /// The command of a line that can be read at once, where one more may stand.

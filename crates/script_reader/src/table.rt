@@ -3,6 +3,7 @@
 ghost use Rattle.std.specs.Prelude.{◌≡◌, map};
 ghost use Rattle.std.specs.Option.{option_map};
 ghost use Rattle.process_model.specs.Fields.{command_table, row_among};
+ghost use Rattle.process_model.specs.ThreadScript.{thread_table};
 
 use process_model::FieldKind::{Entry, Hex, Mode, Number, Policy, Segment, Signed, Slot};
 use process_model::{FieldKind, Keyword, Tail};
@@ -77,6 +78,35 @@ impl Row {
         ]
     }
 
+    fn all_for_threads() -> [Row; 17]
+        ensures { map seen result ≡ thread_table }
+    {
+        let none = Tail::Nothing;
+        let one: &'static [FieldKind] = &[Number];
+        let two: &'static [FieldKind] = &[Number, Number];
+        let three: &'static [FieldKind] = &[Number, Number, Number];
+        let four: &'static [FieldKind] = &[Number, Number, Number, Number];
+        [
+            make_row(b"file", Keyword::File, &[Number, Mode, Hex], none),
+            make_row(b"image", Keyword::Image, &[Segment], Tail::More(Segment)),
+            make_row(b"elf", Keyword::Elf, &[Hex], none),
+            make_row(b"pool", Keyword::Pool, two, none),
+            make_row(b"list", Keyword::List, one, none),
+            make_row(b"start", Keyword::Start, two, none),
+            make_row(b"fetch", Keyword::Fetch, one, none),
+            make_row(b"load", Keyword::Load, two, none),
+            make_row(b"store", Keyword::Store, three, none),
+            make_row(b"exec", Keyword::Exec, one, none),
+            make_row(b"sbrk", Keyword::Sbrk, &[Signed], none),
+            make_row(b"mmap", Keyword::Mmap, four, none),
+            make_row(b"munmap", Keyword::Munmap, two, none),
+            make_row(b"copyin", Keyword::CopyIn, two, none),
+            make_row(b"copyout", Keyword::CopyOut, &[Number, Hex], none),
+            make_row(b"exit", Keyword::Exit, &[Signed], none),
+            make_row(b"fork", Keyword::Fork, one, none),
+        ]
+    }
+
     fn find_among(rows: &[Row], text: &[u8]) -> Option<Row>
         ensures { option_map seen result ≡ row_among (map seen rows.now) text.now }
     {
@@ -93,6 +123,13 @@ impl Row {
         ensures { option_map seen result ≡ row_among command_table text.now }
     {
         Row::find_among(&Row::all(), text)
+    }
+
+    /// The row of a word of a file for threads.
+    pub fn find_for_threads(text: &[u8]) -> Option<Row>
+        ensures { option_map seen result ≡ row_among thread_table text.now }
+    {
+        Row::find_among(&Row::all_for_threads(), text)
     }
 
     /// The kind of a field by its place after the word; nothing where no field may stand.

@@ -1,0 +1,48 @@
+-- What holds of each file for threads that is read: nothing in it is left to be refused but by a start or by a call.
+use Rattle.std.specs.Prelude.{ℕ, ◌<◌, ◌≤◌, List, length, IsTrue, All}
+use Rattle.process_model.specs.Copies.{longest_copy}
+use Rattle.process_model.specs.Frames.{can_share}
+use Rattle.process_model.specs.Script.{most_files}
+use Rattle.process_model.specs.ThreadScript.{ThreadScript, has_list, most_calls, most_lists}
+use Rattle.process_model.specs.declared.call.Call.{Call}
+use Rattle.process_model.specs.declared.call.Call.TheVariants as call
+use Rattle.process_model.specs.declared.call.CallList.{CallList}
+use Rattle.process_model.specs.declared.call.ListedCall.{ListedCall}
+use Rattle.process_model.specs.declared.call.ListedCall.TheVariants as listed
+use Rattle.process_model.specs.declared.call.ListedStart.{ListedStart}
+use Rattle.process_model.specs.declared.call.Pool.{Pool}
+use Rattle.process_model.specs.declared.image.OwnedImage.{OwnedImage}
+use Rattle.script_reader.specs.Playable.{FitsFile}
+
+abbrev pub CanShare : Pool → Type 0
+CanShare p = IsTrue (can_share p.frames p.slots)
+
+abbrev pub HasList : List CallList → ℕ → Type 0
+HasList lists k = IsTrue (has_list lists k)
+
+-- the list that a fork names is there
+abbrev pub IsDeclaredCall : List CallList → Call → Type 0
+IsDeclaredCall lists (call.Fork k) = HasList lists k
+IsDeclaredCall lists c = Unit {0}
+
+-- so is the image that a line names, and what it copies is short enough
+abbrev pub IsDeclaredLine : List OwnedImage → List CallList → ListedCall → Type 0
+IsDeclaredLine images lists (listed.One c) = IsDeclaredCall lists c
+IsDeclaredLine images lists (listed.Exec n) = n < length images
+IsDeclaredLine images lists (listed.CopyOut a bytes) = length bytes ≤ longest_copy
+
+pub record IsList (images : List OwnedImage) (lists : List CallList) (l : CallList) : Type 0 where
+  pub number : l.number < most_lists
+  pub few : length l.calls ≤ most_calls
+  pub calls : All (IsDeclaredLine images lists) l.calls
+
+abbrev pub IsStart : List OwnedImage → List CallList → ListedStart → Type 0
+IsStart images lists s = (s.image < length images) × HasList lists s.list
+
+pub record IsThreadPlayable (s : ThreadScript) : Type 0 where
+  pub shares : CanShare s.pool
+  pub few : length s.files ≤ most_files
+  pub files : All FitsFile s.files
+  pub few_lists : length s.lists ≤ most_lists
+  pub lists : All (IsList s.images s.lists) s.lists
+  pub starts : All (IsStart s.images s.lists) s.starts

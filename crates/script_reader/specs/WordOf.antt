@@ -1,0 +1,26 @@
+-- The word of a line and the fields after it.
+use Rattle.std.specs.Prelude.{ℕ, List, [], ◌∷◌, Option, Some, None, Result, Ok, nat_le, length, if◌then◌else◌}
+use Rattle.std.specs.Borrow.{Bor}
+use Rattle.process_model.specs.Lines.{fields_of}
+use Rattle.process_model.specs.ReadLines.{◌>>=◌, test, is_ascii, is_comment, longest_line, some_item}
+use Rattle.process_model.specs.declared.script.Cause.{Cause}
+use Rattle.process_model.specs.declared.script.Cause.TheVariants as cause
+
+abbrev pub as_fields : Bor (List ℕ) × Bor (List ℕ) → List ℕ × List (List ℕ)
+as_fields found = (found.0.now, fields_of found.1.now)
+
+-- nothing of an empty line and of a comment
+abbrev pub word_in : List (List ℕ) → Option (List ℕ × List (List ℕ))
+word_in [] = None
+word_in (text ∷ fields) = if is_comment text then None else Some (text, fields)
+
+abbrev pub word_of : List ℕ → Result (Option (List ℕ × List (List ℕ))) Cause
+word_of line = do
+  short ← test (nat_le (length line) longest_line) cause.TooLong
+  ascii ← test (is_ascii line) cause.NotAscii
+  Ok (word_in (fields_of line))
+
+-- what it says with what follows it
+abbrev pub said_with : {I : Type 0} → (List ℕ → List (List ℕ) → Result I Cause) → Option (List ℕ × List (List ℕ)) → Result (Option I) Cause
+said_with item_line None = Ok None
+said_with item_line (Some x) = some_item (item_line x.0 x.1)

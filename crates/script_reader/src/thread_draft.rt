@@ -1,0 +1,198 @@
+// What the lines so far of a file for threads say.
+
+ghost use Rattle.std.specs.Prelude.{◌≡◌, OnOk, true, length, is_some};
+ghost use Rattle.process_model.specs.declared.script.ThreadItem.TheVariants as item;
+ghost use Rattle.process_model.specs.ThreadScript as words;
+
+use crate::draft::{MOST_COMMANDS, MOST_FILES, MOST_IMAGES};
+use process_model::{
+    CallList, FileText, Keyword, ListedCall, ListedStart, OwnedImage, Pool, Sequence, ThreadItem,
+};
+use std::alloc::{AllocError, Global};
+use std::marker::Model;
+
+/// How many lists a file may have.
+pub const MOST_LISTS: usize = 64;
+
+/// How many calls a list may have.
+const MOST_CALLS: usize = 10_000;
+
+/// What the lines so far say.
+#[derive(Drop)]
+pub struct ThreadDraft {
+    alloc: Global,
+    named: [bool; 64],
+    files: Vec<FileText>,
+    images: Vec<OwnedImage>,
+    pool: Option<Pool>,
+    lists: Vec<CallList>,
+    starts: Vec<ListedStart>,
+    lines: usize,
+}
+
+impl Model for ThreadDraft {
+    ghost use Rattle.process_model.specs.ThreadScript as words;
+
+    ghost Value = { words.ThreadDraft };
+
+    ghost view = { λ d. record { named = d.named; files = d.files.items; images = d.images.items; pool = d.pool; lists = d.lists.items; starts = d.starts.items; lines = d.lines } };
+}
+
+/// What the lines of a file declare.
+pub struct Declared {
+    pub files: Vec<FileText>,
+    pub images: Vec<OwnedImage>,
+    pub pool: Option<Pool>,
+    pub lists: Vec<CallList>,
+    pub starts: Vec<ListedStart>,
+}
+
+/// Puts a call into the last list.
+fn push_call(lists: &mut Vec<CallList>, call: ListedCall) -> Result<(), AllocError>
+    ensures { OnOk result (lists.new.items ≡ words.with_call lists.old.items call) }
+{
+    match lists.len().checked_sub(1) {
+        Some(last) => lists[last].calls.push(call),
+        None => Ok(()),
+    }
+}
+
+impl ThreadDraft {
+    /// Nothing is said; these are the numbers of the lists that the file has.
+    pub fn new(alloc: Global, named: [bool; 64]) -> ThreadDraft
+        ensures { result ≡ words.nothing_said named }
+    {
+        ThreadDraft {
+            alloc,
+            named,
+            files: Vec::new(alloc),
+            images: Vec::new(alloc),
+            pool: None,
+            lists: Vec::new(alloc),
+            starts: Vec::new(alloc),
+            lines: 0,
+        }
+    }
+
+    /// Whether a line with this word may stand next.
+    pub fn in_order(&self, word: Keyword) -> bool
+        ensures { result ≡ words.in_order self.now word }
+    {
+        let started = !self.starts.is_empty();
+        match word {
+            Keyword::File | Keyword::Image | Keyword::Elf | Keyword::Pool => self.pool.is_none(),
+            Keyword::List => self.pool.is_some() && !started,
+            Keyword::Start => self.pool.is_some(),
+            _ => !self.lists.is_empty() && !started,
+        }
+    }
+
+    /// Whether the image was declared.
+    pub fn has_image(&self, number: usize) -> bool
+        ensures { result ≡ words.has_image self.now number }
+    {
+        number < self.images.len()
+    }
+
+    /// Whether the list was begun.
+    pub fn has_list(&self, number: usize) -> bool
+        ensures { result ≡ words.has_list (self.now).lists number }
+    {
+        self.lists.iter().any(|list| list.number == number)
+    }
+
+    /// Whether the file has a list of this number.
+    pub fn is_named(&self, number: usize) -> bool
+        ensures { result ≡ words.is_named (self.now).named number }
+    {
+        match self.named.get(number) {
+            Some(named) => *named,
+            None => false,
+        }
+    }
+
+    /// How many calls the open list has.
+    fn open_calls(&self) -> usize
+        ensures { result ≡ words.open_calls (self.now).lists }
+    {
+        match self.lists.last() {
+            Some(list) => list.calls.as_slice().len(),
+            None => 0,
+        }
+    }
+
+    /// Whether there may be one more line of this sort.
+    pub fn has_room(&self, item: &ThreadItem) -> bool
+        ensures { result ≡ words.has_room self.now item.now }
+    {
+        match item {
+            ThreadItem::File(_) => self.files.len() < MOST_FILES,
+            ThreadItem::Image(_) => self.images.len() < MOST_IMAGES,
+            ThreadItem::Pool(_) => true,
+            ThreadItem::Call(_) => self.lines < MOST_COMMANDS && self.open_calls() < MOST_CALLS,
+            ThreadItem::List(_) | ThreadItem::Start(_) => self.lines < MOST_COMMANDS,
+        }
+    }
+
+    /// Begins a list.
+    fn add_list(&mut self, number: usize) -> Result<(), AllocError>
+        requires { words.has_room self.old (item.List number) ≡ true }
+        ensures { OnOk result (self.new ≡ words.with_item self.old (item.List number)) }
+    {
+        let calls = Sequence::from_vec(Vec::new(self.alloc));
+        self.lists.push(CallList { number, calls })?;
+        self.lines += 1;
+        Ok(())
+    }
+
+    /// Puts a call into the open list.
+    fn add_call(&mut self, call: ListedCall) -> Result<(), AllocError>
+        requires { words.has_room self.old (item.Call call) ≡ true }
+        ensures { OnOk result (self.new ≡ words.with_item self.old (item.Call call)) }
+    {
+        push_call(&mut self.lists, call)?;
+        self.lines += 1;
+        Ok(())
+    }
+
+    fn add_start(&mut self, start: ListedStart) -> Result<(), AllocError>
+        requires { words.has_room self.old (item.Start start) ≡ true }
+        ensures { OnOk result (self.new ≡ words.with_item self.old (item.Start start)) }
+    {
+        self.starts.push(start)?;
+        self.lines += 1;
+        Ok(())
+    }
+
+    /// Puts what a line says after what the lines before it say. Where memory is refused, the draft is lost.
+    pub fn add(&mut self, item: ThreadItem) -> Result<(), AllocError>
+        requires { words.has_room self.old item ≡ true }
+        ensures { OnOk result (self.new ≡ words.with_item self.old item) }
+    {
+        match item {
+            ThreadItem::File(file) => self.files.push(file)?,
+            ThreadItem::Image(image) => self.images.push(image)?,
+            ThreadItem::Pool(pool) => self.pool = Some(pool),
+            ThreadItem::List(number) => self.add_list(number)?,
+            ThreadItem::Call(call) => self.add_call(call)?,
+            ThreadItem::Start(start) => self.add_start(start)?,
+        }
+        Ok(())
+    }
+
+    pub fn into_declared(self) -> Declared
+        ensures files { result.files.items ≡ self.files }
+        ensures images { result.images.items ≡ self.images }
+        ensures pool { result.pool ≡ self.pool }
+        ensures lists { result.lists.items ≡ self.lists }
+        ensures starts { result.starts.items ≡ self.starts }
+    {
+        Declared {
+            files: self.files,
+            images: self.images,
+            pool: self.pool,
+            lists: self.lists,
+            starts: self.starts,
+        }
+    }
+}

@@ -1,0 +1,57 @@
+// What a line of a file for threads says, by its word and its values.
+
+ghost use Rattle.process_model.specs.ThreadScript as words;
+ghost use Rattle.script_reader.specs.Gives.{Gives};
+
+use crate::declared::{elf, file, image};
+use crate::fault::LineFault;
+use crate::thread_calls::{copy_in, copy_out, exit, fetch, load, mmap, munmap, sbrk, store};
+use crate::thread_draft::ThreadDraft;
+use crate::thread_named::{exec, fork, list, pool, start};
+use process_model::{Cause, FieldValue, Keyword, ThreadItem};
+use std::alloc::Global;
+
+/// The item that the values after a word make.
+pub fn make_item(
+    alloc: Global,
+    draft: &ThreadDraft,
+    word: Keyword,
+    values: Vec<FieldValue>,
+) -> Result<ThreadItem, LineFault>
+    ensures { Gives (λ x. x) result (words.item_of draft.now word values.items) }
+{
+    let v = values.as_slice();
+    match word {
+        Keyword::File => Ok(ThreadItem::File(file(alloc, values)?)),
+        Keyword::Image => Ok(ThreadItem::Image(image(alloc, values)?)),
+        Keyword::Elf => Ok(ThreadItem::Image(elf(alloc, values))),
+        Keyword::Pool => Ok(pool(v)?),
+        Keyword::List => Ok(list(draft, v)?),
+        Keyword::Start => Ok(start(draft, v)?),
+        Keyword::Fetch => Ok(fetch(v)),
+        Keyword::Load => Ok(load(v)?),
+        Keyword::Store => Ok(store(v)?),
+        Keyword::Exec => Ok(exec(draft, v)?),
+        Keyword::Sbrk => Ok(sbrk(v)),
+        Keyword::Mmap => Ok(mmap(v)),
+        Keyword::Munmap => Ok(munmap(v)),
+        Keyword::CopyIn => Ok(copy_in(v)?),
+        Keyword::CopyOut => Ok(copy_out(alloc, values)?),
+        Keyword::Exit => Ok(exit(v)?),
+        Keyword::Fork => Ok(fork(draft, v)?),
+        Keyword::Boot
+        | Keyword::Switch
+        | Keyword::Trap
+        | Keyword::Next
+        | Keyword::Fill
+        | Keyword::Evict
+        | Keyword::Tramp
+        | Keyword::Serve
+        | Keyword::Show
+        | Keyword::Audit
+        | Keyword::On
+        | Keyword::Enter
+        | Keyword::Leave
+        | Keyword::Fix => Err(LineFault::Cause(Cause::Word)),
+    }
+}

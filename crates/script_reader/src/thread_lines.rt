@@ -1,0 +1,126 @@
+// The lines of a file for threads, one after the other.
+
+ghost use Rattle.std.specs.Prelude.{◌≡◌, ◌≤◌, Ok, IfOk, IfSome, length, replicate, ℕ, false, true};
+ghost use Rattle.process_model.specs.Lines.{fields_of, raw_lines};
+ghost use Rattle.process_model.specs.ReadLines.{with_said};
+ghost use Rattle.process_model.specs.ThreadScript as words;
+ghost use Rattle.script_reader.specs.Gives.{Answers, Gives};
+
+use crate::fault::{LineFault, ScriptError};
+use crate::lines::{first_field, first_line, trim_return};
+use crate::numbers::number;
+use crate::reading::{read_word, test};
+use crate::table::Row;
+use crate::thread_draft::{MOST_LISTS, ThreadDraft};
+use crate::thread_items::make_item;
+use crate::values::read_values;
+use process_model::{Cause, ThreadItem};
+use std::alloc::Global;
+
+/// What a line with a word says.
+#[tactic(auto, unfolding(process_model::specs::ThreadScript::item_line))]
+fn item_line(
+    alloc: Global,
+    draft: &ThreadDraft,
+    text: &[u8],
+    fields: &[u8],
+) -> Result<ThreadItem, LineFault>
+    ensures { Gives (λ x. x) result (words.item_line draft.now text.now (fields_of fields.now)) }
+{
+    let row = Row::find_for_threads(text).ok_or(LineFault::Cause(Cause::Word))?;
+    test(draft.in_order(row.word), Cause::Order)?;
+    let values = read_values(alloc, &row, fields)??;
+    let item = make_item(alloc, draft, row.word, values)?;
+    test(draft.has_room(&item), Cause::TooMany)?;
+    Ok(item)
+}
+
+fn read_line(
+    alloc: Global,
+    draft: &ThreadDraft,
+    line: &[u8],
+) -> Result<Option<ThreadItem>, LineFault>
+    ensures said { Gives (λ x. x) result (words.line_of draft.now line.now) }
+    ensures room { IfOk result (λ said. IfSome said (λ item. words.has_room draft.now item ≡ true)) }
+{
+    let Some((text, fields)) = read_word(line)? else {
+        return Ok(None);
+    };
+    let item = item_line(alloc, draft, text, fields)?;
+    Ok(Some(item))
+}
+
+/// Adds what a line says to the lines before it.
+fn add_line(
+    alloc: Global,
+    draft: &mut ThreadDraft,
+    number: u64,
+    line: &[u8],
+) -> Result<(), ScriptError>
+    ensures { Answers (λ u. (draft.new, number)) result (with_said words.with_item draft.old number (words.line_of draft.old line.now)) }
+{
+    match read_line(alloc, draft, line) {
+        Ok(None) => Ok(()),
+        Ok(Some(item)) => match draft.add(item) {
+            Ok(()) => Ok(()),
+            Err(_) => Err(ScriptError::Memory),
+        },
+        Err(LineFault::Memory) => Err(ScriptError::Memory),
+        Err(LineFault::Cause(cause)) => Err(ScriptError::Line(number, cause)),
+    }
+}
+
+/// Adds what the lines of a text say to an empty draft, and tells how many they are.
+pub fn read_lines(alloc: Global, draft: &mut ThreadDraft, text: &[u8]) -> Result<u64, ScriptError>
+    ensures read { Answers (λ lines. (draft.new, lines)) result (words.read_lines (Ok (draft.old, 0)) (raw_lines text.now)) }
+    ensures few { IfOk result (λ lines. lines ≤ length text.now) }
+{
+    let mut number = 0u64;
+    let mut left = text;
+    'lines: while !left.is_empty() {
+        let (line, after) = first_line(left);
+        number += 1;
+        add_line(alloc, draft, number, trim_return(line))?;
+        left = after;
+    }
+    Ok(number)
+}
+
+/// The number of the list that a line begins, whatever stands before it.
+fn list_begun(line: &[u8]) -> Option<usize>
+    ensures { (k : ℕ) → words.is_number k result ≡ words.begins k (fields_of line.now) }
+{
+    let (text, rest) = first_field(line)?;
+    if text != b"list".as_slice() {
+        return None;
+    }
+    let (field, rest) = first_field(rest)?;
+    if first_field(rest).is_some() {
+        return None;
+    }
+    Some(number(field)? as usize)
+}
+
+fn none_named() -> [bool; 64]
+    ensures { result ≡ replicate 64 false }
+{
+    [false; 64]
+}
+
+/// For each number of a list, whether a line of a text begins that list.
+pub fn lists_named(text: &[u8]) -> [bool; 64]
+    ensures { result ≡ words.lists_named (raw_lines text.now) }
+{
+    let mut named = none_named();
+    let mut left = text;
+    'lines: while !left.is_empty() {
+        let (line, after) = first_line(left);
+        if let Some(number) = list_begun(trim_return(line))
+            && number < MOST_LISTS
+        {
+            named[number] = true;
+        }
+        left = after;
+    }
+    named
+}
