@@ -1,5 +1,6 @@
 // Readers and writers that fail in the middle.
 
+use crate::mapped_file::script_and_text;
 use audit_player::{PlayError, Reader, Writer, play};
 use std::io;
 use std::io::{Read, Write};
@@ -22,11 +23,12 @@ impl Read for FailingReader<'_> {
     }
 }
 
-/// A writer that takes one byte a call, and fails when it is full.
+/// A writer that takes one byte a call, and fails when it is full: by an error, or by taking nothing.
 #[derive(Drop)]
 struct FailingWriter {
     written: Vec<u8>,
     room: usize,
+    tells: bool,
 }
 
 impl Write for FailingWriter {
@@ -34,10 +36,14 @@ impl Write for FailingWriter {
         let Some(first) = buf.first() else {
             return Ok(0);
         };
-        if self.written.len() >= self.room || self.written.push(*first).is_err() {
-            return Err(io::Error::from(io::ErrorKind::BrokenPipe));
+        if self.written.len() < self.room && self.written.push(*first).is_ok() {
+            return Ok(1);
         }
-        Ok(1)
+        if self.tells {
+            Err(io::Error::from(io::ErrorKind::BrokenPipe))
+        } else {
+            Ok(0)
+        }
     }
 
     fn flush(&mut self) -> io::Result<()> {
@@ -45,42 +51,46 @@ impl Write for FailingWriter {
     }
 }
 
+/// Each read fails in turn, the one that would tell the end too: many of the bytes before it are a whole script.
 #[test]
-fn tells_a_failed_read(rt: HostRuntime) -> Result<(), Fail> {
-    let script = "boot 1 64 1 full\n";
-    for (count, _) in script.bytes().enumerate() {
-        let bytes = script.as_bytes();
-        assert!(rt; count <= bytes.len());
+fn tells_each_failed_read(rt: HostRuntime) -> Result<(), Fail> {
+    let (script, _) = script_and_text(rt.alloc())?;
+    let whole = script.as_bytes();
+    for count in 0..=whole.len() {
         let mut text = Vec::new(rt.alloc());
         let mut reader = Reader::new(FailingReader {
-            bytes: &bytes[..count],
+            bytes: &whole[..count],
         });
         let mut writer = Writer::new(&mut text);
         let result = play(rt.alloc(), &mut reader, &mut writer);
         assert_eq!(rt; result, Err(PlayError::Io), "after {count} bytes");
-        assert!(rt; text.is_empty());
+        assert!(rt; text.is_empty(), "after {count} bytes");
     }
     Ok(())
 }
 
+/// Each write fails in turn, and behind the last none.
 #[test]
-fn tells_a_failed_write(rt: HostRuntime) -> Result<(), Fail> {
-    let script = "image 0x1000:0x1000:rw:-\nboot 1 64 1 full\nstart 0\non 0 0\nload 0 0x1000 8\n";
-    let whole = "ok\nslot 0\nok\nvalue 0x0\n".as_bytes();
+fn tells_each_failed_write(rt: HostRuntime) -> Result<(), Fail> {
+    let (script, text) = script_and_text(rt.alloc())?;
+    let whole = text.as_bytes();
     for room in 0..=whole.len() {
-        let mut reader = Reader::new(script.as_bytes());
-        let mut writer = Writer::new(FailingWriter {
-            written: Vec::new(rt.alloc()),
-            room,
-        });
-        let result = play(rt.alloc(), &mut reader, &mut writer);
-        let want = if room < whole.len() {
-            Err(PlayError::Io)
-        } else {
-            Ok(())
-        };
-        assert_eq!(rt; result, want, "with room for {room}");
-        assert_eq!(rt; writer.into_inner().written.as_slice(), &whole[..room]);
+        for tells in [true, false] {
+            let mut reader = Reader::new(script.as_bytes());
+            let mut writer = Writer::new(FailingWriter {
+                written: Vec::new(rt.alloc()),
+                room,
+                tells,
+            });
+            let result = play(rt.alloc(), &mut reader, &mut writer);
+            let want = if room < whole.len() {
+                Err(PlayError::Io)
+            } else {
+                Ok(())
+            };
+            assert_eq!(rt; result, want, "with room for {room}");
+            assert_eq!(rt; writer.into_inner().written.as_slice(), &whole[..room]);
+        }
     }
     Ok(())
 }

@@ -1,0 +1,75 @@
+// A script that maps a file, stores to it and shows what went back.
+
+use std::alloc::{AllocError, Global};
+
+/// The lines of the script, each with what its beginnings are and with what it answers.
+///
+/// The letter below a byte tells what the line is up to that byte: refused by `W` Word, `C` Count, `N` Number or
+/// `F` Field, or a dot where it stands. A line that stands after `boot` answers the same wherever it was cut.
+pub fn lines() -> [(&'static str, &'static str, &'static str); 19] {
+    [
+        ("file 5000 rw 6162", "WWWCCCCCCCCCCF.F.", ""),
+        (
+            "image 0x0:0x1000:rx:13050000 0x1000:0x1800:rw:-",
+            "WWWWCCFFFFFFFFFFFFFFF.F.F.F..FFFFFFFFFFFFFFFFF.",
+            "",
+        ),
+        ("boot 1 64 4 full", "WWWCCCCCCCCCFFF.", "ok\n"),
+        ("start 0", "WWWWCC.", "slot 0\n"),
+        ("on 0 0", "WCCCC.", "ok\n"),
+        ("enter 0", "WWWWCC.", "ok\n"),
+        (
+            "mmap 0 6000 3 1 0",
+            "WWWCCCCCCCCCCCCC.",
+            "at 0x3fffffc000\n",
+        ),
+        ("leave 0", "WWWWCC.", "ok\n"),
+        (
+            "load 0 0x3fffffd388 1",
+            "WWWCCCCCCCCCCCCCCCCC.",
+            "fault 13\n",
+        ),
+        ("fix 0", "WWCC.", "ready\n"),
+        (
+            "load 0 0x3fffffd388 1",
+            "WWWCCCCCCCCCCCCCCCCC.",
+            "value 0x0\n",
+        ),
+        (
+            "store 0 0x3fffffd387 1 0x7a",
+            "WWWWCCCCCCCCCCCCCCCCCCC.N..",
+            "fault 15\n",
+        ),
+        ("fix 0", "WWCC.", "ready\n"),
+        (
+            "store 0 0x3fffffd387 1 0x7a",
+            "WWWWCCCCCCCCCCCCCCCCCCC.N..",
+            "stored\n",
+        ),
+        (
+            "store 0 0x3fffffd388 1 0x7b",
+            "WWWWCCCCCCCCCCCCCCCCCCC.N..",
+            "stored\n",
+        ),
+        ("enter 0", "WWWWCC.", "ok\n"),
+        (
+            "munmap 0 0x3fffffc000 6000",
+            "WWWWWCCCCCCCCCCCCCCCCC....",
+            "ok\n",
+        ),
+        ("show 0 4998 4", "WWWCCCCCCCCC.", "file 5000 007a\n"),
+        ("show 0 0 2", "WWWCCCCCC.", "file 5000 6162\n"),
+    ]
+}
+
+/// The whole script, and its text.
+pub fn script_and_text(alloc: Global) -> Result<(String, String), AllocError> {
+    let mut script = String::new(alloc);
+    let mut text = String::new(alloc);
+    for (line, _, reply) in lines() {
+        script.push_str(line)?;
+        script.push_str("\n")?;
+        text.push_str(reply)?;
+    }
+    Ok((script, text))
+}
