@@ -1,0 +1,102 @@
+-- Lists of entries: one that is taken out, and two lists behind one another. Crates above use these.
+use Rattle.std.proofs.Common.{◌≡◌, ◌⊎◌, inl, inr, ℕ, ◌+◌, ◌==◌, Bool, true, false, cond, List, [], ◌∷◌, ◌++◌, length, refl, sym, ap, ◌∙◌, subst, arith}
+use Rattle.std.specs.Prelude.{◌&&◌}
+use Rattle.std.proofs.lemmas.Bool.Decides.{eqb_tells}
+use Rattle.vouchers.specs.Entries.{Entry, entry, same, same_name, without, Has}
+
+name_is : (xs ys : List ℕ) → same_name xs ys ≡ true → xs ≡ ys
+name_is [] [] e = refl
+name_is [] (y ∷ ys) e = absurd (cc)
+name_is (x ∷ xs) [] e = absurd (cc)
+name_is (x ∷ xs) (y ∷ ys) e = elim (eqb_tells x y) as (λ _. x ∷ xs ≡ y ∷ ys) [
+  | inl t ↦ rw t.1 (ap (λ zs. y ∷ zs) (name_is xs ys (rw (← ap (λ b. b && same_name xs ys) t.0) e)))
+  | inr t ↦ absurd (let no : false ≡ true = sym (ap (λ b. b && same_name xs ys) t.0) ∙ e in cc)
+]
+
+pub same_is : (a b : Entry) → same a b ≡ true → a ≡ b
+same_is a b e = elim (eqb_tells a.children b.children) as (λ _. a ≡ b) [
+  | inl t ↦ entry_is (name_is a.name b.name (sym (ap (λ q. q && same_name a.name b.name) t.0) ∙ e)) t.1
+  | inr t ↦ absurd (let no : false ≡ true = sym (ap (λ q. q && same_name a.name b.name) t.0) ∙ e in cc)
+]
+  where
+    entry_is : a.name ≡ b.name → a.children ≡ b.children → entry a.name a.children ≡ entry b.name b.children
+    entry_is n c = ap (λ m. entry m a.children) n ∙ ap (λ k. entry b.name k) c
+
+name_same : (xs : List ℕ) → same_name xs xs ≡ true
+name_same [] = refl
+name_same (x ∷ xs) = elim (eqb_tells x x) as (λ _. ((x == x) && same_name xs xs) ≡ true) [
+  | inl t ↦ rw t.0 (name_same xs)
+  | inr t ↦ absurd (t.1 refl)
+]
+
+pub same_self : (a : Entry) → same a a ≡ true
+same_self a = elim (eqb_tells a.children a.children) as (λ _. ((a.children == a.children) && same_name a.name a.name) ≡ true) [
+  | inl t ↦ rw t.0 (name_same a.name)
+  | inr t ↦ absurd (t.1 refl)
+]
+
+pub tells : (b : Bool) → (b ≡ true) ⊎ (b ≡ false)
+tells true = inl refl
+tells false = inr refl
+
+-- what is left was there
+pub without_had : (e x : Entry) (xs : List Entry) → Has x (without e xs) → Has x xs
+without_had e x [] h = h
+without_had e x (y ∷ ys) h = elim (tells (same e y)) as (λ _. Has x (y ∷ ys)) [
+  | inl t ↦ inr (subst (λ b. Has x (cond b ys (y ∷ without e ys))) t h)
+  | inr t ↦ later (without_had e x ys) (subst (λ b. Has x (cond b ys (y ∷ without e ys))) t h)
+]
+  where
+    later : (Has x (without e ys) → Has x ys) → Has x (y ∷ without e ys) → Has x (y ∷ ys)
+    later rest (inl is) = inl is
+    later rest (inr r) = inr (rest r)
+
+-- what was there is left, or is what was taken out
+pub had_without : (e x : Entry) (xs : List Entry) → Has x xs → (x ≡ e) ⊎ Has x (without e xs)
+had_without e x [] h = absurd h
+had_without e x (y ∷ ys) h = elim (tells (same e y)) as (λ _. (x ≡ e) ⊎ Has x (without e (y ∷ ys))) [
+  | inl t ↦ subst (λ b. (x ≡ e) ⊎ Has x (cond b ys (y ∷ without e ys))) (sym t) (taken t h)
+  | inr t ↦ subst (λ b. (x ≡ e) ⊎ Has x (cond b ys (y ∷ without e ys))) (sym t) (passed (had_without e x ys) h)
+]
+  where
+    taken : same e y ≡ true → Has x (y ∷ ys) → (x ≡ e) ⊎ Has x ys
+    taken t (inl is) = inl (is ∙ sym (same_is e y t))
+    taken t (inr r) = inr r
+
+    further : (x ≡ e) ⊎ Has x (without e ys) → (x ≡ e) ⊎ Has x (y ∷ without e ys)
+    further (inl is) = inl is
+    further (inr r) = inr (inr r)
+
+    passed : (Has x ys → (x ≡ e) ⊎ Has x (without e ys)) → Has x (y ∷ ys) → (x ≡ e) ⊎ Has x (y ∷ without e ys)
+    passed rest (inl is) = inr (inl is)
+    passed rest (inr r) = further (rest r)
+
+pub length-without : (e : Entry) (xs : List Entry) → Has e xs → length (without e xs) + 1 ≡ length xs
+length-without e [] h = absurd h
+length-without e (y ∷ ys) h = elim (tells (same e y)) as (λ _. length (without e (y ∷ ys)) + 1 ≡ length (y ∷ ys)) [
+  | inl t ↦ rw t (omega arith)
+  | inr t ↦ rw t (there (length-without e ys) h t)
+]
+  where
+    there : (Has e ys → length (without e ys) + 1 ≡ length ys) → Has e (y ∷ ys) → same e y ≡ false → length (y ∷ without e ys) + 1 ≡ length (y ∷ ys)
+    there rest (inl is) t = absurd (let no : true ≡ false = sym (same_self e) ∙ (ap (same e) is ∙ t) in cc)
+    there rest (inr r) t = let k = rest r in omega (arith, k)
+
+-- two lists
+pub has_left : (x : Entry) (xs ys : List Entry) → Has x xs → Has x (xs ++ ys)
+has_left x [] ys h = absurd h
+has_left x (z ∷ zs) ys (inl is) = inl is
+has_left x (z ∷ zs) ys (inr r) = inr (has_left x zs ys r)
+
+pub has_right : (x : Entry) (xs ys : List Entry) → Has x ys → Has x (xs ++ ys)
+has_right x [] ys h = h
+has_right x (z ∷ zs) ys h = inr (has_right x zs ys h)
+
+pub has_either : (x : Entry) (xs ys : List Entry) → Has x (xs ++ ys) → Has x xs ⊎ Has x ys
+has_either x [] ys h = inr h
+has_either x (z ∷ zs) ys (inl is) = inl (inl is)
+has_either x (z ∷ zs) ys (inr r) = further (has_either x zs ys r)
+  where
+    further : Has x zs ⊎ Has x ys → Has x (z ∷ zs) ⊎ Has x ys
+    further (inl h) = inl (inr h)
+    further (inr h) = inr h
