@@ -1,0 +1,206 @@
+-- A copy, run by run, is what the model tells of it, over any store and any files.
+use Rattle.std.proofs.Common.{◌≡◌, ◌⊎◌, ℕ, zero, suc, ◌+◌, ◌-◌, ◌<◌, ◌≤◌, ◌%◌, ◌==◌, Bool, true, false, Option, None, Some, Result, Ok, Err, List, [], ◌∷◌, ◌++◌, length, take, drop, refl, ap, sym, subst, ◌∙◌, arith, inl, inr}
+use Rattle.std.proofs.lemmas.List.{append-nil, append_assoc}
+use Rattle.address_space.specs.Agreement.{Body, IsSpace}
+use Rattle.fault_rules.specs.Allowed.{can_reside, denied_otherwise}
+use Rattle.fault_rules.specs.Resides.{CanReside, is_shared_by}
+use Rattle.fault_rules.specs.Serves.{IsEnd, served_moves}
+use Rattle.fault_rules.specs.declared.service.Served.{Served}
+use Rattle.fault_rules.specs.declared.service.Served.TheVariants as served
+use Rattle.frame_store.specs.View.{Tallies, View}
+use Rattle.hart_calls.specs.Dry.{WasDry}
+use Rattle.hart_calls.specs.Wants.{is_dry_at, round, Want}
+use Rattle.hart_calls.proofs.Alike.{made_alike}
+use Rattle.hart_calls.proofs.Filing.{served_reads}
+use Rattle.process_model.specs.Around.{Around, is_shared_page, need_at, Progress, reached, resident_at, unless_dry, unless_resident}
+use Rattle.process_model.specs.Copies.{reached_in}
+use Rattle.process_model.specs.Files.{File}
+use Rattle.process_model.specs.Frames.{part_need, resident_need, resident_need_of, unless_through}
+use Rattle.process_model.specs.PageMap.{get}
+use Rattle.process_model.specs.PageMoves.{files_after, files_after-append, PageMove}
+use Rattle.process_model.specs.Process.{Page, Process, regions}
+use Rattle.process_model.specs.ReachedPages.{no_alignment, reached_at_once, resident_again}
+use Rattle.process_model.specs.Regions.{copy_rule}
+use Rattle.process_model.specs.Residence.{goes_through, is_resident, is_resident_page, made_resident, made_resident_from, parts_from, region_on, taken_over_unless}
+use Rattle.process_model.specs.declared.step.Refusal.{Refusal}
+use Rattle.sv39_entry.specs.Address.{page_of}
+use Rattle.sv39_entry.specs.declared.access.Access.{Access}
+use Rattle.sv39_entry.specs.declared.rule.Rule.{Rule}
+use Rattle.sv39_entry.specs.declared.rule.Rule.TheVariants as rule
+use Rattle.table_walk.specs.Tables.{Tables}
+use Rattle.user_copy.specs.Reaching.{body_at, Place, Reaches, Words}
+use Rattle.user_copy.specs.declared.short.Stop.TheVariants.{Denied, Unpromised}
+
+-- a resident page is left as it is, and takes nothing
+
+module _ (files : List File) (fresh : ℕ) (c : Bool) (p : Process) (kind : Access) (page : ℕ) where
+  same_from : (o : Option Page) → is_resident_page kind (region_on p page) o ≡ true → made_resident_from files fresh c p kind page o ≡ p
+  same_from None is = absurd (cc)
+  same_from (Some s) is = ap (λ (b : Bool). taken_over_unless fresh c p page s b) is
+
+  pub resident_same : is_resident p kind page ≡ true → made_resident files fresh c p kind page ≡ p
+  resident_same is = same_from (get p.settled page) is
+
+  none_from : (o : Option Page) → is_resident_page kind (region_on p page) o ≡ true → resident_need_of c p kind page o ≡ 0
+  none_from None is = absurd (cc)
+  none_from (Some s) is = ap (λ (b : Bool). unless_through (parts_from c s) b) is
+
+  pub resident_takes : is_resident p kind page ≡ true → resident_need c p kind page ≡ 0
+  resident_takes is = none_from (get p.settled page) is
+
+module _ {Seat Frames Cabinet : Type 0} (l : Words Seat Frames Cabinet)
+    (goes : (x y z : Cabinet) (ms ns : List PageMove) → l.becomes x ms y → l.becomes y ns z → l.becomes x (ms ++ ns) z) (comes : (x y : Cabinet) (ms : List PageMove) → l.becomes x ms y → l.files y ≡ files_after (l.files x) ms)
+    (start : Place Seat Frames Cabinet) (w : Want) where
+  abbrev pub files : List File
+  files = l.files start.files
+
+  abbrev pub around : Around
+  around = round files w
+
+  abbrev tallies : Place Seat Frames Cabinet → Tallies
+  tallies a = (l.view a.space.seat).tallies
+
+  -- the copy came so far: these pages were read, and the needs that were met are so many frames
+  pub record Under (a : Place Seat Frames Cabinet) (g : Progress) (ms : List PageMove) (met : ℕ) : Type 0 where
+    pub tables : Tables
+    pub space : IsSpace (body_at l a) tables g.process
+    pub moves : l.becomes start.files ms a.files
+    pub same : l.files a.files ≡ files
+    pub zeros : (tallies a).zeros ≡ (tallies start).zeros
+    pub claims : (tallies a).claims ≡ (tallies start).claims + met
+
+  -- a page of it is come to
+
+  module _ (a : Place Seat Frames Cabinet) (g : Progress) (ms : List PageMove) (met : ℕ) (u : Under a g ms met) (b : Place Seat Frames Cabinet) (kind : Access) (address : ℕ) where
+    abbrev page : ℕ
+    page = page_of address
+
+    abbrev rule_here : Option Rule
+    rule_here = copy_rule (regions g.process) kind address
+
+    abbrev pub reads : List PageMove
+    reads = served_moves files g.process page rule_here
+
+    pub record Reached (j : Progress) : Type 0 where
+      pub is : reached_in around kind g address ≡ Ok j
+      pub shared : Bool
+      pub under : Under b j (ms ++ reads) (met + resident_need shared g.process kind page)
+
+    can_be : rule_here ≡ None → CanReside (body_at l a) u.tables g.process kind page
+    can_be none = can_reside (body_at l a) u.tables g.process kind address 1 u.space (no_alignment (regions g.process) kind address ∙ none)
+
+    moved_by : l.becomes a.files (served_moves (l.files a.files) g.process page rule_here) b.files → l.becomes start.files (ms ++ reads) b.files
+    moved_by m = goes start.files a.files b.files ms reads u.moves (subst (λ (fs : List File). l.becomes a.files (served_moves fs g.process page rule_here) b.files) u.same m)
+
+    still_by : l.becomes a.files (served_moves (l.files a.files) g.process page rule_here) b.files → l.files b.files ≡ files
+    still_by m = comes a.files b.files (served_moves (l.files a.files) g.process page rule_here) m ∙ served_reads (l.files a.files) (l.files a.files) g.process page rule_here ∙ u.same
+
+    module _ (e : Reaches l a b kind address (Ok tt)) (calm : is_dry_at w page ≡ false) where
+      none_rule : (o : Option Rule) → IsEnd o served.Ready → o ≡ None
+      none_rule None end = refl
+      none_rule (Some r) end = absurd (cc)
+
+      none : rule_here ≡ None
+      none = none_rule rule_here (e.ended u.tables g.process u.space)
+
+      made : (j : Progress) × (reached_in around kind g address ≡ Ok j) × ((t : Tables) (c : Bool) → ((fresh : ℕ) → IsSpace (body_at l b) t (made_resident files fresh c g.process kind page)) → IsSpace (body_at l b) t j.process)
+      unfolding resident_at
+      made = go (is_resident g.process kind page) refl
+        where
+          go : (z : Bool) → is_resident g.process kind page ≡ z
+              → (j : Progress) × (reached_in around kind g address ≡ Ok j) × ((t : Tables) (c : Bool) → ((fresh : ℕ) → IsSpace (body_at l b) t (made_resident files fresh c g.process kind page)) → IsSpace (body_at l b) t j.process)
+          go true resident = (
+            g,
+            reached_at_once around kind g address none (resident_again around kind page g resident),
+            λ t c space. subst (λ (p : Process). IsSpace (body_at l b) t p) (resident_same files 0 c g.process kind page resident) (space 0),
+          )
+          go false not = (
+            _,
+            ap (reached around kind address g) none ∙ ap (unless_resident around kind page g) not ∙ ap (unless_dry around kind page g (need_at around kind page g.process)) calm,
+            λ t c space. made_alike (body_at l b) t files g.fresh c (is_shared_page around g.process page) g.process kind page (space g.fresh),
+          )
+
+      pub reaches : (j : Progress) × Reached j
+      reaches =
+          let r = e.ready refl u.tables g.process (can_be none) in
+          let m = e.moves (λ x un. cc) u.tables g.process u.space in
+          let space : (fresh : ℕ) → IsSpace (body_at l b) r.0 (made_resident files fresh (is_shared_by r.1) g.process kind page) = λ fresh. subst (λ (fs : List File). IsSpace (body_at l b) r.0 (made_resident fs fresh (is_shared_by r.1) g.process kind page)) u.same (r.2.agrees fresh) in
+          let taken = ap (λ (z : Tallies). z.claims) r.2.takes.tallies in
+          let zeros = ap (λ (z : Tallies). z.zeros) r.2.takes.tallies in
+          let before = u.claims in (
+            made.0,
+            record {
+              is = made.1;
+              shared = is_shared_by r.1;
+              under = record {
+                tables = r.0;
+                space = made.2 r.0 (is_shared_by r.1) space;
+                moves = moved_by m;
+                same = still_by m;
+                zeros = zeros ∙ u.zeros;
+                claims = omega (arith, taken, before);
+              };
+            },
+          )
+
+    -- it is stopped there by a rule
+
+    module _ (r : Rule) (e : Reaches l a b kind address (Err (Denied r))) (suits : r ≡ rule.NoFrame → is_dry_at w page ≡ true) where
+      pub record Stopped : Type 0 where
+        pub is : reached_in around kind g address ≡ Err r
+        pub tables : Tables
+        pub space : IsSpace (body_at l b) tables g.process
+        pub moves : l.becomes start.files (ms ++ reads) b.files
+        pub dry : r ≡ rule.NoFrame → (shared : Bool) × WasDry (l.view start.space.seat) (l.view b.space.seat) (resident_need shared g.process kind page) met
+
+      same_end : (x y : Rule) → ◌≡◌ {A = Served} (served.Ended x) (served.Ended y) → x ≡ y
+      same_end x y is = cc
+
+      stops_as : (o : Option Rule) → rule_here ≡ o → IsEnd o (served.Ended r) → (reached_in around kind g address ≡ Err r) × (r ≡ rule.NoFrame → (shared : Bool) × WasDry (l.view start.space.seat) (l.view b.space.seat) (resident_need shared g.process kind page) met)
+      unfolding resident_at
+      stops_as (Some x) is end = (
+        ap (reached around kind address g) is ∙ ap (λ (y : Rule). let z : Result Progress Rule = Err y in z) (sym (same_end r x end)),
+        λ none. absurd (denied_otherwise (regions g.process) kind address 1 (no_alignment (regions g.process) kind address ∙ is ∙ ap Some (sym (same_end r x end) ∙ none))),
+      )
+      stops_as None is end =
+          let none = end r refl in
+          let d = e.dry (ap served.Ended none) u.tables g.process (can_be is) in
+          let short = d.2.short in
+          let claims = d.2.claims in
+          let before = u.claims in
+          let zeros = d.2.zeros in
+          let zeros_before = u.zeros in
+          let not : is_resident g.process kind page ≡ false = out (is_resident g.process kind page) refl (is_shared_by d.0) short in (
+            ap (reached around kind address g) is ∙ ap (unless_resident around kind page g) not ∙ ap (unless_dry around kind page g (need_at around kind page g.process)) (suits none) ∙ ap (λ (y : Rule). let z : Result Progress Rule = Err y in z) (sym none),
+            λ _. (is_shared_by d.0, record { zeros = omega (arith, zeros, zeros_before); short = short; claims = omega (arith, claims, before) }),
+          )
+        where
+          out : (z : Bool) → is_resident g.process kind page ≡ z → (c : Bool) → (l.view b.space.seat).tallies.short < resident_need c g.process kind page → is_resident g.process kind page ≡ false
+          out false is c short = is
+          out true is c short = let nothing = resident_takes files 0 c g.process kind page is in absurd (omega (arith, short, nothing))
+
+      pub stops : Stopped
+      stops =
+          let both = stops_as rule_here refl (e.ended u.tables g.process u.space) in
+          record {
+            is = both.0;
+            tables = u.tables;
+            space = e.whole r refl u.tables g.process u.space;
+            moves = moved_by (e.moves (λ x un. cc) u.tables g.process u.space);
+            dry = both.1;
+          }
+
+    -- or by a page that was not promised, and nothing has changed
+
+    module _ (x : Refusal) (e : Reaches l a b kind address (Err (Unpromised x))) where
+      pub left_space : IsSpace (body_at l b) u.tables g.process
+      left_space = subst (λ (y : Body). IsSpace y u.tables g.process) (λ i. record { view = seen i; root = (back e.root i).0; trapframe = (back e.trapframe i).0; layout = back e.layout i }) u.space
+        where
+          back : {T : Type 0} {y z : T} → y ≡ z → z ≡ y
+          back is = sym is
+
+          seen : (body_at l a).view ≡ (body_at l b).view
+          seen = sym (e.view_stays ((λ is. cc), (λ is. cc)))
+
+      pub left_moves : l.becomes start.files ms b.files
+      left_moves = subst (λ (ns : List PageMove). l.becomes start.files ns b.files) (append-nil ms) (goes start.files a.files b.files ms [] u.moves (e.files_stay x refl))

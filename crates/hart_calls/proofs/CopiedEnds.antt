@@ -1,0 +1,245 @@
+-- How a copy ends that comes to at most two pages, over any store and any files.
+use Rattle.std.proofs.Common.{◌≡◌, ◌⊎◌, ℕ, ◌+◌, ◌<◌, ◌%◌, ◌==◌, Bool, true, false, Option, None, Some, Err, List, [], ◌∷◌, ◌++◌, length, refl, ap, ap₂, sym, subst, ◌∙◌, arith, inl, inr}
+use Rattle.std.specs.Prelude.{if◌then◌else◌}
+use Rattle.std.proofs.lemmas.Bool.{eq-eqb, le-ltb, lt-ltb, ne_eqb}
+use Rattle.std.proofs.lemmas.List.{append-nil}
+use Rattle.address_space.specs.Agreement.{IsSpace}
+use Rattle.fault_rules.specs.Resides.{moves_for}
+use Rattle.fault_rules.specs.Serves.{served_moves}
+use Rattle.file_cabinet.specs.Promises.{refusal_of}
+use Rattle.file_cabinet.specs.declared.promise.PromiseError.{PromiseError}
+use Rattle.file_cabinet.specs.declared.promise.PromiseError.TheVariants as error
+use Rattle.hart_calls.specs.Comes.{at_stop}
+use Rattle.hart_calls.specs.Dry.{CopyDry, WasDry}
+use Rattle.hart_calls.specs.Tells.{reads_below}
+use Rattle.hart_calls.specs.Wants.{begun, is_dry_at, IsUnpromised, nothing, round, Want}
+use Rattle.hart_calls.proofs.Copied.{left_moves, left_space, stops, Under}
+use Rattle.hart_calls.proofs.CopiedSteps.{Ran}
+use Rattle.process_model.specs.Around.{Progress}
+use Rattle.process_model.specs.Copies.{Copied, reached_in}
+use Rattle.process_model.specs.CopyRuns.{so_far}
+use Rattle.process_model.specs.Files.{File}
+use Rattle.process_model.specs.Frames.{resident_need}
+use Rattle.process_model.specs.PageMap.{get}
+use Rattle.process_model.specs.PageMoves.{files_after, PageMove}
+use Rattle.process_model.specs.Process.{Page, Process, regions}
+use Rattle.process_model.specs.Regions.{copy_rule, Region, region_at}
+use Rattle.process_model.specs.declared.step.Refusal.{Refusal}
+use Rattle.sv39_entry.specs.Address.{page_of}
+use Rattle.sv39_entry.specs.declared.access.Access.{Access}
+use Rattle.sv39_entry.specs.declared.rule.Rule.{Rule}
+use Rattle.sv39_entry.specs.declared.rule.Rule.TheVariants as rule
+use Rattle.table_walk.specs.Tables.{Tables}
+use Rattle.user_copy.specs.Reaching.{body_at, Place, Reaches, Words}
+use Rattle.user_copy.specs.declared.short.Stop.TheVariants.{Denied, Unpromised}
+
+-- ---- what a stop tells of frames
+
+pub stop_cases : (r : Rule) (address : ℕ) → (r ≡ rule.NoFrame) ⊎ (at_stop r address ≡ nothing)
+stop_cases rule.Misaligned address = inr refl
+stop_cases rule.BeyondMax address = inr refl
+stop_cases rule.KernelPage address = inr refl
+stop_cases rule.GuardPage address = inr refl
+stop_cases rule.NoRegion address = inr refl
+stop_cases rule.NoRead address = inr refl
+stop_cases rule.NoWrite address = inr refl
+stop_cases rule.NoExec address = inr refl
+stop_cases rule.NoFrame address = inl refl
+
+-- the page where it stopped is dry, and no other one
+dry_there : (r : Rule) (address page : ℕ) → page_of address ≡ page → r ≡ rule.NoFrame → is_dry_at (at_stop r address) page ≡ true
+dry_there r address page same is = ap (λ (k : Rule). is_dry_at (at_stop k address) page) is ∙ eq-eqb page (page_of address) (sym same)
+
+pub calm_elsewhere : (r : Rule) (address page : ℕ) → (page_of address ≡ page → ⊥) → is_dry_at (at_stop r address) page ≡ false
+calm_elsewhere r address page apart = elim (stop_cases r address) [
+  | inl is ↦ ap (λ (k : Rule). is_dry_at (at_stop k address) page) is ∙ ne_eqb page (page_of address) (λ same. apart (sym same))
+  | inr none ↦ ap (λ (w : Want). is_dry_at w page) none
+]
+
+-- a promise is refused for want of memory or of room in a journal
+pub unpromised_by : (x : PromiseError) → IsUnpromised (refusal_of x)
+unpromised_by error.Memory = tt
+unpromised_by error.JournalFull = tt
+
+-- ---- the pages of files that were read
+
+module _ (files : List File) (p q : Process) (page : ℕ) (same : regions q ≡ regions p) (settled : get q.settled page ≡ get p.settled page) where
+  served_alike : (o : Option Rule) → served_moves files q page o ≡ served_moves files p page o
+  served_alike None = ap₂ (λ (rs : List Region) (s : Option Page). moves_for files (region_at rs page) s page) same settled
+  served_alike (Some r) = refl
+
+  reads_alike : (kind : Access) (address : ℕ) → served_moves files q page (copy_rule (regions q) kind address) ≡ served_moves files p page (copy_rule (regions p) kind address)
+  reads_alike kind address = served_alike (copy_rule (regions q) kind address) ∙ ap (λ (rs : List Region). served_moves files p page (copy_rule rs kind address)) same
+
+module _ {Seat Frames Cabinet : Type 0} (l : Words Seat Frames Cabinet)
+    (goes : (x y z : Cabinet) (ms ns : List PageMove) → l.becomes x ms y → l.becomes y ns z → l.becomes x (ms ++ ns) z) (comes : (x y : Cabinet) (ms : List PageMove) → l.becomes x ms y → l.files y ≡ files_after (l.files x) ms)
+    (start : Place Seat Frames Cabinet) (p : Process) (tables : Tables) (space : IsSpace (body_at l start) tables p) (stays : l.becomes start.files [] start.files) (kind : Access) (address n : ℕ) (model : Want → Copied) (front : ℕ → Copied) where
+  abbrev present : List File
+  present = l.files start.files
+
+  abbrev reads_at : ℕ → List PageMove
+  reads_at x = served_moves present p (page_of x) (copy_rule (regions p) kind x)
+
+  -- ---- the ends
+
+  -- all was copied
+  pub record Whole (starts : List ℕ) (c : Place Seat Frames Cabinet) (bytes : List ℕ) : Type 0 where
+    pub progress : Progress
+    pub is : model nothing ≡ so_far progress bytes None
+    pub after : (u : Tables) × IsSpace (body_at l c) u progress.process
+    pub moves : l.becomes start.files (reads_below present p kind (address + length bytes + 1) starts) c.files
+
+  -- a rule stopped it after so many bytes
+  pub record Short (starts : List ℕ) (c : Place Seat Frames Cabinet) (bytes : List ℕ) (r : Rule) : Type 0 where
+    pub progress : Progress
+    pub is : model (at_stop r (address + length bytes)) ≡ so_far progress bytes (Some r)
+    pub after : (u : Tables) × IsSpace (body_at l c) u progress.process
+    pub moves : l.becomes start.files (reads_below present p kind (address + length bytes + 1) starts) c.files
+    pub dry : r ≡ rule.NoFrame → CopyDry (l.view start.space.seat) (l.view c.space.seat) p progress.process kind (page_of address) (page_of (address + length bytes))
+
+  -- a page of a file was not promised after so many bytes
+  pub record Left (starts : List ℕ) (c : Place Seat Frames Cabinet) (done : ℕ) (r : Refusal) : Type 0 where
+    pub progress : Progress
+    pub bytes : List ℕ
+    pub is : front done ≡ so_far progress bytes None
+    pub after : (u : Tables) × IsSpace (body_at l c) u progress.process
+    pub moves : l.becomes start.files (reads_below present p kind (address + done) starts) c.files
+    pub less : done < n
+    pub unpromised : IsUnpromised r
+
+  pub begun_under : (w : Want) → Under l goes comes start w start (begun p) [] 0
+  begun_under w = record { tables = tables; space = space; moves = stays; same = refl; zeros = refl; claims = omega arith }
+
+  -- ---- it copies nothing
+
+  pub none_whole : model nothing ≡ so_far (begun p) [] None → Whole [] start []
+  none_whole is = record { progress = begun p; is = is; after = (tables, space); moves = stays }
+
+  -- ---- its first page stops it
+
+  module _ (rest : List ℕ) (b : Place Seat Frames Cabinet) where
+    first_reads : (limit : ℕ) → address < limit → reads_below present p kind limit rest ≡ [] → reads_below present p kind limit (address ∷ rest) ≡ reads_at address
+    first_reads limit below none =
+        ap₂ (λ (z : Bool) (ms : List PageMove). (if z then reads_at address else []) ++ ms) (lt-ltb address limit below) none ∙ append-nil (reads_at address)
+
+    abbrev DryBy : ℕ → Bool → Type 0
+    DryBy page same = (before shared : Bool) × WasDry (l.view start.space.seat) (l.view b.space.seat) (resident_need shared p kind page) (if same then 0 else resident_need before p kind (page_of address))
+
+    abbrev pub first_want : Rule → Want
+    first_want r = at_stop r (address + 0)
+
+    pub first_short : (r : Rule) → reads_below present p kind (address + 0 + 1) rest ≡ [] → Reaches l start b kind address (Err (Denied r))
+        → (reached_in (round present (first_want r)) kind (begun p) address ≡ Err r → model (first_want r) ≡ so_far (begun p) [] (Some r)) → Short (address ∷ rest) b [] r
+    first_short r none e halts =
+        let here : page_of (address + 0) ≡ page_of address = omega arith in
+        let s = stops l goes comes start (first_want r) start (begun p) [] 0 (begun_under (first_want r)) b kind address r e (dry_there r (address + 0) (page_of address) here) in
+        record {
+          progress = begun p;
+          is = halts s.is;
+          after = (s.tables, s.space);
+          moves = subst (λ (ms : List PageMove). l.becomes start.files ms b.files) (sym (first_reads (address + 0 + 1) (omega arith) none)) s.moves;
+          dry = λ is. dry_by here (s.dry is);
+        }
+      where
+        dry_by : page_of (address + 0) ≡ page_of address → ((shared : Bool) × WasDry (l.view start.space.seat) (l.view b.space.seat) (resident_need shared p kind (page_of address)) 0)
+            → CopyDry (l.view start.space.seat) (l.view b.space.seat) p p kind (page_of address) (page_of (address + 0))
+        dry_by here (shared, dry) =
+            subst (λ (page : ℕ). DryBy page (page_of address == page)) (sym here)
+            (subst (λ (same : Bool). DryBy (page_of address) same) (sym (eq-eqb (page_of address) (page_of address) refl)) (false, shared, dry))
+
+    pub first_left : (x : Refusal) → reads_below present p kind (address + 0) (address ∷ rest) ≡ [] → 0 < n → front 0 ≡ so_far (begun p) [] None → Reaches l start b kind address (Err (Unpromised x)) → Left (address ∷ rest) b 0 x
+    unfolding begun_under
+    first_left x none some is e =
+        let u = begun_under nothing in
+        let un = e.unpromised x refl in
+        record {
+          progress = begun p;
+          bytes = [];
+          is = is;
+          after = (tables, left_space l goes comes start nothing start (begun p) [] 0 u b kind address x e);
+          moves = subst (λ (ms : List PageMove). l.becomes start.files ms b.files) (sym none) (left_moves l goes comes start nothing start (begun p) [] 0 u b kind address x e);
+          less = some;
+          unpromised = subst IsUnpromised (sym un.2) (unpromised_by un.0);
+        }
+
+  -- ---- it copies a first run
+
+  module _ (here : ℕ) (some : 0 < here) (w : Want) (d : Place Seat Frames Cabinet) (j : Progress) (bytes : List ℕ) (long : length bytes ≡ here) (ran : Ran l goes comes start w (begun p) [] 0 kind address d j) where
+    pub one_whole : model nothing ≡ so_far j bytes None → Whole (address ∷ []) d bytes
+    one_whole is = record {
+      progress = j;
+      is = is;
+      after = (ran.under.tables, ran.under.space);
+      moves = subst (λ (ms : List PageMove). l.becomes start.files ms d.files) (sym (first_reads [] d (address + length bytes + 1) (omega arith) refl)) ran.under.moves;
+    }
+
+    -- and comes to a second page
+
+    module _ (end : address % 4096 + here ≡ 4096) where
+      abbrev next : ℕ
+      next = address + here
+
+      apart : page_of next ≡ page_of address → ⊥
+      apart same = absurd (omega (arith, end, some, same))
+
+      next_reads : served_moves present j.process (page_of next) (copy_rule (regions j.process) kind next) ≡ reads_at next
+      next_reads = reads_alike present p j.process (page_of next) ran.same_regions (ran.others (page_of next) apart) kind next
+
+      both_reads : (limit : ℕ) → next < limit
+          → reads_below present p kind limit (address ∷ next ∷ []) ≡ ([] ++ reads_at address) ++ served_moves present j.process (page_of next) (copy_rule (regions j.process) kind next)
+      both_reads limit below =
+          ap₂ (λ (y z : Bool). (if y then reads_at address else []) ++ ((if z then reads_at next else []) ++ [])) (lt-ltb address limit (omega (arith, below))) (lt-ltb next limit below)
+          ∙ ap (λ (ms : List PageMove). reads_at address ++ ms) (append-nil (reads_at next) ∙ sym next_reads)
+
+      only_first : reads_below present p kind (address + here) (address ∷ next ∷ []) ≡ [] ++ reads_at address
+      only_first = first_reads (next ∷ []) d (address + here) (omega (arith, some)) (ap (λ (z : Bool). (if z then reads_at next else []) ++ []) (le-ltb next (address + here) (omega arith)))
+
+      pub next_left : (b : Place Seat Frames Cabinet) (x : Refusal) → here < n → front here ≡ so_far j bytes None → Reaches l d b kind next (Err (Unpromised x)) → Left (address ∷ next ∷ []) b here x
+      next_left b x less is e =
+          let un = e.unpromised x refl in
+          record {
+            progress = j;
+            bytes = bytes;
+            is = is;
+            after = (ran.under.tables, left_space l goes comes start w d j _ _ ran.under b kind next x e);
+            moves = subst (λ (ms : List PageMove). l.becomes start.files ms b.files) (sym only_first) (left_moves l goes comes start w d j _ _ ran.under b kind next x e);
+            less = less;
+            unpromised = subst IsUnpromised (sym un.2) (unpromised_by un.0);
+          }
+
+      pub both_whole : (c : Place Seat Frames Cabinet) (i : Progress) (all : List ℕ) → here < length all → Ran l goes comes start w j ([] ++ reads_at address) (0 + resident_need ran.shared p kind (page_of address)) kind next c i
+          → model nothing ≡ so_far i all None → Whole (address ∷ next ∷ []) c all
+      both_whole c i all more last is = record {
+        progress = i;
+        is = is;
+        after = (last.under.tables, last.under.space);
+        moves = subst (λ (ms : List PageMove). l.becomes start.files ms c.files) (sym (both_reads (address + length all + 1) (omega (arith, more)))) last.under.moves;
+      }
+
+      module _ (r : Rule) (at : w ≡ at_stop r next) (b : Place Seat Frames Cabinet) (e : Reaches l d b kind next (Err (Denied r))) (halts : reached_in (round present w) kind j next ≡ Err r → model w ≡ so_far j bytes (Some r)) where
+        same_next : address + length bytes ≡ next
+        same_next = omega (arith, long)
+
+        pub next_short : Short (address ∷ next ∷ []) b bytes r
+        next_short =
+            let s = stops l goes comes start w d j _ _ ran.under b kind next r e (λ is. ap (λ (z : Want). is_dry_at z (page_of next)) at ∙ dry_there r next (page_of next) refl is) in
+            record {
+              progress = j;
+              is = subst (λ (x : Want). model x ≡ so_far j bytes (Some r)) (at ∙ ap (at_stop r) (sym same_next)) (halts s.is);
+              after = (s.tables, s.space);
+              moves = subst (λ (ms : List PageMove). l.becomes start.files ms b.files) (sym (both_reads (address + length bytes + 1) (omega (arith, long)))) s.moves;
+              dry = λ is. dry_by (s.dry is);
+            }
+          where
+            dry_by : ((shared : Bool) × WasDry (l.view start.space.seat) (l.view b.space.seat) (resident_need shared j.process kind (page_of next)) (0 + resident_need ran.shared p kind (page_of address)))
+                → CopyDry (l.view start.space.seat) (l.view b.space.seat) p j.process kind (page_of address) (page_of (address + length bytes))
+            dry_by (shared, dry) =
+                let claims = dry.claims in
+                let here : WasDry (l.view start.space.seat) (l.view b.space.seat) (resident_need shared j.process kind (page_of next)) (resident_need ran.shared p kind (page_of address)) =
+                record { zeros = dry.zeros; short = dry.short; claims = omega (arith, claims) } in
+                subst (λ (x : ℕ). CopyDry (l.view start.space.seat) (l.view b.space.seat) p j.process kind (page_of address) (page_of x)) (sym same_next) (
+                  ran.shared,
+                  shared,
+                  subst (λ (same : Bool). WasDry (l.view start.space.seat) (l.view b.space.seat) (resident_need shared j.process kind (page_of next)) (if same then 0 else resident_need ran.shared p kind (page_of address)))
+                      (sym (ne_eqb (page_of address) (page_of next) (λ same. apart (sym same)))) here,
+                )

@@ -1,0 +1,90 @@
+-- Processes that end with no entry more, and the files of those that end.
+use Rattle.std.proofs.Common.{◌≡◌, ◌+◌, ◌<◌, ◌≤◌, arith, ℕ, List, [], ◌∷◌, length, refl, sym, subst, ◌∙◌, ap, inl, inr}
+use Rattle.std.specs.Prelude.{flat_map}
+use Rattle.file_cabinet.specs.Promises.{refusal_of}
+use Rattle.file_cabinet.specs.declared.promise.PromiseError.{PromiseError}
+use Rattle.file_cabinet.specs.declared.promise.PromiseError.TheVariants as error
+use Rattle.file_shelf.specs.Shelved.{Becomes, CanRefuse, Shelved}
+use Rattle.frame_store.specs.View.{View}
+use Rattle.hart_calls.specs.Closed.{cause_of, IsCause}
+use Rattle.hart_calls.specs.Track.{Track}
+use Rattle.hart_calls.specs.Turned.{Filed, Unfiled}
+use Rattle.hart_calls.specs.Turns.{FiledOver, FullOver, HasMapping, IsOver, Last, NeedsFiles}
+use Rattle.hart_calls.specs.declared.turn.Turn.{Turn}
+use Rattle.hart_calls.specs.declared.turn.Turn.TheVariants as turn
+use Rattle.process_model.specs.PageMoves.{all_moves, mapping_moves, PageMove}
+use Rattle.process_model.specs.Process.{Process}
+use Rattle.process_model.specs.Regions.{Region}
+use Rattle.hart_calls.specs.declared.finished.Finished.{Finished}
+use Rattle.process_model.specs.declared.call.Outcome.{Outcome}
+use Rattle.process_model.specs.declared.call.Outcome.TheVariants as outcome
+use Rattle.process_model.specs.declared.step.Refusal.{Refusal}
+use Rattle.process_model.specs.declared.step.Refusal.TheVariants as refusal
+
+pub cut_last : (t : Track) (f : Finished) (o : Outcome) → IsCause o → f.journal.items ≡ t.journal → Last t f o
+cut_last t f (outcome.Exited n) cause same = absurd cause
+cut_last t f (outcome.Ended r) cause same = absurd cause
+cut_last t f (outcome.Refused r) cause same = absurd cause
+cut_last t f outcome.Memory cause same = same
+cut_last t f outcome.JournalFull cause same = same
+
+-- what its seat knows is of no account then
+
+seated_last : (t : Track) (seat : View) (room : ℕ) (f : Finished) (o : Outcome) → IsCause o → Last (record t { seat = seat; room = room }) f o → Last t f o
+seated_last t seat room f (outcome.Exited n) cause l = absurd cause
+seated_last t seat room f (outcome.Ended r) cause l = absurd cause
+seated_last t seat room f (outcome.Refused r) cause l = absurd cause
+seated_last t seat room f outcome.Memory cause l = l
+seated_last t seat room f outcome.JournalFull cause l = l
+
+pub cut_over : (t : Track) (seat : View) (room : ℕ) (f : Finished) (o : Outcome) → IsCause o → f.outcome ≡ o → IsOver (record t { seat = seat; room = room }) f → IsOver t f
+cut_over t seat room f o cause is over = record {
+  name = over.name;
+  bare = over.bare;
+  replays = over.replays;
+  last = seated_last t seat room f f.outcome (subst IsCause (sym is) cause) over.last;
+}
+
+pub is_cause : (r : Refusal) → IsCause (cause_of r)
+is_cause refusal.NoFrame = tt
+is_cause refusal.NoSlot = tt
+is_cause refusal.SharersFull = tt
+is_cause (refusal.BadImage x) = tt
+is_cause refusal.BadSize = tt
+is_cause refusal.NoRoom = tt
+is_cause refusal.BadArgument = tt
+is_cause refusal.FileNotWritable = tt
+is_cause refusal.MappingsFull = tt
+is_cause refusal.HoleInMapping = tt
+is_cause (refusal.Impossible x) = tt
+is_cause refusal.NoEntry = tt
+is_cause refusal.Memory = tt
+is_cause refusal.JournalFull = tt
+
+error_files : (t : Track) (f : Finished) (a b : Shelved) (x : PromiseError) → CanRefuse a 1 x → Becomes a [] b → FiledOver t f (cause_of (refusal_of x)) a b
+error_files t f a b error.Memory could moved = record { reads = []; becomes = moved; files = moved.files }
+error_files t f a b error.JournalFull could moved = (record { reads = []; becomes = moved; files = moved.files }, inr (1, omega arith, could))
+
+pub cut_files : (t : Track) (f : Finished) (a b : Shelved) (r : Refusal) (x : PromiseError) → CanRefuse a 1 x → r ≡ refusal_of x → Becomes a [] b → f.outcome ≡ cause_of r → FiledOver t f f.outcome a b
+cut_files t f a b r x could by moved is = subst (λ (o : Outcome). FiledOver t f o a b) (sym (is ∙ ap cause_of by)) (error_files t f a b x could moved)
+
+-- ---- without files
+
+no_moves : (p : Process) (ms : List Region) → p.mappings ≡ ms → (HasMapping ms → ⊥) → all_moves p ≡ []
+no_moves p [] is none = ap (λ (ms : List Region). flat_map (mapping_moves p) ms) is
+no_moves p (m ∷ ms) is none = absurd (none tt)
+
+full_by : (t : Track) (f : Finished) (o : Outcome) (a b : Shelved) → FiledOver t f o a b → a.history ≡ [] → all_moves t.state ≡ [] → FullOver t o
+full_by t f (outcome.Exited n) a b filed empty none = tt
+full_by t f (outcome.Ended r) a b filed empty none = tt
+full_by t f (outcome.Refused r) a b filed empty none = tt
+full_by t f outcome.Memory a b filed empty none = tt
+full_by t f outcome.JournalFull a b (same, inl full) empty none = full
+full_by t f outcome.JournalFull a b (same, inr (n, few, could)) empty none =
+    let long = ap (λ (ms : List PageMove). length ms) empty in
+    let moves = ap (λ (ms : List PageMove). length ms) none in
+    absurd (omega (arith, few, could, long, moves))
+
+pub unfiled_by : {B : Type 0} (t : Track) (x : Turn B) (a b : Shelved) → Filed t x a b → a.history ≡ [] → (NeedsFiles t → ⊥) → Unfiled t x
+unfiled_by t (turn.Goes u c) a b filed empty none = tt
+unfiled_by t (turn.Over f) a b filed empty none = full_by t f f.outcome a b filed empty (no_moves t.state t.state.mappings refl (λ h. none (inr h)))

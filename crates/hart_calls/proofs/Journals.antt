@@ -1,0 +1,200 @@
+-- Journals that are one entry longer, and what their entries say.
+use Rattle.std.proofs.Common.{◌≡◌, ◌⊎◌, ℕ, suc, ◌+◌, ◌<◌, ◌≤◌, Bool, true, false, List, [], ◌∷◌, ◌++◌, length, refl, ap, sym, subst, ◌∙◌, arith, drop, Option, None, Some, Result, Ok, Err, inl, inr}
+use Rattle.std.specs.Prelude.{if◌then◌else◌, nat_le, nat_lt, ◌==◌, ◌&&◌, ◌%◌}
+use Rattle.std.proofs.lemmas.List.{append-nil, length-append}
+use Rattle.address_space.specs.Steps.{Takes}
+use Rattle.frame_store.specs.View.{Tallies, View}
+use Rattle.hart_calls.specs.Asks.{IsStaying, may_read, reads}
+use Rattle.hart_calls.specs.Comes.{at_stop, IsPlain}
+use Rattle.hart_calls.specs.Dry.{TellsDry, WasDry}
+use Rattle.hart_calls.specs.Replay.{call_at, forked, forks, Leads, Replays}
+use Rattle.hart_calls.specs.Tells.{reads_of, told, writes_of}
+use Rattle.hart_calls.specs.Turns.{BySlot, GoesOn}
+use Rattle.hart_calls.specs.Wants.{frames_at, nothing, refused, Want}
+use Rattle.hart_calls.specs.declared.entry.Entry.{Entry}
+use Rattle.hart_calls.specs.declared.slot.Slot.{Slot}
+use Rattle.process_model.specs.Files.{File}
+use Rattle.process_model.specs.PageMoves.{files_after, PageMove}
+use Rattle.process_model.specs.Process.{Page, Process}
+use Rattle.process_model.specs.declared.call.Call.{Call}
+use Rattle.process_model.specs.declared.call.Call.TheVariants as call
+use Rattle.process_model.specs.declared.step.Refusal.{Refusal}
+use Rattle.process_model.specs.declared.step.Refusal.TheVariants as refusal
+use Rattle.process_model.specs.declared.step.Reply.{Reply}
+use Rattle.process_model.specs.declared.step.Reply.TheVariants as reply
+use Rattle.sv39_entry.specs.Address.{page_of}
+use Rattle.sv39_entry.specs.declared.rule.Rule.{Rule}
+use Rattle.sv39_entry.specs.declared.rule.Rule.TheVariants as rule
+
+pub replays_longer : (p : Process) (n k : ℕ) (calls : List Call) (es : List Entry) (e : Entry) (q r : Process) → Replays p n k calls es q → e.call ≡ call_at calls (k + length es)
+    → (files : List File) × Leads files (n + forks es) q e r → Replays p n k calls (es ++ e ∷ []) r
+replays_longer p n k calls [] e q r replays next (files, leads) =
+    let none : n + 0 ≡ n = omega arith in
+    let here : k + 0 ≡ k = omega arith in (
+      subst (λ (m : ℕ). e.call ≡ call_at calls m) here next,
+      (files, r, subst (λ (z : Process). Leads files n z e r) replays (subst (λ (m : ℕ). Leads files m q e r) none leads), refl),
+    )
+replays_longer p n k calls (x ∷ es) e q r (first, (fs, s, one, rest)) next (files, leads) =
+    let many : n + (forked x.reply + forks es) ≡ n + forked x.reply + forks es = omega arith in
+    let there : k + suc (length es) ≡ suc k + length es = omega arith in (
+      first,
+      (
+        fs,
+        s,
+        one,
+        replays_longer s (n + forked x.reply) (suc k) calls es e q r rest (subst (λ (m : ℕ). e.call ≡ call_at calls m) there next)
+            (files, subst (λ (m : ℕ). Leads files m q e r) many leads),
+      ),
+    )
+
+-- from the beginning
+pub one_longer : (p : Process) (calls : List Call) (es : List Entry) (e : Entry) (q r : Process) → Replays p 0 0 calls es q → e.call ≡ call_at calls (length es)
+    → (files : List File) × Leads files (forks es) q e r → Replays p 0 0 calls (es ++ e ∷ []) r
+one_longer p calls es e q r replays next (files, leads) =
+    let here : length es ≡ 0 + length es = omega arith in
+    let many : forks es ≡ 0 + forks es = omega arith in
+    replays_longer p 0 0 calls es e q r replays (subst (λ (m : ℕ). e.call ≡ call_at calls m) here next) (files, subst (λ (m : ℕ). Leads files m q e r) many leads)
+
+-- how many children were named is of account to a fork alone
+pub same_told : (files : List File) (want : Want) (n : ℕ) (p : Process) (c : Call) → IsStaying c → told files want n p c ≡ told files want 0 p c
+same_told files want n p (call.Fetch address) stays = refl
+same_told files want n p (call.Load address width) stays = refl
+same_told files want n p (call.Store address width value) stays = refl
+same_told files want n p (call.Exec im) stays = refl
+same_told files want n p (call.Sbrk delta) stays = refl
+same_told files want n p (call.Mmap len protection flags f) stays = refl
+same_told files want n p (call.Munmap address len) stays = refl
+same_told files want n p (call.CopyIn address count) stays = refl
+same_told files want n p (call.CopyOut address bytes) stays = refl
+same_told files want n p (call.Exit status) stays = absurd stays
+same_told files want n p (call.Fork list) stays = absurd stays
+
+-- a plain answer names no child, and ends nothing
+
+pub plain_forks : (r : Reply) → IsPlain r → forked r ≡ 0
+plain_forks reply.Done is = refl
+plain_forks (reply.Started n) is = refl
+plain_forks (reply.Forked n) is = absurd is
+plain_forks (reply.Value n) is = refl
+plain_forks reply.Stored is = refl
+plain_forks (reply.Fault n) is = refl
+plain_forks (reply.Filled n) is = refl
+plain_forks reply.NothingFilled is = refl
+plain_forks (reply.InFrame n) is = refl
+plain_forks reply.Ready is = refl
+plain_forks (reply.Ended r) is = refl
+plain_forks (reply.OldSize n) is = refl
+plain_forks (reply.MappedAt n) is = refl
+plain_forks (reply.CopiedIn b) is = refl
+plain_forks (reply.CopiedOut n) is = refl
+plain_forks (reply.ShortIn r b) is = refl
+plain_forks (reply.ShortOut r n) is = refl
+plain_forks (reply.Exited n) is = refl
+plain_forks (reply.Refused r) is = refl
+
+pub plain_goes : (r : Reply) → IsPlain r → GoesOn r
+plain_goes reply.Done is = tt
+plain_goes (reply.Started n) is = tt
+plain_goes (reply.Forked n) is = tt
+plain_goes (reply.Value n) is = tt
+plain_goes reply.Stored is = tt
+plain_goes (reply.Fault n) is = tt
+plain_goes (reply.Filled n) is = tt
+plain_goes reply.NothingFilled is = tt
+plain_goes (reply.InFrame n) is = tt
+plain_goes reply.Ready is = tt
+plain_goes (reply.Ended r) is = is
+plain_goes (reply.OldSize n) is = tt
+plain_goes (reply.MappedAt n) is = tt
+plain_goes (reply.CopiedIn b) is = tt
+plain_goes (reply.CopiedOut n) is = tt
+plain_goes (reply.ShortIn r b) is = tt
+plain_goes (reply.ShortOut r n) is = tt
+plain_goes (reply.Exited n) is = is
+plain_goes (reply.Refused r) is = tt
+
+pub no_slot : (s : Slot) (c : Call) (r : Reply) → IsStaying c → BySlot s c r
+no_slot s (call.Fetch address) r stays = tt
+no_slot s (call.Load address width) r stays = tt
+no_slot s (call.Store address width value) r stays = tt
+no_slot s (call.Exec im) r stays = tt
+no_slot s (call.Sbrk delta) r stays = tt
+no_slot s (call.Mmap len protection flags f) r stays = tt
+no_slot s (call.Munmap address len) r stays = tt
+no_slot s (call.CopyIn address count) r stays = tt
+no_slot s (call.CopyOut address bytes) r stays = tt
+no_slot s (call.Exit status) r stays = absurd stays
+no_slot s (call.Fork list) r stays = absurd stays
+
+-- what it read, of the moves that it made
+
+behind : {A : Type 0} (xs ys : List A) → drop (length xs) (xs ++ ys) ≡ ys
+behind [] ys = refl
+behind (x ∷ xs) ys = behind xs ys
+
+pub only_reads : (files : List File) (want : Want) (p : Process) (c : Call) → reads c (reads_of files want p c ++ writes_of files want p c) ≡ reads_of files want p c
+only_reads files want p (call.Fetch address) = append-nil _
+only_reads files want p (call.Load address width) = append-nil _
+only_reads files want p (call.Store address width value) = append-nil _
+only_reads files want p (call.Exec im) = refl
+only_reads files want p (call.Sbrk delta) = refl
+only_reads files want p (call.Mmap len protection flags f) = refl
+only_reads files want p (call.Munmap address len) = refl
+only_reads files want p (call.CopyIn address count) = append-nil _
+only_reads files want p (call.CopyOut address bytes) = append-nil _
+only_reads files want p (call.Exit status) = refl
+only_reads files want p (call.Fork list) = refl
+
+pub read_since : (files : List File) (want : Want) (p : Process) (c : Call) (before after : List PageMove) → after ≡ before ++ (reads_of files want p c ++ writes_of files want p c)
+    → reads c (drop (length before) after) ≡ reads_of files want p c
+read_since files want p c before after is = ap (λ (ms : List PageMove). reads c (drop (length before) ms)) is ∙ ap (reads c) (behind before _) ∙ only_reads files want p c
+
+-- the tallies of frames that were let go are as they were
+module _ (v w z : View) (takes : Takes w z 0 []) where
+  was_later : (need met : ℕ) → WasDry v w need met → WasDry v z need met
+  was_later need met dry =
+      let zeros = ap (λ (t : Tallies). t.zeros) takes.tallies in
+      let short = ap (λ (t : Tallies). t.short) takes.tallies in
+      let claims = ap (λ (t : Tallies). t.claims) takes.tallies in
+      let was_zeros = dry.zeros in
+      let was_short = dry.short in
+      let was_claims = dry.claims in
+      record { zeros = omega (arith, zeros, was_zeros); short = omega (arith, short, was_short); claims = omega (arith, claims, was_claims) }
+
+  module _ (files : List File) (p : Process) where
+    later_frames : (c : Call) (page : ℕ) → TellsDry v w files p c (frames_at page) → TellsDry v z files p c (frames_at page)
+    later_frames (call.Fetch address) page (shared, dry) = (shared, was_later _ _ dry)
+    later_frames (call.Load address width) page (shared, dry) = (shared, was_later _ _ dry)
+    later_frames (call.Store address width value) page (shared, dry) = (shared, was_later _ _ dry)
+    later_frames (call.Exec im) page dry = tt
+    later_frames (call.Sbrk delta) page dry = tt
+    later_frames (call.Mmap len protection flags f) page dry = tt
+    later_frames (call.Munmap address len) page dry = tt
+    later_frames (call.CopyIn address count) page (before, shared, dry) = (before, shared, was_later _ _ dry)
+    later_frames (call.CopyOut address bytes) page (before, shared, dry) = (before, shared, was_later _ _ dry)
+    later_frames (call.Exit status) page dry = tt
+    later_frames (call.Fork list) page dry = tt
+
+    later_nothing : (c : Call) → TellsDry v z files p c nothing
+    later_nothing (call.Fetch address) = tt
+    later_nothing (call.Load address width) = tt
+    later_nothing (call.Store address width value) = tt
+    later_nothing (call.Exec im) = tt
+    later_nothing (call.Sbrk delta) = tt
+    later_nothing (call.Mmap len protection flags f) = tt
+    later_nothing (call.Munmap address len) = tt
+    later_nothing (call.CopyIn address count) = tt
+    later_nothing (call.CopyOut address bytes) = tt
+    later_nothing (call.Exit status) = tt
+    later_nothing (call.Fork list) = tt
+
+    pub later_stop : (c : Call) (r : Rule) (address : ℕ) → TellsDry v w files p c (at_stop r address) → TellsDry v z files p c (at_stop r address)
+    later_stop c rule.Misaligned address dry = later_nothing c
+    later_stop c rule.BeyondMax address dry = later_nothing c
+    later_stop c rule.KernelPage address dry = later_nothing c
+    later_stop c rule.GuardPage address dry = later_nothing c
+    later_stop c rule.NoRegion address dry = later_nothing c
+    later_stop c rule.NoRead address dry = later_nothing c
+    later_stop c rule.NoWrite address dry = later_nothing c
+    later_stop c rule.NoExec address dry = later_nothing c
+    later_stop c rule.NoFrame address dry = later_frames c (page_of address) dry

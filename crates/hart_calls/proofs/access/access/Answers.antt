@@ -1,0 +1,128 @@
+use Rattle.std.proofs.Common.{◌≡◌, Bool, true, false, ap, sym, ◌∙◌, subst, [], refl, inl, inr}
+use Rattle.address_space.specs.Accesses.{asked_of, gives_leaf}
+use Rattle.address_space.specs.Agreement.{body_of, IsSpace}
+use Rattle.fault_rules.specs.Allowed.{can_reside}
+use Rattle.fault_rules.specs.Resides.{is_shared_by}
+use Rattle.fault_rules.specs.declared.service.Served.TheVariants as served
+use Rattle.address_space.specs.Steps.{RunsDry}
+use Rattle.frame_store.specs.Laws.{fits_after, keeps_both}
+use Rattle.frame_store.specs.View.{View}
+use Rattle.std.specs.Prelude.{option_to_list}
+use Rattle.process_model.specs.Frames.{resident_need}
+use Rattle.hart_calls.proofs.Accessed.{as_told, bad_width, ended_served, ended_why, ends_denied, ends_dry_by, granted, made_at_once, made_later, not_granted, q, ready_none, ready_served}
+use Rattle.hart_calls.proofs.Bodies.{same_body, still_space}
+use Rattle.process_model.specs.Bytes.{is_width}
+use Rattle.process_model.specs.Residence.{made_resident}
+use Rattle.sv39_entry.specs.Address.{page_of}
+use Rattle.sv39_entry.specs.declared.rule.Rule.TheVariants as rule
+use Rattle.hart_calls.proofs.access.access.Goals as goal
+
+pub returns-then-not-is_width-clause-came : goal.returns-then-not-is_width-clause-came
+returns-then-not-is_width-clause-came g c = λ k is t p space.
+    (tt, bad_width (g.C.Files.files c.args.files.now) p (asked_of c.args.asked) k is (let e = c.is_width.ensures in let f = c.if-not-is_width.true in cc) (body_of g.S.FrameSeat.view c.args.space.now) (body_of g.S.FrameSeat.view c.args.space.now) _ (t, space) (g.met.C.Files.stays c.args.files.now))
+
+pub user_access-requires-clause-fits : goal.user_access-requires-clause-fits
+user_access-requires-clause-fits g c = fits_after g.F.FrameAccess.rule c.translate-walk.ensures.keeps c.requires.fits
+
+pub user_access-requires-clause-ready : goal.user_access-requires-clause-ready
+user_access-requires-clause-ready g c =
+    let n = c.translate-walk.ensures in
+    let r = c.requires.ready in
+    (r.0, r.1, still_space g.S.FrameSeat.view _ _ n.view n.root n.trapframe n.layout r.0 r.1 r.2, n.walk r.0 r.1 r.2)
+
+pub returns-then-is_permitted-clause-came : goal.returns-then-is_permitted-clause-came
+returns-then-is_permitted-clause-came g c = λ k is t p space.
+    let n = c.translate-walk.ensures in
+    let a = asked_of c.args.asked in
+    let here = still_space g.S.FrameSeat.view _ _ n.view n.root n.trapframe n.layout t p space in
+    let walk = n.walk t p space in
+    let law = c.walks_grant_what_is_resident.ensures (body_of g.S.FrameSeat.view c.args.space.now) t p c.args.asked.access c.args.asked.va.0 space in
+    let both = granted (g.C.Files.files c.args.files.now) p a (gives_leaf c.translate-walk.result) (sym c.is_permitted.ensures ∙ c.if-is_permitted.true) (rw walk law) in
+    let wide : is_width c.args.asked.width ≡ true = (let e = c.is_width.ensures in let f = c.if-not-is_width.false in cc) in
+    made_at_once (g.C.Files.files c.args.files.now) p a k is wide (body_of g.S.FrameSeat.view c.args.space.now) (body_of g.S.FrameSeat.view c.user_access.new.self) _ both.0 both.1 c.user_access.result (c.user_access.ensures.reply t p here walk) (t, c.user_access.ensures.after t p here walk)
+    (g.met.C.Files.stays c.args.files.now)
+
+pub returns-then-is_permitted-clause-keeps : goal.returns-then-is_permitted-clause-keeps
+returns-then-is_permitted-clause-keeps g c = keeps_both g.F.FrameAccess.rule c.translate-walk.ensures.keeps c.user_access.ensures.keeps
+
+pub returns-in-Ready-clause-came : goal.returns-in-Ready-clause-came
+returns-in-Ready-clause-came g c = λ k is t p space.
+    let n = c.translate-walk.ensures in
+    let a = asked_of c.args.asked in
+    let files = g.C.Files.files c.args.files.now in
+    let x = body_of g.S.FrameSeat.view c.args.space.now in
+    let here = still_space g.S.FrameSeat.view _ _ n.view n.root n.trapframe n.layout t p space in
+    let law = c.walks_grant_what_is_resident.ensures x t p c.args.asked.access c.args.asked.va.0 space in
+    let wide : is_width c.args.asked.width ≡ true = (let e = c.is_width.ensures in let f = c.if-not-is_width.false in cc) in
+    let none = ready_none files p a (c.in-Ready.ensures.ended t p here) in
+    let not = not_granted files p a (gives_leaf c.translate-walk.result) (sym c.is_permitted.ensures ∙ c.if-is_permitted.false) (rw (n.walk t p space) law) none in
+    let r = c.in-Ready.ensures.ready refl t p (can_reside (body_of g.S.FrameSeat.view c.translate-walk.new.self) t p c.args.asked.access c.args.asked.va.0 c.args.asked.width here none) in
+    let there = as_told files p a (body_of g.S.FrameSeat.view c.serve.new.space) r.0 (is_shared_by r.1) (r.2.agrees 0) in
+    made_later files p a k is wide x (body_of g.S.FrameSeat.view c.at_once.new.space) _ none not c.at_once.result (c.at_once.ensures.reply r.0 (q files p a) there) (r.0, c.at_once.ensures.after r.0 (q files p a) there)
+    (c.in-Ready.ensures.moves ready_served t p here)
+
+pub returns-in-Ended-clause-came : goal.returns-in-Ended-clause-came
+returns-in-Ended-clause-came g c = λ k is t p space.
+    let n = c.translate-walk.ensures in
+    let a = asked_of c.args.asked in
+    let files = g.C.Files.files c.args.files.now in
+    let x = body_of g.S.FrameSeat.view c.args.space.now in
+    let y = body_of g.S.FrameSeat.view c.serve.new.space in
+    let e = c.in-Ended.ensures in
+    let here = still_space g.S.FrameSeat.view _ _ n.view n.root n.trapframe n.layout t p space in
+    let law = c.walks_grant_what_is_resident.ensures x t p c.args.asked.access c.args.asked.va.0 space in
+    let wide : is_width c.args.asked.width ≡ true = (let e = c.is_width.ensures in let f = c.if-not-is_width.false in cc) in
+    let whole = e.whole c.in-Ended.rule refl t p here in
+    let moves = e.moves (ended_served c.in-Ended.rule) t p here in
+    elim (ended_why files p a c.in-Ended.rule (e.ended t p here)) [
+      | inl by ↦ ends_denied files p a k is wide x y _ c.in-Ended.rule by (t, whole) moves
+      | inr both ↦
+          let none = both.0 in
+          let not = not_granted files p a (gives_leaf c.translate-walk.result) (sym c.is_permitted.ensures ∙ c.if-is_permitted.false) (rw (n.walk t p space) law) none in
+          let dry = e.dry (ap served.Ended both.1) t p (can_reside (body_of g.S.FrameSeat.view c.translate-walk.new.self) t p c.args.asked.access c.args.asked.va.0 c.args.asked.width here none) in
+          ends_dry_by files p a k is wide x y _ c.in-Ended.rule both.1 none not (is_shared_by dry.0) _ (subst (λ (v : View). RunsDry v (g.S.FrameSeat.view c.serve.new.space.seat) (resident_need (is_shared_by dry.0) p c.args.asked.access (page_of c.args.asked.va.0)) (option_to_list dry.0)) n.view dry.2) (t, whole) moves
+    ]
+
+pub returns-in-Unserved-clause-came : goal.returns-in-Unserved-clause-came
+returns-in-Unserved-clause-came g c = λ k is t p space.
+    let n = c.translate-walk.ensures in
+    let e = c.in-Unserved.ensures in
+    let here = still_space g.S.FrameSeat.view _ _ n.view n.root n.trapframe n.layout t p space in
+    let x = e.unpromised c.in-Unserved.refusal refl in
+    record {
+      error = x.0;
+      could = x.1;
+      refusal = x.2;
+      space = (t, still_space g.S.FrameSeat.view c.translate-walk.new.self c.serve.new.space (e.view_stays ((λ is. cc), (λ is. cc))) e.root e.trapframe e.layout t p here);
+      moves = e.files_stay c.in-Unserved.refusal refl;
+    }
+
+pub serve-requires-clause-fits : goal.serve-requires-clause-fits
+serve-requires-clause-fits g c = fits_after g.F.FrameAccess.rule c.translate-walk.ensures.keeps c.requires.fits
+
+pub serve-requires-clause-ready : goal.serve-requires-clause-ready
+serve-requires-clause-ready g c =
+    let n = c.translate-walk.ensures in
+    let r = c.requires.ready in
+    (r.0, r.1, still_space g.S.FrameSeat.view _ _ n.view n.root n.trapframe n.layout r.0 r.1 r.2)
+
+pub at_once-requires-clause-fits : goal.at_once-requires-clause-fits
+at_once-requires-clause-fits g c = fits_after g.F.FrameAccess.rule c.serve.ensures.keeps (fits_after g.F.FrameAccess.rule c.translate-walk.ensures.keeps c.requires.fits)
+
+pub at_once-requires-clause-ready : goal.at_once-requires-clause-ready
+at_once-requires-clause-ready g c =
+    let n = c.translate-walk.ensures in
+    let p = c.requires.ready in
+    let here = still_space g.S.FrameSeat.view _ _ n.view n.root n.trapframe n.layout p.0 p.1 p.2 in
+    let none = ready_none (g.C.Files.files c.args.files.now) p.1 (asked_of c.args.asked) (c.in-Ready.ensures.ended p.0 p.1 here) in
+    let r = c.in-Ready.ensures.ready refl p.0 p.1 (can_reside (body_of g.S.FrameSeat.view c.translate-walk.new.self) p.0 p.1 c.args.asked.access c.args.asked.va.0 c.args.asked.width here none) in
+    (r.0, made_resident (g.C.Files.files c.args.files.now) 0 (is_shared_by r.1) p.1 c.args.asked.access (page_of c.args.asked.va.0), r.2.agrees 0)
+
+pub returns-in-Ready-clause-keeps : goal.returns-in-Ready-clause-keeps
+returns-in-Ready-clause-keeps g c = λ others r. c.at_once.ensures.keeps others (c.serve.ensures.keeps others (c.translate-walk.ensures.keeps others r))
+
+pub returns-in-Ended-clause-keeps : goal.returns-in-Ended-clause-keeps
+returns-in-Ended-clause-keeps g c = λ others r. c.serve.ensures.keeps others (c.translate-walk.ensures.keeps others r)
+
+pub returns-in-Unserved-clause-keeps : goal.returns-in-Unserved-clause-keeps
+returns-in-Unserved-clause-keeps g c = λ others r. c.serve.ensures.keeps others (c.translate-walk.ensures.keeps others r)

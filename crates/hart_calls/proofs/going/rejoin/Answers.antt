@@ -1,0 +1,16 @@
+use Rattle.std.proofs.Common.{◌≤◌, ◌+◌, arith, [], ◌∷◌, length}
+use Rattle.std.proofs.lemmas.List.{length-append}
+use Rattle.hart_calls.proofs.Journals.{one_longer}
+use Rattle.hart_calls.proofs.going.rejoin.Goals as goal
+
+pub invariant_of-result : goal.invariant_of-result
+invariant_of-result g c =
+    let few = c.requires.few in
+    rw c.push_reserved.ensures.items (
+      c.requires.fits,
+      c.requires.agrees,
+      one_longer _ _ _ c.args.entry _ _ c.requires.replays c.requires.next c.requires.leads,
+      c.requires.named,
+      c.requires.there,
+      omega (arith, few, length-append c.args.parts.journal.items (c.args.entry ∷ [])),
+    )

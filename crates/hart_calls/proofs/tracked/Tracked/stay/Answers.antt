@@ -1,0 +1,440 @@
+use Rattle.std.proofs.Common.{◌≡◌, ◌-◌, ◌<◌, ◌≤◌, ◌∙◌, ap, arith, length, List, refl, sym, subst}
+use Rattle.std.specs.Prelude.{vec_capacity, vec_len}
+use Rattle.address_space.specs.Agreement.{body_of, IsSpace}
+use Rattle.file_shelf.specs.Shelved.{Becomes, CanRefuse, Shelved}
+use Rattle.hart_calls.specs.Asks.{IsStaying}
+use Rattle.hart_calls.specs.Closed.{cause_of}
+use Rattle.hart_calls.specs.Comes.{address_of, at_stop, by_reply}
+use Rattle.hart_calls.specs.Tells.{told}
+use Rattle.hart_calls.specs.Track.{Adds, next_of, Track}
+use Rattle.hart_calls.specs.Turns.{FiledOver}
+use Rattle.hart_calls.specs.Wants.{refused, Want}
+use Rattle.hart_calls.specs.declared.entry.Entry.{Entry}
+use Rattle.hart_calls.proofs.Ends.{cut_files, cut_over, is_cause}
+use Rattle.hart_calls.proofs.Filing.{ended_files}
+use Rattle.hart_calls.proofs.Journals.{read_since}
+use Rattle.hart_calls.proofs.Staying.{has_grown, pages_are}
+use Rattle.hart_calls.proofs.Turning.{filed, filed_over, goes, IsEntryOf, leads, over}
+use Rattle.process_model.specs.PageMoves.{PageMove}
+use Rattle.process_model.specs.Process.{Process}
+use Rattle.process_model.specs.declared.step.Reply.{Reply}
+use Rattle.process_model.specs.declared.step.Reply.TheVariants as reply
+use Rattle.shared_frames.specs.Fits.{fits_still, may_step, view_of}
+use Rattle.hart_calls.proofs.tracked.Tracked.stay.Goals as goal
+
+pub make-came-requires-clause-fits : goal.make-came-requires-clause-fits
+make-came-requires-clause-fits g c = may_step _ _ c.self.inside.parts.space.seat c.requires.store c.self.invariant.0
+
+pub rejoin-requires-clause-fits : goal.rejoin-requires-clause-fits
+rejoin-requires-clause-fits g c = (fits_still _ _ _ c.self.inside.parts.space.seat c.make-came.new.space.seat c.requires.store c.make-came.ensures.keeps c.self.invariant.0).1
+
+pub returns-in-Answered-clause-store : goal.returns-in-Answered-clause-store
+returns-in-Answered-clause-store g c = (fits_still _ _ _ c.self.inside.parts.space.seat c.make-came.new.space.seat c.requires.store c.make-came.ensures.keeps c.self.invariant.0).0
+
+pub rejoin-requires-in-Stopped-clause-fits : goal.rejoin-requires-in-Stopped-clause-fits
+rejoin-requires-in-Stopped-clause-fits g c = (fits_still _ _ _ c.self.inside.parts.space.seat c.make-came.new.space.seat c.requires.store c.make-came.ensures.keeps c.self.invariant.0).1
+
+pub returns-in-Stopped-clause-store : goal.returns-in-Stopped-clause-store
+returns-in-Stopped-clause-store g c = (fits_still _ _ _ c.self.inside.parts.space.seat c.make-came.new.space.seat c.requires.store c.make-came.ensures.keeps c.self.invariant.0).0
+
+pub close-requires-clause-store : goal.close-requires-clause-store
+close-requires-clause-store g c = (fits_still _ _ _ c.self.inside.parts.space.seat c.make-came.new.space.seat c.requires.store c.make-came.ensures.keeps c.self.invariant.0).0
+
+pub close-requires-clause-fits : goal.close-requires-clause-fits
+close-requires-clause-fits g c = (fits_still _ _ _ c.self.inside.parts.space.seat c.make-came.new.space.seat c.requires.store c.make-came.ensures.keeps c.self.invariant.0).1
+
+pub cut-requires-clause-store : goal.cut-requires-clause-store
+cut-requires-clause-store g c = (fits_still _ _ _ c.self.inside.parts.space.seat c.make-came.new.space.seat c.requires.store c.make-came.ensures.keeps c.self.invariant.0).0
+
+pub pages_read-pages-requires-clause-mark : goal.pages_read-pages-requires-clause-mark
+pages_read-pages-requires-clause-mark g c =
+    let p = c.self.invariant.1 in
+    let grew = has_grown _ _ _ _ _ _ c.args.call (c.args.shelf.now).history (c.make-came.new.files).history (λ ms became. became.history) c.make-came.result (c.make-came.ensures.came p.0 c.self.inside.parts.present.state p.1) in
+    let longer = grew.longer in
+    rw c.uses-mark.ensures longer
+
+pub rejoin-requires-clause-agrees : goal.rejoin-requires-clause-agrees
+rejoin-requires-clause-agrees g c =
+    let t : Track = record {
+      name = c.self.inside.parts.name.items;
+      lists = c.self.inside.parts.lists.now;
+      list = c.self.inside.parts.list;
+      opening = c.self.inside.parts.opening.state;
+      state = c.self.inside.parts.present.state;
+      journal = c.self.inside.parts.journal.items;
+      seat = view_of c.self.inside.parts.space.seat;
+      room = vec_capacity c.self.inside.parts.journal - vec_len c.self.inside.parts.journal;
+    } in
+    let p = c.self.invariant.1 in
+    let a = c.args.shelf.now in
+    let b = c.make-came.new.files in
+    let k = c.args.call in
+    let x = body_of view_of c.self.inside.parts.space in
+    let y = body_of view_of c.make-came.new.space in
+    let state = c.self.inside.parts.present.state in
+    let h = c.in-Answered.ensures.came p.0 state p.1 in
+    let comes = h.1 in
+    let r = c.in-Answered.reply in
+    let w : Want = by_reply (address_of k) r in
+    let moved : c.moved-present.result.state ≡ (told a.files w 0 state k).process = c.moved-present.ensures ∙ ap (λ (s : Shelved). (told s.files w 0 state k).process) c.of-before.ensures in
+    (comes.space.0, subst (λ (q : Process). IsSpace y comes.space.0 q) (sym moved) comes.space.1)
+
+pub rejoin-requires-clause-leads : goal.rejoin-requires-clause-leads
+rejoin-requires-clause-leads g c =
+    let t : Track = record {
+      name = c.self.inside.parts.name.items;
+      lists = c.self.inside.parts.lists.now;
+      list = c.self.inside.parts.list;
+      opening = c.self.inside.parts.opening.state;
+      state = c.self.inside.parts.present.state;
+      journal = c.self.inside.parts.journal.items;
+      seat = view_of c.self.inside.parts.space.seat;
+      room = vec_capacity c.self.inside.parts.journal - vec_len c.self.inside.parts.journal;
+    } in
+    let p = c.self.invariant.1 in
+    let a = c.args.shelf.now in
+    let b = c.make-came.new.files in
+    let k = c.args.call in
+    let x = body_of view_of c.self.inside.parts.space in
+    let y = body_of view_of c.make-came.new.space in
+    let state = c.self.inside.parts.present.state in
+    let h = c.in-Answered.ensures.came p.0 state p.1 in
+    let comes = h.1 in
+    let r = c.in-Answered.reply in
+    let w : Want = by_reply (address_of k) r in
+    let n = c.entry_of-entry.ensures in
+    let e = c.entry_of-entry.result in
+    let is : IsEntryOf t a w k r e = record {
+      call = n.call;
+      answer = n.reply;
+      pages = n.pages ∙ pages_are a.files w state k a.history b.history c.pages_read-pages.result.items c.uses-mark.result c.uses-mark.ensures c.pages_read-pages.ensures comes.moves.history;
+      file = n.file ∙ c.mapped_file-file.ensures;
+    } in
+    let moved : c.moved-present.result.state ≡ (told a.files w 0 state k).process = c.moved-present.ensures ∙ ap (λ (s : Shelved). (told s.files w 0 state k).process) c.of-before.ensures in
+    (a.files, leads t k c.requires.stays a b w r e is x y refl comes _ moved)
+
+pub returns-in-Answered-clause-turned : goal.returns-in-Answered-clause-turned
+returns-in-Answered-clause-turned g c =
+    let t : Track = record {
+      name = c.self.inside.parts.name.items;
+      lists = c.self.inside.parts.lists.now;
+      list = c.self.inside.parts.list;
+      opening = c.self.inside.parts.opening.state;
+      state = c.self.inside.parts.present.state;
+      journal = c.self.inside.parts.journal.items;
+      seat = view_of c.self.inside.parts.space.seat;
+      room = vec_capacity c.self.inside.parts.journal - vec_len c.self.inside.parts.journal;
+    } in
+    let p = c.self.invariant.1 in
+    let a = c.args.shelf.now in
+    let b = c.make-came.new.files in
+    let k = c.args.call in
+    let x = body_of view_of c.self.inside.parts.space in
+    let y = body_of view_of c.make-came.new.space in
+    let state = c.self.inside.parts.present.state in
+    let h = c.in-Answered.ensures.came p.0 state p.1 in
+    let comes = h.1 in
+    let r = c.in-Answered.reply in
+    let w : Want = by_reply (address_of k) r in
+    let n = c.entry_of-entry.ensures in
+    let e = c.entry_of-entry.result in
+    let is : IsEntryOf t a w k r e = record {
+      call = n.call;
+      answer = n.reply;
+      pages = n.pages ∙ pages_are a.files w state k a.history b.history c.pages_read-pages.result.items c.uses-mark.result c.uses-mark.ensures c.pages_read-pages.ensures comes.moves.history;
+      file = n.file ∙ c.mapped_file-file.ensures;
+    } in
+    let moved : c.moved-present.result.state ≡ (told a.files w 0 state k).process = c.moved-present.ensures ∙ ap (λ (s : Shelved). (told s.files w 0 state k).process) c.of-before.ensures in
+    let next = subst (λ (z : Track). k ≡ next_of z) (sym c.self.view_is) c.requires.next in
+    let j = c.rejoin.ensures in
+    let adds : Adds t c.rejoin.result e = record { name = j.name; lists = j.lists; list = j.list; opening = j.opening; journal = j.journal; next = n.call ∙ next } in
+    rw (← c.self.view_is) (goes t k c.requires.stays a b w r e is x y refl comes c.rejoin.result adds j.seat (j.state ∙ moved) h.0 c.args.slot.now)
+
+pub returns-in-Answered-clause-files : goal.returns-in-Answered-clause-files
+returns-in-Answered-clause-files g c =
+    let t : Track = record {
+      name = c.self.inside.parts.name.items;
+      lists = c.self.inside.parts.lists.now;
+      list = c.self.inside.parts.list;
+      opening = c.self.inside.parts.opening.state;
+      state = c.self.inside.parts.present.state;
+      journal = c.self.inside.parts.journal.items;
+      seat = view_of c.self.inside.parts.space.seat;
+      room = vec_capacity c.self.inside.parts.journal - vec_len c.self.inside.parts.journal;
+    } in
+    let p = c.self.invariant.1 in
+    let a = c.args.shelf.now in
+    let b = c.make-came.new.files in
+    let k = c.args.call in
+    let x = body_of view_of c.self.inside.parts.space in
+    let y = body_of view_of c.make-came.new.space in
+    let state = c.self.inside.parts.present.state in
+    let h = c.in-Answered.ensures.came p.0 state p.1 in
+    let comes = h.1 in
+    let r = c.in-Answered.reply in
+    let w : Want = by_reply (address_of k) r in
+    let n = c.entry_of-entry.ensures in
+    let e = c.entry_of-entry.result in
+    let is : IsEntryOf t a w k r e = record {
+      call = n.call;
+      answer = n.reply;
+      pages = n.pages ∙ pages_are a.files w state k a.history b.history c.pages_read-pages.result.items c.uses-mark.result c.uses-mark.ensures c.pages_read-pages.ensures comes.moves.history;
+      file = n.file ∙ c.mapped_file-file.ensures;
+    } in
+    let moved : c.moved-present.result.state ≡ (told a.files w 0 state k).process = c.moved-present.ensures ∙ ap (λ (s : Shelved). (told s.files w 0 state k).process) c.of-before.ensures in
+    let next = subst (λ (z : Track). k ≡ next_of z) (sym c.self.view_is) c.requires.next in
+    let j = c.rejoin.ensures in
+    let adds : Adds t c.rejoin.result e = record { name = j.name; lists = j.lists; list = j.list; opening = j.opening; journal = j.journal; next = n.call ∙ next } in
+    rw (← c.self.view_is) (filed t k c.requires.stays a b w r e is x y refl comes c.rejoin.result adds j.seat (j.state ∙ moved) h.0)
+
+pub rejoin-requires-in-Stopped-clause-agrees : goal.rejoin-requires-in-Stopped-clause-agrees
+rejoin-requires-in-Stopped-clause-agrees g c =
+    let t : Track = record {
+      name = c.self.inside.parts.name.items;
+      lists = c.self.inside.parts.lists.now;
+      list = c.self.inside.parts.list;
+      opening = c.self.inside.parts.opening.state;
+      state = c.self.inside.parts.present.state;
+      journal = c.self.inside.parts.journal.items;
+      seat = view_of c.self.inside.parts.space.seat;
+      room = vec_capacity c.self.inside.parts.journal - vec_len c.self.inside.parts.journal;
+    } in
+    let p = c.self.invariant.1 in
+    let a = c.args.shelf.now in
+    let b = c.make-came.new.files in
+    let k = c.args.call in
+    let x = body_of view_of c.self.inside.parts.space in
+    let y = body_of view_of c.make-came.new.space in
+    let state = c.self.inside.parts.present.state in
+    let comes = c.in-Stopped.ensures.came p.0 state p.1 in
+    let r : Reply = reply.Refused c.in-Stopped.refusal in
+    let w : Want = refused c.in-Stopped.done c.in-Stopped.refusal in
+    let moved : c.moved-present-in-Stopped.result.state ≡ (told a.files w 0 state k).process = c.moved-present-in-Stopped.ensures ∙ ap (λ (s : Shelved). (told s.files w 0 state k).process) c.of-before.ensures in
+    (comes.space.0, subst (λ (q : Process). IsSpace y comes.space.0 q) (sym moved) comes.space.1)
+
+pub rejoin-requires-in-Stopped-clause-leads : goal.rejoin-requires-in-Stopped-clause-leads
+rejoin-requires-in-Stopped-clause-leads g c =
+    let t : Track = record {
+      name = c.self.inside.parts.name.items;
+      lists = c.self.inside.parts.lists.now;
+      list = c.self.inside.parts.list;
+      opening = c.self.inside.parts.opening.state;
+      state = c.self.inside.parts.present.state;
+      journal = c.self.inside.parts.journal.items;
+      seat = view_of c.self.inside.parts.space.seat;
+      room = vec_capacity c.self.inside.parts.journal - vec_len c.self.inside.parts.journal;
+    } in
+    let p = c.self.invariant.1 in
+    let a = c.args.shelf.now in
+    let b = c.make-came.new.files in
+    let k = c.args.call in
+    let x = body_of view_of c.self.inside.parts.space in
+    let y = body_of view_of c.make-came.new.space in
+    let state = c.self.inside.parts.present.state in
+    let comes = c.in-Stopped.ensures.came p.0 state p.1 in
+    let r : Reply = reply.Refused c.in-Stopped.refusal in
+    let w : Want = refused c.in-Stopped.done c.in-Stopped.refusal in
+    let n = c.entry_of-entry-in-Stopped.ensures in
+    let e = c.entry_of-entry-in-Stopped.result in
+    let is : IsEntryOf t a w k r e = record {
+      call = n.call;
+      answer = n.reply;
+      pages = n.pages ∙ pages_are a.files w state k a.history b.history c.pages_read-pages.result.items c.uses-mark.result c.uses-mark.ensures c.pages_read-pages.ensures comes.moves.history;
+      file = n.file ∙ c.mapped_file-file.ensures;
+    } in
+    let moved : c.moved-present-in-Stopped.result.state ≡ (told a.files w 0 state k).process = c.moved-present-in-Stopped.ensures ∙ ap (λ (s : Shelved). (told s.files w 0 state k).process) c.of-before.ensures in
+    (a.files, leads t k c.requires.stays a b w r e is x y refl comes _ moved)
+
+pub returns-in-Stopped-clause-turned : goal.returns-in-Stopped-clause-turned
+returns-in-Stopped-clause-turned g c =
+    let t : Track = record {
+      name = c.self.inside.parts.name.items;
+      lists = c.self.inside.parts.lists.now;
+      list = c.self.inside.parts.list;
+      opening = c.self.inside.parts.opening.state;
+      state = c.self.inside.parts.present.state;
+      journal = c.self.inside.parts.journal.items;
+      seat = view_of c.self.inside.parts.space.seat;
+      room = vec_capacity c.self.inside.parts.journal - vec_len c.self.inside.parts.journal;
+    } in
+    let p = c.self.invariant.1 in
+    let a = c.args.shelf.now in
+    let b = c.make-came.new.files in
+    let k = c.args.call in
+    let x = body_of view_of c.self.inside.parts.space in
+    let y = body_of view_of c.make-came.new.space in
+    let state = c.self.inside.parts.present.state in
+    let comes = c.in-Stopped.ensures.came p.0 state p.1 in
+    let r : Reply = reply.Refused c.in-Stopped.refusal in
+    let w : Want = refused c.in-Stopped.done c.in-Stopped.refusal in
+    let n = c.entry_of-entry-in-Stopped.ensures in
+    let e = c.entry_of-entry-in-Stopped.result in
+    let is : IsEntryOf t a w k r e = record {
+      call = n.call;
+      answer = n.reply;
+      pages = n.pages ∙ pages_are a.files w state k a.history b.history c.pages_read-pages.result.items c.uses-mark.result c.uses-mark.ensures c.pages_read-pages.ensures comes.moves.history;
+      file = n.file ∙ c.mapped_file-file.ensures;
+    } in
+    let moved : c.moved-present-in-Stopped.result.state ≡ (told a.files w 0 state k).process = c.moved-present-in-Stopped.ensures ∙ ap (λ (s : Shelved). (told s.files w 0 state k).process) c.of-before.ensures in
+    let next = subst (λ (z : Track). k ≡ next_of z) (sym c.self.view_is) c.requires.next in
+    let j = c.rejoin-in-Stopped.ensures in
+    let adds : Adds t c.rejoin-in-Stopped.result e = record { name = j.name; lists = j.lists; list = j.list; opening = j.opening; journal = j.journal; next = n.call ∙ next } in
+    rw (← c.self.view_is) (goes t k c.requires.stays a b w r e is x y refl comes c.rejoin-in-Stopped.result adds j.seat (j.state ∙ moved) tt c.args.slot.now)
+
+pub returns-in-Stopped-clause-files : goal.returns-in-Stopped-clause-files
+returns-in-Stopped-clause-files g c =
+    let t : Track = record {
+      name = c.self.inside.parts.name.items;
+      lists = c.self.inside.parts.lists.now;
+      list = c.self.inside.parts.list;
+      opening = c.self.inside.parts.opening.state;
+      state = c.self.inside.parts.present.state;
+      journal = c.self.inside.parts.journal.items;
+      seat = view_of c.self.inside.parts.space.seat;
+      room = vec_capacity c.self.inside.parts.journal - vec_len c.self.inside.parts.journal;
+    } in
+    let p = c.self.invariant.1 in
+    let a = c.args.shelf.now in
+    let b = c.make-came.new.files in
+    let k = c.args.call in
+    let x = body_of view_of c.self.inside.parts.space in
+    let y = body_of view_of c.make-came.new.space in
+    let state = c.self.inside.parts.present.state in
+    let comes = c.in-Stopped.ensures.came p.0 state p.1 in
+    let r : Reply = reply.Refused c.in-Stopped.refusal in
+    let w : Want = refused c.in-Stopped.done c.in-Stopped.refusal in
+    let n = c.entry_of-entry-in-Stopped.ensures in
+    let e = c.entry_of-entry-in-Stopped.result in
+    let is : IsEntryOf t a w k r e = record {
+      call = n.call;
+      answer = n.reply;
+      pages = n.pages ∙ pages_are a.files w state k a.history b.history c.pages_read-pages.result.items c.uses-mark.result c.uses-mark.ensures c.pages_read-pages.ensures comes.moves.history;
+      file = n.file ∙ c.mapped_file-file.ensures;
+    } in
+    let moved : c.moved-present-in-Stopped.result.state ≡ (told a.files w 0 state k).process = c.moved-present-in-Stopped.ensures ∙ ap (λ (s : Shelved). (told s.files w 0 state k).process) c.of-before.ensures in
+    let next = subst (λ (z : Track). k ≡ next_of z) (sym c.self.view_is) c.requires.next in
+    let j = c.rejoin-in-Stopped.ensures in
+    let adds : Adds t c.rejoin-in-Stopped.result e = record { name = j.name; lists = j.lists; list = j.list; opening = j.opening; journal = j.journal; next = n.call ∙ next } in
+    rw (← c.self.view_is) (filed t k c.requires.stays a b w r e is x y refl comes c.rejoin-in-Stopped.result adds j.seat (j.state ∙ moved) tt)
+
+pub close-requires-clause-ready : goal.close-requires-clause-ready
+close-requires-clause-ready g c =
+    let t : Track = record {
+      name = c.self.inside.parts.name.items;
+      lists = c.self.inside.parts.lists.now;
+      list = c.self.inside.parts.list;
+      opening = c.self.inside.parts.opening.state;
+      state = c.self.inside.parts.present.state;
+      journal = c.self.inside.parts.journal.items;
+      seat = view_of c.self.inside.parts.space.seat;
+      room = vec_capacity c.self.inside.parts.journal - vec_len c.self.inside.parts.journal;
+    } in
+    let p = c.self.invariant.1 in
+    let a = c.args.shelf.now in
+    let b = c.make-came.new.files in
+    let k = c.args.call in
+    let x = body_of view_of c.self.inside.parts.space in
+    let y = body_of view_of c.make-came.new.space in
+    let state = c.self.inside.parts.present.state in
+    let comes = c.in-Ended.ensures.came p.0 state p.1 in
+    let r : Reply = reply.Ended c.in-Ended.rule in
+    let w : Want = at_stop c.in-Ended.rule (address_of k) in
+    let ended = ended_files a.files state w k c.in-Ended.rule c.requires.stays (sym comes.reply) in
+    (comes.space.0, subst (λ (q : Process). IsSpace y comes.space.0 q) ended.2 comes.space.1)
+
+pub returns-in-Ended-clause-turned : goal.returns-in-Ended-clause-turned
+returns-in-Ended-clause-turned g c =
+    let t : Track = record {
+      name = c.self.inside.parts.name.items;
+      lists = c.self.inside.parts.lists.now;
+      list = c.self.inside.parts.list;
+      opening = c.self.inside.parts.opening.state;
+      state = c.self.inside.parts.present.state;
+      journal = c.self.inside.parts.journal.items;
+      seat = view_of c.self.inside.parts.space.seat;
+      room = vec_capacity c.self.inside.parts.journal - vec_len c.self.inside.parts.journal;
+    } in
+    let p = c.self.invariant.1 in
+    let a = c.args.shelf.now in
+    let b = c.make-came.new.files in
+    let k = c.args.call in
+    let x = body_of view_of c.self.inside.parts.space in
+    let y = body_of view_of c.make-came.new.space in
+    let state = c.self.inside.parts.present.state in
+    let comes = c.in-Ended.ensures.came p.0 state p.1 in
+    let r : Reply = reply.Ended c.in-Ended.rule in
+    let w : Want = at_stop c.in-Ended.rule (address_of k) in
+    let n = c.entry_of-entry-in-Ended.ensures in
+    let e = c.entry_of-entry-in-Ended.result in
+    let is : IsEntryOf t a w k r e = record {
+      call = n.call;
+      answer = n.reply;
+      pages = n.pages ∙ pages_are a.files w state k a.history b.history c.pages_read-pages.result.items c.uses-mark.result c.uses-mark.ensures c.pages_read-pages.ensures comes.moves.history;
+      file = n.file ∙ c.mapped_file-file.ensures;
+    } in
+    let next = subst (λ (z : Track). k ≡ next_of z) (sym c.self.view_is) c.requires.next in
+    let z = c.close.ensures in
+    rw (← c.self.view_is) (over t k c.requires.stays a b w r e is x y refl comes c.in-Ended.rule refl refl next c.self.invariant.2 c.close.result z.name z.bare z.tallies c.close.new.shelf z.closes)
+
+pub returns-in-Ended-clause-files : goal.returns-in-Ended-clause-files
+returns-in-Ended-clause-files g c =
+    let t : Track = record {
+      name = c.self.inside.parts.name.items;
+      lists = c.self.inside.parts.lists.now;
+      list = c.self.inside.parts.list;
+      opening = c.self.inside.parts.opening.state;
+      state = c.self.inside.parts.present.state;
+      journal = c.self.inside.parts.journal.items;
+      seat = view_of c.self.inside.parts.space.seat;
+      room = vec_capacity c.self.inside.parts.journal - vec_len c.self.inside.parts.journal;
+    } in
+    let p = c.self.invariant.1 in
+    let a = c.args.shelf.now in
+    let b = c.make-came.new.files in
+    let k = c.args.call in
+    let x = body_of view_of c.self.inside.parts.space in
+    let y = body_of view_of c.make-came.new.space in
+    let state = c.self.inside.parts.present.state in
+    let comes = c.in-Ended.ensures.came p.0 state p.1 in
+    let r : Reply = reply.Ended c.in-Ended.rule in
+    let w : Want = at_stop c.in-Ended.rule (address_of k) in
+    let n = c.entry_of-entry-in-Ended.ensures in
+    let e = c.entry_of-entry-in-Ended.result in
+    let is : IsEntryOf t a w k r e = record {
+      call = n.call;
+      answer = n.reply;
+      pages = n.pages ∙ pages_are a.files w state k a.history b.history c.pages_read-pages.result.items c.uses-mark.result c.uses-mark.ensures c.pages_read-pages.ensures comes.moves.history;
+      file = n.file ∙ c.mapped_file-file.ensures;
+    } in
+    let next = subst (λ (z : Track). k ≡ next_of z) (sym c.self.view_is) c.requires.next in
+    let z = c.close.ensures in
+    subst (λ (z : Track). FiledOver z c.close.result c.close.result.outcome a c.close.new.shelf) c.self.view_is (filed_over t k c.requires.stays a b w r e is x y refl comes c.in-Ended.rule refl refl next c.self.invariant.2 c.close.result z.name z.bare z.tallies c.close.new.shelf z.closes)
+
+pub pages_read-pages-requires-clause-few : goal.pages_read-pages-requires-clause-few
+pages_read-pages-requires-clause-few g c =
+    let p = c.self.invariant.1 in
+    let grew = has_grown _ _ _ _ _ _ c.args.call (c.args.shelf.now).history (c.make-came.new.files).history (λ ms became. became.history) c.make-came.result (c.make-came.ensures.came p.0 c.self.inside.parts.present.state p.1) in
+    let few = grew.few in
+    rw c.uses-mark.ensures few
+
+pub invariant_of-tracked : goal.invariant_of-tracked
+invariant_of-tracked g c =
+    let p = c.self.invariant.1 in
+    let cut = c.in-Cut.ensures.came p.0 c.self.inside.parts.present.state p.1 in (
+      (fits_still _ _ _ c.self.inside.parts.space.seat c.make-came.new.space.seat c.requires.store c.make-came.ensures.keeps c.self.invariant.0).1,
+      cut.space,
+      c.self.invariant.2,
+      c.self.invariant.3,
+      c.self.invariant.4,
+      c.self.invariant.5,
+    )
+
+pub returns-in-Cut-clause-turned : goal.returns-in-Cut-clause-turned
+returns-in-Cut-clause-turned g c =
+    rw (← c.self.view_is) (cut_over _ _ _ c.cut.result (cause_of c.in-Cut.refusal) (is_cause c.in-Cut.refusal) (c.cut.ensures.outcome ∙ c.cause_of.ensures) c.cut.ensures.over)
+
+pub returns-in-Cut-clause-files : goal.returns-in-Cut-clause-files
+returns-in-Cut-clause-files g c =
+    let p = c.self.invariant.1 in
+    let cut = c.in-Cut.ensures.came p.0 c.self.inside.parts.present.state p.1 in
+    cut_files _ c.cut.result c.args.shelf.now c.make-came.new.files c.in-Cut.refusal cut.error cut.could cut.refusal cut.moves (c.cut.ensures.outcome ∙ c.cause_of.ensures)

@@ -1,0 +1,33 @@
+-- What a call asks of memory.
+use Rattle.std.specs.Prelude.{◌≡◌, Bool, true, false, List, [], if◌then◌else◌}
+use Rattle.hart_calls.specs.Tells.{asked}
+use Rattle.process_model.specs.PageMoves.{PageMove}
+use Rattle.process_model.specs.Service.{Asked}
+use Rattle.process_model.specs.declared.call.Call.{Call}
+use Rattle.process_model.specs.declared.call.Call.TheVariants as call
+use Rattle.sv39_entry.specs.declared.access.Access.TheVariants.{Fetch, Load, Store}
+
+abbrev pub IsAccess : Call → Asked → Type 0
+IsAccess (call.Fetch address) a = a ≡ asked Fetch address 4 0
+IsAccess (call.Load address width) a = a ≡ asked Load address width 0
+IsAccess (call.Store address width value) a = a ≡ asked Store address width value
+IsAccess c a = ⊥
+
+-- the process stays: no other comes of it, and it does not exit
+abbrev pub IsStaying : Call → Type 0
+IsStaying (call.Fork list) = ⊥
+IsStaying (call.Exit status) = ⊥
+IsStaying c = Unit {0}
+
+-- an access or a copy may settle pages, and read them from files
+abbrev pub may_read : Call → Bool
+may_read (call.Fetch address) = true
+may_read (call.Load address width) = true
+may_read (call.Store address width value) = true
+may_read (call.CopyIn address count) = true
+may_read (call.CopyOut address bytes) = true
+may_read c = false
+
+-- what it read, of the moves that it made
+abbrev pub reads : Call → List PageMove → List PageMove
+reads c moves = if may_read c then moves else []

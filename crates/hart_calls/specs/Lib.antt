@@ -1,0 +1,14 @@
+pub mod Answers
+pub mod Asks
+pub mod Closed
+pub mod Codes
+pub mod Comes
+pub mod Rooms
+pub mod Wants
+pub mod Tells
+pub mod Replay
+pub mod Track
+pub mod Dry
+pub mod Turns
+pub mod Turned
+pub mod Lent

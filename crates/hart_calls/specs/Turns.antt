@@ -1,0 +1,154 @@
+-- What one call makes of a process on its way.
+use Rattle.std.specs.Prelude.{◌≡◌, ◌⊎◌, ℕ, ◌+◌, ◌<◌, ◌≤◌, ◌∷◌, [], ◌++◌, List, Option, None, Some, length}
+use Rattle.std.specs.Borrow.{MutBor}
+use Rattle.address_space.specs.Steps.{IsBare}
+use Rattle.file_shelf.specs.Histories.{most_uses}
+use Rattle.file_shelf.specs.Shelved.{Becomes, CanRefuse, Shelved}
+use Rattle.file_cabinet.specs.declared.promise.PromiseError.TheVariants as error
+use Rattle.frame_store.specs.View.{View}
+use Rattle.hart_calls.specs.Dry.{TellsDry}
+use Rattle.hart_calls.specs.Replay.{forked, forks, Leads, Replays}
+use Rattle.hart_calls.specs.Tells.{told, reads_of, writes_of}
+use Rattle.hart_calls.specs.Track.{Adds, calls_of, IsChild, next_of, Track}
+use Rattle.hart_calls.specs.declared.entry.Entry.{Entry}
+use Rattle.hart_calls.specs.declared.finished.Finished.{Finished}
+use Rattle.process_model.specs.declared.call.Outcome.{Outcome}
+use Rattle.process_model.specs.declared.call.Outcome.TheVariants as outcome
+use Rattle.hart_calls.specs.declared.slot.Slot.{Slot}
+use Rattle.hart_calls.specs.declared.slot.Slot.TheVariants as slot
+use Rattle.process_model.specs.Files.{File}
+use Rattle.process_model.specs.PageMoves.{all_moves, files_after, PageMove}
+use Rattle.process_model.specs.Process.{Process}
+use Rattle.process_model.specs.Regions.{Region}
+use Rattle.process_model.specs.declared.call.Call.{Call}
+use Rattle.process_model.specs.declared.call.Call.TheVariants as call
+use Rattle.process_model.specs.declared.step.Refusal.TheVariants as refusal
+use Rattle.process_model.specs.declared.step.Reply.{Reply}
+use Rattle.process_model.specs.declared.step.Reply.TheVariants as reply
+use Rattle.shared_frames.specs.Fits.{view_of}
+
+-- what a call asks for beside frames
+
+-- a free slot comes with the child's name
+abbrev pub IsNamed : Slot → List ℕ → Type 0
+IsNamed (slot.Free v) name = v.items ≡ name
+IsNamed s name = Unit {0}
+
+abbrev pub IsMmap : Call → Type 0
+IsMmap (call.Mmap len protection flags file) = Unit {0}
+IsMmap c = ⊥
+
+abbrev pub IsFork : Call → Type 0
+IsFork (call.Fork list) = Unit {0}
+IsFork c = ⊥
+
+abbrev pub HasMapping : List Region → Type 0
+HasMapping [] = ⊥
+HasMapping (m ∷ ms) = Unit {0}
+
+-- the next call is mmap, or the process has a mapping
+abbrev pub NeedsFiles : Track → Type 0
+NeedsFiles t = IsMmap (next_of t) ⊎ HasMapping t.state.mappings
+
+-- a fork is answered 10 exactly without a slot, and 21 exactly without memory
+abbrev pub ForkAnswer : Slot → Reply → Type 0
+ForkAnswer slot.NoSlot r = r ≡ reply.Refused refusal.NoSlot
+ForkAnswer slot.Memory r = r ≡ reply.Refused refusal.Memory
+ForkAnswer (slot.Free v) r = (forked r ≡ 1) ⊎ ((r ≡ reply.Refused refusal.NoFrame) ⊎ (r ≡ reply.Refused refusal.SharersFull))
+
+abbrev pub BySlot : Slot → Call → Reply → Type 0
+BySlot s (call.Fork list) r = ForkAnswer s r
+BySlot s c r = Unit {0}
+
+-- a process goes on after an answer that does not end it
+abbrev pub GoesOn : Reply → Type 0
+GoesOn (reply.Ended rule) = ⊥
+GoesOn (reply.Exited status) = ⊥
+GoesOn r = Unit {0}
+
+-- ---- the process goes on, with one entry more, and perhaps a child
+
+abbrev pub Child : Option Track → Track → Entry → Type 0
+Child None t e = forked e.reply ≡ 0
+Child (Some c) t e = (forked e.reply ≡ 1) × ((list : ℕ) × (e.call ≡ call.Fork list) × IsChild t c list)
+
+pub record Goes (t u : Track) (c : Option Track) (s : Slot) : Type 0 where
+  pub entry : Entry
+  pub files : List File
+  pub adds : Adds t u entry
+  pub leads : Leads files (forks t.journal) t.state entry u.state
+  pub on : GoesOn entry.reply
+  pub child : Child c t entry
+  pub slot : BySlot s entry.call entry.reply
+  pub dry : TellsDry t.seat u.seat files t.state entry.call leads.want
+
+-- ---- the process ends
+
+-- with an entry more, that says so
+pub record EndsBy (t : Track) (f : Finished) (r : Reply) : Type 0 where
+  pub entry : Entry
+  pub files : List File
+  pub after : Process
+  pub journal : f.journal.items ≡ t.journal ++ entry ∷ []
+  pub next : entry.call ≡ next_of t
+  pub leads : Leads files (forks t.journal) t.state entry after
+  pub reply : entry.reply ≡ r
+  pub dry : TellsDry t.seat (view_of f.seat) files t.state entry.call leads.want
+
+-- with no entry more for want of memory, or of room in the journal or in the files' history
+abbrev pub Last : Track → Finished → Outcome → Type 0
+Last t f (outcome.Exited status) = EndsBy t f (reply.Exited status)
+Last t f (outcome.Ended rule) = EndsBy t f (reply.Ended rule)
+Last t f (outcome.Refused r) = ⊥
+Last t f outcome.Memory = f.journal.items ≡ t.journal
+Last t f outcome.JournalFull = f.journal.items ≡ t.journal
+
+pub record IsOver (t : Track) (f : Finished) : Type 0 where
+  pub name : f.name.items ≡ t.name
+  pub bare : IsBare (view_of f.seat)
+  pub replays : (q : Process) × Replays t.opening 0 0 (calls_of t) f.journal.items q
+  pub last : Last t f f.outcome
+
+-- ---- the files
+
+abbrev pub most_entries : ℕ
+most_entries = 10000
+
+-- the history gets just what the entry tells, and what its call writes; after an end what was stored to mappings goes back too
+
+pub record FiledOn (t u : Track) (a b : Shelved) : Type 0 where
+  pub entry : Entry
+  pub adds : u.journal ≡ t.journal ++ entry ∷ []
+  pub leads : Leads a.files (forks t.journal) t.state entry u.state
+  pub files : b.files ≡ (told a.files leads.want (forks t.journal) t.state entry.call).files
+  pub becomes : Becomes a (entry.pages.items ++ writes_of a.files leads.want t.state entry.call) b
+
+pub record FiledEnd (t : Track) (f : Finished) (a b : Shelved) : Type 0 where
+  pub entry : Entry
+  pub after : Process
+  pub adds : f.journal.items ≡ t.journal ++ entry ∷ []
+  pub leads : Leads a.files (forks t.journal) t.state entry after
+  pub files : b.files ≡ (told a.files leads.want (forks t.journal) t.state entry.call).files
+  pub becomes : Becomes a (entry.pages.items ++ all_moves t.state) b
+
+-- nothing is written; what was read is in the history
+pub record Unwritten (a b : Shelved) : Type 0 where
+  pub reads : List PageMove
+  pub becomes : Becomes a reads b
+  pub files : b.files ≡ a.files
+
+-- the history has no room for the pages that the call reads, three at most, and those that the end of the process writes
+abbrev pub HasNoRoom : Track → Shelved → Type 0
+HasNoRoom t a = (n : ℕ) × (n ≤ 3 + length (all_moves t.state)) × CanRefuse a n error.JournalFull
+
+abbrev pub FiledOver : Track → Finished → Outcome → Shelved → Shelved → Type 0
+FiledOver t f (outcome.Exited status) a b = FiledEnd t f a b
+FiledOver t f (outcome.Ended rule) a b = FiledEnd t f a b
+FiledOver t f (outcome.Refused r) a b = ⊥
+FiledOver t f outcome.Memory a b = Unwritten a b
+FiledOver t f outcome.JournalFull a b = Unwritten a b × ((length t.journal ≡ most_entries) ⊎ HasNoRoom t a)
+
+-- without files a journal is full only at its most entries
+abbrev pub FullOver : Track → Outcome → Type 0
+FullOver t outcome.JournalFull = length t.journal ≡ most_entries
+FullOver t o = Unit {0}

@@ -1,0 +1,124 @@
+// One call of a process.
+
+ghost use Rattle.std.specs.Prelude.{[], ◌∷◌, ◌++◌, ◌≡◌, ◌<◌, ◌≤◌, ◌+◌, IfErr, IfOk, length, None, Option, vec_capacity, vec_len, ℕ};
+ghost use Rattle.hart_calls.specs.Asks.{IsStaying};
+ghost use Rattle.hart_calls.specs.Lent.{IsLent, OfLent};
+ghost use Rattle.hart_calls.specs.Track.{child_name, next_of, SameTrack, Track};
+ghost use Rattle.hart_calls.specs.Turned.{Filed, HasTurned, Unfiled};
+ghost use Rattle.hart_calls.specs.Turns.{IsNamed, most_entries, NeedsFiles};
+ghost use Rattle.process_model.specs.declared.call.Call.TheVariants as call;
+
+use crate::entry::Entry;
+use crate::finished::Finished;
+use crate::room::Room;
+use crate::slot::Slot;
+use crate::tracked::Tracked;
+use file_cabinet::Cabinet;
+use file_shelf::{PageUse, Shelf};
+use process_model::{Call, Outcome};
+use shared_frames::SharedSupply;
+use std::alloc::AllocError;
+use std::sync::Wait;
+
+/// How many entries a journal has, at most.
+pub const MOST_ENTRIES: usize = 10000;
+
+/// What one call makes of a process.
+#[derive(Drop)]
+pub enum Turn<'a, B: Room> {
+    /// It goes on, and perhaps a child begins.
+    Goes(Tracked<'a, B>, Option<Tracked<'a, B>>),
+    Over(Finished<'a>),
+}
+
+impl<'a, B: Room> Tracked<'a, B> {
+    /// Makes the list's next call. An access to a page that is resident is made at once; one to another page is served
+    /// within the call. Room for the entry, with the pages of files that the call may read, is taken before the call: where
+    /// it is refused the call is not made, and the process ends. A process that ends writes its mappings back, but where a
+    /// page of a file is not promised.
+    ///
+    /// A fork is given a free slot with the child's name, or why there is none. A process that has a mapping is lent the
+    /// shelf, and one that makes a mapping.
+    pub fn next_call<R: Wait>(
+        self,
+        store: &mut SharedSupply<'_, R>,
+        shelf: Option<&mut Shelf>,
+        slot: Slot,
+    ) -> Turn<'a, B>
+        requires store { store.old ≡ B.table }
+        requires slot { IsNamed slot (child_name self) }
+        requires lent { NeedsFiles self → IsLent shelf }
+        ensures store { store.new ≡ B.table }
+        ensures turned { HasTurned self.entry result slot }
+        ensures files { OfLent (Filed self.entry result) (Unfiled self.entry result) shelf.entry shelf.exit }
+    {
+        match shelf {
+            Some(shelf) => self.turn(store, shelf, slot),
+            None => self.turn_without_files(store, slot),
+        }
+    }
+
+    /// The same of a process that has no mapping and makes none: it asks nothing of files, so there are none.
+    fn turn_without_files<R: Wait>(self, store: &mut SharedSupply<'_, R>, slot: Slot) -> Turn<'a, B>
+        requires store { store.old ≡ B.table }
+        requires slot { IsNamed slot (child_name self) }
+        requires none { NeedsFiles self → ⊥ }
+        ensures store { store.new ≡ B.table }
+        ensures turned { HasTurned self.entry result slot }
+        ensures full { Unfiled self.entry result }
+    {
+        let alloc = self.parts.alloc;
+        let Ok(cabinet) = Cabinet::new(alloc, &[]) else {
+            return Turn::Over(self.cut(store, Outcome::Memory));
+        };
+        let mut shelf = Shelf::new(alloc, cabinet);
+        self.turn(store, &mut shelf, slot)
+    }
+
+    /// The same with files.
+    fn turn<R: Wait>(
+        self,
+        store: &mut SharedSupply<'_, R>,
+        shelf: &mut Shelf,
+        slot: Slot,
+    ) -> Turn<'a, B>
+        requires store { store.old ≡ B.table }
+        requires slot { IsNamed slot (child_name self) }
+        ensures store { store.new ≡ B.table }
+        ensures turned { HasTurned self.entry result slot }
+        ensures files { Filed self.entry result shelf.old shelf.new }
+    {
+        if self.made() == MOST_ENTRIES {
+            return Turn::Over(self.cut(store, Outcome::JournalFull));
+        }
+        let (ready, pages) = match self.with_room() {
+            Ok(ready) => ready,
+            Err(full) => return Turn::Over(full.cut(store, Outcome::Memory)),
+        };
+        match ready.next() {
+            Call::Fork { list } => {
+                let (tracked, child) = ready.fork(store, list, slot);
+                Turn::Goes(tracked, child)
+            }
+            Call::Exit { status } => Turn::Over(ready.exit(store, shelf, status)),
+            call => ready.stay(store, shelf, call, pages, &slot),
+        }
+    }
+
+    /// Room for one entry more, and for the pages of files that its call may read.
+    fn with_room(mut self) -> Result<(Tracked<'a, B>, Vec<PageUse>), Tracked<'a, B>>
+        ensures same { IfOk result (λ r. SameTrack self.entry r.0) }
+        ensures room { IfOk result (λ r. 0 < (r.0).room) }
+        ensures none { IfOk result (λ r. r.1.items ≡ []) }
+        ensures pages { IfOk result (λ r. 2 ≤ vec_capacity r.1) }
+        ensures full { IfErr result (λ u. SameTrack self.entry u) }
+    {
+        let Ok(()) = self.parts.journal.reserve(1) else {
+            return Err(self);
+        };
+        match Vec::with_capacity(self.parts.alloc, 2) {
+            Ok(pages) => Ok((self, pages)),
+            Err(AllocError) => Err(self),
+        }
+    }
+}
