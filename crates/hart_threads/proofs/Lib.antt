@@ -1,0 +1,4 @@
+-- The files of this folder.
+mod Rosters
+mod Lending
+mod Vouching

@@ -1,0 +1,27 @@
+-- What the search left open of `admit`.
+use Rattle.std.proofs.Common.{◌≡◌, ◌+◌, ◌∙◌, ap, arith, length}
+use Rattle.vouchers.specs.Fits.{given_of}
+use Rattle.hart_threads.proofs.Rosters.{rostered_admit}
+use Rattle.hart_threads.proofs.roster.Roster.admit.Goals as goal
+
+pub invariant_of-self : goal.invariant_of-self
+invariant_of-self g c =
+    let i = c.self.invariant in
+    let l = c.reserve.ensures.len in
+    let m = c.reserve.ensures.capacity in
+    rw c.reserve.ensures.items (i.0, i.1, i.2, i.3, omega (arith, i.4, l, m), i.5)
+
+pub invariant_of-self-2 : goal.invariant_of-self-2
+invariant_of-self-2 g c =
+    let i = c.self.invariant in
+    let l = c.reserve.ensures.len in
+    let m = c.in-Ok.ensures.ok in
+    let n : length (given_of c.issue.new.keeper) ≡ length (given_of c.self.inside.keeper) + 1 = ap length c.issue.ensures.given ∙ omega arith in
+    rw c.reserve.ensures.items (
+      c.issue.ensures.keeper ∙ c.requires.desk,
+      omega (arith, i.1, n),
+      (λ here. rw c.issue.ensures.given (rostered_admit _ (given_of c.self.inside.keeper) c.self.inside.finished.items (i.2 here))),
+      i.3,
+      omega (arith, i.4, l, m),
+      i.5,
+    )

@@ -1,0 +1,26 @@
+-- What the search left open of `built`.
+use Rattle.std.proofs.Common.{refl, sym, subst, ◌∙◌}
+use Rattle.address_space.specs.Agreement.{body_of, IsSpace}
+use Rattle.process_model.specs.Process.{Process}
+use Rattle.shared_frames.specs.Fits.{fits_still, view_of}
+use Rattle.hart_threads.proofs.Lending.{fits_at, ready_still}
+use Rattle.hart_threads.proofs.seats.built.Goals as goal
+
+pub stripped-requires-clause-fits : goal.stripped-requires-clause-fits
+stripped-requires-clause-fits g c =
+    let still = fits_still _ _ _ c.args.seat c.in-Err.seat refl c.in-Err.ensures.keeps_refused c.requires.fits in
+    fits_at _ _ c.in-Err.seat still.0 still.1
+
+pub stripped-requires-clause-seat : goal.stripped-requires-clause-seat
+stripped-requires-clause-seat g c = ready_still _ _ _ c.in-Err.ensures.refused c.requires.seat
+
+pub returns-in-Err-clause-store : goal.returns-in-Err-clause-store
+returns-in-Err-clause-store g c = c.stripped.ensures.store ∙ (fits_still _ _ _ c.args.seat c.in-Err.seat refl c.in-Err.ensures.keeps_refused c.requires.fits).0
+
+pub returns-in-Ok-clause-store : goal.returns-in-Ok-clause-store
+returns-in-Ok-clause-store g c = (fits_still _ _ _ c.args.seat c.in-Ok.space.seat refl c.in-Ok.ensures.keeps c.requires.fits).0
+
+pub returns-in-Ok-clause-built : goal.returns-in-Ok-clause-built
+returns-in-Ok-clause-built g c =
+    let started = c.in-Ok.ensures.started in
+    ((fits_still _ _ _ c.args.seat c.in-Ok.space.seat refl c.in-Ok.ensures.keeps c.requires.fits).1, (started.0, subst (λ (p : Process). IsSpace (body_of view_of c.in-Ok.space) started.0 p) (sym c.begun.ensures) (started.1 0)))

@@ -1,0 +1,6 @@
+-- What `built` picks: the process that begins.
+use Rattle.process_model.specs.Loading.{process_of}
+use Rattle.hart_threads.proofs.seats.built.Given as goal
+
+abbrev pub ghost-begun : goal.ghost-begun
+ghost-begun g a = process_of 0 a.from.now

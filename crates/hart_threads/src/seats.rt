@@ -1,0 +1,112 @@
+// Seats that are split off the kernel's.
+
+ghost use Rattle.std.specs.Prelude.{◌≡◌, ◌↔◌, Bool, true, false, IfErr, IfOk};
+ghost use Rattle.address_space.specs.Agreement.{HoldsTrampoline};
+ghost use Rattle.address_space.specs.Steps.{IsBare};
+ghost use Rattle.frame_store.specs.View.{IsHeld, read_full};
+ghost use Rattle.process_model.specs.Loading.{process_of};
+ghost use Rattle.shared_frames.specs.Fits.{FitsIn, view_of};
+ghost use Rattle.hart_threads.specs.Starts.{IsBegun, IsProcessOf, IsRefusedStart, Lends};
+
+use address_space::Space;
+use exec_segments::{Image, start};
+use frame_store::{FrameAccess, FrameSupply, NoFrame, SharersFull, opened_seat};
+use hart_calls::{Opening, begun};
+use process_model::Refusal;
+use shared_frames::{SharedSeat, SharedSupply};
+use std::sync::Wait;
+use sv39_entry::FrameNo;
+
+/// A seat that holds nothing.
+fn bare_seat<R: Wait>(store: &mut SharedSupply<'_, R>, kernel: &mut SharedSeat) -> SharedSeat
+    requires fits { FitsIn store.old kernel.old }
+    requires anchored { IsHeld (view_of kernel.old) 0 }
+    ensures bare { IsBare (view_of result) }
+    ensures view { view_of kernel.new ≡ view_of kernel.old }
+    ensures store { store.new ≡ store.old }
+    ensures fits { FitsIn store.old kernel.new }
+{
+    store.split(kernel, &[])
+}
+
+/// Lets go of all that a seat for a process holds that was not started: frame 0.
+fn stripped<R: Wait>(store: &mut SharedSupply<'_, R>, mut seat: SharedSeat) -> SharedSeat
+    requires fits { FitsIn store.old seat }
+    requires seat { HoldsTrampoline (view_of seat) }
+    ensures bare { IsBare (view_of result) }
+    ensures store { store.new ≡ store.old }
+{
+    store.release(&mut seat, FrameNo(0));
+    seat
+}
+
+/// A seat for a process: it holds frame 0, and nothing else.
+fn opened<R: Wait>(
+    store: &mut SharedSupply<'_, R>,
+    kernel: &mut SharedSeat,
+) -> Result<SharedSeat, SharersFull>
+    requires fits { FitsIn store.old kernel.old }
+    requires anchored { IsHeld (view_of kernel.old) 0 }
+    ensures opened { IfOk result (λ seat. FitsIn store.old seat × HoldsTrampoline (view_of seat)) }
+    ensures full { IfErr result (λ _. view_of kernel.new ≡ read_full (view_of kernel.old)) }
+    ensures lends { Lends (view_of kernel.old) (view_of kernel.new) }
+    ensures store { store.new ≡ store.old }
+    ensures fits { FitsIn store.old kernel.new }
+{
+    opened_seat(store, kernel)
+}
+
+/// A process of an image on its seat, and the process of the model that it begins as. Without frames nothing is left of the
+/// seat.
+fn built<R: Wait>(
+    store: &mut SharedSupply<'_, R>,
+    seat: SharedSeat,
+    image: &Image<'_>,
+) -> Result<(Space<SharedSeat>, Opening), SharedSeat>
+    requires fits { FitsIn store.old seat }
+    requires seat { HoldsTrampoline (view_of seat) }
+    ensures built { IfOk result (λ r. IsBegun store.old r.0 r.1) }
+    ensures process { IfOk result (λ r. r.1.state ≡ process_of 0 image.now) }
+    ensures bare { IfErr result (λ seat. IsBare (view_of seat)) }
+    ensures store { store.new ≡ store.old }
+{
+    match start(store, seat, image) {
+        Ok(space) => Ok((space, begun(image))),
+        Err((NoFrame, seat)) => Err(stripped(store, seat)),
+    }
+}
+
+/// A process of an image, on a seat of its own. Without a slot it is refused, then for an image that is not accepted, then
+/// where frame 0 has as many sharers as can be counted, and then for want of frames; what is left is a seat that holds
+/// nothing.
+pub(crate) fn started<R: Wait>(
+    store: &mut SharedSupply<'_, R>,
+    kernel: &mut SharedSeat,
+    image: process_model::Image<'_>,
+    has_slot: bool,
+) -> Result<(Space<SharedSeat>, Opening), (Refusal, SharedSeat)>
+    requires fits { FitsIn store.old kernel.old }
+    requires anchored { IsHeld (view_of kernel.old) 0 }
+    ensures started { IfOk result (λ r. IsBegun store.old r.0 r.1) }
+    ensures process { IfOk result (λ r. IsProcessOf image.entry r.1.state) }
+    ensures refused { IfErr result (λ e. IsRefusedStart has_slot image.entry (view_of kernel.old) (view_of kernel.new) e.0) }
+    ensures bare { IfErr result (λ e. IsBare (view_of e.1)) }
+    ensures lends { Lends (view_of kernel.old) (view_of kernel.new) }
+    ensures store { store.new ≡ store.old }
+    ensures fits { FitsIn store.old kernel.new }
+{
+    if !has_slot {
+        return Err((Refusal::NoSlot, bare_seat(store, kernel)));
+    }
+    let image = match Image::judged(image) {
+        Ok(image) => image,
+        Err(part) => return Err((Refusal::BadImage(part), bare_seat(store, kernel))),
+    };
+    let Ok(seat) = opened(store, kernel) else {
+        return Err((Refusal::SharersFull, bare_seat(store, kernel)));
+    };
+    match built(store, seat, &image) {
+        Ok(process) => Ok(process),
+        Err(seat) => Err((Refusal::NoFrame, seat)),
+    }
+}
