@@ -1,6 +1,11 @@
+pub mod ClosedPools
 pub mod Fixing
+pub mod Holdings
 pub mod Lending
+pub mod LentLists
+pub mod Paged
 pub mod Parts
 pub mod Played
+pub mod PlayedLists
 pub mod Runs
 pub mod Written

@@ -14,13 +14,13 @@ use Rattle.script_reader.specs.declared.fault.ScriptError.{ScriptError}
 use Rattle.script_reader.specs.declared.fault.ScriptError.TheVariants as script
 use Rattle.audit_player.specs.Taken.{IsInput}
 
-not_within : (n : ℕ) → longest_script < n → nat_le n longest_script ≡ false
+pub not_within : (n : ℕ) → longest_script < n → nat_le n longest_script ≡ false
 not_within n lt = grind arith
 
 too_long : (bytes : List ℕ) → longest_script < length bytes → script_of bytes ≡ Err (0, cause.TooLong)
 too_long bytes lt = rw (not_within (length bytes) lt) refl
 
-longer : (bytes rest xs : List ℕ) → xs ≡ bytes ++ rest → longest_script < length bytes → longest_script < length xs
+pub longer : (bytes rest xs : List ℕ) → xs ≡ bytes ++ rest → longest_script < length bytes → longest_script < length xs
 longer bytes rest xs e lt = let more : length xs ≡ length (bytes ++ rest) = ap length e in omega (arith, more, length-append bytes rest)
 
 -- bytes of which all, or too many, were read say the same script
@@ -38,7 +38,7 @@ pub read_failed : (read known : Option (List ℕ)) → Plays read known known (E
 read_failed None known = ([], (text_or_none (script_of []), ([], refl, appends_nothing known)))
 read_failed (Some bytes) known = (text_or_none (script_of bytes), ([], refl, appends_nothing known))
 
-keeps_same : (known : Option (List ℕ)) → Keeps known known
+pub keeps_same : (known : Option (List ℕ)) → Keeps known known
 keeps_same None = tt
 keeps_same (Some xs) = refl
 

@@ -1,4 +1,9 @@
 pub mod ErrorText
+pub mod KernelFrames
+pub mod Pages
 pub mod Played
+pub mod PlayedThreads
 pub mod Taken
+pub mod ThreadLists
+pub mod ThreadText
 pub mod Told

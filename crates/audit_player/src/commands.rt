@@ -20,7 +20,7 @@ use process_model::{
 };
 
 /// An image of a script, as a step borrows it.
-fn lend(image: &OwnedImage) -> Image<'_>
+pub(crate) fn lend(image: &OwnedImage) -> Image<'_>
     ensures loads { image_loads result ≡ image_loads (words.lent image.now) }
 {
     match image {

@@ -2,12 +2,13 @@
 
 ghost use Rattle.std.specs.Prelude.{◌≡◌, ◌↔◌, false, true, not, IsTrue, IfOk, IsErrOf};
 ghost use Rattle.std.specs.Io.KnownBytes.{Appends};
-ghost use Rattle.audit_player.specs.Taken.{HasReadAll, WroteSome};
+ghost use Rattle.process_model.specs.Script.{longest_script};
+ghost use Rattle.audit_player.specs.Taken.{HasReadAll, IsInput, WroteSome};
 ghost use Rattle.audit_player.specs.declared.moving.ReadError.TheVariants as errors;
 
 use crate::sink::Sink;
 use crate::source::Source;
-use script_reader::Reading;
+use script_reader::{LONGEST_SCRIPT, Reading};
 use std::alloc::{AllocError, Global};
 
 /// Why nothing could be read.
@@ -59,4 +60,24 @@ pub fn read_all<S: Source>(alloc: Global, source: &mut S) -> Result<Reading, Rea
         reading.add(&piece[..count])?;
     }
     Ok(reading)
+}
+
+/// Reads all there is, but not far past what a script may have.
+pub fn read_bytes<S: Source>(alloc: Global, source: &mut S) -> Result<Vec<u8>, ReadError>
+    ensures io { S.broken source.old ≡ false → (IsErrOf result ReadError.Io ↔ IsTrue (S.broken source.new)) }
+    ensures bytes { IfOk result (λ bytes. IsInput longest_script (S.remaining source.old) bytes.items) }
+{
+    let mut bytes = Vec::new(alloc);
+    let mut piece = [0u8; 32768];
+    'reading: while bytes.len() <= LONGEST_SCRIPT {
+        let size = match source.read(&mut piece) {
+            Some(size) => size,
+            None => return Err(ReadError::Io),
+        };
+        if size == 0 {
+            return Ok(bytes);
+        }
+        bytes.extend_from_slice(&piece[..size])?;
+    }
+    Ok(bytes)
 }

@@ -12,7 +12,7 @@ use script_reader::ScriptError;
 use std::alloc::Global;
 
 /// Why a script was not read, as the player tells it.
-fn told(error: ScriptError) -> PlayError
+pub(crate) fn told(error: ScriptError) -> PlayError
     ensures { result ≡ told error }
 {
     match error {

@@ -10,15 +10,13 @@ ghost use Rattle.audit_player.specs.Played.{PlaysScript};
 use crate::commands::put_answer;
 use crate::fault::PlayError;
 use crate::moving::write_all;
+use crate::page::PAGE;
 use crate::sink::Sink;
 use file_cabinet::Cabinet;
 use hart_machine::{BootError, Machine};
 use process_model::{Config, LONGEST_TEXT, put};
 use script_reader::Script;
 use std::alloc::{AllocError, Global};
-
-/// How many bytes of text come together before they are written.
-const PAGE: usize = 65536;
 
 /// A machine of sizes that keep the limits, with these files: only memory may be refused.
 fn boot(alloc: Global, config: Config, files: Cabinet) -> Result<Machine, AllocError>

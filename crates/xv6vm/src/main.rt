@@ -5,27 +5,49 @@ mod fault;
 mod words;
 
 use crate::fault::Fault;
-use crate::words::Words;
-use audit_player::{PlayError, Reader, Writer, play};
+use crate::words::{Task, Words};
+use audit_player::{PlayError, Reader, Writer, play, play_threads};
+use std::alloc::Global;
+use std::io::{Read, Write};
 use std::process::ExitCode;
+use std::sync::Wait;
+use std::thread::Threads;
 use std::{fs, io};
 
-/// Plays the script of the file that the words name, `-` for standard input.
+/// Plays what a reader has.
 ///
-/// The script is read in blocks, and its text is written in pieces of 64 KiB and more.
-fn run(rt: &HostRuntime) -> Result<(), Fault> {
+/// A script is read in blocks, and its text is written in pieces of 64 KiB and more.
+fn play_from<T: Threads + Wait + Sync, R: Read + Drop, W: Write + Drop>(
+    threads: &T,
+    alloc: Global,
+    task: Task,
+    reader: R,
+    writer: W,
+) -> Result<(), PlayError> {
+    let mut reader = Reader::new(reader);
+    let mut writer = Writer::new(writer);
+    match task {
+        Task::Play => play(alloc, &mut reader, &mut writer),
+        // The words keep to this range.
+        Task::Threads(harts) => {
+            let harts = harts.clamp(1, 8);
+            play_threads(threads, alloc, &mut reader, &mut writer, harts)
+        }
+    }
+}
+
+/// Plays the script of the file that the words name, `-` for standard input. Harts are threads of the second handle.
+fn run<T: Threads + Wait + Sync>(rt: &HostRuntime, threads: &T) -> Result<(), Fault> {
     let words = Words::from_env(rt)?;
-    let mut writer = Writer::new(io::writer(rt));
+    let writer = io::writer(rt);
     if words.file.as_str() == "-" {
-        let mut reader = Reader::new(rt.reader());
-        play(rt.alloc(), &mut reader, &mut writer)?;
+        play_from(threads, rt.alloc(), words.task, rt.reader(), writer)?;
         return Ok(());
     }
     let Ok(file) = fs::open(rt, words.file.as_str()) else {
         return Err(Fault::Play(PlayError::Io));
     };
-    let mut reader = Reader::new(file);
-    play(rt.alloc(), &mut reader, &mut writer)?;
+    play_from(threads, rt.alloc(), words.task, file, writer)?;
     Ok(())
 }
 
@@ -33,7 +55,7 @@ fn run(rt: &HostRuntime) -> Result<(), Fault> {
 mod tests;
 
 fn main(rt: HostRuntime) -> ExitCode {
-    match run(&rt) {
+    match run(&rt, &rt) {
         Ok(()) => ExitCode::SUCCESS,
         Err(fault) => {
             let status = fault.status();

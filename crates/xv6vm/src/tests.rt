@@ -1,15 +1,15 @@
 // The words of the command line, and what is printed where the program ends early.
 
 use crate::fault::Fault;
-use crate::words::Words;
+use crate::words::{Task, Words};
 use audit_player::PlayError;
 use process_model::Cause;
 use std::alloc::Global;
 use std::io;
 use std::test::Fail;
 
-/// The file that words name, or the status of the program.
-fn file_or_status(alloc: Global, words: &[&str]) -> Result<String, u8> {
+/// What words ask for, or the status of the program.
+fn asked_or_status(alloc: Global, words: &[&str]) -> Result<Words, u8> {
     let mut owned = Vec::new(alloc);
     for word in words {
         let Ok(word) = String::from_str(alloc, word) else {
@@ -20,28 +20,54 @@ fn file_or_status(alloc: Global, words: &[&str]) -> Result<String, u8> {
         }
     }
     match Words::parse(alloc, owned.as_slice()) {
-        Ok(words) => Ok(words.file),
+        Ok(words) => Ok(words),
         Err(fault) => Err(fault.status()),
     }
 }
 
 #[test]
 fn reads_the_words(rt: HostRuntime) -> Result<(), Fail> {
-    let given = file_or_status(rt.alloc(), &["xv6vm", "play", "-"]);
-    assert_eq!(rt; given.ok().ok_or("a file")?.as_str(), "-");
-    let given = file_or_status(rt.alloc(), &["xv6vm", "play", "a.script"]);
-    assert_eq!(rt; given.ok().ok_or("a file")?.as_str(), "a.script");
-    let refused: [&[&str]; 6] = [
+    let accepted: [(&[&str], Task, &str); 5] = [
+        (&["xv6vm", "play", "-"], Task::Play, "-"),
+        (&["xv6vm", "play", "a.script"], Task::Play, "a.script"),
+        (
+            &["xv6vm", "threads", "-", "--harts", "1"],
+            Task::Threads(1),
+            "-",
+        ),
+        (
+            &["xv6vm", "threads", "--harts", "8", "a"],
+            Task::Threads(8),
+            "a",
+        ),
+        (
+            &["xv6vm", "threads", "--harts=2", "a"],
+            Task::Threads(2),
+            "a",
+        ),
+    ];
+    for (words, task, file) in accepted {
+        let given = asked_or_status(rt.alloc(), words).ok().ok_or("words")?;
+        assert_eq!(rt; given.task, task);
+        assert_eq!(rt; given.file.as_str(), file);
+    }
+    let refused: [&[&str]; 12] = [
         &["xv6vm"],
         &["xv6vm", "play"],
         &["xv6vm", "play", "a", "b"],
+        &["xv6vm", "play", "a", "--harts", "2"],
         &["xv6vm", "--help"],
         &["xv6vm", "replay", "a"],
-        &["xv6vm", "threads", "a", "--harts", "2"],
+        &["xv6vm", "threads", "a"],
+        &["xv6vm", "threads", "--harts", "2"],
+        &["xv6vm", "threads", "a", "--harts"],
+        &["xv6vm", "threads", "a", "--harts", "0"],
+        &["xv6vm", "threads", "a", "--harts", "9"],
+        &["xv6vm", "threads", "a", "--harts", "0x2"],
     ];
     for words in refused {
         assert_eq!(rt;
-            file_or_status(rt.alloc(), words).err(),
+            asked_or_status(rt.alloc(), words).err(),
             Some(2),
             "at {words:?}"
         );

@@ -1,0 +1,68 @@
+-- What playing a file for threads answers and writes.
+use Rattle.std.specs.Prelude.{◌≡◌, ◌⊎◌, ℕ, ◌-◌, List, Option, None, Some, Result, Ok, Err, length}
+use Rattle.std.specs.Io.KnownBytes.{Appends, Keeps}
+use Rattle.std.specs.List.Sorted.{IsPermutation}
+use Rattle.frame_store.specs.View.{View}
+use Rattle.hart_calls.specs.declared.finished.Finished.{Finished}
+use Rattle.hart_threads.specs.Rostered.{ComesBack}
+use Rattle.process_model.specs.Frames.{kernel_frames}
+use Rattle.process_model.specs.ThreadScript.{ThreadScript, thread_script_of}
+use Rattle.process_model.specs.declared.call.Pool.{Pool}
+use Rattle.process_model.specs.declared.script.Cause.{Cause}
+use Rattle.shared_frames.specs.Totals.{AreTotals, held_frames}
+use Rattle.audit_player.specs.Taken.{WroteSome}
+use Rattle.audit_player.specs.ThreadText.{AreInOrder, threads_text}
+use Rattle.audit_player.specs.declared.fault.PlayError.{PlayError}
+use Rattle.audit_player.specs.declared.fault.PlayError.TheVariants as error
+
+abbrev pub kernel_of : Pool → ℕ
+kernel_of p = kernel_frames p.frames p.slots
+
+abbrev pub user_frames : Pool → ℕ
+user_frames p = p.frames - kernel_of p
+
+-- When all harts have ended so many frames have count 0. The kernel's seat holds the frames of the kernel, and no other; where it holds all
+-- that is counted of the trampoline's frame, all user frames are free.
+pub record LeavesFree (pool : Pool) (free : ℕ) : Type 0 where
+  pub view : View
+  pub kernel : held_frames pool.frames view ≡ kernel_of pool
+  pub trampoline : ℕ
+  pub totals : AreTotals pool.frames view free trampoline
+  pub all : trampoline ≡ 1 → free ≡ user_frames pool
+
+-- a text that a file may have: a line for each start and each child, sorted by their names, of what they came to, and the free user frames
+pub record IsTextOf (s : ThreadScript) (whole : List ℕ) : Type 0 where
+  pub ended : List Finished
+  pub comes : ComesBack (length s.starts) ended
+  pub shown : List Finished
+  pub same : IsPermutation ended shown
+  pub order : AreInOrder shown
+  pub free : ℕ
+  pub leaves : LeavesFree s.pool free
+  pub text : whole ≡ threads_text shown free (user_frames s.pool)
+
+-- an accepted file was played, and a text of it written whole
+abbrev pub WritesThreads : Option (List ℕ) → Option (List ℕ) → Result ThreadScript (ℕ × Cause) → Type 0
+WritesThreads old new (Ok s) = (text : List ℕ) × IsTextOf s text × Appends old new text
+WritesThreads old new (Err f) = ⊥
+
+-- where the reader failed nothing was written; where the writer did, a beginning of a text
+abbrev pub BreaksOff : Option (List ℕ) → Option (List ℕ) → Result ThreadScript (ℕ × Cause) → Type 0
+BreaksOff old new (Ok s) = Keeps old new ⊎ ((text : List ℕ) × IsTextOf s text × WroteSome old new text)
+BreaksOff old new (Err f) = Keeps old new
+
+-- A refusal is that of the first fault, and nothing was written; for want of memory nothing was written either.
+abbrev pub RefusesThreads : Option (List ℕ) → Option (List ℕ) → PlayError → Result ThreadScript (ℕ × Cause) → Type 0
+RefusesThreads old new (error.Script n c) script = (script ≡ Err (n, c)) × Keeps old new
+RefusesThreads old new error.Memory script = Keeps old new
+RefusesThreads old new error.Io script = BreaksOff old new script
+
+abbrev pub PlaysLists : Option (List ℕ) → Option (List ℕ) → Result (Unit {0}) PlayError → Result ThreadScript (ℕ × Cause) → Type 0
+PlaysLists old new (Ok u) script = WritesThreads old new script
+PlaysLists old new (Err e) script = RefusesThreads old new e script
+
+-- The bytes that the reader has, and what the writer holds before and after; where the reader does not tell its bytes, there are some of
+-- which the same holds.
+abbrev pub PlaysThreads : Option (List ℕ) → Option (List ℕ) → Option (List ℕ) → Result (Unit {0}) PlayError → Type 0
+PlaysThreads None old new result = (bytes : List ℕ) × PlaysLists old new result (thread_script_of bytes)
+PlaysThreads (Some bytes) old new result = PlaysLists old new result (thread_script_of bytes)
