@@ -1,0 +1,86 @@
+// What journals tell.
+
+ghost use Rattle.std.specs.Prelude.{◌≤◌};
+
+use audit_player::{lend_lists, lend_starts, run_pool};
+use hart_threads::OpenGate;
+use process_model::{Refusal, Reply};
+use script_reader::ThreadScript;
+use std::alloc::Global;
+use std::sync::Wait;
+use std::test::Fail;
+use std::thread::Threads;
+
+/// Whether a call has this reply, by the name of its process and its number in the list; none where there is no such entry.
+fn has_reply<R: Threads + Wait + Sync>(
+    rt: &R,
+    alloc: Global,
+    file: &str,
+    harts: usize,
+    name: &[u64],
+    number: usize,
+    reply: &Reply,
+) -> Result<Option<bool>, Fail>
+    requires some { 1 ≤ harts }
+    requires few { harts ≤ 8 }
+{
+    let Ok(script) = ThreadScript::read(alloc, file.as_bytes()) else {
+        return Err(Fail::from("a file for threads is refused"));
+    };
+    let lists = lend_lists(alloc, &script)?;
+    let starts = lend_starts(alloc, &script)?;
+    let (ended, _) = run_pool(
+        rt,
+        alloc,
+        &script,
+        lists.as_slice(),
+        starts.as_slice(),
+        harts,
+        &OpenGate,
+    )?;
+    for finished in &ended {
+        if finished.name.as_slice() == name {
+            return Ok(
+                finished
+                    .journal
+                    .get(number)
+                    .map(|entry| entry.reply == *reply),
+            );
+        }
+    }
+    Ok(None)
+}
+
+/// A file, the name of a process, the number of a call of its list, and the reply.
+type Row = (&'static str, &'static [u64], usize, Reply);
+
+/// A fork without a slot; a write-back that its own process finds; a parent and a child that part; a page that returns.
+fn rows() -> [Row; 7] {
+    let alone = "image 0x1000:0x1000:rw:-\npool 64 1\nlist 0\nfork 0\nstart 0 0\n";
+    let written =
+        "file 16 rw -\nimage 0x1000:0x1000:rw:-\npool 64 4\nlist 0\nmmap 16 3 1 0\nstore 0x3fffffd000 1 9\nmunmap 0x3fffffd000 16\nmmap 16 3 1 0\nload 0x3fffffd000 1\nstart 0 0\n";
+    let parted =
+        "image 0x1000:0x1000:rw:-\npool 64 4\nlist 0\nstore 0x1000 1 1\nfork 1\nstore 0x1000 1 2\nload 0x1000 1\nlist 1\nload 0x1000 1\nstore 0x1000 1 3\nload 0x1000 1\nstart 0 0\n";
+    let returned =
+        "image 0x1000:0x1000:rw:-\npool 64 4\nlist 0\nsbrk 0x1000\nstore 0x4000 1 9\nsbrk -0x1000\nsbrk 0x1000\nload 0x4000 1\nstart 0 0\n";
+    [
+        (alone, &[0], 0, Reply::Refused(Refusal::NoSlot)),
+        (written, &[0], 4, Reply::Value(9)),
+        (parted, &[0], 1, Reply::Forked(0)),
+        (parted, &[0], 3, Reply::Value(2)),
+        (parted, &[0, 0], 0, Reply::Value(1)),
+        (parted, &[0, 0], 2, Reply::Value(3)),
+        (returned, &[0], 4, Reply::Value(0)),
+    ]
+}
+
+#[test]
+fn journals_tell_the_replies(rt: HostRuntime) -> Result<(), Fail> {
+    for harts in [1, 2, 8] {
+        for (file, name, number, reply) in rows() {
+            let told = has_reply(&rt, rt.alloc(), file, harts, name, number, &reply)?;
+            assert_eq!(rt; told, Some(true), "of call {number} on {harts}");
+        }
+    }
+    Ok(())
+}
