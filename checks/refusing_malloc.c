@@ -1,66 +1,67 @@
 /* A stand-in for the C library's allocation, to be loaded before it (LD_PRELOAD). The REFUSE-th request for memory is
- * refused, counted from 1; none where REFUSE is not set. At the end the number of requests is written to the file
- * descriptor REQUESTS, where it is set. One thread. */
+ * refused, counted from 1 over all threads; none where REFUSE is not set. At the end the number of requests is written to
+ * the file descriptor REQUESTS, where it is set. */
 #define _GNU_SOURCE
 #include <dlfcn.h>
 #include <errno.h>
+#include <stdatomic.h>
 #include <stdio.h>
 #include <stdlib.h>
 
-static unsigned long requests, refused;
+static atomic_ulong requests, refused;
 
 __attribute__((constructor)) static void begin(void) {
     const char *number = getenv("REFUSE");
-    refused = number ? strtoul(number, NULL, 10) : 0;
-    requests = 0;
+    atomic_store(&refused, number ? strtoul(number, NULL, 10) : 0);
+    atomic_store(&requests, 0);
 }
 
 __attribute__((destructor)) static void end(void) {
     const char *number = getenv("REQUESTS");
     if (number)
-        dprintf(atoi(number), "%lu\n", requests);
+        dprintf(atoi(number), "%lu\n", atomic_load(&requests));
 }
 
 static int refuses(void) {
-    if (++requests != refused)
+    if (atomic_fetch_add(&requests, 1) + 1 != atomic_load(&refused))
         return 0;
     errno = ENOMEM;
     return 1;
 }
 
-#define NEXT(type, name) ((type)dlsym(RTLD_NEXT, name))
+/* The C library's own function, looked up at the first call: each thread that looks finds the same. */
+#define NEXT(next, name)                                                                                              \
+    do {                                                                                                              \
+        if (!atomic_load(&next))                                                                                      \
+            atomic_store(&next, dlsym(RTLD_NEXT, name));                                                              \
+    } while (0)
 
 void *malloc(size_t size) {
-    static void *(*next)(size_t);
-    if (!next)
-        next = NEXT(void *(*)(size_t), "malloc");
-    return refuses() ? NULL : next(size);
+    static void *_Atomic next;
+    NEXT(next, "malloc");
+    return refuses() ? NULL : ((void *(*)(size_t))atomic_load(&next))(size);
 }
 
 void *calloc(size_t count, size_t size) {
-    static void *(*next)(size_t, size_t);
-    if (!next)
-        next = NEXT(void *(*)(size_t, size_t), "calloc");
-    return refuses() ? NULL : next(count, size);
+    static void *_Atomic next;
+    NEXT(next, "calloc");
+    return refuses() ? NULL : ((void *(*)(size_t, size_t))atomic_load(&next))(count, size);
 }
 
 void *realloc(void *old, size_t size) {
-    static void *(*next)(void *, size_t);
-    if (!next)
-        next = NEXT(void *(*)(void *, size_t), "realloc");
-    return refuses() ? NULL : next(old, size);
+    static void *_Atomic next;
+    NEXT(next, "realloc");
+    return refuses() ? NULL : ((void *(*)(void *, size_t))atomic_load(&next))(old, size);
 }
 
 void *aligned_alloc(size_t alignment, size_t size) {
-    static void *(*next)(size_t, size_t);
-    if (!next)
-        next = NEXT(void *(*)(size_t, size_t), "aligned_alloc");
-    return refuses() ? NULL : next(alignment, size);
+    static void *_Atomic next;
+    NEXT(next, "aligned_alloc");
+    return refuses() ? NULL : ((void *(*)(size_t, size_t))atomic_load(&next))(alignment, size);
 }
 
 int posix_memalign(void **place, size_t alignment, size_t size) {
-    static int (*next)(void **, size_t, size_t);
-    if (!next)
-        next = NEXT(int (*)(void **, size_t, size_t), "posix_memalign");
-    return refuses() ? ENOMEM : next(place, alignment, size);
+    static void *_Atomic next;
+    NEXT(next, "posix_memalign");
+    return refuses() ? ENOMEM : ((int (*)(void **, size_t, size_t))atomic_load(&next))(place, alignment, size);
 }
