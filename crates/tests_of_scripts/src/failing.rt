@@ -8,8 +8,8 @@ use std::test::Fail;
 
 /// A reader that gives one byte a call, and fails after the last.
 #[derive(Drop)]
-struct FailingReader<'a> {
-    bytes: &'a [u8],
+pub struct FailingReader<'a> {
+    pub bytes: &'a [u8],
 }
 
 impl Read for FailingReader<'_> {
@@ -25,10 +25,10 @@ impl Read for FailingReader<'_> {
 
 /// A writer that takes one byte a call, and fails when it is full: by an error, or by taking nothing.
 #[derive(Drop)]
-struct FailingWriter {
-    written: Vec<u8>,
-    room: usize,
-    tells: bool,
+pub struct FailingWriter {
+    pub written: Vec<u8>,
+    pub room: usize,
+    pub tells: bool,
 }
 
 impl Write for FailingWriter {

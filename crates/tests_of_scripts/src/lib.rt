@@ -1,5 +1,6 @@
 //! Tests of scripts and replies that rows cannot show: long scripts and texts, scripts that are cut, readers and
-//! writers that fail, what a script says through its calls, and replies as they print. Nothing stands on it.
+//! writers that fail, files for threads at their limits, what a script says through its calls, and replies as they print.
+//! Nothing stands on it.
 #![tactic(auto)]
 
 #[cfg(test)]
@@ -14,3 +15,5 @@ mod mapped_file;
 mod saying;
 #[cfg(test)]
 mod texts;
+#[cfg(test)]
+mod threads;
