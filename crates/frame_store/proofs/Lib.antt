@@ -2,3 +2,4 @@ pub mod PlainSteps
 pub mod Seating
 pub mod SeatSteps
 pub mod Unused
+pub mod Words

@@ -1,5 +1,5 @@
 -- Each step of plain frames keeps their rule.
-use Rattle.std.proofs.Common.{◌≡◌, ℕ, ◌+◌, ◌-◌, ◌*◌, ◌<◌, ◌≤◌, ◌==◌, true, cond, refl, ap, sym, subst, ◌∙◌, Some, List, [], ◌∷◌, inl, inr, length, slice_index, arith, lit<}
+use Rattle.std.proofs.Common.{◌≡◌, ◌⊎◌, ℕ, ◌+◌, ◌-◌, ◌*◌, ◌<◌, ◌≤◌, ◌==◌, true, cond, refl, ap, sym, subst, ◌∙◌, Some, List, [], ◌∷◌, inl, inr, length, slice_index, arith, lit<}
 use Rattle.std.specs.Prelude.{slice_set, count_by, IsTrue, replicate}
 use Rattle.std.proofs.lemmas.List.Folds.{sum_by-replicate}
 use Rattle.std.proofs.lemmas.List.{get_or-set_same, get_or-set_other, length-set, get_or_past, get_or-replicate, length-replicate}
@@ -7,12 +7,24 @@ use Rattle.std.proofs.lemmas.Bool.{cases_lt}
 use Rattle.std.proofs.lemmas.List.Sums.{sum_by-set}
 use Rattle.std.proofs.lemmas.Bool.{ne_eqb, eq-eqb}
 use Rattle.std.proofs.lemmas.Bool.Decides.{eqb_tells}
+use Rattle.std.proofs.lemmas.Option.{same_Some}
 use Rattle.std.specs.Cmp.{nat_cmp_total, unsigned_tied}
 use Rattle.std.specs.Ordering.{nat_cmp}
 use Rattle.std.specs.FinMap as map
-use Rattle.frame_store.specs.View.{spent, View, Hold, hold_of, with_hold, without_hold, not_held, references, IsSole, IsHeld, with_word, claimed, shared, looked, released, empty_view, opening_view}
+use Rattle.frame_store.specs.View.{spent, View, Hold, hold_of, with_hold, without_hold, not_held, references, IsSole, IsHeld, known_word, put_many, with_many, with_word, claimed, shared, looked, released, empty_view, opening_view}
 use Rattle.frame_store.specs.Plain.{total_references, total_credits, FrameAgrees, Agrees, AllAgree, AllSay, PlainRule, is_zero, not_held_agrees}
+use Rattle.frame_store.specs.Many.{put_inside, put_outside}
 use Rattle.frame_store.specs.Holds.{hold_of-with_hold_same, hold_of-with_hold_other, hold_of-without_hold_same, hold_of-without_hold_other, hold_of-frames, hold_of-empty}
+
+-- an index is among n from the first on, or it is not
+within_tells : (first n q : ℕ) → (first ≤ q × q < first + n) ⊎ (first ≤ q → q < first + n → ⊥)
+within_tells first n q = elim (cases_lt q first) [
+  | inl before ↦ inr (λ a b. omega arith)
+  | inr from ↦ elim (cases_lt q (first + n)) [
+    | inl below ↦ inl (from, below)
+    | inr past ↦ inr (λ a b. omega arith)
+  ]
+]
 
 -- words and counts are as before but at the frame f
 pub record Outside (f : ℕ) (words counts words' counts' : List ℕ) : Type 0 where
@@ -146,6 +158,51 @@ module _ (words counts : List ℕ) (free : ℕ) (v : View) (vs : List View) (f :
           | inr t ↦ let at : map.get (map.insert ws i w) j ≡ map.get ws j = map.get-insert nat_cmp_total ws i w j ∙ ap (λ b. cond b (Some w) (map.get ws j)) (unsigned_tied j i ∙ t.0) in
               let k = mine.known j x (sym at ∙ e) in
               (k.0, get_or-set_other words (512 * f + i) (512 * f + j) w 0 (λ q. t.1 (omega arith)) ∙ k.1)
+        ];
+        sole = mine.sole;
+        bare = λ none. absurd (omega arith);
+      }
+      (λ k le a. nothing_held words counts words' counts f k (omega arith) a)
+
+  -- a frame that the seat is the sole holder of has words
+  pub sole_room : IsSole v f → 512 * f + 512 ≤ length words
+  sole_room sole =
+      let m = mine.sole sole in
+      let total = r.counted f in
+      let lt = in_counts counts f (omega arith) in
+      omega (arith, r.sized)
+
+  -- and so has a held one
+  pub held_room : IsHeld v f → 512 * f + 512 ≤ length words
+  held_room held =
+      let total = r.counted f in
+      let lt = in_counts counts f (omega arith) in
+      omega (arith, r.sized)
+
+  -- a word that is known is there
+  pub known_there : (i w : ℕ) → known_word v f i ≡ Some w → slice_index words (512 * f + i) ≡ w
+  known_there i w is = (mine.known i w is).1
+
+  -- many words of the frame, and no others
+  pub rule-many : (first n : ℕ) (word : ℕ → ℕ) (words' : List ℕ) → first + n ≤ 512 → IsSole v f → length words' ≡ length words
+      → ((q : ℕ) → first ≤ q → q < first + n → slice_index words' (512 * f + q) ≡ word q)
+      → ((p : ℕ) → (512 * f + first ≤ p → p < 512 * f + (first + n) → ⊥) → slice_index words' p ≡ slice_index words p)
+      → PlainRule words' counts free (with_many f first n word v ∷ vs)
+  rule-many first n word words' low sole same_length inside outside =
+      let m = mine.sole sole in
+      let total = r.counted f in
+      let ws : map.FinMap nat_cmp ℕ = (hold_of v f).words in
+      let h : Hold = record (hold_of v f) { words = put_many first n word ws } in
+      let o : Outside f words counts words' counts = record {
+        page = λ g j ne jlow. outside (512 * g + j) (λ a b. ne (omega arith));
+        count = λ g ne. refl;
+      } in
+      step words counts words' counts f o free free v (with_many f first n word v) vs h r (changed f h v) same_length refl total r.balanced
+      record {
+        known = λ j x e. elim (within_tells first n j) as (λ _. (j < 512) × (slice_index words' (512 * f + j) ≡ x)) [
+          | inl t ↦ (omega (arith, t), inside j t.0 t.1 ∙ same_Some _ x (sym (put_inside first word ws n j t.0 t.1) ∙ e))
+          | inr t ↦ let k = mine.known j x (sym (put_outside first word ws n j t) ∙ e) in
+              (k.0, outside (512 * f + j) (λ a b. t (omega arith) (omega arith)) ∙ k.1)
         ];
         sole = mine.sole;
         bare = λ none. absurd (omega arith);

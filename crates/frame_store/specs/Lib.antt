@@ -1,5 +1,6 @@
 pub mod View
 pub mod Holds
+pub mod Many
 pub mod Joins
 pub mod Laws
 pub mod Seats

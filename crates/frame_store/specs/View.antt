@@ -1,6 +1,6 @@
 -- What a seat knows: of each frame the references that it holds, whether it is the sole holder and the words that it knows; and
 -- its credits and tallies. No program has this data.
-use Rattle.std.specs.Prelude.{map as list_map, ◌||◌, ℕ, ◌+◌, ◌-◌, ◌<◌, Bool, true, false, cond, ◌==◌, List, [], ◌∷◌, ◌++◌, refl, Option, None, Some, IsTrue}
+use Rattle.std.specs.Prelude.{map as list_map, ◌||◌, ℕ, zero, suc, ◌+◌, ◌-◌, ◌<◌, ◌≡◌, Bool, true, false, cond, ◌==◌, List, [], ◌∷◌, ◌++◌, refl, Option, None, Some, IsTrue}
 use Rattle.std.specs.Ordering.{nat_cmp}
 use Rattle.std.specs.Coded.{Coded, code_by, coded×, coded_ℕ, coded_bool, coded_list}
 use Rattle.std.specs.FinMap as map
@@ -84,6 +84,10 @@ IsSole v f = IsTrue (hold_of v f).sole
 abbrev pub known_word : View → ℕ → ℕ → Option ℕ
 known_word v f i = map.get (hold_of v f).words i
 
+abbrev pub or_zero : Option ℕ → ℕ
+or_zero (Some x) = x
+or_zero None = 0
+
 -- the view with another hold of a frame
 abbrev pub with_hold : ℕ → Hold → View → View
 with_hold f h v = record v { frames = map.insert v.frames f h }
@@ -96,6 +100,23 @@ without_hold f v = record v { frames = map.remove v.frames f }
 -- a word is stored
 abbrev pub with_word : ℕ → ℕ → ℕ → View → View
 with_word f i w v = with_hold f (record (hold_of v f) { words = map.insert (hold_of v f).words i w }) v
+
+-- words of a frame with others from an index on, so many, each as it is told for its index
+unfoldable pub put_many : ℕ → ℕ → (ℕ → ℕ) → map.FinMap nat_cmp ℕ → map.FinMap nat_cmp ℕ
+put_many first zero word words = words
+put_many first (suc n) word words = map.insert (put_many first n word words) (first + n) (word (first + n))
+
+-- words are stored from an index on
+abbrev pub with_many : ℕ → ℕ → ℕ → (ℕ → ℕ) → View → View
+with_many f first n word v = with_hold f (record (hold_of v f) { words = put_many first n word (hold_of v f).words }) v
+
+-- the words that are known of a frame, by their index
+abbrev pub words_known : View → ℕ → ℕ → ℕ
+words_known v f i = or_zero (known_word v f i)
+
+-- each word of a frame is known
+abbrev pub AllKnown : View → ℕ → Type 0
+AllKnown v f = (i : ℕ) → i < 512 → known_word v f i ≡ Some (words_known v f i)
 
 -- frames are reserved, and given back
 abbrev pub with_credits : ℕ → View → View
@@ -137,10 +158,6 @@ opening_view size = with_hold 0 sole_hold (empty_view size)
 abbrev pub either : Option ℕ → Option ℕ → Option ℕ
 either (Some x) b = Some x
 either None b = b
-
-abbrev pub or_zero : Option ℕ → ℕ
-or_zero (Some x) = x
-or_zero None = 0
 
 unfoldable pub union : map.FinMap nat_cmp ℕ → map.FinMap nat_cmp ℕ → map.FinMap nat_cmp ℕ
 union a b = map.from_entries (list_map (λ i. (i, or_zero (either (map.get a i) (map.get b i)))) (map.keys a ++ map.keys b))

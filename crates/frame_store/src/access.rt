@@ -1,9 +1,11 @@
 // What may be done with the frames that a seat holds.
 
-ghost use Rattle.std.specs.Prelude.{◌≡◌, ◌+◌, ◌-◌, ◌<◌, ◌≤◌, ◌==◌, ◌++◌, ◌∷◌, ℕ, cond, List, Some};
+ghost use Rattle.std.specs.Int.{from_le_bytes, w64};
+ghost use Rattle.std.specs.Prelude.{◌≡◌, ◌≢◌, ◌+◌, ◌-◌, ◌*◌, ◌/◌, ◌<◌, ◌≤◌, ◌==◌, ◌++◌, ◌∷◌, ℕ, cond, drop, length, List, Some, take};
 ghost use Rattle.frame_store.specs.Laws.{CountBecomes, Fits, IsAnchored, Keeps};
-ghost use Rattle.frame_store.specs.View.{IsHeld, IsSole, joined, known_word, looked, released, View, with_word, without_credits};
+ghost use Rattle.frame_store.specs.View.{AllKnown, IsHeld, IsSole, joined, known_word, looked, released, View, with_many, with_word, without_credits, words_known};
 
+use crate::bytes::whole_word;
 use sv39_entry::FrameNo;
 
 /// A place at a store: the references and credits of one owner.
@@ -48,6 +50,55 @@ pub trait FrameAccess {
         ensures keeps { Keeps rule self.old seat.old self.new seat.new }
         ensures free { alone → free self.new ≡ free self.old }
         ensures counts { alone → (f : ℕ) → count self.new f ≡ count self.old f };
+
+    /// Makes each word of a frame 0 from an index on.
+    fn clear(&mut self, seat: &mut Self::Seat, frame: FrameNo, first: usize)
+        requires fits { Fits rule self.old seat.old }
+        requires sole { IsSole (Self.Seat.view seat.old) frame.0 }
+        requires in_page { first ≤ 512 }
+        ensures view { Self.Seat.view seat.new ≡ with_many frame.0 first (512 - first) (λ _. 0) (Self.Seat.view seat.old) }
+        ensures keeps { Keeps rule self.old seat.old self.new seat.new }
+        ensures free { alone → free self.new ≡ free self.old }
+        ensures counts { alone → (f : ℕ) → count self.new f ≡ count self.old f }
+    {
+        'words: for index in first..512 {
+            self.store(seat, frame, index, 0);
+        }
+    }
+
+    /// Fills the first words of a frame, each with eight bytes, the lowest first. Bytes behind the last whole word are
+    /// left out.
+    fn fill(&mut self, seat: &mut Self::Seat, frame: FrameNo, bytes: &[u8])
+        requires fits { Fits rule self.old seat.old }
+        requires sole { IsSole (Self.Seat.view seat.old) frame.0 }
+        requires in_page { length bytes.now ≤ 4096 }
+        ensures view { Self.Seat.view seat.new ≡ with_many frame.0 0 (length bytes.now / 8) (λ i. from_le_bytes w64 (take 8 (drop (8 * i) bytes.now))) (Self.Seat.view seat.old) }
+        ensures keeps { Keeps rule self.old seat.old self.new seat.new }
+        ensures free { alone → free self.new ≡ free self.old }
+        ensures counts { alone → (f : ℕ) → count self.new f ≡ count self.old f }
+    {
+        'words: for index in 0..bytes.len() / 8 {
+            self.store(seat, frame, index, whole_word(bytes, index));
+        }
+    }
+
+    /// Copies all words of a frame into another one.
+    fn copy(&mut self, seat: &mut Self::Seat, from: FrameNo, to: FrameNo)
+        requires fits { Fits rule self.old seat.old }
+        requires held { IsHeld (Self.Seat.view seat.old) from.0 }
+        requires known { AllKnown (Self.Seat.view seat.old) from.0 }
+        requires sole { IsSole (Self.Seat.view seat.old) to.0 }
+        requires apart { from.0 ≢ to.0 }
+        ensures view { Self.Seat.view seat.new ≡ with_many to.0 0 512 (words_known (Self.Seat.view seat.old) from.0) (Self.Seat.view seat.old) }
+        ensures keeps { Keeps rule self.old seat.old self.new seat.new }
+        ensures free { alone → free self.new ≡ free self.old }
+        ensures counts { alone → (f : ℕ) → count self.new f ≡ count self.old f }
+    {
+        'words: for index in 0..512 {
+            let word = self.load(seat, from, index);
+            self.store(seat, to, index, word);
+        }
+    }
 
     /// How many references a held frame has. At 1 the seat is its sole holder.
     fn look(&mut self, seat: &mut Self::Seat, frame: FrameNo) -> u32

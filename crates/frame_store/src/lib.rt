@@ -7,6 +7,7 @@
 #![tactic(auto)]
 
 mod access;
+mod bytes;
 mod knowledge;
 mod opening;
 mod plain;

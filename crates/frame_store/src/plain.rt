@@ -5,6 +5,7 @@ ghost use Rattle.frame_store.specs.Plain.{BankRule, held_within, is_shared, is_z
 ghost use Rattle.frame_store.specs.View.{opening_view};
 
 use crate::access::{FrameAccess, FrameSeat};
+use crate::bytes::put_words;
 use crate::knowledge::{Knowledge, knowing};
 use crate::refusal::{NoFrame, SharersFull};
 use crate::supply::FrameSupply;
@@ -157,6 +158,25 @@ impl FrameAccess for PlainFrames {
         let place = WORDS * frame.0 as usize + index;
         self.words[place] = value;
         seat.known = knowing(&(&seat.known, frame, index, value));
+    }
+
+    fn clear(&mut self, seat: &mut PlainSeat, frame: FrameNo, first: usize) {
+        let base = WORDS * frame.0 as usize;
+        self.words[base + first..base + WORDS].fill(0);
+        seat.known = knowing(&(&seat.known, frame, first));
+    }
+
+    fn fill(&mut self, seat: &mut PlainSeat, frame: FrameNo, bytes: &[u8]) {
+        let base = WORDS * frame.0 as usize;
+        put_words(&mut self.words[base..base + WORDS], bytes);
+        seat.known = knowing(&(&seat.known, frame, bytes));
+    }
+
+    fn copy(&mut self, seat: &mut PlainSeat, from: FrameNo, to: FrameNo) {
+        let source = WORDS * from.0 as usize;
+        let target = WORDS * to.0 as usize;
+        self.words.copy_within(source..source + WORDS, target);
+        seat.known = knowing(&(&seat.known, from, to));
     }
 
     fn look(&mut self, seat: &mut PlainSeat, frame: FrameNo) -> u32 {
