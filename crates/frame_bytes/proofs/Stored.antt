@@ -1,6 +1,8 @@
 -- The words of a frame after bytes were put into one of them.
 use Rattle.std.proofs.Common.{◌≡◌, ℕ, ◌+◌, ◌-◌, ◌*◌, ◌/◌, ◌%◌, ◌^◌, ◌<◌, ◌≤◌, inl, inr, List, length, drop, slice_index, Some, refl, ap, sym, ◌∙◌, arith}
 use Rattle.std.proofs.lemmas.Bool.{cases_lt, cases_eq}
+use Rattle.std.proofs.lemmas.List.{ext_get_or}
+use Rattle.std.proofs.lemmas.Option.{same_Some}
 use Rattle.std.specs.Int.{w64, to_le_bytes, from_le_bytes}
 use Rattle.frame_store.specs.View.{View, known_word, with_word}
 use Rattle.process_model.specs.Bytes.{number, write_bytes}
@@ -78,3 +80,21 @@ bytes_stored f o word part bytes v w has some within low known stored =
     part_stored bytes has.length has.small o part (to_le_bytes w64 word) (omega (arith, within)) within low
     refl (λ k h. to_le word k h ∙ ap (λ m. m / 2 ^ (8 * k) % 2 ^ 8) old_word)
     f v w has.words stored
+
+whole_write : (old part : List ℕ) (at : ℕ) → at ≡ 0 → length old ≡ 8 → length part ≡ 8 → write_bytes old at part ≡ part
+whole_write old part at none long whole = rw none (ext_get_or 0 (write_bytes old 0 part) part
+    (length-write_bytes old part 0 (omega (arith, long, whole)) ∙ long ∙ sym whole)
+    (λ k h.
+    let start : 0 + k ≡ k = omega arith in
+    rw start at (at_inside old part 0 (omega (arith, long, whole)) k (omega (arith, h, length-write_bytes old part 0 (omega (arith, long, whole)), long, whole)))))
+
+-- a whole word was put at its offset
+pub word_stored : (f o x : ℕ) (part bytes : List ℕ) (v w : View) → HasBytes v f bytes → o < 4096 → o % 8 + length part ≤ 8 → length part ≡ 8
+    → ((k : ℕ) → slice_index part k < 2 ^ 8)
+    → x ≡ from_le_bytes w64 part → w ≡ with_word f (o / 8) x v
+    → HasBytes w f (write_bytes bytes o part)
+word_stored f o x part bytes v w has some within whole low is stored =
+    let word : ℕ = number (drop (8 * (o / 8)) bytes) 8 in
+    bytes_stored f o word part bytes v w has some within low
+    (λ k e. same_Some _ _ (sym (has.words (o / 8) (omega (arith, some))) ∙ e))
+    (stored ∙ ap (λ k. with_word f (o / 8) k v) is ∙ ap (λ ws. with_word f (o / 8) (from_le_bytes w64 ws) v) (sym (whole_write (to_le_bytes w64 word) part (o % 8) (omega (arith, within, whole)) refl whole)))

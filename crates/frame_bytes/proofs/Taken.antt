@@ -7,7 +7,8 @@ use Rattle.std.specs.Int.{w64, to_le_bytes}
 use Rattle.frame_store.specs.View.{View, known_word}
 use Rattle.frame_bytes.specs.Contents.{HasBytes}
 use Rattle.frame_bytes.proofs.Numbers.{byte_of_word}
-use Rattle.frame_bytes.proofs.Writes.{to_le}
+use Rattle.frame_bytes.proofs.Writes.{at_before, at_inside, to_le}
+use Rattle.process_model.specs.Bytes.{write_bytes}
 use borrow.Rule.Slice.PartMut.{put_mid}
 
 -- a byte of a word that was loaded, and its place in the page
@@ -41,6 +42,19 @@ module _ (bytes part : List ℕ) (a n : ℕ) (room : a + n ≤ length bytes) (lo
         let place : a + (k - a) ≡ k = omega arith in
         there ∙ rw place at (more (k - a) (omega arith))
   ]
+
+-- the same where the part was written over what was there
+pub write_read : (bytes part : List ℕ) (a n : ℕ) → a + n ≤ length bytes → length part ≡ n → (byte : ℕ → ℕ)
+    → ((k : ℕ) → k < a → slice_index bytes k ≡ byte k) → ((k : ℕ) → k < n → slice_index part k ≡ byte (a + k))
+    → (k : ℕ) → k < a + n → slice_index (write_bytes bytes a part) k ≡ byte k
+write_read bytes part a n room long byte before more k h =
+    let fits : a + length part ≤ length bytes = omega (arith, room, long) in
+    elim (cases_lt k a) [
+      | inl below ↦ at_before bytes part a fits k below ∙ before k below
+      | inr from ↦
+          let place : a + (k - a) ≡ k = omega arith in
+          rw place at (at_inside bytes part a fits (k - a) (omega (arith, h, from, long)) ∙ more (k - a) (omega arith))
+    ]
 
 -- bytes that are those from an offset on
 pub run_read : (bytes page : List ℕ) (o n : ℕ) → o + n ≤ length page → length bytes ≡ n

@@ -1,6 +1,7 @@
 // A page of 4,096 bytes in the 512 words of a frame. The lowest byte of a word comes first, as loads and stores of RV64
 // have it.
 
+ghost use Rattle.std.specs.Int.{from_le_bytes, w64};
 ghost use Rattle.std.specs.Prelude.{◌≡◌, ◌≢◌, ◌+◌, ◌*◌, ◌/◌, ◌%◌, ◌^◌, ◌<◌, ◌≤◌, ℕ, drop, IsTrue, length, List};
 ghost use Rattle.frame_bytes.specs.Contents.{ChangesWords, HasBytes, HasWords};
 ghost use Rattle.frame_store.specs.Laws.{Fits, Keeps};
@@ -96,16 +97,24 @@ pub(crate) fn store_in_word<F: FrameAccess>(
     ensures counts { F.alone → (f : ℕ) → F.count store.new f ≡ F.count store.old f }
 {
     let index = offset / 8;
+    if part.len() == 8 {
+        store.store(seat, frame, index, whole_word(part));
+        return;
+    }
     let mut word = store.load(seat, frame, index).to_le_bytes();
     overwrite(&mut word, offset % 8, part);
     store.store(seat, frame, index, u64::from_le_bytes(word));
 }
 
-/// Puts bytes at an index.
-fn overwrite(bytes: &mut [u8], at: usize, part: &[u8])
+/// Puts bytes at an index. Eight of them go as one word.
+pub(crate) fn overwrite(bytes: &mut [u8], at: usize, part: &[u8])
     requires { at + length part.now ≤ length bytes.old }
     ensures { bytes.new ≡ write_bytes bytes.old at part.now }
 {
+    if part.len() == 8 {
+        bytes[at..at + 8].copy_from_slice(part);
+        return;
+    }
     bytes[at..at + part.len()].copy_from_slice(part);
 }
 
@@ -136,9 +145,7 @@ fn fill_words<F: FrameAccess>(store: &mut F, seat: &mut F::Seat, frame: FrameNo,
     ensures free { F.alone → F.free store.new ≡ F.free store.old }
     ensures counts { F.alone → (f : ℕ) → F.count store.new f ≡ F.count store.old f }
 {
-    'words: for index in 0..bytes.len() / 8 {
-        store.store(seat, frame, index, whole_word(bytes, index));
-    }
+    store.fill(seat, frame, bytes);
 }
 
 /// Puts the bytes behind the last whole word, if there are any, into a word of their own, with zeros behind them. Answers
@@ -181,19 +188,16 @@ fn zero_words<F: FrameAccess>(store: &mut F, seat: &mut F::Seat, frame: FrameNo,
     ensures free { F.alone → F.free store.new ≡ F.free store.old }
     ensures counts { F.alone → (f : ℕ) → F.count store.new f ≡ F.count store.old f }
 {
-    'words: for index in first..512 {
-        store.store(seat, frame, index, 0);
-    }
+    store.clear(seat, frame, first);
 }
 
-/// The word of the eight bytes that begin at eight times an index.
-fn whole_word(bytes: &[u8], index: usize) -> u64
-    requires { 8 * index + 8 ≤ length bytes.now }
-    ensures { result ≡ number (drop (8 * index) bytes.now) 8 }
+/// The word of eight bytes.
+fn whole_word(bytes: &[u8]) -> u64
+    requires { length bytes.now ≡ 8 }
+    ensures { result ≡ from_le_bytes w64 bytes.now }
 {
-    let start = 8 * index;
     let mut word = [0; 8];
-    word.copy_from_slice(&bytes[start..start + 8]);
+    word.copy_from_slice(bytes);
     u64::from_le_bytes(word)
 }
 
@@ -207,7 +211,7 @@ fn last_word(bytes: &[u8]) -> u64
     u64::from_le_bytes(word)
 }
 
-/// Copies the 4,096 bytes of a frame into another one, word by word.
+/// Copies the 4,096 bytes of a frame into another one.
 pub fn copy_frame<F: FrameAccess>(store: &mut F, seat: &mut F::Seat, from: FrameNo, to: FrameNo)
     requires fits { Fits F.rule store.old seat.old }
     requires held { IsHeld (F.Seat.view seat.old) from.0 }
@@ -221,10 +225,7 @@ pub fn copy_frame<F: FrameAccess>(store: &mut F, seat: &mut F::Seat, from: Frame
     ensures free { F.alone → F.free store.new ≡ F.free store.old }
     ensures counts { F.alone → (f : ℕ) → F.count store.new f ≡ F.count store.old f }
 {
-    for at in 0..512 {
-        let word = store.load(seat, from, at);
-        store.store(seat, to, at, word);
-    }
+    store.copy(seat, from, to);
 }
 
 /// The 4,096 bytes of a frame, into an array, word by word.

@@ -6,7 +6,7 @@ ghost use Rattle.frame_store.specs.Laws.{Fits, Keeps};
 ghost use Rattle.frame_store.specs.View.{IsHeld, IsSole};
 ghost use Rattle.process_model.specs.Bytes.{write_bytes};
 
-use crate::contents::store_in_word;
+use crate::contents::{overwrite, store_in_word};
 use frame_store::{FrameAccess, FrameSeat};
 use sv39_entry::FrameNo;
 
@@ -34,7 +34,7 @@ pub fn read_run<F: FrameAccess>(
         let skipped = place % 8;
         let count = (8 - skipped).min(bytes.len() - done);
         let word = store.load(seat, frame, place / 8).to_le_bytes();
-        bytes[done..done + count].copy_from_slice(&word[skipped..skipped + count]);
+        overwrite(bytes, done, &word[skipped..skipped + count]);
         done += count;
     }
 }

@@ -1,30 +1,13 @@
-use Rattle.std.proofs.Common.{◌≡◌, ℕ, ◌*◌, ◌∙◌, Option, Some, drop, refl, ap, arith}
-use Rattle.process_model.specs.Bytes.{number}
-use Rattle.frame_bytes.specs.Changed.{changes_none, changes_one, changes_both, changed_sole, known_more}
+use Rattle.std.proofs.Common.{◌*◌, ◌+◌, ◌≤◌, ◌∙◌, length, take, drop, Some, ap, refl, arith}
+use Rattle.frame_store.specs.Many.{many_at}
+use Rattle.frame_bytes.proofs.Writes.{word_of_eight}
 use Rattle.frame_bytes.proofs.contents.fill_words.Goals as goal
 
-pub words-init : goal.words-init
-words-init g c = record {
-  fits = c.requires.fits;
-  words = λ i h. absurd (omega arith);
-  others = changes_none _ _ c.requires.sole;
-  keeps = λ others r. r;
-  free = λ a. refl;
-  counts = λ a f. refl;
-}
+pub returns-clause-words : goal.returns-clause-words
+returns-clause-words g c i h =
+    let room : 8 * i + 8 ≤ length c.args.bytes.now = omega (arith, h) in
+    many_at _ _ _ _ _ _ c.fill.ensures.view i (omega arith) (omega (arith, h))
+    ∙ ap (λ w. Some w) (word_of_eight c.args.bytes.now (take 8 (drop (8 * i) c.args.bytes.now)) (8 * i) room refl)
 
-pub store-requires-clause-sole : goal.store-requires-clause-sole
-store-requires-clause-sole g c = changed_sole _ _ _ c.words.invariant.others _ c.requires.sole
-
-pub words-preserved : goal.words-preserved
-words-preserved g c =
-    let i = c.words.invariant in
-    let word : ℕ → Option ℕ → Type 0 = λ q k. k ≡ Some (number (drop (8 * q) c.args.bytes.now) 8) in
-    record {
-      fits = (i.fits.0, c.store.ensures.keeps i.fits.0 i.fits.1);
-      words = known_more _ _ _ _ _ c.store.ensures.view word i.words (ap (λ w. Some w) c.whole_word.ensures);
-      others = changes_both _ _ _ _ i.others (changes_one _ _ _ _ _ c.store.ensures.view);
-      keeps = λ others r. c.store.ensures.keeps others (i.keeps others r);
-      free = λ a. c.store.ensures.free a ∙ i.free a;
-      counts = λ a f. c.store.ensures.counts a f ∙ i.counts a f;
-    }
+pub returns-clause-others : goal.returns-clause-others
+returns-clause-others g c = (_, c.fill.ensures.view)
