@@ -3,15 +3,13 @@ use Rattle.std.proofs.Common.{◌≡◌, ℕ, zero, suc, ◌+◌, ◌-◌, ◌<�
 use Rattle.std.proofs.lemmas.Bool.{cases_eq}
 use Rattle.std.specs.FinMap as map
 use Rattle.std.specs.FinMap.{get}
-use Rattle.frame_store.specs.Holds.{hold_of-frames, hold_of-with_hold_other, hold_of-with_hold_same, with_hold-with_hold, with_hold_back}
-use Rattle.frame_store.specs.View.{spent, Hold, View, claimed, hold_of, IsHeld, IsSole, known_word, references, sole_hold, with_hold, with_word}
+use Rattle.frame_store.specs.Holds.{hold_of-frames, hold_of-with_hold_other, hold_of-with_hold_same}
+use Rattle.frame_store.specs.Many.{put-more, put-none}
+use Rattle.frame_store.specs.View.{put_many, with_many, spent, Hold, View, claimed, hold_of, IsHeld, IsSole, known_word, references, sole_hold, with_hold}
 use Rattle.table_walk.specs.Tables.{blank_hold, zeros_to}
 use Rattle.table_walk.specs.Keys.{insert_other, insert_same}
 
--- ---- the words that are 0 so far
-
-abbrev pub zeros_hold : ℕ → Hold
-zeros_hold n = record sole_hold { words = zeros_to n }
+-- ---- zeros
 
 pub zero_word : (n i : ℕ) → i < n → get (zeros_to n) i ≡ Some 0
 zero_word zero i lt = absurd (omega arith)
@@ -20,25 +18,20 @@ zero_word (suc n) i lt = elim (cases_eq i n) [
   | inr ne ↦ insert_other (zeros_to n) n 0 i ne ∙ zero_word n i (omega (arith, ne))
 ]
 
-zeros_next : (n : ℕ) → map.insert (zeros_to n) n 0 ≡ zeros_to (n + 1)
-zeros_next n = let next : n + 1 ≡ suc n = omega arith in rw next refl
+-- zeros that are put one after another from the first word on
+zeros_put : (n : ℕ) → put_many 0 n (λ _. 0) map.empty ≡ zeros_to n
+zeros_put zero = put-none 0 (λ _. 0) map.empty
+zeros_put (suc n) =
+    let at : 0 + n ≡ n = omega arith in
+    put-more 0 (λ _. 0) map.empty n ∙ ap (λ ws. map.insert ws (0 + n) 0) (zeros_put n) ∙ ap (λ i. map.insert (zeros_to n) i 0) at
 
-pub zeros_none : (f : ℕ) (v : View) → hold_of v f ≡ sole_hold → v ≡ with_hold f (zeros_hold 0) v
-zeros_none f v is = sym (with_hold_back f sole_hold v is (omega arith))
+pub is_sole : (f : ℕ) (v : View) → hold_of v f ≡ sole_hold → IsSole v f
+is_sole f v is = subst (λ (h : Hold). IsTrue h.sole) (sym is) refl
 
-module _ (f n : ℕ) (v w : View) (is : w ≡ with_hold f (zeros_hold n) v) where
-  zeros_so_far : hold_of w f ≡ zeros_hold n
-  zeros_so_far = ap (λ u. hold_of u f) is ∙ hold_of-with_hold_same f (zeros_hold n) v
-
-  pub zeros_sole : IsSole w f
-  zeros_sole = subst (λ (h : Hold). IsTrue h.sole) (sym zeros_so_far) refl
-
-  pub zeros_more : (next : View) → next ≡ with_word f n 0 w → next ≡ with_hold f (zeros_hold (n + 1)) v
-  zeros_more next stored =
-      stored ∙ ap (λ (h : Hold). with_hold f (record h { words = map.insert h.words n 0 }) w) zeros_so_far
-      ∙ ap (λ ws. with_hold f (record sole_hold { words = ws }) w) (zeros_next n)
-      ∙ ap (with_hold f (zeros_hold (n + 1))) is
-      ∙ with_hold-with_hold f (zeros_hold (n + 1)) (zeros_hold n) v
+pub cleared : (f : ℕ) (v w : View) → hold_of v f ≡ sole_hold → w ≡ with_many f 0 (512 - 0) (λ _. 0) v → w ≡ with_hold f blank_hold v
+cleared f v w is stored =
+    stored ∙ ap (λ (h : Hold). with_hold f (record h { words = put_many 0 512 (λ _. 0) h.words }) v) is
+    ∙ ap (λ ws. with_hold f (record sole_hold { words = ws }) v) (zeros_put 512)
 
 -- ---- a claimed frame
 

@@ -1,5 +1,5 @@
 -- The first leaf from a place on, index by index.
-use Rattle.std.proofs.Common.{◌≡◌, ℕ, zero, suc, ◌+◌, ◌-◌, ◌*◌, ◌/◌, ◌%◌, ◌^◌, ◌<◌, ◌≤◌, inl, inr, refl, ap, sym, subst, ◌∙◌, arith, Option, Some, None, unwrap_or}
+use Rattle.std.proofs.Common.{◌≡◌, ℕ, zero, suc, ◌+◌, ◌-◌, ◌*◌, ◌/◌, ◌%◌, ◌^◌, ◌<◌, ◌≤◌, min, inl, inr, refl, ap, sym, subst, ◌∙◌, arith, Option, Some, None, unwrap_or}
 use Rattle.std.proofs.Math.Nat.{div-div-eq-div-mul, mul-le-mul_right}
 use Rattle.std.proofs.lemmas.Bool.{cases_lt}
 use Rattle.std.proofs.lemmas.Nat.{div-add-mod', div-mul-add, mod_below, pow-add}
@@ -7,13 +7,18 @@ use Rattle.std.specs.FinMap.{get}
 use Rattle.frame_store.specs.View.{View, known_word}
 use Rattle.sv39_entry.specs.Word.{kind_of}
 use Rattle.sv39_entry.specs.declared.entry.Kind.TheVariants.{Invalid}
-use Rattle.table_walk.specs.Changed.{IsTableAt}
+use Rattle.table_walk.specs.Changed.{HasEntry, IsTableAt}
 use Rattle.table_walk.specs.Tables.{Tables, AreTables, HasTables, first_leaf}
 use Rattle.table_walk.specs.Places.{AreZeros, IsBare, IsBareTo, IsFirstLeaf, IsFirstLeafTo}
 use Rattle.table_walk.specs.Walk.{top_level}
 use Rattle.table_walk.proofs.Children.{child_none}
 use Rattle.table_walk.proofs.TableWords.{kind-zero, word_leaf}
 use Rattle.table_walk.specs.Nodes.{power_next, power_some, power_up}
+
+-- the word that was read at an index of a table
+pub entry_here : (v w : View) (t : Tables) (k f level i word : ℕ) → w ≡ v → get t.tables k ≡ Some f → IsTableAt k level → i < 512
+    → ((x : ℕ) → known_word v f i ≡ Some x → word ≡ x) → HasEntry w t k level i word
+entry_here v w t k f level i word same at is small read = record { frame = f; table = at; at = is; in_table = small; read = rw same read }
 
 -- so many times nine bits
 pub nine_bits : (k : ℕ) → 2 ^ (9 * k) ≡ 512 ^ k
@@ -111,6 +116,34 @@ past_index place width i some from =
     let rest = mod_below place width some in
     let row = mul-le-mul_right {m = place / width} {n = i} width from in
     omega (arith, whole, rest, row)
+
+-- the index of the last place before a stop is in the table, and all places before the stop are before the next index
+index_low : (place width : ℕ) → 1 ≤ width → place < 512 * width → place / width < 512
+index_low place width some lt = elim (cases_lt (place / width) 512) [
+  | inl less ↦ less
+  | inr more ↦
+      let whole = div-add-mod' place width in
+      let row = mul-le-mul_right {m = 512} {n = place / width} width (omega (arith, more)) in
+      absurd (omega (arith, whole, row, lt))
+]
+
+pub last_index : (last stop end width : ℕ) → 1 ≤ width → stop ≡ min end (512 * width) → last ≡ (stop - 1) / width → last + 1 ≤ 512
+last_index last stop end width some is at = let low = index_low (stop - 1) width some (omega (arith, is, some)) in omega (arith, low, at)
+
+within_last : (n stop width : ℕ) → 1 ≤ width → n < stop → n < ((stop - 1) / width + 1) * width
+within_last n stop width some lt =
+    let whole = div-add-mod' (stop - 1) width in
+    let rest = mod_below (stop - 1) width some in
+    omega (arith, whole, rest, lt)
+
+-- where no word is left before the index behind the last one, no place before the end has a leaf
+pub bare_all : (t : Tables) (k level from last at stop end : ℕ) → stop ≡ min end (512 * 512 ^ level) → last ≡ (stop - 1) / 512 ^ level + 1
+    → IsBareTo t k (512 * 512 ^ level) from (last * 512 ^ level + (at - last * 512 ^ level)) end → IsFirstLeafTo t k (512 ^ suc level) from end None
+bare_all t k level from last at stop end is to_last skip n le lt to =
+    let next = power_next level in
+    let before = within_last n stop (512 ^ level) (power_some level) (omega (arith, is, next, lt, to)) in
+    let inside : n < last * 512 ^ level = rw to_last before in
+    rw next (skip n le (omega (arith, inside)) to)
 
 -- ---- one index
 

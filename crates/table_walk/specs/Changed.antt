@@ -1,6 +1,7 @@
 -- What a change of tables does to walks, and what an enumeration finds.
-use Rattle.std.specs.Prelude.{◌≡◌, ◌≢◌, ◌↔◌, ℕ, suc, ◌+◌, ◌-◌, ◌*◌, ◌^◌, ◌<◌, ◌≤◌, Option, None, Some}
+use Rattle.std.specs.Prelude.{◌≡◌, ◌≢◌, ◌↔◌, ℕ, suc, ◌-◌, ◌*◌, ◌^◌, ◌<◌, ◌≤◌, Option, None, Some}
 use Rattle.std.specs.FinMap.{get}
+use Rattle.frame_store.specs.View.{known_word, View}
 use Rattle.table_walk.specs.Tables.{Tables, leaf_node}
 use Rattle.table_walk.specs.Memory.{Memory}
 use Rattle.table_walk.specs.Places.{IsBare, IsFirstLeaf}
@@ -17,6 +18,14 @@ places level = 512 ^ suc level
 -- the number k is one of the tables of a level
 abbrev pub IsTableAt : ℕ → ℕ → Type 0
 IsTableAt k level = (512 ^ (top_level - level) ≤ k) × (k < 2 * 512 ^ (top_level - level))
+
+-- a table of a level has a word at an index
+pub record HasEntry (v : View) (t : Tables) (k level i word : ℕ) : Type 0 where
+  pub frame : ℕ
+  pub table : get t.tables k ≡ Some frame
+  pub at : IsTableAt k level
+  pub in_table : i < 512
+  pub read : (w : ℕ) → known_word v frame i ≡ Some w → word ≡ w
 
 -- the first leaf from a place on below table k of a level
 abbrev pub IsNextLeafIn : Tables → ℕ → ℕ → ℕ → Option (ℕ × ℕ) → Type 0

@@ -86,7 +86,5 @@ fn clear<F: FrameAccess>(store: &mut F, seat: &mut F::Seat, frame: FrameNo)
     ensures keeps { Keeps F.rule store.old seat.old store.new seat.new }
     ensures free { F.alone → F.free store.new ≡ F.free store.old }
 {
-    for index in 0..512 {
-        store.store(seat, frame, index, 0);
-    }
+    store.clear(seat, frame, 0);
 }

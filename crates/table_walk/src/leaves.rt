@@ -1,16 +1,16 @@
 // The leaves below a root, in ascending order of page.
 
 ghost use Rattle.std.specs.FinMap.{get};
-ghost use Rattle.std.specs.Prelude.{◌≡◌, ◌+◌, ◌*◌, ◌^◌, ◌<◌, ◌≤◌, ℕ, Some};
+ghost use Rattle.std.specs.Prelude.{◌≡◌, ◌+◌, ◌*◌, ◌/◌, ◌^◌, ◌<◌, ◌≤◌, ℕ, Some};
 ghost use Rattle.frame_store.specs.Laws.{Fits, Keeps};
-ghost use Rattle.table_walk.specs.Changed.{IsNextLeaf, IsNextLeafBefore, IsTableAt, places};
+ghost use Rattle.table_walk.specs.Changed.{HasEntry, IsNextLeaf, IsNextLeafBefore, IsTableAt, places};
 ghost use Rattle.table_walk.specs.Tables.{HasTables, Tables};
 ghost use Rattle.table_walk.specs.Places.{IsFirstLeafTo};
 ghost use Rattle.table_walk.specs.Walk.{top_level};
 
-use crate::entries::next_entry;
+use crate::entries::next_word;
 use crate::find::TOP_LEVEL;
-use crate::tables::child;
+use crate::tables::table_in;
 use frame_store::{FrameAccess, FrameSeat};
 use sv39_entry::{Entry, FrameNo, Vpn};
 
@@ -62,7 +62,7 @@ pub fn next_leaf_before<F: FrameAccess>(
 }
 
 /// The same below a table of a level, by places: at level 0 those are the indices, and above it each index has 512 times as
-/// many as those of the level below. The search goes up to the index that has the last place before an end.
+/// many as those of the level below. No word is read behind that of the index that has the last place before an end.
 #[cycle(leaves)]
 fn next_below<F: FrameAccess>(
     store: &mut F,
@@ -81,52 +81,46 @@ fn next_below<F: FrameAccess>(
     ensures keeps { Keeps F.rule store.old seat.old store.new seat.new }
 {
     let width = index_places(level);
+    let stop = end.min(512 * width);
     let mut at = from;
-    'indices: while at < 512 * width {
-        let index = next_entry(store, seat, table, (at / width) as usize);
+    'indices: while at < stop {
+        let last = index_of(stop - 1, level) + 1;
+        let (index, word) = next_word(store, seat, table, index_of(at, level), last)?;
         let start = index as u64 * width;
-        if index == 512 || end <= start {
-            return None;
-        }
         let place = at.saturating_sub(start);
-        let next = next_at(store, seat, table, level, index, place, end - start);
-        if let Some((found, word)) = next {
-            return Some((start + found, word));
+        let next = next_at(store, seat, word, level, place, end - start);
+        if let Some((found, leaf)) = next {
+            return Some((start + found, leaf));
         }
         at = start + width;
     }
     None
 }
 
-/// The same below an index of a table of a level.
+/// The same below an index of a table of a level, by the word there.
 #[cycle(leaves)]
 fn next_at<F: FrameAccess>(
     store: &mut F,
     seat: &mut F::Seat,
-    table: FrameNo,
+    word: u64,
     level: u32,
-    index: usize,
     from: u64,
     end: u64,
 ) -> Option<(u64, u64)>
     requires fits { Fits F.rule store.old seat.old }
     requires low { level ≤ top_level }
-    requires in_table { index < 512 }
+    requires some { 0 < word }
     requires within { from < 512 ^ level }
-    requires held { (root k : ℕ) × (t : Tables) × HasTables (F.Seat.view seat.old) root t × (get t.tables k ≡ Some table.0) × IsTableAt k level }
-    ensures leaf { (root k : ℕ) (t : Tables) → HasTables (F.Seat.view seat.old) root t → get t.tables k ≡ Some table.0 → IsTableAt k level → IsFirstLeafTo t (k * 512 + index) (512 ^ level) from end result }
+    requires held { (root k i : ℕ) × (t : Tables) × HasTables (F.Seat.view seat.old) root t × HasEntry (F.Seat.view seat.old) t k level i word }
+    ensures leaf { (root k i : ℕ) (t : Tables) → HasTables (F.Seat.view seat.old) root t → HasEntry (F.Seat.view seat.old) t k level i word → IsFirstLeafTo t (k * 512 + i) (512 ^ level) from end result }
     ensures view { F.Seat.view seat.new ≡ F.Seat.view seat.old }
     ensures same { store.new ≡ store.old }
     ensures keeps { Keeps F.rule store.old seat.old store.new seat.new }
 {
-    let word = store.load(seat, table, index);
-    if word == 0 {
-        return None;
-    }
     if level == 0 {
         return Some((0, word));
     }
-    let next = child(store, seat, table, index)?;
+    let next = table_in(word)?;
     next_below(store, seat, next, level - 1, from, end)
 }
 
@@ -139,4 +133,13 @@ fn index_places(level: u32) -> u64
     ensures few { result ≤ 512 ^ top_level }
 {
     1 << (9 * level)
+}
+
+/// The index of a table of a level that has a place.
+#[tactic(auto, using(crate::proofs::Next::nine_bits))]
+fn index_of(place: u64, level: u32) -> usize
+    requires low { level ≤ top_level }
+    ensures { result ≡ place / 512 ^ level }
+{
+    (place >> (9 * level)) as usize
 }

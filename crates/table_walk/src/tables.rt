@@ -3,6 +3,7 @@
 ghost use Rattle.std.specs.FinMap.{get};
 ghost use Rattle.std.specs.Prelude.{◌≡◌, ◌+◌, ◌-◌, ◌*◌, ◌<◌, ◌≤◌, ℕ, suc, option_map, None, Some};
 ghost use Rattle.frame_store.specs.Laws.{Fits, Keeps};
+ghost use Rattle.frame_store.specs.View.{known_word, View};
 ghost use Rattle.table_walk.specs.Tables.{first_leaf, HasTables, Tables, last_table, missing, node};
 ghost use Rattle.table_walk.specs.Walk.{top_level};
 
@@ -26,6 +27,14 @@ pub(crate) fn child<F: FrameAccess>(
     ensures keeps { Keeps F.rule store.old seat.old store.new seat.new }
 {
     let word = store.load(seat, table, index);
+    table_in(word)
+}
+
+/// The table that stands at an index of a table above level 0, by the word there.
+pub(crate) fn table_in(word: u64) -> Option<FrameNo>
+    ensures { (v : View) (root k f i : ℕ) (t : Tables) → HasTables v root t → get t.tables k ≡ Some f → i < 512 → k * 512 + i < first_leaf →
+        ((w : ℕ) → known_word v f i ≡ Some w → word ≡ w) → option_map (λ f. f.0) result ≡ get t.tables (k * 512 + i) }
+{
     if word == 0 {
         return None;
     }

@@ -1,7 +1,7 @@
 use Rattle.std.proofs.Common.{◌≡◌, ◌≤◌}
 use Rattle.frame_store.specs.Laws.{Keeps}
 use Rattle.table_walk.specs.Places.{AreZeros}
-use Rattle.table_walk.proofs.entries.next_entry.Given as goal
+use Rattle.table_walk.proofs.entries.next_word.Given as goal
 
 -- so many words are 0
 abbrev pub invariant-entries : goal.invariant-entries

@@ -2,7 +2,7 @@ use Rattle.std.proofs.Common.{◌≡◌, ◌∙◌, Some, inl, inr, refl, sym, s
 use Rattle.std.proofs.lemmas.Bool.{cases_lt}
 use Rattle.frame_store.specs.Laws.{fits_after}
 use Rattle.frame_store.specs.View.{IsHeld, known_word}
-use Rattle.table_walk.proofs.entries.next_entry.Goals as goal
+use Rattle.table_walk.proofs.entries.next_word.Goals as goal
 
 pub entries-init : goal.entries-init
 entries-init g c = record {
