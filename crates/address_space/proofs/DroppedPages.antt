@@ -30,14 +30,11 @@ leaf_place n low = let at = leaf_node_is n in omega (arith, at, low)
 unmapped_to : (t : Tables) (first end : ℕ) → IsBare t 1 (512 ^ suc 2) first end → end ≤ 2 ^ 27 → AreUnmapped t first end
 unmapped_to t first end bare low n from less = ap (get t.leaves) (leaf_place n (omega arith)) ∙ bare n from less
 
-pub none_mapped : (t : Tables) (first end : ℕ) → IsNextLeafBefore t first end None → end ≤ 2 ^ 27 → IsFirstMapped t first end None
-none_mapped t first end bare low = unmapped_to t first end bare low
-
-pub one_mapped : (t : Tables) (first end page w : ℕ) → IsNextLeafBefore t first end (Some (page, w)) → end ≤ 2 ^ 27 → IsFirstMapped t first end (Some page)
-one_mapped t first end page w next low =
+pub first_is_mapped : (t : Tables) (first end : ℕ) (o : Option (ℕ × ℕ)) → IsNextLeafBefore t first end o → end ≤ 2 ^ 27 → IsFirstMapped t first end o
+first_is_mapped t first end None bare low = unmapped_to t first end bare low
+first_is_mapped t first end (Some p) next low =
     let before = next.0 in
-    let some : get t.leaves (leaf_node page) ≡ Some w = ap (get t.leaves) (leaf_place page (omega (arith, before, low))) ∙ next.1.2 in
-    (next.1.0, before, rw some refl, unmapped_to t first page next.1.3 (omega (arith, before, low)))
+    (next.1.0, before, ap (get t.leaves) (leaf_place p.0 (omega (arith, before, low))) ∙ next.1.2, unmapped_to t first p.0 next.1.3 (omega (arith, before, low)))
 
 everywhere : (first n : ℕ) → (n < first) ⊎ (first ≤ n)
 everywhere first n = elim (cases_lt n first) [ inl before ↦ inl before | inr after ↦ inr (omega (arith, after)) ]
@@ -286,9 +283,9 @@ module _ (v : View) (root trapframe : ℕ) (t : Tables) (p : Process) where
       },
     )
 
-    module _ (page : ℕ) (found : IsFirstMapped so_far.0 from end (Some page)) (low : end ≤ trapframe_page) where
+    module _ (page leaf : ℕ) (found : IsFirstMapped so_far.0 from end (Some (page, leaf))) (low : end ≤ trapframe_page) where
       pub next_may_drop : CanDrop w root so_far.0 page
-      next_may_drop = may_drop w root trapframe so_far.0 (without_pages p first from) so_far.1.stands page (omega (arith, low, found.1)) found.2
+      next_may_drop = may_drop w root trapframe so_far.0 (without_pages p first from) so_far.1.stands page (omega (arith, low, found.1)) (rw found.2 refl)
 
       pub dropped_next : first ≤ from → (x : View) → DropsLeaf w x root so_far.0 page → HasDropped v x root trapframe t p first (page + 1)
       dropped_next after x d =

@@ -1,9 +1,9 @@
 -- A page gets the fork mark: its leaf is turned to the frame that it names, and may not be written any more.
-use Rattle.std.proofs.Common.{◌≡◌, ℕ, Option, Some, Bool, true, false, not, ◌&&◌, ◌||◌, refl, ap, sym, subst, ◌∙◌, inl, inr}
+use Rattle.std.proofs.Common.{◌≡◌, ℕ, Some, Bool, true, false, not, ◌&&◌, ◌||◌, refl, ap, sym, subst, ◌∙◌, inl, inr}
 use Rattle.std.proofs.lemmas.Bool.{cases_eq}
 use Rattle.std.proofs.lemmas.Option.{same_Some}
 use Rattle.std.specs.FinMap.{get}
-use Rattle.std.specs.Prelude.{option_and_then, option_map}
+use Rattle.std.specs.Prelude.{IsSome}
 use Rattle.frame_store.specs.View.{View, with_word}
 use Rattle.process_model.specs.Inserted.{put_back}
 use Rattle.process_model.specs.OrderKept.{leafy_at}
@@ -12,19 +12,19 @@ use Rattle.process_model.specs.Process.{Page, Process, regions}
 use Rattle.process_model.specs.Regions.{is_shared_kind, lacks_right, makes_leaf, Region, region_at}
 use Rattle.process_model.specs.Residence.{marked_page, with_page}
 use Rattle.sv39_entry.specs.Address.{has, vpn}
-use Rattle.sv39_entry.specs.Frame.{frame_at}
-use Rattle.sv39_entry.specs.Word.{has_flag, ppn}
+use Rattle.sv39_entry.specs.Word.{ppn}
 use Rattle.sv39_entry.specs.declared.access.Access.TheVariants.{Store}
-use Rattle.sv39_entry.specs.declared.frame.FrameNo.{FrameNo}
 use Rattle.table_walk.specs.Tables.{HasTables, Tables, last_table, leaf_node, with_leaf}
 use Rattle.table_walk.specs.Keys.{insert_other, insert_same}
 use Rattle.address_space.specs.Agreement.{body, is_dirty_page, IsOn, IsPageLeaf}
+use Rattle.address_space.specs.Settled.{IsSettledPage}
 use Rattle.address_space.specs.Standing.{IsStanding, MarksForked}
 use Rattle.address_space.specs.Layouts.{Layout}
-use Rattle.address_space.proofs.Owned.{no_table}
+use Rattle.address_space.specs.declared.settled.SettledPage.{SettledPage}
+use Rattle.address_space.proofs.Owned.{no_table, one_frame}
 use Rattle.address_space.proofs.Owning.{owns_same, turned_other, turned_references, turned_stands, turned_words}
 use Rattle.address_space.proofs.Sound.{sound_page}
-use Rattle.address_space.proofs.Writing.{HasPage, lays_with, page_found, page_here}
+use Rattle.address_space.proofs.Writing.{HasPage, lays_with, page_here}
 
 or_false : (b : Bool) → (b || false) ≡ b
 or_false false = refl
@@ -43,14 +43,22 @@ never : (w : Bool) → (w && false) ≡ true → ⊥
 never false e = cc
 never true e = cc
 
-module _ {v : View} {root trapframe : ℕ} {l : Layout} {t : Tables} {p : Process} {extra : ℕ → ℕ} (page : ℕ) {s : Page} (can : IsStanding (body v root trapframe l) t p extra)
-    (settled : pages.get p.settled page ≡ Some s) where
-  pub found : (f : ℕ) × HasPage v t p page s f
+module _ {v : View} {root trapframe : ℕ} {l : Layout} {t : Tables} {p : Process} {extra : ℕ → ℕ} (a : SettledPage) (can : IsStanding (body v root trapframe l) t p extra)
+    (is : IsSettledPage t p a) where
+  abbrev page : ℕ
+  page = a.page
+
+  abbrev s : Page
+  s = is.page
+
+  settled : pages.get p.settled page ≡ Some s
+  settled = is.settled
+
+  found : (f : ℕ) × HasPage v t p page s f
   found = page_here v root trapframe extra t p page s can.stands settled
 
-  pub fork_some : (o : Option (FrameNo × Bool)) → o ≡ option_and_then (λ w. option_map (λ f. (f, has_flag w 128)) (frame_at (ppn w))) (get t.leaves (leaf_node page))
-      → o ≡ Some (record { 0 = found.0 }, is_dirty_page found.1.region s)
-  fork_some o is = page_found v t p page s found.0 found.1 o is
+  pub fork_mapped : IsSome (get t.leaves (leaf_node a.page))
+  fork_mapped = rw is.on.1 refl
 
   module _ (r : Region) (in_region : region_at (regions p) page ≡ Some r) where
     pub fork_leafy : makes_leaf r ≡ true
@@ -81,9 +89,8 @@ module _ {v : View} {root trapframe : ℕ} {l : Layout} {t : Tables} {p : Proces
       }
 
     -- the region grants writing, and the leaf is turned
-    module _ (lacks : lacks_right Store (Some r) ≡ false) (w : View) (x : FrameNo × Bool) (o : Option (FrameNo × Bool))
-        (is : o ≡ option_and_then (λ w. option_map (λ f. (f, has_flag w 128)) (frame_at (ppn w))) (get t.leaves (leaf_node page))) (some : o ≡ Some x) (leaf : ℕ)
-        (made : IsPageLeaf leaf (x.0).0 r true (x.1 && r.writes)) (tables : HasTables w root (with_leaf t (leaf_node page) leaf))
+    module _ (lacks : lacks_right Store (Some r) ≡ false) (w : View) (leaf : ℕ)
+        (made : IsPageLeaf leaf (a.frame).0 r true (a.dirty && r.writes)) (tables : HasTables w root (with_leaf t (leaf_node page) leaf))
         (word : (y : ℕ) → get t.tables (last_table page) ≡ Some y → w ≡ with_word y (vpn page 0) leaf v) where
       abbrev marked : Page
       marked = marked_page p page s
@@ -94,20 +101,20 @@ module _ {v : View} {root trapframe : ℕ} {l : Layout} {t : Tables} {p : Proces
       is_marked : marked.fork_mark ≡ true
       is_marked = ap (λ b. s.fork_mark || b) (ap (λ o. not (lacks_right Store o)) in_region ∙ ap not lacks) ∙ or_true s.fork_mark
 
-      same_frame : (x.0).0 ≡ found.0
-      same_frame = ap (λ (y : FrameNo × Bool). (y.0).0) (same_Some x _ (sym some ∙ fork_some o is))
+      same_frame : (a.frame).0 ≡ found.0
+      same_frame = one_frame (a.frame).0 found.0 (sym is.on.2 ∙ ap ppn (same_Some is.on.0 here.leaf (sym is.on.1 ∙ here.mapped)) ∙ here.made.names)
 
-      dirty_is : (x.1 && r.writes) ≡ is_dirty_page r marked
+      dirty_is : (a.dirty && r.writes) ≡ is_dirty_page r marked
       dirty_is =
-          ap (λ (y : FrameNo × Bool). y.1 && r.writes) (same_Some x _ (sym some ∙ fork_some o is))
-          ∙ ap (λ q. is_dirty_page q s && r.writes) (same_Some found.1.region r (sym found.1.in_region ∙ in_region))
+          ap (λ b. b && r.writes) is.dirty
+          ∙ ap (λ q. is_dirty_page q s && r.writes) (same_Some is.region r (sym is.in_region ∙ in_region))
           ∙ kept_dirty (s.stored_mark || not (is_shared_kind r.kind)) r.writes
 
       shown : IsPageLeaf leaf found.0 r marked.fork_mark (is_dirty_page r marked)
       shown =
           subst (λ b. IsPageLeaf leaf found.0 r b (is_dirty_page r marked)) (sym is_marked)
           (subst (λ b. IsPageLeaf leaf found.0 r true b) dirty_is
-          (subst (λ f. IsPageLeaf leaf f r true (x.1 && r.writes)) same_frame made))
+          (subst (λ f. IsPageLeaf leaf f r true (a.dirty && r.writes)) same_frame made))
 
       not_written : has leaf 2 ≡ true → ⊥
       not_written writes = never r.writes (sym made.write ∙ writes)

@@ -1,5 +1,5 @@
 -- The first leaf of a run is the first settled page's.
-use Rattle.std.proofs.Common.{◌≡◌, ℕ, ◌+◌, ◌<◌, ◌≤◌, min, Option, None, Some, refl, ap, sym, ◌∙◌, inl, inr, arith}
+use Rattle.std.proofs.Common.{◌≡◌, ℕ, Bool, ◌+◌, ◌<◌, ◌≤◌, min, Option, None, Some, refl, ap, sym, subst, ◌∙◌, inl, inr, arith}
 use Rattle.std.specs.Prelude.{IsSome}
 use Rattle.std.proofs.lemmas.Bool.{cases_lt}
 use Rattle.std.proofs.lemmas.Option.{same_Some}
@@ -18,7 +18,7 @@ use Rattle.address_space.specs.Agreement.{body, nothing}
 use Rattle.address_space.specs.Ending.{AreUnmapped, IsFirstMapped}
 use Rattle.address_space.specs.Layouts.{Layout}
 use Rattle.address_space.specs.ProcessLeaves.{frame_is}
-use Rattle.address_space.specs.Settled.{AreUnsettled, IsNextSettled, IsSettled, IsSettledPage}
+use Rattle.address_space.specs.Settled.{AreUnsettled, IsNextSettled, IsSettledPage}
 use Rattle.address_space.specs.Standing.{IsStanding}
 use Rattle.address_space.specs.declared.settled.SettledPage.{SettledPage}
 use Rattle.address_space.proofs.Owned.{one_page}
@@ -84,36 +84,37 @@ module _ (v : View) (root trapframe : ℕ) (l : Layout) (t : Tables) (p : Proces
     frame_found : frame_at (ppn w) ≡ Some (record { 0 = here.0 })
     frame_found = ap (λ x. frame_at (ppn x)) (sym leaf_is) ∙ ap frame_at here.1.made.names ∙ frame_is here.0 here.1.made.small
 
-    pub some_frame : (o : Option FrameNo) → o ≡ frame_at (ppn w) → o ≡ None → ⊥
-    some_frame o is none = let some = frame_found in cc
+    pub names_frame : IsSome (frame_at (ppn w))
+    names_frame = rw frame_found refl
 
-    pub page_is : (o : Option FrameNo) (f : FrameNo) → o ≡ frame_at (ppn w) → o ≡ Some f
-        → IsSettledPage t p (record { page = page; frame = f; fork_mark = has_flag w 256; dirty = has_flag w 128 })
-    page_is o f is some =
-        let same : record { 0 = here.0 } ≡ f = same_Some (record { 0 = here.0 }) f (sym frame_found ∙ sym is ∙ some) in
+    shows_page : (f : FrameNo) (mark dirty : Bool) → frame_at (ppn w) ≡ Some f → mark ≡ has_flag w 256 → dirty ≡ has_flag w 128
+        → IsSettledPage t p (record { page = page; frame = f; fork_mark = mark; dirty = dirty })
+    shows_page f mark dirty named marked dirtied =
+        let same : record { 0 = here.0 } ≡ f = same_Some (record { 0 = here.0 }) f (sym frame_found ∙ named) in
         record {
           page = its_page.0;
           region = here.1.region;
           settled = its_page.1;
           in_region = here.1.in_region;
           on = (w, leaf, ap ppn (sym leaf_is) ∙ here.1.made.names ∙ ap (λ (x : FrameNo). ppn_of x.0) same);
-          fork_mark = has_flag_is w 8 ∙ ap (λ x. has x 8) (sym leaf_is) ∙ here.1.made.copy_on_write;
-          dirty = has_flag_is w 7 ∙ ap (λ x. has x 7) (sym leaf_is) ∙ here.1.made.dirty;
+          fork_mark = marked ∙ has_flag_is w 8 ∙ ap (λ x. has x 8) (sym leaf_is) ∙ here.1.made.copy_on_write;
+          dirty = dirtied ∙ has_flag_is w 7 ∙ ap (λ x. has x 7) (sym leaf_is) ∙ here.1.made.dirty;
         }
 
-  module _ (first last end page : ℕ) (found : IsFirstMapped t first last (Some page)) (sooner : last ≤ end) (up : end ≤ trapframe_page) where
+    pub page_is : (x : SettledPage) → x.page ≡ page → frame_at (ppn w) ≡ Some x.frame → x.fork_mark ≡ has_flag w 256 → x.dirty ≡ has_flag w 128
+        → IsSettledPage t p x
+    page_is x same named marked dirtied =
+        subst (λ n. IsSettledPage t p (record { page = n; frame = x.frame; fork_mark = x.fork_mark; dirty = x.dirty })) (sym same)
+        (shows_page x.frame x.fork_mark x.dirty named marked dirtied)
+
+  module _ (first last end page w : ℕ) (found : IsFirstMapped t first last (Some (page, w))) (sooner : last ≤ end) (up : end ≤ trapframe_page) where
     pub low_page : page < trapframe_page
     low_page = let before = found.1 in omega (arith, before, sooner, up)
 
     -- the first page with a leaf is the first that is settled
-    pub next_is : (o : Option SettledPage) → IsSettled t p page o → IsNextSettled t p first end o
-    next_is None none = absurd (go (get t.leaves (leaf_node page)) refl found.2)
-      where
-        go : (o : Option ℕ) → get t.leaves (leaf_node page) ≡ o → IsSome o → ⊥
-        go None leaf some = cc
-        go (Some w) leaf some = let there = (of_leaf page w low_page leaf).1 in cc
-    next_is (Some x) is =
-        let from : first ≤ x.page = rw is.0 found.0 in
-        let to : x.page < end = rw is.0 (let before = found.1 in omega (arith, before, sooner)) in
-        let before : AreUnsettled p first x.page = rw is.0 (unsettled first page found.3) in
-        (from, to, before, is.1)
+    pub next_is : (x : SettledPage) → x.page ≡ page → IsSettledPage t p x → IsNextSettled t p first end (Some x)
+    next_is x same is =
+        let from : first ≤ x.page = rw same found.0 in
+        let to : x.page < end = rw same (let before = found.1 in omega (arith, before, sooner)) in
+        let before : AreUnsettled p first x.page = rw same (unsettled first page found.3) in
+        (from, to, before, is)

@@ -1,5 +1,5 @@
 -- Pages that are dropped, and a space that ends.
-use Rattle.std.specs.Prelude.{◌≡◌, ◌≢◌, ◌⊎◌, ℕ, ◌^◌, ◌<◌, ◌≤◌, Option, None, Some, IsSome, []}
+use Rattle.std.specs.Prelude.{◌≡◌, ◌≢◌, ◌⊎◌, ℕ, ◌^◌, ◌<◌, ◌≤◌, Option, None, Some, []}
 use Rattle.std.specs.FinMap.{get}
 use Rattle.frame_store.specs.View.{View, hold_of}
 use Rattle.process_model.specs.Heap.{without_pages}
@@ -15,10 +15,10 @@ use Rattle.address_space.specs.Steps.{Takes}
 abbrev pub AreUnmapped : Tables → ℕ → ℕ → Type 0
 AreUnmapped t first end = (n : ℕ) → first ≤ n → n < end → get t.leaves (leaf_node n) ≡ None
 
--- the first page of a run that has a leaf
-abbrev pub IsFirstMapped : Tables → ℕ → ℕ → Option ℕ → Type 0
+-- the first page of a run that has a leaf, and the leaf
+abbrev pub IsFirstMapped : Tables → ℕ → ℕ → Option (ℕ × ℕ) → Type 0
 IsFirstMapped t first end None = AreUnmapped t first end
-IsFirstMapped t first end (Some page) = (first ≤ page) × (page < end) × IsSome (get t.leaves (leaf_node page)) × AreUnmapped t first page
+IsFirstMapped t first end (Some p) = (first ≤ p.0) × (p.0 < end) × (get t.leaves (leaf_node p.0) ≡ Some p.1) × AreUnmapped t first p.0
 
 -- the leaves of a run of pages are gone, and each other leaf and every table is as it was
 pub record Drops (t u : Tables) (first end : ℕ) : Type 0 where

@@ -9,6 +9,8 @@ use Rattle.process_model.specs.Residence.{marked_page, with_page}
 use Rattle.table_walk.specs.Tables.{Tables}
 use Rattle.address_space.specs.Agreement.{Body, IsOn, IsSpace, nothing, Stands}
 use Rattle.address_space.specs.Layouts.{LaysOut}
+use Rattle.address_space.specs.Settled.{IsSettledPage}
+use Rattle.address_space.specs.declared.settled.SettledPage.{SettledPage}
 
 -- the process stands, whatever its seat has of credits, and of references beside the process's
 pub record IsStanding (x : Body) (t : Tables) (p : Process) (extra : ℕ → ℕ) : Type 0 where
@@ -41,6 +43,7 @@ pub record MarksForked (x y : Body) (t u : Tables) (p : Process) (extra : ℕ �
   pub forking : IsStanding y u (with_page p page (marked_page p page s)) extra
   pub turns : TurnsLeaves x y t u
 
-abbrev pub HasMarkedForked : Body → Body → ℕ → Type 0
-HasMarkedForked x y page = (t : Tables) (p : Process) (extra : ℕ → ℕ) (s : Page) → IsStanding x t p extra → pages.get p.settled page ≡ Some s
-    → (u : Tables) × MarksForked x y t u p extra page s
+-- and so did one that is given as it is settled
+abbrev pub HasMarkedForked : Body → Body → SettledPage → Type 0
+HasMarkedForked x y a = (t : Tables) (p : Process) (extra : ℕ → ℕ) → IsStanding x t p extra → (is : IsSettledPage t p a)
+    → (u : Tables) × MarksForked x y t u p extra a.page is.page

@@ -14,17 +14,17 @@ ghost use Rattle.table_walk.specs.Tables.{HasTables, Tables};
 
 use crate::space::Space;
 use frame_store::{FrameAccess, FrameSeat};
-use sv39_entry::{FrameNo, TRAMPOLINE, TRAPFRAME, Va, Vpn};
+use sv39_entry::{Entry, FrameNo, TRAMPOLINE, TRAPFRAME, Va, Vpn};
 use table_walk::{next_leaf_before, release_tables, unmap};
 
-/// The first page that has a leaf, of those from one number up to, and without, another.
+/// The first page that has a leaf, of those from one number up to, and without, another, and the leaf.
 pub(crate) fn first_mapped<F: FrameAccess>(
     store: &mut F,
     seat: &mut F::Seat,
     root: FrameNo,
     first: u64,
     end: u64,
-) -> Option<Vpn>
+) -> Option<(Vpn, Entry)>
     requires fits { Fits F.rule store.old seat.old }
     requires held { (t : Tables) × HasTables (F.Seat.view seat.old) root.0 t }
     requires low { end ≤ 2 ^ 27 }
@@ -33,8 +33,7 @@ pub(crate) fn first_mapped<F: FrameAccess>(
     ensures same { store.new ≡ store.old }
     ensures keeps { Keeps F.rule store.old seat.old store.new seat.new }
 {
-    let (page, _) = next_leaf_before(store, seat, root, Vpn::new(first)?, end)?;
-    Some(page)
+    next_leaf_before(store, seat, root, Vpn::new(first)?, end)
 }
 
 /// Takes the leaf of a page away, and then the frame that it named: no leaf ever names a frame that was let go.
@@ -73,7 +72,7 @@ pub(crate) fn drop_run<F: FrameAccess>(
     ensures free { F.alone → F.free store.old ≤ F.free store.new }
 {
     let mut from = first.number();
-    'pages: while let Some(page) = first_mapped(store, seat, root, from, end) {
+    'pages: while let Some((page, _)) = first_mapped(store, seat, root, from, end) {
         drop_leaf(store, seat, root, page);
         from = page.number() + 1;
     }

@@ -1,15 +1,16 @@
 // The marks of pages: of those that go back to a file, and of those that a fork shares.
 
-ghost use Rattle.std.specs.Prelude.{◌≡◌, ℕ, Some};
+ghost use Rattle.std.specs.Prelude.{◌≡◌, ℕ};
 ghost use Rattle.address_space.specs.Agreement.{body_of};
+ghost use Rattle.address_space.specs.Settled.{IsSettledPage};
 ghost use Rattle.address_space.specs.Standing.{HasMarkedForked, IsStanding};
 ghost use Rattle.address_space.specs.Steps.{CanWrite, Marks};
 ghost use Rattle.frame_store.specs.Laws.{Fits, Keeps};
-ghost use Rattle.process_model.specs.PageMap.{get};
 ghost use Rattle.process_model.specs.Process.{Page, Process};
 ghost use Rattle.table_walk.specs.Tables.{Tables};
 
 use crate::pages::frame_of;
+use crate::settled::SettledPage;
 use crate::space::Space;
 use frame_store::{FrameAccess, FrameSeat};
 use sv39_entry::{Access, Vpn};
@@ -42,10 +43,11 @@ impl<S: FrameSeat> Space<S> {
 
     /// Puts the fork mark on a settled page whose region grants writing: its leaf may not be written any more, and names the
     /// frame that it named. A store has to make the page the process's own first (the xv6 book, "Page-fault exceptions").
-    pub fn mark_forked<F: FrameAccess<Seat = S>>(&mut self, store: &mut F, page: Vpn)
+    /// The page is given as it is settled, so its leaf is not read again.
+    pub fn mark_forked<F: FrameAccess<Seat = S>>(&mut self, store: &mut F, settled: &SettledPage)
         requires fits { Fits F.rule store.old self.old.seat }
-        requires ready { (t : Tables) × (p : Process) × (extra : ℕ → ℕ) × (s : Page) × IsStanding (body_of S.view self.old) t p extra × (get p.settled page ≡ Some s) }
-        ensures marked { HasMarkedForked (body_of S.view self.old) (body_of S.view self.new) page }
+        requires ready { (t : Tables) × (p : Process) × (extra : ℕ → ℕ) × IsStanding (body_of S.view self.old) t p extra × IsSettledPage t p settled.now }
+        ensures marked { HasMarkedForked (body_of S.view self.old) (body_of S.view self.new) settled.now }
         ensures root { self.new.root ≡ self.old.root }
         ensures trapframe { self.new.trapframe ≡ self.old.trapframe }
         ensures layout { self.new.layout ≡ self.old.layout }
@@ -53,16 +55,13 @@ impl<S: FrameSeat> Space<S> {
         ensures free { F.alone → F.free store.new ≡ F.free store.old }
         ensures counts { F.alone → (f : ℕ) → F.count store.new f ≡ F.count store.old f }
     {
-        let Some(region) = self.layout.region_at(page.number()) else {
+        let Some(region) = self.layout.region_at(settled.page.number()) else {
             unreachable!()
         };
         if region.lacks_right(Access::Store) {
             return;
         }
-        let Some((frame, dirty)) = frame_of(store, &mut self.seat, self.root, page) else {
-            unreachable!()
-        };
-        let leaf = region.leaf(frame, true, dirty);
-        protect(store, &mut self.seat, self.root, page, leaf);
+        let leaf = region.leaf(settled.frame, true, settled.dirty);
+        protect(store, &mut self.seat, self.root, settled.page, leaf);
     }
 }

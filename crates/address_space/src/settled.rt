@@ -1,18 +1,20 @@
 // Settled pages, one after another.
 
-ghost use Rattle.std.specs.Prelude.{◌≡◌, ◌<◌, ◌≤◌, ℕ};
+ghost use Rattle.std.specs.Prelude.{◌≡◌, ◌<◌, ◌≤◌, ℕ, IsSome, Some};
 ghost use Rattle.address_space.specs.Agreement.{body_of, nothing};
 ghost use Rattle.address_space.specs.Settled.{IsNextSettled, IsSettled};
 ghost use Rattle.address_space.specs.Standing.{IsStanding};
 ghost use Rattle.frame_store.specs.Laws.{Fits, Keeps};
 ghost use Rattle.process_model.specs.Process.{Process};
 ghost use Rattle.sv39_entry.specs.Address.{trapframe_page};
+ghost use Rattle.sv39_entry.specs.Frame.{frame_at};
+ghost use Rattle.sv39_entry.specs.Word as word;
 ghost use Rattle.table_walk.specs.Tables.{Tables};
 
 use crate::ending::first_mapped;
 use crate::space::Space;
 use frame_store::{FrameAccess, FrameSeat};
-use sv39_entry::{EntryFlags, FrameNo, Va, Vpn};
+use sv39_entry::{Entry, EntryFlags, FrameNo, Va, Vpn};
 use table_walk::leaf_of;
 
 /// A settled page, its frame, whether a fork shared it so that a store has to make it the process's own first, and whether its
@@ -60,15 +62,7 @@ impl<S: FrameSeat> Space<S> {
         ensures keeps { Keeps F.rule store.old self.old.seat store.new self.new.seat }
     {
         let leaf = leaf_of(store, &mut self.seat, self.root, page)?;
-        let Some(frame) = FrameNo::from_ppn(leaf.ppn()) else {
-            unreachable!()
-        };
-        Some(SettledPage {
-            page,
-            frame,
-            fork_mark: leaf.has(EntryFlags::COPY_ON_WRITE),
-            dirty: leaf.has(EntryFlags::DIRTY),
-        })
+        Some(settled_by(page, leaf))
     }
 
     /// The first settled page of those from one number up to, and without, a page. It is found by the leaves that are
@@ -91,7 +85,26 @@ impl<S: FrameSeat> Space<S> {
         ensures keeps { Keeps F.rule store.old self.old.seat store.new self.new.seat }
     {
         let end = end.number().min(self.layout.end());
-        let page = first_mapped(store, &mut self.seat, self.root, first, end)?;
-        self.settled_page(store, page)
+        let (page, leaf) = first_mapped(store, &mut self.seat, self.root, first, end)?;
+        Some(settled_by(page, leaf))
+    }
+}
+
+/// A settled page by its leaf.
+fn settled_by(page: Vpn, leaf: Entry) -> SettledPage
+    requires { IsSome (frame_at (word.ppn leaf)) }
+    ensures page { result.page ≡ page }
+    ensures frame { frame_at (word.ppn leaf) ≡ Some result.frame }
+    ensures fork_mark { result.fork_mark ≡ word.has_flag leaf 256 }
+    ensures dirty { result.dirty ≡ word.has_flag leaf 128 }
+{
+    let Some(frame) = FrameNo::from_ppn(leaf.ppn()) else {
+        unreachable!()
+    };
+    SettledPage {
+        page,
+        frame,
+        fork_mark: leaf.has(EntryFlags::COPY_ON_WRITE),
+        dirty: leaf.has(EntryFlags::DIRTY),
     }
 }

@@ -32,7 +32,7 @@ drop_leaf-requires-clause-ready g c =
     let r = c.requires.ready in
     let far = c.pages.invariant.dropped r.0 r.1 r.2 r.3 in
     let found = c.in-Some.ensures.page far.0 far.1.stands.tables in
-    (far.0, rw c.in-Some.ensures.view (next_may_drop _ c.args.root.0 r.0 r.1 r.2 _ c.args.first c.pages.from c.args.end far _ found c.requires.low))
+    (far.0, rw c.in-Some.ensures.view (next_may_drop _ c.args.root.0 r.0 r.1 r.2 _ c.args.first c.pages.from c.args.end far _ _ found c.requires.low))
 
 pub pages-smaller : goal.pages-smaller
 pages-smaller g c =
@@ -61,9 +61,9 @@ pages-preserved g c =
       dropped = λ trapframe t p s.
           let far = i.dropped trapframe t p s in
           let found = c.in-Some.ensures.page far.0 far.1.stands.tables in
-          let may = next_may_drop _ c.args.root.0 trapframe t p _ c.args.first c.pages.from c.args.end far _ found c.requires.low in
+          let may = next_may_drop _ c.args.root.0 trapframe t p _ c.args.first c.pages.from c.args.end far _ _ found c.requires.low in
           let gone = rw c.in-Some.ensures.view at c.drop_leaf.ensures.dropped far.0 may in
-          rw number (dropped_next _ c.args.root.0 trapframe t p _ c.args.first c.pages.from c.args.end far _ found c.requires.low i.after _ gone);
+          rw number (dropped_next _ c.args.root.0 trapframe t p _ c.args.first c.pages.from c.args.end far _ _ found c.requires.low i.after _ gone);
       keeps = λ others r. c.drop_leaf.ensures.keeps others (c.in-Some.ensures.keeps others (i.keeps others r));
       free = λ alone.
           let still = i.free alone in

@@ -1,4 +1,4 @@
-use Rattle.std.proofs.Common.{◌≡◌, ◌<◌, [], ap, map, sym, subst, ◌∙◌}
+use Rattle.std.proofs.Common.{◌≡◌, [], ap, map, sym, ◌∙◌}
 use Rattle.address_space.specs.Layouts.{Layout, region_of}
 use Rattle.process_model.specs.Bytes.{pages_for}
 use Rattle.process_model.specs.Released.{pages_for_is}

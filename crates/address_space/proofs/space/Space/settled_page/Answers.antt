@@ -1,22 +1,18 @@
-use Rattle.std.proofs.Common.{ap, refl, sym, ◌∙◌}
-use Rattle.sv39_entry.specs.Frame.{frame_at}
-use Rattle.address_space.proofs.SettledPages.{no_leaf, page_is, some_frame}
+use Rattle.std.proofs.Common.{sym}
+use Rattle.address_space.proofs.SettledPages.{names_frame, no_leaf, page_is}
 use Rattle.address_space.proofs.space.Space.settled_page.Goals as goal
 
 pub returns-in_err-leaf-clause-page : goal.returns-in_err-leaf-clause-page
 returns-in_err-leaf-clause-page g c t p space =
     rw c.from_residual.ensures (no_leaf _ _ _ _ t p space c.args.page (sym (c.in_err-leaf.ensures.leaf t space.stands.tables)))
 
-pub unreachable-requires : goal.unreachable-requires
-unreachable-requires g c =
+pub settled_by-requires : goal.settled_by-requires
+settled_by-requires g c =
     let r = c.requires.ready in
-    let leaf = sym (c.in_ok-leaf.ensures.leaf r.0 r.2.stands.tables) in
-    some_frame _ _ _ _ r.0 r.1 r.2 c.args.page c.in_ok-leaf.leaf c.requires.low leaf c.from_ppn.result (c.from_ppn.ensures ∙ ap frame_at c.ppn.ensures.value) c.in_default.is
+    names_frame _ _ _ _ r.0 r.1 r.2 c.args.page c.in_ok-leaf.leaf c.requires.low (sym (c.in_ok-leaf.ensures.leaf r.0 r.2.stands.tables))
 
 pub returns-clause-page : goal.returns-clause-page
 returns-clause-page g c t p space =
-    let leaf = sym (c.in_ok-leaf.ensures.leaf t space.stands.tables) in (
-      refl,
-      rw (c.has.ensures, c.has-2.ensures)
-          (page_is _ _ _ _ t p space c.args.page c.in_ok-leaf.leaf c.requires.low leaf c.from_ppn.result c.in-Some.frame (c.from_ppn.ensures ∙ ap frame_at c.ppn.ensures.value) c.in-Some.is),
-    )
+    let leaf = sym (c.in_ok-leaf.ensures.leaf t space.stands.tables) in
+    let x = c.settled_by.ensures in
+    (x.page, page_is _ _ _ _ t p space c.args.page c.in_ok-leaf.leaf c.requires.low leaf c.settled_by.result x.page x.frame x.fork_mark x.dirty)

@@ -1,4 +1,4 @@
-use Rattle.std.proofs.Common.{ap, sym, ◌∙◌}
+use Rattle.std.proofs.Common.{ap, ◌∙◌}
 use Rattle.frame_store.specs.Laws.{fits_after}
 use Rattle.address_space.specs.Steps.{at_page}
 use Rattle.address_space.proofs.Writing.{on_page, page_sole, page_written, words_sole, words_take}
