@@ -166,8 +166,26 @@ module _ (v w : View) (t u : Tables) (p : Process) (root own : ℕ) (tree : Copi
       ]
     ])
 
+    none_above : (n : ℕ) (o : Option ℕ) → trampoline_page < n → n < 2 ^ 27 → get u.leaves (leaf_node n) ≡ o → o ≡ None
+    none_above n None late before is = refl
+    none_above n (Some x) late before is = absurd (elim (tree.only (leaf_node n) x is) as (λ _. ⊥) [
+      | inl same ↦ let at = one_page n trampoline_page before (omega arith) same in omega (arith, at, late)
+      | inr rest ↦ elim rest as (λ _. ⊥) [
+        | inl same ↦ let at = one_page n trapframe_page before (omega arith) same in omega (arith, at, late)
+        | inr there ↦
+            let far = low there.0 there.1 there.3 in
+            let at = one_page n there.0 before (omega (arith, far)) there.2 in
+            omega (arith, at, far, late)
+      ]
+    ])
+
     pub tables_edged : IsEdged u end
-    tables_edged = record { low = up; bare = λ n late before. no_leaf n (get u.leaves (leaf_node n)) late before refl; there = (tree.on_trapframe.0, tree.on_trapframe.1) }
+    tables_edged = record {
+      low = up;
+      bare = λ n late before. no_leaf n (get u.leaves (leaf_node n)) late before refl;
+      there = (tree.on_trapframe.0, tree.on_trapframe.1);
+      above = λ n late before. none_above n (get u.leaves (leaf_node n)) late before refl;
+    }
 
 -- ---- all together
 

@@ -10,7 +10,7 @@ use Rattle.std.proofs.Math.Nat.{le-div_iff_mul-le}
 use Rattle.frame_store.specs.View.{IsHeld, View}
 use Rattle.process_model.specs.ValueSets.{div_up}
 use Rattle.sv39_entry.specs.declared.frame.FrameNo.{FrameNo}
-use Rattle.sv39_entry.specs.Address.{trapframe_page}
+use Rattle.sv39_entry.specs.Address.{trampoline_page, trapframe_page}
 use Rattle.table_walk.specs.Changed.{IsNextLeaf, IsNextLeafBefore, places}
 use Rattle.table_walk.specs.Nodes.{above, leaf_node_is, node_below, node_from, power_next, power_some, power_up}
 use Rattle.table_walk.specs.Tables.{HasTables, leaf_node, node, Tables}
@@ -24,8 +24,11 @@ use Rattle.cow_fork.proofs.Pigeons.{few}
 leaf_place : (n : ℕ) → n < 2 ^ 27 → leaf_node n ≡ 1 * 512 ^ suc top_level + n
 leaf_place n low = let is = leaf_node_is n in omega (arith, is, low)
 
-pub no_page : (t : Tables) (from : ℕ) → IsNextLeaf t from None → IsFirstPage t from None
-no_page t from bare n late low = ap (get t.leaves) (leaf_place n low) ∙ bare n late low
+pub no_page : (t : Tables) (from end : ℕ) → IsNextLeafBefore t from (trampoline_page + 1) None → IsEdged t end → IsFirstPage t from None
+no_page t from end bare edged n late low = elim (cases_lt trampoline_page n) [
+  | inl above ↦ edged.above n above low
+  | inr below ↦ ap (get t.leaves) (leaf_place n low) ∙ bare n late (omega (arith, below))
+]
 
 pub one_page : (t : Tables) (from page w : ℕ) → IsNextLeaf t from (Some (page, w)) → IsFirstPage t from (Some page)
 one_page t from page w next = (

@@ -4,6 +4,7 @@ use Rattle.std.specs.FinMap as finite
 use Rattle.std.specs.Prelude.{option_map}
 use Rattle.std.proofs.lemmas.Bool.{cases_eq, cases_lt}
 use Rattle.std.proofs.lemmas.List.{at_drop_all, at_drop_more}
+use Rattle.std.proofs.lemmas.Option.{same_Some}
 use Rattle.process_model.specs.EachValue.{each_answer}
 use Rattle.process_model.specs.Inserted.{inserted_here, inserted_other, same_finds}
 use Rattle.process_model.specs.OrderKept.{same_order}
@@ -12,10 +13,11 @@ use Rattle.process_model.specs.Process as of_model
 use Rattle.process_model.specs.Process.{grants_write, Page, Process}
 use Rattle.process_model.specs.Residence.{marked, marked_page}
 use Rattle.sv39_entry.specs.Address.{trapframe_page}
+use Rattle.sv39_entry.specs.Word.{ppn}
 use Rattle.table_walk.specs.Tables.{Tables}
-use Rattle.address_space.specs.Agreement.{Body}
+use Rattle.address_space.specs.Agreement.{Body, IsOn}
 use Rattle.address_space.specs.Standing.{HasMarkedForked, IsStanding, TurnsLeaves}
-use Rattle.address_space.specs.Settled.{AreSettled, AreUnsettled}
+use Rattle.address_space.specs.Settled.{AreSettled, AreUnsettled, IsSettledPage}
 use Rattle.address_space.specs.declared.settled.SettledPage.{SettledPage}
 
 -- a process that stands while a fork is under way does so whatever it has pending
@@ -69,14 +71,14 @@ pub record AreMarkedBelow (p : Process) (bound : ℕ) (done : PageMap Page) : Ty
   pub above : (n : ℕ) → bound ≤ n → get done n ≡ get p.settled n
 
 -- and so it stands in memory, where these pages are left
-pub record IsMarking (x y : Body) (t u : Tables) (p : Process) (extra : ℕ → ℕ) (rest : List SettledPage) : Type 0 where
+pub record IsMarking (x y : Body) (t : Tables) (p : Process) (extra : ℕ → ℕ) (rest : List SettledPage) : Type 0 where
   pub tables : Tables
   pub bound : ℕ
   pub done : PageMap Page
   pub forking : IsStanding y tables (record p { settled = done }) extra
   pub turns : TurnsLeaves x y t tables
   pub marks : AreMarkedBelow p bound done
-  pub left : AreSettled u p bound trapframe_page rest
+  pub left : AreSettled t p bound trapframe_page rest
 
 module _ (p : Process) (bound : ℕ) (done : PageMap Page) (marks : AreMarkedBelow p bound done) where
   -- the next settled page is marked
@@ -134,8 +136,8 @@ module _ (p : Process) (bound : ℕ) (done : PageMap Page) (marks : AreMarkedBel
           marks.above n (omega (arith, after)) ∙ empty ∙ sym (ap (option_map (marked_page p n)) empty))
     ]
 
-module _ (x : Body) (t u : Tables) (p : Process) (extra : ℕ → ℕ) (settled : List SettledPage) where
-  pub marking_none : IsStanding x t p extra → AreSettled u p 0 trapframe_page settled → IsMarking x x t u p extra settled
+module _ (x : Body) (t : Tables) (p : Process) (extra : ℕ → ℕ) (settled : List SettledPage) where
+  pub marking_none : IsStanding x t p extra → AreSettled t p 0 trapframe_page settled → IsMarking x x t p extra settled
   marking_none can are = record {
     tables = t;
     bound = 0;
@@ -146,23 +148,43 @@ module _ (x : Body) (t u : Tables) (p : Process) (extra : ℕ → ℕ) (settled 
     left = are;
   }
 
-  module _ (y : Body) (i : ℕ) (m : IsMarking x y t u p extra (drop i settled)) where
+  module _ (y : Body) (i : ℕ) (m : IsMarking x y t p extra (drop i settled)) where
     module _ (a : SettledPage) (lt : i < length settled) (is : a ≡ slice_index_or settled i a) where
       here : drop i settled ≡ a ∷ drop (i + 1) settled
       here = at_drop_more (λ l. l) settled i a lt ∙ ap (λ (b : SettledPage). b ∷ drop (i + 1) settled) (sym is)
 
-      left : AreSettled u p m.bound trapframe_page (a ∷ drop (i + 1) settled)
-      left = subst (AreSettled u p m.bound trapframe_page) here m.left
+      left : AreSettled t p m.bound trapframe_page (a ∷ drop (i + 1) settled)
+      left = subst (AreSettled t p m.bound trapframe_page) here m.left
 
       page_there : get m.done a.page ≡ Some left.0.3.page
       page_there = m.marks.above a.page left.0.0 ∙ left.0.3.settled
 
-      pub marking_ready : (t : Tables) × (p : Process) × (extra : ℕ → ℕ) × (s : Page) × IsStanding y t p extra × (get p.settled a.page ≡ Some s)
-      marking_ready = (m.tables, record p { settled = m.done }, extra, left.0.3.page, m.forking, page_there)
+      -- it is on the frame that it was on, since no turned leaf names another
+      on_yet : IsOn m.tables a.page (a.frame).0
+      on_yet =
+          let shown = m.forking.stands.shows.settled a.page left.0.3.page page_there in
+          let was = m.turns.on a.page shown.frame (shown.leaf, shown.mapped, shown.made.names) in
+          let on = left.0.3.on in
+          (shown.leaf, shown.mapped, shown.made.names ∙ sym was.2 ∙ ap ppn (same_Some was.0 on.0 (sym was.1 ∙ on.1)) ∙ on.2)
 
-      pub marking_next : (z : Body) → HasMarkedForked y z a.page → IsMarking x z t u p extra (drop (i + 1) settled)
+      settled_yet : IsSettledPage m.tables (record p { settled = m.done }) a
+      settled_yet = record {
+        page = left.0.3.page;
+        region = left.0.3.region;
+        settled = page_there;
+        in_region = left.0.3.in_region;
+        on = on_yet;
+        fork_mark = left.0.3.fork_mark;
+        dirty = left.0.3.dirty;
+      }
+
+      pub marking_ready : (t : Tables) × (p : Process) × (extra : ℕ → ℕ) × IsStanding y t p extra × IsSettledPage t p a
+      marking_ready = (m.tables, record p { settled = m.done }, extra, m.forking, settled_yet)
+
+      pub marking_next : (z : Body) → HasMarkedForked y z a → IsMarking x z t p extra (drop (i + 1) settled)
+      unfolding settled_yet
       marking_next z has =
-          let after = has m.tables (record p { settled = m.done }) extra left.0.3.page m.forking page_there in
+          let after = has m.tables (record p { settled = m.done }) extra m.forking settled_yet in
           record {
             tables = after.0;
             bound = a.page + 1;
@@ -174,7 +196,7 @@ module _ (x : Body) (t u : Tables) (p : Process) (extra : ℕ → ℕ) (settled 
           }
 
       -- a page that has the mark is passed over
-      pub marking_passed : a.fork_mark ≡ true → IsMarking x y t u p extra (drop (i + 1) settled)
+      pub marking_passed : a.fork_mark ≡ true → IsMarking x y t p extra (drop (i + 1) settled)
       marking_passed has = record {
         tables = m.tables;
         bound = a.page + 1;
@@ -187,7 +209,7 @@ module _ (x : Body) (t u : Tables) (p : Process) (extra : ℕ → ℕ) (settled 
 
     pub marking_all : IsStanding x t p extra → length settled ≤ i → (w : Tables) × IsStanding y w (marked p) extra × TurnsLeaves x y t w
     marking_all can past =
-        let none : AreUnsettled p m.bound trapframe_page = subst (AreSettled u p m.bound trapframe_page) (at_drop_all (λ l. l) settled i past) m.left in
+        let none : AreUnsettled p m.bound trapframe_page = subst (AreSettled t p m.bound trapframe_page) (at_drop_all (λ l. l) settled i past) m.left in
         let same = marks_all p m.bound m.done m.marks none can.stands.shows.low in (
           m.tables,
           forking_pending y m.tables (record p { settled = with_values (marked_page p) p.settled }) extra None

@@ -2,7 +2,7 @@
 use Rattle.std.specs.Prelude.{◌≡◌, ◌⊎◌, ℕ, ◌^◌, ◌<◌, ◌≤◌, List, Option, None, Some}
 use Rattle.std.specs.FinMap.{get}
 use Rattle.frame_store.specs.View.{View}
-use Rattle.sv39_entry.specs.Address.{trapframe_page}
+use Rattle.sv39_entry.specs.Address.{trampoline_page, trapframe_page}
 use Rattle.table_walk.specs.Tables.{HasTables, leaf_node, node, Tables}
 use Rattle.table_walk.specs.Walk.{top_level}
 use Rattle.cow_fork.specs.Lists.{times}
@@ -11,11 +11,12 @@ use Rattle.cow_fork.specs.Lists.{times}
 abbrev pub IsLed : Tables → Type 0
 IsLed t = (k f : ℕ) → get t.tables k ≡ Some f → (n d w : ℕ) × (d ≤ top_level) × (n < 2 ^ 27) × (k ≡ node n d) × (get t.leaves (leaf_node n) ≡ Some w)
 
--- no page from one on and before TRAPFRAME has a leaf, and TRAPFRAME has one
+-- no page from one on and before TRAPFRAME has a leaf, nor one behind TRAMPOLINE, and TRAPFRAME has one
 pub record IsEdged (t : Tables) (end : ℕ) : Type 0 where
   pub low : end ≤ trapframe_page
   pub bare : (n : ℕ) → end ≤ n → n < trapframe_page → get t.leaves (leaf_node n) ≡ None
   pub there : (w : ℕ) × (get t.leaves (leaf_node trapframe_page) ≡ Some w)
+  pub above : (n : ℕ) → trampoline_page < n → n < 2 ^ 27 → get t.leaves (leaf_node n) ≡ None
 
 -- the list has numbers of frames, each once, and no table's
 pub record CanList (t : Tables) (L : List ℕ) : Type 0 where

@@ -92,7 +92,8 @@ pub fn fork<S: FrameSeat, F: FrameSupply<Seat = S>>(
     ensures keeps { IfOk result (λ child. (others : List S) → F.rule store.old (space.old.seat ∷ others) → F.rule store.new (space.new.seat ∷ child.seat ∷ others)) }
     ensures keeps_refused { IfErr result (λ _. Keeps F.rule store.old space.old.seat store.new space.new.seat) }
 {
-    let settled = settled_pages(space, store);
+    let mut settled = ArrayVec::new();
+    settled_pages(space, store, &mut settled);
     let need = fork_need(space, store);
     let mut frames = ArrayVec::new();
     if let Err(refusal) = prepare(space, store, settled.as_slice(), need, &mut frames) {

@@ -1,6 +1,6 @@
 // The settled pages of a process.
 
-ghost use Rattle.std.specs.Prelude.{◌≡◌, ◌∷◌, map};
+ghost use Rattle.std.specs.Prelude.{[], ◌≡◌, ◌∷◌, map};
 ghost use Rattle.address_space.specs.Agreement.{body_of, IsSpace};
 ghost use Rattle.address_space.specs.Settled.{AreSettled};
 ghost use Rattle.cow_fork.specs.Sharing.{AreGoing, frames_of};
@@ -14,16 +14,18 @@ use arrayvec::ArrayVec;
 use frame_store::{FrameAccess, FrameSeat};
 use sv39_entry::TRAPFRAME;
 
-/// The settled pages in ascending order. They are found by the leaves that are there; a store has at most 1,024 frames, of
-/// which one is the trampoline's.
+/// Lists the settled pages in ascending order. They are found by the leaves that are there; a store has at most 1,024 frames,
+/// of which one is the trampoline's. The list is the caller's, so it is not moved.
 pub(crate) fn settled_pages<S: FrameSeat, F: FrameAccess<Seat = S>>(
     space: &mut Space<S>,
     store: &mut F,
-) -> ArrayVec<SettledPage, 1024>
+    pages: &mut ArrayVec<SettledPage, 1024>,
+)
     requires fits { Fits F.rule store.old space.old.seat }
     requires ready { (t : Tables) × (p : Process) × IsSpace (body_of S.view space.old) t p }
-    ensures settled { (t : Tables) (p : Process) → IsSpace (body_of S.view space.old) t p → AreSettled t p 0 trapframe_page result.items }
-    ensures going { (t : Tables) (p : Process) → IsSpace (body_of S.view space.old) t p → AreGoing t p trapframe_page (0 ∷ frames_of result.items) }
+    requires empty { pages.old.items ≡ [] }
+    ensures settled { (t : Tables) (p : Process) → IsSpace (body_of S.view space.old) t p → AreSettled t p 0 trapframe_page pages.new.items }
+    ensures going { (t : Tables) (p : Process) → IsSpace (body_of S.view space.old) t p → AreGoing t p trapframe_page (0 ∷ frames_of pages.new.items) }
     ensures root { space.new.root ≡ space.old.root }
     ensures trapframe { space.new.trapframe ≡ space.old.trapframe }
     ensures layout { space.new.layout ≡ space.old.layout }
@@ -31,11 +33,9 @@ pub(crate) fn settled_pages<S: FrameSeat, F: FrameAccess<Seat = S>>(
     ensures same { store.new ≡ store.old }
     ensures keeps { Keeps F.rule store.old space.old.seat store.new space.new.seat }
 {
-    let mut pages = ArrayVec::new();
     let mut from = 0;
     'pages: while let Some(found) = space.next_settled(store, from, TRAPFRAME.page()) {
         from = found.page.number() + 1;
         pages.push(found);
     }
-    pages
 }

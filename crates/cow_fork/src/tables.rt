@@ -10,8 +10,8 @@ ghost use Rattle.table_walk.specs.Walk.{top_level};
 
 use arrayvec::ArrayVec;
 use frame_store::{FrameAccess, FrameSeat};
-use sv39_entry::{FrameNo, TRAPFRAME, Vpn};
-use table_walk::{next_leaf, next_leaf_before, table_at};
+use sv39_entry::{FrameNo, TRAMPOLINE, TRAPFRAME, Vpn};
+use table_walk::{next_leaf_before, table_at};
 
 /// Lists the tables below a root, each of which is on the way to a leaf: level by level, and in each level by the leaves.
 /// Those before TRAPFRAME's stand before an end, which is given by the number of a page.
@@ -68,8 +68,8 @@ fn list_level<S: FrameSeat, F: FrameAccess<Seat = S>>(
     }
 }
 
-/// The first page from one number on that has a leaf. Between an end and TRAPFRAME's page there is none, so nothing is
-/// looked for.
+/// The first page from one number on that has a leaf. Between an end and TRAPFRAME's page there is none, nor behind
+/// TRAMPOLINE's, so nothing is looked for.
 fn first_page<S: FrameSeat, F: FrameAccess<Seat = S>>(
     store: &mut F,
     seat: &mut S,
@@ -94,6 +94,6 @@ fn first_page<S: FrameSeat, F: FrameAccess<Seat = S>>(
     if from <= trapframe.number() {
         return Some(trapframe);
     }
-    let (page, _) = next_leaf(store, seat, root, first)?;
+    let (page, _) = next_leaf_before(store, seat, root, first, TRAMPOLINE.page().number() + 1)?;
     Some(page)
 }

@@ -77,8 +77,8 @@ pub(crate) fn mark_pages<S: FrameSeat, F: FrameAccess<Seat = S>>(
     settled: &[SettledPage],
 )
     requires fits { Fits F.rule store.old space.old.seat }
-    requires ready { (t u : Tables) × (p : Process) × (extra : ℕ → ℕ) × IsStanding (body_of S.view space.old) t p extra × AreSettled u p 0 trapframe_page settled.now }
-    ensures marked { (t u : Tables) (p : Process) (extra : ℕ → ℕ) → IsStanding (body_of S.view space.old) t p extra → AreSettled u p 0 trapframe_page settled.now →
+    requires ready { (t : Tables) × (p : Process) × (extra : ℕ → ℕ) × IsStanding (body_of S.view space.old) t p extra × AreSettled t p 0 trapframe_page settled.now }
+    ensures marked { (t : Tables) (p : Process) (extra : ℕ → ℕ) → IsStanding (body_of S.view space.old) t p extra → AreSettled t p 0 trapframe_page settled.now →
         (w : Tables) × IsStanding (body_of S.view space.new) w (marked p) extra × TurnsLeaves (body_of S.view space.old) (body_of S.view space.new) t w }
     ensures root { space.new.root ≡ space.old.root }
     ensures trapframe { space.new.trapframe ≡ space.old.trapframe }
@@ -88,7 +88,7 @@ pub(crate) fn mark_pages<S: FrameSeat, F: FrameAccess<Seat = S>>(
 {
     'pages: for page in settled {
         if !page.fork_mark {
-            space.mark_forked(store, page.page);
+            space.mark_forked(store, page);
         }
     }
 }

@@ -67,7 +67,7 @@ pub mark_pages-requires-clause-ready : goal.mark_pages-requires-clause-ready
 mark_pages-requires-clause-ready g c =
     let r = c.requires.ready in
     let at = (goal.at.mark_pages-requires-clause-ready g c).After-build_child in
-    (r.1, r.1, r.2, _, forking_now g at r.0 r.1 r.2 r.3, r.3.settled)
+    (r.1, r.2, _, forking_now g at r.0 r.1 r.2 r.3, r.3.settled)
 
 pub split-seat-requires-clause-fits : goal.split-seat-requires-clause-fits
 split-seat-requires-clause-fits g c = fits_after g.F.FrameAccess.rule c.mark_pages.ensures.keeps (fits_after g.F.FrameAccess.rule c.build_child.ensures.keeps c.requires.fits)
@@ -78,7 +78,7 @@ split-seat-requires-clause-held g c =
     let at = (goal.at.split-seat-requires-clause-held g c).After-build_child in
     let now = (goal.at.split-seat-requires-clause-held g c).After-mark_pages in
     let k = child g at r.0 r.1 r.2 r.3 in
-    let m = c.mark_pages.ensures.marked r.1 r.1 r.2 _ (forking_now g at r.0 r.1 r.2 r.3) r.3.settled in
+    let m = c.mark_pages.ensures.marked r.1 r.2 _ (forking_now g at r.0 r.1 r.2 r.3) r.3.settled in
     rw c.as_slice.ensures.value (divide_may r.0 _ _ _ _ _ r.1 m.0 k.0 r.2 _ _ _ r.3.space k.1 (forking_marked g now r.1 m.0 r.2 (λ f. times f (map (λ (x : FrameNo). x.0) c.build_child.new.frames.items)) m.1) (turned_marked g now r.1 m.0 r.2 (λ f. times f (map (λ (x : FrameNo). x.0) c.build_child.new.frames.items)) m.2))
 
 pub split-seat-requires-clause-left_anchored : goal.split-seat-requires-clause-left_anchored
@@ -87,7 +87,7 @@ split-seat-requires-clause-left_anchored g c =
     let at = (goal.at.split-seat-requires-clause-left_anchored g c).After-build_child in
     let now = (goal.at.split-seat-requires-clause-left_anchored g c).After-mark_pages in
     let k = child g at r.0 r.1 r.2 r.3 in
-    let m = c.mark_pages.ensures.marked r.1 r.1 r.2 _ (forking_now g at r.0 r.1 r.2 r.3) r.3.settled in
+    let m = c.mark_pages.ensures.marked r.1 r.2 _ (forking_now g at r.0 r.1 r.2 r.3) r.3.settled in
     rw c.as_slice.ensures.value (divide_left r.0 _ _ _ _ _ r.1 m.0 k.0 r.2 _ _ _ r.3.space k.1 (forking_marked g now r.1 m.0 r.2 (λ f. times f (map (λ (x : FrameNo). x.0) c.build_child.new.frames.items)) m.1) (turned_marked g now r.1 m.0 r.2 (λ f. times f (map (λ (x : FrameNo). x.0) c.build_child.new.frames.items)) m.2))
 
 pub split-seat-requires-clause-right_anchored : goal.split-seat-requires-clause-right_anchored
@@ -96,7 +96,7 @@ split-seat-requires-clause-right_anchored g c =
     let at = (goal.at.split-seat-requires-clause-right_anchored g c).After-build_child in
     let now = (goal.at.split-seat-requires-clause-right_anchored g c).After-mark_pages in
     let k = child g at r.0 r.1 r.2 r.3 in
-    let m = c.mark_pages.ensures.marked r.1 r.1 r.2 _ (forking_now g at r.0 r.1 r.2 r.3) r.3.settled in
+    let m = c.mark_pages.ensures.marked r.1 r.2 _ (forking_now g at r.0 r.1 r.2 r.3) r.3.settled in
     rw c.as_slice.ensures.value (divide_right r.0 _ _ _ _ _ r.1 m.0 k.0 r.2 _ _ _ r.3.space k.1 (forking_marked g now r.1 m.0 r.2 (λ f. times f (map (λ (x : FrameNo). x.0) c.build_child.new.frames.items)) m.1) (turned_marked g now r.1 m.0 r.2 (λ f. times f (map (λ (x : FrameNo). x.0) c.build_child.new.frames.items)) m.2))
 
 pub returns-clause-divided : goal.returns-clause-divided
@@ -104,7 +104,7 @@ returns-clause-divided g c v t p can =
     let at = (goal.at.returns-clause-divided g c).After-build_child in
     let now = (goal.at.returns-clause-divided g c).After-mark_pages in
     let k = child g at v t p can in
-    let m = c.mark_pages.ensures.marked t t p _ (forking_now g at v t p can) can.settled in
+    let m = c.mark_pages.ensures.marked t p _ (forking_now g at v t p can) can.settled in
     let all = divides v _ _ _ _ _ t m.0 k.0 p _ _ _ can.space k.1 (forking_marked g now t m.0 p (λ f. times f (map (λ (x : FrameNo). x.0) c.build_child.new.frames.items)) m.1) (turned_marked g now t m.0 p (λ f. times f (map (λ (x : FrameNo). x.0) c.build_child.new.frames.items)) m.2) _ _
     (rw c.as_slice.ensures.value at c.split-seat.ensures.left) (rw c.as_slice.ensures.value at c.split-seat.ensures.right) in
     (m.0, k.0, rw (c.copied.ensures, marked_root g now, marked_trapframe g now, marked_layout g now) all)

@@ -15,62 +15,62 @@ use Rattle.cow_fork.proofs.forking.fork.Goals.{After-fork_need-need}
 -- ---- what was read
 
 module _ (g : given.Over) (c : After-fork_need-need g) where
-  first : body_of g.S.FrameSeat.view c.settled_pages-settled.new.space ≡ body_of g.S.FrameSeat.view c.args.space.now
-  first = let s = c.settled_pages-settled.ensures in same_body g.S.FrameSeat.view c.settled_pages-settled.new.space c.args.space.now s.view s.root s.trapframe s.layout
+  first : body_of g.S.FrameSeat.view c.settled_pages.new.space ≡ body_of g.S.FrameSeat.view c.args.space.now
+  first = let s = c.settled_pages.ensures in same_body g.S.FrameSeat.view c.settled_pages.new.space c.args.space.now s.view s.root s.trapframe s.layout
 
   viewed : g.S.FrameSeat.view c.fork_need-need.new.space.seat ≡ g.S.FrameSeat.view c.args.space.now.seat
-  viewed = c.fork_need-need.ensures.view ∙ c.settled_pages-settled.ensures.view
+  viewed = c.fork_need-need.ensures.view ∙ c.settled_pages.ensures.view
 
   rooted : c.fork_need-need.new.space.root ≡ c.args.space.now.root
-  rooted = c.fork_need-need.ensures.root ∙ c.settled_pages-settled.ensures.root
+  rooted = c.fork_need-need.ensures.root ∙ c.settled_pages.ensures.root
 
   framed : c.fork_need-need.new.space.trapframe ≡ c.args.space.now.trapframe
-  framed = c.fork_need-need.ensures.trapframe ∙ c.settled_pages-settled.ensures.trapframe
+  framed = c.fork_need-need.ensures.trapframe ∙ c.settled_pages.ensures.trapframe
 
   laid : c.fork_need-need.new.space.layout ≡ c.args.space.now.layout
-  laid = c.fork_need-need.ensures.layout ∙ c.settled_pages-settled.ensures.layout
+  laid = c.fork_need-need.ensures.layout ∙ c.settled_pages.ensures.layout
 
   stored : c.fork_need-need.new.store ≡ c.args.store.now
-  stored = c.fork_need-need.ensures.same ∙ c.settled_pages-settled.ensures.same
+  stored = c.fork_need-need.ensures.same ∙ c.settled_pages.ensures.same
 
   kept : Keeps g.F.FrameAccess.rule c.args.store.now c.args.space.now.seat c.fork_need-need.new.store c.fork_need-need.new.space.seat
-  kept others r = c.fork_need-need.ensures.keeps others (c.settled_pages-settled.ensures.keeps others r)
+  kept others r = c.fork_need-need.ensures.keeps others (c.settled_pages.ensures.keeps others r)
 
   needed : (t : Tables) (p : Process) → IsSpace (body_of g.S.FrameSeat.view c.args.space.now) t p → c.fork_need-need.result ≡ model.fork_need p
   needed t p space = c.fork_need-need.ensures.need t p (rw first space)
 
 pub fork_need-need-requires-clause-fits : goal.fork_need-need-requires-clause-fits
-fork_need-need-requires-clause-fits g c = fits_after g.F.FrameAccess.rule c.settled_pages-settled.ensures.keeps c.requires.fits
+fork_need-need-requires-clause-fits g c = fits_after g.F.FrameAccess.rule c.settled_pages.ensures.keeps c.requires.fits
 
 pub fork_need-need-requires-clause-ready : goal.fork_need-need-requires-clause-ready
 fork_need-need-requires-clause-ready g c =
     let r = c.requires.ready in
-    let s = c.settled_pages-settled.ensures in
-    (r.0, r.1, rw (same_body g.S.FrameSeat.view c.settled_pages-settled.new.space c.args.space.now s.view s.root s.trapframe s.layout) r.2)
+    let s = c.settled_pages.ensures in
+    (r.0, r.1, rw (same_body g.S.FrameSeat.view c.settled_pages.new.space c.args.space.now s.view s.root s.trapframe s.layout) r.2)
 
 pub prepare-requires-clause-fits : goal.prepare-requires-clause-fits
-prepare-requires-clause-fits g c = fits_after g.F.FrameAccess.rule c.fork_need-need.ensures.keeps (fits_after g.F.FrameAccess.rule c.settled_pages-settled.ensures.keeps c.requires.fits)
+prepare-requires-clause-fits g c = fits_after g.F.FrameAccess.rule c.fork_need-need.ensures.keeps (fits_after g.F.FrameAccess.rule c.settled_pages.ensures.keeps c.requires.fits)
 
 pub prepare-requires-clause-anchored : goal.prepare-requires-clause-anchored
 prepare-requires-clause-anchored g c =
     let r = c.requires.ready in
-    rw (c.fork_need-need.ensures.view ∙ c.settled_pages-settled.ensures.view) (space_anchored _ r.0 r.1 r.2)
+    rw (c.fork_need-need.ensures.view ∙ c.settled_pages.ensures.view) (space_anchored _ r.0 r.1 r.2)
 
 pub prepare-requires-clause-once : goal.prepare-requires-clause-once
 prepare-requires-clause-once g c =
     let r = c.requires.ready in
-    rw c.as_slice.ensures.value (going_once _ r.0 r.1 r.2 _ (c.settled_pages-settled.ensures.going r.0 r.1 r.2))
+    rw c.as_slice.ensures.value (going_once _ r.0 r.1 r.2 _ (c.settled_pages.ensures.going r.0 r.1 r.2))
 
 pub prepare-requires-clause-held : goal.prepare-requires-clause-held
 prepare-requires-clause-held g c =
     let r = c.requires.ready in
-    rw (c.as_slice.ensures.value, c.fork_need-need.ensures.view ∙ c.settled_pages-settled.ensures.view) (all_held _ r.0 r.1 r.2 _ (c.settled_pages-settled.ensures.going r.0 r.1 r.2))
+    rw (c.as_slice.ensures.value, c.fork_need-need.ensures.view ∙ c.settled_pages.ensures.view) (all_held _ r.0 r.1 r.2 _ (c.settled_pages.ensures.going r.0 r.1 r.2))
 
 pub prepare-requires-clause-few : goal.prepare-requires-clause-few
 prepare-requires-clause-few g c =
     let r = c.requires.ready in
     let law = g.met.F.FrameAccess.within _ _ c.requires.fits.0 c.requires.fits.1 in
-    rw c.as_slice.ensures.value (few_pages _ r.0 r.1 r.2 _ (c.settled_pages-settled.ensures.going r.0 r.1 r.2) (λ f held. let low = law.1 f held in omega (arith, low, law.0)))
+    rw c.as_slice.ensures.value (few_pages _ r.0 r.1 r.2 _ (c.settled_pages.ensures.going r.0 r.1 r.2) (λ f held. let low = law.1 f held in omega (arith, low, law.0)))
 
 -- ---- a refusal
 
@@ -104,7 +104,7 @@ returns-in-Err-clause-sharers g c alone is =
     let r = c.requires.ready in
     let s = c.in-Err.ensures.sharers alone (same_error _ _ is) in
     let count = ap (λ x. g.F.FrameAccess.count x s.0) (stored g at) in
-    (s.0, all_held _ r.0 r.1 r.2 _ (c.settled_pages-settled.ensures.going r.0 r.1 r.2) s.0 (rw c.as_slice.ensures.value at s.1), λ less. s.2 (omega (arith, less, count)))
+    (s.0, all_held _ r.0 r.1 r.2 _ (c.settled_pages.ensures.going r.0 r.1 r.2) s.0 (rw c.as_slice.ensures.value at s.1), λ less. s.2 (omega (arith, less, count)))
 
 pub returns-in-Err-clause-free : goal.returns-in-Err-clause-free
 returns-in-Err-clause-free g c alone t p space other =
@@ -112,12 +112,12 @@ returns-in-Err-clause-free g c alone t p space other =
     c.in-Err.ensures.free alone (λ is. other (same_error _ _ is)) ∙ ap (λ x. g.F.FrameAccess.free x - 0) (stored g at)
 
 pub returns-in-Err-clause-keeps_refused : goal.returns-in-Err-clause-keeps_refused
-returns-in-Err-clause-keeps_refused g c others r = c.prepare.ensures.keeps others (c.fork_need-need.ensures.keeps others (c.settled_pages-settled.ensures.keeps others r))
+returns-in-Err-clause-keeps_refused g c others r = c.prepare.ensures.keeps others (c.fork_need-need.ensures.keeps others (c.settled_pages.ensures.keeps others r))
 
 pub divide-requires-clause-fits : goal.divide-requires-clause-fits
 divide-requires-clause-fits g c =
     fits_after g.F.FrameAccess.rule c.prepare.ensures.keeps
-    (fits_after g.F.FrameAccess.rule c.fork_need-need.ensures.keeps (fits_after g.F.FrameAccess.rule c.settled_pages-settled.ensures.keeps c.requires.fits))
+    (fits_after g.F.FrameAccess.rule c.fork_need-need.ensures.keeps (fits_after g.F.FrameAccess.rule c.settled_pages.ensures.keeps c.requires.fits))
 
 pub divide-requires-clause-ready : goal.divide-requires-clause-ready
 divide-requires-clause-ready g c =
@@ -127,7 +127,7 @@ divide-requires-clause-ready g c =
       _,
       r.0,
       r.1,
-      can_divide g.S.FrameSeat.view c.prepare.new.space c.args.space.now _ r.0 r.1 _ _ _ _ _ r.2 (c.settled_pages-settled.ensures.going r.0 r.1 r.2) (c.settled_pages-settled.ensures.settled r.0 r.1 r.2)
+      can_divide g.S.FrameSeat.view c.prepare.new.space c.args.space.now _ r.0 r.1 _ _ _ _ _ r.2 (c.settled_pages.ensures.going r.0 r.1 r.2) (c.settled_pages.ensures.settled r.0 r.1 r.2)
           (viewed g at) (p.root ∙ rooted g at) (p.trapframe ∙ framed g at) (p.layout ∙ laid g at) (needed g at r.0 r.1 r.2) c.as_slice.ensures.value c.as_slice-2.ensures.value c.in_default.ensures.prepared,
     )
 
@@ -135,7 +135,7 @@ pub returns-clause-forked : goal.returns-clause-forked
 returns-clause-forked g c t p space =
     let at = (goal.at.returns-clause-forked g c).After-fork_need-need in
     let e = c.prepare.ensures in
-    let can = can_divide g.S.FrameSeat.view c.prepare.new.space c.args.space.now _ t p _ _ _ _ _ space (c.settled_pages-settled.ensures.going t p space) (c.settled_pages-settled.ensures.settled t p space)
+    let can = can_divide g.S.FrameSeat.view c.prepare.new.space c.args.space.now _ t p _ _ _ _ _ space (c.settled_pages.ensures.going t p space) (c.settled_pages.ensures.settled t p space)
     (viewed g at) (e.root ∙ rooted g at) (e.trapframe ∙ framed g at) (e.layout ∙ laid g at) (needed g at t p space) c.as_slice.ensures.value c.as_slice-2.ensures.value c.in_default.ensures.prepared in
     let all = c.divide.ensures.divided _ t p can in
     let before = body_between _ _ c.prepare.new.space c.args.space.now (viewed g at) (e.root ∙ rooted g at) (e.trapframe ∙ framed g at) (e.layout ∙ laid g at) in
@@ -160,4 +160,4 @@ returns-clause-free g c alone t p space other =
 
 pub returns-clause-keeps : goal.returns-clause-keeps
 returns-clause-keeps g c others r =
-    c.divide.ensures.keeps others (c.prepare.ensures.keeps others (c.fork_need-need.ensures.keeps others (c.settled_pages-settled.ensures.keeps others r)))
+    c.divide.ensures.keeps others (c.prepare.ensures.keeps others (c.fork_need-need.ensures.keeps others (c.settled_pages.ensures.keeps others r)))

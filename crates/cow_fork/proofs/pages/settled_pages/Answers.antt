@@ -19,8 +19,8 @@ pages-init g c = record {
   view = refl;
   same = refl;
   keeps = λ others r. r;
-  going = λ t p space. rw c.new-pages.ensures (going_none _ t p space);
-  settled = λ t p space more rest. rw c.new-pages.ensures rest;
+  going = λ t p space. rw c.requires.empty (going_none _ t p space);
+  settled = λ t p space more rest. rw c.requires.empty rest;
 }
 
 pub next_settled-requires-clause-fits : goal.next_settled-requires-clause-fits

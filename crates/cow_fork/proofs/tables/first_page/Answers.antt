@@ -1,6 +1,6 @@
 use Rattle.std.proofs.Common.{◌≡◌, ◌≤◌, rules}
 use Rattle.sv39_entry.specs.Address.{trapframe_page}
-use Rattle.cow_fork.proofs.Listing.{no_page, one_page, page_at_edge, page_before}
+use Rattle.cow_fork.proofs.Listing.{no_page, page_at_edge, page_before}
 use Rattle.cow_fork.proofs.tables.first_page.Goals as goal
 
 pub returns-in-Some-clause-page : goal.returns-in-Some-clause-page
@@ -16,17 +16,17 @@ returns-then-from-number-clause-page g c t h edged =
     let late : c.args.from ≤ trapframe_page = rw (c.number.ensures.value, c.page-trapframe.ensures.number) at c.if-from-number.true in
     rw c.page-trapframe.ensures.number (page_at_edge t c.args.from c.args.end none edged late)
 
-pub next_leaf-requires-clause-held : goal.next_leaf-requires-clause-held
-next_leaf-requires-clause-held g c = let r = c.requires.held in (r.0, rw c.next_leaf_before.ensures.view r.1)
+pub next_leaf_before-requires-2-clause-held : goal.next_leaf_before-requires-2-clause-held
+next_leaf_before-requires-2-clause-held g c = let r = c.requires.held in (r.0, rw c.next_leaf_before.ensures.view r.1)
 
 pub returns-in_err-page-clause-page : goal.returns-in_err-page-clause-page
 returns-in_err-page-clause-page g c t h edged =
     let from : c.in_ok-first.first ≡ c.args.from = search rules in
-    let next = rw from at c.in_err-page.ensures.leaf t (rw c.next_leaf_before.ensures.view h) in
-    rw c.from_residual-in_err-page.ensures (no_page t c.args.from next)
+    let next = rw (from, c.number-2.ensures.value, c.page.ensures.number) at c.in_err-page.ensures.leaf t (rw c.next_leaf_before.ensures.view h) in
+    rw c.from_residual-in_err-page.ensures (no_page t c.args.from c.args.end next edged)
 
 pub returns-clause-page : goal.returns-clause-page
 returns-clause-page g c t h edged =
     let from : c.in_ok-first.first ≡ c.args.from = search rules in
     let next = rw from at c.in_ok-page.ensures.leaf t (rw c.next_leaf_before.ensures.view h) in
-    one_page t c.args.from c.in_ok-page.page _ next
+    page_before t c.args.from _ c.in_ok-page.page _ next

@@ -1,4 +1,4 @@
-use Rattle.std.proofs.Common.{◌≡◌, ◌+◌, ◌-◌, ◌/◌, ◌^◌, ◌<◌, ◌++◌, ◌∷◌, [], Some, ap, sym, ◌∙◌, arith, length, rules}
+use Rattle.std.proofs.Common.{◌≡◌, ◌+◌, ◌-◌, ◌/◌, ◌^◌, ◌<◌, Some, ap, sym, ◌∙◌, arith, length}
 use Rattle.std.specs.FinMap.{get}
 use Rattle.table_walk.specs.Tables.{HasTables, node, Tables}
 use Rattle.cow_fork.proofs.Listing.{from_low, goes_up, length_numbers, level_done, map_push, one_more, room, some, still_near, table_there}

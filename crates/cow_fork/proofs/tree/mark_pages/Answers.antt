@@ -5,7 +5,7 @@ use Rattle.cow_fork.proofs.tree.mark_pages.Goals.{then-not-page, else-not-page}
 
 pub pages-init : goal.pages-init
 pages-init g c = record {
-  marking = λ t u p extra can are. marking_none _ t u p extra c.args.settled.now can are;
+  marking = λ t p extra can are. marking_none _ t p extra c.args.settled.now can are;
   root = refl;
   trapframe = refl;
   layout = refl;
@@ -19,7 +19,7 @@ mark_forked-requires-clause-fits g c = let f = c.requires.fits in (f.0, c.pages.
 pub mark_forked-requires-clause-ready : goal.mark_forked-requires-clause-ready
 mark_forked-requires-clause-ready g c =
     let r = c.requires.ready in
-    marking_ready _ r.0 r.1 r.2 r.3 c.args.settled.now _ c.pages.page-index (c.pages.invariant.marking r.0 r.1 r.2 r.3 r.4 r.5) c.page-item.result c.pages-test.true c.page-item.is
+    marking_ready _ r.0 r.1 r.2 c.args.settled.now _ c.pages.page-index (c.pages.invariant.marking r.0 r.1 r.2 r.3 r.4) c.page-item.result c.pages-test.true c.page-item.is
 
 pub pages-preserved : goal.pages-preserved
 pages-preserved g c =
@@ -28,9 +28,9 @@ pages-preserved g c =
       | then-not-page w ↦
           let e = w.mark_forked.ensures in
           record {
-            marking = λ t u p extra can are.
+            marking = λ t p extra can are.
                 rw w.space-is
-                (marking_next _ t u p extra c.args.settled.now _ c.pages.page-index (i.marking t u p extra can are) c.page-item.result c.pages-test.true c.page-item.is _ e.marked);
+                (marking_next _ t p extra c.args.settled.now _ c.pages.page-index (i.marking t p extra can are) c.page-item.result c.pages-test.true c.page-item.is _ e.marked);
             root = ap (λ s. s.root) w.space-is ∙ e.root ∙ i.root;
             trapframe = ap (λ s. s.trapframe) w.space-is ∙ e.trapframe ∙ i.trapframe;
             layout = ap (λ s. s.layout) w.space-is ∙ e.layout ∙ i.layout;
@@ -38,9 +38,9 @@ pages-preserved g c =
             free = λ alone. rw w.store-is (e.free alone ∙ i.free alone);
           }
       | else-not-page w ↦ record {
-        marking = λ t u p extra can are.
+        marking = λ t p extra can are.
             rw w.space-is
-            (marking_passed _ t u p extra c.args.settled.now _ c.pages.page-index (i.marking t u p extra can are) c.page-item.result c.pages-test.true c.page-item.is w.if-not-page.false);
+            (marking_passed _ t p extra c.args.settled.now _ c.pages.page-index (i.marking t p extra can are) c.page-item.result c.pages-test.true c.page-item.is w.if-not-page.false);
         root = ap (λ s. s.root) w.space-is ∙ i.root;
         trapframe = ap (λ s. s.trapframe) w.space-is ∙ i.trapframe;
         layout = ap (λ s. s.layout) w.space-is ∙ i.layout;
@@ -50,5 +50,5 @@ pages-preserved g c =
     ]
 
 pub returns-clause-marked : goal.returns-clause-marked
-returns-clause-marked g c t u p extra can are =
-    marking_all _ t u p extra c.args.settled.now _ c.pages.page-index (c.pages.invariant.marking t u p extra can are) can c.pages-test.false
+returns-clause-marked g c t p extra can are =
+    marking_all _ t p extra c.args.settled.now _ c.pages.page-index (c.pages.invariant.marking t p extra can are) can c.pages-test.false

@@ -12,8 +12,8 @@ use Rattle.cow_fork.proofs.tree.mark_pages.Given as goal
 -- the pages before this one were marked
 abbrev pub invariant-pages : goal.invariant-pages
 invariant-pages g l = record {
-  marking : (t u : Tables) (p : Process) (extra : ℕ → ℕ) → IsStanding (body_of g.S.FrameSeat.view l.fn.space) t p extra → AreSettled u p 0 trapframe_page l.settled
-      → IsMarking (body_of g.S.FrameSeat.view l.fn.space) (body_of g.S.FrameSeat.view l.space) t u p extra (drop l.page-index l.settled);
+  marking : (t : Tables) (p : Process) (extra : ℕ → ℕ) → IsStanding (body_of g.S.FrameSeat.view l.fn.space) t p extra → AreSettled t p 0 trapframe_page l.settled
+      → IsMarking (body_of g.S.FrameSeat.view l.fn.space) (body_of g.S.FrameSeat.view l.space) t p extra (drop l.page-index l.settled);
   root : l.space.root ≡ l.fn.space.root;
   trapframe : l.space.trapframe ≡ l.fn.space.trapframe;
   layout : l.space.layout ≡ l.fn.space.layout;
