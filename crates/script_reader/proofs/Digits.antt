@@ -5,6 +5,7 @@ use Rattle.std.proofs.lemmas.List.{at_drop_more, at_drop_all}
 use Rattle.std.proofs.Math.Nat.{mul-le-mul_left}
 use Rattle.std.specs.Prelude.{◌&&◌, nat_le, nat_lt}
 use Rattle.process_model.specs.Numbers.{digit_of, one_more, digits_from, if_below}
+use Rattle.script_reader.specs.Digits.{value_or_255}
 
 pub from_none : (base : ℕ) (digits : List ℕ) → digits_from base None digits ≡ None
 from_none base [] = refl
@@ -64,3 +65,19 @@ is_small base b d e =
     small_if (nat_le 48 b && nat_le b 57 && nat_lt (b - 48) base) (b - 48) _ P (in_range base (b - 48) (nat_le 48 b && nat_le b 57))
     (small_if (nat_le 97 b && nat_le b 102 && nat_lt (b - 87) base) (b - 87) _ P (in_range base (b - 87) (nat_le 97 b && nat_le b 102))
     (small_if (nat_le 65 b && nat_le b 70 && nat_lt (b - 55) base) (b - 55) None P (in_range base (b - 55) (nat_le 65 b && nat_le b 70)) (λ k none. absurd (cc)))) d e
+
+-- a value below 255 is that of a digit
+said_if : (o : Option ℕ) (n : ℕ) → n ≡ value_or_255 o → n < 255 → o ≡ Some n
+said_if None n is low = absurd (omega (arith, is, low))
+said_if (Some d) n is low = ap Some (sym is)
+
+pub said_digit : (base b n : ℕ) → n ≡ value_or_255 (digit_of base b) → n < 255 → digit_of base b ≡ Some n
+said_digit base b n is low = said_if (digit_of base b) n is low
+
+-- and no value from the base on is
+none_if : (base n : ℕ) (o : Option ℕ) → ((d : ℕ) → o ≡ Some d → d < base) → n ≡ value_or_255 o → base ≤ n → o ≡ None
+none_if base n None small is high = refl
+none_if base n (Some d) small is high = let low = small d refl in absurd (omega (arith, low, is, high))
+
+pub no_digit : (base b n : ℕ) → n ≡ value_or_255 (digit_of base b) → base ≤ n → digit_of base b ≡ None
+no_digit base b n is high = none_if base n (digit_of base b) (is_small base b) is high

@@ -4,11 +4,11 @@ ghost use Rattle.std.specs.Prelude.{◌≡◌, ◌∷◌, IfSome};
 ghost use Rattle.process_model.specs.Lines.{ends_field, fields_of};
 ghost use Rattle.process_model.specs.declared.script.FieldKind.TheVariants as kind;
 ghost use Rattle.process_model.specs.declared.script.FieldValue.TheVariants as value;
-ghost use Rattle.script_reader.specs.NumberFronts.{IsEndedFront};
+ghost use Rattle.script_reader.specs.NumberFronts.{IsEndedFront, IsFront};
 ghost use Rattle.script_reader.specs.Quick.{IsNext};
 
 use crate::lines::is_blank;
-use crate::numbers::{decimal_digit, hexadecimal_digit};
+use crate::numbers::{decimal_value, hexadecimal_value};
 
 /// What follows the blanks that a line begins with.
 fn skip_blanks(line: &[u8]) -> &[u8]
@@ -34,20 +34,35 @@ fn is_end(text: &[u8]) -> bool
     }
 }
 
+/// What follows the zeros that a text begins with.
+fn skip_zeros(text: &[u8]) -> &[u8]
+    ensures { IsFront 16 text.now result.now 0 }
+{
+    let mut rest = text;
+    'zeros: while let Some((byte, after)) = rest.split_first() {
+        if *byte != b'0' {
+            return rest;
+        }
+        rest = after;
+    }
+    rest
+}
+
 /// The hexadecimal digits that a text begins with, as a number below 2^64, and what follows them.
 fn hexadecimal_front(text: &[u8]) -> Option<(u64, &[u8])>
     ensures { IfSome result (λ found. IsEndedFront 16 text.now found.1.now found.0) }
 {
     let mut value = 0u64;
-    let mut rest = text;
+    let mut rest = skip_zeros(text);
     'digits: while let Some((byte, after)) = rest.split_first() {
-        let Some(digit) = hexadecimal_digit(*byte) else {
+        let digit = hexadecimal_value(*byte);
+        if digit > 15 {
             break;
-        };
+        }
         if value >= 1 << 60 {
             return None;
         }
-        value = value * 16 + digit;
+        value = value * 16 + u64::from(digit);
         rest = after;
     }
     if rest.len() == text.len() || !is_end(rest) {
@@ -56,17 +71,21 @@ fn hexadecimal_front(text: &[u8]) -> Option<(u64, &[u8])>
     Some((value, rest))
 }
 
-/// The same of decimal digits.
+/// The same of decimal digits. Where a digit follows a number of 2^60 or more, nothing is told.
 fn decimal_front(text: &[u8]) -> Option<(u64, &[u8])>
     ensures { IfSome result (λ found. IsEndedFront 10 text.now found.1.now found.0) }
 {
     let mut value = 0u64;
     let mut rest = text;
     'digits: while let Some((byte, after)) = rest.split_first() {
-        let Some(digit) = decimal_digit(*byte) else {
+        let digit = decimal_value(*byte);
+        if digit > 9 {
             break;
-        };
-        value = value.checked_mul(10)?.checked_add(digit)?;
+        }
+        if value >= 1 << 60 {
+            return None;
+        }
+        value = value * 10 + u64::from(digit);
         rest = after;
     }
     if rest.len() == text.len() || !is_end(rest) {

@@ -1,9 +1,9 @@
 // Bytes, as pairs of hexadecimal digits spell them.
 
-ghost use Rattle.std.specs.Prelude.{◌≡◌, ◌<◌, IfOk, MatchOption, None, Some, length};
+ghost use Rattle.std.specs.Prelude.{◌≡◌, ◌+◌, ◌<◌, IfOk, MatchOption, None, Some, length};
 ghost use Rattle.process_model.specs.Numbers.{pairs_of, hex_of, then_bytes};
 
-use crate::numbers::hexadecimal_digit;
+use crate::numbers::hexadecimal_value;
 use process_model::Bytes;
 use std::alloc::{AllocError, Global};
 
@@ -11,13 +11,16 @@ use std::alloc::{AllocError, Global};
 fn first_byte(digits: &[u8]) -> Option<(u8, &[u8])>
     requires { 0 < length digits.now }
     ensures byte { MatchOption result (pairs_of digits.now ≡ None) (λ found. pairs_of digits.now ≡ then_bytes (Some found.0) (pairs_of found.1.now)) }
-    ensures less { MatchOption result (Unit {0}) (λ found. length found.1.now < length digits.now) }
+    ensures two { MatchOption result (Unit {0}) (λ found. length found.1.now + 2 ≡ length digits.now) }
 {
     match digits {
         [high, low, rest @ ..] => {
-            let high = hexadecimal_digit(*high)?;
-            let low = hexadecimal_digit(*low)?;
-            Some(((high * 16 + low) as u8, rest))
+            let high = hexadecimal_value(*high);
+            let low = hexadecimal_value(*low);
+            if high > 15 || low > 15 {
+                return None;
+            }
+            Some((high * 16 + low, rest))
         }
         _ => None,
     }
@@ -33,7 +36,7 @@ fn pairs(alloc: Global, digits: &[u8]) -> Result<Option<Bytes>, AllocError>
         let Some((byte, after)) = first_byte(rest) else {
             return Ok(None);
         };
-        items.push(byte)?;
+        items.push_reserved(byte);
         rest = after;
     }
     Ok(Some(Bytes::from_vec(items)))

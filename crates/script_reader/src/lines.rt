@@ -4,7 +4,7 @@ ghost use Rattle.std.specs.Prelude.{◌≡◌, ◌<◌, ◌∷◌, [], length, M
 ghost use Rattle.std.specs.List.{position_or_len, prefix_len};
 ghost use Rattle.process_model.specs.Lines as words;
 
-use memchr::memchr;
+use memchr::{memchr, memchr2};
 
 /// How many bytes stand before the line's end.
 fn line_len(text: &[u8]) -> usize
@@ -53,7 +53,7 @@ fn blank_len(line: &[u8]) -> usize
 fn field_len(line: &[u8]) -> usize
     ensures { result ≡ position_or_len words.is_blank line.now }
 {
-    line.iter().take_while(|byte| !is_blank(**byte)).count()
+    memchr2(b' ', b'\t', line).unwrap_or(line.len())
 }
 
 /// The first field of a line, and what follows it; nothing where the line has no field.

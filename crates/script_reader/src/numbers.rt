@@ -23,14 +23,14 @@ static HEXADECIMAL_DIGITS: [u8; 256] = [
 ];
 
 /// The value of a byte as a hexadecimal digit; of a byte that is none, 255.
-fn hexadecimal_value(byte: u8) -> u8
+pub fn hexadecimal_value(byte: u8) -> u8
     ensures { result ≡ value_or_255 (digit_of 16 byte) }
 {
     HEXADECIMAL_DIGITS[byte as usize]
 }
 
 /// The value of a hexadecimal digit of either case.
-pub fn hexadecimal_digit(byte: u8) -> Option<u64>
+fn hexadecimal_digit(byte: u8) -> Option<u64>
     ensures { result ≡ digit_of 16 byte }
 {
     let value = hexadecimal_value(byte);
@@ -41,8 +41,18 @@ pub fn hexadecimal_digit(byte: u8) -> Option<u64>
     }
 }
 
+/// The value of a byte as a decimal digit; of a byte that is none, 255.
+pub fn decimal_value(byte: u8) -> u8
+    ensures { result ≡ value_or_255 (digit_of 10 byte) }
+{
+    match byte {
+        b'0'..=b'9' => byte - b'0',
+        _ => 255,
+    }
+}
+
 /// The value of a decimal digit.
-pub fn decimal_digit(byte: u8) -> Option<u64>
+fn decimal_digit(byte: u8) -> Option<u64>
     ensures { result ≡ digit_of 10 byte }
 {
     match byte {

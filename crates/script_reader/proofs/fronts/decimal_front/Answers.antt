@@ -1,5 +1,6 @@
-use Rattle.std.proofs.Common.{◌≡◌, ℕ, List, ◌+◌, ◌*◌, ◌∷◌, sym, subst, arith}
+use Rattle.std.proofs.Common.{ℕ, List, ◌+◌, ◌*◌, ◌∷◌, ◌≤◌, subst, sym, arith}
 use Rattle.script_reader.specs.NumberFronts.{IsFront}
+use Rattle.script_reader.proofs.Digits.{said_digit}
 use Rattle.script_reader.proofs.FrontNumbers.{front_goes_on}
 use Rattle.script_reader.proofs.fronts.decimal_front.Goals as goal
 
@@ -8,10 +9,11 @@ digits-preserved c =
     let text = c.args.text.now in
     let after = c.in-Some.after.now in
     let n = c.digits.value in
-    let d = c.in-Some-decimal_digit.digit in
-    let value : c.in_ok-value.value ≡ n * 10 + d = omega (arith, c.in_ok-value.ensures, c.in_ok-checked_mul.ensures) in
-    let here : IsFront 10 text (c.in-Some.byte.now ∷ after) n = subst (λ (r : List ℕ). IsFront 10 text r n) c.in-Some.ensures.cases.0 c.digits.invariant.front in
+    let b = c.in-Some.byte.now in
+    let d = c.decimal_value-digit.result in
+    let small : d ≤ 9 = omega (arith, c.if-digit-gt9.false) in
+    let here : IsFront 10 text (b ∷ after) n = subst (λ (r : List ℕ). IsFront 10 text r n) c.in-Some.ensures.cases.0 c.digits.invariant.front in
     record {
-      front = subst (IsFront 10 text after) (sym value) (front_goes_on 10 c.in-Some.byte.now d n text after (sym c.in-Some-decimal_digit.ensures) here);
-      small = omega (arith, c.in_ok-value.ensures);
+      front = subst (λ (k : ℕ). IsFront 10 text after (n * 10 + k)) (sym c.from.ensures) (front_goes_on 10 b d n text after (said_digit 10 b d c.decimal_value-digit.ensures (omega (arith, small))) here);
+      small = omega (arith, c.if-value.false, c.from.ensures, small);
     }
