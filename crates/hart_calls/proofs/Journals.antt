@@ -198,3 +198,34 @@ module _ (v w z : View) (takes : Takes w z 0 []) where
     later_stop c rule.NoWrite address dry = later_nothing c
     later_stop c rule.NoExec address dry = later_nothing c
     later_stop c rule.NoFrame address dry = later_frames c (page_of address) dry
+
+-- how many children a journal names
+
+pub forked_few : (r : Reply) → forked r ≤ 1
+forked_few reply.Done = omega arith
+forked_few (reply.Started n) = omega arith
+forked_few (reply.Forked n) = omega arith
+forked_few (reply.Value n) = omega arith
+forked_few reply.Stored = omega arith
+forked_few (reply.Fault n) = omega arith
+forked_few (reply.Filled n) = omega arith
+forked_few reply.NothingFilled = omega arith
+forked_few (reply.InFrame n) = omega arith
+forked_few reply.Ready = omega arith
+forked_few (reply.Ended r) = omega arith
+forked_few (reply.OldSize n) = omega arith
+forked_few (reply.MappedAt n) = omega arith
+forked_few (reply.CopiedIn b) = omega arith
+forked_few (reply.CopiedOut n) = omega arith
+forked_few (reply.ShortIn r b) = omega arith
+forked_few (reply.ShortOut r n) = omega arith
+forked_few (reply.Exited n) = omega arith
+forked_few (reply.Refused r) = omega arith
+
+pub forks_few : (es : List Entry) → forks es ≤ length es
+forks_few [] = omega arith
+forks_few (e ∷ es) = let rest = forks_few es in let one = forked_few e.reply in omega (arith, rest, one)
+
+pub forks_more : (es : List Entry) (e : Entry) → forks (es ++ e ∷ []) ≡ forks es + forked e.reply
+forks_more [] e = omega arith
+forks_more (x ∷ es) e = let rest = forks_more es e in omega (arith, rest)

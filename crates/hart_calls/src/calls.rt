@@ -72,6 +72,7 @@ pub(crate) fn make<S: FrameSeat, F: FrameSupply<Seat = S>, C: Files>(
 }
 
 /// The process of an image comes in the place of this one.
+#[inline(never)]
 fn replace<S: FrameSeat, F: FrameSupply<Seat = S>, C: Files>(
     space: &mut Space<S>,
     store: &mut F,

@@ -17,6 +17,7 @@ use sv39_entry::Va;
 use user_copy::{Stop, copy_in, copy_out};
 
 /// Copies bytes from the process.
+#[inline(never)]
 pub(crate) fn copy_from<S: FrameSeat, F: FrameSupply<Seat = S>, C: Files>(
     space: &mut Space<S>,
     store: &mut F,
@@ -42,6 +43,7 @@ pub(crate) fn copy_from<S: FrameSeat, F: FrameSupply<Seat = S>, C: Files>(
 }
 
 /// Copies bytes to the process.
+#[inline(never)]
 pub(crate) fn copy_to<S: FrameSeat, F: FrameSupply<Seat = S>, C: Files>(
     space: &mut Space<S>,
     store: &mut F,

@@ -31,6 +31,7 @@ use std::sync::Wait;
 
 impl<'a, B: Room> Tracked<'a, B> {
     /// Ends the process with no entry more.
+    #[inline(never)]
     pub(crate) fn cut<R: Wait>(
         self,
         store: &mut SharedSupply<'_, R>,
@@ -58,6 +59,7 @@ impl<'a, B: Room> Tracked<'a, B> {
     }
 
     /// The process exits.
+    #[inline(never)]
     pub(crate) fn exit<R: Wait>(
         self,
         store: &mut SharedSupply<'_, R>,
@@ -101,6 +103,7 @@ fn exited(status: i32) -> Outcome
 
 /// Ends a process: what was stored to its mappings goes back to their files, in order of address, all its frames go, and
 /// the journal gets its last entry. Where a page of a file is not promised nothing is written, and there is no entry.
+#[inline(never)]
 pub(crate) fn close<'a, B: Room, R: Wait>(
     parts: Parts<'a>,
     store: &mut SharedSupply<'_, R>,

@@ -21,6 +21,7 @@ use std::sync::Wait;
 
 impl<'a, B: Room> Tracked<'a, B> {
     /// The process forks: the child begins with a list, as its parent is.
+    #[inline(never)]
     pub(crate) fn fork<R: Wait>(
         self,
         store: &mut SharedSupply<'_, R>,

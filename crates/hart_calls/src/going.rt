@@ -6,7 +6,7 @@ ghost use Rattle.file_shelf.specs.Shelved.{Shelved};
 ghost use Rattle.hart_calls.specs.Asks.{IsStaying, may_read, reads};
 ghost use Rattle.hart_calls.specs.Closed.{cause_of};
 ghost use Rattle.hart_calls.specs.Comes.{want_told};
-ghost use Rattle.hart_calls.specs.Replay.{call_at, forks, Leads, list_at, Replays};
+ghost use Rattle.hart_calls.specs.Replay.{call_at, forked, forks, Leads, list_at, Replays};
 ghost use Rattle.hart_calls.specs.Tells.{file_of, told};
 ghost use Rattle.hart_calls.specs.Track.{AreThere, next_of};
 ghost use Rattle.hart_calls.specs.Turned.{Filed, HasTurned};
@@ -28,6 +28,7 @@ use file_cabinet::Files;
 use file_shelf::{PageUse, Shelf};
 use process_model::{Call, Outcome, Refusal, Reply};
 use shared_frames::SharedSupply;
+use std::alloc::Global;
 use std::marker::PhantomData;
 use std::snapshot::Snapshot;
 use std::sync::Wait;
@@ -59,7 +60,7 @@ impl<'a, B: Room> Tracked<'a, B> {
         let mark = uses(shelf);
         let file = mapped_file(shelf, call);
         let came = make(&mut parts.space, store, shelf, call);
-        let pages = pages_read(shelf, mark, call, pages);
+        let pages = pages_read(shelf, mark, call, pages, parts.alloc, &mut parts.spare);
         match came {
             Came::Answered(reply) => {
                 let present = moved(&parts.present, before, call, &reply, None);
@@ -117,6 +118,7 @@ pub(crate) fn rejoin<'a, B: Room>(
     requires there { parts.list < length parts.lists.now }
     requires room { vec_len parts.journal < vec_capacity parts.journal }
     requires few { length parts.journal.items < most_entries }
+    requires children { parts.children ≡ forks parts.journal.items }
     ensures name { result.name ≡ parts.entry.name.items }
     ensures lists { result.lists ≡ parts.entry.lists.now }
     ensures list { result.list ≡ parts.entry.list }
@@ -125,11 +127,23 @@ pub(crate) fn rejoin<'a, B: Room>(
     ensures journal { result.journal ≡ parts.entry.journal.items ++ entry.entry ∷ [] }
     ensures seat { result.seat ≡ view_of parts.entry.space.seat }
 {
+    let named = children_named(&entry.reply);
     parts.journal.push_reserved(entry);
+    parts.children += named;
     parts.present = present;
     Tracked {
         parts,
         of: PhantomData,
+    }
+}
+
+/// How many children a reply names.
+fn children_named(reply: &Reply) -> usize
+    ensures { result ≡ forked reply.now }
+{
+    match reply {
+        Reply::Forked(_) => 1,
+        _ => 0,
     }
 }
 
@@ -184,8 +198,32 @@ fn uses(shelf: &Shelf) -> usize
     shelf.history().len()
 }
 
-/// The pages of files that a call read, which the history has from a place on.
-fn pages_read(shelf: &Shelf, mark: usize, call: Call<'_>, mut pages: Vec<PageUse>) -> Vec<PageUse>
+/// The pages of files that a call read, which the history has from a place on. Where it read none, the room for them is
+/// kept for the next call.
+fn pages_read(
+    shelf: &Shelf,
+    mark: usize,
+    call: Call<'_>,
+    room: Vec<PageUse>,
+    alloc: Global,
+    spare: &mut Vec<PageUse>,
+) -> Vec<PageUse>
+    requires mark { mark ≤ length (shelf.now).history }
+    requires few { length (reads call (drop mark (shelf.now).history)) ≤ 2 }
+    requires none { room.items ≡ [] }
+    requires room { 2 ≤ vec_capacity room }
+    ensures { result.items ≡ reads call.entry (drop mark (shelf.now).history) }
+{
+    let pages = pages_since(shelf, mark, call, room);
+    if pages.is_empty() {
+        *spare = pages;
+        return Vec::new(alloc);
+    }
+    pages
+}
+
+/// The pages of files that a call read, put into room for them.
+fn pages_since(shelf: &Shelf, mark: usize, call: Call<'_>, mut pages: Vec<PageUse>) -> Vec<PageUse>
     requires mark { mark ≤ length (shelf.now).history }
     requires few { length (reads call (drop mark (shelf.now).history)) ≤ 2 }
     requires none { pages.items ≡ [] }

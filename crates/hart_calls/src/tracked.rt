@@ -13,7 +13,8 @@ use crate::entry::Entry;
 use crate::opening::{Opening, begun};
 use crate::room::Room;
 use address_space::Space;
-use process_model::{Call, Reply, Sequence};
+use file_shelf::PageUse;
+use process_model::{Call, Sequence};
 use shared_frames::SharedSeat;
 use std::alloc::{AllocError, Global};
 use std::marker::{Model, PhantomData};
@@ -30,6 +31,10 @@ pub(crate) struct Parts<'a> {
     pub(crate) opening: Opening,
     pub(crate) present: Opening,
     pub(crate) journal: Vec<Entry<'a>>,
+    /// How many children the journal names.
+    pub(crate) children: usize,
+    /// Room for the pages of files that the next call may read.
+    pub(crate) spare: Vec<PageUse>,
     pub(crate) space: Space<SharedSeat>,
 }
 
@@ -48,7 +53,7 @@ impl<'a, B: Room> Model for Tracked<'a, B> {
     ghost use Rattle.address_space.specs.Agreement.{body_of, IsSpace};
     ghost use Rattle.frame_store.specs.View.{view_code};
     ghost use Rattle.hart_calls.specs.Codes.{process_code};
-    ghost use Rattle.hart_calls.specs.Replay.{list_at, Replays};
+    ghost use Rattle.hart_calls.specs.Replay.{forks, list_at, Replays};
     ghost use Rattle.hart_calls.specs.Track.{AreThere, Track};
     ghost use Rattle.hart_calls.specs.Turns.{most_entries};
     ghost use Rattle.shared_frames.specs.Fits.{FitsIn, view_of};
@@ -65,7 +70,8 @@ impl<'a, B: Room> Model for Tracked<'a, B> {
         × Replays x.parts.opening.state 0 0 (list_at x.parts.lists.now x.parts.list) x.parts.journal.items x.parts.present.state
         × AreThere x.parts.lists.now
         × (x.parts.list < length x.parts.lists.now)
-        × (length x.parts.journal.items ≤ most_entries) };
+        × (length x.parts.journal.items ≤ most_entries)
+        × (x.parts.children ≡ forks x.parts.journal.items) };
 }
 
 impl<'a, B: Room> Tracked<'a, B> {
@@ -101,6 +107,8 @@ impl<'a, B: Room> Tracked<'a, B> {
                 opening,
                 present,
                 journal: Vec::new(alloc),
+                children: 0,
+                spare: Vec::new(alloc),
                 space,
             },
             of: PhantomData,
@@ -155,7 +163,7 @@ impl<'a, B: Room> Tracked<'a, B> {
     pub fn children(&self) -> usize
         ensures { result ≡ forks self.now.journal }
     {
-        count_children(self.parts.journal.as_slice())
+        self.parts.children
     }
 
     /// The name of the next child.
@@ -192,22 +200,5 @@ fn call_at<'a>(calls: &[Call<'a>], number: usize) -> Call<'a>
     match calls.get(number) {
         Some(call) => *call,
         None => Call::Exit { status: 0 },
-    }
-}
-
-/// How many children some entries name.
-fn count_children(entries: &[Entry<'_>]) -> usize
-    ensures count { result ≡ forks entries.now }
-    ensures few { result ≤ length entries.now }
-{
-    match entries {
-        [] => 0,
-        [first, rest @ ..] => {
-            let others = count_children(rest);
-            match first.reply {
-                Reply::Forked(_) => others + 1,
-                _ => others,
-            }
-        }
     }
 }

@@ -18,6 +18,7 @@ use file_shelf::{PageUse, Shelf};
 use process_model::{Call, Outcome};
 use shared_frames::SharedSupply;
 use std::alloc::AllocError;
+use std::mem;
 use std::sync::Wait;
 
 /// How many entries a journal has, at most.
@@ -75,7 +76,8 @@ impl<'a, B: Room> Tracked<'a, B> {
         self.turn(store, &mut shelf, slot)
     }
 
-    /// The same with files.
+    /// The same with files. A function pays at entry for the size of its locals: so ends, forks, copies and exec, which have
+    /// large ones, stand apart (`inline(never)`).
     fn turn<R: Wait>(
         self,
         store: &mut SharedSupply<'_, R>,
@@ -116,8 +118,11 @@ impl<'a, B: Room> Tracked<'a, B> {
         let Ok(()) = self.parts.journal.reserve(1) else {
             return Err(self);
         };
-        match Vec::with_capacity(self.parts.alloc, 2) {
-            Ok(pages) => Ok((self, pages)),
+        let none = Vec::new(self.parts.alloc);
+        let mut pages = mem::replace(&mut self.parts.spare, none);
+        pages.clear();
+        match pages.reserve(2) {
+            Ok(()) => Ok((self, pages)),
             Err(AllocError) => Err(self),
         }
     }

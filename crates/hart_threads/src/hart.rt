@@ -78,6 +78,7 @@ impl<'r, 'a, B: Room, R: Wait, G: Gate> Hart<'r, 'a, B, R, G> {
     }
 
     /// Makes the fork of a process that has a slot for it.
+    #[inline(never)]
     fn fork(
         &self,
         tracked: Tracked<'a, B>,
@@ -160,6 +161,7 @@ impl<'r, 'a, B: Room, R: Wait, G: Gate> Hart<'r, 'a, B, R, G> {
     }
 
     /// The process comes back.
+    #[inline(never)]
     fn finish(&self, gone: Gone<'a, B>)
         requires ended { IsEnded gone.finished }
     {

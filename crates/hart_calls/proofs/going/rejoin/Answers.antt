@@ -1,6 +1,6 @@
-use Rattle.std.proofs.Common.{◌≤◌, ◌+◌, arith, [], ◌∷◌, length}
+use Rattle.std.proofs.Common.{◌≡◌, ◌≤◌, ◌+◌, arith, [], ◌∷◌, length}
 use Rattle.std.proofs.lemmas.List.{length-append}
-use Rattle.hart_calls.proofs.Journals.{one_longer}
+use Rattle.hart_calls.proofs.Journals.{forked_few, forks_few, forks_more, one_longer}
 use Rattle.hart_calls.proofs.going.rejoin.Goals as goal
 
 pub invariant_of-result : goal.invariant_of-result
@@ -13,4 +13,8 @@ invariant_of-result g c =
       c.requires.named,
       c.requires.there,
       omega (arith, few, length-append c.args.parts.journal.items (c.args.entry ∷ [])),
+      omega (arith, c.requires.children, c.children_named-named.ensures, forks_more c.args.parts.journal.items c.args.entry),
     )
+
+pub overflow_add-parts : goal.overflow_add-parts
+overflow_add-parts g c = omega (arith, c.requires.few, c.requires.children, forks_few c.args.parts.journal.items, c.children_named-named.ensures, forked_few c.args.entry.reply)

@@ -427,6 +427,7 @@ invariant_of-tracked g c =
       c.self.invariant.3,
       c.self.invariant.4,
       c.self.invariant.5,
+      c.self.invariant.6,
     )
 
 pub returns-in-Cut-clause-turned : goal.returns-in-Cut-clause-turned

@@ -1,6 +1,6 @@
 use Rattle.std.proofs.Common.{◌≡◌, ◌≤◌, take}
 use Rattle.std.specs.Prelude.{vec_capacity}
-use Rattle.hart_calls.proofs.going.pages_read.Given as goal
+use Rattle.hart_calls.proofs.going.pages_since.Given as goal
 
 -- so many pages are copied
 abbrev pub invariant-uses : goal.invariant-uses
