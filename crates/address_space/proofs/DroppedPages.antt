@@ -16,7 +16,7 @@ use Rattle.table_walk.specs.Keys.{remove_same, remove_other}
 use Rattle.table_walk.specs.Nodes.{leaf_node_is}
 use Rattle.table_walk.specs.Places.{IsBare}
 use Rattle.address_space.specs.Agreement.{body, IsSpace, IsLeafNumber, IsOn, nothing, Shows, Stands}
-use Rattle.address_space.specs.Ending.{AreUnmapped, CanDrop, Drops, DropsLeaf, DropsRun, IsFirstMapped}
+use Rattle.address_space.specs.Ending.{AreUnmapped, CanDrop, Drops, DropsLeaf, DropsRun, IsFirstMapped, MayDrop}
 use Rattle.address_space.specs.Layouts.{Layout}
 use Rattle.address_space.proofs.Sound.{sound_fewer}
 use Rattle.address_space.proofs.DroppedLeaf.{left, takes_none, takes_then}
@@ -211,9 +211,18 @@ module _ (first page : ℕ) (from : first ≤ page) (low : page < trapframe_page
 
 -- a page below TRAPFRAME's that has a leaf
 
+pub has_leaf : (t : Tables) (n w : ℕ) → get t.leaves n ≡ Some w → IsSome (get t.leaves n)
+has_leaf t n w is = rw is refl
+
 some_leaf : (o : Option ℕ) → IsSome o → (w : ℕ) × (o ≡ Some w)
 some_leaf None some = absurd (cc)
 some_leaf (Some w) some = (w, refl)
+
+-- the first page of a run, where it has one
+pub goes_first : (t : Tables) (first end : ℕ) → first < end → IsSome (get t.leaves (leaf_node first)) → (leaf : ℕ) × IsFirstMapped t first end (Some (first, leaf))
+goes_first t first end before some =
+    let leaf = some_leaf (get t.leaves (leaf_node first)) some in
+    (leaf.0, (omega arith, before, leaf.1, λ n from less. absurd (omega (arith, from, less))))
 
 may_drop : (v : View) (root trapframe : ℕ) (u : Tables) (q : Process) → Stands v root trapframe nothing u q → (page : ℕ) → page < trapframe_page
     → IsSome (get u.leaves (leaf_node page)) → CanDrop v root u page
@@ -283,10 +292,10 @@ module _ (v : View) (root trapframe : ℕ) (t : Tables) (p : Process) where
       },
     )
 
-    module _ (page leaf : ℕ) (found : IsFirstMapped so_far.0 from end (Some (page, leaf))) (low : end ≤ trapframe_page) where
-      pub next_may_drop : CanDrop w root so_far.0 page
-      next_may_drop = may_drop w root trapframe so_far.0 (without_pages p first from) so_far.1.stands page (omega (arith, low, found.1)) (rw found.2 refl)
+    pub any_may_drop : end ≤ trapframe_page → (page : ℕ) → MayDrop w root so_far.0 page end
+    any_may_drop low page before some = may_drop w root trapframe so_far.0 (without_pages p first from) so_far.1.stands page (omega (arith, low, before)) some
 
+    module _ (page leaf : ℕ) (found : IsFirstMapped so_far.0 from end (Some (page, leaf))) (low : end ≤ trapframe_page) where
       pub dropped_next : first ≤ from → (x : View) → DropsLeaf w x root so_far.0 page → HasDropped v x root trapframe t p first (page + 1)
       dropped_next after x d =
           let near = found.0 in

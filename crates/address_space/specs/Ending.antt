@@ -1,5 +1,5 @@
 -- Pages that are dropped, and a space that ends.
-use Rattle.std.specs.Prelude.{◌≡◌, ◌≢◌, ◌⊎◌, ℕ, ◌^◌, ◌<◌, ◌≤◌, Option, None, Some, []}
+use Rattle.std.specs.Prelude.{◌≡◌, ◌≢◌, ◌⊎◌, ℕ, ◌^◌, ◌<◌, ◌≤◌, Bool, true, false, IsSome, Option, None, Some, []}
 use Rattle.std.specs.FinMap.{get}
 use Rattle.frame_store.specs.View.{View, hold_of}
 use Rattle.process_model.specs.Heap.{without_pages}
@@ -43,6 +43,20 @@ pub record DropsLeaf (v w : View) (root : ℕ) (t : Tables) (page : ℕ) : Type 
   pub others : (n x f : ℕ) → get (without_leaf t (leaf_node page)).leaves n ≡ Some x → ppn x ≡ ppn_of f → hold_of w f ≡ hold_of v f
   pub credits : w.credits ≡ v.credits
   pub takes : Takes v w 0 []
+
+-- a page before an end may go where it has a leaf
+abbrev pub MayDrop : View → ℕ → Tables → ℕ → ℕ → Type 0
+MayDrop v root t page end = page < end → IsSome (get t.leaves (leaf_node page)) → CanDrop v root t page
+
+-- whether a page is before an end and had a leaf, which is gone then
+abbrev pub DropsIf : Bool → View → View → ℕ → Tables → ℕ → ℕ → Type 0
+DropsIf true v w root t page end = (page < end) × IsSome (get t.leaves (leaf_node page)) × DropsLeaf v w root t page
+DropsIf false v w root t page end = (page < end → get t.leaves (leaf_node page) ≡ None) × (w ≡ v)
+
+-- the first page of a run that had a leaf, which is gone
+abbrev pub DropsFirst : Option ℕ → View → View → ℕ → Tables → ℕ → ℕ → Type 0
+DropsFirst None v w root t first end = AreUnmapped t first end × (w ≡ v)
+DropsFirst (Some page) v w root t first end = (leaf : ℕ) × IsFirstMapped t first end (Some (page, leaf)) × DropsLeaf v w root t page
 
 -- the pages of a run are gone from a process that stands, and the trapframe's frame is held as it was
 pub record DropsRun (v w : View) (root trapframe : ℕ) (t u : Tables) (p : Process) (first end : ℕ) : Type 0 where

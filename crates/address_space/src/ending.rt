@@ -1,8 +1,9 @@
 // Pages that are dropped, and the end of a space.
 
-ghost use Rattle.std.specs.Prelude.{[], ◌≡◌, ◌^◌, ◌≤◌, ℕ};
+ghost use Rattle.std.specs.FinMap.{get};
+ghost use Rattle.std.specs.Prelude.{[], ◌≡◌, ◌^◌, ◌<◌, ◌≤◌, ℕ, IfSome, Some};
 ghost use Rattle.address_space.specs.Agreement.{body_of, HoldsTrapframe, IsSpace, nothing, Stands};
-ghost use Rattle.address_space.specs.Ending.{CanDrop, Drops, DropsLeaf, DropsRun, IsEmptied, IsFirstMapped, Strips};
+ghost use Rattle.address_space.specs.Ending.{Drops, DropsFirst, DropsIf, DropsRun, IsEmptied, IsFirstMapped, MayDrop, Strips};
 ghost use Rattle.address_space.specs.Standing.{IsStanding};
 ghost use Rattle.address_space.specs.Steps.{IsBare, Takes};
 ghost use Rattle.frame_store.specs.Laws.{Fits, Keeps};
@@ -10,14 +11,15 @@ ghost use Rattle.frame_store.specs.View.{hold_of};
 ghost use Rattle.process_model.specs.Heap.{without_pages};
 ghost use Rattle.process_model.specs.Process.{Process};
 ghost use Rattle.sv39_entry.specs.Address.{trapframe_page};
-ghost use Rattle.table_walk.specs.Tables.{HasTables, Tables};
+ghost use Rattle.table_walk.specs.Tables.{HasTables, leaf_node, Tables};
 
 use crate::space::Space;
 use frame_store::{FrameAccess, FrameSeat};
 use sv39_entry::{Entry, FrameNo, TRAMPOLINE, TRAPFRAME, Va, Vpn};
-use table_walk::{next_leaf_before, release_tables, unmap};
+use table_walk::{leaf_of, next_leaf_before, release_tables, unmap};
 
-/// The first page that has a leaf, of those from one number up to, and without, another, and the leaf.
+/// The first page that has a leaf, of those from one number up to, and without, another, and the leaf. The first page is
+/// looked at by itself: in a run of settled pages it is the one.
 pub(crate) fn first_mapped<F: FrameAccess>(
     store: &mut F,
     seat: &mut F::Seat,
@@ -33,25 +35,90 @@ pub(crate) fn first_mapped<F: FrameAccess>(
     ensures same { store.new ≡ store.old }
     ensures keeps { Keeps F.rule store.old seat.old store.new seat.new }
 {
-    next_leaf_before(store, seat, root, Vpn::new(first)?, end)
+    let page = Vpn::new(first)?;
+    if let Some(leaf) = leaf_before(store, seat, root, page, end) {
+        return Some((page, leaf));
+    }
+    next_leaf_before(store, seat, root, page, end)
 }
 
-/// Takes the leaf of a page away, and then the frame that it named: no leaf ever names a frame that was let go.
-fn drop_leaf<F: FrameAccess>(store: &mut F, seat: &mut F::Seat, root: FrameNo, page: Vpn)
+/// The leaf of a page, where it has one and is before an end.
+fn leaf_before<F: FrameAccess>(
+    store: &mut F,
+    seat: &mut F::Seat,
+    root: FrameNo,
+    page: Vpn,
+    end: u64,
+) -> Option<Entry>
     requires fits { Fits F.rule store.old seat.old }
-    requires ready { (t : Tables) × CanDrop (F.Seat.view seat.old) root.0 t page }
-    ensures dropped { (t : Tables) → CanDrop (F.Seat.view seat.old) root.0 t page →
-        DropsLeaf (F.Seat.view seat.old) (F.Seat.view seat.new) root.0 t page }
+    requires held { (t : Tables) × HasTables (F.Seat.view seat.old) root.0 t }
+    ensures leaf { (t : Tables) → HasTables (F.Seat.view seat.old) root.0 t → IfSome result (λ leaf. (page < end) × (get t.leaves (leaf_node page) ≡ Some leaf)) }
+    ensures view { F.Seat.view seat.new ≡ F.Seat.view seat.old }
+    ensures same { store.new ≡ store.old }
+    ensures keeps { Keeps F.rule store.old seat.old store.new seat.new }
+{
+    if page.number() < end {
+        leaf_of(store, seat, root, page)
+    } else {
+        None
+    }
+}
+
+/// Takes the leaf of a page away, where it has one and is before an end, and then the frame that it named: no leaf ever names
+/// a frame that was let go. Answers whether there was one.
+fn drop_leaf<F: FrameAccess>(
+    store: &mut F,
+    seat: &mut F::Seat,
+    root: FrameNo,
+    page: Vpn,
+    end: u64,
+) -> bool
+    requires fits { Fits F.rule store.old seat.old }
+    requires ready { (t : Tables) × HasTables (F.Seat.view seat.old) root.0 t × MayDrop (F.Seat.view seat.old) root.0 t page end }
+    ensures dropped { (t : Tables) → HasTables (F.Seat.view seat.old) root.0 t → MayDrop (F.Seat.view seat.old) root.0 t page end →
+        DropsIf result (F.Seat.view seat.old) (F.Seat.view seat.new) root.0 t page end }
     ensures keeps { Keeps F.rule store.old seat.old store.new seat.new }
     ensures free { F.alone → F.free store.old ≤ F.free store.new }
 {
+    if end <= page.number() {
+        return false;
+    }
     let Some(leaf) = unmap(store, seat, root, page) else {
-        unreachable!()
+        return false;
     };
     let Some(frame) = FrameNo::from_ppn(leaf.ppn()) else {
         unreachable!()
     };
     store.release(seat, frame);
+    true
+}
+
+/// The same of the first page that has a leaf, of those from one number up to, and without, another. Answers that page's
+/// number. The first page is looked at by itself: in a run of settled pages it is the one.
+fn drop_first<F: FrameAccess>(
+    store: &mut F,
+    seat: &mut F::Seat,
+    root: FrameNo,
+    first: u64,
+    end: u64,
+) -> Option<u64>
+    requires fits { Fits F.rule store.old seat.old }
+    requires ready { (t : Tables) × HasTables (F.Seat.view seat.old) root.0 t × ((page : ℕ) → MayDrop (F.Seat.view seat.old) root.0 t page end) }
+    requires low { end ≤ 2 ^ 27 }
+    ensures dropped { (t : Tables) → HasTables (F.Seat.view seat.old) root.0 t → ((page : ℕ) → MayDrop (F.Seat.view seat.old) root.0 t page end) →
+        DropsFirst result (F.Seat.view seat.old) (F.Seat.view seat.new) root.0 t first end }
+    ensures keeps { Keeps F.rule store.old seat.old store.new seat.new }
+    ensures free { F.alone → F.free store.old ≤ F.free store.new }
+{
+    let page = Vpn::new(first)?;
+    if drop_leaf(store, seat, root, page, end) {
+        return Some(first);
+    }
+    let (page, _) = next_leaf_before(store, seat, root, page, end)?;
+    if !drop_leaf(store, seat, root, page, end) {
+        unreachable!()
+    }
+    Some(page.number())
 }
 
 /// Unmaps the settled pages from one page up to, and without, another, which is given by its number, and lets their frames
@@ -72,9 +139,8 @@ pub(crate) fn drop_run<F: FrameAccess>(
     ensures free { F.alone → F.free store.old ≤ F.free store.new }
 {
     let mut from = first.number();
-    'pages: while let Some((page, _)) = first_mapped(store, seat, root, from, end) {
-        drop_leaf(store, seat, root, page);
-        from = page.number() + 1;
+    'pages: while let Some(page) = drop_first(store, seat, root, from, end) {
+        from = page + 1;
     }
 }
 

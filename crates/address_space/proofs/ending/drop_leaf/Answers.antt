@@ -1,21 +1,38 @@
-use Rattle.std.proofs.Common.{sym}
+use Rattle.std.proofs.Common.{◌<◌, sym, arith}
 use Rattle.address_space.proofs.DroppedLeaf.{anchored_yet, drops_leaf, frame_named, held_yet}
+use Rattle.address_space.proofs.DroppedPages.{has_leaf}
 use Rattle.address_space.proofs.ending.drop_leaf.Goals as goal
 
 pub release-requires-clause-held : goal.release-requires-clause-held
 release-requires-clause-held g c =
     let r = c.requires.ready in
+    let high = c.if-end-number.false in
+    let number = c.number.ensures.value in
+    let before : c.args.page < c.args.end = omega (arith, high, number) in
+    let leaf = sym (c.in-Some.ensures.leaf r.0 r.1) in
+    let d = r.2 before (has_leaf r.0 _ _ leaf) in
     let names = frame_named c.in-Some.leaf _ _ c.in-Some-from_ppn.frame c.ppn.ensures.value c.from_ppn.ensures c.in-Some-from_ppn.is in
-    held_yet _ _ c.args.root.0 r.0 c.args.page _ _ r.1 (sym (c.in-Some.ensures.leaf r.0 r.1.tables)) names (c.unmap.ensures.tables r.0 r.1.tables).1
+    held_yet _ _ c.args.root.0 r.0 c.args.page _ _ d leaf names (c.unmap.ensures.tables r.0 r.1).1
 
 pub release-requires-clause-anchored : goal.release-requires-clause-anchored
 release-requires-clause-anchored g c =
     let r = c.requires.ready in
+    let high = c.if-end-number.false in
+    let number = c.number.ensures.value in
+    let before : c.args.page < c.args.end = omega (arith, high, number) in
+    let leaf = sym (c.in-Some.ensures.leaf r.0 r.1) in
+    let d = r.2 before (has_leaf r.0 _ _ leaf) in
     let names = frame_named c.in-Some.leaf _ _ c.in-Some-from_ppn.frame c.ppn.ensures.value c.from_ppn.ensures c.in-Some-from_ppn.is in
-    anchored_yet _ _ c.args.root.0 r.0 c.args.page _ _ r.1 (sym (c.in-Some.ensures.leaf r.0 r.1.tables)) names (c.unmap.ensures.tables r.0 r.1.tables).1
+    anchored_yet _ _ c.args.root.0 r.0 c.args.page _ _ d leaf names (c.unmap.ensures.tables r.0 r.1).1
 
 pub returns-clause-dropped : goal.returns-clause-dropped
-returns-clause-dropped g c t d =
+returns-clause-dropped g c t h may =
+    let high = c.if-end-number.false in
+    let number = c.number.ensures.value in
+    let before : c.args.page < c.args.end = omega (arith, high, number) in
+    let leaf = sym (c.in-Some.ensures.leaf t h) in
+    let some = has_leaf t _ _ leaf in
+    let d = may before some in
     let names = frame_named c.in-Some.leaf _ _ c.in-Some-from_ppn.frame c.ppn.ensures.value c.from_ppn.ensures c.in-Some-from_ppn.is in
-    let unmapped = c.unmap.ensures.tables t d.tables in
-    drops_leaf _ _ c.args.root.0 t c.args.page _ _ d (sym (c.in-Some.ensures.leaf t d.tables)) names unmapped.1 _ unmapped.0 c.release.ensures.view
+    let unmapped = c.unmap.ensures.tables t h in
+    (before, some, drops_leaf _ _ c.args.root.0 t c.args.page _ _ d leaf names unmapped.1 _ unmapped.0 c.release.ensures.view)

@@ -1,6 +1,6 @@
-use Rattle.std.proofs.Common.{◌<◌, ◌+◌, ◌-◌, ap, arith}
+use Rattle.std.proofs.Common.{◌<◌, ◌+◌, ◌-◌, arith}
 use Rattle.frame_store.specs.Laws.{fits_after}
-use Rattle.address_space.proofs.DroppedPages.{dropped_all, dropped_next, dropped_none, next_may_drop}
+use Rattle.address_space.proofs.DroppedPages.{any_may_drop, dropped_all, dropped_next, dropped_none}
 use Rattle.address_space.proofs.ending.drop_run.Goals as goal
 
 pub pages-init : goal.pages-init
@@ -14,35 +14,33 @@ pages-init g c =
       free = λ alone. omega arith;
     }
 
-pub first_mapped-requires-clause-fits : goal.first_mapped-requires-clause-fits
-first_mapped-requires-clause-fits g c = fits_after g.F.FrameAccess.rule c.pages.invariant.keeps c.requires.fits
+pub drop_first-requires-clause-fits : goal.drop_first-requires-clause-fits
+drop_first-requires-clause-fits g c = fits_after g.F.FrameAccess.rule c.pages.invariant.keeps c.requires.fits
 
-pub first_mapped-requires-clause-held : goal.first_mapped-requires-clause-held
-first_mapped-requires-clause-held g c =
+pub drop_first-requires-clause-ready : goal.drop_first-requires-clause-ready
+drop_first-requires-clause-ready g c =
     let r = c.requires.ready in
     let far = c.pages.invariant.dropped r.0 r.1 r.2 r.3 in
-    (far.0, far.1.stands.tables)
+    (far.0, far.1.stands.tables, any_may_drop _ c.args.root.0 r.0 r.1 r.2 _ c.args.first c.pages.from c.args.end far c.requires.low)
 
-pub drop_leaf-requires-clause-fits : goal.drop_leaf-requires-clause-fits
-drop_leaf-requires-clause-fits g c =
-    fits_after g.F.FrameAccess.rule c.in-Some.ensures.keeps (fits_after g.F.FrameAccess.rule c.pages.invariant.keeps c.requires.fits)
-
-pub drop_leaf-requires-clause-ready : goal.drop_leaf-requires-clause-ready
-drop_leaf-requires-clause-ready g c =
+pub overflow_add-from : goal.overflow_add-from
+overflow_add-from g c =
     let r = c.requires.ready in
     let far = c.pages.invariant.dropped r.0 r.1 r.2 r.3 in
-    let found = c.in-Some.ensures.page far.0 far.1.stands.tables in
-    (far.0, rw c.in-Some.ensures.view (next_may_drop _ c.args.root.0 r.0 r.1 r.2 _ c.args.first c.pages.from c.args.end far _ _ found c.requires.low))
+    let may = any_may_drop _ c.args.root.0 r.0 r.1 r.2 _ c.args.first c.pages.from c.args.end far c.requires.low in
+    let before = ((c.in-Some.ensures.dropped far.0 far.1.stands.tables may).1).1 in
+    let low = c.requires.low in
+    omega (arith, before, low)
 
 pub pages-smaller : goal.pages-smaller
 pages-smaller g c =
     let r = c.requires.ready in
     let far = c.pages.invariant.dropped r.0 r.1 r.2 r.3 in
-    let found = c.in-Some.ensures.page far.0 far.1.stands.tables in
+    let may = any_may_drop _ c.args.root.0 r.0 r.1 r.2 _ c.args.first c.pages.from c.args.end far c.requires.low in
+    let found = (c.in-Some.ensures.dropped far.0 far.1.stands.tables may).1 in
     let near = found.0 in
     let before = found.1 in
-    let number = c.number-from-in-Some.ensures.value in
-    let less : c.args.end - (c.number-from-in-Some.result + 1) < c.args.end - c.pages.from = omega (arith, near, before, number) in
+    let less : c.args.end - (c.in-Some.page + 1) < c.args.end - c.pages.from = omega (arith, near, before) in
     less
 
 pub pages-preserved : goal.pages-preserved
@@ -50,37 +48,39 @@ pages-preserved g c =
     let i = c.pages.invariant in
     let r = c.requires.ready in
     let far = i.dropped r.0 r.1 r.2 r.3 in
-    let found = c.in-Some.ensures.page far.0 far.1.stands.tables in
+    let may = any_may_drop _ c.args.root.0 r.0 r.1 r.2 _ c.args.first c.pages.from c.args.end far c.requires.low in
+    let found = (c.in-Some.ensures.dropped far.0 far.1.stands.tables may).1 in
     let near = found.0 in
     let before = found.1 in
-    let number = c.number-from-in-Some.ensures.value in
     let after = i.after in
     record {
-      after = omega (arith, after, near, number);
-      within = omega (arith, before, number);
+      after = omega (arith, after, near);
+      within = omega (arith, before);
       dropped = λ trapframe t p s.
           let far = i.dropped trapframe t p s in
-          let found = c.in-Some.ensures.page far.0 far.1.stands.tables in
-          let may = next_may_drop _ c.args.root.0 trapframe t p _ c.args.first c.pages.from c.args.end far _ _ found c.requires.low in
-          let gone = rw c.in-Some.ensures.view at c.drop_leaf.ensures.dropped far.0 may in
-          rw number (dropped_next _ c.args.root.0 trapframe t p _ c.args.first c.pages.from c.args.end far _ _ found c.requires.low i.after _ gone);
-      keeps = λ others r. c.drop_leaf.ensures.keeps others (c.in-Some.ensures.keeps others (i.keeps others r));
+          let may = any_may_drop _ c.args.root.0 trapframe t p _ c.args.first c.pages.from c.args.end far c.requires.low in
+          let gone = c.in-Some.ensures.dropped far.0 far.1.stands.tables may in
+          dropped_next _ c.args.root.0 trapframe t p _ c.args.first c.pages.from c.args.end far _ _ gone.1 c.requires.low i.after _ gone.2;
+      keeps = λ others r. c.in-Some.ensures.keeps others (i.keeps others r);
       free = λ alone.
           let still = i.free alone in
-          let less = c.drop_leaf.ensures.free alone in
-          let same = ap g.F.FrameAccess.free c.in-Some.ensures.same in
-          omega (arith, still, less, same);
+          let less = c.in-Some.ensures.free alone in
+          omega (arith, still, less);
     }
 
 pub returns-clause-dropped : goal.returns-clause-dropped
 returns-clause-dropped g c trapframe t p s =
     let i = c.pages.invariant in
     let far = i.dropped trapframe t p s in
-    let found = c.in_default.ensures.page far.0 far.1.stands.tables in
-    rw c.in_default.ensures.view (dropped_all _ c.args.root.0 trapframe t p _ c.args.first c.pages.from c.args.end far i.within found)
+    let may = any_may_drop _ c.args.root.0 trapframe t p _ c.args.first c.pages.from c.args.end far c.requires.low in
+    let none = c.in_default.ensures.dropped far.0 far.1.stands.tables may in
+    rw none.1 (dropped_all _ c.args.root.0 trapframe t p _ c.args.first c.pages.from c.args.end far i.within none.0)
 
 pub returns-clause-keeps : goal.returns-clause-keeps
 returns-clause-keeps g c others r = c.in_default.ensures.keeps others (c.pages.invariant.keeps others r)
 
 pub returns-clause-free : goal.returns-clause-free
-returns-clause-free g c alone = rw c.in_default.ensures.same (c.pages.invariant.free alone)
+returns-clause-free g c alone =
+    let still = c.pages.invariant.free alone in
+    let less = c.in_default.ensures.free alone in
+    omega (arith, still, less)
