@@ -1,9 +1,9 @@
 -- What an access of the user comes to, from what its walk came to.
-use Rattle.std.proofs.Common.{◌≡◌, ℕ, zero, suc, ◌/◌, ◌%◌, ◌<◌, ◌&&◌, ◌⊎◌, cond, not, Bool, true, false, None, Some, refl, ap, sym, subst, ◌∙◌, inl, inr, arith, IsTrue}
+use Rattle.std.proofs.Common.{◌≡◌, ℕ, ◌/◌, ◌%◌, ◌&&◌, ◌⊎◌, cond, not, Bool, true, false, None, Some, refl, ap, sym, subst, ◌∙◌, inl, inr}
 use Rattle.std.proofs.lemmas.Bool.{eq-eqb, ne_eqb}
 use Rattle.std.proofs.lemmas.Option.{same_Some}
 use Rattle.frame_store.specs.View.{View}
-use Rattle.process_model.specs.Bytes.{is_width, low_bytes}
+use Rattle.process_model.specs.Bytes.{low_bytes}
 use Rattle.process_model.specs.Inserted.{put_back}
 use Rattle.process_model.specs.PageMap as pages
 use Rattle.process_model.specs.Process.{Page, Process, regions, without_pending}
@@ -31,10 +31,6 @@ use Rattle.address_space.specs.ProcessLeaves.{frame_is}
 use Rattle.address_space.proofs.Users.{rule_of_region, walked_by_user}
 
 -- alignment
-
-pub width_some : (width : ℕ) → IsTrue (is_width width) → 0 < width
-width_some zero h = absurd (cc)
-width_some (suc n) h = omega arith
 
 module _ (p : Process) (x : Asked) where
   pub misaligned : (x.address % x.width ≡ 0 → ⊥) → user_access p x ≡ faulted p x (misaligned_cause x.access)

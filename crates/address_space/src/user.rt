@@ -1,6 +1,6 @@
 // Accesses of the user: translated by the tables of the space, and made.
 
-ghost use Rattle.std.specs.Prelude.{◌≡◌, IsTrue};
+ghost use Rattle.std.specs.Prelude.{◌≡◌, ◌%◌, IsTrue};
 ghost use Rattle.address_space.specs.Accesses.{asked_of, IsWalkOf};
 ghost use Rattle.address_space.specs.Agreement.{body_of, IsSpace};
 ghost use Rattle.frame_store.specs.Laws.{Fits, Keeps};
@@ -24,6 +24,19 @@ pub struct Asked {
     pub va: Va,
     pub width: u64,
     pub value: u64,
+}
+
+/// What is left of an address behind the last multiple of a width. Each width is a constant here, so nothing is divided.
+fn remainder(address: u64, width: u64) -> u64
+    requires { IsTrue (is_width width) }
+    ensures { result ≡ address % width }
+{
+    match width {
+        1 => 0,
+        2 => address % 2,
+        4 => address % 4,
+        _ => address % 8,
+    }
 }
 
 impl<S: FrameSeat> Space<S> {
@@ -69,7 +82,7 @@ impl<S: FrameSeat> Space<S> {
         ensures keeps { Keeps F.rule store.old self.old.seat store.new self.new.seat }
         ensures free { F.alone → F.free store.new ≡ F.free store.old }
     {
-        if asked.va.0 % asked.width != 0 {
+        if remainder(asked.va.0, asked.width) != 0 {
             return Brief::Fault(asked.access.misaligned_cause());
         }
         let address = match walk {

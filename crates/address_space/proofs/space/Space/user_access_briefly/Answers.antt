@@ -2,72 +2,69 @@ use Rattle.std.proofs.Common.{None, ap, sym, ◌∙◌, refl}
 use Rattle.process_model.specs.declared.step.Reply.TheVariants.{Value}
 use Rattle.address_space.specs.Accesses.{asked_of}
 use Rattle.address_space.specs.Pending.{agrees_pending}
-use Rattle.address_space.proofs.UserAnswers.{answers_load, answers_store, fault_answer, granted, misaligned, on_frame, still_agrees, width_some}
+use Rattle.address_space.proofs.UserAnswers.{answers_load, answers_store, fault_answer, granted, misaligned, on_frame, still_agrees}
 use Rattle.address_space.proofs.space.Space.user_access_briefly.Goals as goal
 
-pub nonzero_rem-asked : goal.nonzero_rem-asked
-nonzero_rem-asked g c = width_some c.args.asked.width c.requires.width
+pub returns-then-remainder-ne0-clause-reply : goal.returns-then-remainder-ne0-clause-reply
+returns-then-remainder-ne0-clause-reply g c t p agrees walks = rw (misaligned p (asked_of c.args.asked) (λ is. c.if-remainder-ne0.true (c.remainder.ensures ∙ is)), c.misaligned_cause.ensures) refl
 
-pub returns-then-asked-ne0-clause-reply : goal.returns-then-asked-ne0-clause-reply
-returns-then-asked-ne0-clause-reply g c t p agrees walks = rw (misaligned p (asked_of c.args.asked) c.if-asked-ne0.true, c.misaligned_cause.ensures) refl
-
-pub returns-then-asked-ne0-clause-after : goal.returns-then-asked-ne0-clause-after
-returns-then-asked-ne0-clause-after g c t p agrees walks = still_agrees _ _ _ _ t p agrees (asked_of c.args.asked) _ (misaligned p (asked_of c.args.asked) c.if-asked-ne0.true)
+pub returns-then-remainder-ne0-clause-after : goal.returns-then-remainder-ne0-clause-after
+returns-then-remainder-ne0-clause-after g c t p agrees walks = still_agrees _ _ _ _ t p agrees (asked_of c.args.asked) _ (misaligned p (asked_of c.args.asked) (λ is. c.if-remainder-ne0.true (c.remainder.ensures ∙ is)))
 
 pub returns-in-PageFault-clause-reply : goal.returns-in-PageFault-clause-reply
 returns-in-PageFault-clause-reply g c t p agrees walks =
-    rw (fault_answer _ _ _ _ t p agrees (asked_of c.args.asked) c.if-asked-ne0.false c.args.walk c.in-PageFault.cause walks c.in-PageFault.is) refl
+    rw (fault_answer _ _ _ _ t p agrees (asked_of c.args.asked) (sym c.remainder.ensures ∙ c.if-remainder-ne0.false) c.args.walk c.in-PageFault.cause walks c.in-PageFault.is) refl
 
 pub returns-in-PageFault-clause-after : goal.returns-in-PageFault-clause-after
 returns-in-PageFault-clause-after g c t p agrees walks =
-    still_agrees _ _ _ _ t p agrees (asked_of c.args.asked) _ (fault_answer _ _ _ _ t p agrees (asked_of c.args.asked) c.if-asked-ne0.false c.args.walk c.in-PageFault.cause walks c.in-PageFault.is)
+    still_agrees _ _ _ _ t p agrees (asked_of c.args.asked) _ (fault_answer _ _ _ _ t p agrees (asked_of c.args.asked) (sym c.remainder.ensures ∙ c.if-remainder-ne0.false) c.args.walk c.in-PageFault.cause walks c.in-PageFault.is)
 
 pub unreachable-requires : goal.unreachable-requires
 unreachable-requires g c =
     let r = c.requires.ready in
-    let found = granted _ _ _ _ r.0 r.1 r.2 (asked_of c.args.asked) c.if-asked-ne0.false _ _ _ (sym c.in-Leaf.is ∙ r.3) in
+    let found = granted _ _ _ _ r.0 r.1 r.2 (asked_of c.args.asked) (sym c.remainder.ensures ∙ c.if-remainder-ne0.false) _ _ _ (sym c.in-Leaf.is ∙ r.3) in
     let both = sym c.in_default.is ∙ c.from_ppn.ensures ∙ found.framed in
     cc
 
 pub write_at-requires-clause-ready : goal.write_at-requires-clause-ready
 write_at-requires-clause-ready g c =
     let r = c.requires.ready in
-    let found = granted _ _ _ _ r.0 r.1 r.2 (asked_of c.args.asked) c.if-asked-ne0.false _ _ _ (sym c.in-Leaf.is ∙ r.3) in
-    (r.0, r.1, found.page, found.writes c.in-Store.is, on_frame _ _ _ _ r.0 r.1 r.2 (asked_of c.args.asked) c.if-asked-ne0.false _ found c.in-Some.frame (sym c.from_ppn.ensures ∙ c.in-Some.is))
+    let found = granted _ _ _ _ r.0 r.1 r.2 (asked_of c.args.asked) (sym c.remainder.ensures ∙ c.if-remainder-ne0.false) _ _ _ (sym c.in-Leaf.is ∙ r.3) in
+    (r.0, r.1, found.page, found.writes c.in-Store.is, on_frame _ _ _ _ r.0 r.1 r.2 (asked_of c.args.asked) (sym c.remainder.ensures ∙ c.if-remainder-ne0.false) _ found c.in-Some.frame (sym c.from_ppn.ensures ∙ c.in-Some.is))
 
 pub read_at-requires : goal.read_at-requires
 read_at-requires g c =
     let r = c.requires.ready in
-    let found = granted _ _ _ _ r.0 r.1 r.2 (asked_of c.args.asked) c.if-asked-ne0.false _ _ _ (sym c.in-Leaf.is ∙ r.3) in
+    let found = granted _ _ _ _ r.0 r.1 r.2 (asked_of c.args.asked) (sym c.remainder.ensures ∙ c.if-remainder-ne0.false) _ _ _ (sym c.in-Leaf.is ∙ r.3) in
     record {
       fits = c.requires.fits;
-      ready = (r.0, r.1, found.page, found.can, on_frame _ _ _ _ r.0 r.1 r.2 (asked_of c.args.asked) c.if-asked-ne0.false _ found c.in-Some.frame (sym c.from_ppn.ensures ∙ c.in-Some.is));
+      ready = (r.0, r.1, found.page, found.can, on_frame _ _ _ _ r.0 r.1 r.2 (asked_of c.args.asked) (sym c.remainder.ensures ∙ c.if-remainder-ne0.false) _ found c.in-Some.frame (sym c.from_ppn.ensures ∙ c.in-Some.is));
       width = c.requires.width;
-      aligned = c.if-asked-ne0.false;
+      aligned = sym c.remainder.ensures ∙ c.if-remainder-ne0.false;
     }
 
 pub returns-in-Store-clause-reply : goal.returns-in-Store-clause-reply
 returns-in-Store-clause-reply g c t p agrees walks =
-    let found = granted _ _ _ _ t p agrees (asked_of c.args.asked) c.if-asked-ne0.false _ _ _ (sym c.in-Leaf.is ∙ walks) in
-    rw (answers_store _ _ _ _ t p agrees (asked_of c.args.asked) c.if-asked-ne0.false _ found c.in-Store.is) refl
+    let found = granted _ _ _ _ t p agrees (asked_of c.args.asked) (sym c.remainder.ensures ∙ c.if-remainder-ne0.false) _ _ _ (sym c.in-Leaf.is ∙ walks) in
+    rw (answers_store _ _ _ _ t p agrees (asked_of c.args.asked) (sym c.remainder.ensures ∙ c.if-remainder-ne0.false) _ found c.in-Store.is) refl
 
 pub returns-in-Store-clause-after : goal.returns-in-Store-clause-after
 returns-in-Store-clause-after g c t p agrees walks =
-    let found = granted _ _ _ _ t p agrees (asked_of c.args.asked) c.if-asked-ne0.false _ _ _ (sym c.in-Leaf.is ∙ walks) in
-    let on = on_frame _ _ _ _ t p agrees (asked_of c.args.asked) c.if-asked-ne0.false _ found c.in-Some.frame (sym c.from_ppn.ensures ∙ c.in-Some.is) in
-    rw (answers_store _ _ _ _ t p agrees (asked_of c.args.asked) c.if-asked-ne0.false _ found c.in-Store.is)
+    let found = granted _ _ _ _ t p agrees (asked_of c.args.asked) (sym c.remainder.ensures ∙ c.if-remainder-ne0.false) _ _ _ (sym c.in-Leaf.is ∙ walks) in
+    let on = on_frame _ _ _ _ t p agrees (asked_of c.args.asked) (sym c.remainder.ensures ∙ c.if-remainder-ne0.false) _ found c.in-Some.frame (sym c.from_ppn.ensures ∙ c.in-Some.is) in
+    rw (answers_store _ _ _ _ t p agrees (asked_of c.args.asked) (sym c.remainder.ensures ∙ c.if-remainder-ne0.false) _ found c.in-Store.is)
     (agrees_pending _ _ _ _ t _ (c.write_at.ensures.agrees t p found.page (found.writes c.in-Store.is) on) None)
 
 pub returns-in-Fetch : goal.returns-in-Fetch
 returns-in-Fetch g c = record {
   reply = λ t p agrees walks.
-      let found = granted _ _ _ _ t p agrees (asked_of c.args.asked) c.if-asked-ne0.false _ _ _ (sym c.in-Leaf.is ∙ walks) in
-      let on = on_frame _ _ _ _ t p agrees (asked_of c.args.asked) c.if-asked-ne0.false _ found c.in-Some.frame (sym c.from_ppn.ensures ∙ c.in-Some.is) in
-      rw (answers_load _ _ _ _ t p agrees (asked_of c.args.asked) c.if-asked-ne0.false _ found c.in-Fetch.is) (ap Value (c.read_at.ensures.value t p found.page found.can on));
+      let found = granted _ _ _ _ t p agrees (asked_of c.args.asked) (sym c.remainder.ensures ∙ c.if-remainder-ne0.false) _ _ _ (sym c.in-Leaf.is ∙ walks) in
+      let on = on_frame _ _ _ _ t p agrees (asked_of c.args.asked) (sym c.remainder.ensures ∙ c.if-remainder-ne0.false) _ found c.in-Some.frame (sym c.from_ppn.ensures ∙ c.in-Some.is) in
+      rw (answers_load _ _ _ _ t p agrees (asked_of c.args.asked) (sym c.remainder.ensures ∙ c.if-remainder-ne0.false) _ found c.in-Fetch.is) (ap Value (c.read_at.ensures.value t p found.page found.can on));
   after = λ t p agrees walks.
-      let found = granted _ _ _ _ t p agrees (asked_of c.args.asked) c.if-asked-ne0.false _ _ _ (sym c.in-Leaf.is ∙ walks) in
-      let on = on_frame _ _ _ _ t p agrees (asked_of c.args.asked) c.if-asked-ne0.false _ found c.in-Some.frame (sym c.from_ppn.ensures ∙ c.in-Some.is) in
-      rw (answers_load _ _ _ _ t p agrees (asked_of c.args.asked) c.if-asked-ne0.false _ found c.in-Fetch.is, c.read_at.ensures.view, c.read_at.ensures.root, c.read_at.ensures.trapframe, c.read_at.ensures.layout)
+      let found = granted _ _ _ _ t p agrees (asked_of c.args.asked) (sym c.remainder.ensures ∙ c.if-remainder-ne0.false) _ _ _ (sym c.in-Leaf.is ∙ walks) in
+      let on = on_frame _ _ _ _ t p agrees (asked_of c.args.asked) (sym c.remainder.ensures ∙ c.if-remainder-ne0.false) _ found c.in-Some.frame (sym c.from_ppn.ensures ∙ c.in-Some.is) in
+      rw (answers_load _ _ _ _ t p agrees (asked_of c.args.asked) (sym c.remainder.ensures ∙ c.if-remainder-ne0.false) _ found c.in-Fetch.is, c.read_at.ensures.view, c.read_at.ensures.root, c.read_at.ensures.trapframe, c.read_at.ensures.layout)
       (agrees_pending _ _ _ _ t p agrees None);
   root = c.read_at.ensures.root;
   trapframe = c.read_at.ensures.trapframe;
@@ -78,8 +75,8 @@ returns-in-Fetch g c = record {
 
 pub returns-in-PageFault-2-clause-reply : goal.returns-in-PageFault-2-clause-reply
 returns-in-PageFault-2-clause-reply g c t p agrees walks =
-    rw (fault_answer _ _ _ _ t p agrees (asked_of c.args.asked) c.if-asked-ne0.false c.args.walk c.in-PageFault.cause walks c.in-PageFault.is) refl
+    rw (fault_answer _ _ _ _ t p agrees (asked_of c.args.asked) (sym c.remainder.ensures ∙ c.if-remainder-ne0.false) c.args.walk c.in-PageFault.cause walks c.in-PageFault.is) refl
 
 pub returns-in-PageFault-2-clause-after : goal.returns-in-PageFault-2-clause-after
 returns-in-PageFault-2-clause-after g c t p agrees walks =
-    still_agrees _ _ _ _ t p agrees (asked_of c.args.asked) _ (fault_answer _ _ _ _ t p agrees (asked_of c.args.asked) c.if-asked-ne0.false c.args.walk c.in-PageFault.cause walks c.in-PageFault.is)
+    still_agrees _ _ _ _ t p agrees (asked_of c.args.asked) _ (fault_answer _ _ _ _ t p agrees (asked_of c.args.asked) (sym c.remainder.ensures ∙ c.if-remainder-ne0.false) c.args.walk c.in-PageFault.cause walks c.in-PageFault.is)
