@@ -36,6 +36,21 @@ front_goes_on base b d n text rest is front = record {
   says = digits_more base b (Some 0) front.digits ∙ rw (front.says, is) refl;
 }
 
+-- four hexadecimal digits more
+pub four_go_on : (a b c d w x y z n : ℕ) (text rest : List ℕ) → digit_of 16 a ≡ Some w → digit_of 16 b ≡ Some x → digit_of 16 c ≡ Some y → digit_of 16 d ≡ Some z
+    → IsFront 16 text (a ∷ b ∷ c ∷ d ∷ rest) n → IsFront 16 text rest (n * 65536 + (w * 4096 + x * 256 + y * 16 + z))
+four_go_on a b c d w x y z n text rest first second third fourth front =
+    let one = front_goes_on 16 a w n text (b ∷ c ∷ d ∷ rest) first front in
+    let two = front_goes_on 16 b x (n * 16 + w) text (c ∷ d ∷ rest) second one in
+    let three = front_goes_on 16 c y ((n * 16 + w) * 16 + x) text (d ∷ rest) third two in
+    let four = front_goes_on 16 d z (((n * 16 + w) * 16 + x) * 16 + y) text rest fourth three in
+    let same : (((n * 16 + w) * 16 + x) * 16 + y) * 16 + z ≡ n * 65536 + (w * 4096 + x * 256 + y * 16 + z) = omega arith in
+    subst (λ (k : ℕ). IsFront 16 text rest k) same four
+
+-- four zeros more
+pub zeros_go_on : (text rest : List ℕ) → IsFront 16 text (48 ∷ 48 ∷ 48 ∷ 48 ∷ rest) 0 → IsFront 16 text rest 0
+zeros_go_on text rest front = four_go_on 48 48 48 48 0 0 0 0 0 text rest refl refl refl refl front
+
 -- digits are no blanks, and a field
 
 no_blank : (base b d : ℕ) → digit_of base b ≡ Some d → is_blank b ≡ false

@@ -11,6 +11,7 @@ pub mod OpenList
 pub mod Pairs
 pub mod Playable
 pub mod QuickLines
+pub mod WordFronts
 pub mod Splitting
 pub mod ThreadExamples
 pub mod ThreadsKept

@@ -6,6 +6,7 @@ pub mod Listed
 pub mod Pieces
 pub mod Playable
 pub mod Quick
+pub mod QuickWords
 pub mod Reading
 pub mod Rows
 pub mod WordOf

@@ -1,6 +1,6 @@
 // Numbers at the front of a line, read in one pass: each byte is looked at once, and where the digits end is found with their value.
 
-ghost use Rattle.std.specs.Prelude.{◌≡◌, ◌∷◌, IfSome};
+ghost use Rattle.std.specs.Prelude.{◌≡◌, ◌+◌, ◌*◌, ◌<◌, ◌≤◌, ◌∷◌, ℕ, List, IfSome, length, true};
 ghost use Rattle.process_model.specs.Lines.{ends_field, fields_of};
 ghost use Rattle.process_model.specs.declared.script.FieldKind.TheVariants as kind;
 ghost use Rattle.process_model.specs.declared.script.FieldValue.TheVariants as value;
@@ -25,7 +25,7 @@ fn skip_blanks(line: &[u8]) -> &[u8]
 }
 
 /// Whether no byte of a field stands first.
-fn is_end(text: &[u8]) -> bool
+pub fn is_end(text: &[u8]) -> bool
     ensures { result ≡ ends_field text.now }
 {
     match text {
@@ -34,11 +34,24 @@ fn is_end(text: &[u8]) -> bool
     }
 }
 
-/// What follows the zeros that a text begins with.
+/// What follows four zeros.
+fn behind_four_zeros(text: &[u8]) -> Option<&[u8]>
+    ensures { IfSome result (λ rest. text.now ≡ 48 ∷ 48 ∷ 48 ∷ 48 ∷ rest.now) }
+{
+    match text {
+        [b'0', b'0', b'0', b'0', rest @ ..] => Some(rest),
+        _ => None,
+    }
+}
+
+/// What follows the zeros that a text begins with, which are looked at by fours first.
 fn skip_zeros(text: &[u8]) -> &[u8]
     ensures { IsFront 16 text.now result.now 0 }
 {
     let mut rest = text;
+    'fours: while let Some(after) = behind_four_zeros(rest) {
+        rest = after;
+    }
     'zeros: while let Some((byte, after)) = rest.split_first() {
         if *byte != b'0' {
             return rest;
@@ -48,12 +61,54 @@ fn skip_zeros(text: &[u8]) -> &[u8]
     rest
 }
 
+/// Whether four values are those of hexadecimal digits.
+fn are_digits(a: u8, b: u8, c: u8, d: u8) -> bool
+    ensures { result ≡ true → (a ≤ 15) × (b ≤ 15) × (c ≤ 15) × (d ≤ 15) }
+{
+    a <= 15 && b <= 15 && c <= 15 && d <= 15
+}
+
+/// The first four bytes, and what follows them.
+fn first_four(text: &[u8]) -> Option<(u8, u8, u8, u8, &[u8])>
+    ensures { IfSome result (λ found. text.now ≡ found.0 ∷ found.1 ∷ found.2 ∷ found.3 ∷ found.4.now) }
+{
+    match text {
+        [a, b, c, d, rest @ ..] => Some((*a, *b, *c, *d, rest)),
+        _ => None,
+    }
+}
+
+/// The number of the four hexadecimal digits that a text begins with, and what follows them.
+fn four_digits(text: &[u8]) -> Option<(u64, &[u8])>
+    ensures more { IfSome result (λ found. (whole : List ℕ) (n : ℕ) → IsFront 16 whole text.now n → IsFront 16 whole found.1.now (n * 65536 + found.0)) }
+    ensures small { IfSome result (λ found. found.0 < 65536) }
+    ensures less { IfSome result (λ found. length found.1.now < length text.now) }
+{
+    let (a, b, c, d, rest) = first_four(text)?;
+    let a = hexadecimal_value(a);
+    let b = hexadecimal_value(b);
+    let c = hexadecimal_value(c);
+    let d = hexadecimal_value(d);
+    if !are_digits(a, b, c, d) {
+        return None;
+    }
+    let value = u64::from(a) * 4096 + u64::from(b) * 256 + u64::from(c) * 16 + u64::from(d);
+    Some((value, rest))
+}
+
 /// The hexadecimal digits that a text begins with, as a number below 2^64, and what follows them.
 fn hexadecimal_front(text: &[u8]) -> Option<(u64, &[u8])>
     ensures { IfSome result (λ found. IsEndedFront 16 text.now found.1.now found.0) }
 {
     let mut value = 0u64;
     let mut rest = skip_zeros(text);
+    'fours: while value < 1 << 48 {
+        let Some((four, after)) = four_digits(rest) else {
+            break;
+        };
+        value = value * 65536 + four;
+        rest = after;
+    }
     'digits: while let Some((byte, after)) = rest.split_first() {
         let digit = hexadecimal_value(*byte);
         if digit > 15 {
@@ -104,7 +159,9 @@ fn behind_prefix(text: &[u8]) -> Option<&[u8]>
     }
 }
 
-/// The number that comes next, and what follows it.
+/// The number that comes next, and what follows it. It is made part of each line that asks for it (`inline(always)`), so that
+/// its answer need not go through memory.
+#[inline(always)]
 pub fn next_number(line: &[u8]) -> Option<(u64, &[u8])>
     ensures { IfSome result (λ found. IsNext line.now found.1.now kind.Number (value.Number found.0)) }
 {

@@ -1,12 +1,13 @@
 // Lines that are one step of numbers, read at once: each field once, into its place in the step. A line of another form, and one with
 // a fault, is nothing here: it is read field by field then, and its fault is found.
 
-ghost use Rattle.std.specs.Prelude.{◌≡◌, IfSome, codes, true, [], ◌∷◌};
+ghost use Rattle.std.specs.Prelude.{◌≡◌, IfSome, codes, true, [], ◌∷◌, ◌++◌};
 ghost use Rattle.process_model.specs.Fields.{one_number, two_numbers};
 ghost use Rattle.process_model.specs.declared.script.FieldKind.TheVariants as kind;
 ghost use Rattle.process_model.specs.declared.script.FieldValue.TheVariants as value;
 ghost use Rattle.process_model.specs.Lines.{fields_of};
 ghost use Rattle.script_reader.specs.Quick.{EndsWith, Reads, SaysCommand};
+ghost use Rattle.script_reader.specs.QuickWords.{letters};
 
 use crate::fronts::next_number;
 use crate::lines::first_field;
@@ -180,23 +181,60 @@ fn fix(line: &[u8]) -> Option<Command>
     Some(Command::Fix { hart })
 }
 
-/// The command of a word and the fields after it, where they are numbers of the right count.
-pub fn quick_command(text: &[u8], line: &[u8]) -> Option<Command>
-    ensures { IfSome result (λ c. SaysCommand text.now line.now c) }
+/// The words of the lines that are read at once.
+#[derive(Clone, Copy)]
+pub enum QuickWord {
+    Load,
+    Store,
+    Fetch,
+    Fix,
+    Enter,
+    Leave,
+    On,
+    Fill,
+    Next,
+    Trap,
+    Fork,
+    CopyIn,
+}
+
+/// The word whose letters a line begins with, and what follows them.
+pub fn word_front(line: &[u8]) -> Option<(QuickWord, &[u8])>
+    ensures { IfSome result (λ found. line.now ≡ letters found.0 ++ found.1.now) }
 {
-    match text {
-        b"load" => load(line),
-        b"store" => store(line),
-        b"fetch" => fetch(line),
-        b"fill" => fill(line),
-        b"trap" => trap(line),
-        b"next" => next(line),
-        b"fix" => fix(line),
-        b"enter" => enter(line),
-        b"leave" => leave(line),
-        b"on" => on(line),
-        b"fork" => fork(line),
-        b"copyin" => copy_in(line),
+    match line {
+        [b'l', b'o', b'a', b'd', rest @ ..] => Some((QuickWord::Load, rest)),
+        [b's', b't', b'o', b'r', b'e', rest @ ..] => Some((QuickWord::Store, rest)),
+        [b'f', b'e', b't', b'c', b'h', rest @ ..] => Some((QuickWord::Fetch, rest)),
+        [b'f', b'i', b'x', rest @ ..] => Some((QuickWord::Fix, rest)),
+        [b'e', b'n', b't', b'e', b'r', rest @ ..] => Some((QuickWord::Enter, rest)),
+        [b'l', b'e', b'a', b'v', b'e', rest @ ..] => Some((QuickWord::Leave, rest)),
+        [b'o', b'n', rest @ ..] => Some((QuickWord::On, rest)),
+        [b'f', b'i', b'l', b'l', rest @ ..] => Some((QuickWord::Fill, rest)),
+        [b'n', b'e', b'x', b't', rest @ ..] => Some((QuickWord::Next, rest)),
+        [b't', b'r', b'a', b'p', rest @ ..] => Some((QuickWord::Trap, rest)),
+        [b'f', b'o', b'r', b'k', rest @ ..] => Some((QuickWord::Fork, rest)),
+        [b'c', b'o', b'p', b'y', b'i', b'n', rest @ ..] => Some((QuickWord::CopyIn, rest)),
         _ => None,
+    }
+}
+
+/// The command of a word and the fields after it, where they are numbers of the right count.
+pub fn quick_command(word: QuickWord, line: &[u8]) -> Option<Command>
+    ensures { IfSome result (λ c. SaysCommand (letters word) line.now c) }
+{
+    match word {
+        QuickWord::Load => load(line),
+        QuickWord::Store => store(line),
+        QuickWord::Fetch => fetch(line),
+        QuickWord::Fix => fix(line),
+        QuickWord::Enter => enter(line),
+        QuickWord::Leave => leave(line),
+        QuickWord::On => on(line),
+        QuickWord::Fill => fill(line),
+        QuickWord::Next => next(line),
+        QuickWord::Trap => trap(line),
+        QuickWord::Fork => fork(line),
+        QuickWord::CopyIn => copy_in(line),
     }
 }

@@ -10,9 +10,10 @@ ghost use Rattle.script_reader.specs.WordOf.{as_fields, word_in, word_of};
 
 use crate::draft::Draft;
 use crate::fault::{LineFault, ScriptError};
+use crate::fronts::is_end;
 use crate::items::make_item;
 use crate::lines::first_field;
-use crate::quick::quick_command;
+use crate::quick::{quick_command, word_front};
 use crate::table::Row;
 use crate::values::read_values;
 use process_model::{Cause, Command, Item};
@@ -91,8 +92,11 @@ fn read_line(alloc: Global, draft: &Draft, line: &[u8]) -> Result<Option<Item>, 
 fn quick_line(draft: &Draft, line: &[u8]) -> Option<Command>
     ensures { IfSome result (λ c. words.line_of draft.now line.now ≡ Ok (Some (item.Command c))) }
 {
-    let (text, fields) = first_field(line)?;
-    let command = quick_command(text, fields)?;
+    let (word, fields) = word_front(line)?;
+    if !is_end(fields) {
+        return None;
+    }
+    let command = quick_command(word, fields)?;
     if !draft.takes_commands() || line.len() > LONGEST_LINE || !is_ascii(line) {
         return None;
     }

@@ -7,12 +7,12 @@ use Rattle.script_reader.proofs.fronts.hexadecimal_front.Goals as goal
 pub digits-preserved : goal.digits-preserved
 digits-preserved c =
     let text = c.args.text.now in
-    let after = c.in-Some.after.now in
+    let after = c.in-Some-split_first.after.now in
     let n = c.digits.value in
-    let b = c.in-Some.byte.now in
+    let b = c.in-Some-split_first.byte.now in
     let d = c.hexadecimal_value-digit.result in
     let small : d ≤ 15 = omega (arith, c.if-digit-gt15.false) in
-    let here : IsFront 16 text (b ∷ after) n = subst (λ (r : List ℕ). IsFront 16 text r n) c.in-Some.ensures.cases.0 c.digits.invariant.front in
+    let here : IsFront 16 text (b ∷ after) n = subst (λ (r : List ℕ). IsFront 16 text r n) c.in-Some-split_first.ensures.cases.0 c.digits.invariant.front in
     record {
       front = subst (λ (k : ℕ). IsFront 16 text after (n * 16 + k)) (sym c.from.ensures) (front_goes_on 16 b d n text after (said_digit 16 b d c.hexadecimal_value-digit.ensures (omega (arith, small))) here);
       small = omega (arith, c.if-value.false, c.from.ensures, small);

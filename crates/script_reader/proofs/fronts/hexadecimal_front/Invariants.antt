@@ -2,6 +2,12 @@ use Rattle.std.proofs.Common.{◌<◌, ◌^◌, length}
 use Rattle.script_reader.specs.NumberFronts.{IsFront}
 use Rattle.script_reader.proofs.fronts.hexadecimal_front.Given as goal
 
+abbrev pub invariant-fours : goal.invariant-fours
+invariant-fours l = record { front : IsFront 16 l.text l.rest l.value; small : l.value < 2 ^ 64 }
+
+abbrev pub decreases-fours : goal.decreases-fours
+decreases-fours l = length l.rest
+
 abbrev pub invariant-digits : goal.invariant-digits
 invariant-digits l = record { front : IsFront 16 l.text l.rest l.value; small : l.value < 2 ^ 64 }
 
