@@ -1,3 +1,4 @@
+pub mod AsciiLines
 pub mod Colons
 pub mod Cutting
 pub mod Digits

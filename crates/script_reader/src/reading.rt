@@ -1,6 +1,6 @@
 // What one line says, or its fault.
 
-ghost use Rattle.std.specs.Prelude.{◌≡◌, IfSome, Ok, Some};
+ghost use Rattle.std.specs.Prelude.{◌≡◌, IfSome, Ok, Some, true};
 ghost use Rattle.std.specs.Option.{option_map};
 ghost use Rattle.process_model.specs.Lines.{fields_of};
 ghost use Rattle.process_model.specs.declared.script.Item.TheVariants as item;
@@ -51,7 +51,7 @@ fn is_comment(text: &[u8]) -> bool
     matches!(text, [b'#', ..])
 }
 
-fn is_ascii(line: &[u8]) -> bool
+pub fn is_ascii(line: &[u8]) -> bool
     ensures { result ≡ words.is_ascii line.now }
 {
     line.is_ascii()
@@ -88,8 +88,9 @@ fn read_line(alloc: Global, draft: &Draft, line: &[u8]) -> Result<Option<Item>, 
     Ok(Some(item))
 }
 
-/// The command of a line that can be read at once, where one more may stand.
+/// The command of a line of ASCII that can be read at once, where one more may stand.
 fn quick_line(draft: &Draft, line: &[u8]) -> Option<Command>
+    requires { words.is_ascii line.now ≡ true }
     ensures { IfSome result (λ c. words.line_of draft.now line.now ≡ Ok (Some (item.Command c))) }
 {
     let (word, fields) = word_front(line)?;
@@ -97,22 +98,24 @@ fn quick_line(draft: &Draft, line: &[u8]) -> Option<Command>
         return None;
     }
     let command = quick_command(word, fields)?;
-    if !draft.takes_commands() || line.len() > LONGEST_LINE || !is_ascii(line) {
+    if !draft.takes_commands() || line.len() > LONGEST_LINE {
         return None;
     }
     Some(command)
 }
 
-/// Adds what a line says to the lines before it.
+/// Adds what a line says to the lines before it. Of a line that is known to be ASCII it is not asked again.
 pub fn add_line(
     alloc: Global,
     draft: &mut Draft,
     number: u64,
     line: &[u8],
+    ascii: bool,
 ) -> Result<(), ScriptError>
+    requires { ascii ≡ true → words.is_ascii line.now ≡ true }
     ensures { Answers (λ u. (draft.new, number)) result (words.with_line draft.old number (words.line_of draft.old line.now)) }
 {
-    if let Some(command) = quick_line(draft, line) {
+    if ascii && let Some(command) = quick_line(draft, line) {
         return match draft.add_command(command) {
             Ok(()) => Ok(()),
             Err(_) => Err(ScriptError::Memory),

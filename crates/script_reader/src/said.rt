@@ -1,6 +1,6 @@
 // What the lines of a script say, one after the other, up to the first fault.
 
-ghost use Rattle.std.specs.Prelude.{◌≡◌, ◌+◌, ◌<◌, ◌≤◌, ◌^◌, length, OnOk, None};
+ghost use Rattle.std.specs.Prelude.{◌≡◌, ◌+◌, ◌<◌, ◌≤◌, ◌^◌, length, OnOk, None, true};
 ghost use Rattle.process_model.specs.Lines.{raw_lines};
 ghost use Rattle.process_model.specs.Script as words;
 ghost use Rattle.script_reader.specs.Reading.{IsKept, read_said};
@@ -8,7 +8,7 @@ ghost use Rattle.script_reader.specs.Reading.{IsKept, read_said};
 use crate::draft::Draft;
 use crate::fault::ScriptError;
 use crate::lines::{first_line, trim_return};
-use crate::reading::add_line;
+use crate::reading::{add_line, is_ascii};
 use process_model::Cause;
 use std::alloc::{AllocError, Global};
 
@@ -35,15 +35,16 @@ impl Said {
         }
     }
 
-    /// Reads one line.
-    fn add_one(&mut self, line: &[u8]) -> Result<(), AllocError>
+    /// Reads one line. That it is ASCII may be known.
+    fn add_one(&mut self, line: &[u8], ascii: bool) -> Result<(), AllocError>
         requires none { self.old.fault ≡ None }
         requires few { self.old.count + 1 < 2 ^ 64 }
+        requires ascii { ascii ≡ true → words.is_ascii line.now ≡ true }
         ensures read { OnOk result (read_said self.new ≡ words.with_line self.old.draft (self.old.count + 1) (words.line_of self.old.draft line.now)) }
         ensures count { self.new.count ≡ self.old.count + 1 }
     {
         self.count += 1;
-        match add_line(self.alloc, &mut self.draft, self.count, line) {
+        match add_line(self.alloc, &mut self.draft, self.count, line, ascii) {
             Ok(()) => Ok(()),
             Err(error) => self.stop(error),
         }
@@ -64,16 +65,17 @@ impl Said {
         }
     }
 
-    /// Reads the lines of a text, up to the first fault.
+    /// Reads the lines of a text, up to the first fault. Whether all of it is ASCII is asked once.
     pub fn add(&mut self, text: &[u8]) -> Result<(), AllocError>
         requires few { self.old.count + length text.now < 2 ^ 64 }
         ensures read { OnOk result (read_said self.new ≡ words.read_lines (read_said self.old) (raw_lines text.now)) }
         ensures few { self.new.count ≤ self.old.count + length text.now }
     {
+        let ascii = is_ascii(text);
         let mut left = text;
         'lines: while !left.is_empty() && self.fault.is_none() {
             let (line, after) = first_line(left);
-            self.add_one(trim_return(line))?;
+            self.add_one(trim_return(line), ascii)?;
             left = after;
         }
         Ok(())

@@ -1,6 +1,4 @@
-use Rattle.std.proofs.Common.{ℕ, List, ◌∷◌, refl, subst, ap}
-use Rattle.process_model.specs.Numbers.{digit_of}
-use Rattle.std.proofs.Common.{Some}
+use Rattle.std.proofs.Common.{ℕ, List, ◌∷◌, refl, subst}
 use Rattle.script_reader.specs.NumberFronts.{IsFront}
 use Rattle.script_reader.proofs.FrontNumbers.{front_goes_on, zeros_go_on}
 use Rattle.script_reader.proofs.fronts.skip_zeros.Goals as goal

@@ -11,4 +11,4 @@ pub returns : goal.returns
 returns c =
     line_says c.args.draft.now c.args.line.now (letters c.in_ok-word.word) c.in_ok-word.fields.now c.in_ok-command.command
     (ap fields_of c.in_ok-word.ensures ∙ word_cut c.in_ok-word.word c.in_ok-word.fields.now (sym c.is_end.ensures ∙ c.if-not-is_end.false)) c.in_ok-command.ensures
-    (sym c.takes_commands.ensures ∙ c.if-not-takes_commands.false) (le-leb _ longest_line (omega (arith, c.if-line-gt-LONGEST_LINE.false))) (sym c.is_ascii.ensures ∙ c.if-not-is_ascii.false)
+    (sym c.takes_commands.ensures ∙ c.if-not-takes_commands.false) (le-leb _ longest_line (omega (arith, c.if-line-gt-LONGEST_LINE.false))) c.requires
