@@ -10,6 +10,7 @@ ghost use Rattle.process_model.specs.World.{World};
 ghost use Rattle.process_model.specs.declared.file.FileText.{FileText};
 ghost use Rattle.process_model.specs.declared.step.Reply.TheVariants.{Done};
 ghost use Rattle.process_model.specs.declared.step.Step.TheVariants as steps;
+ghost use Rattle.script_reader.specs.Packing.{shown};
 ghost use Rattle.script_reader.specs.Playable.{IsDeclared};
 ghost use Rattle.audit_player.specs.Told.{Follows, Tells};
 
@@ -18,6 +19,7 @@ use hart_machine::Machine;
 use process_model::{
     Brief, Command, Image, LONGEST_TEXT, OwnedImage, Step, put_brief, put_reply, put_report,
 };
+use script_reader::Shown;
 
 /// An image of a script, as a step borrows it.
 pub(crate) fn lend(image: &OwnedImage) -> Image<'_>
@@ -148,12 +150,7 @@ fn put_step(machine: &mut Machine, step: Step<'_>, text: &mut Vec<u8>)
 }
 
 /// Does what a line after `boot` says, and puts what it answers.
-pub fn put_answer(
-    machine: &mut Machine,
-    images: &[OwnedImage],
-    command: &Command,
-    text: &mut Vec<u8>,
-)
+fn put_answer(machine: &mut Machine, images: &[OwnedImage], command: &Command, text: &mut Vec<u8>)
     requires world { (w : World) × IsIn machine.old w }
     requires declared { (files : List FileText) × IsDeclared files images.now command.now }
     requires room { vec_len text.old + LONGEST_TEXT ≤ vec_capacity text.old }
@@ -180,5 +177,21 @@ pub fn put_answer(
             address,
             bytes,
         } => put_brief(text, copy_out(machine, *hart, *address, bytes.as_slice())),
+    }
+}
+
+/// Does what a line after `boot` says, as a list of them shows it, and puts what it answers.
+pub fn put_line(machine: &mut Machine, images: &[OwnedImage], line: Shown<'_>, text: &mut Vec<u8>)
+    requires world { (w : World) × IsIn machine.old w }
+    requires declared { (files : List FileText) × IsDeclared files images.now (shown line) }
+    requires room { vec_len text.old + LONGEST_TEXT ≤ vec_capacity text.old }
+    ensures told { (w : World) → IsIn machine.old w → Tells machine.new text.old.items text.new.items (words.played images.now w (shown line.entry)) }
+    ensures len { vec_len text.new ≤ vec_len text.old + LONGEST_TEXT }
+    ensures capacity { vec_capacity text.old ≤ vec_capacity text.new }
+{
+    match line {
+        Shown::Step(step) => put_step(machine, step, text),
+        Shown::Made(command) => put_answer(machine, images, &command, text),
+        Shown::Kept(command) => put_answer(machine, images, command, text),
     }
 }

@@ -7,7 +7,7 @@ ghost use Rattle.process_model.specs.World.{booted};
 ghost use Rattle.script_reader.specs.Playable.{CanBoot, IsPlayable};
 ghost use Rattle.audit_player.specs.Played.{PlaysScript};
 
-use crate::commands::put_answer;
+use crate::commands::put_line;
 use crate::fault::PlayError;
 use crate::moving::write_all;
 use crate::page::PAGE;
@@ -57,8 +57,8 @@ pub fn run<W: Sink>(alloc: Global, script: &Script, writer: &mut W) -> Result<()
     let images = script.images();
     let commands = script.commands();
     put(&mut page, b"ok\n");
-    'lines: for command in commands {
-        put_answer(&mut machine, images, command, &mut page);
+    'lines: for number in 0..commands.len() {
+        put_line(&mut machine, images, commands.get(number), &mut page);
         page.push_reserved(b'\n');
         if page.len() < PAGE {
             continue;

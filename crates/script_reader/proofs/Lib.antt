@@ -16,3 +16,4 @@ pub mod WordFronts
 pub mod Splitting
 pub mod ThreadExamples
 pub mod ThreadsKept
+pub mod Unpacking

@@ -3,6 +3,7 @@ pub mod Digits
 pub mod NumberFronts
 pub mod Gives
 pub mod Listed
+pub mod Packing
 pub mod Pieces
 pub mod Playable
 pub mod Quick

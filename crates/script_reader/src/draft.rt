@@ -4,6 +4,7 @@ ghost use Rattle.std.specs.Prelude.{◌≡◌, ◌&&◌, OnOk, OnErr, is_some, l
 ghost use Rattle.process_model.specs.declared.script.Item.TheVariants as item;
 ghost use Rattle.process_model.specs.Script as words;
 
+use crate::commands::Commands;
 use process_model::{Command, Config, FileText, Item, Keyword, OwnedImage};
 use std::alloc::{AllocError, Global};
 use std::marker::Model;
@@ -23,7 +24,7 @@ pub struct Draft {
     files: Vec<FileText>,
     images: Vec<OwnedImage>,
     config: Option<Config>,
-    commands: Vec<Command>,
+    commands: Commands,
 }
 
 impl Model for Draft {
@@ -31,7 +32,7 @@ impl Model for Draft {
 
     ghost Value = { words.Draft };
 
-    ghost view = { λ d. record { files = d.files.items; images = d.images.items; config = d.config; commands = d.commands.items } };
+    ghost view = { λ d. record { files = d.files.items; images = d.images.items; config = d.config; commands = d.commands } };
 }
 
 /// Whether a word belongs before the steps.
@@ -52,7 +53,7 @@ impl Draft {
             files: Vec::new(alloc),
             images: Vec::new(alloc),
             config: None,
-            commands: Vec::new(alloc),
+            commands: Commands::new(alloc),
         }
     }
 
@@ -119,11 +120,11 @@ impl Draft {
         Ok(())
     }
 
-    pub fn into_parts(self) -> (Vec<FileText>, Vec<OwnedImage>, Option<Config>, Vec<Command>)
+    pub fn into_parts(self) -> (Vec<FileText>, Vec<OwnedImage>, Option<Config>, Commands)
         ensures files { result.0.items ≡ self.files }
         ensures images { result.1.items ≡ self.images }
         ensures config { result.2 ≡ self.config }
-        ensures commands { result.3.items ≡ self.commands }
+        ensures commands { result.3 ≡ self.commands }
     {
         let Draft {
             files,

@@ -3,6 +3,7 @@
 
 mod accesses;
 mod calls;
+mod commands;
 mod declared;
 mod draft;
 mod fault;
@@ -30,6 +31,7 @@ mod thread_named;
 mod thread_script;
 mod values;
 
+pub use commands::{Commands, Shown};
 pub use fault::ScriptError;
 pub use piecewise::{LONGEST_SCRIPT, Reading};
 pub use script::Script;

@@ -5,10 +5,11 @@ ghost use Rattle.process_model.specs.Script as words;
 ghost use Rattle.script_reader.specs.Gives.{Answers};
 ghost use Rattle.script_reader.specs.Playable.{IsPlayable};
 
+use crate::commands::Commands;
 use crate::draft::Draft;
 use crate::fault::ScriptError;
 use crate::piecewise::{LONGEST_SCRIPT, Reading};
-use process_model::{Cause, Command, Config, FileText, OwnedImage};
+use process_model::{Cause, Config, FileText, OwnedImage};
 use std::alloc::Global;
 use std::marker::Model;
 
@@ -18,7 +19,7 @@ pub struct Script {
     files: Vec<FileText>,
     images: Vec<OwnedImage>,
     config: Config,
-    commands: Vec<Command>,
+    commands: Commands,
 }
 
 impl Model for Script {
@@ -26,7 +27,7 @@ impl Model for Script {
 
     ghost Value = { words.Script };
 
-    ghost view = { λ s. record { files = s.files.items; images = s.images.items; config = s.config; commands = s.commands.items } };
+    ghost view = { λ s. record { files = s.files.items; images = s.images.items; config = s.config; commands = s.commands } };
 }
 
 impl Script {
@@ -83,9 +84,9 @@ impl Script {
     }
 
     /// The lines after `boot`.
-    pub fn commands(&self) -> &[Command]
+    pub fn commands(&self) -> &Commands
         ensures { result.now ≡ (self.now).commands }
     {
-        self.commands.as_slice()
+        &self.commands
     }
 }

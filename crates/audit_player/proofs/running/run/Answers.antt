@@ -5,10 +5,10 @@ use Rattle.audit_player.specs.Taken.{WroteSome}
 use Rattle.audit_player.proofs.Written.{declared, page_more, turned, cut, ended}
 use Rattle.audit_player.proofs.running.run.Goals as goal
 
-pub put_answer-requires-clause-declared : goal.put_answer-requires-clause-declared
-put_answer-requires-clause-declared g c =
+pub put_line-requires-clause-declared : goal.put_line-requires-clause-declared
+put_line-requires-clause-declared g c =
     let script = c.args.script.now in
-    declared script.files script.images _ script.commands _ c.lines.command-index _ c.images-images.ensures c.commands-commands.ensures c.command-item.is c.lines-test.true c.requires.playable.commands
+    declared script.files script.images _ script.commands _ c.lines.number _ c.images-images.ensures c.commands-commands.ensures c.get.ensures (omega (arith, c.lines-test.true, c.len-number-end.ensures)) c.requires.playable.commands
 
 pub lines-preserved-then-len-lt-PAGE : goal.lines-preserved-then-len-lt-PAGE
 lines-preserved-then-len-lt-PAGE g c =
@@ -17,8 +17,8 @@ lines-preserved-then-len-lt-PAGE g c =
     record {
       fine = c.lines.invariant.fine;
       low = search rules;
-      room = omega (arith, c.lines.invariant.room, c.put_answer.ensures.capacity, c.push_reserved.ensures.capacity);
-      text = page_more old mid c.lines.machine c.put_answer.new.machine c.images-images.result.now c.commands-commands.result.now c.lines.command-index _ c.lines.page.items c.put_answer.new.text.items c.push_reserved.new.self.items (text_of c.args.script.now) c.command-item.is c.lines-test.true c.put_answer.ensures.told c.push_reserved.ensures.items c.lines.invariant.text;
+      room = omega (arith, c.lines.invariant.room, c.put_line.ensures.capacity, c.push_reserved.ensures.capacity);
+      text = page_more old mid c.lines.machine c.put_line.new.machine c.images-images.result.now c.commands-commands.result.now c.lines.number _ c.lines.page.items c.put_line.new.text.items c.push_reserved.new.self.items (text_of c.args.script.now) c.get.ensures (omega (arith, c.lines-test.true, c.len-number-end.ensures)) c.put_line.ensures.told c.push_reserved.ensures.items c.lines.invariant.text;
     }
 
 pub returns-then-not-write_all-clause-plays : goal.returns-then-not-write_all-clause-plays
@@ -29,8 +29,8 @@ returns-then-not-write_all-clause-plays g c =
     let images = c.images-images.result.now in
     let commands = c.commands-commands.result.now in
     let whole = text_of c.args.script.now in
-    let more = page_more old mid c.lines.machine c.put_answer.new.machine images commands c.lines.command-index _ c.lines.page.items c.put_answer.new.text.items c.push_reserved.new.self.items whole c.command-item.is c.lines-test.true c.put_answer.ensures.told c.push_reserved.ensures.items c.lines.invariant.text in
-    cut old mid new c.put_answer.new.machine images (drop (c.lines.command-index + 1) commands) c.push_reserved.new.self.items whole more (subst (WroteSome mid new) c.as_slice.ensures.value c.write_all.ensures.part)
+    let more = page_more old mid c.lines.machine c.put_line.new.machine images commands c.lines.number _ c.lines.page.items c.put_line.new.text.items c.push_reserved.new.self.items whole c.get.ensures (omega (arith, c.lines-test.true, c.len-number-end.ensures)) c.put_line.ensures.told c.push_reserved.ensures.items c.lines.invariant.text in
+    cut old mid new c.put_line.new.machine images (drop (c.lines.number + 1) commands) c.push_reserved.new.self.items whole more (subst (WroteSome mid new) c.as_slice.ensures.value c.write_all.ensures.part)
 
 pub lines-preserved : goal.lines-preserved
 lines-preserved g c =
@@ -40,13 +40,13 @@ lines-preserved g c =
     let images = c.images-images.result.now in
     let commands = c.commands-commands.result.now in
     let whole = text_of c.args.script.now in
-    let more = page_more old mid c.lines.machine c.put_answer.new.machine images commands c.lines.command-index _ c.lines.page.items c.put_answer.new.text.items c.push_reserved.new.self.items whole c.command-item.is c.lines-test.true c.put_answer.ensures.told c.push_reserved.ensures.items c.lines.invariant.text in
+    let more = page_more old mid c.lines.machine c.put_line.new.machine images commands c.lines.number _ c.lines.page.items c.put_line.new.text.items c.push_reserved.new.self.items whole c.get.ensures (omega (arith, c.lines-test.true, c.len-number-end.ensures)) c.put_line.ensures.told c.push_reserved.ensures.items c.lines.invariant.text in
     let written : c.write_all.result ≡ true = search rules in
     record {
       fine = search rules;
       low = omega (arith, c.clear.ensures.len);
-      room = omega (arith, c.lines.invariant.room, c.put_answer.ensures.capacity, c.push_reserved.ensures.capacity, c.clear.ensures.capacity);
-      text = turned old mid new c.put_answer.new.machine images (drop (c.lines.command-index + 1) commands) c.push_reserved.new.self.items whole more c.clear.new.self.items (subst (Appends mid new) c.as_slice.ensures.value (c.write_all.ensures.whole written)) c.clear.ensures.items;
+      room = omega (arith, c.lines.invariant.room, c.put_line.ensures.capacity, c.push_reserved.ensures.capacity, c.clear.ensures.capacity);
+      text = turned old mid new c.put_line.new.machine images (drop (c.lines.number + 1) commands) c.push_reserved.new.self.items whole more c.clear.new.self.items (subst (Appends mid new) c.as_slice.ensures.value (c.write_all.ensures.whole written)) c.clear.ensures.items;
     }
 
 pub returns-then-write_all-clause-plays : goal.returns-then-write_all-clause-plays
@@ -55,13 +55,13 @@ returns-then-write_all-clause-plays g c =
     let mid = g.W.Sink.contents c.lines.writer in
     let new = g.W.Sink.contents c.write_all-2.new.sink in
     let commands = c.commands-commands.result.now in
-    let past : length commands ≤ c.lines.command-index = search rules in
+    let past : length commands ≤ c.lines.number = omega (arith, c.lines-test.false, c.len-number-end.ensures) in
     let written : c.write_all-2.result ≡ true = search rules in
-    ended old mid new c.lines.machine c.images-images.result.now commands c.lines.command-index c.lines.page.items (text_of c.args.script.now) past c.lines.invariant.text (subst (Appends mid new) c.as_slice-2.ensures.value (c.write_all-2.ensures.whole written))
+    ended old mid new c.lines.machine c.images-images.result.now commands c.lines.number c.lines.page.items (text_of c.args.script.now) past c.lines.invariant.text (subst (Appends mid new) c.as_slice-2.ensures.value (c.write_all-2.ensures.whole written))
 
 pub returns-clause-plays : goal.returns-clause-plays
 returns-clause-plays g c =
     let old = g.W.Sink.contents c.args.writer.now in
     let mid = g.W.Sink.contents c.lines.writer in
     let new = g.W.Sink.contents c.write_all-2.new.sink in
-    cut old mid new c.lines.machine c.images-images.result.now (drop c.lines.command-index c.commands-commands.result.now) c.lines.page.items (text_of c.args.script.now) c.lines.invariant.text (subst (WroteSome mid new) c.as_slice-2.ensures.value c.write_all-2.ensures.part)
+    cut old mid new c.lines.machine c.images-images.result.now (drop c.lines.number c.commands-commands.result.now) c.lines.page.items (text_of c.args.script.now) c.lines.invariant.text (subst (WroteSome mid new) c.as_slice-2.ensures.value c.write_all-2.ensures.part)

@@ -8,5 +8,5 @@ invariant-lines g l = record {
   fine : g.W.Sink.broken l.fn.writer ≡ false → g.W.Sink.broken l.writer ≡ false;
   low : vec_len l.page < 65536;
   room : 66237 ≤ vec_capacity l.page;
-  text : IsWriting (g.W.Sink.contents l.fn.writer) (g.W.Sink.contents l.writer) l.machine l.images (drop l.command-index l.commands) l.page.items (text_of l.script);
+  text : IsWriting (g.W.Sink.contents l.fn.writer) (g.W.Sink.contents l.writer) l.machine l.images (drop l.number l.commands) l.page.items (text_of l.script);
 }
