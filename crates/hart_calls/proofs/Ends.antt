@@ -7,7 +7,11 @@ use Rattle.file_cabinet.specs.declared.promise.PromiseError.TheVariants as error
 use Rattle.file_shelf.specs.Shelved.{Becomes, CanRefuse, Shelved}
 use Rattle.frame_store.specs.View.{View}
 use Rattle.hart_calls.specs.Closed.{cause_of, IsCause}
-use Rattle.hart_calls.specs.Track.{Track}
+use Rattle.address_space.specs.Steps.{IsBare}
+use Rattle.hart_calls.specs.Replay.{Replays}
+use Rattle.hart_calls.specs.Track.{calls_of, Track}
+use Rattle.hart_calls.specs.declared.entry.Entry.{Entry}
+use Rattle.shared_frames.specs.Fits.{view_of}
 use Rattle.hart_calls.specs.Turned.{Filed, Unfiled}
 use Rattle.hart_calls.specs.Turns.{FiledOver, FullOver, HasMapping, IsOver, Last, NeedsFiles}
 use Rattle.hart_calls.specs.declared.turn.Turn.{Turn}
@@ -27,6 +31,14 @@ cut_last t f (outcome.Ended r) cause same = absurd cause
 cut_last t f (outcome.Refused r) cause same = absurd cause
 cut_last t f outcome.Memory cause same = same
 cut_last t f outcome.JournalFull cause same = same
+
+pub lost : (t : Track) (f : Finished) → f.name.items ≡ t.name → IsBare (view_of f.seat) → Replays t.opening 0 0 (calls_of t) t.journal t.state → f.journal.items ≡ t.journal → f.outcome ≡ outcome.Memory → IsOver t f
+lost t f name bare replays same is = record {
+  name = name;
+  bare = bare;
+  replays = (t.state, subst (λ (es : List Entry). Replays t.opening 0 0 (calls_of t) es t.state) (sym same) replays);
+  last = subst (Last t f) (sym is) same;
+}
 
 -- what its seat knows is of no account then
 

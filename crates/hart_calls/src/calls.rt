@@ -23,7 +23,7 @@ use process_model::{Call, Refusal, Reply};
 use sv39_entry::{Access, Va};
 
 /// Makes a call of a process.
-pub(crate) fn make<S: FrameSeat, F: FrameSupply<Seat = S>, C: Files>(
+fn make<S: FrameSeat, F: FrameSupply<Seat = S>, C: Files>(
     space: &mut Space<S>,
     store: &mut F,
     files: &mut C,
@@ -69,6 +69,22 @@ pub(crate) fn make<S: FrameSeat, F: FrameSupply<Seat = S>, C: Files>(
         Call::Exit { .. } => unreachable!(),
         Call::Fork { .. } => unreachable!(),
     }
+}
+
+/// Makes a call of a process whose space has a place of its own.
+pub(crate) fn make_there<S: FrameSeat, F: FrameSupply<Seat = S>, C: Files>(
+    space: &mut Box<Space<S>>,
+    store: &mut F,
+    files: &mut C,
+    call: Call<'_>,
+) -> Came
+    requires fits { Fits F.FrameAccess.rule store.old space.old.value.seat }
+    requires ready { (t : Tables) × (p : Process) × IsSpace (body_of S.view space.old.value) t p }
+    requires stays { IsStaying call }
+    ensures came { ComesTo (body_of S.view space.old.value) (body_of S.view space.new.value) (C.files files.old) (λ moves. C.becomes files.old moves files.new) (C.can_refuse files.old) call.entry result }
+    ensures keeps { Keeps F.FrameAccess.rule store.old space.old.value.seat store.new space.new.value.seat }
+{
+    make(space, store, files, call)
 }
 
 /// The process of an image comes in the place of this one.

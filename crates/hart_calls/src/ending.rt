@@ -49,7 +49,7 @@ impl<'a, B: Room> Tracked<'a, B> {
             space,
             ..
         } = self.parts;
-        let seat = destroy::<B, R>(space, store);
+        let seat = leave::<B, R>(space, store);
         Finished {
             name,
             outcome,
@@ -112,13 +112,13 @@ pub(crate) fn close<'a, B: Room, R: Wait>(
     outcome: Outcome,
 ) -> Finished<'a>
     requires store { store.old ≡ B.table }
-    requires fits { FitsIn B.table parts.space.seat }
-    requires ready { (t : Tables) × IsSpace (body_of view_of parts.space) t parts.present.state }
+    requires fits { FitsIn B.table parts.space.value.seat }
+    requires ready { (t : Tables) × IsSpace (body_of view_of parts.space.value) t parts.present.state }
     requires room { vec_len parts.journal < vec_capacity parts.journal }
     ensures store { store.new ≡ B.table }
     ensures name { result.name.items ≡ parts.entry.name.items }
     ensures bare { IsBare (view_of result.seat) }
-    ensures tallies { Takes (view_of parts.entry.space.seat) (view_of result.seat) 0 [] }
+    ensures tallies { Takes (view_of parts.entry.space.value.seat) (view_of result.seat) 0 [] }
     ensures closes { Closes parts.entry.present.state parts.entry.journal.items entry.entry outcome result shelf.old shelf.new }
 {
     let Parts {
@@ -127,8 +127,8 @@ pub(crate) fn close<'a, B: Room, R: Wait>(
         mut space,
         ..
     } = parts;
-    let written = write_all_back::<B, R>(&mut space, store, shelf);
-    let seat = destroy::<B, R>(space, store);
+    let written = write_there::<B, R>(&mut space, store, shelf);
+    let seat = leave::<B, R>(space, store);
     match written {
         Ok(()) => {
             journal.push_reserved(entry);
@@ -158,6 +158,27 @@ pub(crate) fn outcome_of(error: PromiseError) -> Outcome
     }
 }
 
+/// The same of a space in a place of its own.
+fn write_there<B: Room, R: Wait>(
+    space: &mut Box<Space<SharedSeat>>,
+    store: &mut SharedSupply<'_, R>,
+    shelf: &mut Shelf,
+) -> Result<(), PromiseError>
+    requires store { store.old ≡ B.table }
+    requires fits { FitsIn B.table space.old.value.seat }
+    requires ready { (t : Tables) × (p : Process) × IsSpace (body_of view_of space.old.value) t p }
+    ensures store { store.new ≡ B.table }
+    ensures fits { FitsIn B.table space.new.value.seat }
+    ensures still { (t : Tables) (p : Process) → IsSpace (body_of view_of space.old.value) t p → IsSpace (body_of view_of space.new.value) t p }
+    ensures view { view_of space.new.value.seat ≡ view_of space.old.value.seat }
+    ensures written { IfOk result (λ _. (t : Tables) (p : Process) → IsSpace (body_of view_of space.old.value) t p → Becomes shelf.old (all_moves p) shelf.new) }
+    ensures files { IfOk result (λ _. (t : Tables) (p : Process) → IsSpace (body_of view_of space.old.value) t p → (shelf.new).files ≡ all_written_back (shelf.old).files p) }
+    ensures refused { IfErr result (λ e. (t : Tables) (p : Process) → IsSpace (body_of view_of space.old.value) t p → CanRefuse shelf.old (length (all_moves p)) e) }
+    ensures unwritten { IfErr result (λ _. Becomes shelf.old [] shelf.new) }
+{
+    write_all_back::<B, R>(space, store, shelf)
+}
+
 /// What was stored to the mappings of a process goes back to their files, or nothing does.
 fn write_all_back<B: Room, R: Wait>(
     space: &mut Space<SharedSeat>,
@@ -183,8 +204,23 @@ fn write_all_back<B: Room, R: Wait>(
     Ok(())
 }
 
+/// Lets all frames of a process go, and its space's place.
+pub(crate) fn leave<B: Room, R: Wait>(
+    space: Box<Space<SharedSeat>>,
+    store: &mut SharedSupply<'_, R>,
+) -> SharedSeat
+    requires store { store.old ≡ B.table }
+    requires fits { FitsIn B.table space.value.seat }
+    requires ready { (t : Tables) × (p : Process) × IsSpace (body_of view_of space.value) t p }
+    ensures store { store.new ≡ B.table }
+    ensures bare { IsBare (view_of result) }
+    ensures tallies { Takes (view_of space.value.seat) (view_of result) 0 [] }
+{
+    destroy::<B, R>(Box::into_inner(space), store)
+}
+
 /// Lets all frames of a process go.
-fn destroy<B: Room, R: Wait>(
+pub(crate) fn destroy<B: Room, R: Wait>(
     space: Space<SharedSeat>,
     store: &mut SharedSupply<'_, R>,
 ) -> SharedSeat

@@ -15,7 +15,7 @@ ghost use Rattle.process_model.specs.Files.{File};
 ghost use Rattle.shared_frames.specs.Fits.{FitsIn, view_of};
 ghost use Rattle.table_walk.specs.Tables.{Tables};
 
-use crate::calls::make;
+use crate::calls::make_there;
 use crate::came::Came;
 use crate::ending::close;
 use crate::entry::Entry;
@@ -59,7 +59,7 @@ impl<'a, B: Room> Tracked<'a, B> {
         let before = Snapshot::of(&*shelf);
         let mark = uses(shelf);
         let file = mapped_file(shelf, call);
-        let came = make(&mut parts.space, store, shelf, call);
+        let came = make_there(&mut parts.space, store, shelf, call);
         let pages = pages_read(shelf, mark, call, pages, parts.alloc, &mut parts.spare);
         match came {
             Came::Answered(reply) => {
@@ -109,8 +109,8 @@ pub(crate) fn rejoin<'a, B: Room>(
     present: Opening,
     entry: Entry<'a>,
 ) -> Tracked<'a, B>
-    requires fits { FitsIn B.table parts.space.seat }
-    requires agrees { (t : Tables) × IsSpace (body_of view_of parts.space) t present.state }
+    requires fits { FitsIn B.table parts.space.value.seat }
+    requires agrees { (t : Tables) × IsSpace (body_of view_of parts.space.value) t present.state }
     requires replays { Replays parts.opening.state 0 0 (list_at parts.lists.now parts.list) parts.journal.items parts.present.state }
     requires leads { (files : List File) × Leads files (forks parts.journal.items) parts.present.state entry present.state }
     requires next { entry.call ≡ call_at (list_at parts.lists.now parts.list) (length parts.journal.items) }
@@ -125,7 +125,7 @@ pub(crate) fn rejoin<'a, B: Room>(
     ensures opening { result.opening ≡ parts.entry.opening.state }
     ensures state { result.state ≡ present.state }
     ensures journal { result.journal ≡ parts.entry.journal.items ++ entry.entry ∷ [] }
-    ensures seat { result.seat ≡ view_of parts.entry.space.seat }
+    ensures seat { result.seat ≡ view_of parts.entry.space.value.seat }
 {
     let named = children_named(&entry.reply);
     parts.journal.push_reserved(entry);

@@ -35,7 +35,8 @@ pub(crate) struct Parts<'a> {
     pub(crate) children: usize,
     /// Room for the pages of files that the next call may read.
     pub(crate) spare: Vec<PageUse>,
-    pub(crate) space: Space<SharedSeat>,
+    /// It is large, and a process moves with each call: so it has a place of its own.
+    pub(crate) space: Box<Space<SharedSeat>>,
 }
 
 /// A process on its way, with the list of its calls and a journal of those that it made. The journal replays from the
@@ -63,10 +64,10 @@ impl<'a, B: Room> Model for Tracked<'a, B> {
 
     ghost coded = { Prim.hlevel (codes, view_code, process_code) };
 
-    ghost view = { λ x. record { name = x.parts.name.items; lists = x.parts.lists.now; list = x.parts.list; opening = x.parts.opening.state; state = x.parts.present.state; journal = x.parts.journal.items; seat = view_of x.parts.space.seat; room = vec_capacity x.parts.journal - vec_len x.parts.journal } };
+    ghost view = { λ x. record { name = x.parts.name.items; lists = x.parts.lists.now; list = x.parts.list; opening = x.parts.opening.state; state = x.parts.present.state; journal = x.parts.journal.items; seat = view_of x.parts.space.value.seat; room = vec_capacity x.parts.journal - vec_len x.parts.journal } };
 
-    ghost invariant = { λ x. FitsIn B.table x.parts.space.seat
-        × ((t : Tables) × IsSpace (body_of view_of x.parts.space) t x.parts.present.state)
+    ghost invariant = { λ x. FitsIn B.table x.parts.space.value.seat
+        × ((t : Tables) × IsSpace (body_of view_of x.parts.space.value) t x.parts.present.state)
         × Replays x.parts.opening.state 0 0 (list_at x.parts.lists.now x.parts.list) x.parts.journal.items x.parts.present.state
         × AreThere x.parts.lists.now
         × (x.parts.list < length x.parts.lists.now)
@@ -76,17 +77,17 @@ impl<'a, B: Room> Model for Tracked<'a, B> {
 
 impl<'a, B: Room> Tracked<'a, B> {
     /// A process that has made no call. `opening` is the process that its space is, and `list` the number of the list that
-    /// it follows. No memory is taken.
+    /// it follows. No memory is taken: the space comes with its place.
     pub fn new(
         alloc: Global,
         opening: Opening,
-        space: Space<SharedSeat>,
+        space: Box<Space<SharedSeat>>,
         name: Vec<u64>,
         lists: &'a [Sequence<Call<'a>>],
         list: usize,
     ) -> Tracked<'a, B>
-        requires fits { FitsIn B.table space.seat }
-        requires agrees { (t : Tables) × IsSpace (body_of view_of space) t opening.state }
+        requires fits { FitsIn B.table space.value.seat }
+        requires agrees { (t : Tables) × IsSpace (body_of view_of space.value) t opening.state }
         requires there { list < length lists.now }
         requires named { AreThere lists.now }
         ensures name { result.name ≡ name.items }
@@ -95,7 +96,7 @@ impl<'a, B: Room> Tracked<'a, B> {
         ensures opening { result.opening ≡ opening.state }
         ensures state { result.state ≡ opening.state }
         ensures journal { result.journal ≡ [] }
-        ensures seat { result.seat ≡ view_of space.seat }
+        ensures seat { result.seat ≡ view_of space.value.seat }
     {
         let present = begun(&opening);
         Tracked {

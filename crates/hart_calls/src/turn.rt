@@ -79,7 +79,7 @@ impl<'a, B: Room> Tracked<'a, B> {
     /// The same with files. A function pays at entry for the size of its locals: so ends, forks, copies and exec, which have
     /// large ones, stand apart (`inline(never)`).
     fn turn<R: Wait>(
-        self,
+        mut self,
         store: &mut SharedSupply<'_, R>,
         shelf: &mut Shelf,
         slot: Slot,
@@ -93,37 +93,31 @@ impl<'a, B: Room> Tracked<'a, B> {
         if self.made() == MOST_ENTRIES {
             return Turn::Over(self.cut(store, Outcome::JournalFull));
         }
-        let (ready, pages) = match self.with_room() {
-            Ok(ready) => ready,
-            Err(full) => return Turn::Over(full.cut(store, Outcome::Memory)),
+        let Ok(pages) = self.with_room() else {
+            return Turn::Over(self.cut(store, Outcome::Memory));
         };
-        match ready.next() {
-            Call::Fork { list } => {
-                let (tracked, child) = ready.fork(store, list, slot);
-                Turn::Goes(tracked, child)
-            }
-            Call::Exit { status } => Turn::Over(ready.exit(store, shelf, status)),
-            call => ready.stay(store, shelf, call, pages, &slot),
+        match self.next() {
+            Call::Fork { list } => match self.fork(store, list, slot) {
+                Ok((tracked, child)) => Turn::Goes(tracked, child),
+                Err(finished) => Turn::Over(finished),
+            },
+            Call::Exit { status } => Turn::Over(self.exit(store, shelf, status)),
+            call => self.stay(store, shelf, call, pages, &slot),
         }
     }
 
     /// Room for one entry more, and for the pages of files that its call may read.
-    fn with_room(mut self) -> Result<(Tracked<'a, B>, Vec<PageUse>), Tracked<'a, B>>
-        ensures same { IfOk result (λ r. SameTrack self.entry r.0) }
-        ensures room { IfOk result (λ r. 0 < (r.0).room) }
-        ensures none { IfOk result (λ r. r.1.items ≡ []) }
-        ensures pages { IfOk result (λ r. 2 ≤ vec_capacity r.1) }
-        ensures full { IfErr result (λ u. SameTrack self.entry u) }
+    fn with_room(&mut self) -> Result<Vec<PageUse>, AllocError>
+        ensures same { SameTrack self.old self.new }
+        ensures room { IfOk result (λ _. 0 < self.new.room) }
+        ensures none { IfOk result (λ pages. pages.items ≡ []) }
+        ensures pages { IfOk result (λ pages. 2 ≤ vec_capacity pages) }
     {
-        let Ok(()) = self.parts.journal.reserve(1) else {
-            return Err(self);
-        };
+        self.parts.journal.reserve(1)?;
         let none = Vec::new(self.parts.alloc);
         let mut pages = mem::replace(&mut self.parts.spare, none);
         pages.clear();
-        match pages.reserve(2) {
-            Ok(()) => Ok((self, pages)),
-            Err(AllocError) => Err(self),
-        }
+        pages.reserve(2)?;
+        Ok(pages)
     }
 }

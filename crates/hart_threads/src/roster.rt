@@ -173,6 +173,7 @@ impl<'a, B: Room> Roster<'a, B> {
         requires at { HoldsAt B.desk returned }
         requires holds { held_of returned ≡ life_of finished ∷ [] }
         requires ended { IsEnded finished }
+        ensures left { self.new ≡ self.old }
     {
         desk.redeem(&mut self.keeper, returned);
         self.out -= 1;

@@ -91,7 +91,8 @@ fn run_all<'r, 'a, B: Room + Send + Sync, R: Threads + Wait + Sync, G: Gate + Sy
     );
 }
 
-/// A run in a room: all memory for the starts is taken before the first is made.
+/// A run in a room: all memory for the starts is taken before the first is made, but for the places of their spaces. A
+/// process for which there is no place ends before its first call.
 fn run_in<'a, B: Room + Send + Sync, R: Threads + Wait + Sync, G: Gate + Sync>(
     rt: &R,
     alloc: Global,

@@ -1,19 +1,21 @@
 // Seats that are split off the kernel's.
 
-ghost use Rattle.std.specs.Prelude.{◌≡◌, ◌↔◌, Bool, true, false, IfErr, IfOk};
+ghost use Rattle.std.specs.Prelude.{[], ◌≡◌, ◌↔◌, Bool, true, false, IfErr, IfOk};
 ghost use Rattle.address_space.specs.Agreement.{HoldsTrampoline};
 ghost use Rattle.address_space.specs.Steps.{IsBare};
 ghost use Rattle.frame_store.specs.View.{IsHeld, read_full};
 ghost use Rattle.process_model.specs.Loading.{process_of};
 ghost use Rattle.shared_frames.specs.Fits.{FitsIn, view_of};
+ghost use Rattle.hart_threads.specs.Rostered.{IsEnded};
 ghost use Rattle.hart_threads.specs.Starts.{IsBegun, IsProcessOf, IsRefusedStart, Lends};
 
 use address_space::Space;
 use exec_segments::{Image, start};
 use frame_store::{FrameAccess, FrameSupply, NoFrame, SharersFull, opened_seat};
-use hart_calls::{Opening, begun};
-use process_model::Refusal;
+use hart_calls::{Finished, Opening, begun};
+use process_model::{Outcome, Refusal};
 use shared_frames::{SharedSeat, SharedSupply};
+use std::alloc::Global;
 use std::sync::Wait;
 use sv39_entry::FrameNo;
 
@@ -73,6 +75,29 @@ fn built<R: Wait>(
     match start(store, seat, image) {
         Ok(space) => Ok((space, begun(image))),
         Err((NoFrame, seat)) => Err(stripped(store, seat)),
+    }
+}
+
+/// Ends a process before its first call, since the host has no place for its space.
+pub(crate) fn unbegun<'a, R: Wait>(
+    alloc: Global,
+    store: &mut SharedSupply<'_, R>,
+    space: Space<SharedSeat>,
+    opening: Opening,
+    name: Vec<u64>,
+) -> Finished<'a>
+    requires begun { IsBegun store.old space opening }
+    ensures name { result.name.items ≡ name.items }
+    ensures journal { result.journal.items ≡ [] }
+    ensures ended { IsEnded result }
+    ensures store { store.new ≡ store.old }
+{
+    let _ = opening;
+    Finished {
+        name,
+        outcome: Outcome::Memory,
+        journal: Vec::new(alloc),
+        seat: space.destroy(store),
     }
 }
 

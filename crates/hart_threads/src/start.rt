@@ -10,7 +10,7 @@ use crate::job::Job;
 use crate::name_room::NameRoom;
 use crate::queue::{Part, put};
 use crate::roster::Roster;
-use crate::seats::started;
+use crate::seats::{started, unbegun};
 use hart_calls::{Finished, Room, Tracked};
 use process_model::{Call, Outcome, Sequence, Start};
 use shared_frames::{SharedFrames, SharedSeat};
@@ -32,7 +32,8 @@ pub(crate) struct Starting<'r, 'a, B: Room, R: Wait> {
 }
 
 impl<'r, 'a, B: Room, R: Wait> Starting<'r, 'a, B, R> {
-    /// Makes the next start, or refuses it.
+    /// Makes the next start, or refuses it. Where the host has no place for its space the process ends before its first
+    /// call.
     fn make(
         &self,
         kernel: &mut SharedSeat,
@@ -55,10 +56,18 @@ impl<'r, 'a, B: Room, R: Wait> Starting<'r, 'a, B, R> {
         match started(&mut store, kernel, start.image, roster.has_slot()) {
             Ok((space, opening)) => {
                 let voucher = roster.start(self.desk, name.as_slice());
-                let tracked = Tracked::<B>::new(
-                    self.alloc, opening, space, name, self.lists, start.list,
-                );
-                put(self.rt, self.parts, place, Job { tracked, voucher });
+                match Box::new(self.alloc, space) {
+                    Ok(space) => {
+                        let tracked = Tracked::<B>::new(
+                            self.alloc, opening, space, name, self.lists, start.list,
+                        );
+                        put(self.rt, self.parts, place, Job { tracked, voucher });
+                    }
+                    Err(full) => {
+                        let finished = unbegun(self.alloc, &mut store, full.value, opening, name);
+                        roster.finish(self.desk, finished, voucher);
+                    }
+                }
             }
             Err((refusal, seat)) => roster.refuse(Finished {
                 name,

@@ -1,10 +1,10 @@
 use Rattle.std.proofs.Common.{inl, inr, refl}
 use Rattle.hart_calls.proofs.ending.close.Goals as goal
 
-pub destroy-seat-requires-clause-ready : goal.destroy-seat-requires-clause-ready
-destroy-seat-requires-clause-ready g c =
+pub leave-seat-requires-clause-ready : goal.leave-seat-requires-clause-ready
+leave-seat-requires-clause-ready g c =
     let r = c.requires.ready in
-    (r.0, c.args.parts.present.state, c.write_all_back-written.ensures.still r.0 _ r.1)
+    (r.0, c.args.parts.present.state, c.write_there-written.ensures.still r.0 _ r.1)
 
 pub returns-in-Ok-clause-closes : goal.returns-in-Ok-clause-closes
 returns-in-Ok-clause-closes g c =

@@ -6,7 +6,7 @@ pub returns-clause-over : goal.returns-clause-over
 returns-clause-over g c =
     rw (← c.self.view_is) record {
       name = refl;
-      bare = c.destroy-seat.ensures.bare;
+      bare = c.leave-seat.ensures.bare;
       replays = (c.self.inside.parts.present.state, c.self.invariant.2);
       last = cut_last _ _ c.args.outcome c.requires.cause refl;
     }

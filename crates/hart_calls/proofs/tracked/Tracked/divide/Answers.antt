@@ -12,25 +12,67 @@ use Rattle.process_model.specs.declared.step.Refusal.{Refusal}
 use Rattle.hart_calls.proofs.There.{fork_there}
 use Rattle.hart_calls.specs.Wants.{nothing, refused}
 use Rattle.process_model.specs.Process.{Process}
+use Rattle.process_model.specs.Residence.{child_of, marked}
+use Rattle.address_space.specs.declared.space.Space.{Space}
+use Rattle.shared_frames.specs.declared.seat.SharedSeat.{SharedSeat}
+use Rattle.hart_calls.proofs.Ends.{lost}
 use Rattle.process_model.specs.declared.call.Call.TheVariants as call
 use Rattle.process_model.specs.declared.step.Reply.TheVariants as reply
 use Rattle.shared_frames.specs.Fits.{FitsIn, fits_parted, fits_still, may_step, view_of}
 use Rattle.hart_calls.proofs.tracked.Tracked.divide.Goals as goal
 
-pub fork-requires-clause-fits : goal.fork-requires-clause-fits
-fork-requires-clause-fits g c = may_step _ _ c.self.inside.parts.space.seat c.requires.store c.self.invariant.0
+pub fork_there-requires-clause-fits : goal.fork_there-requires-clause-fits
+fork_there-requires-clause-fits g c = may_step _ _ c.self.inside.parts.space.value.seat c.requires.store c.self.invariant.0
 
 pub new-child-requires-clause-fits : goal.new-child-requires-clause-fits
 new-child-requires-clause-fits g c =
     let keeps = c.in-Ok.ensures.keeps in
-    let still = fits_still _ _ _ c.self.inside.parts.space.seat c.fork.new.space.seat c.requires.store (λ others r. let k = keeps others r in (k.0, k.1.1)) c.self.invariant.0 in
-    (fits_parted _ _ _ c.self.inside.parts.space.seat c.fork.new.space.seat c.in-Ok.space.seat c.requires.store (still.0 ∙ sym c.requires.store) keeps c.self.invariant.0).1
+    let still = fits_still _ _ _ c.self.inside.parts.space.value.seat c.fork_there.new.space.value.seat c.requires.store (λ others r. let k = keeps others r in (k.0, k.1.1)) c.self.invariant.0 in
+    subst (λ (s : Space SharedSeat). FitsIn g.B.Room.table s.seat) (sym c.in-Ok-new.ensures.ok)
+    (fits_parted _ _ _ c.self.inside.parts.space.value.seat c.fork_there.new.space.value.seat c.in-Ok.space.seat c.requires.store (still.0 ∙ sym c.requires.store) keeps c.self.invariant.0).1
+
+pub undone-requires-clause-store : goal.undone-requires-clause-store
+undone-requires-clause-store g c =
+    let keeps = c.in-Ok.ensures.keeps in
+    (fits_still _ _ _ c.self.inside.parts.space.value.seat c.fork_there.new.space.value.seat c.requires.store (λ others r. let k = keeps others r in (k.0, k.1.1)) c.self.invariant.0).0
+
+pub undone-requires-clause-fits : goal.undone-requires-clause-fits
+undone-requires-clause-fits g c =
+    let keeps = c.in-Ok.ensures.keeps in
+    (fits_still _ _ _ c.self.inside.parts.space.value.seat c.fork_there.new.space.value.seat c.requires.store (λ others r. let k = keeps others r in (k.0, k.1.1)) c.self.invariant.0).1
+
+pub undone-requires-clause-ready : goal.undone-requires-clause-ready
+undone-requires-clause-ready g c =
+    let p = c.self.invariant.1 in
+    let f = c.in-Ok.ensures.forked p.0 c.self.inside.parts.present.state p.1 in
+    (f.0, marked c.self.inside.parts.present.state, f.2.parent)
+
+pub undone-requires-clause-child_fits : goal.undone-requires-clause-child_fits
+undone-requires-clause-child_fits g c =
+    let keeps = c.in-Ok.ensures.keeps in
+    let still = fits_still _ _ _ c.self.inside.parts.space.value.seat c.fork_there.new.space.value.seat c.requires.store (λ others r. let k = keeps others r in (k.0, k.1.1)) c.self.invariant.0 in
+    subst (λ (s : Space SharedSeat). FitsIn g.B.Room.table s.seat) (sym c.in-Err-new.ensures.value_returned)
+    (fits_parted _ _ _ c.self.inside.parts.space.value.seat c.fork_there.new.space.value.seat c.in-Ok.space.seat c.requires.store (still.0 ∙ sym c.requires.store) keeps c.self.invariant.0).1
+
+pub undone-requires-clause-child_ready : goal.undone-requires-clause-child_ready
+undone-requires-clause-child_ready g c =
+    let p = c.self.invariant.1 in
+    let f = c.in-Ok.ensures.forked p.0 c.self.inside.parts.present.state p.1 in
+    (f.1, child_of c.self.inside.parts.present.state, subst (λ (s : Space SharedSeat). IsSpace (body_of view_of s) f.1 (child_of c.self.inside.parts.present.state)) (sym c.in-Err-new.ensures.value_returned) f.2.child)
+
+pub returns-in-Err-new-clause-over : goal.returns-in-Err-new-clause-over
+returns-in-Err-new-clause-over g c =
+    let u = c.undone.ensures in
+    rw (← c.self.view_is) (lost _ _ u.name u.bare c.self.invariant.2 u.journal u.outcome)
 
 pub new-child-requires-clause-agrees : goal.new-child-requires-clause-agrees
 new-child-requires-clause-agrees g c =
     let p = c.self.invariant.1 in
-    let f = c.in-Ok.ensures.forked p.0 c.self.inside.parts.present.state p.1 in
-    (f.1, subst (λ (q : Process). IsSpace (body_of view_of c.in-Ok.space) f.1 q) (sym c.of_child-opening.ensures) f.2.child)
+    let f = c.in-Ok.ensures.forked p.0 c.self.inside.parts.present.state p.1 in (
+      f.1,
+      subst (λ (q : Process). IsSpace (body_of view_of c.in-Ok-new.place.value) f.1 q) (sym c.of_child-opening.ensures)
+          (subst (λ (s : Space SharedSeat). IsSpace (body_of view_of s) f.1 (child_of c.self.inside.parts.present.state)) (sym c.in-Ok-new.ensures.ok) f.2.child),
+    )
 
 pub new-child-requires-clause-there : goal.new-child-requires-clause-there
 new-child-requires-clause-there g c =
@@ -39,29 +81,29 @@ new-child-requires-clause-there g c =
 pub rejoin-requires-clause-fits : goal.rejoin-requires-clause-fits
 rejoin-requires-clause-fits g c =
     let keeps = c.in-Ok.ensures.keeps in
-    (fits_still _ _ _ c.self.inside.parts.space.seat c.fork.new.space.seat c.requires.store (λ others r. let k = keeps others r in (k.0, k.1.1)) c.self.invariant.0).1
+    (fits_still _ _ _ c.self.inside.parts.space.value.seat c.fork_there.new.space.value.seat c.requires.store (λ others r. let k = keeps others r in (k.0, k.1.1)) c.self.invariant.0).1
 
 pub rejoin-requires-clause-agrees : goal.rejoin-requires-clause-agrees
 rejoin-requires-clause-agrees g c =
     let p = c.self.invariant.1 in
     let f = c.in-Ok.ensures.forked p.0 c.self.inside.parts.present.state p.1 in
-    (f.0, subst (λ (q : Process). IsSpace (body_of view_of c.fork.new.space) f.0 q) (sym c.after_fork-present.ensures) f.2.parent)
+    (f.0, subst (λ (q : Process). IsSpace (body_of view_of c.fork_there.new.space.value) f.0 q) (sym c.after_fork-present.ensures) f.2.parent)
 
 pub rejoin-requires-in-Err-clause-fits : goal.rejoin-requires-in-Err-clause-fits
-rejoin-requires-in-Err-clause-fits g c = (fits_still _ _ _ c.self.inside.parts.space.seat c.fork.new.space.seat c.requires.store c.in-Err.ensures.keeps_refused c.self.invariant.0).1
+rejoin-requires-in-Err-clause-fits g c = (fits_still _ _ _ c.self.inside.parts.space.value.seat c.fork_there.new.space.value.seat c.requires.store c.in-Err.ensures.keeps_refused c.self.invariant.0).1
 
 pub rejoin-requires-in-Err-clause-agrees : goal.rejoin-requires-in-Err-clause-agrees
 rejoin-requires-in-Err-clause-agrees g c =
     let p = c.self.invariant.1 in
-    (p.0, subst (λ (q : Process). IsSpace (body_of view_of c.fork.new.space) p.0 q) (sym c.kept-present.ensures) (c.in-Err.ensures.whole p.0 _ p.1))
+    (p.0, subst (λ (q : Process). IsSpace (body_of view_of c.fork_there.new.space.value) p.0 q) (sym c.kept-present.ensures) (c.in-Err.ensures.whole p.0 _ p.1))
 
-pub returns-in-Ok-clause-store : goal.returns-in-Ok-clause-store
-returns-in-Ok-clause-store g c =
+pub returns-in-Ok-new-clause-store : goal.returns-in-Ok-new-clause-store
+returns-in-Ok-new-clause-store g c =
     let keeps = c.in-Ok.ensures.keeps in
-    (fits_still _ _ _ c.self.inside.parts.space.seat c.fork.new.space.seat c.requires.store (λ others r. let k = keeps others r in (k.0, k.1.1)) c.self.invariant.0).0
+    (fits_still _ _ _ c.self.inside.parts.space.value.seat c.fork_there.new.space.value.seat c.requires.store (λ others r. let k = keeps others r in (k.0, k.1.1)) c.self.invariant.0).0
 
 pub returns-in-Err-clause-store : goal.returns-in-Err-clause-store
-returns-in-Err-clause-store g c = (fits_still _ _ _ c.self.inside.parts.space.seat c.fork.new.space.seat c.requires.store c.in-Err.ensures.keeps_refused c.self.invariant.0).0
+returns-in-Err-clause-store g c = (fits_still _ _ _ c.self.inside.parts.space.value.seat c.fork_there.new.space.value.seat c.requires.store c.in-Err.ensures.keeps_refused c.self.invariant.0).0
 
 pub rejoin-requires-clause-leads : goal.rejoin-requires-clause-leads
 rejoin-requires-clause-leads g c =
@@ -69,8 +111,8 @@ rejoin-requires-clause-leads g c =
     let number : c.children-number.result ≡ forks c.self.inside.parts.journal.items = c.children-number.ensures ∙ ap (λ (t : Track). forks t.journal) (sym c.self.view_is) in
     ([], fork_leads _ _ c.answer-entry.result c.args.list nothing (reply.Forked (forks c.self.inside.parts.journal.items)) (record { call = e.call; answer = e.reply ∙ ap (λ (n : ℕ). reply.Forked n) number; pages = e.pages; file = e.file }) tt refl _ c.after_fork-present.ensures)
 
-pub returns-in-Ok-clause-goes : goal.returns-in-Ok-clause-goes
-returns-in-Ok-clause-goes g c =
+pub returns-in-Ok-new-clause-goes : goal.returns-in-Ok-new-clause-goes
+returns-in-Ok-new-clause-goes g c =
     let e = c.answer-entry.ensures in
     let r = c.rejoin.ensures in
     let y = c.new-child.ensures in
@@ -95,8 +137,8 @@ returns-in-Err-clause-goes g c =
     let r = refusal_of c.in-Err.error in
     let p = c.self.invariant.1 in
     let next = subst (λ (t : Track). next_of t ≡ call.Fork c.args.list) (sym c.self.view_is) c.requires.next in
-    let dry = subst (λ (v : View). TellsDry (view_of c.self.inside.parts.space.seat) v [] c.self.inside.parts.present.state (call.Fork c.args.list) (refused 0 r)) (sym j.seat)
-    (fork_dry (view_of c.self.inside.parts.space.seat) (view_of c.fork.new.space.seat) c.self.inside.parts.present.state c.args.list c.in-Err.error (λ by. c.in-Err.ensures.dry (ap Err by) p.0 _ p.1)) in
+    let dry = subst (λ (v : View). TellsDry (view_of c.self.inside.parts.space.value.seat) v [] c.self.inside.parts.present.state (call.Fork c.args.list) (refused 0 r)) (sym j.seat)
+    (fork_dry (view_of c.self.inside.parts.space.value.seat) (view_of c.fork_there.new.space.value.seat) c.self.inside.parts.present.state c.args.list c.in-Err.error (λ by. c.in-Err.ensures.dry (ap Err by) p.0 _ p.1)) in
     rw (← c.self.view_is)
     (fork_stays _ c.rejoin-in-Err.result c.answer-entry-in-Err.result c.args.list (slot.Free c.args.name) r (record { call = e.call; answer = e.reply ∙ ap (λ (z : Refusal). reply.Refused z) c.into.ensures; pages = e.pages; file = e.file }) (fork_may c.in-Err.error)
     (record { name = j.name; lists = j.lists; list = j.list; opening = j.opening; journal = j.journal; next = e.call ∙ sym next }) (j.state ∙ c.kept-present.ensures) (fork_by_slot c.in-Err.error) dry)

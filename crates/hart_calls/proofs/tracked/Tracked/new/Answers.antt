@@ -8,7 +8,7 @@ pub invariant_of-result : goal.invariant_of-result
 invariant_of-result g c =
     rw c.new.ensures.items (
       c.requires.fits,
-      (c.requires.agrees.0, subst (λ (p : Process). IsSpace (body_of view_of c.args.space) c.requires.agrees.0 p) (sym c.begun-present.ensures) c.requires.agrees.1),
+      (c.requires.agrees.0, subst (λ (p : Process). IsSpace (body_of view_of c.args.space.value) c.requires.agrees.0 p) (sym c.begun-present.ensures) c.requires.agrees.1),
       c.begun-present.ensures,
       c.requires.named,
       c.requires.there,

@@ -22,34 +22,34 @@ use Rattle.process_model.specs.declared.step.Reply.TheVariants as reply
 use Rattle.shared_frames.specs.Fits.{fits_still, may_step, view_of}
 use Rattle.hart_calls.proofs.tracked.Tracked.stay.Goals as goal
 
-pub make-came-requires-clause-fits : goal.make-came-requires-clause-fits
-make-came-requires-clause-fits g c = may_step _ _ c.self.inside.parts.space.seat c.requires.store c.self.invariant.0
+pub make_there-came-requires-clause-fits : goal.make_there-came-requires-clause-fits
+make_there-came-requires-clause-fits g c = may_step _ _ c.self.inside.parts.space.value.seat c.requires.store c.self.invariant.0
 
 pub rejoin-requires-clause-fits : goal.rejoin-requires-clause-fits
-rejoin-requires-clause-fits g c = (fits_still _ _ _ c.self.inside.parts.space.seat c.make-came.new.space.seat c.requires.store c.make-came.ensures.keeps c.self.invariant.0).1
+rejoin-requires-clause-fits g c = (fits_still _ _ _ c.self.inside.parts.space.value.seat c.make_there-came.new.space.value.seat c.requires.store c.make_there-came.ensures.keeps c.self.invariant.0).1
 
 pub returns-in-Answered-clause-store : goal.returns-in-Answered-clause-store
-returns-in-Answered-clause-store g c = (fits_still _ _ _ c.self.inside.parts.space.seat c.make-came.new.space.seat c.requires.store c.make-came.ensures.keeps c.self.invariant.0).0
+returns-in-Answered-clause-store g c = (fits_still _ _ _ c.self.inside.parts.space.value.seat c.make_there-came.new.space.value.seat c.requires.store c.make_there-came.ensures.keeps c.self.invariant.0).0
 
 pub rejoin-requires-in-Stopped-clause-fits : goal.rejoin-requires-in-Stopped-clause-fits
-rejoin-requires-in-Stopped-clause-fits g c = (fits_still _ _ _ c.self.inside.parts.space.seat c.make-came.new.space.seat c.requires.store c.make-came.ensures.keeps c.self.invariant.0).1
+rejoin-requires-in-Stopped-clause-fits g c = (fits_still _ _ _ c.self.inside.parts.space.value.seat c.make_there-came.new.space.value.seat c.requires.store c.make_there-came.ensures.keeps c.self.invariant.0).1
 
 pub returns-in-Stopped-clause-store : goal.returns-in-Stopped-clause-store
-returns-in-Stopped-clause-store g c = (fits_still _ _ _ c.self.inside.parts.space.seat c.make-came.new.space.seat c.requires.store c.make-came.ensures.keeps c.self.invariant.0).0
+returns-in-Stopped-clause-store g c = (fits_still _ _ _ c.self.inside.parts.space.value.seat c.make_there-came.new.space.value.seat c.requires.store c.make_there-came.ensures.keeps c.self.invariant.0).0
 
 pub close-requires-clause-store : goal.close-requires-clause-store
-close-requires-clause-store g c = (fits_still _ _ _ c.self.inside.parts.space.seat c.make-came.new.space.seat c.requires.store c.make-came.ensures.keeps c.self.invariant.0).0
+close-requires-clause-store g c = (fits_still _ _ _ c.self.inside.parts.space.value.seat c.make_there-came.new.space.value.seat c.requires.store c.make_there-came.ensures.keeps c.self.invariant.0).0
 
 pub close-requires-clause-fits : goal.close-requires-clause-fits
-close-requires-clause-fits g c = (fits_still _ _ _ c.self.inside.parts.space.seat c.make-came.new.space.seat c.requires.store c.make-came.ensures.keeps c.self.invariant.0).1
+close-requires-clause-fits g c = (fits_still _ _ _ c.self.inside.parts.space.value.seat c.make_there-came.new.space.value.seat c.requires.store c.make_there-came.ensures.keeps c.self.invariant.0).1
 
 pub cut-requires-clause-store : goal.cut-requires-clause-store
-cut-requires-clause-store g c = (fits_still _ _ _ c.self.inside.parts.space.seat c.make-came.new.space.seat c.requires.store c.make-came.ensures.keeps c.self.invariant.0).0
+cut-requires-clause-store g c = (fits_still _ _ _ c.self.inside.parts.space.value.seat c.make_there-came.new.space.value.seat c.requires.store c.make_there-came.ensures.keeps c.self.invariant.0).0
 
 pub pages_read-pages-requires-clause-mark : goal.pages_read-pages-requires-clause-mark
 pages_read-pages-requires-clause-mark g c =
     let p = c.self.invariant.1 in
-    let grew = has_grown _ _ _ _ _ _ c.args.call (c.args.shelf.now).history (c.make-came.new.files).history (λ ms became. became.history) c.make-came.result (c.make-came.ensures.came p.0 c.self.inside.parts.present.state p.1) in
+    let grew = has_grown _ _ _ _ _ _ c.args.call (c.args.shelf.now).history (c.make_there-came.new.files).history (λ ms became. became.history) c.make_there-came.result (c.make_there-came.ensures.came p.0 c.self.inside.parts.present.state p.1) in
     let longer = grew.longer in
     rw c.uses-mark.ensures longer
 
@@ -62,15 +62,15 @@ rejoin-requires-clause-agrees g c =
       opening = c.self.inside.parts.opening.state;
       state = c.self.inside.parts.present.state;
       journal = c.self.inside.parts.journal.items;
-      seat = view_of c.self.inside.parts.space.seat;
+      seat = view_of c.self.inside.parts.space.value.seat;
       room = vec_capacity c.self.inside.parts.journal - vec_len c.self.inside.parts.journal;
     } in
     let p = c.self.invariant.1 in
     let a = c.args.shelf.now in
-    let b = c.make-came.new.files in
+    let b = c.make_there-came.new.files in
     let k = c.args.call in
-    let x = body_of view_of c.self.inside.parts.space in
-    let y = body_of view_of c.make-came.new.space in
+    let x = body_of view_of c.self.inside.parts.space.value in
+    let y = body_of view_of c.make_there-came.new.space.value in
     let state = c.self.inside.parts.present.state in
     let h = c.in-Answered.ensures.came p.0 state p.1 in
     let comes = h.1 in
@@ -88,15 +88,15 @@ rejoin-requires-clause-leads g c =
       opening = c.self.inside.parts.opening.state;
       state = c.self.inside.parts.present.state;
       journal = c.self.inside.parts.journal.items;
-      seat = view_of c.self.inside.parts.space.seat;
+      seat = view_of c.self.inside.parts.space.value.seat;
       room = vec_capacity c.self.inside.parts.journal - vec_len c.self.inside.parts.journal;
     } in
     let p = c.self.invariant.1 in
     let a = c.args.shelf.now in
-    let b = c.make-came.new.files in
+    let b = c.make_there-came.new.files in
     let k = c.args.call in
-    let x = body_of view_of c.self.inside.parts.space in
-    let y = body_of view_of c.make-came.new.space in
+    let x = body_of view_of c.self.inside.parts.space.value in
+    let y = body_of view_of c.make_there-came.new.space.value in
     let state = c.self.inside.parts.present.state in
     let h = c.in-Answered.ensures.came p.0 state p.1 in
     let comes = h.1 in
@@ -122,15 +122,15 @@ returns-in-Answered-clause-turned g c =
       opening = c.self.inside.parts.opening.state;
       state = c.self.inside.parts.present.state;
       journal = c.self.inside.parts.journal.items;
-      seat = view_of c.self.inside.parts.space.seat;
+      seat = view_of c.self.inside.parts.space.value.seat;
       room = vec_capacity c.self.inside.parts.journal - vec_len c.self.inside.parts.journal;
     } in
     let p = c.self.invariant.1 in
     let a = c.args.shelf.now in
-    let b = c.make-came.new.files in
+    let b = c.make_there-came.new.files in
     let k = c.args.call in
-    let x = body_of view_of c.self.inside.parts.space in
-    let y = body_of view_of c.make-came.new.space in
+    let x = body_of view_of c.self.inside.parts.space.value in
+    let y = body_of view_of c.make_there-came.new.space.value in
     let state = c.self.inside.parts.present.state in
     let h = c.in-Answered.ensures.came p.0 state p.1 in
     let comes = h.1 in
@@ -159,15 +159,15 @@ returns-in-Answered-clause-files g c =
       opening = c.self.inside.parts.opening.state;
       state = c.self.inside.parts.present.state;
       journal = c.self.inside.parts.journal.items;
-      seat = view_of c.self.inside.parts.space.seat;
+      seat = view_of c.self.inside.parts.space.value.seat;
       room = vec_capacity c.self.inside.parts.journal - vec_len c.self.inside.parts.journal;
     } in
     let p = c.self.invariant.1 in
     let a = c.args.shelf.now in
-    let b = c.make-came.new.files in
+    let b = c.make_there-came.new.files in
     let k = c.args.call in
-    let x = body_of view_of c.self.inside.parts.space in
-    let y = body_of view_of c.make-came.new.space in
+    let x = body_of view_of c.self.inside.parts.space.value in
+    let y = body_of view_of c.make_there-came.new.space.value in
     let state = c.self.inside.parts.present.state in
     let h = c.in-Answered.ensures.came p.0 state p.1 in
     let comes = h.1 in
@@ -196,15 +196,15 @@ rejoin-requires-in-Stopped-clause-agrees g c =
       opening = c.self.inside.parts.opening.state;
       state = c.self.inside.parts.present.state;
       journal = c.self.inside.parts.journal.items;
-      seat = view_of c.self.inside.parts.space.seat;
+      seat = view_of c.self.inside.parts.space.value.seat;
       room = vec_capacity c.self.inside.parts.journal - vec_len c.self.inside.parts.journal;
     } in
     let p = c.self.invariant.1 in
     let a = c.args.shelf.now in
-    let b = c.make-came.new.files in
+    let b = c.make_there-came.new.files in
     let k = c.args.call in
-    let x = body_of view_of c.self.inside.parts.space in
-    let y = body_of view_of c.make-came.new.space in
+    let x = body_of view_of c.self.inside.parts.space.value in
+    let y = body_of view_of c.make_there-came.new.space.value in
     let state = c.self.inside.parts.present.state in
     let comes = c.in-Stopped.ensures.came p.0 state p.1 in
     let r : Reply = reply.Refused c.in-Stopped.refusal in
@@ -221,15 +221,15 @@ rejoin-requires-in-Stopped-clause-leads g c =
       opening = c.self.inside.parts.opening.state;
       state = c.self.inside.parts.present.state;
       journal = c.self.inside.parts.journal.items;
-      seat = view_of c.self.inside.parts.space.seat;
+      seat = view_of c.self.inside.parts.space.value.seat;
       room = vec_capacity c.self.inside.parts.journal - vec_len c.self.inside.parts.journal;
     } in
     let p = c.self.invariant.1 in
     let a = c.args.shelf.now in
-    let b = c.make-came.new.files in
+    let b = c.make_there-came.new.files in
     let k = c.args.call in
-    let x = body_of view_of c.self.inside.parts.space in
-    let y = body_of view_of c.make-came.new.space in
+    let x = body_of view_of c.self.inside.parts.space.value in
+    let y = body_of view_of c.make_there-came.new.space.value in
     let state = c.self.inside.parts.present.state in
     let comes = c.in-Stopped.ensures.came p.0 state p.1 in
     let r : Reply = reply.Refused c.in-Stopped.refusal in
@@ -254,15 +254,15 @@ returns-in-Stopped-clause-turned g c =
       opening = c.self.inside.parts.opening.state;
       state = c.self.inside.parts.present.state;
       journal = c.self.inside.parts.journal.items;
-      seat = view_of c.self.inside.parts.space.seat;
+      seat = view_of c.self.inside.parts.space.value.seat;
       room = vec_capacity c.self.inside.parts.journal - vec_len c.self.inside.parts.journal;
     } in
     let p = c.self.invariant.1 in
     let a = c.args.shelf.now in
-    let b = c.make-came.new.files in
+    let b = c.make_there-came.new.files in
     let k = c.args.call in
-    let x = body_of view_of c.self.inside.parts.space in
-    let y = body_of view_of c.make-came.new.space in
+    let x = body_of view_of c.self.inside.parts.space.value in
+    let y = body_of view_of c.make_there-came.new.space.value in
     let state = c.self.inside.parts.present.state in
     let comes = c.in-Stopped.ensures.came p.0 state p.1 in
     let r : Reply = reply.Refused c.in-Stopped.refusal in
@@ -290,15 +290,15 @@ returns-in-Stopped-clause-files g c =
       opening = c.self.inside.parts.opening.state;
       state = c.self.inside.parts.present.state;
       journal = c.self.inside.parts.journal.items;
-      seat = view_of c.self.inside.parts.space.seat;
+      seat = view_of c.self.inside.parts.space.value.seat;
       room = vec_capacity c.self.inside.parts.journal - vec_len c.self.inside.parts.journal;
     } in
     let p = c.self.invariant.1 in
     let a = c.args.shelf.now in
-    let b = c.make-came.new.files in
+    let b = c.make_there-came.new.files in
     let k = c.args.call in
-    let x = body_of view_of c.self.inside.parts.space in
-    let y = body_of view_of c.make-came.new.space in
+    let x = body_of view_of c.self.inside.parts.space.value in
+    let y = body_of view_of c.make_there-came.new.space.value in
     let state = c.self.inside.parts.present.state in
     let comes = c.in-Stopped.ensures.came p.0 state p.1 in
     let r : Reply = reply.Refused c.in-Stopped.refusal in
@@ -326,15 +326,15 @@ close-requires-clause-ready g c =
       opening = c.self.inside.parts.opening.state;
       state = c.self.inside.parts.present.state;
       journal = c.self.inside.parts.journal.items;
-      seat = view_of c.self.inside.parts.space.seat;
+      seat = view_of c.self.inside.parts.space.value.seat;
       room = vec_capacity c.self.inside.parts.journal - vec_len c.self.inside.parts.journal;
     } in
     let p = c.self.invariant.1 in
     let a = c.args.shelf.now in
-    let b = c.make-came.new.files in
+    let b = c.make_there-came.new.files in
     let k = c.args.call in
-    let x = body_of view_of c.self.inside.parts.space in
-    let y = body_of view_of c.make-came.new.space in
+    let x = body_of view_of c.self.inside.parts.space.value in
+    let y = body_of view_of c.make_there-came.new.space.value in
     let state = c.self.inside.parts.present.state in
     let comes = c.in-Ended.ensures.came p.0 state p.1 in
     let r : Reply = reply.Ended c.in-Ended.rule in
@@ -351,15 +351,15 @@ returns-in-Ended-clause-turned g c =
       opening = c.self.inside.parts.opening.state;
       state = c.self.inside.parts.present.state;
       journal = c.self.inside.parts.journal.items;
-      seat = view_of c.self.inside.parts.space.seat;
+      seat = view_of c.self.inside.parts.space.value.seat;
       room = vec_capacity c.self.inside.parts.journal - vec_len c.self.inside.parts.journal;
     } in
     let p = c.self.invariant.1 in
     let a = c.args.shelf.now in
-    let b = c.make-came.new.files in
+    let b = c.make_there-came.new.files in
     let k = c.args.call in
-    let x = body_of view_of c.self.inside.parts.space in
-    let y = body_of view_of c.make-came.new.space in
+    let x = body_of view_of c.self.inside.parts.space.value in
+    let y = body_of view_of c.make_there-came.new.space.value in
     let state = c.self.inside.parts.present.state in
     let comes = c.in-Ended.ensures.came p.0 state p.1 in
     let r : Reply = reply.Ended c.in-Ended.rule in
@@ -385,15 +385,15 @@ returns-in-Ended-clause-files g c =
       opening = c.self.inside.parts.opening.state;
       state = c.self.inside.parts.present.state;
       journal = c.self.inside.parts.journal.items;
-      seat = view_of c.self.inside.parts.space.seat;
+      seat = view_of c.self.inside.parts.space.value.seat;
       room = vec_capacity c.self.inside.parts.journal - vec_len c.self.inside.parts.journal;
     } in
     let p = c.self.invariant.1 in
     let a = c.args.shelf.now in
-    let b = c.make-came.new.files in
+    let b = c.make_there-came.new.files in
     let k = c.args.call in
-    let x = body_of view_of c.self.inside.parts.space in
-    let y = body_of view_of c.make-came.new.space in
+    let x = body_of view_of c.self.inside.parts.space.value in
+    let y = body_of view_of c.make_there-came.new.space.value in
     let state = c.self.inside.parts.present.state in
     let comes = c.in-Ended.ensures.came p.0 state p.1 in
     let r : Reply = reply.Ended c.in-Ended.rule in
@@ -413,7 +413,7 @@ returns-in-Ended-clause-files g c =
 pub pages_read-pages-requires-clause-few : goal.pages_read-pages-requires-clause-few
 pages_read-pages-requires-clause-few g c =
     let p = c.self.invariant.1 in
-    let grew = has_grown _ _ _ _ _ _ c.args.call (c.args.shelf.now).history (c.make-came.new.files).history (λ ms became. became.history) c.make-came.result (c.make-came.ensures.came p.0 c.self.inside.parts.present.state p.1) in
+    let grew = has_grown _ _ _ _ _ _ c.args.call (c.args.shelf.now).history (c.make_there-came.new.files).history (λ ms became. became.history) c.make_there-came.result (c.make_there-came.ensures.came p.0 c.self.inside.parts.present.state p.1) in
     let few = grew.few in
     rw c.uses-mark.ensures few
 
@@ -421,7 +421,7 @@ pub invariant_of-tracked : goal.invariant_of-tracked
 invariant_of-tracked g c =
     let p = c.self.invariant.1 in
     let cut = c.in-Cut.ensures.came p.0 c.self.inside.parts.present.state p.1 in (
-      (fits_still _ _ _ c.self.inside.parts.space.seat c.make-came.new.space.seat c.requires.store c.make-came.ensures.keeps c.self.invariant.0).1,
+      (fits_still _ _ _ c.self.inside.parts.space.value.seat c.make_there-came.new.space.value.seat c.requires.store c.make_there-came.ensures.keeps c.self.invariant.0).1,
       cut.space,
       c.self.invariant.2,
       c.self.invariant.3,
@@ -438,4 +438,4 @@ pub returns-in-Cut-clause-files : goal.returns-in-Cut-clause-files
 returns-in-Cut-clause-files g c =
     let p = c.self.invariant.1 in
     let cut = c.in-Cut.ensures.came p.0 c.self.inside.parts.present.state p.1 in
-    cut_files _ c.cut.result c.args.shelf.now c.make-came.new.files c.in-Cut.refusal cut.error cut.could cut.refusal cut.moves (c.cut.ensures.outcome ∙ c.cause_of.ensures)
+    cut_files _ c.cut.result c.args.shelf.now c.make_there-came.new.files c.in-Cut.refusal cut.error cut.could cut.refusal cut.moves (c.cut.ensures.outcome ∙ c.cause_of.ensures)

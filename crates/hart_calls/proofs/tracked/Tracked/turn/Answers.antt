@@ -3,26 +3,29 @@ use Rattle.hart_calls.proofs.Parting.{fork_filed}
 use Rattle.hart_calls.proofs.Roomy.{ended_same, filed_same, goes_same, on_same, over_same, turned_same}
 use Rattle.hart_calls.proofs.tracked.Tracked.turn.Goals as goal
 
-pub returns-in-Err-clause-turned : goal.returns-in-Err-clause-turned
-returns-in-Err-clause-turned g c = over_same _ _ c.in-Err.ensures.full _ c.cut-in-Err.ensures.over
+pub returns-in_default-clause-turned : goal.returns-in_default-clause-turned
+returns-in_default-clause-turned g c = over_same _ _ c.with_room.ensures.same _ c.cut-in_default.ensures.over
 
 pub returns-in-Exit-clause-turned : goal.returns-in-Exit-clause-turned
-returns-in-Exit-clause-turned g c = over_same _ _ c.in-Ok.ensures.same _ c.exit.ensures.over
+returns-in-Exit-clause-turned g c = over_same _ _ c.with_room.ensures.same _ c.exit.ensures.over
 
 pub returns-in-Exit-clause-files : goal.returns-in-Exit-clause-files
-returns-in-Exit-clause-files g c = ended_same _ _ c.in-Ok.ensures.same c.exit.result c.args.shelf.now c.exit.new.shelf c.exit.ensures.files
+returns-in-Exit-clause-files g c = ended_same _ _ c.with_room.ensures.same c.exit.result c.args.shelf.now c.exit.new.shelf c.exit.ensures.files
 
 pub returns-in-Fork-clause-turned : goal.returns-in-Fork-clause-turned
-returns-in-Fork-clause-turned g c = goes_same _ _ c.in-Ok.ensures.same c.fork-tracked.result.0 c.fork-tracked.result.1 c.args.slot c.fork-tracked.ensures.goes
+returns-in-Fork-clause-turned g c = over_same _ _ c.with_room.ensures.same _ c.in-Err.ensures.over
 
-pub returns-in-Fork-clause-files : goal.returns-in-Fork-clause-files
-returns-in-Fork-clause-files g c =
-    on_same _ _ c.in-Ok.ensures.same c.fork-tracked.result.0 c.args.shelf.now c.args.shelf.now
-    (fork_filed _ c.fork-tracked.result.0 c.fork-tracked.result.1 c.args.slot c.in-Fork.list (sym c.next.ensures ∙ c.in-Fork.is) c.fork-tracked.ensures.goes c.args.shelf.now)
+pub returns-in-Ok-fork-clause-turned : goal.returns-in-Ok-fork-clause-turned
+returns-in-Ok-fork-clause-turned g c = goes_same _ _ c.with_room.ensures.same c.in-Ok-fork.tracked c.in-Ok-fork.child c.args.slot c.in-Ok-fork.ensures.goes
+
+pub returns-in-Ok-fork-clause-files : goal.returns-in-Ok-fork-clause-files
+returns-in-Ok-fork-clause-files g c =
+    on_same _ _ c.with_room.ensures.same c.in-Ok-fork.tracked c.args.shelf.now c.args.shelf.now
+    (fork_filed _ c.in-Ok-fork.tracked c.in-Ok-fork.child c.args.slot c.in-Fork.list (sym c.next.ensures ∙ c.in-Fork.is) c.in-Ok-fork.ensures.goes c.args.shelf.now)
 
 pub returns : goal.returns
 returns g c = record {
   store = c.stay.ensures.store;
-  turned = turned_same _ _ c.in-Ok.ensures.same c.stay.result c.args.slot c.stay.ensures.turned;
-  files = filed_same _ _ c.in-Ok.ensures.same c.stay.result c.args.shelf.now c.stay.new.shelf c.stay.ensures.files;
+  turned = turned_same _ _ c.with_room.ensures.same c.stay.result c.args.slot c.stay.ensures.turned;
+  files = filed_same _ _ c.with_room.ensures.same c.stay.result c.args.shelf.now c.stay.new.shelf c.stay.ensures.files;
 }

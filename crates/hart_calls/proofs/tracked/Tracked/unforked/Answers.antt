@@ -14,7 +14,7 @@ use Rattle.hart_calls.proofs.tracked.Tracked.unforked.Goals as goal
 pub rejoin-requires-clause-agrees : goal.rejoin-requires-clause-agrees
 rejoin-requires-clause-agrees g c =
     let p = c.self.invariant.1 in
-    (p.0, subst (λ (q : Process). IsSpace (body_of view_of c.self.inside.parts.space) p.0 q) (sym c.kept-present.ensures) p.1)
+    (p.0, subst (λ (q : Process). IsSpace (body_of view_of c.self.inside.parts.space.value) p.0 q) (sym c.kept-present.ensures) p.1)
 
 pub rejoin-requires-clause-leads : goal.rejoin-requires-clause-leads
 rejoin-requires-clause-leads g c =
@@ -30,7 +30,7 @@ returns g c =
       opening = c.self.inside.parts.opening.state;
       state = c.self.inside.parts.present.state;
       journal = c.self.inside.parts.journal.items;
-      seat = view_of c.self.inside.parts.space.seat;
+      seat = view_of c.self.inside.parts.space.value.seat;
       room = vec_capacity c.self.inside.parts.journal - vec_len c.self.inside.parts.journal;
     } in
     let e = c.answer-entry.ensures in
