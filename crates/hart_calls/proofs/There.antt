@@ -4,6 +4,7 @@ use Rattle.std.proofs.lemmas.Option.{same_Some, slice_get-get_or, slice_get_with
 use Rattle.hart_calls.specs.Replay.{call_at, list_at, or_exit, or_none}
 use Rattle.std.proofs.lemmas.Bool.{ne_eqb}
 use Rattle.hart_calls.specs.Track.{AreThere, IsThere}
+use Rattle.std.specs.Prelude.{IsSome}
 use Rattle.hart_calls.specs.Turns.{HasMapping}
 use Rattle.process_model.specs.Regions.{Region}
 use Rattle.process_model.specs.declared.call.Call.{Call}
@@ -40,3 +41,8 @@ behind_last calls k none = sym (ap or_exit none)
 pub has_mapping_is : {A : Type 0} (f : A → Region) (rs : List A) (ms : List Region) (b : Bool) → b ≡ (length rs == 0) → map f rs ≡ ms → (not b ≡ true) ↔ HasMapping ms
 has_mapping_is f [] ms b is same = subst (λ (zs : List Region). (not b ≡ true) ↔ HasMapping zs) same ((λ e. absurd (let empty : b ≡ true = is in cc)), (λ h. absurd h))
 has_mapping_is f (r ∷ rs) ms b is same = subst (λ (zs : List Region). (not b ≡ true) ↔ HasMapping zs) same ((λ e. tt), (λ h. ap not (is ∙ ne_eqb (length (r ∷ rs)) 0 (λ e. omega (arith, e)))))
+
+-- a copy from the process has its room
+pub no_room : {A : Type 0} (o : Option A) → o ≡ None → IsSome o → ⊥
+no_room None none some = cc
+no_room (Some x) none some = absurd (cc)

@@ -1,5 +1,5 @@
 -- What a call asks of memory.
-use Rattle.std.specs.Prelude.{◌≡◌, Bool, true, false, List, [], if◌then◌else◌}
+use Rattle.std.specs.Prelude.{◌≡◌, Bool, true, false, IsSome, List, [], Option, if◌then◌else◌}
 use Rattle.hart_calls.specs.Tells.{asked}
 use Rattle.process_model.specs.PageMoves.{PageMove}
 use Rattle.process_model.specs.Service.{Asked}
@@ -18,6 +18,11 @@ abbrev pub IsStaying : Call → Type 0
 IsStaying (call.Fork list) = ⊥
 IsStaying (call.Exit status) = ⊥
 IsStaying c = Unit {0}
+
+-- a copy from the process comes with room for a reply that carries bytes
+abbrev pub HasRoomFor : {A : Type 0} → Call → Option A → Type 0
+HasRoomFor (call.CopyIn address count) o = IsSome o
+HasRoomFor c o = Unit {0}
 
 -- an access or a copy may settle pages, and read them from files
 abbrev pub may_read : Call → Bool

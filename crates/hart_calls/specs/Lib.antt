@@ -1,3 +1,4 @@
+pub mod KeptReplies
 pub mod Answers
 pub mod Asks
 pub mod Closed

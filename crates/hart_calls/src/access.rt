@@ -1,7 +1,7 @@
 // Accesses of the user, which are served within the call.
 
 ghost use Rattle.std.specs.Prelude.{◌≡◌, ◌&&◌, ◌==◌, ◌%◌, IsTrue};
-ghost use Rattle.address_space.specs.Accesses.{asked_of, gives_leaf};
+ghost use Rattle.address_space.specs.Accesses.{asked_of, gives_leaf, IsWalkOf};
 ghost use Rattle.address_space.specs.Agreement.{body_of, IsSpace};
 ghost use Rattle.frame_store.specs.Laws.{Fits, Keeps};
 ghost use Rattle.hart_calls.specs.Asks.{IsAccess};
@@ -13,11 +13,12 @@ ghost use Rattle.process_model.specs.declared.call.Call as declared;
 ghost use Rattle.table_walk.specs.Tables.{Tables};
 
 use crate::came::Came;
+use crate::kept_reply::KeptReply;
 use address_space::{Asked, Space, walks_grant_what_is_resident};
 use fault_rules::{Served, serve};
 use file_cabinet::Files;
 use frame_store::{FrameAccess, FrameSeat, FrameSupply};
-use process_model::{Refusal, Reply, is_width};
+use process_model::{Brief, Refusal, is_width};
 use sv39_entry::{Access, Mode, Va};
 use table_walk::Walk;
 
@@ -47,12 +48,12 @@ pub(crate) fn access<S: FrameSeat, F: FrameSupply<Seat = S>, C: Files>(
     ensures keeps { Keeps F.FrameAccess.rule store.old space.old.seat store.new space.new.seat }
 {
     if !is_width(asked.width) {
-        return Came::Answered(Reply::Refused(Refusal::BadArgument));
+        return Came::Answered(KeptReply::short(Brief::Refused(Refusal::BadArgument)));
     }
     walks_grant_what_is_resident();
     let walk = space.translate(store, asked.va, asked.access, Mode::User);
     if is_permitted(&walk, &asked) {
-        return Came::Answered(space.user_access(store, walk, asked));
+        return Came::Answered(accessed(space, store, walk, asked));
     }
     match serve(space, store, files, asked.va, asked.width, asked.access) {
         Served::Ready => Came::Answered(at_once(space, store, asked)),
@@ -74,7 +75,7 @@ fn at_once<S: FrameSeat, F: FrameAccess<Seat = S>>(
     space: &mut Space<S>,
     store: &mut F,
     asked: Asked,
-) -> Reply
+) -> KeptReply
     requires fits { Fits F.rule store.old space.old.seat }
     requires ready { (t : Tables) × (p : Process) × IsSpace (body_of S.view space.old) t p }
     requires width { IsTrue (is_width asked.width) }
@@ -83,5 +84,22 @@ fn at_once<S: FrameSeat, F: FrameAccess<Seat = S>>(
     ensures keeps { Keeps F.rule store.old space.old.seat store.new space.new.seat }
 {
     let walk = space.translate(store, asked.va, asked.access, Mode::User);
-    space.user_access(store, walk, asked)
+    accessed(space, store, walk, asked)
+}
+
+/// Makes an access of the user that was translated, or tells its fault.
+fn accessed<S: FrameSeat, F: FrameAccess<Seat = S>>(
+    space: &mut Space<S>,
+    store: &mut F,
+    walk: Walk,
+    asked: Asked,
+) -> KeptReply
+    requires fits { Fits F.rule store.old space.old.seat }
+    requires ready { (t : Tables) × (p : Process) × IsSpace (body_of S.view space.old) t p × IsWalkOf t asked walk }
+    requires width { IsTrue (is_width asked.width) }
+    ensures reply { (t : Tables) (p : Process) → IsSpace (body_of S.view space.old) t p → IsWalkOf t asked walk → result ≡ (service.user_access p (asked_of asked)).reply }
+    ensures after { (t : Tables) (p : Process) → IsSpace (body_of S.view space.old) t p → IsWalkOf t asked walk → IsSpace (body_of S.view space.new) t (service.user_access p (asked_of asked)).process }
+    ensures keeps { Keeps F.rule store.old space.old.seat store.new space.new.seat }
+{
+    KeptReply::short(space.user_access_briefly(store, walk, asked))
 }

@@ -4,7 +4,7 @@ ghost use Rattle.std.specs.Prelude.{◌≡◌, [], Result, Ok, Err};
 ghost use Rattle.address_space.specs.Agreement.{body_of, IsSpace};
 ghost use Rattle.frame_store.specs.Laws.{Fits, Keeps};
 ghost use Rattle.hart_calls.specs.Answers.{done_or_refused, mapped_or_refused, size_or_refused};
-ghost use Rattle.hart_calls.specs.Asks.{IsStaying};
+ghost use Rattle.hart_calls.specs.Asks.{HasRoomFor, IsStaying};
 ghost use Rattle.hart_calls.specs.Comes.{ComesTo};
 ghost use Rattle.process_model.specs.Process.{Process};
 ghost use Rattle.process_model.specs.declared.call.Call as declared;
@@ -14,12 +14,13 @@ ghost use Rattle.table_walk.specs.Tables.{Tables};
 use crate::access::{access, asked};
 use crate::came::Came;
 use crate::copies::{copy_from, copy_to};
+use crate::kept_reply::KeptReply;
 use address_space::Space;
 use exec_segments::Image;
 use file_cabinet::Files;
 use frame_store::{FrameSeat, FrameSupply};
 use lazy_growth::SizeError;
-use process_model::{Call, Refusal, Reply};
+use process_model::{Brief, Call, Refusal, Reply};
 use sv39_entry::{Access, Va};
 
 /// Makes a call of a process.
@@ -28,10 +29,12 @@ fn make<S: FrameSeat, F: FrameSupply<Seat = S>, C: Files>(
     store: &mut F,
     files: &mut C,
     call: Call<'_>,
+    room: Option<Box<Reply>>,
 ) -> Came
     requires fits { Fits F.FrameAccess.rule store.old space.old.seat }
     requires ready { (t : Tables) × (p : Process) × IsSpace (body_of S.view space.old) t p }
     requires stays { IsStaying call }
+    requires room { HasRoomFor call room }
     ensures came { ComesTo (body_of S.view space.old) (body_of S.view space.new) (C.files files.old) (λ moves. C.becomes files.old moves files.new) (C.can_refuse files.old) call.entry result }
     ensures keeps { Keeps F.FrameAccess.rule store.old space.old.seat store.new space.new.seat }
 {
@@ -64,7 +67,10 @@ fn make<S: FrameSeat, F: FrameSupply<Seat = S>, C: Files>(
         Call::Munmap { address, length } => {
             done(mmap_regions::munmap(space, store, files, address, length))
         }
-        Call::CopyIn { address, count } => copy_from(space, store, files, Va(address), count),
+        Call::CopyIn { address, count } => {
+            let Some(room) = room else { unreachable!() };
+            copy_from(space, store, files, Va(address), count, room)
+        }
         Call::CopyOut { address, bytes } => copy_to(space, store, files, Va(address), bytes),
         Call::Exit { .. } => unreachable!(),
         Call::Fork { .. } => unreachable!(),
@@ -77,14 +83,16 @@ pub(crate) fn make_there<S: FrameSeat, F: FrameSupply<Seat = S>, C: Files>(
     store: &mut F,
     files: &mut C,
     call: Call<'_>,
+    room: Option<Box<Reply>>,
 ) -> Came
     requires fits { Fits F.FrameAccess.rule store.old space.old.value.seat }
     requires ready { (t : Tables) × (p : Process) × IsSpace (body_of S.view space.old.value) t p }
     requires stays { IsStaying call }
+    requires room { HasRoomFor call room }
     ensures came { ComesTo (body_of S.view space.old.value) (body_of S.view space.new.value) (C.files files.old) (λ moves. C.becomes files.old moves files.new) (C.can_refuse files.old) call.entry result }
     ensures keeps { Keeps F.FrameAccess.rule store.old space.old.value.seat store.new space.new.value.seat }
 {
-    make(space, store, files, call)
+    make(space, store, files, call, room)
 }
 
 /// The process of an image comes in the place of this one.
@@ -102,7 +110,7 @@ fn replace<S: FrameSeat, F: FrameSupply<Seat = S>, C: Files>(
 {
     match Image::judged(image) {
         Ok(image) => done(exec_segments::exec(space, store, &image, files)),
-        Err(part) => Came::Answered(Reply::Refused(Refusal::BadImage(part))),
+        Err(part) => Came::Answered(KeptReply::short(Brief::Refused(Refusal::BadImage(part)))),
     }
 }
 
@@ -111,8 +119,8 @@ fn done(outcome: Result<(), Refusal>) -> Came
     ensures { result ≡ done_or_refused outcome }
 {
     match outcome {
-        Ok(()) => Came::Answered(Reply::Done),
-        Err(refusal) => Came::Answered(Reply::Refused(refusal)),
+        Ok(()) => Came::Answered(KeptReply::short(Brief::Done)),
+        Err(refusal) => Came::Answered(KeptReply::short(Brief::Refused(refusal))),
     }
 }
 
@@ -121,8 +129,8 @@ fn mapped(address: Result<u64, Refusal>) -> Came
     ensures { result ≡ mapped_or_refused address }
 {
     match address {
-        Ok(address) => Came::Answered(Reply::MappedAt(address)),
-        Err(refusal) => Came::Answered(Reply::Refused(refusal)),
+        Ok(address) => Came::Answered(KeptReply::short(Brief::MappedAt(address))),
+        Err(refusal) => Came::Answered(KeptReply::short(Brief::Refused(refusal))),
     }
 }
 
@@ -131,7 +139,7 @@ fn sized(before: Result<u64, SizeError>) -> Came
     ensures { result ≡ size_or_refused before }
 {
     match before {
-        Ok(before) => Came::Answered(Reply::OldSize(before)),
-        Err(error) => Came::Answered(Reply::Refused(error.into())),
+        Ok(before) => Came::Answered(KeptReply::short(Brief::OldSize(before))),
+        Err(error) => Came::Answered(KeptReply::short(Brief::Refused(error.into()))),
     }
 }

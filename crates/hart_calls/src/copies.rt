@@ -9,10 +9,11 @@ ghost use Rattle.process_model.specs.declared.call.Call.TheVariants as call;
 ghost use Rattle.table_walk.specs.Tables.{Tables};
 
 use crate::came::Came;
+use crate::kept_reply::KeptReply;
 use address_space::Space;
 use file_cabinet::Files;
 use frame_store::{FrameSeat, FrameSupply};
-use process_model::{LONGEST_COPY, Refusal, Reply};
+use process_model::{Brief, LONGEST_COPY, Refusal, Reply};
 use sv39_entry::Va;
 use user_copy::{Stop, copy_in, copy_out};
 
@@ -24,6 +25,7 @@ pub(crate) fn copy_from<S: FrameSeat, F: FrameSupply<Seat = S>, C: Files>(
     files: &mut C,
     va: Va,
     count: usize,
+    room: Box<Reply>,
 ) -> Came
     requires fits { Fits F.FrameAccess.rule store.old space.old.seat }
     requires ready { (t : Tables) × (p : Process) × IsSpace (body_of S.view space.old) t p }
@@ -31,12 +33,14 @@ pub(crate) fn copy_from<S: FrameSeat, F: FrameSupply<Seat = S>, C: Files>(
     ensures keeps { Keeps F.FrameAccess.rule store.old space.old.seat store.new space.new.seat }
 {
     if count > LONGEST_COPY {
-        return Came::Answered(Reply::Refused(Refusal::BadArgument));
+        return Came::Answered(KeptReply::short(Brief::Refused(Refusal::BadArgument)));
     }
     match copy_in(space, store, files, va, count) {
-        Ok(bytes) => Came::Answered(Reply::CopiedIn(bytes)),
+        Ok(bytes) => Came::Answered(KeptReply::long(room, Reply::CopiedIn(bytes))),
         Err(short) => match short.rule {
-            Stop::Denied(rule) => Came::Answered(Reply::ShortIn(rule, short.bytes)),
+            Stop::Denied(rule) => {
+                Came::Answered(KeptReply::long(room, Reply::ShortIn(rule, short.bytes)))
+            },
             Stop::Unpromised(refusal) => Came::Stopped(refusal, short.done),
         },
     }
@@ -57,12 +61,14 @@ pub(crate) fn copy_to<S: FrameSeat, F: FrameSupply<Seat = S>, C: Files>(
     ensures keeps { Keeps F.FrameAccess.rule store.old space.old.seat store.new space.new.seat }
 {
     if bytes.len() > LONGEST_COPY {
-        return Came::Answered(Reply::Refused(Refusal::BadArgument));
+        return Came::Answered(KeptReply::short(Brief::Refused(Refusal::BadArgument)));
     }
     match copy_out(space, store, files, va, bytes) {
-        Ok(()) => Came::Answered(Reply::CopiedOut(bytes.len())),
+        Ok(()) => Came::Answered(KeptReply::short(Brief::CopiedOut(bytes.len()))),
         Err(short) => match short.rule {
-            Stop::Denied(rule) => Came::Answered(Reply::ShortOut(rule, short.done)),
+            Stop::Denied(rule) => Came::Answered(KeptReply::short(Brief::ShortOut(
+                rule, short.done,
+            ))),
             Stop::Unpromised(refusal) => Came::Stopped(refusal, short.done),
         },
     }

@@ -18,13 +18,14 @@ ghost use Rattle.table_walk.specs.Tables.{Tables};
 
 use crate::entry::Entry;
 use crate::finished::Finished;
+use crate::kept_reply::KeptReply;
 use crate::room::Room;
 use crate::tracked::{Parts, Tracked};
 use address_space::Space;
 use file_cabinet::PromiseError;
 use file_shelf::Shelf;
 use mmap_regions::{promise_write_back, write_back};
-use process_model::{Call, Outcome, Reply};
+use process_model::{Brief, Call, Outcome};
 use shared_frames::{SharedSeat, SharedSupply};
 use std::alloc::Global;
 use std::sync::Wait;
@@ -88,7 +89,7 @@ fn exit_entry<'a>(alloc: Global, status: i32) -> Entry<'a>
 {
     Entry {
         call: Call::Exit { status },
-        reply: Reply::Exited(status),
+        reply: KeptReply::short(Brief::Exited(status)),
         pages: Vec::new(alloc),
         file: None,
     }

@@ -13,6 +13,7 @@ ghost use Rattle.process_model.specs.declared.call.Call.TheVariants as call;
 ghost use Rattle.process_model.specs.declared.call.Outcome.TheVariants as outcome;
 ghost use Rattle.process_model.specs.declared.step.Refusal.TheVariants.{NoFrame};
 ghost use Rattle.process_model.specs.declared.step.Reply.TheVariants as reply;
+ghost use Rattle.process_model.specs.Briefs.{of_brief};
 ghost use Rattle.process_model.specs.Frames as model;
 ghost use Rattle.process_model.specs.Process.{Process};
 ghost use Rattle.shared_frames.specs.Fits.{FitsIn, view_of};
@@ -22,13 +23,14 @@ use crate::ending::{destroy, leave};
 use crate::entry::Entry;
 use crate::finished::Finished;
 use crate::going::rejoin;
+use crate::kept_reply::KeptReply;
 use crate::room::Room;
 use crate::slot::Slot;
 use crate::tracked::{Parts, Tracked};
 use address_space::Space;
 use cow_fork::ForkError;
 use frame_store::{FrameSeat, FrameSupply};
-use process_model::{Call, Outcome, Refusal, Reply};
+use process_model::{Brief, Call, Outcome, Refusal};
 use shared_frames::{SharedSeat, SharedSupply};
 use std::alloc::Global;
 use std::sync::Wait;
@@ -85,14 +87,14 @@ impl<'a, B: Room> Tracked<'a, B> {
                     Ok(place) => place,
                     Err(full) => return Err(undone::<B, R>(parts, full.value, store)),
                 };
-                let entry = answer(parts.alloc, list, Reply::Forked(number));
+                let entry = answer(parts.alloc, list, Brief::Forked(number));
                 let opening = parts.present.of_child();
                 let child = Tracked::new(parts.alloc, opening, place, name, parts.lists, list);
                 let present = parts.present.after_fork();
                 Ok((rejoin(parts, present, entry), Some(child)))
             }
             Err(error) => {
-                let entry = answer(parts.alloc, list, Reply::Refused(error.into()));
+                let entry = answer(parts.alloc, list, Brief::Refused(error.into()));
                 let present = parts.present.kept();
                 Ok((rejoin(parts, present, entry), None))
             }
@@ -111,7 +113,7 @@ impl<'a, B: Room> Tracked<'a, B> {
     {
         let _ = slot;
         let parts = self.parts;
-        let entry = answer(parts.alloc, list, Reply::Refused(refusal));
+        let entry = answer(parts.alloc, list, Brief::Refused(refusal));
         let present = parts.present.kept();
         rejoin(parts, present, entry)
     }
@@ -168,15 +170,15 @@ fn undone<'a, B: Room, R: Wait>(
 }
 
 /// What the journal gets of a fork.
-fn answer<'a>(alloc: Global, list: usize, reply: Reply) -> Entry<'a>
+fn answer<'a>(alloc: Global, list: usize, reply: Brief) -> Entry<'a>
     ensures call { result.call ≡ call.Fork list }
-    ensures reply { result.reply ≡ reply }
+    ensures reply { result.reply ≡ of_brief reply }
     ensures pages { result.pages.items ≡ [] }
     ensures file { result.file ≡ None }
 {
     Entry {
         call: Call::Fork { list },
-        reply,
+        reply: KeptReply::short(reply),
         pages: Vec::new(alloc),
         file: None,
     }

@@ -3,7 +3,7 @@
 ghost use Rattle.std.specs.Prelude.{[], ◌∷◌, ◌++◌, ◌≡◌, ◌<◌, ◌≤◌, drop, length, List, None, Option, option_copied, option_map, vec_capacity, vec_len, ℕ};
 ghost use Rattle.address_space.specs.Agreement.{body_of, IsSpace};
 ghost use Rattle.file_shelf.specs.Shelved.{Shelved};
-ghost use Rattle.hart_calls.specs.Asks.{IsStaying, may_read, reads};
+ghost use Rattle.hart_calls.specs.Asks.{HasRoomFor, IsStaying, may_read, reads};
 ghost use Rattle.hart_calls.specs.Closed.{cause_of};
 ghost use Rattle.hart_calls.specs.Comes.{want_told};
 ghost use Rattle.hart_calls.specs.Replay.{call_at, forked, forks, Leads, list_at, Replays};
@@ -12,6 +12,7 @@ ghost use Rattle.hart_calls.specs.Track.{AreThere, next_of};
 ghost use Rattle.hart_calls.specs.Turned.{Filed, HasTurned};
 ghost use Rattle.hart_calls.specs.Turns.{most_entries};
 ghost use Rattle.process_model.specs.Files.{File};
+ghost use Rattle.process_model.specs.declared.step.Reply.TheVariants as reply;
 ghost use Rattle.shared_frames.specs.Fits.{FitsIn, view_of};
 ghost use Rattle.table_walk.specs.Tables.{Tables};
 
@@ -19,6 +20,7 @@ use crate::calls::make_there;
 use crate::came::Came;
 use crate::ending::close;
 use crate::entry::Entry;
+use crate::kept_reply::KeptReply;
 use crate::opening::{Opening, begun};
 use crate::room::Room;
 use crate::slot::Slot;
@@ -26,12 +28,13 @@ use crate::tracked::{Parts, Tracked};
 use crate::turn::Turn;
 use file_cabinet::Files;
 use file_shelf::{PageUse, Shelf};
-use process_model::{Call, Outcome, Refusal, Reply};
+use process_model::{Brief, Call, Outcome, Refusal, Reply};
 use shared_frames::SharedSupply;
 use std::alloc::Global;
 use std::marker::PhantomData;
 use std::snapshot::Snapshot;
 use std::sync::Wait;
+use sv39_entry::Rule;
 
 impl<'a, B: Room> Tracked<'a, B> {
     /// A call after which no other process comes of this one.
@@ -41,6 +44,7 @@ impl<'a, B: Room> Tracked<'a, B> {
         shelf: &mut Shelf,
         call: Call<'a>,
         pages: Vec<PageUse>,
+        room: Option<Box<Reply>>,
         slot: &Slot,
     ) -> Turn<'a, B>
         requires store { store.old ≡ B.table }
@@ -50,6 +54,7 @@ impl<'a, B: Room> Tracked<'a, B> {
         requires few { length self.journal < most_entries }
         requires none { pages.items ≡ [] }
         requires pages { 2 ≤ vec_capacity pages }
+        requires long { HasRoomFor call room }
         ensures store { store.new ≡ B.table }
         ensures turned { HasTurned self.entry result slot.now }
         ensures files { Filed self.entry result shelf.old shelf.new }
@@ -59,7 +64,7 @@ impl<'a, B: Room> Tracked<'a, B> {
         let before = Snapshot::of(&*shelf);
         let mark = uses(shelf);
         let file = mapped_file(shelf, call);
-        let came = make_there(&mut parts.space, store, shelf, call);
+        let came = make_there(&mut parts.space, store, shelf, call, room);
         let pages = pages_read(shelf, mark, call, pages, parts.alloc, &mut parts.spare);
         match came {
             Came::Answered(reply) => {
@@ -68,13 +73,13 @@ impl<'a, B: Room> Tracked<'a, B> {
                 Turn::Goes(rejoin(parts, present, entry), None)
             }
             Came::Stopped(refusal, done) => {
-                let reply = Reply::Refused(refusal);
+                let reply = KeptReply::short(Brief::Refused(refusal));
                 let present = moved(&parts.present, before, call, &reply, Some(done));
                 let entry = entry_of(call, reply, pages, file);
                 Turn::Goes(rejoin(parts, present, entry), None)
             }
             Came::Ended(rule) => {
-                let entry = entry_of(call, Reply::Ended(rule), pages, file);
+                let entry = ended_entry(call, rule, pages, file);
                 Turn::Over(close::<B, R>(parts, store, shelf, entry, Outcome::Ended(rule)))
             }
             Came::Cut(refusal) => {
@@ -89,7 +94,12 @@ impl<'a, B: Room> Tracked<'a, B> {
 }
 
 /// What the journal gets of a call.
-fn entry_of<'a>(call: Call<'a>, reply: Reply, pages: Vec<PageUse>, file: Option<bool>) -> Entry<'a>
+fn entry_of<'a>(
+    call: Call<'a>,
+    reply: KeptReply,
+    pages: Vec<PageUse>,
+    file: Option<bool>,
+) -> Entry<'a>
     ensures call { result.call ≡ call.entry }
     ensures reply { result.reply ≡ reply }
     ensures pages { result.pages.items ≡ pages.items }
@@ -101,6 +111,16 @@ fn entry_of<'a>(call: Call<'a>, reply: Reply, pages: Vec<PageUse>, file: Option<
         pages,
         file,
     }
+}
+
+/// What the journal gets of a call that ended its process.
+fn ended_entry<'a>(call: Call<'a>, rule: Rule, pages: Vec<PageUse>, file: Option<bool>) -> Entry<'a>
+    ensures call { result.call ≡ call.entry }
+    ensures reply { result.reply ≡ reply.Ended rule }
+    ensures pages { result.pages.items ≡ pages.items }
+    ensures file { result.file ≡ file }
+{
+    entry_of(call, KeptReply::short(Brief::Ended(rule)), pages, file)
 }
 
 /// The call was made: its entry goes into the journal.
@@ -127,7 +147,7 @@ pub(crate) fn rejoin<'a, B: Room>(
     ensures journal { result.journal ≡ parts.entry.journal.items ++ entry.entry ∷ [] }
     ensures seat { result.seat ≡ view_of parts.entry.space.value.seat }
 {
-    let named = children_named(&entry.reply);
+    let named = entry.reply.forked();
     parts.journal.push_reserved(entry);
     parts.children += named;
     parts.present = present;
@@ -137,23 +157,13 @@ pub(crate) fn rejoin<'a, B: Room>(
     }
 }
 
-/// How many children a reply names.
-fn children_named(reply: &Reply) -> usize
-    ensures { result ≡ forked reply.now }
-{
-    match reply {
-        Reply::Forked(_) => 1,
-        _ => 0,
-    }
-}
-
 /// What tells the process of the model after a call.
 #[derive(Drop)]
 struct Move<'a> {
     present: Opening,
     before: Snapshot<Shelf>,
     call: Call<'a>,
-    reply: Snapshot<Reply>,
+    reply: Snapshot<KeptReply>,
     stopped: Option<usize>,
 }
 
@@ -163,7 +173,7 @@ fn moved(
     present: &Opening,
     before: Snapshot<Shelf>,
     call: Call<'_>,
-    reply: &Reply,
+    reply: &KeptReply,
     stopped: Option<usize>,
 ) -> Opening
     ensures { result.state ≡ (told (before.value).files (want_told stopped call.entry reply.now) 0 present.now.state call.entry).process }

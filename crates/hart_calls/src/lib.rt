@@ -14,6 +14,7 @@ mod entry;
 mod finished;
 mod forking;
 mod going;
+mod kept_reply;
 mod opening;
 mod room;
 mod slot;
@@ -22,6 +23,7 @@ mod turn;
 
 pub use entry::Entry;
 pub use finished::Finished;
+pub use kept_reply::KeptReply;
 pub use opening::{Opening, begun};
 pub use room::Room;
 pub use slot::Slot;

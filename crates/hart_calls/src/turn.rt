@@ -1,7 +1,7 @@
 // One call of a process.
 
 ghost use Rattle.std.specs.Prelude.{[], ◌∷◌, ◌++◌, ◌≡◌, ◌<◌, ◌≤◌, ◌+◌, IfErr, IfOk, length, None, Option, vec_capacity, vec_len, ℕ};
-ghost use Rattle.hart_calls.specs.Asks.{IsStaying};
+ghost use Rattle.hart_calls.specs.Asks.{HasRoomFor, IsStaying};
 ghost use Rattle.hart_calls.specs.Lent.{IsLent, OfLent};
 ghost use Rattle.hart_calls.specs.Track.{child_name, next_of, SameTrack, Track};
 ghost use Rattle.hart_calls.specs.Turned.{Filed, HasTurned, Unfiled};
@@ -10,12 +10,13 @@ ghost use Rattle.process_model.specs.declared.call.Call.TheVariants as call;
 
 use crate::entry::Entry;
 use crate::finished::Finished;
+use crate::kept_reply::room_for_reply;
 use crate::room::Room;
 use crate::slot::Slot;
 use crate::tracked::Tracked;
 use file_cabinet::Cabinet;
 use file_shelf::{PageUse, Shelf};
-use process_model::{Call, Outcome};
+use process_model::{Call, Outcome, Reply};
 use shared_frames::SharedSupply;
 use std::alloc::AllocError;
 use std::mem;
@@ -93,7 +94,7 @@ impl<'a, B: Room> Tracked<'a, B> {
         if self.made() == MOST_ENTRIES {
             return Turn::Over(self.cut(store, Outcome::JournalFull));
         }
-        let Ok(pages) = self.with_room() else {
+        let Ok((pages, room)) = self.with_room() else {
             return Turn::Over(self.cut(store, Outcome::Memory));
         };
         match self.next() {
@@ -102,22 +103,25 @@ impl<'a, B: Room> Tracked<'a, B> {
                 Err(finished) => Turn::Over(finished),
             },
             Call::Exit { status } => Turn::Over(self.exit(store, shelf, status)),
-            call => self.stay(store, shelf, call, pages, &slot),
+            call => self.stay(store, shelf, call, pages, room, &slot),
         }
     }
 
-    /// Room for one entry more, and for the pages of files that its call may read.
-    fn with_room(&mut self) -> Result<Vec<PageUse>, AllocError>
+    /// Room for one entry more, for the pages of files that its call may read, and for a reply that carries bytes, where
+    /// the call may have such a one.
+    fn with_room(&mut self) -> Result<(Vec<PageUse>, Option<Box<Reply>>), AllocError>
         ensures same { SameTrack self.old self.new }
         ensures room { IfOk result (λ _. 0 < self.new.room) }
-        ensures none { IfOk result (λ pages. pages.items ≡ []) }
-        ensures pages { IfOk result (λ pages. 2 ≤ vec_capacity pages) }
+        ensures none { IfOk result (λ r. r.0.items ≡ []) }
+        ensures pages { IfOk result (λ r. 2 ≤ vec_capacity r.0) }
+        ensures long { IfOk result (λ r. HasRoomFor (next_of self.new) r.1) }
     {
+        let room = room_for_reply(self.parts.alloc, self.next())?;
         self.parts.journal.reserve(1)?;
         let none = Vec::new(self.parts.alloc);
         let mut pages = mem::replace(&mut self.parts.spare, none);
         pages.clear();
         pages.reserve(2)?;
-        Ok(pages)
+        Ok((pages, room))
     }
 }

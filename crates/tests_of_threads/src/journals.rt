@@ -44,7 +44,7 @@ fn has_reply<R: Threads + Wait + Sync>(
                 finished
                     .journal
                     .get(number)
-                    .map(|entry| entry.reply == *reply),
+                    .map(|entry| entry.reply.is(reply)),
             );
         }
     }

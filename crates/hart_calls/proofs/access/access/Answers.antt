@@ -18,14 +18,14 @@ use Rattle.sv39_entry.specs.declared.rule.Rule.TheVariants as rule
 use Rattle.hart_calls.proofs.access.access.Goals as goal
 
 pub returns-then-not-is_width-clause-came : goal.returns-then-not-is_width-clause-came
-returns-then-not-is_width-clause-came g c = λ k is t p space.
-    (tt, bad_width (g.C.Files.files c.args.files.now) p (asked_of c.args.asked) k is (let e = c.is_width.ensures in let f = c.if-not-is_width.true in cc) (body_of g.S.FrameSeat.view c.args.space.now) (body_of g.S.FrameSeat.view c.args.space.now) _ (t, space) (g.met.C.Files.stays c.args.files.now))
+returns-then-not-is_width-clause-came g c =
+    rw c.short.ensures (λ k is t p space. (tt, bad_width (g.C.Files.files c.args.files.now) p (asked_of c.args.asked) k is (let e = c.is_width.ensures in let f = c.if-not-is_width.true in cc) (body_of g.S.FrameSeat.view c.args.space.now) (body_of g.S.FrameSeat.view c.args.space.now) _ (t, space) (g.met.C.Files.stays c.args.files.now)))
 
-pub user_access-requires-clause-fits : goal.user_access-requires-clause-fits
-user_access-requires-clause-fits g c = fits_after g.F.FrameAccess.rule c.translate-walk.ensures.keeps c.requires.fits
+pub accessed-requires-clause-fits : goal.accessed-requires-clause-fits
+accessed-requires-clause-fits g c = fits_after g.F.FrameAccess.rule c.translate-walk.ensures.keeps c.requires.fits
 
-pub user_access-requires-clause-ready : goal.user_access-requires-clause-ready
-user_access-requires-clause-ready g c =
+pub accessed-requires-clause-ready : goal.accessed-requires-clause-ready
+accessed-requires-clause-ready g c =
     let n = c.translate-walk.ensures in
     let r = c.requires.ready in
     (r.0, r.1, still_space g.S.FrameSeat.view _ _ n.view n.root n.trapframe n.layout r.0 r.1 r.2, n.walk r.0 r.1 r.2)
@@ -39,11 +39,11 @@ returns-then-is_permitted-clause-came g c = λ k is t p space.
     let law = c.walks_grant_what_is_resident.ensures (body_of g.S.FrameSeat.view c.args.space.now) t p c.args.asked.access c.args.asked.va.0 space in
     let both = granted (g.C.Files.files c.args.files.now) p a (gives_leaf c.translate-walk.result) (sym c.is_permitted.ensures ∙ c.if-is_permitted.true) (rw walk law) in
     let wide : is_width c.args.asked.width ≡ true = (let e = c.is_width.ensures in let f = c.if-not-is_width.false in cc) in
-    made_at_once (g.C.Files.files c.args.files.now) p a k is wide (body_of g.S.FrameSeat.view c.args.space.now) (body_of g.S.FrameSeat.view c.user_access.new.self) _ both.0 both.1 c.user_access.result (c.user_access.ensures.reply t p here walk) (t, c.user_access.ensures.after t p here walk)
+    made_at_once (g.C.Files.files c.args.files.now) p a k is wide (body_of g.S.FrameSeat.view c.args.space.now) (body_of g.S.FrameSeat.view c.accessed.new.space) _ both.0 both.1 c.accessed.result (c.accessed.ensures.reply t p here walk) (t, c.accessed.ensures.after t p here walk)
     (g.met.C.Files.stays c.args.files.now)
 
 pub returns-then-is_permitted-clause-keeps : goal.returns-then-is_permitted-clause-keeps
-returns-then-is_permitted-clause-keeps g c = keeps_both g.F.FrameAccess.rule c.translate-walk.ensures.keeps c.user_access.ensures.keeps
+returns-then-is_permitted-clause-keeps g c = keeps_both g.F.FrameAccess.rule c.translate-walk.ensures.keeps c.accessed.ensures.keeps
 
 pub returns-in-Ready-clause-came : goal.returns-in-Ready-clause-came
 returns-in-Ready-clause-came g c = λ k is t p space.

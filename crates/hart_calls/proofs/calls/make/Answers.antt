@@ -3,10 +3,12 @@ use Rattle.std.proofs.lemmas.Int.{to_z-of_z}
 use Rattle.address_space.specs.Accesses.{asked_of}
 use Rattle.address_space.specs.Agreement.{body_of}
 use Rattle.hart_calls.specs.Answers.{size_or_refused}
-use Rattle.hart_calls.specs.Asks.{IsStaying}
+use Rattle.hart_calls.specs.Asks.{HasRoomFor, IsStaying}
 use Rattle.hart_calls.specs.Comes.{HasCome}
 use Rattle.process_model.specs.PageMoves.{PageMove}
+use Rattle.hart_calls.proofs.There.{no_room}
 use Rattle.hart_calls.proofs.Answered.{came_mapped, came_sbrk, came_unmap}
+use Rattle.process_model.specs.declared.call.Call.{Call}
 use Rattle.process_model.specs.declared.call.Call.TheVariants as call
 use Rattle.sv39_entry.specs.declared.frame.FrameNo.{FrameNo}
 use Rattle.hart_calls.proofs.calls.make.Goals as goal
@@ -23,8 +25,8 @@ returns-in-Store-clause-came g c = rw c.in-Store.is (c.access-in-Store.ensures.c
 pub returns-in-Exec-clause-came : goal.returns-in-Exec-clause-came
 returns-in-Exec-clause-came g c = rw c.in-Exec.is c.replace.ensures.came
 
-pub returns-in-CopyIn-clause-came : goal.returns-in-CopyIn-clause-came
-returns-in-CopyIn-clause-came g c = rw c.in-CopyIn.is c.copy_from.ensures.came
+pub returns-in-Some-clause-came : goal.returns-in-Some-clause-came
+returns-in-Some-clause-came g c = rw c.in-CopyIn.is c.copy_from.ensures.came
 
 pub returns-in-CopyOut-clause-came : goal.returns-in-CopyOut-clause-came
 returns-in-CopyOut-clause-came g c = rw c.in-CopyOut.is c.copy_to.ensures.came
@@ -54,7 +56,11 @@ returns-in-Munmap-clause-came g c = rw (c.in-Munmap.is, c.done.ensures) (λ t p 
     e.unmapped e.moves e.refused e.files_stay e.layout_stays e.view_stays (ap (λ (f : FrameNo). f.0) e.root) (ap (λ (f : FrameNo). f.0) e.trapframe) space)
 
 pub unreachable-requires : goal.unreachable-requires
-unreachable-requires g c = subst IsStaying c.in-Exit.is c.requires.stays
+unreachable-requires g c =
+    no_room c.args.room c.in_default.is (subst (λ (k : Call). HasRoomFor k c.args.room) c.in-CopyIn.is c.requires.room)
+
+pub unreachable-requires-in-Exit : goal.unreachable-requires-in-Exit
+unreachable-requires-in-Exit g c = subst IsStaying c.in-Exit.is c.requires.stays
 
 pub unreachable-requires-in-Fork : goal.unreachable-requires-in-Fork
 unreachable-requires-in-Fork g c = subst IsStaying c.in-Fork.is c.requires.stays

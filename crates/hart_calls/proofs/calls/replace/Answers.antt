@@ -10,5 +10,5 @@ returns-in-Ok-clause-came g c = λ t p space.
     rw c.done.ensures (came_exec (body_of g.S.FrameSeat.view c.args.space.now) (body_of g.S.FrameSeat.view c.exec.new.space) _ _ _ t p c.args.image c.in-Ok.image (sym c.judged.ensures ∙ c.in-Ok.is) (OwnsAlone (g.S.FrameSeat.view c.exec.new.space.seat)) c.exec.result e.replaced e.moves e.refused e.dry e.whole e.files_stay space)
 
 pub returns-in-Err-clause-came : goal.returns-in-Err-clause-came
-returns-in-Err-clause-came g c = λ t p space.
-    came_bad (body_of g.S.FrameSeat.view c.args.space.now) (body_of g.S.FrameSeat.view c.args.space.now) (g.C.Files.files c.args.files.now) _ (g.C.Files.can_refuse c.args.files.now) t p c.args.image c.in-Err.part (sym c.judged.ensures ∙ c.in-Err.is) space (g.met.C.Files.stays c.args.files.now)
+returns-in-Err-clause-came g c = rw c.short.ensures (λ t p space.
+    came_bad (body_of g.S.FrameSeat.view c.args.space.now) (body_of g.S.FrameSeat.view c.args.space.now) (g.C.Files.files c.args.files.now) _ (g.C.Files.can_refuse c.args.files.now) t p c.args.image c.in-Err.part (sym c.judged.ensures ∙ c.in-Err.is) space (g.met.C.Files.stays c.args.files.now))

@@ -13,8 +13,8 @@ invariant_of-result g c =
       c.requires.named,
       c.requires.there,
       omega (arith, few, length-append c.args.parts.journal.items (c.args.entry ∷ [])),
-      omega (arith, c.requires.children, c.children_named-named.ensures, forks_more c.args.parts.journal.items c.args.entry),
+      omega (arith, c.requires.children, c.forked-named.ensures, forks_more c.args.parts.journal.items c.args.entry),
     )
 
 pub overflow_add-parts : goal.overflow_add-parts
-overflow_add-parts g c = omega (arith, c.requires.few, c.requires.children, forks_few c.args.parts.journal.items, c.children_named-named.ensures, forked_few c.args.entry.reply)
+overflow_add-parts g c = omega (arith, c.requires.few, c.requires.children, forks_few c.args.parts.journal.items, c.forked-named.ensures, forked_few c.args.entry.reply)

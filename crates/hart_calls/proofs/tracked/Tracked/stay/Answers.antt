@@ -1,10 +1,10 @@
-use Rattle.std.proofs.Common.{◌≡◌, ◌-◌, ◌<◌, ◌≤◌, ◌∙◌, ap, arith, length, List, refl, sym, subst}
+use Rattle.std.proofs.Common.{◌≡◌, ◌-◌, ◌<◌, ◌≤◌, ◌∙◌, ap, arith, length, List, refl, Some, sym, subst}
 use Rattle.std.specs.Prelude.{vec_capacity, vec_len}
 use Rattle.address_space.specs.Agreement.{body_of, IsSpace}
 use Rattle.file_shelf.specs.Shelved.{Becomes, CanRefuse, Shelved}
 use Rattle.hart_calls.specs.Asks.{IsStaying}
 use Rattle.hart_calls.specs.Closed.{cause_of}
-use Rattle.hart_calls.specs.Comes.{address_of, at_stop, by_reply}
+use Rattle.hart_calls.specs.Comes.{address_of, at_stop, by_reply, want_told}
 use Rattle.hart_calls.specs.Tells.{told}
 use Rattle.hart_calls.specs.Track.{Adds, next_of, Track}
 use Rattle.hart_calls.specs.Turns.{FiledOver}
@@ -209,7 +209,7 @@ rejoin-requires-in-Stopped-clause-agrees g c =
     let comes = c.in-Stopped.ensures.came p.0 state p.1 in
     let r : Reply = reply.Refused c.in-Stopped.refusal in
     let w : Want = refused c.in-Stopped.done c.in-Stopped.refusal in
-    let moved : c.moved-present-in-Stopped.result.state ≡ (told a.files w 0 state k).process = c.moved-present-in-Stopped.ensures ∙ ap (λ (s : Shelved). (told s.files w 0 state k).process) c.of-before.ensures in
+    let moved : c.moved-present-in-Stopped.result.state ≡ (told a.files w 0 state k).process = c.moved-present-in-Stopped.ensures ∙ ap (λ (z : Reply). (told (c.of-before.result.value).files (want_told (Some c.in-Stopped.done) k z) 0 state k).process) c.short-reply.ensures ∙ ap (λ (s : Shelved). (told s.files w 0 state k).process) c.of-before.ensures in
     (comes.space.0, subst (λ (q : Process). IsSpace y comes.space.0 q) (sym moved) comes.space.1)
 
 pub rejoin-requires-in-Stopped-clause-leads : goal.rejoin-requires-in-Stopped-clause-leads
@@ -238,11 +238,11 @@ rejoin-requires-in-Stopped-clause-leads g c =
     let e = c.entry_of-entry-in-Stopped.result in
     let is : IsEntryOf t a w k r e = record {
       call = n.call;
-      answer = n.reply;
+      answer = n.reply ∙ c.short-reply.ensures;
       pages = n.pages ∙ pages_are a.files w state k a.history b.history c.pages_read-pages.result.items c.uses-mark.result c.uses-mark.ensures c.pages_read-pages.ensures comes.moves.history;
       file = n.file ∙ c.mapped_file-file.ensures;
     } in
-    let moved : c.moved-present-in-Stopped.result.state ≡ (told a.files w 0 state k).process = c.moved-present-in-Stopped.ensures ∙ ap (λ (s : Shelved). (told s.files w 0 state k).process) c.of-before.ensures in
+    let moved : c.moved-present-in-Stopped.result.state ≡ (told a.files w 0 state k).process = c.moved-present-in-Stopped.ensures ∙ ap (λ (z : Reply). (told (c.of-before.result.value).files (want_told (Some c.in-Stopped.done) k z) 0 state k).process) c.short-reply.ensures ∙ ap (λ (s : Shelved). (told s.files w 0 state k).process) c.of-before.ensures in
     (a.files, leads t k c.requires.stays a b w r e is x y refl comes _ moved)
 
 pub returns-in-Stopped-clause-turned : goal.returns-in-Stopped-clause-turned
@@ -271,11 +271,11 @@ returns-in-Stopped-clause-turned g c =
     let e = c.entry_of-entry-in-Stopped.result in
     let is : IsEntryOf t a w k r e = record {
       call = n.call;
-      answer = n.reply;
+      answer = n.reply ∙ c.short-reply.ensures;
       pages = n.pages ∙ pages_are a.files w state k a.history b.history c.pages_read-pages.result.items c.uses-mark.result c.uses-mark.ensures c.pages_read-pages.ensures comes.moves.history;
       file = n.file ∙ c.mapped_file-file.ensures;
     } in
-    let moved : c.moved-present-in-Stopped.result.state ≡ (told a.files w 0 state k).process = c.moved-present-in-Stopped.ensures ∙ ap (λ (s : Shelved). (told s.files w 0 state k).process) c.of-before.ensures in
+    let moved : c.moved-present-in-Stopped.result.state ≡ (told a.files w 0 state k).process = c.moved-present-in-Stopped.ensures ∙ ap (λ (z : Reply). (told (c.of-before.result.value).files (want_told (Some c.in-Stopped.done) k z) 0 state k).process) c.short-reply.ensures ∙ ap (λ (s : Shelved). (told s.files w 0 state k).process) c.of-before.ensures in
     let next = subst (λ (z : Track). k ≡ next_of z) (sym c.self.view_is) c.requires.next in
     let j = c.rejoin-in-Stopped.ensures in
     let adds : Adds t c.rejoin-in-Stopped.result e = record { name = j.name; lists = j.lists; list = j.list; opening = j.opening; journal = j.journal; next = n.call ∙ next } in
@@ -307,11 +307,11 @@ returns-in-Stopped-clause-files g c =
     let e = c.entry_of-entry-in-Stopped.result in
     let is : IsEntryOf t a w k r e = record {
       call = n.call;
-      answer = n.reply;
+      answer = n.reply ∙ c.short-reply.ensures;
       pages = n.pages ∙ pages_are a.files w state k a.history b.history c.pages_read-pages.result.items c.uses-mark.result c.uses-mark.ensures c.pages_read-pages.ensures comes.moves.history;
       file = n.file ∙ c.mapped_file-file.ensures;
     } in
-    let moved : c.moved-present-in-Stopped.result.state ≡ (told a.files w 0 state k).process = c.moved-present-in-Stopped.ensures ∙ ap (λ (s : Shelved). (told s.files w 0 state k).process) c.of-before.ensures in
+    let moved : c.moved-present-in-Stopped.result.state ≡ (told a.files w 0 state k).process = c.moved-present-in-Stopped.ensures ∙ ap (λ (z : Reply). (told (c.of-before.result.value).files (want_told (Some c.in-Stopped.done) k z) 0 state k).process) c.short-reply.ensures ∙ ap (λ (s : Shelved). (told s.files w 0 state k).process) c.of-before.ensures in
     let next = subst (λ (z : Track). k ≡ next_of z) (sym c.self.view_is) c.requires.next in
     let j = c.rejoin-in-Stopped.ensures in
     let adds : Adds t c.rejoin-in-Stopped.result e = record { name = j.name; lists = j.lists; list = j.list; opening = j.opening; journal = j.journal; next = n.call ∙ next } in
@@ -364,8 +364,8 @@ returns-in-Ended-clause-turned g c =
     let comes = c.in-Ended.ensures.came p.0 state p.1 in
     let r : Reply = reply.Ended c.in-Ended.rule in
     let w : Want = at_stop c.in-Ended.rule (address_of k) in
-    let n = c.entry_of-entry-in-Ended.ensures in
-    let e = c.entry_of-entry-in-Ended.result in
+    let n = c.ended_entry-entry.ensures in
+    let e = c.ended_entry-entry.result in
     let is : IsEntryOf t a w k r e = record {
       call = n.call;
       answer = n.reply;
@@ -398,8 +398,8 @@ returns-in-Ended-clause-files g c =
     let comes = c.in-Ended.ensures.came p.0 state p.1 in
     let r : Reply = reply.Ended c.in-Ended.rule in
     let w : Want = at_stop c.in-Ended.rule (address_of k) in
-    let n = c.entry_of-entry-in-Ended.ensures in
-    let e = c.entry_of-entry-in-Ended.result in
+    let n = c.ended_entry-entry.ensures in
+    let e = c.ended_entry-entry.result in
     let is : IsEntryOf t a w k r e = record {
       call = n.call;
       answer = n.reply;
