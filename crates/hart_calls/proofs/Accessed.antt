@@ -1,5 +1,5 @@
 -- An access that is made at once, or is served first, is what the model tells of it.
-use Rattle.std.proofs.Common.{◌≡◌, ◌⊎◌, ap₂, ℕ, ◌+◌, ◌<◌, ◌≤◌, ◌%◌, ◌==◌, Bool, true, false, ◌&&◌, Option, None, Some, Result, Ok, Err, List, [], ◌∷◌, ◌++◌, refl, ap, sym, subst, ◌∙◌, arith, inl, inr}
+use Rattle.std.proofs.Common.{◌≡◌, ◌⊎◌, ap₂, ℕ, ◌+◌, ◌≤◌, ◌%◌, ◌==◌, Bool, true, false, ◌&&◌, Option, None, Some, Result, Ok, Err, List, [], ◌++◌, refl, ap, sym, subst, ◌∙◌, arith, inl, inr}
 use Rattle.std.specs.Prelude.{◌↔◌, if◌then◌else◌}
 use Rattle.std.proofs.lemmas.Bool.{and_parts, eq-eqb}
 use Rattle.std.proofs.lemmas.List.{append-nil}
@@ -13,11 +13,11 @@ use Rattle.fault_rules.specs.declared.service.Served.TheVariants as served
 use Rattle.frame_store.specs.View.{View}
 use Rattle.hart_calls.specs.Asks.{IsAccess}
 use Rattle.hart_calls.specs.Comes.{address_of, at_stop, by_reply, Comes, IsPlain}
-use Rattle.hart_calls.specs.Dry.{AccessDry, TellsDry, WasDry}
-use Rattle.hart_calls.specs.Tells.{access_if, access_reads, accessed, asked, reads_of, refuses, rule_for, served_access, service, Told, told, writes_of}
+use Rattle.hart_calls.specs.Dry.{AccessDry, TellsDry}
+use Rattle.hart_calls.specs.Tells.{access_if, access_reads, accessed, reads_of, refuses, rule_for, served_access, service, Told, told, writes_of}
 use Rattle.hart_calls.proofs.Alike.{made_alike}
 use Rattle.hart_calls.specs.Wants.{begun, frames_at, MayLack, MayTake, nothing, round, Want}
-use Rattle.process_model.specs.Around.{Around, is_shared_by as shared_by, is_shared_page, need_at, Progress, reached, resident_at, unless_dry, unless_resident}
+use Rattle.process_model.specs.Around.{is_shared_by as shared_by, is_shared_page, need_at, Progress, reached, resident_at, unless_dry, unless_resident}
 use Rattle.process_model.specs.Bytes.{is_width}
 use Rattle.process_model.specs.Files.{File}
 use Rattle.process_model.specs.Frames.{part_need, resident_need, resident_need_of, unless_through}

@@ -2,11 +2,11 @@
 use Rattle.std.proofs.Common.{◌≡◌, ℕ, Bool, true, false, Option, None, Some, List, refl, ap, sym, subst, ◌∙◌, inl, inr}
 use Rattle.std.proofs.lemmas.Bool.{cases_eq}
 use Rattle.std.proofs.lemmas.Option.{same_Some}
-use Rattle.address_space.specs.Agreement.{Body, body, IsLeafNumber, IsShown, IsSpace}
+use Rattle.address_space.specs.Agreement.{Body, IsShown, IsSpace}
 use Rattle.process_model.specs.Files.{File}
 use Rattle.process_model.specs.Inserted.{inserted_here, inserted_other}
 use Rattle.process_model.specs.OrderKept.{same_order}
-use Rattle.process_model.specs.PageMap.{contains, get, insert}
+use Rattle.process_model.specs.PageMap.{get}
 use Rattle.process_model.specs.Process.{Page, Process}
 use Rattle.process_model.specs.Residence.{goes_through, made_resident, made_resident_from, region_on, taken_over, taken_over_unless, with_page}
 use Rattle.sv39_entry.specs.declared.access.Access.{Access}

@@ -1,7 +1,6 @@
 -- Calls that change regions, and exec, are what the model tells of them.
-use Rattle.std.proofs.Common.{◌≡◌, ◌⊎◌, ℕ, ◌+◌, ◌*◌, ◌<◌, Bool, true, false, Option, None, Some, Result, Ok, Err, List, [], ◌∷◌, ◌++◌, All, refl, ap, sym, subst, ◌∙◌, arith, inl, inr, length}
-use Rattle.std.specs.Prelude.{ℤ, IfErr, IfOk, ◌%◌, ◌==◌, ◌&&◌, is_none, nat_le, nat_lt, not, slice_get, ◌-◌}
-use Rattle.std.proofs.lemmas.List.{append-nil}
+use Rattle.std.proofs.Common.{◌≡◌, ◌⊎◌, ℕ, ◌+◌, Bool, true, false, Option, None, Some, Result, Ok, Err, List, [], ◌∷◌, refl, ap, sym, subst, ◌∙◌, arith, inl, inr, length}
+use Rattle.std.specs.Prelude.{ℤ, IfErr, IfOk, ◌%◌, ◌==◌, ◌&&◌, is_none, nat_le, nat_lt, not, slice_get}
 use Rattle.std.proofs.lemmas.Option.{same_Some}
 use Rattle.address_space.specs.Agreement.{Body, IsSpace}
 use Rattle.address_space.specs.Steps.{RunsDry}
@@ -11,7 +10,7 @@ use Rattle.file_cabinet.specs.declared.promise.PromiseError.{PromiseError}
 use Rattle.file_cabinet.specs.declared.promise.PromiseError.TheVariants as error
 use Rattle.hart_calls.specs.Answers.{done_or_refused, mapped_or_refused, size_or_refused}
 use Rattle.hart_calls.specs.Comes.{by_refusal, Comes, HasCome}
-use Rattle.hart_calls.specs.Dry.{TellsDry, WasDry}
+use Rattle.hart_calls.specs.Dry.{TellsDry}
 use Rattle.hart_calls.specs.Tells.{if_done, mapped_as, replaced, resized, Told, unmapped_as}
 use Rattle.hart_calls.specs.Wants.{IsUnpromised, nothing, refused, Want}
 use Rattle.lazy_growth.specs.Resized.{Resizes}
@@ -35,7 +34,6 @@ use Rattle.process_model.specs.declared.image.BadImage.{BadImage}
 use Rattle.process_model.specs.declared.image.Image.{Image}
 use Rattle.process_model.specs.declared.step.Refusal.{Refusal}
 use Rattle.process_model.specs.declared.step.Refusal.TheVariants as refusal
-use Rattle.process_model.specs.declared.step.Reply.{Reply}
 use Rattle.process_model.specs.declared.step.Reply.TheVariants as reply
 use Rattle.sv39_entry.specs.Address.{page_of}
 use Rattle.table_walk.specs.Tables.{Tables}

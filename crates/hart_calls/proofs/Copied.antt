@@ -1,13 +1,13 @@
 -- A copy, run by run, is what the model tells of it, over any store and any files.
-use Rattle.std.proofs.Common.{◌≡◌, ◌⊎◌, ℕ, zero, suc, ◌+◌, ◌-◌, ◌<◌, ◌≤◌, ◌%◌, ◌==◌, Bool, true, false, Option, None, Some, Result, Ok, Err, List, [], ◌∷◌, ◌++◌, length, take, drop, refl, ap, sym, subst, ◌∙◌, arith, inl, inr}
-use Rattle.std.proofs.lemmas.List.{append-nil, append_assoc}
+use Rattle.std.proofs.Common.{◌≡◌, ℕ, ◌+◌, ◌<◌, Bool, true, false, Option, None, Some, Result, Ok, Err, List, [], ◌++◌, refl, ap, sym, subst, ◌∙◌, arith}
+use Rattle.std.proofs.lemmas.List.{append-nil}
 use Rattle.address_space.specs.Agreement.{Body, IsSpace}
 use Rattle.fault_rules.specs.Allowed.{can_reside, denied_otherwise}
 use Rattle.fault_rules.specs.Resides.{CanReside, is_shared_by}
 use Rattle.fault_rules.specs.Serves.{IsEnd, served_moves}
 use Rattle.fault_rules.specs.declared.service.Served.{Served}
 use Rattle.fault_rules.specs.declared.service.Served.TheVariants as served
-use Rattle.frame_store.specs.View.{Tallies, View}
+use Rattle.frame_store.specs.View.{Tallies}
 use Rattle.hart_calls.specs.Dry.{WasDry}
 use Rattle.hart_calls.specs.Wants.{is_dry_at, round, Want}
 use Rattle.hart_calls.proofs.Alike.{made_alike}
@@ -15,13 +15,13 @@ use Rattle.hart_calls.proofs.Filing.{served_reads}
 use Rattle.process_model.specs.Around.{Around, is_shared_page, need_at, Progress, reached, resident_at, unless_dry, unless_resident}
 use Rattle.process_model.specs.Copies.{reached_in}
 use Rattle.process_model.specs.Files.{File}
-use Rattle.process_model.specs.Frames.{part_need, resident_need, resident_need_of, unless_through}
+use Rattle.process_model.specs.Frames.{resident_need, resident_need_of, unless_through}
 use Rattle.process_model.specs.PageMap.{get}
-use Rattle.process_model.specs.PageMoves.{files_after, files_after-append, PageMove}
+use Rattle.process_model.specs.PageMoves.{files_after, PageMove}
 use Rattle.process_model.specs.Process.{Page, Process, regions}
 use Rattle.process_model.specs.ReachedPages.{no_alignment, reached_at_once, resident_again}
 use Rattle.process_model.specs.Regions.{copy_rule}
-use Rattle.process_model.specs.Residence.{goes_through, is_resident, is_resident_page, made_resident, made_resident_from, parts_from, region_on, taken_over_unless}
+use Rattle.process_model.specs.Residence.{is_resident, is_resident_page, made_resident, made_resident_from, parts_from, region_on, taken_over_unless}
 use Rattle.process_model.specs.declared.step.Refusal.{Refusal}
 use Rattle.sv39_entry.specs.Address.{page_of}
 use Rattle.sv39_entry.specs.declared.access.Access.{Access}

@@ -1,6 +1,6 @@
 -- What a call reads from files and writes to them leaves the files that the model tells.
-use Rattle.std.proofs.Common.{◌≡◌, ℕ, ◌+◌, ◌*◌, ◌-◌, ◌%◌, ◌==◌, Bool, true, false, ◌&&◌, List, [], ◌∷◌, ◌++◌, length, refl, ap, sym, subst, ◌∙◌, Option, None, Some, Result, Ok, Err, map, take}
-use Rattle.std.specs.Prelude.{flat_map, if◌then◌else◌, nat_le, nat_lt}
+use Rattle.std.proofs.Common.{◌≡◌, ℕ, ◌+◌, ◌%◌, ◌==◌, Bool, true, false, ◌&&◌, List, [], ◌∷◌, ◌++◌, length, refl, ap, sym, ◌∙◌, Option, None, Some, Result, Ok, Err, map}
+use Rattle.std.specs.Prelude.{if◌then◌else◌, nat_le, nat_lt}
 use Rattle.std.proofs.lemmas.List.{append-nil}
 use Rattle.fault_rules.specs.Resides.{moves_for, moves_from}
 use Rattle.fault_rules.specs.Serves.{served_moves}
@@ -9,7 +9,7 @@ use Rattle.hart_calls.specs.Tells.{access_if, access_reads, asked, if_done, if_s
 use Rattle.hart_calls.specs.Turns.{GoesOn}
 use Rattle.hart_calls.specs.Wants.{begun, frames_at, nothing, refused, round, Want}
 use Rattle.user_copy.specs.Runs.{runs, runs_of}
-use Rattle.mmap_regions.specs.Runs.{run_asked, run_if, run_in, run_unless}
+use Rattle.mmap_regions.specs.Runs.{run_if, run_in, run_unless}
 use Rattle.mmap_regions.specs.Unmapped.{moves_asked, unmap_moves}
 use Rattle.process_model.specs.Around.{Progress}
 use Rattle.process_model.specs.Bytes.{is_width, pages_for}

@@ -1,25 +1,22 @@
 -- Journals that are one entry longer, and what their entries say.
-use Rattle.std.proofs.Common.{◌≡◌, ◌⊎◌, ℕ, suc, ◌+◌, ◌<◌, ◌≤◌, Bool, true, false, List, [], ◌∷◌, ◌++◌, length, refl, ap, sym, subst, ◌∙◌, arith, drop, Option, None, Some, Result, Ok, Err, inl, inr}
-use Rattle.std.specs.Prelude.{if◌then◌else◌, nat_le, nat_lt, ◌==◌, ◌&&◌, ◌%◌}
-use Rattle.std.proofs.lemmas.List.{append-nil, length-append}
+use Rattle.std.proofs.Common.{◌≡◌, ℕ, suc, ◌+◌, ◌≤◌, List, [], ◌∷◌, ◌++◌, length, refl, ap, subst, ◌∙◌, arith, drop}
+use Rattle.std.proofs.lemmas.List.{append-nil}
 use Rattle.address_space.specs.Steps.{Takes}
 use Rattle.frame_store.specs.View.{Tallies, View}
-use Rattle.hart_calls.specs.Asks.{IsStaying, may_read, reads}
+use Rattle.hart_calls.specs.Asks.{IsStaying, reads}
 use Rattle.hart_calls.specs.Comes.{at_stop, IsPlain}
 use Rattle.hart_calls.specs.Dry.{TellsDry, WasDry}
 use Rattle.hart_calls.specs.Replay.{call_at, forked, forks, Leads, Replays}
 use Rattle.hart_calls.specs.Tells.{reads_of, told, writes_of}
 use Rattle.hart_calls.specs.Turns.{BySlot, GoesOn}
-use Rattle.hart_calls.specs.Wants.{frames_at, nothing, refused, Want}
+use Rattle.hart_calls.specs.Wants.{frames_at, nothing, Want}
 use Rattle.hart_calls.specs.declared.entry.Entry.{Entry}
 use Rattle.hart_calls.specs.declared.slot.Slot.{Slot}
 use Rattle.process_model.specs.Files.{File}
-use Rattle.process_model.specs.PageMoves.{files_after, PageMove}
-use Rattle.process_model.specs.Process.{Page, Process}
+use Rattle.process_model.specs.PageMoves.{PageMove}
+use Rattle.process_model.specs.Process.{Process}
 use Rattle.process_model.specs.declared.call.Call.{Call}
 use Rattle.process_model.specs.declared.call.Call.TheVariants as call
-use Rattle.process_model.specs.declared.step.Refusal.{Refusal}
-use Rattle.process_model.specs.declared.step.Refusal.TheVariants as refusal
 use Rattle.process_model.specs.declared.step.Reply.{Reply}
 use Rattle.process_model.specs.declared.step.Reply.TheVariants as reply
 use Rattle.sv39_entry.specs.Address.{page_of}

@@ -1,6 +1,5 @@
 -- Processes that fork, and those that exit.
-use Rattle.std.proofs.Common.{◌≡◌, ◌⊎◌, ℕ, ◌+◌, ◌<◌, ◌≤◌, ℤ, List, [], ◌∷◌, ◌++◌, length, refl, ap, sym, subst, ◌∙◌, arith, Option, None, Some, inl, inr}
-use Rattle.std.proofs.lemmas.List.{append-nil}
+use Rattle.std.proofs.Common.{◌≡◌, ◌⊎◌, ℕ, ℤ, List, [], ◌++◌, length, refl, ap, sym, subst, ◌∙◌, arith, Option, None, Some, inl, inr}
 use Rattle.address_space.specs.Steps.{IsBare, RunsDry}
 use Rattle.cow_fork.specs.Forks.{refusal_of}
 use Rattle.cow_fork.specs.declared.forking.ForkError.{ForkError}
@@ -9,19 +8,18 @@ use Rattle.file_cabinet.specs.declared.promise.PromiseError.{PromiseError}
 use Rattle.file_cabinet.specs.declared.promise.PromiseError.TheVariants as error
 use Rattle.file_shelf.specs.Shelved.{Becomes, CanRefuse, Shelved, stays}
 use Rattle.frame_store.specs.View.{View}
-use Rattle.hart_calls.specs.Closed.{Closes, IsBroken, IsClosed, outcome_of}
-use Rattle.hart_calls.specs.Dry.{TellsDry, WasDry}
+use Rattle.hart_calls.specs.Closed.{Closes, IsClosed, outcome_of}
+use Rattle.hart_calls.specs.Dry.{TellsDry}
 use Rattle.hart_calls.specs.Replay.{call_at, forked, forks, Leads, Replays}
-use Rattle.hart_calls.specs.Tells.{file_of, reads_of, Told, told, writes_of}
+use Rattle.hart_calls.specs.Tells.{file_of, reads_of, told, writes_of}
 use Rattle.hart_calls.specs.Track.{Adds, calls_of, IsChild, next_of, Track}
-use Rattle.hart_calls.specs.Turns.{BySlot, EndsBy, FiledEnd, FiledOn, FiledOver, ForkAnswer, Goes, GoesOn, IsOver, Last, Unwritten}
+use Rattle.hart_calls.specs.Turns.{BySlot, FiledEnd, FiledOn, FiledOver, ForkAnswer, Goes, GoesOn, IsOver, Last, Unwritten}
 use Rattle.hart_calls.specs.Wants.{frames_at, IsForkRefusal, MayLack, nothing, refused, Want}
 use Rattle.hart_calls.specs.declared.entry.Entry.{Entry}
 use Rattle.hart_calls.specs.declared.finished.Finished.{Finished}
 use Rattle.process_model.specs.declared.call.Outcome.{Outcome}
 use Rattle.process_model.specs.declared.call.Outcome.TheVariants as outcome
 use Rattle.hart_calls.specs.declared.slot.Slot.{Slot}
-use Rattle.hart_calls.specs.declared.slot.Slot.TheVariants as slot
 use Rattle.hart_calls.proofs.Journals.{one_longer}
 use Rattle.process_model.specs.Files.{File}
 use Rattle.process_model.specs.Frames.{fork_need}

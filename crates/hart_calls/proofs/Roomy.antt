@@ -1,5 +1,5 @@
 -- A process on its way with room for more entries is as it was.
-use Rattle.std.proofs.Common.{◌≡◌, ℕ, List, [], ◌∷◌, ◌++◌, Option, None, Some, sym, subst}
+use Rattle.std.proofs.Common.{◌≡◌, ℕ, Option, None, Some, subst}
 use Rattle.file_shelf.specs.Shelved.{Shelved}
 use Rattle.hart_calls.specs.Track.{SameTrack, Track}
 use Rattle.hart_calls.specs.Turned.{Filed, HasTurned}

@@ -1,21 +1,20 @@
 -- What a call makes of a process on its way, and of files, from what comes of it in the space.
-use Rattle.std.proofs.Common.{◌≡◌, ◌⊎◌, ℕ, ◌+◌, ◌<◌, ◌≤◌, List, [], ◌∷◌, ◌++◌, length, refl, ap, sym, subst, ◌∙◌, arith, Option, None, Some, inl, inr}
+use Rattle.std.proofs.Common.{◌≡◌, ℕ, ◌+◌, List, [], ◌++◌, length, refl, ap, sym, subst, ◌∙◌, arith, None, inl, inr}
 use Rattle.std.proofs.lemmas.List.{append-nil, length-append}
-use Rattle.address_space.specs.Agreement.{Body, IsSpace}
+use Rattle.address_space.specs.Agreement.{Body}
 use Rattle.address_space.specs.Steps.{IsBare, Takes}
 use Rattle.file_cabinet.specs.declared.promise.PromiseError.{PromiseError}
 use Rattle.file_cabinet.specs.declared.promise.PromiseError.TheVariants as error
-use Rattle.file_shelf.specs.Histories.{most_uses}
 use Rattle.file_shelf.specs.Shelved.{Becomes, CanRefuse, goes_on, Shelved}
 use Rattle.frame_store.specs.View.{View}
 use Rattle.hart_calls.specs.Asks.{IsStaying}
-use Rattle.hart_calls.specs.Closed.{Closes, IsBroken, IsClosed, outcome_of}
+use Rattle.hart_calls.specs.Closed.{Closes, IsClosed, outcome_of}
 use Rattle.hart_calls.specs.Comes.{address_of, at_stop, Comes, IsPlain}
 use Rattle.hart_calls.specs.Dry.{TellsDry}
 use Rattle.hart_calls.specs.Replay.{call_at, forked, forks, Leads, Replays}
 use Rattle.hart_calls.specs.Tells.{file_of, reads_of, Told, told, writes_of}
 use Rattle.hart_calls.specs.Track.{Adds, calls_of, next_of, Track}
-use Rattle.hart_calls.specs.Turns.{BySlot, EndsBy, FiledEnd, FiledOn, FiledOver, Goes, GoesOn, HasNoRoom, IsOver, Last, most_entries, Unwritten}
+use Rattle.hart_calls.specs.Turns.{BySlot, FiledEnd, FiledOn, FiledOver, Goes, GoesOn, HasNoRoom, IsOver, Last, Unwritten}
 use Rattle.hart_calls.specs.Wants.{MayLack, Want}
 use Rattle.hart_calls.specs.declared.entry.Entry.{Entry}
 use Rattle.hart_calls.specs.declared.finished.Finished.{Finished}
@@ -27,7 +26,7 @@ use Rattle.hart_calls.proofs.Staying.{reads_few}
 use Rattle.hart_calls.proofs.Journals.{later_stop, no_slot, one_longer, plain_forks, plain_goes, same_told}
 use Rattle.process_model.specs.Files.{File}
 use Rattle.process_model.specs.Mappings.{all_written_back}
-use Rattle.process_model.specs.PageMoves.{all_is_written, all_moves, files_after, files_after-append, PageMove}
+use Rattle.process_model.specs.PageMoves.{all_moves, files_after, PageMove}
 use Rattle.process_model.specs.Process.{Process}
 use Rattle.process_model.specs.declared.call.Call.{Call}
 use Rattle.process_model.specs.declared.step.Reply.{Reply}

@@ -1,11 +1,11 @@
 -- What a call comes to in a space, before the journal has it.
-use Rattle.std.specs.Prelude.{◌≡◌, ℕ, ◌+◌, List, [], ◌++◌, length, Option, None, Some}
+use Rattle.std.specs.Prelude.{◌≡◌, ℕ, ◌+◌, List, [], ◌++◌, length, Option, Some}
 use Rattle.address_space.specs.Agreement.{Body, IsSpace}
 use Rattle.file_cabinet.specs.Promises.{refusal_of}
 use Rattle.file_cabinet.specs.declared.promise.PromiseError.{PromiseError}
 use Rattle.hart_calls.specs.Dry.{TellsDry}
 use Rattle.hart_calls.specs.Tells.{reads_of, told, writes_of}
-use Rattle.hart_calls.specs.Wants.{frames_at, IsUnpromised, MayLack, nothing, refused, Want}
+use Rattle.hart_calls.specs.Wants.{frames_at, MayLack, nothing, refused, Want}
 use Rattle.hart_calls.specs.declared.came.Came.{Came}
 use Rattle.hart_calls.specs.declared.came.Came.TheVariants as came
 use Rattle.process_model.specs.Files.{File}

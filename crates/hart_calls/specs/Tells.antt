@@ -1,7 +1,7 @@
 -- What the model tells of one call of a process, for the files that it finds and what it wants and does not get.
-use Rattle.std.specs.Prelude.{◌≡◌, ℕ, ◌*◌, ◌+◌, Bool, true, false, nat_le, nat_lt, Option, None, Some, option_map, slice_get, Result, Ok, Err, List, [], length, map, flat_map, take, if◌then◌else◌}
+use Rattle.std.specs.Prelude.{ℕ, ◌*◌, ◌+◌, Bool, true, false, nat_le, nat_lt, Option, None, option_map, slice_get, Result, Ok, Err, List, [], length, map, flat_map, take, if◌then◌else◌}
 use Rattle.fault_rules.specs.Serves.{served_moves}
-use Rattle.hart_calls.specs.Wants.{begun, frames_at, nothing, refused, round, Want}
+use Rattle.hart_calls.specs.Wants.{begun, nothing, refused, round, Want}
 use Rattle.mmap_regions.specs.Unmapped.{unmap_moves}
 use Rattle.process_model.specs.Around.{Progress, reached}
 use Rattle.process_model.specs.Bytes.{is_width}

@@ -1,14 +1,11 @@
 -- What one call makes of a process on its way.
-use Rattle.std.specs.Prelude.{◌≡◌, ◌⊎◌, ℕ, ◌+◌, ◌<◌, ◌≤◌, ◌∷◌, [], ◌++◌, List, Option, None, Some, length}
-use Rattle.std.specs.Borrow.{MutBor}
+use Rattle.std.specs.Prelude.{◌≡◌, ◌⊎◌, ℕ, ◌+◌, ◌≤◌, ◌∷◌, [], ◌++◌, List, Option, None, Some, length}
 use Rattle.address_space.specs.Steps.{IsBare}
-use Rattle.file_shelf.specs.Histories.{most_uses}
 use Rattle.file_shelf.specs.Shelved.{Becomes, CanRefuse, Shelved}
 use Rattle.file_cabinet.specs.declared.promise.PromiseError.TheVariants as error
-use Rattle.frame_store.specs.View.{View}
 use Rattle.hart_calls.specs.Dry.{TellsDry}
 use Rattle.hart_calls.specs.Replay.{forked, forks, Leads, Replays}
-use Rattle.hart_calls.specs.Tells.{told, reads_of, writes_of}
+use Rattle.hart_calls.specs.Tells.{told, writes_of}
 use Rattle.hart_calls.specs.Track.{Adds, calls_of, IsChild, next_of, Track}
 use Rattle.hart_calls.specs.declared.entry.Entry.{Entry}
 use Rattle.hart_calls.specs.declared.finished.Finished.{Finished}
@@ -17,7 +14,7 @@ use Rattle.process_model.specs.declared.call.Outcome.TheVariants as outcome
 use Rattle.hart_calls.specs.declared.slot.Slot.{Slot}
 use Rattle.hart_calls.specs.declared.slot.Slot.TheVariants as slot
 use Rattle.process_model.specs.Files.{File}
-use Rattle.process_model.specs.PageMoves.{all_moves, files_after, PageMove}
+use Rattle.process_model.specs.PageMoves.{all_moves, PageMove}
 use Rattle.process_model.specs.Process.{Process}
 use Rattle.process_model.specs.Regions.{Region}
 use Rattle.process_model.specs.declared.call.Call.{Call}

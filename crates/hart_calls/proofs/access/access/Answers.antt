@@ -1,6 +1,6 @@
-use Rattle.std.proofs.Common.{◌≡◌, Bool, true, false, ap, sym, ◌∙◌, subst, [], refl, inl, inr}
+use Rattle.std.proofs.Common.{◌≡◌, true, ap, sym, ◌∙◌, subst, refl, inl, inr}
 use Rattle.address_space.specs.Accesses.{asked_of, gives_leaf}
-use Rattle.address_space.specs.Agreement.{body_of, IsSpace}
+use Rattle.address_space.specs.Agreement.{body_of}
 use Rattle.fault_rules.specs.Allowed.{can_reside}
 use Rattle.fault_rules.specs.Resides.{is_shared_by}
 use Rattle.fault_rules.specs.declared.service.Served.TheVariants as served
@@ -10,11 +10,10 @@ use Rattle.frame_store.specs.View.{View}
 use Rattle.std.specs.Prelude.{option_to_list}
 use Rattle.process_model.specs.Frames.{resident_need}
 use Rattle.hart_calls.proofs.Accessed.{as_told, bad_width, ended_served, ended_why, ends_denied, ends_dry_by, granted, made_at_once, made_later, not_granted, q, ready_none, ready_served}
-use Rattle.hart_calls.proofs.Bodies.{same_body, still_space}
+use Rattle.hart_calls.proofs.Bodies.{still_space}
 use Rattle.process_model.specs.Bytes.{is_width}
 use Rattle.process_model.specs.Residence.{made_resident}
 use Rattle.sv39_entry.specs.Address.{page_of}
-use Rattle.sv39_entry.specs.declared.rule.Rule.TheVariants as rule
 use Rattle.hart_calls.proofs.access.access.Goals as goal
 
 pub returns-then-not-is_width-clause-came : goal.returns-then-not-is_width-clause-came

@@ -1,4 +1,4 @@
-use Rattle.std.proofs.Common.{◌∙◌, [], sym}
+use Rattle.std.proofs.Common.{◌∙◌, sym}
 use Rattle.address_space.specs.Agreement.{body_of}
 use Rattle.address_space.specs.Parts.{OwnsAlone}
 use Rattle.hart_calls.proofs.Answered.{came_bad, came_exec}

@@ -1,10 +1,9 @@
-use Rattle.std.proofs.Common.{◌∙◌, [], ap, List, sym}
+use Rattle.std.proofs.Common.{◌∙◌, [], ap, List}
 use Rattle.process_model.specs.Files.{File}
 use Rattle.process_model.specs.Mappings.{all_written_back}
 use Rattle.address_space.specs.Standing.{standing}
-use Rattle.frame_store.specs.Laws.{fits_after, keeps_both}
 use Rattle.file_shelf.specs.Shelved.{goes_on}
-use Rattle.shared_frames.specs.Fits.{AllFit, fits_still, may_step, view_of}
+use Rattle.shared_frames.specs.Fits.{fits_still, may_step, view_of}
 use Rattle.hart_calls.proofs.Bodies.{still_space}
 use Rattle.hart_calls.proofs.ending.write_all_back.Goals as goal
 

@@ -1,4 +1,4 @@
-use Rattle.std.proofs.Common.{◌≡◌, ◌≤◌, ◌+◌, arith, [], ◌∷◌, length}
+use Rattle.std.proofs.Common.{arith, [], ◌∷◌}
 use Rattle.std.proofs.lemmas.List.{length-append}
 use Rattle.hart_calls.proofs.Journals.{forked_few, forks_few, forks_more, one_longer}
 use Rattle.hart_calls.proofs.going.rejoin.Goals as goal

@@ -1,6 +1,5 @@
-use Rattle.std.proofs.Common.{◌≡◌, ◌∙◌, ℕ, Err, [], ap, inl, List, refl, sym, subst}
+use Rattle.std.proofs.Common.{◌≡◌, ◌∙◌, ℕ, Err, [], ap, inl, refl, sym, subst}
 use Rattle.address_space.specs.Agreement.{body_of, IsSpace}
-use Rattle.atomic_table.specs.Seated.{TableId}
 use Rattle.hart_calls.specs.Replay.{forks}
 use Rattle.hart_calls.specs.Track.{child_name, next_of, Track}
 use Rattle.hart_calls.specs.declared.slot.Slot.TheVariants as slot

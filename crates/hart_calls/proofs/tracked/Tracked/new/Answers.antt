@@ -1,4 +1,4 @@
-use Rattle.std.proofs.Common.{◌≤◌, arith, refl, sym, subst}
+use Rattle.std.proofs.Common.{arith, refl, sym, subst}
 use Rattle.address_space.specs.Agreement.{body_of, IsSpace}
 use Rattle.process_model.specs.Process.{Process}
 use Rattle.shared_frames.specs.Fits.{view_of}

@@ -1,21 +1,17 @@
-use Rattle.std.proofs.Common.{◌≡◌, ◌-◌, ◌<◌, ◌≤◌, ◌∙◌, ap, arith, length, List, refl, Some, sym, subst}
+use Rattle.std.proofs.Common.{◌≡◌, ◌-◌, ◌∙◌, ap, refl, Some, sym, subst}
 use Rattle.std.specs.Prelude.{vec_capacity, vec_len}
 use Rattle.address_space.specs.Agreement.{body_of, IsSpace}
-use Rattle.file_shelf.specs.Shelved.{Becomes, CanRefuse, Shelved}
-use Rattle.hart_calls.specs.Asks.{IsStaying}
+use Rattle.file_shelf.specs.Shelved.{Shelved}
 use Rattle.hart_calls.specs.Closed.{cause_of}
 use Rattle.hart_calls.specs.Comes.{address_of, at_stop, by_reply, want_told}
 use Rattle.hart_calls.specs.Tells.{told}
 use Rattle.hart_calls.specs.Track.{Adds, next_of, Track}
 use Rattle.hart_calls.specs.Turns.{FiledOver}
 use Rattle.hart_calls.specs.Wants.{refused, Want}
-use Rattle.hart_calls.specs.declared.entry.Entry.{Entry}
 use Rattle.hart_calls.proofs.Ends.{cut_files, cut_over, is_cause}
 use Rattle.hart_calls.proofs.Filing.{ended_files}
-use Rattle.hart_calls.proofs.Journals.{read_since}
 use Rattle.hart_calls.proofs.Staying.{has_grown, pages_are}
 use Rattle.hart_calls.proofs.Turning.{filed, filed_over, goes, IsEntryOf, leads, over}
-use Rattle.process_model.specs.PageMoves.{PageMove}
 use Rattle.process_model.specs.Process.{Process}
 use Rattle.process_model.specs.declared.step.Reply.{Reply}
 use Rattle.process_model.specs.declared.step.Reply.TheVariants as reply
