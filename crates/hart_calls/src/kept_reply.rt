@@ -2,6 +2,7 @@
 
 ghost use Rattle.std.specs.Prelude.{◌≡◌, IfOk};
 ghost use Rattle.hart_calls.specs.Asks.{HasRoomFor};
+ghost use Rattle.hart_calls.specs.KeptReplies.{reply_kept};
 ghost use Rattle.hart_calls.specs.Replay.{forked};
 ghost use Rattle.process_model.specs.Briefs.{of_brief};
 
@@ -11,8 +12,9 @@ use std::marker::Model;
 
 /// How a reply is kept.
 #[derive(Drop)]
-pub(crate) enum Kept {
+pub enum Kept {
     Brief(Brief),
+    /// One that may carry bytes.
     Long(Box<Reply>),
 }
 
@@ -66,12 +68,11 @@ impl KeptReply {
         }
     }
 
-    /// Whether it is this reply.
-    pub fn is(&self, reply: &Reply) -> bool {
-        match &self.kept {
-            Kept::Brief(brief) => brief.reply() == *reply,
-            Kept::Long(kept) => **kept == *reply,
-        }
+    /// How it is kept.
+    pub fn kept(&self) -> &Kept
+        ensures { reply_kept result.now ≡ self.now }
+    {
+        &self.kept
     }
 }
 

@@ -23,7 +23,7 @@ mod turn;
 
 pub use entry::Entry;
 pub use finished::Finished;
-pub use kept_reply::KeptReply;
+pub use kept_reply::{Kept, KeptReply};
 pub use opening::{Opening, begun};
 pub use room::Room;
 pub use slot::Slot;

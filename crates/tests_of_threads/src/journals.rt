@@ -3,6 +3,7 @@
 ghost use Rattle.std.specs.Prelude.{◌≤◌};
 
 use audit_player::{lend_lists, lend_starts, run_pool};
+use hart_calls::{Kept, KeptReply};
 use hart_threads::OpenGate;
 use process_model::{Refusal, Reply};
 use script_reader::ThreadScript;
@@ -10,6 +11,14 @@ use std::alloc::Global;
 use std::sync::Wait;
 use std::test::Fail;
 use std::thread::Threads;
+
+/// Whether a reply that a journal keeps is this one.
+fn is_reply(kept: &KeptReply, reply: &Reply) -> bool {
+    match kept.kept() {
+        Kept::Brief(brief) => brief.reply() == *reply,
+        Kept::Long(long) => **long == *reply,
+    }
+}
 
 /// Whether a call has this reply, by the name of its process and its number in the list; none where there is no such entry.
 fn has_reply<R: Threads + Wait + Sync>(
@@ -44,7 +53,7 @@ fn has_reply<R: Threads + Wait + Sync>(
                 finished
                     .journal
                     .get(number)
-                    .map(|entry| entry.reply.is(reply)),
+                    .map(|entry| is_reply(&entry.reply, reply)),
             );
         }
     }
