@@ -131,3 +131,19 @@ pub hexadecimal_said : (line text digits : List ℕ) (r : Option (ℕ × Bor (Li
     → IfSome r (λ found. IsNext line found.1.now kind.Number (value.Number found.0))
 hexadecimal_said line text digits None is same h = tt
 hexadecimal_said line text digits (Some f) is same h = hexadecimal_from line digits f.1.now (h.front).digits f.0 (ap fields_of (sym is) ∙ same) (h.front).whole (h.front).says h.some h.ends h.small
+
+-- an entry behind blanks
+
+entry_from : (line text rest digits : List ℕ) (n : ℕ) → fields_of (64 ∷ text) ≡ fields_of line → text ≡ digits ++ rest → digits_from 10 (Some 0) digits ≡ Some n → length rest < length text → ends_field rest ≡ true → n < 2 ^ 64
+    → IsNext line rest kind.Entry (value.Optional (Some n))
+entry_from line text rest [] n same whole says some ends lt = absurd (omega (arith, ap length whole, some))
+entry_from line text rest (b ∷ digits) n same whole says some ends lt =
+    let first = one_digit 10 0 n b digits (digit_of 10 b) says in
+    let cut : fields_of (64 ∷ ((b ∷ digits) ++ rest)) ≡ (64 ∷ b ∷ digits) ∷ fields_of rest =
+    field_goes_on 64 ((b ∷ digits) ++ rest) refl (no_blank 10 b first.0 first.1) ∙ ap (onto_first 64) (front_cut 10 0 n b digits rest says ends) in
+    record { field = 64 ∷ b ∷ digits; fields = sym same ∙ ap (λ (t : List ℕ). fields_of (64 ∷ t)) whole ∙ cut; value = rw (decimal_number n b digits says lt) refl }
+
+pub entry_said : (line text digits : List ℕ) (r : Option (ℕ × Bor (List ℕ))) → text ≡ 64 ∷ digits → fields_of text ≡ fields_of line → IfSome r (λ found. IsEndedFront 10 digits found.1.now found.0)
+    → IfSome r (λ found. IsNext line found.1.now kind.Entry (value.Optional (Some found.0)))
+entry_said line text digits None is same h = tt
+entry_said line text digits (Some f) is same h = entry_from line digits f.1.now (h.front).digits f.0 (ap fields_of (sym is) ∙ same) (h.front).whole (h.front).says h.some h.ends h.small

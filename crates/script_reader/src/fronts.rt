@@ -1,6 +1,6 @@
 // Numbers at the front of a line, read in one pass: each byte is looked at once, and where the digits end is found with their value.
 
-ghost use Rattle.std.specs.Prelude.{◌≡◌, ◌+◌, ◌*◌, ◌<◌, ◌≤◌, ◌∷◌, ℕ, List, IfSome, length, true};
+ghost use Rattle.std.specs.Prelude.{◌≡◌, ◌+◌, ◌*◌, ◌<◌, ◌≤◌, ◌∷◌, ℕ, List, IfSome, Some, length, true};
 ghost use Rattle.process_model.specs.Lines.{ends_field, fields_of};
 ghost use Rattle.process_model.specs.declared.script.FieldKind.TheVariants as kind;
 ghost use Rattle.process_model.specs.declared.script.FieldValue.TheVariants as value;
@@ -169,5 +169,26 @@ pub fn next_number(line: &[u8]) -> Option<(u64, &[u8])>
     match behind_prefix(text) {
         Some(digits) => hexadecimal_front(digits),
         None => decimal_front(text),
+    }
+}
+
+/// What follows the sign of an entry.
+fn behind_sign(text: &[u8]) -> Option<&[u8]>
+    ensures { IfSome result (λ digits. text.now ≡ 64 ∷ digits.now) }
+{
+    match text {
+        [b'@', digits @ ..] => Some(digits),
+        _ => None,
+    }
+}
+
+/// The entry that comes next, by a decimal number, and what follows it.
+pub fn next_entry(line: &[u8]) -> Option<(u64, &[u8])>
+    ensures { IfSome result (λ found. IsNext line.now found.1.now kind.Entry (value.Optional (Some found.0))) }
+{
+    let text = skip_blanks(line);
+    match behind_sign(text) {
+        Some(digits) => decimal_front(digits),
+        None => None,
     }
 }

@@ -9,9 +9,8 @@ ghost use Rattle.process_model.specs.Lines.{fields_of};
 ghost use Rattle.script_reader.specs.Quick.{EndsWith, Reads, SaysCommand};
 ghost use Rattle.script_reader.specs.QuickWords.{letters};
 
-use crate::fronts::next_number;
+use crate::fronts::{next_entry, next_number};
 use crate::lines::first_field;
-use crate::numbers::number;
 use process_model::{Command, LONGEST_COPY, Step, is_width};
 
 /// Whether no field is left.
@@ -25,13 +24,17 @@ fn is_over(line: &[u8]) -> bool
 fn last_entry(line: &[u8]) -> Option<Option<usize>>
     ensures { IfSome result (λ via. EndsWith line.now via) }
 {
-    let Some((field, rest)) = first_field(line) else {
+    if line.is_empty() {
         return Some(None);
-    };
-    match field {
-        [b'@', digits @ ..] if is_over(rest) => Some(Some(number(digits)? as usize)),
-        _ => None,
     }
+    if let Some((entry, rest)) = next_entry(line) {
+        return if is_over(rest) {
+            Some(Some(entry as usize))
+        } else {
+            None
+        };
+    }
+    if is_over(line) { Some(None) } else { None }
 }
 
 /// One number, and no other field.
