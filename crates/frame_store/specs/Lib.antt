@@ -3,6 +3,7 @@ pub mod Holds
 pub mod Many
 pub mod Joins
 pub mod Laws
+pub mod Next
 pub mod Seats
 pub mod Plain
 pub mod Puts

@@ -13,6 +13,7 @@ mod opening;
 mod plain;
 mod refusal;
 mod supply;
+mod zeros;
 
 pub use access::{FrameAccess, FrameSeat};
 pub use opening::opened_seat;

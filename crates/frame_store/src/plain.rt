@@ -9,6 +9,7 @@ use crate::bytes::put_words;
 use crate::knowledge::{Knowledge, knowing};
 use crate::refusal::{NoFrame, SharersFull};
 use crate::supply::FrameSupply;
+use crate::zeros::zeros_in_front;
 use arrayvec::ArrayVec;
 use process_model::Report;
 use std::alloc::{AllocError, Global};
@@ -152,6 +153,22 @@ impl FrameAccess for PlainFrames {
     fn load(&mut self, _seat: &mut PlainSeat, frame: FrameNo, index: usize) -> u64 {
         let place = WORDS * frame.0 as usize + index;
         self.words[place]
+    }
+
+    fn next_word(
+        &mut self,
+        _seat: &mut PlainSeat,
+        frame: FrameNo,
+        first: usize,
+        last: usize,
+    ) -> Option<(usize, u64)> {
+        let base = WORDS * frame.0 as usize;
+        let words = &self.words[base + first..base + last];
+        let zeros = zeros_in_front(words);
+        if zeros == words.len() {
+            return None;
+        }
+        Some((first + zeros, words[zeros]))
     }
 
     fn store(&mut self, seat: &mut PlainSeat, frame: FrameNo, index: usize, value: u64) {

@@ -9,7 +9,8 @@ use Rattle.sv39_entry.specs.Word.{kind_of}
 use Rattle.sv39_entry.specs.declared.entry.Kind.TheVariants.{Invalid}
 use Rattle.table_walk.specs.Changed.{HasEntry, IsTableAt}
 use Rattle.table_walk.specs.Tables.{Tables, AreTables, HasTables, first_leaf}
-use Rattle.table_walk.specs.Places.{AreZeros, IsBare, IsBareTo, IsFirstLeaf, IsFirstLeafTo}
+use Rattle.frame_store.specs.Next.{AreZeros}
+use Rattle.table_walk.specs.Places.{IsBare, IsBareTo, IsFirstLeaf, IsFirstLeafTo}
 use Rattle.table_walk.specs.Walk.{top_level}
 use Rattle.table_walk.proofs.Children.{child_none}
 use Rattle.table_walk.proofs.TableWords.{kind-zero, word_leaf}

@@ -1,18 +1,7 @@
 -- The places below an index of a table, in order.
-use Rattle.std.specs.Prelude.{◌≡◌, ◌≢◌, ℕ, ◌+◌, ◌*◌, ◌<◌, ◌≤◌, Option, None, Some}
+use Rattle.std.specs.Prelude.{◌≡◌, ℕ, ◌+◌, ◌*◌, ◌<◌, ◌≤◌, Option, None, Some}
 use Rattle.std.specs.FinMap.{get}
-use Rattle.frame_store.specs.View.{known_word, View}
 use Rattle.table_walk.specs.Tables.{Tables}
-
--- the words of a frame from one index on and before another are 0
-abbrev pub AreZeros : View → ℕ → ℕ → ℕ → Type 0
-AreZeros v f first end = (i w : ℕ) → first ≤ i → i < end → known_word v f i ≡ Some w → w ≡ 0
-
--- the first word of a frame that is not 0, from one index on and before another, and its index
-abbrev pub IsNextWord : View → ℕ → ℕ → ℕ → Option (ℕ × ℕ) → Type 0
-IsNextWord v f first last None = AreZeros v f first last
-IsNextWord v f first last (Some p) =
-    (first ≤ p.0) × (p.0 < last) × AreZeros v f first p.0 × (p.1 ≢ 0) × ((w : ℕ) → known_word v f p.0 ≡ Some w → p.1 ≡ w)
 
 -- no place from one on and before another has a leaf, of the places of a number that has so many
 abbrev pub IsBare : Tables → ℕ → ℕ → ℕ → ℕ → Type 0

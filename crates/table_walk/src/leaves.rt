@@ -8,7 +8,6 @@ ghost use Rattle.table_walk.specs.Tables.{HasTables, Tables};
 ghost use Rattle.table_walk.specs.Places.{IsFirstLeafTo};
 ghost use Rattle.table_walk.specs.Walk.{top_level};
 
-use crate::entries::next_word;
 use crate::find::TOP_LEVEL;
 use crate::tables::table_in;
 use frame_store::{FrameAccess, FrameSeat};
@@ -85,7 +84,7 @@ fn next_below<F: FrameAccess>(
     let mut at = from;
     'indices: while at < stop {
         let last = index_of(stop - 1, level) + 1;
-        let (index, word) = next_word(store, seat, table, index_of(at, level), last)?;
+        let (index, word) = store.next_word(seat, table, index_of(at, level), last)?;
         let start = index as u64 * width;
         let place = at.saturating_sub(start);
         let next = next_at(store, seat, word, level, place, end - start);

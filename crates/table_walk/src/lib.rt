@@ -4,7 +4,6 @@
 
 mod change;
 mod counting;
-mod entries;
 mod find;
 mod growth;
 mod held;

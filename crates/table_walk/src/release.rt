@@ -3,13 +3,13 @@
 ghost use Rattle.std.specs.FinMap.{get};
 ghost use Rattle.std.specs.Prelude.{◌≡◌, ◌+◌, ◌*◌, ◌<◌, ◌≤◌, ℕ, None, Some};
 ghost use Rattle.frame_store.specs.Laws.{Fits, Keeps};
-ghost use Rattle.frame_store.specs.View.{hold_of, not_held};
+ghost use Rattle.frame_store.specs.Next.{AreZeros};
+ghost use Rattle.frame_store.specs.View.{hold_of, IsHeld, not_held};
 ghost use Rattle.table_walk.specs.Changed.{IsTableAt};
 ghost use Rattle.table_walk.specs.Tables.{HasTables, Tables};
 ghost use Rattle.table_walk.specs.Released.{AreLast, LetsGo, SameTallies};
 ghost use Rattle.table_walk.specs.Walk.{top_level};
 
-use crate::entries::next_entry;
 use crate::find::TOP_LEVEL;
 use crate::tables::child;
 use frame_store::{FrameAccess, FrameSeat};
@@ -72,4 +72,27 @@ fn release_at<F: FrameAccess>(
         store.store(seat, table, index, 0);
         store.release(seat, next);
     }
+}
+
+/// The first index of a table, from one on, whose word is not 0, or 512.
+fn next_entry<F: FrameAccess>(
+    store: &mut F,
+    seat: &mut F::Seat,
+    table: FrameNo,
+    first: usize,
+) -> usize
+    requires fits { Fits F.rule store.old seat.old }
+    requires held { IsHeld (F.Seat.view seat.old) table.0 }
+    requires low { first ≤ 512 }
+    ensures from { first ≤ result }
+    ensures low { result ≤ 512 }
+    ensures zeros { AreZeros (F.Seat.view seat.old) table.0 first result }
+    ensures view { F.Seat.view seat.new ≡ F.Seat.view seat.old }
+    ensures same { store.new ≡ store.old }
+    ensures keeps { Keeps F.rule store.old seat.old store.new seat.new }
+{
+    let Some((index, _)) = store.next_word(seat, table, first, 512) else {
+        return 512;
+    };
+    index
 }
