@@ -90,15 +90,15 @@ module _ (x : Body) (t : Tables) (p : Process) (space : IsSpace x t p) where
         omega (arith, most, same)
 
 -- it may be divided
-pub can_divide : {S : Type 0} (view : S → View) (x y : Space S) (v : View) (t : Tables) (p : Process) (need : ℕ) (list first second : List SettledPage) (L : List ℕ)
+pub can_divide : {S : Type 0} (view : S → View) (x y : Space S) (v : View) (t : Tables) (p : Process) (need : ℕ) (list : List SettledPage) (L : List ℕ)
     → IsSpace (body_of view y) t p → AreGoing t p trapframe_page (0 ∷ frames_of list) → AreSettled t p 0 trapframe_page list
-    → v ≡ view y.seat → x.root ≡ y.root → x.trapframe ≡ y.trapframe → x.layout ≡ y.layout → need ≡ fork_need p → first ≡ list → second ≡ list
-    → Prepares v (view x.seat) need L (0 ∷ frames_of first) → CanDivide v (body_of view x) t p second L
-can_divide view x y v t p need list first second L space going settled viewed root trapframe layout needs first_is second_is ready = record {
+    → v ≡ view y.seat → x.root ≡ y.root → x.trapframe ≡ y.trapframe → x.layout ≡ y.layout → need ≡ fork_need p
+    → Prepares v (view x.seat) need L (0 ∷ frames_of list) → CanDivide v (body_of view x) t p list L
+can_divide view x y v t p need list L space going settled viewed root trapframe layout needs ready = record {
   space = subst (λ b. IsSpace b t p) (sym (body_between v (view y.seat) x y viewed root trapframe layout)) space;
   more = ready.more;
-  going = subst (AreGoing t p trapframe_page) (sym (ready.all ∙ ap (λ l. 0 ∷ frames_of l) first_is)) going;
-  settled = subst (AreSettled t p 0 trapframe_page) (sym second_is) settled;
+  going = subst (AreGoing t p trapframe_page) (sym ready.all) going;
+  settled = settled;
   credits = ready.credits ∙ needs;
   tallies = ready.tallies;
 }

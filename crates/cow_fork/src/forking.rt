@@ -2,18 +2,20 @@
 
 ghost use Rattle.std.specs.Prelude.{[], ◌∷◌, ◌≡◌, ◌-◌, ◌↔◌, ◌<◌, ◌≤◌, if◌then◌else◌, IfErr, IfOk, is_ok, IsOk, length, List, map, ℕ};
 ghost use Rattle.address_space.specs.Agreement.{body, body_of, IsSpace};
+ghost use Rattle.address_space.specs.Settled.{AreSettled};
 ghost use Rattle.address_space.specs.Steps.{RunsDry, Takes};
 ghost use Rattle.cow_fork.specs.Forks.{CanDivide, Forks, HasChild, HasForked, IsBack, IsFull, IsShort, Prepares};
 ghost use Rattle.cow_fork.specs.Lists.{times};
-ghost use Rattle.cow_fork.specs.Sharing.{frames_of};
+ghost use Rattle.cow_fork.specs.Sharing.{AreGoing, frames_of};
 ghost use Rattle.frame_store.specs.Laws.{Fits, IsAnchored, IsDry, Keeps};
 ghost use Rattle.frame_store.specs.View.{IsHeld, View};
 ghost use Rattle.process_model.specs.Frames as model;
 ghost use Rattle.process_model.specs.Process.{Process};
+ghost use Rattle.sv39_entry.specs.Address.{trapframe_page};
 ghost use Rattle.table_walk.specs.Tables.{Tables};
 
 use crate::need::fork_need;
-use crate::pages::settled_pages;
+use crate::pages::PageList;
 use crate::sharing::{let_go, share_frames};
 use crate::tables::list_tables;
 use crate::tree::{copy_tree, mark_pages};
@@ -92,14 +94,41 @@ pub fn fork<S: FrameSeat, F: FrameSupply<Seat = S>>(
     ensures keeps { IfOk result (λ child. (others : List S) → F.rule store.old (space.old.seat ∷ others) → F.rule store.new (space.new.seat ∷ child.seat ∷ others)) }
     ensures keeps_refused { IfErr result (λ _. Keeps F.rule store.old space.old.seat store.new space.new.seat) }
 {
-    let mut settled = ArrayVec::new();
-    settled_pages(space, store, &mut settled);
+    let mut list = PageList::new();
+    let settled = list.settled_pages(space, store);
+    fork_listed(space, store, settled)
+}
+
+/// The same, where the settled pages are listed already.
+pub fn fork_listed<S: FrameSeat, F: FrameSupply<Seat = S>>(
+    space: &mut Space<S>,
+    store: &mut F,
+    settled: &[SettledPage],
+) -> Result<Space<S>, ForkError>
+    requires fits { Fits F.rule store.old space.old.seat }
+    requires ready { (t : Tables) × (p : Process) × IsSpace (body_of S.view space.old) t p }
+    requires settled { (t : Tables) (p : Process) → IsSpace (body_of S.view space.old) t p → AreSettled t p 0 trapframe_page settled.now }
+    requires going { (t : Tables) (p : Process) → IsSpace (body_of S.view space.old) t p → AreGoing t p trapframe_page (0 ∷ frames_of settled.now) }
+    ensures forked { IfOk result (λ child. HasForked (body_of S.view space.old) (body_of S.view space.new) (body_of S.view child)) }
+    ensures whole { IfErr result (λ _. (t : Tables) (p : Process) → IsSpace (body_of S.view space.old) t p → IsSpace (body_of S.view space.new) t p) }
+    ensures dry { IsShort result → (t : Tables) (p : Process) → IsSpace (body_of S.view space.old) t p → RunsDry (S.view space.old.seat) (S.view space.new.seat) (model.fork_need p) [] }
+    ensures full { IsFull result → Takes (S.view space.old.seat) (S.view space.new.seat) 0 (65535 ∷ []) }
+    ensures short { F.alone → (t : Tables) (p : Process) → IsSpace (body_of S.view space.old) t p → IsShort result ↔ (F.free store.old < model.fork_need p) }
+    ensures sharers { F.alone → IsFull result → (f : ℕ) × IsHeld (S.view space.old.seat) f × (F.count store.old f < 65535 → ⊥) }
+    ensures free { F.alone → (t : Tables) (p : Process) → IsSpace (body_of S.view space.old) t p → (IsFull result → ⊥) →
+        F.free store.new ≡ F.free store.old - (if is_ok result then model.fork_need p else 0) }
+    ensures root { space.new.root ≡ space.old.root }
+    ensures trapframe { space.new.trapframe ≡ space.old.trapframe }
+    ensures layout { space.new.layout ≡ space.old.layout }
+    ensures keeps { IfOk result (λ child. (others : List S) → F.rule store.old (space.old.seat ∷ others) → F.rule store.new (space.new.seat ∷ child.seat ∷ others)) }
+    ensures keeps_refused { IfErr result (λ _. Keeps F.rule store.old space.old.seat store.new space.new.seat) }
+{
     let need = fork_need(space, store);
     let mut frames = ArrayVec::new();
-    if let Err(refusal) = prepare(space, store, settled.as_slice(), need, &mut frames) {
+    if let Err(refusal) = prepare(space, store, settled, need, &mut frames) {
         return Err(refusal);
     }
-    Ok(divide(space, store, settled.as_slice(), &mut frames))
+    Ok(divide(space, store, settled, &mut frames))
 }
 
 /// Reserves so many frames, and takes one more reference of frame 0 and of the frame of each settled page. Where either is

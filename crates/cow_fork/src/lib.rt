@@ -9,4 +9,5 @@ mod sharing;
 mod tables;
 mod tree;
 
-pub use forking::{ForkError, fork};
+pub use forking::{ForkError, fork, fork_listed};
+pub use pages::PageList;

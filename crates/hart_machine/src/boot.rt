@@ -11,6 +11,7 @@ use crate::hart::Hart;
 use crate::machine::Machine;
 use crate::tenant::Tenant;
 use address_space::KernelTable;
+use cow_fork::PageList;
 use file_cabinet::Cabinet;
 use frame_store::PlainFrames;
 use process_model::Config;
@@ -75,6 +76,7 @@ impl Machine {
             slots,
             harts,
             files,
+            pages: PageList::new(),
         })
     }
 }

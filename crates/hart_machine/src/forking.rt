@@ -1,12 +1,15 @@
 // Processes fork.
 
 ghost use Rattle.std.specs.Prelude.{◌≡◌, ◌∷◌, ◌<◌, IfErr, IfOk, List, ℕ, slice_index};
+ghost use Rattle.address_space.specs.Agreement.{IsSpace};
+ghost use Rattle.address_space.specs.Settled.{AreSettled};
+ghost use Rattle.cow_fork.specs.Sharing.{AreGoing, frames_of};
 ghost use Rattle.frame_store.specs.Laws.{Fits, Keeps};
 ghost use Rattle.frame_store.specs.Plain.{BankRule};
 ghost use Rattle.frame_store.specs.View.{IsHeld, View};
 ghost use Rattle.hart_machine.specs.Buffers.{SameBuffers};
 ghost use Rattle.hart_machine.specs.Forked.{forked_or_refused, HasForkedTenant};
-ghost use Rattle.hart_machine.specs.Tenants.{IsTenant, view_of};
+ghost use Rattle.hart_machine.specs.Tenants.{body_in, IsTenant, view_of};
 ghost use Rattle.hart_machine.specs.Marks.{AreMarked, child_in, marked_with};
 ghost use Rattle.hart_machine.specs.Worlds.{IsWorld, KeepsTables, Makes};
 ghost use Rattle.process_model.specs.Briefs.{of_brief};
@@ -16,11 +19,14 @@ ghost use Rattle.process_model.specs.Steps.{plain_step};
 ghost use Rattle.process_model.specs.World.{World};
 ghost use Rattle.process_model.specs.declared.step.Refusal.TheVariants as refusal;
 ghost use Rattle.process_model.specs.declared.step.Step.TheVariants as step;
+ghost use Rattle.sv39_entry.specs.Address.{trapframe_page};
 ghost use Rattle.table_walk.specs.Tables.{Tables};
 
 use crate::machine::Machine;
 use crate::marking::{Made, slot_if};
 use crate::tenant::Tenant;
+use address_space::SettledPage;
+use cow_fork::fork_listed;
 use frame_store::PlainFrames;
 use process_model::{Brief, Refusal};
 
@@ -58,22 +64,26 @@ impl Machine {
             return Err(Refusal::NoSlot);
         };
         let frames = &mut self.frames;
+        let list = &mut self.pages;
         let slots = &mut self.slots;
         let Some(tenant) = &mut slots[slot] else {
             unreachable!()
         };
-        let unmarked = tenant.has_unmarked(frames);
-        let child = tenant.fork(frames)?;
+        let settled = tenant.settled_pages(frames, list);
+        let unmarked = tenant.has_unmarked(settled);
+        let child = tenant.fork(frames, settled)?;
         self.slots[place] = Some(child);
         Ok((place, slot_if(slot, unmarked)))
     }
 }
 
 impl Tenant {
-    /// The child of the process. Then nothing is pending for either.
-    fn fork(&mut self, frames: &mut PlainFrames) -> Result<Tenant, Refusal>
+    /// The child of the process, whose settled pages are listed. Then nothing is pending for either.
+    fn fork(&mut self, frames: &mut PlainFrames, settled: &[SettledPage]) -> Result<Tenant, Refusal>
         requires fits { Fits BankRule frames.old (view_of self.old) }
         requires ready { (t : Tables) × (p : Process) × IsTenant self.old t p }
+        requires settled { (t : Tables) (p : Process) → IsSpace (body_in self.old) t p → AreSettled t p 0 trapframe_page settled.now }
+        requires going { (t : Tables) (p : Process) → IsSpace (body_in self.old) t p → AreGoing t p trapframe_page (0 ∷ frames_of settled.now) }
         requires few { (f : ℕ) → IsHeld (view_of self.old) f → slice_index frames.old.counts f < 65535 }
         ensures forked { IfOk result (λ child. (t : Tables) (p : Process) → IsTenant self.old t p → HasForkedTenant self.new child t p) }
         ensures trapframe { self.new.space.trapframe ≡ self.old.space.trapframe }
@@ -83,7 +93,7 @@ impl Tenant {
         ensures keeps { IfOk result (λ child. (others : List View) → BankRule frames.old (view_of self.old ∷ others) → BankRule frames.new (view_of self.new ∷ view_of child ∷ others)) }
         ensures keeps_refused { IfErr result (λ _. Keeps BankRule frames.old (view_of self.old) frames.new (view_of self.new)) }
     {
-        let space = cow_fork::fork(&mut self.space, frames)?;
+        let space = fork_listed(&mut self.space, frames, settled)?;
         let child = Tenant {
             space,
             pending: None,

@@ -10,6 +10,7 @@ ghost use Rattle.process_model.specs.World.{process_in, report, World};
 use crate::hart::Hart;
 use crate::tenant::{Pending, Tenant};
 use address_space::KernelTable;
+use cow_fork::PageList;
 use file_cabinet::Cabinet;
 use frame_store::{PlainFrames, PlainSeat};
 use process_model::{Phase, Policy, Report};
@@ -23,6 +24,8 @@ pub struct Machine {
     pub(crate) slots: Vec<Option<Tenant>>,
     pub(crate) harts: Vec<Hart>,
     pub(crate) files: Cabinet,
+    /// Room for the pages of a process that forks.
+    pub(crate) pages: PageList,
 }
 
 impl Machine {

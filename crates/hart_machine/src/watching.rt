@@ -1,17 +1,21 @@
 // What is read of a process before and after a call, to tell whether the call changes a leaf of its pages.
 
-ghost use Rattle.std.specs.Prelude.{◌≡◌, ◌↔◌, ◌+◌, ◌<◌, ◌≤◌, ◌&&◌, ℕ, false, min, not, Some, true};
+ghost use Rattle.std.specs.Prelude.{◌≡◌, ◌↔◌, ◌+◌, ◌<◌, ◌≤◌, ◌∷◌, ◌&&◌, ℕ, false, min, not, Some, true};
 ghost use Rattle.address_space.specs.Accesses.{IsGranted};
+ghost use Rattle.address_space.specs.Agreement.{IsSpace};
+ghost use Rattle.address_space.specs.Settled.{AreSettled};
+ghost use Rattle.cow_fork.specs.Sharing.{AreGoing, frames_of};
 ghost use Rattle.frame_store.specs.Laws.{Fits};
 ghost use Rattle.frame_store.specs.Plain.{BankRule};
-ghost use Rattle.hart_machine.specs.Tenants.{IsTenant, view_of};
+ghost use Rattle.hart_machine.specs.Tenants.{body_in, IsTenant, view_of};
 ghost use Rattle.process_model.specs.PageMap.{get};
 ghost use Rattle.process_model.specs.Process.{grants_write, Page, Process};
 ghost use Rattle.sv39_entry.specs.Address.{trapframe_page};
 ghost use Rattle.table_walk.specs.Tables.{Tables};
 
 use crate::tenant::Tenant;
-use address_space::walks_grant_what_is_resident;
+use address_space::{SettledPage, walks_grant_what_is_resident};
+use cow_fork::PageList;
 use frame_store::PlainFrames;
 use sv39_entry::{Access, Mode, PAGE_SIZE, TRAPFRAME, Va, Vpn};
 use table_walk::Walk;
@@ -68,22 +72,33 @@ impl Tenant {
         (first, next)
     }
 
-    /// Whether a settled page that may be written has no fork mark, so that a fork changes its leaf.
-    pub(crate) fn has_unmarked(&mut self, frames: &mut PlainFrames) -> bool
+    /// The settled pages in ascending order, in room that is lent.
+    pub(crate) fn settled_pages<'a>(
+        &mut self,
+        frames: &mut PlainFrames,
+        list: &'a mut PageList,
+    ) -> &'a [SettledPage]
         requires fits { Fits BankRule frames.old (view_of self.old) }
         requires ready { (t : Tables) × (p : Process) × IsTenant self.old t p }
-        ensures some { result ≡ true → (t : Tables) (p : Process) → IsTenant self.old t p → (n : ℕ) × (s : Page) × (get p.settled n ≡ Some s) × (grants_write p n ≡ true) × (s.fork_mark ≡ false) }
-        ensures none { result ≡ false → (t : Tables) (p : Process) → IsTenant self.old t p → (n : ℕ) (s : Page) → get p.settled n ≡ Some s → grants_write p n ≡ true → s.fork_mark ≡ true }
+        ensures settled { (t : Tables) (p : Process) → IsSpace (body_in self.old) t p → AreSettled t p 0 trapframe_page result.now }
+        ensures going { (t : Tables) (p : Process) → IsSpace (body_in self.old) t p → AreGoing t p trapframe_page (0 ∷ frames_of result.now) }
         ensures same { self.new ≡ self.old }
         ensures frames { frames.new ≡ frames.old }
     {
-        let mut first = 0;
-        'pages: while let Some(found) = self.space.next_settled(frames, first, TRAPFRAME.page()) {
-            let page = found.page.number();
-            if self.is_unmarked(page, found.fork_mark) {
+        list.settled_pages(&mut self.space, frames)
+    }
+
+    /// Whether a settled page that may be written has no fork mark, so that a fork changes its leaf.
+    pub(crate) fn has_unmarked(&self, settled: &[SettledPage]) -> bool
+        ensures some { result ≡ true → (t : Tables) (p : Process) → IsTenant self.now t p → AreSettled t p 0 trapframe_page settled.now →
+            (n : ℕ) × (s : Page) × (get p.settled n ≡ Some s) × (grants_write p n ≡ true) × (s.fork_mark ≡ false) }
+        ensures none { result ≡ false → (t : Tables) (p : Process) → IsTenant self.now t p → AreSettled t p 0 trapframe_page settled.now →
+            (n : ℕ) (s : Page) → get p.settled n ≡ Some s → grants_write p n ≡ true → s.fork_mark ≡ true }
+    {
+        'pages: for page in settled {
+            if self.is_unmarked(page.page.number(), page.fork_mark) {
                 return true;
             }
-            first = page + 1;
         }
         false
     }

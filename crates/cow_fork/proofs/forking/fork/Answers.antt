@@ -1,163 +1,94 @@
-use Rattle.std.proofs.Common.{◌≡◌, ◌-◌, ap, inl, inr, Err, refl, sym, subst, ◌∙◌, arith}
-use Rattle.address_space.specs.Agreement.{body, body_of, IsSpace}
+use Rattle.std.proofs.Common.{◌≡◌, ◌-◌, ap, subst, sym, ◌∙◌, arith, List, [], ◌∷◌, Ok, Err}
+use Rattle.std.specs.Prelude.{if◌then◌else◌, is_ok, IfErr, IfOk}
+use Rattle.address_space.specs.Agreement.{Body, body_of, IsSpace}
+use Rattle.address_space.specs.Steps.{RunsDry}
 use Rattle.frame_store.specs.Laws.{fits_after, Keeps}
-use Rattle.frame_store.specs.View.{View}
+use Rattle.frame_store.specs.View.{IsHeld, View}
 use Rattle.process_model.specs.Frames as model
 use Rattle.process_model.specs.Process.{Process}
 use Rattle.table_walk.specs.Tables.{Tables}
-use Rattle.cow_fork.specs.Forks.{Forks}
-use Rattle.cow_fork.proofs.Refusals.{all_held, can_divide, dry_whole, either_refusal, few_pages, going_once, runs_dry, same_error, space_anchored, whole_again}
-use Rattle.cow_fork.proofs.Walking.{body_between, same_body}
+use Rattle.cow_fork.specs.Forks.{HasForked}
+use Rattle.cow_fork.proofs.Walking.{same_body}
 use Rattle.cow_fork.proofs.forking.fork.Given as given
 use Rattle.cow_fork.proofs.forking.fork.Goals as goal
-use Rattle.cow_fork.proofs.forking.fork.Goals.{After-fork_need-need}
+use Rattle.cow_fork.proofs.forking.fork.Goals.{After-settled_pages-settled}
 
--- ---- what was read
+-- ---- listing the pages changes nothing
 
-module _ (g : given.Over) (c : After-fork_need-need g) where
-  first : body_of g.S.FrameSeat.view c.settled_pages.new.space ≡ body_of g.S.FrameSeat.view c.args.space.now
-  first = let s = c.settled_pages.ensures in same_body g.S.FrameSeat.view c.settled_pages.new.space c.args.space.now s.view s.root s.trapframe s.layout
+module _ (g : given.Over) (c : After-settled_pages-settled g) where
+  first : body_of g.S.FrameSeat.view c.settled_pages-settled.new.space ≡ body_of g.S.FrameSeat.view c.args.space.now
+  first = let s = c.settled_pages-settled.ensures in same_body g.S.FrameSeat.view c.settled_pages-settled.new.space c.args.space.now s.view s.root s.trapframe s.layout
 
-  viewed : g.S.FrameSeat.view c.fork_need-need.new.space.seat ≡ g.S.FrameSeat.view c.args.space.now.seat
-  viewed = c.fork_need-need.ensures.view ∙ c.settled_pages.ensures.view
+  again : (t : Tables) (p : Process) → IsSpace (body_of g.S.FrameSeat.view c.args.space.now) t p → IsSpace (body_of g.S.FrameSeat.view c.settled_pages-settled.new.space) t p
+  again t p space = subst (λ (b : Body). IsSpace b t p) (sym first) space
 
-  rooted : c.fork_need-need.new.space.root ≡ c.args.space.now.root
-  rooted = c.fork_need-need.ensures.root ∙ c.settled_pages.ensures.root
+  back : (t : Tables) (p : Process) → IsSpace (body_of g.S.FrameSeat.view c.settled_pages-settled.new.space) t p → IsSpace (body_of g.S.FrameSeat.view c.args.space.now) t p
+  back t p space = subst (λ (b : Body). IsSpace b t p) first space
 
-  framed : c.fork_need-need.new.space.trapframe ≡ c.args.space.now.trapframe
-  framed = c.fork_need-need.ensures.trapframe ∙ c.settled_pages.ensures.trapframe
+pub fork_listed-requires-clause-fits : goal.fork_listed-requires-clause-fits
+fork_listed-requires-clause-fits g c = fits_after g.F.FrameAccess.rule c.settled_pages-settled.ensures.keeps c.requires.fits
 
-  laid : c.fork_need-need.new.space.layout ≡ c.args.space.now.layout
-  laid = c.fork_need-need.ensures.layout ∙ c.settled_pages.ensures.layout
-
-  stored : c.fork_need-need.new.store ≡ c.args.store.now
-  stored = c.fork_need-need.ensures.same ∙ c.settled_pages.ensures.same
-
-  kept : Keeps g.F.FrameAccess.rule c.args.store.now c.args.space.now.seat c.fork_need-need.new.store c.fork_need-need.new.space.seat
-  kept others r = c.fork_need-need.ensures.keeps others (c.settled_pages.ensures.keeps others r)
-
-  needed : (t : Tables) (p : Process) → IsSpace (body_of g.S.FrameSeat.view c.args.space.now) t p → c.fork_need-need.result ≡ model.fork_need p
-  needed t p space = c.fork_need-need.ensures.need t p (rw first space)
-
-pub fork_need-need-requires-clause-fits : goal.fork_need-need-requires-clause-fits
-fork_need-need-requires-clause-fits g c = fits_after g.F.FrameAccess.rule c.settled_pages.ensures.keeps c.requires.fits
-
-pub fork_need-need-requires-clause-ready : goal.fork_need-need-requires-clause-ready
-fork_need-need-requires-clause-ready g c =
+pub fork_listed-requires-clause-ready : goal.fork_listed-requires-clause-ready
+fork_listed-requires-clause-ready g c =
+    let at = (goal.at.fork_listed-requires-clause-ready g c).After-settled_pages-settled in
     let r = c.requires.ready in
-    let s = c.settled_pages.ensures in
-    (r.0, r.1, rw (same_body g.S.FrameSeat.view c.settled_pages.new.space c.args.space.now s.view s.root s.trapframe s.layout) r.2)
+    (r.0, r.1, again g at r.0 r.1 r.2)
 
-pub prepare-requires-clause-fits : goal.prepare-requires-clause-fits
-prepare-requires-clause-fits g c = fits_after g.F.FrameAccess.rule c.fork_need-need.ensures.keeps (fits_after g.F.FrameAccess.rule c.settled_pages.ensures.keeps c.requires.fits)
+pub fork_listed-requires-clause-settled : goal.fork_listed-requires-clause-settled
+fork_listed-requires-clause-settled g c t p space =
+    let at = (goal.at.fork_listed-requires-clause-settled g c).After-settled_pages-settled in
+    c.settled_pages-settled.ensures.settled t p (back g at t p space)
 
-pub prepare-requires-clause-anchored : goal.prepare-requires-clause-anchored
-prepare-requires-clause-anchored g c =
-    let r = c.requires.ready in
-    rw (c.fork_need-need.ensures.view ∙ c.settled_pages.ensures.view) (space_anchored _ r.0 r.1 r.2)
-
-pub prepare-requires-clause-once : goal.prepare-requires-clause-once
-prepare-requires-clause-once g c =
-    let r = c.requires.ready in
-    rw c.as_slice.ensures.value (going_once _ r.0 r.1 r.2 _ (c.settled_pages.ensures.going r.0 r.1 r.2))
-
-pub prepare-requires-clause-held : goal.prepare-requires-clause-held
-prepare-requires-clause-held g c =
-    let r = c.requires.ready in
-    rw (c.as_slice.ensures.value, c.fork_need-need.ensures.view ∙ c.settled_pages.ensures.view) (all_held _ r.0 r.1 r.2 _ (c.settled_pages.ensures.going r.0 r.1 r.2))
-
-pub prepare-requires-clause-few : goal.prepare-requires-clause-few
-prepare-requires-clause-few g c =
-    let r = c.requires.ready in
-    let law = g.met.F.FrameAccess.within _ _ c.requires.fits.0 c.requires.fits.1 in
-    rw c.as_slice.ensures.value (few_pages _ r.0 r.1 r.2 _ (c.settled_pages.ensures.going r.0 r.1 r.2) (λ f held. let low = law.1 f held in omega (arith, low, law.0)))
-
--- ---- a refusal
-
-pub returns-in-Err-clause-whole : goal.returns-in-Err-clause-whole
-returns-in-Err-clause-whole g c t p space =
-    let at = (goal.at.returns-in-Err-clause-whole g c).After-fork_need-need in
-    let now = body_between (g.S.FrameSeat.view c.prepare.new.space.seat) (g.S.FrameSeat.view c.prepare.new.space.seat) c.prepare.new.space c.args.space.now refl
-    (c.prepare.ensures.root ∙ rooted g at) (c.prepare.ensures.trapframe ∙ framed g at) (c.prepare.ensures.layout ∙ laid g at) in
-    let before = subst (λ k. IsSpace (body k c.args.space.now.root.0 c.args.space.now.trapframe.0 c.args.space.now.layout) t p) (sym (viewed g at)) space in
-    rw now (elim (either_refusal c.in-Err.refusal) [
-      | inl none ↦ (let dry = c.in-Err.ensures.dry (ap (λ e. Err e) none) in whole_again _ _ (dry_whole _ _ _ dry) dry.credits _ _ _ t p before)
-      | inr full ↦ (let back = c.in-Err.ensures.back (ap (λ e. Err e) full) in whole_again _ _ back.holds back.credits _ _ _ t p before)
-    ])
-
-pub returns-in-Err-clause-dry : goal.returns-in-Err-clause-dry
-returns-in-Err-clause-dry g c is t p space =
-    let at = (goal.at.returns-in-Err-clause-dry g c).After-fork_need-need in
-    runs_dry _ _ _ _ _ (viewed g at) (c.in-Err.ensures.dry (same_error _ _ is)) (ap (λ (k : View). k.credits) (viewed g at) ∙ space.credits) (needed g at t p space)
-
-pub returns-in-Err-clause-short : goal.returns-in-Err-clause-short
-returns-in-Err-clause-short g c alone t p space =
-    let at = (goal.at.returns-in-Err-clause-short g c).After-fork_need-need in
-    let free = ap g.F.FrameAccess.free (stored g at) in
-    let need = needed g at t p space in
-    let s = c.in-Err.ensures.short alone in
-    (λ is. let less = s.0 (same_error _ _ is) in omega (arith, less, free, need), λ less. same_error _ _ (s.1 (omega (arith, less, free, need))))
-
-pub returns-in-Err-clause-sharers : goal.returns-in-Err-clause-sharers
-returns-in-Err-clause-sharers g c alone is =
-    let at = (goal.at.returns-in-Err-clause-sharers g c).After-fork_need-need in
-    let r = c.requires.ready in
-    let s = c.in-Err.ensures.sharers alone (same_error _ _ is) in
-    let count = ap (λ x. g.F.FrameAccess.count x s.0) (stored g at) in
-    (s.0, all_held _ r.0 r.1 r.2 _ (c.settled_pages.ensures.going r.0 r.1 r.2) s.0 (rw c.as_slice.ensures.value at s.1), λ less. s.2 (omega (arith, less, count)))
-
-pub returns-in-Err-clause-free : goal.returns-in-Err-clause-free
-returns-in-Err-clause-free g c alone t p space other =
-    let at = (goal.at.returns-in-Err-clause-free g c).After-fork_need-need in
-    c.in-Err.ensures.free alone (λ is. other (same_error _ _ is)) ∙ ap (λ x. g.F.FrameAccess.free x - 0) (stored g at)
-
-pub returns-in-Err-clause-keeps_refused : goal.returns-in-Err-clause-keeps_refused
-returns-in-Err-clause-keeps_refused g c others r = c.prepare.ensures.keeps others (c.fork_need-need.ensures.keeps others (c.settled_pages.ensures.keeps others r))
-
-pub divide-requires-clause-fits : goal.divide-requires-clause-fits
-divide-requires-clause-fits g c =
-    fits_after g.F.FrameAccess.rule c.prepare.ensures.keeps
-    (fits_after g.F.FrameAccess.rule c.fork_need-need.ensures.keeps (fits_after g.F.FrameAccess.rule c.settled_pages.ensures.keeps c.requires.fits))
-
-pub divide-requires-clause-ready : goal.divide-requires-clause-ready
-divide-requires-clause-ready g c =
-    let at = (goal.at.divide-requires-clause-ready g c).After-fork_need-need in
-    let r = c.requires.ready in
-    let p = c.prepare.ensures in (
-      _,
-      r.0,
-      r.1,
-      can_divide g.S.FrameSeat.view c.prepare.new.space c.args.space.now _ r.0 r.1 _ _ _ _ _ r.2 (c.settled_pages.ensures.going r.0 r.1 r.2) (c.settled_pages.ensures.settled r.0 r.1 r.2)
-          (viewed g at) (p.root ∙ rooted g at) (p.trapframe ∙ framed g at) (p.layout ∙ laid g at) (needed g at r.0 r.1 r.2) c.as_slice.ensures.value c.as_slice-2.ensures.value c.in_default.ensures.prepared,
-    )
+pub fork_listed-requires-clause-going : goal.fork_listed-requires-clause-going
+fork_listed-requires-clause-going g c t p space =
+    let at = (goal.at.fork_listed-requires-clause-going g c).After-settled_pages-settled in
+    c.settled_pages-settled.ensures.going t p (back g at t p space)
 
 pub returns-clause-forked : goal.returns-clause-forked
-returns-clause-forked g c t p space =
-    let at = (goal.at.returns-clause-forked g c).After-fork_need-need in
-    let e = c.prepare.ensures in
-    let can = can_divide g.S.FrameSeat.view c.prepare.new.space c.args.space.now _ t p _ _ _ _ _ space (c.settled_pages.ensures.going t p space) (c.settled_pages.ensures.settled t p space)
-    (viewed g at) (e.root ∙ rooted g at) (e.trapframe ∙ framed g at) (e.layout ∙ laid g at) (needed g at t p space) c.as_slice.ensures.value c.as_slice-2.ensures.value c.in_default.ensures.prepared in
-    let all = c.divide.ensures.divided _ t p can in
-    let before = body_between _ _ c.prepare.new.space c.args.space.now (viewed g at) (e.root ∙ rooted g at) (e.trapframe ∙ framed g at) (e.layout ∙ laid g at) in
-    (all.0, all.1, subst (λ b. Forks b (body_of g.S.FrameSeat.view c.divide.new.space) (body_of g.S.FrameSeat.view c.divide.result) t all.0 all.1 p) before all.2)
+returns-clause-forked g c =
+    let at = (goal.at.returns-clause-forked g c).After-settled_pages-settled in
+    subst (λ (b : Body). IfOk c.fork_listed.result (λ child. HasForked b (body_of g.S.FrameSeat.view c.fork_listed.new.space) (body_of g.S.FrameSeat.view child))) (first g at) c.fork_listed.ensures.forked
+
+pub returns-clause-whole : goal.returns-clause-whole
+returns-clause-whole g c =
+    let at = (goal.at.returns-clause-whole g c).After-settled_pages-settled in
+    subst (λ (b : Body). IfErr c.fork_listed.result (λ _. (t : Tables) (p : Process) → IsSpace b t p → IsSpace (body_of g.S.FrameSeat.view c.fork_listed.new.space) t p)) (first g at) c.fork_listed.ensures.whole
+
+pub returns-clause-dry : goal.returns-clause-dry
+returns-clause-dry g c short t p space =
+    let at = (goal.at.returns-clause-dry g c).After-settled_pages-settled in
+    subst (λ (v : View). RunsDry v (g.S.FrameSeat.view c.fork_listed.new.space.seat) (model.fork_need p) []) c.settled_pages-settled.ensures.view (c.fork_listed.ensures.dry short t p (again g at t p space))
+
+pub returns-clause-full : goal.returns-clause-full
+returns-clause-full g c full = rw (← c.settled_pages-settled.ensures.view) (c.fork_listed.ensures.full full)
 
 pub returns-clause-short : goal.returns-clause-short
 returns-clause-short g c alone t p space =
-    let at = (goal.at.returns-clause-short g c).After-fork_need-need in
-    let free = ap g.F.FrameAccess.free (stored g at) in
-    let need = needed g at t p space in
-    let s = c.in_default.ensures.short alone in
-    (λ is. absurd (cc), λ less. absurd (let bad = s.1 (omega (arith, less, free, need)) in cc))
+    let at = (goal.at.returns-clause-short g c).After-settled_pages-settled in
+    let same = ap g.F.FrameAccess.free c.settled_pages-settled.ensures.same in
+    let s = c.fork_listed.ensures.short alone t p (again g at t p space) in
+    (λ is. let less = s.0 is in omega (arith, less, same), λ less. s.1 (omega (arith, less, same)))
+
+pub returns-clause-sharers : goal.returns-clause-sharers
+returns-clause-sharers g c alone full =
+    let s = c.fork_listed.ensures.sharers alone full in
+    let count = ap (λ x. g.F.FrameAccess.count x s.0) c.settled_pages-settled.ensures.same in
+    (s.0, subst (λ (v : View). IsHeld v s.0) c.settled_pages-settled.ensures.view s.1, λ less. s.2 (omega (arith, less, count)))
 
 pub returns-clause-free : goal.returns-clause-free
 returns-clause-free g c alone t p space other =
-    let at = (goal.at.returns-clause-free g c).After-fork_need-need in
-    let free = ap g.F.FrameAccess.free (stored g at) in
-    let need = needed g at t p space in
-    let first = c.in_default.ensures.free alone (λ is. absurd (cc)) in
-    let last = c.divide.ensures.free alone in
-    omega (arith, free, need, first, last)
+    let at = (goal.at.returns-clause-free g c).After-settled_pages-settled in
+    c.fork_listed.ensures.free alone t p (again g at t p space) other
+    ∙ ap (λ x. g.F.FrameAccess.free x - (if is_ok c.fork_listed.result then model.fork_need p else 0)) c.settled_pages-settled.ensures.same
 
 pub returns-clause-keeps : goal.returns-clause-keeps
-returns-clause-keeps g c others r =
-    c.divide.ensures.keeps others (c.prepare.ensures.keeps others (c.fork_need-need.ensures.keeps others (c.settled_pages.ensures.keeps others r)))
+returns-clause-keeps g c = elim c.fork_listed.result as (λ r. IfOk r (λ child. (others : List g.row.S.Denot) → g.F.FrameAccess.rule c.settled_pages-settled.new.store (c.settled_pages-settled.new.space.seat ∷ others) → g.F.FrameAccess.rule c.fork_listed.new.store (c.fork_listed.new.space.seat ∷ child.seat ∷ others)) → IfOk r (λ child. (others : List g.row.S.Denot) → g.F.FrameAccess.rule c.args.store.now (c.args.space.now.seat ∷ others) → g.F.FrameAccess.rule c.fork_listed.new.store (c.fork_listed.new.space.seat ∷ child.seat ∷ others))) [
+  | Ok child ↦ λ keeps others r. keeps others (c.settled_pages-settled.ensures.keeps others r)
+  | Err e ↦ λ keeps. keeps
+] c.fork_listed.ensures.keeps
+
+pub returns-clause-keeps_refused : goal.returns-clause-keeps_refused
+returns-clause-keeps_refused g c = elim c.fork_listed.result as (λ r. IfErr r (λ _. Keeps g.F.FrameAccess.rule c.settled_pages-settled.new.store c.settled_pages-settled.new.space.seat c.fork_listed.new.store c.fork_listed.new.space.seat) → IfErr r (λ _. Keeps g.F.FrameAccess.rule c.args.store.now c.args.space.now.seat c.fork_listed.new.store c.fork_listed.new.space.seat)) [
+  | Ok child ↦ λ keeps. keeps
+  | Err e ↦ λ keeps others r. keeps others (c.settled_pages-settled.ensures.keeps others r)
+] c.fork_listed.ensures.keeps_refused

@@ -1,5 +1,6 @@
 use Rattle.std.proofs.Common.{◌∙◌, ◌<◌, ◌∷◌, Some, ap, refl, subst, sym}
 use Rattle.std.specs.Prelude.{slice_set}
+use Rattle.address_space.specs.Agreement.{IsSpace}
 use Rattle.frame_store.specs.Laws.{Keeps}
 use Rattle.frame_store.specs.Plain.{Bank, BankRule}
 use Rattle.process_model.specs.Frames.{fork_need}
@@ -11,7 +12,7 @@ use Rattle.process_model.specs.Steps.{plain_step}
 use Rattle.process_model.specs.World.{refuses}
 use Rattle.process_model.specs.declared.step.Refusal.TheVariants.{NoFrame, NoSlot}
 use Rattle.process_model.specs.declared.step.Step.TheVariants as step
-use Rattle.hart_machine.specs.Tenants.{IsTenant, view_of}
+use Rattle.hart_machine.specs.Tenants.{body_in, IsTenant, view_of}
 use Rattle.hart_machine.specs.declared.machine.Machine.{Machine}
 use Rattle.hart_machine.specs.declared.tenant.Tenant.{Tenant}
 use Rattle.hart_machine.proofs.AccessingWorlds.{seat_fits, slot_has}
@@ -49,8 +50,8 @@ unreachable-requires c =
     let both = sym c.in_default-index_mut.is ∙ c.index_mut.ensures.value ∙ read in
     cc
 
-pub has_unmarked-unmarked-requires-clause-fits : goal.has_unmarked-unmarked-requires-clause-fits
-has_unmarked-unmarked-requires-clause-fits c =
+pub settled_pages-settled-requires-clause-fits : goal.settled_pages-settled-requires-clause-fits
+settled_pages-settled-requires-clause-fits c =
     let r = c.requires.world in
     let m = c.args.self.now in
     let s = c.in_ok-slot.slot in
@@ -59,8 +60,8 @@ has_unmarked-unmarked-requires-clause-fits c =
     let there = slot_has m.slots.items s caller.tenant x _ c.in-Some-index_mut.is c.index_mut.ensures.value caller.place in
     seat_fits m.frames m.kernel.seat m.slots.items s x there (r.1).rule
 
-pub has_unmarked-unmarked-requires-clause-ready : goal.has_unmarked-unmarked-requires-clause-ready
-has_unmarked-unmarked-requires-clause-ready c =
+pub settled_pages-settled-requires-clause-ready : goal.settled_pages-settled-requires-clause-ready
+settled_pages-settled-requires-clause-ready c =
     let r = c.requires.world in
     let m = c.args.self.now in
     let s = c.in_ok-slot.slot in
@@ -78,7 +79,7 @@ fork-requires-clause-fits c =
     let caller = c.in_ok-slot.ensures.there r.0 r.1 in
     let x = c.in-Some-index_mut.tenant in
     let there = slot_has m.slots.items s caller.tenant x _ c.in-Some-index_mut.is c.index_mut.ensures.value caller.place in
-    let u = c.has_unmarked-unmarked in
+    let u = c.settled_pages-settled in
     rw (u.ensures.same, u.ensures.frames) (seat_fits m.frames m.kernel.seat m.slots.items s x there (r.1).rule)
 
 pub fork-requires-clause-ready : goal.fork-requires-clause-ready
@@ -89,12 +90,22 @@ fork-requires-clause-ready c =
     let caller = c.in_ok-slot.ensures.there r.0 r.1 in
     let x = c.in-Some-index_mut.tenant in
     let there = slot_has m.slots.items s caller.tenant x _ c.in-Some-index_mut.is c.index_mut.ensures.value caller.place in
-    let u = c.has_unmarked-unmarked in
+    let u = c.settled_pages-settled in
     let found = process_at m r.0 r.1 s x there in
     rw u.ensures.same ((r.1).tables s, found.0, found.2)
 
+pub fork-requires-clause-settled : goal.fork-requires-clause-settled
+fork-requires-clause-settled c t p space =
+    let u = c.settled_pages-settled.ensures in
+    u.settled t p (subst (λ (z : Tenant). IsSpace (body_in z) t p) u.same space)
+
+pub fork-requires-clause-going : goal.fork-requires-clause-going
+fork-requires-clause-going c t p space =
+    let u = c.settled_pages-settled.ensures in
+    u.going t p (subst (λ (z : Tenant). IsSpace (body_in z) t p) u.same space)
+
 pub fork-requires-clause-few : goal.fork-requires-clause-few
-fork-requires-clause-few c = rw (c.has_unmarked-unmarked.ensures.same, c.has_unmarked-unmarked.ensures.frames) (λ f held. let r = c.requires.world in few_shared c.args.self.now r.0 r.1 f)
+fork-requires-clause-few c = rw (c.settled_pages-settled.ensures.same, c.settled_pages-settled.ensures.frames) (λ f held. let r = c.requires.world in few_shared c.args.self.now r.0 r.1 f)
 
 pub returns-in_err-slot-clause-changed : goal.returns-in_err-slot-clause-changed
 returns-in_err-slot-clause-changed c w is =
@@ -119,7 +130,7 @@ returns-in_err-child-clause-made c w is =
     let x = c.in-Some-index_mut.tenant in
     let there = slot_has m.slots.items s caller.tenant x _ c.in-Some-index_mut.is c.index_mut.ensures.value caller.place in
     let to = sym (c.free_slot.ensures w is) ∙ c.in-Some.is in
-    let u = c.has_unmarked-unmarked in
+    let u = c.settled_pages-settled in
     let y = c.fork.new in
     let e = c.in_err-child.ensures in
     let told = err_from_is_err_and c.from_residual-in_err-child.result c.from_residual-in_err-child.ensures.1 in
@@ -136,7 +147,7 @@ returns-in_err-child-clause-changed c w is =
     let x = c.in-Some-index_mut.tenant in
     let there = slot_has m.slots.items s caller.tenant x _ c.in-Some-index_mut.is c.index_mut.ensures.value caller.place in
     let to = sym (c.free_slot.ensures w is) ∙ c.in-Some.is in
-    let u = c.has_unmarked-unmarked in
+    let u = c.settled_pages-settled in
     let y = c.fork.new in
     let e = c.in_err-child.ensures in
     let told = err_from_is_err_and c.from_residual-in_err-child.result c.from_residual-in_err-child.ensures.1 in
@@ -151,7 +162,7 @@ returns-in_err-child-clause-tables c w is =
     let x = c.in-Some-index_mut.tenant in
     let there = slot_has m.slots.items s caller.tenant x _ c.in-Some-index_mut.is c.index_mut.ensures.value caller.place in
     let to = sym (c.free_slot.ensures w is) ∙ c.in-Some.is in
-    let u = c.has_unmarked-unmarked in
+    let u = c.settled_pages-settled in
     let y = c.fork.new in
     same_tables m _ _ _ (one_below m _ s x y.self there refl refl (λ t p a. (p, c.in_err-child.ensures.whole t p (subst (λ (z : Tenant). IsTenant z t p) (sym u.ensures.same) a))))
 
@@ -168,7 +179,7 @@ returns-clause-made c w is =
     let x = c.in-Some-index_mut.tenant in
     let there = slot_has m.slots.items s caller.tenant x _ c.in-Some-index_mut.is c.index_mut.ensures.value caller.place in
     let to = sym (c.free_slot.ensures w is) ∙ c.in-Some.is in
-    let u = c.has_unmarked-unmarked in
+    let u = c.settled_pages-settled in
     let y = c.fork.new in
     let e = c.in_ok-child.ensures in
     forks_wet m w is c.args.hart s caller x y.self there y.frames c.in-Some.place to c.in_ok-child.child
@@ -184,14 +195,16 @@ returns-clause-changed c w is =
     let x = c.in-Some-index_mut.tenant in
     let there = slot_has m.slots.items s caller.tenant x _ c.in-Some-index_mut.is c.index_mut.ensures.value caller.place in
     let to = sym (c.free_slot.ensures w is) ∙ c.in-Some.is in
-    let u = c.has_unmarked-unmarked in
+    let u = c.settled_pages-settled in
     let y = c.fork.new in
     let e = c.in_ok-child.ensures in
     let q = process_at m w is s x there in
     let before = subst (λ (z : Tenant). IsTenant z (is.tables s) q.0) (sym u.ensures.same) q.2 in
-    rw c.slot_if.ensures (fork_marks w (plain_step w (step.Fork c.args.hart)) s c.in-Some.place q.0 (marked q.0) (child_of q.0) u.result q.1 (free_is_empty w c.in-Some.place to)
+    let k = c.has_unmarked-unmarked in
+    let listed = u.ensures.settled (is.tables s) q.0 q.2.agrees in
+    rw c.slot_if.ensures (fork_marks w (plain_step w (step.Fork c.args.hart)) s c.in-Some.place q.0 (marked q.0) (child_of q.0) k.result q.1 (free_is_empty w c.in-Some.place to)
     (fork_sets m w is c.args.hart s caller x y.self there y.frames c.in-Some.place to q.0 q.1 (λ few. e.enough (is.tables s) q.0 before (subst (λ (b : Bank). b.free < fork_need q.0) (sym u.ensures.frames) few)))
-    (tells_marks q.0 u.result (λ yes. u.ensures.some yes (is.tables s) q.0 q.2) (λ no_one. u.ensures.none no_one (is.tables s) q.0 q.2)))
+    (tells_marks q.0 k.result (λ yes. k.ensures.some yes (is.tables s) q.0 before listed) (λ no_one. k.ensures.none no_one (is.tables s) q.0 before listed)))
 
 pub returns-clause-tables : goal.returns-clause-tables
 returns-clause-tables c w is =
@@ -201,7 +214,7 @@ returns-clause-tables c w is =
     let x = c.in-Some-index_mut.tenant in
     let there = slot_has m.slots.items s caller.tenant x _ c.in-Some-index_mut.is c.index_mut.ensures.value caller.place in
     let to = sym (c.free_slot.ensures w is) ∙ c.in-Some.is in
-    let u = c.has_unmarked-unmarked in
+    let u = c.settled_pages-settled in
     let y = c.fork.new in
     let e = c.in_ok-child.ensures in
     let q = process_at m w is s x there in

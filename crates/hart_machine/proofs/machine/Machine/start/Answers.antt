@@ -61,7 +61,7 @@ returns-in-Ok-start-clause-made c w is =
     let ok = c.in-Ok-start in
     let others = seats_of m.slots.items in
     let y : Tenant = record { space = ok.space; pending = None } in
-    let n : Machine = record { policy = o.new.self.policy; frames = c.start.new.store; kernel = o.new.self.kernel; slots = with_item o.new.self.slots s (Some y); harts = o.new.self.harts; files = o.new.self.files } in
+    let n : Machine = record { policy = o.new.self.policy; frames = c.start.new.store; kernel = o.new.self.kernel; slots = with_item o.new.self.slots s (Some y); harts = o.new.self.harts; files = o.new.self.files; pages = o.new.self.pages } in
     makes_started w s c.args.image c.in-Ok.image (sym (c.free_slot.ensures w is) ∙ c.in-Some.is) (sym c.judged.ensures ∙ c.in-Ok.is)
     m n is o.ensures.size o.ensures.harts o.ensures.files o.ensures.policy (open_kernel m o.new.self o.ensures.opener w.frames (length w.slots) is.stacks is.kernel is.of_kernel)
     y ok.ensures.started.0 (rw o.ensures.slots refl)

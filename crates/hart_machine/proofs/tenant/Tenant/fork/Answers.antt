@@ -11,8 +11,8 @@ use Rattle.hart_machine.proofs.tenant.Tenant.fork.Goals as goal
 pub returns-in_err-space-clause-dry : goal.returns-in_err-space-clause-dry
 returns-in_err-space-clause-dry c =
     let told = err_from_is_err_and c.from_residual.result c.from_residual.ensures.1 in
-    let e = c.fork.ensures in
-    let only = which c.fork.result c.in_err-space.field-0.0 c.in_err-space.was (λ full. let f = e.sharers tt full in f.2 (c.requires.few f.0 f.1)) in
+    let e = c.fork_listed.ensures in
+    let only = which c.fork_listed.result c.in_err-space.field-0.0 c.in_err-space.was (λ full. let f = e.sharers tt full in f.2 (c.requires.few f.0 f.1)) in
     rw told.1 (told.2 ∙ ap refusal_of only, λ t p tenant. (e.short tt t p tenant.agrees).0 (c.in_err-space.was ∙ ap Err only))
 
 pub returns-in_err-space-clause-whole : goal.returns-in_err-space-clause-whole
@@ -20,7 +20,7 @@ returns-in_err-space-clause-whole c =
     let told = err_from_is_err_and c.from_residual.result c.from_residual.ensures.1 in
     rw told.1 (λ t p tenant. record {
       agrees = c.in_err-space.ensures.whole t p tenant.agrees;
-      framed = rw c.fork.ensures.trapframe tenant.framed;
+      framed = rw c.fork_listed.ensures.trapframe tenant.framed;
       pending = tenant.pending;
       wide = tenant.wide;
     })
@@ -39,13 +39,13 @@ returns-clause-forked c = λ t p tenant.
       of_child = f.1;
       parent = record {
         agrees = f.2.parent;
-        framed = rw c.fork.ensures.trapframe tenant.framed;
+        framed = rw c.fork_listed.ensures.trapframe tenant.framed;
         pending = refl;
         wide = tt;
       };
       child = record {
         agrees = f.2.child;
-        framed = second_inside c.fork.new.store c.fork.new.space.seat z.seat fits.0 (r.keeps fits.0 fits.1) z.trapframe.0 one;
+        framed = second_inside c.fork_listed.new.store c.fork_listed.new.space.seat z.seat fits.0 (r.keeps fits.0 fits.1) z.trapframe.0 one;
         pending = refl;
         wide = tt;
       };
@@ -54,4 +54,4 @@ returns-clause-forked c = λ t p tenant.
     }
 
 pub returns-clause-enough : goal.returns-clause-enough
-returns-clause-enough c = λ t p tenant few. let both = sym c.in_ok-space.was ∙ (c.fork.ensures.short tt t p tenant.agrees).1 few in cc
+returns-clause-enough c = λ t p tenant few. let both = sym c.in_ok-space.was ∙ (c.fork_listed.ensures.short tt t p tenant.agrees).1 few in cc

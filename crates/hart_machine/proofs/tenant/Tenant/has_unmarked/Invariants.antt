@@ -1,4 +1,5 @@
-use Rattle.std.proofs.Common.{◌≡◌, ◌≤◌, ◌-◌}
+use Rattle.std.proofs.Common.{ℕ, drop}
+use Rattle.address_space.specs.Settled.{AreSettled}
 use Rattle.process_model.specs.Process.{Process}
 use Rattle.sv39_entry.specs.Address.{trapframe_page}
 use Rattle.table_walk.specs.Tables.{Tables}
@@ -6,14 +7,9 @@ use Rattle.hart_machine.specs.Tenants.{IsTenant}
 use Rattle.hart_machine.proofs.Watched.{AreMarkedBelow}
 use Rattle.hart_machine.proofs.tenant.Tenant.has_unmarked.Given as goal
 
--- no page below this one is one that is looked for
+-- no page before this one is one that is looked for
 abbrev pub invariant-pages : goal.invariant-pages
 invariant-pages l = record {
-  near : l.first ≤ trapframe_page;
-  same : l.self ≡ l.fn.self;
-  frames : l.frames ≡ l.fn.frames;
-  marked : (t : Tables) (p : Process) → IsTenant l.fn.self t p → AreMarkedBelow p l.first;
+  marked : (t : Tables) (p : Process) → IsTenant l.self t p → AreSettled t p 0 trapframe_page l.settled
+      → (first : ℕ) × AreMarkedBelow p first × AreSettled t p first trapframe_page (drop l.page-index l.settled);
 }
-
-abbrev pub decreases-pages : goal.decreases-pages
-decreases-pages l = trapframe_page - l.first

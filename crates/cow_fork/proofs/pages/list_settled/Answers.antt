@@ -8,7 +8,7 @@ use Rattle.sv39_entry.specs.Address.{trapframe_page}
 use Rattle.cow_fork.specs.Sharing.{frames_of}
 use Rattle.cow_fork.proofs.Going.{going_all, going_few, going_more, going_none}
 use Rattle.cow_fork.proofs.Walking.{same_body}
-use Rattle.cow_fork.proofs.pages.settled_pages.Goals as goal
+use Rattle.cow_fork.proofs.pages.list_settled.Goals as goal
 
 pub pages-init : goal.pages-init
 pages-init g c = record {

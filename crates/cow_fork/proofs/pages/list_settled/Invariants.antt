@@ -7,7 +7,7 @@ use Rattle.process_model.specs.Process.{Process}
 use Rattle.sv39_entry.specs.Address.{trapframe_page}
 use Rattle.table_walk.specs.Tables.{Tables}
 use Rattle.cow_fork.specs.Sharing.{AreGoing, frames_of}
-use Rattle.cow_fork.proofs.pages.settled_pages.Given as goal
+use Rattle.cow_fork.proofs.pages.list_settled.Given as goal
 
 -- the settled pages below this one are listed
 abbrev pub invariant-pages : goal.invariant-pages
