@@ -16,7 +16,7 @@ use Rattle.frame_store.specs.View.{counted, spent, View, Hold, hold_of, sole_hol
 use Rattle.frame_store.specs.Holds.{hold_of-frames}
 use Rattle.frame_store.specs.Puts.{Puts, puts, left_of, left-references, released-puts}
 use Rattle.shared_frames.specs.Rule.{count_at, memory_at, one_at_zero, FrameAgrees, IsKept, Kept}
-use Rattle.shared_frames.specs.Telling.{saw_free, let_go, unshared, Sees, GivesBack, Looks, Releases, Loads, Stores, Reserves, Claims, Shares}
+use Rattle.shared_frames.specs.Telling.{saw_free, let_go, unshared, Sees, GivesBack, Looks, Releases, Learns, Loads, Stores, Reserves, Claims, Shares}
 use Rattle.shared_frames.proofs.Sums.{total-one}
 use Rattle.shared_frames.proofs.Zeros.{one_at_zero-zero, one_at_zero-more, zero_counts-le, zero_counts-same, zero_counts-set}
 use Rattle.shared_frames.proofs.Changes.{kept_step, kept_free, not_held_agrees, bare_agrees}
@@ -357,6 +357,15 @@ module _ (n slots id : ℕ) (me : M) where
 
   pub loads : (i : ℕ) → Allows (Kept n) slots id me i (λ x. x) (Loads (step slots i 0 0 none) me)
   loads i s r _ at small = (me.0, keeps, tt, kept_same n s r id me.0 at i, (refl, λ f j x e q. ap (λ m. get_or s.words m 0) e ∙ (((r.agrees id me.0 at).frames f).known j x q).1))
+
+  pub learns : (f i : ℕ) → i < 512 → IsSole me.0 f → Allows (Kept n) slots id me (memory_at f i) (λ x. x) (Learns (step slots (memory_at f i) 0 0 none) me)
+  learns f i low mark s r _ at small = let x = get_or s.words (memory_at f i) 0 in (
+    with_word f i x me.0,
+    keeps,
+    tt,
+    kept_memory n s r id me.0 at f i x low mark,
+    λ g j b e. let ef : f ≡ g = omega (arith, e, b, low) in let ei : i ≡ j = omega (arith, e, b, low, ef) in λ k. (with_word (ef k) (ei k) x me.0, me.1),
+  )
 
   pub stores : (f i x : ℕ) → i < 512 → IsSole me.0 f → Allows (Kept n) slots id me (memory_at f i) (λ _. x) (λ _. Stores (step slots (memory_at f i) x 0 none) me x)
   stores f i x low mark s r _ at small = (

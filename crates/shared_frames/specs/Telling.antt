@@ -33,6 +33,10 @@ Releases st m found w = (f : ℕ) → st.word ≡ count_at f → w ≡ (let_go f
 abbrev pub Loads : Tells
 Loads st m found w = (w ≡ m) × ((f i x : ℕ) → st.word ≡ memory_at f i → known_word m.0 f i ≡ Some x → found ≡ x)
 
+-- a word was read of a frame of which the seat is the sole holder: it is known then
+abbrev pub Learns : Tells
+Learns st m found w = (f i : ℕ) → i < 512 → st.word ≡ memory_at f i → w ≡ (with_word f i found m.0, m.1)
+
 abbrev pub Stores : Tells
 Stores st m found w = (f i : ℕ) → i < 512 → st.word ≡ memory_at f i → w ≡ (with_word f i st.first m.0, m.1)
 

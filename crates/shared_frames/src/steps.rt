@@ -8,7 +8,7 @@ ghost use Rattle.shared_frames.specs.Telling.{let_go, saw_free, unshared};
 
 use crate::seat::SharedSeat;
 use crate::table::Words;
-use crate::telling::{Claim, GiveBack, Load, Look, Release, Reserve, See, Share, Store};
+use crate::telling::{Claim, GiveBack, Learn, Load, Look, Release, Reserve, See, Share, Store};
 use sv39_entry::FrameNo;
 
 /// How many words of the table a frame has: its count, and its memory.
@@ -132,8 +132,20 @@ pub fn load_word(table: &Words, seat: &mut SharedSeat, frame: FrameNo, index: us
     table.load::<Load>(&mut seat.seat, FRAME_WORDS * frame.0 as usize + 2 + index)
 }
 
-/// Writes a word of a frame of which the seat is the sole holder.
-pub fn store_word(table: &Words, seat: &mut SharedSeat, frame: FrameNo, index: usize, value: u64)
+/// Reads a word of a frame of which the seat is the sole holder. The seat knows it then.
+fn learn_word(table: &Words, seat: &mut SharedSeat, frame: FrameNo, index: usize) -> u64
+    requires sized { IsSized table.now.table_id.words table.now.key }
+    requires fits { FitsIn table.now.table_id seat.old }
+    requires sole { IsSole (view_of seat.old) frame.0 }
+    requires in_page { index < 512 }
+    ensures fits { FitsIn table.now.table_id seat.new }
+    ensures view { view_of seat.new ≡ with_word frame.0 index result (view_of seat.old) }
+{
+    table.load::<Learn>(&mut seat.seat, FRAME_WORDS * frame.0 as usize + 2 + index)
+}
+
+/// Puts a word in the place of another of such a frame.
+fn put_word(table: &Words, seat: &mut SharedSeat, frame: FrameNo, index: usize, value: u64)
     requires sized { IsSized table.now.table_id.words table.now.key }
     requires fits { FitsIn table.now.table_id seat.old }
     requires sole { IsSole (view_of seat.old) frame.0 }
@@ -146,4 +158,19 @@ pub fn store_word(table: &Words, seat: &mut SharedSeat, frame: FrameNo, index: u
         FRAME_WORDS * frame.0 as usize + 2 + index,
         value,
     );
+}
+
+/// Writes a word of a frame of which the seat is the sole holder. A store that all threads see at once takes many times as long as
+/// a load, so it is made only where the word is another: of a frame that is cleared most words are 0, as a rule.
+pub fn store_word(table: &Words, seat: &mut SharedSeat, frame: FrameNo, index: usize, value: u64)
+    requires sized { IsSized table.now.table_id.words table.now.key }
+    requires fits { FitsIn table.now.table_id seat.old }
+    requires sole { IsSole (view_of seat.old) frame.0 }
+    requires in_page { index < 512 }
+    ensures fits { FitsIn table.now.table_id seat.new }
+    ensures view { view_of seat.new ≡ with_word frame.0 index value (view_of seat.old) }
+{
+    if learn_word(table, seat, frame, index) != value {
+        put_word(table, seat, frame, index, value);
+    }
 }

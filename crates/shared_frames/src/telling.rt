@@ -75,6 +75,15 @@ impl Play<(), Knowledge> for Load {
     ghost then = { Loads };
 }
 
+/// A load of a word of memory that nobody else has.
+pub struct Learn;
+
+impl Play<(), Knowledge> for Learn {
+    ghost use Rattle.shared_frames.specs.Telling.{Learns};
+
+    ghost then = { Learns };
+}
+
 /// A store of a word of memory.
 pub struct Store;
 

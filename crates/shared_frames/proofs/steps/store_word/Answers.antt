@@ -1,19 +1,16 @@
-use Rattle.std.proofs.Common.{arith, refl, ap, ◌∙◌}
-use Rattle.shared_frames.proofs.Moves as moves
-use Rattle.shared_frames.proofs.Within as within
+use Rattle.std.proofs.Common.{ap, sym, subst, ◌∙◌}
+use Rattle.std.specs.Prelude.{IsTrue}
+use Rattle.frame_store.specs.View.{IsSole, View, with_word}
+use Rattle.shared_frames.specs.Fits.{view_of}
+use Rattle.shared_frames.proofs.Stored.{stored_again, stored_sole}
 use Rattle.shared_frames.proofs.steps.store_word.Goals as goal
 
-pub store-requires : goal.store-requires
-store-requires c = let place = (c.requires.fits.1 c.args.frame.0).0 ((c.requires.fits.1 c.args.frame.0).1 c.requires.sole) in (c.requires.fits.0, omega (arith, place, c.requires.in_page), moves.stores _ _ _ _ c.args.frame.0 c.args.index _ c.requires.in_page c.requires.sole)
+pub put_word-requires-clause-sole : goal.put_word-requires-clause-sole
+put_word-requires-clause-sole c =
+    subst (λ (v : View). IsSole v c.args.frame.0) (sym c.learn_word.ensures.view)
+    (subst IsTrue (sym (stored_sole c.args.frame.0 c.args.index c.learn_word.result (view_of c.args.seat.now))) c.requires.sole)
 
-pub returns-clause-view : goal.returns-clause-view
-returns-clause-view c = ap (λ m. m.0) (c.store.ensures.2 c.args.frame.0 c.args.index c.requires.in_page refl)
-
-pub returns-clause-fits : goal.returns-clause-fits
-returns-clause-fits c =
-    let e = c.store.ensures in
-    let p = within.told c.args.table.now.table_id.words _ c.args.seat.now.seat.me.0 _ _ ((e.2 c.args.frame.0 c.args.index c.requires.in_page refl)) (within.within-stored c.args.table.now.table_id.words c.args.frame.0 c.args.seat.now.seat.me.0 c.requires.fits.1 c.args.index c.args.value) refl c.requires.fits.2 in
-    (e.0 ∙ c.requires.fits.0, p.0, p.1)
-
-pub invariant_of-seat : goal.invariant_of-seat
-invariant_of-seat c = record { no_slot = ap (λ m. m.1) (c.store.ensures.2 c.args.frame.0 c.args.index c.requires.in_page refl) ∙ c.args.seat.now.no_slot }
+pub returns-then-learn_word-value-clause-view : goal.returns-then-learn_word-value-clause-view
+returns-then-learn_word-value-clause-view c =
+    c.put_word.ensures.view ∙ ap (with_word c.args.frame.0 c.args.index c.args.value) c.learn_word.ensures.view
+    ∙ stored_again c.args.frame.0 c.args.index c.args.value c.learn_word.result (view_of c.args.seat.now)
