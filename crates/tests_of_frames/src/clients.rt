@@ -121,3 +121,46 @@ fn runs_over_both_stores(rt: HostRuntime) -> Result<(), Fail> {
     assert_eq!(rt; (totals.free, totals.held, totals.trampoline), (0, 2, 3));
     Ok(())
 }
+
+/// Fills a frame of which few words are not 0, and tells whether the next of them is found from one index on and before another,
+/// for each case of a table.
+fn finds_next_words<F: FrameSupply>(store: &mut F, seat: &mut F::Seat) -> Result<bool, NoFrame>
+    requires fits { Fits F.rule store.old seat.old }
+    requires anchored { IsHeld (F.Seat.view seat.old) 0 }
+    ensures keeps { Keeps F.rule store.old seat.old store.new seat.new }
+{
+    let mut words = [0; 512];
+    words[0] = 1;
+    words[9] = 2;
+    words[511] = 3;
+    let frame = filled_frame(store, seat, &words)?;
+    let cases = [
+        (0, 512, Some((0, 1))),
+        (1, 512, Some((9, 2))),
+        (2, 10, Some((9, 2))),
+        (1, 9, None),
+        (9, 9, None),
+        (10, 511, None),
+        (10, 512, Some((511, 3))),
+        (504, 512, Some((511, 3))),
+        (512, 512, None),
+    ];
+    'cases: for (first, last, next) in &cases {
+        if *first > *last || *last > 512 || store.next_word(seat, frame, *first, *last) != *next {
+            return Ok(false);
+        }
+    }
+    Ok(true)
+}
+
+#[test]
+fn finds_next_words_of_both_stores(rt: HostRuntime) -> Result<(), Fail> {
+    let (mut plain, mut seat) = PlainFrames::new(rt.alloc(), 2)?;
+    assert_eq!(rt; finds_next_words(&mut plain, &mut seat), Ok(true));
+    let (frames, mut seat) = SharedFrames::new(rt.alloc(), 2)?;
+    let mut supply = frames.supply(&rt);
+    assert_eq!(rt; finds_next_words(&mut supply, &mut seat), Ok(true));
+    let totals = frames.close(seat);
+    assert_eq!(rt; (totals.free, totals.held), (0, 2));
+    Ok(())
+}

@@ -1,0 +1,18 @@
+use Rattle.std.proofs.Common.{refl, sym, subst}
+use Rattle.frame_store.specs.Laws.{fits_after}
+use Rattle.frame_store.specs.View.{IsHeld}
+use Rattle.frame_clients.specs.Filled.{filled_holds}
+use Rattle.tests_of_frames.proofs.clients.finds_next_words.Goals as goal
+
+pub cases-init : goal.cases-init
+cases-init g c = record {
+  view = refl;
+  keeps = c.in_ok-frame.ensures.keeps;
+  held = subst (λ v. IsHeld v c.in_ok-frame.frame.0) (sym c.in_ok-frame.ensures.ok) (filled_holds _ _ _);
+}
+
+pub next_word-requires-clause-fits : goal.next_word-requires-clause-fits
+next_word-requires-clause-fits g c = fits_after g.F.FrameAccess.rule c.cases.invariant.keeps c.requires.fits
+
+pub next_word-requires-clause-held : goal.next_word-requires-clause-held
+next_word-requires-clause-held g c = c.cases.invariant.held
