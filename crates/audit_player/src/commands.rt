@@ -75,7 +75,8 @@ fn three_next(machine: &mut Machine, hart: usize, reply: Brief) -> Brief
     reply
 }
 
-/// Makes a step, and after it these three where it was not refused.
+/// Makes a step, and after it these three where it was not refused. It is made part of those who say which step.
+#[inline(always)]
 fn go_through(machine: &mut Machine, hart: usize, step: Step<'_>) -> Brief
     requires world { (w : World) × IsIn machine.old w }
     requires brief { is_brief step ≡ true }

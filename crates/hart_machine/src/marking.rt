@@ -53,6 +53,7 @@ pub(crate) fn slot_if(slot: usize, is_so: bool) -> Option<usize>
 
 impl Machine {
     /// The leaves of a slot are others than before: with address-space identifiers each hart may have old entries of them.
+    #[inline(always)]
     pub(crate) fn mark(&mut self, slot: Option<usize>)
         requires { (s : ℕ) → slot ≡ Some s → s < most_slots }
         ensures harts { map hart_of self.new.harts.items ≡ marked_harts self.old.policy slot (map hart_of self.old.harts.items) }

@@ -55,7 +55,9 @@ impl Machine {
         reply
     }
 
-    /// Makes a step that is no copy from the process: its reply carries no bytes, and has no room for them.
+    /// Makes a step that is no copy from the process: its reply carries no bytes, and has no room for them. It is made part of
+    /// its caller (`inline(always)`), who often knows which step it is, and then no step and no marks go through memory.
+    #[inline(always)]
     pub fn step_briefly(&mut self, step: Step<'_>) -> Brief
         requires world { (w : World) × IsIn self.old w }
         requires brief { is_brief step ≡ true }
@@ -76,6 +78,7 @@ impl Machine {
 
     /// The same, but for the marks of harts. A function pays at entry for the size of its locals: so calls of the kernel,
     /// which have large ones, stand apart (`inline(never)`), and other steps are made without them.
+    #[inline(always)]
     fn make(&mut self, step: Step<'_>) -> Made<Brief>
         requires world { (w : World) × IsIn self.old w }
         requires brief { is_brief step ≡ true }
