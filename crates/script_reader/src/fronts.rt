@@ -24,6 +24,16 @@ fn skip_blanks(line: &[u8]) -> &[u8]
     rest
 }
 
+/// What follows the blank that a line begins with, where it begins with one.
+fn behind_blank(line: &[u8]) -> &[u8]
+    ensures { fields_of result.now ≡ fields_of line.now }
+{
+    match line {
+        [b' ', rest @ ..] => rest,
+        _ => line,
+    }
+}
+
 /// Whether no byte of a field stands first.
 pub fn is_end(text: &[u8]) -> bool
     ensures { result ≡ ends_field text.now }
@@ -59,6 +69,16 @@ fn skip_zeros(text: &[u8]) -> &[u8]
         rest = after;
     }
     rest
+}
+
+/// The same. A text that begins with no zero, as most do, is not gone through.
+fn behind_zeros(text: &[u8]) -> &[u8]
+    ensures { IsFront 16 text.now result.now 0 }
+{
+    match text {
+        [b'0', ..] => skip_zeros(text),
+        _ => text,
+    }
 }
 
 /// Whether four values are those of hexadecimal digits.
@@ -101,7 +121,7 @@ fn hexadecimal_front(text: &[u8]) -> Option<(u64, &[u8])>
     ensures { IfSome result (λ found. IsEndedFront 16 text.now found.1.now found.0) }
 {
     let mut value = 0u64;
-    let mut rest = skip_zeros(text);
+    let mut rest = behind_zeros(text);
     'fours: while value < 1 << 48 {
         let Some((four, after)) = four_digits(rest) else {
             break;
@@ -149,6 +169,28 @@ fn decimal_front(text: &[u8]) -> Option<(u64, &[u8])>
     Some((value, rest))
 }
 
+/// The number of one decimal digit, where a field ends behind it, and what follows it.
+fn one_digit(text: &[u8]) -> Option<(u64, &[u8])>
+    ensures { IfSome result (λ found. IsEndedFront 10 text.now found.1.now found.0) }
+{
+    let (byte, rest) = text.split_first()?;
+    let digit = decimal_value(*byte);
+    if digit > 9 || !is_end(rest) {
+        return None;
+    }
+    Some((u64::from(digit), rest))
+}
+
+/// The decimal digits that a text begins with, as a number, and what follows them: most entries have one.
+fn few_digits(text: &[u8]) -> Option<(u64, &[u8])>
+    ensures { IfSome result (λ found. IsEndedFront 10 text.now found.1.now found.0) }
+{
+    if let Some(found) = one_digit(text) {
+        return Some(found);
+    }
+    decimal_front(text)
+}
+
 /// What follows the beginning of a hexadecimal number.
 fn behind_prefix(text: &[u8]) -> Option<&[u8]>
     ensures { IfSome result (λ digits. text.now ≡ 48 ∷ 120 ∷ digits.now) }
@@ -159,10 +201,10 @@ fn behind_prefix(text: &[u8]) -> Option<&[u8]>
     }
 }
 
-/// The number that comes next, and what follows it. It is made part of each line that asks for it (`inline(always)`), so that
-/// its answer need not go through memory.
-#[inline(always)]
-pub fn next_number(line: &[u8]) -> Option<(u64, &[u8])>
+/// The number that comes next, and what follows it, whatever blanks stand before it. It stands apart, since most numbers have one blank
+/// before them, and one decimal digit or a prefix.
+#[inline(never)]
+fn any_number(line: &[u8]) -> Option<(u64, &[u8])>
     ensures { IfSome result (λ found. IsNext line.now found.1.now kind.Number (value.Number found.0)) }
 {
     let text = skip_blanks(line);
@@ -170,6 +212,22 @@ pub fn next_number(line: &[u8]) -> Option<(u64, &[u8])>
         Some(digits) => hexadecimal_front(digits),
         None => decimal_front(text),
     }
+}
+
+/// The number that comes next, and what follows it. It is made part of each line that asks for it (`inline(always)`), so that
+/// its answer need not go through memory.
+#[inline(always)]
+pub fn next_number(line: &[u8]) -> Option<(u64, &[u8])>
+    ensures { IfSome result (λ found. IsNext line.now found.1.now kind.Number (value.Number found.0)) }
+{
+    let text = behind_blank(line);
+    if let Some(digits) = behind_prefix(text) {
+        return hexadecimal_front(digits);
+    }
+    if let Some(found) = one_digit(text) {
+        return Some(found);
+    }
+    any_number(line)
 }
 
 /// What follows the sign of an entry.
@@ -188,7 +246,7 @@ pub fn next_entry(line: &[u8]) -> Option<(u64, &[u8])>
 {
     let text = skip_blanks(line);
     match behind_sign(text) {
-        Some(digits) => decimal_front(digits),
+        Some(digits) => few_digits(digits),
         None => None,
     }
 }
