@@ -1,13 +1,13 @@
 -- Lines that are read at once say what they say field by field.
 use Rattle.std.proofs.Common.{◌≡◌, ℕ, suc, ◌≤◌, List, [], ◌∷◌, ◌++◌, length, Option, None, Some, Ok, false, true, eqb, refl, sym, ap, ◌∙◌, append_assoc, inl, inr, subst}
-use Rattle.std.specs.Prelude.{◌&&◌, codes, is_some, nat_le, nat_lt}
+use Rattle.std.specs.Prelude.{◌&&◌, Err, IfSome, OnOk, Result, codes, is_some, nat_le, nat_lt}
 use Rattle.std.proofs.lemmas.Bool.{and_parts, cases_Bool, eq-eqb, eqb-true, le-leb}
 use Rattle.std.proofs.lemmas.List.{append-nil}
 use Rattle.process_model.specs.Bytes.{is_width}
 use Rattle.process_model.specs.Copies.{longest_copy}
 use Rattle.process_model.specs.Fields.{Row, command_table, four_numbers, kinds_for, one_number, row, row_among, three_numbers, two_numbers, values_from, values_of}
 use Rattle.process_model.specs.Lines.{fields_of}
-use Rattle.process_model.specs.Script.{Draft, comes_first, in_order, is_ascii, is_comment, item_line, item_of, line_of, longest_line, most_commands}
+use Rattle.process_model.specs.Script.{Draft, comes_first, in_order, is_ascii, is_comment, item_line, item_of, line_of, longest_line, most_commands, with_line}
 use Rattle.process_model.specs.declared.script.Command.{Command}
 use Rattle.process_model.specs.declared.script.Command.TheVariants as command
 use Rattle.process_model.specs.declared.script.FieldKind.{FieldKind}
@@ -19,6 +19,7 @@ use Rattle.process_model.specs.declared.script.Keyword.{Keyword}
 use Rattle.process_model.specs.declared.script.Keyword.TheVariants as word
 use Rattle.process_model.specs.declared.script.Tail.TheVariants as tail
 use Rattle.process_model.specs.declared.step.Step.TheVariants as step
+use Rattle.script_reader.specs.Adding.{Adds}
 use Rattle.script_reader.specs.Quick.{EndsWith, IsNext, Reads, SaysCommand}
 
 -- there are as many fields as values
@@ -105,3 +106,11 @@ unfolding line_of
 line_says s line text fields c cut says takes short ascii =
     let parts = and_parts (is_some s.config) (nat_lt (length s.commands) most_commands) takes in
     rw (short, ascii, cut, no_comment text says.row says.found, item_says s text fields c says parts.0 parts.1) refl
+
+-- a line whose word was added with the fields after it was added
+pub line_added : {E : Type 0} (s t : Draft) (line text fields : List ℕ) (done : Option (Result (Unit {0}) E)) → fields_of line ≡ text ∷ fields_of fields
+    → (is_some s.config && nat_lt (length s.commands) most_commands) ≡ true → nat_le (length line) longest_line ≡ true → is_ascii line ≡ true
+    → IfSome done (λ d. OnOk d (Adds s t text fields)) → IfSome done (λ d. OnOk d ((n : ℕ) → with_line s n (line_of s line) ≡ Ok (t, n)))
+line_added s t line text fields None cut takes short ascii adds = adds
+line_added s t line text fields (Some (Err e)) cut takes short ascii adds = adds
+line_added s t line text fields (Some (Ok u)) cut takes short ascii adds = λ n. rw (line_says s line text fields adds.command cut adds.says takes short ascii, adds.added) refl

@@ -1,4 +1,5 @@
 pub mod Alone
+pub mod Adding
 pub mod Digits
 pub mod NumberFronts
 pub mod Gives

@@ -111,7 +111,9 @@ impl Draft {
         self.config.is_some() && self.commands.len() < MOST_COMMANDS
     }
 
-    /// Puts a line behind `boot` after those before it. Where memory is refused, nothing changes.
+    /// Puts a line behind `boot` after those before it. Where memory is refused, nothing changes. It is made part of its caller
+    /// (`inline(always)`), who may know what the line is.
+    #[inline(always)]
     pub fn add_command(&mut self, command: Command) -> Result<(), AllocError>
         ensures added { OnOk result (self.new ≡ words.with_item self.old (item.Command command)) }
         ensures kept { OnErr result (self.new ≡ self.old) }

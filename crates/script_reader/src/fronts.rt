@@ -116,7 +116,9 @@ fn four_digits(text: &[u8]) -> Option<(u64, &[u8])>
     Some((value, rest))
 }
 
-/// The hexadecimal digits that a text begins with, as a number below 2^64, and what follows them.
+/// The hexadecimal digits that a text begins with, as a number below 2^64, and what follows them. It is made part of each line
+/// that asks for it (`inline(always)`), so that its answer need not go through memory.
+#[inline(always)]
 fn hexadecimal_front(text: &[u8]) -> Option<(u64, &[u8])>
     ensures { IfSome result (λ found. IsEndedFront 16 text.now found.1.now found.0) }
 {
@@ -182,7 +184,7 @@ fn one_digit(text: &[u8]) -> Option<(u64, &[u8])>
 }
 
 /// The decimal digits that a text begins with, as a number, and what follows them: most entries have one.
-fn few_digits(text: &[u8]) -> Option<(u64, &[u8])>
+fn decimal_digits(text: &[u8]) -> Option<(u64, &[u8])>
     ensures { IfSome result (λ found. IsEndedFront 10 text.now found.1.now found.0) }
 {
     if let Some(found) = one_digit(text) {
@@ -201,8 +203,8 @@ fn behind_prefix(text: &[u8]) -> Option<&[u8]>
     }
 }
 
-/// The number that comes next, and what follows it, whatever blanks stand before it. It stands apart, since most numbers have one blank
-/// before them, and one decimal digit or a prefix.
+/// The number that comes next, and what follows it, whatever blanks stand before it and however it is spelt. It stands apart, since
+/// most numbers are spelt as `next_number` and `next_address` expect them.
 #[inline(never)]
 fn any_number(line: &[u8]) -> Option<(u64, &[u8])>
     ensures { IfSome result (λ found. IsNext line.now found.1.now kind.Number (value.Number found.0)) }
@@ -214,20 +216,27 @@ fn any_number(line: &[u8]) -> Option<(u64, &[u8])>
     }
 }
 
-/// The number that comes next, and what follows it. It is made part of each line that asks for it (`inline(always)`), so that
-/// its answer need not go through memory.
+/// The number that comes next, and what follows it. One decimal digit behind one blank, as most harts, slots and widths have, is
+/// read at once. It is made part of each line that asks for it (`inline(always)`), so that its answer need not go through memory.
 #[inline(always)]
 pub fn next_number(line: &[u8]) -> Option<(u64, &[u8])>
     ensures { IfSome result (λ found. IsNext line.now found.1.now kind.Number (value.Number found.0)) }
 {
-    let text = behind_blank(line);
-    if let Some(digits) = behind_prefix(text) {
-        return hexadecimal_front(digits);
-    }
-    if let Some(found) = one_digit(text) {
+    if let Some(found) = one_digit(behind_blank(line)) {
         return Some(found);
     }
     any_number(line)
+}
+
+/// The same of an address, or a value: hexadecimal digits behind one blank are read at once.
+#[inline(always)]
+pub fn next_address(line: &[u8]) -> Option<(u64, &[u8])>
+    ensures { IfSome result (λ found. IsNext line.now found.1.now kind.Number (value.Number found.0)) }
+{
+    if let Some(digits) = behind_prefix(behind_blank(line)) {
+        return hexadecimal_front(digits);
+    }
+    next_number(line)
 }
 
 /// What follows the sign of an entry.
@@ -246,7 +255,7 @@ pub fn next_entry(line: &[u8]) -> Option<(u64, &[u8])>
 {
     let text = skip_blanks(line);
     match behind_sign(text) {
-        Some(digits) => few_digits(digits),
+        Some(digits) => decimal_digits(digits),
         None => None,
     }
 }

@@ -2,6 +2,7 @@
 #![tactic(auto)]
 
 mod accesses;
+mod adding;
 mod calls;
 mod commands;
 mod declared;

@@ -9,7 +9,7 @@ ghost use Rattle.process_model.specs.Lines.{fields_of};
 ghost use Rattle.script_reader.specs.Quick.{EndsWith, Reads, SaysCommand};
 ghost use Rattle.script_reader.specs.QuickWords.{letters};
 
-use crate::fronts::{next_entry, next_number};
+use crate::fronts::{next_address, next_entry, next_number};
 use crate::lines::first_field;
 use process_model::{Command, LONGEST_COPY, Step, is_width};
 
@@ -57,11 +57,23 @@ fn two(line: &[u8]) -> Option<(usize, u64)>
     Some((first as usize, second as u64))
 }
 
+/// A hart and an address, and no other field.
+fn hart_and_address(line: &[u8]) -> Option<(usize, u64)>
+    ensures { IfSome result (λ n. Reads line.now two_numbers (value.Number n.0 ∷ value.Number n.1 ∷ [])) }
+{
+    let (hart, line) = next_number(line)?;
+    let (address, line) = next_address(line)?;
+    if !is_over(line) {
+        return None;
+    }
+    Some((hart as usize, address))
+}
+
 fn fetch(line: &[u8]) -> Option<Command>
     ensures { IfSome result (λ c. SaysCommand (codes "fetch") line.now c) }
 {
     let (hart, line) = next_number(line)?;
-    let (address, line) = next_number(line)?;
+    let (address, line) = next_address(line)?;
     let via = last_entry(line)?;
     Some(Command::One(Step::Fetch {
         hart: hart as usize,
@@ -70,11 +82,13 @@ fn fetch(line: &[u8]) -> Option<Command>
     }))
 }
 
-fn load(line: &[u8]) -> Option<Command>
+/// It is made part of its caller (`inline(always)`), so that the command need not go through memory.
+#[inline(always)]
+pub fn load(line: &[u8]) -> Option<Command>
     ensures { IfSome result (λ c. SaysCommand (codes "load") line.now c) }
 {
     let (hart, line) = next_number(line)?;
-    let (address, line) = next_number(line)?;
+    let (address, line) = next_address(line)?;
     let (width, line) = next_number(line)?;
     let via = last_entry(line)?;
     if !is_width(width) {
@@ -88,13 +102,15 @@ fn load(line: &[u8]) -> Option<Command>
     }))
 }
 
-fn store(line: &[u8]) -> Option<Command>
+/// The same of a store.
+#[inline(always)]
+pub fn store(line: &[u8]) -> Option<Command>
     ensures { IfSome result (λ c. SaysCommand (codes "store") line.now c) }
 {
     let (hart, line) = next_number(line)?;
-    let (address, line) = next_number(line)?;
+    let (address, line) = next_address(line)?;
     let (width, line) = next_number(line)?;
-    let (value, line) = next_number(line)?;
+    let (value, line) = next_address(line)?;
     let via = last_entry(line)?;
     if !is_width(width) {
         return None;
@@ -125,7 +141,7 @@ fn next(line: &[u8]) -> Option<Command>
 fn fill(line: &[u8]) -> Option<Command>
     ensures { IfSome result (λ c. SaysCommand (codes "fill") line.now c) }
 {
-    let (hart, address) = two(line)?;
+    let (hart, address) = hart_and_address(line)?;
     Some(Command::One(Step::Fill { hart, address }))
 }
 
@@ -141,7 +157,7 @@ fn copy_in(line: &[u8]) -> Option<Command>
     ensures { IfSome result (λ c. SaysCommand (codes "copyin") line.now c) }
 {
     let (hart, line) = next_number(line)?;
-    let (address, line) = next_number(line)?;
+    let (address, line) = next_address(line)?;
     let count = one(line)?;
     if count > LONGEST_COPY {
         return None;

@@ -1,26 +1,23 @@
 // What one line says, or its fault.
 
-ghost use Rattle.std.specs.Prelude.{◌≡◌, IfSome, Ok, Some, true};
+ghost use Rattle.std.specs.Prelude.{◌≡◌};
 ghost use Rattle.std.specs.Option.{option_map};
 ghost use Rattle.process_model.specs.Lines.{fields_of};
-ghost use Rattle.process_model.specs.declared.script.Item.TheVariants as item;
 ghost use Rattle.process_model.specs.Script as words;
 ghost use Rattle.script_reader.specs.Gives.{Gives, Answers};
 ghost use Rattle.script_reader.specs.WordOf.{as_fields, word_in, word_of};
 
 use crate::draft::Draft;
 use crate::fault::{LineFault, ScriptError};
-use crate::fronts::is_end;
 use crate::items::make_item;
 use crate::lines::first_field;
-use crate::quick::{quick_command, word_front};
 use crate::table::Row;
 use crate::values::read_values;
-use process_model::{Cause, Command, Item};
+use process_model::{Cause, Item};
 use std::alloc::Global;
 
 /// How many bytes a line may have, without its end: an image of 1 MiB in digits, and its word.
-const LONGEST_LINE: usize = 2_097_664;
+pub const LONGEST_LINE: usize = 2_097_664;
 
 pub fn test(holds: bool, cause: Cause) -> Result<(), LineFault>
     ensures { Gives (λ u. tt) result (words.test holds cause) }
@@ -88,39 +85,15 @@ fn read_line(alloc: Global, draft: &Draft, line: &[u8]) -> Result<Option<Item>, 
     Ok(Some(item))
 }
 
-/// The command of a line of ASCII that can be read at once, where one more may stand.
-fn quick_line(draft: &Draft, line: &[u8]) -> Option<Command>
-    requires { words.is_ascii line.now ≡ true }
-    ensures { IfSome result (λ c. words.line_of draft.now line.now ≡ Ok (Some (item.Command c))) }
-{
-    let (word, fields) = word_front(line)?;
-    if !is_end(fields) {
-        return None;
-    }
-    let command = quick_command(word, fields)?;
-    if !draft.takes_commands() || line.len() > LONGEST_LINE {
-        return None;
-    }
-    Some(command)
-}
-
-/// Adds what a line says to the lines before it. Of a line that is known to be ASCII it is not asked again.
+/// Adds what a line says to the lines before it.
 pub fn add_line(
     alloc: Global,
     draft: &mut Draft,
     number: u64,
     line: &[u8],
-    ascii: bool,
 ) -> Result<(), ScriptError>
-    requires { ascii ≡ true → words.is_ascii line.now ≡ true }
     ensures { Answers (λ u. (draft.new, number)) result (words.with_line draft.old number (words.line_of draft.old line.now)) }
 {
-    if ascii && let Some(command) = quick_line(draft, line) {
-        return match draft.add_command(command) {
-            Ok(()) => Ok(()),
-            Err(_) => Err(ScriptError::Memory),
-        };
-    }
     match read_line(alloc, draft, line) {
         Ok(None) => Ok(()),
         Ok(Some(item)) => match draft.add(item) {

@@ -5,6 +5,7 @@ ghost use Rattle.process_model.specs.Lines.{raw_lines};
 ghost use Rattle.process_model.specs.Script as words;
 ghost use Rattle.script_reader.specs.Reading.{IsKept, read_said};
 
+use crate::adding::add_quick;
 use crate::draft::Draft;
 use crate::fault::ScriptError;
 use crate::lines::{first_line, trim_return};
@@ -35,7 +36,7 @@ impl Said {
         }
     }
 
-    /// Reads one line. That it is ASCII may be known.
+    /// Reads one line. That it is ASCII may be known, and then it is read at once if it can be.
     fn add_one(&mut self, line: &[u8], ascii: bool) -> Result<(), AllocError>
         requires none { self.old.fault ≡ None }
         requires few { self.old.count + 1 < 2 ^ 64 }
@@ -44,7 +45,10 @@ impl Said {
         ensures count { self.new.count ≡ self.old.count + 1 }
     {
         self.count += 1;
-        match add_line(self.alloc, &mut self.draft, self.count, line, ascii) {
+        if ascii && let Some(done) = add_quick(&mut self.draft, line) {
+            return done;
+        }
+        match add_line(self.alloc, &mut self.draft, self.count, line) {
             Ok(()) => Ok(()),
             Err(error) => self.stop(error),
         }

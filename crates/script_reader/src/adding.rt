@@ -1,0 +1,69 @@
+// Lines that are read at once, added to those before them.
+
+ghost use Rattle.std.specs.Prelude.{◌≡◌, ℕ, IfSome, MatchOption, Ok, OnOk, codes, true};
+ghost use Rattle.process_model.specs.Script as words;
+ghost use Rattle.script_reader.specs.Adding.{Adds};
+ghost use Rattle.script_reader.specs.QuickWords.{letters};
+
+use crate::draft::Draft;
+use crate::fronts::is_end;
+use crate::quick::{QuickWord, load, quick_command, store, word_front};
+use crate::reading::LONGEST_LINE;
+use std::alloc::AllocError;
+
+/// Adds a load. Where its fields are of another form, nothing changes.
+fn add_load(draft: &mut Draft, fields: &[u8]) -> Option<Result<(), AllocError>>
+    ensures added { IfSome result (λ done. OnOk done (Adds draft.old draft.new (codes "load") fields.now)) }
+    ensures other { MatchOption result (draft.new ≡ draft.old) (λ _. Unit {0}) }
+{
+    let command = load(fields)?;
+    Some(draft.add_command(command))
+}
+
+/// Adds a store. Where its fields are of another form, nothing changes.
+fn add_store(draft: &mut Draft, fields: &[u8]) -> Option<Result<(), AllocError>>
+    ensures added { IfSome result (λ done. OnOk done (Adds draft.old draft.new (codes "store") fields.now)) }
+    ensures other { MatchOption result (draft.new ≡ draft.old) (λ _. Unit {0}) }
+{
+    let command = store(fields)?;
+    Some(draft.add_command(command))
+}
+
+/// Adds the command of a word. Where its fields are of another form, nothing changes.
+#[inline(never)]
+fn add_other(draft: &mut Draft, word: QuickWord, fields: &[u8]) -> Option<Result<(), AllocError>>
+    ensures added { IfSome result (λ done. OnOk done (Adds draft.old draft.new (letters word) fields.now)) }
+    ensures other { MatchOption result (draft.new ≡ draft.old) (λ _. Unit {0}) }
+{
+    let command = quick_command(word, fields)?;
+    Some(draft.add_command(command))
+}
+
+/// The same of loads and stores apart, of which most scripts have most: what the command of one is need not be asked where it is
+/// kept.
+#[inline(always)]
+fn add_word(draft: &mut Draft, word: QuickWord, fields: &[u8]) -> Option<Result<(), AllocError>>
+    ensures added { IfSome result (λ done. OnOk done (Adds draft.old draft.new (letters word) fields.now)) }
+    ensures other { MatchOption result (draft.new ≡ draft.old) (λ _. Unit {0}) }
+{
+    match word {
+        QuickWord::Load => add_load(draft, fields),
+        QuickWord::Store => add_store(draft, fields),
+        _ => add_other(draft, word, fields),
+    }
+}
+
+/// Adds the command of a line of ASCII that can be read at once, where one more may stand. Of another line nothing is told,
+/// and nothing changes.
+#[inline(always)]
+pub fn add_quick(draft: &mut Draft, line: &[u8]) -> Option<Result<(), AllocError>>
+    requires { words.is_ascii line.now ≡ true }
+    ensures added { IfSome result (λ done. OnOk done ((n : ℕ) → words.with_line draft.old n (words.line_of draft.old line.now) ≡ Ok (draft.new, n))) }
+    ensures other { MatchOption result (draft.new ≡ draft.old) (λ _. Unit {0}) }
+{
+    let (word, fields) = word_front(line)?;
+    if !is_end(fields) || !draft.takes_commands() || line.len() > LONGEST_LINE {
+        return None;
+    }
+    add_word(draft, word, fields)
+}
