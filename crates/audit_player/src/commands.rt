@@ -135,7 +135,23 @@ fn put_whole(machine: &mut Machine, step: Step<'_>, text: &mut Vec<u8>)
     put_reply(text, &machine.step(step));
 }
 
-/// Makes a step, and puts its reply.
+/// Makes a step that is no copy from a process, and puts its reply. It stands apart, so that a load or a store makes no room
+/// for what other steps need.
+#[inline(never)]
+fn put_other(machine: &mut Machine, step: Step<'_>, text: &mut Vec<u8>)
+    requires brief { is_brief step ≡ true }
+    requires world { (w : World) × IsIn machine.old w }
+    requires room { vec_len text.old + LONGEST_TEXT ≤ vec_capacity text.old }
+    ensures told { (w : World) → IsIn machine.old w → Tells machine.new text.old.items text.new.items (words.told (model.step w step.entry)) }
+    ensures len { vec_len text.new ≤ vec_len text.old + LONGEST_TEXT }
+    ensures capacity { vec_capacity text.old ≤ vec_capacity text.new }
+{
+    put_brief(text, machine.step_briefly(step));
+}
+
+/// Makes a step, and puts its reply. Loads and stores, of which most scripts have most, are named, so that no other step is
+/// made part of this.
+#[inline(always)]
 fn put_step(machine: &mut Machine, step: Step<'_>, text: &mut Vec<u8>)
     requires world { (w : World) × IsIn machine.old w }
     requires room { vec_len text.old + LONGEST_TEXT ≤ vec_capacity text.old }
@@ -143,10 +159,39 @@ fn put_step(machine: &mut Machine, step: Step<'_>, text: &mut Vec<u8>)
     ensures len { vec_len text.new ≤ vec_len text.old + LONGEST_TEXT }
     ensures capacity { vec_capacity text.old ≤ vec_capacity text.new }
 {
-    if let Step::CopyIn { .. } = step {
-        put_whole(machine, step, text);
-    } else {
-        put_brief(text, machine.step_briefly(step));
+    match step {
+        Step::Load {
+            hart,
+            address,
+            width,
+            via,
+        } => {
+            let reply = machine.step_briefly(Step::Load {
+                hart,
+                address,
+                width,
+                via,
+            });
+            put_brief(text, reply);
+        }
+        Step::Store {
+            hart,
+            address,
+            width,
+            value,
+            via,
+        } => {
+            let reply = machine.step_briefly(Step::Store {
+                hart,
+                address,
+                width,
+                value,
+                via,
+            });
+            put_brief(text, reply);
+        }
+        Step::CopyIn { .. } => put_whole(machine, step, text),
+        _ => put_other(machine, step, text),
     }
 }
 
