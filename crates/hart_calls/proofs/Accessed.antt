@@ -1,19 +1,19 @@
 -- An access that is made at once, or is served first, is what the model tells of it.
 use Rattle.std.proofs.Common.{◌≡◌, ◌⊎◌, ap₂, ℕ, ◌+◌, ◌≤◌, ◌%◌, ◌==◌, Bool, true, false, ◌&&◌, Option, None, Some, Result, Ok, Err, List, [], ◌++◌, refl, ap, sym, subst, ◌∙◌, arith, inl, inr}
-use Rattle.std.specs.Prelude.{◌↔◌, if◌then◌else◌}
+use Rattle.std.specs.Prelude.{◌↔◌, if◌then◌else◌, is_some, option_to_list}
 use Rattle.std.proofs.lemmas.Bool.{and_parts, eq-eqb}
 use Rattle.std.proofs.lemmas.List.{append-nil}
 use Rattle.address_space.specs.Accesses.{IsGranted}
 use Rattle.address_space.specs.Agreement.{Body, IsSpace}
 use Rattle.address_space.specs.Steps.{RunsDry}
 use Rattle.fault_rules.specs.Allowed.{denied_otherwise}
-use Rattle.fault_rules.specs.Resides.{moves_for}
+use Rattle.fault_rules.specs.Resides.{is_counted, is_shared_by, moves_for}
 use Rattle.fault_rules.specs.Serves.{IsEnd, served_moves}
 use Rattle.fault_rules.specs.declared.service.Served.TheVariants as served
 use Rattle.frame_store.specs.View.{View}
 use Rattle.hart_calls.specs.Asks.{IsAccess}
 use Rattle.hart_calls.specs.Comes.{address_of, at_stop, by_reply, Comes, IsPlain}
-use Rattle.hart_calls.specs.Dry.{AccessDry, TellsDry}
+use Rattle.hart_calls.specs.Lacks.{AccessDry, TellsLack}
 use Rattle.hart_calls.specs.Tells.{access_if, access_reads, accessed, reads_of, refuses, rule_for, served_access, service, Told, told, writes_of}
 use Rattle.hart_calls.proofs.Alike.{made_alike}
 use Rattle.hart_calls.specs.Wants.{begun, frames_at, MayLack, MayTake, nothing, round, Want}
@@ -49,8 +49,8 @@ record OfAccess (c : Call) (a : Asked) : Type 0 where
   writes : (files : List File) (want : Want) (p : Process) → writes_of files want p c ≡ []
   address : address_of c ≡ a.address
   lacks : (files : List File) (p : Process) → MayTake files p a.access (page_of a.address) → MayLack files p c (frames_at (page_of a.address))
-  dry : (files : List File) (p : Process) (v w : View) → AccessDry v w p a.access (page_of a.address) → TellsDry v w files p c (frames_at (page_of a.address))
-  calm : (files : List File) (p : Process) (v w : View) → TellsDry v w files p c nothing
+  dry : (files : List File) (p : Process) (v w : View) → AccessDry v w p a.access (page_of a.address) → TellsLack v w files p c (frames_at (page_of a.address))
+  calm : (files : List File) (p : Process) (v w : View) → TellsLack v w files p c nothing
 
 of_access : (c : Call) (a : Asked) → IsAccess c a → OfAccess c a
 of_access (call.Fetch address) a is = subst (λ (z : Asked). OfAccess (call.Fetch address) z) (sym is) record {
@@ -241,7 +241,7 @@ module _ (files : List File) (p : Process) (a : Asked) where
         reply = sym (ap (λ (z : Told). z.reply) tells);
         space = (space.0, subst (λ (z : Process). IsSpace y space.0 z) (sym (ap (λ (z : Told). z.process) tells)) space.1);
         moves = subst Became (sym none) moves;
-        dry = of.calm files p x.view y.view;
+        lack = of.calm files p x.view y.view;
       }
 
   module _ (c : Call) (is : IsAccess c a) (wide : is_width a.width ≡ true) (x y : Body) (Became : List PageMove → Type 0) where
@@ -269,7 +269,7 @@ module _ (files : List File) (p : Process) (a : Asked) where
             reply = told_r ∙ sym (ap (λ (z : Told). z.reply) tells);
             space = (space.0, subst (λ (z : Process). IsSpace y space.0 z) (sym (ap (λ (z : Told). z.process) tells)) space.1);
             moves = subst Became (sym (reads_by nothing)) moves;
-            dry = of.calm files p x.view y.view;
+            lack = of.calm files p x.view y.view;
           },
         )
 
@@ -305,27 +305,27 @@ module _ (files : List File) (p : Process) (a : Asked) where
           reply = sym (ap (λ (z : Told). z.reply) tells);
           space = (space.0, subst (λ (z : Process). IsSpace y space.0 z) (sym (ap (λ (z : Told). z.process) tells)) space.1);
           moves = subst Became (sym (reads_by nothing)) moves;
-          dry = of.calm files p x.view y.view;
+          lack = of.calm files p x.view y.view;
         }
 
     -- it ends the process for want of frames
-    ends_dry : rule_for p a ≡ None → is_resident p a.access page ≡ false → (shared : Bool) → (counts : List ℕ) → RunsDry x.view y.view (resident_need shared p a.access page) counts → ((u : Tables) × IsSpace y u p) → Became (served_moves files p page (rule_for p a))
+    ends_dry : rule_for p a ≡ None → is_resident p a.access page ≡ false → (count : Option ℕ) → is_some count ≡ is_counted a.access (get p.settled page) → RunsDry x.view y.view (resident_need (is_shared_by count) p a.access page) (option_to_list count) → ((u : Tables) × IsSpace y u p) → Became (served_moves files p page (rule_for p a))
         → Comes x y files Became p c (at_stop rule.NoFrame (address_of c)) (reply.Ended rule.NoFrame)
-    ends_dry none not shared counts dry space moves =
+    ends_dry none not count was_counted dry space moves =
         let at : at_stop rule.NoFrame (address_of c) ≡ want = ap (λ (z : ℕ). frames_at (page_of z)) of.address in
         let tells = tells_by want (Err rule.NoFrame) (runs_dry none not) in
         let short = dry.short in
-        let at_most = most shared in
+        let at_most = most (is_shared_by count) in
         let claims = dry.claims in
         subst (λ (w : Want). Comes x y files Became p c w (reply.Ended rule.NoFrame)) (sym at) record {
           possible = of.lacks files p (omega (arith, short, at_most));
           reply = sym (ap (λ (z : Told). z.reply) tells);
           space = (space.0, subst (λ (z : Process). IsSpace y space.0 z) (sym (ap (λ (z : Told). z.process) tells)) space.1);
           moves = subst Became (sym (reads_by want)) moves;
-          dry = of.dry files p x.view y.view (shared, record { zeros = dry.zeros; short = dry.short; claims = omega (arith, claims) });
+          lack = of.dry files p x.view y.view (count, was_counted, record { zeros = dry.zeros; short = dry.short; claims = omega (arith, claims); looks = dry.looks });
         }
 
     -- it ends the process for want of frames, by that rule
-    pub ends_dry_by : (r : Rule) → r ≡ rule.NoFrame → rule_for p a ≡ None → is_resident p a.access page ≡ false → (shared : Bool) → (counts : List ℕ) → RunsDry x.view y.view (resident_need shared p a.access page) counts → ((u : Tables) × IsSpace y u p) → Became (served_moves files p page (rule_for p a))
+    pub ends_dry_by : (r : Rule) → r ≡ rule.NoFrame → rule_for p a ≡ None → is_resident p a.access page ≡ false → (count : Option ℕ) → is_some count ≡ is_counted a.access (get p.settled page) → RunsDry x.view y.view (resident_need (is_shared_by count) p a.access page) (option_to_list count) → ((u : Tables) × IsSpace y u p) → Became (served_moves files p page (rule_for p a))
         → Comes x y files Became p c (at_stop r (address_of c)) (reply.Ended r)
-    ends_dry_by r by none not shared counts dry space moves = subst (λ (k : Rule). Comes x y files Became p c (at_stop k (address_of c)) (reply.Ended k)) (sym by) (ends_dry none not shared counts dry space moves)
+    ends_dry_by r by none not count was_counted dry space moves = subst (λ (k : Rule). Comes x y files Became p c (at_stop k (address_of c)) (reply.Ended k)) (sym by) (ends_dry none not count was_counted dry space moves)

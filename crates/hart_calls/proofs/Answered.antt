@@ -10,7 +10,7 @@ use Rattle.file_cabinet.specs.declared.promise.PromiseError.{PromiseError}
 use Rattle.file_cabinet.specs.declared.promise.PromiseError.TheVariants as error
 use Rattle.hart_calls.specs.Answers.{done_or_refused, mapped_or_refused, size_or_refused}
 use Rattle.hart_calls.specs.Comes.{by_refusal, Comes, HasCome}
-use Rattle.hart_calls.specs.Dry.{TellsDry}
+use Rattle.hart_calls.specs.Lacks.{TellsLack}
 use Rattle.hart_calls.specs.Tells.{if_done, mapped_as, replaced, resized, Told, unmapped_as}
 use Rattle.hart_calls.specs.Wants.{IsUnpromised, nothing, refused, Want}
 use Rattle.lazy_growth.specs.Resized.{Resizes}
@@ -84,7 +84,7 @@ module _ (x y : Body) (files : List File) (Became : List PageMove → Type 0) (C
         reply = ap (λ (k : ℕ). reply.OldSize k) (size_answered n (sbrk_result p delta) ok.process ok.is answer) ∙ sym (ap (λ (z : Result Process Refusal). (resized files p z).reply) ok.is);
         space = (ok.tables, subst (λ (q : Process). IsSpace y ok.tables q) (sym (ap (λ (z : Result Process Refusal). (resized files p z).process) ok.is)) ok.agrees);
         moves = moves;
-        dry = tt;
+        lack = tt;
       },
     )
     came_sized (Err e) answer ok err moves =
@@ -95,7 +95,7 @@ module _ (x y : Body) (files : List File) (Became : List PageMove → Type 0) (C
             reply = sym (ap (λ (z : Result Process Refusal). (resized files p z).reply) is);
             space = (t, subst (λ (q : Process). IsSpace y t q) (sym (ap (λ (z : Result Process Refusal). (resized files p z).process) is)) err);
             moves = moves;
-            dry = tt;
+            lack = tt;
           },
         )
 
@@ -132,7 +132,7 @@ module _ (x y : Body) (files : List File) (Became : List PageMove → Type 0) (C
             reply = sym (ap (λ (z : Result Mapped Refusal). (mapped_as files p z).reply) at);
             space = (t, subst (λ (q : Process). IsSpace y t q) (sym (ap (λ (z : Result Mapped Refusal). (mapped_as files p z).process) at)) there);
             moves = moves;
-            dry = tt;
+            lack = tt;
           },
         )
         go (Err e) at there = (
@@ -142,7 +142,7 @@ module _ (x y : Body) (files : List File) (Became : List PageMove → Type 0) (C
             reply = sym (ap (λ (z : Result Mapped Refusal). (mapped_as files p z).reply) at);
             space = (t, subst (λ (q : Process). IsSpace y t q) (sym (ap (λ (z : Result Mapped Refusal). (mapped_as files p z).process) at)) there);
             moves = moves;
-            dry = tt;
+            lack = tt;
           },
         )
 
@@ -179,7 +179,7 @@ module _ (x y : Body) (files : List File) (Became : List PageMove → Type 0) (C
         reply = sym (ap (λ (z : Result Unmapped Refusal). (as_told nothing z).reply) un.is);
         space = (un.tables, subst (λ (q : Process). IsSpace y un.tables q) (sym (ap (λ (z : Result Unmapped Refusal). (as_told nothing z).process) un.is)) un.agrees);
         moves = subst Became (sym (ap (λ (z : Result Unmapped Refusal). if_done (as_told nothing z).reply (unmap_moves p address len)) un.is)) moves;
-        dry = tt;
+        lack = tt;
       },
     )
 
@@ -191,7 +191,7 @@ module _ (x y : Body) (files : List File) (Became : List PageMove → Type 0) (C
         reply = sym (ap (λ (z : Result Unmapped Refusal). (as_told nothing z).reply) is);
         space = (t, subst (λ (q : Process). IsSpace y t q) (sym (ap (λ (z : Result Unmapped Refusal). (as_told nothing z).process) is)) space);
         moves = subst Became (sym (ap (λ (z : Result Unmapped Refusal). if_done (as_told nothing z).reply (unmap_moves p address len)) is)) moves;
-        dry = tt;
+        lack = tt;
       },
     )
     came_not_unmapped e (inr (what, is, why, could, same)) space moves = (
@@ -202,7 +202,7 @@ module _ (x y : Body) (files : List File) (Became : List PageMove → Type 0) (C
             reply = sym (ap (λ (z : Result Unmapped Refusal). (as_told (refused 0 (promises.refusal_of why)) z).reply) is);
             space = (t, subst (λ (q : Process). IsSpace y t q) (sym (ap (λ (z : Result Unmapped Refusal). (as_told (refused 0 (promises.refusal_of why)) z).process) is)) space);
             moves = subst Became (sym (ap (λ (z : Result Unmapped Refusal). if_done (as_told (refused 0 (promises.refusal_of why)) z).reply (unmap_moves p address len)) is)) moves;
-            dry = tt;
+            lack = tt;
           }),
     )
 
@@ -220,7 +220,7 @@ module _ (x y : Body) (files : List File) (Became : List PageMove → Type 0) (C
         reply = sym (ap (λ (z : Result (List LoadSegment) BadImage). (put nothing z).reply) is);
         space = (t, subst (λ (q : Process). IsSpace y t q) (sym (ap (λ (z : Result (List LoadSegment) BadImage). (put nothing z).process) is)) space);
         moves = subst Became (sym (ap (λ (z : Result (List LoadSegment) BadImage). if_done (put nothing z).reply (all_moves p)) is)) moves;
-        dry = tt;
+        lack = tt;
       },
     )
 
@@ -233,20 +233,20 @@ module _ (x y : Body) (files : List File) (Became : List PageMove → Type 0) (C
           reply = sym (ap (λ (z : Result (List LoadSegment) BadImage). (put nothing z).reply) is);
           space = (u, subst (λ (q : Process). IsSpace y u q) (sym (ap (λ (z : Result (List LoadSegment) BadImage). (put nothing z).process) is)) space);
           moves = subst Became (sym (ap (λ (z : Result (List LoadSegment) BadImage). if_done (put nothing z).reply (all_moves p)) is)) moves;
-          dry = tt;
+          lack = tt;
         },
       )
 
       abbrev is_refused : Refusal → Type 0
       is_refused e = Comes x y files Became p (call.Exec image) (refused 0 e) (reply.Refused e)
 
-      not_put : (e : Refusal) → (e ≡ refusal.NoFrame) ⊎ IsUnpromised e → TellsDry x.view y.view files p (call.Exec image) (refused 0 e) → IsSpace y t p → Became [] → is_refused e
+      not_put : (e : Refusal) → (e ≡ refusal.NoFrame) ⊎ IsUnpromised e → TellsLack x.view y.view files p (call.Exec image) (refused 0 e) → IsSpace y t p → Became [] → is_refused e
       not_put e may dry space moves = record {
         possible = may;
         reply = sym (ap (λ (z : Result (List LoadSegment) BadImage). (put (refused 0 e) z).reply) is);
         space = (t, subst (λ (q : Process). IsSpace y t q) (sym (ap (λ (z : Result (List LoadSegment) BadImage). (put (refused 0 e) z).process) is)) space);
         moves = subst Became (sym (ap (λ (z : Result (List LoadSegment) BadImage). if_done (put (refused 0 e) z).reply (all_moves p)) is)) moves;
-        dry = dry;
+        lack = dry;
       }
 
       pub came_not_replaced : (CanRefuseAll : PromiseError → Type 0) (e : Refusal) → IsExecRefusal CanRefuseAll e → (e ≡ refusal.NoFrame → RunsDry x.view y.view (exec_need ls) []) → IsSpace y t p → Became []
@@ -264,7 +264,7 @@ module _ (x y : Body) (files : List File) (Became : List PageMove → Type 0) (C
           let claims = short.claims in (
             tt,
             subst (λ (k : Refusal). Comes x y files Became p (call.Exec image) (by_refusal k) (reply.Refused k)) (sym none)
-                (not_put refusal.NoFrame (inl refl) (ls, is, record { zeros = short.zeros; short = short.short; claims = omega (arith, claims) }) space moves),
+                (not_put refusal.NoFrame (inl refl) (ls, is, record { zeros = short.zeros; short = short.short; claims = omega (arith, claims); looks = short.looks }) space moves),
           )
 
       -- what exec answers, and what it leaves
@@ -278,17 +278,6 @@ module _ (x y : Body) (files : List File) (Became : List PageMove → Type 0) (C
           → IsSpace x t p → HasCome x y files Became CanRefuse p (call.Exec image) (done_or_refused r)
       came_exec Alone (Ok u) built moves whynot dry whole stay space = came_replaced built.0 (built.1 0) (moves t p space)
       came_exec Alone (Err e) built moves whynot dry whole stay space = came_not_replaced (CanRefuse (length (all_moves p))) e (whynot t p space) dry (whole t p space) stay
-
-  -- what munmap answers, and what it leaves
-  pub came_munmap : (address len : ℕ) (after : List File) (r : Result (Unit {0}) Refusal)
-      → IfOk r (λ _. (z : Tables) (q : Process) → IsSpace x z q → Unmaps y z q files after address len)
-      → IfOk r (λ _. (z : Tables) (q : Process) → IsSpace x z q → Became (unmap_moves q address len))
-      → IfErr r (λ e. (z : Tables) (q : Process) → IsSpace x z q → IsUnmapRefusal CanRefuse files q address len e)
-      → IfErr r (λ _. Became [])
-      → IfErr r (λ _. IsSpace y t p)
-      → IsSpace x t p → HasCome x y files Became CanRefuse p (call.Munmap address len) (done_or_refused r)
-  came_munmap address len after (Ok u) un moves whynot stay still space = came_unmapped address len after (un t p space) (moves t p space)
-  came_munmap address len after (Err e) un moves whynot stay still space = came_not_unmapped address len e (whynot t p space) still stay
 
   -- ---- the same, as the calls tell it
 

@@ -1,14 +1,15 @@
 -- A copy, run by run, is what the model tells of it, over any store and any files.
-use Rattle.std.proofs.Common.{◌≡◌, ℕ, ◌+◌, ◌<◌, Bool, true, false, Option, None, Some, Result, Ok, Err, List, [], ◌++◌, refl, ap, sym, subst, ◌∙◌, arith}
+use Rattle.std.proofs.Common.{◌≡◌, ℕ, ◌+◌, ◌<◌, Bool, true, false, Option, None, Some, Result, Ok, Err, List, [], ◌++◌, append_assoc, refl, ap, sym, subst, ◌∙◌, arith}
 use Rattle.std.proofs.lemmas.List.{append-nil}
+use Rattle.std.specs.Prelude.{is_some, option_to_list}
 use Rattle.address_space.specs.Agreement.{Body, IsSpace}
 use Rattle.fault_rules.specs.Allowed.{can_reside, denied_otherwise}
-use Rattle.fault_rules.specs.Resides.{CanReside, is_shared_by}
+use Rattle.fault_rules.specs.Resides.{CanReside, is_counted, is_shared_by}
 use Rattle.fault_rules.specs.Serves.{IsEnd, served_moves}
 use Rattle.fault_rules.specs.declared.service.Served.{Served}
 use Rattle.fault_rules.specs.declared.service.Served.TheVariants as served
 use Rattle.frame_store.specs.View.{Tallies}
-use Rattle.hart_calls.specs.Dry.{WasDry}
+use Rattle.hart_calls.specs.Lacks.{WasDry}
 use Rattle.hart_calls.specs.Wants.{is_dry_at, round, Want}
 use Rattle.hart_calls.proofs.Alike.{made_alike}
 use Rattle.hart_calls.proofs.Filing.{served_reads}
@@ -60,18 +61,24 @@ module _ {Seat Frames Cabinet : Type 0} (l : Words Seat Frames Cabinet)
   abbrev tallies : Place Seat Frames Cabinet → Tallies
   tallies a = (l.view a.space.seat).tallies
 
-  -- the copy came so far: these pages were read, and the needs that were met are so many frames
-  pub record Under (a : Place Seat Frames Cabinet) (g : Progress) (ms : List PageMove) (met : ℕ) : Type 0 where
+  -- the copy came so far: these pages were read, the needs that were met are so many frames, and these counts were read
+  pub record Under (a : Place Seat Frames Cabinet) (g : Progress) (ms : List PageMove) (met : ℕ) (counts : List ℕ) : Type 0 where
     pub tables : Tables
     pub space : IsSpace (body_at l a) tables g.process
     pub moves : l.becomes start.files ms a.files
     pub same : l.files a.files ≡ files
     pub zeros : (tallies a).zeros ≡ (tallies start).zeros
     pub claims : (tallies a).claims ≡ (tallies start).claims + met
+    pub looks : (tallies a).looks ≡ (tallies start).looks ++ counts
+
+  -- more counts were read
+  looks_on : (counts : List ℕ) (a : Place Seat Frames Cabinet) → (tallies a).looks ≡ (tallies start).looks ++ counts → (more : List ℕ) (b : Place Seat Frames Cabinet) → (tallies b).looks ≡ (tallies a).looks ++ more
+      → (tallies b).looks ≡ (tallies start).looks ++ (counts ++ more)
+  looks_on counts a before more b looks = looks ∙ ap (λ (xs : List ℕ). xs ++ more) before ∙ append_assoc (tallies start).looks counts more
 
   -- a page of it is come to
 
-  module _ (a : Place Seat Frames Cabinet) (g : Progress) (ms : List PageMove) (met : ℕ) (u : Under a g ms met) (b : Place Seat Frames Cabinet) (kind : Access) (address : ℕ) where
+  module _ (a : Place Seat Frames Cabinet) (g : Progress) (ms : List PageMove) (met : ℕ) (counts : List ℕ) (u : Under a g ms met counts) (b : Place Seat Frames Cabinet) (kind : Access) (address : ℕ) where
     abbrev page : ℕ
     page = page_of address
 
@@ -83,8 +90,9 @@ module _ {Seat Frames Cabinet : Type 0} (l : Words Seat Frames Cabinet)
 
     pub record Reached (j : Progress) : Type 0 where
       pub is : reached_in around kind g address ≡ Ok j
-      pub shared : Bool
-      pub under : Under b j (ms ++ reads) (met + resident_need shared g.process kind page)
+      pub count : Option ℕ
+      pub counted : is_some count ≡ is_counted kind (get g.process.settled page)
+      pub under : Under b j (ms ++ reads) (met + resident_need (is_shared_by count) g.process kind page) (counts ++ option_to_list count)
 
     can_be : rule_here ≡ None → CanReside (body_at l a) u.tables g.process kind page
     can_be none = can_reside (body_at l a) u.tables g.process kind address 1 u.space (no_alignment (regions g.process) kind address ∙ none)
@@ -127,11 +135,13 @@ module _ {Seat Frames Cabinet : Type 0} (l : Words Seat Frames Cabinet)
           let space : (fresh : ℕ) → IsSpace (body_at l b) r.0 (made_resident files fresh (is_shared_by r.1) g.process kind page) = λ fresh. subst (λ (fs : List File). IsSpace (body_at l b) r.0 (made_resident fs fresh (is_shared_by r.1) g.process kind page)) u.same (r.2.agrees fresh) in
           let taken = ap (λ (z : Tallies). z.claims) r.2.takes.tallies in
           let zeros = ap (λ (z : Tallies). z.zeros) r.2.takes.tallies in
+          let looks = ap (λ (z : Tallies). z.looks) r.2.takes.tallies in
           let before = u.claims in (
             made.0,
             record {
               is = made.1;
-              shared = is_shared_by r.1;
+              count = r.1;
+              counted = r.2.counted;
               under = record {
                 tables = r.0;
                 space = made.2 r.0 (is_shared_by r.1) space;
@@ -139,11 +149,18 @@ module _ {Seat Frames Cabinet : Type 0} (l : Words Seat Frames Cabinet)
                 same = still_by m;
                 zeros = zeros ∙ u.zeros;
                 claims = omega (arith, taken, before);
+                looks = looks_on counts a u.looks (option_to_list r.1) b looks;
               };
             },
           )
 
     -- it is stopped there by a rule
+
+    -- for want of frames, as the count was read
+    abbrev pub DryHere : Type 0
+    DryHere =
+        (count : Option ℕ) × (is_some count ≡ is_counted kind (get g.process.settled page))
+        × WasDry (l.view start.space.seat) (l.view b.space.seat) (resident_need (is_shared_by count) g.process kind page) met (counts ++ option_to_list count)
 
     module _ (r : Rule) (e : Reaches l a b kind address (Err (Denied r))) (suits : r ≡ rule.NoFrame → is_dry_at w page ≡ true) where
       pub record Stopped : Type 0 where
@@ -151,12 +168,12 @@ module _ {Seat Frames Cabinet : Type 0} (l : Words Seat Frames Cabinet)
         pub tables : Tables
         pub space : IsSpace (body_at l b) tables g.process
         pub moves : l.becomes start.files (ms ++ reads) b.files
-        pub dry : r ≡ rule.NoFrame → (shared : Bool) × WasDry (l.view start.space.seat) (l.view b.space.seat) (resident_need shared g.process kind page) met
+        pub dry : r ≡ rule.NoFrame → DryHere
 
       same_end : (x y : Rule) → ◌≡◌ {A = Served} (served.Ended x) (served.Ended y) → x ≡ y
       same_end x y is = cc
 
-      stops_as : (o : Option Rule) → rule_here ≡ o → IsEnd o (served.Ended r) → (reached_in around kind g address ≡ Err r) × (r ≡ rule.NoFrame → (shared : Bool) × WasDry (l.view start.space.seat) (l.view b.space.seat) (resident_need shared g.process kind page) met)
+      stops_as : (o : Option Rule) → rule_here ≡ o → IsEnd o (served.Ended r) → (reached_in around kind g address ≡ Err r) × (r ≡ rule.NoFrame → DryHere)
       unfolding resident_at
       stops_as (Some x) is end = (
         ap (reached around kind address g) is ∙ ap (λ (y : Rule). let z : Result Progress Rule = Err y in z) (sym (same_end r x end)),
@@ -172,7 +189,7 @@ module _ {Seat Frames Cabinet : Type 0} (l : Words Seat Frames Cabinet)
           let zeros_before = u.zeros in
           let not : is_resident g.process kind page ≡ false = out (is_resident g.process kind page) refl (is_shared_by d.0) short in (
             ap (reached around kind address g) is ∙ ap (unless_resident around kind page g) not ∙ ap (unless_dry around kind page g (need_at around kind page g.process)) (suits none) ∙ ap (λ (y : Rule). let z : Result Progress Rule = Err y in z) (sym none),
-            λ _. (is_shared_by d.0, record { zeros = omega (arith, zeros, zeros_before); short = short; claims = omega (arith, claims, before) }),
+            λ _. (d.0, d.1, record { zeros = omega (arith, zeros, zeros_before); short = short; claims = omega (arith, claims, before); looks = looks_on counts a u.looks (option_to_list d.0) b d.2.looks }),
           )
         where
           out : (z : Bool) → is_resident g.process kind page ≡ z → (c : Bool) → (l.view b.space.seat).tallies.short < resident_need c g.process kind page → is_resident g.process kind page ≡ false

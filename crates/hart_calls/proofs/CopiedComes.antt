@@ -4,9 +4,10 @@ use Rattle.std.specs.Prelude.{nat_le}
 use Rattle.std.proofs.lemmas.Bool.{le-leb, lt-leb}
 use Rattle.std.proofs.lemmas.List.{append-nil}
 use Rattle.address_space.specs.Agreement.{Body, IsSpace}
+use Rattle.fault_rules.specs.Resides.{is_shared_by}
 use Rattle.file_cabinet.specs.declared.promise.PromiseError.{PromiseError}
 use Rattle.hart_calls.specs.Comes.{at_stop, Comes, HasCome}
-use Rattle.hart_calls.specs.Dry.{CopyDry, TellsDry}
+use Rattle.hart_calls.specs.Lacks.{CopyDry, TellsLack}
 use Rattle.hart_calls.specs.Tells.{asked, if_short, if_short_reads, in_reads, out_reads, reads_below, received, received_by, refuses, sent, sent_by, Told}
 use Rattle.hart_calls.specs.Wants.{begun, frames_at, in_progress, IsUnpromised, MayLack, nothing, out_progress, refused, round, Want}
 use Rattle.hart_calls.specs.declared.came.Came.TheVariants as came
@@ -55,7 +56,7 @@ module _ (x y : Body) (files : List File) (Became : List PageMove → Type 0) (C
             reply = sym (ap (λ (z : Told). z.reply) tells);
             space = (after.0, subst (λ (q : Process). IsSpace y after.0 q) (sym (ap (λ (z : Told). z.process) tells)) after.1);
             moves = subst Became (sym (append-nil _ ∙ ap (if_short_reads (in_reads files nothing p address n)) not)) moves;
-            dry = tt;
+            lack = tt;
           },
         )
 
@@ -70,7 +71,7 @@ module _ (x y : Body) (files : List File) (Became : List PageMove → Type 0) (C
       model_in w = copied_in (round files w) (begun p) address n
 
       comes_in : (w : Want) (g : Progress) (bytes : List ℕ) (stop : Option Rule) → model_in w ≡ so_far g bytes stop → sent_by files w p address n ≡ sent files (model_in w) → in_reads files w p address n ≡ moves_in (address + length (model_in w).bytes + 1)
-          → MayLack files p (call.CopyIn address n) w → TellsDry x.view y.view files p (call.CopyIn address n) w → ((u : Tables) × IsSpace y u g.process) → Became (moves_in (address + length bytes + 1))
+          → MayLack files p (call.CopyIn address n) w → TellsLack x.view y.view files p (call.CopyIn address n) w → ((u : Tables) × IsSpace y u g.process) → Became (moves_in (address + length bytes + 1))
           → Comes x y files Became p (call.CopyIn address n) w (in_reply bytes stop)
       comes_in w g bytes stop is by reads possible dry after moves =
           let tells = short_in (sent_by files w p address n) ∙ by ∙ ap (sent files) is in
@@ -79,7 +80,7 @@ module _ (x y : Body) (files : List File) (Became : List PageMove → Type 0) (C
             reply = sym (ap (λ (z : Told). z.reply) tells);
             space = (after.0, subst (λ (q : Process). IsSpace y after.0 q) (sym (ap (λ (z : Told). z.process) tells)) after.1);
             moves = subst Became (sym (reads_in w ∙ reads ∙ ap (λ (c : Copied). moves_in (address + length c.bytes + 1)) is)) moves;
-            dry = dry;
+            lack = dry;
           }
 
       pub whole_in : (g : Progress) (bytes : List ℕ) → model_in nothing ≡ so_far g bytes None → ((u : Tables) × IsSpace y u g.process) → Became (moves_in (address + length bytes + 1))
@@ -91,10 +92,10 @@ module _ (x y : Body) (files : List File) (Became : List PageMove → Type 0) (C
       dry_in g bytes is after moves dry =
           let page = page_of (address + length bytes) in
           let at : g.process ≡ in_progress files p page address n = sym (ap (λ (c : Copied). c.progress.process) is) in
-          let short = dry.2.short in (
+          let short = dry.4.short in (
             tt,
             comes_in (frames_at page) g bytes (Some rule.NoFrame) is refl refl
-                (subst (λ (q : Process). 0 < need_at (round files nothing) Load page q) at (may_take files g.process Load (address + length bytes) dry.1 y.view.tallies.short short))
+                (subst (λ (q : Process). 0 < need_at (round files nothing) Load page q) at (may_take files g.process Load (address + length bytes) (is_shared_by dry.1) y.view.tallies.short short))
                 (subst (λ (q : Process). CopyDry x.view y.view p q Load (page_of address) page) at dry) after moves,
           )
 
@@ -120,7 +121,7 @@ module _ (x y : Body) (files : List File) (Became : List PageMove → Type 0) (C
             reply = sym (ap (λ (z : Told). z.reply) tells);
             space = (after.0, subst (λ (q : Process). IsSpace y after.0 q) (sym (ap (λ (z : Told). z.process) tells)) after.1);
             moves = subst Became (sym (reads_in (refused done r))) moves;
-            dry = tt;
+            lack = tt;
           }
 
   -- to the process
@@ -143,7 +144,7 @@ module _ (x y : Body) (files : List File) (Became : List PageMove → Type 0) (C
             reply = sym (ap (λ (z : Told). z.reply) tells);
             space = (after.0, subst (λ (q : Process). IsSpace y after.0 q) (sym (ap (λ (z : Told). z.process) tells)) after.1);
             moves = subst Became (sym (append-nil _ ∙ ap (if_short_reads (out_reads files nothing p address given.now)) not)) moves;
-            dry = tt;
+            lack = tt;
           },
         )
 
@@ -158,7 +159,7 @@ module _ (x y : Body) (files : List File) (Became : List PageMove → Type 0) (C
       model_out w = copied_out (round files w) (begun p) address given.now
 
       comes_out : (w : Want) (g : Progress) (bytes : List ℕ) (stop : Option Rule) → model_out w ≡ so_far g bytes stop → received_by files w p address given.now ≡ received files (model_out w) → out_reads files w p address given.now ≡ moves_out (address + length (model_out w).bytes + 1)
-          → MayLack files p (call.CopyOut address given) w → TellsDry x.view y.view files p (call.CopyOut address given) w → ((u : Tables) × IsSpace y u g.process) → Became (moves_out (address + length bytes + 1))
+          → MayLack files p (call.CopyOut address given) w → TellsLack x.view y.view files p (call.CopyOut address given) w → ((u : Tables) × IsSpace y u g.process) → Became (moves_out (address + length bytes + 1))
           → Comes x y files Became p (call.CopyOut address given) w (out_reply bytes stop)
       comes_out w g bytes stop is by reads possible dry after moves =
           let tells = short_out (received_by files w p address given.now) ∙ by ∙ ap (received files) is in
@@ -167,7 +168,7 @@ module _ (x y : Body) (files : List File) (Became : List PageMove → Type 0) (C
             reply = sym (ap (λ (z : Told). z.reply) tells);
             space = (after.0, subst (λ (q : Process). IsSpace y after.0 q) (sym (ap (λ (z : Told). z.process) tells)) after.1);
             moves = subst Became (sym (reads_out w ∙ reads ∙ ap (λ (c : Copied). moves_out (address + length c.bytes + 1)) is)) moves;
-            dry = dry;
+            lack = dry;
           }
 
       pub whole_out : (g : Progress) (bytes : List ℕ) (count : ℕ) → length bytes ≡ count → model_out nothing ≡ so_far g bytes None → ((u : Tables) × IsSpace y u g.process) → Became (moves_out (address + length bytes + 1))
@@ -180,10 +181,10 @@ module _ (x y : Body) (files : List File) (Became : List PageMove → Type 0) (C
       dry_out g bytes is after moves dry =
           let page = page_of (address + length bytes) in
           let at : g.process ≡ out_progress files p page address given.now = sym (ap (λ (c : Copied). c.progress.process) is) in
-          let short = dry.2.short in (
+          let short = dry.4.short in (
             tt,
             comes_out (frames_at page) g bytes (Some rule.NoFrame) is refl refl
-                (subst (λ (q : Process). 0 < need_at (round files nothing) Store page q) at (may_take files g.process Store (address + length bytes) dry.1 y.view.tallies.short short))
+                (subst (λ (q : Process). 0 < need_at (round files nothing) Store page q) at (may_take files g.process Store (address + length bytes) (is_shared_by dry.1) y.view.tallies.short short))
                 (subst (λ (q : Process). CopyDry x.view y.view p q Store (page_of address) page) at dry) after moves,
           )
 
@@ -214,5 +215,5 @@ module _ (x y : Body) (files : List File) (Became : List PageMove → Type 0) (C
             reply = sym (ap (λ (z : Told). z.reply) tells);
             space = (after.0, subst (λ (q : Process). IsSpace y after.0 q) (sym (ap (λ (z : Told). z.process) tells)) after.1);
             moves = subst Became (sym (reads_out (refused done r))) moves;
-            dry = tt;
+            lack = tt;
           }

@@ -1,16 +1,16 @@
 -- How a copy ends that comes to at most two pages, over any store and any files.
 use Rattle.std.proofs.Common.{◌≡◌, ◌⊎◌, ℕ, ◌+◌, ◌<◌, ◌%◌, ◌==◌, Bool, true, false, Option, None, Some, Err, List, [], ◌∷◌, ◌++◌, length, refl, ap, ap₂, sym, subst, ◌∙◌, arith, inl, inr}
-use Rattle.std.specs.Prelude.{if◌then◌else◌}
+use Rattle.std.specs.Prelude.{if◌then◌else◌, is_some, option_to_list}
 use Rattle.std.proofs.lemmas.Bool.{eq-eqb, le-ltb, lt-ltb, ne_eqb}
 use Rattle.std.proofs.lemmas.List.{append-nil}
 use Rattle.address_space.specs.Agreement.{IsSpace}
-use Rattle.fault_rules.specs.Resides.{moves_for}
+use Rattle.fault_rules.specs.Resides.{is_counted, is_shared_by, moves_for}
 use Rattle.fault_rules.specs.Serves.{served_moves}
 use Rattle.file_cabinet.specs.Promises.{refusal_of}
 use Rattle.file_cabinet.specs.declared.promise.PromiseError.{PromiseError}
 use Rattle.file_cabinet.specs.declared.promise.PromiseError.TheVariants as error
 use Rattle.hart_calls.specs.Comes.{at_stop}
-use Rattle.hart_calls.specs.Dry.{CopyDry, WasDry}
+use Rattle.hart_calls.specs.Lacks.{CopyDry, WasDry}
 use Rattle.hart_calls.specs.Tells.{reads_below}
 use Rattle.hart_calls.specs.Wants.{begun, is_dry_at, IsUnpromised, nothing, round, Want}
 use Rattle.hart_calls.proofs.Copied.{left_moves, left_space, stops, Under}
@@ -107,8 +107,8 @@ module _ {Seat Frames Cabinet : Type 0} (l : Words Seat Frames Cabinet)
     pub less : done < n
     pub unpromised : IsUnpromised r
 
-  pub begun_under : (w : Want) → Under l goes comes start w start (begun p) [] 0
-  begun_under w = record { tables = tables; space = space; moves = stays; same = refl; zeros = refl; claims = omega arith }
+  pub begun_under : (w : Want) → Under l goes comes start w start (begun p) [] 0 []
+  begun_under w = record { tables = tables; space = space; moves = stays; same = refl; zeros = refl; claims = omega arith; looks = sym (append-nil (l.view start.space.seat).tallies.looks) }
 
   -- ---- it copies nothing
 
@@ -123,7 +123,9 @@ module _ {Seat Frames Cabinet : Type 0} (l : Words Seat Frames Cabinet)
         ap₂ (λ (z : Bool) (ms : List PageMove). (if z then reads_at address else []) ++ ms) (lt-ltb address limit below) none ∙ append-nil (reads_at address)
 
     abbrev DryBy : ℕ → Bool → Type 0
-    DryBy page same = (before shared : Bool) × WasDry (l.view start.space.seat) (l.view b.space.seat) (resident_need shared p kind page) (if same then 0 else resident_need before p kind (page_of address))
+    DryBy page same =
+        (before count : Option ℕ) × (is_some before ≡ (if same then false else is_counted kind (get p.settled (page_of address)))) × (is_some count ≡ is_counted kind (get p.settled page))
+        × WasDry (l.view start.space.seat) (l.view b.space.seat) (resident_need (is_shared_by count) p kind page) (if same then 0 else resident_need (is_shared_by before) p kind (page_of address)) (option_to_list before ++ option_to_list count)
 
     abbrev pub first_want : Rule → Want
     first_want r = at_stop r (address + 0)
@@ -132,7 +134,7 @@ module _ {Seat Frames Cabinet : Type 0} (l : Words Seat Frames Cabinet)
         → (reached_in (round present (first_want r)) kind (begun p) address ≡ Err r → model (first_want r) ≡ so_far (begun p) [] (Some r)) → Short (address ∷ rest) b [] r
     first_short r none e halts =
         let here : page_of (address + 0) ≡ page_of address = omega arith in
-        let s = stops l goes comes start (first_want r) start (begun p) [] 0 (begun_under (first_want r)) b kind address r e (dry_there r (address + 0) (page_of address) here) in
+        let s = stops l goes comes start (first_want r) start (begun p) [] 0 [] (begun_under (first_want r)) b kind address r e (dry_there r (address + 0) (page_of address) here) in
         record {
           progress = begun p;
           is = halts s.is;
@@ -141,11 +143,12 @@ module _ {Seat Frames Cabinet : Type 0} (l : Words Seat Frames Cabinet)
           dry = λ is. dry_by here (s.dry is);
         }
       where
-        dry_by : page_of (address + 0) ≡ page_of address → ((shared : Bool) × WasDry (l.view start.space.seat) (l.view b.space.seat) (resident_need shared p kind (page_of address)) 0)
+        dry_by : page_of (address + 0) ≡ page_of address
+            → ((count : Option ℕ) × (is_some count ≡ is_counted kind (get p.settled (page_of address))) × WasDry (l.view start.space.seat) (l.view b.space.seat) (resident_need (is_shared_by count) p kind (page_of address)) 0 (option_to_list count))
             → CopyDry (l.view start.space.seat) (l.view b.space.seat) p p kind (page_of address) (page_of (address + 0))
-        dry_by here (shared, dry) =
+        dry_by here (count, counted, dry) =
             subst (λ (page : ℕ). DryBy page (page_of address == page)) (sym here)
-            (subst (λ (same : Bool). DryBy (page_of address) same) (sym (eq-eqb (page_of address) (page_of address) refl)) (false, shared, dry))
+            (subst (λ (same : Bool). DryBy (page_of address) same) (sym (eq-eqb (page_of address) (page_of address) refl)) (None, count, refl, counted, dry))
 
     pub first_left : (x : Refusal) → reads_below present p kind (address + 0) (address ∷ rest) ≡ [] → 0 < n → front 0 ≡ so_far (begun p) [] None → Reaches l start b kind address (Err (Unpromised x)) → Left (address ∷ rest) b 0 x
     unfolding begun_under
@@ -156,15 +159,15 @@ module _ {Seat Frames Cabinet : Type 0} (l : Words Seat Frames Cabinet)
           progress = begun p;
           bytes = [];
           is = is;
-          after = (tables, left_space l goes comes start nothing start (begun p) [] 0 u b kind address x e);
-          moves = subst (λ (ms : List PageMove). l.becomes start.files ms b.files) (sym none) (left_moves l goes comes start nothing start (begun p) [] 0 u b kind address x e);
+          after = (tables, left_space l goes comes start nothing start (begun p) [] 0 [] u b kind address x e);
+          moves = subst (λ (ms : List PageMove). l.becomes start.files ms b.files) (sym none) (left_moves l goes comes start nothing start (begun p) [] 0 [] u b kind address x e);
           less = some;
           unpromised = subst IsUnpromised (sym un.2) (unpromised_by un.0);
         }
 
   -- ---- it copies a first run
 
-  module _ (here : ℕ) (some : 0 < here) (w : Want) (d : Place Seat Frames Cabinet) (j : Progress) (bytes : List ℕ) (long : length bytes ≡ here) (ran : Ran l goes comes start w (begun p) [] 0 kind address d j) where
+  module _ (here : ℕ) (some : 0 < here) (w : Want) (d : Place Seat Frames Cabinet) (j : Progress) (bytes : List ℕ) (long : length bytes ≡ here) (ran : Ran l goes comes start w (begun p) [] 0 [] kind address d j) where
     pub one_whole : model nothing ≡ so_far j bytes None → Whole (address ∷ []) d bytes
     one_whole is = record {
       progress = j;
@@ -201,13 +204,13 @@ module _ {Seat Frames Cabinet : Type 0} (l : Words Seat Frames Cabinet)
             progress = j;
             bytes = bytes;
             is = is;
-            after = (ran.under.tables, left_space l goes comes start w d j _ _ ran.under b kind next x e);
-            moves = subst (λ (ms : List PageMove). l.becomes start.files ms b.files) (sym only_first) (left_moves l goes comes start w d j _ _ ran.under b kind next x e);
+            after = (ran.under.tables, left_space l goes comes start w d j _ _ _ ran.under b kind next x e);
+            moves = subst (λ (ms : List PageMove). l.becomes start.files ms b.files) (sym only_first) (left_moves l goes comes start w d j _ _ _ ran.under b kind next x e);
             less = less;
             unpromised = subst IsUnpromised (sym un.2) (unpromised_by un.0);
           }
 
-      pub both_whole : (c : Place Seat Frames Cabinet) (i : Progress) (all : List ℕ) → here < length all → Ran l goes comes start w j ([] ++ reads_at address) (0 + resident_need ran.shared p kind (page_of address)) kind next c i
+      pub both_whole : (c : Place Seat Frames Cabinet) (i : Progress) (all : List ℕ) → here < length all → Ran l goes comes start w j ([] ++ reads_at address) (0 + resident_need (is_shared_by ran.count) p kind (page_of address)) ([] ++ option_to_list ran.count) kind next c i
           → model nothing ≡ so_far i all None → Whole (address ∷ next ∷ []) c all
       both_whole c i all more last is = record {
         progress = i;
@@ -222,7 +225,7 @@ module _ {Seat Frames Cabinet : Type 0} (l : Words Seat Frames Cabinet)
 
         pub next_short : Short (address ∷ next ∷ []) b bytes r
         next_short =
-            let s = stops l goes comes start w d j _ _ ran.under b kind next r e (λ is. ap (λ (z : Want). is_dry_at z (page_of next)) at ∙ dry_there r next (page_of next) refl is) in
+            let s = stops l goes comes start w d j _ _ _ ran.under b kind next r e (λ is. ap (λ (z : Want). is_dry_at z (page_of next)) at ∙ dry_there r next (page_of next) refl is) in
             record {
               progress = j;
               is = subst (λ (x : Want). model x ≡ so_far j bytes (Some r)) (at ∙ ap (at_stop r) (sym same_next)) (halts s.is);
@@ -231,15 +234,19 @@ module _ {Seat Frames Cabinet : Type 0} (l : Words Seat Frames Cabinet)
               dry = λ is. dry_by (s.dry is);
             }
           where
-            dry_by : ((shared : Bool) × WasDry (l.view start.space.seat) (l.view b.space.seat) (resident_need shared j.process kind (page_of next)) (0 + resident_need ran.shared p kind (page_of address)))
+            dry_by : ((count : Option ℕ) × (is_some count ≡ is_counted kind (get j.process.settled (page_of next)))
+                × WasDry (l.view start.space.seat) (l.view b.space.seat) (resident_need (is_shared_by count) j.process kind (page_of next)) (0 + resident_need (is_shared_by ran.count) p kind (page_of address)) (option_to_list ran.count ++ option_to_list count))
                 → CopyDry (l.view start.space.seat) (l.view b.space.seat) p j.process kind (page_of address) (page_of (address + length bytes))
-            dry_by (shared, dry) =
+            dry_by (count, counted, dry) =
                 let claims = dry.claims in
-                let here : WasDry (l.view start.space.seat) (l.view b.space.seat) (resident_need shared j.process kind (page_of next)) (resident_need ran.shared p kind (page_of address)) =
-                record { zeros = dry.zeros; short = dry.short; claims = omega (arith, claims) } in
+                let other = sym (ne_eqb (page_of address) (page_of next) (λ same. apart (sym same))) in
+                let here : WasDry (l.view start.space.seat) (l.view b.space.seat) (resident_need (is_shared_by count) j.process kind (page_of next)) (resident_need (is_shared_by ran.count) p kind (page_of address)) (option_to_list ran.count ++ option_to_list count) =
+                record { zeros = dry.zeros; short = dry.short; claims = omega (arith, claims); looks = dry.looks } in
                 subst (λ (x : ℕ). CopyDry (l.view start.space.seat) (l.view b.space.seat) p j.process kind (page_of address) (page_of x)) (sym same_next) (
-                  ran.shared,
-                  shared,
-                  subst (λ (same : Bool). WasDry (l.view start.space.seat) (l.view b.space.seat) (resident_need shared j.process kind (page_of next)) (if same then 0 else resident_need ran.shared p kind (page_of address)))
-                      (sym (ne_eqb (page_of address) (page_of next) (λ same. apart (sym same)))) here,
+                  ran.count,
+                  count,
+                  subst (λ (same : Bool). is_some ran.count ≡ (if same then false else is_counted kind (get p.settled (page_of address)))) other ran.counted,
+                  counted,
+                  subst (λ (same : Bool). WasDry (l.view start.space.seat) (l.view b.space.seat) (resident_need (is_shared_by count) j.process kind (page_of next)) (if same then 0 else resident_need (is_shared_by ran.count) p kind (page_of address)) (option_to_list ran.count ++ option_to_list count))
+                      other here,
                 )

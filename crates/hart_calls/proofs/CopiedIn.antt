@@ -89,12 +89,12 @@ module _ {Seat Frames Cabinet : Type 0} (l : Words Seat Frames Cabinet)
     -- it comes to the first page, and goes on
 
     module _ (b d : Place Seat Frames Cabinet) (got : List ℕ) (e : Reaches l start b Load address (Ok tt)) (read : IsRead l b d address (suc h) got) where
-      under_way : (w : Want) → Under l goes comes start w start (begun p) [] 0
+      under_way : (w : Want) → Under l goes comes start w start (begun p) [] 0 []
       under_way w = begun_under l goes comes start p tables space stays Load address n model_in front_in w
 
       module _ (m : ℕ) (split : Split (suc h) m) (w : Want) (calm : is_dry_at w (page_of address) ≡ false) where
-        first : RanIn l goes comes start w start b d (begun p) [] 0 (under_way w) address calm (suc h) [] got
-        first = ran_in l goes comes start w start b d (begun p) [] 0 (under_way w) address calm (suc h) [] got (omega arith) split.inside e read
+        first : RanIn l goes comes start w start b d (begun p) [] 0 [] (under_way w) address calm (suc h) [] got
+        first = ran_in l goes comes start w start b d (begun p) [] 0 [] (under_way w) address calm (suc h) [] got (omega arith) split.inside e read
 
         goes_on : model_in w ≡ more_in (round present w) (so_far first.progress got None) (numbers_from next m)
         goes_on = splits w (suc h) m split.whole ∙ ap (λ (c : Copied). more_in (round present w) c (numbers_from next m)) first.is
@@ -123,7 +123,7 @@ module _ {Seat Frames Cabinet : Type 0} (l : Words Seat Frames Cabinet)
           let end = split.behind (omega arith) in
           let few = split.few in
           let one = first (suc m) split nothing refl in
-          let two = ran_in l goes comes start nothing d z y one.progress _ _ one.ran.under next refl (suc m) got more (omega arith) (omega (arith, end, few)) f again in
+          let two = ran_in l goes comes start nothing d z y one.progress _ _ _ one.ran.under next refl (suc m) got more (omega arith) (omega (arith, end, few)) f again in
           let long = length-append got more in
           let first_long = one.long in
           let next_long = two.long in

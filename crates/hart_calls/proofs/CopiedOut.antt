@@ -114,15 +114,15 @@ module _ {Seat Frames Cabinet : Type 0} (l : Words Seat Frames Cabinet)
       -- it comes to the first page, and goes on
 
       module _ (b d : Place Seat Frames Cabinet) (e : Reaches l start b Store address (Ok tt)) (put : Puts l b d address front) where
-        under_way : (w : Want) → Under l goes comes start w start (begun p) [] 0
+        under_way : (w : Want) → Under l goes comes start w start (begun p) [] 0 []
         under_way w = begun_under l goes comes start p tables space stays Store address n model_out front_out w
 
         module _ (back : List ℕ) (split : Split h front back) (w : Want) (calm : is_dry_at w (page_of address) ≡ false) where
-          first : RanOut l goes comes start w start b d (begun p) [] 0 (under_way w) address calm [] front
+          first : RanOut l goes comes start w start b d (begun p) [] 0 [] (under_way w) address calm [] front
           first =
               let inside = split.inside in
               let long = split.long in
-              ran_out l goes comes start w start b d (begun p) [] 0 (under_way w) address calm [] front (omega arith) (omega (arith, inside, long)) e put
+              ran_out l goes comes start w start b d (begun p) [] 0 [] (under_way w) address calm [] front (omega arith) (omega (arith, inside, long)) e put
 
           goes_on : model_out w ≡ more_out (round present w) (so_far first.progress front None) (zip (numbers_from next (length back)) back)
           goes_on = splits w front back split ∙ ap (λ (c : Copied). more_out (round present w) c (zip (numbers_from next (length back)) back)) first.is
@@ -156,7 +156,7 @@ module _ {Seat Frames Cabinet : Type 0} (l : Words Seat Frames Cabinet)
             let end = split.behind (omega arith) in
             let few = split.few in
             let one = first (x ∷ back) split nothing refl in
-            let two = ran_out l goes comes start nothing d z y one.progress _ _ one.ran.under next refl front (x ∷ back) (omega arith) (omega (arith, end, few)) g again in
+            let two = ran_out l goes comes start nothing d z y one.progress _ _ _ one.ran.under next refl front (x ∷ back) (omega arith) (omega (arith, end, few)) g again in
             let both = length-append front (x ∷ back) in
             let long = split.long in
             told _ y c (0 + length front + length (x ∷ back)) count None stop at same is (

@@ -1,10 +1,11 @@
 -- Each run of a copy, over any store and any files: what the model tells of it, and where it leaves the space.
 use Rattle.std.proofs.Common.{◌≡◌, ℕ, ◌+◌, ◌<◌, ◌≤◌, ◌%◌, Bool, true, false, not, ◌||◌, None, Some, Ok, List, ◌++◌, length, drop, refl, ap, sym, subst, ◌∙◌, arith}
-use Rattle.std.specs.Prelude.{zip}
+use Rattle.std.specs.Prelude.{is_some, Option, option_to_list, zip}
 use Rattle.std.proofs.lemmas.Bool.{and_parts}
-use Rattle.std.proofs.lemmas.List.{length-drop, length-take-le}
+use Rattle.std.proofs.lemmas.List.{append-nil, length-drop, length-take-le}
 use Rattle.address_space.specs.Steps.{CanWrite}
 use Rattle.fault_rules.specs.Allowed.{can_reside}
+use Rattle.fault_rules.specs.Resides.{is_counted, is_shared_by}
 use Rattle.fault_rules.specs.Serves.{served_moves}
 use Rattle.frame_store.specs.View.{Tallies, View}
 use Rattle.hart_calls.specs.Wants.{is_dry_at, Want}
@@ -31,16 +32,17 @@ module _ {Seat Frames Cabinet : Type 0} (l : Words Seat Frames Cabinet)
     (goes : (x y z : Cabinet) (ms ns : List PageMove) → l.becomes x ms y → l.becomes y ns z → l.becomes x (ms ++ ns) z) (comes : (x y : Cabinet) (ms : List PageMove) → l.becomes x ms y → l.files y ≡ files_after (l.files x) ms)
     (start : Place Seat Frames Cabinet) (w : Want) where
   -- the page of the run was come to, and the other pages are as they were
-  pub record Ran (g : Progress) (ms : List PageMove) (met : ℕ) (kind : Access) (address : ℕ) (d : Place Seat Frames Cabinet) (j : Progress) : Type 0 where
+  pub record Ran (g : Progress) (ms : List PageMove) (met : ℕ) (counts : List ℕ) (kind : Access) (address : ℕ) (d : Place Seat Frames Cabinet) (j : Progress) : Type 0 where
     pub same_regions : regions j.process ≡ regions g.process
     pub others : (n : ℕ) → (n ≡ page_of address → ⊥) → get j.process.settled n ≡ get g.process.settled n
-    pub shared : Bool
-    pub under : Under l goes comes start w d j (ms ++ served_moves (l.files start.files) g.process (page_of address) (copy_rule (regions g.process) kind address)) (met + resident_need shared g.process kind (page_of address))
+    pub count : Option ℕ
+    pub counted : is_some count ≡ is_counted kind (get g.process.settled (page_of address))
+    pub under : Under l goes comes start w d j (ms ++ served_moves (l.files start.files) g.process (page_of address) (copy_rule (regions g.process) kind address)) (met + resident_need (is_shared_by count) g.process kind (page_of address)) (counts ++ option_to_list count)
 
-  module _ (b d : Place Seat Frames Cabinet) (g : Progress) (ms : List PageMove) (met : ℕ) (u : Under l goes comes start w b g ms met) (address : ℕ) where
+  module _ (b d : Place Seat Frames Cabinet) (g : Progress) (ms : List PageMove) (met : ℕ) (counts : List ℕ) (u : Under l goes comes start w b g ms met counts) (address : ℕ) where
     -- its bytes were read
 
-    read_on : (n : ℕ) (got : List ℕ) → IsRead l b d address n got → Under l goes comes start w d g ms met
+    read_on : (n : ℕ) (got : List ℕ) → IsRead l b d address n got → Under l goes comes start w d g ms met counts
     read_on n got read = record {
       tables = u.tables;
       space = still_space l.view b.space d.space read.view read.root read.trapframe read.layout u.tables g.process u.space;
@@ -48,6 +50,7 @@ module _ {Seat Frames Cabinet : Type 0} (l : Words Seat Frames Cabinet)
       same = ap l.files read.files ∙ u.same;
       zeros = ap (λ (v : View). v.tallies.zeros) read.view ∙ u.zeros;
       claims = ap (λ (v : View). v.tallies.claims) read.view ∙ u.claims;
+      looks = ap (λ (v : View). v.tallies.looks) read.view ∙ u.looks;
     }
 
     -- or bytes were put into it
@@ -74,7 +77,7 @@ module _ {Seat Frames Cabinet : Type 0} (l : Words Seat Frames Cabinet)
             writes = is_so (can.region).writes can.right;
           }
 
-      put_on : Under l goes comes start w d (record g { process = with_page g.process (page_of address) (stored s (address % 4096) given) }) ms met
+      put_on : Under l goes comes start w d (record g { process = with_page g.process (page_of address) (stored s (address % 4096) given) }) ms met counts
       put_on =
           let claimed = ap (λ (z : Tallies). z.claims) put.takes.tallies in
           let before = u.claims in record {
@@ -84,20 +87,21 @@ module _ {Seat Frames Cabinet : Type 0} (l : Words Seat Frames Cabinet)
             same = ap l.files put.files ∙ u.same;
             zeros = ap (λ (z : Tallies). z.zeros) put.takes.tallies ∙ u.zeros;
             claims = omega (arith, claimed, before);
+            looks = ap (λ (z : Tallies). z.looks) put.takes.tallies ∙ append-nil (l.view b.space.seat).tallies.looks ∙ u.looks;
           }
 
   -- what the model tells of a run that is not stopped
 
-  module _ (a b d : Place Seat Frames Cabinet) (g : Progress) (ms : List PageMove) (met : ℕ) (u : Under l goes comes start w a g ms met) (address : ℕ) (calm : is_dry_at w (page_of address) ≡ false) where
+  module _ (a b d : Place Seat Frames Cabinet) (g : Progress) (ms : List PageMove) (met : ℕ) (counts : List ℕ) (u : Under l goes comes start w a g ms met counts) (address : ℕ) (calm : is_dry_at w (page_of address) ≡ false) where
     pub record RanIn (n : ℕ) (done got : List ℕ) : Type 0 where
       pub progress : Progress
       pub is : more_in (around l goes comes start w) (so_far g done None) (numbers_from address n) ≡ so_far progress (done ++ got) None
       pub long : length got ≡ n
-      pub ran : Ran g ms met Load address d progress
+      pub ran : Ran g ms met counts Load address d progress
 
     pub ran_in : (n : ℕ) (done got : List ℕ) → 0 < n → address % 4096 + n ≤ 4096 → Reaches l a b Load address (Ok tt) → IsRead l b d address n got → RanIn n done got
     ran_in n done got some inside e read =
-        let to = reaches l goes comes start w a g ms met u b Load address e calm in
+        let to = reaches l goes comes start w a g ms met counts u b Load address e calm in
         let j = to.0 in
         let r = to.1 in
         let serves = reached_serves (around l goes comes start w) Load g j address r.is in
@@ -110,17 +114,17 @@ module _ {Seat Frames Cabinet : Type 0} (l : Words Seat Frames Cabinet)
           progress = j;
           is = run_in (around l goes comes start w) g j done address n s some inside r.is there whole ∙ ap (λ (bs : List ℕ). so_far j (done ++ bs) None) (sym told);
           long = ap length told ∙ length-take-le n (drop (address % 4096) s.bytes) (omega (arith, dropped, whole, inside));
-          ran = record { same_regions = serves.regions; others = serves.others; shared = r.shared; under = read_on b d j _ _ r.under address n got read };
+          ran = record { same_regions = serves.regions; others = serves.others; count = r.count; counted = r.counted; under = read_on b d j _ _ _ r.under address n got read };
         }
 
     pub record RanOut (done given : List ℕ) : Type 0 where
       pub progress : Progress
       pub is : more_out (around l goes comes start w) (so_far g done None) (zip (numbers_from address (length given)) given) ≡ so_far progress (done ++ given) None
-      pub ran : Ran g ms met Store address d progress
+      pub ran : Ran g ms met counts Store address d progress
 
     pub ran_out : (done given : List ℕ) → 0 < length given → address % 4096 + length given ≤ 4096 → Reaches l a b Store address (Ok tt) → Puts l b d address given → RanOut done given
     ran_out done given some inside e put =
-        let to = reaches l goes comes start w a g ms met u b Store address e calm in
+        let to = reaches l goes comes start w a g ms met counts u b Store address e calm in
         let j = to.0 in
         let r = to.1 in
         let serves = reached_serves (around l goes comes start w) Store g j address r.is in
@@ -133,7 +137,8 @@ module _ {Seat Frames Cabinet : Type 0} (l : Words Seat Frames Cabinet)
           ran = record {
             same_regions = serves.regions;
             others = λ n apart. inserted_other (page_of address) (stored s (address % 4096) given) j.process.settled n apart ∙ serves.others n apart;
-            shared = r.shared;
-            under = put_on b d j _ _ r.under address given s there serves.resident (granted_again (around l goes comes start w) Store g j address address r.is refl) put;
+            count = r.count;
+            counted = r.counted;
+            under = put_on b d j _ _ _ r.under address given s there serves.resident (granted_again (around l goes comes start w) Store g j address address r.is refl) put;
           };
         }

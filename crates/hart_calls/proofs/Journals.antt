@@ -5,7 +5,7 @@ use Rattle.address_space.specs.Steps.{Takes}
 use Rattle.frame_store.specs.View.{Tallies, View}
 use Rattle.hart_calls.specs.Asks.{IsStaying, reads}
 use Rattle.hart_calls.specs.Comes.{at_stop, IsPlain}
-use Rattle.hart_calls.specs.Dry.{TellsDry, WasDry}
+use Rattle.hart_calls.specs.Lacks.{TellsLack, WasDry}
 use Rattle.hart_calls.specs.Replay.{call_at, forked, forks, Leads, Replays}
 use Rattle.hart_calls.specs.Tells.{reads_of, told, writes_of}
 use Rattle.hart_calls.specs.Turns.{BySlot, GoesOn}
@@ -148,31 +148,31 @@ read_since files want p c before after is = ap (λ (ms : List PageMove). reads c
 
 -- the tallies of frames that were let go are as they were
 module _ (v w z : View) (takes : Takes w z 0 []) where
-  was_later : (need met : ℕ) → WasDry v w need met → WasDry v z need met
-  was_later need met dry =
+  was_later : (need met : ℕ) (counts : List ℕ) → WasDry v w need met counts → WasDry v z need met counts
+  was_later need met counts dry =
       let zeros = ap (λ (t : Tallies). t.zeros) takes.tallies in
       let short = ap (λ (t : Tallies). t.short) takes.tallies in
       let claims = ap (λ (t : Tallies). t.claims) takes.tallies in
       let was_zeros = dry.zeros in
       let was_short = dry.short in
       let was_claims = dry.claims in
-      record { zeros = omega (arith, zeros, was_zeros); short = omega (arith, short, was_short); claims = omega (arith, claims, was_claims) }
+      record { zeros = omega (arith, zeros, was_zeros); short = omega (arith, short, was_short); claims = omega (arith, claims, was_claims); looks = ap (λ (t : Tallies). t.looks) takes.tallies ∙ append-nil w.tallies.looks ∙ dry.looks }
 
   module _ (files : List File) (p : Process) where
-    later_frames : (c : Call) (page : ℕ) → TellsDry v w files p c (frames_at page) → TellsDry v z files p c (frames_at page)
-    later_frames (call.Fetch address) page (shared, dry) = (shared, was_later _ _ dry)
-    later_frames (call.Load address width) page (shared, dry) = (shared, was_later _ _ dry)
-    later_frames (call.Store address width value) page (shared, dry) = (shared, was_later _ _ dry)
+    later_frames : (c : Call) (page : ℕ) → TellsLack v w files p c (frames_at page) → TellsLack v z files p c (frames_at page)
+    later_frames (call.Fetch address) page (count, counted, dry) = (count, counted, was_later _ _ _ dry)
+    later_frames (call.Load address width) page (count, counted, dry) = (count, counted, was_later _ _ _ dry)
+    later_frames (call.Store address width value) page (count, counted, dry) = (count, counted, was_later _ _ _ dry)
     later_frames (call.Exec im) page dry = tt
     later_frames (call.Sbrk delta) page dry = tt
     later_frames (call.Mmap len protection flags f) page dry = tt
     later_frames (call.Munmap address len) page dry = tt
-    later_frames (call.CopyIn address count) page (before, shared, dry) = (before, shared, was_later _ _ dry)
-    later_frames (call.CopyOut address bytes) page (before, shared, dry) = (before, shared, was_later _ _ dry)
+    later_frames (call.CopyIn address n) page (before, count, first, counted, dry) = (before, count, first, counted, was_later _ _ _ dry)
+    later_frames (call.CopyOut address bytes) page (before, count, first, counted, dry) = (before, count, first, counted, was_later _ _ _ dry)
     later_frames (call.Exit status) page dry = tt
     later_frames (call.Fork list) page dry = tt
 
-    later_nothing : (c : Call) → TellsDry v z files p c nothing
+    later_nothing : (c : Call) → TellsLack v z files p c nothing
     later_nothing (call.Fetch address) = tt
     later_nothing (call.Load address width) = tt
     later_nothing (call.Store address width value) = tt
@@ -185,7 +185,7 @@ module _ (v w z : View) (takes : Takes w z 0 []) where
     later_nothing (call.Exit status) = tt
     later_nothing (call.Fork list) = tt
 
-    pub later_stop : (c : Call) (r : Rule) (address : ℕ) → TellsDry v w files p c (at_stop r address) → TellsDry v z files p c (at_stop r address)
+    pub later_stop : (c : Call) (r : Rule) (address : ℕ) → TellsLack v w files p c (at_stop r address) → TellsLack v z files p c (at_stop r address)
     later_stop c rule.Misaligned address dry = later_nothing c
     later_stop c rule.BeyondMax address dry = later_nothing c
     later_stop c rule.KernelPage address dry = later_nothing c

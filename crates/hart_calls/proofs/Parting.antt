@@ -1,15 +1,15 @@
 -- Processes that fork, and those that exit.
-use Rattle.std.proofs.Common.{◌≡◌, ◌⊎◌, ℕ, ℤ, List, [], ◌++◌, length, refl, ap, sym, subst, ◌∙◌, arith, Option, None, Some, inl, inr}
-use Rattle.address_space.specs.Steps.{IsBare, RunsDry}
+use Rattle.std.proofs.Common.{◌≡◌, ◌⊎◌, ℕ, ℤ, List, [], ◌∷◌, ◌++◌, length, refl, ap, sym, subst, ◌∙◌, arith, Option, None, Some, inl, inr}
+use Rattle.address_space.specs.Steps.{IsBare, RunsDry, Takes}
 use Rattle.cow_fork.specs.Forks.{refusal_of}
 use Rattle.cow_fork.specs.declared.forking.ForkError.{ForkError}
 use Rattle.cow_fork.specs.declared.forking.ForkError.TheVariants as fork
 use Rattle.file_cabinet.specs.declared.promise.PromiseError.{PromiseError}
 use Rattle.file_cabinet.specs.declared.promise.PromiseError.TheVariants as error
 use Rattle.file_shelf.specs.Shelved.{Becomes, CanRefuse, Shelved, stays}
-use Rattle.frame_store.specs.View.{View}
+use Rattle.frame_store.specs.View.{Tallies, View}
 use Rattle.hart_calls.specs.Closed.{Closes, IsClosed, outcome_of}
-use Rattle.hart_calls.specs.Dry.{TellsDry}
+use Rattle.hart_calls.specs.Lacks.{TellsLack}
 use Rattle.hart_calls.specs.Replay.{call_at, forked, forks, Leads, Replays}
 use Rattle.hart_calls.specs.Tells.{file_of, reads_of, told, writes_of}
 use Rattle.hart_calls.specs.Track.{Adds, calls_of, IsChild, next_of, Track}
@@ -48,8 +48,8 @@ module _ (t : Track) (status : ℤ) (e : Entry) (called : e.call ≡ call.Exit s
     file = none ∙ ap (λ (k : Call). file_of a.files k) (sym called);
   }
 
-  calm : TellsDry t.seat (view_of f.seat) a.files t.state e.call nothing
-  calm = subst (λ (k : Call). TellsDry t.seat (view_of f.seat) a.files t.state k nothing) (sym called) tt
+  calm : TellsLack t.seat (view_of f.seat) a.files t.state e.call nothing
+  calm = subst (λ (k : Call). TellsLack t.seat (view_of f.seat) a.files t.state k nothing) (sym called) tt
 
   next_is : e.call ≡ call_at (calls_of t) (length t.journal)
   next_is = called ∙ sym next
@@ -71,7 +71,7 @@ module _ (t : Track) (status : ℤ) (e : Entry) (called : e.call ≡ call.Exit s
       next = next_is;
       leads = leads;
       reply = answer;
-      dry = calm;
+      lack = calm;
     };
   }
   over_by (inr broken) = record {
@@ -190,12 +190,12 @@ fork_goes t u c e k s is adds state child by_slot = record {
   on = subst GoesOn (sym is.answer) tt;
   child = (ap forked is.answer, (k, is.call, child));
   slot = subst (λ (z : Call). BySlot s z e.reply) (sym is.call) (subst (ForkAnswer s) (sym is.answer) by_slot);
-  dry = subst (λ (z : Call). TellsDry t.seat u.seat [] t.state z nothing) (sym is.call) tt;
+  lack = subst (λ (z : Call). TellsLack t.seat u.seat [] t.state z nothing) (sym is.call) tt;
 }
 
 -- or it is refused
 pub fork_stays : (t u : Track) (e : Entry) (k : ℕ) (s : Slot) (r : Refusal) → IsForkOf e k (reply.Refused r) → IsForkRefusal r → Adds t u e → u.state ≡ t.state → ForkAnswer s (reply.Refused r)
-    → TellsDry t.seat u.seat [] t.state (call.Fork k) (refused 0 r) → Goes t u None s
+    → TellsLack t.seat u.seat [] t.state (call.Fork k) (refused 0 r) → Goes t u None s
 fork_stays t u e k s r is may adds state by_slot dry = record {
   entry = e;
   files = [];
@@ -204,25 +204,25 @@ fork_stays t u e k s r is may adds state by_slot dry = record {
   on = subst GoesOn (sym is.answer) tt;
   child = ap forked is.answer;
   slot = subst (λ (z : Call). BySlot s z e.reply) (sym is.call) (subst (ForkAnswer s) (sym is.answer) by_slot);
-  dry = subst (λ (z : Call). TellsDry t.seat u.seat [] t.state z (refused 0 r)) (sym is.call) dry;
+  lack = subst (λ (z : Call). TellsLack t.seat u.seat [] t.state z (refused 0 r)) (sym is.call) dry;
 }
 
--- no frames were wanted
-pub fork_calm : (t u : Track) (k : ℕ) (r : Refusal) → IsForkRefusal r → (r ≡ refusal.NoFrame → ⊥) → TellsDry t.seat u.seat [] t.state (call.Fork k) (refused 0 r)
-fork_calm t u k refusal.NoFrame may not = absurd (not refl)
-fork_calm t u k refusal.NoSlot may not = tt
-fork_calm t u k refusal.SharersFull may not = tt
-fork_calm t u k (refusal.BadImage x) may not = absurd may
-fork_calm t u k refusal.BadSize may not = absurd may
-fork_calm t u k refusal.NoRoom may not = absurd may
-fork_calm t u k refusal.BadArgument may not = absurd may
-fork_calm t u k refusal.FileNotWritable may not = absurd may
-fork_calm t u k refusal.MappingsFull may not = absurd may
-fork_calm t u k refusal.HoleInMapping may not = absurd may
-fork_calm t u k (refusal.Impossible x) may not = absurd may
-fork_calm t u k refusal.NoEntry may not = absurd may
-fork_calm t u k refusal.Memory may not = tt
-fork_calm t u k refusal.JournalFull may not = absurd may
+-- a slot was wanted, or memory
+pub fork_calm : (t u : Track) (k : ℕ) (r : Refusal) → IsForkRefusal r → (r ≡ refusal.NoFrame → ⊥) → (r ≡ refusal.SharersFull → ⊥) → TellsLack t.seat u.seat [] t.state (call.Fork k) (refused 0 r)
+fork_calm t u k refusal.NoFrame may not other = absurd (not refl)
+fork_calm t u k refusal.NoSlot may not other = tt
+fork_calm t u k refusal.SharersFull may not other = absurd (other refl)
+fork_calm t u k (refusal.BadImage x) may not other = absurd may
+fork_calm t u k refusal.BadSize may not other = absurd may
+fork_calm t u k refusal.NoRoom may not other = absurd may
+fork_calm t u k refusal.BadArgument may not other = absurd may
+fork_calm t u k refusal.FileNotWritable may not other = absurd may
+fork_calm t u k refusal.MappingsFull may not other = absurd may
+fork_calm t u k refusal.HoleInMapping may not other = absurd may
+fork_calm t u k (refusal.Impossible x) may not other = absurd may
+fork_calm t u k refusal.NoEntry may not other = absurd may
+fork_calm t u k refusal.Memory may not other = tt
+fork_calm t u k refusal.JournalFull may not other = absurd may
 
 -- as cow_fork says
 
@@ -234,9 +234,9 @@ pub fork_by_slot : (x : ForkError) → (forked (reply.Refused (refusal_of x)) �
 fork_by_slot fork.NoFrame = inr (inl refl)
 fork_by_slot fork.SharersFull = inr (inr refl)
 
-pub fork_dry : (v w : View) (p : Process) (k : ℕ) (x : ForkError) → (x ≡ fork.NoFrame → RunsDry v w (fork_need p) []) → TellsDry v w [] p (call.Fork k) (refused 0 (refusal_of x))
-fork_dry v w p k fork.NoFrame dry =
+pub fork_lack : (v w : View) (p : Process) (k : ℕ) (x : ForkError) → (x ≡ fork.NoFrame → RunsDry v w (fork_need p) []) → (x ≡ fork.SharersFull → Takes v w 0 (65535 ∷ [])) → TellsLack v w [] p (call.Fork k) (refused 0 (refusal_of x))
+fork_lack v w p k fork.NoFrame dry full =
     let d = dry refl in
     let claims = d.claims in
-    record { zeros = d.zeros; short = d.short; claims = omega (arith, claims) }
-fork_dry v w p k fork.SharersFull dry = tt
+    record { zeros = d.zeros; short = d.short; claims = omega (arith, claims); looks = d.looks }
+fork_lack v w p k fork.SharersFull dry full = ap (λ (z : Tallies). z.looks) (full refl).tallies

@@ -19,7 +19,7 @@ module _ (t : Track) (room : ℕ) where
   roomy = record t { room = room }
 
   ends_room : (f : Finished) (r : Reply) → EndsBy roomy f r → EndsBy t f r
-  ends_room f r e = record { entry = e.entry; files = e.files; after = e.after; journal = e.journal; next = e.next; leads = e.leads; reply = e.reply; dry = e.dry }
+  ends_room f r e = record { entry = e.entry; files = e.files; after = e.after; journal = e.journal; next = e.next; leads = e.leads; reply = e.reply; lack = e.lack }
 
   last_room : (f : Finished) (o : Outcome) → Last roomy f o → Last t f o
   last_room f (outcome.Exited n) l = ends_room f _ l
@@ -41,7 +41,7 @@ module _ (t : Track) (room : ℕ) where
     on = g.on;
     child = child_room c g.entry g.child;
     slot = g.slot;
-    dry = g.dry;
+    lack = g.lack;
   }
   turned_room (turn.Over f) s o = record { name = o.name; bare = o.bare; replays = o.replays; last = last_room f f.outcome o.last }
 

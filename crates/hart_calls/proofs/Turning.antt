@@ -10,7 +10,7 @@ use Rattle.frame_store.specs.View.{View}
 use Rattle.hart_calls.specs.Asks.{IsStaying}
 use Rattle.hart_calls.specs.Closed.{Closes, IsClosed, outcome_of}
 use Rattle.hart_calls.specs.Comes.{address_of, at_stop, Comes, IsPlain}
-use Rattle.hart_calls.specs.Dry.{TellsDry}
+use Rattle.hart_calls.specs.Lacks.{TellsLack}
 use Rattle.hart_calls.specs.Replay.{call_at, forked, forks, Leads, Replays}
 use Rattle.hart_calls.specs.Tells.{file_of, reads_of, Told, told, writes_of}
 use Rattle.hart_calls.specs.Track.{Adds, calls_of, next_of, Track}
@@ -72,8 +72,8 @@ module _ (t : Track) (c : Call) (stays : IsStaying c) (a b : Shelved) (want : Wa
       on = subst GoesOn (sym is.answer) (plain_goes r plain);
       child = ap forked is.answer ∙ plain_forks r plain;
       slot = subst (λ (k : Call). BySlot s k e.reply) (sym is.call) (no_slot s c e.reply stays);
-      dry = subst (λ (k : Call). TellsDry t.seat u.seat a.files t.state k want) (sym is.call)
-          (subst (λ (v : View). TellsDry v u.seat a.files t.state c want) seen (subst (λ (v : View). TellsDry x.view v a.files t.state c want) (sym left) comes.dry));
+      lack = subst (λ (k : Call). TellsLack t.seat u.seat a.files t.state k want) (sym is.call)
+          (subst (λ (v : View). TellsLack v u.seat a.files t.state c want) seen (subst (λ (v : View). TellsLack x.view v a.files t.state c want) (sym left) comes.lack));
     }
 
     pub filed : FiledOn t u a b
@@ -97,12 +97,12 @@ module _ (t : Track) (c : Call) (stays : IsStaying c) (a b : Shelved) (want : Wa
     led : (files : List File) × Leads files n t.state e (told a.files want 0 t.state c).process
     led = (a.files, leads _ refl)
 
-    still_dry : TellsDry t.seat (view_of f.seat) a.files t.state e.call want
-    still_dry =
-        subst (λ (k : Call). TellsDry t.seat (view_of f.seat) a.files t.state k want) (sym is.call)
-        (subst (λ (v : View). TellsDry v (view_of f.seat) a.files t.state c want) seen
-        (subst (λ (w : Want). TellsDry x.view (view_of f.seat) a.files t.state c w) (sym stop)
-        (later_stop x.view y.view (view_of f.seat) takes a.files t.state c rule (address_of c) (subst (λ (w : Want). TellsDry x.view y.view a.files t.state c w) stop comes.dry))))
+    still_lack : TellsLack t.seat (view_of f.seat) a.files t.state e.call want
+    still_lack =
+        subst (λ (k : Call). TellsLack t.seat (view_of f.seat) a.files t.state k want) (sym is.call)
+        (subst (λ (v : View). TellsLack v (view_of f.seat) a.files t.state c want) seen
+        (subst (λ (w : Want). TellsLack x.view (view_of f.seat) a.files t.state c w) (sym stop)
+        (later_stop x.view y.view (view_of f.seat) takes a.files t.state c rule (address_of c) (subst (λ (w : Want). TellsLack x.view y.view a.files t.state c w) stop comes.lack))))
 
     broken_last : (x : PromiseError) → f.journal.items ≡ t.journal → Last t f (outcome_of x)
     broken_last error.Memory same = same
@@ -121,7 +121,7 @@ module _ (t : Track) (c : Call) (stays : IsStaying c) (a b : Shelved) (want : Wa
         next = next_is;
         leads = leads _ refl;
         reply = is.answer ∙ by;
-        dry = still_dry;
+        lack = still_lack;
       };
     }
     over_by (inr broken) = record {

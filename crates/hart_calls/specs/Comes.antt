@@ -3,7 +3,7 @@ use Rattle.std.specs.Prelude.{◌≡◌, ℕ, ◌+◌, List, [], ◌++◌, lengt
 use Rattle.address_space.specs.Agreement.{Body, IsSpace}
 use Rattle.file_cabinet.specs.Promises.{refusal_of}
 use Rattle.file_cabinet.specs.declared.promise.PromiseError.{PromiseError}
-use Rattle.hart_calls.specs.Dry.{TellsDry}
+use Rattle.hart_calls.specs.Lacks.{TellsLack}
 use Rattle.hart_calls.specs.Tells.{reads_of, told, writes_of}
 use Rattle.hart_calls.specs.Wants.{frames_at, MayLack, nothing, refused, Want}
 use Rattle.hart_calls.specs.declared.came.Came.{Came}
@@ -51,23 +51,10 @@ by_reply address (reply.Refused r) = by_refusal r
 by_reply address (reply.Ended rule) = at_stop rule address
 by_reply address _ = nothing
 
-abbrev pub want_by : Call → Came → Want
-want_by c (came.Answered r) = by_reply (address_of c) r
-want_by c (came.Stopped r done) = refused done r
-want_by c (came.Ended rule) = at_stop rule (address_of c)
-want_by c (came.Cut r) = nothing
-
--- the same of an entry; a copy stopped after so many bytes where a page of a file was not promised
+-- of a call, by its answer, and by how many bytes a copy came to where a page of a file was not promised
 abbrev pub want_told : Option ℕ → Call → Reply → Want
 want_told (Some done) c (reply.Refused r) = refused done r
 want_told o c r = by_reply (address_of c) r
-
--- and what is answered
-abbrev pub answer_of : Came → Reply
-answer_of (came.Answered r) = r
-answer_of (came.Stopped r done) = reply.Refused r
-answer_of (came.Ended rule) = reply.Ended rule
-answer_of (came.Cut r) = reply.Refused r
 
 -- the space is the process that the model tells, and files became what it reads and writes
 pub record Comes (x y : Body) (files : List File) (Became : List PageMove → Type 0) (p : Process) (c : Call) (want : Want) (r : Reply) : Type 0 where
@@ -75,7 +62,7 @@ pub record Comes (x y : Body) (files : List File) (Became : List PageMove → Ty
   pub reply : r ≡ (told files want 0 p c).reply
   pub space : (u : Tables) × IsSpace y u (told files want 0 p c).process
   pub moves : Became (reads_of files want p c ++ writes_of files want p c)
-  pub dry : TellsDry x.view y.view files p c want
+  pub lack : TellsLack x.view y.view files p c want
 
 -- the process goes on after it, and no child begins
 abbrev pub IsPlain : Reply → Type 0

@@ -9,7 +9,7 @@ pub mod Wants
 pub mod Tells
 pub mod Replay
 pub mod Track
-pub mod Dry
+pub mod Lacks
 pub mod Turns
 pub mod Turned
 pub mod Lent

@@ -3,7 +3,7 @@ use Rattle.std.specs.Prelude.{◌≡◌, ◌⊎◌, ℕ, ◌+◌, ◌≤◌, ◌
 use Rattle.address_space.specs.Steps.{IsBare}
 use Rattle.file_shelf.specs.Shelved.{Becomes, CanRefuse, Shelved}
 use Rattle.file_cabinet.specs.declared.promise.PromiseError.TheVariants as error
-use Rattle.hart_calls.specs.Dry.{TellsDry}
+use Rattle.hart_calls.specs.Lacks.{TellsLack}
 use Rattle.hart_calls.specs.Replay.{forked, forks, Leads, Replays}
 use Rattle.hart_calls.specs.Tells.{told, writes_of}
 use Rattle.hart_calls.specs.Track.{Adds, calls_of, IsChild, next_of, Track}
@@ -77,7 +77,7 @@ pub record Goes (t u : Track) (c : Option Track) (s : Slot) : Type 0 where
   pub on : GoesOn entry.reply
   pub child : Child c t entry
   pub slot : BySlot s entry.call entry.reply
-  pub dry : TellsDry t.seat u.seat files t.state entry.call leads.want
+  pub lack : TellsLack t.seat u.seat files t.state entry.call leads.want
 
 -- ---- the process ends
 
@@ -90,7 +90,7 @@ pub record EndsBy (t : Track) (f : Finished) (r : Reply) : Type 0 where
   pub next : entry.call ≡ next_of t
   pub leads : Leads files (forks t.journal) t.state entry after
   pub reply : entry.reply ≡ r
-  pub dry : TellsDry t.seat (view_of f.seat) files t.state entry.call leads.want
+  pub lack : TellsLack t.seat (view_of f.seat) files t.state entry.call leads.want
 
 -- with no entry more for want of memory, or of room in the journal or in the files' history
 abbrev pub Last : Track → Finished → Outcome → Type 0

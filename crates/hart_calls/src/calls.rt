@@ -1,13 +1,12 @@
 // The calls of a process that leave it where it is: all but fork and exit.
 
-ghost use Rattle.std.specs.Prelude.{◌≡◌, [], Result, Ok, Err};
+ghost use Rattle.std.specs.Prelude.{◌≡◌};
 ghost use Rattle.address_space.specs.Agreement.{body_of, IsSpace};
 ghost use Rattle.frame_store.specs.Laws.{Fits, Keeps};
 ghost use Rattle.hart_calls.specs.Answers.{done_or_refused, mapped_or_refused, size_or_refused};
 ghost use Rattle.hart_calls.specs.Asks.{HasRoomFor, IsStaying};
 ghost use Rattle.hart_calls.specs.Comes.{ComesTo};
 ghost use Rattle.process_model.specs.Process.{Process};
-ghost use Rattle.process_model.specs.declared.call.Call as declared;
 ghost use Rattle.process_model.specs.declared.call.Call.TheVariants as call;
 ghost use Rattle.table_walk.specs.Tables.{Tables};
 

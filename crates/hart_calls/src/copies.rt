@@ -1,6 +1,4 @@
 // Copies by the kernel.
-
-ghost use Rattle.std.specs.Prelude.{◌≡◌};
 ghost use Rattle.address_space.specs.Agreement.{body_of, IsSpace};
 ghost use Rattle.frame_store.specs.Laws.{Fits, Keeps};
 ghost use Rattle.hart_calls.specs.Comes.{ComesTo};

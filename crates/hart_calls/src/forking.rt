@@ -2,8 +2,8 @@
 
 ghost use Rattle.std.specs.Prelude.{[], ◌∷◌, ◌≡◌, ◌≢◌, ◌<◌, IfErr, IfOk, length, List, None};
 ghost use Rattle.address_space.specs.Agreement.{body_of, IsSpace};
-ghost use Rattle.address_space.specs.Steps.{IsBare, RunsDry};
-ghost use Rattle.cow_fork.specs.Forks.{HasForked, IsShort};
+ghost use Rattle.address_space.specs.Steps.{IsBare, RunsDry, Takes};
+ghost use Rattle.cow_fork.specs.Forks.{HasForked, IsFull, IsShort};
 ghost use Rattle.frame_store.specs.Laws.{Fits, Keeps};
 ghost use Rattle.hart_calls.specs.Track.{child_name, next_of};
 ghost use Rattle.hart_calls.specs.Turns.{ForkAnswer, Goes, IsNamed, IsOver, most_entries};
@@ -11,7 +11,7 @@ ghost use Rattle.hart_calls.specs.Wants.{IsForkRefusal};
 ghost use Rattle.hart_calls.specs.declared.slot.Slot.TheVariants as slot;
 ghost use Rattle.process_model.specs.declared.call.Call.TheVariants as call;
 ghost use Rattle.process_model.specs.declared.call.Outcome.TheVariants as outcome;
-ghost use Rattle.process_model.specs.declared.step.Refusal.TheVariants.{NoFrame};
+ghost use Rattle.process_model.specs.declared.step.Refusal.TheVariants.{NoFrame, SharersFull};
 ghost use Rattle.process_model.specs.declared.step.Reply.TheVariants as reply;
 ghost use Rattle.process_model.specs.Briefs.{of_brief};
 ghost use Rattle.process_model.specs.Frames as model;
@@ -108,7 +108,8 @@ impl<'a, B: Room> Tracked<'a, B> {
         requires few { length self.journal < most_entries }
         requires refusal { IsForkRefusal refusal }
         requires answer { ForkAnswer slot.now (reply.Refused refusal) }
-        requires otherwise { refusal ≢ NoFrame }
+        requires framed { refusal ≢ NoFrame }
+        requires counted { refusal ≢ SharersFull }
         ensures goes { Goes self.entry result None slot.now }
     {
         let _ = slot;
@@ -129,6 +130,7 @@ fn fork_there<S: FrameSeat, F: FrameSupply<Seat = S>>(
     ensures forked { IfOk result (λ child. HasForked (body_of S.view space.old.value) (body_of S.view space.new.value) (body_of S.view child)) }
     ensures whole { IfErr result (λ _. (t : Tables) (p : Process) → IsSpace (body_of S.view space.old.value) t p → IsSpace (body_of S.view space.new.value) t p) }
     ensures dry { IsShort result → (t : Tables) (p : Process) → IsSpace (body_of S.view space.old.value) t p → RunsDry (S.view space.old.value.seat) (S.view space.new.value.seat) (model.fork_need p) [] }
+    ensures full { IsFull result → Takes (S.view space.old.value.seat) (S.view space.new.value.seat) 0 (65535 ∷ []) }
     ensures keeps { IfOk result (λ child. (others : List S) → F.FrameAccess.rule store.old (space.old.value.seat ∷ others) → F.FrameAccess.rule store.new (space.new.value.seat ∷ child.seat ∷ others)) }
     ensures keeps_refused { IfErr result (λ _. Keeps F.FrameAccess.rule store.old space.old.value.seat store.new space.new.value.seat) }
 {

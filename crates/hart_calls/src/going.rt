@@ -1,12 +1,11 @@
 // Processes that go on after a call.
 
-ghost use Rattle.std.specs.Prelude.{[], ◌∷◌, ◌++◌, ◌≡◌, ◌<◌, ◌≤◌, drop, length, List, None, Option, option_copied, option_map, vec_capacity, vec_len, ℕ};
+ghost use Rattle.std.specs.Prelude.{[], ◌∷◌, ◌++◌, ◌≡◌, ◌<◌, ◌≤◌, drop, length, List, vec_capacity, vec_len};
 ghost use Rattle.address_space.specs.Agreement.{body_of, IsSpace};
-ghost use Rattle.file_shelf.specs.Shelved.{Shelved};
 ghost use Rattle.hart_calls.specs.Asks.{HasRoomFor, IsStaying, may_read, reads};
 ghost use Rattle.hart_calls.specs.Closed.{cause_of};
 ghost use Rattle.hart_calls.specs.Comes.{want_told};
-ghost use Rattle.hart_calls.specs.Replay.{call_at, forked, forks, Leads, list_at, Replays};
+ghost use Rattle.hart_calls.specs.Replay.{call_at, forks, Leads, list_at, Replays};
 ghost use Rattle.hart_calls.specs.Tells.{file_of, told};
 ghost use Rattle.hart_calls.specs.Track.{AreThere, next_of};
 ghost use Rattle.hart_calls.specs.Turned.{Filed, HasTurned};

@@ -1,11 +1,10 @@
 // A process with its list of calls and its journal.
 
-ghost use Rattle.std.specs.Prelude.{[], ◌∷◌, ◌++◌, ◌≡◌, ◌↔◌, ◌<◌, ◌≤◌, IfErr, IfOk, length, true, ℕ};
+ghost use Rattle.std.specs.Prelude.{[], ◌≡◌, ◌↔◌, ◌<◌, ◌≤◌, IfOk, length, true};
 ghost use Rattle.address_space.specs.Agreement.{body_of, IsSpace};
 ghost use Rattle.hart_calls.specs.Replay.{call_at, forks, Replays};
-ghost use Rattle.hart_calls.specs.Track.{AreThere, calls_of, child_name, next_of, SameTrack, Track};
+ghost use Rattle.hart_calls.specs.Track.{AreThere, calls_of, child_name, next_of, Track};
 ghost use Rattle.hart_calls.specs.Turns.{HasMapping, IsFork, IsMmap, NeedsFiles};
-ghost use Rattle.process_model.specs.Process.{Process};
 ghost use Rattle.shared_frames.specs.Fits.{FitsIn, view_of};
 ghost use Rattle.table_walk.specs.Tables.{Tables};
 

@@ -1,12 +1,11 @@
 // One call of a process.
 
-ghost use Rattle.std.specs.Prelude.{[], ◌∷◌, ◌++◌, ◌≡◌, ◌<◌, ◌≤◌, ◌+◌, IfErr, IfOk, length, None, Option, vec_capacity, vec_len, ℕ};
-ghost use Rattle.hart_calls.specs.Asks.{HasRoomFor, IsStaying};
+ghost use Rattle.std.specs.Prelude.{[], ◌≡◌, ◌<◌, ◌≤◌, IfOk, vec_capacity};
+ghost use Rattle.hart_calls.specs.Asks.{HasRoomFor};
 ghost use Rattle.hart_calls.specs.Lent.{IsLent, OfLent};
-ghost use Rattle.hart_calls.specs.Track.{child_name, next_of, SameTrack, Track};
+ghost use Rattle.hart_calls.specs.Track.{child_name, next_of, SameTrack};
 ghost use Rattle.hart_calls.specs.Turned.{Filed, HasTurned, Unfiled};
-ghost use Rattle.hart_calls.specs.Turns.{IsNamed, most_entries, NeedsFiles};
-ghost use Rattle.process_model.specs.declared.call.Call.TheVariants as call;
+ghost use Rattle.hart_calls.specs.Turns.{IsNamed, NeedsFiles};
 
 use crate::entry::Entry;
 use crate::finished::Finished;

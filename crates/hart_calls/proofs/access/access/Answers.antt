@@ -79,7 +79,7 @@ returns-in-Ended-clause-came g c = λ k is t p space.
           let none = both.0 in
           let not = not_granted files p a (gives_leaf c.translate-walk.result) (sym c.is_permitted.ensures ∙ c.if-is_permitted.false) (rw (n.walk t p space) law) none in
           let dry = e.dry (ap served.Ended both.1) t p (can_reside (body_of g.S.FrameSeat.view c.translate-walk.new.self) t p c.args.asked.access c.args.asked.va.0 c.args.asked.width here none) in
-          ends_dry_by files p a k is wide x y _ c.in-Ended.rule both.1 none not (is_shared_by dry.0) _ (subst (λ (v : View). RunsDry v (g.S.FrameSeat.view c.serve.new.space.seat) (resident_need (is_shared_by dry.0) p c.args.asked.access (page_of c.args.asked.va.0)) (option_to_list dry.0)) n.view dry.2) (t, whole) moves
+          ends_dry_by files p a k is wide x y _ c.in-Ended.rule both.1 none not dry.0 dry.1 (subst (λ (v : View). RunsDry v (g.S.FrameSeat.view c.serve.new.space.seat) (resident_need (is_shared_by dry.0) p c.args.asked.access (page_of c.args.asked.va.0)) (option_to_list dry.0)) n.view dry.2) (t, whole) moves
     ]
 
 pub returns-in-Unserved-clause-came : goal.returns-in-Unserved-clause-came

@@ -12,6 +12,9 @@ returns-clause-whole g c = rw (← c.deref_mut.ensures.value) c.fork.ensures.who
 pub returns-clause-dry : goal.returns-clause-dry
 returns-clause-dry g c = rw (← c.deref_mut.ensures.value) c.fork.ensures.dry
 
+pub returns-clause-full : goal.returns-clause-full
+returns-clause-full g c = rw (← c.deref_mut.ensures.value) c.fork.ensures.full
+
 pub returns-clause-keeps : goal.returns-clause-keeps
 returns-clause-keeps g c = rw (← c.deref_mut.ensures.value) c.fork.ensures.keeps
 

@@ -5,8 +5,8 @@ use Rattle.hart_calls.specs.Track.{child_name, next_of, Track}
 use Rattle.hart_calls.specs.declared.slot.Slot.TheVariants as slot
 use Rattle.cow_fork.specs.Forks.{refusal_of}
 use Rattle.frame_store.specs.View.{View}
-use Rattle.hart_calls.specs.Dry.{TellsDry}
-use Rattle.hart_calls.proofs.Parting.{fork_by_slot, fork_dry, fork_goes, fork_leads, fork_may, fork_stays}
+use Rattle.hart_calls.specs.Lacks.{TellsLack}
+use Rattle.hart_calls.proofs.Parting.{fork_by_slot, fork_goes, fork_lack, fork_leads, fork_may, fork_stays}
 use Rattle.process_model.specs.declared.step.Refusal.{Refusal}
 use Rattle.hart_calls.proofs.There.{fork_there}
 use Rattle.hart_calls.specs.Wants.{nothing, refused}
@@ -136,8 +136,8 @@ returns-in-Err-clause-goes g c =
     let r = refusal_of c.in-Err.error in
     let p = c.self.invariant.1 in
     let next = subst (λ (t : Track). next_of t ≡ call.Fork c.args.list) (sym c.self.view_is) c.requires.next in
-    let dry = subst (λ (v : View). TellsDry (view_of c.self.inside.parts.space.value.seat) v [] c.self.inside.parts.present.state (call.Fork c.args.list) (refused 0 r)) (sym j.seat)
-    (fork_dry (view_of c.self.inside.parts.space.value.seat) (view_of c.fork_there.new.space.value.seat) c.self.inside.parts.present.state c.args.list c.in-Err.error (λ by. c.in-Err.ensures.dry (ap Err by) p.0 _ p.1)) in
+    let lack = subst (λ (v : View). TellsLack (view_of c.self.inside.parts.space.value.seat) v [] c.self.inside.parts.present.state (call.Fork c.args.list) (refused 0 r)) (sym j.seat)
+    (fork_lack (view_of c.self.inside.parts.space.value.seat) (view_of c.fork_there.new.space.value.seat) c.self.inside.parts.present.state c.args.list c.in-Err.error (λ by. c.in-Err.ensures.dry (ap Err by) p.0 _ p.1) (λ by. c.in-Err.ensures.full (ap Err by))) in
     rw (← c.self.view_is)
     (fork_stays _ c.rejoin-in-Err.result c.answer-entry-in-Err.result c.args.list (slot.Free c.args.name) r (record { call = e.call; answer = e.reply ∙ ap (λ (z : Refusal). reply.Refused z) c.into.ensures; pages = e.pages; file = e.file }) (fork_may c.in-Err.error)
-    (record { name = j.name; lists = j.lists; list = j.list; opening = j.opening; journal = j.journal; next = e.call ∙ sym next }) (j.state ∙ c.kept-present.ensures) (fork_by_slot c.in-Err.error) dry)
+    (record { name = j.name; lists = j.lists; list = j.list; opening = j.opening; journal = j.journal; next = e.call ∙ sym next }) (j.state ∙ c.kept-present.ensures) (fork_by_slot c.in-Err.error) lack)

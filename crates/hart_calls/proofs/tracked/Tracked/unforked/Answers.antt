@@ -41,5 +41,5 @@ returns g c =
     record {
       goes = subst (λ (z : Track). Goes z c.rejoin.result None c.args.slot.now) c.self.view_is
           (fork_stays t c.rejoin.result c.answer-entry.result c.args.list c.args.slot.now c.args.refusal is c.requires.refusal adds (r.state ∙ c.kept-present.ensures) c.requires.answer
-          (fork_calm t c.rejoin.result c.args.list c.args.refusal c.requires.refusal c.requires.otherwise));
+          (fork_calm t c.rejoin.result c.args.list c.args.refusal c.requires.refusal c.requires.framed c.requires.counted));
     }
