@@ -10,7 +10,7 @@ use Rattle.std.specs.Prelude.{Contains, is_some}
 use Rattle.process_model.specs.Inserted.{behind, first_or, in_front, same_finds}
 use Rattle.process_model.specs.PageMap.{contains, count, get, keys, numbers, PageMap}
 use Rattle.process_model.specs.Process.{Page, Process}
-use Rattle.process_model.specs.ValueSets.{AreCounted, div_up, has_value, none_counted, none_in, one_more, two_more, value_of, values}
+use Rattle.process_model.specs.ValueSets.{AreCounted, div_up, has_value, none_in, one_more, two_more, value_of, values}
 use Rattle.sv39_entry.specs.Address.{trampoline_page, trapframe_page}
 use Rattle.table_walk.specs.Tables.{Tables}
 use Rattle.address_space.specs.Settled.{IsNextSettled}
@@ -68,14 +68,6 @@ pub record CountsBelow (size : ℕ) (settled : PageMap Page) (n table : ℕ) : T
   pub tables : AreCounted (λ m. m / size) found n table
   pub there : (x : ℕ) → Contains found x → Contains (keys settled) x
   pub all : (x : ℕ) (s : Page) → get settled x ≡ Some s → x / size < table → contains (values (λ m. m / size) found) (x / size) ≡ true
-
-pub counts_none : (size : ℕ) (settled : PageMap Page) → CountsBelow size settled 0 0
-counts_none size settled = record {
-  found = [];
-  tables = none_counted (λ m. m / size);
-  there = λ x h. absurd (none_in x h);
-  all = λ x s is less. absurd (omega (arith, less));
-}
 
 module _ (size : ℕ) (some : 0 < size) (t : Tables) (p : Process) (n table : ℕ) (so_far : CountsBelow size p.settled n table) where
   abbrev at_table : ℕ → ℕ

@@ -1,6 +1,7 @@
 -- The frames of settled pages, each once, beside that of the trampoline.
 use Rattle.std.proofs.Common.{◌≡◌, ℕ, ◌+◌, ◌<◌, ◌≤◌, ◌^◌, ap, sym, subst, ◌∙◌, inl, inr, List, [], ◌∷◌, ◌++◌, length, Some, None, arith}
 use Rattle.std.proofs.lemmas.Bool.{cases_eq, cases_lt}
+use Rattle.std.proofs.lemmas.List.{append_assoc, append-nil}
 use Rattle.std.proofs.lemmas.Option.{same_Some}
 use Rattle.std.specs.FinMap.{get}
 use Rattle.frame_store.specs.View.{IsHeld, references}
@@ -12,10 +13,10 @@ use Rattle.sv39_entry.specs.Word.{ppn}
 use Rattle.table_walk.specs.Nodes.{leaf_node_is}
 use Rattle.table_walk.specs.Tables.{leaf_node, Tables}
 use Rattle.address_space.specs.Agreement.{Body, IsOn, IsSpace, Names, nothing, Owns, Shows}
-use Rattle.address_space.specs.Settled.{IsNextSettled}
+use Rattle.address_space.specs.Settled.{AreSettled, IsNextSettled}
 use Rattle.address_space.specs.declared.settled.SettledPage.{SettledPage}
 use Rattle.cow_fork.specs.Lists.{times}
-use Rattle.cow_fork.specs.Sharing.{AreGoing, IsGoing}
+use Rattle.cow_fork.specs.Sharing.{AreGoing, frames_of, IsGoing}
 use Rattle.cow_fork.proofs.Pigeons.{few}
 use Rattle.cow_fork.proofs.Releasing.{times_other, times_same}
 
@@ -144,3 +145,13 @@ module _ (x : Body) (t : Tables) (p : Process) (is : IsSpace x t p) where
   ] where
     below : (n : ℕ) (s : Page) → n < trapframe_page → pages.get p.settled n ≡ Some s → n < from
     below n s low there = elim (cases_lt n from) [ inl less ↦ less | inr late ↦ absurd (let gone = none n late low in cc) ]
+
+  -- the settled pages, one after another
+  going_on : (from : ℕ) (L : List ℕ) (list : List SettledPage) → AreGoing t p from L → AreSettled t p from trapframe_page list → AreGoing t p trapframe_page (L ++ frames_of list)
+  going_on from L [] going none = subst (AreGoing t p trapframe_page) (sym (append-nil L)) (going_all from L going none)
+  going_on from L (a ∷ list) going next =
+      subst (AreGoing t p trapframe_page) (append_assoc L ((a.frame).0 ∷ []) (frames_of list))
+      (going_on (a.page + 1) (L ++ (a.frame).0 ∷ []) list (going_more from L going a next.0) next.1)
+
+  pub going_settled : (list : List SettledPage) → AreSettled t p 0 trapframe_page list → AreGoing t p trapframe_page (0 ∷ frames_of list)
+  going_settled list settled = going_on 0 (0 ∷ []) list going_none settled

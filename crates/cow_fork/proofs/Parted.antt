@@ -8,7 +8,6 @@ use Rattle.frame_store.specs.View.{Hold, hold_of, IsSole, references, View}
 use Rattle.process_model.specs.EachValue.{each_there, found_each}
 use Rattle.process_model.specs.OrderKept.{same_order}
 use Rattle.process_model.specs.PageMap as pages
-use Rattle.process_model.specs.PageMap.{each_value}
 use Rattle.process_model.specs.Process.{grants_write, Page, Process, regions}
 use Rattle.process_model.specs.Regions.{lacks_right, Region, region_at}
 use Rattle.process_model.specs.Residence.{child_of, child_page, marked, marked_page}

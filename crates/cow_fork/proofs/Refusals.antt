@@ -1,8 +1,8 @@
 -- A fork that is refused, and one that may begin.
-use Rattle.std.proofs.Common.{◌≡◌, ◌⊎◌, ℕ, ◌+◌, ◌<◌, ◌≤◌, ap, refl, sym, subst, ◌∙◌, inl, inr, arith, Result, Ok, Err, List, [], ◌∷◌, ◌++◌, length}
+use Rattle.std.proofs.Common.{◌≡◌, ◌⊎◌, ℕ, ◌<◌, ◌≤◌, ap, refl, sym, subst, ◌∙◌, inl, inr, arith, Result, Ok, Err, List, [], ◌∷◌, length}
 use Rattle.std.proofs.lemmas.List.{append-nil, length-map}
 use Rattle.frame_store.specs.Laws.{IsAnchored, IsDry}
-use Rattle.frame_store.specs.View.{counted, Hold, hold_of, IsHeld, Tallies, View}
+use Rattle.frame_store.specs.View.{Hold, hold_of, IsHeld, View}
 use Rattle.frame_store.specs.Holds.{hold_of-frames}
 use Rattle.process_model.specs.Frames.{fork_need}
 use Rattle.process_model.specs.Process.{Process}
@@ -11,16 +11,16 @@ use Rattle.table_walk.specs.Tables.{Tables}
 use Rattle.address_space.specs.Agreement.{Body, body, body_of, IsSpace, nothing}
 use Rattle.address_space.specs.Layouts.{Layout}
 use Rattle.address_space.specs.Settled.{AreSettled}
-use Rattle.address_space.specs.Steps.{RunsDry, Takes}
+use Rattle.address_space.specs.Steps.{RunsDry}
 use Rattle.address_space.specs.declared.settled.SettledPage.{SettledPage}
 use Rattle.address_space.specs.declared.space.Space.{Space}
-use Rattle.cow_fork.specs.Forks.{CanDivide, IsBack, Prepares}
+use Rattle.cow_fork.specs.Forks.{CanDivide, Prepares}
 use Rattle.cow_fork.specs.Lists.{times}
 use Rattle.cow_fork.specs.Sharing.{AreGoing, frames_of}
 use Rattle.cow_fork.specs.declared.forking.ForkError.{ForkError}
 use Rattle.cow_fork.specs.declared.forking.ForkError.TheVariants.{NoFrame, SharersFull}
 use Rattle.address_space.specs.Beside.{stands_beside}
-use Rattle.cow_fork.proofs.Going.{going_few, going_held}
+use Rattle.cow_fork.proofs.Going.{going_few, going_held, going_settled}
 use Rattle.cow_fork.proofs.Walking.{body_between}
 
 -- ---- results
@@ -62,21 +62,16 @@ runs_dry o v w n need is dry none same = record {
   looks = dry.looks ∙ ap (λ (x : View). x.tallies.looks) is ∙ sym (append-nil o.tallies.looks);
 }
 
-pub looked_once : (o v w : View) → v ≡ o → IsBack v w → Takes o w 0 (65535 ∷ [])
-looked_once o v w is back = record {
-  tallies =
-      let same : o.tallies.claims ≡ o.tallies.claims + 0 = omega arith in
-      back.tallies ∙ ap (λ (k : View). counted (65535 ∷ []) k.tallies) is
-      ∙ ap (λ (n : ℕ). let z : Tallies = record o.tallies { claims = n; looks = o.tallies.looks ++ 65535 ∷ [] } in z) same;
-}
-
 -- ---- what may begin
 
 module _ (x : Body) (t : Tables) (p : Process) (space : IsSpace x t p) where
   pub space_anchored : IsAnchored x.view
   space_anchored f _ = going_held x t p space trapframe_page 0 (inl refl)
 
-  module _ (list : List SettledPage) (going : AreGoing t p trapframe_page (0 ∷ frames_of list)) where
+  module _ (list : List SettledPage) (settled : AreSettled t p 0 trapframe_page list) where
+    going : AreGoing t p trapframe_page (0 ∷ frames_of list)
+    going = going_settled x t p space list settled
+
     pub going_once : (f : ℕ) → times f (0 ∷ frames_of list) ≤ 1
     going_once f = elim (going f) [ inl there ↦ (let one = there.0 in omega (arith, one)) | inr none ↦ (let zero_ = none.0 in omega (arith, zero_)) ]
 
@@ -91,13 +86,13 @@ module _ (x : Body) (t : Tables) (p : Process) (space : IsSpace x t p) where
 
 -- it may be divided
 pub can_divide : {S : Type 0} (view : S → View) (x y : Space S) (v : View) (t : Tables) (p : Process) (need : ℕ) (list : List SettledPage) (L : List ℕ)
-    → IsSpace (body_of view y) t p → AreGoing t p trapframe_page (0 ∷ frames_of list) → AreSettled t p 0 trapframe_page list
+    → IsSpace (body_of view y) t p → AreSettled t p 0 trapframe_page list
     → v ≡ view y.seat → x.root ≡ y.root → x.trapframe ≡ y.trapframe → x.layout ≡ y.layout → need ≡ fork_need p
     → Prepares v (view x.seat) need L (0 ∷ frames_of list) → CanDivide v (body_of view x) t p list L
-can_divide view x y v t p need list L space going settled viewed root trapframe layout needs ready = record {
+can_divide view x y v t p need list L space settled viewed root trapframe layout needs ready = record {
   space = subst (λ b. IsSpace b t p) (sym (body_between v (view y.seat) x y viewed root trapframe layout)) space;
   more = ready.more;
-  going = subst (AreGoing t p trapframe_page) (sym ready.all) going;
+  going = subst (AreGoing t p trapframe_page) (sym ready.all) (going_settled (body_of view y) t p space list settled);
   settled = settled;
   credits = ready.credits ∙ needs;
   tallies = ready.tallies;

@@ -1,6 +1,6 @@
 -- The frames that are left to share, from a place in the list of settled pages on.
-use Rattle.std.proofs.Common.{◌≡◌, ℕ, ◌+◌, ◌<◌, ◌≤◌, ap, sym, ◌∙◌, List, [], ◌∷◌, ◌++◌, drop, length, slice_index_or, arith}
-use Rattle.std.proofs.lemmas.List.{append_assoc, append-nil, at_drop_all, at_drop_more, length-append, length-map}
+use Rattle.std.proofs.Common.{◌≡◌, ℕ, ◌+◌, ◌<◌, ap, sym, ◌∙◌, List, [], ◌∷◌, ◌++◌, drop, length, slice_index_or, arith}
+use Rattle.std.proofs.lemmas.List.{append_assoc, at_drop_more, length-append, length-map}
 use Rattle.address_space.specs.declared.settled.SettledPage.{SettledPage}
 use Rattle.cow_fork.specs.Sharing.{frames_of}
 
@@ -26,6 +26,3 @@ module _ (settled : List SettledPage) (i : ℕ) where
         let parts = length-append taken ((x.frame).0 ∷ frames_of (drop (i + 1) settled)) in
         let all = length-map settled (λ (y : SettledPage). (y.frame).0) in
         omega (arith, whole, parts, all, few)
-
-  pub left_none : (taken : List ℕ) → AreLeft taken → length settled ≤ i → taken ≡ 0 ∷ frames_of settled
-  left_none taken left past = sym (append-nil taken) ∙ ap (λ l. taken ++ l) (sym (at_drop_all frames_of settled i past)) ∙ left

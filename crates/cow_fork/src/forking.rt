@@ -1,12 +1,12 @@
 // Fork by copy-on-write.
 
-ghost use Rattle.std.specs.Prelude.{[], ◌∷◌, ◌≡◌, ◌-◌, ◌↔◌, ◌<◌, ◌≤◌, if◌then◌else◌, IfErr, IfOk, is_ok, IsOk, length, List, map, ℕ};
+ghost use Rattle.std.specs.Prelude.{[], ◌∷◌, ◌≡◌, ◌-◌, ◌↔◌, ◌<◌, ◌≤◌, if◌then◌else◌, IfErr, IfOk, is_ok, length, List, map, ℕ};
 ghost use Rattle.address_space.specs.Agreement.{body, body_of, IsSpace};
 ghost use Rattle.address_space.specs.Settled.{AreSettled};
 ghost use Rattle.address_space.specs.Steps.{RunsDry, Takes};
 ghost use Rattle.cow_fork.specs.Forks.{CanDivide, Forks, HasChild, HasForked, IsBack, IsFull, IsShort, Prepares};
 ghost use Rattle.cow_fork.specs.Lists.{times};
-ghost use Rattle.cow_fork.specs.Sharing.{AreGoing, frames_of};
+ghost use Rattle.cow_fork.specs.Sharing.{frames_of};
 ghost use Rattle.frame_store.specs.Laws.{Fits, IsAnchored, IsDry, Keeps};
 ghost use Rattle.frame_store.specs.View.{IsHeld, View};
 ghost use Rattle.process_model.specs.Frames as model;
@@ -108,7 +108,6 @@ pub fn fork_listed<S: FrameSeat, F: FrameSupply<Seat = S>>(
     requires fits { Fits F.rule store.old space.old.seat }
     requires ready { (t : Tables) × (p : Process) × IsSpace (body_of S.view space.old) t p }
     requires settled { (t : Tables) (p : Process) → IsSpace (body_of S.view space.old) t p → AreSettled t p 0 trapframe_page settled.now }
-    requires going { (t : Tables) (p : Process) → IsSpace (body_of S.view space.old) t p → AreGoing t p trapframe_page (0 ∷ frames_of settled.now) }
     ensures forked { IfOk result (λ child. HasForked (body_of S.view space.old) (body_of S.view space.new) (body_of S.view child)) }
     ensures whole { IfErr result (λ _. (t : Tables) (p : Process) → IsSpace (body_of S.view space.old) t p → IsSpace (body_of S.view space.new) t p) }
     ensures dry { IsShort result → (t : Tables) (p : Process) → IsSpace (body_of S.view space.old) t p → RunsDry (S.view space.old.seat) (S.view space.new.seat) (model.fork_need p) [] }

@@ -1,9 +1,8 @@
 // The settled pages of a process, as a list.
 
-ghost use Rattle.std.specs.Prelude.{[], ◌≡◌, ◌∷◌, map};
+ghost use Rattle.std.specs.Prelude.{[], ◌≡◌};
 ghost use Rattle.address_space.specs.Agreement.{body_of, IsSpace};
 ghost use Rattle.address_space.specs.Settled.{AreSettled};
-ghost use Rattle.cow_fork.specs.Sharing.{AreGoing, frames_of};
 ghost use Rattle.frame_store.specs.Laws.{Fits, Keeps};
 ghost use Rattle.process_model.specs.Process.{Process};
 ghost use Rattle.sv39_entry.specs.Address.{trapframe_page};
@@ -44,7 +43,6 @@ impl PageList {
         requires fits { Fits F.rule store.old space.old.seat }
         requires ready { (t : Tables) × (p : Process) × IsSpace (body_of S.view space.old) t p }
         ensures settled { (t : Tables) (p : Process) → IsSpace (body_of S.view space.old) t p → AreSettled t p 0 trapframe_page result.now }
-        ensures going { (t : Tables) (p : Process) → IsSpace (body_of S.view space.old) t p → AreGoing t p trapframe_page (0 ∷ frames_of result.now) }
         ensures root { space.new.root ≡ space.old.root }
         ensures trapframe { space.new.trapframe ≡ space.old.trapframe }
         ensures layout { space.new.layout ≡ space.old.layout }
@@ -69,7 +67,6 @@ fn list_settled<S: FrameSeat, F: FrameAccess<Seat = S>>(
     requires ready { (t : Tables) × (p : Process) × IsSpace (body_of S.view space.old) t p }
     requires empty { pages.old.items ≡ [] }
     ensures settled { (t : Tables) (p : Process) → IsSpace (body_of S.view space.old) t p → AreSettled t p 0 trapframe_page pages.new.items }
-    ensures going { (t : Tables) (p : Process) → IsSpace (body_of S.view space.old) t p → AreGoing t p trapframe_page (0 ∷ frames_of pages.new.items) }
     ensures root { space.new.root ≡ space.old.root }
     ensures trapframe { space.new.trapframe ≡ space.old.trapframe }
     ensures layout { space.new.layout ≡ space.old.layout }

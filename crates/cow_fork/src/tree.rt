@@ -1,6 +1,6 @@
 // The page tables of the child, and those of the parent once the child has its own.
 
-ghost use Rattle.std.specs.Prelude.{[], ◌≡◌, ◌≤◌, ℕ};
+ghost use Rattle.std.specs.Prelude.{[], ◌≡◌, ℕ};
 ghost use Rattle.address_space.specs.Agreement.{body_of};
 ghost use Rattle.address_space.specs.Standing.{IsStanding, TurnsLeaves};
 ghost use Rattle.address_space.specs.Settled.{AreSettled};

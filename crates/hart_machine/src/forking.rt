@@ -3,7 +3,6 @@
 ghost use Rattle.std.specs.Prelude.{◌≡◌, ◌∷◌, ◌<◌, IfErr, IfOk, List, ℕ, slice_index};
 ghost use Rattle.address_space.specs.Agreement.{IsSpace};
 ghost use Rattle.address_space.specs.Settled.{AreSettled};
-ghost use Rattle.cow_fork.specs.Sharing.{AreGoing, frames_of};
 ghost use Rattle.frame_store.specs.Laws.{Fits, Keeps};
 ghost use Rattle.frame_store.specs.Plain.{BankRule};
 ghost use Rattle.frame_store.specs.View.{IsHeld, View};
@@ -83,7 +82,6 @@ impl Tenant {
         requires fits { Fits BankRule frames.old (view_of self.old) }
         requires ready { (t : Tables) × (p : Process) × IsTenant self.old t p }
         requires settled { (t : Tables) (p : Process) → IsSpace (body_in self.old) t p → AreSettled t p 0 trapframe_page settled.now }
-        requires going { (t : Tables) (p : Process) → IsSpace (body_in self.old) t p → AreGoing t p trapframe_page (0 ∷ frames_of settled.now) }
         requires few { (f : ℕ) → IsHeld (view_of self.old) f → slice_index frames.old.counts f < 65535 }
         ensures forked { IfOk result (λ child. (t : Tables) (p : Process) → IsTenant self.old t p → HasForkedTenant self.new child t p) }
         ensures trapframe { self.new.space.trapframe ≡ self.old.space.trapframe }

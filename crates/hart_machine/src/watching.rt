@@ -1,10 +1,9 @@
 // What is read of a process before and after a call, to tell whether the call changes a leaf of its pages.
 
-ghost use Rattle.std.specs.Prelude.{◌≡◌, ◌↔◌, ◌+◌, ◌<◌, ◌≤◌, ◌∷◌, ◌&&◌, ℕ, false, min, not, Some, true};
+ghost use Rattle.std.specs.Prelude.{◌≡◌, ◌↔◌, ◌+◌, ◌<◌, ◌≤◌, ◌&&◌, ℕ, false, min, not, Some, true};
 ghost use Rattle.address_space.specs.Accesses.{IsGranted};
 ghost use Rattle.address_space.specs.Agreement.{IsSpace};
 ghost use Rattle.address_space.specs.Settled.{AreSettled};
-ghost use Rattle.cow_fork.specs.Sharing.{AreGoing, frames_of};
 ghost use Rattle.frame_store.specs.Laws.{Fits};
 ghost use Rattle.frame_store.specs.Plain.{BankRule};
 ghost use Rattle.hart_machine.specs.Tenants.{body_in, IsTenant, view_of};
@@ -81,7 +80,6 @@ impl Tenant {
         requires fits { Fits BankRule frames.old (view_of self.old) }
         requires ready { (t : Tables) × (p : Process) × IsTenant self.old t p }
         ensures settled { (t : Tables) (p : Process) → IsSpace (body_in self.old) t p → AreSettled t p 0 trapframe_page result.now }
-        ensures going { (t : Tables) (p : Process) → IsSpace (body_in self.old) t p → AreGoing t p trapframe_page (0 ∷ frames_of result.now) }
         ensures same { self.new ≡ self.old }
         ensures frames { frames.new ≡ frames.old }
     {

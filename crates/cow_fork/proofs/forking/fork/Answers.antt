@@ -39,11 +39,6 @@ fork_listed-requires-clause-settled g c t p space =
     let at = (goal.at.fork_listed-requires-clause-settled g c).After-settled_pages-settled in
     c.settled_pages-settled.ensures.settled t p (back g at t p space)
 
-pub fork_listed-requires-clause-going : goal.fork_listed-requires-clause-going
-fork_listed-requires-clause-going g c t p space =
-    let at = (goal.at.fork_listed-requires-clause-going g c).After-settled_pages-settled in
-    c.settled_pages-settled.ensures.going t p (back g at t p space)
-
 pub returns-clause-forked : goal.returns-clause-forked
 returns-clause-forked g c =
     let at = (goal.at.returns-clause-forked g c).After-settled_pages-settled in

@@ -1,6 +1,6 @@
 use Rattle.std.proofs.Common.{◌≡◌, ◌-◌, ap, inl, inr, Err, refl, sym, subst, ◌∙◌, arith}
 use Rattle.address_space.specs.Agreement.{body, body_of, IsSpace}
-use Rattle.frame_store.specs.Laws.{fits_after, Keeps}
+use Rattle.frame_store.specs.Laws.{fits_after}
 use Rattle.frame_store.specs.View.{View}
 use Rattle.process_model.specs.Frames as model
 use Rattle.process_model.specs.Process.{Process}
@@ -30,9 +30,6 @@ module _ (g : given.Over) (c : After-fork_need-need g) where
   stored : c.fork_need-need.new.store ≡ c.args.store.now
   stored = c.fork_need-need.ensures.same
 
-  kept : Keeps g.F.FrameAccess.rule c.args.store.now c.args.space.now.seat c.fork_need-need.new.store c.fork_need-need.new.space.seat
-  kept others r = c.fork_need-need.ensures.keeps others r
-
   needed : (t : Tables) (p : Process) → IsSpace (body_of g.S.FrameSeat.view c.args.space.now) t p → c.fork_need-need.result ≡ model.fork_need p
   needed t p space = c.fork_need-need.ensures.need t p space
 
@@ -47,18 +44,18 @@ prepare-requires-clause-anchored g c =
 pub prepare-requires-clause-once : goal.prepare-requires-clause-once
 prepare-requires-clause-once g c =
     let r = c.requires.ready in
-    going_once _ r.0 r.1 r.2 _ (c.requires.going r.0 r.1 r.2)
+    going_once _ r.0 r.1 r.2 _ (c.requires.settled r.0 r.1 r.2)
 
 pub prepare-requires-clause-held : goal.prepare-requires-clause-held
 prepare-requires-clause-held g c =
     let r = c.requires.ready in
-    rw c.fork_need-need.ensures.view (all_held _ r.0 r.1 r.2 _ (c.requires.going r.0 r.1 r.2))
+    rw c.fork_need-need.ensures.view (all_held _ r.0 r.1 r.2 _ (c.requires.settled r.0 r.1 r.2))
 
 pub prepare-requires-clause-few : goal.prepare-requires-clause-few
 prepare-requires-clause-few g c =
     let r = c.requires.ready in
     let law = g.met.F.FrameAccess.within _ _ c.requires.fits.0 c.requires.fits.1 in
-    few_pages _ r.0 r.1 r.2 _ (c.requires.going r.0 r.1 r.2) (λ f held. let low = law.1 f held in omega (arith, low, law.0))
+    few_pages _ r.0 r.1 r.2 _ (c.requires.settled r.0 r.1 r.2) (λ f held. let low = law.1 f held in omega (arith, low, law.0))
 
 -- ---- a refusal
 
@@ -92,7 +89,7 @@ returns-in-Err-clause-sharers g c alone is =
     let r = c.requires.ready in
     let s = c.in-Err.ensures.sharers alone (same_error _ _ is) in
     let count = ap (λ x. g.F.FrameAccess.count x s.0) (stored g at) in
-    (s.0, all_held _ r.0 r.1 r.2 _ (c.requires.going r.0 r.1 r.2) s.0 s.1, λ less. s.2 (omega (arith, less, count)))
+    (s.0, all_held _ r.0 r.1 r.2 _ (c.requires.settled r.0 r.1 r.2) s.0 s.1, λ less. s.2 (omega (arith, less, count)))
 
 pub returns-in-Err-clause-free : goal.returns-in-Err-clause-free
 returns-in-Err-clause-free g c alone t p space other =
@@ -115,7 +112,7 @@ divide-requires-clause-ready g c =
       _,
       r.0,
       r.1,
-      can_divide g.S.FrameSeat.view c.prepare.new.space c.args.space.now _ r.0 r.1 _ _ _ r.2 (c.requires.going r.0 r.1 r.2) (c.requires.settled r.0 r.1 r.2)
+      can_divide g.S.FrameSeat.view c.prepare.new.space c.args.space.now _ r.0 r.1 _ _ _ r.2 (c.requires.settled r.0 r.1 r.2)
           (viewed g at) (p.root ∙ rooted g at) (p.trapframe ∙ framed g at) (p.layout ∙ laid g at) (needed g at r.0 r.1 r.2) c.in_default.ensures.prepared,
     )
 
@@ -123,7 +120,7 @@ pub returns-clause-forked : goal.returns-clause-forked
 returns-clause-forked g c t p space =
     let at = (goal.at.returns-clause-forked g c).After-fork_need-need in
     let e = c.prepare.ensures in
-    let can = can_divide g.S.FrameSeat.view c.prepare.new.space c.args.space.now _ t p _ _ _ space (c.requires.going t p space) (c.requires.settled t p space)
+    let can = can_divide g.S.FrameSeat.view c.prepare.new.space c.args.space.now _ t p _ _ _ space (c.requires.settled t p space)
     (viewed g at) (e.root ∙ rooted g at) (e.trapframe ∙ framed g at) (e.layout ∙ laid g at) (needed g at t p space) c.in_default.ensures.prepared in
     let all = c.divide.ensures.divided _ t p can in
     let before = body_between _ _ c.prepare.new.space c.args.space.now (viewed g at) (e.root ∙ rooted g at) (e.trapframe ∙ framed g at) (e.layout ∙ laid g at) in

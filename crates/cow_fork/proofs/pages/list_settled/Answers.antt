@@ -6,7 +6,7 @@ use Rattle.frame_store.specs.Laws.{fits_after}
 use Rattle.address_space.specs.Standing.{standing}
 use Rattle.sv39_entry.specs.Address.{trapframe_page}
 use Rattle.cow_fork.specs.Sharing.{frames_of}
-use Rattle.cow_fork.proofs.Going.{going_all, going_few, going_more, going_none}
+use Rattle.cow_fork.proofs.Going.{going_few, going_more, going_none}
 use Rattle.cow_fork.proofs.Walking.{same_body}
 use Rattle.cow_fork.proofs.pages.list_settled.Goals as goal
 
@@ -84,13 +84,6 @@ returns-clause-settled g c t p space =
     let body = same_body g.S.FrameSeat.view c.pages.space c.args.space.now i.view i.root i.trapframe i.layout in
     let none = rw (c.in_default.is, c.page.ensures.number) at c.next_settled.ensures.page t p (standing (rw body space)) in
     subst (AreSettled t p 0 trapframe_page) (append-nil c.pages.pages.items) (i.settled t p space [] none)
-
-pub returns-clause-going : goal.returns-clause-going
-returns-clause-going g c t p space =
-    let i = c.pages.invariant in
-    let body = same_body g.S.FrameSeat.view c.pages.space c.args.space.now i.view i.root i.trapframe i.layout in
-    let none = rw (c.in_default.is, c.page.ensures.number) at c.next_settled.ensures.page t p (standing (rw body space)) in
-    going_all _ t p space c.pages.from (0 ∷ frames_of c.pages.pages.items) (i.going t p space) none
 
 pub returns-clause-keeps : goal.returns-clause-keeps
 returns-clause-keeps g c others r = c.next_settled.ensures.keeps others (c.pages.invariant.keeps others r)

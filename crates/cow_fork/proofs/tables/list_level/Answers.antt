@@ -4,7 +4,7 @@ use Rattle.table_walk.specs.Tables.{HasTables, node, Tables}
 use Rattle.cow_fork.proofs.Listing.{from_low, goes_up, length_numbers, level_done, map_push, one_more, room, some, still_near, table_there}
 use Rattle.cow_fork.proofs.tables.list_level.Given as given
 use Rattle.cow_fork.proofs.tables.list_level.Goals as goal
-use Rattle.cow_fork.proofs.tables.list_level.Goals.{After-first_page, In-Some, In-Some-table_at, In_default-table_at}
+use Rattle.cow_fork.proofs.tables.list_level.Goals.{In-Some-table_at}
 
 pub first_page-requires-clause-held : goal.first_page-requires-clause-held
 first_page-requires-clause-held g c = let r = c.requires.ready in let i = c.tables.invariant in (r.0, rw i.view r.2.tables)

@@ -1,8 +1,7 @@
-use Rattle.std.proofs.Common.{◌∷◌, List, subst, sym}
+use Rattle.std.proofs.Common.{List, subst, sym}
 use Rattle.address_space.specs.Settled.{AreSettled}
 use Rattle.address_space.specs.declared.settled.SettledPage.{SettledPage}
 use Rattle.sv39_entry.specs.Address.{trapframe_page}
-use Rattle.cow_fork.specs.Sharing.{AreGoing, frames_of}
 use Rattle.cow_fork.proofs.pages.PageList.settled_pages.Goals as goal
 
 pub returns : goal.returns
@@ -11,7 +10,6 @@ returns g c =
     let listed = sym c.as_slice.ensures.value in
     record {
       settled = λ t p space. subst (λ (l : List SettledPage). AreSettled t p 0 trapframe_page l) listed (e.settled t p space);
-      going = λ t p space. subst (λ (l : List SettledPage). AreGoing t p trapframe_page (0 ∷ frames_of l)) listed (e.going t p space);
       root = e.root;
       trapframe = e.trapframe;
       layout = e.layout;

@@ -99,11 +99,6 @@ fork-requires-clause-settled c t p space =
     let u = c.settled_pages-settled.ensures in
     u.settled t p (subst (λ (z : Tenant). IsSpace (body_in z) t p) u.same space)
 
-pub fork-requires-clause-going : goal.fork-requires-clause-going
-fork-requires-clause-going c t p space =
-    let u = c.settled_pages-settled.ensures in
-    u.going t p (subst (λ (z : Tenant). IsSpace (body_in z) t p) u.same space)
-
 pub fork-requires-clause-few : goal.fork-requires-clause-few
 fork-requires-clause-few c = rw (c.settled_pages-settled.ensures.same, c.settled_pages-settled.ensures.frames) (λ f held. let r = c.requires.world in few_shared c.args.self.now r.0 r.1 f)
 
