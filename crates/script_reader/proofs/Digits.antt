@@ -73,11 +73,3 @@ said_if (Some d) n is low = ap Some (sym is)
 
 pub said_digit : (base b n : ℕ) → n ≡ value_or_255 (digit_of base b) → n < 255 → digit_of base b ≡ Some n
 said_digit base b n is low = said_if (digit_of base b) n is low
-
--- and no value from the base on is
-none_if : (base n : ℕ) (o : Option ℕ) → ((d : ℕ) → o ≡ Some d → d < base) → n ≡ value_or_255 o → base ≤ n → o ≡ None
-none_if base n None small is high = refl
-none_if base n (Some d) small is high = let low = small d refl in absurd (omega (arith, low, is, high))
-
-pub no_digit : (base b n : ℕ) → n ≡ value_or_255 (digit_of base b) → base ≤ n → digit_of base b ≡ None
-no_digit base b n is high = none_if base n (digit_of base b) (is_small base b) is high

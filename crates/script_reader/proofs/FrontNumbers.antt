@@ -63,10 +63,6 @@ no_blank base b d is =
       ]
     ]
 
--- the digit in front, where digits say a number
-abbrev Digit : ℕ → ℕ → Type 0
-Digit base b = (d : ℕ) × (digit_of base b ≡ Some d)
-
 one_digit : (base m n b : ℕ) (digits : List ℕ) (o : Option ℕ) → digits_from base (one_more base (Some m) o) digits ≡ Some n → (d : ℕ) × (o ≡ Some d) × (digits_from base (Some (m * base + d)) digits ≡ Some n)
 one_digit base m n b digits None says = absurd (none_some n (sym (from_none base digits) ∙ says))
 one_digit base m n b digits (Some d) says = (d, refl, says)

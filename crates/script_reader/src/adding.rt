@@ -1,6 +1,6 @@
 // Lines that are read at once, added to those before them.
 
-ghost use Rattle.std.specs.Prelude.{◌≡◌, ℕ, IfSome, MatchOption, Ok, OnOk, codes, true};
+ghost use Rattle.std.specs.Prelude.{◌≡◌, ℕ, IfSome, MatchOption, Ok, OnOk, true};
 ghost use Rattle.process_model.specs.Script as words;
 ghost use Rattle.script_reader.specs.Adding.{Adds};
 ghost use Rattle.script_reader.specs.QuickWords.{letters};
@@ -11,25 +11,7 @@ use crate::quick::{QuickWord, load, quick_command, store, word_front};
 use crate::reading::LONGEST_LINE;
 use std::alloc::AllocError;
 
-/// Adds a load. Where its fields are of another form, nothing changes.
-fn add_load(draft: &mut Draft, fields: &[u8]) -> Option<Result<(), AllocError>>
-    ensures added { IfSome result (λ done. OnOk done (Adds draft.old draft.new (codes "load") fields.now)) }
-    ensures other { MatchOption result (draft.new ≡ draft.old) (λ _. Unit {0}) }
-{
-    let command = load(fields)?;
-    Some(draft.add_command(command))
-}
-
-/// Adds a store. Where its fields are of another form, nothing changes.
-fn add_store(draft: &mut Draft, fields: &[u8]) -> Option<Result<(), AllocError>>
-    ensures added { IfSome result (λ done. OnOk done (Adds draft.old draft.new (codes "store") fields.now)) }
-    ensures other { MatchOption result (draft.new ≡ draft.old) (λ _. Unit {0}) }
-{
-    let command = store(fields)?;
-    Some(draft.add_command(command))
-}
-
-/// Adds the command of a word. Where its fields are of another form, nothing changes.
+/// Adds the command of a word that is neither a load nor a store. Where its fields are of another form, nothing changes.
 #[inline(never)]
 fn add_other(draft: &mut Draft, word: QuickWord, fields: &[u8]) -> Option<Result<(), AllocError>>
     ensures added { IfSome result (λ done. OnOk done (Adds draft.old draft.new (letters word) fields.now)) }
@@ -39,16 +21,16 @@ fn add_other(draft: &mut Draft, word: QuickWord, fields: &[u8]) -> Option<Result
     Some(draft.add_command(command))
 }
 
-/// The same of loads and stores apart, of which most scripts have most: what the command of one is need not be asked where it is
-/// kept.
+/// Adds the command of a word. Where its fields are of another form, nothing changes. Loads and stores, which most lines of most
+/// scripts are, are kept as they are read: their commands need not be told apart again.
 #[inline(always)]
 fn add_word(draft: &mut Draft, word: QuickWord, fields: &[u8]) -> Option<Result<(), AllocError>>
     ensures added { IfSome result (λ done. OnOk done (Adds draft.old draft.new (letters word) fields.now)) }
     ensures other { MatchOption result (draft.new ≡ draft.old) (λ _. Unit {0}) }
 {
     match word {
-        QuickWord::Load => add_load(draft, fields),
-        QuickWord::Store => add_store(draft, fields),
+        QuickWord::Load => Some(draft.add_command(load(fields)?)),
+        QuickWord::Store => Some(draft.add_command(store(fields)?)),
         _ => add_other(draft, word, fields),
     }
 }

@@ -1,6 +1,6 @@
 // Numbers, as fields spell them.
 
-ghost use Rattle.std.specs.Prelude.{◌≡◌, ◌≤◌, ◌^◌, Some};
+ghost use Rattle.std.specs.Prelude.{◌≡◌, ◌^◌, Some};
 ghost use Rattle.script_reader.specs.Digits.{value_or_255};
 ghost use Rattle.process_model.specs.Numbers.{digit_of, digits_in, if_below, number_of, signed_of, as_negative};
 

@@ -1,6 +1,6 @@
 // Scripts that come in pieces.
 
-ghost use Rattle.std.specs.Prelude.{◌≡◌, ◌+◌, ◌<◌, ◌≤◌, ◌++◌, ◌^◌, [], length, IfOk, IfSome, List, ℕ, nat_lt, OnOk};
+ghost use Rattle.std.specs.Prelude.{◌≡◌, ◌<◌, ◌≤◌, ◌++◌, ◌^◌, [], length, IfOk, IfSome, List, ℕ, nat_lt, OnOk};
 ghost use Rattle.process_model.specs.Script as words;
 ghost use Rattle.script_reader.specs.Gives.{Answers};
 ghost use Rattle.script_reader.specs.Playable.{IsPlayable};

@@ -3,7 +3,6 @@
 
 ghost use Rattle.std.specs.Prelude.{◌≡◌, IfSome, codes, true, [], ◌∷◌, ◌++◌};
 ghost use Rattle.process_model.specs.Fields.{one_number, two_numbers};
-ghost use Rattle.process_model.specs.declared.script.FieldKind.TheVariants as kind;
 ghost use Rattle.process_model.specs.declared.script.FieldValue.TheVariants as value;
 ghost use Rattle.process_model.specs.Lines.{fields_of};
 ghost use Rattle.script_reader.specs.Quick.{EndsWith, Reads, SaysCommand};
@@ -48,25 +47,16 @@ fn one(line: &[u8]) -> Option<usize>
     Some(number as usize)
 }
 
-/// Two numbers, and no other field.
+/// Two numbers, and no other field. The second may be an address.
 fn two(line: &[u8]) -> Option<(usize, u64)>
     ensures { IfSome result (λ n. Reads line.now two_numbers (value.Number n.0 ∷ value.Number n.1 ∷ [])) }
 {
     let (first, line) = next_number(line)?;
-    let second = one(line)?;
-    Some((first as usize, second as u64))
-}
-
-/// A hart and an address, and no other field.
-fn hart_and_address(line: &[u8]) -> Option<(usize, u64)>
-    ensures { IfSome result (λ n. Reads line.now two_numbers (value.Number n.0 ∷ value.Number n.1 ∷ [])) }
-{
-    let (hart, line) = next_number(line)?;
-    let (address, line) = next_address(line)?;
+    let (second, line) = next_address(line)?;
     if !is_over(line) {
         return None;
     }
-    Some((hart as usize, address))
+    Some((first as usize, second))
 }
 
 fn fetch(line: &[u8]) -> Option<Command>
@@ -82,7 +72,8 @@ fn fetch(line: &[u8]) -> Option<Command>
     }))
 }
 
-/// It is made part of its caller (`inline(always)`), so that the command need not go through memory.
+/// A load: a hart, an address and a width, and the entry by which it goes, if one is named. It is made part of its caller
+/// (`inline(always)`), so that the command need not go through memory.
 #[inline(always)]
 pub fn load(line: &[u8]) -> Option<Command>
     ensures { IfSome result (λ c. SaysCommand (codes "load") line.now c) }
@@ -102,7 +93,7 @@ pub fn load(line: &[u8]) -> Option<Command>
     }))
 }
 
-/// The same of a store.
+/// A store: a hart, an address, a width and a value, and the entry, as of a load.
 #[inline(always)]
 pub fn store(line: &[u8]) -> Option<Command>
     ensures { IfSome result (λ c. SaysCommand (codes "store") line.now c) }
@@ -141,7 +132,7 @@ fn next(line: &[u8]) -> Option<Command>
 fn fill(line: &[u8]) -> Option<Command>
     ensures { IfSome result (λ c. SaysCommand (codes "fill") line.now c) }
 {
-    let (hart, address) = hart_and_address(line)?;
+    let (hart, address) = two(line)?;
     Some(Command::One(Step::Fill { hart, address }))
 }
 

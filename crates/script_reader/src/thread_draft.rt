@@ -1,6 +1,6 @@
 // What the lines so far of a file for threads say.
 
-ghost use Rattle.std.specs.Prelude.{◌≡◌, OnOk, true, length, is_some};
+ghost use Rattle.std.specs.Prelude.{◌≡◌, OnOk, true};
 ghost use Rattle.process_model.specs.declared.script.ThreadItem.TheVariants as item;
 ghost use Rattle.process_model.specs.ThreadScript as words;
 
