@@ -2,7 +2,7 @@
 use Rattle.std.proofs.Common.{◌≡◌, inl, inr, ℕ, zero, suc, ◌+◌, ◌-◌, ◌*◌, ◌<◌, ◌≤◌, refl, sym, ap, subst, ◌∙◌, arith}
 use Rattle.std.proofs.lemmas.Bool.Decides.{eqb_tells}
 use Rattle.frame_store.specs.Laws.{IsDry}
-use Rattle.frame_store.specs.View.{View, Hold, references, claimed, with_credits, sole_hold, opening_view, empty_view, spent}
+use Rattle.frame_store.specs.View.{View, Hold, references, claimed, sole_hold, opening_view, empty_view, spent}
 use Rattle.frame_store.specs.Holds.{hold_of-with_hold_same, hold_of-with_hold_other, hold_of-frames, hold_of-empty}
 use Rattle.shared_frames.specs.Fits.{FitsIn, IsWithin, view_of}
 use Rattle.shared_frames.specs.declared.seat.SharedSeat.{SharedSeat}
@@ -44,14 +44,6 @@ one_more (suc n) v w g lt none one other = elim (eqb_tells n g) as (λ _. held_f
 -- a refused reservation leaves what is held
 pub still_held : (n : ℕ) (v w : View) → w.size ≡ v.size → IsDry n v w → GainsCredits 0 v w
 still_held n v w size dry = record { size = size; frames = dry.frames; credits = dry.credits ∙ omega arith }
-
--- credits come to what was held
-pub with_more : (n : ℕ) (v w x : View) → GainsCredits 0 v w → x ≡ with_credits n w → GainsCredits n v x
-with_more n v w x held is = record {
-  size = ap (λ (y : View). y.size) is ∙ held.size;
-  frames = ap (λ (y : View). y.frames) is ∙ held.frames;
-  credits = ap (λ (y : View). y.credits) is ∙ omega (arith, held.credits);
-}
 
 pub kept_twice : (v w x : View) → GainsCredits 0 v w → GainsCredits 0 w x → GainsCredits 0 v x
 kept_twice v w x one two = record { size = two.size ∙ one.size; frames = two.frames ∙ one.frames; credits = omega (arith, one.credits, two.credits) }

@@ -57,11 +57,6 @@ calls_declared images lists (l ∷ ls) k calls each is = elim (eqb_tells l.numbe
 pub few_lists : (images : List OwnedImage) (lists all : List CallList) → All (IsList images lists) all → AreFew all
 few_lists images lists all each = All-weaker (IsList images lists) (λ (l : CallList). l.number < most_lists) (λ l is. is.number) all each
 
--- a line of a list that is lent
-pub line_declared : (images : List OwnedImage) (lists : List CallList) (calls : List ListedCall) (i : ℕ) (line d : ListedCall) → line ≡ get_or calls i d → i < length calls → (all : List CallList) × All (IsDeclaredLine images all) calls × AreFew all
-    → (all : List CallList) × IsDeclaredLine images all line × AreFew all
-line_declared images lists calls i line d is lt (all, declared, few) = (all, subst (IsDeclaredLine images all) (sym is) (All-get_or (IsDeclaredLine images all) calls i d lt declared), few)
-
 -- a start begins a list that there may be
 pub start_below : (images : List OwnedImage) (lists : List CallList) (starts : List ListedStart) (i : ℕ) (d : ListedStart) → All (IsList images lists) lists → All (IsStart images lists) starts → i < length starts → (get_or starts i d).list < most_lists
 start_below images lists starts i d each all lt = has_below lists (get_or starts i d).list (few_lists images lists lists each) (All-get_or (IsStart images lists) starts i d lt all).1

@@ -20,19 +20,6 @@ page_written true old new page empty none whole some =
 page_written false old new page empty none whole (left, (part, parts, wrote)) =
     λ start text w. (left, (w.0 ++ part, append_assoc w.0 part left ∙ ap (λ (l : List ℕ). w.0 ++ l) parts ∙ w.1, appends_more start old new w.0 part w.2 wrote))
 
--- a piece stands on the page before that is written
-stands_behind : (start old : Option (List ℕ)) (page more piece text : List ℕ) → more ≡ page ++ piece → WroteUpTo start old text page → WroteUpTo start old (text ++ piece) more
-stands_behind start old page more piece text is (front, split, took) =
-    (front, ap (λ (l : List ℕ). front ++ l) is ∙ sym (append_assoc front page piece) ∙ ap (λ (l : List ℕ). l ++ piece) split, took)
-
-pub piece_put : (b : Bool) (old new : Option (List ℕ)) (page more after piece : List ℕ) → more ≡ page ++ piece → Turns b old new more after → Puts b old new page after piece
-piece_put true old new page more after piece is turns = λ start text w. turns start (text ++ piece) (stands_behind start old page more piece text is w)
-piece_put false old new page more after piece is turns = λ start text w. turns start (text ++ piece) (stands_behind start old page more piece text is w)
-
--- a page that is not full stays
-pub page_kept : (known : Option (List ℕ)) (page after : List ℕ) → after ≡ page → Turns true known known page after
-page_kept known page after same = λ start text w. subst (WroteUpTo start known text) (sym same) w
-
 -- of a text this is still to be put
 abbrev pub IsPutting : Option (List ℕ) → Option (List ℕ) → List ℕ → List ℕ → List ℕ → List ℕ → Type 0
 IsPutting old new page now todo whole = (done : List ℕ) × (Puts true old new page now done × (done ++ todo ≡ whole))

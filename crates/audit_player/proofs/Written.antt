@@ -1,18 +1,17 @@
 -- The text of a run, line by line.
-use Rattle.std.proofs.Common.{◌≡◌, ℕ, ◌+◌, ◌<◌, ◌≤◌, List, [], ◌∷◌, ◌++◌, length, drop, get_or, map, Option, sym, ap, subst, ◌∙◌, append_assoc}
-use Rattle.std.specs.Prelude.{All, codes}
+use Rattle.std.proofs.Common.{◌≡◌, ℕ, ◌+◌, ◌<◌, ◌≤◌, List, [], ◌∷◌, ◌++◌, length, drop, get_or, Option, sym, ap, subst, ◌∙◌, append_assoc}
+use Rattle.std.specs.Prelude.{All}
 use Rattle.std.specs.Io.KnownBytes.{Appends}
 use Rattle.std.proofs.lemmas.List.{append-nil, at_drop_more, at_drop_all}
-use Rattle.process_model.specs.Script.{Script, file_of}
-use Rattle.process_model.specs.Text.{line_text, commands_text, played, text_of}
-use Rattle.process_model.specs.World.{World, booted}
+use Rattle.process_model.specs.Text.{line_text, commands_text, played}
+use Rattle.process_model.specs.World.{World}
 use Rattle.process_model.specs.declared.file.FileText.{FileText}
 use Rattle.process_model.specs.declared.image.OwnedImage.{OwnedImage}
 use Rattle.process_model.specs.declared.script.Command.{Command}
 use Rattle.hart_machine.specs.Serves.{IsIn}
 use Rattle.hart_machine.specs.declared.machine.Machine.{Machine}
 use Rattle.script_reader.specs.Playable.{IsDeclared}
-use Rattle.audit_player.proofs.Parts.{appends_more, appends_nothing}
+use Rattle.audit_player.proofs.Parts.{appends_more}
 use Rattle.audit_player.specs.Taken.{WroteSome}
 use Rattle.audit_player.specs.Told.{Tells}
 
@@ -42,14 +41,6 @@ declared fs is images cs commands i c same lines this lt all =
 -- what the sink took, what stands on the page, and what the lines that are left say, is the whole
 abbrev pub IsWriting : Option (List ℕ) → Option (List ℕ) → Machine → List OwnedImage → List Command → List ℕ → List ℕ → Type 0
 IsWriting old new m images rest page whole = (front : List ℕ) × (Appends old new front × IsWritten m images rest (front ++ page) whole)
-
--- the line of `boot` comes first
-pub begun : (s : Script) (known : Option (List ℕ)) (m : Machine) (images : List OwnedImage) (cs : List Command) (page : List ℕ) → images ≡ s.images → cs ≡ s.commands → page ≡ line_text (codes "ok")
-    → IsIn m (booted s.config (map file_of s.files)) → IsWriting known known m images (drop 0 cs) page (text_of s)
-begun s known m images cs page same lines first is =
-    let w : World = booted s.config (map file_of s.files) in
-    let rest : commands_text images w cs ≡ commands_text s.images w s.commands = ap (λ (is : List OwnedImage). commands_text is w cs) same ∙ ap (λ (l : List Command). commands_text s.images w l) lines in
-    ([], (appends_nothing known, (w, (is, ap (λ (l : List ℕ). l ++ commands_text images w cs) first ∙ ap (λ (l : List ℕ). line_text (codes "ok") ++ l) rest))))
 
 module _ (old mid new : Option (List ℕ)) (m : Machine) (images : List OwnedImage) (rest : List Command) (page whole : List ℕ) (writing : IsWriting old mid m images rest page whole) where
   -- a page that was written is empty

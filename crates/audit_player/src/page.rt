@@ -1,6 +1,6 @@
 // Text that waits until there is enough of it to be written.
 
-ghost use Rattle.std.specs.Prelude.{◌≡◌, ◌+◌, ◌<◌, ◌≤◌, ◌++◌, [], codes, false, not, length, IfOk, vec_len, vec_capacity};
+ghost use Rattle.std.specs.Prelude.{◌≡◌, ◌<◌, ◌≤◌, ◌++◌, [], codes, false, not, length, IfOk, vec_len, vec_capacity};
 ghost use Rattle.std.specs.Fmt.{decimal};
 ghost use Rattle.process_model.specs.Text.{line_text};
 ghost use Rattle.process_model.specs.Threads.{end_text, free_text};

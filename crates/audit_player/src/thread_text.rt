@@ -1,6 +1,6 @@
 // The text of what processes on threads came to.
 
-ghost use Rattle.std.specs.Prelude.{◌≡◌, [], false, true, not, length};
+ghost use Rattle.std.specs.Prelude.{◌≡◌, [], false, true, not};
 ghost use Rattle.std.specs.Io.KnownBytes.{Appends};
 ghost use Rattle.process_model.specs.Threads.{dotted_text, name_text};
 ghost use Rattle.audit_player.specs.Pages.{Puts};

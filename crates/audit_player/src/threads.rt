@@ -1,13 +1,11 @@
 // From a file for threads to the text of what its processes came to.
 
-ghost use Rattle.std.specs.Prelude.{◌≡◌, ◌↔◌, ◌||◌, ◌≤◌, ◌<◌, ◌-◌, All, false, not, length, IfOk, IsTrue, IsErrOf};
+ghost use Rattle.std.specs.Prelude.{◌≡◌, ◌↔◌, ◌||◌, ◌≤◌, ◌<◌, All, false, length, IfOk, IsTrue, IsErrOf};
 ghost use Rattle.hart_calls.specs.Track.{AreThere};
 ghost use Rattle.hart_threads.specs.Rostered.{ComesBack};
 ghost use Rattle.process_model.specs.ThreadScript.{most_lists};
 ghost use Rattle.script_reader.specs.ThreadsPlayable.{IsThreadPlayable};
-ghost use Rattle.audit_player.specs.Played.{told};
-ghost use Rattle.audit_player.specs.PlayedThreads.{IsTextOf, LeavesFree, PlaysLists, PlaysThreads, user_frames};
-ghost use Rattle.audit_player.specs.ThreadText.{threads_text};
+ghost use Rattle.audit_player.specs.PlayedThreads.{LeavesFree, PlaysLists, PlaysThreads};
 
 use crate::fault::PlayError;
 use crate::kernel::take_kernel_frames;

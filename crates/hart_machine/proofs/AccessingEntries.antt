@@ -161,10 +161,6 @@ user_served tables kernel x s a access mode z user on (inl of_kernel) = absurd (
 user_served tables kernel x s a access mode z user on (inr (inl own)) = own.3 ∙ ap (λ (k : ℕ). walk_answer (tables k) a access mode) (same_Some own.0 s (sym own.2 ∙ on))
 user_served tables kernel x s a access mode z user on (inr (inr code)) = absurd (code.0 user)
 
-pub not_true : (b : Bool) → (b ≡ true → ⊥) → b ≡ false
-not_true true apart = absurd (apart refl)
-not_true false apart = refl
-
 -- a result that is told from an equation
 
 pub ok_by : {A E : Type 0} (r : Result A E) (b : Bool) → (IsOk r → b ≡ true) × (b ≡ true → IsOk r) → is_ok r ≡ b

@@ -7,7 +7,6 @@ use Rattle.std.specs.FinMap.Entries.{find, find-put}
 use Rattle.std.specs.Ordering.{eq_by_cmp, nat_cmp}
 use Rattle.process_model.specs.Bytes.{is_width}
 use Rattle.process_model.specs.PageMap as pages
-use Rattle.process_model.specs.PageMap.{each_sorted, each_value}
 use Rattle.process_model.specs.Process.{Page, Process, regions}
 use Rattle.process_model.specs.Regions.{first_rule}
 use Rattle.process_model.specs.Residence.{access_answer, with_page}

@@ -5,7 +5,7 @@ use Rattle.std.proofs.lemmas.Bool.{cases_eq, eq-eqb}
 use Rattle.std.proofs.lemmas.Option.{same_Some, slice_get-map, slice_get_within}
 use Rattle.hart_tlb.specs.declared.entry.TlbEntry.{TlbEntry}
 use Rattle.process_model.specs.Harts as model
-use Rattle.process_model.specs.Harts.{has_user_satp, next_phase, present_asid}
+use Rattle.process_model.specs.Harts.{next_phase, present_asid}
 use Rattle.hart_machine.proofs.ChangedSlots.{among_changed}
 use Rattle.hart_machine.specs.Marks.{changed_at}
 use Rattle.process_model.specs.Process.{Process}

@@ -12,7 +12,7 @@ use Rattle.frame_store.specs.Seats.{place_set_other, place_set_same, place_split
 use Rattle.frame_store.specs.View.{View}
 use Rattle.process_model.specs.EachValue.{found_each}
 use Rattle.process_model.specs.PageMap as pages
-use Rattle.process_model.specs.PageMap.{each_value, PageMap, with_values}
+use Rattle.process_model.specs.PageMap.{PageMap}
 use Rattle.process_model.specs.Process.{Page, Process}
 use Rattle.process_model.specs.Residence.{child_of, child_page, marked, marked_page}
 use Rattle.process_model.specs.World.{with_process, World}

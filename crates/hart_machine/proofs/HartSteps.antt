@@ -66,10 +66,6 @@ module _ (w : World) (x : model.Hart) (run : ℕ → Process → Outcome) where
   unfolding with_its_process
   its_process s p on at = ap (with_slot_of w x.phase run) on ∙ ap (λ o. with_process_of w x.phase run s (flat o)) at
 
-  pub no_process : x.slot ≡ None → with_its_process w x run ≡ refuses w (Impossible x.phase)
-  unfolding with_its_process
-  no_process none = ap (with_slot_of w x.phase run) none
-
 -- what is answered
 
 pub refused : (m : Machine) (w : World) → IsWorld m w → (r : Refusal) (o : Outcome) → o ≡ refuses w r → Makes m (Refused r) o

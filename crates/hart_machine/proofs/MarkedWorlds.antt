@@ -112,10 +112,6 @@ module _ (w : World) (o : Outcome) (changed born : Option ℕ) (marks : AreMarke
           record { hart = b.0; there = b.1; phased = ap (λ (z : model.Hart). z.phase) b.2; slotted = ap (λ (z : model.Hart). z.slot) b.2 }
       go Asid is = found (with_both changed born) (λ x. refl) (λ x. refl) (ap (λ hs. slice_get hs h) (sym (both_marked changed born (map hart_of n.harts.items))) ∙ sym is ∙ ap (option_map hart_of) at)
 
-    slots_are : (q : Policy) → (with_stale_slots q w o).world.slots ≡ (o.world).slots
-    slots_are Full = refl
-    slots_are Asid = refl
-
     -- where the harts are those with marks
     with_harts : (v : World) → v ≡ record o.world { harts = v.harts } → map hart_of k.harts.items ≡ v.harts → IsWorld k v
     with_harts v same are = subst (λ (u : World). IsWorld k u) (sym same) (record {

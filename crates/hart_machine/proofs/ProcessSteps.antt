@@ -8,7 +8,6 @@ use Rattle.std.proofs.lemmas.Option.{same_Some, slice_get_within}
 use Rattle.frame_store.specs.Plain.{Bank, BankRule}
 use Rattle.frame_store.specs.Seats.{place_set_other, place_set_same}
 use Rattle.process_model.specs.PageMap as pages
-use Rattle.process_model.specs.PageMap.{count, keys, numbers}
 use Rattle.process_model.specs.Process.{Page, Process}
 use Rattle.process_model.specs.World.{World, with_process}
 use Rattle.address_space.specs.Pending.{agrees_pending}

@@ -12,7 +12,7 @@ use Rattle.frame_store.specs.Plain.{total_references}
 use Rattle.frame_store.specs.Holds.{hold_of-with_hold_same, hold_of-with_hold_other}
 use Rattle.frame_store.specs.Joins.{hold_of-joined}
 use Rattle.frame_store.specs.Laws.{IsAnchored}
-use Rattle.frame_store.specs.View.{Hold, View, hold_of, joined, IsHeld, references, released, with_hold}
+use Rattle.frame_store.specs.View.{Hold, View, hold_of, joined, references, released, with_hold}
 use Rattle.hart_machine.specs.Tenants.{view_of}
 use Rattle.hart_machine.specs.Worlds.{IsPlace, IsWorld, seats_of}
 use Rattle.hart_machine.specs.declared.machine.Machine.{Machine}
@@ -120,9 +120,6 @@ module _ (v x : View) (code : references v 0 ≡ 1) (one : HoldsTrampoline x) wh
 
   joined_code : references (joined v x) 0 ≡ 2
   joined_code = ap (λ (h : Hold). h.references) (hold_of-joined v x 0) ∙ (let here = one.once in rw (here, code) refl)
-
-  pub joined_held : IsHeld (joined v x) 0
-  joined_held = let two = joined_code in omega (arith, two)
 
   closed_is : released 0 (joined v x) ≡ with_hold 0 (record (hold_of (joined v x) 0) { references = references (joined v x) 0 - 1 }) (joined v x)
   closed_is = rw joined_code refl

@@ -1,5 +1,5 @@
 -- Copy numbers and frames of a world in which a process starts.
-use Rattle.std.proofs.Common.{◌≡◌, ℕ, ◌+◌, ◌⊎◌, refl, ap, sym, subst, ◌∙◌, arith, inl, inr, List, ◌∷◌, Option, None, Some, length}
+use Rattle.std.proofs.Common.{◌≡◌, ℕ, ◌+◌, ◌⊎◌, refl, ap, sym, subst, ◌∙◌, arith, inl, inr, List, ◌∷◌, None, Some, length}
 use Rattle.std.specs.Prelude.{slice_get, slice_set}
 use Rattle.std.proofs.lemmas.Bool.{cases_eq}
 use Rattle.std.proofs.lemmas.Option.{same_Some, slice_get_within}
@@ -12,7 +12,7 @@ use Rattle.process_model.specs.Images.{LoadSegment}
 use Rattle.process_model.specs.Loading.{image_pages, process_of}
 use Rattle.process_model.specs.PageMap as pages
 use Rattle.process_model.specs.Process.{Page, Process}
-use Rattle.process_model.specs.World.{flat, World}
+use Rattle.process_model.specs.World.{World}
 use Rattle.table_walk.specs.Tables.{Tables, leaf_node}
 use Rattle.hart_machine.specs.Tenants.{IsTenant, view_of}
 use Rattle.hart_machine.specs.Worlds.{AreCounted, HaveCopies, IsWorld, seats_of}
@@ -22,10 +22,6 @@ use Rattle.hart_machine.proofs.HartSteps.{process_at, tenant_at}
 use Rattle.hart_machine.proofs.StartedTables.{tables_here, tables_there, tables_with}
 use Rattle.hart_machine.proofs.StartedPages.{copies_above, copies_below, copies_once, one_frame, one_page, page_no_code}
 use Rattle.hart_machine.proofs.StartedSeats.{sole_apart}
-
-there_flat : (o : Option (Option Process)) (p : Process) → flat o ≡ Some p → o ≡ Some (Some p)
-there_flat None p is = absurd (cc)
-there_flat (Some o) p is = ap (λ x. Some x) is
 
 module _ (m : Machine) (w : World) (is : IsWorld m w) where
   -- what stands in memory for the process of a slot

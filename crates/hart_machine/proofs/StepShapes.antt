@@ -1,5 +1,5 @@
 -- What steps do to harts and slots, whatever they answer: how a hart goes on, which marks it keeps, and whose pages may change.
-use Rattle.std.proofs.Common.{◌≡◌, ◌⊎◌, ℕ, zero, suc, Bool, true, false, not, ◌+◌, ◌≤◌, inl, inr, refl, ap, sym, subst, ◌∙◌, arith, List, [], ◌∷◌, map, Option, None, Some, Result, Ok, Err, ℤ}
+use Rattle.std.proofs.Common.{◌≡◌, ◌⊎◌, ℕ, zero, suc, Bool, true, false, not, ◌+◌, ◌≤◌, inl, inr, refl, ap, sym, subst, ◌∙◌, arith, List, [], ◌∷◌, Option, None, Some, Result, Ok, Err, ℤ}
 use Rattle.std.specs.Prelude.{is_some, slice_get, slice_set, unwrap_or, ◌&&◌}
 use Rattle.std.proofs.lemmas.Bool.{and_parts, cases_eq, true≢false}
 use Rattle.std.proofs.lemmas.Option.{same_Some}
@@ -15,7 +15,7 @@ use Rattle.hart_machine.specs.Marks.{changed_at}
 use Rattle.process_model.specs.Process.{Pending, Process, without_pending}
 use Rattle.process_model.specs.Residence.{child_of, marked}
 use Rattle.process_model.specs.Service.{Answer, Asked, access_step, served, served_or_ended, told_if, user_access}
-use Rattle.process_model.specs.Stale.{changed_slots, is_changed, with_stale, with_stale_slots}
+use Rattle.process_model.specs.Stale.{is_changed}
 use Rattle.process_model.specs.Steps.{filled, plain_step, step}
 use Rattle.process_model.specs.World.{Outcome, World, always, awaits_service, can_call, can_go_on, can_run, can_serve, flat, free_slot, kernel_call, lowest_free, on_hart, on_hart_at, refuses, unless_refused, with_its_process, with_process_of, with_slot_of}
 use Rattle.process_model.specs.declared.config.Policy.{Policy}
@@ -309,23 +309,6 @@ AllStay w slots = (n : ℕ) → changed_at (slice_get w.slots n) (slice_get slot
 abbrev pub IsQuiet : World → Outcome → Type 0
 IsQuiet w o = (n : ℕ) → changed_at (slice_get w.slots n) (slice_get (o.world).slots n) ≡ false
 
-none_named : (n : ℕ) (ps qs : List (Option Process)) → ((s : ℕ) → changed_at (slice_get ps s) (slice_get qs s) ≡ false) → changed_slots n ps qs ≡ []
-none_named n [] [] quiet = refl
-none_named n [] (q ∷ qs) quiet = refl
-none_named n (p ∷ ps) [] quiet = refl
-none_named n (p ∷ ps) (q ∷ qs) quiet = rw (quiet 0) (none_named (n + 1) ps qs (λ s. quiet (suc s)))
-
-none_stale : (harts : List Hart) → map (with_stale []) harts ≡ harts
-none_stale [] = refl
-none_stale (hart ∷ harts) = ap (λ hs. hart ∷ hs) (none_stale harts)
-
--- where no slot changes, no mark follows
-pub none_marked : (policy : Policy) (w : World) (o : Outcome) → IsQuiet w o → with_stale_slots policy w o ≡ o
-none_marked Full w o quiet = refl
-none_marked Asid w o quiet =
-    ap (λ (ns : List ℕ). let v : Outcome = record o { world = record o.world { harts = map (with_stale ns) (o.world).harts } } in v) (none_named 0 w.slots (o.world).slots quiet)
-    ∙ ap (λ (hs : List Hart). let v : Outcome = record o { world = record o.world { harts = hs } } in v) (none_stale (o.world).harts)
-
 module _ (w : World) where
   slots_stay : AllStay w w.slots
   slots_stay n = same_at (slice_get w.slots n)
@@ -333,9 +316,6 @@ module _ (w : World) where
   -- a refusal is quiet
   pub refused_quiet : (r : Refusal) → IsQuiet w (refuses w r)
   refused_quiet r = slots_stay
-
-  pub refused_marks : (r : Refusal) → with_stale_slots w.policy w (refuses w r) ≡ refuses w r
-  refused_marks r = none_marked w.policy w (refuses w r) (refused_quiet r)
 
   -- a process with the same leaves takes the place of one
   one_stays : (t : ℕ) (p q : Process) → slice_get w.slots t ≡ Some (Some p) → changed p q ≡ false → AllStay w (slice_set w.slots t (Some q))
@@ -422,14 +402,6 @@ module _ (w : World) where
   quiet_slots (step.CopyIn h address n) is = absurd cc
   quiet_slots (step.CopyOut h address bytes) is = absurd cc
   quiet_slots (step.Exit h status) is = absurd cc
-
-  -- they leave no mark
-  pub quiet_marks : (s : Step) → is_quiet s ≡ true → with_stale_slots w.policy w (plain_step w s) ≡ plain_step w s
-  quiet_marks s is = none_marked w.policy w (plain_step w s) (quiet_slots s is)
-
-  pub quiet_step : (s : Step) → is_quiet s ≡ true → step w s ≡ plain_step w s
-  unfolding step
-  quiet_step s is = quiet_marks s is
 
 -- ---- leaves change in the kernel alone
 

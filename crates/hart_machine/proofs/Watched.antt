@@ -1,20 +1,19 @@
 -- What is read of a process in its slot: which pages are settled, and which accesses are granted.
-use Rattle.std.proofs.Common.{◌≡◌, ◌⊎◌, ◌↔◌, ℕ, Bool, true, false, ◌+◌, ◌^◌, ◌<◌, ◌≤◌, inl, inr, refl, ap, subst, sym, ◌∙◌, arith, Option, None, Some}
+use Rattle.std.proofs.Common.{◌≡◌, ◌⊎◌, ◌↔◌, ℕ, Bool, true, false, ◌+◌, ◌<◌, ◌≤◌, inl, inr, refl, ap, subst, sym, ◌∙◌, arith, Option, None, Some}
 use Rattle.std.specs.Prelude.{if◌then◌else◌, is_some, min, not, ◌&&◌}
 use mathlib.Core.Bool.{beq}
-use Rattle.std.proofs.lemmas.Bool.{and_parts, cases_eq, cases_lt, leb-false}
+use Rattle.std.proofs.lemmas.Bool.{and_parts, cases_eq, cases_lt}
 use Rattle.std.proofs.lemmas.Option.{same_Some}
 use Rattle.address_space.specs.Accesses.{gives_leaf, IsGranted}
 use Rattle.address_space.specs.Settled.{IsNextSettled, IsSettledPage}
 use Rattle.address_space.specs.declared.settled.SettledPage.{SettledPage}
 use Rattle.address_space.specs.declared.space.Space.{Space}
 use Rattle.frame_store.specs.View.{View}
-use Rattle.process_model.specs.Granted.{none_true}
 use Rattle.process_model.specs.PageMap.{get}
 use Rattle.process_model.specs.Process.{grants_write, Page, Process, regions}
-use Rattle.process_model.specs.Regions.{copy_rule, copy_tests, first_rule, is_aligned}
+use Rattle.process_model.specs.Regions.{copy_rule, first_rule, is_aligned}
 use Rattle.process_model.specs.Residence.{is_resident}
-use Rattle.sv39_entry.specs.Address.{maxva, page_of, trapframe_page}
+use Rattle.sv39_entry.specs.Address.{page_of, trapframe_page}
 use Rattle.sv39_entry.specs.declared.access.Access.{Access}
 use Rattle.sv39_entry.specs.declared.rule.Rule.{Rule}
 use Rattle.sv39_entry.specs.declared.rule.Rule.TheVariants.{Misaligned}
@@ -101,13 +100,6 @@ module _ (t : Tables) (p : Process) (first last : ℕ) where
   ]
 
 -- ---- granted accesses
-
--- no access is granted beyond the words
-pub beyond : (p : Process) (access : Access) (address : ℕ) → 2 ^ 64 ≤ address → IsGranted p access address → ⊥
-beyond p access address high granted =
-    let tests = none_true (copy_tests (regions p) access address) granted.0 in
-    let low = leb-false maxva address tests.0 in
-    omega (arith, low, high)
 
 -- a walk that is no leaf gives none
 pub no_leaf : (z : Walk) → ((word level address : ℕ) → z ≡ walk.Leaf word level address → ⊥) → gives_leaf z ≡ true → ⊥

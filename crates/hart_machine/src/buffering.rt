@@ -1,6 +1,4 @@
 // Entries that come into the buffers of harts, and leave them.
-
-ghost use Rattle.std.specs.Prelude.{◌≡◌};
 ghost use Rattle.hart_machine.specs.Buffers.{BuffersAre};
 ghost use Rattle.hart_machine.specs.Worlds.{IsWorld, Makes, SamePlaces};
 ghost use Rattle.process_model.specs.Briefs.{of_brief};

@@ -5,7 +5,7 @@ ghost use Rattle.address_space.specs.Steps.{IsBare};
 ghost use Rattle.address_space.specs.Kernel.{IsKernelTable};
 ghost use Rattle.frame_store.specs.Laws.{Fits, Keeps};
 ghost use Rattle.frame_store.specs.Plain.{BankRule};
-ghost use Rattle.frame_store.specs.View.{references, View};
+ghost use Rattle.frame_store.specs.View.{View};
 ghost use Rattle.hart_machine.specs.Buffers.{SameBuffers};
 ghost use Rattle.hart_machine.specs.Calls.{IsInKernel};
 ghost use Rattle.hart_machine.specs.Harts.{hart_of};

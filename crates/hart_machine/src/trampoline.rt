@@ -1,6 +1,4 @@
 // The kernel's code in the trampoline page.
-
-ghost use Rattle.std.specs.Prelude.{◌≡◌};
 ghost use Rattle.hart_machine.specs.Buffers.{SameBuffers};
 ghost use Rattle.hart_machine.specs.Serves.{IsIn};
 ghost use Rattle.hart_machine.specs.Worlds.{Makes, SamePlaces};

@@ -7,24 +7,12 @@ use Rattle.address_space.specs.Steps.{IsBare}
 use Rattle.frame_store.specs.Holds.{hold_of-empty, hold_of-frames, hold_of-with_hold_other, hold_of-with_hold_same, hold_of-without_hold_other, hold_of-without_hold_same}
 use Rattle.frame_store.specs.Laws.{IsAnchored, IsDry, Keeps}
 use Rattle.frame_store.specs.Opened.{opened, opener}
-use Rattle.frame_store.specs.View.{Hold, View, empty_view, hold_of, IsHeld, read_full, references, released, with_hold, without_hold}
+use Rattle.frame_store.specs.View.{Hold, View, empty_view, hold_of, read_full, references, released, with_hold, without_hold}
 use Rattle.shared_frames.specs.Fits.{AllFit, FitsIn, fits_still, view_of}
 use Rattle.shared_frames.specs.declared.seat.SharedSeat.{SharedSeat}
 use Rattle.hart_threads.specs.Starts.{Lends}
 
 -- lending
-
-pub lends_same : (v w : View) → w ≡ v → Lends v w
-lends_same v w is = subst (Lends v) (sym is) (record { size = refl; credits = refl; trampoline = refl; words = refl; others = λ f ne. refl })
-
-pub lends_both : (u v w : View) → Lends u v → Lends v w → Lends u w
-lends_both u v w first second = record {
-  size = second.size ∙ first.size;
-  credits = second.credits ∙ first.credits;
-  trampoline = second.trampoline ∙ first.trampoline;
-  words = second.words ∙ first.words;
-  others = λ f ne. second.others f ne ∙ first.others f ne;
-}
 
 pub lends_opener : (v w : View) → w ≡ opener v → Lends v w
 lends_opener v w is =
@@ -46,9 +34,6 @@ lends_full v w is = subst (Lends v) (sym is) (record {
   others = λ f ne. hold_of-frames (read_full v) v refl f;
 })
 
-pub lends_held : (v w : View) → Lends v w → IsHeld v 0 → IsHeld w 0
-lends_held v w l held = let same = l.trampoline in omega (arith, same, held)
-
 -- a seat that holds frame 0 once and nothing else
 
 pub opened_ready : (v w : View) → w ≡ opened v → HoldsTrampoline w
@@ -64,9 +49,6 @@ ready_still n v w dry ready = record {
   others = λ f ne. ap (λ (h : Hold). h.references) (hold_of-frames w v dry.frames f) ∙ ready.others f ne;
   credits = dry.credits ∙ ready.credits;
 }
-
-pub ready_held : (v : View) → HoldsTrampoline v → IsHeld v 0
-ready_held v ready = let once = ready.once in omega (arith, once)
 
 last_one : (v : View) → references v 0 ≡ 1 → released 0 v ≡ without_hold 0 v
 last_one v is = ap (λ n. cond (n == 1) (without_hold 0 v) (with_hold 0 (record (hold_of v 0) { references = references v 0 - 1 }) v)) is
@@ -93,9 +75,6 @@ empty_bare size w is = subst IsBare (sym is) (record { none = λ f. ap (λ (h : 
 
 pub empty_anchored : (size : ℕ) → IsAnchored (empty_view size)
 empty_anchored size f held = absurd (let none : references (empty_view size) f ≡ 0 = ap (λ (h : Hold). h.references) (hold_of-empty size f) in omega (arith, none, held))
-
-pub held_anchored : (v : View) → IsHeld v 0 → IsAnchored v
-held_anchored v held f other = held
 
 -- tables
 

@@ -263,12 +263,3 @@ all_back starts out ended none was each = record {
   children = subst (λ g. Closed (g ++ map life_of ended)) (nobody out none) was.closed;
   each = each;
 }
-
-none_closed : Closed []
-none_closed name k j h lt = absurd h
-
-none_started : Started 0 []
-none_started i lt = absurd (omega (arith, lt))
-
-pub rostered_none : (n : ℕ) → n ≡ 0 → IsRostered n [] []
-rostered_none n is = record { started = subst (λ (m : ℕ). Started m []) (sym is) none_started; closed = none_closed }

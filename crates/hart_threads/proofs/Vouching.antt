@@ -36,15 +36,6 @@ same_life t u s g = entry_by _ _ _ _ (sym g.adds.name) (let f = forks_after t.jo
 pub one_more : (t u c : Track) (s : Slot) → Goes t u (Some c) s → forks u.journal ≡ forks t.journal + 1
 one_more t u c s g = forks_after t.journal u.journal g.entry 1 g.adds.journal g.child.0
 
-pub same_name : (t u c : Track) (s : Slot) → Goes t u (Some c) s → u.name ≡ t.name
-same_name t u c s g = g.adds.name
-
-pub child_named : (t u c : Track) (s : Slot) → Goes t u (Some c) s → c.name ≡ t.name ++ forks t.journal ∷ []
-child_named t u c s g = g.child.1.2.name
-
-pub child_childless : (t u c : Track) (s : Slot) → Goes t u (Some c) s → forks c.journal ≡ 0
-child_childless t u c s g = ap forks g.child.1.2.journal
-
 -- without a slot there is no child
 pub no_child : (t u c : Track) (s : Slot) → IsNone s → Goes t u (Some c) s → ⊥
 no_child t u c (slot.Free name) none g = none

@@ -1,6 +1,6 @@
 // A hart: it takes jobs and makes calls.
 
-ghost use Rattle.std.specs.Prelude.{◌≡◌, ◌+◌, ◌∷◌, [], ◌++◌, IfErr, IfOk};
+ghost use Rattle.std.specs.Prelude.{◌≡◌, ◌∷◌, [], IfErr, IfOk};
 ghost use Rattle.hart_calls.specs.Replay.{forks};
 ghost use Rattle.hart_calls.specs.Track.{child_name};
 ghost use Rattle.hart_calls.specs.Turned.{HasTurned};

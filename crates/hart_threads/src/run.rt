@@ -1,6 +1,6 @@
 // A run: starts, harts on threads, and who came back.
 
-ghost use Rattle.std.specs.Prelude.{◌≡◌, ◌<◌, ◌∷◌, [], All, length, IfErr, IfOk};
+ghost use Rattle.std.specs.Prelude.{◌≡◌, ◌<◌, [], All, length, IfErr, IfOk};
 ghost use Rattle.frame_store.specs.View.{IsHeld};
 ghost use Rattle.hart_calls.specs.Track.{AreThere};
 ghost use Rattle.hart_threads.specs.Rostered.{ComesBack};

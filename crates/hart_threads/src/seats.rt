@@ -1,6 +1,6 @@
 // Seats that are split off the kernel's.
 
-ghost use Rattle.std.specs.Prelude.{[], ◌≡◌, ◌↔◌, Bool, true, false, IfErr, IfOk};
+ghost use Rattle.std.specs.Prelude.{[], ◌≡◌, IfErr, IfOk};
 ghost use Rattle.address_space.specs.Agreement.{HoldsTrampoline};
 ghost use Rattle.address_space.specs.Steps.{IsBare};
 ghost use Rattle.frame_store.specs.View.{IsHeld, read_full};

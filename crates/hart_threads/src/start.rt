@@ -1,6 +1,6 @@
 // The starts, in order, before a hart runs.
 
-ghost use Rattle.std.specs.Prelude.{◌≡◌, ℕ, ◌+◌, ◌-◌, ◌<◌, ◌≤◌, ◌∷◌, [], All, length, vec_len};
+ghost use Rattle.std.specs.Prelude.{◌≡◌, ◌-◌, ◌<◌, ◌∷◌, [], All, length, vec_len};
 ghost use Rattle.frame_store.specs.View.{IsHeld};
 ghost use Rattle.hart_calls.specs.Track.{AreThere};
 ghost use Rattle.hart_threads.specs.Starts.{Lends};

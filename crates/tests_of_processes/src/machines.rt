@@ -1,6 +1,6 @@
 // What a machine is booted with, and steps of whole machines.
 
-ghost use Rattle.std.specs.Prelude.{◌≡◌, IfSome};
+ghost use Rattle.std.specs.Prelude.{IfSome};
 ghost use Rattle.hart_machine.specs.Serves.{IsIn};
 ghost use Rattle.process_model.specs.World.{World};
 

@@ -1,11 +1,10 @@
 // A space that lives over both stores: it is built, a far page of its heap is settled, and it ends.
 
-ghost use Rattle.std.specs.Prelude.{[], ◌∷◌, ◌≡◌, ◌%◌, ◌<◌, ◌≤◌, ℕ, false, IfErr, IfOk};
+ghost use Rattle.std.specs.Prelude.{[], ◌∷◌, ◌≡◌, ◌%◌, ◌<◌, ◌≤◌, false, IfErr, IfOk};
 ghost use Rattle.address_space.specs.Agreement.{body_of, IsSpace, HoldsTrampoline};
 ghost use Rattle.address_space.specs.Parts.{AreParts, numbers_of, regions_in};
 ghost use Rattle.address_space.specs.Steps.{IsBare};
 ghost use Rattle.tests_of_processes.specs.Lives.{IsWritable, Lives, standard_regions};
-ghost use Rattle.address_space.specs.declared.region.Source.TheVariants as from;
 ghost use Rattle.frame_store.specs.Laws.{Fits, Keeps};
 ghost use Rattle.process_model.specs.Process.{Page, Process};
 ghost use Rattle.process_model.specs.Residence.{with_page};

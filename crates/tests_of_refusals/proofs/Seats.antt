@@ -49,9 +49,6 @@ module _ {Store S : Type 0} (rule : Store → List S → Type 0) where
 
   -- a process steps, with its child beside it
 
-  pub fits_alone : (s : Store) (a : S) (xs : List S) → ((others : List S) × rule s ((a ∷ xs) ++ others)) → Fits rule s a
-  fits_alone s a xs fits = (xs ++ fits.0, fits.1)
-
   pub keeps_alone : (s t : Store) (a b : S) (xs : List S) → Keeps rule s a t b → (others : List S) → rule s ((a ∷ xs) ++ others) → rule t ((b ∷ xs) ++ others)
   keeps_alone s t a b xs keeps others r = keeps (xs ++ others) r
 

@@ -1,6 +1,6 @@
 // Children of one process, each on a thread of its own: they part from it while it goes on.
 
-ghost use Rattle.std.specs.Prelude.{◌≡◌, ◌<◌, All, IfOk};
+ghost use Rattle.std.specs.Prelude.{◌<◌, All, IfOk};
 ghost use Rattle.address_space.specs.Agreement.{body_of};
 ghost use Rattle.frame_store.specs.Laws.{Fits, Keeps};
 ghost use Rattle.shared_frames.specs.Fits.{FitsIn};
