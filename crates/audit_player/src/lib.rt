@@ -22,4 +22,4 @@ pub use playing::play;
 pub use sink::{Sink, Writer};
 pub use source::{Reader, Source};
 pub use thread_lists::{lend_lists, lend_starts};
-pub use threads::{play_threads, run_pool};
+pub use threads::{play_threads, play_threads_with, run_pool};

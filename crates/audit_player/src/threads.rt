@@ -65,12 +65,13 @@ pub fn run_pool<'a, T: Threads + Wait + Sync, G: Gate + Sync>(
 /// Plays the lists of a file on so many harts, each of them a thread, and writes what its processes came to.
 ///
 /// Want of memory comes before anything is written.
-fn run_threads<T: Threads + Wait + Sync, W: Sink>(
+fn run_threads<T: Threads + Wait + Sync, W: Sink, G: Gate + Sync>(
     rt: &T,
     alloc: Global,
     script: &ThreadScript,
     writer: &mut W,
     harts: usize,
+    gate: &G,
 ) -> Result<(), PlayError>
     requires playable { IsThreadPlayable script.now }
     requires some { 1 ≤ harts }
@@ -94,7 +95,7 @@ fn run_threads<T: Threads + Wait + Sync, W: Sink>(
         lists.as_slice(),
         starts.as_slice(),
         harts,
-        &OpenGate,
+        gate,
     ) else {
         return Err(PlayError::Memory);
     };
@@ -126,6 +127,24 @@ pub fn play_threads<T: Threads + Wait + Sync, R: Source, W: Sink>(
     ensures io { R.broken reader.old ≡ false → W.broken writer.old ≡ false
         → (IsErrOf result PlayError.Io ↔ IsTrue (R.broken reader.new || W.broken writer.new)) }
 {
+    play_threads_with(rt, alloc, reader, writer, harts, &OpenGate)
+}
+
+/// `play_threads` under a gate, which is called before and after each call of a process, on the thread of its hart.
+pub fn play_threads_with<T: Threads + Wait + Sync, R: Source, W: Sink, G: Gate + Sync>(
+    rt: &T,
+    alloc: Global,
+    reader: &mut R,
+    writer: &mut W,
+    harts: usize,
+    gate: &G,
+) -> Result<(), PlayError>
+    requires some { 1 ≤ harts }
+    requires few { harts ≤ 8 }
+    ensures plays { PlaysThreads (R.remaining reader.old) (W.contents writer.old) (W.contents writer.new) result }
+    ensures io { R.broken reader.old ≡ false → W.broken writer.old ≡ false
+        → (IsErrOf result PlayError.Io ↔ IsTrue (R.broken reader.new || W.broken writer.new)) }
+{
     let bytes = match read_bytes(alloc, reader) {
         Ok(bytes) => bytes,
         Err(ReadError::Memory) => return Err(PlayError::Memory),
@@ -135,5 +154,5 @@ pub fn play_threads<T: Threads + Wait + Sync, R: Source, W: Sink>(
         Ok(script) => script,
         Err(error) => return Err(told(error)),
     };
-    run_threads(rt, alloc, &script, writer, harts)
+    run_threads(rt, alloc, &script, writer, harts, gate)
 }

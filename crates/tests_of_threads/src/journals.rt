@@ -2,6 +2,7 @@
 
 ghost use Rattle.std.specs.Prelude.{◌≤◌};
 
+use arrayvec::ArrayVec;
 use audit_player::{lend_lists, lend_starts, run_pool};
 use hart_calls::{Kept, KeptReply};
 use hart_threads::OpenGate;
@@ -63,8 +64,20 @@ fn has_reply<R: Threads + Wait + Sync>(
 /// A file, the name of a process, the number of a call of its list, and the reply.
 type Row = (&'static str, &'static [u64], usize, Reply);
 
-/// A fork without a slot; a write-back that its own process finds; a parent and a child that part; a page that returns.
-fn rows() -> [Row; 7] {
+/// A reply with these bytes, copied from a process.
+fn copied(bytes: &[u8]) -> Reply {
+    let mut list = ArrayVec::new();
+    for byte in bytes {
+        if !list.is_full() {
+            list.push(*byte);
+        }
+    }
+    Reply::CopiedIn(list)
+}
+
+/// A fork without a slot; a write-back that its own process finds; a parent and a child that part; a page that returns; bytes that
+/// were copied to a process, across the end of a page.
+fn rows() -> [Row; 10] {
     let alone = "image 0x1000:0x1000:rw:-\npool 64 1\nlist 0\nfork 0\nstart 0 0\n";
     let written =
         "file 16 rw -\nimage 0x1000:0x1000:rw:-\npool 64 4\nlist 0\nmmap 16 3 1 0\nstore 0x3fffffd000 1 9\nmunmap 0x3fffffd000 16\nmmap 16 3 1 0\nload 0x3fffffd000 1\nstart 0 0\n";
@@ -72,6 +85,8 @@ fn rows() -> [Row; 7] {
         "image 0x1000:0x1000:rw:-\npool 64 4\nlist 0\nstore 0x1000 1 1\nfork 1\nstore 0x1000 1 2\nload 0x1000 1\nlist 1\nload 0x1000 1\nstore 0x1000 1 3\nload 0x1000 1\nstart 0 0\n";
     let returned =
         "image 0x1000:0x1000:rw:-\npool 64 4\nlist 0\nsbrk 0x1000\nstore 0x4000 1 9\nsbrk -0x1000\nsbrk 0x1000\nload 0x4000 1\nstart 0 0\n";
+    let copies =
+        "image 0x1000:0x2000:rw:-\npool 64 4\nlist 0\ncopyout 0x1ffc 0102030405060708\nload 0x1ff8 8\nload 0x2000 4\ncopyin 0x1ffb 6\nstart 0 0\n";
     [
         (alone, &[0], 0, Reply::Refused(Refusal::NoSlot)),
         (written, &[0], 4, Reply::Value(9)),
@@ -80,6 +95,9 @@ fn rows() -> [Row; 7] {
         (parted, &[0, 0], 0, Reply::Value(1)),
         (parted, &[0, 0], 2, Reply::Value(3)),
         (returned, &[0], 4, Reply::Value(0)),
+        (copies, &[0], 1, Reply::Value(0x0403_0201_0000_0000)),
+        (copies, &[0], 2, Reply::Value(0x0807_0605)),
+        (copies, &[0], 3, copied(&[0, 1, 2, 3, 4, 5])),
     ]
 }
 

@@ -1,5 +1,8 @@
-//! Tests of harts as threads: that they are threads, and what journals tell.
+//! Tests of harts as threads: that they are threads, what a gate sees, which calls lock the shelf, and what journals tell.
 #![tactic(auto)]
 
+mod gates;
 mod journals;
 mod running;
+mod shelves;
+mod waiting;

@@ -3,7 +3,7 @@ use Rattle.process_model.specs.ThreadScript.{thread_script_of}
 use Rattle.script_reader.specs.Gives.{Refuses}
 use Rattle.audit_player.specs.PlayedThreads.{PlaysLists}
 use Rattle.audit_player.proofs.PlayedLists.{lists_refused, lists_unread, played_lists}
-use Rattle.audit_player.proofs.threads.play_threads.Goals as goal
+use Rattle.audit_player.proofs.threads.play_threads_with.Goals as goal
 
 pub returns-in-Err-Io-clause-plays : goal.returns-in-Err-Io-clause-plays
 returns-in-Err-Io-clause-plays g c = lists_unread (g.R.Source.remaining c.args.reader.now) (g.W.Sink.contents c.args.writer.now)

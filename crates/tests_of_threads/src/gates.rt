@@ -1,0 +1,196 @@
+// What a gate sees: each call once before it is made and once after, with no lock held.
+
+use crate::waiting::is_reached;
+use audit_player::{lend_lists, lend_starts, run_pool};
+use hart_threads::Gate;
+use process_model::Call;
+use script_reader::ThreadScript;
+use std::sync::atomic::{AtomicU64, Ordering};
+use std::test::Fail;
+
+/// A number above 0 that tells calls of a file apart, by the process and by the call with its fields.
+fn number_of(name: &[u64], call: Call<'_>) -> u64 {
+    let (kind, first, second): (u64, u64, u64) = match call {
+        Call::Load { address, width } => (1, address, width),
+        Call::Store {
+            address,
+            width: _,
+            value,
+        } => (2, address, value),
+        Call::Fork { list } => (3, list as u64, 0),
+        Call::Mmap { length, file, .. } => (4, length, file as u64),
+        Call::Munmap { address, length } => (5, address, length),
+        Call::Exit { status } => (6, status.unsigned_abs() as u64, 0),
+        _ => (7, 0, 0),
+    };
+    let mut number = kind;
+    for part in [first, second] {
+        number = number.wrapping_mul(1_000_003).wrapping_add(part);
+    }
+    for part in name {
+        number = number
+            .wrapping_mul(1_000_003)
+            .wrapping_add(*part)
+            .wrapping_add(1);
+    }
+    number.max(1)
+}
+
+/// Counts the calls that enter and leave in pairs, by hart, process and call.
+#[derive(Drop)]
+struct Pairs {
+    /// By hart, the call that has entered and not left; 0 for none.
+    inside: [AtomicU64; 8],
+    pairs: AtomicU64,
+    wrong: AtomicU64,
+}
+
+impl Pairs {
+    /// Puts a number in the place of a hart, and counts what is wrong where another one than `before` was there.
+    fn change(&self, hart: usize, before: u64, after: u64) {
+        let is_right = match self.inside.get(hart) {
+            Some(inside) => inside.swap(after, Ordering::SeqCst) == before,
+            None => false,
+        };
+        if !is_right {
+            self.wrong.store(1, Ordering::SeqCst);
+        }
+    }
+}
+
+impl Gate for Pairs {
+    fn enter(&self, hart: usize, name: &[u64], call: Call<'_>) {
+        self.change(hart, 0, number_of(name, call));
+    }
+
+    fn leave(&self, hart: usize, name: &[u64], call: Call<'_>) {
+        self.change(hart, number_of(name, call), 0);
+        self.pairs.fetch_add(1, Ordering::SeqCst);
+    }
+}
+
+/// Seven processes. Four of them fork; the three youngest have a call refused and end by a rule.
+const FAMILIES: &str =
+    "file 16 rw -\nimage 0x1000:0x1000:rw:-\npool 128 8\nlist 0\nfork 1\nmmap 16 3 1 0\nfork 1\nstore 0x1000 8 1\nlist 1\nload 0x1000 8\nstore 0x1000 8 2\nfork 2\nlist 2\nmmap 16 3 1 0\nmunmap 0x3fffffc000 32\nload 0x2000 1\nstart 0 0\nstart 0 1\n";
+
+#[test]
+fn each_call_enters_and_leaves_once(rt: HostRuntime) -> Result<(), Fail> {
+    let Ok(script) = ThreadScript::read(rt.alloc(), FAMILIES.as_bytes()) else {
+        return Err(Fail::from("a file for threads is refused"));
+    };
+    let lists = lend_lists(rt.alloc(), &script)?;
+    let starts = lend_starts(rt.alloc(), &script)?;
+    for harts in [1, 2, 8] {
+        let gate = Pairs {
+            inside: [
+                AtomicU64::new(0),
+                AtomicU64::new(0),
+                AtomicU64::new(0),
+                AtomicU64::new(0),
+                AtomicU64::new(0),
+                AtomicU64::new(0),
+                AtomicU64::new(0),
+                AtomicU64::new(0),
+            ],
+            pairs: AtomicU64::new(0),
+            wrong: AtomicU64::new(0),
+        };
+        let (ended, _) = run_pool(
+            &rt,
+            rt.alloc(),
+            &script,
+            lists.as_slice(),
+            starts.as_slice(),
+            harts,
+            &gate,
+        )?;
+        let mut calls: u64 = 0;
+        for finished in &ended {
+            calls = calls.saturating_add(finished.journal.len() as u64);
+        }
+        assert_eq!(rt; ended.len(), 7, "on {harts}");
+        assert_eq!(rt; gate.pairs.load(Ordering::SeqCst), calls, "on {harts}");
+        assert_eq!(rt; gate.wrong.load(Ordering::SeqCst), 0, "on {harts}");
+    }
+    Ok(())
+}
+
+/// Holds the first call of process 0 before it is made until process 2 has ended, and after it was made until process 4
+/// has. Process 1 waits for the first of these, and process 4 for the second. So during each of them the other hart forks, maps a
+/// file, ends a process, and takes the next one from the held hart's part of the run queue.
+#[derive(Drop)]
+struct HoldsZero<'r> {
+    rt: &'r HostRuntime,
+    entered: AtomicU64,
+    leaving: AtomicU64,
+    /// 2 once process 2 has ended, 4 once process 4 has.
+    ended: AtomicU64,
+    gave_up: AtomicU64,
+}
+
+impl HoldsZero<'_> {
+    fn wait(&self, number: &AtomicU64, least: u64) {
+        if !is_reached(self.rt, number, least) {
+            self.gave_up.store(1, Ordering::SeqCst);
+        }
+    }
+}
+
+impl Gate for HoldsZero<'_> {
+    fn enter(&self, _hart: usize, name: &[u64], _call: Call<'_>) {
+        match name {
+            [0] => {
+                self.entered.store(1, Ordering::SeqCst);
+                self.wait(&self.ended, 2);
+            }
+            [1] => self.wait(&self.entered, 1),
+            [4] => self.wait(&self.leaving, 1),
+            _ => {}
+        }
+    }
+
+    fn leave(&self, _hart: usize, name: &[u64], call: Call<'_>) {
+        match (name, call) {
+            ([0], _) => {
+                self.leaving.store(1, Ordering::SeqCst);
+                self.wait(&self.ended, 4);
+            }
+            ([2], Call::Exit { .. }) => self.ended.store(2, Ordering::SeqCst),
+            ([4], Call::Exit { .. }) => self.ended.store(4, Ordering::SeqCst),
+            _ => {}
+        }
+    }
+}
+
+/// Processes 0 and 1 begin on a hart each; 2 and 4 are behind process 0 in the run queue, and 3 behind process 1.
+const BEHIND: &str =
+    "file 16 rw -\nimage 0x1000:0x1000:rw:-\npool 128 8\nlist 0\nload 0x1000 1\nlist 1\nfork 3\nmmap 16 3 1 0\nload 0x3fffffd000 1\nlist 3\nstart 0 0\nstart 0 1\nstart 0 1\nstart 0 3\nstart 0 1\n";
+
+#[test]
+fn no_lock_is_held_at_a_gate(rt: HostRuntime) -> Result<(), Fail> {
+    let Ok(script) = ThreadScript::read(rt.alloc(), BEHIND.as_bytes()) else {
+        return Err(Fail::from("a file for threads is refused"));
+    };
+    let lists = lend_lists(rt.alloc(), &script)?;
+    let starts = lend_starts(rt.alloc(), &script)?;
+    let gate = HoldsZero {
+        rt: &rt,
+        entered: AtomicU64::new(0),
+        leaving: AtomicU64::new(0),
+        ended: AtomicU64::new(0),
+        gave_up: AtomicU64::new(0),
+    };
+    let (ended, _) = run_pool(
+        &rt,
+        rt.alloc(),
+        &script,
+        lists.as_slice(),
+        starts.as_slice(),
+        2,
+        &gate,
+    )?;
+    assert_eq!(rt; ended.len(), 8);
+    assert_eq!(rt; gate.ended.load(Ordering::SeqCst), 4);
+    assert_eq!(rt; gate.gave_up.load(Ordering::SeqCst), 0);
+    Ok(())
+}
