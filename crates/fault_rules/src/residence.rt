@@ -1,6 +1,6 @@
 // A page is made resident for an access.
 
-ghost use Rattle.std.specs.Prelude.{[], ◌≡◌, ◌≢◌, ◌-◌, ◌<◌, ◌≤◌, ◌↔◌, Err, if◌then◌else◌, IfErr, IfOk, is_ok, false, IsOk, List, None, Some};
+ghost use Rattle.std.specs.Prelude.{[], ◌≡◌, ◌≢◌, ◌-◌, ◌<◌, ◌≤◌, ◌↔◌, Err, if◌then◌else◌, IfErr, IfOk, is_ok, false, IsOk, length, List, None, Some};
 ghost use Rattle.address_space.specs.Agreement.{body_of, IsSpace};
 ghost use Rattle.address_space.specs.Layouts.{region_of};
 ghost use Rattle.fault_rules.specs.Resides.{CanReside, HasReside, IsShort, reside_moves, RunsShort, taken_of, WhenReside};
@@ -69,6 +69,7 @@ pub fn make_resident<S: FrameSeat, F: FrameSupply<Seat = S>, C: Files>(
     ensures dry { IsShort result → RunsShort (body_of S.view space.old) (body_of S.view space.new) access page }
     ensures whole { IsShort result → (t : Tables) (p : Process) → IsSpace (body_of S.view space.old) t p → IsSpace (body_of S.view space.new) t p }
     ensures unpromised { (e : PromiseError) → result ≡ Err (Unpromised e) → C.can_refuse files.old 1 e }
+    ensures of_file { (e : PromiseError) → result ≡ Err (Unpromised e) → (t : Tables) (p : Process) → CanReside (body_of S.view space.old) t p access page → 0 < length (reside_moves (C.files files.old) p page) }
     ensures view_stays { (e : PromiseError) → result ≡ Err (Unpromised e) → S.view space.new.seat ≡ S.view space.old.seat }
     ensures store_stays { (e : PromiseError) → result ≡ Err (Unpromised e) → store.new ≡ store.old }
     ensures files_stay { (e : PromiseError) → result ≡ Err (Unpromised e) → C.becomes files.old [] files.new }
@@ -106,6 +107,7 @@ fn settle_initial<S: FrameSeat, F: FrameSupply<Seat = S>, C: Files>(
     ensures dry { IsShort result → RunsShort (body_of S.view space.old) (body_of S.view space.new) access page }
     ensures whole { IsShort result → (t : Tables) (p : Process) → IsSpace (body_of S.view space.old) t p → IsSpace (body_of S.view space.new) t p }
     ensures unpromised { (e : PromiseError) → result ≡ Err (Unpromised e) → C.can_refuse files.old 1 e }
+    ensures of_file { (e : PromiseError) → result ≡ Err (Unpromised e) → (t : Tables) (p : Process) → CanReside (body_of S.view space.old) t p access page → 0 < length (reside_moves (C.files files.old) p page) }
     ensures view_stays { (e : PromiseError) → result ≡ Err (Unpromised e) → S.view space.new.seat ≡ S.view space.old.seat }
     ensures store_stays { (e : PromiseError) → result ≡ Err (Unpromised e) → store.new ≡ store.old }
     ensures files_stay { (e : PromiseError) → result ≡ Err (Unpromised e) → C.becomes files.old [] files.new }
@@ -143,6 +145,7 @@ fn settle_from_file<S: FrameSeat, F: FrameSupply<Seat = S>, C: Files>(
     ensures dry { IsShort result → RunsShort (body_of S.view space.old) (body_of S.view space.new) access page }
     ensures whole { IsShort result → (t : Tables) (p : Process) → IsSpace (body_of S.view space.old) t p → IsSpace (body_of S.view space.new) t p }
     ensures unpromised { (e : PromiseError) → result ≡ Err (Unpromised e) → C.can_refuse files.old 1 e }
+    ensures of_file { (e : PromiseError) → result ≡ Err (Unpromised e) → (t : Tables) (p : Process) → CanReside (body_of S.view space.old) t p access page → 0 < length (reside_moves (C.files files.old) p page) }
     ensures view_stays { (e : PromiseError) → result ≡ Err (Unpromised e) → S.view space.new.seat ≡ S.view space.old.seat }
     ensures store_stays { (e : PromiseError) → result ≡ Err (Unpromised e) → store.new ≡ store.old }
     ensures files_stay { (e : PromiseError) → result ≡ Err (Unpromised e) → C.becomes files.old [] files.new }

@@ -1,6 +1,6 @@
 // The service of a fault.
 
-ghost use Rattle.std.specs.Prelude.{[], ◌≡◌, ◌≢◌, ◌-◌, ◌<◌, ◌≤◌, if◌then◌else◌};
+ghost use Rattle.std.specs.Prelude.{[], ◌≡◌, ◌≢◌, ◌-◌, ◌<◌, ◌≤◌, if◌then◌else◌, length};
 ghost use Rattle.address_space.specs.Agreement.{body_of, IsSpace};
 ghost use Rattle.fault_rules.specs.Resides.{HasReside, RunsShort, WhenReside};
 ghost use Rattle.fault_rules.specs.Serves.{DoesNothing, is_ready, IsEnd, served_moves};
@@ -51,6 +51,7 @@ pub fn serve<S: FrameSeat, F: FrameSupply<Seat = S>, C: Files>(
     ensures dry { result ≡ Ended NoFrame → RunsShort (body_of S.view space.old) (body_of S.view space.new) access (page_of va.0) }
     ensures whole { (rule : Rule) → result ≡ Ended rule → (t : Tables) (p : Process) → IsSpace (body_of S.view space.old) t p → IsSpace (body_of S.view space.new) t p }
     ensures unpromised { (e : Refusal) → result ≡ Unserved e → (x : PromiseError) × C.can_refuse files.old 1 x × (e ≡ refusal_of x) }
+    ensures of_file { (e : Refusal) → result ≡ Unserved e → (t : Tables) (p : Process) → IsSpace (body_of S.view space.old) t p → 0 < length (served_moves (C.files files.old) p (page_of va.0) (first_rule (regions p) access va.0 width)) }
     ensures view_stays { DoesNothing result → S.view space.new.seat ≡ S.view space.old.seat }
     ensures store_stays { DoesNothing result → store.new ≡ store.old }
     ensures files_stay { (e : Refusal) → result ≡ Unserved e → C.becomes files.old [] files.new }

@@ -32,6 +32,7 @@ pub(crate) fn initial_bytes<C: Files>(
     ensures bytes { IfOk result (λ _. bytes.new ≡ source_page (C.files files.old) (region_of region.now).source (4096 * (page - region.now.first))) }
     ensures moves { IfOk result (λ _. C.becomes files.old (moves_from (C.files files.old) (region_of region.now).source (4096 * (page - region.now.first))) files.new) }
     ensures refused { IfErr result (λ e. C.can_refuse files.old 1 e) }
+    ensures of_file { IfErr result (λ _. 0 < length (moves_from (C.files files.old) (region_of region.now).source (4096 * (page - region.now.first)))) }
     ensures files_stay { IfErr result (λ _. C.becomes files.old [] files.new) }
 {
     let Source::File { file, offset } = region.source else {

@@ -56,7 +56,7 @@ impl Cabinet {
 impl Files for Cabinet {
     ghost use Rattle.std.specs.Prelude.{◌≡◌, ◌^◌, refl};
     ghost use Rattle.process_model.specs.PageMoves.{files_after};
-    ghost use Rattle.file_cabinet.specs.Kept.{goes_on};
+    ghost use Rattle.file_cabinet.specs.Kept.{goes_on, never_refused};
 
     ghost files = { λ cabinet. cabinet };
 
@@ -67,6 +67,8 @@ impl Files for Cabinet {
     ghost can_refuse = { λ _ _ _. ⊥ };
 
     ghost stays = { λ _. refl };
+
+    ghost asks = { never_refused };
 
     ghost goes_on = { goes_on };
 

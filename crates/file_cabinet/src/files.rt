@@ -52,6 +52,9 @@ pub trait Files {
     /// Files that nobody reads or writes stay as they are.
     ghost stays: { (x : Self) → becomes x [] x };
 
+    /// Only a promise of a page or more may be refused.
+    ghost asks: { (x : Self) (pages : ℕ) (e : PromiseError) → can_refuse x pages e → 0 < pages };
+
     /// What is done twice is done one after the other.
     ghost goes_on: { (x y z : Self) (ms ns : List PageMove) → becomes x ms y → becomes y ns z → becomes x (ms ++ ns) z };
 

@@ -22,10 +22,15 @@ pub record Becomes (a : Shelved) (moves : List PageMove) (b : Shelved) : Type 0 
   pub files : b.files ≡ files_after a.files moves
   pub history : b.history ≡ a.history ++ moves
 
--- for want of room in the history exactly where so many entries more are too many; for want of memory only where they are not
+-- A promise of no pages is not refused. One of n pages is refused for want of room in the history exactly if n entries more are too many,
+-- and for want of memory only if they are not.
 abbrev pub CanRefuse : Shelved → ℕ → PromiseError → Type 0
-CanRefuse s n error.Memory = length s.history + n ≤ most_uses
-CanRefuse s n error.JournalFull = most_uses < length s.history + n
+CanRefuse s n error.Memory = (0 < n) × (length s.history + n ≤ most_uses)
+CanRefuse s n error.JournalFull = (0 < n) × (most_uses < length s.history + n)
+
+pub asks : (s : Shelved) (n : ℕ) (e : PromiseError) → CanRefuse s n e → 0 < n
+asks s n error.Memory can = can.0
+asks s n error.JournalFull can = can.0
 
 pub stays : (a : Shelved) → Becomes a [] a
 stays a = record { first = refl; files = refl; history = sym (append-nil a.history) }

@@ -64,7 +64,7 @@ impl Shelf {
 }
 
 impl Files for Shelf {
-    ghost use Rattle.file_shelf.specs.Shelved.{Becomes, CanRefuse, comes_to, goes_on, stays};
+    ghost use Rattle.file_shelf.specs.Shelved.{asks, Becomes, CanRefuse, comes_to, goes_on, stays};
 
     ghost files = { λ s. s.files };
 
@@ -76,12 +76,17 @@ impl Files for Shelf {
 
     ghost stays = { stays };
 
+    ghost asks = { asks };
+
     ghost goes_on = { goes_on };
 
     ghost comes_to = { comes_to };
 
     /// Takes the memory for so many entries more.
     fn promise(&mut self, pages: usize) -> Result<(), PromiseError> {
+        if pages == 0 {
+            return Ok(());
+        }
         if pages > MOST_USES - self.history.len() {
             return Err(PromiseError::JournalFull);
         }

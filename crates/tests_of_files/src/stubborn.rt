@@ -2,7 +2,7 @@
 
 use file_cabinet::{Files, PromiseError};
 
-/// Files that refuse one of their promises for want of memory, and are like some others in all else.
+/// Files that refuse one of their promises of a page or more for want of memory, and are like some others in all else.
 #[derive(Drop)]
 pub struct Stubborn<F> {
     pub files: F,
@@ -11,7 +11,7 @@ pub struct Stubborn<F> {
 }
 
 impl<F: Files> Files for Stubborn<F> {
-    ghost use Rattle.std.specs.Prelude.{◌≡◌, ◌⊎◌};
+    ghost use Rattle.std.specs.Prelude.{◌≡◌, ◌⊎◌, ◌<◌};
     ghost use Rattle.file_cabinet.specs.declared.promise.PromiseError.TheVariants.{Memory};
 
     ghost files = { λ s. F.files s.files };
@@ -20,15 +20,20 @@ impl<F: Files> Files for Stubborn<F> {
 
     ghost becomes = { λ s moves t. F.becomes s.files moves t.files };
 
-    ghost can_refuse = { λ s pages e. (e ≡ Memory) ⊎ F.can_refuse s.files pages e };
+    ghost can_refuse = { λ s pages e. (0 < pages) × ((e ≡ Memory) ⊎ F.can_refuse s.files pages e) };
 
     ghost stays = { λ s. F.stays s.files };
+
+    ghost asks = { λ s pages e can. can.0 };
 
     ghost goes_on = { λ s t u. F.goes_on s.files t.files u.files };
 
     ghost comes_to = { λ s t. F.comes_to s.files t.files };
 
     fn promise(&mut self, pages: usize) -> Result<(), PromiseError> {
+        if pages == 0 {
+            return self.files.promise(0);
+        }
         let refuses = self.until_refusal == Some(0);
         self.until_refusal = self.until_refusal.and_then(|left| left.checked_sub(1));
         if refuses {

@@ -1,5 +1,5 @@
 -- One page that a copy comes to: made resident by the rules of a fault, over any store and any files.
-use Rattle.std.specs.Prelude.{◌≡◌, ◌≢◌, ℕ, ◌-◌, ◌<◌, ◌≤◌, List, [], Result, Ok, Err, if◌then◌else◌}
+use Rattle.std.specs.Prelude.{◌≡◌, ◌≢◌, ℕ, ◌-◌, ◌<◌, ◌≤◌, List, [], Result, Ok, Err, if◌then◌else◌, length}
 use Rattle.address_space.specs.Agreement.{Body, body_of, IsSpace}
 use Rattle.address_space.specs.declared.space.Space.{Space}
 use Rattle.fault_rules.specs.Resides.{HasReside, RunsShort, WhenReside}
@@ -65,6 +65,8 @@ pub record Reaches {Seat Frames Cabinet : Type 0} (l : Words Seat Frames Cabinet
   pub dry : service r ≡ served.Ended NoFrame → RunsShort (body_at l a) (body_at l b) access (page_of address)
   pub whole : (rule : Rule) → service r ≡ served.Ended rule → (t : Tables) (p : Process) → IsSpace (body_at l a) t p → IsSpace (body_at l b) t p
   pub unpromised : (e : Refusal) → service r ≡ served.Unserved e → (x : PromiseError) × l.can_refuse a.files 1 x × (e ≡ refusal_of x)
+  pub of_file : (e : Refusal) → service r ≡ served.Unserved e → (t : Tables) (p : Process) → IsSpace (body_at l a) t p
+      → 0 < length (served_moves (l.files a.files) p (page_of address) (copy_rule (regions p) access address))
   pub view_stays : DoesNothing (service r) → l.view b.space.seat ≡ l.view a.space.seat
   pub store_stays : DoesNothing (service r) → b.store ≡ a.store
   pub files_stay : (e : Refusal) → service r ≡ served.Unserved e → l.becomes a.files [] b.files

@@ -54,6 +54,12 @@ returns-in_default-clause-dry g c short =
     carried {C = Access} {D = ℕ} (λ b s a n. RunsShort b (body_of g.S.FrameSeat.view c.settle_initial.new.space) a n) {a = c.args.access} {m = c.args.page} body read.same refl refl
     (c.settle_initial.ensures.dry short)
 
+pub returns-in_default-clause-of_file : goal.returns-in_default-clause-of_file
+returns-in_default-clause-of_file g c e is t p can =
+    let read = c.settled_page.ensures in
+    let body = same_body g.S.FrameSeat.view c.settled_page.new.self c.args.space.now read.view read.root read.trapframe read.layout in
+    c.settle_initial.ensures.of_file e is t p (subst (λ b. CanReside b t p c.args.access c.args.page) (sym body) can)
+
 pub returns-in_default-clause-view_stays : goal.returns-in_default-clause-view_stays
 returns-in_default-clause-view_stays g c e is =
     c.settle_initial.ensures.view_stays e is ∙ c.settled_page.ensures.view

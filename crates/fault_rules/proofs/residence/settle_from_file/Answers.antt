@@ -1,4 +1,4 @@
-use Rattle.std.proofs.Common.{◌*◌, ◌-◌, ap, refl, sym, subst, ◌∙◌, Err, None, Some, option_map}
+use Rattle.std.proofs.Common.{◌*◌, ◌-◌, ◌<◌, ap, refl, sym, subst, ◌∙◌, Err, None, Some, length, option_map}
 use Rattle.std.proofs.lemmas.Result.{err_from_is_err_and}
 use Rattle.address_space.specs.Layouts.{region_of}
 use Rattle.fault_rules.proofs.FirstResidence.{can_settle, first_moves, first_need, first_resides, first_short, keeps_of_mark}
@@ -38,6 +38,12 @@ pub returns-in_err-initial_bytes-clause-moves : goal.returns-in_err-initial_byte
 returns-in_err-initial_bytes-clause-moves g c none =
     let told = err_from_is_err_and c.from_residual.result c.from_residual.ensures.1 in
     absurd (none _ (told.1 ∙ ap Err told.2))
+
+pub returns-in_err-initial_bytes-clause-of_file : goal.returns-in_err-initial_bytes-clause-of_file
+returns-in_err-initial_bytes-clause-of_file g c e told t p can =
+    let is = found_region c.region_at.result c.in-Some.region (regions p) c.args.page c.number.result can.region c.in-Some.is (c.region_at.ensures p can.agrees.lays) c.number.ensures.value can.in_region in
+    subst (λ ms. 0 < length ms)
+    (first_moves can (c.requires.unsettled t p can.agrees) (g.C.Files.files c.args.files.now) (region_of c.in-Some.region) c.number-2.result is c.number-2.ensures.value) c.in_err-initial_bytes.ensures.of_file
 
 pub settle_as-requires-clause-ready : goal.settle_as-requires-clause-ready
 settle_as-requires-clause-ready g c = let r = c.requires.ready in (r.0, r.1, can_settle r.2 (c.requires.unsettled r.0 r.1 r.2.agrees))

@@ -1,5 +1,4 @@
-use Rattle.std.proofs.Common.{[], ◌*◌, ◌-◌, ap, refl, sym, subst, ◌∙◌, Err, None, Some, option_map}
-use Rattle.std.proofs.lemmas.Result.{err_from_is_err_and}
+use Rattle.std.proofs.Common.{[], ◌*◌, ◌-◌, ap, refl, sym, subst, ◌∙◌, None, Some, option_map}
 use Rattle.address_space.specs.Layouts.{region_of}
 use Rattle.fault_rules.proofs.FirstResidence.{can_settle, first_moves_none, first_need, first_resides, first_short, keeps_of_mark}
 use Rattle.fault_rules.proofs.Results.{none_gone, too_few}

@@ -1,4 +1,4 @@
-use Rattle.std.proofs.Common.{◌≡◌, ◌-◌, ◌<◌, ◌≤◌, ap, refl, sym, subst, ◌∙◌, Err, List, Some}
+use Rattle.std.proofs.Common.{◌≡◌, ◌-◌, ◌<◌, ◌≤◌, ap, refl, sym, subst, ◌∙◌, Err, length, List, Some}
 use Rattle.address_space.specs.Agreement.{body_of}
 use Rattle.fault_rules.specs.Allowed.{can_reside, denied_otherwise}
 use Rattle.fault_rules.specs.Resides.{CanReside, HasReside, reside_moves, RunsShort, WhenReside}
@@ -109,6 +109,14 @@ returns-in-Err-Unpromised-clause-ended g c t p space =
 pub returns-in-Err-Unpromised-clause-unpromised : goal.returns-in-Err-Unpromised-clause-unpromised
 returns-in-Err-Unpromised-clause-unpromised g c e is =
     (c.in-Err-Unpromised.error, c.in-Err-Unpromised.ensures.unpromised c.in-Err-Unpromised.error (ap Err c.in-Err-Unpromised.field-0-is), sym (ap refusal_in is) ∙ c.into.ensures)
+
+pub returns-in-Err-Unpromised-clause-of_file : goal.returns-in-Err-Unpromised-clause-of_file
+returns-in-Err-Unpromised-clause-of_file g c e is t p space =
+    let none = denied_by_none (first_rule (regions p) c.args.access c.args.va.0 c.args.width) (λ rule is. c.in_default.not-Err rule (c.grant.ensures t p space ∙ is)) in
+    let files = g.C.Files.files c.args.files.now in
+    let can = subst (λ n. CanReside (body_of g.S.FrameSeat.view c.args.space.now) t p c.args.access n) (sym c.page.ensures.number) (can_reside _ t p c.args.access c.args.va.0 c.args.width space none) in
+    let some = c.in-Err-Unpromised.ensures.of_file c.in-Err-Unpromised.error (ap Err c.in-Err-Unpromised.field-0-is) t p can in
+    subst (λ o. 0 < length (served_moves files p (page_of c.args.va.0) o)) (sym none) (subst (λ n. 0 < length (reside_moves files p n)) c.page.ensures.number some)
 
 pub returns-in-Err-Unpromised-clause-files_stay : goal.returns-in-Err-Unpromised-clause-files_stay
 returns-in-Err-Unpromised-clause-files_stay g c e is =

@@ -12,6 +12,7 @@ returns-in_default g c =
       bytes = zeros ∙ zeros_of_none 4096 ∙ sym (no_file_page files c.args.region.now.source at c.in_default.not-File);
       moves = rw (no_file_moves files c.args.region.now.source at c.in_default.not-File) (g.met.C.Files.stays c.args.files.now);
       refused = tt;
+      of_file = tt;
       files_stay = tt;
     }
 

@@ -11,6 +11,7 @@ returns-clause-reaches g c =
       dry = e.dry;
       whole = e.whole;
       unpromised = e.unpromised;
+      of_file = λ told is t p space. rw (← no_alignment (regions p) c.args.access c.args.va.0) (e.of_file told is t p space);
       view_stays = e.view_stays;
       store_stays = e.store_stays;
       files_stay = e.files_stay;

@@ -1,8 +1,7 @@
-use Rattle.std.proofs.Common.{◌≡◌, ◌<◌, ◌≤◌, ◌-◌, ap, arith, length, sym, subst, ◌∙◌}
+use Rattle.std.proofs.Common.{◌<◌, ap, arith, ◌∙◌}
 use Rattle.file_shelf.specs.Shelved.{Shelved}
 use Rattle.file_shelf.proofs.Longer.{one_more}
 use Rattle.process_model.specs.PageMoves.{page_write}
-use Rattle.file_shelf.specs.Histories.{most_uses}
 use Rattle.file_shelf.proofs.shelf.ShelfFiles.write_page.Goals as goal
 
 pub invariant_of-self : goal.invariant_of-self
