@@ -15,13 +15,13 @@ use sv39_entry::FrameNo;
 /// A store that any thread may have. Its `reserve`, `claim` and `share` try again until an exchange succeeds. Contracts
 /// see it as the name of its table.
 #[derive(Drop)]
-pub struct SharedSupply<'a, R: Wait> {
+pub struct SharedSupply<'a, R> {
     rt: &'a R,
     table: &'a Words,
     frames: usize,
 }
 
-impl<'a, R: Wait> Model for SharedSupply<'a, R> {
+impl<'a, R> Model for SharedSupply<'a, R> {
     ghost Value = { TableId };
 
     ghost view = { λ a. a.table.now.table_id };
@@ -29,7 +29,7 @@ impl<'a, R: Wait> Model for SharedSupply<'a, R> {
     ghost invariant = { λ a. IsSized a.table.now.table_id.words a.table.now.key × (a.frames ≡ a.table.now.key) };
 }
 
-impl<'a, R: Wait> SharedSupply<'a, R> {
+impl<'a, R> SharedSupply<'a, R> {
     pub(crate) fn new(rt: &'a R, table: &'a Words, frames: usize) -> SharedSupply<'a, R>
         requires sized { IsSized table.now.table_id.words table.now.key }
         requires counted { frames ≡ table.now.key }
@@ -39,7 +39,7 @@ impl<'a, R: Wait> SharedSupply<'a, R> {
     }
 }
 
-impl<'a, R: Wait> FrameAccess for SharedSupply<'a, R> {
+impl<'a, R> FrameAccess for SharedSupply<'a, R> {
     type Seat = SharedSeat;
 
     ghost use Rattle.shared_frames.specs.Fits.{AllFit, held_within, to_front, to_back};
