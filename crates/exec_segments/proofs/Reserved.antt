@@ -5,8 +5,12 @@ use Rattle.std.proofs.lemmas.List.{append-nil}
 use Rattle.address_space.specs.Agreement.{body_of}
 use Rattle.address_space.specs.Steps.{RunsDry, Takes}
 use Rattle.address_space.specs.declared.space.Space.{Space}
+use Rattle.file_cabinet.specs.Promises.{refusal_of}
+use Rattle.file_cabinet.specs.declared.promise.PromiseError.{PromiseError}
+use Rattle.file_cabinet.specs.declared.promise.PromiseError.TheVariants as error
 use Rattle.frame_store.specs.Laws.{IsDry}
 use Rattle.frame_store.specs.View.{taken, Tallies, View, with_credits}
+use Rattle.process_model.specs.declared.step.Refusal.TheVariants as refusal
 
 -- what a result is, by whether it is a refusal
 
@@ -46,3 +50,8 @@ module _ (u v w : View) (n need : ℕ) (is : v ≡ u) (same : n ≡ need) where
   credits_reserved x none reserved there =
       let now = ap (λ (k : View). k.credits) (there ∙ reserved ∙ ap (with_credits n) is) in
       omega (arith, now, none, same)
+
+-- a promise is not refused for want of frames
+pub never_no_frame : (x : PromiseError) → refusal_of x ≡ refusal.NoFrame → ⊥
+never_no_frame error.Memory is = cc
+never_no_frame error.JournalFull is = cc

@@ -1,6 +1,6 @@
 // Exec: the process of an image in the place of another.
 
-ghost use Rattle.std.specs.Prelude.{[], ◌≡◌, ◌<◌, ◌≤◌, IfErr, IfOk, length, ℕ};
+ghost use Rattle.std.specs.Prelude.{[], ◌≡◌, ◌≢◌, ◌<◌, ◌≤◌, IfErr, IfOk, length, ℕ};
 ghost use Rattle.address_space.specs.Agreement.{body_of, IsSpace};
 ghost use Rattle.address_space.specs.Parts.{OwnsAlone};
 ghost use Rattle.address_space.specs.Steps.{RunsDry, Takes};
@@ -41,9 +41,12 @@ pub fn exec<S: FrameSeat, F: FrameSupply<Seat = S>, C: Files>(
     ensures takes { IfOk result (λ _. Takes (S.view space.old.seat) (S.view space.new.seat) (exec_need image.now) []) }
     ensures saved { IfOk result (λ _. hold_of (S.view space.new.seat) space.old.trapframe.0 ≡ hold_of (S.view space.old.seat) space.old.trapframe.0) }
     ensures refused { IfErr result (λ e. (t : tables.Tables) (p : Process) → IsSpace (body_of S.view space.old) t p → IsExecRefusal (C.can_refuse files.old (length (all_moves p))) e) }
+    ensures promised { IfErr result (λ e. e ≡ NoFrame → (t : tables.Tables) (p : Process) → IsSpace (body_of S.view space.old) t p → length (all_moves p) ≤ C.room files.new) }
     ensures dry { IfErr result (λ e. e ≡ NoFrame → RunsDry (S.view space.old.seat) (S.view space.new.seat) (exec_need image.now) []) }
     ensures whole { IfErr result (λ _. (t : tables.Tables) (p : Process) → IsSpace (body_of S.view space.old) t p → IsSpace (body_of S.view space.new) t p) }
     ensures files_stay { IfErr result (λ _. C.becomes files.old [] files.new) }
+    ensures view_stays { IfErr result (λ e. e ≢ NoFrame → S.view space.new.seat ≡ S.view space.old.seat) }
+    ensures store_stays { IfErr result (λ e. e ≢ NoFrame → store.new ≡ store.old) }
     ensures enough { F.alone → IfOk result (λ _. exec_need image.now ≤ F.free store.old) }
     ensures short { F.alone → IfErr result (λ e. e ≡ NoFrame → F.free store.old < exec_need image.now) }
     ensures trapframe { space.new.trapframe ≡ space.old.trapframe }

@@ -3,7 +3,8 @@ use Rattle.address_space.specs.Agreement.{Body, body_of, IsSpace, nothing}
 use Rattle.address_space.specs.Beside.{space_still, standing_still}
 use Rattle.address_space.specs.Parts.{build_need, process_of_parts, tree_need}
 use Rattle.address_space.specs.Standing.{IsStanding}
-use Rattle.exec_segments.proofs.Reserved.{credits_reserved, refused, runs_dry, same_body, takes_reserved, went_well}
+use Rattle.std.proofs.lemmas.Result.{err_from_is_err_and}
+use Rattle.exec_segments.proofs.Reserved.{credits_reserved, never_no_frame, refused, runs_dry, same_body, takes_reserved, went_well}
 use Rattle.exec_segments.specs.Loads.{load_of}
 use Rattle.frame_store.specs.Holds.{hold_of-frames}
 use Rattle.frame_store.specs.Laws.{fits_after}
@@ -38,6 +39,11 @@ still : (g : given.Over) (c : After-promise_write_back g) → body_of g.S.FrameS
 still g c =
     let e = c.promise_write_back.ensures in
     same_body g.S.FrameSeat.view c.promise_write_back.new.space c.args.space.now e.view e.root e.trapframe e.layout
+
+pub returns-in_err-promise_write_back-clause-promised : goal.returns-in_err-promise_write_back-clause-promised
+returns-in_err-promise_write_back-clause-promised g c =
+    let told = err_from_is_err_and c.from_residual.result c.from_residual.ensures.1 in
+    rw told.1 (λ none t p space. absurd (never_no_frame _ (sym told.2 ∙ none)))
 
 pub reserve-requires : goal.reserve-requires
 reserve-requires g c = record { fits = fits_after g.F.FrameAccess.rule c.promise_write_back.ensures.keeps c.requires.fits }
