@@ -1,19 +1,23 @@
 -- What is free when a pool is closed, and what is told of it.
-use Rattle.std.proofs.Common.{◌≡◌, ℕ, ◌+◌, ◌-◌, List, length, sym, ap, subst, ◌∙◌, arith}
+use Rattle.std.proofs.Common.{◌≡◌, ℕ, ◌+◌, ◌-◌, List, sym, ap, subst, ◌∙◌, arith}
 use Rattle.std.specs.List.Sorted.{IsPermutation}
 use Rattle.atomic_table.specs.Seated.{TableId}
 use Rattle.frame_store.specs.View.{View, opening_view, references}
 use Rattle.hart_calls.specs.declared.finished.Finished.{Finished}
 use Rattle.hart_threads.specs.Rostered.{ComesBack}
+use Rattle.hart_threads.specs.Slots.{AreSlotted}
 use Rattle.hart_threads.specs.Starts.{Lends}
 use Rattle.process_model.specs.ThreadScript.{ThreadScript}
+use Rattle.process_model.specs.declared.call.Call.{Call}
 use Rattle.process_model.specs.declared.call.Pool.{Pool}
+use Rattle.process_model.specs.declared.call.Start.{Start}
 use Rattle.shared_frames.specs.Fits.{FitsIn, view_of}
 use Rattle.shared_frames.specs.Totals.{AreTotals, held_frames}
 use Rattle.shared_frames.specs.declared.seat.SharedSeat.{SharedSeat}
 use Rattle.audit_player.proofs.Holdings.{sizes_agree, still_kernel}
 use Rattle.audit_player.specs.KernelFrames.{HoldsOnce}
 use Rattle.audit_player.specs.PlayedThreads.{IsTextOf, LeavesFree, kernel_of, user_frames}
+use Rattle.audit_player.specs.ThreadLists.{AreListsOf, AreStartsOf}
 use Rattle.audit_player.specs.ThreadText.{AreInOrder, threads_text}
 
 -- the seats of the kernel at the beginning, when its frames were taken, and at the end
@@ -45,11 +49,16 @@ pub users_are : (p q : Pool) (k : ℕ) → q ≡ p → k ≡ kernel_of q → q.f
 users_are p q k same count = ap (λ (m : ℕ). q.frames - m) count ∙ ap user_frames same
 
 -- those who ended, sorted, are a text of the file
-pub is_text : (s : ThreadScript) (n : ℕ) (ended sorted shown : List Finished) (free frames : ℕ) → ComesBack n ended → n ≡ length s.starts → IsPermutation ended sorted → AreInOrder sorted → shown ≡ sorted → LeavesFree s.pool free → frames ≡ user_frames s.pool
-    → IsTextOf s (threads_text shown free frames)
-is_text s n ended sorted shown free frames comes count same order shows leaves users = record {
+pub is_text : (s : ThreadScript) (lists of_lists : List (List Call)) (starts of_starts : List Start) (ended sorted shown : List Finished) (free frames : ℕ) → AreListsOf s.images s.lists lists → of_lists ≡ lists → AreStartsOf s.images s.starts starts → of_starts ≡ starts → ComesBack of_lists of_starts ended → AreSlotted s.pool.slots ended
+    → IsPermutation ended sorted → AreInOrder sorted → shown ≡ sorted → LeavesFree s.pool free → frames ≡ user_frames s.pool → IsTextOf s (threads_text shown free frames)
+is_text s lists of_lists starts of_starts ended sorted shown free frames are_lists same_lists are_starts same_starts comes slots same order shows leaves users = record {
+  lists = lists;
+  are_lists = are_lists;
+  starts = starts;
+  are_starts = are_starts;
   ended = ended;
-  comes = subst (λ (m : ℕ). ComesBack m ended) count comes;
+  comes = subst (λ (ls : List (List Call)). ComesBack ls starts ended) same_lists (subst (λ (ss : List Start). ComesBack of_lists ss ended) same_starts comes);
+  slots = slots;
   shown = sorted;
   same = same;
   order = order;

@@ -40,7 +40,7 @@ copies w h address a b e =
     (λ hart s p. told_out w s (copied_out (around w s) (begun w (without_pending p)) address bytes)))) e
 
 -- the image that a line names
-named : (images : List OwnedImage) (n : ℕ) (i : OwnedImage) → n < length images → i ≡ get_or images n i → lent i ≡ image_at images n
+pub named : (images : List OwnedImage) (n : ℕ) (i : OwnedImage) → n < length images → i ≡ get_or images n i → lent i ≡ image_at images n
 named images n i lt is = ap lent is ∙ ap (λ (o : Option OwnedImage). lent (or_no_image o)) (sym (slice_get-get_or images n i lt))
 
 -- so its line answers what the step with it does

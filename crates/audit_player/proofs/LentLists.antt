@@ -1,8 +1,9 @@
 -- Lists and starts that are lent.
-use Rattle.std.proofs.Common.{◌≡◌, inl, inr, ℕ, ◌<◌, ◌==◌, Bool, true, false, List, [], ◌∷◌, Option, None, Some, length, get_or, sym, ap, subst, ◌∙◌}
-use Rattle.std.specs.Prelude.{All, ◌||◌}
+use Rattle.std.proofs.Common.{◌≡◌, ◌⊎◌, inl, inr, ℕ, zero, suc, ◌+◌, ◌<◌, ◌==◌, Bool, true, false, List, [], ◌∷◌, ◌++◌, Option, None, Some, length, get_or, take, refl, sym, ap, subst, ◌∙◌, arith}
+use Rattle.std.specs.Prelude.{All, ◌||◌, slice_get}
 use Rattle.std.specs.List.{list_any}
 use Rattle.std.proofs.lemmas.Bool.Decides.{eqb_tells}
+use Rattle.std.proofs.lemmas.List.{take_more}
 use Rattle.std.proofs.lemmas.List.Elements.{All-get_or, All-head, All-tail, All-weaker}
 use Rattle.hart_calls.specs.Track.{IsThere}
 use Rattle.process_model.specs.ThreadScript.{calls_of, most_lists}
@@ -14,7 +15,13 @@ use Rattle.process_model.specs.declared.call.ListedCall.TheVariants as listed
 use Rattle.process_model.specs.declared.call.ListedStart.{ListedStart}
 use Rattle.process_model.specs.declared.image.OwnedImage.{OwnedImage}
 use Rattle.script_reader.specs.ThreadsPlayable.{HasList, IsDeclaredCall, IsDeclaredLine, IsList, IsStart}
-use Rattle.audit_player.specs.ThreadLists.{AreFew}
+use Rattle.hart_calls.specs.Replay.{list_at, or_none}
+use Rattle.process_model.specs.Images.{image_loads}
+use Rattle.process_model.specs.Text.{image_at, lent}
+use Rattle.process_model.specs.declared.call.Start.{Start}
+use Rattle.process_model.specs.declared.image.Image.{Image}
+use Rattle.audit_player.proofs.Lending.{named}
+use Rattle.audit_player.specs.ThreadLists.{AreCallsOf, AreFew, AreListsOf, AreStartsOf, IsCallOf, IsStartOf, lines_of, or_no_lines}
 
 -- a list that is there has a number that a list may have
 pub has_below : (lists : List CallList) (k : ℕ) → AreFew lists → HasList lists k → k < most_lists
@@ -60,3 +67,66 @@ few_lists images lists all each = All-weaker (IsList images lists) (λ (l : Call
 -- a start begins a list that there may be
 pub start_below : (images : List OwnedImage) (lists : List CallList) (starts : List ListedStart) (i : ℕ) (d : ListedStart) → All (IsList images lists) lists → All (IsStart images lists) starts → i < length starts → (get_or starts i d).list < most_lists
 start_below images lists starts i d each all lt = has_below lists (get_or starts i d).list (few_lists images lists lists each) (All-get_or (IsStart images lists) starts i d lt all).1
+
+-- what is lent is what the lines declare
+
+pub one_of : (images : List OwnedImage) (line : ListedCall) (c : Call) → line ≡ listed.One c → IsCallOf images line c
+one_of images line c is = subst (λ (l : ListedCall). IsCallOf images l c) (sym is) refl
+
+pub lent_of : (images : List OwnedImage) (n : ℕ) (o : OwnedImage) (i : Image) → n < length images → o ≡ get_or images n o → image_loads i ≡ image_loads (lent o) → image_loads i ≡ image_loads (image_at images n)
+lent_of images n o i lt is loads = loads ∙ ap image_loads (named images n o lt is)
+
+pub exec_of : (images : List OwnedImage) (line : ListedCall) (n : ℕ) (o : OwnedImage) (i : Image) → line ≡ listed.Exec n → n < length images → o ≡ get_or images n o → image_loads i ≡ image_loads (lent o) → IsCallOf images line (call.Exec i)
+exec_of images line n o i line_is lt is loads = subst (λ (l : ListedCall). IsCallOf images l (call.Exec i)) (sym line_is) (lent_of images n o i lt is loads)
+
+calls_push : (images : List OwnedImage) (ls : List ListedCall) (cs : List Call) (l : ListedCall) (c : Call) → AreCallsOf images ls cs → IsCallOf images l c → AreCallsOf images (ls ++ l ∷ []) (cs ++ c ∷ [])
+calls_push images [] [] l c are is = (is, tt)
+calls_push images [] (d ∷ ds) l c are is = absurd are
+calls_push images (k ∷ ks) [] l c are is = absurd are
+calls_push images (k ∷ ks) (d ∷ ds) l c are is = (are.0, calls_push images ks ds l c are.1 is)
+
+-- the lines so far
+pub calls_more : (images : List OwnedImage) (ls : List ListedCall) (i : ℕ) (d : ListedCall) (cs ds : List Call) (c : Call) → i < length ls → ds ≡ cs ++ c ∷ [] → AreCallsOf images (take i ls) cs → IsCallOf images (get_or ls i d) c → AreCallsOf images (take (i + 1) ls) ds
+calls_more images ls i d cs ds c lt put are is = subst (AreCallsOf images (take (i + 1) ls)) (sym put) (subst (λ (xs : List ListedCall). AreCallsOf images xs (cs ++ c ∷ [])) (sym (take_more ls i d lt)) (calls_push images (take i ls) cs (get_or ls i d) c are is))
+
+starts_push : (images : List OwnedImage) (ls : List ListedStart) (cs : List Start) (l : ListedStart) (c : Start) → AreStartsOf images ls cs → IsStartOf images l c → AreStartsOf images (ls ++ l ∷ []) (cs ++ c ∷ [])
+starts_push images [] [] l c are is = (is, tt)
+starts_push images [] (d ∷ ds) l c are is = absurd are
+starts_push images (k ∷ ks) [] l c are is = absurd are
+starts_push images (k ∷ ks) (d ∷ ds) l c are is = (are.0, starts_push images ks ds l c are.1 is)
+
+pub starts_more : (images : List OwnedImage) (ls : List ListedStart) (i : ℕ) (d : ListedStart) (cs ds : List Start) (c : Start) → i < length ls → ds ≡ cs ++ c ∷ [] → AreStartsOf images (take i ls) cs → IsStartOf images (get_or ls i d) c → AreStartsOf images (take (i + 1) ls) ds
+starts_more images ls i d cs ds c lt put are is = subst (AreStartsOf images (take (i + 1) ls)) (sym put) (subst (λ (xs : List ListedStart). AreStartsOf images xs (cs ++ c ∷ [])) (sym (take_more ls i d lt)) (starts_push images (take i ls) cs (get_or ls i d) c are is))
+
+-- the lists so far
+
+abbrev pub AreBelow : List OwnedImage → List CallList → ℕ → List (List Call) → Type 0
+AreBelow images declared n lists = (k : ℕ) → k < n → AreCallsOf images (lines_of declared k) (list_at lists k)
+
+at_last : (xs : List (List Call)) (y : List Call) → list_at (xs ++ y ∷ []) (length xs) ≡ y
+at_last [] y = refl
+at_last (x ∷ xs) y = at_last xs y
+
+at_before : (xs : List (List Call)) (y : List Call) (k : ℕ) → k < length xs → list_at (xs ++ y ∷ []) k ≡ list_at xs k
+at_before [] y k lt = absurd (omega arith)
+at_before (x ∷ xs) y zero lt = refl
+at_before (x ∷ xs) y (suc k) lt = at_before xs y k (omega arith)
+
+below : (a b : ℕ) → a < b + 1 → (a < b) ⊎ (a ≡ b)
+below zero zero l = inr refl
+below zero (suc b) l = inl (omega arith)
+below (suc a) zero l = absurd (omega arith)
+below (suc a) (suc b) l = up (below a b (omega arith))
+  where
+    up : (a < b) ⊎ (a ≡ b) → (suc a < suc b) ⊎ (suc a ≡ suc b)
+    up (inl x) = inl (omega arith)
+    up (inr x) = inr (ap suc x)
+
+pub lists_more : (images : List OwnedImage) (declared : List CallList) (n : ℕ) (xs ys : List (List Call)) (y : List Call) → length xs ≡ n → ys ≡ xs ++ y ∷ [] → AreBelow images declared n xs → AreCallsOf images (lines_of declared n) y → AreBelow images declared (n + 1) ys
+lists_more images declared n xs ys y count put are is k lt = subst (λ (zs : List (List Call)). AreCallsOf images (lines_of declared k) (list_at zs k)) (sym put) (which (below k n lt))
+  where
+    which : (k < n) ⊎ (k ≡ n) → AreCallsOf images (lines_of declared k) (list_at (xs ++ y ∷ []) k)
+    which (inl less) = subst (AreCallsOf images (lines_of declared k)) (sym (at_before xs y k (omega (arith, less, count)))) (are k less)
+    which (inr same) =
+        let last : list_at (xs ++ y ∷ []) k ≡ y = ap (list_at (xs ++ y ∷ [])) (same ∙ sym count) ∙ at_last xs y in
+        subst (AreCallsOf images (lines_of declared k)) (sym last) (subst (λ (m : ℕ). AreCallsOf images (lines_of declared m) y) (sym same) is)

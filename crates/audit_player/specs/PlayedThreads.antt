@@ -1,16 +1,20 @@
 -- What playing a file for threads answers and writes.
-use Rattle.std.specs.Prelude.{◌≡◌, ◌⊎◌, ℕ, ◌-◌, List, Option, None, Some, Result, Ok, Err, length}
+use Rattle.std.specs.Prelude.{◌≡◌, ◌⊎◌, ℕ, ◌-◌, List, Option, None, Some, Result, Ok, Err}
 use Rattle.std.specs.Io.KnownBytes.{Appends, Keeps}
 use Rattle.std.specs.List.Sorted.{IsPermutation}
 use Rattle.frame_store.specs.View.{View}
 use Rattle.hart_calls.specs.declared.finished.Finished.{Finished}
 use Rattle.hart_threads.specs.Rostered.{ComesBack}
+use Rattle.hart_threads.specs.Slots.{AreSlotted}
 use Rattle.process_model.specs.Frames.{kernel_frames}
 use Rattle.process_model.specs.ThreadScript.{ThreadScript, thread_script_of}
+use Rattle.process_model.specs.declared.call.Call.{Call}
 use Rattle.process_model.specs.declared.call.Pool.{Pool}
+use Rattle.process_model.specs.declared.call.Start.{Start}
 use Rattle.process_model.specs.declared.script.Cause.{Cause}
 use Rattle.shared_frames.specs.Totals.{AreTotals, held_frames}
 use Rattle.audit_player.specs.Taken.{WroteSome}
+use Rattle.audit_player.specs.ThreadLists.{AreListsOf, AreStartsOf}
 use Rattle.audit_player.specs.ThreadText.{AreInOrder, threads_text}
 use Rattle.audit_player.specs.declared.fault.PlayError.{PlayError}
 use Rattle.audit_player.specs.declared.fault.PlayError.TheVariants as error
@@ -30,10 +34,16 @@ pub record LeavesFree (pool : Pool) (free : ℕ) : Type 0 where
   pub totals : AreTotals pool.frames view free trampoline
   pub all : trampoline ≡ 1 → free ≡ user_frames pool
 
--- a text that a file may have: a line for each start and each child, sorted by their names, of what they came to, and the free user frames
+-- a text that a file may have: a line for each start and each child, sorted by their names, of what they came to when each of them ran its
+-- list of the file, in so many slots, and the free user frames
 pub record IsTextOf (s : ThreadScript) (whole : List ℕ) : Type 0 where
+  pub lists : List (List Call)
+  pub are_lists : AreListsOf s.images s.lists lists
+  pub starts : List Start
+  pub are_starts : AreStartsOf s.images s.starts starts
   pub ended : List Finished
-  pub comes : ComesBack (length s.starts) ended
+  pub comes : ComesBack lists starts ended
+  pub slots : AreSlotted s.pool.slots ended
   pub shown : List Finished
   pub same : IsPermutation ended shown
   pub order : AreInOrder shown

@@ -1,8 +1,51 @@
--- The lists of a file for threads.
-use Rattle.std.specs.Prelude.{◌<◌, List, All}
-use Rattle.process_model.specs.ThreadScript.{most_lists}
+-- The lists and the starts of a file for threads, as processes have them.
+use Rattle.std.specs.Prelude.{◌≡◌, ℕ, ◌<◌, List, [], ◌∷◌, All, Option, None, Some}
+use Rattle.hart_calls.specs.Replay.{list_at}
+use Rattle.process_model.specs.Images.{image_loads}
+use Rattle.process_model.specs.Text.{image_at}
+use Rattle.process_model.specs.ThreadScript.{calls_of, most_lists, ThreadScript}
+use Rattle.process_model.specs.declared.call.Call.{Call}
+use Rattle.process_model.specs.declared.call.Call.TheVariants as call
 use Rattle.process_model.specs.declared.call.CallList.{CallList}
+use Rattle.process_model.specs.declared.call.ListedCall.{ListedCall}
+use Rattle.process_model.specs.declared.call.ListedCall.TheVariants as listed
+use Rattle.process_model.specs.declared.call.ListedStart.{ListedStart}
+use Rattle.process_model.specs.declared.call.Start.{Start}
+use Rattle.process_model.specs.declared.image.OwnedImage.{OwnedImage}
 
 -- each has a number that a list may have
 abbrev pub AreFew : List CallList → Type 0
 AreFew lists = All (λ (l : CallList). l.number < most_lists) lists
+
+-- a call as a line declares it: it borrows the image that the line names, or the bytes that it has
+abbrev pub IsCallOf : List OwnedImage → ListedCall → Call → Type 0
+IsCallOf images (listed.One c) d = d ≡ c
+IsCallOf images (listed.Exec n) (call.Exec image) = image_loads image ≡ image_loads (image_at images n)
+IsCallOf images (listed.CopyOut address bytes) (call.CopyOut a b) = (a ≡ address) × (b.now ≡ bytes)
+IsCallOf images line c = ⊥
+
+abbrev pub AreCallsOf : List OwnedImage → List ListedCall → List Call → Type 0
+AreCallsOf images [] [] = Unit {0}
+AreCallsOf images (l ∷ ls) (c ∷ cs) = IsCallOf images l c × AreCallsOf images ls cs
+AreCallsOf images ls cs = ⊥
+
+-- the lines of the list of a number, none where there is no such list
+abbrev pub or_no_lines : Option (List ListedCall) → List ListedCall
+or_no_lines None = []
+or_no_lines (Some lines) = lines
+
+abbrev pub lines_of : List CallList → ℕ → List ListedCall
+lines_of lists k = or_no_lines (calls_of lists k)
+
+-- the lists of a file, by their numbers
+abbrev pub AreListsOf : List OwnedImage → List CallList → List (List Call) → Type 0
+AreListsOf images declared lists = (k : ℕ) → k < most_lists → AreCallsOf images (lines_of declared k) (list_at lists k)
+
+-- a start as a line declares it
+abbrev pub IsStartOf : List OwnedImage → ListedStart → Start → Type 0
+IsStartOf images d s = (s.list ≡ d.list) × (image_loads s.image ≡ image_loads (image_at images d.image))
+
+abbrev pub AreStartsOf : List OwnedImage → List ListedStart → List Start → Type 0
+AreStartsOf images [] [] = Unit {0}
+AreStartsOf images (d ∷ ds) (s ∷ ss) = IsStartOf images d s × AreStartsOf images ds ss
+AreStartsOf images ds ss = ⊥

@@ -5,7 +5,7 @@ ghost use Rattle.hart_calls.specs.Track.{AreThere, IsThere};
 ghost use Rattle.process_model.specs.ThreadScript.{most_lists};
 ghost use Rattle.process_model.specs.declared.call.CallList.{CallList};
 ghost use Rattle.script_reader.specs.ThreadsPlayable.{IsDeclaredLine, IsThreadPlayable};
-ghost use Rattle.audit_player.specs.ThreadLists.{AreFew};
+ghost use Rattle.audit_player.specs.ThreadLists.{AreCallsOf, AreFew, AreListsOf, AreStartsOf, IsCallOf, lines_of};
 
 use crate::commands::lend;
 use process_model::{Call, ListedCall, OwnedImage, Sequence, Start};
@@ -19,6 +19,7 @@ const MOST_LISTS: usize = 64;
 fn lend_call<'a>(images: &'a [OwnedImage], call: &'a ListedCall) -> Call<'a>
     requires declared { (lists : List CallList) × IsDeclaredLine images.now lists call.now × AreFew lists }
     ensures there { IsThere most_lists result }
+    ensures is { IsCallOf images.now call.now result }
 {
     match call {
         ListedCall::One(call) => *call,
@@ -40,6 +41,7 @@ fn lend_list<'a>(
 ) -> Result<Sequence<Call<'a>>, AllocError>
     requires declared { (lists : List CallList) × All (IsDeclaredLine images.now lists) calls.now × AreFew lists }
     ensures there { IfOk result (λ list. All (IsThere most_lists) list) }
+    ensures are { IfOk result (λ list. AreCallsOf images.now calls.now list) }
 {
     let mut list = Vec::with_capacity(alloc, calls.len())?;
     'calls: for call in calls {
@@ -52,6 +54,7 @@ fn lend_list<'a>(
 fn calls_of(script: &ThreadScript, number: usize) -> &[ListedCall]
     requires playable { IsThreadPlayable script.now }
     ensures declared { All (IsDeclaredLine script.now.images script.now.lists) result.now }
+    ensures is { result.now ≡ lines_of script.now.lists number }
 {
     match script.calls(number) {
         Some(calls) => calls,
@@ -67,6 +70,7 @@ pub fn lend_lists<'a>(
     requires playable { IsThreadPlayable script.now }
     ensures all { IfOk result (λ lists. length lists.items ≡ most_lists) }
     ensures there { IfOk result (λ lists. AreThere lists.items) }
+    ensures are { IfOk result (λ lists. AreListsOf script.now.images script.now.lists lists.items) }
 {
     let images = script.images();
     let mut lists = Vec::with_capacity(alloc, MOST_LISTS)?;
@@ -84,6 +88,7 @@ pub fn lend_starts<'a>(
     requires playable { IsThreadPlayable script.now }
     ensures all { IfOk result (λ starts. length starts.items ≡ length script.now.starts) }
     ensures there { IfOk result (λ starts. All (λ start. start.list < most_lists) starts.items) }
+    ensures are { IfOk result (λ starts. AreStartsOf script.now.images script.now.starts starts.items) }
 {
     let images = script.images();
     let mut starts = Vec::with_capacity(alloc, script.starts().len())?;

@@ -3,6 +3,7 @@
 ghost use Rattle.std.specs.Prelude.{◌≡◌, ◌↔◌, ◌||◌, ◌≤◌, ◌<◌, All, false, length, IfOk, IsTrue, IsErrOf};
 ghost use Rattle.hart_calls.specs.Track.{AreThere};
 ghost use Rattle.hart_threads.specs.Rostered.{ComesBack};
+ghost use Rattle.hart_threads.specs.Slots.{AreSlotted};
 ghost use Rattle.process_model.specs.ThreadScript.{most_lists};
 ghost use Rattle.script_reader.specs.ThreadsPlayable.{IsThreadPlayable};
 ghost use Rattle.audit_player.specs.PlayedThreads.{LeavesFree, PlaysLists, PlaysThreads};
@@ -47,7 +48,8 @@ pub fn run_pool<'a, T: Threads + Wait + Sync, G: Gate + Sync>(
     requires starts { All (λ start. start.list < most_lists) starts.now }
     requires some { 1 ≤ harts }
     requires few { harts ≤ 8 }
-    ensures ended { IfOk result (λ r. ComesBack (length starts.now) r.0.items) }
+    ensures ended { IfOk result (λ r. ComesBack lists.entry.now starts.now r.0.items) }
+    ensures slots { IfOk result (λ r. AreSlotted script.now.pool.slots r.0.items) }
     ensures free { IfOk result (λ r. LeavesFree script.now.pool r.1) }
 {
     let pool = script.pool();

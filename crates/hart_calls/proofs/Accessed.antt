@@ -1,5 +1,5 @@
 -- An access that is made at once, or is served first, is what the model tells of it.
-use Rattle.std.proofs.Common.{◌≡◌, ◌⊎◌, ap₂, ℕ, ◌+◌, ◌≤◌, ◌%◌, ◌==◌, Bool, true, false, ◌&&◌, Option, None, Some, Result, Ok, Err, List, [], ◌++◌, refl, ap, sym, subst, ◌∙◌, arith, inl, inr}
+use Rattle.std.proofs.Common.{◌≡◌, ◌⊎◌, ap₂, ℕ, ◌+◌, ◌<◌, ◌≤◌, ◌%◌, ◌==◌, Bool, true, false, ◌&&◌, Option, None, Some, Result, Ok, Err, List, [], ◌++◌, length, refl, ap, sym, subst, ◌∙◌, arith, inl, inr}
 use Rattle.std.specs.Prelude.{◌↔◌, if◌then◌else◌, is_some, option_to_list}
 use Rattle.std.proofs.lemmas.Bool.{and_parts, eq-eqb}
 use Rattle.std.proofs.lemmas.List.{append-nil}
@@ -11,7 +11,7 @@ use Rattle.fault_rules.specs.Resides.{is_counted, is_shared_by, moves_for}
 use Rattle.fault_rules.specs.Serves.{IsEnd, served_moves}
 use Rattle.fault_rules.specs.declared.service.Served.TheVariants as served
 use Rattle.frame_store.specs.View.{View}
-use Rattle.hart_calls.specs.Asks.{IsAccess}
+use Rattle.hart_calls.specs.Asks.{IsAccess, IsAccessCall}
 use Rattle.hart_calls.specs.Comes.{address_of, at_stop, by_reply, Comes, IsPlain}
 use Rattle.hart_calls.specs.Lacks.{AccessDry, TellsLack}
 use Rattle.hart_calls.specs.Tells.{access_if, access_reads, accessed, reads_of, refuses, rule_for, served_access, service, Told, told, writes_of}
@@ -230,8 +230,8 @@ module _ (files : List File) (p : Process) (a : Asked) where
   as_told y u shared space = made_alike y u files 0 shared (is_shared_page (round files nothing) p page) p a.access page space
 
   -- a width that there is not
-  pub bad_width : (c : Call) → IsAccess c a → is_width a.width ≡ false → (x y : Body) (Became : List PageMove → Type 0) → ((u : Tables) × IsSpace y u p) → Became [] → Comes x y files Became p c nothing (reply.Refused refusal.BadArgument)
-  bad_width c is narrow x y Became space moves =
+  pub bad_width : (c : Call) → IsAccess c a → is_width a.width ≡ false → (x y : Body) (Became : List PageMove → Type 0) (Refused : List PageMove → ℕ → Refusal → Type 0) (Kept : ℕ → Type 0) → ((u : Tables) × IsSpace y u p) → Became [] → Comes x y files Became Refused Kept p c nothing (reply.Refused refusal.BadArgument)
+  bad_width c is narrow x y Became Refused Kept space moves =
       let of = of_access c a is in
       let tells : told files nothing 0 p c ≡ refuses files p refusal.BadArgument = of.tells files nothing p ∙ ap (λ (b : Bool). access_if files nothing p a b) narrow in
       let none : reads_of files nothing p c ++ writes_of files nothing p c ≡ [] =
@@ -242,9 +242,10 @@ module _ (files : List File) (p : Process) (a : Asked) where
         space = (space.0, subst (λ (z : Process). IsSpace y space.0 z) (sym (ap (λ (z : Told). z.process) tells)) space.1);
         moves = subst Became (sym none) moves;
         lack = of.calm files p x.view y.view;
+        asked = tt;
       }
 
-  module _ (c : Call) (is : IsAccess c a) (wide : is_width a.width ≡ true) (x y : Body) (Became : List PageMove → Type 0) where
+  module _ (c : Call) (is : IsAccess c a) (wide : is_width a.width ≡ true) (x y : Body) (Became : List PageMove → Type 0) (Refused : List PageMove → ℕ → Refusal → Type 0) (Kept : ℕ → Type 0) where
     abbrev of : OfAccess c a
     of = of_access c a is
 
@@ -259,23 +260,24 @@ module _ (files : List File) (p : Process) (a : Asked) where
 
     -- it goes on, by the process that its page is resident for
     goes_on : (g : Progress) → service files nothing p a ≡ Ok g → rule_for g.process a ≡ None → is_resident g.process a.access page ≡ true → (r : Reply) → r ≡ (user_access g.process a).reply
-        → ((u : Tables) × IsSpace y u (user_access g.process a).process) → Became (served_moves files p page (rule_for p a)) → IsPlain r × Comes x y files Became p c (by_reply (address_of c) r) r
+        → ((u : Tables) × IsSpace y u (user_access g.process a).process) → Became (served_moves files p page (rule_for p a)) → IsPlain r × Comes x y files Became Refused Kept p c (by_reply (address_of c) r) r
     goes_on g by none resident r told_r space moves =
         let calm : by_reply (address_of c) r ≡ nothing = ap (by_reply (address_of c)) told_r ∙ settled_answers g.process a (address_of c) (rule_for g.process a) none resident in
         let tells = tells_by nothing (Ok g) by in (
           subst IsPlain (sym told_r) (settled_plain g.process a (rule_for g.process a) none resident),
-          subst (λ (w : Want). Comes x y files Became p c w r) (sym calm) record {
+          subst (λ (w : Want). Comes x y files Became Refused Kept p c w r) (sym calm) record {
             possible = tt;
             reply = told_r ∙ sym (ap (λ (z : Told). z.reply) tells);
             space = (space.0, subst (λ (z : Process). IsSpace y space.0 z) (sym (ap (λ (z : Told). z.process) tells)) space.1);
             moves = subst Became (sym (reads_by nothing)) moves;
             lack = of.calm files p x.view y.view;
+            asked = tt;
           },
         )
 
     -- made at once
     pub made_at_once : rule_for p a ≡ None → is_resident p a.access page ≡ true → (r : Reply) → r ≡ (user_access p a).reply → ((u : Tables) × IsSpace y u (user_access p a).process) → Became []
-        → IsPlain r × Comes x y files Became p c (by_reply (address_of c) r) r
+        → IsPlain r × Comes x y files Became Refused Kept p c (by_reply (address_of c) r) r
     made_at_once none resident r told_r space moves =
         let there = resident_there a.access (region_on p page) (get p.settled page) resident in
         goes_on (begun p) (at_once none resident) none resident r told_r space (subst Became (sym (ap (served_moves files p page) none ∙ reads_none there.0 there.1)) moves)
@@ -289,43 +291,65 @@ module _ (files : List File) (p : Process) (a : Asked) where
 
     -- made after its page was made resident
     pub made_later : rule_for p a ≡ None → is_resident p a.access page ≡ false → (r : Reply) → r ≡ (user_access q a).reply → ((u : Tables) × IsSpace y u (user_access q a).process) → Became (served_moves files p page (rule_for p a))
-        → IsPlain r × Comes x y files Became p c (by_reply (address_of c) r) r
+        → IsPlain r × Comes x y files Became Refused Kept p c (by_reply (address_of c) r) r
     made_later none not r told_r space moves =
         let change = made_settles files 0 (is_shared_page (round files nothing) p page) a.access page p in
         goes_on (record { process = q; fresh = 0 + 1; taken = 0 + need_at (round files nothing) a.access page p }) (serves none not)
         (ap (λ (rs : List Region). first_rule rs a.access a.address a.width) change.regions ∙ none) change.resident r told_r space moves
 
     -- it ends the process by a rule of its regions
-    pub ends_denied : (r : Rule) → rule_for p a ≡ Some r → ((u : Tables) × IsSpace y u p) → Became (served_moves files p page (rule_for p a)) → Comes x y files Became p c (at_stop r (address_of c)) (reply.Ended r)
+    pub ends_denied : (r : Rule) → rule_for p a ≡ Some r → ((u : Tables) × IsSpace y u p) → Became (served_moves files p page (rule_for p a)) → Comes x y files Became Refused Kept p c (at_stop r (address_of c)) (reply.Ended r)
     ends_denied r by space moves =
         let not : (r ≡ rule.NoFrame → ⊥) = λ same. denied_otherwise (regions p) a.access a.address a.width (by ∙ ap Some same) in
         let tells = tells_by nothing (Err r) (denied nothing r by) in
-        subst (λ (w : Want). Comes x y files Became p c w (reply.Ended r)) (sym (otherwise r (address_of c) not)) record {
+        subst (λ (w : Want). Comes x y files Became Refused Kept p c w (reply.Ended r)) (sym (otherwise r (address_of c) not)) record {
           possible = tt;
           reply = sym (ap (λ (z : Told). z.reply) tells);
           space = (space.0, subst (λ (z : Process). IsSpace y space.0 z) (sym (ap (λ (z : Told). z.process) tells)) space.1);
           moves = subst Became (sym (reads_by nothing)) moves;
           lack = of.calm files p x.view y.view;
+          asked = tt;
         }
 
     -- it ends the process for want of frames
     ends_dry : rule_for p a ≡ None → is_resident p a.access page ≡ false → (count : Option ℕ) → is_some count ≡ is_counted a.access (get p.settled page) → RunsDry x.view y.view (resident_need (is_shared_by count) p a.access page) (option_to_list count) → ((u : Tables) × IsSpace y u p) → Became (served_moves files p page (rule_for p a))
-        → Comes x y files Became p c (at_stop rule.NoFrame (address_of c)) (reply.Ended rule.NoFrame)
+        → Comes x y files Became Refused Kept p c (at_stop rule.NoFrame (address_of c)) (reply.Ended rule.NoFrame)
     ends_dry none not count was_counted dry space moves =
         let at : at_stop rule.NoFrame (address_of c) ≡ want = ap (λ (z : ℕ). frames_at (page_of z)) of.address in
         let tells = tells_by want (Err rule.NoFrame) (runs_dry none not) in
         let short = dry.short in
         let at_most = most (is_shared_by count) in
         let claims = dry.claims in
-        subst (λ (w : Want). Comes x y files Became p c w (reply.Ended rule.NoFrame)) (sym at) record {
+        subst (λ (w : Want). Comes x y files Became Refused Kept p c w (reply.Ended rule.NoFrame)) (sym at) record {
           possible = of.lacks files p (omega (arith, short, at_most));
           reply = sym (ap (λ (z : Told). z.reply) tells);
           space = (space.0, subst (λ (z : Process). IsSpace y space.0 z) (sym (ap (λ (z : Told). z.process) tells)) space.1);
           moves = subst Became (sym (reads_by want)) moves;
           lack = of.dry files p x.view y.view (count, was_counted, record { zeros = dry.zeros; short = dry.short; claims = omega (arith, claims); looks = dry.looks });
+          asked = tt;
         }
 
     -- it ends the process for want of frames, by that rule
     pub ends_dry_by : (r : Rule) → r ≡ rule.NoFrame → rule_for p a ≡ None → is_resident p a.access page ≡ false → (count : Option ℕ) → is_some count ≡ is_counted a.access (get p.settled page) → RunsDry x.view y.view (resident_need (is_shared_by count) p a.access page) (option_to_list count) → ((u : Tables) × IsSpace y u p) → Became (served_moves files p page (rule_for p a))
-        → Comes x y files Became p c (at_stop r (address_of c)) (reply.Ended r)
-    ends_dry_by r by none not count was_counted dry space moves = subst (λ (k : Rule). Comes x y files Became p c (at_stop k (address_of c)) (reply.Ended k)) (sym by) (ends_dry none not count was_counted dry space moves)
+        → Comes x y files Became Refused Kept p c (at_stop r (address_of c)) (reply.Ended r)
+    ends_dry_by r by none not count was_counted dry space moves = subst (λ (k : Rule). Comes x y files Became Refused Kept p c (at_stop k (address_of c)) (reply.Ended k)) (sym by) (ends_dry none not count was_counted dry space moves)
+
+-- a page of a file that its service would read is one that the call reads
+pub access_reads_file : (files : List File) (p : Process) (c : Call) (a : Asked) → IsAccess c a → is_width a.width ≡ true → 0 < length (served_moves files p (page_of a.address) (rule_for p a)) → 0 < length (reads_of files nothing p c)
+access_reads_file files p c a is wide some =
+    let of = of_access c a is in
+    subst (λ (ms : List PageMove). 0 < length ms) (sym (of.reads files nothing p ∙ ap (λ (b : Bool). access_reads files p a b) wide)) some
+
+-- what is asked of memory is an access
+pub is_access_call : (c : Call) (a : Asked) → IsAccess c a → IsAccessCall c
+is_access_call (call.Fetch address) a is = tt
+is_access_call (call.Load address width) a is = tt
+is_access_call (call.Store address width value) a is = tt
+is_access_call (call.Exec image) a is = is
+is_access_call (call.Sbrk delta) a is = is
+is_access_call (call.Mmap len protection flags file) a is = is
+is_access_call (call.Munmap address len) a is = is
+is_access_call (call.CopyIn address count) a is = is
+is_access_call (call.CopyOut address bytes) a is = is
+is_access_call (call.Exit status) a is = is
+is_access_call (call.Fork list) a is = is

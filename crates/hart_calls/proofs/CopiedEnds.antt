@@ -9,7 +9,7 @@ use Rattle.fault_rules.specs.Serves.{served_moves}
 use Rattle.file_cabinet.specs.Promises.{refusal_of}
 use Rattle.file_cabinet.specs.declared.promise.PromiseError.{PromiseError}
 use Rattle.file_cabinet.specs.declared.promise.PromiseError.TheVariants as error
-use Rattle.hart_calls.specs.Comes.{at_stop}
+use Rattle.hart_calls.specs.Comes.{at_stop, Refuses}
 use Rattle.hart_calls.specs.Lacks.{CopyDry, WasDry}
 use Rattle.hart_calls.specs.Tells.{reads_below}
 use Rattle.hart_calls.specs.Wants.{begun, is_dry_at, IsUnpromised, nothing, round, Want}
@@ -106,6 +106,8 @@ module _ {Seat Frames Cabinet : Type 0} (l : Words Seat Frames Cabinet)
     pub moves : l.becomes start.files (reads_below present p kind (address + done) starts) c.files
     pub less : done < n
     pub unpromised : IsUnpromised r
+    pub of_file : 0 < length (served_moves present progress.process (page_of (address + done)) (copy_rule (regions progress.process) kind (address + done)))
+    pub told : Refuses l.becomes l.can_refuse start.files (reads_below present p kind (address + done) starts) 1 r
 
   pub begun_under : (w : Want) → Under l goes comes start w start (begun p) [] 0 []
   begun_under w = record { tables = tables; space = space; moves = stays; same = refl; zeros = refl; claims = omega arith; looks = sym (append-nil (l.view start.space.seat).tallies.looks) }
@@ -163,6 +165,8 @@ module _ {Seat Frames Cabinet : Type 0} (l : Words Seat Frames Cabinet)
           moves = subst (λ (ms : List PageMove). l.becomes start.files ms b.files) (sym none) (left_moves l goes comes start nothing start (begun p) [] 0 [] u b kind address x e);
           less = some;
           unpromised = subst IsUnpromised (sym un.2) (unpromised_by un.0);
+          of_file = subst (λ (at : ℕ). 0 < length (reads_at at)) (let here : address ≡ address + 0 = omega arith in here) (e.of_file x refl tables p space);
+          told = (start.files, un.0, subst (λ (ms : List PageMove). l.becomes start.files ms start.files) (sym none) stays, un.1, un.2);
         }
 
   -- ---- it copies a first run
@@ -208,6 +212,8 @@ module _ {Seat Frames Cabinet : Type 0} (l : Words Seat Frames Cabinet)
             moves = subst (λ (ms : List PageMove). l.becomes start.files ms b.files) (sym only_first) (left_moves l goes comes start w d j _ _ _ ran.under b kind next x e);
             less = less;
             unpromised = subst IsUnpromised (sym un.2) (unpromised_by un.0);
+            of_file = subst (λ (fs : List File). 0 < length (served_moves fs j.process (page_of next) (copy_rule (regions j.process) kind next))) ran.under.same (e.of_file x refl ran.under.tables j.process ran.under.space);
+            told = (d.files, un.0, subst (λ (ms : List PageMove). l.becomes start.files ms d.files) (sym only_first) ran.under.moves, un.1, un.2);
           }
 
       pub both_whole : (c : Place Seat Frames Cabinet) (i : Progress) (all : List ℕ) → here < length all → Ran l goes comes start w j ([] ++ reads_at address) (0 + resident_need (is_shared_by ran.count) p kind (page_of address)) ([] ++ option_to_list ran.count) kind next c i

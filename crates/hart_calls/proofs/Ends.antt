@@ -1,24 +1,23 @@
 -- Processes that end with no entry more, and the files of those that end.
-use Rattle.std.proofs.Common.{◌≡◌, arith, ℕ, List, [], ◌∷◌, length, refl, sym, subst, ◌∙◌, ap, inl, inr}
-use Rattle.std.specs.Prelude.{flat_map}
+use Rattle.std.proofs.Common.{◌≡◌, ◌<◌, arith, ℕ, List, [], length, refl, sym, subst, ◌∙◌, ap, inl, inr}
+use Rattle.std.proofs.lemmas.List.{append-nil}
 use Rattle.file_cabinet.specs.Promises.{refusal_of}
 use Rattle.file_cabinet.specs.declared.promise.PromiseError.{PromiseError}
 use Rattle.file_cabinet.specs.declared.promise.PromiseError.TheVariants as error
 use Rattle.file_shelf.specs.Shelved.{Becomes, CanRefuse, Shelved}
 use Rattle.frame_store.specs.View.{View}
 use Rattle.hart_calls.specs.Closed.{cause_of, IsCause}
-use Rattle.address_space.specs.Steps.{IsBare}
-use Rattle.hart_calls.specs.Replay.{Replays}
-use Rattle.hart_calls.specs.Track.{calls_of, Track}
-use Rattle.hart_calls.specs.declared.entry.Entry.{Entry}
-use Rattle.shared_frames.specs.Fits.{view_of}
+use Rattle.hart_calls.specs.Asks.{IsAccessCall}
+use Rattle.hart_calls.specs.Tells.{reads_of}
+use Rattle.hart_calls.specs.Wants.{nothing}
+use Rattle.hart_calls.proofs.Full.{no_moves}
+use Rattle.hart_calls.proofs.Staying.{reads_few}
+use Rattle.hart_calls.specs.Track.{next_of, Track}
 use Rattle.hart_calls.specs.Turned.{Filed, Unfiled}
-use Rattle.hart_calls.specs.Turns.{FiledOver, FullOver, HasMapping, IsOver, Last, NeedsFiles}
+use Rattle.hart_calls.specs.Turns.{FiledOver, FullOver, IsOver, Last, NeedsFiles}
 use Rattle.hart_calls.specs.declared.turn.Turn.{Turn}
 use Rattle.hart_calls.specs.declared.turn.Turn.TheVariants as turn
-use Rattle.process_model.specs.PageMoves.{all_moves, mapping_moves, PageMove}
-use Rattle.process_model.specs.Process.{Process}
-use Rattle.process_model.specs.Regions.{Region}
+use Rattle.process_model.specs.PageMoves.{all_moves, PageMove}
 use Rattle.hart_calls.specs.declared.finished.Finished.{Finished}
 use Rattle.process_model.specs.declared.call.Outcome.{Outcome}
 use Rattle.process_model.specs.declared.call.Outcome.TheVariants as outcome
@@ -31,14 +30,6 @@ cut_last t f (outcome.Ended r) cause same = absurd cause
 cut_last t f (outcome.Refused r) cause same = absurd cause
 cut_last t f outcome.Memory cause same = same
 cut_last t f outcome.JournalFull cause same = same
-
-pub lost : (t : Track) (f : Finished) → f.name.items ≡ t.name → IsBare (view_of f.seat) → Replays t.opening 0 0 (calls_of t) t.journal t.state → f.journal.items ≡ t.journal → f.outcome ≡ outcome.Memory → IsOver t f
-lost t f name bare replays same is = record {
-  name = name;
-  bare = bare;
-  replays = (t.state, subst (λ (es : List Entry). Replays t.opening 0 0 (calls_of t) es t.state) (sym same) replays);
-  last = subst (Last t f) (sym is) same;
-}
 
 -- what its seat knows is of no account then
 
@@ -53,8 +44,11 @@ pub cut_over : (t : Track) (seat : View) (room : ℕ) (f : Finished) (o : Outcom
 cut_over t seat room f o cause is over = record {
   name = over.name;
   bare = over.bare;
+  state = over.state;
   replays = over.replays;
   last = seated_last t seat room f f.outcome (subst IsCause (sym is) cause) over.last;
+  full = over.full;
+  few = over.few;
 }
 
 pub is_cause : (r : Refusal) → IsCause (cause_of r)
@@ -73,18 +67,25 @@ is_cause refusal.NoEntry = tt
 is_cause refusal.Memory = tt
 is_cause refusal.JournalFull = tt
 
-error_files : (t : Track) (f : Finished) (a b : Shelved) (x : PromiseError) → CanRefuse a 1 x → Becomes a [] b → FiledOver t f (cause_of (refusal_of x)) a b
-error_files t f a b error.Memory could moved = record { reads = []; becomes = moved; files = moved.files }
-error_files t f a b error.JournalFull could moved = (record { reads = []; becomes = moved; files = moved.files }, inr (1, omega arith, could))
+-- files that nobody read or wrote refuse what they refused before
+pub could_still : (a g : Shelved) (n : ℕ) (x : PromiseError) → Becomes a [] g → CanRefuse g n x → CanRefuse a n x
+could_still a g n x became could = go x could
+  where
+    same : length g.history ≡ length a.history
+    same = ap (λ (ms : List PageMove). length ms) (became.history ∙ append-nil a.history)
 
-pub cut_files : (t : Track) (f : Finished) (a b : Shelved) (r : Refusal) (x : PromiseError) → CanRefuse a 1 x → r ≡ refusal_of x → Becomes a [] b → f.outcome ≡ cause_of r → FiledOver t f f.outcome a b
-cut_files t f a b r x could by moved is = subst (λ (o : Outcome). FiledOver t f o a b) (sym (is ∙ ap cause_of by)) (error_files t f a b x could moved)
+    go : (z : PromiseError) → CanRefuse g n z → CanRefuse a n z
+    go error.Memory can = (can.0, omega (arith, can.1, same))
+    go error.JournalFull can = (can.0, omega (arith, can.1, same))
+
+error_files : (t : Track) (f : Finished) (a b : Shelved) (x : PromiseError) → IsAccessCall (next_of t) → 0 < length (reads_of a.files nothing t.state (next_of t)) → CanRefuse a 1 x → Becomes a [] b → FiledOver t f (cause_of (refusal_of x)) a b
+error_files t f a b error.Memory access some could moved = record { reads = []; by = inl refl; becomes = moved; files = moved.files }
+error_files t f a b error.JournalFull access some could moved = (record { reads = []; by = inl refl; becomes = moved; files = moved.files }, inr (inl (access, some, could)))
+
+pub cut_files : (t : Track) (f : Finished) (a b : Shelved) (r : Refusal) (x : PromiseError) → CanRefuse a 1 x → 0 < length (reads_of a.files nothing t.state (next_of t)) → r ≡ refusal_of x → Becomes a [] b → IsAccessCall (next_of t) → f.outcome ≡ cause_of r → FiledOver t f f.outcome a b
+cut_files t f a b r x could some by moved access is = subst (λ (o : Outcome). FiledOver t f o a b) (sym (is ∙ ap cause_of by)) (error_files t f a b x access some could moved)
 
 -- ---- without files
-
-no_moves : (p : Process) (ms : List Region) → p.mappings ≡ ms → (HasMapping ms → ⊥) → all_moves p ≡ []
-no_moves p [] is none = ap (λ (ms : List Region). flat_map (mapping_moves p) ms) is
-no_moves p (m ∷ ms) is none = absurd (none tt)
 
 full_by : (t : Track) (f : Finished) (o : Outcome) (a b : Shelved) → FiledOver t f o a b → a.history ≡ [] → all_moves t.state ≡ [] → FullOver t o
 full_by t f (outcome.Exited n) a b filed empty none = tt
@@ -92,10 +93,16 @@ full_by t f (outcome.Ended r) a b filed empty none = tt
 full_by t f (outcome.Refused r) a b filed empty none = tt
 full_by t f outcome.Memory a b filed empty none = tt
 full_by t f outcome.JournalFull a b (same, inl full) empty none = full
-full_by t f outcome.JournalFull a b (same, inr (n, few, could)) empty none =
+full_by t f outcome.JournalFull a b (same, inr (inl (access, some, could))) empty none =
+    let long = ap (λ (ms : List PageMove). length ms) empty in
+    let over = could.1 in
+    absurd (omega (arith, over, long))
+full_by t f outcome.JournalFull a b (same, inr (inr (want, may, ends, lack, could))) empty none =
     let long = ap (λ (ms : List PageMove). length ms) empty in
     let moves = ap (λ (ms : List PageMove). length ms) none in
-    absurd (omega (arith, few, could, long, moves))
+    let few = reads_few a.files want t.state (next_of t) in
+    let over = could.1 in
+    absurd (omega (arith, few, over, long, moves))
 
 pub unfiled_by : {B : Type 0} (t : Track) (x : Turn B) (a b : Shelved) → Filed t x a b → a.history ≡ [] → (NeedsFiles t → ⊥) → Unfiled t x
 unfiled_by t (turn.Goes u c) a b filed empty none = tt

@@ -1,6 +1,7 @@
 pub mod Accessed
 pub mod Alike
 pub mod Answered
+pub mod Beside
 pub mod Bodies
 pub mod Copied
 pub mod CopiedComes
@@ -10,6 +11,7 @@ pub mod CopiedOut
 pub mod CopiedSteps
 pub mod Ends
 pub mod Filing
+pub mod Full
 pub mod Journals
 pub mod Parting
 pub mod Roomy

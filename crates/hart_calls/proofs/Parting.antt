@@ -1,5 +1,6 @@
 -- Processes that fork, and those that exit.
-use Rattle.std.proofs.Common.{◌≡◌, ◌⊎◌, ℕ, ℤ, List, [], ◌∷◌, ◌++◌, length, refl, ap, sym, subst, ◌∙◌, arith, Option, None, Some, inl, inr}
+use Rattle.std.proofs.lemmas.List.{length-append}
+use Rattle.std.proofs.Common.{◌≡◌, ◌⊎◌, ◌<◌, ◌≤◌, ℕ, ℤ, List, [], ◌∷◌, ◌++◌, length, refl, ap, sym, subst, ◌∙◌, arith, Option, None, Some, inl, inr}
 use Rattle.address_space.specs.Steps.{IsBare, RunsDry, Takes}
 use Rattle.cow_fork.specs.Forks.{refusal_of}
 use Rattle.cow_fork.specs.declared.forking.ForkError.{ForkError}
@@ -13,8 +14,10 @@ use Rattle.hart_calls.specs.Lacks.{TellsLack}
 use Rattle.hart_calls.specs.Replay.{call_at, forked, forks, Leads, Replays}
 use Rattle.hart_calls.specs.Tells.{file_of, reads_of, told, writes_of}
 use Rattle.hart_calls.specs.Track.{Adds, calls_of, IsChild, next_of, Track}
-use Rattle.hart_calls.specs.Turns.{BySlot, FiledEnd, FiledOn, FiledOver, ForkAnswer, Goes, GoesOn, IsOver, Last, Unwritten}
-use Rattle.hart_calls.specs.Wants.{frames_at, IsForkRefusal, MayLack, nothing, refused, Want}
+use Rattle.hart_calls.specs.Turns.{BySlot, FiledEnd, FiledOn, FiledOver, ForkAnswer, Goes, GoesOn, HasNoEnd, IsFull, IsOver, Last, most_entries, Unwritten}
+use Rattle.hart_calls.proofs.Full.{full_of}
+use Rattle.hart_calls.specs.Comes.{Refuses}
+use Rattle.hart_calls.specs.Wants.{frames_at, IsForkRefusal, MayLack, nothing, refused, Want, WasAsked}
 use Rattle.hart_calls.specs.declared.entry.Entry.{Entry}
 use Rattle.hart_calls.specs.declared.finished.Finished.{Finished}
 use Rattle.process_model.specs.declared.call.Outcome.{Outcome}
@@ -37,7 +40,7 @@ use Rattle.shared_frames.specs.Fits.{view_of}
 -- ---- exit
 
 module _ (t : Track) (status : ℤ) (e : Entry) (called : e.call ≡ call.Exit status) (answer : e.reply ≡ reply.Exited status) (pages : e.pages.items ≡ []) (none : e.file ≡ None) (next : next_of t ≡ call.Exit status)
-    (replays : Replays t.opening 0 0 (calls_of t) t.journal t.state) (f : Finished) (name : f.name.items ≡ t.name) (bare : IsBare (view_of f.seat)) (a d : Shelved) (closes : Closes t.state t.journal e (outcome.Exited status) f a d) where
+    (replays : Replays t.opening 0 0 (calls_of t) t.journal t.state) (room : length t.journal < most_entries) (f : Finished) (name : f.name.items ≡ t.name) (bare : IsBare (view_of f.seat)) (a d : Shelved) (closes : Closes t.state t.journal e (outcome.Exited status) f a d) where
   abbrev leads : Leads a.files (forks t.journal) t.state e t.state
   leads = record {
     want = nothing;
@@ -62,7 +65,10 @@ module _ (t : Track) (status : ℤ) (e : Entry) (called : e.call ≡ call.Exit s
   over_by (inl closed) = record {
     name = name;
     bare = bare;
-    replays = (t.state, subst (λ (es : List Entry). Replays t.opening 0 0 (calls_of t) es t.state) (sym closed.journal) (one_longer t.opening (calls_of t) t.journal e t.state t.state replays next_is (a.files, leads)));
+    state = t.state;
+    replays = subst (λ (es : List Entry). Replays t.opening 0 0 (calls_of t) es t.state) (sym closed.journal) (one_longer t.opening (calls_of t) t.journal e t.state t.state replays next_is (a.files, leads));
+    full = subst (IsFull t.state.mappings f.journal.items) (sym closed.outcome) tt;
+    few = let long = ap (λ (es : List Entry). length es) closed.journal in let both = length-append t.journal (e ∷ []) in omega (arith, long, both, room);
     last = subst (λ (o : Outcome). Last t f o) (sym closed.outcome) record {
       entry = e;
       files = a.files;
@@ -77,7 +83,10 @@ module _ (t : Track) (status : ℤ) (e : Entry) (called : e.call ≡ call.Exit s
   over_by (inr broken) = record {
     name = name;
     bare = bare;
-    replays = (t.state, subst (λ (es : List Entry). Replays t.opening 0 0 (calls_of t) es t.state) (sym broken.journal) replays);
+    state = t.state;
+    replays = subst (λ (es : List Entry). Replays t.opening 0 0 (calls_of t) es t.state) (sym broken.journal) replays;
+    full = subst (IsFull t.state.mappings f.journal.items) (sym broken.outcome) (full_of t.state f.journal.items broken.error a broken.could);
+    few = let long = ap (λ (es : List Entry). length es) broken.journal in omega (arith, long, room);
     last = subst (λ (o : Outcome). Last t f o) (sym broken.outcome) (broken_last broken.error broken.journal);
   }
 
@@ -94,12 +103,12 @@ module _ (t : Track) (status : ℤ) (e : Entry) (called : e.call ≡ call.Exit s
     becomes = subst (λ (ms : List PageMove). Becomes a (ms ++ all_moves t.state) d) (sym pages) closed.moves;
   }
 
-  exit_unwritten : Becomes a [] d → Unwritten a d
-  exit_unwritten moved = record { reads = []; becomes = moved; files = moved.files }
+  exit_unwritten : Becomes a [] d → Unwritten t.state (next_of t) a d
+  exit_unwritten moved = record { reads = []; by = inl refl; becomes = moved; files = moved.files }
 
   exit_broken : (z : PromiseError) → CanRefuse a (length (all_moves t.state)) z → Becomes a [] d → FiledOver t f (outcome_of z) a d
   exit_broken error.Memory could moved = exit_unwritten moved
-  exit_broken error.JournalFull could moved = (exit_unwritten moved, inr (length (all_moves t.state), omega arith, could))
+  exit_broken error.JournalFull could moved = (exit_unwritten moved, inr (inr (subst (λ (k : Call). HasNoEnd t f k a) (sym next) (nothing, tt, tt, tt, (omega (arith, could.0), omega (arith, could.1))))))
 
   exit_by : Closes t.state t.journal e (outcome.Exited status) f a d → FiledOver t f f.outcome a d
   exit_by (inl closed) = subst (λ (o : Outcome). FiledOver t f o a d) (sym closed.outcome) (exit_end closed)
@@ -116,6 +125,11 @@ fork_lacks : (files other : List File) (p : Process) (k : ℕ) (w : Want) → Ma
 fork_lacks files other p k nothing may = tt
 fork_lacks files other p k (frames_at n) may = may
 fork_lacks files other p k (refused done r) may = may
+
+fork_asks : (Refused : ℕ → Refusal → Type 0) (Kept : ℕ → Type 0) (p : Process) (k : ℕ) (w : Want) → WasAsked Refused Kept p (call.Fork k) w
+fork_asks Refused Kept p k nothing = tt
+fork_asks Refused Kept p k (frames_at n) = tt
+fork_asks Refused Kept p k (refused done r) = tt
 
 fork_same : (files other : List File) (n : ℕ) (p : Process) (k : ℕ) (w : Want) → (told files w n p (call.Fork k)).reply ≡ (told other w n p (call.Fork k)).reply
 fork_same files other n p k nothing = refl
@@ -157,6 +171,7 @@ module _ (t u : Track) (c : Option Track) (s : Slot) (k : ℕ) (next : next_of t
         becomes = subst (λ (ms : List PageMove). Becomes a ms a)
             (sym (ap (λ (ms : List PageMove). ms ++ writes_of a.files w t.state e.call) (g.leads.pages ∙ ap (λ (z : Call). reads_of g.files w t.state z) is_fork) ∙ ap (λ (z : Call). writes_of a.files w t.state z) is_fork))
             (stays a);
+        asked = subst (λ (z : Call). WasAsked (Refuses Becomes CanRefuse a e.pages.items) (λ n. n ≤ a.room) t.state z w) back (fork_asks (Refuses Becomes CanRefuse a e.pages.items) (λ n. n ≤ a.room) t.state k w);
       }
 
 -- what the journal gets of it

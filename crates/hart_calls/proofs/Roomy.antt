@@ -43,7 +43,7 @@ module _ (t : Track) (room : ℕ) where
     slot = g.slot;
     lack = g.lack;
   }
-  turned_room (turn.Over f) s o = record { name = o.name; bare = o.bare; replays = o.replays; last = last_room f f.outcome o.last }
+  turned_room (turn.Over f) s o = record { name = o.name; bare = o.bare; state = o.state; replays = o.replays; last = last_room f f.outcome o.last; full = o.full; few = o.few }
 
   end_room : (f : Finished) (a b : Shelved) → FiledEnd roomy f a b → FiledEnd t f a b
   end_room f a b e = record { entry = e.entry; after = e.after; adds = e.adds; leads = e.leads; files = e.files; becomes = e.becomes }
@@ -56,7 +56,7 @@ module _ (t : Track) (room : ℕ) where
   over_room f outcome.JournalFull a b l = l
 
   filed_room : {B : Type 0} (x : Turn B) (a b : Shelved) → Filed roomy x a b → Filed t x a b
-  filed_room (turn.Goes u c) a b g = record { entry = g.entry; adds = g.adds; leads = g.leads; files = g.files; becomes = g.becomes }
+  filed_room (turn.Goes u c) a b g = record { entry = g.entry; adds = g.adds; leads = g.leads; files = g.files; becomes = g.becomes; asked = g.asked }
   filed_room (turn.Over f) a b o = over_room f f.outcome a b o
 
 module _ (t v : Track) (same : SameTrack t v) where

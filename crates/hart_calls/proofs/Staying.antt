@@ -5,7 +5,6 @@ use Rattle.std.proofs.lemmas.List.{append-nil, length-append}
 use Rattle.address_space.specs.Agreement.{Body}
 use Rattle.fault_rules.specs.Resides.{moves_for, moves_from}
 use Rattle.fault_rules.specs.Serves.{served_moves}
-use Rattle.file_cabinet.specs.declared.promise.PromiseError.{PromiseError}
 use Rattle.hart_calls.specs.Asks.{may_read, reads}
 use Rattle.hart_calls.specs.Comes.{address_of, at_stop, by_reply, HasCome}
 use Rattle.hart_calls.specs.Tells.{access_reads, asked, if_short_reads, in_reads, limit_of, out_reads, reads_below, reads_of, rule_for, writes_of}
@@ -13,6 +12,7 @@ use Rattle.hart_calls.specs.Wants.{begun, refused, round, Want}
 use Rattle.hart_calls.specs.declared.came.Came.{Came}
 use Rattle.hart_calls.specs.declared.came.Came.TheVariants as came
 use Rattle.hart_calls.proofs.Journals.{read_since}
+use Rattle.process_model.specs.declared.step.Refusal.{Refusal}
 use Rattle.process_model.specs.Bytes.{is_width}
 use Rattle.process_model.specs.Copies.{copied_in, copied_out, longest_copy}
 use Rattle.process_model.specs.Files.{File}
@@ -134,13 +134,13 @@ grew_by files want p c before after is = record {
 }
 
 -- whatever came of it
-module _ (x y : Body) (files : List File) (Became : List PageMove → Type 0) (CanRefuse : ℕ → PromiseError → Type 0) (p : Process) (c : Call) (before after : List PageMove)
+module _ (x y : Body) (files : List File) (Became : List PageMove → Type 0) (Refused : List PageMove → ℕ → Refusal → Type 0) (Kept : ℕ → Type 0) (p : Process) (c : Call) (before after : List PageMove)
     (grows : (ms : List PageMove) → Became ms → after ≡ before ++ ms) where
-  pub has_grown : (r : Came) → HasCome x y files Became CanRefuse p c r → Grew c before after
+  pub has_grown : (r : Came) → HasCome x y files Became Refused Kept p c r → Grew c before after
   has_grown (came.Answered r) h = grew_by files (by_reply (address_of c) r) p c before after (grows _ h.1.moves)
   has_grown (came.Stopped r done) h = grew_by files (refused done r) p c before after (grows _ h.moves)
   has_grown (came.Ended r) h = grew_by files (at_stop r (address_of c)) p c before after (grows _ h.moves)
-  has_grown (came.Cut r) h = grew_none c before after (grows [] h.moves ∙ append-nil before)
+  has_grown (came.Cut r) h = grew_none c before after (grows [] h.1.moves ∙ append-nil before)
 
 -- the pages that are kept are those that were read
 pub pages_are : (files : List File) (want : Want) (p : Process) (c : Call) (before after items : List PageMove) (mark : ℕ) → mark ≡ length before → items ≡ reads c (drop mark after)

@@ -1,5 +1,5 @@
 -- What a call makes of a process on its way, and of files, from what comes of it in the space.
-use Rattle.std.proofs.Common.{◌≡◌, ℕ, ◌+◌, List, [], ◌++◌, length, refl, ap, sym, subst, ◌∙◌, arith, None, inl, inr}
+use Rattle.std.proofs.Common.{◌≡◌, ◌<◌, ◌≤◌, ◌∷◌, ℕ, List, [], ◌++◌, length, refl, ap, sym, subst, ◌∙◌, arith, None, inl, inr}
 use Rattle.std.proofs.lemmas.List.{append-nil, length-append}
 use Rattle.address_space.specs.Agreement.{Body}
 use Rattle.address_space.specs.Steps.{IsBare, Takes}
@@ -9,20 +9,20 @@ use Rattle.file_shelf.specs.Shelved.{Becomes, CanRefuse, goes_on, Shelved}
 use Rattle.frame_store.specs.View.{View}
 use Rattle.hart_calls.specs.Asks.{IsStaying}
 use Rattle.hart_calls.specs.Closed.{Closes, IsClosed, outcome_of}
-use Rattle.hart_calls.specs.Comes.{address_of, at_stop, Comes, IsPlain}
+use Rattle.hart_calls.specs.Comes.{address_of, at_stop, Comes, IsPlain, Refuses}
 use Rattle.hart_calls.specs.Lacks.{TellsLack}
 use Rattle.hart_calls.specs.Replay.{call_at, forked, forks, Leads, Replays}
 use Rattle.hart_calls.specs.Tells.{file_of, reads_of, Told, told, writes_of}
 use Rattle.hart_calls.specs.Track.{Adds, calls_of, next_of, Track}
-use Rattle.hart_calls.specs.Turns.{BySlot, FiledEnd, FiledOn, FiledOver, Goes, GoesOn, HasNoRoom, IsOver, Last, Unwritten}
-use Rattle.hart_calls.specs.Wants.{MayLack, Want}
+use Rattle.hart_calls.specs.Turns.{BySlot, EndsIt, FiledEnd, FiledOn, FiledOver, Goes, GoesOn, HasNoEnd, HasNoRoom, IsFull, IsOver, Last, most_entries, Unwritten}
+use Rattle.hart_calls.proofs.Full.{full_of}
+use Rattle.hart_calls.specs.Wants.{MayLack, Want, WasAsked}
 use Rattle.hart_calls.specs.declared.entry.Entry.{Entry}
 use Rattle.hart_calls.specs.declared.finished.Finished.{Finished}
 use Rattle.process_model.specs.declared.call.Outcome.{Outcome}
 use Rattle.process_model.specs.declared.call.Outcome.TheVariants as outcome
 use Rattle.hart_calls.specs.declared.slot.Slot.{Slot}
 use Rattle.hart_calls.proofs.Filing.{ended_files, files_told, IsEnd, only_read}
-use Rattle.hart_calls.proofs.Staying.{reads_few}
 use Rattle.hart_calls.proofs.Journals.{later_stop, no_slot, one_longer, plain_forks, plain_goes, same_told}
 use Rattle.process_model.specs.Files.{File}
 use Rattle.process_model.specs.Mappings.{all_written_back}
@@ -43,7 +43,7 @@ pub record IsEntryOf (t : Track) (a : Shelved) (want : Want) (c : Call) (r : Rep
   pub file : e.file ≡ file_of a.files c
 
 module _ (t : Track) (c : Call) (stays : IsStaying c) (a b : Shelved) (want : Want) (r : Reply) (e : Entry) (is : IsEntryOf t a want c r e) (x y : Body) (seen : x.view ≡ t.seat)
-    (comes : Comes x y a.files (λ ms. Becomes a ms b) t.state c want r) where
+    (comes : Comes x y a.files (λ ms. Becomes a ms b) (Refuses Becomes CanRefuse a) (λ n. n ≤ b.room) t.state c want r) where
   abbrev n : ℕ
   n = forks t.journal
 
@@ -85,11 +85,13 @@ module _ (t : Track) (c : Call) (stays : IsStaying c) (a b : Shelved) (want : Wa
       becomes = subst (λ (ms : List PageMove). Becomes a ms b)
           (ap (λ (ms : List PageMove). ms ++ writes_of a.files want t.state c) (sym is.pages) ∙ ap (λ (k : Call). e.pages.items ++ writes_of a.files want t.state k) (sym is.call))
           comes.moves;
+      asked = subst (λ (k : Call). WasAsked (Refuses Becomes CanRefuse a e.pages.items) (λ n. n ≤ b.room) t.state k want) (sym is.call)
+          (subst (λ (ms : List PageMove). WasAsked (Refuses Becomes CanRefuse a ms) (λ n. n ≤ b.room) t.state c want) (sym is.pages) comes.asked);
     }
 
   -- ---- it ends by a rule
 
-  module _ (rule : Rule) (by : r ≡ reply.Ended rule) (stop : want ≡ at_stop rule (address_of c)) (next : c ≡ next_of t) (replays : Replays t.opening 0 0 (calls_of t) t.journal t.state)
+  module _ (rule : Rule) (by : r ≡ reply.Ended rule) (stop : want ≡ at_stop rule (address_of c)) (next : c ≡ next_of t) (replays : Replays t.opening 0 0 (calls_of t) t.journal t.state) (room : length t.journal < most_entries)
       (f : Finished) (name : f.name.items ≡ t.name) (bare : IsBare (view_of f.seat)) (takes : Takes y.view (view_of f.seat) 0 []) (d : Shelved) (closes : Closes t.state t.journal e (outcome.Ended rule) f b d) where
     next_is : e.call ≡ call_at (calls_of t) (length t.journal)
     next_is = is.call ∙ next
@@ -97,12 +99,14 @@ module _ (t : Track) (c : Call) (stays : IsStaying c) (a b : Shelved) (want : Wa
     led : (files : List File) × Leads files n t.state e (told a.files want 0 t.state c).process
     led = (a.files, leads _ refl)
 
-    still_lack : TellsLack t.seat (view_of f.seat) a.files t.state e.call want
-    still_lack =
-        subst (λ (k : Call). TellsLack t.seat (view_of f.seat) a.files t.state k want) (sym is.call)
-        (subst (λ (v : View). TellsLack v (view_of f.seat) a.files t.state c want) seen
+    left_lack : TellsLack t.seat (view_of f.seat) a.files t.state c want
+    left_lack =
+        subst (λ (v : View). TellsLack v (view_of f.seat) a.files t.state c want) seen
         (subst (λ (w : Want). TellsLack x.view (view_of f.seat) a.files t.state c w) (sym stop)
-        (later_stop x.view y.view (view_of f.seat) takes a.files t.state c rule (address_of c) (subst (λ (w : Want). TellsLack x.view y.view a.files t.state c w) stop comes.lack))))
+        (later_stop x.view y.view (view_of f.seat) takes a.files t.state c rule (address_of c) (subst (λ (w : Want). TellsLack x.view y.view a.files t.state c w) stop comes.lack)))
+
+    still_lack : TellsLack t.seat (view_of f.seat) a.files t.state e.call want
+    still_lack = subst (λ (k : Call). TellsLack t.seat (view_of f.seat) a.files t.state k want) (sym is.call) left_lack
 
     broken_last : (x : PromiseError) → f.journal.items ≡ t.journal → Last t f (outcome_of x)
     broken_last error.Memory same = same
@@ -112,7 +116,10 @@ module _ (t : Track) (c : Call) (stays : IsStaying c) (a b : Shelved) (want : Wa
     over_by (inl closed) = record {
       name = name;
       bare = bare;
-      replays = ((told a.files want 0 t.state c).process, subst (λ (es : List Entry). Replays t.opening 0 0 (calls_of t) es (told a.files want 0 t.state c).process) (sym closed.journal) (one_longer t.opening (calls_of t) t.journal e t.state _ replays next_is led));
+      state = (told a.files want 0 t.state c).process;
+      replays = subst (λ (es : List Entry). Replays t.opening 0 0 (calls_of t) es (told a.files want 0 t.state c).process) (sym closed.journal) (one_longer t.opening (calls_of t) t.journal e t.state _ replays next_is led);
+      full = subst (IsFull ((told a.files want 0 t.state c).process).mappings f.journal.items) (sym closed.outcome) tt;
+      few = let long = ap (λ (es : List Entry). length es) closed.journal in let both = length-append t.journal (e ∷ []) in omega (arith, long, both, room);
       last = subst (λ (o : Outcome). Last t f o) (sym closed.outcome) record {
         entry = e;
         files = a.files;
@@ -127,7 +134,10 @@ module _ (t : Track) (c : Call) (stays : IsStaying c) (a b : Shelved) (want : Wa
     over_by (inr broken) = record {
       name = name;
       bare = bare;
-      replays = (t.state, subst (λ (es : List Entry). Replays t.opening 0 0 (calls_of t) es t.state) (sym broken.journal) replays);
+      state = t.state;
+      replays = subst (λ (es : List Entry). Replays t.opening 0 0 (calls_of t) es t.state) (sym broken.journal) replays;
+      full = subst (IsFull t.state.mappings f.journal.items) (sym broken.outcome) (full_of t.state f.journal.items broken.error b broken.could);
+      few = let long = ap (λ (es : List Entry). length es) broken.journal in omega (arith, long, room);
       last = subst (λ (o : Outcome). Last t f o) (sym broken.outcome) (broken_last broken.error broken.journal);
     }
 
@@ -161,16 +171,24 @@ module _ (t : Track) (c : Call) (stays : IsStaying c) (a b : Shelved) (want : Wa
       becomes = goes_on a b d e.pages.items (all_moves t.state) moved closed.moves;
     }
 
-    unwritten : Becomes b [] d → Unwritten a d
-    unwritten none = record { reads = e.pages.items ++ []; becomes = goes_on a b d e.pages.items [] moved none; files = none.files ∙ unchanged }
+    unwritten : Becomes b [] d → Unwritten t.state (next_of t) a d
+    unwritten none = record {
+      reads = e.pages.items;
+      by = inr (want, is.pages ∙ ap (reads_of a.files want t.state) next);
+      becomes = subst (λ (ms : List PageMove). Becomes a ms d) (append-nil e.pages.items) (goes_on a b d e.pages.items [] moved none);
+      files = none.files ∙ unchanged;
+    }
 
-    could_before : (z : PromiseError) → CanRefuse b (length (all_moves t.state)) z → z ≡ error.JournalFull → HasNoRoom t a
+    could_before : (z : PromiseError) → CanRefuse b (length (all_moves t.state)) z → z ≡ error.JournalFull → HasNoRoom t f a
     could_before error.Memory could by_full = absurd (cc)
     could_before error.JournalFull could by_full =
         let long = ap (λ (hs : List PageMove). length hs) moved.history in
-        let few = reads_few a.files want t.state c in
         let pages = ap (λ (ms : List PageMove). length ms) is.pages in
-        (length e.pages.items + length (all_moves t.state), omega (arith, few, pages), omega (arith, could, long, length-append a.history e.pages.items))
+        let both = length-append a.history e.pages.items in
+        let asked = could.0 in
+        let over = could.1 in
+        let here : HasNoEnd t f c a = (want, comes.possible, subst EndsIt (sym by ∙ comes.reply) tt, left_lack, (omega (arith, asked), omega (arith, over, long, pages, both))) in
+        inr (subst (λ (k : Call). HasNoEnd t f k a) next here)
 
     broken_files : (z : PromiseError) → CanRefuse b (length (all_moves t.state)) z → Becomes b [] d → FiledOver t f (outcome_of z) a d
     broken_files error.Memory could none = unwritten none

@@ -13,6 +13,13 @@ IsAccess (call.Load address width) a = a ≡ asked Load address width 0
 IsAccess (call.Store address width value) a = a ≡ asked Store address width value
 IsAccess c a = ⊥
 
+-- an access, which is served within its call
+abbrev pub IsAccessCall : Call → Type 0
+IsAccessCall (call.Fetch address) = Unit {0}
+IsAccessCall (call.Load address width) = Unit {0}
+IsAccessCall (call.Store address width value) = Unit {0}
+IsAccessCall c = ⊥
+
 -- the process stays: no other comes of it, and it does not exit
 abbrev pub IsStaying : Call → Type 0
 IsStaying (call.Fork list) = ⊥

@@ -1,11 +1,12 @@
 -- What a call comes to in a space, before the journal has it.
-use Rattle.std.specs.Prelude.{◌≡◌, ℕ, ◌+◌, List, [], ◌++◌, length, Option, Some}
+use Rattle.std.specs.Prelude.{◌≡◌, ℕ, ◌+◌, ◌<◌, List, [], ◌++◌, length, Option, Some}
 use Rattle.address_space.specs.Agreement.{Body, IsSpace}
 use Rattle.file_cabinet.specs.Promises.{refusal_of}
 use Rattle.file_cabinet.specs.declared.promise.PromiseError.{PromiseError}
+use Rattle.hart_calls.specs.Asks.{IsAccessCall}
 use Rattle.hart_calls.specs.Lacks.{TellsLack}
 use Rattle.hart_calls.specs.Tells.{reads_of, told, writes_of}
-use Rattle.hart_calls.specs.Wants.{frames_at, MayLack, nothing, refused, Want}
+use Rattle.hart_calls.specs.Wants.{frames_at, MayLack, nothing, refused, Want, WasAsked}
 use Rattle.hart_calls.specs.declared.came.Came.{Came}
 use Rattle.hart_calls.specs.declared.came.Came.TheVariants as came
 use Rattle.process_model.specs.Files.{File}
@@ -56,13 +57,18 @@ abbrev pub want_told : Option ℕ → Call → Reply → Want
 want_told (Some done) c (reply.Refused r) = refused done r
 want_told o c r = by_reply (address_of c) r
 
+-- after these pages were read, a promise of so many was refused
+abbrev pub Refuses : {C : Type 0} → (C → List PageMove → C → Type 0) → (C → ℕ → PromiseError → Type 0) → C → List PageMove → ℕ → Refusal → Type 0
+Refuses {C} becomes can_refuse a moves n r = (g : C) × (e : PromiseError) × becomes a moves g × can_refuse g n e × (r ≡ refusal_of e)
+
 -- the space is the process that the model tells, and files became what it reads and writes
-pub record Comes (x y : Body) (files : List File) (Became : List PageMove → Type 0) (p : Process) (c : Call) (want : Want) (r : Reply) : Type 0 where
+pub record Comes (x y : Body) (files : List File) (Became : List PageMove → Type 0) (Refused : List PageMove → ℕ → Refusal → Type 0) (Kept : ℕ → Type 0) (p : Process) (c : Call) (want : Want) (r : Reply) : Type 0 where
   pub possible : MayLack files p c want
   pub reply : r ≡ (told files want 0 p c).reply
   pub space : (u : Tables) × IsSpace y u (told files want 0 p c).process
   pub moves : Became (reads_of files want p c ++ writes_of files want p c)
   pub lack : TellsLack x.view y.view files p c want
+  pub asked : WasAsked (Refused (reads_of files want p c)) Kept p c want
 
 -- the process goes on after it, and no child begins
 abbrev pub IsPlain : Reply → Type 0
@@ -71,20 +77,19 @@ IsPlain (reply.Exited status) = ⊥
 IsPlain (reply.Forked n) = ⊥
 IsPlain r = Unit {0}
 
--- a page of a file was not promised, and nothing has changed
-pub record IsCut (y : Body) (Became : List PageMove → Type 0) (CanRefuse : ℕ → PromiseError → Type 0) (p : Process) (r : Refusal) : Type 0 where
-  pub error : PromiseError
-  pub could : CanRefuse 1 error
-  pub refusal : r ≡ refusal_of error
+-- the page of a file that an access would read was not promised, and nothing has changed
+pub record IsCut (y : Body) (files : List File) (Became : List PageMove → Type 0) (Refused : List PageMove → ℕ → Refusal → Type 0) (p : Process) (c : Call) (r : Refusal) : Type 0 where
+  pub could : Refused [] 1 r
+  pub of_file : 0 < length (reads_of files nothing p c)
   pub space : (u : Tables) × IsSpace y u p
   pub moves : Became []
 
-abbrev pub HasCome : Body → Body → List File → (List PageMove → Type 0) → (ℕ → PromiseError → Type 0) → Process → Call → Came → Type 0
-HasCome x y files Became CanRefuse p c (came.Cut r) = IsCut y Became CanRefuse p r
-HasCome x y files Became CanRefuse p c (came.Answered r) = IsPlain r × Comes x y files Became p c (by_reply (address_of c) r) r
-HasCome x y files Became CanRefuse p c (came.Stopped r done) = Comes x y files Became p c (refused done r) (reply.Refused r)
-HasCome x y files Became CanRefuse p c (came.Ended rule) = Comes x y files Became p c (at_stop rule (address_of c)) (reply.Ended rule)
+abbrev pub HasCome : Body → Body → List File → (List PageMove → Type 0) → (List PageMove → ℕ → Refusal → Type 0) → (ℕ → Type 0) → Process → Call → Came → Type 0
+HasCome x y files Became Refused Kept p c (came.Cut r) = IsAccessCall c × IsCut y files Became Refused p c r
+HasCome x y files Became Refused Kept p c (came.Answered r) = IsPlain r × Comes x y files Became Refused Kept p c (by_reply (address_of c) r) r
+HasCome x y files Became Refused Kept p c (came.Stopped r done) = Comes x y files Became Refused Kept p c (refused done r) (reply.Refused r)
+HasCome x y files Became Refused Kept p c (came.Ended rule) = Comes x y files Became Refused Kept p c (at_stop rule (address_of c)) (reply.Ended rule)
 
 -- of the process that a space is, below any tables
-abbrev pub ComesTo : Body → Body → List File → (List PageMove → Type 0) → (ℕ → PromiseError → Type 0) → Call → Came → Type 0
-ComesTo x y files Became CanRefuse c r = (t : Tables) (p : Process) → IsSpace x t p → HasCome x y files Became CanRefuse p c r
+abbrev pub ComesTo : Body → Body → List File → (List PageMove → Type 0) → (List PageMove → ℕ → Refusal → Type 0) → (ℕ → Type 0) → Call → Came → Type 0
+ComesTo x y files Became Refused Kept c r = (t : Tables) (p : Process) → IsSpace x t p → HasCome x y files Became Refused Kept p c r

@@ -1,11 +1,11 @@
 // Accesses of the user, which are served within the call.
 
-ghost use Rattle.std.specs.Prelude.{◌≡◌, ◌&&◌, ◌==◌, ◌%◌, IsTrue};
+ghost use Rattle.std.specs.Prelude.{◌≡◌, ◌&&◌, ◌==◌, ◌%◌, IsTrue, ◌≤◌};
 ghost use Rattle.address_space.specs.Accesses.{asked_of, gives_leaf, IsWalkOf};
 ghost use Rattle.address_space.specs.Agreement.{body_of, IsSpace};
 ghost use Rattle.frame_store.specs.Laws.{Fits, Keeps};
 ghost use Rattle.hart_calls.specs.Asks.{IsAccess};
-ghost use Rattle.hart_calls.specs.Comes.{ComesTo};
+ghost use Rattle.hart_calls.specs.Comes.{ComesTo, Refuses};
 ghost use Rattle.process_model.specs.Bytes.{is_width};
 ghost use Rattle.process_model.specs.Process.{Process};
 ghost use Rattle.process_model.specs.Service as service;
@@ -44,7 +44,7 @@ pub(crate) fn access<S: FrameSeat, F: FrameSupply<Seat = S>, C: Files>(
 ) -> Came
     requires fits { Fits F.FrameAccess.rule store.old space.old.seat }
     requires ready { (t : Tables) × (p : Process) × IsSpace (body_of S.view space.old) t p }
-    ensures came { (c : declared.Call) → IsAccess c (asked_of asked) → ComesTo (body_of S.view space.old) (body_of S.view space.new) (C.files files.old) (λ moves. C.becomes files.old moves files.new) (C.can_refuse files.old) c result }
+    ensures came { (c : declared.Call) → IsAccess c (asked_of asked) → ComesTo (body_of S.view space.old) (body_of S.view space.new) (C.files files.old) (λ moves. C.becomes files.old moves files.new) (Refuses C.becomes C.can_refuse files.old) (λ n. n ≤ C.room files.new) c result }
     ensures keeps { Keeps F.FrameAccess.rule store.old space.old.seat store.new space.new.seat }
 {
     if !is_width(asked.width) {

@@ -1,11 +1,11 @@
 // The calls of a process that leave it where it is: all but fork and exit.
 
-ghost use Rattle.std.specs.Prelude.{◌≡◌};
+ghost use Rattle.std.specs.Prelude.{◌≡◌, ◌≤◌};
 ghost use Rattle.address_space.specs.Agreement.{body_of, IsSpace};
 ghost use Rattle.frame_store.specs.Laws.{Fits, Keeps};
 ghost use Rattle.hart_calls.specs.Answers.{done_or_refused, mapped_or_refused, size_or_refused};
 ghost use Rattle.hart_calls.specs.Asks.{HasRoomFor, IsStaying};
-ghost use Rattle.hart_calls.specs.Comes.{ComesTo};
+ghost use Rattle.hart_calls.specs.Comes.{ComesTo, Refuses};
 ghost use Rattle.process_model.specs.Process.{Process};
 ghost use Rattle.process_model.specs.declared.call.Call.TheVariants as call;
 ghost use Rattle.table_walk.specs.Tables.{Tables};
@@ -34,7 +34,7 @@ fn make<S: FrameSeat, F: FrameSupply<Seat = S>, C: Files>(
     requires ready { (t : Tables) × (p : Process) × IsSpace (body_of S.view space.old) t p }
     requires stays { IsStaying call }
     requires room { HasRoomFor call room }
-    ensures came { ComesTo (body_of S.view space.old) (body_of S.view space.new) (C.files files.old) (λ moves. C.becomes files.old moves files.new) (C.can_refuse files.old) call.entry result }
+    ensures came { ComesTo (body_of S.view space.old) (body_of S.view space.new) (C.files files.old) (λ moves. C.becomes files.old moves files.new) (Refuses C.becomes C.can_refuse files.old) (λ n. n ≤ C.room files.new) call.entry result }
     ensures keeps { Keeps F.FrameAccess.rule store.old space.old.seat store.new space.new.seat }
 {
     match call {
@@ -88,7 +88,7 @@ pub(crate) fn make_there<S: FrameSeat, F: FrameSupply<Seat = S>, C: Files>(
     requires ready { (t : Tables) × (p : Process) × IsSpace (body_of S.view space.old.value) t p }
     requires stays { IsStaying call }
     requires room { HasRoomFor call room }
-    ensures came { ComesTo (body_of S.view space.old.value) (body_of S.view space.new.value) (C.files files.old) (λ moves. C.becomes files.old moves files.new) (C.can_refuse files.old) call.entry result }
+    ensures came { ComesTo (body_of S.view space.old.value) (body_of S.view space.new.value) (C.files files.old) (λ moves. C.becomes files.old moves files.new) (Refuses C.becomes C.can_refuse files.old) (λ n. n ≤ C.room files.new) call.entry result }
     ensures keeps { Keeps F.FrameAccess.rule store.old space.old.value.seat store.new space.new.value.seat }
 {
     make(space, store, files, call, room)
@@ -104,7 +104,7 @@ fn replace<S: FrameSeat, F: FrameSupply<Seat = S>, C: Files>(
 ) -> Came
     requires fits { Fits F.FrameAccess.rule store.old space.old.seat }
     requires ready { (t : Tables) × (p : Process) × IsSpace (body_of S.view space.old) t p }
-    ensures came { ComesTo (body_of S.view space.old) (body_of S.view space.new) (C.files files.old) (λ moves. C.becomes files.old moves files.new) (C.can_refuse files.old) (call.Exec image.entry) result }
+    ensures came { ComesTo (body_of S.view space.old) (body_of S.view space.new) (C.files files.old) (λ moves. C.becomes files.old moves files.new) (Refuses C.becomes C.can_refuse files.old) (λ n. n ≤ C.room files.new) (call.Exec image.entry) result }
     ensures keeps { Keeps F.FrameAccess.rule store.old space.old.seat store.new space.new.seat }
 {
     match Image::judged(image) {

@@ -1,7 +1,8 @@
 // Copies by the kernel.
+ghost use Rattle.std.specs.Prelude.{◌≤◌};
 ghost use Rattle.address_space.specs.Agreement.{body_of, IsSpace};
 ghost use Rattle.frame_store.specs.Laws.{Fits, Keeps};
-ghost use Rattle.hart_calls.specs.Comes.{ComesTo};
+ghost use Rattle.hart_calls.specs.Comes.{ComesTo, Refuses};
 ghost use Rattle.process_model.specs.Process.{Process};
 ghost use Rattle.process_model.specs.declared.call.Call.TheVariants as call;
 ghost use Rattle.table_walk.specs.Tables.{Tables};
@@ -27,7 +28,7 @@ pub(crate) fn copy_from<S: FrameSeat, F: FrameSupply<Seat = S>, C: Files>(
 ) -> Came
     requires fits { Fits F.FrameAccess.rule store.old space.old.seat }
     requires ready { (t : Tables) × (p : Process) × IsSpace (body_of S.view space.old) t p }
-    ensures came { ComesTo (body_of S.view space.old) (body_of S.view space.new) (C.files files.old) (λ moves. C.becomes files.old moves files.new) (C.can_refuse files.old) (call.CopyIn va.0 count) result }
+    ensures came { ComesTo (body_of S.view space.old) (body_of S.view space.new) (C.files files.old) (λ moves. C.becomes files.old moves files.new) (Refuses C.becomes C.can_refuse files.old) (λ n. n ≤ C.room files.new) (call.CopyIn va.0 count) result }
     ensures keeps { Keeps F.FrameAccess.rule store.old space.old.seat store.new space.new.seat }
 {
     if count > LONGEST_COPY {
@@ -55,7 +56,7 @@ pub(crate) fn copy_to<S: FrameSeat, F: FrameSupply<Seat = S>, C: Files>(
 ) -> Came
     requires fits { Fits F.FrameAccess.rule store.old space.old.seat }
     requires ready { (t : Tables) × (p : Process) × IsSpace (body_of S.view space.old) t p }
-    ensures came { ComesTo (body_of S.view space.old) (body_of S.view space.new) (C.files files.old) (λ moves. C.becomes files.old moves files.new) (C.can_refuse files.old) (call.CopyOut va.0 bytes.entry) result }
+    ensures came { ComesTo (body_of S.view space.old) (body_of S.view space.new) (C.files files.old) (λ moves. C.becomes files.old moves files.new) (Refuses C.becomes C.can_refuse files.old) (λ n. n ≤ C.room files.new) (call.CopyOut va.0 bytes.entry) result }
     ensures keeps { Keeps F.FrameAccess.rule store.old space.old.seat store.new space.new.seat }
 {
     if bytes.len() > LONGEST_COPY {

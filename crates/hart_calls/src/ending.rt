@@ -6,7 +6,7 @@ ghost use Rattle.address_space.specs.Steps.{IsBare, Takes};
 ghost use Rattle.file_shelf.specs.Shelved.{Becomes, CanRefuse};
 ghost use Rattle.hart_calls.specs.Closed.{Closes, IsCause, outcome_of};
 ghost use Rattle.hart_calls.specs.Track.{next_of};
-ghost use Rattle.hart_calls.specs.Turns.{FiledOver, IsOver};
+ghost use Rattle.hart_calls.specs.Turns.{FiledOver, IsFull, IsOver, most_entries};
 ghost use Rattle.process_model.specs.declared.call.Outcome.TheVariants as outcome;
 ghost use Rattle.process_model.specs.Mappings.{all_written_back};
 ghost use Rattle.process_model.specs.PageMoves.{all_moves};
@@ -40,6 +40,7 @@ impl<'a, B: Room> Tracked<'a, B> {
     ) -> Finished<'a>
         requires store { store.old ≡ B.table }
         requires cause { IsCause outcome }
+        requires full { IsFull self.state.mappings self.journal outcome }
         ensures store { store.new ≡ B.table }
         ensures over { IsOver self.entry result }
         ensures outcome { result.outcome ≡ outcome }
@@ -70,6 +71,7 @@ impl<'a, B: Room> Tracked<'a, B> {
         requires store { store.old ≡ B.table }
         requires next { next_of self ≡ call.Exit status }
         requires room { 0 < self.room }
+        requires few { length self.journal < most_entries }
         ensures store { store.new ≡ B.table }
         ensures over { IsOver self.entry result }
         ensures files { FiledOver self.entry result result.outcome shelf.old shelf.new }

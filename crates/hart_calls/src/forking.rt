@@ -2,15 +2,15 @@
 
 ghost use Rattle.std.specs.Prelude.{[], ◌∷◌, ◌≡◌, ◌≢◌, ◌<◌, IfErr, IfOk, length, List, None};
 ghost use Rattle.address_space.specs.Agreement.{body_of, IsSpace};
-ghost use Rattle.address_space.specs.Steps.{IsBare, RunsDry, Takes};
+ghost use Rattle.address_space.specs.Steps.{RunsDry, Takes};
 ghost use Rattle.cow_fork.specs.Forks.{HasForked, IsFull, IsShort};
 ghost use Rattle.frame_store.specs.Laws.{Fits, Keeps};
+ghost use Rattle.frame_store.specs.View.{IsHeld};
 ghost use Rattle.hart_calls.specs.Track.{child_name, next_of};
-ghost use Rattle.hart_calls.specs.Turns.{ForkAnswer, Goes, IsNamed, IsOver, most_entries};
+ghost use Rattle.hart_calls.specs.Turns.{ForkAnswer, Goes, IsNamed, most_entries};
 ghost use Rattle.hart_calls.specs.Wants.{IsForkRefusal};
 ghost use Rattle.hart_calls.specs.declared.slot.Slot.TheVariants as slot;
 ghost use Rattle.process_model.specs.declared.call.Call.TheVariants as call;
-ghost use Rattle.process_model.specs.declared.call.Outcome.TheVariants as outcome;
 ghost use Rattle.process_model.specs.declared.step.Refusal.TheVariants.{NoFrame, SharersFull};
 ghost use Rattle.process_model.specs.declared.step.Reply.TheVariants as reply;
 ghost use Rattle.process_model.specs.Briefs.{of_brief};
@@ -19,84 +19,88 @@ ghost use Rattle.process_model.specs.Process.{Process};
 ghost use Rattle.shared_frames.specs.Fits.{FitsIn, view_of};
 ghost use Rattle.table_walk.specs.Tables.{Tables};
 
-use crate::ending::{destroy, leave};
 use crate::entry::Entry;
-use crate::finished::Finished;
 use crate::going::rejoin;
 use crate::kept_reply::KeptReply;
 use crate::room::Room;
-use crate::slot::Slot;
-use crate::tracked::{Parts, Tracked};
+use crate::slot::{Place, Slot};
+use crate::tracked::Tracked;
 use address_space::Space;
 use cow_fork::ForkError;
-use frame_store::{FrameSeat, FrameSupply};
-use process_model::{Brief, Call, Outcome, Refusal};
+use frame_store::{FrameAccess, FrameSeat, FrameSupply};
+use process_model::{Brief, Call, Refusal};
 use shared_frames::{SharedSeat, SharedSupply};
-use std::alloc::Global;
+use std::alloc::{AllocError, Global};
 use std::sync::Wait;
 
 impl<'a, B: Room> Tracked<'a, B> {
-    /// The process forks: the child begins with a list, as its parent is. Where the host has no place for the child's space
-    /// the process ends.
+    /// A place for the space of the next child.
+    pub fn child_place<R: Wait>(
+        &mut self,
+        store: &mut SharedSupply<'_, R>,
+    ) -> Result<Place, AllocError>
+        requires store { store.old ≡ B.table }
+        ensures store { store.new ≡ B.table }
+        ensures same { self.new ≡ self.old }
+    {
+        let bare = bare_there(&mut self.parts.space, store);
+        Place::new(self.parts.alloc, bare)
+    }
+
+    /// The process forks: the child begins with a list, as its parent is.
     #[inline(never)]
     pub(crate) fn fork<R: Wait>(
         self,
         store: &mut SharedSupply<'_, R>,
         list: usize,
         slot: Slot,
-    ) -> Result<(Tracked<'a, B>, Option<Tracked<'a, B>>), Finished<'a>>
+    ) -> (Tracked<'a, B>, Option<Tracked<'a, B>>)
         requires store { store.old ≡ B.table }
         requires next { next_of self ≡ call.Fork list }
         requires room { 0 < self.room }
         requires few { length self.journal < most_entries }
         requires slot { IsNamed slot (child_name self) }
         ensures store { store.new ≡ B.table }
-        ensures goes { IfOk result (λ r. Goes self.entry r.0 r.1 slot) }
-        ensures over { IfErr result (λ f. IsOver self.entry f) }
-        ensures memory { IfErr result (λ f. f.outcome ≡ outcome.Memory) }
+        ensures goes { Goes self.entry result.0 result.1 slot }
     {
         match slot {
-            Slot::Free(name) => self.divide(store, list, name),
-            Slot::NoSlot => Ok((self.unforked(list, Refusal::NoSlot, &Slot::NoSlot), None)),
-            Slot::Memory => Ok((self.unforked(list, Refusal::Memory, &Slot::Memory), None)),
+            Slot::Free(name, place) => self.divide(store, list, name, place),
+            Slot::NoSlot => (self.unforked(list, Refusal::NoSlot, &Slot::NoSlot), None),
+            Slot::Memory => (self.unforked(list, Refusal::Memory, &Slot::Memory), None),
         }
     }
 
-    /// A fork that has a slot, with the child's name.
+    /// A fork that has a slot, with the child's name and a place for its space.
     fn divide<R: Wait>(
         self,
         store: &mut SharedSupply<'_, R>,
         list: usize,
         name: Vec<u64>,
-    ) -> Result<(Tracked<'a, B>, Option<Tracked<'a, B>>), Finished<'a>>
+        place: Place,
+    ) -> (Tracked<'a, B>, Option<Tracked<'a, B>>)
         requires store { store.old ≡ B.table }
         requires next { next_of self ≡ call.Fork list }
         requires room { 0 < self.room }
         requires few { length self.journal < most_entries }
         requires named { name.items ≡ child_name self }
         ensures store { store.new ≡ B.table }
-        ensures goes { IfOk result (λ r. Goes self.entry r.0 r.1 (slot.Free name)) }
-        ensures over { IfErr result (λ f. IsOver self.entry f) }
-        ensures memory { IfErr result (λ f. f.outcome ≡ outcome.Memory) }
+        ensures goes { Goes self.entry result.0 result.1 (slot.Free name place) }
     {
         let number = self.children();
         let mut parts = self.parts;
         match fork_there(&mut parts.space, store) {
             Ok(space) => {
-                let place = match Box::new(parts.alloc, space) {
-                    Ok(place) => place,
-                    Err(full) => return Err(undone::<B, R>(parts, full.value, store)),
-                };
                 let entry = answer(parts.alloc, list, Brief::Forked(number));
                 let opening = parts.present.of_child();
-                let child = Tracked::new(parts.alloc, opening, place, name, parts.lists, list);
+                let space = place.fill(space);
+                let child = Tracked::new(parts.alloc, opening, space, name, parts.lists, list);
                 let present = parts.present.after_fork();
-                Ok((rejoin(parts, present, entry), Some(child)))
+                (rejoin(parts, present, entry), Some(child))
             }
             Err(error) => {
                 let entry = answer(parts.alloc, list, Brief::Refused(error.into()));
                 let present = parts.present.kept();
-                Ok((rejoin(parts, present, entry), None))
+                (rejoin(parts, present, entry), None)
             }
         }
     }
@@ -137,38 +141,38 @@ fn fork_there<S: FrameSeat, F: FrameSupply<Seat = S>>(
     cow_fork::fork(space, store)
 }
 
-/// Ends a process that forked where the host has no place for the child's space: what both have goes, and the journal
-/// tells nothing of the fork.
-fn undone<'a, B: Room, R: Wait>(
-    parts: Parts<'a>,
-    child: Space<SharedSeat>,
+/// A seat that holds nothing, beside the seat of a process.
+fn bare_there<R: Wait>(
+    space: &mut Box<Space<SharedSeat>>,
     store: &mut SharedSupply<'_, R>,
-) -> Finished<'a>
-    requires store { store.old ≡ B.table }
-    requires fits { FitsIn B.table parts.space.value.seat }
-    requires ready { (t : Tables) × (p : Process) × IsSpace (body_of view_of parts.space.value) t p }
-    requires child_fits { FitsIn B.table child.seat }
-    requires child_ready { (t : Tables) × (p : Process) × IsSpace (body_of view_of child) t p }
-    ensures store { store.new ≡ B.table }
-    ensures name { result.name.items ≡ parts.entry.name.items }
-    ensures outcome { result.outcome ≡ outcome.Memory }
-    ensures journal { result.journal.items ≡ parts.entry.journal.items }
-    ensures bare { IsBare (view_of result.seat) }
+) -> SharedSeat
+    requires fits { FitsIn store.old space.old.value.seat }
+    requires ready { (t : Tables) × (p : Process) × IsSpace (body_of view_of space.old.value) t p }
+    ensures store { store.new ≡ store.old }
+    ensures fits { FitsIn store.old space.new.value.seat }
+    ensures view { view_of space.new.value.seat ≡ view_of space.old.value.seat }
+    ensures root { space.new.value.root ≡ space.old.value.root }
+    ensures trapframe { space.new.value.trapframe ≡ space.old.value.trapframe }
+    ensures layout { space.new.value.layout ≡ space.old.value.layout }
 {
-    let _bare = destroy::<B, R>(child, store);
-    let Parts {
-        name,
-        journal,
-        space,
-        ..
-    } = parts;
-    let seat = leave::<B, R>(space, store);
-    Finished {
-        name,
-        outcome: Outcome::Memory,
-        journal,
-        seat,
-    }
+    bare_beside(space, store)
+}
+
+/// The same of a space.
+fn bare_beside<R: Wait>(
+    space: &mut Space<SharedSeat>,
+    store: &mut SharedSupply<'_, R>,
+) -> SharedSeat
+    requires fits { FitsIn store.old space.old.seat }
+    requires anchored { IsHeld (view_of space.old.seat) 0 }
+    ensures store { store.new ≡ store.old }
+    ensures fits { FitsIn store.old space.new.seat }
+    ensures view { view_of space.new.seat ≡ view_of space.old.seat }
+    ensures root { space.new.root ≡ space.old.root }
+    ensures trapframe { space.new.trapframe ≡ space.old.trapframe }
+    ensures layout { space.new.layout ≡ space.old.layout }
+{
+    store.split(&mut space.seat, &[])
 }
 
 /// What the journal gets of a fork.

@@ -26,6 +26,6 @@ pub use finished::Finished;
 pub use kept_reply::{Kept, KeptReply};
 pub use opening::{Opening, begun};
 pub use room::Room;
-pub use slot::Slot;
+pub use slot::{Place, Slot};
 pub use tracked::Tracked;
 pub use turn::{MOST_ENTRIES, Turn};

@@ -97,10 +97,10 @@ impl<'a, B: Room> Tracked<'a, B> {
             return Turn::Over(self.cut(store, Outcome::Memory));
         };
         match self.next() {
-            Call::Fork { list } => match self.fork(store, list, slot) {
-                Ok((tracked, child)) => Turn::Goes(tracked, child),
-                Err(finished) => Turn::Over(finished),
-            },
+            Call::Fork { list } => {
+                let (tracked, child) = self.fork(store, list, slot);
+                Turn::Goes(tracked, child)
+            }
             Call::Exit { status } => Turn::Over(self.exit(store, shelf, status)),
             call => self.stay(store, shelf, call, pages, room, &slot),
         }

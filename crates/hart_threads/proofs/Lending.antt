@@ -34,6 +34,15 @@ lends_full v w is = subst (Lends v) (sym is) (record {
   others = λ f ne. hold_of-frames (read_full v) v refl f;
 })
 
+pub lends_on : (u v w : View) → Lends u v → Lends v w → Lends u w
+lends_on u v w a b = record {
+  size = b.size ∙ a.size;
+  credits = b.credits ∙ a.credits;
+  trampoline = b.trampoline ∙ a.trampoline;
+  words = b.words ∙ a.words;
+  others = λ f ne. b.others f ne ∙ a.others f ne;
+}
+
 -- a seat that holds frame 0 once and nothing else
 
 pub opened_ready : (v w : View) → w ≡ opened v → HoldsTrampoline w
@@ -64,6 +73,9 @@ released_bare v ready = subst IsBare (sym (last_one v ready.once)) (record { non
 
 pub stripped_bare : (v w : View) → HoldsTrampoline v → w ≡ released 0 v → IsBare w
 stripped_bare v w ready is = subst IsBare (sym is) (released_bare v ready)
+
+pub stripped_tallies : (v w : View) → HoldsTrampoline v → w ≡ released 0 v → w.tallies ≡ v.tallies
+stripped_tallies v w ready is = ap (λ (u : View). u.tallies) (is ∙ last_one v ready.once)
 
 pub released_anchored : (v : View) → HoldsTrampoline v → IsAnchored (released 0 v)
 released_anchored v ready f held = absurd (let none = (released_bare v ready).none f in omega (arith, none, held))
@@ -99,6 +111,10 @@ module _ {E : Type 0} (z b : TableId) (s t : SharedSeat) (fits : FitsIn z s) whe
   pub opens_lends : (r : Result SharedSeat E) → Opens r → Lends (view_of s) (view_of t)
   opens_lends (Ok u) o = lends_opener _ _ o.0
   opens_lends (Err e) o = lends_full _ _ o.2
+
+  pub opens_looks : (r : Result SharedSeat E) → Opens r → IfOk r (λ _. (view_of t).tallies.looks ≡ (view_of s).tallies.looks)
+  opens_looks (Ok u) o = ap (λ (v : View). v.tallies.looks) o.0
+  opens_looks (Err e) o = tt
 
   pub opens_store : (r : Result SharedSeat E) → Opens r → b ≡ z
   opens_store (Ok u) o = (fits_both z z b s t u refl o.3 fits).0

@@ -1,79 +1,163 @@
 -- What each step of the roster keeps.
-use Rattle.std.proofs.Common.{◌≡◌, ◌⊎◌, inl, inr, ℕ, zero, suc, ◌+◌, ◌<◌, List, [], ◌∷◌, ◌++◌, map, length, refl, sym, ap, ◌∙◌, subst, arith}
-use Rattle.std.specs.Prelude.{All}
-use Rattle.std.proofs.lemmas.List.{map-append}
+use Rattle.std.proofs.Common.{◌≡◌, ◌⊎◌, inl, inr, ℕ, zero, suc, ◌+◌, ◌<◌, List, [], ◌∷◌, ◌++◌, length, Option, None, Some, refl, sym, ap, ◌∙◌, subst, arith}
+use Rattle.std.specs.Prelude.{slice_get}
+use Rattle.std.proofs.lemmas.List.{append-nil}
 use Rattle.vouchers.specs.Entries.{Entry as Life, entry, Has, without}
 use Rattle.vouchers.specs.Lists.{had_without, without_had, length-without, has_left, has_right, has_either}
-use Rattle.process_model.specs.declared.call.Outcome.{Outcome}
-use Rattle.process_model.specs.declared.call.Outcome.TheVariants as outcome
-use Rattle.hart_calls.specs.declared.entry.Entry.{Entry}
+use Rattle.process_model.specs.declared.call.Call.{Call}
+use Rattle.process_model.specs.declared.call.Start.{Start}
 use Rattle.hart_calls.specs.declared.finished.Finished.{Finished}
-use Rattle.hart_calls.specs.Replay.{forks}
-use Rattle.hart_threads.specs.Rostered.{AsEnded, Closed, ComesBack, IsEnded, IsNotStarted, IsRefused, IsRostered, Knows, Started, life_of, roster}
+use Rattle.hart_threads.proofs.Counts.{apart_all, apart_instead, apart_last, apart_less, apart_more, apart_moved, apart_swap, one_of}
+use Rattle.hart_threads.proofs.Names.{first_of, name_parts, no_start, some_name}
+use Rattle.hart_threads.specs.Rostered.{AreApart, AreBelow, AreKin, AreNamed, Closed, ComesBack, Each, IsChildOf, IsEnded, IsKin, IsRostered, Knows, Started}
 
-some_name : (m : List ℕ) (j : ℕ) → m ++ j ∷ [] ≡ [] → ⊥
-some_name [] j e = cc
-some_name (x ∷ xs) j e = cc
+-- what stands at a place of a list
+
+none_at : (j k : ℕ) → slice_get [] j ≡ Some k → ⊥
+none_at j k e = let no : None ≡ Some k = e in cc
+
+abbrev or_number : ℕ → Option ℕ → ℕ
+or_number d None = d
+or_number d (Some n) = n
+
+abbrev or_start : Start → Option Start → Start
+or_start d None = d
+or_start d (Some s) = s
+
+slice_left : (xs ys : List ℕ) (j k : ℕ) → slice_get xs j ≡ Some k → slice_get (xs ++ ys) j ≡ Some k
+slice_left [] ys j k e = absurd (none_at j k e)
+slice_left (x ∷ xs) ys zero k e = e
+slice_left (x ∷ xs) ys (suc j) k e = slice_left xs ys j k e
+
+none_past : (xs : List ℕ) (k : ℕ) → slice_get xs (length xs) ≡ Some k → ⊥
+none_past [] k e = none_at zero k e
+none_past (x ∷ xs) k e = none_past xs k e
+
+slice_last : (xs : List ℕ) (y : ℕ) → slice_get (xs ++ y ∷ []) (length xs) ≡ Some y
+slice_last [] y = refl
+slice_last (x ∷ xs) y = slice_last xs y
+
+slice_snoc : (xs : List ℕ) (y j k : ℕ) → slice_get (xs ++ y ∷ []) j ≡ Some k → (slice_get xs j ≡ Some k) ⊎ ((j ≡ length xs) × (k ≡ y))
+slice_snoc [] y zero k e = inr (refl, sym (ap (or_number 0) e))
+slice_snoc [] y (suc j) k e = absurd (none_at j k e)
+slice_snoc (x ∷ xs) y zero k e = inl e
+slice_snoc (x ∷ xs) y (suc j) k e = further (slice_snoc xs y j k e)
+  where
+    further : (slice_get xs j ≡ Some k) ⊎ ((j ≡ length xs) × (k ≡ y)) → (slice_get (x ∷ xs) (suc j) ≡ Some k) ⊎ ((suc j ≡ length (x ∷ xs)) × (k ≡ y))
+    further (inl h) = inl h
+    further (inr h) = inr (ap suc h.0, h.1)
 
 -- the entry of a slot that is kept
 abbrev slot : Life
-slot = entry [] 0
+slot = entry [] 0 []
 
--- all names but the empty one are kept
-abbrev KeepsNames : List Life → List Life → Type 0
-KeepsNames r q = (m : List ℕ) → (m ≡ [] → ⊥) → Knows r m → Knows q m
+-- each life but a kept slot's is there still, and may have named more children
+abbrev Keeps : List Life → List Life → Type 0
+Keeps r q = (x : Life) → (x ≡ slot → ⊥) → Has x r → (more : List ℕ) × Has (entry x.name x.list (x.heirs ++ more)) q
 
 -- each life is an older one, or has named no child
 abbrev IsOlder : List Life → Life → Type 0
-IsOlder r x = (x.children ≡ 0) ⊎ Has x r
+IsOlder r x = (x.heirs ≡ []) ⊎ Has x r
 
 abbrev AreOlder : List Life → List Life → Type 0
 AreOlder r q = (x : Life) → Has x q → IsOlder r x
 
-started_still : (n : ℕ) (r q : List Life) → KeepsNames r q → Started n r → Started n q
-started_still n r q keeps s i lt = keeps (i ∷ []) (λ e. cc) (s i lt)
+-- each life that has a name is an older one, or a start or a child
+abbrev AreFrom : List Start → List Life → List Life → Type 0
+AreFrom starts r q = (x : Life) → Has x q → (x.name ≡ [] → ⊥) → Has x r ⊎ IsKin starts q x
 
-closed_still : (r q : List Life) → KeepsNames r q → AreOlder r q → Closed r → Closed q
-closed_still r q keeps old c name k j h lt = elim (old (entry name k) h) as (λ _. Knows q (name ++ j ∷ [])) [
-  | inl none ↦ absurd (omega (arith, none, lt))
-  | inr was ↦ keeps _ (some_name name j) (c name k j was lt)
-]
+stay : (x : Life) (q : List Life) → Has x q → (more : List ℕ) × Has (entry x.name x.list (x.heirs ++ more)) q
+stay x q h = ([], subst (λ hs. Has (entry x.name x.list hs) q) (sym (append-nil x.heirs)) h)
+
+module _ (r q : List Life) (keeps : Keeps r q) where
+  knows_still : (m : List ℕ) (k : ℕ) → (m ≡ [] → ⊥) → Knows r m k → Knows q m k
+  knows_still m k ne w = let h = keeps (entry m k w.0) (λ is. ne (ap (λ (x : Life). x.name) is)) w.1 in (w.0 ++ h.0, h.1)
+
+  started_still : (starts : List Start) (n : ℕ) → Started starts n r → Started starts n q
+  started_still starts n was i s lt at = knows_still (i ∷ []) s.list (λ e. cc) (was i s lt at)
+
+  closed_still : AreOlder r q → Closed r → Closed q
+  closed_still old c x j k h at = elim (old x h) as (λ _. Knows q (x.name ++ j ∷ []) k) [
+    | inl none ↦ absurd (none_at j k (subst (λ (hs : List ℕ). slice_get hs j ≡ Some k) none at))
+    | inr was ↦ knows_still _ k (some_name x.name j) (c x j k was at)
+  ]
+
+  kin_still : (starts : List Start) (x : Life) → IsKin starts r x → IsKin starts q x
+  kin_still starts x (inl s) = inl s
+  kin_still starts x (inr c) =
+      let m = c.0 in
+      let child = c.2 in
+      let h = keeps m (λ is. none_at child.number x.list (subst (λ (y : Life). slice_get y.heirs child.number ≡ Some x.list) is child.list)) c.1 in
+      inr (entry m.name m.list (m.heirs ++ h.0), h.1, record { number = child.number; name = child.name; list = slice_left m.heirs h.0 child.number x.list child.list })
+
+  kin_on : (starts : List Start) → AreFrom starts r q → AreKin starts r → AreKin starts q
+  kin_on starts from k x h ne = elim (from x h ne) as (λ _. IsKin starts q x) [
+    | inl was ↦ kin_still starts x (k x was ne)
+    | inr new ↦ new
+  ]
 
 -- a life more
-keeps_more : (e : Life) (r : List Life) → KeepsNames r (e ∷ r)
-keeps_more e r m ne k = (k.0, inr k.1)
+keeps_more : (e : Life) (r : List Life) → Keeps r (e ∷ r)
+keeps_more e r x ne h = stay x (e ∷ r) (inr h)
 
-older_more : (name : List ℕ) (r : List Life) → AreOlder r (entry name 0 ∷ r)
-older_more name r x (inl is) = inl (ap (λ (y : Life). y.children) is)
-older_more name r x (inr h) = inr h
+older_more : (name : List ℕ) (list : ℕ) (r : List Life) → AreOlder r (entry name list [] ∷ r)
+older_more name list r x (inl is) = inl (ap (λ (y : Life). y.heirs) is)
+older_more name list r x (inr h) = inr h
 
--- a kept slot less
-keeps_less : (out rest : List Life) → KeepsNames (out ++ rest) (without slot out ++ rest)
-keeps_less out rest m ne k = elim (has_either (entry m k.0) out rest k.1) as (λ _. Knows (without slot out ++ rest) m) [
-  | inl h ↦ elim (had_without slot (entry m k.0) out h) as (λ _. Knows (without slot out ++ rest) m) [
-    | inl is ↦ absurd (ne (ap (λ (y : Life). y.name) is))
-    | inr r ↦ (k.0, has_left _ _ rest r)
+-- a life less
+had_less : (e x : Life) (out rest : List Life) → Has x (without e out ++ rest) → Has x (out ++ rest)
+had_less e x out rest h = elim (has_either x (without e out) rest h) as (λ _. Has x (out ++ rest)) [
+  | inl l ↦ has_left x out rest (without_had e x out l)
+  | inr r ↦ has_right x out rest r
+]
+
+keeps_less : (out rest : List Life) → Keeps (out ++ rest) (without slot out ++ rest)
+keeps_less out rest x ne k = elim (has_either x out rest k) as (λ _. (more : List ℕ) × Has (entry x.name x.list (x.heirs ++ more)) (without slot out ++ rest)) [
+  | inl h ↦ elim (had_without slot x out h) as (λ _. (more : List ℕ) × Has (entry x.name x.list (x.heirs ++ more)) (without slot out ++ rest)) [
+    | inl is ↦ absurd (ne is)
+    | inr r ↦ stay x _ (has_left x (without slot out) rest r)
   ]
-  | inr h ↦ (k.0, has_right _ (without slot out) rest h)
+  | inr h ↦ stay x _ (has_right x (without slot out) rest h)
 ]
 
-older_less : (e : Life) (out rest : List Life) → AreOlder (out ++ rest) (without e out ++ rest)
-older_less e out rest x h = elim (has_either x (without e out) rest h) as (λ _. IsOlder (out ++ rest) x) [
-  | inl l ↦ inr (has_left x out rest (without_had e x out l))
-  | inr r ↦ inr (has_right x out rest r)
-]
-
--- a slot is kept, and given back
-pub rostered_admit : (n : ℕ) (out : List Life) (ended : List Finished) → IsRostered n out ended → IsRostered n (entry [] 0 ∷ out) ended
-rostered_admit n out ended was = record {
-  started = started_still n (roster out ended) (roster (slot ∷ out) ended) (keeps_more slot (roster out ended)) was.started;
-  closed = closed_still (roster out ended) (roster (slot ∷ out) ended) (keeps_more slot (roster out ended)) (older_more [] (roster out ended)) was.closed;
+-- nobody yet
+pub rostered_none : (starts : List Start) (n : ℕ) (out : List Life) → n ≡ 0 → out ≡ [] → IsRostered starts n out []
+rostered_none starts n out nil none = subst (λ (g : List Life). IsRostered starts n g []) (sym none) record {
+  started = λ i s lt at. absurd (omega (arith, nil, lt));
+  closed = λ l j k h at. absurd h;
+  kin = λ l h ne. absurd h;
+  named = λ l h is. absurd h;
+  below = λ l i h is. absurd h;
+  once = λ name some. omega arith;
 }
 
-pub rostered_withdraw : (n : ℕ) (out : List Life) (ended : List Finished) → IsRostered n out ended → IsRostered n (without (entry [] 0) out) ended
-rostered_withdraw n out ended was = record {
-  started = started_still n _ _ (keeps_less out (map life_of ended)) was.started;
-  closed = closed_still _ _ (keeps_less out (map life_of ended)) (older_less slot out (map life_of ended)) was.closed;
+-- a slot is kept, and given back
+pub rostered_admit : (starts : List Start) (n : ℕ) (out lives : List Life) → IsRostered starts n out lives → IsRostered starts n (entry [] 0 [] ∷ out) lives
+rostered_admit starts n out lives was = record {
+  started = started_still (out ++ lives) (slot ∷ out ++ lives) (keeps_more slot (out ++ lives)) starts n was.started;
+  closed = closed_still (out ++ lives) (slot ∷ out ++ lives) (keeps_more slot (out ++ lives)) (older_more [] 0 (out ++ lives)) was.closed;
+  kin = kin_on (out ++ lives) (slot ∷ out ++ lives) (keeps_more slot (out ++ lives)) starts from was.kin;
+  named = was.named;
+  below = no_slot;
+  once = apart_more slot (out ++ lives) (λ some x h is. some refl) was.once;
+}
+  where
+    from : AreFrom starts (out ++ lives) (slot ∷ out ++ lives)
+    from x (inl is) ne = absurd (ne (ap (λ (y : Life). y.name) is))
+    from x (inr h) ne = inl h
+
+    no_slot : AreBelow n (slot ∷ out ++ lives)
+    no_slot x i (inl is) named = absurd (let no : [] ≡ i ∷ [] = sym (ap (λ (y : Life). y.name) is) ∙ named in cc)
+    no_slot x i (inr h) named = was.below x i h named
+
+pub rostered_withdraw : (starts : List Start) (n : ℕ) (out lives : List Life) → Has (entry [] 0 []) out → IsRostered starts n out lives → IsRostered starts n (without (entry [] 0 []) out) lives
+rostered_withdraw starts n out lives had was = record {
+  started = started_still (out ++ lives) (without slot out ++ lives) (keeps_less out lives) starts n was.started;
+  closed = closed_still (out ++ lives) (without slot out ++ lives) (keeps_less out lives) (λ x h. inr (had_less slot x out lives h)) was.closed;
+  kin = kin_on (out ++ lives) (without slot out ++ lives) (keeps_less out lives) starts (λ x h ne. inl (had_less slot x out lives h)) was.kin;
+  named = was.named;
+  below = λ x i h is. was.below x i (had_less slot x out lives h) is;
+  once = apart_less slot out lives had was.once;
 }
 
 -- starts, in order
@@ -88,178 +172,283 @@ below (suc a) (suc b) l = up (below a b (omega arith))
     up (inr x) = inr (ap suc x)
 
 -- what was started, and the next one
-started_next : (m n : ℕ) (r q : List Life) → n ≡ m + 1 → KeepsNames r q → Has (entry (m ∷ []) 0) q → Started m r → Started n q
-started_next m n r q is keeps new s i lt = elim (below i m (omega (arith, is, lt))) as (λ _. Knows q (i ∷ [])) [
-  | inl less ↦ keeps (i ∷ []) (λ e. cc) (s i less)
-  | inr same ↦ (0, subst (λ (k : ℕ). Has (entry (k ∷ []) 0) q) (sym same) new)
-]
+module _ (starts : List Start) (m n : ℕ) (s : Start) (is : n ≡ m + 1) (at : slice_get starts m ≡ Some s) where
+  started_next : (r q : List Life) → Keeps r q → Has (entry (m ∷ []) s.list []) q → Started starts m r → Started starts n q
+  started_next r q keeps new was i t lt here = elim (below i m (omega (arith, is, lt))) as (λ _. Knows q (i ∷ []) t.list) [
+    | inl less ↦ knows_still r q keeps (i ∷ []) t.list (λ e. cc) (was i t less here)
+    | inr same ↦
+        (let both : Some t ≡ Some s = sym here ∙ (ap (slice_get starts) same ∙ at) in
+        let one : t ≡ s = ap (or_start s) both in
+        ([], subst (λ (k : ℕ). Has (entry (k ∷ []) t.list []) q) (sym same) (subst (λ (k : ℕ). Has (entry (m ∷ []) k []) q) (sym (ap (λ (z : Start). z.list) one)) new)))
+  ]
 
-pub rostered_start : (m n : ℕ) (name : List ℕ) (out : List Life) (ended : List Finished) → n ≡ m + 1 → name ≡ m ∷ [] → IsRostered m out ended → IsRostered n (entry name 0 ∷ out) ended
-rostered_start m n name out ended is named was = record {
-  started = started_next m n (roster out ended) (roster (entry name 0 ∷ out) ended) is (keeps_more (entry name 0) (roster out ended)) (inl (ap (λ k. entry k 0) (sym named))) was.started;
-  closed = closed_still (roster out ended) (roster (entry name 0 ∷ out) ended) (keeps_more (entry name 0) (roster out ended)) (older_more name (roster out ended)) was.closed;
-}
+  abbrev next_life : List ℕ → Life
+  next_life name = entry name s.list []
+
+  starts_kin : (name : List ℕ) (q : List Life) (x : Life) → name ≡ m ∷ [] → x ≡ next_life name → IsKin starts q x
+  starts_kin name q x named same = inl (s, (m, ap (λ (y : Life). y.name) same ∙ named, at), ap (λ (y : Life). y.list) same)
+
+  -- its name is its number, which no older one has
+  module _ (name : List ℕ) (named : name ≡ m ∷ []) (r : List Life) (was : AreBelow m r) where
+    below_next : (x : Life) (i : ℕ) → (x ≡ next_life name) ⊎ Has x r → x.name ≡ i ∷ [] → i < n
+    below_next x i (inl same) of = let number : i ≡ m = ap first_of (sym of ∙ (ap (λ (y : Life). y.name) same ∙ named)) in omega (arith, number, is)
+    below_next x i (inr h) of = let less = was x i h of in omega (arith, less, is)
+
+    is_next : (x : Life) → Has x r → x.name ≡ name → ⊥
+    is_next x h of = absurd (let less = was x m h (of ∙ named) in omega (arith, less))
+
+    apart_next : AreApart r → AreApart (next_life name ∷ r)
+    apart_next = apart_more (next_life name) r (λ some. is_next)
+
+  pub rostered_start : (name : List ℕ) (k : ℕ) (out lives : List Life) → name ≡ m ∷ [] → k ≡ s.list → IsRostered starts m out lives → IsRostered starts n (entry name k [] ∷ out) lives
+  rostered_start name k out lives named list was = subst (λ (j : ℕ). IsRostered starts n (entry name j [] ∷ out) lives) (sym list) record {
+    started = started_next (out ++ lives) (next_life name ∷ out ++ lives) (keeps_more (next_life name) (out ++ lives)) (inl (ap (λ (y : List ℕ). entry y s.list []) (sym named))) was.started;
+    closed = closed_still (out ++ lives) (next_life name ∷ out ++ lives) (keeps_more (next_life name) (out ++ lives)) (older_more name s.list (out ++ lives)) was.closed;
+    kin = kin_on (out ++ lives) (next_life name ∷ out ++ lives) (keeps_more (next_life name) (out ++ lives)) starts from was.kin;
+    named = was.named;
+    below = λ x i h of. below_next name named (out ++ lives) was.below x i h of;
+    once = apart_next name named (out ++ lives) was.below was.once;
+  }
+    where
+      from : AreFrom starts (out ++ lives) (next_life name ∷ out ++ lives)
+      from x (inl same) ne = inr (starts_kin name (next_life name ∷ out ++ lives) x named same)
+      from x (inr h) ne = inl h
 
 -- one more has ended
-module _ (out : List Life) (ended : List Finished) (f : Finished) where
-  ends : map life_of (ended ++ f ∷ []) ≡ map life_of ended ++ life_of f ∷ []
-  ends = map-append life_of ended (f ∷ [])
+lone : (x l : Life) → Has x (l ∷ []) → x ≡ l
+lone x l (inl is) = is
+lone x l (inr none) = absurd none
 
-  abbrev behind : List Life
-  behind = map life_of ended ++ life_of f ∷ []
+named_more : (lives : List Life) (l : Life) → (l.name ≡ [] → ⊥) → AreNamed lives → AreNamed (lives ++ l ∷ [])
+named_more lives l ne all x h is = elim (has_either x lives (l ∷ []) h) as (λ _. ⊥) [
+  | inl was ↦ all x was is
+  | inr last ↦ ne (sym (ap (λ (y : Life). y.name) (lone x l last)) ∙ is)
+]
 
-  last_has : Has (life_of f) behind
-  last_has = has_right (life_of f) (map life_of ended) (life_of f ∷ []) (inl refl)
+last_has : (lives : List Life) (l : Life) → Has l (lives ++ l ∷ [])
+last_has lives l = has_right l lives (l ∷ []) (inl refl)
 
 -- a start is refused
-module _ (out : List Life) (ended : List Finished) (f : Finished) where
-  keeps_refused : KeepsNames (roster out ended) (out ++ behind out ended f)
-  keeps_refused m ne k = elim (has_either (entry m k.0) out (map life_of ended) k.1) as (λ _. Knows (out ++ behind out ended f) m) [
-    | inl l ↦ (k.0, has_left _ out _ l)
-    | inr r ↦ (k.0, has_right _ out _ (has_left _ (map life_of ended) (life_of f ∷ []) r))
-  ]
+module _ (starts : List Start) (m n : ℕ) (s : Start) (is : n ≡ m + 1) (at : slice_get starts m ≡ Some s) (name : List ℕ) (named : name ≡ m ∷ []) (out lives : List Life) where
+  abbrev refused : Life
+  refused = entry name s.list []
 
-  older_refused : forks f.journal.items ≡ 0 → AreOlder (roster out ended) (out ++ behind out ended f)
-  older_refused none x h = elim (has_either x out _ h) as (λ _. IsOlder (roster out ended) x) [
-    | inl l ↦ inr (has_left x out _ l)
-    | inr r ↦ elim (has_either x (map life_of ended) (life_of f ∷ []) r) as (λ _. IsOlder (roster out ended) x) [
-      | inl l ↦ inr (has_right x out _ l)
-      | inr last ↦ inl (lone x last)
+  abbrev with_refused : List Life
+  with_refused = out ++ (lives ++ refused ∷ [])
+
+  keeps_refused : Keeps (out ++ lives) with_refused
+  keeps_refused x ne h = stay x with_refused (further (has_either x out lives h))
+    where
+      further : Has x out ⊎ Has x lives → Has x with_refused
+      further (inl l) = has_left x out _ l
+      further (inr r) = has_right x out _ (has_left x lives _ r)
+
+  -- the last one, or an older one
+  which : (x : Life) → Has x with_refused → (x ≡ refused) ⊎ Has x (out ++ lives)
+  which x h = elim (has_either x out _ h) as (λ _. (x ≡ refused) ⊎ Has x (out ++ lives)) [
+    | inl l ↦ inr (has_left x out lives l)
+    | inr r ↦ elim (has_either x lives (refused ∷ []) r) as (λ _. (x ≡ refused) ⊎ Has x (out ++ lives)) [
+      | inl l ↦ inr (has_right x out lives l)
+      | inr last ↦ inl (lone x refused last)
     ]
   ]
-    where
-      lone : (y : Life) → Has y (life_of f ∷ []) → y.children ≡ 0
-      lone y (inl is) = ap (λ (z : Life). z.children) is ∙ none
-      lone y (inr no_more) = absurd no_more
 
-  pub rostered_refuse : (m n : ℕ) → n ≡ m + 1 → f.name.items ≡ m ∷ [] → forks f.journal.items ≡ 0 → IsRostered m out ended → IsRostered n out (ended ++ f ∷ [])
-  rostered_refuse m n is named none was =
-      let mine : life_of f ≡ entry (m ∷ []) 0 = ap (λ k. entry k (forks f.journal.items)) named ∙ ap (λ k. entry (m ∷ []) k) none in
-      let new : Has (entry (m ∷ []) 0) (out ++ behind out ended f) = subst (λ (x : Life). Has x (out ++ behind out ended f)) mine (has_right _ out _ (last_has out ended f)) in
-      record {
-        started = subst (λ ls. Started n (out ++ ls)) (sym (ends out ended f)) (started_next m n _ _ is keeps_refused new was.started);
-        closed = subst (λ ls. Closed (out ++ ls)) (sym (ends out ended f)) (closed_still _ _ keeps_refused (older_refused none) was.closed);
-      }
+  older_refused : AreOlder (out ++ lives) with_refused
+  older_refused x h = elim (which x h) as (λ _. IsOlder (out ++ lives) x) [
+    | inl same ↦ inl (ap (λ (y : Life). y.heirs) same)
+    | inr was ↦ inr was
+  ]
+
+  from_refused : AreFrom starts (out ++ lives) with_refused
+  from_refused x h ne = elim (which x h) as (λ _. Has x (out ++ lives) ⊎ IsKin starts with_refused x) [
+    | inl same ↦ inr (starts_kin starts m n s is at name with_refused x named same)
+    | inr was ↦ inl was
+  ]
+
+  pub rostered_refuse : IsRostered starts m out lives → IsRostered starts n out (lives ++ refused ∷ [])
+  rostered_refuse was = record {
+    started = started_next starts m n s is at (out ++ lives) with_refused keeps_refused (subst (λ (y : List ℕ). Has (entry y s.list []) with_refused) named (has_right refused out _ (last_has lives refused))) was.started;
+    closed = closed_still (out ++ lives) with_refused keeps_refused older_refused was.closed;
+    kin = kin_on (out ++ lives) with_refused keeps_refused starts from_refused was.kin;
+    named = named_more lives refused (λ none. absurd (let no : m ∷ [] ≡ [] = sym named ∙ none in cc)) was.named;
+    below = λ x i h of. below_next starts m n s is at name named (out ++ lives) was.below x i (which x h) of;
+    once = apart_last refused out lives (apart_next starts m n s is at name named (out ++ lives) was.below was.once);
+  }
 
 -- a process comes back
-module _ (out : List Life) (ended : List Finished) (f : Finished) where
+module _ (out lives : List Life) (l : Life) where
   abbrev back : List Life
-  back = without (life_of f) out ++ behind out ended f
+  back = without l out ++ (lives ++ l ∷ [])
 
-  goes_back : (x : Life) → Has x (roster out ended) → Has x back
-  goes_back x h = elim (has_either x out (map life_of ended) h) as (λ _. Has x back) [
-    | inl l ↦ elim (had_without (life_of f) x out l) as (λ _. Has x back) [
-      | inl is ↦ has_right x (without (life_of f) out) _ (subst (λ (y : Life). Has y (behind out ended f)) (sym is) (last_has out ended f))
+  goes_back : (x : Life) → Has x (out ++ lives) → Has x back
+  goes_back x h = elim (has_either x out lives h) as (λ _. Has x back) [
+    | inl left ↦ elim (had_without l x out left) as (λ _. Has x back) [
+      | inl is ↦ has_right x (without l out) _ (subst (λ (y : Life). Has y (lives ++ l ∷ [])) (sym is) (last_has lives l))
       | inr r ↦ has_left x _ _ r
     ]
-    | inr r ↦ has_right x (without (life_of f) out) _ (has_left x (map life_of ended) (life_of f ∷ []) r)
+    | inr r ↦ has_right x (without l out) _ (has_left x lives (l ∷ []) r)
   ]
 
-  older_back : Has (life_of f) out → AreOlder (roster out ended) back
-  older_back mine x h = elim (has_either x (without (life_of f) out) _ h) as (λ _. IsOlder (roster out ended) x) [
-    | inl l ↦ inr (has_left x out _ (without_had (life_of f) x out l))
-    | inr r ↦ elim (has_either x (map life_of ended) (life_of f ∷ []) r) as (λ _. IsOlder (roster out ended) x) [
-      | inl l ↦ inr (has_right x out _ l)
-      | inr last ↦ inr (has_left x out _ (lone x last))
+  was_there : Has l out → (x : Life) → Has x back → Has x (out ++ lives)
+  was_there mine x h = elim (has_either x (without l out) _ h) as (λ _. Has x (out ++ lives)) [
+    | inl left ↦ has_left x out lives (without_had l x out left)
+    | inr r ↦ elim (has_either x lives (l ∷ []) r) as (λ _. Has x (out ++ lives)) [
+      | inl older ↦ has_right x out lives older
+      | inr last ↦ has_left x out lives (subst (λ (y : Life). Has y out) (sym (lone x l last)) mine)
     ]
   ]
-    where
-      lone : (y : Life) → Has y (life_of f ∷ []) → Has y out
-      lone y (inl is) = subst (λ z. Has z out) (sym is) mine
-      lone y (inr none) = absurd none
 
-  keeps_back : KeepsNames (roster out ended) back
-  keeps_back m ne k = (k.0, goes_back _ k.1)
+  keeps_back : Keeps (out ++ lives) back
+  keeps_back x ne h = stay x back (goes_back x h)
 
-  pub rostered_finish : (n : ℕ) → Has (life_of f) out → IsRostered n out ended → IsRostered n (without (life_of f) out) (ended ++ f ∷ [])
-  rostered_finish n mine was = record {
-    started = subst (λ ls. Started n (without (life_of f) out ++ ls)) (sym (ends out ended f)) (started_still n _ _ keeps_back was.started);
-    closed = subst (λ ls. Closed (without (life_of f) out ++ ls)) (sym (ends out ended f)) (closed_still _ _ keeps_back (older_back mine) was.closed);
+  pub rostered_finish : (starts : List Start) (n : ℕ) → Has l out → (l.name ≡ [] → ⊥) → IsRostered starts n out lives → IsRostered starts n (without l out) (lives ++ l ∷ [])
+  rostered_finish starts n mine ne was = record {
+    started = started_still (out ++ lives) back keeps_back starts n was.started;
+    closed = closed_still (out ++ lives) back keeps_back (λ x h. inr (was_there mine x h)) was.closed;
+    kin = kin_on (out ++ lives) back keeps_back starts (λ x h some. inl (was_there mine x h)) was.kin;
+    named = named_more lives l ne was.named;
+    below = λ x i h of. was.below x i (was_there mine x h) of;
+    once = apart_moved l out lives mine was.once;
   }
 
 -- a child is named
-module _ (name : List ℕ) (k : ℕ) (out rest : List Life) where
+module _ (name : List ℕ) (list child : ℕ) (before : List ℕ) (out rest : List Life) where
+  abbrev parent : Life
+  parent = entry name list before
+
+  abbrev elder : Life
+  elder = entry name list (before ++ child ∷ [])
+
+  abbrev young : Life
+  young = entry (name ++ length before ∷ []) child []
+
   -- those who are out but for the slot and the parent
   abbrev others : List Life
-  others = without (entry name k) (without slot out)
+  others = without parent (without slot out)
 
   abbrev born : List Life
-  born = entry name (k + 1) ∷ entry (name ++ k ∷ []) 0 ∷ others
+  born = elder ∷ young ∷ others
 
-  keeps_born : KeepsNames (out ++ rest) (born ++ rest)
-  keeps_born m ne w = elim (has_either (entry m w.0) out rest w.1) as (λ _. Knows (born ++ rest) m) [
-    | inl h ↦ elim (had_without slot (entry m w.0) out h) as (λ _. Knows (born ++ rest) m) [
-      | inl is ↦ absurd (ne (ap (λ (y : Life). y.name) is))
-      | inr r ↦ elim (had_without (entry name k) (entry m w.0) (without slot out) r) as (λ _. Knows (born ++ rest) m) [
-        | inl is ↦ (k + 1, inl (ap (λ n. entry n (k + 1)) (ap (λ (y : Life). y.name) is)))
-        | inr left ↦ (w.0, inr (inr (has_left _ _ rest left)))
+  keeps_born : Keeps (out ++ rest) (born ++ rest)
+  keeps_born x ne w = elim (has_either x out rest w) as (λ _. (more : List ℕ) × Has (entry x.name x.list (x.heirs ++ more)) (born ++ rest)) [
+    | inl h ↦ elim (had_without slot x out h) as (λ _. (more : List ℕ) × Has (entry x.name x.list (x.heirs ++ more)) (born ++ rest)) [
+      | inl is ↦ absurd (ne is)
+      | inr r ↦ elim (had_without parent x (without slot out) r) as (λ _. (more : List ℕ) × Has (entry x.name x.list (x.heirs ++ more)) (born ++ rest)) [
+        | inl is ↦ (child ∷ [], inl (ap (λ (y : Life). entry y.name y.list (y.heirs ++ child ∷ [])) is))
+        | inr left ↦ stay x (born ++ rest) (inr (inr (has_left x others rest left)))
       ]
     ]
-    | inr h ↦ (w.0, inr (inr (has_right _ others rest h)))
+    | inr h ↦ stay x (born ++ rest) (inr (inr (has_right x others rest h)))
   ]
 
-  closed_born : Has (entry name k) (without slot out) → Closed (out ++ rest) → Closed (born ++ rest)
-  closed_born mine c m q j h lt = which h
+  was_other : (x : Life) → Has x (others ++ rest) → Has x (out ++ rest)
+  was_other x h = had_less slot x out rest (had_less parent x (without slot out) rest h)
+
+  was_parent : Has parent (without slot out) → Has parent (out ++ rest)
+  was_parent mine = has_left parent out rest (without_had slot parent out mine)
+
+  closed_born : Has parent (without slot out) → Closed (out ++ rest) → Closed (born ++ rest)
+  closed_born mine c x j k h at = which h
     where
-      was_out : Has (entry name k) (out ++ rest)
-      was_out = has_left _ out rest (without_had slot (entry name k) out mine)
-
       -- of the parent: an older child, or the one that was named now
-      ordered : (j < k) ⊎ (j ≡ k) → (m ≡ name) → Knows (born ++ rest) (m ++ j ∷ [])
-      ordered (inl less) is = keeps_born _ (some_name m j) (subst (λ n. Knows (out ++ rest) (n ++ j ∷ [])) (sym is) (c name k j was_out less))
-      ordered (inr same) is = (0, inr (inl (ap (λ n. entry n 0) (ap (λ n. n ++ j ∷ []) is ∙ ap (λ i. name ++ i ∷ []) same))))
+      ordered : (x ≡ elder) → (slice_get before j ≡ Some k) ⊎ ((j ≡ length before) × (k ≡ child)) → Knows (born ++ rest) (x.name ++ j ∷ []) k
+      ordered is (inl older) = knows_still (out ++ rest) (born ++ rest) keeps_born (x.name ++ j ∷ []) k (some_name x.name j) (subst (λ (n : List ℕ). Knows (out ++ rest) (n ++ j ∷ []) k) (sym (ap (λ (y : Life). y.name) is)) (c parent j k (was_parent mine) older))
+      ordered is (inr new) = ([], inr (inl (ap (λ (n : List ℕ). entry (n ++ j ∷ []) k []) (ap (λ (y : Life). y.name) is) ∙ (ap (λ (i : ℕ). entry (name ++ i ∷ []) k []) new.0 ∙ ap (λ (i : ℕ). entry (name ++ length before ∷ []) i []) new.1))))
 
-      which : Has (entry m q) (born ++ rest) → Knows (born ++ rest) (m ++ j ∷ [])
-      which (inl is) = ordered (below j k (let e : q ≡ k + 1 = ap (λ (y : Life). y.children) is in omega (arith, e, lt))) (ap (λ (y : Life). y.name) is)
-      which (inr (inl is)) = absurd (let e : q ≡ 0 = ap (λ (y : Life). y.children) is in omega (arith, e, lt))
-      which (inr (inr r)) = elim (older_less (entry name k) (without slot out) rest (entry m q) r) as (λ _. Knows (born ++ rest) (m ++ j ∷ [])) [
-        | inl none ↦ absurd (omega (arith, none, lt))
-        | inr older ↦ elim (older_less slot out rest (entry m q) older) as (λ _. Knows (born ++ rest) (m ++ j ∷ [])) [
-          | inl none ↦ absurd (omega (arith, none, lt))
-          | inr oldest ↦ keeps_born _ (some_name m j) (c m q j oldest lt)
-        ]
-      ]
+      which : Has x (born ++ rest) → Knows (born ++ rest) (x.name ++ j ∷ []) k
+      which (inl is) = ordered is (slice_snoc before child j k (subst (λ (y : Life). slice_get y.heirs j ≡ Some k) is at))
+      which (inr (inl is)) = absurd (none_at j k (subst (λ (y : Life). slice_get y.heirs j ≡ Some k) is at))
+      which (inr (inr r)) = knows_still (out ++ rest) (born ++ rest) keeps_born (x.name ++ j ∷ []) k (some_name x.name j) (c x j k (was_other x r) at)
+
+  kin_born : (starts : List Start) → Has parent (without slot out) → AreKin starts (out ++ rest) → AreKin starts (born ++ rest)
+  kin_born starts mine kin x h ne = which h
+    where
+      elder_kin : IsKin starts (born ++ rest) parent → IsKin starts (born ++ rest) elder
+      elder_kin (inl s) = inl s
+      elder_kin (inr c) = inr (c.0, c.1, record { number = c.2.number; name = c.2.name; list = c.2.list })
+
+      which : Has x (born ++ rest) → IsKin starts (born ++ rest) x
+      which (inl is) = subst (IsKin starts (born ++ rest)) (sym is) (elder_kin (kin_still (out ++ rest) (born ++ rest) keeps_born starts parent (kin parent (was_parent mine) (λ none. ne (ap (λ (y : Life). y.name) is ∙ none)))))
+      which (inr (inl is)) = inr (elder, inl refl, record { number = length before; name = ap (λ (y : Life). y.name) is; list = slice_last before child ∙ ap (λ (y : Life). Some y.list) (sym is) })
+      which (inr (inr r)) = kin_still (out ++ rest) (born ++ rest) keeps_born starts x (kin x (was_other x r) ne)
+
+  -- no number of a start
+  below_born : (n : ℕ) → Has parent (without slot out) → (name ≡ [] → ⊥) → AreBelow n (out ++ rest) → AreBelow n (born ++ rest)
+  below_born n mine some was x i (inl is) of = was parent i (was_parent mine) (sym (ap (λ (y : Life). y.name) is) ∙ of)
+  below_born n mine some was x i (inr (inl is)) of = absurd (no_start name (length before) i some (sym (ap (λ (y : Life). y.name) is) ∙ of))
+  below_born n mine some was x i (inr (inr h)) of = was x i (was_other x h) of
+
+  -- the child's name is new: whoever had it would be a child of its parent, whose place was still empty
+  module _ (starts : List Start) (mine : Has parent (without slot out)) (some : name ≡ [] → ⊥) (kin : AreKin starts (out ++ rest)) (once : AreApart (out ++ rest)) where
+    is_new : (x : Life) → Has x (out ++ rest) → x.name ≡ name ++ length before ∷ [] → ⊥
+    is_new x h is = elim (kin x h (λ none. some_name name (length before) (sym is ∙ none))) as (λ _. ⊥) [
+      | inl s ↦ no_start name (length before) s.1.0 some (sym is ∙ s.1.1)
+      | inr c ↦ of_parent c.0 c.1 c.2
+    ]
+      where
+        of_parent : (m : Life) → Has m (out ++ rest) → IsChildOf m x → ⊥
+        of_parent m there child =
+            let parts = name_parts m.name name child.number (length before) (sym child.name ∙ is) in
+            let same = one_of name m parent (out ++ rest) (once name some) parts.0 refl there (was_parent mine) in
+            let list : slice_get before child.number ≡ Some x.list = subst (λ (y : Life). slice_get y.heirs child.number ≡ Some x.list) same child.list in
+            none_past before x.list (subst (λ (j : ℕ). slice_get before j ≡ Some x.list) parts.1 list)
+
+    new_beside : (x : Life) → Has x (elder ∷ others ++ rest) → x.name ≡ name ++ length before ∷ [] → ⊥
+    new_beside x (inl is) of = is_new parent (was_parent mine) (sym (ap (λ (y : Life). y.name) is) ∙ of)
+    new_beside x (inr h) of = is_new x (was_other x h) of
+
+    apart_born : Has slot out → AreApart (born ++ rest)
+    apart_born had =
+        let older = apart_instead parent elder (without slot out) rest refl mine (apart_less slot out rest had once) in
+        apart_swap young elder (others ++ rest) (apart_more young (elder ∷ others ++ rest) (λ _. new_beside) older)
 
 -- the same, by the lists of who is out after each of the four steps: both vouchers come back, and the child's and the parent's go out
-module _ (name child : List ℕ) (k : ℕ) (g0 g1 g2 g3 g4 : List Life) (e1 : g1 ≡ without (entry [] 0) g0) (had : Has (entry [] 0) g0) (e2 : g2 ≡ without (entry name k) g1) (mine : Has (entry name k) g1) (named : child ≡ name ++ k ∷ []) (e3 : g3 ≡ entry child 0 ∷ g2) (e4 : g4 ≡ entry name (k + 1) ∷ g3) where
-  is_born : g4 ≡ entry name (k + 1) ∷ entry (name ++ k ∷ []) 0 ∷ without (entry name k) (without (entry [] 0) g0)
-  is_born = e4 ∙ ap (λ g. entry name (k + 1) ∷ g) (e3 ∙ (ap (λ m. entry m 0 ∷ g2) named ∙ ap (λ g. entry (name ++ k ∷ []) 0 ∷ g) (e2 ∙ ap (without (entry name k)) e1)))
+module _ (name named : List ℕ) (list child : ℕ) (before heirs none : List ℕ) (g0 g1 g2 g3 g4 : List Life) (e1 : g1 ≡ without (entry [] 0 []) g0) (had : Has (entry [] 0 []) g0) (e2 : g2 ≡ without (entry name list before) g1) (mine : Has (entry name list before) g1) (is : named ≡ name ++ length before ∷ []) (more : heirs ≡ before ++ child ∷ []) (bare : none ≡ []) (e3 : g3 ≡ entry named child none ∷ g2) (e4 : g4 ≡ entry name list heirs ∷ g3) where
+  is_born : g4 ≡ born name list child before g0 []
+  is_born = e4 ∙ (ap (λ hs. entry name list hs ∷ g3) more ∙ ap (λ g. entry name list (before ++ child ∷ []) ∷ g) (e3 ∙ (ap (λ hs. entry named child hs ∷ g2) bare ∙ ap (λ m. entry m child [] ∷ g2) is ∙ ap (λ g. entry (name ++ length before ∷ []) child [] ∷ g) (e2 ∙ ap (without (entry name list before)) e1))))
 
   pub born_length : length g4 ≡ length g0
   born_length =
       let a : length g4 ≡ length g3 + 1 = ap length e4 ∙ omega arith in
       let b : length g3 ≡ length g2 + 1 = ap length e3 ∙ omega arith in
-      let c : length g2 ≡ length (without (entry name k) g1) = ap length e2 in
-      let d = length-without (entry name k) g1 mine in
-      let e : length g1 ≡ length (without (entry [] 0) g0) = ap length e1 in
-      let f = length-without (entry [] 0) g0 had in
+      let c : length g2 ≡ length (without (entry name list before) g1) = ap length e2 in
+      let d = length-without (entry name list before) g1 mine in
+      let e : length g1 ≡ length (without (entry [] 0 []) g0) = ap length e1 in
+      let f = length-without (entry [] 0 []) g0 had in
       omega (arith, a, b, c, d, e, f)
 
-  pub rostered_born : (n : ℕ) (ended : List Finished) → IsRostered n g0 ended → IsRostered n g4 ended
-  rostered_born n ended was = record {
-    started = subst (λ g. Started n (g ++ map life_of ended)) (sym is_born) (started_still n (g0 ++ map life_of ended) (born name k g0 (map life_of ended) ++ map life_of ended) (keeps_born name k g0 (map life_of ended)) was.started);
-    closed = subst (λ g. Closed (g ++ map life_of ended)) (sym is_born) (closed_born name k g0 (map life_of ended) (subst (Has (entry name k)) e1 mine) was.closed);
-  }
+  pub rostered_born : (starts : List Start) (n : ℕ) (lives : List Life) → (name ≡ [] → ⊥) → IsRostered starts n g0 lives → IsRostered starts n g4 lives
+  rostered_born starts n lives some was =
+      let here : Has (entry name list before) (without slot g0) = subst (Has (entry name list before)) e1 mine in
+      subst (λ g. IsRostered starts n g lives) (sym is_born) record {
+        started = started_still (g0 ++ lives) (born name list child before g0 lives ++ lives) (keeps_born name list child before g0 lives) starts n was.started;
+        closed = closed_born name list child before g0 lives here was.closed;
+        kin = kin_born name list child before g0 lives starts here was.kin;
+        named = was.named;
+        below = below_born name list child before g0 lives n here some was.below;
+        once = apart_born name list child before g0 lives starts here some was.kin was.once had;
+      }
 
--- a start that was refused has ended
-refused_ended : (o : Outcome) (name : List ℕ) (n : ℕ) (journal : List Entry) → name ≡ n ∷ [] → journal ≡ [] → IsRefused o → AsEnded o name journal
-refused_ended (outcome.Refused r) name n journal named none is = (is, (n, named), none)
-refused_ended (outcome.Exited s) name n journal named none is = absurd is
-refused_ended (outcome.Ended r) name n journal named none is = absurd is
-refused_ended outcome.Memory name n journal named none is = absurd is
-refused_ended outcome.JournalFull name n journal named none is = absurd is
-
-pub not_started_ended : (f : Finished) (n : ℕ) → f.name.items ≡ n ∷ [] → IsNotStarted f → IsEnded f
-not_started_ended f n named is = record { bare = is.bare; ended = refused_ended f.outcome f.name.items n f.journal.items named is.journal is.outcome }
+-- one more has ended
+pub each_push : (lists : List (List Call)) (starts : List Start) (ls : List Life) (fs : List Finished) (l : Life) (f : Finished) → Each lists starts ls fs → IsEnded lists starts l f → Each lists starts (ls ++ l ∷ []) (fs ++ f ∷ [])
+each_push lists starts [] [] l f each e = (e, tt)
+each_push lists starts [] (g ∷ gs) l f each e = absurd each
+each_push lists starts (k ∷ ks) [] l f each e = absurd each
+each_push lists starts (k ∷ ks) (g ∷ gs) l f each e = (each.0, each_push lists starts ks gs l f each.1 e)
 
 -- where nobody is out, those who ended are all
 nobody : (out : List Life) → length out ≡ 0 → out ≡ []
 nobody [] e = refl
 nobody (x ∷ xs) e = absurd (omega (arith, e))
 
-pub all_back : (starts : ℕ) (out : List Life) (ended : List Finished) → length out ≡ 0 → IsRostered starts out ended → All IsEnded ended → ComesBack starts ended
-all_back starts out ended none was each = record {
-  started = subst (λ g. Started starts (g ++ map life_of ended)) (nobody out none) was.started;
-  children = subst (λ g. Closed (g ++ map life_of ended)) (nobody out none) was.closed;
-  each = each;
-}
+pub all_back : (lists : List (List Call)) (starts : List Start) (out lives : List Life) (ended : List Finished) → length out ≡ 0 → Each lists starts lives ended → IsRostered starts (length starts) out lives → ComesBack lists starts ended
+all_back lists starts out lives ended none each was =
+    let rest : IsRostered starts (length starts) [] lives = subst (λ g. IsRostered starts (length starts) g lives) (nobody out none) was in
+    record {
+      lives = lives;
+      each = each;
+      started = rest.started;
+      children = rest.closed;
+      kin = λ l h. rest.kin l h (rest.named l h);
+      once = apart_all lives rest.named rest.once;
+    }

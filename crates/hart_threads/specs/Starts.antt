@@ -1,5 +1,5 @@
 -- Starts: what they leave of the kernel's seat, and why one is refused.
-use Rattle.std.specs.Prelude.{◌≡◌, ◌≢◌, ℕ, ◌++◌, ◌∷◌, [], Bool, true, false, Err, IfOk}
+use Rattle.std.specs.Prelude.{◌≡◌, ◌≢◌, ℕ, ◌++◌, ◌∷◌, [], Bool, true, false, Err, List, Ok}
 use Rattle.address_space.specs.Agreement.{body_of, IsSpace}
 use Rattle.address_space.specs.declared.space.Space.{Space}
 use Rattle.atomic_table.specs.Seated.{TableId}
@@ -10,7 +10,7 @@ use Rattle.process_model.specs.Process.{Process}
 use Rattle.shared_frames.specs.Fits.{FitsIn, view_of}
 use Rattle.shared_frames.specs.declared.seat.SharedSeat.{SharedSeat}
 use Rattle.table_walk.specs.Tables.{Tables}
-use Rattle.process_model.specs.Images.{image_loads}
+use Rattle.process_model.specs.Images.{image_loads, LoadSegment}
 use Rattle.process_model.specs.declared.image.Image.{Image}
 use Rattle.process_model.specs.declared.step.Refusal.{Refusal}
 use Rattle.process_model.specs.declared.step.Refusal.TheVariants as refusal
@@ -23,18 +23,19 @@ pub record Lends (v w : View) : Type 0 where
   pub words : (hold_of w 0).words ≡ (hold_of v 0).words
   pub others : (f : ℕ) → f ≢ 0 → hold_of w f ≡ hold_of v f
 
--- in this order: there is no slot; the image is not accepted; the count of frame 0 was read as 65,535; frames are wanting
+-- in this order: there is no slot; the image is not accepted; the count of frame 0 was read as 65,535; frames are wanting. No other count is
+-- read.
 abbrev pub IsRefusedStart : Bool → Image → View → View → Refusal → Type 0
-IsRefusedStart slot image v w refusal.NoSlot = slot ≡ false
-IsRefusedStart slot image v w (refusal.BadImage part) = (slot ≡ true) × (image_loads image ≡ Err part)
+IsRefusedStart slot image v w refusal.NoSlot = (slot ≡ false) × (w.tallies.looks ≡ v.tallies.looks)
+IsRefusedStart slot image v w (refusal.BadImage part) = (slot ≡ true) × (image_loads image ≡ Err part) × (w.tallies.looks ≡ v.tallies.looks)
 IsRefusedStart slot image v w refusal.SharersFull = (slot ≡ true) × (w.tallies.looks ≡ v.tallies.looks ++ 65535 ∷ [])
-IsRefusedStart slot image v w refusal.NoFrame = slot ≡ true
+IsRefusedStart slot image v w refusal.NoFrame = (slot ≡ true) × (w.tallies.looks ≡ v.tallies.looks)
 IsRefusedStart slot image v w r = ⊥
 
 -- a space at a table, and the process that it is
 abbrev pub IsBegun : TableId → Space SharedSeat → Opening → Type 0
 IsBegun table space opening = FitsIn table space.seat × ((t : Tables) × IsSpace (body_of view_of space) t opening.state)
 
--- it is the process of an image that is accepted
+-- the image is accepted, and it is its process
 abbrev pub IsProcessOf : Image → Process → Type 0
-IsProcessOf image p = IfOk (image_loads image) (λ loads. p ≡ process_of 0 loads)
+IsProcessOf image p = (loads : List LoadSegment) × (image_loads image ≡ Ok loads) × (p ≡ process_of 0 loads)

@@ -1,22 +1,24 @@
 // A hart: it takes jobs and makes calls.
 
 ghost use Rattle.std.specs.Prelude.{◌≡◌, ◌∷◌, [], IfErr, IfOk};
-ghost use Rattle.hart_calls.specs.Replay.{forks};
 ghost use Rattle.hart_calls.specs.Track.{child_name};
 ghost use Rattle.hart_calls.specs.Turned.{HasTurned};
 ghost use Rattle.hart_calls.specs.Turns.{IsNamed};
 ghost use Rattle.hart_threads.specs.Due.{IsDue, IsNone};
-ghost use Rattle.hart_threads.specs.Rostered.{IsEnded};
+ghost use Rattle.hart_threads.specs.Rostered.{IsBack, IsOut};
 ghost use Rattle.vouchers.specs.Entries.{entry};
 ghost use Rattle.vouchers.specs.Fits.{HoldsAt, held_of};
 
+use crate::fates::Fates;
 use crate::gate::Gate;
 use crate::job::{Gone, Job, Step};
+use crate::plan::Plan;
 use crate::queue::{Part, put, take};
 use crate::roster::{Admission, Roster};
 use file_shelf::Shelf;
-use hart_calls::{Room, Slot, Tracked, Turn};
+use hart_calls::{Place, Slot, Tracked, Turn};
 use shared_frames::SharedFrames;
+use std::alloc::AllocError;
 use std::marker::PhantomData;
 use std::sync::{Mutex, Wait};
 use std::thread;
@@ -24,11 +26,11 @@ use vouchers::{Desk, Voucher};
 
 /// What a hart knows of the run.
 #[derive(Drop)]
-pub(crate) struct Hart<'r, 'a, B: Room, R: Wait, G: Gate> {
+pub(crate) struct Hart<'r, 'a, B: Plan, F: Fates, R: Wait, G: Gate> {
     pub(crate) rt: &'r R,
     pub(crate) frames: &'r SharedFrames,
     pub(crate) desk: &'r Desk,
-    pub(crate) roster: &'r Mutex<Roster<'a, B>>,
+    pub(crate) roster: &'r Mutex<Roster<'a, B, F>>,
     pub(crate) shelf: &'r Mutex<Shelf>,
     pub(crate) parts: &'r [Part<'a, B>],
     pub(crate) gate: &'r G,
@@ -37,12 +39,14 @@ pub(crate) struct Hart<'r, 'a, B: Room, R: Wait, G: Gate> {
     ghost at: { desk.now ≡ B.desk },
 }
 
-impl<'r, 'a, B: Room, R: Wait, G: Gate> Hart<'r, 'a, B, R, G> {
-    /// A slot for the child of the next call, with the child's name, or why there is none: no call but a fork needs one.
-    fn admit(&self, tracked: &Tracked<'a, B>) -> Result<(Voucher, Vec<u64>), Slot>
+impl<'r, 'a, B: Plan, F: Fates, R: Wait, G: Gate> Hart<'r, 'a, B, F, R, G> {
+    /// A slot for the child of the next call, with the child's name and a place for its space, or why there is none: no call
+    /// but a fork needs one.
+    fn admit(&self, tracked: &mut Tracked<'a, B>) -> Result<(Voucher, Vec<u64>, Place), Slot>
+        ensures same { tracked.new ≡ tracked.old }
         ensures at { IfOk result (λ r. HoldsAt B.desk r.0) }
-        ensures slot { IfOk result (λ r. held_of r.0 ≡ entry [] 0 ∷ []) }
-        ensures name { IfOk result (λ r. r.1.items ≡ child_name tracked.now) }
+        ensures slot { IfOk result (λ r. held_of r.0 ≡ entry [] 0 [] ∷ []) }
+        ensures name { IfOk result (λ r. r.1.items ≡ child_name tracked.old) }
         ensures none { IfErr result (λ slot. IsNone slot) }
     {
         if !tracked.needs_slot() {
@@ -54,13 +58,24 @@ impl<'r, 'a, B: Room, R: Wait, G: Gate> Hart<'r, 'a, B, R, G> {
             Admission::NoSlot => return Err(Slot::NoSlot),
             Admission::Memory => return Err(Slot::Memory),
         };
-        match tracked.child_name() {
-            Ok(name) => Ok((slot, name)),
+        match self.room_for_child(tracked) {
+            Ok((name, place)) => Ok((slot, name, place)),
             Err(_) => {
                 self.roster.lock(self.rt).withdraw(self.desk, slot);
                 Err(Slot::Memory)
             }
         }
+    }
+
+    /// The name of the next child, and a place for its space.
+    fn room_for_child(&self, tracked: &mut Tracked<'a, B>) -> Result<(Vec<u64>, Place), AllocError>
+        ensures same { tracked.new ≡ tracked.old }
+        ensures name { IfOk result (λ r. r.0.items ≡ child_name tracked.old) }
+    {
+        let name = tracked.child_name()?;
+        let mut store = self.frames.supply(self.rt);
+        let place = tracked.child_place(&mut store)?;
+        Ok((name, place))
     }
 
     /// Makes the next call. One that needs the files is lent the shelf for its whole length.
@@ -85,27 +100,21 @@ impl<'r, 'a, B: Room, R: Wait, G: Gate> Hart<'r, 'a, B, R, G> {
         voucher: Voucher,
         slot: Voucher,
         name: Vec<u64>,
+        place: Place,
     ) -> Step<'a, B>
         requires at { HoldsAt B.desk voucher × HoldsAt B.desk slot }
-        requires holds { held_of voucher ≡ entry tracked.name (forks tracked.journal) ∷ [] }
-        requires slot { held_of slot ≡ entry [] 0 ∷ [] }
+        requires out { IsOut B.lists B.plan (held_of voucher) tracked }
+        requires slot { held_of slot ≡ entry [] 0 [] ∷ [] }
         requires name { name.items ≡ child_name tracked }
         ensures due { IsDue result }
     {
-        let before = tracked.children() as u64;
-        match self.call(tracked, Slot::Free(name)) {
+        match self.call(tracked, Slot::Free(name, place)) {
             Turn::Goes(tracked, child) => match child {
                 Some(child) => {
-                    let after = tracked.children() as u64;
-                    let (voucher, young) = self.roster.lock(self.rt).born(
-                        self.desk,
-                        tracked.name(),
-                        before,
-                        after,
-                        child.name(),
-                        slot,
-                        voucher,
-                    );
+                    let (voucher, young) = self
+                        .roster
+                        .lock(self.rt)
+                        .born(self.desk, &tracked, &child, slot, voucher);
                     let job = Job {
                         tracked: child,
                         voucher: young,
@@ -132,7 +141,7 @@ impl<'r, 'a, B: Room, R: Wait, G: Gate> Hart<'r, 'a, B, R, G> {
     /// Makes a call for which no slot is kept.
     fn plain(&self, tracked: Tracked<'a, B>, voucher: Voucher, slot: Slot) -> Step<'a, B>
         requires at { HoldsAt B.desk voucher }
-        requires holds { held_of voucher ≡ entry tracked.name (forks tracked.journal) ∷ [] }
+        requires out { IsOut B.lists B.plan (held_of voucher) tracked }
         requires none { IsNone slot }
         ensures due { IsDue result }
     {
@@ -153,9 +162,12 @@ impl<'r, 'a, B: Room, R: Wait, G: Gate> Hart<'r, 'a, B, R, G> {
     fn step(&self, job: Job<'a, B>) -> Step<'a, B>
         ensures due { IsDue result }
     {
-        let Job { tracked, voucher } = job;
-        match self.admit(&tracked) {
-            Ok((slot, name)) => self.fork(tracked, voucher, slot, name),
+        let Job {
+            mut tracked,
+            voucher,
+        } = job;
+        match self.admit(&mut tracked) {
+            Ok((slot, name, place)) => self.fork(tracked, voucher, slot, name, place),
             Err(slot) => self.plain(tracked, voucher, slot),
         }
     }
@@ -163,7 +175,7 @@ impl<'r, 'a, B: Room, R: Wait, G: Gate> Hart<'r, 'a, B, R, G> {
     /// The process comes back.
     #[inline(never)]
     fn finish(&self, gone: Gone<'a, B>)
-        requires ended { IsEnded gone.finished }
+        requires back { IsBack B.lists B.plan (held_of gone.voucher) gone.finished }
     {
         let Gone {
             finished,

@@ -5,10 +5,14 @@
 //! is lent the shelf.
 #![tactic(auto)]
 
+mod enlist;
+mod fates;
 mod gate;
 mod hart;
 mod job;
+mod made;
 mod name_room;
+mod plan;
 mod queue;
 mod roster;
 mod run;

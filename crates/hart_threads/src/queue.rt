@@ -1,7 +1,7 @@
 // The run queue: a part for each hart, each under a lock of its own.
 
 use crate::job::Job;
-use hart_calls::Room;
+use crate::plan::Plan;
 use std::alloc::{AllocError, Global};
 use std::collections::VecDeque;
 use std::sync::{Mutex, Wait};
@@ -10,7 +10,7 @@ use std::sync::{Mutex, Wait};
 pub(crate) type Part<'a, B> = Mutex<VecDeque<Job<'a, B>>>;
 
 /// A part for each hart, at least one, each with room for so many jobs.
-pub(crate) fn parts_for<'a, B: Room>(
+pub(crate) fn parts_for<'a, B: Plan>(
     alloc: Global,
     harts: usize,
     slots: usize,
@@ -23,7 +23,7 @@ pub(crate) fn parts_for<'a, B: Room>(
 }
 
 /// The next job, from the hart's own part or else from the others in turn.
-pub(crate) fn take<'a, B: Room, R: Wait>(
+pub(crate) fn take<'a, B: Plan, R: Wait>(
     rt: &R,
     parts: &[Part<'a, B>],
     hart: usize,
@@ -38,7 +38,7 @@ pub(crate) fn take<'a, B: Room, R: Wait>(
 }
 
 /// Puts a job into the hart's own part, or where else there is room. Each part has room for as many jobs as there are slots.
-pub(crate) fn put<'a, B: Room, R: Wait>(
+pub(crate) fn put<'a, B: Plan, R: Wait>(
     rt: &R,
     parts: &[Part<'a, B>],
     hart: usize,

@@ -1,12 +1,14 @@
 // Seats that are split off the kernel's.
 
-ghost use Rattle.std.specs.Prelude.{[], ◌≡◌, IfErr, IfOk};
+ghost use Rattle.std.specs.Prelude.{[], ◌≡◌, ◌<◌, true, IfErr, IfOk};
 ghost use Rattle.address_space.specs.Agreement.{HoldsTrampoline};
 ghost use Rattle.address_space.specs.Steps.{IsBare};
 ghost use Rattle.frame_store.specs.View.{IsHeld, read_full};
+ghost use Rattle.process_model.specs.declared.call.Outcome.TheVariants as outcome;
+ghost use Rattle.process_model.specs.Frames.{start_need};
 ghost use Rattle.process_model.specs.Loading.{process_of};
 ghost use Rattle.shared_frames.specs.Fits.{FitsIn, view_of};
-ghost use Rattle.hart_threads.specs.Rostered.{IsEnded};
+ghost use Rattle.hart_threads.specs.Rostered.{RefusesStart};
 ghost use Rattle.hart_threads.specs.Starts.{IsBegun, IsProcessOf, IsRefusedStart, Lends};
 
 use address_space::Space;
@@ -36,6 +38,7 @@ fn stripped<R: Wait>(store: &mut SharedSupply<'_, R>, mut seat: SharedSeat) -> S
     requires fits { FitsIn store.old seat }
     requires seat { HoldsTrampoline (view_of seat) }
     ensures bare { IsBare (view_of result) }
+    ensures tallies { (view_of result).tallies ≡ (view_of seat).tallies }
     ensures store { store.new ≡ store.old }
 {
     store.release(&mut seat, FrameNo(0));
@@ -51,6 +54,7 @@ fn opened<R: Wait>(
     requires anchored { IsHeld (view_of kernel.old) 0 }
     ensures opened { IfOk result (λ seat. FitsIn store.old seat × HoldsTrampoline (view_of seat)) }
     ensures full { IfErr result (λ _. view_of kernel.new ≡ read_full (view_of kernel.old)) }
+    ensures looks { IfOk result (λ _. (view_of kernel.new).tallies.looks ≡ (view_of kernel.old).tallies.looks) }
     ensures lends { Lends (view_of kernel.old) (view_of kernel.new) }
     ensures store { store.new ≡ store.old }
     ensures fits { FitsIn store.old kernel.new }
@@ -70,6 +74,7 @@ fn built<R: Wait>(
     ensures built { IfOk result (λ r. IsBegun store.old r.0 r.1) }
     ensures process { IfOk result (λ r. r.1.state ≡ process_of 0 image.now) }
     ensures bare { IfErr result (λ seat. IsBare (view_of seat)) }
+    ensures dry { IfErr result (λ seat. (0 < (view_of seat).tallies.zeros) × ((view_of seat).tallies.short < start_need image.now)) }
     ensures store { store.new ≡ store.old }
 {
     match start(store, seat, image) {
@@ -89,7 +94,8 @@ pub(crate) fn unbegun<'a, R: Wait>(
     requires begun { IsBegun store.old space opening }
     ensures name { result.name.items ≡ name.items }
     ensures journal { result.journal.items ≡ [] }
-    ensures ended { IsEnded result }
+    ensures outcome { result.outcome ≡ outcome.Memory }
+    ensures bare { IsBare (view_of result.seat) }
     ensures store { store.new ≡ store.old }
 {
     let _ = opening;
@@ -114,7 +120,9 @@ pub(crate) fn started<R: Wait>(
     requires anchored { IsHeld (view_of kernel.old) 0 }
     ensures started { IfOk result (λ r. IsBegun store.old r.0 r.1) }
     ensures process { IfOk result (λ r. IsProcessOf image.entry r.1.state) }
+    ensures begins { IfOk result (λ _. (has_slot ≡ true) × ((view_of kernel.new).tallies.looks ≡ (view_of kernel.old).tallies.looks)) }
     ensures refused { IfErr result (λ e. IsRefusedStart has_slot image.entry (view_of kernel.old) (view_of kernel.new) e.0) }
+    ensures why { IfErr result (λ e. RefusesStart image.entry (view_of e.1) e.0) }
     ensures bare { IfErr result (λ e. IsBare (view_of e.1)) }
     ensures lends { Lends (view_of kernel.old) (view_of kernel.new) }
     ensures store { store.new ≡ store.old }

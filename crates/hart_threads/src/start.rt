@@ -1,75 +1,59 @@
 // The starts, in order, before a hart runs.
 
-ghost use Rattle.std.specs.Prelude.{◌≡◌, ◌-◌, ◌<◌, ◌∷◌, [], All, length, vec_len};
+ghost use Rattle.std.specs.Prelude.{◌≡◌, ◌≤◌, ◌++◌, ◌∷◌, [], length, vec_len};
+ghost use Rattle.std.specs.VecDeque.{deque_capacity};
 ghost use Rattle.frame_store.specs.View.{IsHeld};
-ghost use Rattle.hart_calls.specs.Track.{AreThere};
+ghost use Rattle.hart_threads.specs.Makes.{all_looks, AreMade, IsMade, looks_of};
 ghost use Rattle.hart_threads.specs.Starts.{Lends};
 ghost use Rattle.shared_frames.specs.Fits.{FitsIn, view_of};
 
-use crate::job::Job;
+use crate::made::Made;
 use crate::name_room::NameRoom;
-use crate::queue::{Part, put};
-use crate::roster::Roster;
 use crate::seats::{started, unbegun};
-use hart_calls::{Finished, Room, Tracked};
-use process_model::{Call, Outcome, Sequence, Start};
+use hart_calls::Finished;
+use process_model::{Outcome, Start};
 use shared_frames::{SharedFrames, SharedSeat};
 use std::alloc::Global;
+use std::collections::VecDeque;
 use std::sync::Wait;
-use vouchers::Desk;
 
 /// What all starts of a run have.
 #[derive(Drop)]
-pub(crate) struct Starting<'r, 'a, B: Room, R: Wait> {
+pub(crate) struct Starting<'r, R: Wait> {
     pub(crate) rt: &'r R,
     pub(crate) alloc: Global,
     pub(crate) frames: &'r SharedFrames,
-    pub(crate) desk: &'r Desk,
-    pub(crate) lists: &'a [Sequence<Call<'a>>],
-    pub(crate) parts: &'r [Part<'a, B>],
-    ghost table: { frames.now.table ≡ B.table },
-    ghost at: { desk.now ≡ B.desk },
 }
 
-impl<'r, 'a, B: Room, R: Wait> Starting<'r, 'a, B, R> {
-    /// Makes the next start, or refuses it. Where the host has no place for its space the process ends before its first
-    /// call.
-    fn make(
+impl<'r, R: Wait> Starting<'r, R> {
+    /// Makes a start while `taken` of `slots` slots are taken, or refuses it. If the host has no memory for its space, the process
+    /// ends before its first call.
+    fn make<'a>(
         &self,
         kernel: &mut SharedSeat,
-        roster: &mut Roster<'a, B>,
         name: Vec<u64>,
         start: Start<'_>,
-        place: usize,
-    )
-        requires fits { FitsIn B.table kernel.old }
+        slots: usize,
+        taken: usize,
+    ) -> Made<'a>
+        requires fits { FitsIn self.now.frames.now.table kernel.old }
         requires anchored { IsHeld (view_of kernel.old) 0 }
-        requires list { start.list < length self.now.lists.now }
-        requires named { AreThere self.now.lists.now }
-        requires left { 0 < roster.old }
-        requires name { name.items ≡ (B.starts - roster.old) ∷ [] }
-        ensures left { roster.new ≡ roster.old - 1 }
-        ensures fits { FitsIn B.table kernel.new }
+        ensures made { IsMade self.now.frames.now.table slots taken start.entry name.items result }
+        ensures looks { (view_of kernel.new).tallies.looks ≡ (view_of kernel.old).tallies.looks ++ looks_of result }
+        ensures fits { FitsIn self.now.frames.now.table kernel.new }
         ensures lends { Lends (view_of kernel.old) (view_of kernel.new) }
     {
         let mut store = self.frames.supply(self.rt);
-        match started(&mut store, kernel, start.image, roster.has_slot()) {
-            Ok((space, opening)) => {
-                let voucher = roster.start(self.desk, name.as_slice());
-                match Box::new(self.alloc, space) {
-                    Ok(space) => {
-                        let tracked = Tracked::<B>::new(
-                            self.alloc, opening, space, name, self.lists, start.list,
-                        );
-                        put(self.rt, self.parts, place, Job { tracked, voucher });
-                    }
-                    Err(full) => {
-                        let finished = unbegun(self.alloc, &mut store, full.value, opening, name);
-                        roster.finish(self.desk, finished, voucher);
-                    }
-                }
-            }
-            Err((refusal, seat)) => roster.refuse(Finished {
+        match started(&mut store, kernel, start.image, taken < slots) {
+            Ok((space, opening)) => match Box::new(self.alloc, space) {
+                Ok(space) => Made::Begun {
+                    name,
+                    space,
+                    opening,
+                },
+                Err(full) => Made::Over(unbegun(self.alloc, &mut store, full.value, opening, name)),
+            },
+            Err((refusal, seat)) => Made::Over(Finished {
                 name,
                 outcome: Outcome::Refused(refusal),
                 journal: Vec::new(self.alloc),
@@ -78,30 +62,37 @@ impl<'r, 'a, B: Room, R: Wait> Starting<'r, 'a, B, R> {
         }
     }
 
-    /// Makes all starts in order, or refuses them. Their jobs go to the parts of the queue in turn.
-    pub(crate) fn make_all(
+    /// Makes all starts in order, or refuses them, for a run of `slots` slots. `rooms` and `all` have room for each.
+    pub(crate) fn make_all<'a>(
         &self,
         kernel: &mut SharedSeat,
-        roster: &mut Roster<'a, B>,
         rooms: &mut Vec<NameRoom>,
+        all: &mut VecDeque<Made<'a>>,
         starts: &[Start<'_>],
+        slots: usize,
     )
-        requires fits { FitsIn B.table kernel.old }
+        requires fits { FitsIn self.now.frames.now.table kernel.old }
         requires anchored { IsHeld (view_of kernel.old) 0 }
-        requires lists { All (λ start. start.list < length self.now.lists.now) starts.now }
-        requires named { AreThere self.now.lists.now }
-        requires starts { B.starts ≡ length starts.now }
-        requires left { roster.old ≡ length starts.now }
         requires names { vec_len rooms.old ≡ length starts.now }
-        ensures fits { FitsIn B.table kernel.new }
+        requires none { all.old.items ≡ [] }
+        requires room { length starts.now ≤ deque_capacity all.old }
+        ensures made { AreMade self.now.frames.now.table slots starts.now 0 0 all.new.items }
+        ensures all { length all.new.items ≡ length starts.now }
+        ensures looks { (view_of kernel.new).tallies.looks ≡ (view_of kernel.old).tallies.looks ++ all_looks all.new.items }
+        ensures fits { FitsIn self.now.frames.now.table kernel.new }
         ensures lends { Lends (view_of kernel.old) (view_of kernel.new) }
     {
+        let mut taken = 0;
         'starts: for number in 0..starts.len() {
             let Some(room) = rooms.pop() else {
                 unreachable!()
             };
             let name = room.fill(number as u64);
-            self.make(kernel, roster, name, starts[number], number);
+            let made = self.make(kernel, name, starts[number], slots, taken);
+            taken += made.slots();
+            let Ok(()) = all.push_back(made) else {
+                unreachable!()
+            };
         }
     }
 }

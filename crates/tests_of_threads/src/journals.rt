@@ -76,8 +76,8 @@ fn copied(bytes: &[u8]) -> Reply {
 }
 
 /// A fork without a slot; a write-back that its own process finds; a parent and a child that part; a page that returns; bytes that
-/// were copied to a process, across the end of a page.
-fn rows() -> [Row; 10] {
+/// were copied to a process, across the end of a page; the first bytes of a file.
+fn rows() -> [Row; 11] {
     let alone = "image 0x1000:0x1000:rw:-\npool 64 1\nlist 0\nfork 0\nstart 0 0\n";
     let written =
         "file 16 rw -\nimage 0x1000:0x1000:rw:-\npool 64 4\nlist 0\nmmap 16 3 1 0\nstore 0x3fffffd000 1 9\nmunmap 0x3fffffd000 16\nmmap 16 3 1 0\nload 0x3fffffd000 1\nstart 0 0\n";
@@ -87,6 +87,8 @@ fn rows() -> [Row; 10] {
         "image 0x1000:0x1000:rw:-\npool 64 4\nlist 0\nsbrk 0x1000\nstore 0x4000 1 9\nsbrk -0x1000\nsbrk 0x1000\nload 0x4000 1\nstart 0 0\n";
     let copies =
         "image 0x1000:0x2000:rw:-\npool 64 4\nlist 0\ncopyout 0x1ffc 0102030405060708\nload 0x1ff8 8\nload 0x2000 4\ncopyin 0x1ffb 6\nstart 0 0\n";
+    let read =
+        "file 5000 rw 6162\nimage 0x1000:0x1000:rw:-\npool 64 4\nlist 0\nmmap 5000 1 2 0\nload 0x3fffffc000 2\nstart 0 0\n";
     [
         (alone, &[0], 0, Reply::Refused(Refusal::NoSlot)),
         (written, &[0], 4, Reply::Value(9)),
@@ -98,6 +100,7 @@ fn rows() -> [Row; 10] {
         (copies, &[0], 1, Reply::Value(0x0403_0201_0000_0000)),
         (copies, &[0], 2, Reply::Value(0x0807_0605)),
         (copies, &[0], 3, copied(&[0, 1, 2, 3, 4, 5])),
+        (read, &[0], 1, Reply::Value(0x6261)),
     ]
 }
 

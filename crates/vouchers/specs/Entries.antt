@@ -1,16 +1,19 @@
--- Entries (a name, and how many children it has named), lists of them, and what a seat at a desk knows.
+-- Entries (who is out), lists of them, and what a seat at a desk knows.
 use Rattle.std.specs.Prelude.{◌≡◌, ◌⊎◌, ℕ, ◌==◌, ◌&&◌, Bool, true, false, cond, List, [], ◌∷◌, refl}
 use Rattle.std.specs.Coded.{Coded, code_by, coded×, coded_ℕ, coded_bool, coded_list}
 
 pub record Entry : Type 0 where
   pub name : List ℕ
-  pub children : ℕ
+  -- the number of the list that it runs
+  pub list : ℕ
+  -- the lists of the children that it has named, in order
+  pub heirs : List ℕ
 
-abbrev pub entry : List ℕ → ℕ → Entry
-entry name children = record { name = name; children = children }
+abbrev pub entry : List ℕ → ℕ → List ℕ → Entry
+entry name list heirs = record { name = name; list = list; heirs = heirs }
 
 abbrev pub entry_code : Coded Entry
-entry_code = code_by (List ℕ × ℕ) (coded× (coded_list coded_ℕ) coded_ℕ) (λ e. (e.name, e.children)) (λ p. record { name = p.0; children = p.1 }) (λ _. refl)
+entry_code = code_by (List ℕ × (ℕ × List ℕ)) (coded× (coded_list coded_ℕ) (coded× coded_ℕ (coded_list coded_ℕ))) (λ e. (e.name, (e.list, e.heirs))) (λ p. record { name = p.0; list = p.1.0; heirs = p.1.1 }) (λ _. refl)
 
 -- the keeper knows what it gave and did not get back; a voucher holds its entry
 pub record View : Type 0 where
@@ -33,7 +36,7 @@ same_name (x ∷ xs) [] = false
 same_name (x ∷ xs) (y ∷ ys) = (x == y) && same_name xs ys
 
 abbrev pub same : Entry → Entry → Bool
-same a b = (a.children == b.children) && same_name a.name b.name
+same a b = (a.list == b.list) && (same_name a.heirs b.heirs && same_name a.name b.name)
 
 -- the first of an entry is taken out
 abbrev pub without : Entry → List Entry → List Entry

@@ -13,14 +13,21 @@ name_is (x ∷ xs) (y ∷ ys) e = elim (eqb_tells x y) as (λ _. x ∷ xs ≡ y 
   | inr t ↦ absurd (let no : false ≡ true = sym (ap (λ b. b && same_name xs ys) t.0) ∙ e in cc)
 ]
 
+both : (x y : Bool) → x && y ≡ true → (x ≡ true) × (y ≡ true)
+both true y e = (refl, e)
+both false y e = absurd (let no : false ≡ true = e in cc)
+
 pub same_is : (a b : Entry) → same a b ≡ true → a ≡ b
-same_is a b e = elim (eqb_tells a.children b.children) as (λ _. a ≡ b) [
-  | inl t ↦ entry_is (name_is a.name b.name (sym (ap (λ q. q && same_name a.name b.name) t.0) ∙ e)) t.1
-  | inr t ↦ absurd (let no : false ≡ true = sym (ap (λ q. q && same_name a.name b.name) t.0) ∙ e in cc)
+same_is a b e = elim (eqb_tells a.list b.list) as (λ _. a ≡ b) [
+  | inl t ↦
+      (let rest : same_name a.heirs b.heirs && same_name a.name b.name ≡ true = sym (ap (λ q. q && (same_name a.heirs b.heirs && same_name a.name b.name)) t.0) ∙ e in
+      let two = both (same_name a.heirs b.heirs) (same_name a.name b.name) rest in
+      entry_is (name_is a.name b.name two.1) t.1 (name_is a.heirs b.heirs two.0))
+  | inr t ↦ absurd (let no : false ≡ true = sym (ap (λ q. q && (same_name a.heirs b.heirs && same_name a.name b.name)) t.0) ∙ e in cc)
 ]
   where
-    entry_is : a.name ≡ b.name → a.children ≡ b.children → entry a.name a.children ≡ entry b.name b.children
-    entry_is n c = ap (λ m. entry m a.children) n ∙ ap (λ k. entry b.name k) c
+    entry_is : a.name ≡ b.name → a.list ≡ b.list → a.heirs ≡ b.heirs → entry a.name a.list a.heirs ≡ entry b.name b.list b.heirs
+    entry_is n l h = ap (λ m. entry m a.list a.heirs) n ∙ (ap (λ k. entry b.name k a.heirs) l ∙ ap (λ k. entry b.name b.list k) h)
 
 name_same : (xs : List ℕ) → same_name xs xs ≡ true
 name_same [] = refl
@@ -30,8 +37,8 @@ name_same (x ∷ xs) = elim (eqb_tells x x) as (λ _. ((x == x) && same_name xs 
 ]
 
 pub same_self : (a : Entry) → same a a ≡ true
-same_self a = elim (eqb_tells a.children a.children) as (λ _. ((a.children == a.children) && same_name a.name a.name) ≡ true) [
-  | inl t ↦ rw t.0 (name_same a.name)
+same_self a = elim (eqb_tells a.list a.list) as (λ _. ((a.list == a.list) && (same_name a.heirs a.heirs && same_name a.name a.name)) ≡ true) [
+  | inl t ↦ rw t.0 (rw (name_same a.heirs) (name_same a.name))
   | inr t ↦ absurd (t.1 refl)
 ]
 

@@ -26,12 +26,12 @@ impl Model for Desk {
 }
 
 /// The entry that is given out: each caller's proof picks it.
-trait Giving {
+pub trait Giving {
     ghost entry: { Entry };
 }
 
 impl Giving for Brand {
-    ghost entry = { entry [] 0 };
+    ghost entry = { entry [] 0 [] };
 }
 
 struct Gives<G> {
@@ -56,22 +56,6 @@ impl Join<Told> for Takes {
     ghost spent = { spent_view };
 }
 
-// The entry is the type's; name and number of children are passed so that contracts can say that it is theirs.
-fn issue_as<G: Giving>(desk: &Desk, keeper: &mut Keeper, name: &[u64], children: u64) -> Voucher
-    requires entry { G.entry ≡ entry name.now children }
-    requires keeper { KeepsAt desk.now keeper.old }
-    ensures keeper { KeepsAt desk.now keeper.new }
-    ensures voucher { HoldsAt desk.now result }
-    ensures given { given_of keeper.new ≡ entry name.now children ∷ given_of keeper.old }
-    ensures held { held_of result ≡ entry name.now children ∷ [] }
-{
-    let _ = name;
-    let _ = children;
-    Voucher {
-        seat: desk.table.shared.split_seat::<Gives<G>>(&mut keeper.seat),
-    }
-}
-
 impl Desk {
     /// A desk of which no voucher is out, and its keeper.
     pub fn open(alloc: Global) -> Result<(Desk, Keeper), AllocError>
@@ -83,15 +67,19 @@ impl Desk {
         Ok((Desk { table }, Keeper { seat }))
     }
 
-    /// Gives out a voucher for an entry: a name, and how many children it has named. The same entry may be given out again.
-    pub fn issue(&self, keeper: &mut Keeper, name: &[u64], children: u64) -> Voucher
+    /// Gives out a voucher for the entry that the caller's proof picks, from what is passed. The same entry may be given out
+    /// again.
+    pub fn issue<G: Giving, T>(&self, keeper: &mut Keeper, from: &T) -> Voucher
         requires keeper { KeepsAt self.now keeper.old }
         ensures keeper { KeepsAt self.now keeper.new }
         ensures voucher { HoldsAt self.now result }
-        ensures given { given_of keeper.new ≡ entry name.now children ∷ given_of keeper.old }
-        ensures held { held_of result ≡ entry name.now children ∷ [] }
+        ensures given { given_of keeper.new ≡ G.entry ∷ given_of keeper.old }
+        ensures held { held_of result ≡ G.entry ∷ [] }
     {
-        issue_as::<Brand>(self, keeper, name, children)
+        let _ = from;
+        Voucher {
+            seat: self.table.shared.split_seat::<Gives<G>>(&mut keeper.seat),
+        }
     }
 
     /// Takes a voucher back: the keeper has its entry, and has it once less afterwards.

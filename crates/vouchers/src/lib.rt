@@ -9,6 +9,6 @@ mod desk;
 mod holders;
 mod told;
 
-pub use desk::Desk;
+pub use desk::{Desk, Giving};
 pub use holders::{Keeper, Voucher};
 pub use told::Told;

@@ -1,7 +1,8 @@
-use Rattle.std.proofs.Common.{◌≡◌, ◌<◌, ◌≤◌, ◌+◌, ◌-◌, length, vec_len, vec_capacity}
+use Rattle.std.proofs.Common.{take, ◌≡◌, ◌<◌, ◌≤◌, ◌+◌, ◌-◌, length, vec_len, vec_capacity}
 use Rattle.std.specs.Prelude.{All}
 use Rattle.process_model.specs.ThreadScript.{most_lists}
 use Rattle.process_model.specs.declared.call.Start.{Start}
+use Rattle.audit_player.specs.ThreadLists.{AreStartsOf}
 use Rattle.audit_player.proofs.thread_lists.lend_starts.Given as goal
 
 abbrev pub invariant-starts : goal.invariant-starts
@@ -9,4 +10,5 @@ invariant-starts l = record {
   room : vec_len l.starts + (length l.start-items - l.start-index) ≤ vec_capacity l.starts;
   all : length l.starts.items ≡ l.start-index;
   there : All (λ (start : Start). start.list < most_lists) l.starts.items;
+  are : AreStartsOf l.script.images (take l.start-index l.start-items) l.starts.items;
 }

@@ -9,7 +9,7 @@ use Rattle.frame_store.specs.Laws.{fits_after, keeps_both}
 use Rattle.frame_store.specs.View.{View}
 use Rattle.std.specs.Prelude.{option_to_list}
 use Rattle.process_model.specs.Frames.{resident_need}
-use Rattle.hart_calls.proofs.Accessed.{as_told, bad_width, ended_served, ended_why, ends_denied, ends_dry_by, granted, made_at_once, made_later, not_granted, q, ready_none, ready_served}
+use Rattle.hart_calls.proofs.Accessed.{access_reads_file, as_told, bad_width, ended_served, ended_why, ends_denied, ends_dry_by, granted, is_access_call, made_at_once, made_later, not_granted, q, ready_none, ready_served}
 use Rattle.hart_calls.proofs.Bodies.{still_space}
 use Rattle.process_model.specs.Bytes.{is_width}
 use Rattle.process_model.specs.Residence.{made_resident}
@@ -18,7 +18,7 @@ use Rattle.hart_calls.proofs.access.access.Goals as goal
 
 pub returns-then-not-is_width-clause-came : goal.returns-then-not-is_width-clause-came
 returns-then-not-is_width-clause-came g c =
-    rw c.short.ensures (λ k is t p space. (tt, bad_width (g.C.Files.files c.args.files.now) p (asked_of c.args.asked) k is (let e = c.is_width.ensures in let f = c.if-not-is_width.true in cc) (body_of g.S.FrameSeat.view c.args.space.now) (body_of g.S.FrameSeat.view c.args.space.now) _ (t, space) (g.met.C.Files.stays c.args.files.now)))
+    rw c.short.ensures (λ k is t p space. (tt, bad_width (g.C.Files.files c.args.files.now) p (asked_of c.args.asked) k is (let e = c.is_width.ensures in let f = c.if-not-is_width.true in cc) (body_of g.S.FrameSeat.view c.args.space.now) (body_of g.S.FrameSeat.view c.args.space.now) _ _ _ (t, space) (g.met.C.Files.stays c.args.files.now)))
 
 pub accessed-requires-clause-fits : goal.accessed-requires-clause-fits
 accessed-requires-clause-fits g c = fits_after g.F.FrameAccess.rule c.translate-walk.ensures.keeps c.requires.fits
@@ -38,7 +38,7 @@ returns-then-is_permitted-clause-came g c = λ k is t p space.
     let law = c.walks_grant_what_is_resident.ensures (body_of g.S.FrameSeat.view c.args.space.now) t p c.args.asked.access c.args.asked.va.0 space in
     let both = granted (g.C.Files.files c.args.files.now) p a (gives_leaf c.translate-walk.result) (sym c.is_permitted.ensures ∙ c.if-is_permitted.true) (rw walk law) in
     let wide : is_width c.args.asked.width ≡ true = (let e = c.is_width.ensures in let f = c.if-not-is_width.false in cc) in
-    made_at_once (g.C.Files.files c.args.files.now) p a k is wide (body_of g.S.FrameSeat.view c.args.space.now) (body_of g.S.FrameSeat.view c.accessed.new.space) _ both.0 both.1 c.accessed.result (c.accessed.ensures.reply t p here walk) (t, c.accessed.ensures.after t p here walk)
+    made_at_once (g.C.Files.files c.args.files.now) p a k is wide (body_of g.S.FrameSeat.view c.args.space.now) (body_of g.S.FrameSeat.view c.accessed.new.space) _ _ _ both.0 both.1 c.accessed.result (c.accessed.ensures.reply t p here walk) (t, c.accessed.ensures.after t p here walk)
     (g.met.C.Files.stays c.args.files.now)
 
 pub returns-then-is_permitted-clause-keeps : goal.returns-then-is_permitted-clause-keeps
@@ -57,7 +57,7 @@ returns-in-Ready-clause-came g c = λ k is t p space.
     let not = not_granted files p a (gives_leaf c.translate-walk.result) (sym c.is_permitted.ensures ∙ c.if-is_permitted.false) (rw (n.walk t p space) law) none in
     let r = c.in-Ready.ensures.ready refl t p (can_reside (body_of g.S.FrameSeat.view c.translate-walk.new.self) t p c.args.asked.access c.args.asked.va.0 c.args.asked.width here none) in
     let there = as_told files p a (body_of g.S.FrameSeat.view c.serve.new.space) r.0 (is_shared_by r.1) (r.2.agrees 0) in
-    made_later files p a k is wide x (body_of g.S.FrameSeat.view c.at_once.new.space) _ none not c.at_once.result (c.at_once.ensures.reply r.0 (q files p a) there) (r.0, c.at_once.ensures.after r.0 (q files p a) there)
+    made_later files p a k is wide x (body_of g.S.FrameSeat.view c.at_once.new.space) _ _ _ none not c.at_once.result (c.at_once.ensures.reply r.0 (q files p a) there) (r.0, c.at_once.ensures.after r.0 (q files p a) there)
     (c.in-Ready.ensures.moves ready_served t p here)
 
 pub returns-in-Ended-clause-came : goal.returns-in-Ended-clause-came
@@ -74,12 +74,12 @@ returns-in-Ended-clause-came g c = λ k is t p space.
     let whole = e.whole c.in-Ended.rule refl t p here in
     let moves = e.moves (ended_served c.in-Ended.rule) t p here in
     elim (ended_why files p a c.in-Ended.rule (e.ended t p here)) [
-      | inl by ↦ ends_denied files p a k is wide x y _ c.in-Ended.rule by (t, whole) moves
+      | inl by ↦ ends_denied files p a k is wide x y _ _ _ c.in-Ended.rule by (t, whole) moves
       | inr both ↦
           let none = both.0 in
           let not = not_granted files p a (gives_leaf c.translate-walk.result) (sym c.is_permitted.ensures ∙ c.if-is_permitted.false) (rw (n.walk t p space) law) none in
           let dry = e.dry (ap served.Ended both.1) t p (can_reside (body_of g.S.FrameSeat.view c.translate-walk.new.self) t p c.args.asked.access c.args.asked.va.0 c.args.asked.width here none) in
-          ends_dry_by files p a k is wide x y _ c.in-Ended.rule both.1 none not dry.0 dry.1 (subst (λ (v : View). RunsDry v (g.S.FrameSeat.view c.serve.new.space.seat) (resident_need (is_shared_by dry.0) p c.args.asked.access (page_of c.args.asked.va.0)) (option_to_list dry.0)) n.view dry.2) (t, whole) moves
+          ends_dry_by files p a k is wide x y _ _ _ c.in-Ended.rule both.1 none not dry.0 dry.1 (subst (λ (v : View). RunsDry v (g.S.FrameSeat.view c.serve.new.space.seat) (resident_need (is_shared_by dry.0) p c.args.asked.access (page_of c.args.asked.va.0)) (option_to_list dry.0)) n.view dry.2) (t, whole) moves
     ]
 
 pub returns-in-Unserved-clause-came : goal.returns-in-Unserved-clause-came
@@ -87,14 +87,15 @@ returns-in-Unserved-clause-came g c = λ k is t p space.
     let n = c.translate-walk.ensures in
     let e = c.in-Unserved.ensures in
     let here = still_space g.S.FrameSeat.view _ _ n.view n.root n.trapframe n.layout t p space in
-    let x = e.unpromised c.in-Unserved.refusal refl in
-    record {
-      error = x.0;
-      could = x.1;
-      refusal = x.2;
-      space = (t, still_space g.S.FrameSeat.view c.translate-walk.new.self c.serve.new.space (e.view_stays ((λ is. cc), (λ is. cc))) e.root e.trapframe e.layout t p here);
-      moves = e.files_stay c.in-Unserved.refusal refl;
-    }
+    let x = e.unpromised c.in-Unserved.refusal refl in (
+      is_access_call k (asked_of c.args.asked) is,
+      record {
+        could = (c.args.files.now, x.0, g.met.C.Files.stays c.args.files.now, x.1, x.2);
+        of_file = access_reads_file (g.C.Files.files c.args.files.now) p k (asked_of c.args.asked) is (let w = c.is_width.ensures in let f = c.if-not-is_width.false in cc) (e.of_file c.in-Unserved.refusal refl t p here);
+        space = (t, still_space g.S.FrameSeat.view c.translate-walk.new.self c.serve.new.space (e.view_stays ((λ is. cc), (λ is. cc))) e.root e.trapframe e.layout t p here);
+        moves = e.files_stay c.in-Unserved.refusal refl;
+      },
+    )
 
 pub serve-requires-clause-fits : goal.serve-requires-clause-fits
 serve-requires-clause-fits g c = fits_after g.F.FrameAccess.rule c.translate-walk.ensures.keeps c.requires.fits

@@ -1,10 +1,10 @@
-use Rattle.std.proofs.Common.{ap, List, of_z, rules, SFits, subst, to_z, w64, ℤ}
+use Rattle.std.proofs.Common.{◌≤◌, ap, List, ℕ, of_z, refl, rules, SFits, subst, to_z, w64, ℤ}
 use Rattle.std.proofs.lemmas.Int.{to_z-of_z}
 use Rattle.address_space.specs.Accesses.{asked_of}
 use Rattle.address_space.specs.Agreement.{body_of}
 use Rattle.hart_calls.specs.Answers.{size_or_refused}
 use Rattle.hart_calls.specs.Asks.{HasRoomFor, IsStaying}
-use Rattle.hart_calls.specs.Comes.{HasCome}
+use Rattle.hart_calls.specs.Comes.{HasCome, Refuses}
 use Rattle.process_model.specs.PageMoves.{PageMove}
 use Rattle.hart_calls.proofs.There.{no_room}
 use Rattle.hart_calls.proofs.Answered.{came_mapped, came_sbrk, came_unmap}
@@ -39,20 +39,20 @@ returns-in-Sbrk-clause-came g c =
     let x = body_of g.S.FrameSeat.view c.args.space.now in
     let y = body_of g.S.FrameSeat.view c.sbrk.new.space in
     let files = g.C.Files.files c.args.files.now in
-    subst (λ (z : ℤ). HasCome x y files (λ (moves : List PageMove). g.C.Files.becomes c.args.files.now moves c.args.files.now) (g.C.Files.can_refuse c.args.files.now) p (call.Sbrk z) (size_or_refused c.sbrk.result)) (to_z-of_z w64 c.in-Sbrk.delta fits)
-    (came_sbrk x y files (λ (moves : List PageMove). g.C.Files.becomes c.args.files.now moves c.args.files.now) (g.C.Files.can_refuse c.args.files.now) t p (to_z w64 (of_z w64 c.in-Sbrk.delta)) c.sbrk.result e.answer e.resized e.layout_stays e.view_stays
+    subst (λ (z : ℤ). HasCome x y files (λ (moves : List PageMove). g.C.Files.becomes c.args.files.now moves c.args.files.now) (Refuses g.C.Files.becomes g.C.Files.can_refuse c.args.files.now) (λ (n : ℕ). n ≤ g.C.Files.room c.args.files.now) p (call.Sbrk z) (size_or_refused c.sbrk.result)) (to_z-of_z w64 c.in-Sbrk.delta fits)
+    (came_sbrk x y files (λ (moves : List PageMove). g.C.Files.becomes c.args.files.now moves c.args.files.now) (g.C.Files.can_refuse c.args.files.now) (Refuses g.C.Files.becomes g.C.Files.can_refuse c.args.files.now) _ t p (to_z w64 (of_z w64 c.in-Sbrk.delta)) c.sbrk.result e.answer e.resized e.layout_stays e.view_stays
     (ap (λ (f : FrameNo). f.0) e.root) (ap (λ (f : FrameNo). f.0) e.trapframe) (g.met.C.Files.stays c.args.files.now) space))
 
 pub returns-in-Mmap-clause-came : goal.returns-in-Mmap-clause-came
 returns-in-Mmap-clause-came g c = rw (c.in-Mmap.is, c.mapped.ensures) (λ t p space.
     let e = c.mmap.ensures in
-    came_mapped (body_of g.S.FrameSeat.view c.args.space.now) (body_of g.S.FrameSeat.view c.mmap.new.space) (g.C.Files.files c.args.files.now) _ (g.C.Files.can_refuse c.args.files.now) t p c.in-Mmap.length c.in-Mmap.protection c.in-Mmap.flags c.in-Mmap.file c.mmap.result
+    came_mapped (body_of g.S.FrameSeat.view c.args.space.now) (body_of g.S.FrameSeat.view c.mmap.new.space) (g.C.Files.files c.args.files.now) _ (g.C.Files.can_refuse c.args.files.now) (Refuses g.C.Files.becomes g.C.Files.can_refuse c.args.files.now) _ t p c.in-Mmap.length c.in-Mmap.protection c.in-Mmap.flags c.in-Mmap.file c.mmap.result
     (e.answer t p space) (e.agrees t p space) (g.met.C.Files.stays c.args.files.now))
 
 pub returns-in-Munmap-clause-came : goal.returns-in-Munmap-clause-came
 returns-in-Munmap-clause-came g c = rw (c.in-Munmap.is, c.done.ensures) (λ t p space.
     let e = c.munmap.ensures in
-    came_unmap (body_of g.S.FrameSeat.view c.args.space.now) (body_of g.S.FrameSeat.view c.munmap.new.space) (g.C.Files.files c.args.files.now) _ (g.C.Files.can_refuse c.args.files.now) t p c.in-Munmap.address c.in-Munmap.length (g.C.Files.files c.munmap.new.files) c.munmap.result
+    came_unmap (body_of g.S.FrameSeat.view c.args.space.now) (body_of g.S.FrameSeat.view c.munmap.new.space) (g.C.Files.files c.args.files.now) _ (g.C.Files.can_refuse c.args.files.now) (Refuses g.C.Files.becomes g.C.Files.can_refuse c.args.files.now) _ t p (λ n e could. (g.met.C.Files.asks c.args.files.now n e could, (c.args.files.now, e, g.met.C.Files.stays c.args.files.now, could, refl))) c.in-Munmap.address c.in-Munmap.length (g.C.Files.files c.munmap.new.files) c.munmap.result
     e.unmapped e.moves e.refused e.files_stay e.layout_stays e.view_stays (ap (λ (f : FrameNo). f.0) e.root) (ap (λ (f : FrameNo). f.0) e.trapframe) space)
 
 pub unreachable-requires : goal.unreachable-requires

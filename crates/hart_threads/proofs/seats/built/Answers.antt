@@ -1,5 +1,6 @@
 -- What the search left open of `built`.
-use Rattle.std.proofs.Common.{refl, sym, subst, ◌∙◌}
+use Rattle.std.proofs.Common.{ap, arith, refl, sym, subst, ◌∙◌}
+use Rattle.frame_store.specs.View.{Tallies}
 use Rattle.address_space.specs.Agreement.{body_of, IsSpace}
 use Rattle.process_model.specs.Process.{Process}
 use Rattle.shared_frames.specs.Fits.{fits_still, view_of}
@@ -24,3 +25,13 @@ pub returns-in-Ok-clause-built : goal.returns-in-Ok-clause-built
 returns-in-Ok-clause-built g c =
     let started = c.in-Ok.ensures.started in
     ((fits_still _ _ _ c.args.seat c.in-Ok.space.seat refl c.in-Ok.ensures.keeps c.requires.fits).1, (started.0, subst (λ (p : Process). IsSpace (body_of view_of c.in-Ok.space) started.0 p) (sym c.begun.ensures) (started.1 0)))
+
+pub returns-in-Err-clause-dry : goal.returns-in-Err-clause-dry
+returns-in-Err-clause-dry g c =
+    let d = c.in-Err.ensures.refused in
+    let z = ap (λ (t : Tallies). t.zeros) c.stripped.ensures.tallies in
+    let s = ap (λ (t : Tallies). t.short) c.stripped.ensures.tallies in
+    let n = c.requires.seat.credits in
+    let more = d.zeros in
+    let less = d.short in
+    (omega (arith, more, z), omega (arith, less, s, n))

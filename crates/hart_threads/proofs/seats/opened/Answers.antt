@@ -1,5 +1,5 @@
 -- What the search left open of `opened`.
-use Rattle.hart_threads.proofs.Lending.{opens_fits, opens_lends, opens_seat, opens_store}
+use Rattle.hart_threads.proofs.Lending.{opens_fits, opens_lends, opens_looks, opens_seat, opens_store}
 use Rattle.hart_threads.proofs.seats.opened.Goals as goal
 
 pub returns-clause-opened : goal.returns-clause-opened
@@ -13,3 +13,6 @@ returns-clause-store g c = let e = c.opened_seat.ensures in opens_store _ _ c.ar
 
 pub returns-clause-fits : goal.returns-clause-fits
 returns-clause-fits g c = let e = c.opened_seat.ensures in opens_fits _ _ c.args.kernel.now c.opened_seat.new.seat c.requires.fits c.opened_seat.result (e.opener, e.opened, e.full, e.keeps, e.keeps_full)
+
+pub returns-clause-looks : goal.returns-clause-looks
+returns-clause-looks g c = let e = c.opened_seat.ensures in opens_looks _ _ c.args.kernel.now c.opened_seat.new.seat c.requires.fits c.opened_seat.result (e.opener, e.opened, e.full, e.keeps, e.keeps_full)

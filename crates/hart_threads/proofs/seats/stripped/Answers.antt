@@ -1,7 +1,7 @@
 -- What the search left open of `stripped`.
 use Rattle.std.proofs.Common.{refl}
 use Rattle.shared_frames.specs.Fits.{fits_still}
-use Rattle.hart_threads.proofs.Lending.{released_anchored, stripped_bare}
+use Rattle.hart_threads.proofs.Lending.{released_anchored, stripped_bare, stripped_tallies}
 use Rattle.hart_threads.proofs.seats.stripped.Goals as goal
 
 pub release-requires-clause-anchored : goal.release-requires-clause-anchored
@@ -12,3 +12,6 @@ returns-clause-bare g c = stripped_bare _ _ c.requires.seat c.release.ensures.vi
 
 pub returns-clause-store : goal.returns-clause-store
 returns-clause-store g c = (fits_still _ _ _ c.args.seat c.release.new.seat refl c.release.ensures.keeps c.requires.fits).0
+
+pub returns-clause-tallies : goal.returns-clause-tallies
+returns-clause-tallies g c = stripped_tallies _ _ c.requires.seat c.release.ensures.view

@@ -7,6 +7,9 @@ returns-clause-over g c =
     rw (← c.self.view_is) record {
       name = refl;
       bare = c.leave-seat.ensures.bare;
-      replays = (c.self.inside.parts.present.state, c.self.invariant.2);
+      state = c.self.inside.parts.present.state;
+      replays = c.self.invariant.2;
       last = cut_last _ _ c.args.outcome c.requires.cause refl;
+      full = rw (← c.self.view_is) at c.requires.full;
+      few = c.self.invariant.5;
     }

@@ -11,10 +11,9 @@ use Rattle.process_model.specs.declared.step.Refusal.{Refusal}
 use Rattle.hart_calls.proofs.There.{fork_there}
 use Rattle.hart_calls.specs.Wants.{nothing, refused}
 use Rattle.process_model.specs.Process.{Process}
-use Rattle.process_model.specs.Residence.{child_of, marked}
+use Rattle.process_model.specs.Residence.{child_of}
 use Rattle.address_space.specs.declared.space.Space.{Space}
 use Rattle.shared_frames.specs.declared.seat.SharedSeat.{SharedSeat}
-use Rattle.hart_calls.proofs.Ends.{lost}
 use Rattle.process_model.specs.declared.call.Call.TheVariants as call
 use Rattle.process_model.specs.declared.step.Reply.TheVariants as reply
 use Rattle.shared_frames.specs.Fits.{FitsIn, fits_parted, fits_still, may_step, view_of}
@@ -27,50 +26,16 @@ pub new-child-requires-clause-fits : goal.new-child-requires-clause-fits
 new-child-requires-clause-fits g c =
     let keeps = c.in-Ok.ensures.keeps in
     let still = fits_still _ _ _ c.self.inside.parts.space.value.seat c.fork_there.new.space.value.seat c.requires.store (λ others r. let k = keeps others r in (k.0, k.1.1)) c.self.invariant.0 in
-    subst (λ (s : Space SharedSeat). FitsIn g.B.Room.table s.seat) (sym c.in-Ok-new.ensures.ok)
+    subst (λ (s : Space SharedSeat). FitsIn g.B.Room.table s.seat) (sym c.fill-space.ensures)
     (fits_parted _ _ _ c.self.inside.parts.space.value.seat c.fork_there.new.space.value.seat c.in-Ok.space.seat c.requires.store (still.0 ∙ sym c.requires.store) keeps c.self.invariant.0).1
-
-pub undone-requires-clause-store : goal.undone-requires-clause-store
-undone-requires-clause-store g c =
-    let keeps = c.in-Ok.ensures.keeps in
-    (fits_still _ _ _ c.self.inside.parts.space.value.seat c.fork_there.new.space.value.seat c.requires.store (λ others r. let k = keeps others r in (k.0, k.1.1)) c.self.invariant.0).0
-
-pub undone-requires-clause-fits : goal.undone-requires-clause-fits
-undone-requires-clause-fits g c =
-    let keeps = c.in-Ok.ensures.keeps in
-    (fits_still _ _ _ c.self.inside.parts.space.value.seat c.fork_there.new.space.value.seat c.requires.store (λ others r. let k = keeps others r in (k.0, k.1.1)) c.self.invariant.0).1
-
-pub undone-requires-clause-ready : goal.undone-requires-clause-ready
-undone-requires-clause-ready g c =
-    let p = c.self.invariant.1 in
-    let f = c.in-Ok.ensures.forked p.0 c.self.inside.parts.present.state p.1 in
-    (f.0, marked c.self.inside.parts.present.state, f.2.parent)
-
-pub undone-requires-clause-child_fits : goal.undone-requires-clause-child_fits
-undone-requires-clause-child_fits g c =
-    let keeps = c.in-Ok.ensures.keeps in
-    let still = fits_still _ _ _ c.self.inside.parts.space.value.seat c.fork_there.new.space.value.seat c.requires.store (λ others r. let k = keeps others r in (k.0, k.1.1)) c.self.invariant.0 in
-    subst (λ (s : Space SharedSeat). FitsIn g.B.Room.table s.seat) (sym c.in-Err-new.ensures.value_returned)
-    (fits_parted _ _ _ c.self.inside.parts.space.value.seat c.fork_there.new.space.value.seat c.in-Ok.space.seat c.requires.store (still.0 ∙ sym c.requires.store) keeps c.self.invariant.0).1
-
-pub undone-requires-clause-child_ready : goal.undone-requires-clause-child_ready
-undone-requires-clause-child_ready g c =
-    let p = c.self.invariant.1 in
-    let f = c.in-Ok.ensures.forked p.0 c.self.inside.parts.present.state p.1 in
-    (f.1, child_of c.self.inside.parts.present.state, subst (λ (s : Space SharedSeat). IsSpace (body_of view_of s) f.1 (child_of c.self.inside.parts.present.state)) (sym c.in-Err-new.ensures.value_returned) f.2.child)
-
-pub returns-in-Err-new-clause-over : goal.returns-in-Err-new-clause-over
-returns-in-Err-new-clause-over g c =
-    let u = c.undone.ensures in
-    rw (← c.self.view_is) (lost _ _ u.name u.bare c.self.invariant.2 u.journal u.outcome)
 
 pub new-child-requires-clause-agrees : goal.new-child-requires-clause-agrees
 new-child-requires-clause-agrees g c =
     let p = c.self.invariant.1 in
     let f = c.in-Ok.ensures.forked p.0 c.self.inside.parts.present.state p.1 in (
       f.1,
-      subst (λ (q : Process). IsSpace (body_of view_of c.in-Ok-new.place.value) f.1 q) (sym c.of_child-opening.ensures)
-          (subst (λ (s : Space SharedSeat). IsSpace (body_of view_of s) f.1 (child_of c.self.inside.parts.present.state)) (sym c.in-Ok-new.ensures.ok) f.2.child),
+      subst (λ (q : Process). IsSpace (body_of view_of c.fill-space.result.value) f.1 q) (sym c.of_child-opening.ensures)
+          (subst (λ (s : Space SharedSeat). IsSpace (body_of view_of s) f.1 (child_of c.self.inside.parts.present.state)) (sym c.fill-space.ensures) f.2.child),
     )
 
 pub new-child-requires-clause-there : goal.new-child-requires-clause-there
@@ -96,8 +61,8 @@ rejoin-requires-in-Err-clause-agrees g c =
     let p = c.self.invariant.1 in
     (p.0, subst (λ (q : Process). IsSpace (body_of view_of c.fork_there.new.space.value) p.0 q) (sym c.kept-present.ensures) (c.in-Err.ensures.whole p.0 _ p.1))
 
-pub returns-in-Ok-new-clause-store : goal.returns-in-Ok-new-clause-store
-returns-in-Ok-new-clause-store g c =
+pub returns-in-Ok-clause-store : goal.returns-in-Ok-clause-store
+returns-in-Ok-clause-store g c =
     let keeps = c.in-Ok.ensures.keeps in
     (fits_still _ _ _ c.self.inside.parts.space.value.seat c.fork_there.new.space.value.seat c.requires.store (λ others r. let k = keeps others r in (k.0, k.1.1)) c.self.invariant.0).0
 
@@ -110,8 +75,8 @@ rejoin-requires-clause-leads g c =
     let number : c.children-number.result ≡ forks c.self.inside.parts.journal.items = c.children-number.ensures ∙ ap (λ (t : Track). forks t.journal) (sym c.self.view_is) in
     ([], fork_leads _ _ c.answer-entry.result c.args.list nothing (reply.Forked (forks c.self.inside.parts.journal.items)) (record { call = e.call; answer = e.reply ∙ ap (λ (n : ℕ). reply.Forked n) number; pages = e.pages; file = e.file }) tt refl _ c.after_fork-present.ensures)
 
-pub returns-in-Ok-new-clause-goes : goal.returns-in-Ok-new-clause-goes
-returns-in-Ok-new-clause-goes g c =
+pub returns-in-Ok-clause-goes : goal.returns-in-Ok-clause-goes
+returns-in-Ok-clause-goes g c =
     let e = c.answer-entry.ensures in
     let r = c.rejoin.ensures in
     let y = c.new-child.ensures in
@@ -119,7 +84,7 @@ returns-in-Ok-new-clause-goes g c =
     let next = subst (λ (t : Track). next_of t ≡ call.Fork c.args.list) (sym c.self.view_is) c.requires.next in
     let named = subst (λ (t : Track). c.args.name.items ≡ child_name t) (sym c.self.view_is) c.requires.named in
     rw (← c.self.view_is)
-    (fork_goes _ c.rejoin.result c.new-child.result c.answer-entry.result c.args.list (slot.Free c.args.name) (record { call = e.call; answer = e.reply ∙ ap (λ (n : ℕ). reply.Forked n) number; pages = e.pages; file = e.file })
+    (fork_goes _ c.rejoin.result c.new-child.result c.answer-entry.result c.args.list (slot.Free c.args.name c.args.place) (record { call = e.call; answer = e.reply ∙ ap (λ (n : ℕ). reply.Forked n) number; pages = e.pages; file = e.file })
     (record { name = r.name; lists = r.lists; list = r.list; opening = r.opening; journal = r.journal; next = e.call ∙ sym next }) (r.state ∙ c.after_fork-present.ensures)
     (record { name = y.name ∙ named; lists = y.lists; list = y.list; opening = y.opening ∙ c.of_child-opening.ensures; state = y.state ∙ c.of_child-opening.ensures; journal = y.journal }) (inl refl))
 
@@ -139,5 +104,5 @@ returns-in-Err-clause-goes g c =
     let lack = subst (λ (v : View). TellsLack (view_of c.self.inside.parts.space.value.seat) v [] c.self.inside.parts.present.state (call.Fork c.args.list) (refused 0 r)) (sym j.seat)
     (fork_lack (view_of c.self.inside.parts.space.value.seat) (view_of c.fork_there.new.space.value.seat) c.self.inside.parts.present.state c.args.list c.in-Err.error (λ by. c.in-Err.ensures.dry (ap Err by) p.0 _ p.1) (λ by. c.in-Err.ensures.full (ap Err by))) in
     rw (← c.self.view_is)
-    (fork_stays _ c.rejoin-in-Err.result c.answer-entry-in-Err.result c.args.list (slot.Free c.args.name) r (record { call = e.call; answer = e.reply ∙ ap (λ (z : Refusal). reply.Refused z) c.into.ensures; pages = e.pages; file = e.file }) (fork_may c.in-Err.error)
+    (fork_stays _ c.rejoin-in-Err.result c.answer-entry-in-Err.result c.args.list (slot.Free c.args.name c.args.place) r (record { call = e.call; answer = e.reply ∙ ap (λ (z : Refusal). reply.Refused z) c.into.ensures; pages = e.pages; file = e.file }) (fork_may c.in-Err.error)
     (record { name = j.name; lists = j.lists; list = j.list; opening = j.opening; journal = j.journal; next = e.call ∙ sym next }) (j.state ∙ c.kept-present.ensures) (fork_by_slot c.in-Err.error) lack)

@@ -1,14 +1,16 @@
-use Rattle.std.proofs.Common.{◌≡◌, ◌-◌, ◌∙◌, ap, refl, Some, sym, subst}
+use Rattle.std.proofs.Common.{◌≡◌, ◌<◌, ◌-◌, ◌∙◌, ap, length, refl, Some, sym, subst}
 use Rattle.std.specs.Prelude.{vec_capacity, vec_len}
 use Rattle.address_space.specs.Agreement.{body_of, IsSpace}
 use Rattle.file_shelf.specs.Shelved.{Shelved}
+use Rattle.hart_calls.specs.Asks.{IsAccessCall}
 use Rattle.hart_calls.specs.Closed.{cause_of}
 use Rattle.hart_calls.specs.Comes.{address_of, at_stop, by_reply, want_told}
-use Rattle.hart_calls.specs.Tells.{told}
+use Rattle.hart_calls.specs.Tells.{reads_of, told}
 use Rattle.hart_calls.specs.Track.{Adds, next_of, Track}
-use Rattle.hart_calls.specs.Turns.{FiledOver}
-use Rattle.hart_calls.specs.Wants.{refused, Want}
-use Rattle.hart_calls.proofs.Ends.{cut_files, cut_over, is_cause}
+use Rattle.hart_calls.specs.Turns.{FiledOver, most_entries}
+use Rattle.hart_calls.specs.Wants.{nothing, refused, Want}
+use Rattle.hart_calls.proofs.Ends.{could_still, cut_files, cut_over, is_cause}
+use Rattle.hart_calls.proofs.Full.{full_for, read_maps}
 use Rattle.hart_calls.proofs.Filing.{ended_files}
 use Rattle.hart_calls.proofs.Staying.{has_grown, pages_are}
 use Rattle.hart_calls.proofs.Turning.{filed, filed_over, goes, IsEntryOf, leads, over}
@@ -16,6 +18,7 @@ use Rattle.process_model.specs.Process.{Process}
 use Rattle.process_model.specs.declared.step.Reply.{Reply}
 use Rattle.process_model.specs.declared.step.Reply.TheVariants as reply
 use Rattle.shared_frames.specs.Fits.{fits_still, may_step, view_of}
+use Rattle.process_model.specs.declared.call.Call.{Call}
 use Rattle.hart_calls.proofs.tracked.Tracked.stay.Goals as goal
 
 pub make_there-came-requires-clause-fits : goal.make_there-came-requires-clause-fits
@@ -39,13 +42,20 @@ close-requires-clause-store g c = (fits_still _ _ _ c.self.inside.parts.space.va
 pub close-requires-clause-fits : goal.close-requires-clause-fits
 close-requires-clause-fits g c = (fits_still _ _ _ c.self.inside.parts.space.value.seat c.make_there-came.new.space.value.seat c.requires.store c.make_there-came.ensures.keeps c.self.invariant.0).1
 
+pub cut-requires-clause-full : goal.cut-requires-clause-full
+cut-requires-clause-full g c =
+    let p = c.self.invariant.1 in
+    let q = c.self.inside.parts.present.state in
+    let cut = c.in-Cut.ensures.came p.0 q p.1 in
+    rw c.cause_of.ensures (full_for q _ c.in-Cut.refusal (read_maps q p.1.sound.order (c.args.shelf.now).files c.args.call cut.0 cut.1.of_file))
+
 pub cut-requires-clause-store : goal.cut-requires-clause-store
 cut-requires-clause-store g c = (fits_still _ _ _ c.self.inside.parts.space.value.seat c.make_there-came.new.space.value.seat c.requires.store c.make_there-came.ensures.keeps c.self.invariant.0).0
 
 pub pages_read-pages-requires-clause-mark : goal.pages_read-pages-requires-clause-mark
 pages_read-pages-requires-clause-mark g c =
     let p = c.self.invariant.1 in
-    let grew = has_grown _ _ _ _ _ _ c.args.call (c.args.shelf.now).history (c.make_there-came.new.files).history (λ ms became. became.history) c.make_there-came.result (c.make_there-came.ensures.came p.0 c.self.inside.parts.present.state p.1) in
+    let grew = has_grown _ _ _ _ _ _ _ c.args.call (c.args.shelf.now).history (c.make_there-came.new.files).history (λ ms became. became.history) c.make_there-came.result (c.make_there-came.ensures.came p.0 c.self.inside.parts.present.state p.1) in
     let longer = grew.longer in
     rw c.uses-mark.ensures longer
 
@@ -370,7 +380,7 @@ returns-in-Ended-clause-turned g c =
     } in
     let next = subst (λ (z : Track). k ≡ next_of z) (sym c.self.view_is) c.requires.next in
     let z = c.close.ensures in
-    rw (← c.self.view_is) (over t k c.requires.stays a b w r e is x y refl comes c.in-Ended.rule refl refl next c.self.invariant.2 c.close.result z.name z.bare z.tallies c.close.new.shelf z.closes)
+    rw (← c.self.view_is) (over t k c.requires.stays a b w r e is x y refl comes c.in-Ended.rule refl refl next c.self.invariant.2 (subst (λ (z : Track). length z.journal < most_entries) (sym c.self.view_is) c.requires.few) c.close.result z.name z.bare z.tallies c.close.new.shelf z.closes)
 
 pub returns-in-Ended-clause-files : goal.returns-in-Ended-clause-files
 returns-in-Ended-clause-files g c =
@@ -404,12 +414,12 @@ returns-in-Ended-clause-files g c =
     } in
     let next = subst (λ (z : Track). k ≡ next_of z) (sym c.self.view_is) c.requires.next in
     let z = c.close.ensures in
-    subst (λ (z : Track). FiledOver z c.close.result c.close.result.outcome a c.close.new.shelf) c.self.view_is (filed_over t k c.requires.stays a b w r e is x y refl comes c.in-Ended.rule refl refl next c.self.invariant.2 c.close.result z.name z.bare z.tallies c.close.new.shelf z.closes)
+    subst (λ (z : Track). FiledOver z c.close.result c.close.result.outcome a c.close.new.shelf) c.self.view_is (filed_over t k c.requires.stays a b w r e is x y refl comes c.in-Ended.rule refl refl next c.self.invariant.2 (subst (λ (z : Track). length z.journal < most_entries) (sym c.self.view_is) c.requires.few) c.close.result z.name z.bare z.tallies c.close.new.shelf z.closes)
 
 pub pages_read-pages-requires-clause-few : goal.pages_read-pages-requires-clause-few
 pages_read-pages-requires-clause-few g c =
     let p = c.self.invariant.1 in
-    let grew = has_grown _ _ _ _ _ _ c.args.call (c.args.shelf.now).history (c.make_there-came.new.files).history (λ ms became. became.history) c.make_there-came.result (c.make_there-came.ensures.came p.0 c.self.inside.parts.present.state p.1) in
+    let grew = has_grown _ _ _ _ _ _ _ c.args.call (c.args.shelf.now).history (c.make_there-came.new.files).history (λ ms became. became.history) c.make_there-came.result (c.make_there-came.ensures.came p.0 c.self.inside.parts.present.state p.1) in
     let few = grew.few in
     rw c.uses-mark.ensures few
 
@@ -418,7 +428,7 @@ invariant_of-tracked g c =
     let p = c.self.invariant.1 in
     let cut = c.in-Cut.ensures.came p.0 c.self.inside.parts.present.state p.1 in (
       (fits_still _ _ _ c.self.inside.parts.space.value.seat c.make_there-came.new.space.value.seat c.requires.store c.make_there-came.ensures.keeps c.self.invariant.0).1,
-      cut.space,
+      cut.1.space,
       c.self.invariant.2,
       c.self.invariant.3,
       c.self.invariant.4,
@@ -434,4 +444,7 @@ pub returns-in-Cut-clause-files : goal.returns-in-Cut-clause-files
 returns-in-Cut-clause-files g c =
     let p = c.self.invariant.1 in
     let cut = c.in-Cut.ensures.came p.0 c.self.inside.parts.present.state p.1 in
-    cut_files _ c.cut.result c.args.shelf.now c.make_there-came.new.files c.in-Cut.refusal cut.error cut.could cut.refusal cut.moves (c.cut.ensures.outcome ∙ c.cause_of.ensures)
+    let files = (c.args.shelf.now).files in
+    let some = subst (λ (k : Call). 0 < length (reads_of files nothing c.args.self.state k)) c.requires.next (rw (← c.self.view_is) cut.1.of_file) in
+    let could = cut.1.could in
+    cut_files c.args.self c.cut.result c.args.shelf.now c.make_there-came.new.files c.in-Cut.refusal could.1 (could_still c.args.shelf.now could.0 1 could.1 could.2 could.3) some could.4 cut.1.moves (subst IsAccessCall c.requires.next cut.0) (c.cut.ensures.outcome ∙ c.cause_of.ensures)

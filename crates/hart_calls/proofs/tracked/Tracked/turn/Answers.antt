@@ -13,15 +13,12 @@ pub returns-in-Exit-clause-files : goal.returns-in-Exit-clause-files
 returns-in-Exit-clause-files g c = ended_same _ _ c.with_room.ensures.same c.exit.result c.args.shelf.now c.exit.new.shelf c.exit.ensures.files
 
 pub returns-in-Fork-clause-turned : goal.returns-in-Fork-clause-turned
-returns-in-Fork-clause-turned g c = over_same _ _ c.with_room.ensures.same _ c.in-Err.ensures.over
+returns-in-Fork-clause-turned g c = goes_same _ _ c.with_room.ensures.same c.fork-tracked.result.0 c.fork-tracked.result.1 c.args.slot c.fork-tracked.ensures.goes
 
-pub returns-in-Ok-fork-clause-turned : goal.returns-in-Ok-fork-clause-turned
-returns-in-Ok-fork-clause-turned g c = goes_same _ _ c.with_room.ensures.same c.in-Ok-fork.tracked c.in-Ok-fork.child c.args.slot c.in-Ok-fork.ensures.goes
-
-pub returns-in-Ok-fork-clause-files : goal.returns-in-Ok-fork-clause-files
-returns-in-Ok-fork-clause-files g c =
-    on_same _ _ c.with_room.ensures.same c.in-Ok-fork.tracked c.args.shelf.now c.args.shelf.now
-    (fork_filed _ c.in-Ok-fork.tracked c.in-Ok-fork.child c.args.slot c.in-Fork.list (sym c.next.ensures ∙ c.in-Fork.is) c.in-Ok-fork.ensures.goes c.args.shelf.now)
+pub returns-in-Fork-clause-files : goal.returns-in-Fork-clause-files
+returns-in-Fork-clause-files g c =
+    on_same _ _ c.with_room.ensures.same c.fork-tracked.result.0 c.args.shelf.now c.args.shelf.now
+    (fork_filed _ c.fork-tracked.result.0 c.fork-tracked.result.1 c.args.slot c.in-Fork.list (sym c.next.ensures ∙ c.in-Fork.is) c.fork-tracked.ensures.goes c.args.shelf.now)
 
 pub returns : goal.returns
 returns g c = record {

@@ -1,7 +1,9 @@
 -- What the search left open of `admit`.
-use Rattle.std.proofs.Common.{◌≡◌, ◌+◌, ◌∙◌, ap, arith, length}
+use Rattle.std.proofs.Common.{◌≡◌, ◌+◌, ◌∙◌, [], ap, arith, length}
+use Rattle.vouchers.specs.Entries.{entry}
 use Rattle.vouchers.specs.Fits.{given_of}
 use Rattle.hart_threads.proofs.Rosters.{rostered_admit}
+use Rattle.hart_threads.proofs.Slotting.{taken_more}
 use Rattle.hart_threads.proofs.roster.Roster.admit.Goals as goal
 
 pub invariant_of-self : goal.invariant_of-self
@@ -9,7 +11,7 @@ invariant_of-self g c =
     let i = c.self.invariant in
     let l = c.reserve.ensures.len in
     let m = c.reserve.ensures.capacity in
-    rw c.reserve.ensures.items (i.0, i.1, i.2, i.3, omega (arith, i.4, l, m), i.5)
+    rw c.reserve.ensures.items (i.0, i.1, i.2, omega (arith, i.3, l, m), i.4, i.5)
 
 pub invariant_of-self-2 : goal.invariant_of-self-2
 invariant_of-self-2 g c =
@@ -20,8 +22,8 @@ invariant_of-self-2 g c =
     rw c.reserve.ensures.items (
       c.issue.ensures.keeper ∙ c.requires.desk,
       omega (arith, i.1, n),
-      (λ here. rw c.issue.ensures.given (rostered_admit _ (given_of c.self.inside.keeper) c.self.inside.finished.items (i.2 here))),
-      i.3,
-      omega (arith, i.4, l, m),
-      i.5,
+      (λ here. let was = i.2 here in (was.0, was.1, rw c.issue.ensures.given (rostered_admit g.B.Plan.plan _ (given_of c.self.inside.keeper) was.0 was.2), was.3)),
+      omega (arith, i.3, l, m),
+      i.4,
+      rw c.issue.ensures.given (taken_more g.F.Fates.slots g.F.Fates.taken (entry [] 0 []) (given_of c.self.inside.keeper) (λ j is. absurd (cc)) i.5),
     )

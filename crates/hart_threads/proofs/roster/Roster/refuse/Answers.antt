@@ -1,26 +1,35 @@
 -- What the search left open of `refuse`.
-use Rattle.std.proofs.Common.{◌≡◌, ◌-◌, ◌<◌, ◌∙◌, sym, ap, ℕ, [], ◌∷◌, arith}
+use Rattle.std.proofs.Common.{◌≡◌, ◌-◌, ◌<◌, ◌∙◌, sym, ap, ℕ, [], ◌∷◌, ◌++◌, Some, length, arith}
 use Rattle.std.proofs.lemmas.List.Elements.{All-push}
-use Rattle.hart_calls.specs.Replay.{forks}
-use Rattle.hart_threads.specs.Rostered.{IsEnded}
-use Rattle.hart_threads.proofs.Rosters.{rostered_refuse, not_started_ended}
+use Rattle.std.specs.Prelude.{slice_get}
+use Rattle.vouchers.specs.Entries.{entry}
+use Rattle.hart_threads.proofs.Rosters.{each_push, rostered_refuse}
+use Rattle.hart_threads.specs.Slots.{IsSettled}
 use Rattle.hart_threads.proofs.roster.Roster.refuse.Goals as goal
 
 pub invariant_of-self : goal.invariant_of-self
 invariant_of-self g c =
     let i = c.self.invariant in
     let v_is = c.self.view_is in
+    let starts = g.B.Plan.plan in
     let l : 0 < c.self.inside.left = let r = c.requires.left in omega (arith, r, v_is) in
-    let named : c.args.unstarted.name.items ≡ (g.B.Room.starts - c.self.inside.left) ∷ [] = c.requires.name ∙ ap (λ (k : ℕ). (g.B.Room.starts - k) ∷ []) (sym v_is) in
     let f = c.args.unstarted in
-    let none : forks f.journal.items ≡ 0 = ap forks c.requires.refused.journal in
+    let s = c.requires.refused.0 in
+    let named : f.name.items ≡ (length starts - c.self.inside.left) ∷ [] = c.requires.name ∙ ap (λ (k : ℕ). (length starts - k) ∷ []) (sym v_is) in
+    let at : slice_get starts (length starts - c.self.inside.left) ≡ Some s = ap (λ (k : ℕ). slice_get starts (length starts - k)) v_is ∙ c.requires.refused.1 in
     let v = c.push_reserved.ensures.len in
     let w = c.push_reserved.ensures.capacity in
     rw c.push_reserved.ensures.items (
       i.0,
       i.1,
-      (λ here. rostered_refuse _ _ f _ _ (omega (arith, l, i.5)) named none (i.2 here)),
-      All-push IsEnded _ f i.3 (not_started_ended f _ named c.requires.refused),
-      omega (arith, i.4, l, v, w),
-      omega (arith, i.5),
+      (λ here.
+          let was = i.2 here in (
+            was.0 ++ entry f.name.items s.list [] ∷ [],
+            each_push g.B.Plan.lists starts was.0 _ _ f was.1 c.requires.refused.2,
+            rostered_refuse starts _ _ s (omega (arith, l, i.4)) at f.name.items named _ was.0 was.2,
+            All-push (IsSettled g.F.Fates.slots g.F.Fates.taken g.F.Fates.full) _ f was.3 c.requires.settled,
+          )),
+      omega (arith, i.3, l, v, w),
+      omega (arith, i.4),
+      i.5,
     )

@@ -1,20 +1,30 @@
 -- What the search left open of `start`.
-use Rattle.std.proofs.Common.{◌≡◌, ◌+◌, ◌-◌, ◌<◌, ◌∙◌, sym, ap, ℕ, [], ◌∷◌, arith, length}
+use Rattle.std.proofs.Common.{◌≡◌, ◌+◌, ◌-◌, ◌<◌, ◌∙◌, sym, ap, subst, ℕ, [], ◌∷◌, Some, arith, length}
+use Rattle.std.specs.Prelude.{slice_get}
 use Rattle.vouchers.specs.Fits.{given_of}
 use Rattle.hart_threads.proofs.Rosters.{rostered_start}
+use Rattle.hart_threads.proofs.Names.{first_of}
+use Rattle.hart_threads.proofs.Slotting.{taken_more}
+use Rattle.hart_threads.specs.Slots.{IsTaken}
+use Rattle.vouchers.specs.Entries.{entry}
 use Rattle.hart_threads.proofs.roster.Roster.start.Goals as goal
 
 pub invariant_of-self : goal.invariant_of-self
 invariant_of-self g c =
     let i = c.self.invariant in
     let v_is = c.self.view_is in
+    let starts = g.B.Plan.plan in
     let l : 0 < c.self.inside.left = let r = c.requires.left in omega (arith, r, v_is) in
-    let named : c.args.name.now ≡ (g.B.Room.starts - c.self.inside.left) ∷ [] = c.requires.name ∙ ap (λ (k : ℕ). (g.B.Room.starts - k) ∷ []) (sym v_is) in
+    let s = c.requires.list.0 in
+    let named : c.args.name.now ≡ (length starts - c.self.inside.left) ∷ [] = c.requires.name ∙ ap (λ (k : ℕ). (length starts - k) ∷ []) (sym v_is) in
+    let at : slice_get starts (length starts - c.self.inside.left) ≡ Some s = ap (λ (k : ℕ). slice_get starts (length starts - k)) v_is ∙ c.requires.list.1 in
     let n : length (given_of c.issue.new.keeper) ≡ length (given_of c.self.inside.keeper) + 1 = ap length c.issue.ensures.given ∙ omega arith in (
       c.issue.ensures.keeper ∙ c.requires.desk,
       omega (arith, i.1, n),
-      (λ here. rw c.issue.ensures.given (rostered_start _ _ _ (given_of c.self.inside.keeper) c.self.inside.finished.items (omega (arith, l, i.5)) named (i.2 here))),
-      i.3,
-      omega (arith, i.4, l),
-      omega (arith, i.5),
+      (λ here.
+          let was = i.2 here in
+          (was.0, was.1, rw c.issue.ensures.given (rostered_start starts _ _ s (omega (arith, l, i.4)) at c.args.name.now c.args.list (given_of c.self.inside.keeper) was.0 named c.requires.list.2 was.2), was.3)),
+      omega (arith, i.3, l),
+      omega (arith, i.4),
+      rw c.issue.ensures.given (taken_more g.F.Fates.slots g.F.Fates.taken (entry c.args.name.now c.args.list []) (given_of c.self.inside.keeper) (λ j is. subst (λ (k : ℕ). IsTaken g.F.Fates.slots g.F.Fates.taken k) (ap first_of (sym c.requires.name ∙ is)) c.requires.taken) i.5),
     )

@@ -4,18 +4,20 @@ use Rattle.vouchers.specs.Entries.{entry, without}
 use Rattle.vouchers.specs.Lists.{length-without}
 use Rattle.vouchers.specs.Fits.{given_of}
 use Rattle.hart_threads.proofs.Rosters.{rostered_withdraw}
+use Rattle.hart_threads.proofs.Slotting.{taken_less}
 use Rattle.hart_threads.proofs.roster.Roster.withdraw.Goals as goal
 
 pub invariant_of-self : goal.invariant_of-self
 invariant_of-self g c =
     let i = c.self.invariant in
-    let e = c.redeem.ensures.given (entry [] 0) c.requires.slot in
-    let n : length (given_of c.redeem.new.keeper) ≡ length (without (entry [] 0) (given_of c.self.inside.keeper)) = ap length e in
-    let l = length-without (entry [] 0) (given_of c.self.inside.keeper) (c.redeem.ensures.listed (entry [] 0) c.requires.slot) in (
+    let e = c.redeem.ensures.given (entry [] 0 []) c.requires.slot in
+    let n : length (given_of c.redeem.new.keeper) ≡ length (without (entry [] 0 []) (given_of c.self.inside.keeper)) = ap length e in
+    let had = c.redeem.ensures.listed (entry [] 0 []) c.requires.slot in
+    let l = length-without (entry [] 0 []) (given_of c.self.inside.keeper) had in (
       c.redeem.ensures.keeper ∙ c.requires.desk,
       omega (arith, i.1, n, l),
-      (λ here. rw e (rostered_withdraw _ (given_of c.self.inside.keeper) _ (i.2 here))),
-      i.3,
-      omega (arith, i.4, n, l),
-      i.5,
+      (λ here. let was = i.2 here in (was.0, was.1, rw e (rostered_withdraw g.B.Plan.plan _ (given_of c.self.inside.keeper) was.0 had was.2), was.3)),
+      omega (arith, i.3, n, l),
+      i.4,
+      rw e (taken_less g.F.Fates.slots g.F.Fates.taken (entry [] 0 []) (given_of c.self.inside.keeper) i.5),
     )

@@ -1,0 +1,77 @@
+-- What begins with a start, and what does not.
+use Rattle.std.proofs.Common.{◌≡◌, ℕ, ◌+◌, ◌-◌, ◌<◌, List, [], ◌∷◌, Option, None, Some, length, get_or, refl, sym, ap, ◌∙◌, subst, arith}
+use Rattle.std.specs.Prelude.{slice_get}
+use Rattle.std.proofs.lemmas.Grind.{merely}
+use Rattle.std.proofs.lemmas.Option.{slice_get-get_or}
+use Rattle.vouchers.specs.Entries.{Entry as Life, entry}
+use Rattle.hart_calls.specs.Replay.{list_at, Replays}
+use Rattle.hart_threads.proofs.Names.{first_of}
+use Rattle.hart_threads.specs.Heirs.{heirs}
+use Rattle.hart_calls.specs.Track.{Track}
+use Rattle.hart_calls.specs.declared.entry.Entry.{Entry}
+use Rattle.hart_calls.specs.declared.finished.Finished.{Finished}
+use Rattle.process_model.specs.Process.{Process}
+use Rattle.process_model.specs.declared.call.Call.{Call}
+use Rattle.process_model.specs.declared.call.Start.{Start}
+use Rattle.process_model.specs.declared.call.Outcome.{Outcome}
+use Rattle.process_model.specs.declared.call.Outcome.TheVariants as outcome
+use Rattle.shared_frames.specs.Fits.{view_of}
+use Rattle.frame_store.specs.View.{View}
+use Rattle.hart_threads.specs.Makes.{IsUnbegun, IsWhy}
+use Rattle.hart_threads.specs.Starts.{IsProcessOf}
+use Rattle.hart_threads.specs.Rostered.{AsEnded, GoOn, IsEnded, IsOfStart, IsOut, Opens}
+
+abbrev or_start : Start → Option Start → Start
+or_start d None = d
+or_start d (Some s) = s
+
+module _ (lists : List (List Call)) (starts : List Start) (i : ℕ) (s : Start) (at : slice_get starts i ≡ Some s) (name : List ℕ) (named : name ≡ i ∷ []) where
+  -- a name is of one start alone
+  only : (t : Start) → IsOfStart starts name t → t ≡ s
+  only t of =
+      let same : of.0 ≡ i = ap first_of (sym of.1 ∙ named) in
+      let both : Some t ≡ Some s = sym of.2 ∙ (ap (slice_get starts) same ∙ at) in
+      ap (or_start s) both
+
+  opens : (p : Process) → IsProcessOf s.image p → Opens starts name p
+  opens p is t of = merely (subst (λ (u : Start). IsProcessOf u.image p) (sym (only t of)) is)
+
+  some : name ≡ [] → ⊥
+  some none = absurd (let no : i ∷ [] ≡ [] = sym named ∙ none in cc)
+
+  -- a process begins
+  pub begun_out : (held : List Life) (k : ℕ) (t : Track) (p : Process) → k ≡ s.list → IsProcessOf s.image p → held ≡ entry name k [] ∷ [] → t.name ≡ name → t.lists ≡ lists → t.list ≡ k → t.opening ≡ p → t.journal ≡ [] → IsOut lists starts held t
+  begun_out held k t p list is holds names its_lists its_list its_opening none = record {
+    holds = holds ∙ (ap (λ (m : List ℕ). entry m k [] ∷ []) (sym names) ∙ (ap (λ (n : ℕ). entry t.name n [] ∷ []) (sym its_list) ∙ ap (λ (hs : List ℕ). entry t.name t.list hs ∷ []) (sym (ap heirs none))));
+    lists = its_lists;
+    named = λ empty. some (sym names ∙ empty);
+    opens = subst (λ (m : List ℕ). Opens starts m t.opening) (sym names) (subst (λ (q : Process). Opens starts name q) (sym its_opening) (opens p is));
+    goes = subst GoOn (sym none) refl;
+  }
+
+  -- it has no process
+  why_ended : (v : View) (o : Outcome) (journal : List Entry) → journal ≡ [] → IsWhy s v o → AsEnded starts (list_at lists s.list) v o name journal
+  why_ended v (outcome.Refused r) journal none why = (none, (s, (i, named, at), why))
+  why_ended v outcome.Memory journal none why = ((why.0, why.0, opens why.0 why.1, subst (λ (es : List Entry). Replays why.0 0 0 (list_at lists s.list) es why.0) (sym none) refl), subst GoOn (sym none) refl)
+  why_ended v (outcome.Exited status) journal none why = absurd why
+  why_ended v (outcome.Ended rule) journal none why = absurd why
+  why_ended v outcome.JournalFull journal none why = absurd why
+
+  pub unbegun_ended : (slots taken : ℕ) (f : Finished) → IsUnbegun slots taken s name f → IsEnded lists starts (entry f.name.items s.list []) f
+  unbegun_ended slots taken f none = record {
+    name = refl;
+    heirs = ap heirs none.journal;
+    bare = none.bare;
+    ended = subst (λ (m : List ℕ). AsEnded starts (list_at lists s.list) (view_of f.seat) f.outcome m f.journal.items) (sym none.named) (why_ended (view_of f.seat) f.outcome f.journal.items none.journal none.why);
+    few = let long = ap (λ (es : List Entry). length es) none.journal in omega (arith, long);
+  }
+
+-- the next start, where so many are left
+module _ (starts plan : List Start) (same : starts ≡ plan) (r n : ℕ) (sum : r + n ≡ length starts) (lt : n < length starts) where
+  pub next_number : n ≡ length plan - r
+  next_number = let count : length starts ≡ length plan = ap length same in omega (arith, sum, lt, count)
+
+  pub next_start : (d : Start) → slice_get plan (length plan - r) ≡ Some (get_or starts n d)
+  next_start d =
+      let here : slice_get starts n ≡ Some (get_or starts n d) = slice_get-get_or starts n d lt in
+      subst (λ (k : ℕ). slice_get plan k ≡ Some (get_or starts n d)) next_number (subst (λ (ss : List Start). slice_get ss n ≡ Some (get_or starts n d)) same here)

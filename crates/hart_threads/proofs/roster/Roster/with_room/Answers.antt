@@ -1,0 +1,20 @@
+-- What the search left open of `with_room`.
+use Rattle.std.proofs.Common.{◌≡◌, ◌-◌, [], ap, length, arith}
+use Rattle.std.proofs.lemmas.List.Elements.{All-nil}
+use Rattle.hart_threads.proofs.Rosters.{rostered_none}
+use Rattle.hart_threads.specs.Slots.{IsSettled}
+use Rattle.hart_threads.proofs.roster.Roster.with_room.Goals as goal
+
+pub invariant_of-result : goal.invariant_of-result
+invariant_of-result g c =
+    let starts = g.B.Plan.plan in
+    let room = c.requires.room in
+    let count = c.requires.starts in
+    let none : length starts - c.args.starts ≡ 0 = omega (arith, count) in (
+      c.requires.at,
+      ap length c.requires.none,
+      (λ here. ([], rw c.requires.none_ended tt, rostered_none starts _ _ none c.requires.none, rw c.requires.none_ended (All-nil (IsSettled g.F.Fates.slots g.F.Fates.taken g.F.Fates.full)))),
+      omega (arith, room),
+      omega (arith, count),
+      rw c.requires.none (λ l i h is. absurd h),
+    )

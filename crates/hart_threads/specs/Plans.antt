@@ -1,0 +1,13 @@
+-- A run of nothing.
+use Rattle.std.specs.Prelude.{Bool, List, []}
+use Rattle.process_model.specs.declared.call.Call.{Call}
+use Rattle.process_model.specs.declared.call.Start.{Start}
+
+abbrev pub no_lists : List (List Call)
+no_lists = []
+
+abbrev pub no_plan : List Start
+no_plan = []
+
+abbrev pub none_taken : List Bool
+none_taken = []
