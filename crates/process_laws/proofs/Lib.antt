@@ -18,7 +18,16 @@ pub mod Refused
 pub mod Untold
 pub mod Possible
 pub mod Going
+pub mod Faults
+pub mod CopyAlone
+pub mod CopyFronts
+pub mod Kept
+pub mod Grounds
+pub mod Givens
+pub mod FilesWritten
+pub mod OwnSteps
 pub mod Told
+pub mod WrongModels
 pub mod ScriptLines
 pub mod Execs
 pub mod LookUps
@@ -30,7 +39,8 @@ pub mod PageBytes
 pub mod HeldBytes
 pub mod CopyBytes
 pub mod OnHarts
-pub mod KnownAfter
+pub mod InitialBytes
+pub mod ImageBytes
 pub mod LatestAfter
 pub mod KnownSteps
 pub mod KnownRuns

@@ -1,18 +1,24 @@
 -- The words of the headline.
-use Rattle.std.specs.Prelude.{◌≡◌, ◌≢◌, ℕ, Bool, true, false, ◌%◌, Option, None, Some, List, length, option_map, slice_get}
+use Rattle.std.specs.Prelude.{◌≡◌, ◌≢◌, ◌⊎◌, ℕ, Bool, true, false, ◌+◌, ◌<◌, ◌%◌, ◌==◌, Option, None, Some, List, length, option_map, slice_get, if◌then◌else◌}
 use Rattle.process_laws.specs.Denied.{IsFirst}
 use Rattle.process_laws.specs.Moments.{Moment, slot_on}
+use Rattle.process_laws.specs.FilePlaces.{file_bytes}
+use Rattle.process_laws.specs.Latest.{byte_at, byte_had}
+use Rattle.process_laws.specs.Pages.{Ground, ground as ground_of, is_at_hand, is_stored}
+use Rattle.process_model.specs.Files.{File}
 use Rattle.process_model.specs.Process.{Process, regions}
-use Rattle.process_model.specs.Regions.{Region, region_at}
-use Rattle.process_model.specs.World.{World, process_in}
+use Rattle.process_model.specs.Regions.{file, Region, region_at, shared_mapping}
+use Rattle.process_model.specs.World.{World, is_unserved_access, process_in}
 use Rattle.process_model.specs.declared.phase.Phase.{Phase}
+use Rattle.process_model.specs.declared.phase.Phase.TheVariants.{Kernel}
 use Rattle.process_model.specs.declared.step.Refusal.{Refusal}
 use Rattle.process_model.specs.declared.step.Refusal.TheVariants as refusal
 use Rattle.process_model.specs.declared.step.Reply.{Reply}
-use Rattle.process_model.specs.declared.step.Reply.TheVariants.{CopiedIn, CopiedOut, Ended, Ready, Refused, ShortIn, ShortOut, Stored, Value}
+use Rattle.process_model.specs.declared.step.Reply.TheVariants.{CopiedIn, CopiedOut, Done, Ended, Exited, Fault, Forked, Refused, ShortIn, ShortOut, Started, Stored, Value}
 use Rattle.process_model.specs.declared.step.Step.{Step}
-use Rattle.process_model.specs.declared.step.Step.TheVariants.{CopyIn, CopyOut, Exec, Exit, Fetch, Fork, Load, Mmap, Munmap, Sbrk, Serve, Start, Store, Trap}
+use Rattle.process_model.specs.declared.step.Step.TheVariants.{CopyIn, CopyOut, Exec, Exit, Fetch, Fork, Load, Mmap, Munmap, Next, Sbrk, Serve, Start, Store, Switch, Trap}
 use Rattle.sv39_entry.specs.Address.{page_of}
+use Rattle.sv39_entry.specs.Causes.{misaligned_cause, page_fault_cause}
 use Rattle.sv39_entry.specs.declared.access.Access.{Access}
 use Rattle.sv39_entry.specs.declared.access.Access.TheVariants as access
 use Rattle.sv39_entry.specs.declared.rule.Rule.{Rule}
@@ -30,8 +36,11 @@ pub record IsOn (w : World) (h s : ℕ) (p : Process) : Type 0 where
   pub lives : process_in w s ≡ Some p
 
 -- the hart is in that phase
+abbrev pub phase_on : World → ℕ → Option Phase
+phase_on w h = option_map (λ hart. hart.phase) (slice_get w.harts h)
+
 abbrev pub IsIn : World → ℕ → Phase → Type 0
-IsIn w h phase = option_map (λ hart. hart.phase) (slice_get w.harts h) ≡ Some phase
+IsIn w h phase = phase_on w h ≡ Some phase
 
 -- the hart whose process makes the step, or for whose process the kernel makes it
 abbrev pub maker : Step → Option ℕ
@@ -49,6 +58,45 @@ maker (CopyIn h address n) = Some h
 maker (CopyOut h address bytes) = Some h
 maker (Exit h status) = Some h
 maker _ = None
+
+-- the hart that the step brings into another phase, or gives another process
+abbrev pub moved_hart : Step → Reply → Option ℕ
+moved_hart (Switch h slot) r = Some h
+moved_hart (Next h) r = Some h
+moved_hart (Trap h) r = Some h
+moved_hart x (Fault cause) = maker x
+moved_hart x (Ended rule) = maker x
+moved_hart x (Exited status) = maker x
+moved_hart x r = None
+
+-- the process is gone after its step
+abbrev pub is_end : Reply → Bool
+is_end (Ended rule) = true
+is_end (Exited status) = true
+is_end _ = false
+
+-- it waits for a service after its step
+abbrev pub is_fault : Reply → Bool
+is_fault (Fault cause) = true
+is_fault _ = false
+
+-- the step may write back: by it pages of shared mappings go
+abbrev pub writes_back : Step → Reply → Bool
+writes_back (Munmap h address len) Done = true
+writes_back (Exec h image) Done = true
+writes_back x r = is_end r
+
+-- a process begins in the slot
+abbrev pub is_born : Reply → ℕ → Bool
+is_born (Started t) s = t == s
+is_born (Forked t) s = t == s
+is_born r s = false
+
+-- the kernel may be called for the process: it does not wait for a service
+pub record MayCall (w : World) (h s : ℕ) (p : Process) : Type 0 where
+  pub on : IsOn w h s p
+  pub quiet : is_unserved_access p.pending ≡ false
+  pub in_kernel : IsIn w h Kernel
 
 -- the step is a call of the kernel for the process on hart h
 pub data Calls (h : ℕ) : Step → Type 0 where
@@ -87,6 +135,10 @@ pub record IsGranted (p : Process) (a : Asked) : Type 0 where
   pub right : has_right region a.access ≡ true
   pub aligned : a.address % a.width ≡ 0
 
+-- its page is at hand
+abbrev pub IsAtHand : Process → Asked → Type 0
+IsAtHand p a = is_at_hand p a.access (page_of a.address) ≡ true
+
 -- the rule is the first that forbids the access
 abbrev pub Forbids : Process → Asked → Rule → Type 0
 Forbids p a rule = IsFirst (regions p) a.access a.address a.width rule
@@ -94,6 +146,23 @@ Forbids p a rule = IsFirst (regions p) a.access a.address a.width rule
 -- the process, where it waits for the service of an access that faulted
 abbrev pub waiting : Process → Asked → Process
 waiting p a = record p { pending = Some (record { access = a.access; address = a.address; width = a.width; served = false }) }
+
+-- the step is that access, and was made
+pub record Tries (m : Moment) (h s : ℕ) (p : Process) (a : Asked) : Type 0 where
+  pub on : IsOn m.before h s p
+  pub via : Option ℕ
+  pub asks : Asks h via a m.step
+  pub made : IsMade m.reply
+
+-- the step is its service, and was made
+pub record Serves (m : Moment) (h s : ℕ) (p : Process) (a : Asked) : Type 0 where
+  pub on : IsOn m.before h s (waiting p a)
+  pub serves : m.step ≡ Serve h
+  pub made : IsMade m.reply
+
+-- the cause with which the access faults: misalignment is told before a page fault
+abbrev pub cause : Asked → ℕ
+cause a = if a.address % a.width == 0 then page_fault_cause a.access else misaligned_cause a.access
 
 -- one byte of a kernel copy
 abbrev pub byte : Access → ℕ → Asked
@@ -143,16 +212,22 @@ takes_frames _ = false
 abbrev pub in_memory : World → ℕ → World
 in_memory w n = record w { frames = n }
 
--- what has been
+-- files
 
--- the process in slot s was made ready for an access, and became p by it
-pub record WasServed (past : List Moment) (s : ℕ) (a : Asked) (p : Process) : Type 0 where
-  pub moment : Moment
-  pub place : ℕ
-  pub there : slice_get past place ≡ Some moment
-  pub hart : ℕ
-  pub process : Process
-  pub on : IsOn moment.before hart s (waiting process a)
-  pub serves : moment.step ≡ Serve hart
-  pub ready : moment.reply ≡ Ready
-  pub became : process_in moment.after s ≡ Some p
+-- b is a byte that the process stored in a shared mapping, where byte i of file n is
+pub record WroteBack (p : Process) (n i b : ℕ) : Type 0 where
+  pub address : ℕ
+  pub ground : Ground
+  pub has : ground_of p (page_of address) ≡ Some ground
+  pub writes : ground.writes ≡ true
+  pub shared : ground.kind ≡ shared_mapping
+  pub offset : ℕ
+  pub of_file : ground.source ≡ file n offset
+  pub place : offset + address % 4096 ≡ i
+  pub stored : is_stored p (page_of address) ≡ true
+  pub byte : byte_had (Some p) address ≡ Some b
+
+-- files keep their lengths, and the bytes that change become such ones
+pub record Written (p : Process) (files later : List File) : Type 0 where
+  pub long : (n : ℕ) → length (file_bytes later n) ≡ length (file_bytes files n)
+  pub bytes : (n i : ℕ) → i < length (file_bytes files n) → (byte_at (file_bytes later n) i ≡ byte_at (file_bytes files n) i) ⊎ WroteBack p n i (byte_at (file_bytes later n) i)

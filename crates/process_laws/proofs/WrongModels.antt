@@ -1,0 +1,73 @@
+-- What the headline refuses, whatever the model is: moments that a wrong one would bring.
+use Rattle.std.proofs.Common.{◌≡◌, ◌≢◌, ◌≤◌, ◌+◌, ◌-◌, ℕ, ℤ, Bool, true, false, refl, sym, ap, subst, ◌∙◌, List, Option, None, Some, length, arith}
+use Rattle.std.proofs.lemmas.Bool.{false≢true, ltb-true}
+use Rattle.process_laws.specs.Headline.{AnswersUsers, Becomes, CopiesForKernel, EndsAfter, IsDry, ReadsLatest}
+use Rattle.process_laws.specs.Latest.{byte_had, is_released, latest, left_by}
+use Rattle.process_laws.specs.Moments.{Moment, moment_of, slot_on}
+use Rattle.process_laws.specs.Pages.{given, ground, is_between, is_forked, is_moved, mapping_ground}
+use Rattle.process_laws.specs.Words.{Asked, byte, copied, Forbids, is_fault, IsAnswer, IsAtHand, IsGranted, IsMade, IsOn, stopped_by, tells_no_frame, Tries}
+use Rattle.process_model.specs.Bytes.{pages_for}
+use Rattle.process_model.specs.Process.{Process}
+use Rattle.process_model.specs.World.{free, has_slot, process_in}
+use Rattle.process_model.specs.declared.step.Reply.{Reply}
+use Rattle.process_model.specs.declared.step.Reply.TheVariants.{Done, Fault, MappedAt, OldSize, ShortIn}
+use Rattle.process_model.specs.declared.step.Step.TheVariants.{CopyIn, Mmap, Munmap, Sbrk, Serve, Trap}
+use Rattle.sv39_entry.specs.Address.{page_of}
+use Rattle.sv39_entry.specs.declared.access.Access.{Access}
+use Rattle.sv39_entry.specs.declared.access.Access.TheVariants as access
+use Rattle.sv39_entry.specs.declared.rule.Rule.{Rule}
+use Rattle.sv39_entry.specs.declared.rule.Rule.TheVariants.{NoFrame}
+
+-- a copy that stops by NoFrame before a byte for which there are frames
+ends_dry : (p : Process) (kind : Access) (address n k : ℕ) (alone : Reply) (o : Option Rule) → o ≡ Some NoFrame → EndsAfter p kind address n k alone o → tells_no_frame alone ≡ true
+ends_dry p kind address n k alone o e (EndsAfter.whole is) = absurd cc
+ends_dry p kind address n k alone o e (EndsAfter.forbidden {rule} less f) = absurd (let is : rule ≡ NoFrame = cc in subst (λ (r : Rule). Forbids p (byte kind (address + k)) r) is f).denies
+ends_dry p kind address n k alone o e (EndsAfter.no_frame less g so) = so
+
+pub copy_with_frames : (m : Moment) → CopiesForKernel m → (h s address n need : ℕ) (p : Process) (bytes : _) → IsOn m.before h s p → m.step ≡ CopyIn h address n → m.reply ≡ ShortIn NoFrame bytes
+    → (let alone = moment_of m.after (CopyIn h (address + length bytes.items) 1) in IsDry alone need → need ≤ free alone.before → ⊥)
+copy_with_frames m k h s address n need p bytes on step is dry enough =
+    let made : IsMade m.reply = λ e f. absurd (let no = sym is ∙ f in cc) in
+    let c = k.from h s address n p on step made in
+    let so = ends_dry p access.Load address n (copied m.reply) _ (stopped_by m.reply) (ap stopped_by is) c.ends in
+    let alone : tells_no_frame (moment_of m.after (CopyIn h (address + length bytes.items) 1)).reply ≡ true = ap (λ (r : Reply). tells_no_frame (moment_of m.after (CopyIn h (address + copied r) 1)).reply) (sym is) ∙ so in
+    let less = ltb-true (free m.after) need (sym dry ∙ alone) in
+    absurd (omega (arith, less, enough))
+
+-- a trap that takes a byte away, or changes it
+pub trap_keeps : (past : List Moment) (m : Moment) → ReadsLatest past m → (h s a b : ℕ) → m.step ≡ Trap h → latest past s a ≡ Some b → byte_had (process_in m.after s) a ≡ Some b
+trap_keeps past m k h s a b is was = k.has s a ∙ ap (λ x. left_by m.before x m.reply (latest past) s a) is ∙ was
+
+-- a page above the new size that still has bytes
+pub released_has_none : (past : List Moment) (m : Moment) → ReadsLatest past m → (h s a n : ℕ) (delta : ℤ) → m.step ≡ Sbrk h delta → m.reply ≡ OldSize n → has_slot s (slot_on m.before h) ≡ true → is_released n delta a ≡ true
+    → byte_had (process_in m.after s) a ≡ None
+released_has_none past m k h s a n delta step reply mine gone = k.has s a ∙ ap (λ x. left_by m.before x m.reply (latest past) s a) step ∙ ap (λ r. left_by m.before (Sbrk h delta) r (latest past) s a) reply ∙ rw (mine, gone) refl
+
+calm : (kind : Access) (r : Reply) → IsAnswer kind r → is_fault r ≡ false
+calm kind r IsAnswer.fetched = refl
+calm kind r IsAnswer.loaded = refl
+calm kind r IsAnswer.stored = refl
+
+-- an access that faults though it is granted and its page at hand
+pub no_second_fault : (m : Moment) → AnswersUsers m → (h s cause : ℕ) (p : Process) (a : Asked) → Tries m h s p a → IsGranted p a → IsAtHand p a → m.reply ≢ Fault cause
+no_second_fault m k h s cause p a t g hand is = false≢true (sym (calm a.access m.reply (k.answered h s p a t g hand)) ∙ ap is_fault is)
+
+-- what is left of a mapping that reads from another place of its file
+pub place_stays : (m : Moment) (h address len page : ℕ) (p q : Process) → Becomes m h p q → m.step ≡ Munmap h address len → m.reply ≡ Done → is_between (page_of address) (page_of address + pages_for len) page ≡ false
+    → ground q page ≡ ground p page
+place_stays m h address len page p q k step reply out = (k.stays page (ap (λ x. is_moved x m.reply page) step ∙ ap (λ r. is_moved (Munmap h address len) r page) reply ∙ out)).0
+
+-- a mapping that grants what was not asked for
+pub mapped_as_asked : (m : Moment) (h len protection flags n at page : ℕ) (p q : Process) → Becomes m h p q → m.step ≡ Mmap h len protection flags n → m.reply ≡ MappedAt at
+    → is_between (page_of at) (page_of at + pages_for len) page ≡ true → ground q page ≡ Some (mapping_ground protection flags n (page - page_of at))
+mapped_as_asked m h len protection flags n at page p q k step reply inside =
+    k.moved page (ap (λ x. is_moved x m.reply page) step ∙ ap (λ r. is_moved (Mmap h len protection flags n) r page) reply ∙ inside)
+    ∙ ap (λ x. given x m.reply page) step ∙ ap (λ r. given (Mmap h len protection flags n) r page) reply
+
+-- a service that holds back the stores to come, as a fork does
+pub no_mark_by_service : (m : Moment) (h page : ℕ) (p q : Process) → Becomes m h p q → m.step ≡ Serve h → is_forked p page ≡ false → is_forked q page ≡ false
+no_mark_by_service m h page p q k step none = by (is_forked q page) refl
+  where
+    by : (b : Bool) → is_forked q page ≡ b → b ≡ false
+    by false e = refl
+    by true e = absurd (false≢true (sym none ∙ k.forked (λ fork. absurd (let no = sym step ∙ fork in cc)) page e))
