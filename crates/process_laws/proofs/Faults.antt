@@ -8,7 +8,7 @@ use Rattle.process_laws.proofs.Granting.{granted_by}
 use Rattle.process_laws.proofs.OnHarts.{asks}
 use Rattle.process_laws.proofs.Running.{has_it, set_lives, step_process, step_reply, was_made}
 use Rattle.process_laws.proofs.Users.{user_ran}
-use Rattle.process_laws.specs.Words.{Asked, Asks, cause, IsAtHand, IsGranted, IsIn, IsMade, IsOn, waiting}
+use Rattle.process_laws.specs.Words.{Asked, Asks, cause, IsResident, IsGranted, IsIn, IsMade, IsOn, waiting}
 use Rattle.process_model.specs.Harts.{Hart}
 use Rattle.process_model.specs.PageMap.{get}
 use Rattle.process_model.specs.Process.{Page, Process, regions}
@@ -73,7 +73,7 @@ module _ (p : Process) (kind : Access) (address width value : ℕ) where
   faults_settled None e = refl
   faults_settled (Some page) e = faults_resident page (goes_through kind (region_on p (page_of address)) page) e
 
-  module _ (not : IsGranted p what → IsAtHand p what → ⊥) where
+  module _ (not : IsGranted p what → IsResident p what → ⊥) where
     absent : IsGranted p what → (b : Bool) → is_resident p kind (page_of address) ≡ b → b ≡ false
     absent g true is = absurd (not g is)
     absent g false is = refl
@@ -94,7 +94,7 @@ Faulted w h s p a x = ((step w x).reply ≡ Fault (cause a)) × IsOn (step w x).
 
 module _ (w : World) (h s : ℕ) (p : Process) (on : IsOn w h s p) (x : Step) where
   faults_as : (kind : Access) (address width value : ℕ) (via : Option ℕ) → plain_step w x ≡ access_step w h kind address width value via → IsMade (plain_step w x).reply
-      → let a : Asked = record { access = kind; address = address; width = width } in (IsGranted p a → IsAtHand p a → ⊥) → Faulted w h s p a x
+      → let a : Asked = record { access = kind; address = address; width = width } in (IsGranted p a → IsResident p a → ⊥) → Faulted w h s p a x
   faults_as kind address width value via same made not =
       let a : Asked = record { access = kind; address = address; width = width } in
       let r = user_ran w h s p kind address width value via on (subst (λ (o : Outcome). IsMade o.reply) same made) in
@@ -106,11 +106,11 @@ module _ (w : World) (h s : ℕ) (p : Process) (on : IsOn w h s p) (x : Step) wh
       let lives : process_in (step w x).world s ≡ Some (waiting p a) = step_process w x s ∙ ap (λ (o : Outcome). process_in o.world s) is ∙ set_lives w.slots s p (waiting p a) on.lives in
       (step_reply w x ∙ ap (λ (o : Outcome). o.reply) is, record { there = there.on ∙ has_it w h s r.hart on.there r.there; lives = lives }, there.is_in)
 
-faults_plain : (w : World) (h s : ℕ) (p : Process) (a : Asked) (via : Option ℕ) (x : Step) → IsOn w h s p → Asks h via a x → IsMade (plain_step w x).reply → (IsGranted p a → IsAtHand p a → ⊥) → Faulted w h s p a x
+faults_plain : (w : World) (h s : ℕ) (p : Process) (a : Asked) (via : Option ℕ) (x : Step) → IsOn w h s p → Asks h via a x → IsMade (plain_step w x).reply → (IsGranted p a → IsResident p a → ⊥) → Faulted w h s p a x
 faults_plain w h s p a via x on (Asks.fetch {address}) made not = faults_as w h s p on x access.Fetch address 4 0 via refl made not
 faults_plain w h s p a via x on (Asks.load {address} {width}) made not = faults_as w h s p on x access.Load address width 0 via refl made not
 faults_plain w h s p a via x on (Asks.store {address} {width} {value}) made not = faults_as w h s p on x access.Store address width value via refl made not
 
-pub faults : (w : World) (h s : ℕ) (p : Process) (a : Asked) (via : Option ℕ) (x : Step) → IsOn w h s p → Asks h via a x → IsMade (step w x).reply → (IsGranted p a → IsAtHand p a → ⊥)
+pub faults : (w : World) (h s : ℕ) (p : Process) (a : Asked) (via : Option ℕ) (x : Step) → IsOn w h s p → Asks h via a x → IsMade (step w x).reply → (IsGranted p a → IsResident p a → ⊥)
     → ((step w x).reply ≡ Fault (cause a)) × IsOn (step w x).world h s (waiting p a) × IsIn (step w x).world h Enter0
 faults w h s p a via x on asked made not = faults_plain w h s p a via x on asked (was_made w x made) not

@@ -9,14 +9,14 @@ use Rattle.std.proofs.lemmas.Bool.Decides.{nat_tests}
 use Rattle.std.proofs.lemmas.List.{length-append, length-take, get_or-append_right, get_or-drop, get_or-take}
 use Rattle.std.proofs.lemmas.Option.{same_Some}
 use Rattle.process_laws.proofs.Givens.{past_heap}
-use Rattle.process_laws.proofs.Grounds.{Found, here, skipped}
+use Rattle.process_laws.proofs.Grants.{Found, here, skipped}
 use Rattle.process_laws.proofs.PageBytes.{AllSized, bytes_on}
 use Rattle.process_laws.proofs.PageCopies.{first, found_above, second}
 use Rattle.process_laws.proofs.Untouched.{get_set_other}
 use Rattle.process_laws.proofs.WrittenBack.{below_stays, length_stays, over_is, page_goes}
 use Rattle.process_laws.specs.FilePlaces.{file_bytes}
 use Rattle.process_laws.specs.Latest.{byte_at, page_byte}
-use Rattle.process_laws.specs.Pages.{ground, ground_in, has_mark, is_stored, pages_on}
+use Rattle.process_laws.specs.Pages.{grant, grant_in, has_mark, has_stored_mark, pages_on}
 use Rattle.process_laws.specs.Words.{Written, WroteBack}
 use Rattle.process_model.specs.Bytes.{pages_for, write_bytes}
 use Rattle.process_model.specs.Files.{bytes_of, File, with_file_at, with_page_written, written_over}
@@ -70,7 +70,7 @@ written_on p one two three f g = record {
 
 module _ (p : Process) (sized : AllSized p.settled) where
   -- one page
-  module _ (m : Region) (e : ℕ × Page) (there : get p.settled e.0 ≡ Some e.1) (grounds : ground p e.0 ≡ ground_in (Some m) e.0) (due : is_written_back m e.1 ≡ true) where
+  module _ (m : Region) (e : ℕ × Page) (there : get p.settled e.0 ≡ Some e.1) (grants : grant p e.0 ≡ grant_in (Some m) e.0) (due : is_written_back m e.1 ≡ true) where
     size : length (e.1).bytes ≡ 4096
     size = sized.size e.0 (e.1).bytes (ap bytes_on there)
 
@@ -82,14 +82,14 @@ module _ (p : Process) (sized : AllSized p.settled) where
         let place : (4096 * e.0 + i) % 4096 ≡ i = omega (arith, few) in
         record {
           address = 4096 * e.0 + i;
-          ground = record { reads = m.reads; writes = m.writes; executes = m.executes; kind = m.kind; source = pages_on m.source (e.0 - m.first) };
-          has = ap (ground p) page ∙ grounds;
+          grant = record { reads = m.reads; writes = m.writes; executes = m.executes; kind = m.kind; source = pages_on m.source (e.0 - m.first) };
+          has = ap (grant p) page ∙ grants;
           writes = keeps.0;
           shared = shared_kind m.kind keeps.1;
           offset = offset + 4096 * (e.0 - m.first);
           of_file = ap (λ s. pages_on s (e.0 - m.first)) source;
           place = ap (λ k. offset + 4096 * (e.0 - m.first) + k) place;
-          stored = ap (is_stored p) page ∙ ap (has_mark (λ x. x.stored_mark)) there ∙ both.1;
+          stored = ap (has_stored_mark p) page ∙ ap (has_mark (λ x. x.stored_mark)) there ∙ both.1;
           byte = ap (λ k. page_byte (get p.settled k) ((4096 * e.0 + i) % 4096)) page ∙ ap (λ k. page_byte (get p.settled e.0) k) place ∙ ap (λ o. page_byte o i) there ∙ ap Some is;
         }
 
@@ -137,14 +137,14 @@ module _ (p : Process) (sized : AllSized p.settled) where
     source_written files (file n offset) is = over_written files n offset is
 
   -- all pages of a run
-  module _ (m : Region) (from end : ℕ) (grounds : (page : ℕ) → from ≤ page → page < end → ground p page ≡ ground_in (Some m) page) where
+  module _ (m : Region) (from end : ℕ) (grants : (page : ℕ) → from ≤ page → page < end → grant p page ≡ grant_in (Some m) page) where
     one_written : (files : List File) (e : ℕ × Page) → get p.settled e.0 ≡ Some e.1 → Written p files (with_written m from end files e)
     one_written files e there = elim (nat_le from e.0 && nat_lt e.0 end && is_written_back m e.1) as (λ b. (nat_le from e.0 && nat_lt e.0 end && is_written_back m e.1) ≡ b
         → Written p files (cond b (page_written m.source files (4096 * (e.0 - m.first)) (e.1).bytes) files)) [
           | true ↦ λ t.
               let outer = and_parts (nat_le from e.0 && nat_lt e.0 end) (is_written_back m e.1) t in
               let inner = and_parts (nat_le from e.0) (nat_lt e.0 end) outer.0 in
-              source_written m e there (grounds e.0 (leb-true from e.0 inner.0) (ltb-true e.0 end inner.1)) outer.1 files m.source refl
+              source_written m e there (grants e.0 (leb-true from e.0 inner.0) (ltb-true e.0 end inner.1)) outer.1 files m.source refl
           | false ↦ λ t. none_written p files
         ] refl
 
@@ -176,17 +176,17 @@ module _ (p : Process) (sized : AllSized p.settled) where
     pub end_written : (files : List File) → Written p files (all_written_back files p)
     end_written files = mappings_written (pages_for p.size) trapframe_page p.mappings files (omega arith) order.above (λ page from. refl)
 
-    around_found : (low high first_page end page : ℕ) (ms : List Region) (m : Region) → first_page ≤ page → page < end → Row 1 low ms high → mapping_around ms first_page end ≡ Some m → (low ≤ page) × (Found ms page ≡ ground_in (Some m) page)
+    around_found : (low high first_page end page : ℕ) (ms : List Region) (m : Region) → first_page ≤ page → page < end → Row 1 low ms high → mapping_around ms first_page end ≡ Some m → (low ≤ page) × (Found ms page ≡ grant_in (Some m) page)
     around_found low high first_page end page [] m from to row e = absurd cc
     around_found low high first_page end page (x ∷ ms) m from to row e =
         elim (nat_le x.first first_page && nat_le end (end_of x)) as (λ t. (nat_le x.first first_page && nat_le end (end_of x)) ≡ t → cond t (Some x) (mapping_around ms first_page end) ≡ Some m
-        → (low ≤ page) × (Found (x ∷ ms) page ≡ ground_in (Some m) page)) [
+        → (low ≤ page) × (Found (x ∷ ms) page ≡ grant_in (Some m) page)) [
           | true ↦ λ fits is.
               let parts = and_parts (nat_le x.first first_page) (nat_le end (end_of x)) fits in
               let begin = leb-true x.first first_page parts.0 in
               let stop = leb-true end (end_of x) parts.1 in
               let start = row.0 in
-              (omega (arith, start, begin, from), here x ms page (grind (arith, nat_tests, begin, stop, from, to)) ∙ ap (λ (r : Region). ground_in (Some r) page) (same_Some x m is))
+              (omega (arith, start, begin, from), here x ms page (grind (arith, nat_tests, begin, stop, from, to)) ∙ ap (λ (r : Region). grant_in (Some r) page) (same_Some x m is))
           | false ↦ λ fits is.
               let rest = around_found (end_of x) high first_page end page ms m from to row.2 is in
               let start = row.0 in

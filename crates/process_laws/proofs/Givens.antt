@@ -5,8 +5,8 @@ use Rattle.std.specs.List.{list_all}
 use Rattle.std.proofs.lemmas.Bool.{and_parts, cases_eq, eqb-true, eq-eqb, leb-true, ltb-false, ltb-true, ne_eqb}
 use Rattle.std.proofs.lemmas.Bool.Decides.{nat_tests}
 use Rattle.std.proofs.lemmas.Option.{same_Some}
-use Rattle.process_laws.proofs.Grounds.{around_above, Found, here, skipped}
-use Rattle.process_laws.specs.Pages.{Ground, ground, ground_in, has_mark, heap_ground, is_forked, is_between, loads_ground, mapping_ground}
+use Rattle.process_laws.proofs.Grants.{around_above, Found, here, skipped}
+use Rattle.process_laws.specs.Pages.{Grant, grant, grant_in, has_mark, heap_grant, has_fork_mark, is_between, loads_grant, mapping_grant}
 use Rattle.process_model.specs.Bytes.{pages_for}
 use Rattle.process_model.specs.Granted.{size_granted}
 use Rattle.process_model.specs.Heap.{resized, size_refusal, without_pages}
@@ -40,7 +40,7 @@ none_below least low high page (r ∷ rs) row less =
 -- in front there is nothing
 past_none : (front back : List Region) (page : ℕ) → Found front page ≡ None → Found (front ++ back) page ≡ Found back page
 past_none [] back page e = refl
-past_none (r ∷ front) back page e = elim (holds_page r page) as (λ b. ground_in (cond b (Some r) (region_at front page)) page ≡ None → ground_in (cond b (Some r) (region_at (front ++ back) page)) page ≡ Found back page) [
+past_none (r ∷ front) back page e = elim (holds_page r page) as (λ b. grant_in (cond b (Some r) (region_at front page)) page ≡ None → grant_in (cond b (Some r) (region_at (front ++ back) page)) page ≡ Found back page) [
   | true ↦ λ some. absurd cc
   | false ↦ λ none. past_none front back page none
 ] e
@@ -78,7 +78,7 @@ module _ (p : Process) (order : IsInOrder p) (page : ℕ) where
     abbrev q : Process
     q = resized p (nat_abs wanted)
 
-    resized_at : (b : Bool) → nat_lt page new ≡ b → (is_between new old page || is_between old new page) ≡ true → ground q page ≡ (if b then Some heap_ground else None)
+    resized_at : (b : Bool) → nat_lt page new ≡ b → (is_between new old page || is_between old new page) ≡ true → grant q page ≡ (if b then Some heap_grant else None)
     resized_at true less e =
         let below = ltb-true page new less in
         let not : is_between new old page ≡ false = grind (arith, nat_tests, below) in
@@ -99,7 +99,7 @@ module _ (p : Process) (order : IsInOrder p) (page : ℕ) where
         first_of true b e f = refl
         first_of false b e f = absurd (let no : true ≡ false = sym e ∙ f in cc)
 
-    pub resized_given : (is_between new old page || is_between old new page) ≡ true → ground q page ≡ (if nat_lt page new then Some heap_ground else None)
+    pub resized_given : (is_between new old page || is_between old new page) ≡ true → grant q page ≡ (if nat_lt page new then Some heap_grant else None)
     resized_given e = resized_at (nat_lt page new) refl e
 
   -- above the heap
@@ -110,9 +110,9 @@ module _ (p : Process) (order : IsInOrder p) (page : ℕ) where
 
   -- ---- mmap
 
-  with_there : (r : Region) (ms : List Region) → holds_page r page ≡ true → list_all (is_apart r.first r.pages) ms ≡ true → Found (with_mapping r ms) page ≡ ground_in (Some r) page
+  with_there : (r : Region) (ms : List Region) → holds_page r page ≡ true → list_all (is_apart r.first r.pages) ms ≡ true → Found (with_mapping r ms) page ≡ grant_in (Some r) page
   with_there r [] inside apart = here r [] page inside
-  with_there r (m ∷ ms) inside apart = elim (nat_lt r.first m.first) as (λ b. Found (cond b (r ∷ m ∷ ms) (m ∷ with_mapping r ms)) page ≡ ground_in (Some r) page) [
+  with_there r (m ∷ ms) inside apart = elim (nat_lt r.first m.first) as (λ b. Found (cond b (r ∷ m ∷ ms) (m ∷ with_mapping r ms)) page ≡ grant_in (Some r) page) [
     | true ↦ here r (m ∷ ms) page inside
     | false ↦
         let parts = and_parts (is_apart r.first r.pages m) (list_all (is_apart r.first r.pages) ms) apart in
@@ -122,7 +122,7 @@ module _ (p : Process) (order : IsInOrder p) (page : ℕ) where
     outside : (r m : Region) → holds_page r page ≡ true → is_apart r.first r.pages m ≡ true → holds_page m page ≡ false
     outside r m inside apart = grind (arith, nat_tests)
 
-  pub mapped_given : (r : Region) → fits_at p r.pages r.first ≡ true → holds_page r page ≡ true → ground (record p { mappings = with_mapping r p.mappings }) page ≡ ground_in (Some r) page
+  pub mapped_given : (r : Region) → fits_at p r.pages r.first ≡ true → holds_page r page ≡ true → grant (record p { mappings = with_mapping r p.mappings }) page ≡ grant_in (Some r) page
   mapped_given r fits inside =
       let outer = and_parts (nat_le (pages_for p.size) r.first && nat_le (r.first + r.pages) trapframe_page) (list_all (is_apart r.first r.pages) p.mappings) fits in
       let inner = and_parts (nat_le (pages_for p.size) r.first) (nat_le (r.first + r.pages) trapframe_page) outer.0 in
@@ -189,7 +189,7 @@ module _ (p : Process) (order : IsInOrder p) (page : ℕ) where
               ∙ instead_none (end_of x) high ms m row.2 is
         ] refl e
 
-    pub unmapped_given : (m : Region) → mapping_around p.mappings first end ≡ Some m → ground (record (without_pages p first end) { mappings = with_instead p.mappings m.first (front_of m first ++ back_of m end) }) page ≡ None
+    pub unmapped_given : (m : Region) → mapping_around p.mappings first end ≡ Some m → grant (record (without_pages p first end) { mappings = with_instead p.mappings m.first (front_of m first ++ back_of m end) }) page ≡ None
     unmapped_given m around =
         let above = around_above (pages_for p.size) trapframe_page first end p.mappings m order.above around in
         let le = (around_in p.mappings m around).0 in
@@ -198,8 +198,8 @@ module _ (p : Process) (order : IsInOrder p) (page : ℕ) where
 
 -- ---- mmap, as it is asked for
 
-pub mapping_given : (first pages protection flags n page : ℕ) → ground_in (Some (mapping_of first pages protection flags n)) page ≡ Some (mapping_ground protection flags n (page - first))
-mapping_given first pages protection flags n page = ap (λ o. let g : Ground = record (mapping_ground protection flags n (page - first)) { source = file n o } in Some g) (omega arith)
+pub mapping_given : (first pages protection flags n page : ℕ) → grant_in (Some (mapping_of first pages protection flags n)) page ≡ Some (mapping_grant protection flags n (page - first))
+mapping_given first pages protection flags n page = ap (λ o. let g : Grant = record (mapping_grant protection flags n (page - first)) { source = file n o } in Some g) (omega arith)
 
 -- ---- images
 
@@ -210,9 +210,9 @@ module _ (page : ℕ) (heap : ℕ → Region) (none : (end : ℕ) → holds_page
   behind : ℕ → List Region
   behind end = guard_at end ∷ stack_at (end + 1) ∷ heap end ∷ []
 
-  last_ground : (end : ℕ) → Found (behind end) page ≡ loads_ground end [] page
+  last_grant : (end : ℕ) → Found (behind end) page ≡ loads_grant end [] page
   unfolding behind
-  last_ground end =
+  last_grant end =
       elim (page == end) as (λ b. (page == end) ≡ b → Found (guard_at end ∷ stack_at (end + 1) ∷ heap end ∷ []) page
       ≡ (if b then Some (record { reads = false; writes = false; executes = false; kind = guard; source = zeros }) else if page == end + 1 then Some (record { reads = true; writes = true; executes = false; kind = stack; source = zeros }) else None)) [
         | true ↦ λ e. here (guard_at end) (stack_at (end + 1) ∷ heap end ∷ []) page (let same = eqb-true page end e in grind (arith, nat_tests, same))
@@ -224,15 +224,15 @@ module _ (page : ℕ) (heap : ℕ → Region) (none : (end : ℕ) → holds_page
             ] refl
       ] refl
 
-  loads_at : (end : ℕ) (ls : List LoadSegment) → Found (map segment_region ls ++ behind (end_of_loads end ls)) page ≡ loads_ground end ls page
-  loads_at end [] = last_ground end
-  loads_at end (l ∷ ls) = elim (holds_page (segment_region l) page) as (λ b. ground_in (cond b (Some (segment_region l)) (region_at (map segment_region ls ++ behind (end_of_loads (end_page l) ls)) page)) page
-      ≡ cond b (Some (record { reads = true; writes = l.writes; executes = l.executes; kind = segment; source = image })) (loads_ground (end_page l) ls page)) [
+  loads_at : (end : ℕ) (ls : List LoadSegment) → Found (map segment_region ls ++ behind (end_of_loads end ls)) page ≡ loads_grant end ls page
+  loads_at end [] = last_grant end
+  loads_at end (l ∷ ls) = elim (holds_page (segment_region l) page) as (λ b. grant_in (cond b (Some (segment_region l)) (region_at (map segment_region ls ++ behind (end_of_loads (end_page l) ls)) page)) page
+      ≡ cond b (Some (record { reads = true; writes = l.writes; executes = l.executes; kind = segment; source = image })) (loads_grant (end_page l) ls page)) [
         | true ↦ refl
         | false ↦ loads_at (end_page l) ls
       ]
 
-pub image_given : (fresh : ℕ) (ls : List LoadSegment) (page : ℕ) → ground (process_of fresh ls) page ≡ loads_ground 0 ls page
+pub image_given : (fresh : ℕ) (ls : List LoadSegment) (page : ℕ) → grant (process_of fresh ls) page ≡ loads_grant 0 ls page
 unfolding process_of behind
 image_given fresh ls page =
     let heap : ℕ → Region = λ end. record { first = page_of (4096 * (end + 2)); pages = pages_for (4096 * (end + 2)) - page_of (4096 * (end + 2)); reads = true; writes = true; executes = false; kind = heap; source = zeros } in
@@ -252,6 +252,6 @@ listed_unforked fresh (e ∷ es) page =
       | inr apart ↦ mark_at (λ z. z.fork_mark) (get (insert rest e.0 new) page) (get rest page) (inserted_other e.0 new rest page apart) ∙ listed_unforked (fresh + 1) es page
     ]
 
-pub image_unforked : (fresh : ℕ) (ls : List LoadSegment) (page : ℕ) → is_forked (process_of fresh ls) page ≡ false
+pub image_unforked : (fresh : ℕ) (ls : List LoadSegment) (page : ℕ) → has_fork_mark (process_of fresh ls) page ≡ false
 unfolding process_of
 image_unforked fresh ls page = listed_unforked fresh (image_pages ls) page

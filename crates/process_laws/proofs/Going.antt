@@ -9,7 +9,7 @@ use Rattle.process_laws.proofs.HeldBytes.{free_there, Puts, set_puts}
 use Rattle.process_laws.proofs.Possible.{stands}
 use Rattle.process_laws.proofs.Running.{has_it, hart_runs, process_runs, step_process, step_reply}
 use Rattle.process_laws.specs.Moments.{slot_at, slot_on}
-use Rattle.process_laws.specs.Pages.{ground, image_ground, is_forked}
+use Rattle.process_laws.specs.Pages.{grant, image_grant, has_fork_mark}
 use Rattle.process_laws.specs.Words.{IsIn, IsOn, tells_no_frame}
 use Rattle.process_model.specs.Calls.{started, started_unless, with_image}
 use Rattle.process_model.specs.Frames.{start_need}
@@ -182,7 +182,7 @@ trap_goes w h s p on user =
 -- ---- a start
 
 pub start_goes : (w : World) (image : Image) (s : ℕ) (ls : List LoadSegment) → free_slot w ≡ Some s → image_loads image ≡ Ok ls → tells_no_frame (step w (Start image)).reply ≡ false
-    → ((step w (Start image)).reply ≡ Started s) × (p : Process) × (process_in (step w (Start image)).world s ≡ Some p) × ((page : ℕ) → (ground p page ≡ image_ground (image_loads image) page) × (is_forked p page ≡ false))
+    → ((step w (Start image)).reply ≡ Started s) × (p : Process) × (process_in (step w (Start image)).world s ≡ Some p) × ((page : ℕ) → (grant p page ≡ image_grant (image_loads image) page) × (has_fork_mark p page ≡ false))
 start_goes w image s ls free loads quiet = by (is_dry w (start_need ls)) is
   where
     is : plain_step w (Start image) ≡ started_unless w s ls (is_dry w (start_need ls))
@@ -192,11 +192,11 @@ start_goes w image s ls free loads quiet = by (is_dry w (start_need ls)) is
     put = set_puts w (with_image w s ls) s (Some (process_of w.counter ls)) (let room = free_there w.slots 0 s free in omega (arith, room)) refl
 
     by : (b : Bool) → plain_step w (Start image) ≡ started_unless w s ls b → ((step w (Start image)).reply ≡ Started s) × (p : Process) × (process_in (step w (Start image)).world s ≡ Some p)
-        × ((page : ℕ) → (ground p page ≡ image_ground (image_loads image) page) × (is_forked p page ≡ false))
+        × ((page : ℕ) → (grant p page ≡ image_grant (image_loads image) page) × (has_fork_mark p page ≡ false))
     by true e = absurd (false≢true (sym quiet ∙ ap tells_no_frame (step_reply w (Start image) ∙ ap (λ (o : Outcome). o.reply) e)))
     by false e = (
       step_reply w (Start image) ∙ ap (λ (o : Outcome). o.reply) e,
       process_of w.counter ls,
       step_process w (Start image) s ∙ ap (λ (o : Outcome). process_in o.world s) e ∙ put.here,
-      λ page. (image_given w.counter ls page ∙ ap (λ r. image_ground r page) (sym loads), image_unforked w.counter ls page),
+      λ page. (image_given w.counter ls page ∙ ap (λ r. image_grant r page) (sym loads), image_unforked w.counter ls page),
     )

@@ -3,8 +3,8 @@ use Rattle.std.proofs.Common.{◌≡◌, ℕ, ◌+◌, ◌-◌, ◌*◌, ◌%◌
 use Rattle.std.specs.Prelude.{replicate, slice_get}
 use Rattle.std.proofs.lemmas.Bool.{cases_lt}
 use Rattle.std.proofs.lemmas.List.{get_or-append_right, get_or-drop, get_or-replicate, get_or-take, get_or_append_left, get_or_past}
-use Rattle.process_laws.specs.Latest.{byte_at, ground_byte, initial_byte, source_byte}
-use Rattle.process_laws.specs.Pages.{ground_in, pages_on}
+use Rattle.process_laws.specs.Latest.{byte_at, grant_byte, initial_byte, source_byte}
+use Rattle.process_laws.specs.Pages.{grant_in, pages_on}
 use Rattle.process_model.specs.Bytes.{padded}
 use Rattle.process_model.specs.Files.{bytes_of, File}
 use Rattle.process_model.specs.Process.{Process, regions}
@@ -33,7 +33,7 @@ from_source files image pages i few = none_byte i few
 from_source files (file n offset) pages i few =
     let bs = bytes_of (slice_get files n) in padded_byte 4096 (drop (offset + 4096 * pages) bs) i few ∙ get_or-drop (offset + 4096 * pages) bs i 0
 
-from_region : (files : List File) (o : Option Region) (page i : ℕ) → i < 4096 → byte_at (region_page files o page) i ≡ ground_byte files (ground_in o page) i
+from_region : (files : List File) (o : Option Region) (page i : ℕ) → i < 4096 → byte_at (region_page files o page) i ≡ grant_byte files (grant_in o page) i
 from_region files None page i few = none_byte i few
 from_region files (Some r) page i few = from_source files r.source (page - r.first) i few
 

@@ -22,7 +22,7 @@ pub mod Faults
 pub mod CopyAlone
 pub mod CopyFronts
 pub mod Kept
-pub mod Grounds
+pub mod Grants
 pub mod Givens
 pub mod FilesWritten
 pub mod OwnSteps

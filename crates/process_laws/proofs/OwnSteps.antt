@@ -12,7 +12,7 @@ use Rattle.process_laws.proofs.Givens.{image_given, image_unforked, mapped_given
 use Rattle.process_laws.proofs.FilesWritten.{end_written, none_written, unmap_written}
 use Rattle.process_laws.proofs.Going.{At, put_at, step_at}
 use Rattle.process_laws.proofs.Granting.{IsSound}
-use Rattle.process_laws.proofs.Grounds.{inside_released, mapped_same, outside_settled, resized_same, SameAt, unmapped_same}
+use Rattle.process_laws.proofs.Grants.{inside_released, mapped_same, outside_settled, resized_same, SameAt, unmapped_same}
 use Rattle.process_laws.proofs.HeldBytes.{free_there, in_range, none_some, Puts, set_puts}
 use Rattle.process_laws.proofs.Kept.{step_keeps}
 use Rattle.process_laws.proofs.OnHarts.{access_good, its_good, kernel_good, on_hart_good}
@@ -22,7 +22,7 @@ use Rattle.process_laws.proofs.Possible.{call_runs}
 use Rattle.process_laws.proofs.Running.{has_it, process_runs, ran_on, set_lives, step_process, step_reply, was_made}
 use Rattle.process_laws.proofs.Untouched.{free_is_empty}
 use Rattle.process_laws.specs.Moments.{slot_on}
-use Rattle.process_laws.specs.Pages.{given, ground, ground_in, image_ground, mapping_ground, has_mark, is_between, is_forked, is_moved, is_stored}
+use Rattle.process_laws.specs.Pages.{grant_after, grant, grant_in, image_grant, mapping_grant, has_mark, is_between, has_fork_mark, is_remapped, has_stored_mark}
 use Rattle.process_laws.specs.Words.{is_end, is_fault, IsIn, IsMade, IsOn, maker, tells_no_frame, Written}
 use Rattle.process_model.specs.Around.{Around, Progress, reached, resident_at, unless_dry, unless_resident}
 use Rattle.process_model.specs.Bytes.{numbers_from, pages_for}
@@ -66,8 +66,8 @@ use Rattle.sv39_entry.specs.declared.rule.Rule.{Rule}
 -- the regions are the same, no page has a fork's mark anew, and none lost that of a store
 pub record Further (p q : Process) : Type 0 where
   pub same : regions q ≡ regions p
-  pub forked : (page : ℕ) → is_forked q page ≡ true → is_forked p page ≡ true
-  pub stored : (page : ℕ) → is_stored p page ≡ true → is_stored q page ≡ true
+  pub forked : (page : ℕ) → has_fork_mark q page ≡ true → has_fork_mark p page ≡ true
+  pub stored : (page : ℕ) → has_stored_mark p page ≡ true → has_stored_mark q page ≡ true
 
 further_on : (p q r : Process) → Further p q → Further q r → Further p r
 further_on p q r f g = record { same = g.same ∙ f.same; forked = λ page e. f.forked page (g.forked page e); stored = λ page e. g.stored page (f.stored page e) }
@@ -192,17 +192,17 @@ copied_out_far a g address bytes = all_out_far a g.process (zip (numbers_from ad
 
 -- at a page: what its region gives stays, and the mark of a store
 pub record Stays (p q : Process) (page : ℕ) : Type 0 where
-  pub grounds : ground q page ≡ ground p page
-  pub stored : is_stored p page ≡ true → is_stored q page ≡ true
+  pub grants : grant q page ≡ grant p page
+  pub stored : has_stored_mark p page ≡ true → has_stored_mark q page ≡ true
 
 further_stays : (p q : Process) (page : ℕ) → Further p q → Stays p q page
-further_stays p q page f = record { grounds = ap (λ rs. ground_in (region_at rs page) page) f.same; stored = f.stored page }
+further_stays p q page f = record { grants = ap (λ rs. grant_in (region_at rs page) page) f.same; stored = f.stored page }
 
 same_stays : (p q : Process) (page : ℕ) → SameAt p q page → Stays p q page
-same_stays p q page s = record { grounds = s.grounds; stored = λ e. mark_at (λ z. z.stored_mark) (get q.settled page) (get p.settled page) s.settled ∙ e }
+same_stays p q page s = record { grants = s.grants; stored = λ e. mark_at (λ z. z.stored_mark) (get q.settled page) (get p.settled page) s.settled ∙ e }
 
 abbrev Unforked : ℕ → Step → Process → Process → Type 0
-Unforked h x p q = x ≢ step_of.Fork h → (page : ℕ) → is_forked q page ≡ true → is_forked p page ≡ true
+Unforked h x p q = x ≢ step_of.Fork h → (page : ℕ) → has_fork_mark q page ≡ true → has_fork_mark p page ≡ true
 
 -- marks change no file
 
@@ -217,11 +217,11 @@ step_files w x = marks_files w.policy w (plain_step w x)
 -- what has become of the process in slot s, which was p
 pub data Own (files : List File) (h s : ℕ) (x : Step) (p : Process) (o : Outcome) : Type 0 where
   alive : (q : Process) → process_in o.world s ≡ Some q → is_end o.reply ≡ false → (IsMade o.reply → is_unserved_access q.pending ≡ is_fault o.reply)
-      → ((page : ℕ) → is_moved x o.reply page ≡ false → Stays p q page)
-      → ((page : ℕ) → is_moved x o.reply page ≡ true → ground q page ≡ given x o.reply page) → Unforked h x p q → Own files h s x p o
+      → ((page : ℕ) → is_remapped x o.reply page ≡ false → Stays p q page)
+      → ((page : ℕ) → is_remapped x o.reply page ≡ true → grant q page ≡ grant_after x o.reply page) → Unforked h x p q → Own files h s x p o
   gone : process_in o.world s ≡ None → is_end o.reply ≡ true → At o.world h None Idle → (o.world).files ≡ all_written_back files p → Own files h s x p o
 
-refused_unmoved : (x : Step) (r : Refusal) (page : ℕ) → is_moved x (Refused r) page ≡ false
+refused_unmoved : (x : Step) (r : Refusal) (page : ℕ) → is_remapped x (Refused r) page ≡ false
 refused_unmoved (step_of.Exec h image) r page = refl
 refused_unmoved (step_of.Sbrk h delta) r page = refl
 refused_unmoved (step_of.Mmap h len protection flags n) r page = refl
@@ -230,21 +230,21 @@ refused_unmoved _ r page = refl
 
 module _ (w : World) (h s : ℕ) (p : Process) (on : IsOn w h s p) (x : Step) where
   -- no page is moved
-  none_moved : (r : Reply) (q : Process) → ((page : ℕ) → is_moved x r page ≡ false) → (page : ℕ) → is_moved x r page ≡ true → ground q page ≡ given x r page
+  none_moved : (r : Reply) (q : Process) → ((page : ℕ) → is_remapped x r page ≡ false) → (page : ℕ) → is_remapped x r page ≡ true → grant q page ≡ grant_after x r page
   none_moved r q still page e = absurd (let no : true ≡ false = sym e ∙ still page in cc)
 
   abbrev Fate : Outcome → Type 0
   Fate o = Own w.files h s x p o
 
   quiet : (r : Refusal) → Fate (refuses w r)
-  quiet r = Own.alive p on.lives refl (λ made. absurd (made r refl)) (λ page out. record { grounds = refl; stored = λ e. e }) (none_moved (Refused r) p (refused_unmoved x r)) (λ other page e. e)
+  quiet r = Own.alive p on.lives refl (λ made. absurd (made r refl)) (λ page out. record { grants = refl; stored = λ e. e }) (none_moved (Refused r) p (refused_unmoved x r)) (λ other page e. e)
 
   -- its slot has q then
-  puts : (v : World) (r : Reply) (q : Process) → v.slots ≡ (with_process w s q).slots → is_end r ≡ false → is_unserved_access q.pending ≡ is_fault r → ((page : ℕ) → is_moved x r page ≡ false → Stays p q page)
-      → ((page : ℕ) → is_moved x r page ≡ true → ground q page ≡ given x r page) → Unforked h x p q → Fate (answers v r)
+  puts : (v : World) (r : Reply) (q : Process) → v.slots ≡ (with_process w s q).slots → is_end r ≡ false → is_unserved_access q.pending ≡ is_fault r → ((page : ℕ) → is_remapped x r page ≡ false → Stays p q page)
+      → ((page : ℕ) → is_remapped x r page ≡ true → grant q page ≡ grant_after x r page) → Unforked h x p q → Fate (answers v r)
   puts v r q e lives waits stays gives unforked = Own.alive q ((set_puts w v s (Some q) (in_range w s p on.lives) e).here) lives (λ made. waits) stays gives unforked
 
-  further : (v : World) (r : Reply) (q : Process) → v.slots ≡ (with_process w s q).slots → is_end r ≡ false → is_unserved_access q.pending ≡ is_fault r → ((page : ℕ) → is_moved x r page ≡ false) → Further p q → Fate (answers v r)
+  further : (v : World) (r : Reply) (q : Process) → v.slots ≡ (with_process w s q).slots → is_end r ≡ false → is_unserved_access q.pending ≡ is_fault r → ((page : ℕ) → is_remapped x r page ≡ false) → Further p q → Fate (answers v r)
   further v r q e lives waits still f = puts v r q e lives waits (λ page out. further_stays p q page f) (none_moved r q still) (λ other page. f.forked page)
 
   ends : (hart : Hart) (r : Reply) → slice_get w.harts h ≡ Some hart → is_end r ≡ true → Fate (ended w h hart s p r)
@@ -259,54 +259,54 @@ module _ (w : World) (h s : ℕ) (p : Process) (on : IsOn w h s p) (x : Step) wh
 
   -- accesses
 
-  fault_fate : (hart : Hart) (a : service.Asked) (cause : ℕ) → ((page : ℕ) → is_moved x (Fault cause) page ≡ false) → Fate (told w h hart s (faulted p a cause))
+  fault_fate : (hart : Hart) (a : service.Asked) (cause : ℕ) → ((page : ℕ) → is_remapped x (Fault cause) page ≡ false) → Fate (told w h hart s (faulted p a cause))
   fault_fate hart a cause still = further _ _ _ refl refl refl still (record { same = refl; forked = λ page e. e; stored = λ page e. e })
 
   answer_fate : (v : World) (r : Reply) (kind : Access) (address width value : ℕ) (page : Page) → v.slots ≡ (with_process w s (without_pending (with_page p (page_of address) (access_answer kind page (address % 4096) width value).1))).slots
-      → is_end r ≡ false → false ≡ is_fault r → ((page : ℕ) → is_moved x r page ≡ false) → get p.settled (page_of address) ≡ Some page → Fate (answers v r)
+      → is_end r ≡ false → false ≡ is_fault r → ((page : ℕ) → is_remapped x r page ≡ false) → get p.settled (page_of address) ≡ Some page → Fate (answers v r)
   answer_fate v r kind address width value page e lives calm still there =
       let f = answer_further p (page_of address) page kind (address % 4096) width value there in
       further v r (without_pending (with_page p (page_of address) (access_answer kind page (address % 4096) width value).1)) e lives calm still (record { same = f.same; forked = f.forked; stored = f.stored })
 
   -- service
 
-  serve_or : (hart : Hart) (a : Pending) (r : Result Progress Rule) → slice_get w.harts h ≡ Some hart → ((page : ℕ) → is_moved x Ready page ≡ false) → FurtherIfOk p r → Fate (served_or_ended w h hart s p a r)
+  serve_or : (hart : Hart) (a : Pending) (r : Result Progress Rule) → slice_get w.harts h ≡ Some hart → ((page : ℕ) → is_remapped x Ready page ≡ false) → FurtherIfOk p r → Fate (served_or_ended w h hart s p a r)
   serve_or hart a (Err r) there still stopped = ends hart _ there refl
   serve_or hart a (Ok g) there still (came f) = further _ _ (with_served g a).process refl refl refl still (record { same = f.same; forked = f.forked; stored = f.stored })
 
-  serve_fate : (hart : Hart) (o : Option Pending) → slice_get w.harts h ≡ Some hart → ((page : ℕ) → is_moved x Ready page ≡ false) → Fate (served w h hart s p o)
+  serve_fate : (hart : Hart) (o : Option Pending) → slice_get w.harts h ≡ Some hart → ((page : ℕ) → is_remapped x Ready page ≡ false) → Fate (served w h hart s p o)
   serve_fate hart None there still = quiet _
   serve_fate hart (Some a) there still = serve_or hart a _ there still (reached_further (around w s) (begun w p) a.access a.address (first_rule (regions p) a.access a.address a.width))
 
   -- copies
 
-  in_fate : (c : Copied) (o : Option Rule) → ((page : ℕ) → is_moved x (in_reply c.bytes o) page ≡ false) → (((c.progress).process).pending ≡ None) → Further p (c.progress).process → Fate (answers (with_progress w s c.progress) (in_reply c.bytes o))
+  in_fate : (c : Copied) (o : Option Rule) → ((page : ℕ) → is_remapped x (in_reply c.bytes o) page ≡ false) → (((c.progress).process).pending ≡ None) → Further p (c.progress).process → Fate (answers (with_progress w s c.progress) (in_reply c.bytes o))
   in_fate c None still idle f = further _ _ (c.progress).process refl refl (ap is_unserved_access idle) still f
   in_fate c (Some r) still idle f = further _ _ (c.progress).process refl refl (ap is_unserved_access idle) still f
 
-  out_fate : (c : Copied) (o : Option Rule) → ((page : ℕ) → is_moved x (out_reply c.bytes o) page ≡ false) → (((c.progress).process).pending ≡ None) → Further p (c.progress).process → Fate (answers (with_progress w s c.progress) (out_reply c.bytes o))
+  out_fate : (c : Copied) (o : Option Rule) → ((page : ℕ) → is_remapped x (out_reply c.bytes o) page ≡ false) → (((c.progress).process).pending ≡ None) → Further p (c.progress).process → Fate (answers (with_progress w s c.progress) (out_reply c.bytes o))
   out_fate c None still idle f = further _ _ (c.progress).process refl refl (ap is_unserved_access idle) still f
   out_fate c (Some r) still idle f = further _ _ (c.progress).process refl refl (ap is_unserved_access idle) still f
 
   begun_further : (q : Process) → Further (without_pending p) q → Further p q
   begun_further q f = record { same = f.same; forked = f.forked; stored = f.stored }
 
-  copy_in_fate : (address n : ℕ) → ((r : Reply) (page : ℕ) → is_moved x r page ≡ false) → Fate (told_in w s (copied_in (around w s) (begun w (without_pending p)) address n))
+  copy_in_fate : (address n : ℕ) → ((r : Reply) (page : ℕ) → is_remapped x r page ≡ false) → Fate (told_in w s (copied_in (around w s) (begun w (without_pending p)) address n))
   copy_in_fate address n still =
       let c = copied_in (around w s) (begun w (without_pending p)) address n in
       in_fate c c.stop (still (in_reply c.bytes c.stop)) ((in_so_far (around w s) (begun w (without_pending p)) address n).idle) (begun_further (c.progress).process (copied_in_far (around w s) (begun w (without_pending p)) address n))
 
-  copy_out_fate : (address : ℕ) (bytes : List ℕ) → ((r : Reply) (page : ℕ) → is_moved x r page ≡ false) → Fate (told_out w s (copied_out (around w s) (begun w (without_pending p)) address bytes))
+  copy_out_fate : (address : ℕ) (bytes : List ℕ) → ((r : Reply) (page : ℕ) → is_remapped x r page ≡ false) → Fate (told_out w s (copied_out (around w s) (begun w (without_pending p)) address bytes))
   copy_out_fate address bytes still =
       let c = copied_out (around w s) (begun w (without_pending p)) address bytes in
       out_fate c c.stop (still (out_reply c.bytes c.stop)) ((out_so_far (around w s) (begun w (without_pending p)) address bytes).idle) (begun_further (c.progress).process (copied_out_far (around w s) (begun w (without_pending p)) address bytes))
 
 -- pages that are released, and those of an image and of a fork's parent
 
-released_forked : (p : Process) (first end page : ℕ) → is_forked (without_pages p first end) page ≡ true → is_forked p page ≡ true
+released_forked : (p : Process) (first end page : ℕ) → has_fork_mark (without_pages p first end) page ≡ true → has_fork_mark p page ≡ true
 released_forked p first end page e = by (is_between first end page) refl
   where
-    by : (b : Bool) → is_between first end page ≡ b → is_forked p page ≡ true
+    by : (b : Bool) → is_between first end page ≡ b → has_fork_mark p page ≡ true
     by true inside = absurd (let no : true ≡ false = sym e ∙ mark_at (λ z. z.fork_mark) (get (without_pages p first end).settled page) None (inside_released p first end page inside) in cc)
     by false out = sym (mark_at (λ z. z.fork_mark) (get (without_pages p first end).settled page) (get p.settled page) (outside_settled p first end page out)) ∙ e
 
@@ -320,7 +320,7 @@ marked_stores : (f : ℕ → Page → Page) → ((n : ℕ) (x : Page) → (f n x
 marked_stores f same [] page = refl
 marked_stores f same (e ∷ es) page = mark_cond (eq_by_cmp nat_cmp page e.0) (f e.0 e.1) e.1 (find nat_cmp page (each_value f es)) (find nat_cmp page es) (same e.0 e.1) (marked_stores f same es page)
 
-fork_stored : (p : Process) (page : ℕ) → is_stored (marked p) page ≡ is_stored p page
+fork_stored : (p : Process) (page : ℕ) → has_stored_mark (marked p) page ≡ has_stored_mark p page
 fork_stored p page = marked_stores (marked_page p) (λ n x. refl) p.settled.entries page
 
 -- where a child comes
@@ -335,7 +335,7 @@ child_put w s p child free =
 module _ (w : World) (h s : ℕ) (p : Process) (on : IsOn w h s p) where
   sbrk_unless : IsSound p → (delta : ℤ) (o : Option Refusal) → size_refusal p (wanted_size p delta) ≡ o → Own w.files h s (step_of.Sbrk h delta) p (resized_to w s p (resized_unless p (nat_abs (wanted_size p delta)) o))
   sbrk_unless sound delta (Some r) none = quiet w h s p on _ r
-  sbrk_unless sound delta None none = puts w h s p on _ _ _ _ refl refl refl (λ page out. let k = resized_same p (nat_abs (wanted_size p delta)) page out in same_stays p _ page (record { grounds = k.grounds; settled = k.settled }))
+  sbrk_unless sound delta None none = puts w h s p on _ _ _ _ refl refl refl (λ page out. let k = resized_same p (nat_abs (wanted_size p delta)) page out in same_stays p _ page (record { grants = k.grants; settled = k.settled }))
       (λ page inside. resized_given p sound.ordered page (wanted_size p delta) none inside)
       (λ other page. released_forked p (pages_for (nat_abs (wanted_size p delta))) (pages_for p.size) page)
 
@@ -354,9 +354,9 @@ module _ (w : World) (h s : ℕ) (p : Process) (on : IsOn w h s p) where
       let m = mapping_of first (pages_for len) protection flags n in
       let start : page_of (4096 * first) ≡ first = omega arith in
       puts w h s p on _ _ _ _ refl refl refl
-      (λ page out. let k = mapped_same p m page (first_page first (pages_for len) page out) in same_stays p _ page (record { grounds = k.grounds; settled = k.settled }))
+      (λ page out. let k = mapped_same p m page (first_page first (pages_for len) page out) in same_stays p _ page (record { grants = k.grants; settled = k.settled }))
       (λ page inside. mapped_given p sound.ordered page m (place_fits p (pages_for len) first at) (subst (λ k. is_between k (k + pages_for len) page ≡ true) start inside) ∙ mapping_given first (pages_for len) protection flags n page
-      ∙ ap (λ k. Some (mapping_ground protection flags n (page - k))) (sym start))
+      ∙ ap (λ k. Some (mapping_grant protection flags n (page - k))) (sym start))
       (λ other page e. e)
 
   mmap_fate : IsSound p → (len protection flags n : ℕ) → Own w.files h s (step_of.Mmap h len protection flags n) p (mapped_to w s (mapped w.files p len protection flags n))
@@ -374,7 +374,7 @@ module _ (w : World) (h s : ℕ) (p : Process) (on : IsOn w h s p) where
     hole_fate m true around = quiet w h s p on _ _
     hole_fate m false around = puts w h s p on _ _ _ _ refl refl refl (λ page out.
         let k = unmapped_same p m (pages_for p.size) trapframe_page first end page (omega arith) out (sound.ordered).above around in
-        same_stays p _ page (record { grounds = k.grounds; settled = k.settled }))
+        same_stays p _ page (record { grants = k.grants; settled = k.settled }))
         (λ page inside. unmapped_given p sound.ordered page first end inside m around)
         (λ other page. released_forked p first end page)
 
@@ -396,14 +396,14 @@ module _ (w : World) (h s : ℕ) (p : Process) (on : IsOn w h s p) where
 
   exec_unless : (image : Image) (ls : List LoadSegment) (b : Bool) → image_loads image ≡ Ok ls → Own w.files h s (step_of.Exec h image) p (replaced_unless w s p ls b)
   exec_unless image ls true loads = quiet w h s p on _ _
-  exec_unless image ls false loads = puts w h s p on _ _ _ (process_of w.counter ls) refl refl (image_idle w.counter ls) (λ page out. absurd cc) (λ page inside. image_given w.counter ls page ∙ ap (λ r. image_ground r page) (sym loads)) (λ other page e. absurd (let no : true ≡ false = sym e ∙ image_unforked w.counter ls page in cc))
+  exec_unless image ls false loads = puts w h s p on _ _ _ (process_of w.counter ls) refl refl (image_idle w.counter ls) (λ page out. absurd cc) (λ page inside. image_given w.counter ls page ∙ ap (λ r. image_grant r page) (sym loads)) (λ other page e. absurd (let no : true ≡ false = sym e ∙ image_unforked w.counter ls page in cc))
 
   exec_fate : (image : Image) (r : Result (List LoadSegment) BadImage) → image_loads image ≡ r → Own w.files h s (step_of.Exec h image) p (replaced w s p r)
   exec_fate image (Err e) loads = quiet w h s p on _ _
   exec_fate image (Ok ls) loads = exec_unless image ls _ loads
 
   fork_stays : (page : ℕ) → Stays p (marked p) page
-  fork_stays page = record { grounds = refl; stored = λ e. fork_stored p page ∙ e }
+  fork_stays page = record { grants = refl; stored = λ e. fork_stored p page ∙ e }
 
   -- the child is in another slot
   child_apart : (child : ℕ) → free_slot w ≡ Some child → child ≡ s → ⊥
@@ -525,8 +525,8 @@ module _ (w : World) (h s : ℕ) (p : Process) (on : IsOn w h s p) where
 
   as_step : (x : Step) → FateOf x → Own w.files h s x p (step w x)
   as_step x (Own.alive q e lives waits stays gives unforked) = Own.alive q (step_process w x s ∙ e) (ap is_end (step_reply w x) ∙ lives) (λ made. waits (was_made w x made) ∙ ap is_fault (sym (step_reply w x)))
-      (λ page out. stays page (ap (λ r. is_moved x r page) (sym (step_reply w x)) ∙ out))
-      (λ page inside. gives page (ap (λ r. is_moved x r page) (sym (step_reply w x)) ∙ inside) ∙ ap (λ r. given x r page) (sym (step_reply w x))) unforked
+      (λ page out. stays page (ap (λ r. is_remapped x r page) (sym (step_reply w x)) ∙ out))
+      (λ page inside. gives page (ap (λ r. is_remapped x r page) (sym (step_reply w x)) ∙ inside) ∙ ap (λ r. grant_after x r page) (sym (step_reply w x))) unforked
   as_step x (Own.gone e is at written) = Own.gone (step_process w x s ∙ e) (ap is_end (step_reply w x) ∙ is) (step_at w x h None Idle at) (step_files w x ∙ written)
 
   pub owns : IsSound p → (x : Step) → maker x ≡ Some h → Own w.files h s x p (step w x)

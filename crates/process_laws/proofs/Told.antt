@@ -28,8 +28,8 @@ use Rattle.process_laws.specs.Headline as headline
 use Rattle.process_laws.specs.Headline.{AllHold, AnswersUsers, Copies, CopiesForKernel, CountsFrames, elsewhere, Headline, IsDry, Becomes, ChangesOwn, LeavesOthers, MakesSteps, ReadsLatest}
 use Rattle.process_laws.specs.Latest.{AreLatest, bytes_in, IsLatest}
 use Rattle.process_laws.specs.Moments.{Moment, moment_of, moments_from, slot_on}
-use Rattle.process_laws.specs.Pages.{given, ground, is_forked}
-use Rattle.process_laws.specs.Words.{Asked, Asks, copied, Forbids, in_memory, IsAtHand, IsIn, IsMade, IsOn, maker, stopped_by, takes_frames, tells_no_frame, Written}
+use Rattle.process_laws.specs.Pages.{grant_after, grant, has_fork_mark}
+use Rattle.process_laws.specs.Words.{Asked, Asks, copied, Forbids, in_memory, IsResident, IsIn, IsMade, IsOn, maker, stopped_by, takes_frames, tells_no_frame, Written}
 use Rattle.process_model.specs.Files.{File}
 use Rattle.process_model.specs.Process.{Process, regions}
 use Rattle.process_model.specs.Steps.{plain_step, run, step}
@@ -56,7 +56,7 @@ module _ (w : World) (x : Step) where
       apart = λ s p a rule lives g f. granted_is_denied_by_none (regions p) a.access a.address a.width rule (sound_grants p a (sound s p lives) g) f.denies;
       answered = λ h s p a t g hand. users.answers w sound h s p a t.via x t.on t.asks t.made g hand;
       faults = λ h s p a t not. faults w h s p a t.via x t.on t.asks t.made not;
-      served = λ h s p a t g. subst (λ (y : Step). (((step w y).reply ≡ Ready) × ((q : Process) → process_in (step w y).world s ≡ Some q → IsAtHand q a)) ⊎ ((step w y).reply ≡ Ended NoFrame)) (sym t.serves)
+      served = λ h s p a t g. subst (λ (y : Step). (((step w y).reply ≡ Ready) × ((q : Process) → process_in (step w y).world s ≡ Some q → IsResident q a)) ⊎ ((step w y).reply ≡ Ended NoFrame)) (sym t.serves)
           (users.serves w sound h s p a t.on (subst (λ (y : Step). IsMade (step w y).reply) t.serves t.made) g);
       ended = λ h s p a t not. subst (λ (y : Step). (rule : Rule) × ((step w y).reply ≡ Ended rule) × Forbids p a rule) (sym t.serves)
           (ends w h s p a t.on (subst (λ (y : Step). IsMade (step w y).reply) t.serves t.made) not);
@@ -72,7 +72,7 @@ module _ (w : World) (x : Step) where
         by : Own w.files h s x p (step w x) → Written p w.files ((step w x).world).files → ChangesOwn m h s p
         by (Own.alive q e lives waits stays gives unforked) written = record {
           files = written;
-          lives = λ _. (q, e, record { waits = waits; stays = λ page out. let k = stays page out in (k.grounds, k.stored); moved = gives; forked = unforked });
+          lives = λ _. (q, e, record { waits = waits; stays = λ page out. let k = stays page out in (k.grants, k.stored); moved = gives; forked = unforked });
           gone = λ is. absurd (let no : true ≡ false = sym is ∙ lives in cc);
           child = children;
         }
@@ -102,7 +102,7 @@ module _ (w : World) (x : Step) where
 
   makes_steps : MakesSteps m
   makes_steps = record {
-    start = λ image s ls free loads is quiet. subst (λ (y : Step). ((step w y).reply ≡ Started s) × (p : Process) × (process_in (step w y).world s ≡ Some p) × ((page : ℕ) → (ground p page ≡ given y (step w y).reply page) × (is_forked p page ≡ false))) (sym is)
+    start = λ image s ls free loads is quiet. subst (λ (y : Step). ((step w y).reply ≡ Started s) × (p : Process) × (process_in (step w y).world s ≡ Some p) × ((page : ℕ) → (grant p page ≡ grant_after y (step w y).reply page) × (has_fork_mark p page ≡ false))) (sym is)
         (start_goes w image s ls free loads (subst (λ (y : Step). tells_no_frame (step w y).reply ≡ false) is quiet));
     switch = λ h s p lives apart phase is. subst (λ (y : Step). IsOn (step w y).world h s p × IsIn (step w y).world h Kernel) (sym is) (switch_goes w h s p lives apart phase);
     leave = λ h s p on kernel is. subst (λ (y : Step). (slot_on (step w y).world h ≡ None) × IsIn (step w y).world h Idle) (sym is) (leave_goes w h kernel);

@@ -7,7 +7,7 @@ use Rattle.process_laws.proofs.Granting.{granted_by, IsSound, sound_grants}
 use Rattle.process_laws.proofs.OnHarts.{asks}
 use Rattle.process_laws.proofs.Running.{has_it, process_runs, ran_on, set_lives, step_process, step_reply, was_made}
 use Rattle.process_laws.proofs.Standing.{made_stands}
-use Rattle.process_laws.specs.Words.{Asked, Asks, Forbids, IsAnswer, IsAtHand, IsGranted, IsMade, IsOn, waiting}
+use Rattle.process_laws.specs.Words.{Asked, Asks, Forbids, IsAnswer, IsResident, IsGranted, IsMade, IsOn, waiting}
 use Rattle.process_model.specs.Around.{is_shared_page, Progress, reached, resident_at, unless_dry, unless_resident}
 use Rattle.process_model.specs.Bytes.{is_width}
 use Rattle.process_model.specs.Files.{File}
@@ -137,7 +137,7 @@ module _ (w : World) (h s : ℕ) (p : Process) (hart : Hart) (a : Asked) (lives 
   rule_readies (Some rule) e r q there = absurd cc
 
 pub serves : (w : World) → ((s : ℕ) (p : Process) → process_in w s ≡ Some p → IsSound p) → (h s : ℕ) (p : Process) (a : Asked) → IsOn w h s (waiting p a) → IsMade (step w (Serve h)).reply → IsGranted p a
-    → (((step w (Serve h)).reply ≡ Ready) × ((q : Process) → process_in (step w (Serve h)).world s ≡ Some q → IsAtHand q a)) ⊎ ((step w (Serve h)).reply ≡ Ended NoFrame)
+    → (((step w (Serve h)).reply ≡ Ready) × ((q : Process) → process_in (step w (Serve h)).world s ≡ Some q → IsResident q a)) ⊎ ((step w (Serve h)).reply ≡ Ended NoFrame)
 serves w sound h s p a on n g =
     let r = serve_ran w h s p a on (was_made w (Serve h) n) in
     let k = rule_serves w h s (waiting p a) r.hart a on.lives _ (sound_grants (waiting p a) a (sound s (waiting p a) on.lives) (same_grant p a g)) refl in
@@ -181,6 +181,6 @@ answers_plain v k s q a via x on (Asks.load {address} {width}) n = answers_acces
 answers_plain v k s q a via x on (Asks.store {address} {width} {value}) n = answers_access v k s q access.Store address width value via on n
 
 pub answers : (w : World) → ((s : ℕ) (p : Process) → process_in w s ≡ Some p → IsSound p) → (h s : ℕ) (p : Process) (a : Asked) (via : Option ℕ) (x : Step) → IsOn w h s p → Asks h via a x → IsMade (step w x).reply
-    → IsGranted p a → IsAtHand p a → IsAnswer a.access (step w x).reply
+    → IsGranted p a → IsResident p a → IsAnswer a.access (step w x).reply
 answers w sound h s p a via x on asked n g hand =
     subst (IsAnswer a.access) (sym (step_reply w x)) (answers_plain w h s p a via x on asked (was_made w x n) (record { granted = sound_grants p a (sound s p on.lives) g; resident = hand }))

@@ -4,8 +4,8 @@ use Rattle.std.proofs.lemmas.Bool.{false≢true, ltb-true}
 use Rattle.process_laws.specs.Headline.{AnswersUsers, Becomes, CopiesForKernel, EndsAfter, IsDry, ReadsLatest}
 use Rattle.process_laws.specs.Latest.{byte_had, is_released, latest, left_by}
 use Rattle.process_laws.specs.Moments.{Moment, moment_of, slot_on}
-use Rattle.process_laws.specs.Pages.{given, ground, is_between, is_forked, is_moved, mapping_ground}
-use Rattle.process_laws.specs.Words.{Asked, byte, copied, Forbids, is_fault, IsAnswer, IsAtHand, IsGranted, IsMade, IsOn, stopped_by, tells_no_frame, Tries}
+use Rattle.process_laws.specs.Pages.{grant_after, grant, is_between, has_fork_mark, is_remapped, mapping_grant}
+use Rattle.process_laws.specs.Words.{Asked, byte, copied, Forbids, is_fault, IsAnswer, IsResident, IsGranted, IsMade, IsOn, stopped_by, tells_no_frame, Tries}
 use Rattle.process_model.specs.Bytes.{pages_for}
 use Rattle.process_model.specs.Process.{Process}
 use Rattle.process_model.specs.World.{free, has_slot, process_in}
@@ -49,25 +49,25 @@ calm kind r IsAnswer.loaded = refl
 calm kind r IsAnswer.stored = refl
 
 -- an access that faults though it is granted and its page at hand
-pub no_second_fault : (m : Moment) → AnswersUsers m → (h s cause : ℕ) (p : Process) (a : Asked) → Tries m h s p a → IsGranted p a → IsAtHand p a → m.reply ≢ Fault cause
+pub no_second_fault : (m : Moment) → AnswersUsers m → (h s cause : ℕ) (p : Process) (a : Asked) → Tries m h s p a → IsGranted p a → IsResident p a → m.reply ≢ Fault cause
 no_second_fault m k h s cause p a t g hand is = false≢true (sym (calm a.access m.reply (k.answered h s p a t g hand)) ∙ ap is_fault is)
 
 -- what is left of a mapping that reads from another place of its file
 pub place_stays : (m : Moment) (h address len page : ℕ) (p q : Process) → Becomes m h p q → m.step ≡ Munmap h address len → m.reply ≡ Done → is_between (page_of address) (page_of address + pages_for len) page ≡ false
-    → ground q page ≡ ground p page
-place_stays m h address len page p q k step reply out = (k.stays page (ap (λ x. is_moved x m.reply page) step ∙ ap (λ r. is_moved (Munmap h address len) r page) reply ∙ out)).0
+    → grant q page ≡ grant p page
+place_stays m h address len page p q k step reply out = (k.stays page (ap (λ x. is_remapped x m.reply page) step ∙ ap (λ r. is_remapped (Munmap h address len) r page) reply ∙ out)).0
 
 -- a mapping that grants what was not asked for
 pub mapped_as_asked : (m : Moment) (h len protection flags n at page : ℕ) (p q : Process) → Becomes m h p q → m.step ≡ Mmap h len protection flags n → m.reply ≡ MappedAt at
-    → is_between (page_of at) (page_of at + pages_for len) page ≡ true → ground q page ≡ Some (mapping_ground protection flags n (page - page_of at))
+    → is_between (page_of at) (page_of at + pages_for len) page ≡ true → grant q page ≡ Some (mapping_grant protection flags n (page - page_of at))
 mapped_as_asked m h len protection flags n at page p q k step reply inside =
-    k.moved page (ap (λ x. is_moved x m.reply page) step ∙ ap (λ r. is_moved (Mmap h len protection flags n) r page) reply ∙ inside)
-    ∙ ap (λ x. given x m.reply page) step ∙ ap (λ r. given (Mmap h len protection flags n) r page) reply
+    k.moved page (ap (λ x. is_remapped x m.reply page) step ∙ ap (λ r. is_remapped (Mmap h len protection flags n) r page) reply ∙ inside)
+    ∙ ap (λ x. grant_after x m.reply page) step ∙ ap (λ r. grant_after (Mmap h len protection flags n) r page) reply
 
 -- a service that holds back the stores to come, as a fork does
-pub no_mark_by_service : (m : Moment) (h page : ℕ) (p q : Process) → Becomes m h p q → m.step ≡ Serve h → is_forked p page ≡ false → is_forked q page ≡ false
-no_mark_by_service m h page p q k step none = by (is_forked q page) refl
+pub no_mark_by_service : (m : Moment) (h page : ℕ) (p q : Process) → Becomes m h p q → m.step ≡ Serve h → has_fork_mark p page ≡ false → has_fork_mark q page ≡ false
+no_mark_by_service m h page p q k step none = by (has_fork_mark q page) refl
   where
-    by : (b : Bool) → is_forked q page ≡ b → b ≡ false
+    by : (b : Bool) → has_fork_mark q page ≡ b → b ≡ false
     by false e = refl
     by true e = absurd (false≢true (sym none ∙ k.forked (λ fork. absurd (let no = sym step ∙ fork in cc)) page e))

@@ -7,8 +7,8 @@ use Rattle.std.specs.Prelude.{◌≡◌, ◌≢◌, ◌⊎◌, ℕ, false, true,
 use Rattle.std.specs.Borrow.{Bor}
 use Rattle.process_laws.specs.Latest.{AreLatest, byte_had, bytes_in, IsLatest, latest}
 use Rattle.process_laws.specs.Moments.{Moment, moment_of, moments_from, slot_on}
-use Rattle.process_laws.specs.Pages.{given, ground, is_forked, is_moved, is_stored}
-use Rattle.process_laws.specs.Words.{Asked, Asks, byte, Calls, cause, copied, Forbids, in_memory, is_end, is_fault, IsAnswer, IsAtHand, IsGranted, IsIn, IsMade, IsOn, is_born, maker, MayCall, moved_hart, phase_on, Serves, stopped_by, takes_frames, tells_no_frame, Tries, waiting, writes_back, Written}
+use Rattle.process_laws.specs.Pages.{grant_after, grant, has_fork_mark, is_remapped, has_stored_mark}
+use Rattle.process_laws.specs.Words.{Asked, Asks, byte, Calls, cause, copied, Forbids, in_memory, is_end, is_fault, IsAnswer, IsResident, IsGranted, IsIn, IsMade, IsOn, is_born, maker, MayCall, moved_hart, phase_on, Serves, stopped_by, takes_frames, tells_no_frame, Tries, waiting, writes_back, Written}
 use Rattle.process_model.specs.Bytes.{is_width}
 use Rattle.process_model.specs.Copies.{longest_copy}
 use Rattle.process_model.specs.Files.{File}
@@ -38,11 +38,11 @@ pub record AnswersUsers (m : Moment) : Type 0 where
   -- is not both granted and forbidden
   pub apart : (s : ℕ) (p : Process) (a : Asked) (rule : Rule) → process_in m.before s ≡ Some p → IsGranted p a → Forbids p a rule → ⊥
   -- is answered, by a value or by being stored, where it is granted and its page is at hand
-  pub answered : (h s : ℕ) (p : Process) (a : Asked) → Tries m h s p a → IsGranted p a → IsAtHand p a → IsAnswer a.access m.reply
+  pub answered : (h s : ℕ) (p : Process) (a : Asked) → Tries m h s p a → IsGranted p a → IsResident p a → IsAnswer a.access m.reply
   -- and else it faults: the process waits, and its hart enters the kernel
-  pub faults : (h s : ℕ) (p : Process) (a : Asked) → Tries m h s p a → (IsGranted p a → IsAtHand p a → ⊥) → (m.reply ≡ Fault (cause a)) × IsOn m.after h s (waiting p a) × IsIn m.after h Enter0
+  pub faults : (h s : ℕ) (p : Process) (a : Asked) → Tries m h s p a → (IsGranted p a → IsResident p a → ⊥) → (m.reply ≡ Fault (cause a)) × IsOn m.after h s (waiting p a) × IsIn m.after h Enter0
   -- where it is granted, its service brings its page to hand, so that one fault is enough, or finds too few frames
-  pub served : (h s : ℕ) (p : Process) (a : Asked) → Serves m h s p a → IsGranted p a → ((m.reply ≡ Ready) × ((q : Process) → process_in m.after s ≡ Some q → IsAtHand q a)) ⊎ (m.reply ≡ Ended NoFrame)
+  pub served : (h s : ℕ) (p : Process) (a : Asked) → Serves m h s p a → IsGranted p a → ((m.reply ≡ Ready) × ((q : Process) → process_in m.after s ≡ Some q → IsResident q a)) ⊎ (m.reply ≡ Ended NoFrame)
   -- where it is not, its service ends the process by the first rule that forbids it
   pub ended : (h s : ℕ) (p : Process) (a : Asked) → Serves m h s p a → (IsGranted p a → ⊥) → (rule : Rule) × (m.reply ≡ Ended rule) × Forbids p a rule
 
@@ -110,11 +110,11 @@ pub record Becomes (m : Moment) (h : ℕ) (p q : Process) : Type 0 where
   -- that waits for a service after a fault alone
   pub waits : IsMade m.reply → is_unserved_access q.pending ≡ is_fault m.reply
   -- with the same rights, the same beginning and the mark of a store on each page, but for those that exec, sbrk, mmap and munmap move
-  pub stays : (page : ℕ) → is_moved m.step m.reply page ≡ false → (ground q page ≡ ground p page) × (is_stored p page ≡ true → is_stored q page ≡ true)
+  pub stays : (page : ℕ) → is_remapped m.step m.reply page ≡ false → (grant q page ≡ grant p page) × (has_stored_mark p page ≡ true → has_stored_mark q page ≡ true)
   -- which are what the call gives or leaves
-  pub moved : (page : ℕ) → is_moved m.step m.reply page ≡ true → ground q page ≡ given m.step m.reply page
+  pub moved : (page : ℕ) → is_remapped m.step m.reply page ≡ true → grant q page ≡ grant_after m.step m.reply page
   -- and with no mark of a fork but by a fork
-  pub forked : m.step ≢ Fork h → (page : ℕ) → is_forked q page ≡ true → is_forked p page ≡ true
+  pub forked : m.step ≢ Fork h → (page : ℕ) → has_fork_mark q page ≡ true → has_fork_mark p page ≡ true
 
 pub record ChangesOwn (m : Moment) (h s : ℕ) (p : Process) : Type 0 where
   pub lives : is_end m.reply ≡ false → (q : Process) × (process_in m.after s ≡ Some q) × Becomes m h p q
@@ -131,7 +131,7 @@ pub record ChangesOwn (m : Moment) (h s : ℕ) (p : Process) : Type 0 where
 -- what it asks alone
 pub record MakesSteps (m : Moment) : Type 0 where
   pub start : (image : Image) (s : ℕ) (ls : List LoadSegment) → free_slot m.before ≡ Some s → image_loads image ≡ Ok ls → m.step ≡ Start image → tells_no_frame m.reply ≡ false
-      → (m.reply ≡ Started s) × (p : Process) × (process_in m.after s ≡ Some p) × ((page : ℕ) → (ground p page ≡ given m.step m.reply page) × (is_forked p page ≡ false))
+      → (m.reply ≡ Started s) × (p : Process) × (process_in m.after s ≡ Some p) × ((page : ℕ) → (grant p page ≡ grant_after m.step m.reply page) × (has_fork_mark p page ≡ false))
   pub switch : (h s : ℕ) (p : Process) → process_in m.before s ≡ Some p → ((k : ℕ) → slot_on m.before k ≢ Some s) → IsIn m.before h Idle ⊎ IsIn m.before h Kernel → m.step ≡ Switch h (Some s)
       → IsOn m.after h s p × IsIn m.after h Kernel
   pub leave : (h s : ℕ) (p : Process) → IsOn m.before h s p → IsIn m.before h Kernel → m.step ≡ Switch h None → (slot_on m.after h ≡ None) × IsIn m.after h Idle

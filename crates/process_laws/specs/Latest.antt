@@ -13,7 +13,7 @@ use Rattle.process_model.specs.declared.step.Reply.TheVariants.{CopiedIn, Copied
 use Rattle.process_model.specs.declared.step.Step.{Step}
 use Rattle.process_model.specs.declared.step.Step.TheVariants.{CopyIn, CopyOut, Exec, Exit, Fork, Munmap, Sbrk, Serve, Start, Store}
 use Rattle.process_laws.specs.Moments.{Moment, slot_on}
-use Rattle.process_laws.specs.Pages.{Ground, ground, is_between}
+use Rattle.process_laws.specs.Pages.{Grant, grant, is_between}
 use Rattle.sv39_entry.specs.Address.{page_of}
 
 -- bytes
@@ -37,13 +37,13 @@ abbrev pub source_byte : List File → Source → ℕ → ℕ
 source_byte files (file n offset) i = byte_at (bytes_of (slice_get files n)) (offset + i)
 source_byte files _ i = 0
 
-abbrev pub ground_byte : List File → Option Ground → ℕ → ℕ
-ground_byte files None i = 0
-ground_byte files (Some g) i = source_byte files g.source i
+abbrev pub grant_byte : List File → Option Grant → ℕ → ℕ
+grant_byte files None i = 0
+grant_byte files (Some g) i = source_byte files g.source i
 
 abbrev pub initial_byte : List File → Option Process → ℕ → ℕ
 initial_byte files None a = 0
-initial_byte files (Some p) a = ground_byte files (ground p (page_of a)) (a % 4096)
+initial_byte files (Some p) a = grant_byte files (grant p (page_of a)) (a % 4096)
 
 -- the byte that a process has at an address; none where the page is not settled
 abbrev pub page_byte : Option Page → ℕ → Option ℕ

@@ -15,7 +15,7 @@ use Rattle.sv39_entry.specs.declared.access.Access.{Access}
 use Rattle.sv39_entry.specs.declared.access.Access.TheVariants.{Store}
 
 -- what its region gives to a page: rights, what it is there for, and where its bytes begin
-pub record Ground : Type 0 where
+pub record Grant : Type 0 where
   pub reads : Bool
   pub writes : Bool
   pub executes : Bool
@@ -27,36 +27,36 @@ abbrev pub pages_on : Source → ℕ → Source
 pages_on (file n offset) pages = file n (offset + 4096 * pages)
 pages_on s pages = s
 
-abbrev pub ground_in : Option Region → ℕ → Option Ground
-ground_in None page = None
-ground_in (Some r) page = Some (record { reads = r.reads; writes = r.writes; executes = r.executes; kind = r.kind; source = pages_on r.source (page - r.first) })
+abbrev pub grant_in : Option Region → ℕ → Option Grant
+grant_in None page = None
+grant_in (Some r) page = Some (record { reads = r.reads; writes = r.writes; executes = r.executes; kind = r.kind; source = pages_on r.source (page - r.first) })
 
-abbrev pub ground : Process → ℕ → Option Ground
-ground p page = ground_in (region_at (regions p) page) page
+abbrev pub grant : Process → ℕ → Option Grant
+grant p page = grant_in (region_at (regions p) page) page
 
 -- at hand: the page is settled, and a store is held back by no mark: not by a fork's, and in a shared mapping not by the want of the mark
 -- of its first store
-abbrev pub goes_at_once : Access → Option Region → Page → Bool
-goes_at_once Store r x = not x.fork_mark && (x.stored_mark || not (keeps_stores r))
-goes_at_once _ r x = true
+abbrev pub is_ready : Access → Option Region → Page → Bool
+is_ready Store r x = not x.fork_mark && (x.stored_mark || not (keeps_stores r))
+is_ready _ r x = true
 
-abbrev pub is_at_hand_on : Access → Option Region → Option Page → Bool
-is_at_hand_on access r None = false
-is_at_hand_on access r (Some x) = goes_at_once access r x
+abbrev pub is_ready_on : Access → Option Region → Option Page → Bool
+is_ready_on access r None = false
+is_ready_on access r (Some x) = is_ready access r x
 
-abbrev pub is_at_hand : Process → Access → ℕ → Bool
-is_at_hand p access page = is_at_hand_on access (region_at (regions p) page) (get p.settled page)
+abbrev pub is_ready_page : Process → Access → ℕ → Bool
+is_ready_page p access page = is_ready_on access (region_at (regions p) page) (get p.settled page)
 
 -- the marks of a page: a fork's, until a store or a copy parts it from its sharers, and that of a store to a shared mapping
 abbrev pub has_mark : (Page → Bool) → Option Page → Bool
 has_mark mark None = false
 has_mark mark (Some x) = mark x
 
-abbrev pub is_forked : Process → ℕ → Bool
-is_forked p page = has_mark (λ x. x.fork_mark) (get p.settled page)
+abbrev pub has_fork_mark : Process → ℕ → Bool
+has_fork_mark p page = has_mark (λ x. x.fork_mark) (get p.settled page)
 
-abbrev pub is_stored : Process → ℕ → Bool
-is_stored p page = has_mark (λ x. x.stored_mark) (get p.settled page)
+abbrev pub has_stored_mark : Process → ℕ → Bool
+has_stored_mark p page = has_mark (λ x. x.stored_mark) (get p.settled page)
 
 -- moved: the pages that a call gives to the process, or takes from it: exec all, sbrk those between the two sizes, mmap and munmap those of
 -- their range
@@ -64,24 +64,24 @@ is_stored p page = has_mark (λ x. x.stored_mark) (get p.settled page)
 abbrev pub is_between : ℕ → ℕ → ℕ → Bool
 is_between first end page = nat_le first page && nat_lt page end
 
-abbrev pub is_moved : Step → Reply → ℕ → Bool
-is_moved (Exec h i) Done page = true
-is_moved (Sbrk h delta) (OldSize n) page =
+abbrev pub is_remapped : Step → Reply → ℕ → Bool
+is_remapped (Exec h i) Done page = true
+is_remapped (Sbrk h delta) (OldSize n) page =
     let old = pages_for n in
     let new = pages_for (nat_abs (pos n +ℤ delta)) in
     is_between new old page || is_between old new page
-is_moved (Mmap h len protection flags n) (MappedAt at) page = is_between (page_of at) (page_of at + pages_for len) page
-is_moved (Munmap h address len) Done page = is_between (page_of address) (page_of address + pages_for len) page
-is_moved _ _ page = false
+is_remapped (Mmap h len protection flags n) (MappedAt at) page = is_between (page_of at) (page_of at + pages_for len) page
+is_remapped (Munmap h address len) Done page = is_between (page_of address) (page_of address + pages_for len) page
+is_remapped _ _ page = false
 
--- given: what such a page has then
+-- grant_after: what such a page has then
 
-abbrev pub heap_ground : Ground
-heap_ground = record { reads = true; writes = true; executes = false; kind = heap; source = zeros }
+abbrev pub heap_grant : Grant
+heap_grant = record { reads = true; writes = true; executes = false; kind = heap; source = zeros }
 
 -- PROT_READ is 1, PROT_WRITE 2, PROT_EXEC 4; MAP_SHARED is 1, MAP_PRIVATE 2. What may be written may be read
-abbrev pub mapping_ground : ℕ → ℕ → ℕ → ℕ → Ground
-mapping_ground protection flags n pages = record {
+abbrev pub mapping_grant : ℕ → ℕ → ℕ → ℕ → Grant
+mapping_grant protection flags n pages = record {
   reads = protection % 2 == 1 || protection / 2 % 2 == 1;
   writes = protection / 2 % 2 == 1;
   executes = protection / 4 % 2 == 1;
@@ -90,23 +90,23 @@ mapping_ground protection flags n pages = record {
 }
 
 -- of an image: its segments, and behind the last one a guard and a stack of one page each; a gap between segments grants nothing
-abbrev pub loads_ground : ℕ → List LoadSegment → ℕ → Option Ground
-loads_ground end [] page =
+abbrev pub loads_grant : ℕ → List LoadSegment → ℕ → Option Grant
+loads_grant end [] page =
     if page == end then Some (record { reads = false; writes = false; executes = false; kind = guard; source = zeros })
     else if page == end + 1 then Some (record { reads = true; writes = true; executes = false; kind = stack; source = zeros })
     else None
-loads_ground end (l ∷ ls) page =
+loads_grant end (l ∷ ls) page =
     if is_between (page_of l.address) (page_of l.address + pages_for l.memory_size) page
     then Some (record { reads = true; writes = l.writes; executes = l.executes; kind = segment; source = image })
-    else loads_ground (end_page l) ls page
+    else loads_grant (end_page l) ls page
 
-abbrev pub image_ground : Result (List LoadSegment) BadImage → ℕ → Option Ground
-image_ground (Err e) page = None
-image_ground (Ok ls) page = loads_ground 0 ls page
+abbrev pub image_grant : Result (List LoadSegment) BadImage → ℕ → Option Grant
+image_grant (Err e) page = None
+image_grant (Ok ls) page = loads_grant 0 ls page
 
-abbrev pub given : Step → Reply → ℕ → Option Ground
-given (Start i) r page = image_ground (image_loads i) page
-given (Exec h i) r page = image_ground (image_loads i) page
-given (Sbrk h delta) (OldSize n) page = if nat_lt page (pages_for (nat_abs (pos n +ℤ delta))) then Some heap_ground else None
-given (Mmap h len protection flags n) (MappedAt at) page = Some (mapping_ground protection flags n (page - page_of at))
-given _ r page = None
+abbrev pub grant_after : Step → Reply → ℕ → Option Grant
+grant_after (Start i) r page = image_grant (image_loads i) page
+grant_after (Exec h i) r page = image_grant (image_loads i) page
+grant_after (Sbrk h delta) (OldSize n) page = if nat_lt page (pages_for (nat_abs (pos n +ℤ delta))) then Some heap_grant else None
+grant_after (Mmap h len protection flags n) (MappedAt at) page = Some (mapping_grant protection flags n (page - page_of at))
+grant_after _ r page = None

@@ -4,7 +4,7 @@ use Rattle.process_laws.specs.Denied.{IsFirst}
 use Rattle.process_laws.specs.Moments.{Moment, slot_on}
 use Rattle.process_laws.specs.FilePlaces.{file_bytes}
 use Rattle.process_laws.specs.Latest.{byte_at, byte_had}
-use Rattle.process_laws.specs.Pages.{Ground, ground as ground_of, is_at_hand, is_stored}
+use Rattle.process_laws.specs.Pages.{Grant, grant as grant_of, is_ready_page, has_stored_mark}
 use Rattle.process_model.specs.Files.{File}
 use Rattle.process_model.specs.Process.{Process, regions}
 use Rattle.process_model.specs.Regions.{file, Region, region_at, shared_mapping}
@@ -136,8 +136,8 @@ pub record IsGranted (p : Process) (a : Asked) : Type 0 where
   pub aligned : a.address % a.width ≡ 0
 
 -- its page is at hand
-abbrev pub IsAtHand : Process → Asked → Type 0
-IsAtHand p a = is_at_hand p a.access (page_of a.address) ≡ true
+abbrev pub IsResident : Process → Asked → Type 0
+IsResident p a = is_ready_page p a.access (page_of a.address) ≡ true
 
 -- the rule is the first that forbids the access
 abbrev pub Forbids : Process → Asked → Rule → Type 0
@@ -217,14 +217,14 @@ in_memory w n = record w { frames = n }
 -- b is a byte that the process stored in a shared mapping, where byte i of file n is
 pub record WroteBack (p : Process) (n i b : ℕ) : Type 0 where
   pub address : ℕ
-  pub ground : Ground
-  pub has : ground_of p (page_of address) ≡ Some ground
-  pub writes : ground.writes ≡ true
-  pub shared : ground.kind ≡ shared_mapping
+  pub grant : Grant
+  pub has : grant_of p (page_of address) ≡ Some grant
+  pub writes : grant.writes ≡ true
+  pub shared : grant.kind ≡ shared_mapping
   pub offset : ℕ
-  pub of_file : ground.source ≡ file n offset
+  pub of_file : grant.source ≡ file n offset
   pub place : offset + address % 4096 ≡ i
-  pub stored : is_stored p (page_of address) ≡ true
+  pub stored : has_stored_mark p (page_of address) ≡ true
   pub byte : byte_had (Some p) address ≡ Some b
 
 -- files keep their lengths, and the bytes that change become such ones

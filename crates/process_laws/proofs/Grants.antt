@@ -7,7 +7,7 @@ use Rattle.std.proofs.lemmas.Bool.{and_parts, eq-eqb, leb-true, ne_eqb}
 use Rattle.std.proofs.lemmas.Bool.Decides.{nat_tests}
 use Rattle.std.proofs.lemmas.Option.{same_Some}
 use Rattle.process_laws.proofs.PageBytes.{tied_are_same}
-use Rattle.process_laws.specs.Pages.{Ground, ground, ground_in, is_between, pages_on}
+use Rattle.process_laws.specs.Pages.{Grant, grant, grant_in, is_between, pages_on}
 use Rattle.process_model.specs.Bytes.{pages_for}
 use Rattle.process_model.specs.Heap.{resized, without_pages}
 use Rattle.process_model.specs.Mappings.{back_of, front_of, mapping_around, moved_along, with_instead, with_mapping}
@@ -19,36 +19,36 @@ use Rattle.sv39_entry.specs.Address.{page_of}
 
 -- ---- one page
 
--- a page that is what it was, and on the same ground
+-- a page that is what it was, and on the same grant
 pub record SameAt (p q : Process) (page : ℕ) : Type 0 where
-  pub grounds : ground q page ≡ ground p page
+  pub grants : grant q page ≡ grant p page
   pub settled : get q.settled page ≡ get p.settled page
 
 -- ---- lists of regions
 
-abbrev pub Found : List Region → ℕ → Option Ground
-Found rs page = ground_in (region_at rs page) page
+abbrev pub Found : List Region → ℕ → Option Grant
+Found rs page = grant_in (region_at rs page) page
 
 behind_same : (front back other : List Region) (page : ℕ) → Found back page ≡ Found other page → Found (front ++ back) page ≡ Found (front ++ other) page
 behind_same [] back other page e = e
-behind_same (r ∷ front) back other page e = elim (holds_page r page) as (λ b. ground_in (cond b (Some r) (region_at (front ++ back) page)) page ≡ ground_in (cond b (Some r) (region_at (front ++ other) page)) page) [
+behind_same (r ∷ front) back other page e = elim (holds_page r page) as (λ b. grant_in (cond b (Some r) (region_at (front ++ back) page)) page ≡ grant_in (cond b (Some r) (region_at (front ++ other) page)) page) [
   | true ↦ refl
   | false ↦ behind_same front back other page e
 ]
 
-first_same : (a b : Region) (rest : List Region) (page : ℕ) → holds_page a page ≡ holds_page b page → ground_in (Some a) page ≡ ground_in (Some b) page → Found (a ∷ rest) page ≡ Found (b ∷ rest) page
-first_same a b rest page same grounds =
-    ap (λ t. ground_in (cond t (Some a) (region_at rest page)) page) same
-    ∙ elim (holds_page b page) as (λ t. ground_in (cond t (Some a) (region_at rest page)) page ≡ ground_in (cond t (Some b) (region_at rest page)) page) [
-      | true ↦ grounds
+first_same : (a b : Region) (rest : List Region) (page : ℕ) → holds_page a page ≡ holds_page b page → grant_in (Some a) page ≡ grant_in (Some b) page → Found (a ∷ rest) page ≡ Found (b ∷ rest) page
+first_same a b rest page same grants =
+    ap (λ t. grant_in (cond t (Some a) (region_at rest page)) page) same
+    ∙ elim (holds_page b page) as (λ t. grant_in (cond t (Some a) (region_at rest page)) page ≡ grant_in (cond t (Some b) (region_at rest page)) page) [
+      | true ↦ grants
       | false ↦ refl
     ]
 
 pub skipped : (r : Region) (rest : List Region) (page : ℕ) → holds_page r page ≡ false → Found (r ∷ rest) page ≡ Found rest page
-skipped r rest page e = ap (λ t. ground_in (cond t (Some r) (region_at rest page)) page) e
+skipped r rest page e = ap (λ t. grant_in (cond t (Some r) (region_at rest page)) page) e
 
-pub here : (r : Region) (rest : List Region) (page : ℕ) → holds_page r page ≡ true → Found (r ∷ rest) page ≡ ground_in (Some r) page
-here r rest page e = ap (λ t. ground_in (cond t (Some r) (region_at rest page)) page) e
+pub here : (r : Region) (rest : List Region) (page : ℕ) → holds_page r page ≡ true → Found (r ∷ rest) page ≡ grant_in (Some r) page
+here r rest page e = ap (λ t. grant_in (cond t (Some r) (region_at rest page)) page) e
 
 -- ---- pages that are kept
 
@@ -83,7 +83,7 @@ resized_same p size page e =
     let both = neither (is_between (pages_for size) (pages_for p.size) page) (is_between (pages_for p.size) (pages_for size) page) e in
     let q = resized p size in
     record {
-      grounds = behind_same p.parts (heap_of q ∷ p.mappings) (heap_of p ∷ p.mappings) page
+      grants = behind_same p.parts (heap_of q ∷ p.mappings) (heap_of p ∷ p.mappings) page
           (first_same (heap_of q) (heap_of p) p.mappings page (same_end (page_of p.heap_base) (pages_for p.size) (pages_for size) page both.0 both.1) refl);
       settled = outside_settled p (pages_for size) (pages_for p.size) page both.0;
     }
@@ -99,7 +99,7 @@ with_same r (m ∷ ms) page e = elim (nat_lt r.first m.first) as (λ b. Found (c
 
 pub mapped_same : (p : Process) (r : Region) (page : ℕ) → holds_page r page ≡ false → SameAt p (record p { mappings = with_mapping r p.mappings }) page
 mapped_same p r page e = record {
-  grounds = behind_same p.parts (heap_of p ∷ with_mapping r p.mappings) (heap_of p ∷ p.mappings) page (behind_same (heap_of p ∷ []) (with_mapping r p.mappings) p.mappings page (with_same r p.mappings page e));
+  grants = behind_same p.parts (heap_of p ∷ with_mapping r p.mappings) (heap_of p ∷ p.mappings) page (behind_same (heap_of p ∷ []) (with_mapping r p.mappings) p.mappings page (with_same r p.mappings page e));
   settled = refl;
 }
 
@@ -117,8 +117,8 @@ module _ (m : Region) (first end page : ℕ) (rest : List Region) (le : first �
   abbrev back : Region
   back = record m { first = end; pages = end_of m - end; source = moved_along m.source (end - m.first) }
 
-  back_ground : end ≤ page → ground_in (Some back) page ≡ ground_in (Some m) page
-  back_ground l = ap (λ s. Some (record { reads = m.reads; writes = m.writes; executes = m.executes; kind = m.kind; source = s })) (along m.source (end - m.first) (page - end) (page - m.first) (omega (arith, l, le, start)))
+  back_grant : end ≤ page → grant_in (Some back) page ≡ grant_in (Some m) page
+  back_grant l = ap (λ s. Some (record { reads = m.reads; writes = m.writes; executes = m.executes; kind = m.kind; source = s })) (along m.source (end - m.first) (page - end) (page - m.first) (omega (arith, l, le, start)))
 
   front_holds : holds_page front page ≡ (holds_page m page && nat_lt page first)
   front_holds = grind (arith, nat_tests)
@@ -129,22 +129,22 @@ module _ (m : Region) (first end page : ℕ) (rest : List Region) (le : first �
   where_out : nat_lt page first ≡ not (nat_le end page)
   where_out = grind (arith, nat_tests)
 
-  front_there : (b : Bool) → nat_lt m.first first ≡ b → (other : List Region) → Found (cond b (front ∷ []) [] ++ other) page ≡ ground_in (cond (holds_page m page && nat_lt page first) (Some front) (region_at other page)) page
-  front_there true e other = ap (λ t. ground_in (cond t (Some front) (region_at other page)) page) front_holds
-  front_there false e other = ap (λ t. ground_in (cond t (Some front) (region_at other page)) page) none
+  front_there : (b : Bool) → nat_lt m.first first ≡ b → (other : List Region) → Found (cond b (front ∷ []) [] ++ other) page ≡ grant_in (cond (holds_page m page && nat_lt page first) (Some front) (region_at other page)) page
+  front_there true e other = ap (λ t. grant_in (cond t (Some front) (region_at other page)) page) front_holds
+  front_there false e other = ap (λ t. grant_in (cond t (Some front) (region_at other page)) page) none
     where
       none : false ≡ (holds_page m page && nat_lt page first)
       none = grind (arith, nat_tests)
 
-  back_there : (b : Bool) → nat_lt end (end_of m) ≡ b → (other : List Region) → Found (cond b (back ∷ []) [] ++ other) page ≡ ground_in (cond (holds_page m page && nat_le end page) (Some back) (region_at other page)) page
-  back_there true e other = ap (λ t. ground_in (cond t (Some back) (region_at other page)) page) back_holds
-  back_there false e other = ap (λ t. ground_in (cond t (Some back) (region_at other page)) page) none
+  back_there : (b : Bool) → nat_lt end (end_of m) ≡ b → (other : List Region) → Found (cond b (back ∷ []) [] ++ other) page ≡ grant_in (cond (holds_page m page && nat_le end page) (Some back) (region_at other page)) page
+  back_there true e other = ap (λ t. grant_in (cond t (Some back) (region_at other page)) page) back_holds
+  back_there false e other = ap (λ t. grant_in (cond t (Some back) (region_at other page)) page) none
     where
       none : false ≡ (holds_page m page && nat_le end page)
       none = grind (arith, nat_tests)
 
-  pieces : (h past : Bool) → nat_le end page ≡ past → ground_in (cond (h && not past) (Some front) (cond (h && past) (Some back) (region_at rest page))) page ≡ ground_in (cond h (Some m) (region_at rest page)) page
-  pieces true true e = back_ground (leb-true end page e)
+  pieces : (h past : Bool) → nat_le end page ≡ past → grant_in (cond (h && not past) (Some front) (cond (h && past) (Some back) (region_at rest page))) page ≡ grant_in (cond h (Some m) (region_at rest page)) page
+  pieces true true e = back_grant (leb-true end page e)
   pieces true false e = refl
   pieces false past e = refl
 
@@ -156,12 +156,12 @@ module _ (m : Region) (first end page : ℕ) (rest : List Region) (le : first �
   in_pieces =
       ap (λ rs. Found rs page) (append_again (front_of m first) (back_of m end) rest)
       ∙ front_there (nat_lt m.first first) refl (back_of m end ++ rest)
-      ∙ elim (holds_page m page && nat_lt page first) as (λ t. ground_in (cond t (Some front) (region_at (back_of m end ++ rest) page)) page
-      ≡ ground_in (cond t (Some front) (cond (holds_page m page && nat_le end page) (Some back) (region_at rest page))) page) [
+      ∙ elim (holds_page m page && nat_lt page first) as (λ t. grant_in (cond t (Some front) (region_at (back_of m end ++ rest) page)) page
+      ≡ grant_in (cond t (Some front) (cond (holds_page m page && nat_le end page) (Some back) (region_at rest page))) page) [
         | true ↦ refl
         | false ↦ back_there (nat_lt end (end_of m)) refl rest
       ]
-      ∙ ap (λ t. ground_in (cond (holds_page m page && t) (Some front) (cond (holds_page m page && nat_le end page) (Some back) (region_at rest page))) page) where_out
+      ∙ ap (λ t. grant_in (cond (holds_page m page && t) (Some front) (cond (holds_page m page && nat_le end page) (Some back) (region_at rest page))) page) where_out
       ∙ pieces (holds_page m page) (nat_le end page) refl
 
 pub around_above : (low high first end : ℕ) (ms : List Region) (m : Region) → Row 1 low ms high → mapping_around ms first end ≡ Some m → low ≤ m.first
@@ -196,6 +196,6 @@ pub unmapped_same : (p : Process) (m : Region) (low high first end page : ℕ) �
 unmapped_same p m low high first end page le out row around =
     let now = with_instead p.mappings m.first (front_of m first ++ back_of m end) in
     record {
-      grounds = behind_same p.parts (heap_of p ∷ now) (heap_of p ∷ p.mappings) page (behind_same (heap_of p ∷ []) now p.mappings page (instead_same low high first end page p.mappings m le out row around));
+      grants = behind_same p.parts (heap_of p ∷ now) (heap_of p ∷ p.mappings) page (behind_same (heap_of p ∷ []) now p.mappings page (instead_same low high first end page p.mappings m le out row around));
       settled = outside_settled p first end page out;
     }
