@@ -1,15 +1,15 @@
 -- What calls give to the pages that they move.
-use Rattle.std.proofs.Common.{◌≡◌, ℕ, ℤ, Bool, true, false, cond, ◌&&◌, ◌||◌, ◌==◌, ◌+◌, ◌-◌, ◌*◌, ◌<◌, ◌≤◌, inl, inr, refl, sym, ap, subst, ◌∙◌, arith, List, [], ◌∷◌, ◌++◌, map, Option, None, Some}
-use Rattle.std.specs.Prelude.{nat_abs, nat_le, nat_lt, if◌then◌else◌}
+use Rattle.std.proofs.Common.{◌≡◌, ◌⊎◌, ℕ, ℤ, Bool, true, false, cond, ◌&&◌, ◌||◌, ◌==◌, ◌+◌, ◌-◌, ◌*◌, ◌<◌, ◌≤◌, inl, inr, refl, sym, ap, subst, ◌∙◌, arith, List, [], ◌∷◌, ◌++◌, map, Option, None, Some}
+use Rattle.std.specs.Prelude.{nat_abs, Ok, nat_le, nat_lt, if◌then◌else◌}
 use Rattle.std.specs.List.{list_all}
 use Rattle.std.proofs.lemmas.Bool.{and_parts, cases_eq, eqb-true, eq-eqb, leb-true, ltb-false, ltb-true, ne_eqb}
 use Rattle.std.proofs.lemmas.Bool.Decides.{nat_tests}
 use Rattle.std.proofs.lemmas.Option.{same_Some}
 use Rattle.process_laws.proofs.Grants.{around_above, Found, here, skipped}
-use Rattle.process_laws.specs.Pages.{Grant, grant, grant_in, has_mark, heap_grant, has_fork_mark, is_between, loads_grant, mapping_grant}
+use Rattle.process_laws.specs.Pages.{Grant, grant, grant_in, has_fork_mark, has_mark, has_stored_mark, heap_grant, image_size, is_between, loads_grant, mapping_grant}
 use Rattle.process_model.specs.Bytes.{pages_for}
 use Rattle.process_model.specs.Granted.{size_granted}
-use Rattle.process_model.specs.Heap.{resized, size_refusal, without_pages}
+use Rattle.process_model.specs.Heap.{heap_limit, resized, size_refusal, without_pages}
 use Rattle.process_model.specs.Images.{end_of_loads, end_page, LoadSegment}
 use Rattle.process_model.specs.Inserted.{inserted_here, inserted_other}
 use Rattle.process_model.specs.Loading.{guard_at, image_pages, numbered, process_of, segment_region, stack_at}
@@ -19,6 +19,7 @@ use Rattle.process_model.specs.PageMap.{from_list, get, insert}
 use Rattle.process_model.specs.Process.{heap_of, Page, Process}
 use Rattle.process_model.specs.RegionRows.{row_up}
 use Rattle.process_model.specs.Regions.{end_of, file, guard, heap, holds_page, image, Region, region_at, segment, stack, zeros}
+use Rattle.process_model.specs.World.{is_unserved_access}
 use Rattle.sv39_entry.specs.Address.{page_of, trapframe_page}
 
 -- ---- rows
@@ -36,6 +37,11 @@ none_below least low high page (r ∷ rs) row less =
     let start = row.0 in
     let out : holds_page r page ≡ false = grind (arith, nat_tests, start, less) in
     skipped r rs page out ∙ none_below least (end_of r) high page rs row.2 (omega (arith, start, less))
+
+-- nor below the first
+under_limit : (least low high limit page : ℕ) (rs : List Region) → Row least low rs high → limit ≤ heap_limit rs → page < limit → Found rs page ≡ None
+under_limit least low high limit page [] row le less = refl
+under_limit least low high limit page (r ∷ rs) row le less = none_below least r.first high page (r ∷ rs) (omega arith, row.1, row.2) (omega (arith, le, less))
 
 -- in front there is nothing
 past_none : (front back : List Region) (page : ℕ) → Found front page ≡ None → Found (front ++ back) page ≡ Found back page
@@ -102,6 +108,20 @@ module _ (p : Process) (order : IsInOrder p) (page : ℕ) where
     pub resized_given : (is_between new old page || is_between old new page) ≡ true → grant q page ≡ (if nat_lt page new then Some heap_grant else None)
     resized_given e = resized_at (nat_lt page new) refl e
 
+    -- a page that the heap gets was nobody's, and one that it loses is
+    vacant_at : (b : Bool) → nat_lt page new ≡ b → (is_between new old page || is_between old new page) ≡ true → (grant p page ≡ None) ⊎ (grant q page ≡ None)
+    vacant_at true less e =
+        let below = ltb-true page new less in
+        let not : is_between new old page ≡ false = grind (arith, nat_tests, below) in
+        let t = between old new page (either (is_between new old page) (is_between old new page) e not) in
+        let room = order.room in
+        let start : page_of p.heap_base ≤ old = room in
+        inl (past_parts (heap_of p ∷ p.mappings) (omega (arith, start, t.0)) ∙ skipped (heap_of p) p.mappings page (above_heap (page_of p.heap_base) old page start t.0) ∙ under_limit 1 old trapframe_page new page p.mappings order.above (size_granted p wanted none).1 t.1)
+    vacant_at false past e = inr (resized_given e ∙ ap (λ b. if b then Some heap_grant else None) past)
+
+    pub resized_vacant : (is_between new old page || is_between old new page) ≡ true → (grant p page ≡ None) ⊎ (grant q page ≡ None)
+    resized_vacant e = vacant_at (nat_lt page new) refl e
+
   -- above the heap
   pub past_heap : (rest : List Region) → pages_for p.size ≤ page → Found (p.parts ++ heap_of p ∷ rest) page ≡ Found rest page
   past_heap rest above =
@@ -109,6 +129,9 @@ module _ (p : Process) (order : IsInOrder p) (page : ℕ) where
       past_parts (heap_of p ∷ rest) (omega (arith, room, above)) ∙ skipped (heap_of p) rest page (above_heap (page_of p.heap_base) (pages_for p.size) page room above)
 
   -- ---- mmap
+
+  outside : (r m : Region) → holds_page r page ≡ true → is_apart r.first r.pages m ≡ true → holds_page m page ≡ false
+  outside r m inside apart = grind (arith, nat_tests)
 
   with_there : (r : Region) (ms : List Region) → holds_page r page ≡ true → list_all (is_apart r.first r.pages) ms ≡ true → Found (with_mapping r ms) page ≡ grant_in (Some r) page
   with_there r [] inside apart = here r [] page inside
@@ -118,9 +141,7 @@ module _ (p : Process) (order : IsInOrder p) (page : ℕ) where
         let parts = and_parts (is_apart r.first r.pages m) (list_all (is_apart r.first r.pages) ms) apart in
         let out : holds_page m page ≡ false = outside r m inside parts.0 in
         skipped m (with_mapping r ms) page out ∙ with_there r ms inside parts.1
-  ] where
-    outside : (r m : Region) → holds_page r page ≡ true → is_apart r.first r.pages m ≡ true → holds_page m page ≡ false
-    outside r m inside apart = grind (arith, nat_tests)
+  ]
 
   pub mapped_given : (r : Region) → fits_at p r.pages r.first ≡ true → holds_page r page ≡ true → grant (record p { mappings = with_mapping r p.mappings }) page ≡ grant_in (Some r) page
   mapped_given r fits inside =
@@ -129,6 +150,21 @@ module _ (p : Process) (order : IsInOrder p) (page : ℕ) where
       let start = leb-true (pages_for p.size) r.first inner.0 in
       let in_it = between r.first (end_of r) page inside in
       past_heap (with_mapping r p.mappings) (omega (arith, start, in_it.0)) ∙ with_there r p.mappings inside outer.1
+
+  apart_none : (r : Region) (ms : List Region) → holds_page r page ≡ true → list_all (is_apart r.first r.pages) ms ≡ true → Found ms page ≡ None
+  apart_none r [] inside apart = refl
+  apart_none r (m ∷ ms) inside apart =
+      let parts = and_parts (is_apart r.first r.pages m) (list_all (is_apart r.first r.pages) ms) apart in
+      skipped m ms page (outside r m inside parts.0) ∙ apart_none r ms inside parts.1
+
+  -- the pages were nobody's
+  pub mapped_vacant : (r : Region) → fits_at p r.pages r.first ≡ true → holds_page r page ≡ true → grant p page ≡ None
+  mapped_vacant r fits inside =
+      let outer = and_parts (nat_le (pages_for p.size) r.first && nat_le (r.first + r.pages) trapframe_page) (list_all (is_apart r.first r.pages) p.mappings) fits in
+      let inner = and_parts (nat_le (pages_for p.size) r.first) (nat_le (r.first + r.pages) trapframe_page) outer.0 in
+      let start = leb-true (pages_for p.size) r.first inner.0 in
+      let in_it = between r.first (end_of r) page inside in
+      past_heap p.mappings (omega (arith, start, in_it.0)) ∙ apart_none r p.mappings inside outer.1
 
   -- ---- munmap
 
@@ -242,16 +278,28 @@ image_given fresh ls page =
 pub mark_at : (mark : Page → Bool) (o u : Option Page) → o ≡ u → has_mark mark o ≡ has_mark mark u
 mark_at mark o u e = ap (has_mark mark) e
 
-listed_unforked : (fresh : ℕ) (es : List (ℕ × List ℕ)) (page : ℕ) → has_mark (λ z. z.fork_mark) (get (from_list (numbered fresh es)) page) ≡ false
-listed_unforked fresh [] page = refl
-listed_unforked fresh (e ∷ es) page =
+listed_unmarked : (fresh : ℕ) (es : List (ℕ × List ℕ)) (page : ℕ) → (has_mark (λ z. z.fork_mark) (get (from_list (numbered fresh es)) page) ≡ false) × (has_mark (λ z. z.stored_mark) (get (from_list (numbered fresh es)) page) ≡ false)
+listed_unmarked fresh [] page = (refl, refl)
+listed_unmarked fresh (e ∷ es) page =
     let rest = from_list (numbered (fresh + 1) es) in
     let new : Page = record { bytes = e.1; copy = fresh; fork_mark = false; stored_mark = false } in
+    let later = listed_unmarked (fresh + 1) es page in
     elim (cases_eq page e.0) [
-      | inl same ↦ mark_at (λ z. z.fork_mark) (get (insert rest e.0 new) page) (Some new) (inserted_here e.0 new rest page same)
-      | inr apart ↦ mark_at (λ z. z.fork_mark) (get (insert rest e.0 new) page) (get rest page) (inserted_other e.0 new rest page apart) ∙ listed_unforked (fresh + 1) es page
+      | inl same ↦ let is = inserted_here e.0 new rest page same in (mark_at (λ z. z.fork_mark) (get (insert rest e.0 new) page) (Some new) is, mark_at (λ z. z.stored_mark) (get (insert rest e.0 new) page) (Some new) is)
+      | inr apart ↦ let is = inserted_other e.0 new rest page apart in (
+        mark_at (λ z. z.fork_mark) (get (insert rest e.0 new) page) (get rest page) is ∙ later.0,
+        mark_at (λ z. z.stored_mark) (get (insert rest e.0 new) page) (get rest page) is ∙ later.1,
+      )
     ]
 
-pub image_unforked : (fresh : ℕ) (ls : List LoadSegment) (page : ℕ) → has_fork_mark (process_of fresh ls) page ≡ false
+pub image_unmarked : (fresh : ℕ) (ls : List LoadSegment) (page : ℕ) → (has_fork_mark (process_of fresh ls) page ≡ false) × (has_stored_mark (process_of fresh ls) page ≡ false)
 unfolding process_of
-image_unforked fresh ls page = listed_unforked fresh (image_pages ls) page
+image_unmarked fresh ls page = listed_unmarked fresh (image_pages ls) page
+
+pub image_idle : (fresh : ℕ) (ls : List LoadSegment) → is_unserved_access (process_of fresh ls).pending ≡ false
+unfolding process_of
+image_idle fresh ls = refl
+
+pub image_sized : (fresh : ℕ) (ls : List LoadSegment) → (process_of fresh ls).size ≡ image_size (Ok ls)
+unfolding process_of
+image_sized fresh ls = refl

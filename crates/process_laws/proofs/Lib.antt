@@ -15,6 +15,7 @@ pub mod Later
 pub mod CopyStops
 pub mod CopyFrames
 pub mod Refused
+pub mod Replies
 pub mod Untold
 pub mod Possible
 pub mod Going

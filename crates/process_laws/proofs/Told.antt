@@ -1,5 +1,6 @@
 -- The headline holds of each step of every run.
-use Rattle.std.proofs.Common.{false, ◌≡◌, ◌≢◌, ◌⊎◌, length, ◌+◌, ℕ, true, refl, sym, ap, subst, ◌∙◌, Option, None, Some, List, [], ◌∷◌, ◌++◌, take, Bor}
+use Rattle.std.proofs.Common.{false, ◌≡◌, ◌≢◌, ◌⊎◌, length, ◌+◌, ℕ, true, refl, sym, subst, ◌∙◌, Option, None, Some, List, [], ◌∷◌, ◌++◌, take, Bor, ◌≤◌}
+use Rattle.std.specs.Prelude.{Err}
 use Rattle.process_laws.proofs.CopyAlone.{in_alone, out_alone}
 use Rattle.process_laws.proofs.CopyFronts.{in_front_world, out_front_world}
 use Rattle.process_laws.proofs.CopyFrames.{copies_in_spend, copies_out_spend, New, are_new}
@@ -10,16 +11,17 @@ use Rattle.process_laws.proofs.EveryChange.{always_holds, Holds}
 use Rattle.process_laws.proofs.Execs.{execs}
 use Rattle.process_laws.proofs.Faults.{faults}
 use Rattle.process_laws.proofs.Fresh.{fresh_is_kept}
-use Rattle.process_laws.proofs.Going.{leave_goes, next_goes, start_goes, switch_goes, trap_goes}
+use Rattle.process_laws.proofs.Going.{leave_goes, next_goes, start_brings, start_goes, switch_goes, trap_goes}
 use Rattle.process_laws.proofs.Granting.{always_sound, IsSound, sound_grants}
 use Rattle.process_laws.proofs.Kept.{step_keeps}
 use Rattle.process_laws.proofs.KnownRuns.{copy_holds, has_latest, fetch_reads, HoldsLatest, latest_held, load_reads, read_is_latest, run_holds, run_one_more}
 use Rattle.process_laws.proofs.OnHarts.{access_good}
 use Rattle.process_laws.proofs.Others.{kept_by}
 use Rattle.process_laws.proofs.HeldBytes.{Sized}
-use Rattle.process_laws.proofs.OwnSteps.{child_is, exec_goes, fork_goes, Own, own_files, owns}
+use Rattle.process_laws.proofs.OwnSteps.{becomes_as, child_is, exec_goes, exit_goes, fork_goes, Own, own_files, owns, told_as}
 use Rattle.process_laws.proofs.Possible.{access_made, calls_possible, copy_in_made, copy_out_made, service_made}
 use Rattle.process_laws.proofs.Refused.{refused_same}
+use Rattle.process_laws.proofs.Replies.{bad_exec, bad_start, served_waits, step_hosted, step_suits}
 use Rattle.process_laws.proofs.Running.{step_reply}
 use Rattle.process_laws.proofs.Untold.{untold}
 use Rattle.process_laws.proofs.Users.{ends}
@@ -28,13 +30,15 @@ use Rattle.process_laws.specs.Headline as headline
 use Rattle.process_laws.specs.Headline.{AllHold, AnswersUsers, Copies, CopiesForKernel, CountsFrames, elsewhere, Headline, IsDry, Becomes, ChangesOwn, LeavesOthers, MakesSteps, ReadsLatest}
 use Rattle.process_laws.specs.Latest.{AreLatest, bytes_in, IsLatest}
 use Rattle.process_laws.specs.Moments.{Moment, moment_of, moments_from, slot_on}
-use Rattle.process_laws.specs.Pages.{grant_after, grant, has_fork_mark}
-use Rattle.process_laws.specs.Words.{Asked, Asks, copied, Forbids, in_memory, IsResident, IsIn, IsMade, IsOn, maker, stopped_by, takes_frames, tells_no_frame, Written}
+use Rattle.process_laws.specs.Words.{Asked, Asks, Begins, copied, CopiesBytes, Forbids, in_memory, IsChild, IsIn, IsMade, IsOn, IsResident, Loads, maker, MayCall, stopped_by, takes_frames, tells_no_frame, Written}
+use Rattle.process_model.specs.Copies.{longest_copy}
 use Rattle.process_model.specs.Files.{File}
+use Rattle.process_model.specs.Images.{image_loads}
 use Rattle.process_model.specs.Process.{Process, regions}
 use Rattle.process_model.specs.Steps.{plain_step, run, step}
-use Rattle.process_model.specs.World.{booted, free_slot, is_unserved_access, Outcome, process_in, World}
+use Rattle.process_model.specs.World.{booted, free_slot, Outcome, process_in, World}
 use Rattle.process_model.specs.declared.config.Config.{Config}
+use Rattle.process_model.specs.declared.image.BadImage.{BadImage}
 use Rattle.process_model.specs.declared.image.Image.{Image}
 use Rattle.process_model.specs.declared.phase.Phase.TheVariants.{Enter0, Idle, Kernel}
 use Rattle.process_model.specs.declared.step.Reply.TheVariants.{Done, Ended, Forked, Ready, Started, Value}
@@ -58,6 +62,7 @@ module _ (w : World) (x : Step) where
       faults = λ h s p a t not. faults w h s p a t.via x t.on t.asks t.made not;
       served = λ h s p a t g. subst (λ (y : Step). (((step w y).reply ≡ Ready) × ((q : Process) → process_in (step w y).world s ≡ Some q → IsResident q a)) ⊎ ((step w y).reply ≡ Ended NoFrame)) (sym t.serves)
           (users.serves w sound h s p a t.on (subst (λ (y : Step). IsMade (step w y).reply) t.serves t.made) g);
+      waits = λ h is made. served_waits w h (subst (λ (y : Step). IsMade (step w y).reply) is made);
       ended = λ h s p a t not. subst (λ (y : Step). (rule : Rule) × ((step w y).reply ≡ Ended rule) × Forbids p a rule) (sym t.serves)
           (ends w h s p a t.on (subst (λ (y : Step). IsMade (step w y).reply) t.serves t.made) not);
     }
@@ -65,14 +70,13 @@ module _ (w : World) (x : Step) where
     own_steps : (h s : ℕ) (p : Process) → maker x ≡ Some h → IsOn w h s p → ChangesOwn m h s p
     own_steps h s p makes on = by (owns w h s p on (sound s p on.lives) x makes) (own_files w h s p on (sound s p on.lives) (sized.pages s p on.lives) x makes)
       where
-        children : (t : ℕ) (c : Process) → x ≡ Fork h → (step w x).reply ≡ Forked t → process_in (step w x).world t ≡ Some c
-            → (regions c ≡ regions p) × (c.heap_base ≡ p.heap_base) × (c.size ≡ p.size) × (is_unserved_access c.pending ≡ false)
-        children t c is e there = child_is w h s p on t c (ap (λ (y : Step). (step w y).reply) (sym is) ∙ e) (ap (λ (y : Step). process_in (step w y).world t) (sym is) ∙ there)
+        children : (t : ℕ) → x ≡ Fork h → (step w x).reply ≡ Forked t → (free_slot w ≡ Some t) × (c : Process) × (process_in (step w x).world t ≡ Some c) × IsChild p c
+        children t is = subst (λ (y : Step). (step w y).reply ≡ Forked t → (free_slot w ≡ Some t) × (c : Process) × (process_in (step w y).world t ≡ Some c) × IsChild p c) (sym is) (child_is w h s p on t)
 
-        by : Own w.files h s x p (step w x) → Written p w.files ((step w x).world).files → ChangesOwn m h s p
-        by (Own.alive q e lives waits stays gives unforked) written = record {
+        by : Own w h s x p (step w x) → Written p w.files ((step w x).world).files → ChangesOwn m h s p
+        by (Own.alive q e lives k) written = record {
           files = written;
-          lives = λ _. (q, e, record { waits = waits; stays = λ page out. let k = stays page out in (k.grants, k.stored); moved = gives; forked = unforked });
+          lives = λ _. (q, e, becomes_as (told_as w x (step w x).reply) m h p q refl refl k);
           gone = λ is. absurd (let no : true ≡ false = sym is ∙ lives in cc);
           child = children;
         }
@@ -98,25 +102,43 @@ module _ (w : World) (x : Step) where
     }
 
   leaves_others : LeavesOthers m
-  leaves_others = record { kept = λ s q apart lives. kept_by s q w x apart lives; refused = λ e is. refused_same w x e is; empty = (step_keeps w x).empty; harts = (step_keeps w x).harts; files = (step_keeps w x).files }
+  leaves_others =
+      let k = step_keeps w x in
+      record {
+        kept = λ s q apart lives. kept_by s q w x apart lives;
+        refused = λ e is. refused_same w x e is;
+        made = λ h e made. step_hosted w h x e made;
+        empty = k.empty;
+        harts = k.harts;
+        files = k.files;
+        memory = (step_suits w x).memory;
+      }
+
+  refuses_bad : (image : Image) (e : BadImage) (y : Step) → Loads image y → image_loads image ≡ Err e → IsMade (step w y).reply → ⊥
+  refuses_bad image e y Loads.start bad made = bad_start w image e bad made
+  refuses_bad image e y (Loads.exec {h}) bad made = bad_exec w h image e bad made
+
+  copies_made : (h s n : ℕ) (p : Process) (y : Step) → MayCall w h s p → CopiesBytes h n y → n ≤ longest_copy → IsMade (step w y).reply
+  copies_made h s n p y k (CopiesBytes.copy_in {address}) few = copy_in_made w h s p k.on k.quiet k.in_kernel address n few
+  copies_made h s n p y k (CopiesBytes.copy_out {address} {bytes}) few = copy_out_made w h s p k.on k.quiet k.in_kernel address bytes few
 
   makes_steps : MakesSteps m
   makes_steps = record {
-    start = λ image s ls free loads is quiet. subst (λ (y : Step). ((step w y).reply ≡ Started s) × (p : Process) × (process_in (step w y).world s ≡ Some p) × ((page : ℕ) → (grant p page ≡ grant_after y (step w y).reply page) × (has_fork_mark p page ≡ false))) (sym is)
-        (start_goes w image s ls free loads (subst (λ (y : Step). tells_no_frame (step w y).reply ≡ false) is quiet));
+    replies = (step_suits w x).replies;
+    start = λ image s ls free loads is quiet. subst (λ (y : Step). IsMade (step w y).reply) (sym is) (start_goes w image s ls free loads (subst (λ (y : Step). tells_no_frame (step w y).reply ≡ false) is quiet));
+    started = λ image s is. subst (λ (y : Step). (step w y).reply ≡ Started s → (free_slot w ≡ Some s) × (p : Process) × (process_in (step w y).world s ≡ Some p) × Begins (moment_of w y) p) (sym is) (start_brings w image s);
+    fork = λ h s t p k is free calm. subst (λ (y : Step). IsMade (step w y).reply) (sym is) (fork_goes w h s t p k free (subst (λ (y : Step). tells_no_frame (step w y).reply ≡ false) is calm));
+    exec = λ h s p image ls k is loads calm. subst (λ (y : Step). IsMade (step w y).reply) (sym is) (exec_goes w h s p image ls k loads (subst (λ (y : Step). tells_no_frame (step w y).reply ≡ false) is calm));
+    bad_image = λ image e is bad made. refuses_bad image e x is bad made;
     switch = λ h s p lives apart phase is. subst (λ (y : Step). IsOn (step w y).world h s p × IsIn (step w y).world h Kernel) (sym is) (switch_goes w h s p lives apart phase);
     leave = λ h s p on kernel is. subst (λ (y : Step). (slot_on (step w y).world h ≡ None) × IsIn (step w y).world h Idle) (sym is) (leave_goes w h kernel);
     next = λ h s p phase after on from next quiet is. subst (λ (y : Step). IsOn (step w y).world h s p × IsIn (step w y).world h after) (sym is) (next_goes w h s p phase after on from next quiet);
     trap = λ h s p on user is. subst (λ (y : Step). (slot_on (step w y).world h ≡ Some s) × IsIn (step w y).world h Enter0) (sym is) (trap_goes w h s p on user);
     access = λ h s p a on user asks wide. access_made w h s p a x on user asks wide;
     service = λ h s p a on kernel is. subst (λ (y : Step). IsMade (step w y).reply) (sym is) (service_made w h s p a on kernel);
-    fork = λ h s t p k is free calm. subst (λ (y : Step). ((step w y).reply ≡ Forked t) × (c : Process) × (process_in (step w y).world t ≡ Some c)) (sym is)
-        (fork_goes w h s t p k.on k.quiet k.in_kernel free (subst (λ (y : Step). tells_no_frame (step w y).reply ≡ false) is calm));
-    exec = λ h s p image ls k is loads calm. subst (λ (y : Step). (step w y).reply ≡ Done) (sym is)
-        (exec_goes w h s p image ls k.on k.quiet k.in_kernel loads (subst (λ (y : Step). tells_no_frame (step w y).reply ≡ false) is calm));
+    copy = λ h s n p k copies few. copies_made h s n p x k copies few;
+    exit = λ h s p status k is. subst (λ (y : Step). IsMade (step w y).reply) (sym is) (exit_goes w h s p status k);
     call = λ h s p phase k calls. calls_possible w h s p k.on k.quiet k.in_kernel x calls phase;
-    copy_in = λ h s address n p k is few. subst (λ (y : Step). IsMade (step w y).reply) (sym is) (copy_in_made w h s p k.on k.quiet k.in_kernel address n few);
-    copy_out = λ h s address bytes p k is few. subst (λ (y : Step). IsMade (step w y).reply) (sym is) (copy_out_made w h s p k.on k.quiet k.in_kernel address bytes few);
   }
 
   -- ---- frames

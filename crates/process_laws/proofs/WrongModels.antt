@@ -61,7 +61,7 @@ place_stays m h address len page p q k step reply out = (k.stays page (ap (λ x.
 pub mapped_as_asked : (m : Moment) (h len protection flags n at page : ℕ) (p q : Process) → Becomes m h p q → m.step ≡ Mmap h len protection flags n → m.reply ≡ MappedAt at
     → is_between (page_of at) (page_of at + pages_for len) page ≡ true → grant q page ≡ Some (mapping_grant protection flags n (page - page_of at))
 mapped_as_asked m h len protection flags n at page p q k step reply inside =
-    k.moved page (ap (λ x. is_remapped x m.reply page) step ∙ ap (λ r. is_remapped (Mmap h len protection flags n) r page) reply ∙ inside)
+    k.remapped page (ap (λ x. is_remapped x m.reply page) step ∙ ap (λ r. is_remapped (Mmap h len protection flags n) r page) reply ∙ inside)
     ∙ ap (λ x. grant_after x m.reply page) step ∙ ap (λ r. grant_after (Mmap h len protection flags n) r page) reply
 
 -- a service that holds back the stores to come, as a fork does

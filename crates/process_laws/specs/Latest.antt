@@ -13,7 +13,7 @@ use Rattle.process_model.specs.declared.step.Reply.TheVariants.{CopiedIn, Copied
 use Rattle.process_model.specs.declared.step.Step.{Step}
 use Rattle.process_model.specs.declared.step.Step.TheVariants.{CopyIn, CopyOut, Exec, Exit, Fork, Munmap, Sbrk, Serve, Start, Store}
 use Rattle.process_laws.specs.Moments.{Moment, slot_on}
-use Rattle.process_laws.specs.Pages.{Grant, grant, is_between}
+use Rattle.process_laws.specs.Pages.{Grant, grant, has_some_of, is_between}
 use Rattle.sv39_entry.specs.Address.{page_of}
 
 -- bytes
@@ -62,7 +62,7 @@ is_among first n a = nat_le first a && nat_lt a (first + n)
 
 -- in a page of one of them
 abbrev pub is_in_their_pages : ℕ → ℕ → ℕ → Bool
-is_in_their_pages first n a = nat_lt 0 n && nat_le (page_of first) (page_of a) && nat_le (page_of a) (page_of (first + n - 1))
+is_in_their_pages first n a = has_some_of first n (page_of a)
 
 -- in a page that a change of the size from n released
 abbrev pub is_released : ℕ → ℤ → ℕ → Bool

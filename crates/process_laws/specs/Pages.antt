@@ -1,15 +1,15 @@
 -- What a process has at a page, and which pages a step moves.
-use Rattle.std.specs.Prelude.{ℕ, pos, ◌+ℤ◌, nat_abs, Bool, true, false, not, ◌+◌, ◌-◌, ◌*◌, ◌/◌, ◌%◌, ◌==◌, nat_le, nat_lt, ◌&&◌, ◌||◌, Option, None, Some, Result, Ok, Err, List, [], ◌∷◌, if◌then◌else◌}
+use Rattle.std.specs.Prelude.{ℕ, pos, ◌+ℤ◌, nat_abs, Bool, true, false, not, ◌+◌, ◌-◌, ◌*◌, ◌/◌, ◌%◌, ◌==◌, nat_le, nat_lt, ◌&&◌, ◌||◌, Option, None, Some, Result, Ok, Err, List, [], ◌∷◌, length, if◌then◌else◌}
 use Rattle.process_model.specs.Bytes.{pages_for}
-use Rattle.process_model.specs.Images.{end_page, image_loads, LoadSegment}
+use Rattle.process_model.specs.Images.{end_of_loads, end_page, image_loads, LoadSegment}
 use Rattle.process_model.specs.PageMap.{get}
-use Rattle.process_model.specs.Process.{Page, Process, regions}
+use Rattle.process_model.specs.Process.{Page, Pending, Process, regions}
 use Rattle.process_model.specs.Regions.{file, guard, heap, image, keeps_stores, private_mapping, Region, region_at, RegionKind, segment, shared_mapping, Source, stack, zeros}
 use Rattle.process_model.specs.declared.image.BadImage.{BadImage}
 use Rattle.process_model.specs.declared.step.Reply.{Reply}
-use Rattle.process_model.specs.declared.step.Reply.TheVariants.{Done, MappedAt, OldSize}
+use Rattle.process_model.specs.declared.step.Reply.TheVariants.{Done, MappedAt, OldSize, Started}
 use Rattle.process_model.specs.declared.step.Step.{Step}
-use Rattle.process_model.specs.declared.step.Step.TheVariants.{Exec, Mmap, Munmap, Sbrk, Start}
+use Rattle.process_model.specs.declared.step.Step.TheVariants.{CopyOut, Exec, Mmap, Munmap, Sbrk, Serve, Start}
 use Rattle.sv39_entry.specs.Address.{page_of}
 use Rattle.sv39_entry.specs.declared.access.Access.{Access}
 use Rattle.sv39_entry.specs.declared.access.Access.TheVariants.{Store}
@@ -64,6 +64,10 @@ has_stored_mark p page = has_mark (λ x. x.stored_mark) (get p.settled page)
 abbrev pub is_between : ℕ → ℕ → ℕ → Bool
 is_between first end page = nat_le first page && nat_lt page end
 
+-- the page has one of n addresses from a first on
+abbrev pub has_some_of : ℕ → ℕ → ℕ → Bool
+has_some_of first n page = nat_lt 0 n && nat_le (page_of first) page && nat_le page (page_of (first + n - 1))
+
 abbrev pub is_remapped : Step → Reply → ℕ → Bool
 is_remapped (Exec h i) Done page = true
 is_remapped (Sbrk h delta) (OldSize n) page =
@@ -110,3 +114,31 @@ grant_after (Exec h i) r page = image_grant (image_loads i) page
 grant_after (Sbrk h delta) (OldSize n) page = if nat_lt page (pages_for (nat_abs (pos n +ℤ delta))) then Some heap_grant else None
 grant_after (Mmap h len protection flags n) (MappedAt at) page = Some (mapping_grant protection flags n (page - page_of at))
 grant_after _ r page = None
+
+-- the size of the process after a step
+
+-- of an image: heap and stack meet at the top of the stack, and the heap is empty
+abbrev pub image_size : Result (List LoadSegment) BadImage → ℕ
+image_size (Err e) = 0
+image_size (Ok ls) = 4096 * (end_of_loads 0 ls + 2)
+
+abbrev pub size_after : Step → Reply → ℕ → ℕ
+size_after (Start i) (Started s) size = image_size (image_loads i)
+size_after (Exec h i) Done size = image_size (image_loads i)
+size_after (Sbrk h delta) (OldSize n) size = nat_abs (pos size +ℤ delta)
+size_after _ r size = size
+
+-- the pages that a step makes ready for a store: that of the store whose fault is served, and those of a copy to the process
+
+abbrev pub is_store : Access → Bool
+is_store Store = true
+is_store _ = false
+
+abbrev pub is_store_at : Option Pending → ℕ → Bool
+is_store_at None page = false
+is_store_at (Some a) page = is_store a.access && page_of a.address == page
+
+abbrev pub is_stored_to : Process → Step → ℕ → Bool
+is_stored_to p (Serve h) page = is_store_at p.pending page
+is_stored_to p (CopyOut h address bytes) page = has_some_of address (length bytes.now) page
+is_stored_to p _ page = false

@@ -1,22 +1,24 @@
 -- The words of the headline.
 use Rattle.std.specs.Prelude.{◌≡◌, ◌≢◌, ◌⊎◌, ℕ, Bool, true, false, ◌+◌, ◌<◌, ◌%◌, ◌==◌, Option, None, Some, List, length, option_map, slice_get, if◌then◌else◌}
+use Rattle.std.specs.Borrow.{Bor}
 use Rattle.process_laws.specs.Denied.{IsFirst}
 use Rattle.process_laws.specs.Moments.{Moment, slot_on}
 use Rattle.process_laws.specs.FilePlaces.{file_bytes}
 use Rattle.process_laws.specs.Latest.{byte_at, byte_had}
-use Rattle.process_laws.specs.Pages.{Grant, grant as grant_of, is_ready_page, has_stored_mark}
+use Rattle.process_laws.specs.Pages.{Grant, grant as grant_of, grant_after, has_fork_mark, has_stored_mark, is_ready_page, size_after}
 use Rattle.process_model.specs.Files.{File}
 use Rattle.process_model.specs.Process.{Process, regions}
 use Rattle.process_model.specs.Regions.{file, Region, region_at, shared_mapping}
 use Rattle.process_model.specs.World.{World, is_unserved_access, process_in}
+use Rattle.process_model.specs.declared.image.Image.{Image}
 use Rattle.process_model.specs.declared.phase.Phase.{Phase}
 use Rattle.process_model.specs.declared.phase.Phase.TheVariants.{Kernel}
 use Rattle.process_model.specs.declared.step.Refusal.{Refusal}
 use Rattle.process_model.specs.declared.step.Refusal.TheVariants as refusal
 use Rattle.process_model.specs.declared.step.Reply.{Reply}
-use Rattle.process_model.specs.declared.step.Reply.TheVariants.{CopiedIn, CopiedOut, Done, Ended, Exited, Fault, Forked, Refused, ShortIn, ShortOut, Started, Stored, Value}
+use Rattle.process_model.specs.declared.step.Reply.TheVariants.{CopiedIn, CopiedOut, Done, Ended, Exited, Fault, Filled, Forked, InFrame, MappedAt, OldSize, Ready, Refused, ShortIn, ShortOut, Started, Stored, Value}
 use Rattle.process_model.specs.declared.step.Step.{Step}
-use Rattle.process_model.specs.declared.step.Step.TheVariants.{CopyIn, CopyOut, Exec, Exit, Fetch, Fork, Load, Mmap, Munmap, Next, Sbrk, Serve, Start, Store, Switch, Trap}
+use Rattle.process_model.specs.declared.step.Step.TheVariants.{CopyIn, CopyOut, Evict, Exec, Exit, Fetch, Fill, Fork, Load, Mmap, Munmap, Next, Sbrk, Serve, Start, Store, Switch, TrampolineFetch, Trap}
 use Rattle.sv39_entry.specs.Address.{page_of}
 use Rattle.sv39_entry.specs.Causes.{misaligned_cause, page_fault_cause}
 use Rattle.sv39_entry.specs.declared.access.Access.{Access}
@@ -109,6 +111,16 @@ pub data Calls (h : ℕ) : Step → Type 0 where
   copy_out : {address : ℕ} {bytes : _} → Calls h (CopyOut h address bytes)
   exit : {status : _} → Calls h (Exit h status)
 
+-- the step copies n bytes for the process on hart h
+pub data CopiesBytes (h : ℕ) : ℕ → Step → Type 0 where
+  copy_in : {address n : ℕ} → CopiesBytes h n (CopyIn h address n)
+  copy_out : {address : ℕ} {bytes : Bor (List ℕ)} → CopiesBytes h (length bytes.now) (CopyOut h address bytes)
+
+-- the step makes a process of the image
+pub data Loads (image : Image) : Step → Type 0 where
+  start : Loads image (Start image)
+  exec : {h : ℕ} → Loads image (Exec h image)
+
 -- accesses
 
 -- a fetch, a load or a store of so many bytes at an address
@@ -176,6 +188,36 @@ pub data IsAnswer : Access → Reply → Type 0 where
   loaded : {v : ℕ} → IsAnswer access.Load (Value v)
   stored : IsAnswer access.Store Stored
 
+-- the replies that a step may get
+abbrev pub is_reply : Step → Reply → Bool
+is_reply x (Refused e) = true
+is_reply (Start image) (Started s) = true
+is_reply (Switch h slot) Done = true
+is_reply (Trap h) Done = true
+is_reply (Next h) Done = true
+is_reply (Fill h address) (Filled n) = true
+is_reply (Evict h n) Done = true
+is_reply (Fetch h address via) (Value v) = true
+is_reply (Fetch h address via) (Fault cause) = true
+is_reply (Load h address width via) (Value v) = true
+is_reply (Load h address width via) (Fault cause) = true
+is_reply (Store h address width value via) Stored = true
+is_reply (Store h address width value via) (Fault cause) = true
+is_reply (TrampolineFetch h offset via) (InFrame n) = true
+is_reply (Serve h) Ready = true
+is_reply (Serve h) (Ended rule) = true
+is_reply (Fork h) (Forked s) = true
+is_reply (Exec h image) Done = true
+is_reply (Sbrk h delta) (OldSize n) = true
+is_reply (Mmap h len protection flags n) (MappedAt address) = true
+is_reply (Munmap h address len) Done = true
+is_reply (CopyIn h address n) (CopiedIn bytes) = true
+is_reply (CopyIn h address n) (ShortIn rule bytes) = true
+is_reply (CopyOut h address bytes) (CopiedOut n) = true
+is_reply (CopyOut h address bytes) (ShortOut rule n) = true
+is_reply (Exit h status) (Exited code) = true
+is_reply x r = false
+
 -- of kernel copies: how many bytes were copied, and what stopped it
 
 abbrev pub copied : Reply → ℕ
@@ -211,6 +253,23 @@ takes_frames _ = false
 -- the same world in a memory of n frames
 abbrev pub in_memory : World → ℕ → World
 in_memory w n = record w { frames = n }
+
+-- processes that begin
+
+-- a process that a start brings: each page has what the image gives, and no mark
+pub record Begins (m : Moment) (p : Process) : Type 0 where
+  pub grants : (page : ℕ) → grant_of p page ≡ grant_after m.step m.reply page
+  pub unmarked : (page : ℕ) → (has_fork_mark p page ≡ false) × (has_stored_mark p page ≡ false)
+  pub quiet : is_unserved_access p.pending ≡ false
+  pub size : p.size ≡ size_after m.step m.reply 0
+
+-- the child of a fork: its bytes are in `Latest`
+pub record IsChild (p c : Process) : Type 0 where
+  pub same : regions c ≡ regions p
+  pub base : c.heap_base ≡ p.heap_base
+  pub size : c.size ≡ p.size
+  pub quiet : is_unserved_access c.pending ≡ false
+  pub unstored : (page : ℕ) → has_stored_mark c page ≡ false
 
 -- files
 
