@@ -23,6 +23,7 @@ pub mod Faults
 pub mod CopyAlone
 pub mod CopyFronts
 pub mod Kept
+pub mod KeptFrames
 pub mod Grants
 pub mod Givens
 pub mod FilesWritten

@@ -765,11 +765,12 @@ module _ (w : World) (h s : ℕ) (p : Process) (on : IsOn w h s p) (quiet : is_u
       let no = sym f ∙ step_reply w (step_of.Exit h status) ∙ ap (λ (o : Outcome). o.reply) is in
       cc
 
-pub fork_goes : (w : World) (h s t : ℕ) (p : Process) → MayCall w h s p → free_slot w ≡ Some t → tells_no_frame (step w (step_of.Fork h)).reply ≡ false → IsMade (step w (step_of.Fork h)).reply
-fork_goes w h s t p k free calm = fork_goes_as w h s p k.on k.quiet k.in_kernel t free calm
+pub fork_goes : (w : World) (h s t : ℕ) (p : Process) → IsOn w h s p → MayCall w h p → free_slot w ≡ Some t → tells_no_frame (step w (step_of.Fork h)).reply ≡ false → IsMade (step w (step_of.Fork h)).reply
+fork_goes w h s t p on k free calm = fork_goes_as w h s p on k.quiet k.in_kernel t free calm
 
-pub exec_goes : (w : World) (h s : ℕ) (p : Process) (image : Image) (ls : List LoadSegment) → MayCall w h s p → image_loads image ≡ Ok ls → tells_no_frame (step w (step_of.Exec h image)).reply ≡ false → IsMade (step w (step_of.Exec h image)).reply
-exec_goes w h s p image ls k loads calm = exec_goes_as w h s p k.on k.quiet k.in_kernel image ls loads calm
+pub exec_goes : (w : World) (h s : ℕ) (p : Process) (image : Image) (ls : List LoadSegment) → IsOn w h s p → MayCall w h p → image_loads image ≡ Ok ls → tells_no_frame (step w (step_of.Exec h image)).reply ≡ false
+    → IsMade (step w (step_of.Exec h image)).reply
+exec_goes w h s p image ls on k loads calm = exec_goes_as w h s p on k.quiet k.in_kernel image ls loads calm
 
-pub exit_goes : (w : World) (h s : ℕ) (p : Process) (status : ℤ) → MayCall w h s p → IsMade (step w (step_of.Exit h status)).reply
-exit_goes w h s p status k = exit_goes_as w h s p k.on k.quiet k.in_kernel status
+pub exit_goes : (w : World) (h s : ℕ) (p : Process) (status : ℤ) → IsOn w h s p → MayCall w h p → IsMade (step w (step_of.Exit h status)).reply
+exit_goes w h s p status on k = exit_goes_as w h s p on k.quiet k.in_kernel status

@@ -4,9 +4,10 @@ use Rattle.std.specs.Prelude.{Result, Ok, Err}
 use Rattle.std.proofs.lemmas.Bool.{and_parts}
 use Rattle.std.proofs.lemmas.Option.{same_Some}
 use Rattle.process_laws.proofs.OnHarts.{access_good, its_good, kernel_good, on_hart_good}
-use Rattle.process_laws.proofs.Running.{ran_on, was_made}
-use Rattle.process_laws.specs.Moments.{slot_at, slot_on}
-use Rattle.process_laws.specs.Words.{Asked, IsMade, IsOn, is_reply, maker, waiting}
+use Rattle.process_laws.proofs.Possible.{service_made}
+use Rattle.process_laws.proofs.Running.{has_it, ran_on, was_made}
+use Rattle.process_laws.specs.Moments.{slot_on}
+use Rattle.process_laws.specs.Words.{Asked, IsIn, IsMade, IsOn, is_reply, maker, waiting}
 use Rattle.process_model.specs.Around.{Progress}
 use Rattle.process_model.specs.Calls.{forked, forked_unless, mapped_to, replaced, replaced_unless, resized_to, started, started_unless, unmapped_to}
 use Rattle.process_model.specs.Copies.{Copied, copied_in, copied_out, in_reply, out_reply}
@@ -22,6 +23,7 @@ use Rattle.process_model.specs.declared.config.Policy.{Policy}
 use Rattle.process_model.specs.declared.config.Policy.TheVariants.{Full, Asid}
 use Rattle.process_model.specs.declared.image.BadImage.{BadImage}
 use Rattle.process_model.specs.declared.image.Image.{Image}
+use Rattle.process_model.specs.declared.phase.Phase.TheVariants.{Kernel}
 use Rattle.process_model.specs.declared.step.Refusal.{Refusal}
 use Rattle.process_model.specs.declared.step.Reply.{Reply}
 use Rattle.process_model.specs.declared.step.Step.{Step}
@@ -173,33 +175,25 @@ module _ (w : World) (h : ℕ) where
 
 -- ---- what is served
 
-abbrev pub Waits : World → ℕ → Type 0
-Waits w h = (s : ℕ) × (p : Process) × (a : Asked) × IsOn w h s (waiting p a)
-
-module _ (w : World) (h : ℕ) where
-  waits_by : (s : ℕ) (p : Process) (o : Option Pending) → slot_on w h ≡ Some s → process_in w s ≡ Some p → p.pending ≡ o → is_unserved_access o ≡ true → Waits w h
-  waits_by s p None on lives is waits = absurd cc
-  waits_by s p (Some a) on lives is waits = (s, p, record { access = a.access; address = a.address; width = a.width }, record { there = on; lives = lives ∙ ap Some same })
+module _ (w : World) (h s : ℕ) (p : Process) (on : IsOn w h s p) where
+  waits_by : (o : Option Pending) → p.pending ≡ o → is_unserved_access o ≡ true → (a : Asked) × (p ≡ waiting p a)
+  waits_by None is waits = absurd cc
+  waits_by (Some a) is waits = (record { access = a.access; address = a.address; width = a.width }, ap (λ (o : Option Pending). record p { pending = o }) (is ∙ ap (λ b. let x : Pending = record { access = a.access; address = a.address; width = a.width; served = b } in Some x) (unserved a.served waits)))
     where
       unserved : (b : Bool) → not b ≡ true → b ≡ false
       unserved true e = absurd cc
       unserved false e = refl
 
-      same : p ≡ record p { pending = Some (record { access = a.access; address = a.address; width = a.width; served = false }) }
-      same = ap (λ (o : Option Pending). record p { pending = o }) (is ∙ ap (λ b. let x : Pending = record { access = a.access; address = a.address; width = a.width; served = b } in Some x) (unserved a.served waits))
+  -- an access that waits is served, in the kernel
+  pub serves_it : IsIn w h Kernel → is_unserved_access p.pending ≡ true → IsMade (step w (step_of.Serve h)).reply
+  serves_it kernel waits = let k = waits_by p.pending refl waits in service_made w h s p k.0 (record { there = on.there; lives = on.lives ∙ ap Some k.1 }) kernel
 
-  in_slot : (hart : Hart) (s : ℕ) (o : Option Process) → slot_on w h ≡ Some s → process_in w s ≡ o → is_unserved o ≡ true → Waits w h
-  in_slot hart s None on lives waits = absurd cc
-  in_slot hart s (Some p) on lives waits = waits_by s p p.pending on lives refl waits
-
-  of_hart : (hart : Hart) (o : Option ℕ) → slot_on w h ≡ o → is_unserved (process_of_slot w o) ≡ true → Waits w h
-  of_hart hart None on waits = absurd cc
-  of_hart hart (Some s) on waits = in_slot hart s (process_in w s) on refl waits
-
-  pub served_waits : IsMade (step w (step_of.Serve h)).reply → Waits w h
+  -- and no other
+  pub served_waits : IsMade (step w (step_of.Serve h)).reply → is_unserved_access p.pending ≡ true
   served_waits made =
       let r = ran_on w h true (can_serve w) always (λ hart. with_its_process w hart (λ s p. served w h hart s p p.pending)) (was_made w (step_of.Serve h) made) in
-      of_hart r.hart (r.hart).slot (ap slot_at r.there) (and_parts _ _ r.can).1
+      let slot : (r.hart).slot ≡ Some s = has_it w h s r.hart on.there r.there in
+      ap is_unserved (sym on.lives) ∙ ap (λ o. is_unserved (process_of_slot w o)) (sym slot) ∙ (and_parts _ _ r.can).1
 
 -- ---- bad images
 

@@ -14,20 +14,21 @@ use Rattle.process_laws.proofs.Fresh.{fresh_is_kept}
 use Rattle.process_laws.proofs.Going.{leave_goes, next_goes, start_brings, start_goes, switch_goes, trap_goes}
 use Rattle.process_laws.proofs.Granting.{always_sound, IsSound, sound_grants}
 use Rattle.process_laws.proofs.Kept.{step_keeps}
+use Rattle.process_laws.proofs.KeptFrames.{keeps_free}
 use Rattle.process_laws.proofs.KnownRuns.{copy_holds, has_latest, fetch_reads, HoldsLatest, latest_held, load_reads, read_is_latest, run_holds, run_one_more}
 use Rattle.process_laws.proofs.OnHarts.{access_good}
 use Rattle.process_laws.proofs.Others.{kept_by}
 use Rattle.process_laws.proofs.HeldBytes.{Sized}
 use Rattle.process_laws.proofs.OwnSteps.{becomes_as, child_is, exec_goes, exit_goes, fork_goes, Own, own_files, owns, told_as}
-use Rattle.process_laws.proofs.Possible.{access_made, calls_possible, copy_in_made, copy_out_made, service_made}
+use Rattle.process_laws.proofs.Possible.{access_made, calls_possible, copy_in_made, copy_out_made}
 use Rattle.process_laws.proofs.Refused.{refused_same}
-use Rattle.process_laws.proofs.Replies.{bad_exec, bad_start, served_waits, step_hosted, step_suits}
+use Rattle.process_laws.proofs.Replies.{bad_exec, bad_start, served_waits, serves_it, step_hosted, step_suits}
 use Rattle.process_laws.proofs.Running.{step_reply}
 use Rattle.process_laws.proofs.Untold.{untold}
 use Rattle.process_laws.proofs.Users.{ends}
 use Rattle.process_laws.proofs.Users as users
 use Rattle.process_laws.specs.Headline as headline
-use Rattle.process_laws.specs.Headline.{AllHold, AnswersUsers, Copies, CopiesForKernel, CountsFrames, elsewhere, Headline, IsDry, Becomes, ChangesOwn, LeavesOthers, MakesSteps, ReadsLatest}
+use Rattle.process_laws.specs.Headline.{AllHold, AnswersUser, Copies, CopiesForKernel, CountsFrames, elsewhere, Headline, IsDry, Becomes, ChangesOwn, LeavesOthers, MakesOwn, MakesSteps, ReadsLatest}
 use Rattle.process_laws.specs.Latest.{AreLatest, bytes_in, IsLatest}
 use Rattle.process_laws.specs.Moments.{Moment, moment_of, moments_from, slot_on}
 use Rattle.process_laws.specs.Words.{Asked, Asks, Begins, copied, CopiesBytes, Forbids, in_memory, IsChild, IsIn, IsMade, IsOn, IsResident, Loads, maker, MayCall, stopped_by, takes_frames, tells_no_frame, Written}
@@ -43,7 +44,7 @@ use Rattle.process_model.specs.declared.image.Image.{Image}
 use Rattle.process_model.specs.declared.phase.Phase.TheVariants.{Enter0, Idle, Kernel}
 use Rattle.process_model.specs.declared.step.Reply.TheVariants.{Done, Ended, Forked, Ready, Started, Value}
 use Rattle.process_model.specs.declared.step.Step.{Step}
-use Rattle.process_model.specs.declared.step.Step.TheVariants.{CopyIn, CopyOut, Fork, Serve, Start, Store}
+use Rattle.process_model.specs.declared.step.Step.TheVariants.{CopyIn, CopyOut, Exec, Exit, Fork, Serve, Start, Store}
 use Rattle.sv39_entry.specs.declared.access.Access.TheVariants as access
 use Rattle.sv39_entry.specs.declared.rule.Rule.{Rule}
 use Rattle.sv39_entry.specs.declared.rule.Rule.TheVariants.{NoFrame}
@@ -55,20 +56,19 @@ module _ (w : World) (x : Step) where
   m = moment_of w x
 
   module _ (sized : Sized w) (sound : (s : ℕ) (p : Process) → process_in w s ≡ Some p → IsSound p) where
-    answers_users : AnswersUsers m
-    answers_users = record {
-      apart = λ s p a rule lives g f. granted_is_denied_by_none (regions p) a.access a.address a.width rule (sound_grants p a (sound s p lives) g) f.denies;
-      answered = λ h s p a t g hand. users.answers w sound h s p a t.via x t.on t.asks t.made g hand;
-      faults = λ h s p a t not. faults w h s p a t.via x t.on t.asks t.made not;
-      served = λ h s p a t g. subst (λ (y : Step). (((step w y).reply ≡ Ready) × ((q : Process) → process_in (step w y).world s ≡ Some q → IsResident q a)) ⊎ ((step w y).reply ≡ Ended NoFrame)) (sym t.serves)
+    answers_user : (h s : ℕ) (p : Process) (a : Asked) → AnswersUser m h s p a
+    answers_user h s p a = record {
+      apart = λ lives rule g f. granted_is_denied_by_none (regions p) a.access a.address a.width rule (sound_grants p a (sound s p lives) g) f.denies;
+      answered = λ t g resident. users.answers w sound h s p a t.via x t.on t.asks t.made g resident;
+      faults = λ t not. faults w h s p a t.via x t.on t.asks t.made not;
+      served = λ t g. subst (λ (y : Step). (((step w y).reply ≡ Ready) × ((q : Process) → process_in (step w y).world s ≡ Some q → IsResident q a)) ⊎ ((step w y).reply ≡ Ended NoFrame)) (sym t.serves)
           (users.serves w sound h s p a t.on (subst (λ (y : Step). IsMade (step w y).reply) t.serves t.made) g);
-      waits = λ h is made. served_waits w h (subst (λ (y : Step). IsMade (step w y).reply) is made);
-      ended = λ h s p a t not. subst (λ (y : Step). (rule : Rule) × ((step w y).reply ≡ Ended rule) × Forbids p a rule) (sym t.serves)
+      ended = λ t not. subst (λ (y : Step). (rule : Rule) × ((step w y).reply ≡ Ended rule) × Forbids p a rule) (sym t.serves)
           (ends w h s p a t.on (subst (λ (y : Step). IsMade (step w y).reply) t.serves t.made) not);
     }
 
-    own_steps : (h s : ℕ) (p : Process) → maker x ≡ Some h → IsOn w h s p → ChangesOwn m h s p
-    own_steps h s p makes on = by (owns w h s p on (sound s p on.lives) x makes) (own_files w h s p on (sound s p on.lives) (sized.pages s p on.lives) x makes)
+    own_steps : (h s : ℕ) (p : Process) → IsOn w h s p → maker x ≡ Some h → ChangesOwn m h s p
+    own_steps h s p on makes = by (owns w h s p on (sound s p on.lives) x makes) (own_files w h s p on (sound s p on.lives) (sized.pages s p on.lives) x makes)
       where
         children : (t : ℕ) → x ≡ Fork h → (step w x).reply ≡ Forked t → (free_slot w ≡ Some t) × (c : Process) × (process_in (step w x).world t ≡ Some c) × IsChild p c
         children t is = subst (λ (y : Step). (step w y).reply ≡ Forked t → (free_slot w ≡ Some t) × (c : Process) × (process_in (step w y).world t ≡ Some c) × IsChild p c) (sym is) (child_is w h s p on t)
@@ -83,23 +83,27 @@ module _ (w : World) (x : Step) where
         by (Own.gone e is at _) written = record { files = written; lives = λ no. absurd (let both : true ≡ false = sym is ∙ no in cc); gone = λ _. (e, at.on, at.is_in); child = children }
 
   module _ (holds : Holds New w) where
-    abbrev In : (h s address n : ℕ) → Process → Step → Type 0
-    In h s address n p y = let o = step w y in let k = copied o.reply in Copies p access.Load address n k (step o.world (CopyIn h (address + k) 1)).reply (stopped_by o.reply)
+    module _ (h s address : ℕ) (p : Process) (on : IsOn w h s p) (made : IsMade (step w x).reply) where
+      made_as : (y : Step) → x ≡ y → IsMade (step w y).reply
+      made_as y is = subst (λ (z : Step). IsMade (step w z).reply) is made
 
-    abbrev Out : (h s address : ℕ) (bytes one : Bor (List ℕ)) → Process → Step → Type 0
-    Out h s address bytes one p y = let o = step w y in let k = copied o.reply in Copies p access.Store address (length bytes.now) k (step o.world (CopyOut h (address + k) one)).reply (stopped_by o.reply)
+      abbrev In : ℕ → Step → Type 0
+      In n y = let o = step w y in let k = copied o.reply in Copies p access.Load address n k (step o.world (CopyIn h (address + k) 1)).reply (stopped_by o.reply)
 
-    copies_for_kernel : CopiesForKernel m
-    copies_for_kernel = record {
-      from_front = λ h s address n p on is made. subst (λ (y : Step). (step w y).world ≡ (step w (CopyIn h address (copied (step w y).reply))).world) (sym is)
-          (in_front_world w h s p on address n (in_ran w h s address n p on (subst (λ (y : Step). IsMade (step w y).reply) is made)));
-      to_front = λ h s address bytes front p on is made. subst (λ (y : Step). front.now ≡ take (copied (step w y).reply) bytes.now → (step w y).world ≡ (step w (CopyOut h address front)).world) (sym is)
-          (out_front_world w h s p on address bytes front (out_ran w h s address bytes p on (subst (λ (y : Step). IsMade (step w y).reply) is made)));
-      from = λ h s address n p on is made. subst (In h s address n p) (sym is)
-          (let ran = in_ran w h s address n p on (subst (λ (y : Step). IsMade (step w y).reply) is made) in copies_in w h s address n p (λ k. (step (step w (CopyIn h address n)).world (CopyIn h (address + k) 1)).reply) ran (in_alone w h s p on holds address n ran));
-      to = λ h s address bytes one p on is made long. subst (Out h s address bytes one p) (sym is)
-          (let ran = out_ran w h s address bytes p on (subst (λ (y : Step). IsMade (step w y).reply) is made) in copies_out w h s address bytes p (λ k. (step (step w (CopyOut h address bytes)).world (CopyOut h (address + k) one)).reply) ran (out_alone w h s p on holds address bytes one long ran));
-    }
+      abbrev Out : Bor (List ℕ) → Bor (List ℕ) → Step → Type 0
+      Out bytes one y = let o = step w y in let k = copied o.reply in Copies p access.Store address (length bytes.now) k (step o.world (CopyOut h (address + k) one)).reply (stopped_by o.reply)
+
+      copies_for_kernel : CopiesForKernel m h address (copied (step w x).reply) p
+      copies_for_kernel = record {
+        from = λ n is. subst (In n) (sym is)
+            (let ran = in_ran w h s address n p on (made_as (CopyIn h address n) is) in copies_in w h s address n p (λ k. (step (step w (CopyIn h address n)).world (CopyIn h (address + k) 1)).reply) ran (in_alone w h s p on holds address n ran));
+        from_front = λ n is. subst (λ (y : Step). (step w y).world ≡ (step w (CopyIn h address (copied (step w y).reply))).world) (sym is) (in_front_world w h s p on address n (in_ran w h s address n p on (made_as (CopyIn h address n) is)));
+        to = λ bytes one is long. subst (Out bytes one) (sym is)
+            (let ran = out_ran w h s address bytes p on (made_as (CopyOut h address bytes) is) in
+            copies_out w h s address bytes p (λ k. (step (step w (CopyOut h address bytes)).world (CopyOut h (address + k) one)).reply) ran (out_alone w h s p on holds address bytes one long ran));
+        to_front = λ bytes front is. subst (λ (y : Step). front.now ≡ take (copied (step w y).reply) bytes.now → (step w y).world ≡ (step w (CopyOut h address front)).world) (sym is)
+            (out_front_world w h s p on address bytes front (out_ran w h s address bytes p on (made_as (CopyOut h address bytes) is)));
+      }
 
   leaves_others : LeavesOthers m
   leaves_others =
@@ -107,7 +111,6 @@ module _ (w : World) (x : Step) where
       record {
         kept = λ s q apart lives. kept_by s q w x apart lives;
         refused = λ e is. refused_same w x e is;
-        made = λ h e made. step_hosted w h x e made;
         empty = k.empty;
         harts = k.harts;
         files = k.files;
@@ -118,27 +121,43 @@ module _ (w : World) (x : Step) where
   refuses_bad image e y Loads.start bad made = bad_start w image e bad made
   refuses_bad image e y (Loads.exec {h}) bad made = bad_exec w h image e bad made
 
-  copies_made : (h s n : ℕ) (p : Process) (y : Step) → MayCall w h s p → CopiesBytes h n y → n ≤ longest_copy → IsMade (step w y).reply
-  copies_made h s n p y k (CopiesBytes.copy_in {address}) few = copy_in_made w h s p k.on k.quiet k.in_kernel address n few
-  copies_made h s n p y k (CopiesBytes.copy_out {address} {bytes}) few = copy_out_made w h s p k.on k.quiet k.in_kernel address bytes few
+  module _ (h s : ℕ) (p : Process) (on : IsOn w h s p) where
+    copies_made : (n : ℕ) (y : Step) → MayCall w h p → CopiesBytes h n y → n ≤ longest_copy → IsMade (step w y).reply
+    copies_made n y k (CopiesBytes.copy_in {address}) few = copy_in_made w h s p on k.quiet k.in_kernel address n few
+    copies_made n y k (CopiesBytes.copy_out {address} {bytes}) few = copy_out_made w h s p on k.quiet k.in_kernel address bytes few
+
+    frames_there : (y : Step) → x ≡ y → tells_no_frame (step w x).reply ≡ false → tells_no_frame (step w y).reply ≡ false
+    frames_there y is = subst (λ (z : Step). tells_no_frame (step w z).reply ≡ false) is
+
+    made_if : (y : Step) → x ≡ y → IsMade (step w y).reply → IsMade (step w x).reply
+    made_if y is = subst (λ (z : Step). IsMade (step w z).reply) (sym is)
+
+    made_as_one : (y : Step) → x ≡ y → IsMade (step w x).reply → IsMade (step w y).reply
+    made_as_one y is = subst (λ (z : Step). IsMade (step w z).reply) is
+
+    makes_own : MakesOwn m h s p
+    makes_own = record {
+      next = λ phase after from next quiet is. subst (λ (y : Step). IsOn (step w y).world h s p × IsIn (step w y).world h after) (sym is) (next_goes w h s p phase after on from next quiet);
+      trap = λ user is. subst (λ (y : Step). (slot_on (step w y).world h ≡ Some s) × IsIn (step w y).world h Enter0) (sym is) (trap_goes w h s p on user);
+      leave = λ kernel is. subst (λ (y : Step). (slot_on (step w y).world h ≡ None) × IsIn (step w y).world h Idle) (sym is) (leave_goes w h kernel);
+      access = λ a user asks wide. access_made w h s p a x on user asks wide;
+      service = λ kernel waits is. made_if (Serve h) is (serves_it w h s p on kernel waits);
+      served = λ is made. served_waits w h s p on (made_as_one (Serve h) is made);
+      fork = λ t k is free calm. made_if (Fork h) is (fork_goes w h s t p on k free (frames_there (Fork h) is calm));
+      exec = λ image ls k is loads calm. made_if (Exec h image) is (exec_goes w h s p image ls on k loads (frames_there (Exec h image) is calm));
+      copy = λ n k copies few. copies_made n x k copies few;
+      exit = λ status k is. made_if (Exit h status) is (exit_goes w h s p status on k);
+      call = λ phase k calls. calls_possible w h s p on k.quiet k.in_kernel x calls phase;
+    }
 
   makes_steps : MakesSteps m
   makes_steps = record {
     replies = (step_suits w x).replies;
+    hosted = λ h e made. step_hosted w h x e made;
     start = λ image s ls free loads is quiet. subst (λ (y : Step). IsMade (step w y).reply) (sym is) (start_goes w image s ls free loads (subst (λ (y : Step). tells_no_frame (step w y).reply ≡ false) is quiet));
     started = λ image s is. subst (λ (y : Step). (step w y).reply ≡ Started s → (free_slot w ≡ Some s) × (p : Process) × (process_in (step w y).world s ≡ Some p) × Begins (moment_of w y) p) (sym is) (start_brings w image s);
-    fork = λ h s t p k is free calm. subst (λ (y : Step). IsMade (step w y).reply) (sym is) (fork_goes w h s t p k free (subst (λ (y : Step). tells_no_frame (step w y).reply ≡ false) is calm));
-    exec = λ h s p image ls k is loads calm. subst (λ (y : Step). IsMade (step w y).reply) (sym is) (exec_goes w h s p image ls k loads (subst (λ (y : Step). tells_no_frame (step w y).reply ≡ false) is calm));
     bad_image = λ image e is bad made. refuses_bad image e x is bad made;
     switch = λ h s p lives apart phase is. subst (λ (y : Step). IsOn (step w y).world h s p × IsIn (step w y).world h Kernel) (sym is) (switch_goes w h s p lives apart phase);
-    leave = λ h s p on kernel is. subst (λ (y : Step). (slot_on (step w y).world h ≡ None) × IsIn (step w y).world h Idle) (sym is) (leave_goes w h kernel);
-    next = λ h s p phase after on from next quiet is. subst (λ (y : Step). IsOn (step w y).world h s p × IsIn (step w y).world h after) (sym is) (next_goes w h s p phase after on from next quiet);
-    trap = λ h s p on user is. subst (λ (y : Step). (slot_on (step w y).world h ≡ Some s) × IsIn (step w y).world h Enter0) (sym is) (trap_goes w h s p on user);
-    access = λ h s p a on user asks wide. access_made w h s p a x on user asks wide;
-    service = λ h s p a on kernel is. subst (λ (y : Step). IsMade (step w y).reply) (sym is) (service_made w h s p a on kernel);
-    copy = λ h s n p k copies few. copies_made h s n p x k copies few;
-    exit = λ h s p status k is. subst (λ (y : Step). IsMade (step w y).reply) (sym is) (exit_goes w h s p status k);
-    call = λ h s p phase k calls. calls_possible w h s p k.on k.quiet k.in_kernel x calls phase;
   }
 
   -- ---- frames
@@ -159,7 +178,7 @@ module _ (w : World) (x : Step) where
     counts_frames = record {
       takes = λ e. let t = spending x e in (t.0, t.1 w.frames, t.1);
       replaces = λ h image is. subst (λ (y : Step). Replaces y image) (sym is) (let t = execs w image h in (t.0, (t.1 w.frames).0, λ frames. (t.1 frames).0, (t.1 w.frames).1));
-      no_other = λ e not. untold w x e not;
+      no_other = λ e not. (untold w x e not, keeps_free w x e not);
     } where
       Replaces : Step → Image → Type 0
       Replaces y image = (n : ℕ) × IsDry (moment_of w y) n × ((frames : ℕ) → IsDry (elsewhere (moment_of w y) frames) n)
@@ -203,12 +222,13 @@ module _ (c : Config) (files : List File) where
   holds_next done x =
       let w = world_after done in
       record {
-        users = answers_users w x (latest_held c files done).sized (always_sound c files done);
+        users = answers_user w x (latest_held c files done).sized (always_sound c files done);
         copies = copies_for_kernel w x (always_holds New fresh_is_kept c files done);
         frames = counts_frames w x (always_holds New fresh_is_kept c files done);
         bytes = reads_latest w x (past_of done) (latest_held c files done);
         others = leaves_others w x;
         own = own_steps w x (latest_held c files done).sized (always_sound c files done);
+        made_own = makes_own w x;
         made = makes_steps w x;
       }
 

@@ -1,11 +1,11 @@
 -- What the headline refuses, whatever the model is: moments that a wrong one would bring.
 use Rattle.std.proofs.Common.{◌≡◌, ◌≢◌, ◌≤◌, ◌+◌, ◌-◌, ℕ, ℤ, Bool, true, false, refl, sym, ap, subst, ◌∙◌, List, Option, None, Some, length, arith}
 use Rattle.std.proofs.lemmas.Bool.{false≢true, ltb-true}
-use Rattle.process_laws.specs.Headline.{AnswersUsers, Becomes, CopiesForKernel, EndsAfter, IsDry, ReadsLatest}
+use Rattle.process_laws.specs.Headline.{AnswersUser, Becomes, CopiesForKernel, EndsAfter, IsDry, ReadsLatest}
 use Rattle.process_laws.specs.Latest.{byte_had, is_released, latest, left_by}
 use Rattle.process_laws.specs.Moments.{Moment, moment_of, slot_on}
 use Rattle.process_laws.specs.Pages.{grant_after, grant, is_between, has_fork_mark, is_remapped, mapping_grant}
-use Rattle.process_laws.specs.Words.{Asked, byte, copied, Forbids, is_fault, IsAnswer, IsResident, IsGranted, IsMade, IsOn, stopped_by, tells_no_frame, Tries}
+use Rattle.process_laws.specs.Words.{Asked, byte, copied, Forbids, is_fault, IsAnswer, IsResident, IsGranted, stopped_by, tells_no_frame, Tries}
 use Rattle.process_model.specs.Bytes.{pages_for}
 use Rattle.process_model.specs.Process.{Process}
 use Rattle.process_model.specs.World.{free, has_slot, process_in}
@@ -24,11 +24,10 @@ ends_dry p kind address n k alone o e (EndsAfter.whole is) = absurd cc
 ends_dry p kind address n k alone o e (EndsAfter.forbidden {rule} less f) = absurd (let is : rule ≡ NoFrame = cc in subst (λ (r : Rule). Forbids p (byte kind (address + k)) r) is f).denies
 ends_dry p kind address n k alone o e (EndsAfter.no_frame less g so) = so
 
-pub copy_with_frames : (m : Moment) → CopiesForKernel m → (h s address n need : ℕ) (p : Process) (bytes : _) → IsOn m.before h s p → m.step ≡ CopyIn h address n → m.reply ≡ ShortIn NoFrame bytes
+pub copy_with_frames : (m : Moment) (h address n need : ℕ) (p : Process) (bytes : _) → CopiesForKernel m h address (copied m.reply) p → m.step ≡ CopyIn h address n → m.reply ≡ ShortIn NoFrame bytes
     → (let alone = moment_of m.after (CopyIn h (address + length bytes.items) 1) in IsDry alone need → need ≤ free alone.before → ⊥)
-copy_with_frames m k h s address n need p bytes on step is dry enough =
-    let made : IsMade m.reply = λ e f. absurd (let no = sym is ∙ f in cc) in
-    let c = k.from h s address n p on step made in
+copy_with_frames m h address n need p bytes k step is dry enough =
+    let c = k.from n step in
     let so = ends_dry p access.Load address n (copied m.reply) _ (stopped_by m.reply) (ap stopped_by is) c.ends in
     let alone : tells_no_frame (moment_of m.after (CopyIn h (address + length bytes.items) 1)).reply ≡ true = ap (λ (r : Reply). tells_no_frame (moment_of m.after (CopyIn h (address + copied r) 1)).reply) (sym is) ∙ so in
     let less = ltb-true (free m.after) need (sym dry ∙ alone) in
@@ -49,8 +48,8 @@ calm kind r IsAnswer.loaded = refl
 calm kind r IsAnswer.stored = refl
 
 -- an access that faults though it is granted and its page at hand
-pub no_second_fault : (m : Moment) → AnswersUsers m → (h s cause : ℕ) (p : Process) (a : Asked) → Tries m h s p a → IsGranted p a → IsResident p a → m.reply ≢ Fault cause
-no_second_fault m k h s cause p a t g hand is = false≢true (sym (calm a.access m.reply (k.answered h s p a t g hand)) ∙ ap is_fault is)
+pub no_second_fault : (m : Moment) (h s cause : ℕ) (p : Process) (a : Asked) → AnswersUser m h s p a → Tries m h s p a → IsGranted p a → IsResident p a → m.reply ≢ Fault cause
+no_second_fault m h s cause p a k t g resident is = false≢true (sym (calm a.access m.reply (k.answered t g resident)) ∙ ap is_fault is)
 
 -- what is left of a mapping that reads from another place of its file
 pub place_stays : (m : Moment) (h address len page : ℕ) (p q : Process) → Becomes m h p q → m.step ≡ Munmap h address len → m.reply ≡ Done → is_between (page_of address) (page_of address + pages_for len) page ≡ false

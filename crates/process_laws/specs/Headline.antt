@@ -33,21 +33,19 @@ use Rattle.sv39_entry.specs.declared.access.Access.TheVariants.{Load, Store}
 use Rattle.sv39_entry.specs.declared.rule.Rule.{Rule}
 use Rattle.sv39_entry.specs.declared.rule.Rule.TheVariants.{NoFrame}
 
--- (a) The user access a of process p. With a page of data at 0x1000 and the guard after it, `load 0 0x1000 1` answers `value 0x61`;
--- `load 0 0x2000 1` answers `fault 13`, and its service `ended 4 GuardPage`
-pub record AnswersUsers (m : Moment) : Type 0 where
-  -- is never both granted and forbidden
-  pub apart : (s : ℕ) (p : Process) (a : Asked) (rule : Rule) → process_in m.before s ≡ Some p → IsGranted p a → Forbids p a rule → ⊥
+-- (a) The user access a of process p, in slot s, on hart h. With a page of data at 0x1000 and the guard after it, `load 0 0x1000 1` answers
+-- `value 0x61`; `load 0 0x2000 1` answers `fault 13`, and its service `ended 4 GuardPage`
+pub record AnswersUser (m : Moment) (h s : ℕ) (p : Process) (a : Asked) : Type 0 where
+  -- It is never both granted and forbidden
+  pub apart : process_in m.before s ≡ Some p → (rule : Rule) → IsGranted p a → Forbids p a rule → ⊥
   -- If it is granted and its page is resident, it is answered: a fetch or a load by a value, a store by `Stored`
-  pub answered : (h s : ℕ) (p : Process) (a : Asked) → Tries m h s p a → IsGranted p a → IsResident p a → IsAnswer a.access m.reply
-  -- Otherwise it faults with its own cause and waits for service; nothing else of p changes, and its hart is at the kernel's entry
-  pub faults : (h s : ℕ) (p : Process) (a : Asked) → Tries m h s p a → (IsGranted p a → IsResident p a → ⊥) → (m.reply ≡ Fault (cause a)) × IsOn m.after h s (waiting p a) × IsIn m.after h Enter0
-  -- The kernel serves only an access that waits
-  pub waits : (h : ℕ) → m.step ≡ Serve h → IsMade m.reply → (s : ℕ) × (p : Process) × (a : Asked) × IsOn m.before h s (waiting p a)
-  -- If it is granted, the service makes its page resident, so that one fault is enough, or ends p for want of frames
-  pub served : (h s : ℕ) (p : Process) (a : Asked) → Serves m h s p a → IsGranted p a → ((m.reply ≡ Ready) × ((q : Process) → process_in m.after s ≡ Some q → IsResident q a)) ⊎ (m.reply ≡ Ended NoFrame)
-  -- If it is not, the service ends p by the first rule that forbids it
-  pub ended : (h s : ℕ) (p : Process) (a : Asked) → Serves m h s p a → (IsGranted p a → ⊥) → (rule : Rule) × (m.reply ≡ Ended rule) × Forbids p a rule
+  pub answered : Tries m h s p a → IsGranted p a → IsResident p a → IsAnswer a.access m.reply
+  -- Otherwise it faults with its own cause and waits for service; nothing else of p changes, and the hart is at the kernel's entry
+  pub faults : Tries m h s p a → (IsGranted p a → IsResident p a → ⊥) → (m.reply ≡ Fault (cause a)) × IsOn m.after h s (waiting p a) × IsIn m.after h Enter0
+  -- If it is granted, its service makes its page resident, so that one fault is enough, or ends p for want of frames
+  pub served : Serves m h s p a → IsGranted p a → ((m.reply ≡ Ready) × ((q : Process) → process_in m.after s ≡ Some q → IsResident q a)) ⊎ (m.reply ≡ Ended NoFrame)
+  -- If it is not, its service ends p by the first rule that forbids it
+  pub ended : Serves m h s p a → (IsGranted p a → ⊥) → (rule : Rule) × (m.reply ≡ Ended rule) × Forbids p a rule
 
 -- (b) A kernel copy of n bytes ends after k: all are copied; or the next is forbidden; or the next lacks a frame, and a copy of it `alone`,
 -- made then, replies so too. `copyin 0 0x1ffc 8`, whose last four bytes are the guard's, answers `short 4 GuardPage done 4 00000000`
@@ -60,15 +58,12 @@ pub record Copies (p : Process) (access : Access) (address n k : ℕ) (alone : R
   pub granted : (i : ℕ) → i < k → IsGranted p (byte access (address + i))
   pub ends : EndsAfter p access address n k alone stop
 
-pub record CopiesForKernel (m : Moment) : Type 0 where
-  pub from : (h s address n : ℕ) (p : Process) → IsOn m.before h s p → m.step ≡ CopyIn h address n → IsMade m.reply
-      → let k = copied m.reply in Copies p Load address n k (moment_of m.after (CopyIn h (address + k) 1)).reply (stopped_by m.reply)
-  pub to : (h s address : ℕ) (bytes one : Bor (List ℕ)) (p : Process) → IsOn m.before h s p → m.step ≡ CopyOut h address bytes → IsMade m.reply → length one.now ≡ 1
-      → let k = copied m.reply in Copies p Store address (length bytes.now) k (moment_of m.after (CopyOut h (address + k) one)).reply (stopped_by m.reply)
-  -- It changes what a copy of the first k bytes changes, and nothing else: it neither undoes them nor takes a frame for the rest
-  pub from_front : (h s address n : ℕ) (p : Process) → IsOn m.before h s p → m.step ≡ CopyIn h address n → IsMade m.reply → m.after ≡ (moment_of m.before (CopyIn h address (copied m.reply))).after
-  pub to_front : (h s address : ℕ) (bytes front : Bor (List ℕ)) (p : Process) → IsOn m.before h s p → m.step ≡ CopyOut h address bytes → IsMade m.reply
-      → front.now ≡ take (copied m.reply) bytes.now → m.after ≡ (moment_of m.before (CopyOut h address front)).after
+-- A copy that stops changes what a copy of the first k bytes changes: it neither undoes them nor takes a frame for the rest
+pub record CopiesForKernel (m : Moment) (h address k : ℕ) (p : Process) : Type 0 where
+  pub from : (n : ℕ) → m.step ≡ CopyIn h address n → Copies p Load address n k (moment_of m.after (CopyIn h (address + k) 1)).reply (stopped_by m.reply)
+  pub from_front : (n : ℕ) → m.step ≡ CopyIn h address n → m.after ≡ (moment_of m.before (CopyIn h address k)).after
+  pub to : (bytes one : Bor (List ℕ)) → m.step ≡ CopyOut h address bytes → length one.now ≡ 1 → Copies p Store address (length bytes.now) k (moment_of m.after (CopyOut h (address + k) one)).reply (stopped_by m.reply)
+  pub to_front : (bytes front : Bor (List ℕ)) → m.step ≡ CopyOut h address bytes → front.now ≡ take k bytes.now → m.after ≡ (moment_of m.before (CopyOut h address front)).after
 
 -- (c) A reply says NoFrame exactly when the step needs more frames, n, than are free; n is the same however many frames the memory has. A
 -- start of nine pages needs 17, so it is refused if 16 frames are free, and made if 17 are
@@ -87,8 +82,8 @@ pub record CountsFrames (m : Moment) : Type 0 where
   -- Exec needs one less than a start of the image, since the process keeps its trapframe; the frames of its old pages do not count as free
   pub replaces : (h : ℕ) (image : Image) → m.step ≡ Exec h image → (n : ℕ) × IsDry m n × ((frames : ℕ) → IsDry (elsewhere m frames) n)
       × (m.reply ≡ Done → (u : World) (s : ℕ) → free_slot u ≡ Some s → IsDry (moment_of u (Start image)) (n + 1))
-  -- No other step says NoFrame
-  pub no_other : takes_frames m.step ≡ false → ((h : ℕ) (image : Image) → m.step ≢ Exec h image) → tells_no_frame m.reply ≡ false
+  -- No other step says NoFrame or takes a frame
+  pub no_other : takes_frames m.step ≡ false → ((h : ℕ) (image : Image) → m.step ≢ Exec h image) → (tells_no_frame m.reply ≡ false) × (free m.before ≤ free m.after)
 
 -- (d) At each address a process has the latest byte that was left there since the page was settled, else the page's initial byte; none if
 -- the page is not settled. These bytes are what is read. A forked child reads what its parent stored before the fork, and nothing that it
@@ -102,14 +97,13 @@ pub record ReadsLatest (past : List Moment) (m : Moment) : Type 0 where
 -- those that the file has then, and other processes change a file by what they write back)
 pub record LeavesOthers (m : Moment) : Type 0 where
   pub kept : (s : ℕ) (q : Process) → ((h : ℕ) → maker m.step ≡ Some h → slot_on m.before h ≢ Some s) → process_in m.before s ≡ Some q → process_in m.after s ≡ Some q
-  -- A refused step changes nothing; and a step that a process makes is refused on a hart that has none
+  -- A refused step changes nothing
   pub refused : (e : Refusal) → m.reply ≡ Refused e → m.after ≡ m.before
-  pub made : (h : ℕ) → maker m.step ≡ Some h → IsMade m.reply → (s : ℕ) × (p : Process) × IsOn m.before h s p
   -- A slot stays empty but for a start and a fork
   pub empty : (s : ℕ) → process_in m.before s ≡ None → is_born m.reply s ≡ false → process_in m.after s ≡ None
   -- A hart keeps its process and its phase but for its own switch, trap, next instruction, fault or end
   pub harts : (k : ℕ) → moved_hart m.step m.reply ≢ Some k → (slot_on m.after k ≡ slot_on m.before k) × (phase_on m.after k ≡ phase_on m.before k)
-  -- Files stay but for what munmap, exec, an exit and an end write back; the memory stays
+  -- Files stay but for what munmap, exec, an exit and an end write back; the memory keeps its size
   pub files : writes_back m.step m.reply ≡ false → (m.after).files ≡ (m.before).files
   pub memory : (m.after).frames ≡ (m.before).frames
 
@@ -138,38 +132,43 @@ pub record ChangesOwn (m : Moment) (h s : ℕ) (p : Process) : Type 0 where
   -- A child is in the lowest free slot; it has its parent's regions and size, waits for nothing, and has nothing to write back
   pub child : (t : ℕ) → m.step ≡ Fork h → m.reply ≡ Forked t → (free_slot m.before ≡ Some t) × (c : Process) × (process_in m.after t ≡ Some c) × IsChild p c
 
--- (g) These steps are made
+-- (g) What is made of the steps of a process p on hart h
+pub record MakesOwn (m : Moment) (h s : ℕ) (p : Process) : Type 0 where
+  -- its way into user mode and back into the kernel, and off the hart
+  pub next : (phase after : Phase) → IsIn m.before h phase → next_phase phase ≡ Some after → (phase ≡ Kernel → is_unserved_access p.pending ≡ false) → m.step ≡ Next h → IsOn m.after h s p × IsIn m.after h after
+  pub trap : IsIn m.before h User → m.step ≡ Trap h → (slot_on m.after h ≡ Some s) × IsIn m.after h Enter0
+  pub leave : IsIn m.before h Kernel → m.step ≡ Switch h None → (slot_on m.after h ≡ None) × IsIn m.after h Idle
+  -- in user mode each access by a walk; in the kernel the service of an access that waits, and of no other
+  pub access : (a : Asked) → IsIn m.before h User → Asks h None a m.step → is_width a.width ≡ true → IsMade m.reply
+  pub service : IsIn m.before h Kernel → is_unserved_access p.pending ≡ true → m.step ≡ Serve h → IsMade m.reply
+  pub served : m.step ≡ Serve h → IsMade m.reply → is_unserved_access p.pending ≡ true
+  -- and if none waits: a fork and an exec of a good image, if frames suffice; a copy of at most 256 bytes; an exit; no other call is Impossible
+  pub fork : (t : ℕ) → MayCall m.before h p → m.step ≡ Fork h → free_slot m.before ≡ Some t → tells_no_frame m.reply ≡ false → IsMade m.reply
+  pub exec : (image : Image) (ls : List LoadSegment) → MayCall m.before h p → m.step ≡ Exec h image → image_loads image ≡ Ok ls → tells_no_frame m.reply ≡ false → IsMade m.reply
+  pub copy : (n : ℕ) → MayCall m.before h p → CopiesBytes h n m.step → n ≤ longest_copy → IsMade m.reply
+  pub exit : (status : ℤ) → MayCall m.before h p → m.step ≡ Exit h status → IsMade m.reply
+  pub call : (phase : Phase) → MayCall m.before h p → Calls h m.step → m.reply ≢ Refused (Impossible phase)
+
 pub record MakesSteps (m : Moment) : Type 0 where
-  -- Each reply is one that such a step may get
+  -- Each reply is one that such a step may get; a step of a process is made only on a hart that has one
   pub replies : is_reply m.step m.reply ≡ true
-  -- a start of a good image in the lowest free slot, an exec of one, and a fork, if frames suffice; no start and no exec of a bad image
+  pub hosted : (h : ℕ) → maker m.step ≡ Some h → IsMade m.reply → (s : ℕ) × (p : Process) × IsOn m.before h s p
+  -- A good image starts in the lowest free slot, if frames suffice; a bad one neither starts nor takes the place of a process
   pub start : (image : Image) (s : ℕ) (ls : List LoadSegment) → free_slot m.before ≡ Some s → image_loads image ≡ Ok ls → m.step ≡ Start image → tells_no_frame m.reply ≡ false → IsMade m.reply
   pub started : (image : Image) (s : ℕ) → m.step ≡ Start image → m.reply ≡ Started s → (free_slot m.before ≡ Some s) × (p : Process) × (process_in m.after s ≡ Some p) × Begins m p
-  pub fork : (h s t : ℕ) (p : Process) → MayCall m.before h s p → m.step ≡ Fork h → free_slot m.before ≡ Some t → tells_no_frame m.reply ≡ false → IsMade m.reply
-  pub exec : (h s : ℕ) (p : Process) (image : Image) (ls : List LoadSegment) → MayCall m.before h s p → m.step ≡ Exec h image → image_loads image ≡ Ok ls → tells_no_frame m.reply ≡ false → IsMade m.reply
   pub bad_image : (image : Image) (e : BadImage) → Loads image m.step → image_loads image ≡ Err e → IsMade m.reply → ⊥
-  -- the way of a process onto a hart, into user mode and back, and off the hart
+  -- A process that is on no hart can be put on one that is idle or in the kernel
   pub switch : (h s : ℕ) (p : Process) → process_in m.before s ≡ Some p → ((k : ℕ) → slot_on m.before k ≢ Some s) → IsIn m.before h Idle ⊎ IsIn m.before h Kernel → m.step ≡ Switch h (Some s)
       → IsOn m.after h s p × IsIn m.after h Kernel
-  pub next : (h s : ℕ) (p : Process) (phase after : Phase) → IsOn m.before h s p → IsIn m.before h phase → next_phase phase ≡ Some after → (phase ≡ Kernel → is_unserved_access p.pending ≡ false) → m.step ≡ Next h
-      → IsOn m.after h s p × IsIn m.after h after
-  pub trap : (h s : ℕ) (p : Process) → IsOn m.before h s p → IsIn m.before h User → m.step ≡ Trap h → (slot_on m.after h ≡ Some s) × IsIn m.after h Enter0
-  pub leave : (h s : ℕ) (p : Process) → IsOn m.before h s p → IsIn m.before h Kernel → m.step ≡ Switch h None → (slot_on m.after h ≡ None) × IsIn m.after h Idle
-  -- a user access by a walk, in user mode; the service of an access that waits, in the kernel
-  pub access : (h s : ℕ) (p : Process) (a : Asked) → IsOn m.before h s p → IsIn m.before h User → Asks h None a m.step → is_width a.width ≡ true → IsMade m.reply
-  pub service : (h s : ℕ) (p : Process) (a : Asked) → IsOn m.before h s (waiting p a) → IsIn m.before h Kernel → m.step ≡ Serve h → IsMade m.reply
-  -- a kernel copy of at most 256 bytes, and an exit; any other kernel call may be refused, but not as Impossible
-  pub copy : (h s n : ℕ) (p : Process) → MayCall m.before h s p → CopiesBytes h n m.step → n ≤ longest_copy → IsMade m.reply
-  pub exit : (h s : ℕ) (p : Process) (status : ℤ) → MayCall m.before h s p → m.step ≡ Exit h status → IsMade m.reply
-  pub call : (h s : ℕ) (p : Process) (phase : Phase) → MayCall m.before h s p → Calls h m.step → m.reply ≢ Refused (Impossible phase)
 
 pub record Holds (past : List Moment) (m : Moment) : Type 0 where
-  pub users : AnswersUsers m
-  pub copies : CopiesForKernel m
+  pub users : (h s : ℕ) (p : Process) (a : Asked) → AnswersUser m h s p a
+  pub copies : (h s address : ℕ) (p : Process) → IsOn m.before h s p → IsMade m.reply → CopiesForKernel m h address (copied m.reply) p
   pub frames : CountsFrames m
   pub bytes : ReadsLatest past m
   pub others : LeavesOthers m
-  pub own : (h s : ℕ) (p : Process) → maker m.step ≡ Some h → IsOn m.before h s p → ChangesOwn m h s p
+  pub own : (h s : ℕ) (p : Process) → IsOn m.before h s p → maker m.step ≡ Some h → ChangesOwn m h s p
+  pub made_own : (h s : ℕ) (p : Process) → IsOn m.before h s p → MakesOwn m h s p
   pub made : MakesSteps m
 
 -- Of each step of a list, and its reply, from a world on

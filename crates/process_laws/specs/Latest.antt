@@ -1,4 +1,5 @@
--- The latest byte that was left at an address of a process, told from what has been: the steps, their replies and the regions.
+-- The latest byte that was left at an address of a process: it is computed from the steps, their replies, and the regions, files and
+-- waiting accesses before them, never from what the model has settled.
 use Rattle.std.specs.Prelude.{◌≡◌, ℕ, ℤ, pos, ◌+ℤ◌, nat_abs, Bool, false, ◌+◌, ◌-◌, ◌*◌, ◌%◌, ◌<◌, nat_le, nat_lt, ◌==◌, ◌&&◌, Option, None, Some, Result, Ok, Err, List, [], ◌∷◌, length, get_or, slice_get, if◌then◌else◌}
 use Rattle.process_model.specs.Bytes.{low_bytes, number, pages_for}
 use Rattle.process_model.specs.Files.{File, bytes_of}
@@ -21,8 +22,8 @@ use Rattle.sv39_entry.specs.Address.{page_of}
 abbrev pub byte_at : List ℕ → ℕ → ℕ
 byte_at bytes i = get_or bytes i 0
 
--- the byte that an image has at an address: those of its segments, with zeros behind them in the last page, in a guard and a stack; none
--- outside its pages
+-- the byte that an image has at an address: that of its segment, zero after the segment's bytes and in guard and stack; none outside its
+-- pages
 abbrev pub loads_byte : ℕ → List LoadSegment → ℕ → Option ℕ
 loads_byte end [] a = if is_between end (end + 2) (page_of a) then Some 0 else None
 loads_byte end (l ∷ ls) a =
@@ -32,7 +33,7 @@ abbrev pub image_byte : Result (List LoadSegment) BadImage → ℕ → Option �
 image_byte (Err e) a = None
 image_byte (Ok ls) a = loads_byte 0 ls a
 
--- the byte with which a page begins: that of its file, if it has one, at its place there; zero past the file's end, and without a file
+-- the byte with which a page begins: in a mapping that of the file at this place, zero past its end; elsewhere zero
 abbrev pub source_byte : List File → Source → ℕ → ℕ
 source_byte files (file n offset) i = byte_at (bytes_of (slice_get files n)) (offset + i)
 source_byte files _ i = 0
@@ -45,7 +46,7 @@ abbrev pub initial_byte : List File → Option Process → ℕ → ℕ
 initial_byte files None a = 0
 initial_byte files (Some p) a = grant_byte files (grant p (page_of a)) (a % 4096)
 
--- the byte that a process has at an address; none where the page is not settled
+-- the byte that a process has at an address; none if the page is not settled
 abbrev pub page_byte : Option Page → ℕ → Option ℕ
 page_byte None i = None
 page_byte (Some x) i = Some (byte_at x.bytes i)
@@ -56,23 +57,23 @@ byte_had (Some p) a = page_byte (get p.settled (page_of a)) (a % 4096)
 
 -- addresses
 
--- one of n addresses from a first on
+-- a is one of the n addresses from `first` on
 abbrev pub is_among : ℕ → ℕ → ℕ → Bool
 is_among first n a = nat_le first a && nat_lt a (first + n)
 
--- in a page of one of them
+-- a is in a page of one of them
 abbrev pub is_in_their_pages : ℕ → ℕ → ℕ → Bool
 is_in_their_pages first n a = has_some_of first n (page_of a)
 
--- in a page that a change of the size from n released
+-- a is in a page that sbrk releases: it changes the size n by `delta`
 abbrev pub is_released : ℕ → ℤ → ℕ → Bool
 is_released n delta a = nat_le (pages_for (nat_abs (pos n +ℤ delta))) (page_of a) && nat_lt (page_of a) (pages_for n)
 
--- in a page that munmap took away
+-- a is in a page that munmap releases
 abbrev pub is_unmapped : ℕ → ℕ → ℕ → Bool
 is_unmapped address len a = nat_le (page_of address) (page_of a) && nat_lt (page_of a) (page_of address + pages_for len)
 
--- in the page of the access that waits for its service
+-- a is in the page of the pending access
 abbrev pub is_in_pending : Option Pending → ℕ → Bool
 is_in_pending None a = false
 is_in_pending (Some x) a = page_of x.address == page_of a
@@ -83,7 +84,7 @@ is_in_served (Some p) a = is_in_pending p.pending a
 
 -- what is left at an address
 
--- for each slot and address the latest byte
+-- for each slot and address the latest byte, if there is one
 abbrev pub Knowledge : Type 0
 Knowledge = ℕ → ℕ → Option ℕ
 
@@ -91,26 +92,26 @@ abbrev pub of_slot : Knowledge → Option ℕ → ℕ → Option ℕ
 of_slot old None a = None
 of_slot old (Some s) a = old s a
 
--- the latest byte, or the initial one where the page was not settled
+-- the latest byte, or else the initial one: the page is settled now
 abbrev pub or_initial : World → ℕ → ℕ → Option ℕ → Option ℕ
 or_initial w s a (Some b) = Some b
 or_initial w s a None = Some (initial_byte w.files (process_in w s) a)
 
--- a copy settles the pages of n addresses
+-- a copy settles the pages of n addresses from `first` on
 abbrev pub settled_by : World → ℕ → ℕ → ℕ → Knowledge → ℕ → ℕ → Option ℕ
 settled_by w h first n old s a = if has_slot s (slot_on w h) && is_in_their_pages first n a then or_initial w s a (old s a) else old s a
 
--- and puts the first n bytes there
+-- and a copy to the process puts the first n of `bytes` there
 abbrev pub put_by : World → ℕ → ℕ → List ℕ → ℕ → Knowledge → ℕ → ℕ → Option ℕ
 put_by w h first bytes n old s a = if has_slot s (slot_on w h) && is_among first n a then Some (byte_at bytes (a - first)) else settled_by w h first n old s a
 
--- nothing is left of the process on the hart
+-- the process on the hart has no byte any more
 abbrev pub forgotten : World → ℕ → Knowledge → ℕ → ℕ → Option ℕ
 forgotten w h old s a = if has_slot s (slot_on w h) then None else old s a
 
--- what is left after a step with its reply: a process begins with its image's bytes, a child with its parent's; a store and a copy
--- put theirs; a service and a copy settle pages; sbrk and munmap release them, and exec and an end release all. No other step leaves
--- another byte, or takes one away
+-- what a step with its reply leaves. A process begins with its image's bytes, a child with its parent's. A store and a copy to the process
+-- put their bytes. A service and a copy settle pages. sbrk and munmap release pages; exec and an end release all. No other step changes a
+-- byte or removes one
 abbrev pub left_by : World → Step → Reply → Knowledge → ℕ → ℕ → Option ℕ
 left_by w (Start image) (Started t) old s a = if t == s then image_byte (image_loads image) a else old s a
 left_by w (Exec h image) Done old s a = if has_slot s (slot_on w h) then image_byte (image_loads image) a else old s a
@@ -128,23 +129,23 @@ left_by w (Serve h) (Ended r) old s a = forgotten w h old s a
 left_by w (Exit h status) (Exited code) old s a = forgotten w h old s a
 left_by w _ _ old s a = old s a
 
--- the latest byte at an address of the process in slot s; none where its page is not settled
+-- the latest byte at an address of the process in slot s; none if its page is not settled
 abbrev pub latest : List Moment → ℕ → ℕ → Option ℕ
 latest [] s a = None
 latest (m ∷ past) s a = left_by m.before m.step m.reply (latest past) s a
 
--- the bytes are the latest ones from an address on
+-- these bytes are the latest ones from `address` on
 abbrev pub AreLatest : List Moment → ℕ → ℕ → List ℕ → Type 0
 AreLatest past s address bytes = (i : ℕ) → i < length bytes → latest past s (address + i) ≡ Some (byte_at bytes i)
 
--- the number is that of the latest bytes, so many, the lowest first
+-- v is the little-endian number of the latest `width` bytes from `address` on
 pub record IsLatest (past : List Moment) (s address width v : ℕ) : Type 0 where
   pub bytes : List ℕ
   pub long : length bytes ≡ width
   pub theirs : v ≡ number bytes width
   pub latest_ones : AreLatest past s address bytes
 
--- what a copy to the kernel brought
+-- the bytes that a copy from the process brought
 abbrev pub bytes_in : Reply → List ℕ
 bytes_in (CopiedIn bytes) = bytes.items
 bytes_in (ShortIn r bytes) = bytes.items

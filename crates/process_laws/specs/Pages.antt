@@ -1,4 +1,4 @@
--- What a process has at a page, and which pages a step moves.
+-- What a process has at a page, and which pages a step remaps.
 use Rattle.std.specs.Prelude.{ℕ, pos, ◌+ℤ◌, nat_abs, Bool, true, false, not, ◌+◌, ◌-◌, ◌*◌, ◌/◌, ◌%◌, ◌==◌, nat_le, nat_lt, ◌&&◌, ◌||◌, Option, None, Some, Result, Ok, Err, List, [], ◌∷◌, length, if◌then◌else◌}
 use Rattle.process_model.specs.Bytes.{pages_for}
 use Rattle.process_model.specs.Images.{end_of_loads, end_page, image_loads, LoadSegment}
@@ -14,7 +14,8 @@ use Rattle.sv39_entry.specs.Address.{page_of}
 use Rattle.sv39_entry.specs.declared.access.Access.{Access}
 use Rattle.sv39_entry.specs.declared.access.Access.TheVariants.{Store}
 
--- what its region gives to a page: rights, what it is there for, and where its bytes begin
+-- what a region gives to one page: rights, the region's kind, and the source of the page's initial bytes. Regions that are cut, moved or
+-- merged give the same if each page's grant is the same
 pub record Grant : Type 0 where
   pub reads : Bool
   pub writes : Bool
@@ -22,7 +23,7 @@ pub record Grant : Type 0 where
   pub kind : RegionKind
   pub source : Source
 
--- in a file: so many pages on
+-- the source, `pages` pages further on
 abbrev pub pages_on : Source → ℕ → Source
 pages_on (file n offset) pages = file n (offset + 4096 * pages)
 pages_on s pages = s
@@ -34,8 +35,7 @@ grant_in (Some r) page = Some (record { reads = r.reads; writes = r.writes; exec
 abbrev pub grant : Process → ℕ → Option Grant
 grant p page = grant_in (region_at (regions p) page) page
 
--- at hand: the page is settled, and a store is held back by no mark: not by a fork's, and in a shared mapping not by the want of the mark
--- of its first store
+-- a page is ready for an access if it is settled and, for a store, has no fork mark and, in a writable shared mapping, has the stored mark
 abbrev pub is_ready : Access → Option Region → Page → Bool
 is_ready Store r x = not x.fork_mark && (x.stored_mark || not (keeps_stores r))
 is_ready _ r x = true
@@ -47,7 +47,7 @@ is_ready_on access r (Some x) = is_ready access r x
 abbrev pub is_ready_page : Process → Access → ℕ → Bool
 is_ready_page p access page = is_ready_on access (region_at (regions p) page) (get p.settled page)
 
--- the marks of a page: a fork's, until a store or a copy parts it from its sharers, and that of a store to a shared mapping
+-- marks of a settled page: the fork mark, and the stored mark
 abbrev pub has_mark : (Page → Bool) → Option Page → Bool
 has_mark mark None = false
 has_mark mark (Some x) = mark x
@@ -58,13 +58,12 @@ has_fork_mark p page = has_mark (λ x. x.fork_mark) (get p.settled page)
 abbrev pub has_stored_mark : Process → ℕ → Bool
 has_stored_mark p page = has_mark (λ x. x.stored_mark) (get p.settled page)
 
--- moved: the pages that a call gives to the process, or takes from it: exec all, sbrk those between the two sizes, mmap and munmap those of
--- their range
+-- the pages that a call maps or unmaps: exec all, sbrk those between the old size and the new, mmap and munmap those of their range
 
 abbrev pub is_between : ℕ → ℕ → ℕ → Bool
 is_between first end page = nat_le first page && nat_lt page end
 
--- the page has one of n addresses from a first on
+-- the page has one of the n addresses from `first` on
 abbrev pub has_some_of : ℕ → ℕ → ℕ → Bool
 has_some_of first n page = nat_lt 0 n && nat_le (page_of first) page && nat_le page (page_of (first + n - 1))
 
@@ -78,12 +77,12 @@ is_remapped (Mmap h len protection flags n) (MappedAt at) page = is_between (pag
 is_remapped (Munmap h address len) Done page = is_between (page_of address) (page_of address + pages_for len) page
 is_remapped _ _ page = false
 
--- grant_after: what such a page has then
+-- and the grant of such a page after the call
 
 abbrev pub heap_grant : Grant
 heap_grant = record { reads = true; writes = true; executes = false; kind = heap; source = zeros }
 
--- PROT_READ is 1, PROT_WRITE 2, PROT_EXEC 4; MAP_SHARED is 1, MAP_PRIVATE 2. What may be written may be read
+-- PROT_READ is 1, PROT_WRITE 2, PROT_EXEC 4; MAP_SHARED is 1, MAP_PRIVATE 2. A mapping that may be written may be read
 abbrev pub mapping_grant : ℕ → ℕ → ℕ → ℕ → Grant
 mapping_grant protection flags n pages = record {
   reads = protection % 2 == 1 || protection / 2 % 2 == 1;
@@ -93,7 +92,7 @@ mapping_grant protection flags n pages = record {
   source = file n (4096 * pages);
 }
 
--- of an image: its segments, and behind the last one a guard and a stack of one page each; a gap between segments grants nothing
+-- an image: its segments, and after the last one a guard and a stack of one page each; a gap between segments grants nothing
 abbrev pub loads_grant : ℕ → List LoadSegment → ℕ → Option Grant
 loads_grant end [] page =
     if page == end then Some (record { reads = false; writes = false; executes = false; kind = guard; source = zeros })
@@ -115,9 +114,9 @@ grant_after (Sbrk h delta) (OldSize n) page = if nat_lt page (pages_for (nat_abs
 grant_after (Mmap h len protection flags n) (MappedAt at) page = Some (mapping_grant protection flags n (page - page_of at))
 grant_after _ r page = None
 
--- the size of the process after a step
+-- the size of a process after its step
 
--- of an image: heap and stack meet at the top of the stack, and the heap is empty
+-- an image: the heap begins, empty, at the top of the stack
 abbrev pub image_size : Result (List LoadSegment) BadImage → ℕ
 image_size (Err e) = 0
 image_size (Ok ls) = 4096 * (end_of_loads 0 ls + 2)
@@ -128,7 +127,7 @@ size_after (Exec h i) Done size = image_size (image_loads i)
 size_after (Sbrk h delta) (OldSize n) size = nat_abs (pos size +ℤ delta)
 size_after _ r size = size
 
--- the pages that a step makes ready for a store: that of the store whose fault is served, and those of a copy to the process
+-- the pages that a step makes ready for a store: the page of the store that is served, and those of a copy to the process
 
 abbrev pub is_store : Access → Bool
 is_store Store = true

@@ -28,7 +28,7 @@ use Rattle.sv39_entry.specs.declared.rule.Rule.TheVariants.{NoFrame}
 
 -- steps
 
--- the step was made
+-- the reply is no refusal: the step was made
 abbrev pub IsMade : Reply → Type 0
 IsMade r = (e : Refusal) → r ≢ Refused e
 
@@ -37,14 +37,14 @@ pub record IsOn (w : World) (h s : ℕ) (p : Process) : Type 0 where
   pub there : slot_on w h ≡ Some s
   pub lives : process_in w s ≡ Some p
 
--- the hart is in that phase
+-- hart h is in that phase
 abbrev pub phase_on : World → ℕ → Option Phase
 phase_on w h = option_map (λ hart. hart.phase) (slice_get w.harts h)
 
 abbrev pub IsIn : World → ℕ → Phase → Type 0
 IsIn w h phase = phase_on w h ≡ Some phase
 
--- the hart whose process makes the step, or for whose process the kernel makes it
+-- the hart whose process makes the step, or for whose process the kernel does
 abbrev pub maker : Step → Option ℕ
 maker (Trap h) = Some h
 maker (Fetch h address via) = Some h
@@ -61,7 +61,7 @@ maker (CopyOut h address bytes) = Some h
 maker (Exit h status) = Some h
 maker _ = None
 
--- the hart that the step brings into another phase, or gives another process
+-- the hart whose phase or process the step may change
 abbrev pub moved_hart : Step → Reply → Option ℕ
 moved_hart (Switch h slot) r = Some h
 moved_hart (Next h) r = Some h
@@ -71,36 +71,35 @@ moved_hart x (Ended rule) = maker x
 moved_hart x (Exited status) = maker x
 moved_hart x r = None
 
--- the process is gone after its step
+-- the reply says that the process ended
 abbrev pub is_end : Reply → Bool
 is_end (Ended rule) = true
 is_end (Exited status) = true
 is_end _ = false
 
--- it waits for a service after its step
+-- the reply says that the access faulted
 abbrev pub is_fault : Reply → Bool
 is_fault (Fault cause) = true
 is_fault _ = false
 
--- the step may write back: by it pages of shared mappings go
+-- the step may write back pages of shared mappings
 abbrev pub writes_back : Step → Reply → Bool
 writes_back (Munmap h address len) Done = true
 writes_back (Exec h image) Done = true
 writes_back x r = is_end r
 
--- a process begins in the slot
+-- the reply says that a process began in slot s
 abbrev pub is_born : Reply → ℕ → Bool
 is_born (Started t) s = t == s
 is_born (Forked t) s = t == s
 is_born r s = false
 
--- the kernel may be called for the process: it does not wait for a service
-pub record MayCall (w : World) (h s : ℕ) (p : Process) : Type 0 where
-  pub on : IsOn w h s p
-  pub quiet : is_unserved_access p.pending ≡ false
+-- the kernel may be called for process p on hart h: the hart is in the kernel, and p waits for no service
+pub record MayCall (w : World) (h : ℕ) (p : Process) : Type 0 where
   pub in_kernel : IsIn w h Kernel
+  pub quiet : is_unserved_access p.pending ≡ false
 
--- the step is a call of the kernel for the process on hart h
+-- the step is a kernel call for the process on hart h
 pub data Calls (h : ℕ) : Step → Type 0 where
   fork : Calls h (Fork h)
   exec : {image : _} → Calls h (Exec h image)
@@ -111,25 +110,25 @@ pub data Calls (h : ℕ) : Step → Type 0 where
   copy_out : {address : ℕ} {bytes : _} → Calls h (CopyOut h address bytes)
   exit : {status : _} → Calls h (Exit h status)
 
--- the step copies n bytes for the process on hart h
+-- the step is a kernel copy of n bytes for the process on hart h
 pub data CopiesBytes (h : ℕ) : ℕ → Step → Type 0 where
   copy_in : {address n : ℕ} → CopiesBytes h n (CopyIn h address n)
   copy_out : {address : ℕ} {bytes : Bor (List ℕ)} → CopiesBytes h (length bytes.now) (CopyOut h address bytes)
 
--- the step makes a process of the image
+-- the step is a start or an exec of the image
 pub data Loads (image : Image) : Step → Type 0 where
   start : Loads image (Start image)
   exec : {h : ℕ} → Loads image (Exec h image)
 
 -- accesses
 
--- a fetch, a load or a store of so many bytes at an address
+-- a fetch, a load or a store of `width` bytes at `address`
 pub record Asked : Type 0 where
   pub access : Access
   pub address : ℕ
   pub width : ℕ
 
--- the step is that access, by the user on hart h: by what the entry with a number says, or by what the memory says now
+-- the step is that user access on hart h: by buffer entry n (`Some n`), or by a walk (`None`)
 pub data Asks (h : ℕ) (via : Option ℕ) : Asked → Step → Type 0 where
   fetch : {address : ℕ} → Asks h via (record { access = access.Fetch; address = address; width = 4 }) (Fetch h address via)
   load : {address width : ℕ} → Asks h via (record { access = access.Load; address = address; width = width }) (Load h address width via)
@@ -140,55 +139,55 @@ has_right r access.Fetch = r.executes
 has_right r access.Load = r.reads
 has_right r access.Store = r.writes
 
--- granted: a region of the process has the page and grants the right, and the address is aligned
+-- a region of p holds the page and grants the right, and the address is a multiple of the width
 pub record IsGranted (p : Process) (a : Asked) : Type 0 where
   pub region : Region
   pub has : region_at (regions p) (page_of a.address) ≡ Some region
   pub right : has_right region a.access ≡ true
   pub aligned : a.address % a.width ≡ 0
 
--- its page is at hand
+-- its page is settled and ready for it (`is_ready` in `Pages`)
 abbrev pub IsResident : Process → Asked → Type 0
 IsResident p a = is_ready_page p a.access (page_of a.address) ≡ true
 
--- the rule is the first that forbids the access
+-- the rule is the first of eight that forbids the access (`Denied`)
 abbrev pub Forbids : Process → Asked → Rule → Type 0
 Forbids p a rule = IsFirst (regions p) a.access a.address a.width rule
 
--- the process, where it waits for the service of an access that faulted
+-- p, with the access a pending and not yet served
 abbrev pub waiting : Process → Asked → Process
 waiting p a = record p { pending = Some (record { access = a.access; address = a.address; width = a.width; served = false }) }
 
--- the step is that access, and was made
+-- process p makes the access, and it is not refused
 pub record Tries (m : Moment) (h s : ℕ) (p : Process) (a : Asked) : Type 0 where
   pub on : IsOn m.before h s p
   pub via : Option ℕ
   pub asks : Asks h via a m.step
   pub made : IsMade m.reply
 
--- the step is its service, and was made
+-- the kernel serves the access of p, and is not refused
 pub record Serves (m : Moment) (h s : ℕ) (p : Process) (a : Asked) : Type 0 where
   pub on : IsOn m.before h s (waiting p a)
   pub serves : m.step ≡ Serve h
   pub made : IsMade m.reply
 
--- the cause with which the access faults: misalignment is told before a page fault
+-- the cause of its fault: a misaligned access has that cause, any other the page fault's
 abbrev pub cause : Asked → ℕ
 cause a = if a.address % a.width == 0 then page_fault_cause a.access else misaligned_cause a.access
 
--- one byte of a kernel copy
+-- one byte of a kernel copy, as an access
 abbrev pub byte : Access → ℕ → Asked
 byte access address = record { access = access; address = address; width = 1 }
 
 -- replies
 
--- what an access answers where it is granted
+-- the answers to an access that succeeds
 pub data IsAnswer : Access → Reply → Type 0 where
   fetched : {v : ℕ} → IsAnswer access.Fetch (Value v)
   loaded : {v : ℕ} → IsAnswer access.Load (Value v)
   stored : IsAnswer access.Store Stored
 
--- the replies that a step may get
+-- the replies that a step may get: a refusal, or one of its own
 abbrev pub is_reply : Step → Reply → Bool
 is_reply x (Refused e) = true
 is_reply (Start image) (Started s) = true
@@ -218,7 +217,7 @@ is_reply (CopyOut h address bytes) (ShortOut rule n) = true
 is_reply (Exit h status) (Exited code) = true
 is_reply x r = false
 
--- of kernel copies: how many bytes were copied, and what stopped it
+-- a kernel copy: how many bytes were copied, and which rule stopped it
 
 abbrev pub copied : Reply → ℕ
 copied (CopiedIn bytes) = length bytes.items
@@ -241,7 +240,7 @@ tells_no_frame (ShortIn NoFrame bytes) = true
 tells_no_frame (ShortOut NoFrame n) = true
 tells_no_frame _ = false
 
--- the steps for which frames are taken, beside exec
+-- the steps that take frames, exec aside
 abbrev pub takes_frames : Step → Bool
 takes_frames (Start image) = true
 takes_frames (Serve h) = true
@@ -250,20 +249,20 @@ takes_frames (CopyIn h address n) = true
 takes_frames (CopyOut h address bytes) = true
 takes_frames _ = false
 
--- the same world in a memory of n frames
+-- the same world with n frames of memory
 abbrev pub in_memory : World → ℕ → World
 in_memory w n = record w { frames = n }
 
 -- processes that begin
 
--- a process that a start brings: each page has what the image gives, and no mark
+-- a process that was started: each page has its image's grant, and no mark; it waits for nothing
 pub record Begins (m : Moment) (p : Process) : Type 0 where
   pub grants : (page : ℕ) → grant_of p page ≡ grant_after m.step m.reply page
   pub unmarked : (page : ℕ) → (has_fork_mark p page ≡ false) × (has_stored_mark p page ≡ false)
   pub quiet : is_unserved_access p.pending ≡ false
   pub size : p.size ≡ size_after m.step m.reply 0
 
--- the child of a fork: its bytes are in `Latest`
+-- the child of a fork, its bytes aside: `latest` says that they are its parent's
 pub record IsChild (p c : Process) : Type 0 where
   pub same : regions c ≡ regions p
   pub base : c.heap_base ≡ p.heap_base
@@ -273,7 +272,7 @@ pub record IsChild (p c : Process) : Type 0 where
 
 -- files
 
--- b is a byte that the process stored in a shared mapping, where byte i of file n is
+-- b is a byte of p on a page with the stored mark, in a writable shared mapping, at the address that maps byte i of file n
 pub record WroteBack (p : Process) (n i b : ℕ) : Type 0 where
   pub address : ℕ
   pub grant : Grant
@@ -286,7 +285,7 @@ pub record WroteBack (p : Process) (n i b : ℕ) : Type 0 where
   pub stored : has_stored_mark p (page_of address) ≡ true
   pub byte : byte_had (Some p) address ≡ Some b
 
--- files keep their lengths, and the bytes that change become such ones
+-- each file keeps its length, and each byte of it stays or becomes such a byte
 pub record Written (p : Process) (files later : List File) : Type 0 where
   pub long : (n : ℕ) → length (file_bytes later n) ≡ length (file_bytes files n)
   pub bytes : (n i : ℕ) → i < length (file_bytes files n) → (byte_at (file_bytes later n) i ≡ byte_at (file_bytes files n) i) ⊎ WroteBack p n i (byte_at (file_bytes later n) i)
