@@ -42,13 +42,13 @@ pub record AnswersUser (m : Moment) (h s : ℕ) (p : Process) (a : Asked) : Type
   pub answered : Tries m h s p a → IsGranted p a → IsResident p a → IsAnswer a.access m.reply
   -- Otherwise it faults with its own cause and waits for service; nothing else of p changes, and the hart is at the kernel's entry
   pub faults : Tries m h s p a → (IsGranted p a → IsResident p a → ⊥) → (m.reply ≡ Fault (cause a)) × IsOn m.after h s (waiting p a) × IsIn m.after h Enter0
-  -- If it is granted, its service makes its page resident, so that one fault is enough, or ends p for want of frames
+  -- If it is granted, its service makes its page resident, so that one fault is enough, or ends p with NoFrame
   pub served : Serves m h s p a → IsGranted p a → ((m.reply ≡ Ready) × ((q : Process) → process_in m.after s ≡ Some q → IsResident q a)) ⊎ (m.reply ≡ Ended NoFrame)
   -- If it is not, its service ends p by the first rule that forbids it
   pub ended : Serves m h s p a → (IsGranted p a → ⊥) → (rule : Rule) × (m.reply ≡ Ended rule) × Forbids p a rule
 
--- (b) A kernel copy of n bytes ends after k: all are copied; or the next is forbidden; or the next lacks a frame, and a copy of it `alone`,
--- made then, replies so too. `copyin 0 0x1ffc 8`, whose last four bytes are the guard's, answers `short 4 GuardPage done 4 00000000`
+-- (b) A kernel copy of n bytes ends after k: all are copied; or the next is forbidden; or the next lacks a frame, and the reply to a copy of
+-- it `alone`, made then, says so too. `copyin 0 0x1ffc 8`, whose last four bytes are the guard's, answers `short 4 GuardPage done 4 00000000`
 pub data EndsAfter (p : Process) (access : Access) (address n k : ℕ) (alone : Reply) : Option Rule → Type 0 where
   whole : k ≡ n → EndsAfter p access address n k alone None
   forbidden : {rule : Rule} → k < n → Forbids p (byte access (address + k)) rule → EndsAfter p access address n k alone (Some rule)
@@ -132,28 +132,30 @@ pub record ChangesOwn (m : Moment) (h s : ℕ) (p : Process) : Type 0 where
   -- A child is in the lowest free slot; it has its parent's regions and size, waits for nothing, and has nothing to write back
   pub child : (t : ℕ) → m.step ≡ Fork h → m.reply ≡ Forked t → (free_slot m.before ≡ Some t) × (c : Process) × (process_in m.after t ≡ Some c) × IsChild p c
 
--- (g) What is made of the steps of a process p on hart h
+-- (g) These steps of a process p on hart h are made:
 pub record MakesOwn (m : Moment) (h s : ℕ) (p : Process) : Type 0 where
-  -- its way into user mode and back into the kernel, and off the hart
+  -- the instructions of its way into user mode, a trap back into the kernel, and the switch off its hart;
   pub next : (phase after : Phase) → IsIn m.before h phase → next_phase phase ≡ Some after → (phase ≡ Kernel → is_unserved_access p.pending ≡ false) → m.step ≡ Next h → IsOn m.after h s p × IsIn m.after h after
   pub trap : IsIn m.before h User → m.step ≡ Trap h → (slot_on m.after h ≡ Some s) × IsIn m.after h Enter0
   pub leave : IsIn m.before h Kernel → m.step ≡ Switch h None → (slot_on m.after h ≡ None) × IsIn m.after h Idle
-  -- in user mode each access by a walk; in the kernel the service of an access that waits, and of no other
+  -- in user mode each access by a walk; in the kernel the service of an access that waits, and of no other;
   pub access : (a : Asked) → IsIn m.before h User → Asks h None a m.step → is_width a.width ≡ true → IsMade m.reply
   pub service : IsIn m.before h Kernel → is_unserved_access p.pending ≡ true → m.step ≡ Serve h → IsMade m.reply
   pub served : m.step ≡ Serve h → IsMade m.reply → is_unserved_access p.pending ≡ true
-  -- and if none waits: a fork and an exec of a good image, if frames suffice; a copy of at most 256 bytes; an exit; no other call is Impossible
+  -- and if none waits, a fork if a slot is free, and an exec of a good image, unless they lack frames; a copy of at most 256 bytes; an exit.
+  -- Any other call may be refused, but not as Impossible
   pub fork : (t : ℕ) → MayCall m.before h p → m.step ≡ Fork h → free_slot m.before ≡ Some t → tells_no_frame m.reply ≡ false → IsMade m.reply
   pub exec : (image : Image) (ls : List LoadSegment) → MayCall m.before h p → m.step ≡ Exec h image → image_loads image ≡ Ok ls → tells_no_frame m.reply ≡ false → IsMade m.reply
   pub copy : (n : ℕ) → MayCall m.before h p → CopiesBytes h n m.step → n ≤ longest_copy → IsMade m.reply
   pub exit : (status : ℤ) → MayCall m.before h p → m.step ≡ Exit h status → IsMade m.reply
   pub call : (phase : Phase) → MayCall m.before h p → Calls h m.step → m.reply ≢ Refused (Impossible phase)
 
+-- And of all steps:
 pub record MakesSteps (m : Moment) : Type 0 where
-  -- Each reply is one that such a step may get; a step of a process is made only on a hart that has one
+  -- Each reply is one that such a step may get. A step of a process is made only on a hart that has one
   pub replies : is_reply m.step m.reply ≡ true
   pub hosted : (h : ℕ) → maker m.step ≡ Some h → IsMade m.reply → (s : ℕ) × (p : Process) × IsOn m.before h s p
-  -- A good image starts in the lowest free slot, if frames suffice; a bad one neither starts nor takes the place of a process
+  -- A good image starts in the lowest free slot, unless it lacks frames. A bad one neither starts nor takes the place of a process
   pub start : (image : Image) (s : ℕ) (ls : List LoadSegment) → free_slot m.before ≡ Some s → image_loads image ≡ Ok ls → m.step ≡ Start image → tells_no_frame m.reply ≡ false → IsMade m.reply
   pub started : (image : Image) (s : ℕ) → m.step ≡ Start image → m.reply ≡ Started s → (free_slot m.before ≡ Some s) × (p : Process) × (process_in m.after s ≡ Some p) × Begins m p
   pub bad_image : (image : Image) (e : BadImage) → Loads image m.step → image_loads image ≡ Err e → IsMade m.reply → ⊥
