@@ -18,12 +18,13 @@ ghost use Rattle.sv39_entry.specs.declared.rule.Rule.TheVariants.{NoFrame};
 
 /// Of any moment, whatever the model is: if a part of the headline holds of it, this does not happen.
 ///
-/// `second_fault`: a granted access of a resident page faults. `other_cause`: a fault has another cause than its own. `short_copy`: a copy
-/// stops by NoFrame though the next byte's frames are free. `trap`: a trap drops or changes a byte. `released`: a page above the new size
-/// has bytes. `place`: what munmap leaves of a mapping reads from another place of its file. `mapped`: a mapping grants what was not asked
-/// for. `over`: it lies over pages that are granted. `fork_mark`: service leaves a fork mark. `stored_mark`: service of a load leaves the
-/// stored mark. `child`: a child has other regions than its parent. `kind`: a copy to a process replies as one from it. `bad_image`: a bad
-/// image starts. `nobody`: a call is made on a hart without a process.
+/// `second_fault`: a granted access of a resident page faults. `other_cause`: a fault has another cause than its own.
+/// `short_copy`: a copy stops by NoFrame though the next byte's frames are free. `trap`: a trap drops or changes a byte.
+/// `released`: a page above the new size has bytes. `place`: what munmap leaves of a mapping reads from another place of
+/// its file. `mapped`: a mapping grants what was not asked for. `over`: it lies over pages that are granted. `fork_mark`:
+/// service leaves a fork mark. `stored_mark`: service of a load leaves the stored mark. `child`: a child has other
+/// regions than its parent. `kind`: a copy to a process replies as one from it. `bad_image`: a bad image starts.
+/// `nobody`: a call is made on a hart without a process.
 pub fn wrong_models_are_refused()
     ensures second_fault { (m : Moment) (h s cause : ℕ) (p : Process) (a : Asked) → AnswersUser m h s p a → Tries m h s p a → IsGranted p a → IsResident p a → m.reply ≢ Fault cause }
     ensures other_cause { (m : Moment) (h s c : ℕ) (p : Process) (a : Asked) → AnswersUser m h s p a → Tries m h s p a → (IsGranted p a → IsResident p a → ⊥) → m.reply ≡ Fault c → c ≡ cause a }
