@@ -251,7 +251,7 @@ pub becomes_as : (m n : Moment) (h : ℕ) (p q : Process) → n.step ≡ m.step 
 becomes_as m n h p q step reply k =
     let told = subst (λ r. Becomes (record { before = m.before; step = m.step; reply = r; after = m.after }) h p q) (sym reply) k in
     let j = subst (λ x. Becomes (record { before = m.before; step = x; reply = n.reply; after = m.after }) h p q) (sym step) told in
-    record { waits = j.waits; stays = j.stays; remapped = j.remapped; vacant = j.vacant; forked = j.forked; stored = j.stored; size = j.size; old_size = j.old_size }
+    record { waits = j.waits; stays = j.stays; remapped = j.remapped; vacant = j.vacant; forked = j.forked; stored = j.stored; cleared = j.cleared; size = j.size; old_size = j.old_size }
 
 -- marks change no file
 
@@ -295,6 +295,7 @@ module _ (w : World) (h s : ℕ) (p : Process) (on : IsOn w h s p) (x : Step) wh
     vacant = λ page e. absurd (let no : true ≡ false = sym e ∙ none page in cc);
     forked = λ other. f.forked;
     stored = f.anew;
+    cleared = λ image e is. absurd (let no : true ≡ false = sym (ap (λ y. is_remapped y r 0) e ∙ ap (λ t. is_remapped (step_of.Exec h image) t 0) is) ∙ none 0 in cc);
     size = f.size ∙ sym same;
     old_size = λ delta n e is. absurd (calm n is);
   }
@@ -422,6 +423,7 @@ module _ (w : World) (h s : ℕ) (p : Process) (on : IsOn w h s p) where
         vacant = λ page inside other. resized_vacant p sound.ordered page (wanted_size p delta) none inside;
         forked = λ other page. released_mark (λ z. z.fork_mark) p (pages_for size) (pages_for p.size) page;
         stored = λ page e. inl (released_mark (λ z. z.stored_mark) p (pages_for size) (pages_for p.size) page e);
+        cleared = λ image e is. absurd cc;
         size = refl;
         old_size = λ other n e is. cc;
       })
@@ -448,6 +450,7 @@ module _ (w : World) (h s : ℕ) (p : Process) (on : IsOn w h s p) where
         vacant = λ page inside other. inl (mapped_vacant p sound.ordered page m (place_fits p (pages_for len) first at) (at_first page inside));
         forked = λ other page e. e;
         stored = λ page e. inl e;
+        cleared = λ image e is. absurd cc;
         size = refl;
         old_size = λ delta n e is. absurd cc;
       })
@@ -474,6 +477,7 @@ module _ (w : World) (h s : ℕ) (p : Process) (on : IsOn w h s p) where
       vacant = λ page inside other. inr (unmapped_given p sound.ordered page first end inside m around);
       forked = λ other page. released_mark (λ z. z.fork_mark) p first end page;
       stored = λ page e. inl (released_mark (λ z. z.stored_mark) p first end page e);
+      cleared = λ image e is. absurd cc;
       size = refl;
       old_size = λ delta n e is. absurd cc;
     })
@@ -499,6 +503,7 @@ module _ (w : World) (h s : ℕ) (p : Process) (on : IsOn w h s p) where
     vacant = λ page inside other. absurd (other image refl);
     forked = λ other page e. absurd (let no : true ≡ false = sym e ∙ (image_unmarked w.counter ls page).0 in cc);
     stored = λ page e. absurd (let no : true ≡ false = sym e ∙ (image_unmarked w.counter ls page).1 in cc);
+    cleared = λ other e is. image_unmarked w.counter ls;
     size = image_sized w.counter ls ∙ ap image_size (sym loads);
     old_size = λ delta n e is. absurd cc;
   })
@@ -520,6 +525,7 @@ module _ (w : World) (h s : ℕ) (p : Process) (on : IsOn w h s p) where
     vacant = λ page inside. absurd cc;
     forked = λ other. absurd (other refl);
     stored = λ page e. inl (sym (fork_stored p page) ∙ e);
+    cleared = λ image e is. absurd cc;
     size = refl;
     old_size = λ delta n e is. absurd cc;
   })

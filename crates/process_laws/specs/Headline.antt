@@ -116,9 +116,10 @@ pub record Becomes (m : Moment) (h : ℕ) (p q : Process) : Type 0 where
   -- Such a page has what the call gives; and only exec puts one grant in the place of another
   pub remapped : (page : ℕ) → is_remapped m.step m.reply page ≡ true → grant q page ≡ grant_after m.step m.reply page
   pub vacant : (page : ℕ) → is_remapped m.step m.reply page ≡ true → ((image : Image) → m.step ≢ Exec h image) → (grant p page ≡ None) ⊎ (grant q page ≡ None)
-  -- Only a fork leaves a fork mark; only the service of a store and a copy to a page leave a stored mark there
+  -- Only a fork leaves a fork mark; only the service of a store and a copy to a page leave a stored mark there; exec leaves neither
   pub forked : m.step ≢ Fork h → (page : ℕ) → has_fork_mark q page ≡ true → has_fork_mark p page ≡ true
   pub stored : (page : ℕ) → has_stored_mark q page ≡ true → (has_stored_mark p page ≡ true) ⊎ (is_stored_to p m.step page ≡ true)
+  pub cleared : (image : Image) → m.step ≡ Exec h image → m.reply ≡ Done → (page : ℕ) → (has_fork_mark q page ≡ false) × (has_stored_mark q page ≡ false)
   -- The size is what sbrk or exec makes of it, else what it was; sbrk replies the old one
   pub size : q.size ≡ size_after m.step m.reply p.size
   pub old_size : (delta : ℤ) (n : ℕ) → m.step ≡ Sbrk h delta → m.reply ≡ OldSize n → n ≡ p.size

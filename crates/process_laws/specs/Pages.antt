@@ -58,7 +58,7 @@ has_fork_mark p page = has_mark (λ x. x.fork_mark) (get p.settled page)
 abbrev pub has_stored_mark : Process → ℕ → Bool
 has_stored_mark p page = has_mark (λ x. x.stored_mark) (get p.settled page)
 
--- the pages that a call maps or unmaps: exec all, sbrk those between the old size and the new, mmap and munmap those of their range
+-- runs of pages
 
 abbrev pub is_between : ℕ → ℕ → ℕ → Bool
 is_between first end page = nat_le first page && nat_lt page end
@@ -67,6 +67,7 @@ is_between first end page = nat_le first page && nat_lt page end
 abbrev pub has_some_of : ℕ → ℕ → ℕ → Bool
 has_some_of first n page = nat_lt 0 n && nat_le (page_of first) page && nat_le page (page_of (first + n - 1))
 
+-- the pages that a call maps or unmaps: exec all, sbrk those between the old size and the new, mmap and munmap those of their range
 abbrev pub is_remapped : Step → Reply → ℕ → Bool
 is_remapped (Exec h i) Done page = true
 is_remapped (Sbrk h delta) (OldSize n) page =
