@@ -1,26 +1,49 @@
 -- Lists of steps.
-use Rattle.std.proofs.Common.{◌≡◌, ℕ, ◌<◌, ◌≤◌, ◌+◌, get_or, length, drop, List, [], ◌∷◌, ◌++◌, ap, sym, subst, ◌∙◌}
+use Rattle.std.proofs.Common.{◌≡◌, ℕ, ◌<◌, ◌≤◌, ◌+◌, get_or, length, drop, List, [], ◌∷◌, ◌++◌, ap, refl, sym, subst, ◌∙◌}
 use Rattle.std.proofs.lemmas.List.{append-nil, append_assoc, at_drop_more, drop_all}
-use Rattle.process_model.specs.Steps.{run, step}
-use Rattle.process_model.specs.World.{World}
+use Rattle.process_model.specs.Stale.{with_stale_slots}
+use Rattle.process_model.specs.Steps.{plain_step, run, step}
+use Rattle.process_model.specs.World.{Outcome, World}
+use Rattle.process_model.specs.declared.config.Policy.{Policy}
 use Rattle.process_model.specs.declared.step.Reply.{Reply}
 use Rattle.process_model.specs.declared.step.Step.{Step}
-use Rattle.hart_machine.specs.Serves.{IsIn}
+use Rattle.process_model.specs.declared.config.Policy.TheVariants.{Asid, Full}
+use Rattle.hart_machine.specs.Buffers.{BuffersAre}
+use Rattle.hart_machine.specs.Runs.{BuffersFollow}
+use Rattle.hart_machine.specs.Serves.{AreTrue, IsIn}
 use Rattle.hart_machine.specs.declared.machine.Machine.{Machine}
+use Rattle.hart_machine.proofs.Buffered.{are_true}
+use Rattle.hart_machine.proofs.KeptPolicy.{policy_stays}
 
--- lists of steps: some of them were made, and from the world that they came to the others answer the rest
-pub record HasRun (m : Machine) (all left : List Step) (replies : List Reply) (w : World) : Type 0 where
+-- lists of steps: some of them were made, from the machine `first` on, and from the world that they came to the others answer the rest
+pub record HasRun (first m : Machine) (all left : List Step) (replies : List Reply) (w : World) : Type 0 where
   pub world : World
   pub is_in : IsIn m world
   pub replied : (run w all).replies ≡ replies ++ (run world left).replies
   pub comes_to : (run w all).world ≡ (run world left).world
+  pub ruled : world.policy ≡ w.policy
+  pub buffers : (new : Machine) → BuffersFollow m world left new → BuffersFollow first w all new
+
+marks_policy : (policy : Policy) (w : World) (o : Outcome) → ((with_stale_slots policy w o).world).policy ≡ (o.world).policy
+marks_policy Full w o = refl
+marks_policy Asid w o = refl
+
+step_policy : (w : World) (s : Step) → ((step w s).world).policy ≡ w.policy
+unfolding step
+step_policy w s = marks_policy w.policy w (plain_step w s) ∙ policy_stays w s
+
+-- at the start none was made
+pub none_run : (m : Machine) (all : List Step) (w : World) → IsIn m w → HasRun m m all all [] w
+none_run m all w is = record { world = w; is_in = is; replied = refl; comes_to = refl; ruled = refl; buffers = λ new k. k }
 
 -- one more
-pub one_more : (m n : Machine) (all rest : List Step) (s : Step) (replies : List Reply) (reply : Reply) (w : World) → HasRun m all (s ∷ rest) replies w
-    → ((v : World) → IsIn m v → (reply ≡ (step v s).reply) × IsIn n (step v s).world) → HasRun n all rest (replies ++ reply ∷ []) w
-one_more m n all rest s replies reply w has makes =
+pub one_more : (first m n : Machine) (all rest : List Step) (s : Step) (replies : List Reply) (reply : Reply) (w : World) → HasRun first m all (s ∷ rest) replies w
+    → ((v : World) → IsIn m v → (reply ≡ (step v s).reply) × IsIn n (step v s).world) → ((v : World) (is : IsIn m v) → BuffersAre m n (is.world).tables (is.world).kernel s reply) → HasRun first n all rest (replies ++ reply ∷ []) w
+one_more first m n all rest s replies reply w has makes are =
     let made = makes has.world has.is_in in
     record {
+      ruled = step_policy has.world s ∙ has.ruled;
+      buffers = λ new k. has.buffers new (n, made.1, (λ is. subst (λ (r : Reply). BuffersAre m n (is.world).tables (is.world).kernel s r) made.0 (are has.world is)), k);
       world = (step has.world s).world;
       is_in = made.1;
       replied = has.replied ∙ ap (λ r. replies ++ r ∷ (run (step has.world s).world rest).replies) (sym made.0) ∙ sym (append_assoc replies (reply ∷ []) _);
@@ -28,15 +51,22 @@ one_more m n all rest s replies reply w has makes =
     }
 
 -- all of them
-pub all_run : (m : Machine) (all : List Step) (replies : List Reply) (w : World) → HasRun m all [] replies w → (replies ≡ (run w all).replies) × IsIn m (run w all).world
-all_run m all replies w has = (sym (has.replied ∙ append-nil replies), subst (λ (v : World). IsIn m v) (sym has.comes_to) has.is_in)
+pub all_run : (first m : Machine) (all : List Step) (replies : List Reply) (w : World) → HasRun first m all [] replies w → (replies ≡ (run w all).replies) × IsIn m (run w all).world
+all_run first m all replies w has = (sym (has.replied ∙ append-nil replies), subst (λ (v : World). IsIn m v) (sym has.comes_to) has.is_in)
+
+-- the buffers, and what they tell
+pub run_buffers : (first m : Machine) (all : List Step) (replies : List Reply) (w : World) → HasRun first m all [] replies w → BuffersFollow first w all m
+run_buffers first m all replies w has = has.buffers m refl
+
+pub run_true : (first m : Machine) (all : List Step) (replies : List Reply) (w : World) → HasRun first m all [] replies w → w.policy ≡ Asid → AreTrue m
+run_true first m all replies w has asid = are_true m has.world has.is_in ((has.is_in).world.policy ∙ has.ruled ∙ asid)
 
 -- what is left begins with the step that is next
-pub next_left : (m : Machine) (all : List Step) (i : ℕ) (s : Step) (replies : List Reply) (w : World) → i < length all → s ≡ get_or all i s
-    → HasRun m all (drop i all) replies w → HasRun m all (s ∷ drop (i + 1) all) replies w
-next_left m all i s replies w within read has =
-    subst (λ (left : List Step). HasRun m all left replies w) (at_drop_more (λ left. left) all i s within ∙ ap (λ x. x ∷ drop (i + 1) all) (sym read)) has
+pub next_left : (first m : Machine) (all : List Step) (i : ℕ) (s : Step) (replies : List Reply) (w : World) → i < length all → s ≡ get_or all i s
+    → HasRun first m all (drop i all) replies w → HasRun first m all (s ∷ drop (i + 1) all) replies w
+next_left first m all i s replies w within read has =
+    subst (λ (left : List Step). HasRun first m all left replies w) (at_drop_more (λ left. left) all i s within ∙ ap (λ x. x ∷ drop (i + 1) all) (sym read)) has
 
 -- and at the end nothing
-pub none_left : (m : Machine) (all : List Step) (i : ℕ) (replies : List Reply) (w : World) → length all ≤ i → HasRun m all (drop i all) replies w → HasRun m all [] replies w
-none_left m all i replies w past has = subst (λ (left : List Step). HasRun m all left replies w) (drop_all i all past) has
+pub none_left : (first m : Machine) (all : List Step) (i : ℕ) (replies : List Reply) (w : World) → length all ≤ i → HasRun first m all (drop i all) replies w → HasRun first m all [] replies w
+none_left first m all i replies w past has = subst (λ (left : List Step). HasRun first m all left replies w) (drop_all i all past) has

@@ -16,7 +16,7 @@ use Rattle.process_model.specs.Process.{Pending, Process, without_pending}
 use Rattle.process_model.specs.Residence.{child_of, marked}
 use Rattle.process_model.specs.Service.{Answer, Asked, access_step, served, served_or_ended, told_if, user_access}
 use Rattle.process_model.specs.Stale.{is_changed}
-use Rattle.process_model.specs.Steps.{filled, plain_step, step}
+use Rattle.process_model.specs.Steps.{filled, plain_step}
 use Rattle.process_model.specs.World.{Outcome, World, always, awaits_service, can_call, can_go_on, can_run, can_serve, flat, free_slot, kernel_call, lowest_free, on_hart, on_hart_at, refuses, unless_refused, with_its_process, with_process_of, with_slot_of}
 use Rattle.process_model.specs.declared.config.Policy.{Policy}
 use Rattle.process_model.specs.declared.config.Policy.TheVariants.{Full, Asid}

@@ -6,6 +6,7 @@ pub mod Executed
 pub mod Forked
 pub mod Harts
 pub mod Marks
+pub mod Runs
 pub mod Serves
 pub mod Serving
 pub mod Slots

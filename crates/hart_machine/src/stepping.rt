@@ -4,6 +4,7 @@ ghost use Rattle.std.specs.Prelude.{◌≡◌, IfOk, List, map, OnErr, OnOk, opt
 ghost use Rattle.hart_machine.specs.Buffers.{buffer_of, BuffersAre, OnlyFillsAdd};
 ghost use Rattle.hart_machine.specs.Harts.{key_of};
 ghost use Rattle.hart_machine.specs.Marks.{AreMarked};
+ghost use Rattle.hart_machine.specs.Runs.{BuffersFollow};
 ghost use Rattle.hart_machine.specs.Serves.{AreTrue, IsIn};
 ghost use Rattle.hart_machine.specs.Worlds.{KeepsTables, Makes};
 ghost use Rattle.process_laws.specs.Headline.{Headline};
@@ -143,12 +144,14 @@ impl Machine {
     /// Makes the steps of a list, in order. Room for all replies is taken first: where it is refused, no step is made.
     ///
     /// To a machine that was booted and then made any earlier steps, the replies meet the headline (`Headline` in
-    /// `process_laws`).
+    /// `process_laws`). Each step changes the buffers as `step` does (`BuffersFollow`), and nothing else changes them.
     pub fn run(&mut self, alloc: Global, steps: &[Step<'_>]) -> Result<Vec<Reply>, AllocError>
         requires world { (w : World) × IsIn self.old w }
         ensures replies { IfOk result (λ replies. (w : World) → IsIn self.old w → replies.items ≡ (model.run w steps.now).replies) }
         ensures headline { IfOk result (λ replies. (c : Config) (files : List File) (earlier : List declared.Step) → IsIn self.old (model.run (booted c files) earlier).world → Headline c files earlier steps.now replies.items) }
         ensures world { OnOk result ((w : World) → IsIn self.old w → IsIn self.new (model.run w steps.now).world) }
+        ensures each_buffer { OnOk result ((w : World) → IsIn self.old w → BuffersFollow self.old w steps.now self.new) }
+        ensures identifiers { OnOk result ((w : World) → IsIn self.old w → w.policy ≡ Asid → AreTrue self.new) }
         ensures unmade { OnErr result (self.new ≡ self.old) }
     {
         let mut replies = Vec::with_capacity(alloc, steps.len())?;

@@ -16,8 +16,7 @@ use Rattle.process_model.specs.Process.{Process, Page, regions}
 use Rattle.process_model.specs.Residence.{region_page}
 use Rattle.process_model.specs.Around.{Around, Progress}
 use Rattle.process_model.specs.Copies.{Copied, copy_begun, reached_in, byte_of_page, byte_of, with_byte_on, with_byte, one_in, next_in, one_out, next_out, copied_in, copied_out}
-use Rattle.process_laws.specs.Latest.{byte_at, is_among}
-use Rattle.process_laws.proofs.KnownAfter.{is_in_their_pages}
+use Rattle.process_laws.specs.Latest.{byte_at, is_among, is_in_their_pages}
 use Rattle.process_laws.proofs.PageBytes.{bytes_on, AllSized, byte_in, byte_from, or_start, among_true, is_among-true, byte_in-stored, stored_sized}
 use Rattle.process_laws.proofs.HeldBytes.{Reaches, stopped, came, reached_reaches}
 

@@ -72,7 +72,7 @@ module _ (u : World) (s : ℕ) (p : Process) (kind : Access) (page : ℕ) (h : P
 
 module _ (w : World) (s : ℕ) (p : Process) (holds : Holds New w) (lives : process_in w s ≡ Some p) where
   -- what it took is gone from the free frames
-  record Spent (g : Progress) : Type 0 where
+  pub record Spent (g : Progress) : Type 0 where
     goes : every.Goes New w.counter g
     spent : free (with_progress w s g) + g.taken ≡ free w
 
@@ -96,7 +96,7 @@ module _ (w : World) (s : ℕ) (p : Process) (holds : Holds New w) (lives : proc
     dry_there : (page n : ℕ) → (around there s).is_dry page (0 + n) ≡ (around w s).is_dry page (g.taken + n)
     dry_there page n = lt_shift (free there) n g.taken ∙ ap (λ f. nat_lt f (g.taken + n)) k.spent
 
-    shift : resident_at (around w s) kind (page_of address) g ≡ shifted g.taken (resident_at (around there s) kind (page_of address) (begun there g.process))
+    pub shift : resident_at (around w s) kind (page_of address) g ≡ shifted g.taken (resident_at (around there s) kind (page_of address) (begun there g.process))
     shift = reached_later (around there s) (around w s) refl others g.taken dry_there g.process g.fresh kind address None
 
     page_came : (r : Result Progress Rule) → resident_at (around there s) kind (page_of address) (begun there g.process) ≡ r → GoesIfOk New w.counter (shifted g.taken r) → SpentIfOk (shifted g.taken r)
@@ -143,7 +143,7 @@ module _ (w : World) (s : ℕ) (p : Process) (holds : Holds New w) (lives : proc
       one _ stopped = k
       one _ (came g) = g
 
-  spent_in_all : (ns : List ℕ) (c : Copied) → Spent c.progress → Spent ((fold (λ c at. next_in (around w s) c at c.stop) c ns).progress)
+  pub spent_in_all : (ns : List ℕ) (c : Copied) → Spent c.progress → Spent ((fold (λ c at. next_in (around w s) c at c.stop) c ns).progress)
   spent_in_all [] c k = k
   spent_in_all (at ∷ ns) c k = spent_in_all ns (next_in (around w s) c at c.stop) (spent_in c at c.stop k)
 
@@ -155,21 +155,21 @@ module _ (w : World) (s : ℕ) (p : Process) (holds : Holds New w) (lives : proc
       one _ stopped = k
       one _ (came {g} h) = byte_spent g x.0 x.1 (get (g.process).settled (page_of x.0)) refl h
 
-  spent_out_all : (xs : List (ℕ × ℕ)) (c : Copied) → Spent c.progress → Spent ((fold (λ c x. next_out (around w s) c x c.stop) c xs).progress)
+  pub spent_out_all : (xs : List (ℕ × ℕ)) (c : Copied) → Spent c.progress → Spent ((fold (λ c x. next_out (around w s) c x c.stop) c xs).progress)
   spent_out_all [] c k = k
   spent_out_all (x ∷ xs) c k = spent_out_all xs (next_out (around w s) c x c.stop) (spent_out c x c.stop k)
 
-  not_begun : Spent (begun w (without_pending p))
+  pub not_begun : Spent (begun w (without_pending p))
   not_begun =
       let same : free (with_process w s (without_pending p)) ≡ free w = same_free w s p (without_pending p) lives refl refl in
       record { goes = record { keeps = fresh_is_kept.awaiting w.counter p None (holds.each s p lives); rises = omega arith }; spent = omega (arith, same) }
 
 -- ---- both kinds, in memories of every size
 
-abbrev in_next : Around → Copied → ℕ → Copied
+abbrev pub in_next : Around → Copied → ℕ → Copied
 in_next a c at = next_in a c at c.stop
 
-in_goes : Goes access.Load (λ at. at) (λ c at g. one_in c at (Ok g)) in_next
+pub in_goes : Goes access.Load (λ at. at) (λ c at g. one_in c at (Ok g)) in_next
 in_goes = record {
   stays = λ a c x r e. ap (next_in a c x) e;
   stops = λ a c x r e f. ap (next_in a c x) e ∙ ap (one_in c x) f;
@@ -178,10 +178,10 @@ in_goes = record {
   taken = λ c x g. refl;
 }
 
-abbrev out_next : Around → Copied → ℕ × ℕ → Copied
+abbrev pub out_next : Around → Copied → ℕ × ℕ → Copied
 out_next a c x = next_out a c x c.stop
 
-out_goes : Goes access.Store (λ x. x.0) (λ c x g. one_out c x.0 x.1 (Ok g)) out_next
+pub out_goes : Goes access.Store (λ x. x.0) (λ c x g. one_out c x.0 x.1 (Ok g)) out_next
 out_goes = record {
   stays = λ a c x r e. ap (next_out a c x) e;
   stops = λ a c x r e f. ap (next_out a c x) e ∙ ap (one_out c x.0 x.1) f;

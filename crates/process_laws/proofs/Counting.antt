@@ -90,14 +90,14 @@ same_free v s p q e copies own =
     let is : free (with_process v s q) + 0 ≡ free v = spent v.frames 0 v.slots (slice_set v.slots s (Some q)) (length-set v.slots s (Some q)) (omega (after, before, same, sums, own, arith)) (none_less (free v)) in
     omega (arith, is)
 
-more_count : (xs ys : List ℕ) → count (numbers ys) ≤ count (numbers (xs ++ ys))
+pub more_count : (xs ys : List ℕ) → count (numbers ys) ≤ count (numbers (xs ++ ys))
 more_count [] ys = omega arith
 more_count (x ∷ xs) ys = let h = more_count xs ys in let g = count_grows x (xs ++ ys) in omega (arith, h, g)
 
-freed : (f k c s d t : ℕ) → d ≤ c → t ≤ s → f - k - c - s ≤ f - k - d - t
+pub freed : (f k c s d t : ℕ) → d ≤ c → t ≤ s → f - k - c - s ≤ f - k - d - t
 freed f k c s d t h g = omega (arith, h, g)
 
-frees : (v : World) (s : ℕ) (p : Process) → process_in v s ≡ Some p → free v ≤ free_frames v.frames (slice_set v.slots s None)
+pub frees : (v : World) (s : ℕ) (p : Process) → process_in v s ≡ Some p → free v ≤ free_frames v.frames (slice_set v.slots s None)
 frees v s p e =
     let full : slice_get v.slots s ≡ Some (Some p) = full_slot (slice_get v.slots s) p e in
     let gone : List (Option Process) = slice_set v.slots s None in

@@ -125,7 +125,7 @@ length_written bs vs o h e = grind (arith, common_steps)
 pub same_Ok : {A B : Type 0} (x y : A) → ◌≡◌ {A = Result A B} (Ok x) (Ok y) → x ≡ y
 same_Ok x y e = cc
 
-has_place : (files : List File) (p : Process) (len protection flags file : ℕ) → map_refusal files p len protection flags file ≡ None → mapping_place p (pages_for len) ≢ None
+pub has_place : (files : List File) (p : Process) (len protection flags file : ℕ) → map_refusal files p len protection flags file ≡ None → mapping_place p (pages_for len) ≢ None
 has_place files p len protection flags file e none = true≢false (sym (ap is_none none) ∙ (map_granted files p len protection flags file e).1)
 
 module _ (P : ℕ → Process → Type 0) where

@@ -1,15 +1,17 @@
 -- The way of a process from its start into user mode and back into the kernel.
 use Rattle.std.proofs.Common.{◌≡◌, ◌≢◌, ◌⊎◌, ◌==◌, ℕ, zero, suc, Bool, true, false, ◌&&◌, inl, inr, refl, sym, ap, subst, ◌∙◌, arith, List, [], ◌∷◌, Option, None, Some}
-use Rattle.std.specs.Prelude.{Ok, option_map, slice_get, slice_set, unwrap_or}
+use Rattle.std.specs.Prelude.{Err, Ok, option_map, Result, slice_get, slice_set, unwrap_or}
 use Rattle.std.specs.List.{list_any}
 use Rattle.std.proofs.lemmas.Bool.{eqb-true, false≢true}
 use Rattle.std.proofs.lemmas.Option.{slice_get-map}
+use Rattle.process_laws.proofs.Givens.{image_given, image_idle, image_sized, image_unmarked}
 use Rattle.process_laws.proofs.HeldBytes.{free_there, Puts, set_puts}
 use Rattle.process_laws.proofs.Possible.{stands}
 use Rattle.process_laws.proofs.Running.{has_it, hart_runs, process_runs, step_process, step_reply}
 use Rattle.process_laws.specs.Moments.{slot_at, slot_on}
-use Rattle.process_laws.specs.Words.{IsIn, IsOn, tells_no_frame}
-use Rattle.process_model.specs.Calls.{started, started_unless, with_image}
+use Rattle.process_laws.specs.Pages.{image_grant, image_size, size_after}
+use Rattle.process_laws.specs.Words.{Begins, IsIn, IsMade, IsOn, tells_no_frame}
+use Rattle.process_model.specs.Calls.{started, started_as, started_unless, with_image}
 use Rattle.process_model.specs.Frames.{start_need}
 use Rattle.process_model.specs.Harts.{cleaned_at, cleaned_for, cleaned_if, emptied_if, fenced, Hart, is_kernel, is_user, may_switch, next_phase, phase_for}
 use Rattle.process_model.specs.Images.{image_loads, LoadSegment}
@@ -21,16 +23,18 @@ use Rattle.process_model.specs.Steps.{advanced, plain_step, step}
 use Rattle.process_model.specs.World.{always, answers, can_go_on, can_run, free_slot, has_slot, is_unserved_access, Outcome, process_in, with_hart, with_its_process, with_process, World}
 use Rattle.process_model.specs.declared.config.Policy.{Policy}
 use Rattle.process_model.specs.declared.config.Policy.TheVariants.{Full, Asid}
+use Rattle.process_model.specs.declared.image.BadImage.{BadImage}
 use Rattle.process_model.specs.declared.image.Image.{Image}
 use Rattle.process_model.specs.declared.phase.Phase.{Phase}
 use Rattle.process_model.specs.declared.phase.Phase.TheVariants.{Idle, User, Enter0, Enter1, Enter2, Kernel, Leave1, Leave2}
+use Rattle.process_model.specs.declared.step.Reply.{Reply}
 use Rattle.process_model.specs.declared.step.Reply.TheVariants.{Done, Started}
 use Rattle.process_model.specs.declared.step.Step.{Step}
 use Rattle.process_model.specs.declared.step.Step.TheVariants.{Next, Start, Switch, Trap}
 
 -- a place of a list that is set
 
-set_there : {A : Type 0} (xs : List A) (i : ℕ) (x y : A) → slice_get xs i ≡ Some x → slice_get (slice_set xs i y) i ≡ Some y
+pub set_there : {A : Type 0} (xs : List A) (i : ℕ) (x y : A) → slice_get xs i ≡ Some x → slice_get (slice_set xs i y) i ≡ Some y
 set_there [] i x y e = absurd cc
 set_there (z ∷ zs) zero x y e = refl
 set_there (z ∷ zs) (suc i) x y e = set_there zs i x y e
@@ -59,14 +63,14 @@ cleaned_at_slot hart Enter2 = refl
 cleaned_at_slot hart Kernel = refl
 cleaned_at_slot hart Leave1 = refl
 
-fenced_slot : (policy : Policy) (hart : Hart) → (fenced policy hart).slot ≡ hart.slot
+pub fenced_slot : (policy : Policy) (hart : Hart) → (fenced policy hart).slot ≡ hart.slot
 fenced_slot Full hart = emptied_slot hart _
 fenced_slot Asid hart = cleaned_at_slot hart _
 
 -- a hart has that slot, and is in that phase
-record At (w : World) (h : ℕ) (slot : Option ℕ) (phase : Phase) : Type 0 where
-  on : slot_on w h ≡ slot
-  is_in : IsIn w h phase
+pub record At (w : World) (h : ℕ) (slot : Option ℕ) (phase : Phase) : Type 0 where
+  pub on : slot_on w h ≡ slot
+  pub is_in : IsIn w h phase
 
 -- marks change neither
 marks_at : (policy : Policy) (w : World) (o : Outcome) (h : ℕ) (slot : Option ℕ) (phase : Phase) → At o.world h slot phase → At (with_stale_slots policy w o).world h slot phase
@@ -84,12 +88,12 @@ marks_at Asid w o h slot phase a =
     same_phase f None = refl
     same_phase f (Some hart) = refl
 
-step_at : (w : World) (x : Step) (h : ℕ) (slot : Option ℕ) (phase : Phase) → At (plain_step w x).world h slot phase → At (step w x).world h slot phase
+pub step_at : (w : World) (x : Step) (h : ℕ) (slot : Option ℕ) (phase : Phase) → At (plain_step w x).world h slot phase → At (step w x).world h slot phase
 unfolding step
 step_at w x h slot phase a = marks_at w.policy w (plain_step w x) h slot phase a
 
 -- the hart that is put in its place
-put_at : (w : World) (h : ℕ) (before after : Hart) → slice_get w.harts h ≡ Some before → At (with_hart w h after) h after.slot after.phase
+pub put_at : (w : World) (h : ℕ) (before after : Hart) → slice_get w.harts h ≡ Some before → At (with_hart w h after) h after.slot after.phase
 put_at w h before after there = let is = set_there w.harts h before after there in record { on = ap slot_at is; is_in = ap (option_map (λ (hart : Hart). hart.phase)) is }
 
 -- ---- the next instruction
@@ -154,9 +158,19 @@ switch_goes w h s p lives apart phase = by phase
     by (inl idle) = goes_in Idle refl idle
     by (inr kernel) = goes_in Kernel refl kernel
 
+pub leave_goes : (w : World) (h : ℕ) → IsIn w h Kernel → (slot_on (step w (Switch h None)).world h ≡ None) × IsIn (step w (Switch h None)).world h Idle
+leave_goes w h kernel =
+    let k = stands w h Kernel kernel in
+    let can : (may_switch k.hart.phase && can_run w None) ≡ true = rw (k.in_phase) refl in
+    let hart = record k.hart { phase = Idle; slot = None } in
+    let goes = hart_runs w h true (λ hart. may_switch hart.phase && can_run w None) always (λ hart. answers (with_hart w h (record hart { phase = phase_for None; slot = None })) Done) k.hart k.there refl can refl in
+    let at : At (with_hart w h hart) h None Idle = put_at w h k.hart hart k.there in
+    let there = step_at w (Switch h None) h None Idle (subst (λ (o : Outcome). At o.world h None Idle) (sym goes) at) in
+    (there.on, there.is_in)
+
 -- ---- a trap
 
-pub trap_goes : (w : World) (h s : ℕ) (p : Process) → IsOn w h s p → IsIn w h User → IsIn (step w (Trap h)).world h Enter0
+pub trap_goes : (w : World) (h s : ℕ) (p : Process) → IsOn w h s p → IsIn w h User → (slot_on (step w (Trap h)).world h ≡ Some s) × IsIn (step w (Trap h)).world h Enter0
 trap_goes w h s p on user =
     let k = stands w h User user in
     let runs = has_it w h s k.hart on.there k.there in
@@ -164,20 +178,52 @@ trap_goes w h s p on user =
     let goes = hart_runs w h true (λ hart. is_user hart.phase) always (λ hart. with_its_process w hart (run hart)) k.hart k.there refl (ap is_user k.in_phase) refl ∙ process_runs w k.hart (run k.hart) s p runs on.lives in
     let hart = record k.hart { phase = Enter0 } in
     let at : At (with_hart (with_process w s (without_pending p)) h hart) h hart.slot Enter0 = put_at (with_process w s (without_pending p)) h k.hart hart k.there in
-    (step_at w (Trap h) h hart.slot Enter0 (subst (λ (o : Outcome). At o.world h hart.slot Enter0) (sym goes) at)).is_in
+    let there = step_at w (Trap h) h hart.slot Enter0 (subst (λ (o : Outcome). At o.world h hart.slot Enter0) (sym goes) at) in
+    (there.on ∙ runs, there.is_in)
 
 -- ---- a start
 
-pub start_goes : (w : World) (image : Image) (s : ℕ) (ls : List LoadSegment) → free_slot w ≡ Some s → image_loads image ≡ Ok ls → tells_no_frame (step w (Start image)).reply ≡ false
-    → ((step w (Start image)).reply ≡ Started s) × (p : Process) × (process_in (step w (Start image)).world s ≡ Some p)
-start_goes w image s ls free loads quiet = by (is_dry w (start_need ls)) is
-  where
-    is : plain_step w (Start image) ≡ started_unless w s ls (is_dry w (start_need ls))
-    is = ap (λ r. started w r (free_slot w)) loads ∙ ap (started w (Ok ls)) free
+abbrev pub Starts : World → Image → ℕ → Reply → World → Type 0
+Starts w image s r v = (free_slot w ≡ Some s) × (p : Process) × (process_in v s ≡ Some p) × Begins (record { before = w; step = Start image; reply = r; after = v }) p
 
-    put : Puts w s (Some (process_of w.counter ls)) (with_image w s ls)
-    put = set_puts w (with_image w s ls) s (Some (process_of w.counter ls)) (let room = free_there w.slots 0 s free in omega (arith, room)) refl
+module _ (w : World) (image : Image) where
+  put : (s : ℕ) (ls : List LoadSegment) → free_slot w ≡ Some s → Puts w s (Some (process_of w.counter ls)) (with_image w s ls)
+  put s ls free = set_puts w (with_image w s ls) s (Some (process_of w.counter ls)) (let room = free_there w.slots 0 s free in omega (arith, room)) refl
 
-    by : (b : Bool) → plain_step w (Start image) ≡ started_unless w s ls b → ((step w (Start image)).reply ≡ Started s) × (p : Process) × (process_in (step w (Start image)).world s ≡ Some p)
-    by true e = absurd (false≢true (sym quiet ∙ ap tells_no_frame (step_reply w (Start image) ∙ ap (λ (o : Outcome). o.reply) e)))
-    by false e = (step_reply w (Start image) ∙ ap (λ (o : Outcome). o.reply) e, process_of w.counter ls, step_process w (Start image) s ∙ ap (λ (o : Outcome). process_in o.world s) e ∙ put.here)
+  module _ (v : World) (r : Reply) (s : ℕ) (told : r ≡ Started s) where
+    begins : (ls : List LoadSegment) → image_loads image ≡ Ok ls → Begins (record { before = w; step = Start image; reply = r; after = v }) (process_of w.counter ls)
+    begins ls loads = record {
+      grants = λ page. image_given w.counter ls page ∙ ap (λ l. image_grant l page) (sym loads);
+      unmarked = image_unmarked w.counter ls;
+      quiet = image_idle w.counter ls;
+      size = image_sized w.counter ls ∙ ap image_size (sym loads) ∙ ap (λ x. size_after (Start image) x 0) (sym told);
+    }
+
+    unless : (t : ℕ) (ls : List LoadSegment) (b : Bool) → free_slot w ≡ Some t → image_loads image ≡ Ok ls → (started_unless w t ls b).reply ≡ Started s → ((n : ℕ) → process_in v n ≡ process_in (started_unless w t ls b).world n) → Starts w image s r v
+    unless t ls true free loads e there = absurd cc
+    unless t ls false free loads e there =
+        let same : t ≡ s = cc in
+        (free ∙ ap Some same, process_of w.counter ls, ap (process_in v) (sym same) ∙ there t ∙ (put t ls free).here, begins ls loads)
+
+    judged : (t : ℕ) (l : Result (List LoadSegment) BadImage) → free_slot w ≡ Some t → image_loads image ≡ l → (started_as w t l).reply ≡ Started s → ((n : ℕ) → process_in v n ≡ process_in (started_as w t l).world n) → Starts w image s r v
+    judged t (Err b) free loads e there = absurd cc
+    judged t (Ok ls) free loads e there = unless t ls _ free loads e there
+
+    in_slot : (o : Option ℕ) → free_slot w ≡ o → (started w (image_loads image) o).reply ≡ Started s → ((n : ℕ) → process_in v n ≡ process_in (started w (image_loads image) o).world n) → Starts w image s r v
+    in_slot None free e there = absurd cc
+    in_slot (Some t) free e there = judged t _ free refl e there
+
+  -- the process that it brings
+  pub start_brings : (s : ℕ) → (step w (Start image)).reply ≡ Started s → Starts w image s (step w (Start image)).reply (step w (Start image)).world
+  start_brings s e = in_slot (step w (Start image)).world (step w (Start image)).reply s e (free_slot w) refl (sym (step_reply w (Start image)) ∙ e) (step_process w (Start image))
+
+  -- it is made
+  pub start_goes : (s : ℕ) (ls : List LoadSegment) → free_slot w ≡ Some s → image_loads image ≡ Ok ls → tells_no_frame (step w (Start image)).reply ≡ false → IsMade (step w (Start image)).reply
+  start_goes s ls free loads quiet = made (is_dry w (start_need ls)) is
+    where
+      is : plain_step w (Start image) ≡ started_unless w s ls (is_dry w (start_need ls))
+      is = ap (λ r. started w r (free_slot w)) loads ∙ ap (started w (Ok ls)) free
+
+      made : (b : Bool) → plain_step w (Start image) ≡ started_unless w s ls b → IsMade (step w (Start image)).reply
+      made true e = absurd (false≢true (sym quiet ∙ ap tells_no_frame (step_reply w (Start image) ∙ ap (λ (o : Outcome). o.reply) e)))
+      made false e = λ r f. absurd (let no = sym f ∙ step_reply w (Start image) ∙ ap (λ (o : Outcome). o.reply) e in cc)

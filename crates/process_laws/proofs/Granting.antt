@@ -116,7 +116,7 @@ with_bare m (x ∷ ms) b c = elim (nat_lt m.first x.first) as (λ t. AllBare (co
   | false ↦ (c.0, with_bare m ms b c.1)
 ]
 
-record AreBare (p : Process) : Type 0 where
+pub record AreBare (p : Process) : Type 0 where
   parts : AllBare p.parts
   mappings : AllBare p.mappings
 
@@ -160,8 +160,8 @@ at_append (x ∷ rs) ss page r e = elim (holds_page x page) as (λ b. cond b (So
 ] e
 
 pub record IsSound (p : Process) : Type 0 where
-  ordered : IsInOrder p
-  bare : AreBare p
+  pub ordered : IsInOrder p
+  pub bare : AreBare p
 
 pub always_sound : (c : Config) (files : List File) (xs : List Step) (s : ℕ) (p : Process) → process_in (run (booted c files) xs).world s ≡ Some p → IsSound p
 always_sound c files xs s p e = record {

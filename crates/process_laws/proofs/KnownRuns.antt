@@ -24,9 +24,9 @@ use Rattle.process_model.specs.declared.config.Policy.TheVariants.{Full, Asid}
 use Rattle.process_model.specs.declared.step.Reply.TheVariants.{Value}
 use Rattle.process_model.specs.declared.step.Step.{Step}
 use Rattle.process_model.specs.declared.step.Step.TheVariants as step
-use Rattle.process_laws.specs.Latest.{latest, byte_at, bytes_in, IsLatest}
+use Rattle.process_laws.specs.Latest.{byte_had, latest, byte_at, bytes_in, IsLatest, page_byte}
 use Rattle.process_laws.specs.Moments.{Moment, moment_of, moments_from, slot_on}
-use Rattle.process_laws.proofs.LatestAfter.{latest_after}
+use Rattle.process_laws.proofs.LatestAfter.{left_same}
 use Rattle.process_laws.proofs.PageBytes.{bytes_on, contents, byte_from}
 use Rattle.process_laws.proofs.HeldBytes.{none_some, byte_held, held, in_range, Puts, set_puts, Sized}
 use Rattle.process_laws.proofs.OnHarts.{kernel_good, access_good}
@@ -51,24 +51,37 @@ booted_held c files s a = ap (λ o. byte_held o a) (slot_free c.slots s)
 
 -- runs
 
--- the latest byte is the one that a world holds, where it holds one
+-- the byte that a world holds is the latest one
 pub record HoldsLatest (past : List Moment) (w : World) : Type 0 where
   pub sized : Sized w
-  pub told : (s a b : ℕ) → held w s a ≡ Some b → latest past s a ≡ Some b
+  pub told : (s a : ℕ) → held w s a ≡ latest past s a
 
 pub run_holds : (steps : List Step) (w : World) (past : List Moment) → HoldsLatest past w → HoldsLatest (moments_from past w steps) (run w steps).world
 run_holds [] w past l = l
 run_holds (x ∷ xs) w past l =
     let m = moment_of w x in
     let k : Known w x (Steps.step w x) = step_known w l.sized x in
-    run_holds xs m.after (m ∷ past) (record { sized = k.sized; told = λ s a b is. latest_after m (latest past) s a b (λ t. l.told t a) is (k.told s a) })
+    run_holds xs m.after (m ∷ past) (record { sized = k.sized; told = λ s a. k.told s a ∙ left_same w (held w) (latest past) s a (λ t. l.told t a) x m.reply })
 
 pub latest_held : (c : Config) (files : List File) (steps : List Step) → HoldsLatest (moments_from [] (booted c files) steps) (run (booted c files) steps).world
-latest_held c files steps = run_holds steps (booted c files) [] (record { sized = booted_sized c files; told = λ s a b is. absurd (none_some (sym (booted_held c files s a) ∙ is)) })
+latest_held c files steps = run_holds steps (booted c files) [] (record { sized = booted_sized c files; told = booted_held c files })
 
 pub run_one_more : (steps : List Step) (w : World) (st : Step) → (run w (steps ++ st ∷ [])).world ≡ (Steps.step (run w steps).world st).world
 run_one_more [] w st = refl
 run_one_more (s ∷ steps) w st = run_one_more steps (Steps.step w s).world st
+
+-- the same, in the words of the headline
+
+page_had : (o : Option Page) (i : ℕ) → page_byte o i ≡ byte_from (bytes_on o) i
+page_had None i = refl
+page_had (Some x) i = refl
+
+had_is : (o : Option Process) (a : ℕ) → byte_had o a ≡ byte_held o a
+had_is None a = refl
+had_is (Some p) a = page_had (get p.settled (page_of a)) (a % 4096)
+
+pub has_latest : (past : List Moment) (w : World) (s a : ℕ) → HoldsLatest past w → byte_had (process_in w s) a ≡ latest past s a
+has_latest past w s a l = had_is (process_in w s) a ∙ l.told s a
 
 -- loads and fetches
 
@@ -139,7 +152,7 @@ read_is_latest moments w s address width v l r =
           let within : i < width = omega arith in
           let same_page : page_of (address + i) ≡ page_of address = omega arith in
           let place : (address + i) % 4096 ≡ o + i = omega arith in
-          l.told s (address + i) _ (ap (λ q. byte_held q (address + i)) r.here
+          sym (l.told s (address + i)) ∙ (ap (λ q. byte_held q (address + i)) r.here
           ∙ ap (λ n. byte_from (contents r.process.settled n) ((address + i) % 4096)) same_page
           ∙ ap (λ n. byte_from (contents r.process.settled (page_of address)) n) place
           ∙ ap (λ u. byte_from u (o + i)) there

@@ -32,9 +32,10 @@ use Rattle.process_model.specs.declared.step.Reply.{Reply}
 use Rattle.process_model.specs.declared.step.Reply.TheVariants as reply
 use Rattle.process_model.specs.declared.step.Step.{Step}
 use Rattle.process_model.specs.declared.step.Step.TheVariants as step
-use Rattle.process_laws.specs.Latest.{image_byte, initial_byte, of_slot, byte_at, is_among}
+use Rattle.process_laws.specs.Latest.{image_byte, initial_byte, of_slot, byte_at, is_among, left_by, or_initial, is_in_served, is_in_pending, is_released, is_unmapped, is_in_their_pages, put_by}
 use Rattle.process_laws.specs.Moments.{slot_on}
-use Rattle.process_laws.proofs.KnownAfter.{known_after, or_initial, is_in_served, is_in_pending, is_released, is_unmapped, is_in_their_pages, put_by}
+use Rattle.process_laws.proofs.ImageBytes.{loads_byte_is}
+use Rattle.process_laws.proofs.InitialBytes.{initial_is}
 use Rattle.process_laws.proofs.PageBytes.{bytes_on, contents, AllSized, byte_in, byte_from, same_sized, put_same, contents-marked, contents-child, or_start, SettlesPage, byte_in-stored, stored_sized, byte_in-without, without_sized, image_sized, byte_in-image}
 use Rattle.process_laws.proofs.OnHarts.{asks, on_hart_good, its_good, kernel_good, access_good}
 use Rattle.process_laws.proofs.CopyBytes.{CameIn, CameOut, copy_came_in, copy_came_out}
@@ -43,7 +44,7 @@ use Rattle.process_laws.proofs.HeldBytes.{byte_held, held, Sized, Puts, in_range
 -- after the step the world holds what is known
 pub record Known (w : World) (st : Step) (o : Outcome) : Type 0 where
   pub sized : Sized o.world
-  pub told : (s a : ℕ) → held o.world s a ≡ known_after w st o.reply (held w) s a
+  pub told : (s a : ℕ) → held o.world s a ≡ left_by w st o.reply (held w) s a
 
 length-low_bytes : (v n : ℕ) → length (low_bytes v n) ≡ n
 unfolding low_bytes
@@ -51,7 +52,7 @@ length-low_bytes v zero = refl
 length-low_bytes v (suc n) = ap suc (length-low_bytes (v / 2 ^ 8) n)
 
 -- a refusal says nothing
-refused_silent : (w : World) (st : Step) (r : Refusal) (s a : ℕ) → held w s a ≡ known_after w st (reply.Refused r) (held w) s a
+refused_silent : (w : World) (st : Step) (r : Refusal) (s a : ℕ) → held w s a ≡ left_by w st (reply.Refused r) (held w) s a
 refused_silent w (step.Start image) r s a = refl
 refused_silent w _ r s a = refl
 
@@ -71,21 +72,21 @@ module _ (w : World) (k : Sized w) (t : ℕ) (p : Process) (here : process_in w 
   held_is a = ap (λ o. byte_held o a) here
 
   -- another process in its slot
-  put_known : (st : Step) (r : Reply) (q : Process) (v : World) → v.slots ≡ slice_set w.slots t (Some q) → AllSized q.settled → (Puts w t (Some q) v → (s a : ℕ) → held v s a ≡ known_after w st r (held w) s a) → Known w st (answers v r)
+  put_known : (st : Step) (r : Reply) (q : Process) (v : World) → v.slots ≡ slice_set w.slots t (Some q) → AllSized q.settled → (Puts w t (Some q) v → (s a : ℕ) → held v s a ≡ left_by w st r (held w) s a) → Known w st (answers v r)
   put_known st r q v e sized f = record { sized = sized_process w v t q (puts (Some q) v e) sized k; told = f (puts (Some q) v e) }
 
   -- one with the same bytes
-  same_known : (st : Step) (r : Reply) (q : Process) (v : World) → v.slots ≡ slice_set w.slots t (Some q) → ((n : ℕ) → contents q.settled n ≡ contents p.settled n) → ((s a : ℕ) → held w s a ≡ known_after w st r (held w) s a) → Known w st (answers v r)
+  same_known : (st : Step) (r : Reply) (q : Process) (v : World) → v.slots ≡ slice_set w.slots t (Some q) → ((n : ℕ) → contents q.settled n ≡ contents p.settled n) → ((s a : ℕ) → held w s a ≡ left_by w st r (held w) s a) → Known w st (answers v r)
   same_known st r q v e same silent = put_known st r q v e (same_sized p.settled q.settled same (k.pages t p here))
       (λ f s a. told_same w v t (Some q) f (λ b. ap (λ o. byte_from o (b % 4096)) (same (page_of b)) ∙ sym (held_is b)) s a ∙ silent s a)
 
   -- accesses
 
-  faulted_known : (st : Step) (h : ℕ) (hart : Hart) (x : Asked) (cause : ℕ) → ((s a : ℕ) → held w s a ≡ known_after w st (reply.Fault cause) (held w) s a) → Known w st (told w h hart t (faulted p x cause))
+  faulted_known : (st : Step) (h : ℕ) (hart : Hart) (x : Asked) (cause : ℕ) → ((s a : ℕ) → held w s a ≡ left_by w st (reply.Fault cause) (held w) s a) → Known w st (told w h hart t (faulted p x cause))
   faulted_known st h hart x cause silent = same_known st _ _ _ refl (λ n. refl) silent
 
   -- a page that only was read
-  read_known : (st : Step) (h : ℕ) (hart : Hart) (x : Asked) (page : Page) (v : ℕ) → get p.settled (page_of x.address) ≡ Some page → ((s a : ℕ) → held w s a ≡ known_after w st (reply.Value v) (held w) s a) → Known w st (told w h hart t (answered p x (reply.Value v, page)))
+  read_known : (st : Step) (h : ℕ) (hart : Hart) (x : Asked) (page : Page) (v : ℕ) → get p.settled (page_of x.address) ≡ Some page → ((s a : ℕ) → held w s a ≡ left_by w st (reply.Value v) (held w) s a) → Known w st (told w h hart t (answered p x (reply.Value v, page)))
   read_known st h hart x page v e silent = same_known st _ _ _ refl (put_same p.settled (page_of x.address) page page e refl) silent
 
   -- bytes that were stored
@@ -103,7 +104,7 @@ module _ (w : World) (k : Sized w) (t : ℕ) (p : Process) (here : process_in w 
 
   -- the end of a process
 
-  ended_known : (st : Step) (r : Reply) (h n : ℕ) (hart : Hart) → slot_on w h ≡ Some t → ((s a : ℕ) → cond (has_slot s (slot_on w h)) None (held w s a) ≡ known_after w st r (held w) s a) → Known w st (ended w n hart t p r)
+  ended_known : (st : Step) (r : Reply) (h n : ℕ) (hart : Hart) → slot_on w h ≡ Some t → ((s a : ℕ) → cond (has_slot s (slot_on w h)) None (held w s a) ≡ left_by w st r (held w) s a) → Known w st (ended w n hart t p r)
   ended_known st r h n hart on says = record {
     sized = sized_gone w _ t (puts None (ended w n hart t p r).world refl) k;
     told = λ s a. told_put w (ended w n hart t p r).world h t None (λ s a. None) on (puts None _ refl) (λ a. refl) s a ∙ says s a;
@@ -113,7 +114,7 @@ module _ (w : World) (k : Sized w) (t : ℕ) (p : Process) (here : process_in w 
 
   or_initial_is : (a : ℕ) (o : Option ℕ) → or_start w.files p a o ≡ or_initial w t a o
   or_initial_is a (Some b) = refl
-  or_initial_is a None = ap (λ q. Some (initial_byte w.files q a)) (sym here)
+  or_initial_is a None = ap Some (initial_is w.files p a) ∙ ap (λ q. Some (initial_byte w.files q a)) (sym here)
 
   in_words : (b : Bool) (a : ℕ) → cond b (or_start w.files p a (byte_in p.settled a)) (byte_in p.settled a) ≡ cond b (or_initial w t a (held w t a)) (held w t a)
   in_words b a = ap (λ o. cond b (or_start w.files p a o) o) (sym (held_is a)) ∙ ap (λ o. cond b o (held w t a)) (or_initial_is a (held w t a))
@@ -143,7 +144,7 @@ module _ (w : World) (k : Sized w) (t : ℕ) (p : Process) (here : process_in w 
 
   image_known : (h : ℕ) (image : Image) (ls : List LoadSegment) (v : World) → slot_on w h ≡ Some t → image_loads image ≡ Ok ls → v.slots ≡ slice_set w.slots t (Some (process_of w.counter ls)) → Known w (step.Exec h image) (answers v reply.Done)
   image_known h image ls v on e is = put_known _ _ _ _ is (image_sized w.counter ls)
-      (λ f. told_put w v h t _ (λ s a. image_byte (image_loads image) a) on f (λ a. byte_in-image w.counter ls a ∙ sym (ap (λ r. image_byte r a) e)))
+      (λ f. told_put w v h t _ (λ s a. image_byte (image_loads image) a) on f (λ a. byte_in-image w.counter ls a ∙ loads_byte_is ls a ∙ sym (ap (λ r. image_byte r a) e)))
 
   exec_unless : (h : ℕ) (image : Image) (ls : List LoadSegment) (b : Bool) → slot_on w h ≡ Some t → image_loads image ≡ Ok ls → Known w (step.Exec h image) (replaced_unless w t p ls b)
   exec_unless h image ls true on e = refused_known w k _ _
@@ -186,11 +187,11 @@ module _ (w : World) (k : Sized w) (t : ℕ) (p : Process) (here : process_in w 
   unfolding sbrk_result
   sbrk_known h delta on = sbrk_unless h delta _ on
 
-  mmap_unless : (st : Step) (m : Region) (o : Option Refusal) → ((first s a : ℕ) → held w s a ≡ known_after w st (reply.MappedAt first) (held w) s a) → Known w st (mapped_to w t (mapped_unless p m o))
+  mmap_unless : (st : Step) (m : Region) (o : Option Refusal) → ((first s a : ℕ) → held w s a ≡ left_by w st (reply.MappedAt first) (held w) s a) → Known w st (mapped_to w t (mapped_unless p m o))
   mmap_unless st m (Some r) silent = refused_known w k _ _
   mmap_unless st m None silent = same_known st _ _ _ refl (λ n. refl) (silent _)
 
-  mmap_known : (st : Step) (len protection flags n : ℕ) → ((first s a : ℕ) → held w s a ≡ known_after w st (reply.MappedAt first) (held w) s a) → Known w st (mapped_to w t (mapped w.files p len protection flags n))
+  mmap_known : (st : Step) (len protection flags n : ℕ) → ((first s a : ℕ) → held w s a ≡ left_by w st (reply.MappedAt first) (held w) s a) → Known w st (mapped_to w t (mapped w.files p len protection flags n))
   unfolding mapped
   mmap_known st len protection flags n silent = mmap_unless st _ _ silent
 
@@ -228,7 +229,7 @@ module _ (w : World) (k : Sized w) (t : ℕ) (p : Process) (here : process_in w 
     held_now : (s a : ℕ) → held after s a ≡ cond (has_slot s (slot_on w h) && is_in_their_pages address (length c.bytes) a) (or_initial w s a (held w s a)) (held w s a)
     held_now = told_where w after h t (Some ((c.progress).process)) (λ s a. is_in_their_pages address (length c.bytes) a) (λ s a. or_initial w s a (held w s a)) on (puts _ _ refl) (λ a. i.told a ∙ in_words (is_in_their_pages address (length c.bytes) a) a)
 
-    says : (o : Option Rule) (s a : ℕ) → held after s a ≡ known_after w (step.CopyIn h address n) (in_reply c.bytes o) (held w) s a
+    says : (o : Option Rule) (s a : ℕ) → held after s a ≡ left_by w (step.CopyIn h address n) (in_reply c.bytes o) (held w) s a
     says None = held_now
     says (Some r) = held_now
 
@@ -249,7 +250,7 @@ module _ (w : World) (k : Sized w) (t : ℕ) (p : Process) (here : process_in w 
         (λ a. i.told a ∙ ap (cond (is_among address (length c.bytes) a) (Some (byte_at bytes.now (a - address)))) (in_words (is_in_their_pages address (length c.bytes) a) a)) s a
         ∙ both_within (has_slot s (slot_on w h)) (is_among address (length c.bytes) a) (is_in_their_pages address (length c.bytes) a) _ _ _
 
-    says : (o : Option Rule) (s a : ℕ) → held after s a ≡ known_after w (step.CopyOut h address bytes) (out_reply c.bytes o) (held w) s a
+    says : (o : Option Rule) (s a : ℕ) → held after s a ≡ left_by w (step.CopyOut h address bytes) (out_reply c.bytes o) (held w) s a
     says None = held_now
     says (Some r) = held_now
 
@@ -267,7 +268,7 @@ start_unless w k image ls t false e free =
     let f : Puts w t (Some (process_of w.counter ls)) (with_image w t ls) = set_puts w _ t _ (omega (arith, free_there w.slots 0 t free)) refl in
     record {
       sized = sized_process w _ t _ f (image_sized w.counter ls) k;
-      told = λ s a. held_put w _ t _ f s a ∙ ap (λ o. cond (t == s) o (held w s a)) (byte_in-image w.counter ls a ∙ sym (ap (λ r. image_byte r a) e));
+      told = λ s a. held_put w _ t _ f s a ∙ ap (λ o. cond (t == s) o (held w s a)) (byte_in-image w.counter ls a ∙ loads_byte_is ls a ∙ sym (ap (λ r. image_byte r a) e));
     }
 
 start_as : (w : World) → Sized w → (image : Image) (r : Result (List LoadSegment) BadImage) (t : ℕ) → image_loads image ≡ r → lowest_free 0 w.slots ≡ Some t → Known w (step.Start image) (started_as w t r)
@@ -280,10 +281,10 @@ start_known w k image (Some t) free = start_as w k image _ t refl free
 
 -- all steps
 
-still : (w : World) → Sized w → (st : Step) (r : Reply) → ((s a : ℕ) → held w s a ≡ known_after w st r (held w) s a) → Known w st (answers w r)
+still : (w : World) → Sized w → (st : Step) (r : Reply) → ((s a : ℕ) → held w s a ≡ left_by w st r (held w) s a) → Known w st (answers w r)
 still w k st r silent = record { sized = k; told = silent }
 
-hart_moved : (w : World) → Sized w → (st : Step) (r : Reply) (h : ℕ) (hart : Hart) → ((s a : ℕ) → held w s a ≡ known_after w st r (held w) s a) → Known w st (answers (with_hart w h hart) r)
+hart_moved : (w : World) → Sized w → (st : Step) (r : Reply) (h : ℕ) (hart : Hart) → ((s a : ℕ) → held w s a ≡ left_by w st r (held w) s a) → Known w st (answers (with_hart w h hart) r)
 hart_moved w k st r h hart silent = record { sized = record { pages = k.pages }; told = silent }
 
 plain_known : (w : World) → Sized w → (st : Step) → Known w st (plain_step w st)

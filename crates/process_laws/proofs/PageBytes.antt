@@ -1,6 +1,6 @@
 -- The bytes of settled pages, and what each change of a process makes of them.
 use Rattle.std.proofs.Common.{◌≡◌, ℕ, zero, suc, Bool, true, false, cond, not, ◌&&◌, ◌||◌, ◌==◌, ◌+◌, ◌-◌, ◌%◌, ◌<◌, ◌≤◌, refl, sym, ap, ◌∙◌, arith, inl, inr, List, [], ◌∷◌, ◌++◌, take, drop, length, Option, None, Some}
-use Rattle.std.specs.Prelude.{nat_le, nat_lt, replicate, slice_get, flat_map}
+use Rattle.std.specs.Prelude.{nat_le, nat_lt, replicate, slice_get, flat_map, if◌then◌else◌}
 use Rattle.std.specs.Ordering.{nat_cmp, eq_by_cmp}
 use Rattle.std.specs.declared.cmp.Ordering.TheVariants.{Equal}
 use Rattle.std.specs.Cmp.{nat_cmp_total}
@@ -21,7 +21,12 @@ use Rattle.process_model.specs.Heap.{without_pages}
 use Rattle.process_model.specs.Images.{LoadSegment}
 use Rattle.process_model.specs.Images.{end_of_loads}
 use Rattle.process_model.specs.Loading.{page_run, load_pages, image_pages, numbered, process_of}
-use Rattle.process_laws.specs.Latest.{byte_at, is_among, byte_in_pages}
+use Rattle.process_laws.specs.Latest.{byte_at, is_among}
+
+-- the byte of a list of pages at an address
+abbrev pub byte_in_pages : List (ℕ × List ℕ) → ℕ → Option ℕ
+byte_in_pages [] a = None
+byte_in_pages (e ∷ es) a = if e.0 == page_of a then Some (byte_at e.1 (a % 4096)) else byte_in_pages es a
 
 -- the bytes of a page that may be settled
 abbrev pub bytes_on : Option Page → Option (List ℕ)
@@ -52,7 +57,7 @@ cond_is false x y z f g = g refl
 same_number : (n k : ℕ) → eq_by_cmp nat_cmp n k ≡ (k == n)
 same_number n k = grind (arith, nat_tests)
 
-tied_are_same : (n k : ℕ) → nat_cmp n k ≡ Equal → n ≡ k
+pub tied_are_same : (n k : ℕ) → nat_cmp n k ≡ Equal → n ≡ k
 tied_are_same n k e = grind (arith, nat_tests)
 
 pub among_true : (first n a : ℕ) → is_among first n a ≡ true → (first ≤ a) × (a < first + n)

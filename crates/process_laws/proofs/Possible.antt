@@ -105,7 +105,7 @@ service_made w h s p a on kernel =
 -- ---- calls
 
 -- what a call runs, where it is proper
-call_runs : (w : World) (h s : ℕ) (p : Process) (proper : Bool) (run : Hart → ℕ → Process → Outcome) → proper ≡ true → IsOn w h s p → is_unserved_access p.pending ≡ false → IsIn w h Kernel
+pub call_runs : (w : World) (h s : ℕ) (p : Process) (proper : Bool) (run : Hart → ℕ → Process → Outcome) → proper ≡ true → IsOn w h s p → is_unserved_access p.pending ≡ false → IsIn w h Kernel
     → (hart : Hart) × (kernel_call w h proper run ≡ run hart s p)
 call_runs w h s p proper run fits on quiet kernel =
     let k = stands w h Kernel kernel in

@@ -1,55 +1,53 @@
 -- The headline holds of each step of every run.
-use Rattle.std.proofs.Common.{false, ◌≡◌, ◌≢◌, ◌⊎◌, length, ◌+◌, ℕ, true, refl, sym, ap, subst, ◌∙◌, Option, Some, List, [], ◌∷◌, ◌++◌, zero, suc}
-use Rattle.std.specs.Prelude.{slice_get}
+use Rattle.std.proofs.Common.{false, ◌≡◌, ◌≢◌, ◌⊎◌, length, ◌+◌, ℕ, true, refl, sym, subst, ◌∙◌, Option, None, Some, List, [], ◌∷◌, ◌++◌, take, Bor, ◌≤◌}
+use Rattle.std.specs.Prelude.{Err}
+use Rattle.process_laws.proofs.CopyAlone.{in_alone, out_alone}
+use Rattle.process_laws.proofs.CopyFronts.{in_front_world, out_front_world}
 use Rattle.process_laws.proofs.CopyFrames.{copies_in_spend, copies_out_spend, New, are_new}
-use Rattle.process_laws.proofs.Copying.{copies_in, copies_out}
+use Rattle.process_laws.proofs.Copying.{copies_in, copies_out, in_ran, out_ran}
 use Rattle.process_laws.proofs.Counting.{forks, serves, Spends, starts}
 use Rattle.process_laws.proofs.Earlier.{granted_is_denied_by_none}
 use Rattle.process_laws.proofs.EveryChange.{always_holds, Holds}
 use Rattle.process_laws.proofs.Execs.{execs}
+use Rattle.process_laws.proofs.Faults.{faults}
 use Rattle.process_laws.proofs.Fresh.{fresh_is_kept}
-use Rattle.process_laws.proofs.Going.{next_goes, start_goes, switch_goes, trap_goes}
+use Rattle.process_laws.proofs.Going.{leave_goes, next_goes, start_brings, start_goes, switch_goes, trap_goes}
 use Rattle.process_laws.proofs.Granting.{always_sound, IsSound, sound_grants}
-use Rattle.process_laws.proofs.KnownRuns.{copy_holds, fetch_reads, HoldsLatest, latest_held, load_reads, read_is_latest, run_holds, run_one_more}
+use Rattle.process_laws.proofs.Kept.{step_keeps}
+use Rattle.process_laws.proofs.KeptFrames.{keeps_free}
+use Rattle.process_laws.proofs.KnownRuns.{copy_holds, has_latest, fetch_reads, HoldsLatest, latest_held, load_reads, read_is_latest, run_holds, run_one_more}
 use Rattle.process_laws.proofs.OnHarts.{access_good}
 use Rattle.process_laws.proofs.Others.{kept_by}
-use Rattle.process_laws.proofs.Possible.{access_made, calls_possible, copy_in_made, copy_out_made, service_made}
+use Rattle.process_laws.proofs.HeldBytes.{Sized}
+use Rattle.process_laws.proofs.OwnSteps.{becomes_as, child_is, exec_goes, exit_goes, fork_goes, Own, own_files, owns, told_as}
+use Rattle.process_laws.proofs.Possible.{access_made, calls_possible, copy_in_made, copy_out_made}
 use Rattle.process_laws.proofs.Refused.{refused_same}
+use Rattle.process_laws.proofs.Replies.{bad_exec, bad_start, served_waits, serves_it, step_hosted, step_suits}
 use Rattle.process_laws.proofs.Running.{step_reply}
 use Rattle.process_laws.proofs.Untold.{untold}
-use Rattle.process_laws.proofs.Users.{again, ends, tries}
+use Rattle.process_laws.proofs.Users.{ends}
 use Rattle.process_laws.proofs.Users as users
 use Rattle.process_laws.specs.Headline as headline
-use Rattle.process_laws.specs.Headline.{AllHold, AnswersUsers, Copies, CopiesForKernel, CountsFrames, elsewhere, Headline, IsDry, LeavesOthers, MakesSteps, ReadsLatest}
+use Rattle.process_laws.specs.Headline.{AllHold, AnswersUser, Copies, CopiesForKernel, CountsFrames, elsewhere, Headline, IsDry, Becomes, ChangesOwn, LeavesOthers, MakesOwn, MakesSteps, ReadsLatest}
 use Rattle.process_laws.specs.Latest.{AreLatest, bytes_in, IsLatest}
 use Rattle.process_laws.specs.Moments.{Moment, moment_of, moments_from, slot_on}
-use Rattle.process_laws.specs.Words.{Asked, Asks, copied, Forbids, in_memory, IsAnswer, IsIn, IsMade, IsOn, stopped_by, takes_frames, tells_no_frame, WasServed}
+use Rattle.process_laws.specs.Words.{Asked, Asks, Begins, copied, CopiesBytes, Forbids, in_memory, IsChild, IsIn, IsMade, IsOn, IsResident, Loads, maker, MayCall, stopped_by, takes_frames, tells_no_frame, Written}
+use Rattle.process_model.specs.Copies.{longest_copy}
 use Rattle.process_model.specs.Files.{File}
+use Rattle.process_model.specs.Images.{image_loads}
 use Rattle.process_model.specs.Process.{Process, regions}
 use Rattle.process_model.specs.Steps.{plain_step, run, step}
 use Rattle.process_model.specs.World.{booted, free_slot, Outcome, process_in, World}
 use Rattle.process_model.specs.declared.config.Config.{Config}
+use Rattle.process_model.specs.declared.image.BadImage.{BadImage}
 use Rattle.process_model.specs.declared.image.Image.{Image}
-use Rattle.process_model.specs.declared.phase.Phase.TheVariants.{Enter0, Kernel}
-use Rattle.process_model.specs.declared.step.Reply.TheVariants.{Done, Ended, Ready, Started, Value}
+use Rattle.process_model.specs.declared.phase.Phase.TheVariants.{Enter0, Idle, Kernel}
+use Rattle.process_model.specs.declared.step.Reply.TheVariants.{Done, Ended, Forked, Ready, Started, Value}
 use Rattle.process_model.specs.declared.step.Step.{Step}
-use Rattle.process_model.specs.declared.step.Step.TheVariants.{CopyIn, CopyOut, Fork, Serve, Start, Store}
+use Rattle.process_model.specs.declared.step.Step.TheVariants.{CopyIn, CopyOut, Exec, Exit, Fork, Serve, Start, Store}
 use Rattle.sv39_entry.specs.declared.access.Access.TheVariants as access
 use Rattle.sv39_entry.specs.declared.rule.Rule.{Rule}
 use Rattle.sv39_entry.specs.declared.rule.Rule.TheVariants.{NoFrame}
-
--- ---- what has been was as the model has it
-
-abbrev IsTrue : List Moment → Type 0
-IsTrue past = (n : ℕ) (m : Moment) → slice_get past n ≡ Some m → m ≡ moment_of m.before m.step
-
-more_true : (w : World) (x : Step) (past : List Moment) → IsTrue past → IsTrue (moment_of w x ∷ past)
-more_true w x past all zero m e = let is : moment_of w x ≡ m = cc in subst (λ (k : Moment). k ≡ moment_of k.before k.step) is refl
-more_true w x past all (suc n) m e = all n m e
-
-moments_true : (xs : List Step) (w : World) (past : List Moment) → IsTrue past → IsTrue (moments_from past w xs)
-moments_true [] w past all = all
-moments_true (x ∷ xs) w past all = moments_true xs (step w x).world (moment_of w x ∷ past) (more_true w x past all)
 
 -- ---- one step
 
@@ -57,50 +55,109 @@ module _ (w : World) (x : Step) where
   abbrev m : Moment
   m = moment_of w x
 
-  module _ (past : List Moment) (true_past : IsTrue past) (sound : (s : ℕ) (p : Process) → process_in w s ≡ Some p → IsSound p) where
-    retried : (h s : ℕ) (p : Process) (a : Asked) (via : Option ℕ) → WasServed past s a p → IsOn w h s p → Asks h via a x → IsMade (step w x).reply → IsAnswer a.access (step w x).reply
-    retried h s p a via served on asks made =
-        let k = served.moment in
-        let is : k ≡ moment_of k.before k.step = true_past served.place k served.there in
-        let same : moment_of k.before k.step ≡ moment_of k.before (Serve served.hart) = ap (moment_of k.before) served.serves in
-        let reply : (step k.before (Serve served.hart)).reply ≡ Ready = sym (ap (λ (z : Moment). z.reply) (is ∙ same)) ∙ served.ready in
-        let became : process_in (step k.before (Serve served.hart)).world s ≡ Some p = sym (ap (λ (z : Moment). process_in z.after s) (is ∙ same)) ∙ served.became in
-        again k.before served.hart s served.process p a served.on reply became w h via x on asks made
-
-    answers_users : AnswersUsers past m
-    answers_users = record {
-      apart = λ s p a rule lives g f. granted_is_denied_by_none (regions p) a.access a.address a.width rule (sound_grants p a (sound s p lives) g) f.denies;
-      tried = λ h s p a via on asks made. tries w h s p a via x on asks made;
-      served = λ h s p a on is made g. subst (λ (y : Step). ((step w y).reply ≡ Ready) ⊎ ((step w y).reply ≡ Ended NoFrame)) (sym is)
-          (users.serves w sound h s p a on (subst (λ (y : Step). IsMade (step w y).reply) is made) g);
-      ended = λ h s p a on is made not. subst (λ (y : Step). (rule : Rule) × ((step w y).reply ≡ Ended rule) × Forbids p a rule) (sym is)
-          (ends w h s p a on (subst (λ (y : Step). IsMade (step w y).reply) is made) not);
-      retried = retried;
+  module _ (sized : Sized w) (sound : (s : ℕ) (p : Process) → process_in w s ≡ Some p → IsSound p) where
+    answers_user : (h s : ℕ) (p : Process) (a : Asked) → AnswersUser m h s p a
+    answers_user h s p a = record {
+      apart = λ lives rule g f. granted_is_denied_by_none (regions p) a.access a.address a.width rule (sound_grants p a (sound s p lives) g) f.denies;
+      answered = λ t g resident. users.answers w sound h s p a t.via x t.on t.asks t.made g resident;
+      faults = λ t not. faults w h s p a t.via x t.on t.asks t.made not;
+      served = λ t g. subst (λ (y : Step). (((step w y).reply ≡ Ready) × ((q : Process) → process_in (step w y).world s ≡ Some q → IsResident q a)) ⊎ ((step w y).reply ≡ Ended NoFrame)) (sym t.serves)
+          (users.serves w sound h s p a t.on (subst (λ (y : Step). IsMade (step w y).reply) t.serves t.made) g);
+      ended = λ t not. subst (λ (y : Step). (rule : Rule) × ((step w y).reply ≡ Ended rule) × Forbids p a rule) (sym t.serves)
+          (ends w h s p a t.on (subst (λ (y : Step). IsMade (step w y).reply) t.serves t.made) not);
     }
 
-  copies_for_kernel : CopiesForKernel m
-  copies_for_kernel = record {
-    from = λ h s address n p on is made. subst (λ (y : Step). Copies p access.Load address n (copied (step w y).reply) (stopped_by (step w y).reply)) (sym is)
-        (copies_in w h s address n p on (subst (λ (y : Step). IsMade (step w y).reply) is made));
-    to = λ h s address bytes p on is made. subst (λ (y : Step). Copies p access.Store address (length bytes.now) (copied (step w y).reply) (stopped_by (step w y).reply)) (sym is)
-        (copies_out w h s address bytes p on (subst (λ (y : Step). IsMade (step w y).reply) is made));
-  }
+    own_steps : (h s : ℕ) (p : Process) → IsOn w h s p → maker x ≡ Some h → ChangesOwn m h s p
+    own_steps h s p on makes = by (owns w h s p on (sound s p on.lives) x makes) (own_files w h s p on (sound s p on.lives) (sized.pages s p on.lives) x makes)
+      where
+        children : (t : ℕ) → x ≡ Fork h → (step w x).reply ≡ Forked t → (free_slot w ≡ Some t) × (c : Process) × (process_in (step w x).world t ≡ Some c) × IsChild p c
+        children t is = subst (λ (y : Step). (step w y).reply ≡ Forked t → (free_slot w ≡ Some t) × (c : Process) × (process_in (step w y).world t ≡ Some c) × IsChild p c) (sym is) (child_is w h s p on t)
+
+        by : Own w h s x p (step w x) → Written p w.files ((step w x).world).files → ChangesOwn m h s p
+        by (Own.alive q e lives k) written = record {
+          files = written;
+          lives = λ _. (q, e, becomes_as (told_as w x (step w x).reply) m h p q refl refl k);
+          gone = λ is. absurd (let no : true ≡ false = sym is ∙ lives in cc);
+          child = children;
+        }
+        by (Own.gone e is at _) written = record { files = written; lives = λ no. absurd (let both : true ≡ false = sym is ∙ no in cc); gone = λ _. (e, at.on, at.is_in); child = children }
+
+  module _ (holds : Holds New w) where
+    module _ (h s address : ℕ) (p : Process) (on : IsOn w h s p) (made : IsMade (step w x).reply) where
+      made_as : (y : Step) → x ≡ y → IsMade (step w y).reply
+      made_as y is = subst (λ (z : Step). IsMade (step w z).reply) is made
+
+      abbrev In : ℕ → Step → Type 0
+      In n y = let o = step w y in let k = copied o.reply in Copies p access.Load address n k (step o.world (CopyIn h (address + k) 1)).reply (stopped_by o.reply)
+
+      abbrev Out : Bor (List ℕ) → Bor (List ℕ) → Step → Type 0
+      Out bytes one y = let o = step w y in let k = copied o.reply in Copies p access.Store address (length bytes.now) k (step o.world (CopyOut h (address + k) one)).reply (stopped_by o.reply)
+
+      copies_for_kernel : CopiesForKernel m h address (copied (step w x).reply) p
+      copies_for_kernel = record {
+        from = λ n is. subst (In n) (sym is)
+            (let ran = in_ran w h s address n p on (made_as (CopyIn h address n) is) in copies_in w h s address n p (λ k. (step (step w (CopyIn h address n)).world (CopyIn h (address + k) 1)).reply) ran (in_alone w h s p on holds address n ran));
+        from_front = λ n is. subst (λ (y : Step). (step w y).world ≡ (step w (CopyIn h address (copied (step w y).reply))).world) (sym is) (in_front_world w h s p on address n (in_ran w h s address n p on (made_as (CopyIn h address n) is)));
+        to = λ bytes one is long. subst (Out bytes one) (sym is)
+            (let ran = out_ran w h s address bytes p on (made_as (CopyOut h address bytes) is) in
+            copies_out w h s address bytes p (λ k. (step (step w (CopyOut h address bytes)).world (CopyOut h (address + k) one)).reply) ran (out_alone w h s p on holds address bytes one long ran));
+        to_front = λ bytes front is. subst (λ (y : Step). front.now ≡ take (copied (step w y).reply) bytes.now → (step w y).world ≡ (step w (CopyOut h address front)).world) (sym is)
+            (out_front_world w h s p on address bytes front (out_ran w h s address bytes p on (made_as (CopyOut h address bytes) is)));
+      }
 
   leaves_others : LeavesOthers m
-  leaves_others = record { kept = λ s q apart lives. kept_by s q w x apart lives; refused = λ e is. refused_same w x e is }
+  leaves_others =
+      let k = step_keeps w x in
+      record {
+        kept = λ s q apart lives. kept_by s q w x apart lives;
+        refused = λ e is. refused_same w x e is;
+        empty = k.empty;
+        harts = k.harts;
+        files = k.files;
+        memory = (step_suits w x).memory;
+      }
+
+  refuses_bad : (image : Image) (e : BadImage) (y : Step) → Loads image y → image_loads image ≡ Err e → IsMade (step w y).reply → ⊥
+  refuses_bad image e y Loads.start bad made = bad_start w image e bad made
+  refuses_bad image e y (Loads.exec {h}) bad made = bad_exec w h image e bad made
+
+  module _ (h s : ℕ) (p : Process) (on : IsOn w h s p) where
+    copies_made : (n : ℕ) (y : Step) → MayCall w h p → CopiesBytes h n y → n ≤ longest_copy → IsMade (step w y).reply
+    copies_made n y k (CopiesBytes.copy_in {address}) few = copy_in_made w h s p on k.quiet k.in_kernel address n few
+    copies_made n y k (CopiesBytes.copy_out {address} {bytes}) few = copy_out_made w h s p on k.quiet k.in_kernel address bytes few
+
+    frames_there : (y : Step) → x ≡ y → tells_no_frame (step w x).reply ≡ false → tells_no_frame (step w y).reply ≡ false
+    frames_there y is = subst (λ (z : Step). tells_no_frame (step w z).reply ≡ false) is
+
+    made_if : (y : Step) → x ≡ y → IsMade (step w y).reply → IsMade (step w x).reply
+    made_if y is = subst (λ (z : Step). IsMade (step w z).reply) (sym is)
+
+    made_as_one : (y : Step) → x ≡ y → IsMade (step w x).reply → IsMade (step w y).reply
+    made_as_one y is = subst (λ (z : Step). IsMade (step w z).reply) is
+
+    makes_own : MakesOwn m h s p
+    makes_own = record {
+      next = λ phase after from next quiet is. subst (λ (y : Step). IsOn (step w y).world h s p × IsIn (step w y).world h after) (sym is) (next_goes w h s p phase after on from next quiet);
+      trap = λ user is. subst (λ (y : Step). (slot_on (step w y).world h ≡ Some s) × IsIn (step w y).world h Enter0) (sym is) (trap_goes w h s p on user);
+      leave = λ kernel is. subst (λ (y : Step). (slot_on (step w y).world h ≡ None) × IsIn (step w y).world h Idle) (sym is) (leave_goes w h kernel);
+      access = λ a user asks wide. access_made w h s p a x on user asks wide;
+      service = λ kernel waits is. made_if (Serve h) is (serves_it w h s p on kernel waits);
+      served = λ is made. served_waits w h s p on (made_as_one (Serve h) is made);
+      fork = λ t k is free calm. made_if (Fork h) is (fork_goes w h s t p on k free (frames_there (Fork h) is calm));
+      exec = λ image ls k is loads calm. made_if (Exec h image) is (exec_goes w h s p image ls on k loads (frames_there (Exec h image) is calm));
+      copy = λ n k copies few. copies_made n x k copies few;
+      exit = λ status k is. made_if (Exit h status) is (exit_goes w h s p status on k);
+      call = λ phase k calls. calls_possible w h s p on k.quiet k.in_kernel x calls phase;
+    }
 
   makes_steps : MakesSteps m
   makes_steps = record {
-    start = λ image s ls free loads is quiet. subst (λ (y : Step). ((step w y).reply ≡ Started s) × (p : Process) × (process_in (step w y).world s ≡ Some p)) (sym is)
-        (start_goes w image s ls free loads (subst (λ (y : Step). tells_no_frame (step w y).reply ≡ false) is quiet));
+    replies = (step_suits w x).replies;
+    hosted = λ h e made. step_hosted w h x e made;
+    start = λ image s ls free loads is quiet. subst (λ (y : Step). IsMade (step w y).reply) (sym is) (start_goes w image s ls free loads (subst (λ (y : Step). tells_no_frame (step w y).reply ≡ false) is quiet));
+    started = λ image s is. subst (λ (y : Step). (step w y).reply ≡ Started s → (free_slot w ≡ Some s) × (p : Process) × (process_in (step w y).world s ≡ Some p) × Begins (moment_of w y) p) (sym is) (start_brings w image s);
+    bad_image = λ image e is bad made. refuses_bad image e x is bad made;
     switch = λ h s p lives apart phase is. subst (λ (y : Step). IsOn (step w y).world h s p × IsIn (step w y).world h Kernel) (sym is) (switch_goes w h s p lives apart phase);
-    next = λ h s p phase after on from next quiet is. subst (λ (y : Step). IsOn (step w y).world h s p × IsIn (step w y).world h after) (sym is) (next_goes w h s p phase after on from next quiet);
-    trap = λ h s p on user is. subst (λ (y : Step). IsIn (step w y).world h Enter0) (sym is) (trap_goes w h s p on user);
-    access = λ h s p a on user asks wide. access_made w h s p a x on user asks wide;
-    service = λ h s p a on kernel is. subst (λ (y : Step). IsMade (step w y).reply) (sym is) (service_made w h s p a on kernel);
-    call = λ h s p phase on quiet kernel calls. calls_possible w h s p on quiet kernel x calls phase;
-    copy_in = λ h s address n p on quiet kernel is few. subst (λ (y : Step). IsMade (step w y).reply) (sym is) (copy_in_made w h s p on quiet kernel address n few);
-    copy_out = λ h s address bytes p on quiet kernel is few. subst (λ (y : Step). IsMade (step w y).reply) (sym is) (copy_out_made w h s p on quiet kernel address bytes few);
   }
 
   -- ---- frames
@@ -121,7 +178,7 @@ module _ (w : World) (x : Step) where
     counts_frames = record {
       takes = λ e. let t = spending x e in (t.0, t.1 w.frames, t.1);
       replaces = λ h image is. subst (λ (y : Step). Replaces y image) (sym is) (let t = execs w image h in (t.0, (t.1 w.frames).0, λ frames. (t.1 frames).0, (t.1 w.frames).1));
-      no_other = λ e not. untold w x e not;
+      no_other = λ e not. (untold w x e not, keeps_free w x e not);
     } where
       Replaces : Step → Image → Type 0
       Replaces y image = (n : ℕ) × IsDry (moment_of w y) n × ((frames : ℕ) → IsDry (elsewhere (moment_of w y) frames) n)
@@ -130,7 +187,7 @@ module _ (w : World) (x : Step) where
   -- ---- bytes
 
   reads_latest : (past : List Moment) → HoldsLatest past w → ReadsLatest past m
-  reads_latest past l = record { read = read; copied = brought }
+  reads_latest past l = record { has = λ s a. has_latest (m ∷ past) (step w x).world s a (run_holds (x ∷ []) w past l); read = read; copied = brought }
     where
       -- a store answers no value
       no_value : (h address width value v : ℕ) (via : Option ℕ) → (plain_step w (Store h address width value via)).reply ≢ Value v
@@ -146,7 +203,7 @@ module _ (w : World) (x : Step) where
 
       brought : (h s address n : ℕ) → slot_on w h ≡ Some s → x ≡ CopyIn h address n → AreLatest (m ∷ past) s address (bytes_in (step w x).reply)
       brought h s address n on is = subst (λ (y : Step). AreLatest (moment_of w y ∷ past) s address (bytes_in (step w y).reply)) (sym is)
-          (λ i few. (run_holds (CopyIn h address n ∷ []) w past l).told s (address + i) _ (copy_holds w h s address n l.sized on i few))
+          (λ i few. sym ((run_holds (CopyIn h address n ∷ []) w past l).told s (address + i)) ∙ copy_holds w h s address n l.sized on i few)
 
 -- ---- all steps of a run
 
@@ -165,11 +222,13 @@ module _ (c : Config) (files : List File) where
   holds_next done x =
       let w = world_after done in
       record {
-        users = answers_users w x (past_of done) (moments_true done (booted c files) [] (λ n m e. absurd cc)) (always_sound c files done);
-        copies = copies_for_kernel w x;
+        users = answers_user w x (latest_held c files done).sized (always_sound c files done);
+        copies = copies_for_kernel w x (always_holds New fresh_is_kept c files done);
         frames = counts_frames w x (always_holds New fresh_is_kept c files done);
         bytes = reads_latest w x (past_of done) (latest_held c files done);
         others = leaves_others w x;
+        own = own_steps w x (latest_held c files done).sized (always_sound c files done);
+        made_own = makes_own w x;
         made = makes_steps w x;
       }
 

@@ -39,7 +39,7 @@ lowest_from (None ∷ slots) n s e = let same : n ≡ s = same_Some n s e in ome
 lowest_from (Some p ∷ slots) n s e = let later : n + 1 ≤ s = lowest_from slots (n + 1) s e in omega arith
 
 -- the lowest free slot is empty
-free_is_empty : (slots : List (Option Process)) (n s j : ℕ) → lowest_free n slots ≡ Some s → s ≡ n + j → flat (slice_get slots j) ≡ None
+pub free_is_empty : (slots : List (Option Process)) (n s j : ℕ) → lowest_free n slots ≡ Some s → s ≡ n + j → flat (slice_get slots j) ≡ None
 free_is_empty [] n s j e is = refl
 free_is_empty (None ∷ slots) n s zero e is = refl
 free_is_empty (None ∷ slots) n s (suc j) e is = let same : n ≡ s = same_Some n s e in absurd (omega arith)

@@ -1,30 +1,28 @@
 -- User accesses and their service.
 use Rattle.std.proofs.Common.{◌≡◌, ◌⊎◌, ℕ, Bool, true, false, ◌+◌, inl, inr, refl, sym, ap, subst, ◌∙◌, List, Option, None, Some}
-use Rattle.std.specs.Prelude.{Result, Ok}
+use Rattle.std.specs.Prelude.{Result, Ok, slice_get}
 use Rattle.std.proofs.lemmas.Option.{same_Some}
 use Rattle.process_laws.proofs.Earlier.{answered_is_first}
 use Rattle.process_laws.proofs.Granting.{granted_by, IsSound, sound_grants}
 use Rattle.process_laws.proofs.OnHarts.{asks}
 use Rattle.process_laws.proofs.Running.{has_it, process_runs, ran_on, set_lives, step_process, step_reply, was_made}
 use Rattle.process_laws.proofs.Standing.{made_stands}
-use Rattle.process_laws.specs.Words.{Asked, Asks, Forbids, IsAnswer, IsGranted, IsMade, IsOn, waiting}
+use Rattle.process_laws.specs.Words.{Asked, Asks, Forbids, IsAnswer, IsResident, IsGranted, IsMade, IsOn, waiting}
 use Rattle.process_model.specs.Around.{is_shared_page, Progress, reached, resident_at, unless_dry, unless_resident}
 use Rattle.process_model.specs.Bytes.{is_width}
 use Rattle.process_model.specs.Files.{File}
 use Rattle.process_model.specs.Harts.{Hart, entry_serves, is_user}
 use Rattle.process_model.specs.Process.{Page, Pending, Process, regions}
-use Rattle.process_model.specs.Regions.{first_rule, fault_cause}
+use Rattle.process_model.specs.Regions.{first_rule}
 use Rattle.process_model.specs.Residence.{access_answer, is_resident, is_resident_page, made_resident, made_resident_from, region_on, taken_over_unless}
 use Rattle.process_model.specs.Service.{access_step, Answer, around, begun, faulted, if_resident, if_settled, is_fault, served, served_or_ended, told, told_if, unless_denied, user_access, with_served}
 use Rattle.process_model.specs.Service as service
 use Rattle.process_model.specs.Steps.{plain_step, step}
 use Rattle.process_model.specs.World.{always, can_serve, Outcome, process_in, with_its_process, World}
-use Rattle.process_model.specs.declared.step.Reply.{Reply}
-use Rattle.process_model.specs.declared.step.Reply.TheVariants.{Ended, Fault, Ready}
+use Rattle.process_model.specs.declared.step.Reply.TheVariants.{Ended, Ready}
 use Rattle.process_model.specs.declared.step.Step.{Step}
 use Rattle.process_model.specs.declared.step.Step.TheVariants.{Serve}
 use Rattle.sv39_entry.specs.Address.{page_of}
-use Rattle.sv39_entry.specs.Causes.{page_fault_cause}
 use Rattle.sv39_entry.specs.declared.access.Access.{Access}
 use Rattle.sv39_entry.specs.declared.access.Access.TheVariants as access
 use Rattle.sv39_entry.specs.declared.rule.Rule.{Rule}
@@ -42,72 +40,18 @@ pub told_reply : (w : World) (h : ℕ) (hart : Hart) (s : ℕ) (x : Answer) (b :
 told_reply w h hart s x true = refl
 told_reply w h hart s x false = refl
 
-told_process : (w : World) (h : ℕ) (hart : Hart) (s : ℕ) (p : Process) (x : Answer) (b : Bool) → process_in w s ≡ Some p → process_in (told_if w h hart s x b).world s ≡ Some x.process
-told_process w h hart s p x true lives = set_lives w.slots s p x.process lives
-told_process w h hart s p x false lives = set_lives w.slots s p x.process lives
-
 -- what an access ran
-record UserRan (w : World) (h s : ℕ) (p : Process) (access : Access) (address width value : ℕ) (o : Outcome) : Type 0 where
-  hart : Hart
-  is : o ≡ told w h hart s (user_access p (asks access address width value))
+pub record UserRan (w : World) (h s : ℕ) (p : Process) (access : Access) (address width value : ℕ) (o : Outcome) : Type 0 where
+  pub hart : Hart
+  pub there : slice_get w.harts h ≡ Some hart
+  pub is : o ≡ told w h hart s (user_access p (asks access address width value))
 
-user_ran : (w : World) (h s : ℕ) (p : Process) (access : Access) (address width value : ℕ) (via : Option ℕ) → IsOn w h s p
+pub user_ran : (w : World) (h s : ℕ) (p : Process) (access : Access) (address width value : ℕ) (via : Option ℕ) → IsOn w h s p
     → IsMade (access_step w h access address width value via).reply → UserRan w h s p access address width value (access_step w h access address width value via)
 user_ran w h s p access address width value via on n =
     let run = λ (hart : Hart) (s : ℕ) (p : Process). told w h hart s (user_access p (asks access address width value)) in
     let r = ran_on w h (is_width width) (λ hart. is_user hart.phase) (λ hart. entry_serves w.policy hart address via) (λ hart. with_its_process w hart (run hart)) n in
-    record { hart = r.hart; is = r.is ∙ process_runs w r.hart (run r.hart) s p (has_it w h s r.hart on.there r.there) on.lives }
-
--- an access that goes on
-
-abbrev Tries : Process → Asked → Answer → Type 0
-Tries p a x = (IsGranted p a × IsAnswer a.access x.reply) ⊎ ((cause : ℕ) × (x.reply ≡ Fault cause) × (x.process ≡ waiting p a))
-
-module _ (p : Process) (access : Access) (address width value : ℕ) where
-  abbrev what : Asked
-  what = record { access = access; address = address; width = width }
-
-  abbrev it : service.Asked
-  it = asks access address width value
-
-  tries_resident : IsGranted p what → (page : Page) (b : Bool) → Tries p what (if_resident p it page b)
-  tries_resident g page true = inl (g, answer_is access page _ width value)
-  tries_resident g page false = inr (page_fault_cause access, refl, refl)
-
-  tries_settled : IsGranted p what → (o : Option Page) → Tries p what (if_settled p it o)
-  tries_settled g None = inr (page_fault_cause access, refl, refl)
-  tries_settled g (Some page) = tries_resident g page _
-
-  tries_denied : (o : Option Rule) → first_rule (regions p) access address width ≡ o → Tries p what (unless_denied p it o)
-  tries_denied (Some r) e = inr (fault_cause access r, refl, refl)
-  tries_denied None e = tries_settled (granted_by p what e) _
-
-abbrev Tried : ℕ → Process → Asked → Reply → World → Type 0
-Tried s p a r v = (IsGranted p a × IsAnswer a.access r) ⊎ ((cause : ℕ) × (r ≡ Fault cause) × (process_in v s ≡ Some (waiting p a)))
-
-tried_told : (w : World) (h s : ℕ) (p : Process) (hart : Hart) (a : Asked) (x : Answer) → process_in w s ≡ Some p → Tries p a x → Tried s p a (told w h hart s x).reply (told w h hart s x).world
-tried_told w h s p hart a x lives (inl g) = inl (g.0, subst (IsAnswer a.access) (sym (told_reply w h hart s x (is_fault x.reply))) g.1)
-tried_told w h s p hart a x lives (inr f) = inr (f.0, told_reply w h hart s x (is_fault x.reply) ∙ f.1, told_process w h hart s p x (is_fault x.reply) lives ∙ ap Some f.2)
-
-tries_access : (w : World) (h s : ℕ) (p : Process) (access : Access) (address width value : ℕ) (via : Option ℕ) → IsOn w h s p → IsMade (access_step w h access address width value via).reply
-    → let o = access_step w h access address width value via in Tried s p (record { access = access; address = address; width = width }) o.reply o.world
-tries_access w h s p access address width value via on n =
-    let r = user_ran w h s p access address width value via on n in
-    let a : Asked = record { access = access; address = address; width = width } in
-    subst (λ (o : Outcome). Tried s p a o.reply o.world) (sym r.is)
-    (tried_told w h s p r.hart a (user_access p (asks access address width value)) on.lives (tries_denied p access address width value _ refl))
-
-tries_plain : (w : World) (h s : ℕ) (p : Process) (a : Asked) (via : Option ℕ) (x : Step) → IsOn w h s p → Asks h via a x → IsMade (plain_step w x).reply → Tried s p a (plain_step w x).reply (plain_step w x).world
-tries_plain w h s p a via x on (Asks.fetch {address}) n = tries_access w h s p access.Fetch address 4 0 via on n
-tries_plain w h s p a via x on (Asks.load {address} {width}) n = tries_access w h s p access.Load address width 0 via on n
-tries_plain w h s p a via x on (Asks.store {address} {width} {value}) n = tries_access w h s p access.Store address width value via on n
-
-pub tries : (w : World) (h s : ℕ) (p : Process) (a : Asked) (via : Option ℕ) (x : Step) → IsOn w h s p → Asks h via a x → IsMade (step w x).reply → Tried s p a (step w x).reply (step w x).world
-tries w h s p a via x on asks n = as_step (tries_plain w h s p a via x on asks (was_made w x n))
-  where
-    as_step : Tried s p a (plain_step w x).reply (plain_step w x).world → Tried s p a (step w x).reply (step w x).world
-    as_step (inl g) = inl (g.0, subst (IsAnswer a.access) (sym (step_reply w x)) g.1)
-    as_step (inr f) = inr (f.0, step_reply w x ∙ f.1, step_process w x s ∙ f.2)
+    record { hart = r.hart; there = r.there; is = r.is ∙ process_runs w r.hart (run r.hart) s p (has_it w h s r.hart on.there r.there) on.lives }
 
 -- ---- service
 
@@ -140,9 +84,9 @@ same_from files fresh shared p access page None = refl
 same_from files fresh shared p access page (Some x) = same_unless fresh shared p page x _
 
 -- the access of this process was granted, and its page stands
-record IsReady (p : Process) (a : Asked) : Type 0 where
-  granted : first_rule (regions p) a.access a.address a.width ≡ None
-  resident : is_resident p a.access (page_of a.address) ≡ true
+pub record IsReady (p : Process) (a : Asked) : Type 0 where
+  pub granted : first_rule (regions p) a.access a.address a.width ≡ None
+  pub resident : is_resident p a.access (page_of a.address) ≡ true
 
 -- a service makes the access ready, or finds too few frames; and if it made it ready, the page stands
 record Serves (w : World) (h s : ℕ) (hart : Hart) (p : Process) (a : Asked) (r : Result Progress Rule) : Type 0 where
@@ -193,11 +137,15 @@ module _ (w : World) (h s : ℕ) (p : Process) (hart : Hart) (a : Asked) (lives 
   rule_readies (Some rule) e r q there = absurd cc
 
 pub serves : (w : World) → ((s : ℕ) (p : Process) → process_in w s ≡ Some p → IsSound p) → (h s : ℕ) (p : Process) (a : Asked) → IsOn w h s (waiting p a) → IsMade (step w (Serve h)).reply → IsGranted p a
-    → ((step w (Serve h)).reply ≡ Ready) ⊎ ((step w (Serve h)).reply ≡ Ended NoFrame)
+    → (((step w (Serve h)).reply ≡ Ready) × ((q : Process) → process_in (step w (Serve h)).world s ≡ Some q → IsResident q a)) ⊎ ((step w (Serve h)).reply ≡ Ended NoFrame)
 serves w sound h s p a on n g =
     let r = serve_ran w h s p a on (was_made w (Serve h) n) in
-    subst (λ (z : Reply). (z ≡ Ready) ⊎ (z ≡ Ended NoFrame)) (sym (step_reply w (Serve h) ∙ ap (λ (o : Outcome). o.reply) r.is))
-    (rule_serves w h s (waiting p a) r.hart a on.lives _ (sound_grants (waiting p a) a (sound s (waiting p a) on.lives) (same_grant p a g)) refl).says
+    let k = rule_serves w h s (waiting p a) r.hart a on.lives _ (sound_grants (waiting p a) a (sound s (waiting p a) on.lives) (same_grant p a g)) refl in
+    let reply : (step w (Serve h)).reply ≡ (served w h r.hart s (waiting p a) (Some (fault_of a))).reply = step_reply w (Serve h) ∙ ap (λ (o : Outcome). o.reply) r.is in
+    elim k.says [
+      | inl ready ↦ inl (reply ∙ ready, λ q there. (k.ready q ready (sym (ap (λ (o : Outcome). process_in o.world s) r.is) ∙ sym (step_process w (Serve h) s) ∙ there)).resident)
+      | inr dry ↦ inr (reply ∙ dry)
+    ]
 
 pub ends : (w : World) (h s : ℕ) (p : Process) (a : Asked) → IsOn w h s (waiting p a) → IsMade (step w (Serve h)).reply → (IsGranted p a → ⊥)
     → (rule : Rule) × ((step w (Serve h)).reply ≡ Ended rule) × Forbids p a rule
@@ -220,27 +168,19 @@ answers_granted : (p : Process) (a : service.Asked) (o : Option Rule) → o ≡ 
 answers_granted p a (Some r) e t = absurd cc
 answers_granted p a None e t = answers_settled p a _ t
 
-again_access : (v : World) (k s : ℕ) (q : Process) (access : Access) (address width value : ℕ) (via : Option ℕ) → IsOn v k s q → IsMade (access_step v k access address width value via).reply
+answers_access : (v : World) (k s : ℕ) (q : Process) (access : Access) (address width value : ℕ) (via : Option ℕ) → IsOn v k s q → IsMade (access_step v k access address width value via).reply
     → IsReady q (record { access = access; address = address; width = width }) → IsAnswer access (access_step v k access address width value via).reply
-again_access v k s q access address width value via on n ready =
+answers_access v k s q access address width value via on n ready =
     let r = user_ran v k s q access address width value via on n in
     let x : Answer = user_access q (asks access address width value) in
     subst (IsAnswer access) (sym (ap (λ (o : Outcome). o.reply) r.is ∙ told_reply v k r.hart s x (is_fault x.reply))) (answers_granted q (asks access address width value) _ ready.granted ready.resident)
 
-again_plain : (v : World) (k s : ℕ) (q : Process) (a : Asked) (via : Option ℕ) (x : Step) → IsOn v k s q → Asks k via a x → IsMade (plain_step v x).reply → IsReady q a → IsAnswer a.access (plain_step v x).reply
-again_plain v k s q a via x on (Asks.fetch {address}) n = again_access v k s q access.Fetch address 4 0 via on n
-again_plain v k s q a via x on (Asks.load {address} {width}) n = again_access v k s q access.Load address width 0 via on n
-again_plain v k s q a via x on (Asks.store {address} {width} {value}) n = again_access v k s q access.Store address width value via on n
+answers_plain : (v : World) (k s : ℕ) (q : Process) (a : Asked) (via : Option ℕ) (x : Step) → IsOn v k s q → Asks k via a x → IsMade (plain_step v x).reply → IsReady q a → IsAnswer a.access (plain_step v x).reply
+answers_plain v k s q a via x on (Asks.fetch {address}) n = answers_access v k s q access.Fetch address 4 0 via on n
+answers_plain v k s q a via x on (Asks.load {address} {width}) n = answers_access v k s q access.Load address width 0 via on n
+answers_plain v k s q a via x on (Asks.store {address} {width} {value}) n = answers_access v k s q access.Store address width value via on n
 
-ready_made : (r : Reply) → r ≡ Ready → IsMade r
-ready_made r e f g = absurd cc
-
-readies : (w : World) (h s : ℕ) (p q : Process) (a : Asked) → IsOn w h s (waiting p a) → (step w (Serve h)).reply ≡ Ready → process_in (step w (Serve h)).world s ≡ Some q → IsReady q a
-readies w h s p q a on e there =
-    let plain : (plain_step w (Serve h)).reply ≡ Ready = sym (step_reply w (Serve h)) ∙ e in
-    let r = serve_ran w h s p a on (ready_made _ plain) in
-    rule_readies w h s (waiting p a) r.hart a on.lives _ refl (ap (λ (o : Outcome). o.reply) (sym r.is) ∙ plain) q (ap (λ (o : Outcome). process_in o.world s) (sym r.is) ∙ sym (step_process w (Serve h) s) ∙ there)
-
-pub again : (w : World) (h s : ℕ) (p q : Process) (a : Asked) → IsOn w h s (waiting p a) → (step w (Serve h)).reply ≡ Ready → process_in (step w (Serve h)).world s ≡ Some q
-    → (v : World) (k : ℕ) (via : Option ℕ) (x : Step) → IsOn v k s q → Asks k via a x → IsMade (step v x).reply → IsAnswer a.access (step v x).reply
-again w h s p q a on e there v k via x here is n = subst (IsAnswer a.access) (sym (step_reply v x)) (again_plain v k s q a via x here is (was_made v x n) (readies w h s p q a on e there))
+pub answers : (w : World) → ((s : ℕ) (p : Process) → process_in w s ≡ Some p → IsSound p) → (h s : ℕ) (p : Process) (a : Asked) (via : Option ℕ) (x : Step) → IsOn w h s p → Asks h via a x → IsMade (step w x).reply
+    → IsGranted p a → IsResident p a → IsAnswer a.access (step w x).reply
+answers w sound h s p a via x on asked n g hand =
+    subst (IsAnswer a.access) (sym (step_reply w x)) (answers_plain w h s p a via x on asked (was_made w x n) (record { granted = sound_grants p a (sound s p on.lives) g; resident = hand }))

@@ -21,7 +21,7 @@ use Rattle.process_laws.proofs.PageCopies.{first, lt_of, second}
 -- bytes written over others, up to their length
 
 module _ (bs page : List ℕ) (o : ℕ) where
-  length_stays : length (written_over bs o page) ≡ length bs
+  pub length_stays : length (written_over bs o page) ≡ length bs
   length_stays =
       let all = length-take (length bs) (write_bytes bs o page) in
       let parts = length-append (take o bs ++ page) (drop (o + length page) bs) in
@@ -31,7 +31,7 @@ module _ (bs page : List ℕ) (o : ℕ) where
       omega (arith, all, parts, most, front, back)
 
   -- below them nothing changes
-  below_stays : (b : ℕ) → b < o → b < length bs → byte_at (written_over bs o page) b ≡ byte_at bs b
+  pub below_stays : (b : ℕ) → b < o → b < length bs → byte_at (written_over bs o page) b ≡ byte_at bs b
   below_stays b low less =
       let front = length-take o bs in
       let most = length-append (take o bs) page in
@@ -41,7 +41,7 @@ module _ (bs page : List ℕ) (o : ℕ) where
       ∙ get_or-take o bs b 0 low
 
   -- and they are there
-  over_is : (i : ℕ) → i < length page → o + i < length bs → byte_at (written_over bs o page) (o + i) ≡ byte_at page i
+  pub over_is : (i : ℕ) → i < length page → o + i < length bs → byte_at (written_over bs o page) (o + i) ≡ byte_at page i
   over_is i inside less =
       let front = length-take o bs in
       let most = length-append (take o bs) page in
@@ -58,7 +58,7 @@ set_there [] i x y e = absurd (cc)
 set_there (z ∷ xs) zero x y e = refl
 set_there (z ∷ xs) (suc i) x y e = set_there xs i x y e
 
-page_goes : (files : List File) (n o : ℕ) (page : List ℕ) → file_bytes (with_page_written files n o page) n ≡ written_over (file_bytes files n) o page
+pub page_goes : (files : List File) (n o : ℕ) (page : List ℕ) → file_bytes (with_page_written files n o page) n ≡ written_over (file_bytes files n) o page
 page_goes files n o page = go (slice_get files n) refl where
   go : (x : Option File) → slice_get files n ≡ x → bytes_of (slice_get (with_file_at files n x o page) n) ≡ written_over (bytes_of x) o page
   go None e = ap bytes_of e

@@ -1,52 +1,90 @@
--- The latest byte that was left at an address of a process, told from the steps, their replies and which pages were settled.
-use Rattle.std.specs.Prelude.{◌≡◌, ℕ, Bool, false, ◌+◌, ◌-◌, ◌%◌, ◌<◌, nat_le, nat_lt, not, ◌==◌, ◌&&◌, is_some, Option, None, Some, Result, Ok, Err, List, [], ◌∷◌, length, get_or, if◌then◌else◌}
-use Rattle.process_model.specs.Bytes.{low_bytes, number}
-use Rattle.process_model.specs.Files.{File}
-use Rattle.process_model.specs.Images.{LoadSegment, image_loads}
-use Rattle.process_model.specs.Loading.{image_pages}
+-- The latest byte that was left at an address of a process: it is computed from the steps, their replies, and the regions, files and
+-- waiting accesses before them, never from what the model has settled.
+use Rattle.std.specs.Prelude.{◌≡◌, ℕ, ℤ, pos, ◌+ℤ◌, nat_abs, Bool, false, ◌+◌, ◌-◌, ◌*◌, ◌%◌, ◌<◌, nat_le, nat_lt, ◌==◌, ◌&&◌, Option, None, Some, Result, Ok, Err, List, [], ◌∷◌, length, get_or, slice_get, if◌then◌else◌}
+use Rattle.process_model.specs.Bytes.{low_bytes, number, pages_for}
+use Rattle.process_model.specs.Files.{File, bytes_of}
+use Rattle.process_model.specs.Images.{LoadSegment, end_page, image_loads}
 use Rattle.process_model.specs.PageMap.{get}
-use Rattle.process_model.specs.Process.{Process}
-use Rattle.process_model.specs.Residence.{initial_page}
+use Rattle.process_model.specs.Process.{Page, Pending, Process}
+use Rattle.process_model.specs.Regions.{Source, file}
 use Rattle.process_model.specs.World.{World, has_slot, process_in}
 use Rattle.process_model.specs.declared.image.BadImage.{BadImage}
 use Rattle.process_model.specs.declared.step.Reply.{Reply}
-use Rattle.process_model.specs.declared.step.Reply.TheVariants.{CopiedIn, CopiedOut, Done, Forked, ShortIn, ShortOut, Started, Stored}
+use Rattle.process_model.specs.declared.step.Reply.TheVariants.{CopiedIn, CopiedOut, Done, Ended, Exited, Forked, OldSize, Ready, ShortIn, ShortOut, Started, Stored}
 use Rattle.process_model.specs.declared.step.Step.{Step}
-use Rattle.process_model.specs.declared.step.Step.TheVariants.{CopyOut, Exec, Fork, Start, Store}
+use Rattle.process_model.specs.declared.step.Step.TheVariants.{CopyIn, CopyOut, Exec, Exit, Fork, Munmap, Sbrk, Serve, Start, Store}
 use Rattle.process_laws.specs.Moments.{Moment, slot_on}
+use Rattle.process_laws.specs.Pages.{Grant, grant, has_some_of, is_between}
 use Rattle.sv39_entry.specs.Address.{page_of}
 
--- bytes of what a step brings
+-- bytes
 
 abbrev pub byte_at : List ℕ → ℕ → ℕ
 byte_at bytes i = get_or bytes i 0
 
-abbrev pub byte_in_pages : List (ℕ × List ℕ) → ℕ → Option ℕ
-byte_in_pages [] a = None
-byte_in_pages (e ∷ es) a = if e.0 == page_of a then Some (byte_at e.1 (a % 4096)) else byte_in_pages es a
+-- the byte that an image has at an address: that of its segment, zero after the segment's bytes and in guard and stack; none outside its
+-- pages
+abbrev pub loads_byte : ℕ → List LoadSegment → ℕ → Option ℕ
+loads_byte end [] a = if is_between end (end + 2) (page_of a) then Some 0 else None
+loads_byte end (l ∷ ls) a =
+    if is_between (page_of l.address) (page_of l.address + pages_for l.memory_size) (page_of a) then Some (byte_at l.bytes (a - 4096 * page_of l.address)) else loads_byte (end_page l) ls a
 
--- the byte that an image has at an address; none outside its pages
 abbrev pub image_byte : Result (List LoadSegment) BadImage → ℕ → Option ℕ
 image_byte (Err e) a = None
-image_byte (Ok ls) a = byte_in_pages (image_pages ls) a
+image_byte (Ok ls) a = loads_byte 0 ls a
 
--- the byte with which a page of the process begins
+-- the byte with which a page begins: in a mapping that of the file at this place, zero past its end; elsewhere zero
+abbrev pub source_byte : List File → Source → ℕ → ℕ
+source_byte files (file n offset) i = byte_at (bytes_of (slice_get files n)) (offset + i)
+source_byte files _ i = 0
+
+abbrev pub grant_byte : List File → Option Grant → ℕ → ℕ
+grant_byte files None i = 0
+grant_byte files (Some g) i = source_byte files g.source i
+
 abbrev pub initial_byte : List File → Option Process → ℕ → ℕ
 initial_byte files None a = 0
-initial_byte files (Some p) a = byte_at (initial_page files p (page_of a)) (a % 4096)
+initial_byte files (Some p) a = grant_byte files (grant p (page_of a)) (a % 4096)
 
--- one of n addresses from a first on
+-- the byte that a process has at an address; none if the page is not settled
+abbrev pub page_byte : Option Page → ℕ → Option ℕ
+page_byte None i = None
+page_byte (Some x) i = Some (byte_at x.bytes i)
+
+abbrev pub byte_had : Option Process → ℕ → Option ℕ
+byte_had None a = None
+byte_had (Some p) a = page_byte (get p.settled (page_of a)) (a % 4096)
+
+-- addresses
+
+-- a is one of the n addresses from `first` on
 abbrev pub is_among : ℕ → ℕ → ℕ → Bool
 is_among first n a = nat_le first a && nat_lt a (first + n)
 
-abbrev pub only_if : {A : Type 0} → Bool → Option A → Option A
-only_if b o = if b then o else None
+-- a is in a page of one of them
+abbrev pub is_in_their_pages : ℕ → ℕ → ℕ → Bool
+is_in_their_pages first n a = has_some_of first n (page_of a)
 
-abbrev pub or_else : {A : Type 0} → Option A → Option A → Option A
-or_else None other = other
-or_else (Some x) other = Some x
+-- a is in a page that sbrk releases: it changes the size n by `delta`
+abbrev pub is_released : ℕ → ℤ → ℕ → Bool
+is_released n delta a = nat_le (pages_for (nat_abs (pos n +ℤ delta))) (page_of a) && nat_lt (page_of a) (pages_for n)
 
--- for each slot and address the latest byte
+-- a is in a page that munmap releases
+abbrev pub is_unmapped : ℕ → ℕ → ℕ → Bool
+is_unmapped address len a = nat_le (page_of address) (page_of a) && nat_lt (page_of a) (page_of address + pages_for len)
+
+-- a is in the page of the pending access
+abbrev pub is_in_pending : Option Pending → ℕ → Bool
+is_in_pending None a = false
+is_in_pending (Some x) a = page_of x.address == page_of a
+
+abbrev pub is_in_served : Option Process → ℕ → Bool
+is_in_served None a = false
+is_in_served (Some p) a = is_in_pending p.pending a
+
+-- what is left at an address
+
+-- for each slot and address the latest byte, if there is one
 abbrev pub Knowledge : Type 0
 Knowledge = ℕ → ℕ → Option ℕ
 
@@ -54,42 +92,60 @@ abbrev pub of_slot : Knowledge → Option ℕ → ℕ → Option ℕ
 of_slot old None a = None
 of_slot old (Some s) a = old s a
 
--- what the step itself leaves at an address of the process in slot s: an image its bytes, a fork those of the parent, and a store
--- or a copy what it puts there
+-- the latest byte, or else the initial one: the page is settled now
+abbrev pub or_initial : World → ℕ → ℕ → Option ℕ → Option ℕ
+or_initial w s a (Some b) = Some b
+or_initial w s a None = Some (initial_byte w.files (process_in w s) a)
+
+-- a copy settles the pages of n addresses from `first` on
+abbrev pub settled_by : World → ℕ → ℕ → ℕ → Knowledge → ℕ → ℕ → Option ℕ
+settled_by w h first n old s a = if has_slot s (slot_on w h) && is_in_their_pages first n a then or_initial w s a (old s a) else old s a
+
+-- and a copy to the process puts the first n of `bytes` there
+abbrev pub put_by : World → ℕ → ℕ → List ℕ → ℕ → Knowledge → ℕ → ℕ → Option ℕ
+put_by w h first bytes n old s a = if has_slot s (slot_on w h) && is_among first n a then Some (byte_at bytes (a - first)) else settled_by w h first n old s a
+
+-- the process on the hart has no byte any more
+abbrev pub forgotten : World → ℕ → Knowledge → ℕ → ℕ → Option ℕ
+forgotten w h old s a = if has_slot s (slot_on w h) then None else old s a
+
+-- what a step with its reply leaves. A process begins with its image's bytes, a child with its parent's. A store and a copy to the process
+-- put their bytes. A service and a copy settle pages. sbrk and munmap release pages; exec and an end release all. No other step changes a
+-- byte or removes one
 abbrev pub left_by : World → Step → Reply → Knowledge → ℕ → ℕ → Option ℕ
-left_by w (Start image) (Started t) old s a = only_if (t == s) (image_byte (image_loads image) a)
-left_by w (Exec h image) Done old s a = only_if (has_slot s (slot_on w h)) (image_byte (image_loads image) a)
-left_by w (Fork h) (Forked t) old s a = only_if (t == s) (of_slot old (slot_on w h) a)
-left_by w (Store h address width value via) Stored old s a = only_if (has_slot s (slot_on w h) && is_among address width a) (Some (byte_at (low_bytes value width) (a - address)))
-left_by w (CopyOut h address bytes) (CopiedOut n) old s a = only_if (has_slot s (slot_on w h) && is_among address n a) (Some (byte_at bytes.now (a - address)))
-left_by w (CopyOut h address bytes) (ShortOut r n) old s a = only_if (has_slot s (slot_on w h) && is_among address n a) (Some (byte_at bytes.now (a - address)))
-left_by w _ _ old s a = None
+left_by w (Start image) (Started t) old s a = if t == s then image_byte (image_loads image) a else old s a
+left_by w (Exec h image) Done old s a = if has_slot s (slot_on w h) then image_byte (image_loads image) a else old s a
+left_by w (Fork h) (Forked t) old s a = if t == s then of_slot old (slot_on w h) a else old s a
+left_by w (Store h address width value via) Stored old s a =
+    if has_slot s (slot_on w h) && is_among address width a then Some (byte_at (low_bytes value width) (a - address)) else old s a
+left_by w (CopyOut h address bytes) (CopiedOut n) old s a = put_by w h address bytes.now n old s a
+left_by w (CopyOut h address bytes) (ShortOut r n) old s a = put_by w h address bytes.now n old s a
+left_by w (CopyIn h address n) (CopiedIn bytes) old s a = settled_by w h address (length bytes.items) old s a
+left_by w (CopyIn h address n) (ShortIn r bytes) old s a = settled_by w h address (length bytes.items) old s a
+left_by w (Serve h) Ready old s a = if has_slot s (slot_on w h) && is_in_served (process_in w s) a then or_initial w s a (old s a) else old s a
+left_by w (Sbrk h delta) (OldSize n) old s a = if has_slot s (slot_on w h) && is_released n delta a then None else old s a
+left_by w (Munmap h address len) Done old s a = if has_slot s (slot_on w h) && is_unmapped address len a then None else old s a
+left_by w (Serve h) (Ended r) old s a = forgotten w h old s a
+left_by w (Exit h status) (Exited code) old s a = forgotten w h old s a
+left_by w _ _ old s a = old s a
 
-abbrev pub is_settled : Option Process → ℕ → Bool
-is_settled None page = false
-is_settled (Some p) page = is_some (get p.settled page)
-
--- the page was settled now: it begins with its initial bytes
-abbrev pub begun_by : Moment → ℕ → ℕ → Option ℕ
-begun_by m s a = only_if (is_settled (process_in m.after s) (page_of a) && not (is_settled (process_in m.before s) (page_of a))) (Some (initial_byte (m.before).files (process_in m.before s) a))
-
--- the latest byte at an address of the process in slot s; it tells of settled pages alone
+-- the latest byte at an address of the process in slot s; none if its page is not settled
 abbrev pub latest : List Moment → ℕ → ℕ → Option ℕ
 latest [] s a = None
-latest (m ∷ past) s a = or_else (left_by m.before m.step m.reply (latest past) s a) (or_else (begun_by m s a) (latest past s a))
+latest (m ∷ past) s a = left_by m.before m.step m.reply (latest past) s a
 
--- the bytes are the latest ones from an address on
+-- these bytes are the latest ones from `address` on
 abbrev pub AreLatest : List Moment → ℕ → ℕ → List ℕ → Type 0
 AreLatest past s address bytes = (i : ℕ) → i < length bytes → latest past s (address + i) ≡ Some (byte_at bytes i)
 
--- the number is that of the latest bytes, so many, the lowest first
+-- v is the little-endian number of the latest `width` bytes from `address` on
 pub record IsLatest (past : List Moment) (s address width v : ℕ) : Type 0 where
   pub bytes : List ℕ
   pub long : length bytes ≡ width
   pub theirs : v ≡ number bytes width
   pub latest_ones : AreLatest past s address bytes
 
--- what a copy to the kernel brought
+-- the bytes that a copy from the process brought
 abbrev pub bytes_in : Reply → List ℕ
 bytes_in (CopiedIn bytes) = bytes.items
 bytes_in (ShortIn r bytes) = bytes.items

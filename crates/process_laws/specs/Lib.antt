@@ -1,9 +1,10 @@
 pub mod Denied
 pub mod Apart
 pub mod Numbered
-pub mod Words
 pub mod Headline
 pub mod ScriptRuns
 pub mod Moments
+pub mod Pages
 pub mod Latest
+pub mod Words
 pub mod FilePlaces

@@ -1,4 +1,4 @@
--- What has been: the steps of a run, with what they answered and the worlds between.
+-- Moments: the steps of a run, each with its reply and the worlds before and after it.
 use Rattle.std.specs.Prelude.{ℕ, Option, None, Some, List, [], ◌∷◌, slice_get}
 use Rattle.process_model.specs.Harts.{Hart}
 use Rattle.process_model.specs.Steps.{step}
@@ -6,23 +6,23 @@ use Rattle.process_model.specs.World.{World}
 use Rattle.process_model.specs.declared.step.Reply.{Reply}
 use Rattle.process_model.specs.declared.step.Step.{Step}
 
--- a step, with the world before it, what it answered, and the world after it
+-- one step
 pub record Moment : Type 0 where
   pub before : World
   pub step : Step
   pub reply : Reply
   pub after : World
 
--- what the model answers
+-- the step as the model makes it
 abbrev pub moment_of : World → Step → Moment
 moment_of w x = let o = step w x in record { before = w; step = x; reply = o.reply; after = o.world }
 
--- the moments of a run, the newest first, after those that were
+-- the moments of a run, the newest first, in front of those that were before it
 abbrev pub moments_from : List Moment → World → List Step → List Moment
 moments_from past w [] = past
 moments_from past w (x ∷ xs) = let m = moment_of w x in moments_from (m ∷ past) m.after xs
 
--- the slot of the process on a hart
+-- the slot of the process on a hart, if it has one
 
 abbrev pub slot_at : Option Hart → Option ℕ
 slot_at None = None

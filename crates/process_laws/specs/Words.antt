@@ -1,18 +1,26 @@
 -- The words of the headline.
-use Rattle.std.specs.Prelude.{◌≡◌, ◌≢◌, ℕ, Bool, true, false, ◌%◌, Option, None, Some, List, length, option_map, slice_get}
+use Rattle.std.specs.Prelude.{◌≡◌, ◌≢◌, ◌⊎◌, ℕ, Bool, true, false, ◌+◌, ◌<◌, ◌%◌, ◌==◌, Option, None, Some, List, length, option_map, slice_get, if◌then◌else◌}
+use Rattle.std.specs.Borrow.{Bor}
 use Rattle.process_laws.specs.Denied.{IsFirst}
 use Rattle.process_laws.specs.Moments.{Moment, slot_on}
+use Rattle.process_laws.specs.FilePlaces.{file_bytes}
+use Rattle.process_laws.specs.Latest.{byte_at, byte_had}
+use Rattle.process_laws.specs.Pages.{Grant, grant as grant_of, grant_after, has_fork_mark, has_stored_mark, is_ready_page, size_after}
+use Rattle.process_model.specs.Files.{File}
 use Rattle.process_model.specs.Process.{Process, regions}
-use Rattle.process_model.specs.Regions.{Region, region_at}
-use Rattle.process_model.specs.World.{World, process_in}
+use Rattle.process_model.specs.Regions.{file, Region, region_at, shared_mapping}
+use Rattle.process_model.specs.World.{World, is_unserved_access, process_in}
+use Rattle.process_model.specs.declared.image.Image.{Image}
 use Rattle.process_model.specs.declared.phase.Phase.{Phase}
+use Rattle.process_model.specs.declared.phase.Phase.TheVariants.{Kernel}
 use Rattle.process_model.specs.declared.step.Refusal.{Refusal}
 use Rattle.process_model.specs.declared.step.Refusal.TheVariants as refusal
 use Rattle.process_model.specs.declared.step.Reply.{Reply}
-use Rattle.process_model.specs.declared.step.Reply.TheVariants.{CopiedIn, CopiedOut, Ended, Ready, Refused, ShortIn, ShortOut, Stored, Value}
+use Rattle.process_model.specs.declared.step.Reply.TheVariants.{CopiedIn, CopiedOut, Done, Ended, Exited, Fault, Filled, Forked, InFrame, MappedAt, OldSize, Ready, Refused, ShortIn, ShortOut, Started, Stored, Value}
 use Rattle.process_model.specs.declared.step.Step.{Step}
-use Rattle.process_model.specs.declared.step.Step.TheVariants.{CopyIn, CopyOut, Exec, Exit, Fetch, Fork, Load, Mmap, Munmap, Sbrk, Serve, Start, Store, Trap}
+use Rattle.process_model.specs.declared.step.Step.TheVariants.{CopyIn, CopyOut, Evict, Exec, Exit, Fetch, Fill, Fork, Load, Mmap, Munmap, Next, Sbrk, Serve, Start, Store, Switch, TrampolineFetch, Trap}
 use Rattle.sv39_entry.specs.Address.{page_of}
+use Rattle.sv39_entry.specs.Causes.{misaligned_cause, page_fault_cause}
 use Rattle.sv39_entry.specs.declared.access.Access.{Access}
 use Rattle.sv39_entry.specs.declared.access.Access.TheVariants as access
 use Rattle.sv39_entry.specs.declared.rule.Rule.{Rule}
@@ -20,7 +28,7 @@ use Rattle.sv39_entry.specs.declared.rule.Rule.TheVariants.{NoFrame}
 
 -- steps
 
--- the step was made
+-- the reply is no refusal: the step was made
 abbrev pub IsMade : Reply → Type 0
 IsMade r = (e : Refusal) → r ≢ Refused e
 
@@ -29,11 +37,14 @@ pub record IsOn (w : World) (h s : ℕ) (p : Process) : Type 0 where
   pub there : slot_on w h ≡ Some s
   pub lives : process_in w s ≡ Some p
 
--- the hart is in that phase
-abbrev pub IsIn : World → ℕ → Phase → Type 0
-IsIn w h phase = option_map (λ hart. hart.phase) (slice_get w.harts h) ≡ Some phase
+-- hart h is in that phase
+abbrev pub phase_on : World → ℕ → Option Phase
+phase_on w h = option_map (λ hart. hart.phase) (slice_get w.harts h)
 
--- the hart whose process makes the step, or for whose process the kernel makes it
+abbrev pub IsIn : World → ℕ → Phase → Type 0
+IsIn w h phase = phase_on w h ≡ Some phase
+
+-- the hart whose process makes the step, or for whose process the kernel does
 abbrev pub maker : Step → Option ℕ
 maker (Trap h) = Some h
 maker (Fetch h address via) = Some h
@@ -50,7 +61,45 @@ maker (CopyOut h address bytes) = Some h
 maker (Exit h status) = Some h
 maker _ = None
 
--- the step is a call of the kernel for the process on hart h
+-- the hart whose phase or process the step may change
+abbrev pub moved_hart : Step → Reply → Option ℕ
+moved_hart (Switch h slot) r = Some h
+moved_hart (Next h) r = Some h
+moved_hart (Trap h) r = Some h
+moved_hart x (Fault cause) = maker x
+moved_hart x (Ended rule) = maker x
+moved_hart x (Exited status) = maker x
+moved_hart x r = None
+
+-- the reply says that the process ended
+abbrev pub is_end : Reply → Bool
+is_end (Ended rule) = true
+is_end (Exited status) = true
+is_end _ = false
+
+-- the reply says that the access faulted
+abbrev pub is_fault : Reply → Bool
+is_fault (Fault cause) = true
+is_fault _ = false
+
+-- the step may write back pages of shared mappings
+abbrev pub writes_back : Step → Reply → Bool
+writes_back (Munmap h address len) Done = true
+writes_back (Exec h image) Done = true
+writes_back x r = is_end r
+
+-- the reply says that a process began in slot s
+abbrev pub is_born : Reply → ℕ → Bool
+is_born (Started t) s = t == s
+is_born (Forked t) s = t == s
+is_born r s = false
+
+-- the kernel may be called for process p on hart h: the hart is in the kernel, and p waits for no service
+pub record MayCall (w : World) (h : ℕ) (p : Process) : Type 0 where
+  pub in_kernel : IsIn w h Kernel
+  pub quiet : is_unserved_access p.pending ≡ false
+
+-- the step is a kernel call for the process on hart h
 pub data Calls (h : ℕ) : Step → Type 0 where
   fork : Calls h (Fork h)
   exec : {image : _} → Calls h (Exec h image)
@@ -61,15 +110,25 @@ pub data Calls (h : ℕ) : Step → Type 0 where
   copy_out : {address : ℕ} {bytes : _} → Calls h (CopyOut h address bytes)
   exit : {status : _} → Calls h (Exit h status)
 
+-- the step is a kernel copy of n bytes for the process on hart h
+pub data CopiesBytes (h : ℕ) : ℕ → Step → Type 0 where
+  copy_in : {address n : ℕ} → CopiesBytes h n (CopyIn h address n)
+  copy_out : {address : ℕ} {bytes : Bor (List ℕ)} → CopiesBytes h (length bytes.now) (CopyOut h address bytes)
+
+-- the step is a start or an exec of the image
+pub data Loads (image : Image) : Step → Type 0 where
+  start : Loads image (Start image)
+  exec : {h : ℕ} → Loads image (Exec h image)
+
 -- accesses
 
--- a fetch, a load or a store of so many bytes at an address
+-- a fetch, a load or a store of `width` bytes at `address`
 pub record Asked : Type 0 where
   pub access : Access
   pub address : ℕ
   pub width : ℕ
 
--- the step is that access, by the user on hart h: by what the entry with a number says, or by what the memory says now
+-- the step is that user access on hart h: by buffer entry n (`Some n`), or by a walk (`None`)
 pub data Asks (h : ℕ) (via : Option ℕ) : Asked → Step → Type 0 where
   fetch : {address : ℕ} → Asks h via (record { access = access.Fetch; address = address; width = 4 }) (Fetch h address via)
   load : {address width : ℕ} → Asks h via (record { access = access.Load; address = address; width = width }) (Load h address width via)
@@ -80,34 +139,85 @@ has_right r access.Fetch = r.executes
 has_right r access.Load = r.reads
 has_right r access.Store = r.writes
 
--- granted: a region of the process has the page and grants the right, and the address is aligned
+-- a region of p holds the page and grants the right, and the address is a multiple of the width
 pub record IsGranted (p : Process) (a : Asked) : Type 0 where
   pub region : Region
   pub has : region_at (regions p) (page_of a.address) ≡ Some region
   pub right : has_right region a.access ≡ true
   pub aligned : a.address % a.width ≡ 0
 
--- the rule is the first that forbids the access
+-- its page is settled and ready for it (`is_ready` in `Pages`)
+abbrev pub IsResident : Process → Asked → Type 0
+IsResident p a = is_ready_page p a.access (page_of a.address) ≡ true
+
+-- the rule is the first of eight that forbids the access (`Denied`)
 abbrev pub Forbids : Process → Asked → Rule → Type 0
 Forbids p a rule = IsFirst (regions p) a.access a.address a.width rule
 
--- the process, where it waits for the service of an access that faulted
+-- p, with the access a pending and not yet served
 abbrev pub waiting : Process → Asked → Process
 waiting p a = record p { pending = Some (record { access = a.access; address = a.address; width = a.width; served = false }) }
 
--- one byte of a kernel copy
+-- process p makes the access, and it is not refused
+pub record Tries (m : Moment) (h s : ℕ) (p : Process) (a : Asked) : Type 0 where
+  pub on : IsOn m.before h s p
+  pub via : Option ℕ
+  pub asks : Asks h via a m.step
+  pub made : IsMade m.reply
+
+-- the kernel serves the access of p, and is not refused
+pub record Serves (m : Moment) (h s : ℕ) (p : Process) (a : Asked) : Type 0 where
+  pub on : IsOn m.before h s (waiting p a)
+  pub serves : m.step ≡ Serve h
+  pub made : IsMade m.reply
+
+-- the cause of its fault: a misaligned access has that cause, any other the page fault's
+abbrev pub cause : Asked → ℕ
+cause a = if a.address % a.width == 0 then page_fault_cause a.access else misaligned_cause a.access
+
+-- one byte of a kernel copy, as an access
 abbrev pub byte : Access → ℕ → Asked
 byte access address = record { access = access; address = address; width = 1 }
 
 -- replies
 
--- what an access answers where it is granted
+-- the answers to an access that succeeds
 pub data IsAnswer : Access → Reply → Type 0 where
   fetched : {v : ℕ} → IsAnswer access.Fetch (Value v)
   loaded : {v : ℕ} → IsAnswer access.Load (Value v)
   stored : IsAnswer access.Store Stored
 
--- of kernel copies: how many bytes were copied, and what stopped it
+-- the replies that a step may get: a refusal, or one of its own
+abbrev pub is_reply : Step → Reply → Bool
+is_reply x (Refused e) = true
+is_reply (Start image) (Started s) = true
+is_reply (Switch h slot) Done = true
+is_reply (Trap h) Done = true
+is_reply (Next h) Done = true
+is_reply (Fill h address) (Filled n) = true
+is_reply (Evict h n) Done = true
+is_reply (Fetch h address via) (Value v) = true
+is_reply (Fetch h address via) (Fault cause) = true
+is_reply (Load h address width via) (Value v) = true
+is_reply (Load h address width via) (Fault cause) = true
+is_reply (Store h address width value via) Stored = true
+is_reply (Store h address width value via) (Fault cause) = true
+is_reply (TrampolineFetch h offset via) (InFrame n) = true
+is_reply (Serve h) Ready = true
+is_reply (Serve h) (Ended rule) = true
+is_reply (Fork h) (Forked s) = true
+is_reply (Exec h image) Done = true
+is_reply (Sbrk h delta) (OldSize n) = true
+is_reply (Mmap h len protection flags n) (MappedAt address) = true
+is_reply (Munmap h address len) Done = true
+is_reply (CopyIn h address n) (CopiedIn bytes) = true
+is_reply (CopyIn h address n) (ShortIn rule bytes) = true
+is_reply (CopyOut h address bytes) (CopiedOut n) = true
+is_reply (CopyOut h address bytes) (ShortOut rule n) = true
+is_reply (Exit h status) (Exited code) = true
+is_reply x r = false
+
+-- a kernel copy: how many bytes were copied, and which rule stopped it
 
 abbrev pub copied : Reply → ℕ
 copied (CopiedIn bytes) = length bytes.items
@@ -130,7 +240,7 @@ tells_no_frame (ShortIn NoFrame bytes) = true
 tells_no_frame (ShortOut NoFrame n) = true
 tells_no_frame _ = false
 
--- the steps for which frames are taken, beside exec
+-- the steps that take frames, exec aside
 abbrev pub takes_frames : Step → Bool
 takes_frames (Start image) = true
 takes_frames (Serve h) = true
@@ -139,20 +249,43 @@ takes_frames (CopyIn h address n) = true
 takes_frames (CopyOut h address bytes) = true
 takes_frames _ = false
 
--- the same world in a memory of n frames
+-- the same world with n frames of memory
 abbrev pub in_memory : World → ℕ → World
 in_memory w n = record w { frames = n }
 
--- what has been
+-- processes that begin
 
--- the process in slot s was made ready for an access, and became p by it
-pub record WasServed (past : List Moment) (s : ℕ) (a : Asked) (p : Process) : Type 0 where
-  pub moment : Moment
-  pub place : ℕ
-  pub there : slice_get past place ≡ Some moment
-  pub hart : ℕ
-  pub process : Process
-  pub on : IsOn moment.before hart s (waiting process a)
-  pub serves : moment.step ≡ Serve hart
-  pub ready : moment.reply ≡ Ready
-  pub became : process_in moment.after s ≡ Some p
+-- a process that was started: each page has its image's grant, and no mark; it waits for nothing
+pub record Begins (m : Moment) (p : Process) : Type 0 where
+  pub grants : (page : ℕ) → grant_of p page ≡ grant_after m.step m.reply page
+  pub unmarked : (page : ℕ) → (has_fork_mark p page ≡ false) × (has_stored_mark p page ≡ false)
+  pub quiet : is_unserved_access p.pending ≡ false
+  pub size : p.size ≡ size_after m.step m.reply 0
+
+-- the child of a fork, its bytes aside: `latest` says that they are its parent's
+pub record IsChild (p c : Process) : Type 0 where
+  pub same : regions c ≡ regions p
+  pub base : c.heap_base ≡ p.heap_base
+  pub size : c.size ≡ p.size
+  pub quiet : is_unserved_access c.pending ≡ false
+  pub unstored : (page : ℕ) → has_stored_mark c page ≡ false
+
+-- files
+
+-- b is a byte of p on a page with the stored mark, in a writable shared mapping, at the address that maps byte i of file n
+pub record WroteBack (p : Process) (n i b : ℕ) : Type 0 where
+  pub address : ℕ
+  pub grant : Grant
+  pub has : grant_of p (page_of address) ≡ Some grant
+  pub writes : grant.writes ≡ true
+  pub shared : grant.kind ≡ shared_mapping
+  pub offset : ℕ
+  pub of_file : grant.source ≡ file n offset
+  pub place : offset + address % 4096 ≡ i
+  pub stored : has_stored_mark p (page_of address) ≡ true
+  pub byte : byte_had (Some p) address ≡ Some b
+
+-- each file keeps its length, and each byte of it stays or becomes such a byte
+pub record Written (p : Process) (files later : List File) : Type 0 where
+  pub long : (n : ℕ) → length (file_bytes later n) ≡ length (file_bytes files n)
+  pub bytes : (n i : ℕ) → i < length (file_bytes files n) → (byte_at (file_bytes later n) i ≡ byte_at (file_bytes files n) i) ⊎ WroteBack p n i (byte_at (file_bytes later n) i)

@@ -7,6 +7,7 @@ mod accounts;
 mod files;
 mod headline;
 mod places;
+mod refusals;
 mod regions;
 mod service;
 mod worlds;
@@ -18,6 +19,7 @@ pub use files::{
 };
 pub use headline::{headline_holds, script_tells_a_run};
 pub use places::{no_room_means_none, place_is_the_greatest, unmapping_leaves_one_run};
+pub use refusals::wrong_models_are_refused;
 pub use regions::{first_rule_is_first, regions_never_meet, regions_stay_in_order};
 pub use service::{made_resident_is_resident, returned_page_is_initial};
 pub use worlds::copy_numbers_are_new;

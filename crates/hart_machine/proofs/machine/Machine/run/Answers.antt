@@ -4,7 +4,7 @@ use Rattle.process_laws.specs.Headline.{Headline}
 use Rattle.process_model.specs.Steps.{run}
 use Rattle.process_model.specs.World.{booted}
 use Rattle.process_model.specs.declared.step.Reply.{Reply}
-use Rattle.hart_machine.proofs.ListedSteps.{HasRun, all_run, next_left, none_left, one_more}
+use Rattle.hart_machine.proofs.ListedSteps.{HasRun, all_run, next_left, none_left, one_more, run_buffers, run_true}
 use Rattle.hart_machine.proofs.machine.Machine.run.Goals as goal
 
 pub step-requires : goal.step-requires
@@ -20,19 +20,27 @@ steps-preserved c = record {
   has_run = λ w is.
       let all = c.args.steps.now in
       let i = c.steps.step-index in
-      let before = next_left c.steps.self all i c.step-item.result c.steps.replies.items w (omega (arith, c.steps-test.true)) c.step-item.is (c.steps.invariant.has_run w is) in
-      subst (λ rs. HasRun c.step.new.self all (drop (i + 1) all) rs w) (sym c.push_reserved.ensures.items)
-      (one_more c.steps.self c.step.new.self all (drop (i + 1) all) c.step-item.result c.steps.replies.items c.step.result w before c.step.ensures.made);
+      let before = next_left c.args.self.now c.steps.self all i c.step-item.result c.steps.replies.items w (omega (arith, c.steps-test.true)) c.step-item.is (c.steps.invariant.has_run w is) in
+      subst (λ rs. HasRun c.args.self.now c.step.new.self all (drop (i + 1) all) rs w) (sym c.push_reserved.ensures.items)
+      (one_more c.args.self.now c.steps.self c.step.new.self all (drop (i + 1) all) c.step-item.result c.steps.replies.items c.step.result w before c.step.ensures.made c.step.ensures.each_buffer);
 }
 
 pub returns-clause-replies : goal.returns-clause-replies
-returns-clause-replies c = λ w is. (all_run c.steps.self c.args.steps.now c.steps.replies.items w (none_left c.steps.self c.args.steps.now c.steps.step-index c.steps.replies.items w (omega (arith, c.steps-test.false)) (c.steps.invariant.has_run w is))).0
+returns-clause-replies c = λ w is. (all_run c.args.self.now c.steps.self c.args.steps.now c.steps.replies.items w (none_left c.args.self.now c.steps.self c.args.steps.now c.steps.step-index c.steps.replies.items w (omega (arith, c.steps-test.false)) (c.steps.invariant.has_run w is))).0
 
 pub returns-clause-world : goal.returns-clause-world
-returns-clause-world c = λ w is. (all_run c.steps.self c.args.steps.now c.steps.replies.items w (none_left c.steps.self c.args.steps.now c.steps.step-index c.steps.replies.items w (omega (arith, c.steps-test.false)) (c.steps.invariant.has_run w is))).1
+returns-clause-world c = λ w is. (all_run c.args.self.now c.steps.self c.args.steps.now c.steps.replies.items w (none_left c.args.self.now c.steps.self c.args.steps.now c.steps.step-index c.steps.replies.items w (omega (arith, c.steps-test.false)) (c.steps.invariant.has_run w is))).1
 
 pub returns-clause-headline : goal.returns-clause-headline
 returns-clause-headline c config files earlier is =
     let w = (run (booted config files) earlier).world in
-    let replies = (all_run c.steps.self c.args.steps.now c.steps.replies.items w (none_left c.steps.self c.args.steps.now c.steps.step-index c.steps.replies.items w (omega (arith, c.steps-test.false)) (c.steps.invariant.has_run w is))).0 in
+    let replies = (all_run c.args.self.now c.steps.self c.args.steps.now c.steps.replies.items w (none_left c.args.self.now c.steps.self c.args.steps.now c.steps.step-index c.steps.replies.items w (omega (arith, c.steps-test.false)) (c.steps.invariant.has_run w is))).0 in
     subst (λ (rs : List Reply). Headline config files earlier c.args.steps.now rs) (sym replies) (headline_holds config files earlier c.args.steps.now)
+
+pub returns-clause-each_buffer : goal.returns-clause-each_buffer
+returns-clause-each_buffer c = λ w is.
+    run_buffers c.args.self.now c.steps.self c.args.steps.now c.steps.replies.items w (none_left c.args.self.now c.steps.self c.args.steps.now c.steps.step-index c.steps.replies.items w (omega (arith, c.steps-test.false)) (c.steps.invariant.has_run w is))
+
+pub returns-clause-identifiers : goal.returns-clause-identifiers
+returns-clause-identifiers c = λ w is asid.
+    run_true c.args.self.now c.steps.self c.args.steps.now c.steps.replies.items w (none_left c.args.self.now c.steps.self c.args.steps.now c.steps.step-index c.steps.replies.items w (omega (arith, c.steps-test.false)) (c.steps.invariant.has_run w is)) asid

@@ -9,5 +9,5 @@ abbrev pub invariant-steps : goal.invariant-steps
 invariant-steps l = record {
   room : length l.steps ≤ vec_capacity l.replies;
   made : vec_len l.replies ≡ l.step-index;
-  has_run : (w : World) → IsIn l.initial.self w → HasRun l.self l.steps (drop l.step-index l.steps) l.replies.items w;
+  has_run : (w : World) → IsIn l.initial.self w → HasRun l.initial.self l.self l.steps (drop l.step-index l.steps) l.replies.items w;
 }

@@ -1,0 +1,200 @@
+-- What a process writes back: bytes that it stored to shared mappings, each to its place in the file, and no others.
+use Rattle.std.proofs.Common.{◌≡◌, ◌⊎◌, ℕ, true, false, cond, ◌&&◌, ◌+◌, ◌-◌, ◌*◌, ◌%◌, ◌<◌, ◌≤◌, inl, inr, refl, sym, ap, subst, ◌∙◌, arith, List, [], ◌∷◌, ◌++◌, Option, None, Some, length, take, drop}
+use Rattle.std.specs.Prelude.{T, fold, nat_le, nat_lt, slice_get}
+use Rattle.std.specs.Ordering.{nat_cmp}
+use Rattle.std.specs.Cmp.{unsigned_tied}
+use Rattle.std.specs.FinMap.Entries.{find, is_sorted}
+use Rattle.std.proofs.lemmas.Bool.{and_parts, cases_eq, cases_lt, eq-eqb, leb-true, ltb-true, ne_eqb}
+use Rattle.std.proofs.lemmas.Bool.Decides.{nat_tests}
+use Rattle.std.proofs.lemmas.List.{length-append, length-take, get_or-append_right, get_or-drop, get_or-take}
+use Rattle.std.proofs.lemmas.Option.{same_Some}
+use Rattle.process_laws.proofs.Givens.{past_heap}
+use Rattle.process_laws.proofs.Grants.{Found, here, skipped}
+use Rattle.process_laws.proofs.PageBytes.{AllSized, bytes_on}
+use Rattle.process_laws.proofs.PageCopies.{first, found_above, second}
+use Rattle.process_laws.proofs.Untouched.{get_set_other}
+use Rattle.process_laws.proofs.WrittenBack.{below_stays, length_stays, over_is, page_goes}
+use Rattle.process_laws.specs.FilePlaces.{file_bytes}
+use Rattle.process_laws.specs.Latest.{byte_at, page_byte}
+use Rattle.process_laws.specs.Pages.{grant, grant_in, has_mark, has_stored_mark, pages_on}
+use Rattle.process_laws.specs.Words.{Written, WroteBack}
+use Rattle.process_model.specs.Bytes.{pages_for, write_bytes}
+use Rattle.process_model.specs.Files.{bytes_of, File, with_file_at, with_page_written, written_over}
+use Rattle.process_model.specs.Mappings.{all_written_back, is_written_back, mapping_around, mapping_written_back, page_written, with_written, written_back}
+use Rattle.process_model.specs.Order.{IsInOrder, Row}
+use Rattle.process_model.specs.PageMap.{get}
+use Rattle.process_model.specs.Process.{Page, Process}
+use Rattle.process_model.specs.Regions.{end_of, file, image, is_shared_kind, keeps_stores, Region, RegionKind, guard, heap, private_mapping, segment, shared_mapping, Source, stack, zeros}
+use Rattle.sv39_entry.specs.Address.{page_of, trapframe_page}
+
+-- behind the bytes that are written over nothing changes
+above_stays : (bs page : List ℕ) (o i : ℕ) → o + length page ≤ i → i < length bs → byte_at (written_over bs o page) i ≡ byte_at bs i
+above_stays bs page o i past less =
+    let front = length-take o bs in
+    let most = length-append (take o bs) page in
+    let back : o + length page + (i - (o + length page)) ≡ i = omega (arith, past) in
+    get_or-take (length bs) (write_bytes bs o page) i 0 less
+    ∙ get_or-append_right (take o bs ++ page) (drop (o + length page) bs) (o + length page) i 0 (omega (arith, front, most, past, less)) past
+    ∙ get_or-drop (o + length page) bs (i - (o + length page)) 0
+    ∙ ap (byte_at bs) back
+
+other_file : (files : List File) (n k o : ℕ) (page : List ℕ) → (n ≡ k → ⊥) → file_bytes (with_page_written files n o page) k ≡ file_bytes files k
+other_file files n k o page apart = by (slice_get files n)
+  where
+    by : (x : Option File) → bytes_of (slice_get (with_file_at files n x o page) k) ≡ bytes_of (slice_get files k)
+    by None = refl
+    by (Some f) = ap bytes_of (get_set_other files n k (record f { bytes = written_over f.bytes o page }) apart)
+
+shared_kind : (kind : RegionKind) → is_shared_kind kind ≡ true → kind ≡ shared_mapping
+shared_kind segment e = absurd cc
+shared_kind guard e = absurd cc
+shared_kind stack e = absurd cc
+shared_kind heap e = absurd cc
+shared_kind shared_mapping e = refl
+shared_kind private_mapping e = absurd cc
+
+pub none_written : (p : Process) (files : List File) → Written p files files
+none_written p files = record { long = λ n. refl; bytes = λ n i less. inl refl }
+
+written_on : (p : Process) (one two three : List File) → Written p one two → Written p two three → Written p one three
+written_on p one two three f g = record {
+  long = λ n. g.long n ∙ f.long n;
+  bytes = λ n i less. elim (g.bytes n i (let same = f.long n in omega (arith, same, less))) [
+    | inl same ↦ elim (f.bytes n i less) [
+      | inl was ↦ inl (same ∙ was)
+      | inr wrote ↦ inr (subst (WroteBack p n i) (sym same) wrote)
+    ]
+    | inr wrote ↦ inr wrote
+  ];
+}
+
+module _ (p : Process) (sized : AllSized p.settled) where
+  -- one page
+  module _ (m : Region) (e : ℕ × Page) (there : get p.settled e.0 ≡ Some e.1) (grants : grant p e.0 ≡ grant_in (Some m) e.0) (due : is_written_back m e.1 ≡ true) where
+    size : length (e.1).bytes ≡ 4096
+    size = sized.size e.0 (e.1).bytes (ap bytes_on there)
+
+    wrote : (n offset i b : ℕ) → m.source ≡ file n offset → i < 4096 → byte_at (e.1).bytes i ≡ b → WroteBack p n (offset + 4096 * (e.0 - m.first) + i) b
+    wrote n offset i b source few is =
+        let both = and_parts (keeps_stores (Some m)) (e.1).stored_mark due in
+        let keeps = and_parts m.writes (is_shared_kind m.kind) both.0 in
+        let page : page_of (4096 * e.0 + i) ≡ e.0 = omega (arith, few) in
+        let place : (4096 * e.0 + i) % 4096 ≡ i = omega (arith, few) in
+        record {
+          address = 4096 * e.0 + i;
+          grant = record { reads = m.reads; writes = m.writes; executes = m.executes; kind = m.kind; source = pages_on m.source (e.0 - m.first) };
+          has = ap (grant p) page ∙ grants;
+          writes = keeps.0;
+          shared = shared_kind m.kind keeps.1;
+          offset = offset + 4096 * (e.0 - m.first);
+          of_file = ap (λ s. pages_on s (e.0 - m.first)) source;
+          place = ap (λ k. offset + 4096 * (e.0 - m.first) + k) place;
+          stored = ap (has_stored_mark p) page ∙ ap (has_mark (λ x. x.stored_mark)) there ∙ both.1;
+          byte = ap (λ k. page_byte (get p.settled k) ((4096 * e.0 + i) % 4096)) page ∙ ap (λ k. page_byte (get p.settled e.0) k) place ∙ ap (λ o. page_byte o i) there ∙ ap Some is;
+        }
+
+    over_written : (files : List File) (n offset : ℕ) → m.source ≡ file n offset → Written p files (with_page_written files n (offset + 4096 * (e.0 - m.first)) (e.1).bytes)
+    over_written files n offset source =
+        let o = offset + 4096 * (e.0 - m.first) in
+        let bs = file_bytes files n in
+        let page = (e.1).bytes in
+        let goes = page_goes files n o page in
+        record {
+          long = λ k. elim (cases_eq n k) [
+            | inl same ↦ subst (λ j. length (file_bytes (with_page_written files n o page) j) ≡ length (file_bytes files j)) same (ap length goes ∙ length_stays bs page o)
+            | inr apart ↦ ap length (other_file files n k o page apart)
+          ];
+          bytes = λ k i. elim (cases_eq n k) [
+            | inl same ↦ subst (λ j. i < length (file_bytes files j) → (byte_at (file_bytes (with_page_written files n o page) j) i ≡ byte_at (file_bytes files j) i) ⊎ WroteBack p j i (byte_at (file_bytes (with_page_written files n o page) j) i)) same
+                (λ less. here_written files n offset source i less)
+            | inr apart ↦ λ less. inl (ap (λ ys. byte_at ys i) (other_file files n k o page apart))
+          ];
+        }
+      where
+        here_written : (files : List File) (n offset : ℕ) → m.source ≡ file n offset → (i : ℕ) → i < length (file_bytes files n)
+            → (byte_at (file_bytes (with_page_written files n (offset + 4096 * (e.0 - m.first)) (e.1).bytes) n) i ≡ byte_at (file_bytes files n) i)
+            ⊎ WroteBack p n i (byte_at (file_bytes (with_page_written files n (offset + 4096 * (e.0 - m.first)) (e.1).bytes) n) i)
+        here_written files n offset source i less =
+            let o = offset + 4096 * (e.0 - m.first) in
+            let bs = file_bytes files n in
+            let page = (e.1).bytes in
+            let now = ap (λ ys. byte_at ys i) (page_goes files n o page) in
+            let long = size in
+            elim (cases_lt i o) [
+              | inl low ↦ inl (now ∙ below_stays bs page o i low less)
+              | inr from ↦ elim (cases_lt i (o + length page)) [
+                | inl inside ↦
+                    let at : o + (i - o) ≡ i = omega (arith, from) in
+                    let is : byte_at (file_bytes (with_page_written files n o page) n) i ≡ byte_at page (i - o) = now ∙ ap (byte_at (written_over bs o page)) (sym at) ∙ over_is bs page o (i - o) (omega (arith, from, inside)) (omega (arith, from, less)) in
+                    inr (subst (λ k. WroteBack p n k (byte_at (file_bytes (with_page_written files n o page) n) i)) at (wrote n offset (i - o) (byte_at (file_bytes (with_page_written files n o page) n) i) source (omega (arith, from, inside, long)) (sym is)))
+                | inr past ↦ inl (now ∙ above_stays bs page o i past less)
+              ]
+            ]
+
+    source_written : (files : List File) (s : Source) → m.source ≡ s → Written p files (page_written s files (4096 * (e.0 - m.first)) (e.1).bytes)
+    source_written files zeros is = none_written p files
+    source_written files image is = none_written p files
+    source_written files (file n offset) is = over_written files n offset is
+
+  -- all pages of a run
+  module _ (m : Region) (from end : ℕ) (grants : (page : ℕ) → from ≤ page → page < end → grant p page ≡ grant_in (Some m) page) where
+    one_written : (files : List File) (e : ℕ × Page) → get p.settled e.0 ≡ Some e.1 → Written p files (with_written m from end files e)
+    one_written files e there = elim (nat_le from e.0 && nat_lt e.0 end && is_written_back m e.1) as (λ b. (nat_le from e.0 && nat_lt e.0 end && is_written_back m e.1) ≡ b
+        → Written p files (cond b (page_written m.source files (4096 * (e.0 - m.first)) (e.1).bytes) files)) [
+          | true ↦ λ t.
+              let outer = and_parts (nat_le from e.0 && nat_lt e.0 end) (is_written_back m e.1) t in
+              let inner = and_parts (nat_le from e.0) (nat_lt e.0 end) outer.0 in
+              source_written m e there (grants e.0 (leb-true from e.0 inner.0) (ltb-true e.0 end inner.1)) outer.1 files m.source refl
+          | false ↦ λ t. none_written p files
+        ] refl
+
+    all_written : (es : List (ℕ × Page)) (files : List File) → T (is_sorted nat_cmp es) → ((k : ℕ) (v : Page) → find nat_cmp k es ≡ Some v → get p.settled k ≡ Some v) → Written p files (fold (with_written m from end) files es)
+    all_written [] files rising sub = none_written p files
+    all_written (e ∷ es) files rising sub =
+        written_on p files (with_written m from end files e) (fold (with_written m from end) (with_written m from end files e) es)
+        (one_written files e (sub e.0 e.1 (rw (unsigned_tied e.0 e.0, eq-eqb e.0 e.0 refl) refl)))
+        (all_written es (with_written m from end files e) (second _ _ rising) (λ k v there.
+        let above = found_above e.0 k v es (first _ _ rising) there in
+        sub k v (rw (unsigned_tied k e.0, ne_eqb k e.0 (λ same. omega (arith, above, same))) there)))
+
+    pub run_written : (files : List File) → Written p files (written_back files p m from end)
+    run_written files = all_written p.settled.entries files p.settled.sorted (λ k v there. there)
+
+  -- and of all mappings
+  module _ (order : IsInOrder p) where
+    mappings_written : (low high : ℕ) (ms : List Region) (files : List File) → pages_for p.size ≤ low → Row 1 low ms high → ((page : ℕ) → low ≤ page → Found p.mappings page ≡ Found ms page) → Written p files (fold (mapping_written_back p) files ms)
+    mappings_written low high [] files base row sub = none_written p files
+    mappings_written low high (m ∷ ms) files base row sub =
+        let start = row.0 in
+        let some = row.1 in
+        written_on p files (mapping_written_back p files m) (fold (mapping_written_back p) (mapping_written_back p files m) ms)
+        (run_written m m.first (end_of m)
+        (λ page from to. past_heap p order page p.mappings (omega (arith, base, start, from)) ∙ sub page (omega (arith, start, from)) ∙ here m ms page (grind (arith, nat_tests, from, to))) files)
+        (mappings_written (end_of m) high ms (mapping_written_back p files m) (omega (arith, base, start, some)) row.2
+        (λ page from. sub page (omega (arith, start, some, from)) ∙ skipped m ms page (grind (arith, nat_tests, from))))
+
+    pub end_written : (files : List File) → Written p files (all_written_back files p)
+    end_written files = mappings_written (pages_for p.size) trapframe_page p.mappings files (omega arith) order.above (λ page from. refl)
+
+    around_found : (low high first_page end page : ℕ) (ms : List Region) (m : Region) → first_page ≤ page → page < end → Row 1 low ms high → mapping_around ms first_page end ≡ Some m → (low ≤ page) × (Found ms page ≡ grant_in (Some m) page)
+    around_found low high first_page end page [] m from to row e = absurd cc
+    around_found low high first_page end page (x ∷ ms) m from to row e =
+        elim (nat_le x.first first_page && nat_le end (end_of x)) as (λ t. (nat_le x.first first_page && nat_le end (end_of x)) ≡ t → cond t (Some x) (mapping_around ms first_page end) ≡ Some m
+        → (low ≤ page) × (Found (x ∷ ms) page ≡ grant_in (Some m) page)) [
+          | true ↦ λ fits is.
+              let parts = and_parts (nat_le x.first first_page) (nat_le end (end_of x)) fits in
+              let begin = leb-true x.first first_page parts.0 in
+              let stop = leb-true end (end_of x) parts.1 in
+              let start = row.0 in
+              (omega (arith, start, begin, from), here x ms page (grind (arith, nat_tests, begin, stop, from, to)) ∙ ap (λ (r : Region). grant_in (Some r) page) (same_Some x m is))
+          | false ↦ λ fits is.
+              let rest = around_found (end_of x) high first_page end page ms m from to row.2 is in
+              let start = row.0 in
+              let past = rest.0 in
+              (omega (arith, start, past), skipped x ms page (grind (arith, nat_tests, past)) ∙ rest.1)
+        ] refl e
+
+    pub unmap_written : (m : Region) (from end : ℕ) (files : List File) → mapping_around p.mappings from end ≡ Some m → Written p files (written_back files p m from end)
+    unmap_written m from end files around = run_written m from end (λ page start stop.
+        let k = around_found (pages_for p.size) trapframe_page from end page p.mappings m start stop order.above around in
+        past_heap p order page p.mappings k.0 ∙ k.1) files

@@ -1,0 +1,223 @@
+-- Harts that a step does not move, and files that it does not write back to.
+use Rattle.std.proofs.Common.{◌≡◌, ◌≢◌, ◌==◌, ℕ, Bool, true, false, refl, sym, ap, ◌∙◌, inl, inr, List, Option, None, Some}
+use Rattle.std.specs.Prelude.{option_map, Result, Ok, Err, slice_get, slice_set}
+use Rattle.std.proofs.lemmas.Bool.{cases_eq, eq-eqb, false≢true}
+use Rattle.std.proofs.lemmas.Option.{slice_get-map}
+use Rattle.process_laws.proofs.Going.{set_there}
+use Rattle.process_laws.proofs.HeldBytes.{none_some}
+use Rattle.process_laws.proofs.OnHarts.{access_good, its_good, kernel_good, on_hart_good}
+use Rattle.process_laws.proofs.Untouched.{get_set_other}
+use Rattle.process_laws.specs.Moments.{slot_at, slot_on}
+use Rattle.process_laws.specs.Words.{is_born, moved_hart, phase_on, writes_back}
+use Rattle.process_model.specs.Around.{Progress}
+use Rattle.process_model.specs.Calls.{forked, forked_unless, mapped_to, replaced, replaced_unless, resized_to, started, started_unless, unmapped_to, with_image}
+use Rattle.process_model.specs.Copies.{Copied, copied_in, copied_out, in_reply, out_reply}
+use Rattle.process_model.specs.Harts.{Hart}
+use Rattle.process_model.specs.Images.{image_loads, LoadSegment}
+use Rattle.process_model.specs.Mappings.{Mapped, Unmapped}
+use Rattle.process_model.specs.Process.{Pending, Process, without_pending}
+use Rattle.process_model.specs.Service.{around, begun, served, served_or_ended, with_progress}
+use Rattle.process_model.specs.Stale.{changed_slots, with_stale, with_stale_slots}
+use Rattle.process_model.specs.Steps.{plain_step, step}
+use Rattle.process_model.specs.World.{answers, flat, free_slot, Outcome, process_in, refuses, World}
+use Rattle.process_model.specs.declared.config.Policy.{Policy}
+use Rattle.process_model.specs.declared.config.Policy.TheVariants.{Full, Asid}
+use Rattle.process_model.specs.declared.image.BadImage.{BadImage}
+use Rattle.process_model.specs.declared.image.Image.{Image}
+use Rattle.process_model.specs.declared.step.Refusal.{Refusal}
+use Rattle.process_model.specs.declared.step.Reply.{Reply}
+use Rattle.process_model.specs.declared.step.Reply.TheVariants.{Done, Refused, Started}
+use Rattle.process_model.specs.declared.step.Step.{Step}
+use Rattle.process_model.specs.declared.step.Step.TheVariants as step_of
+use Rattle.sv39_entry.specs.declared.access.Access.TheVariants as access
+use Rattle.sv39_entry.specs.declared.rule.Rule.{Rule}
+
+abbrev SameHart : World → World → ℕ → Type 0
+SameHart w v k = (slot_on v k ≡ slot_on w k) × (phase_on v k ≡ phase_on w k)
+
+-- where no process was, none comes but one that is told of
+abbrev StaysEmpty : World → Outcome → Type 0
+StaysEmpty w o = (s : ℕ) → process_in w s ≡ None → is_born o.reply s ≡ false → process_in o.world s ≡ None
+
+pub record Keeps (w : World) (x : Step) (o : Outcome) : Type 0 where
+  pub harts : (k : ℕ) → moved_hart x o.reply ≢ Some k → SameHart w o.world k
+  pub files : writes_back x o.reply ≡ false → (o.world).files ≡ w.files
+  pub empty : StaysEmpty w o
+
+-- the harts are as they were
+same_harts : (w v : World) → v.harts ≡ w.harts → (k : ℕ) → SameHart w v k
+same_harts w v e k = (ap (λ hs. slot_at (slice_get hs k)) e, ap (λ hs. option_map (λ (hart : Hart). hart.phase) (slice_get hs k)) e)
+
+-- another one was set
+other_hart : (w v : World) (h : ℕ) (after : Hart) → v.harts ≡ slice_set w.harts h after → (k : ℕ) → Some h ≢ Some k → SameHart w v k
+other_hart w v h after e k apart =
+    let is : slice_get v.harts k ≡ slice_get w.harts k = ap (λ hs. slice_get hs k) e ∙ get_set_other w.harts h k after (λ same. apart (ap Some same)) in
+    (ap slot_at is, ap (option_map (λ (hart : Hart). hart.phase)) is)
+
+-- one was set that has the same process and phase
+like_hart : (w v : World) (h : ℕ) (before after : Hart) → slice_get w.harts h ≡ Some before → after.slot ≡ before.slot → after.phase ≡ before.phase → v.harts ≡ slice_set w.harts h after → (k : ℕ) → SameHart w v k
+like_hart w v h before after there slot phase e k = elim (cases_eq h k) [
+  | inl same ↦
+      let now : slice_get v.harts k ≡ Some after = ap (slice_get v.harts) (sym same) ∙ ap (λ hs. slice_get hs h) e ∙ set_there w.harts h before after there in
+      let was : slice_get w.harts k ≡ Some before = ap (slice_get w.harts) (sym same) ∙ there in (
+        ap slot_at now ∙ slot ∙ sym (ap slot_at was),
+        ap (option_map (λ (hart : Hart). hart.phase)) now ∙ ap Some phase ∙ sym (ap (option_map (λ (hart : Hart). hart.phase)) was),
+      )
+  | inr apart ↦
+      let is : slice_get v.harts k ≡ slice_get w.harts k = ap (λ hs. slice_get hs k) e ∙ get_set_other w.harts h k after apart in
+      (ap slot_at is, ap (option_map (λ (hart : Hart). hart.phase)) is)
+]
+
+-- the slots are as they were
+same_empty : (w v : World) (r : Reply) → v.slots ≡ w.slots → StaysEmpty w (answers v r)
+same_empty w v r e s none calm = ap (λ slots. flat (slice_get slots s)) e ∙ none
+
+-- one was set that had a process
+set_empty : (w v : World) (r : Reply) (t : ℕ) (p : Process) (o : Option Process) → process_in w t ≡ Some p → v.slots ≡ slice_set w.slots t o → StaysEmpty w (answers v r)
+set_empty w v r t p o lives e s none calm =
+    ap (λ slots. flat (slice_get slots s)) e ∙ ap flat (get_set_other w.slots t s o (λ same. none_some (sym none ∙ ap (process_in w) (sym same) ∙ lives))) ∙ none
+
+-- or one that is told of
+born_empty : (w v : World) (r : Reply) (t : ℕ) (o : Option Process) → ((s : ℕ) → is_born r s ≡ (t == s)) → v.slots ≡ slice_set w.slots t o → StaysEmpty w (answers v r)
+born_empty w v r t o born e s none calm =
+    ap (λ slots. flat (slice_get slots s)) e ∙ ap flat (get_set_other w.slots t s o (λ same. let no : true ≡ false = sym (eq-eqb t s same) ∙ sym (born s) ∙ calm in false≢true (sym no))) ∙ none
+
+-- what becomes of the slots
+data Slots (w v : World) (r : Reply) : Type 0 where
+  same : v.slots ≡ w.slots → Slots w v r
+  set : (t : ℕ) (p : Process) (o : Option Process) → process_in w t ≡ Some p → v.slots ≡ slice_set w.slots t o → Slots w v r
+  born : (t : ℕ) (o : Option Process) → ((s : ℕ) → is_born r s ≡ (t == s)) → v.slots ≡ slice_set w.slots t o → Slots w v r
+  both : (t : ℕ) (p : Process) (o : Option Process) (child : ℕ) (u : Option Process) → process_in w t ≡ Some p → ((s : ℕ) → is_born r s ≡ (child == s)) → v.slots ≡ slice_set (slice_set w.slots t o) child u → Slots w v r
+
+slots_empty : (w v : World) (r : Reply) → Slots w v r → StaysEmpty w (answers v r)
+slots_empty w v r (same e) = same_empty w v r e
+slots_empty w v r (set t p o lives e) = set_empty w v r t p o lives e
+slots_empty w v r (born t o is e) = born_empty w v r t o is e
+slots_empty w v r (both t p o child u lives is e) = λ s none calm.
+    let middle : World = record w { slots = slice_set w.slots t o } in
+    born_empty middle v r child u is e s (set_empty w middle Done t p o lives refl s none refl) calm
+
+module _ (w : World) where
+  quiet : (x : Step) (r : Refusal) → Keeps w x (refuses w r)
+  quiet x r = record { harts = λ k other. same_harts w w refl k; files = λ e. refl; empty = same_empty w w (Refused r) refl }
+
+  -- neither changes
+  still : (x : Step) (v : World) (r : Reply) → v.harts ≡ w.harts → v.files ≡ w.files → Slots w v r → Keeps w x (answers v r)
+  still x v r harts files slots = record { harts = λ k other. same_harts w v harts k; files = λ e. files; empty = slots_empty w v r slots }
+
+  -- the step writes back
+  writing : (x : Step) (v : World) (r : Reply) → v.harts ≡ w.harts → writes_back x r ≡ true → Slots w v r → Keeps w x (answers v r)
+  writing x v r harts writes slots = record { empty = slots_empty w v r slots; harts = λ k other. same_harts w v harts k; files = λ e. absurd (let no : true ≡ false = sym writes ∙ e in cc) }
+
+  -- the step moves a hart
+  moving : (x : Step) (v : World) (r : Reply) (h : ℕ) (after : Hart) → v.harts ≡ slice_set w.harts h after → moved_hart x r ≡ Some h → (writes_back x r ≡ false → v.files ≡ w.files) → Slots w v r → Keeps w x (answers v r)
+  moving x v r h after e moves files slots = record { empty = slots_empty w v r slots; harts = λ k other. other_hart w v h after e k (λ same. other (moves ∙ same)); files = files }
+
+  ending : (x : Step) (v : World) (r : Reply) (h : ℕ) (after : Hart) → v.harts ≡ slice_set w.harts h after → moved_hart x r ≡ Some h → writes_back x r ≡ true → Slots w v r → Keeps w x (answers v r)
+  ending x v r h after e moves writes slots = moving x v r h after e moves (λ f. absurd (let no : true ≡ false = sym writes ∙ f in cc)) slots
+
+  -- a hart gets another buffer
+  filling : (x : Step) (v : World) (r : Reply) (h : ℕ) (before after : Hart) → slice_get w.harts h ≡ Some before → after.slot ≡ before.slot → after.phase ≡ before.phase → v.harts ≡ slice_set w.harts h after
+      → v.files ≡ w.files → Slots w v r → Keeps w x (answers v r)
+  filling x v r h before after there slot phase e files slots = record { empty = slots_empty w v r slots; harts = λ k other. like_hart w v h before after there slot phase e k; files = λ f. files }
+
+  image_keeps : (x : Step) (s : ℕ) (ls : List LoadSegment) (b : Bool) → Keeps w x (started_unless w s ls b)
+  image_keeps x s ls true = quiet x _
+  image_keeps x s ls false = still x (with_image w s ls) (Started s) refl refl (born s _ (λ t. refl) refl)
+
+  start_keeps : (x : Step) (loads : Result (List LoadSegment) BadImage) (o : Option ℕ) → Keeps w x (started w loads o)
+  start_keeps x loads None = quiet x _
+  start_keeps x (Err b) (Some s) = quiet x _
+  start_keeps x (Ok ls) (Some s) = image_keeps x s ls _
+
+  replace_keeps : (h : ℕ) (image : Image) (s : ℕ) (p : Process) (ls : List LoadSegment) (b : Bool) → process_in w s ≡ Some p → Keeps w (step_of.Exec h image) (replaced_unless w s p ls b)
+  replace_keeps h image s p ls true lives = quiet _ _
+  replace_keeps h image s p ls false lives = writing _ _ _ refl refl (set s p _ lives refl)
+
+  exec_keeps : (h : ℕ) (image : Image) (s : ℕ) (p : Process) (loads : Result (List LoadSegment) BadImage) → process_in w s ≡ Some p → Keeps w (step_of.Exec h image) (replaced w s p loads)
+  exec_keeps h image s p (Err b) lives = quiet _ _
+  exec_keeps h image s p (Ok ls) lives = replace_keeps h image s p ls _ lives
+
+  child_keeps : (x : Step) (s : ℕ) (p : Process) (child : ℕ) (b : Bool) → process_in w s ≡ Some p → Keeps w x (forked_unless w s p child b)
+  child_keeps x s p child true lives = quiet x _
+  child_keeps x s p child false lives = still x _ _ refl refl (both s p _ child _ lives (λ t. refl) refl)
+
+  fork_keeps : (x : Step) (s : ℕ) (p : Process) (o : Option ℕ) → process_in w s ≡ Some p → Keeps w x (forked w s p o)
+  fork_keeps x s p None lives = quiet x _
+  fork_keeps x s p (Some child) lives = child_keeps x s p child _ lives
+
+  size_keeps : (x : Step) (s : ℕ) (p : Process) (r : Result Process Refusal) → process_in w s ≡ Some p → Keeps w x (resized_to w s p r)
+  size_keeps x s p (Err r) lives = quiet x r
+  size_keeps x s p (Ok q) lives = still x _ _ refl refl (set s p _ lives refl)
+
+  map_keeps : (x : Step) (s : ℕ) (p : Process) (r : Result Mapped Refusal) → process_in w s ≡ Some p → Keeps w x (mapped_to w s r)
+  map_keeps x s p (Err r) lives = quiet x r
+  map_keeps x s p (Ok m) lives = still x _ _ refl refl (set s p _ lives refl)
+
+  unmap_keeps : (h address len s : ℕ) (p : Process) (r : Result Unmapped Refusal) → process_in w s ≡ Some p → Keeps w (step_of.Munmap h address len) (unmapped_to w s r)
+  unmap_keeps h address len s p (Err r) lives = quiet _ r
+  unmap_keeps h address len s p (Ok u) lives = writing _ _ _ refl refl (set s p _ lives refl)
+
+  reach_keeps : (h : ℕ) (hart : Hart) (s : ℕ) (p : Process) (a : Pending) (r : Result Progress Rule) → process_in w s ≡ Some p → Keeps w (step_of.Serve h) (served_or_ended w h hart s p a r)
+  reach_keeps h hart s p a (Err r) lives = ending _ _ _ h _ refl refl refl (set s p _ lives refl)
+  reach_keeps h hart s p a (Ok g) lives = still _ _ _ refl refl (set s p _ lives refl)
+
+  serve_keeps : (h : ℕ) (hart : Hart) (s : ℕ) (p : Process) (o : Option Pending) → process_in w s ≡ Some p → Keeps w (step_of.Serve h) (served w h hart s p o)
+  serve_keeps h hart s p None lives = quiet _ _
+  serve_keeps h hart s p (Some a) lives = reach_keeps h hart s p a _ lives
+
+  in_keeps : (x : Step) (s : ℕ) (p : Process) (c : Copied) (o : Option Rule) → process_in w s ≡ Some p → Keeps w x (answers (with_progress w s c.progress) (in_reply c.bytes o))
+  in_keeps x s p c o lives = still x _ _ refl refl (set s p _ lives refl)
+
+  out_keeps : (x : Step) (s : ℕ) (p : Process) (c : Copied) (o : Option Rule) → process_in w s ≡ Some p → Keeps w x (answers (with_progress w s c.progress) (out_reply c.bytes o))
+  out_keeps x s p c o lives = still x _ _ refl refl (set s p _ lives refl)
+
+  plain_keeps : (x : Step) → Keeps w x (plain_step w x)
+  plain_keeps (step_of.Start image) = start_keeps _ (image_loads image) (free_slot w)
+  plain_keeps (step_of.Switch h slot) = on_hart_good w (Keeps w _) (quiet _) h true _ _ _ (λ hart is _. moving _ _ _ h _ refl refl (λ e. refl) (same refl))
+  plain_keeps (step_of.Trap h) = on_hart_good w (Keeps w _) (quiet _) h true _ _ _ (λ hart is _. its_good w (Keeps w _) (quiet _) h hart _ is (λ t p on here. moving _ _ _ h _ refl refl (λ e. refl) (set t p _ here refl)))
+  plain_keeps (step_of.Next h) = on_hart_good w (Keeps w _) (quiet _) h true _ _ _ (λ hart is _. moving _ _ _ h _ refl refl (λ e. refl) (same refl))
+  plain_keeps (step_of.Fill h address) = on_hart_good w (Keeps w _) (quiet _) h true _ _ _ (λ hart is _. filling _ _ _ h hart _ is refl refl refl refl (same refl))
+  plain_keeps (step_of.Evict h n) = on_hart_good w (Keeps w _) (quiet _) h true _ _ _ (λ hart is _. filling _ _ _ h hart _ is refl refl refl refl (same refl))
+  plain_keeps (step_of.Fetch h address via) =
+      access_good w (Keeps w _) (quiet _) h access.Fetch address 4 0 via (λ hart t p cause here on. moving _ _ _ h _ refl refl (λ e. refl) (set t p _ here refl)) (λ hart t p page here on is fits. still _ _ _ refl refl (set t p _ here refl))
+  plain_keeps (step_of.Load h address width via) =
+      access_good w (Keeps w _) (quiet _) h access.Load address width 0 via (λ hart t p cause here on. moving _ _ _ h _ refl refl (λ e. refl) (set t p _ here refl)) (λ hart t p page here on is fits. still _ _ _ refl refl (set t p _ here refl))
+  plain_keeps (step_of.Store h address width value via) =
+      access_good w (Keeps w _) (quiet _) h access.Store address width value via (λ hart t p cause here on. moving _ _ _ h _ refl refl (λ e. refl) (set t p _ here refl)) (λ hart t p page here on is fits. still _ _ _ refl refl (set t p _ here refl))
+  plain_keeps (step_of.TrampolineFetch h offset via) = on_hart_good w (Keeps w _) (quiet _) h _ _ _ _ (λ hart is _. still _ _ _ refl refl (same refl))
+  plain_keeps (step_of.Serve h) = on_hart_good w (Keeps w _) (quiet _) h true _ _ _ (λ hart is _. its_good w (Keeps w _) (quiet _) h hart _ is (λ t p on here. serve_keeps h hart t p p.pending here))
+  plain_keeps (step_of.Fork h) = kernel_good w (Keeps w _) (quiet _) h true _ (λ hart t p on here. fork_keeps _ t p (free_slot w) here)
+  plain_keeps (step_of.Exec h image) = kernel_good w (Keeps w _) (quiet _) h true _ (λ hart t p on here. exec_keeps h image t p (image_loads image) here)
+  plain_keeps (step_of.Sbrk h delta) = kernel_good w (Keeps w _) (quiet _) h true _ (λ hart t p on here. size_keeps _ t p _ here)
+  plain_keeps (step_of.Mmap h len protection flags n) = kernel_good w (Keeps w _) (quiet _) h true _ (λ hart t p on here. map_keeps _ t p _ here)
+  plain_keeps (step_of.Munmap h address len) = kernel_good w (Keeps w _) (quiet _) h true _ (λ hart t p on here. unmap_keeps h address len t p _ here)
+  plain_keeps (step_of.CopyIn h address n) = kernel_good w (Keeps w _) (quiet _) h _ _ (λ hart t p on here. let c = copied_in (around w t) (begun w (without_pending p)) address n in in_keeps (step_of.CopyIn h address n) t p c c.stop here)
+  plain_keeps (step_of.CopyOut h address bytes) = kernel_good w (Keeps w _) (quiet _) h _ _ (λ hart t p on here. let c = copied_out (around w t) (begun w (without_pending p)) address bytes.now in out_keeps (step_of.CopyOut h address bytes) t p c c.stop here)
+  plain_keeps (step_of.Exit h status) = kernel_good w (Keeps w _) (quiet _) h true _ (λ hart t p on here. ending _ _ _ h _ refl refl refl (set t p _ here refl))
+
+  -- marks move no hart
+
+  stale_slot : (slots : List ℕ) (o : Option Hart) → slot_at (option_map (with_stale slots) o) ≡ slot_at o
+  stale_slot slots None = refl
+  stale_slot slots (Some hart) = refl
+
+  stale_phase : (slots : List ℕ) (o : Option Hart) → option_map (λ (hart : Hart). hart.phase) (option_map (with_stale slots) o) ≡ option_map (λ (hart : Hart). hart.phase) o
+  stale_phase slots None = refl
+  stale_phase slots (Some hart) = refl
+
+  marks_keep : (policy : Policy) (x : Step) (o : Outcome) → Keeps w x o → Keeps w x (with_stale_slots policy w o)
+  marks_keep Full x o k = k
+  marks_keep Asid x o k = record {
+    harts = λ n other.
+        let slots = changed_slots 0 w.slots (o.world).slots in
+        let is = slice_get-map (with_stale slots) (o.world).harts n in
+        let before = k.harts n other in
+        (ap slot_at is ∙ stale_slot slots (slice_get (o.world).harts n) ∙ before.0, ap (option_map (λ (hart : Hart). hart.phase)) is ∙ stale_phase slots (slice_get (o.world).harts n) ∙ before.1);
+    files = k.files;
+    empty = k.empty;
+  }
+
+  pub step_keeps : (x : Step) → Keeps w x (step w x)
+  unfolding step
+  step_keeps x = marks_keep w.policy x (plain_step w x) (plain_keeps x)

@@ -1,0 +1,209 @@
+-- Which replies a step may get, what makes a step, and that the memory stays.
+use Rattle.std.proofs.Common.{◌≡◌, ℕ, Bool, true, false, not, refl, sym, ap, subst, ◌∙◌, Option, None, Some, List}
+use Rattle.std.specs.Prelude.{Result, Ok, Err}
+use Rattle.std.proofs.lemmas.Bool.{and_parts}
+use Rattle.std.proofs.lemmas.Option.{same_Some}
+use Rattle.process_laws.proofs.OnHarts.{access_good, its_good, kernel_good, on_hart_good}
+use Rattle.process_laws.proofs.Possible.{service_made}
+use Rattle.process_laws.proofs.Running.{has_it, ran_on, was_made}
+use Rattle.process_laws.specs.Moments.{slot_on}
+use Rattle.process_laws.specs.Words.{Asked, IsIn, IsMade, IsOn, is_reply, maker, waiting}
+use Rattle.process_model.specs.Around.{Progress}
+use Rattle.process_model.specs.Calls.{forked, forked_unless, mapped_to, replaced, replaced_unless, resized_to, started, started_unless, unmapped_to}
+use Rattle.process_model.specs.Copies.{Copied, copied_in, copied_out, in_reply, out_reply}
+use Rattle.process_model.specs.Harts.{Hart}
+use Rattle.process_model.specs.Images.{image_loads, LoadSegment}
+use Rattle.process_model.specs.Mappings.{Mapped, Unmapped}
+use Rattle.process_model.specs.Process.{Pending, Process, without_pending}
+use Rattle.process_model.specs.Service.{around, begun, served, served_or_ended, with_progress}
+use Rattle.process_model.specs.Stale.{with_stale_slots}
+use Rattle.process_model.specs.Steps.{plain_step, step}
+use Rattle.process_model.specs.World.{always, answers, can_serve, free_slot, is_unserved, is_unserved_access, Outcome, process_in, process_of_slot, refuses, with_its_process, World}
+use Rattle.process_model.specs.declared.config.Policy.{Policy}
+use Rattle.process_model.specs.declared.config.Policy.TheVariants.{Full, Asid}
+use Rattle.process_model.specs.declared.image.BadImage.{BadImage}
+use Rattle.process_model.specs.declared.image.Image.{Image}
+use Rattle.process_model.specs.declared.phase.Phase.TheVariants.{Kernel}
+use Rattle.process_model.specs.declared.step.Refusal.{Refusal}
+use Rattle.process_model.specs.declared.step.Reply.{Reply}
+use Rattle.process_model.specs.declared.step.Step.{Step}
+use Rattle.process_model.specs.declared.step.Step.TheVariants as step_of
+use Rattle.sv39_entry.specs.declared.access.Access.TheVariants as access
+use Rattle.sv39_entry.specs.declared.rule.Rule.{Rule}
+
+-- ---- replies, and the memory
+
+pub record Suits (w : World) (x : Step) (o : Outcome) : Type 0 where
+  pub replies : is_reply x o.reply ≡ true
+  pub memory : (o.world).frames ≡ w.frames
+
+module _ (w : World) where
+  quiet : (x : Step) (r : Refusal) → Suits w x (refuses w r)
+  quiet x r = record { replies = refl; memory = refl }
+
+  suits : (x : Step) (v : World) (r : Reply) → is_reply x r ≡ true → v.frames ≡ w.frames → Suits w x (answers v r)
+  suits x v r is same = record { replies = is; memory = same }
+
+  image_suits : (image : Image) (s : ℕ) (ls : List LoadSegment) (b : Bool) → Suits w (step_of.Start image) (started_unless w s ls b)
+  image_suits image s ls true = quiet _ _
+  image_suits image s ls false = suits _ _ _ refl refl
+
+  start_suits : (image : Image) (loads : Result (List LoadSegment) BadImage) (o : Option ℕ) → Suits w (step_of.Start image) (started w loads o)
+  start_suits image loads None = quiet _ _
+  start_suits image (Err b) (Some s) = quiet _ _
+  start_suits image (Ok ls) (Some s) = image_suits image s ls _
+
+  replace_suits : (h : ℕ) (image : Image) (s : ℕ) (p : Process) (ls : List LoadSegment) (b : Bool) → Suits w (step_of.Exec h image) (replaced_unless w s p ls b)
+  replace_suits h image s p ls true = quiet _ _
+  replace_suits h image s p ls false = suits _ _ _ refl refl
+
+  exec_suits : (h : ℕ) (image : Image) (s : ℕ) (p : Process) (loads : Result (List LoadSegment) BadImage) → Suits w (step_of.Exec h image) (replaced w s p loads)
+  exec_suits h image s p (Err b) = quiet _ _
+  exec_suits h image s p (Ok ls) = replace_suits h image s p ls _
+
+  child_suits : (h s : ℕ) (p : Process) (child : ℕ) (b : Bool) → Suits w (step_of.Fork h) (forked_unless w s p child b)
+  child_suits h s p child true = quiet _ _
+  child_suits h s p child false = suits _ _ _ refl refl
+
+  fork_suits : (h s : ℕ) (p : Process) (o : Option ℕ) → Suits w (step_of.Fork h) (forked w s p o)
+  fork_suits h s p None = quiet _ _
+  fork_suits h s p (Some child) = child_suits h s p child _
+
+  size_suits : (h s : ℕ) (p : Process) (delta : _) (r : Result Process Refusal) → Suits w (step_of.Sbrk h delta) (resized_to w s p r)
+  size_suits h s p delta (Err r) = quiet _ r
+  size_suits h s p delta (Ok q) = suits _ _ _ refl refl
+
+  map_suits : (h s len protection flags n : ℕ) (r : Result Mapped Refusal) → Suits w (step_of.Mmap h len protection flags n) (mapped_to w s r)
+  map_suits h s len protection flags n (Err r) = quiet _ r
+  map_suits h s len protection flags n (Ok m) = suits _ _ _ refl refl
+
+  unmap_suits : (h s address len : ℕ) (r : Result Unmapped Refusal) → Suits w (step_of.Munmap h address len) (unmapped_to w s r)
+  unmap_suits h s address len (Err r) = quiet _ r
+  unmap_suits h s address len (Ok u) = suits _ _ _ refl refl
+
+  reach_suits : (h : ℕ) (hart : Hart) (s : ℕ) (p : Process) (a : Pending) (r : Result Progress Rule) → Suits w (step_of.Serve h) (served_or_ended w h hart s p a r)
+  reach_suits h hart s p a (Err r) = suits _ _ _ refl refl
+  reach_suits h hart s p a (Ok g) = suits _ _ _ refl refl
+
+  serve_suits : (h : ℕ) (hart : Hart) (s : ℕ) (p : Process) (o : Option Pending) → Suits w (step_of.Serve h) (served w h hart s p o)
+  serve_suits h hart s p None = quiet _ _
+  serve_suits h hart s p (Some a) = reach_suits h hart s p a _
+
+  in_suits : (h s address n : ℕ) (c : Copied) (o : Option Rule) → Suits w (step_of.CopyIn h address n) (answers (with_progress w s c.progress) (in_reply c.bytes o))
+  in_suits h s address n c None = suits _ _ _ refl refl
+  in_suits h s address n c (Some r) = suits _ _ _ refl refl
+
+  out_suits : (h s address : ℕ) (bytes : _) (c : Copied) (o : Option Rule) → Suits w (step_of.CopyOut h address bytes) (answers (with_progress w s c.progress) (out_reply c.bytes o))
+  out_suits h s address bytes c None = suits _ _ _ refl refl
+  out_suits h s address bytes c (Some r) = suits _ _ _ refl refl
+
+  plain_suits : (x : Step) → Suits w x (plain_step w x)
+  plain_suits (step_of.Start image) = start_suits image (image_loads image) (free_slot w)
+  plain_suits (step_of.Switch h slot) = on_hart_good w (Suits w _) (quiet _) h true _ _ _ (λ hart is _. suits _ _ _ refl refl)
+  plain_suits (step_of.Trap h) = on_hart_good w (Suits w _) (quiet _) h true _ _ _ (λ hart is _. its_good w (Suits w _) (quiet _) h hart _ is (λ t p on here. suits _ _ _ refl refl))
+  plain_suits (step_of.Next h) = on_hart_good w (Suits w _) (quiet _) h true _ _ _ (λ hart is _. suits _ _ _ refl refl)
+  plain_suits (step_of.Fill h address) = on_hart_good w (Suits w _) (quiet _) h true _ _ _ (λ hart is _. suits _ _ _ refl refl)
+  plain_suits (step_of.Evict h n) = on_hart_good w (Suits w _) (quiet _) h true _ _ _ (λ hart is _. suits _ _ _ refl refl)
+  plain_suits (step_of.Fetch h address via) =
+      access_good w (Suits w _) (quiet _) h access.Fetch address 4 0 via (λ hart t p cause here on. suits _ _ _ refl refl) (λ hart t p page here on is fits. suits _ _ _ refl refl)
+  plain_suits (step_of.Load h address width via) =
+      access_good w (Suits w _) (quiet _) h access.Load address width 0 via (λ hart t p cause here on. suits _ _ _ refl refl) (λ hart t p page here on is fits. suits _ _ _ refl refl)
+  plain_suits (step_of.Store h address width value via) =
+      access_good w (Suits w _) (quiet _) h access.Store address width value via (λ hart t p cause here on. suits _ _ _ refl refl) (λ hart t p page here on is fits. suits _ _ _ refl refl)
+  plain_suits (step_of.TrampolineFetch h offset via) = on_hart_good w (Suits w _) (quiet _) h _ _ _ _ (λ hart is _. suits _ _ _ refl refl)
+  plain_suits (step_of.Serve h) = on_hart_good w (Suits w _) (quiet _) h true _ _ _ (λ hart is _. its_good w (Suits w _) (quiet _) h hart _ is (λ t p on here. serve_suits h hart t p p.pending))
+  plain_suits (step_of.Fork h) = kernel_good w (Suits w _) (quiet _) h true _ (λ hart t p on here. fork_suits h t p (free_slot w))
+  plain_suits (step_of.Exec h image) = kernel_good w (Suits w _) (quiet _) h true _ (λ hart t p on here. exec_suits h image t p (image_loads image))
+  plain_suits (step_of.Sbrk h delta) = kernel_good w (Suits w _) (quiet _) h true _ (λ hart t p on here. size_suits h t p delta _)
+  plain_suits (step_of.Mmap h len protection flags n) = kernel_good w (Suits w _) (quiet _) h true _ (λ hart t p on here. map_suits h t len protection flags n _)
+  plain_suits (step_of.Munmap h address len) = kernel_good w (Suits w _) (quiet _) h true _ (λ hart t p on here. unmap_suits h t address len _)
+  plain_suits (step_of.CopyIn h address n) =
+      kernel_good w (Suits w _) (quiet _) h _ _ (λ hart t p on here. let c = copied_in (around w t) (begun w (without_pending p)) address n in in_suits h t address n c c.stop)
+  plain_suits (step_of.CopyOut h address bytes) =
+      kernel_good w (Suits w _) (quiet _) h _ _ (λ hart t p on here. let c = copied_out (around w t) (begun w (without_pending p)) address bytes.now in out_suits h t address bytes c c.stop)
+  plain_suits (step_of.Exit h status) = kernel_good w (Suits w _) (quiet _) h true _ (λ hart t p on here. suits _ _ _ refl refl)
+
+  marks_suit : (policy : Policy) (x : Step) (o : Outcome) → Suits w x o → Suits w x (with_stale_slots policy w o)
+  marks_suit Full x o k = k
+  marks_suit Asid x o k = record { replies = k.replies; memory = k.memory }
+
+  pub step_suits : (x : Step) → Suits w x (step w x)
+  unfolding step
+  step_suits x = marks_suit w.policy x (plain_step w x) (plain_suits x)
+
+-- ---- who makes a step
+
+abbrev pub Hosts : World → ℕ → Type 0
+Hosts w h = (s : ℕ) × (p : Process) × IsOn w h s p
+
+module _ (w : World) (h : ℕ) where
+  abbrev Hosted : Outcome → Type 0
+  Hosted o = IsMade o.reply → Hosts w h
+
+  unmade : (r : Refusal) → Hosted (refuses w r)
+  unmade r made = absurd (made r refl)
+
+  there : (t : ℕ) (p : Process) → slot_on w h ≡ Some t → process_in w t ≡ Some p → Hosts w h
+  there t p on lives = (t, p, record { there = on; lives = lives })
+
+  hosted : (x : Step) → maker x ≡ Some h → Hosted (plain_step w x)
+  hosted (step_of.Start image) e = absurd cc
+  hosted (step_of.Switch k slot) e = absurd cc
+  hosted (step_of.Trap k) e = subst (λ n. Hosted (plain_step w (step_of.Trap n))) (sym (same_Some k h e)) (on_hart_good w Hosted unmade h true _ _ _ (λ hart is _. its_good w Hosted unmade h hart _ is (λ t p on here made. there t p on here)))
+  hosted (step_of.Next k) e = absurd cc
+  hosted (step_of.Fill k address) e = absurd cc
+  hosted (step_of.Evict k n) e = absurd cc
+  hosted (step_of.Fetch k address via) e = subst (λ n. Hosted (plain_step w (step_of.Fetch n address via))) (sym (same_Some k h e))
+      (access_good w Hosted unmade h access.Fetch address 4 0 via (λ hart t p cause here on made. there t p on here) (λ hart t p page here on is fits made. there t p on here))
+  hosted (step_of.Load k address width via) e = subst (λ n. Hosted (plain_step w (step_of.Load n address width via))) (sym (same_Some k h e))
+      (access_good w Hosted unmade h access.Load address width 0 via (λ hart t p cause here on made. there t p on here) (λ hart t p page here on is fits made. there t p on here))
+  hosted (step_of.Store k address width value via) e = subst (λ n. Hosted (plain_step w (step_of.Store n address width value via))) (sym (same_Some k h e))
+      (access_good w Hosted unmade h access.Store address width value via (λ hart t p cause here on made. there t p on here) (λ hart t p page here on is fits made. there t p on here))
+  hosted (step_of.TrampolineFetch k offset via) e = absurd cc
+  hosted (step_of.Serve k) e = subst (λ n. Hosted (plain_step w (step_of.Serve n))) (sym (same_Some k h e)) (on_hart_good w Hosted unmade h true _ _ _ (λ hart is _. its_good w Hosted unmade h hart _ is (λ t p on here made. there t p on here)))
+  hosted (step_of.Fork k) e = subst (λ n. Hosted (plain_step w (step_of.Fork n))) (sym (same_Some k h e)) (kernel_good w Hosted unmade h _ _ (λ hart t p on here made. there t p on here))
+  hosted (step_of.Exec k image) e = subst (λ n. Hosted (plain_step w (step_of.Exec n image))) (sym (same_Some k h e)) (kernel_good w Hosted unmade h _ _ (λ hart t p on here made. there t p on here))
+  hosted (step_of.Sbrk k delta) e = subst (λ n. Hosted (plain_step w (step_of.Sbrk n delta))) (sym (same_Some k h e)) (kernel_good w Hosted unmade h _ _ (λ hart t p on here made. there t p on here))
+  hosted (step_of.Mmap k len protection flags i) e = subst (λ n. Hosted (plain_step w (step_of.Mmap n len protection flags i))) (sym (same_Some k h e)) (kernel_good w Hosted unmade h _ _ (λ hart t p on here made. there t p on here))
+  hosted (step_of.Munmap k address len) e = subst (λ n. Hosted (plain_step w (step_of.Munmap n address len))) (sym (same_Some k h e)) (kernel_good w Hosted unmade h _ _ (λ hart t p on here made. there t p on here))
+  hosted (step_of.CopyIn k address i) e = subst (λ n. Hosted (plain_step w (step_of.CopyIn n address i))) (sym (same_Some k h e)) (kernel_good w Hosted unmade h _ _ (λ hart t p on here made. there t p on here))
+  hosted (step_of.CopyOut k address bytes) e = subst (λ n. Hosted (plain_step w (step_of.CopyOut n address bytes))) (sym (same_Some k h e)) (kernel_good w Hosted unmade h _ _ (λ hart t p on here made. there t p on here))
+  hosted (step_of.Exit k status) e = subst (λ n. Hosted (plain_step w (step_of.Exit n status))) (sym (same_Some k h e)) (kernel_good w Hosted unmade h _ _ (λ hart t p on here made. there t p on here))
+
+  pub step_hosted : (x : Step) → maker x ≡ Some h → IsMade (step w x).reply → Hosts w h
+  step_hosted x e made = hosted x e (was_made w x made)
+
+-- ---- what is served
+
+module _ (w : World) (h s : ℕ) (p : Process) (on : IsOn w h s p) where
+  waits_by : (o : Option Pending) → p.pending ≡ o → is_unserved_access o ≡ true → (a : Asked) × (p ≡ waiting p a)
+  waits_by None is waits = absurd cc
+  waits_by (Some a) is waits = (record { access = a.access; address = a.address; width = a.width }, ap (λ (o : Option Pending). record p { pending = o }) (is ∙ ap (λ b. let x : Pending = record { access = a.access; address = a.address; width = a.width; served = b } in Some x) (unserved a.served waits)))
+    where
+      unserved : (b : Bool) → not b ≡ true → b ≡ false
+      unserved true e = absurd cc
+      unserved false e = refl
+
+  -- an access that waits is served, in the kernel
+  pub serves_it : IsIn w h Kernel → is_unserved_access p.pending ≡ true → IsMade (step w (step_of.Serve h)).reply
+  serves_it kernel waits = let k = waits_by p.pending refl waits in service_made w h s p k.0 (record { there = on.there; lives = on.lives ∙ ap Some k.1 }) kernel
+
+  -- and no other
+  pub served_waits : IsMade (step w (step_of.Serve h)).reply → is_unserved_access p.pending ≡ true
+  served_waits made =
+      let r = ran_on w h true (can_serve w) always (λ hart. with_its_process w hart (λ s p. served w h hart s p p.pending)) (was_made w (step_of.Serve h) made) in
+      let slot : (r.hart).slot ≡ Some s = has_it w h s r.hart on.there r.there in
+      ap is_unserved (sym on.lives) ∙ ap (λ o. is_unserved (process_of_slot w o)) (sym slot) ∙ (and_parts _ _ r.can).1
+
+-- ---- bad images
+
+module _ (w : World) where
+  unstarted : (o : Option ℕ) (e : BadImage) → IsMade (started w (Err e) o).reply → ⊥
+  unstarted None e made = made _ refl
+  unstarted (Some s) e made = made _ refl
+
+  pub bad_start : (image : Image) (e : BadImage) → image_loads image ≡ Err e → IsMade (step w (step_of.Start image)).reply → ⊥
+  bad_start image e bad made = unstarted (free_slot w) e (subst (λ r. IsMade (started w r (free_slot w)).reply) bad (was_made w (step_of.Start image) made))
+
+  pub bad_exec : (h : ℕ) (image : Image) (e : BadImage) → image_loads image ≡ Err e → IsMade (step w (step_of.Exec h image)).reply → ⊥
+  bad_exec h image e bad made = kernel_good w (λ o. IsMade o.reply → ⊥) (λ r made. made r refl) h true _ (λ hart t p on here. subst (λ r. IsMade (replaced w t p r).reply → ⊥) (sym bad) (λ made. made _ refl)) (was_made w (step_of.Exec h image) made)
