@@ -3,7 +3,7 @@
 ghost use Rattle.std.specs.Int.{from_le_bytes, w64};
 ghost use Rattle.std.specs.Prelude.{◌≡◌, ◌≢◌, ◌+◌, ◌-◌, ◌*◌, ◌/◌, ◌<◌, ◌≤◌, ◌==◌, ◌++◌, ◌∷◌, ℕ, cond, drop, length, List, Some, take};
 ghost use Rattle.frame_store.specs.Laws.{CountBecomes, Fits, IsAnchored, Keeps};
-ghost use Rattle.frame_store.specs.Next.{IsNextWord};
+ghost use Rattle.frame_store.specs.Next.{IsNextBusyWord, IsNextWord};
 ghost use Rattle.frame_store.specs.View.{AllKnown, IsHeld, IsSole, joined, known_word, looked, released, View, with_many, with_word, without_credits, words_known};
 
 use crate::bytes::whole_word;
@@ -66,6 +66,27 @@ pub trait FrameAccess {
             }
         }
         None
+    }
+
+    /// The same, but a word that names a frame of zeros may be passed over: as a page table entry it is a pointer to a table
+    /// without entries. A store need not know of any.
+    fn next_busy_word(
+        &mut self,
+        seat: &mut Self::Seat,
+        frame: FrameNo,
+        first: usize,
+        last: usize,
+    ) -> Option<(usize, u64)>
+        requires fits { Fits rule self.old seat.old }
+        requires held { IsHeld (Self.Seat.view seat.old) frame.0 }
+        requires low { first ≤ last }
+        requires in_page { last ≤ 512 }
+        ensures word { IsNextBusyWord (Self.Seat.view seat.old) frame.0 first last result }
+        ensures view { Self.Seat.view seat.new ≡ Self.Seat.view seat.old }
+        ensures same { self.new ≡ self.old }
+        ensures keeps { Keeps rule self.old seat.old self.new seat.new }
+    {
+        self.next_word(seat, frame, first, last)
     }
 
     /// Puts a word at an index of a frame of which the seat is the sole holder.

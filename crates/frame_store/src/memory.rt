@@ -1,0 +1,198 @@
+// The words of frames, and between which indices of each frame there are others than 0.
+
+ghost use Rattle.std.specs.Int.{from_le_bytes, w64};
+ghost use Rattle.std.specs.Prelude.{◌≡◌, ◌+◌, ◌-◌, ◌*◌, ◌/◌, ◌<◌, ◌≤◌, IfOk, length, drop, replicate, slice_index, slice_set, take, true};
+ghost use Rattle.frame_store.specs.Blank.{IsNextBusy, IsNextIn, NamesBlank, PutsMany, ZerosIn};
+
+use crate::bytes::put_words;
+use crate::zeros::zeros_in_front;
+use std::alloc::{AllocError, Global};
+use std::marker::Model;
+use sv39_entry::{Entry, FrameNo};
+
+/// How many words a frame has.
+const WORDS: usize = 512;
+
+/// The words of all frames, frame by frame, which contracts see as their list. Where a frame has words that are not 0 is known
+/// by two indices: a word that is stored moves them apart, and a search that finds zeros moves them together. So a frame whose
+/// words have all become 0 is read once more, and not again.
+#[derive(Drop)]
+pub(crate) struct Memory {
+    words: Vec<u64>,
+    /// Before this index each word of a frame is 0.
+    lows: Vec<u16>,
+    /// From this index on each word of a frame is 0.
+    highs: Vec<u16>,
+}
+
+impl Model for Memory {
+    ghost use Rattle.std.specs.Prelude.{List, ℕ};
+    ghost use Rattle.frame_store.specs.Blank.{Runs};
+
+    ghost Value = { List ℕ };
+
+    ghost view = { λ s. s.words.items };
+
+    ghost invariant = { λ s. Runs s.words.items s.lows.items s.highs.items };
+}
+
+impl Memory {
+    /// So many frames of zeros.
+    pub(crate) fn new(alloc: Global, frames: usize) -> Result<Memory, AllocError>
+        requires few { frames ≤ 1024 }
+        ensures zeros { IfOk result (λ m. m ≡ replicate (512 * frames) 0) }
+    {
+        let words = Vec::from_elem(alloc, 0, WORDS * frames)?;
+        let lows = Vec::from_elem(alloc, WORDS as u16, frames)?;
+        let highs = Vec::from_elem(alloc, 0, frames)?;
+        Ok(Memory { words, lows, highs })
+    }
+
+    /// The word at an index of a frame.
+    pub(crate) fn word(&self, frame: FrameNo, index: usize) -> u64
+        requires room { 512 * frame.0 + 512 ≤ length self.now }
+        requires in_page { index < 512 }
+        ensures { result ≡ slice_index self.now (512 * frame.0 + index) }
+    {
+        self.words[WORDS * frame.0 as usize + index]
+    }
+
+    /// The first word of a frame that is not 0, from one index on and before another, and its index.
+    pub(crate) fn next(&mut self, frame: FrameNo, first: usize, last: usize) -> Option<(usize, u64)>
+        requires room { 512 * frame.0 + 512 ≤ length self.old }
+        requires low { first ≤ last }
+        requires in_page { last ≤ 512 }
+        ensures word { IsNextIn self.old frame.0 first last result }
+        ensures same { self.new ≡ self.old }
+    {
+        let from = first.max(self.lows[frame.0 as usize] as usize);
+        let to = last.min(self.highs[frame.0 as usize] as usize);
+        if to <= from {
+            return None;
+        }
+        let base = WORDS * frame.0 as usize;
+        let at = from + zeros_in_front(&self.words[base + from..base + to]);
+        if at == to {
+            self.learn(frame, first, last);
+            return None;
+        }
+        self.learn(frame, first, at);
+        Some((at, self.words[base + at]))
+    }
+
+    /// Keeps that the words of a frame from one index on and before another are 0, where it moves one of the frame's two indices.
+    fn learn(&mut self, frame: FrameNo, first: usize, end: usize)
+        requires room { 512 * frame.0 + 512 ≤ length self.old }
+        requires low { first ≤ end }
+        requires in_page { end ≤ 512 }
+        requires zeros { ZerosIn self.old frame.0 first end }
+        ensures { self.new ≡ self.old }
+    {
+        let at = frame.0 as usize;
+        if first <= self.lows[at] as usize {
+            self.lows[at] = self.lows[at].max(end as u16);
+            return;
+        }
+        if end < self.highs[at] as usize {
+            return;
+        }
+        self.highs[at] = self.highs[at].min(first as u16);
+    }
+
+    /// The same, but words that name a frame of which each word is known to be 0 are passed over too.
+    pub(crate) fn next_busy(
+        &mut self,
+        frame: FrameNo,
+        first: usize,
+        last: usize,
+    ) -> Option<(usize, u64)>
+        requires room { 512 * frame.0 + 512 ≤ length self.old }
+        requires low { first ≤ last }
+        requires in_page { last ≤ 512 }
+        ensures word { IsNextBusy self.old frame.0 first last result }
+        ensures same { self.new ≡ self.old }
+    {
+        let mut from = first;
+        'words: while let Some((index, word)) = self.next(frame, from, last) {
+            if !self.names_blank(word) {
+                return Some((index, word));
+            }
+            from = index + 1;
+        }
+        None
+    }
+
+    /// Whether a word names a frame of which each word is known to be 0.
+    fn names_blank(&self, word: u64) -> bool
+        ensures { result ≡ true → NamesBlank self.now word }
+    {
+        match FrameNo::from_ppn(Entry::from_word(word).ppn()) {
+            Some(frame) => self.is_blank(frame),
+            None => false,
+        }
+    }
+
+    /// Whether each word of a frame is known to be 0.
+    fn is_blank(&self, frame: FrameNo) -> bool
+        ensures { result ≡ true → ZerosIn self.now frame.0 0 512 }
+    {
+        let at = frame.0 as usize;
+        at < self.lows.len() && self.highs[at] <= self.lows[at]
+    }
+
+    /// Puts a word at an index of a frame.
+    pub(crate) fn put(&mut self, frame: FrameNo, index: usize, value: u64)
+        requires room { 512 * frame.0 + 512 ≤ length self.old }
+        requires in_page { index < 512 }
+        ensures { self.new ≡ slice_set self.old (512 * frame.0 + index) value }
+    {
+        self.words[WORDS * frame.0 as usize + index] = value;
+        if value == 0 {
+            return;
+        }
+        let place = index as u16;
+        self.lows[frame.0 as usize] = self.lows[frame.0 as usize].min(place);
+        self.highs[frame.0 as usize] = self.highs[frame.0 as usize].max(place + 1);
+    }
+
+    /// Makes each word of a frame 0 from an index on.
+    pub(crate) fn clear(&mut self, frame: FrameNo, first: usize)
+        requires room { 512 * frame.0 + 512 ≤ length self.old }
+        requires in_page { first ≤ 512 }
+        ensures { PutsMany self.old self.new frame.0 first (512 - first) (λ _. 0) }
+    {
+        let base = WORDS * frame.0 as usize;
+        self.words[base + first..base + WORDS].fill(0);
+        self.highs[frame.0 as usize] = self.highs[frame.0 as usize].min(first as u16);
+        if first > 0 {
+            return;
+        }
+        self.lows[frame.0 as usize] = WORDS as u16;
+    }
+
+    /// Fills the first words of a frame, each with eight bytes, the lowest first. Bytes behind the last whole word are left
+    /// out.
+    pub(crate) fn fill(&mut self, frame: FrameNo, bytes: &[u8])
+        requires room { 512 * frame.0 + 512 ≤ length self.old }
+        requires in_page { length bytes.now ≤ 4096 }
+        ensures { PutsMany self.old self.new frame.0 0 (length bytes.now / 8) (λ i. from_le_bytes w64 (take 8 (drop (8 * i) bytes.now))) }
+    {
+        let base = WORDS * frame.0 as usize;
+        put_words(&mut self.words[base..base + WORDS], bytes);
+        self.lows[frame.0 as usize] = 0;
+        self.highs[frame.0 as usize] = self.highs[frame.0 as usize].max((bytes.len() / 8) as u16);
+    }
+
+    /// Copies all words of a frame into another one.
+    pub(crate) fn copy(&mut self, from: FrameNo, to: FrameNo)
+        requires from { 512 * from.0 + 512 ≤ length self.old }
+        requires to { 512 * to.0 + 512 ≤ length self.old }
+        ensures { PutsMany self.old self.new to.0 0 512 (λ i. slice_index self.old (512 * from.0 + i)) }
+    {
+        let source = WORDS * from.0 as usize;
+        let target = WORDS * to.0 as usize;
+        self.words.copy_within(source..source + WORDS, target);
+        self.lows[to.0 as usize] = self.lows[from.0 as usize];
+        self.highs[to.0 as usize] = self.highs[from.0 as usize];
+    }
+}
