@@ -1,4 +1,4 @@
--- The words of frames in a row, 512 a frame: where they are 0, and which frames have no other words.
+-- The words of frames in a row, 512 a frame: where they are 0, and which frames are all zeros.
 use Rattle.std.specs.Prelude.{◌≡◌, ◌≢◌, ◌⊎◌, ℕ, ◌+◌, ◌*◌, ◌<◌, ◌≤◌, List, length, slice_index, Option, None, Some}
 use Rattle.sv39_entry.specs.Frame.{frame_at}
 use Rattle.sv39_entry.specs.Word.{ppn}
@@ -8,11 +8,11 @@ use Rattle.sv39_entry.specs.declared.frame.FrameNo.{FrameNo}
 abbrev pub ZerosIn : List ℕ → ℕ → ℕ → ℕ → Type 0
 ZerosIn words f first end = (i : ℕ) → first ≤ i → i < end → slice_index words (512 * f + i) ≡ 0
 
--- a word has the page number of a frame without other words than 0
+-- a word has the page number of a frame of zeros
 abbrev pub NamesBlank : List ℕ → ℕ → Type 0
 NamesBlank words w = (g : FrameNo) × (frame_at (ppn w) ≡ Some g) × ZerosIn words g.0 0 512
 
--- the words of a frame from one index on and before another are 0 or name such frames
+-- the words of a frame from one index on and before another are 0 or name frames of zeros
 abbrev pub IdleIn : List ℕ → ℕ → ℕ → ℕ → Type 0
 IdleIn words f first end = (i : ℕ) → first ≤ i → i < end → (slice_index words (512 * f + i) ≡ 0) ⊎ NamesBlank words (slice_index words (512 * f + i))
 
@@ -28,12 +28,12 @@ abbrev pub IsNextIn : List ℕ → ℕ → ℕ → ℕ → Option (ℕ × ℕ) �
 IsNextIn words f first last None = ZerosIn words f first last
 IsNextIn words f first last (Some p) = IsWordIn words f first last p.0 p.1 × ZerosIn words f first p.0
 
--- the first of them but for some that name frames without other words than 0
+-- one before which each word is 0 or names a frame of zeros
 abbrev pub IsNextBusy : List ℕ → ℕ → ℕ → ℕ → Option (ℕ × ℕ) → Type 0
 IsNextBusy words f first last None = IdleIn words f first last
 IsNextBusy words f first last (Some p) = IsWordIn words f first last p.0 p.1 × IdleIn words f first p.0
 
--- of each frame the words before one index and from another one on are 0
+-- the words of each frame before one index, and from another on, are 0
 pub record Runs (words lows highs : List ℕ) : Type 0 where
   pub sized : length words ≡ 512 * length lows
   pub same : length highs ≡ length lows
@@ -41,7 +41,7 @@ pub record Runs (words lows highs : List ℕ) : Type 0 where
   pub before : (f : ℕ) → ZerosIn words f 0 (slice_index lows f)
   pub behind : (f : ℕ) → ZerosIn words f (slice_index highs f) 512
 
--- words of a frame from an index on, so many, are written, each as it is told for its index, and no others
+-- n words of a frame from an index on are written, each as `word` has it for its index, and no others
 pub record PutsMany (old new : List ℕ) (f first n : ℕ) (word : ℕ → ℕ) : Type 0 where
   pub long : length new ≡ length old
   pub inside : (q : ℕ) → first ≤ q → q < first + n → slice_index new (512 * f + q) ≡ word q

@@ -68,8 +68,9 @@ pub trait FrameAccess {
         None
     }
 
-    /// The same, but a word that names a frame of zeros may be passed over: as a page table entry it is a pointer to a table
-    /// without entries. A store need not know of any.
+    /// A word of a frame that is not 0, from one index on and before another, and its index. Each word before it is 0 or names a
+    /// frame of zeros: as a page table entry, it points to a table without entries. A store that keeps no account of such frames
+    /// returns the first word that is not 0.
     fn next_busy_word(
         &mut self,
         seat: &mut Self::Seat,

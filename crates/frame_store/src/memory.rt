@@ -1,4 +1,4 @@
-// The words of frames, and between which indices of each frame there are others than 0.
+// The words of frames, and where each frame has words that are not 0.
 
 ghost use Rattle.std.specs.Int.{from_le_bytes, w64};
 ghost use Rattle.std.specs.Prelude.{◌≡◌, ◌+◌, ◌-◌, ◌*◌, ◌/◌, ◌<◌, ◌≤◌, IfOk, length, drop, replicate, slice_index, slice_set, take, true};
@@ -13,15 +13,15 @@ use sv39_entry::{Entry, FrameNo};
 /// How many words a frame has.
 const WORDS: usize = 512;
 
-/// The words of all frames, frame by frame, which contracts see as their list. Where a frame has words that are not 0 is known
-/// by two indices: a word that is stored moves them apart, and a search that finds zeros moves them together. So a frame whose
-/// words have all become 0 is read once more, and not again.
+/// The words of all frames, frame by frame; contracts see the list. For each frame, two indices bound its words that are not 0:
+/// a store moves them apart, and a search that reads zeros moves them together. So once a search has found a frame to be all
+/// zeros, no search reads its words until another word is stored.
 #[derive(Drop)]
 pub(crate) struct Memory {
     words: Vec<u64>,
-    /// Before this index each word of a frame is 0.
+    /// The words of a frame before this index are 0.
     lows: Vec<u16>,
-    /// From this index on each word of a frame is 0.
+    /// The words of a frame from this index on are 0.
     highs: Vec<u16>,
 }
 
@@ -37,7 +37,7 @@ impl Model for Memory {
 }
 
 impl Memory {
-    /// So many frames of zeros.
+    /// `frames` frames of zeros.
     pub(crate) fn new(alloc: Global, frames: usize) -> Result<Memory, AllocError>
         requires few { frames ≤ 1024 }
         ensures zeros { IfOk result (λ m. m ≡ replicate (512 * frames) 0) }
@@ -57,7 +57,7 @@ impl Memory {
         self.words[WORDS * frame.0 as usize + index]
     }
 
-    /// The first word of a frame that is not 0, from one index on and before another, and its index.
+    /// The first word of a frame that is not 0, at or after `first` and before `last`, and its index.
     pub(crate) fn next(&mut self, frame: FrameNo, first: usize, last: usize) -> Option<(usize, u64)>
         requires room { 512 * frame.0 + 512 ≤ length self.old }
         requires low { first ≤ last }
@@ -80,7 +80,7 @@ impl Memory {
         Some((at, self.words[base + at]))
     }
 
-    /// Keeps that the words of a frame from one index on and before another are 0, where it moves one of the frame's two indices.
+    /// Moves an index of a frame whose words from `first` on and before `end` were found to be 0.
     fn learn(&mut self, frame: FrameNo, first: usize, end: usize)
         requires room { 512 * frame.0 + 512 ≤ length self.old }
         requires low { first ≤ end }
@@ -99,7 +99,8 @@ impl Memory {
         self.highs[at] = self.highs[at].min(first as u16);
     }
 
-    /// The same, but words that name a frame of which each word is known to be 0 are passed over too.
+    /// The first word of a frame, at or after `first` and before `last`, that is not 0 and names no frame known to be all zeros,
+    /// and its index.
     pub(crate) fn next_busy(
         &mut self,
         frame: FrameNo,
@@ -122,7 +123,7 @@ impl Memory {
         None
     }
 
-    /// Whether a word names a frame of which each word is known to be 0.
+    /// Whether a word names a frame known to be all zeros, by the page number that it has as a page table entry.
     fn names_blank(&self, word: u64) -> bool
         ensures { result ≡ true → NamesBlank self.now word }
     {
@@ -132,7 +133,7 @@ impl Memory {
         }
     }
 
-    /// Whether each word of a frame is known to be 0.
+    /// Whether a frame is known to be all zeros.
     fn is_blank(&self, frame: FrameNo) -> bool
         ensures { result ≡ true → ZerosIn self.now frame.0 0 512 }
     {
@@ -155,7 +156,7 @@ impl Memory {
         self.highs[frame.0 as usize] = self.highs[frame.0 as usize].max(place + 1);
     }
 
-    /// Makes each word of a frame 0 from an index on.
+    /// Makes the words of a frame 0 from an index on.
     pub(crate) fn clear(&mut self, frame: FrameNo, first: usize)
         requires room { 512 * frame.0 + 512 ≤ length self.old }
         requires in_page { first ≤ 512 }
@@ -170,8 +171,7 @@ impl Memory {
         self.lows[frame.0 as usize] = WORDS as u16;
     }
 
-    /// Fills the first words of a frame, each with eight bytes, the lowest first. Bytes behind the last whole word are left
-    /// out.
+    /// Fills the first words of a frame, each with eight bytes, the lowest first. Bytes after the last whole word are left out.
     pub(crate) fn fill(&mut self, frame: FrameNo, bytes: &[u8])
         requires room { 512 * frame.0 + 512 ≤ length self.old }
         requires in_page { length bytes.now ≤ 4096 }

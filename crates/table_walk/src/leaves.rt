@@ -14,10 +14,9 @@ use crate::tables::table_in;
 use frame_store::{FrameAccess, FrameSeat};
 use sv39_entry::{Entry, FrameNo, Vpn};
 
-/// The first leaf at or after a page and before another one, which is given by its number, and its page. Pages are numbered by
-/// their indices alone, which is the page number below 2^26: of the pages above, which no process has, the answer's number has
-/// the indices and not the upper bits. Reads no table that is not there, nor those of pages from the end on, nor tables of which
-/// the store knows that they have no entries.
+/// The first leaf at or after `from` and before the page numbered `end`, and its page. Pages are numbered by their indices alone,
+/// which is the page number below 2^26: of the pages above, which no process has, the result's number has the indices and not the
+/// upper bits. Reads only tables that exist and have a page before the end, and no table that the store knows to be empty.
 pub fn next_leaf_before<F: FrameAccess>(
     store: &mut F,
     seat: &mut F::Seat,
@@ -103,8 +102,8 @@ fn next_at<F: FrameAccess>(
     next_below(store, seat, next, level - 1, from, end)
 }
 
-/// The next word of a table of a level that may be a leaf or have one below it, from one index on and before another, and its
-/// index. Tables of which the store knows that they have no entries are passed over.
+/// A word of a table of a level that is not 0, from one index on and before another, and its index. No word before it is a leaf or
+/// has one below it. Passes over pointers to tables that the store knows to be empty.
 fn next_entry<F: FrameAccess>(
     store: &mut F,
     seat: &mut F::Seat,
