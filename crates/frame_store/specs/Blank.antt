@@ -12,9 +12,13 @@ ZerosIn words f first end = (i : ℕ) → first ≤ i → i < end → slice_inde
 abbrev pub NamesBlank : List ℕ → ℕ → Type 0
 NamesBlank words w = (g : FrameNo) × (frame_at (ppn w) ≡ Some g) × ZerosIn words g.0 0 512
 
+-- a word is 0 or names such a frame
+abbrev pub IsIdle : List ℕ → ℕ → Type 0
+IsIdle words w = (w ≡ 0) ⊎ NamesBlank words w
+
 -- the words of a frame from one index on and before another are 0 or name frames of zeros
 abbrev pub IdleIn : List ℕ → ℕ → ℕ → ℕ → Type 0
-IdleIn words f first end = (i : ℕ) → first ≤ i → i < end → (slice_index words (512 * f + i) ≡ 0) ⊎ NamesBlank words (slice_index words (512 * f + i))
+IdleIn words f first end = (i : ℕ) → first ≤ i → i < end → IsIdle words (slice_index words (512 * f + i))
 
 -- a word that is not 0 of a frame, from one index on and before another, and its index
 pub record IsWordIn (words : List ℕ) (f first last index word : ℕ) : Type 0 where

@@ -1,8 +1,8 @@
 // The words of frames, and where each frame has words that are not 0.
 
 ghost use Rattle.std.specs.Int.{from_le_bytes, w64};
-ghost use Rattle.std.specs.Prelude.{◌≡◌, ◌+◌, ◌-◌, ◌*◌, ◌/◌, ◌<◌, ◌≤◌, IfOk, length, drop, replicate, slice_index, slice_set, take, true};
-ghost use Rattle.frame_store.specs.Blank.{IsNextBusy, IsNextIn, NamesBlank, PutsMany, ZerosIn};
+ghost use Rattle.std.specs.Prelude.{◌≡◌, ◌+◌, ◌-◌, ◌*◌, ◌/◌, ◌<◌, ◌≤◌, ◌≢◌, false, IfOk, length, drop, replicate, slice_index, slice_set, take, true};
+ghost use Rattle.frame_store.specs.Blank.{IsIdle, IsNextBusy, IsNextIn, NamesBlank, PutsMany, ZerosIn};
 
 use crate::bytes::put_words;
 use crate::zeros::zeros_in_front;
@@ -102,25 +102,33 @@ impl Memory {
     /// The first word of a frame, at or after `first` and before `last`, that is not 0 and names no frame known to be all zeros,
     /// and its index.
     pub(crate) fn next_busy(
-        &mut self,
+        &self,
         frame: FrameNo,
         first: usize,
         last: usize,
     ) -> Option<(usize, u64)>
-        requires room { 512 * frame.0 + 512 ≤ length self.old }
-        requires low { first ≤ last }
+        requires room { 512 * frame.0 + 512 ≤ length self.now }
         requires in_page { last ≤ 512 }
-        ensures word { IsNextBusy self.old frame.0 first last result }
-        ensures same { self.new ≡ self.old }
+        ensures { IsNextBusy self.now frame.0 first last result }
     {
-        let mut from = first;
-        'words: while let Some((index, word)) = self.next(frame, from, last) {
-            if !self.names_blank(word) {
+        let base = WORDS * frame.0 as usize;
+        let from = first.max(self.lows[frame.0 as usize] as usize);
+        let to = last.min(self.highs[frame.0 as usize] as usize);
+        'words: for index in from..to {
+            let word = self.words[base + index];
+            if !self.is_idle(word) {
                 return Some((index, word));
             }
-            from = index + 1;
         }
         None
+    }
+
+    /// Whether a word is 0 or names a frame known to be all zeros.
+    fn is_idle(&self, word: u64) -> bool
+        ensures idle { result ≡ true → IsIdle self.now word }
+        ensures busy { result ≡ false → word ≢ 0 }
+    {
+        word == 0 || self.names_blank(word)
     }
 
     /// Whether a word names a frame known to be all zeros, by the page number that it has as a page table entry.
