@@ -1,7 +1,6 @@
-use Rattle.std.proofs.Common.{◌≡◌, ℕ, ◌+◌, ◌*◌, ◌/◌, ◌<◌, ◌≤◌, drop, Some}
+use Rattle.std.proofs.Common.{ℕ, ◌+◌, ◌*◌, ◌/◌, ◌≤◌, drop}
 use Rattle.address_space.specs.Settled.{AreSettled}
-use Rattle.process_model.specs.PageMap.{get}
-use Rattle.process_model.specs.Process.{Page, Process}
+use Rattle.process_model.specs.Process.{Process}
 use Rattle.sv39_entry.specs.Address.{trapframe_page}
 use Rattle.table_walk.specs.Tables.{Tables}
 use Rattle.cow_fork.proofs.Counting.{CountsBelow}
