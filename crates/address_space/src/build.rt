@@ -23,7 +23,7 @@ use sv39_entry::{Entry, FrameNo, PAGE_SIZE, Rights, TRAMPOLINE, TRAPFRAME, Va};
 use table_walk::{map, missing_is_growth, new_table};
 
 /// Frame 0 has the trampoline's code, for all address spaces.
-const TRAMPOLINE_FRAME: FrameNo = FrameNo(0);
+pub const TRAMPOLINE_FRAME: FrameNo = FrameNo(0);
 
 impl<S: FrameSeat> Space<S> {
     /// The space of a process that begins with these parts. All frames are reserved together, before anything is built.

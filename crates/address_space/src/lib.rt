@@ -17,6 +17,7 @@ mod settled;
 mod space;
 mod user;
 
+pub use build::TRAMPOLINE_FRAME;
 pub use kernel::{KernelTable, leaf_for_kernel};
 pub use laws::walks_grant_what_is_resident;
 pub use layout::Layout;

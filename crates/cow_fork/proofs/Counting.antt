@@ -10,7 +10,7 @@ use Rattle.std.specs.Prelude.{Contains, is_some}
 use Rattle.process_model.specs.Inserted.{behind, first_or, in_front, same_finds}
 use Rattle.process_model.specs.PageMap.{contains, count, get, keys, numbers, PageMap}
 use Rattle.process_model.specs.Process.{Page, Process}
-use Rattle.process_model.specs.ValueSets.{AreCounted, div_up, has_value, none_in, one_more, two_more, value_of, values}
+use Rattle.process_model.specs.ValueSets.{AreCounted, div_up, has_value, none_counted, none_in, one_more, two_more, value_of, values}
 use Rattle.sv39_entry.specs.Address.{trampoline_page, trapframe_page}
 use Rattle.table_walk.specs.Tables.{Tables}
 use Rattle.address_space.specs.Settled.{IsNextSettled}
@@ -69,6 +69,19 @@ pub record CountsBelow (size : ℕ) (settled : PageMap Page) (n table : ℕ) : T
   pub there : (x : ℕ) → Contains found x → Contains (keys settled) x
   pub all : (x : ℕ) (s : Page) → get settled x ≡ Some s → x / size < table → contains (values (λ m. m / size) found) (x / size) ≡ true
 
+-- no table is counted yet
+pub counts_none : (size : ℕ) (settled : PageMap Page) → CountsBelow size settled 0 0
+counts_none size settled = record {
+  found = [];
+  tables = none_counted (λ m. m / size);
+  there = λ x h. absurd (none_in x h);
+  all = λ x s is less. absurd (omega (arith, less));
+}
+
+-- a page is in the table that has its number
+pub in_table : (size x : ℕ) → 0 < size → x + 1 ≤ (x / size + 1) * size
+in_table size x some = let under = (div-lt_iff_lt-mul {x = x} {y = x / size + 1} some).0 (omega arith) in omega (arith, under)
+
 module _ (size : ℕ) (some : 0 < size) (t : Tables) (p : Process) (n table : ℕ) (so_far : CountsBelow size p.settled n table) where
   abbrev at_table : ℕ → ℕ
   at_table m = m / size
@@ -108,6 +121,25 @@ module _ (size : ℕ) (some : 0 < size) (t : Tables) (p : Process) (n table : �
 
     pub goes_up : table < x.page / size + 1
     goes_up = let above = up in omega (arith, above)
+
+  -- the list goes on behind a page, below which each table is counted
+  module _ (first : ℕ) (before : first ≤ table * size) where
+    -- the next page of the list needs another table
+    pub next_table : (x : SettledPage) → IsNextSettled t p first trapframe_page (Some x) → table ≤ x.page / size → IsNextSettled t p (table * size) trapframe_page (Some x)
+    next_table x next above =
+        let from : table * size ≤ x.page = elim (cases_lt x.page (table * size)) as (λ _. table * size ≤ x.page) [
+          | inl less ↦ absurd (let under = (div-lt_iff_lt-mul some).1 less in omega (arith, under, above))
+          | inr more ↦ more
+        ] in
+        (from, next.1, (λ n late early. next.2 n (omega (arith, before, late)) early), next.3)
+
+    -- or one that is counted
+    pub same_table : (x : ℕ) → x / size < table → x + 1 ≤ table * size
+    same_table x less = let under = (div-lt_iff_lt-mul some).0 less in omega (arith, under)
+
+    -- no page is left
+    pub none_left : IsNextSettled t p first trapframe_page None → IsNextSettled t p (table * size) trapframe_page None
+    none_left none n from lt = none n (omega (arith, before, from)) lt
 
   -- no page is left: with the two pages of the kernel, which share their tables
   module _ (none : IsNextSettled t p (table * size) trapframe_page None) (low : (y : ℕ) (s : Page) → get p.settled y ≡ Some s → y < trapframe_page)

@@ -122,7 +122,7 @@ pub fn fork_listed<S: FrameSeat, F: FrameSupply<Seat = S>>(
     ensures keeps { IfOk result (λ child. (others : List S) → F.rule store.old (space.old.seat ∷ others) → F.rule store.new (space.new.seat ∷ child.seat ∷ others)) }
     ensures keeps_refused { IfErr result (λ _. Keeps F.rule store.old space.old.seat store.new space.new.seat) }
 {
-    let need = fork_need(space, store);
+    let need = fork_need(settled);
     let mut frames = ArrayVec::new();
     if let Err(refusal) = prepare(space, store, settled, need, &mut frames) {
         return Err(refusal);

@@ -6,13 +6,10 @@ ghost use Rattle.cow_fork.specs.Sharing.{frames_of, HasMore};
 ghost use Rattle.frame_store.specs.Laws.{CountBecomes, Fits, IsAnchored, Keeps};
 ghost use Rattle.frame_store.specs.View.{counted, hold_of, IsHeld, read_full, shared, View};
 
-use address_space::{SettledPage, Space};
+use address_space::{SettledPage, Space, TRAMPOLINE_FRAME};
 use arrayvec::ArrayVec;
 use frame_store::{FrameAccess, FrameSeat, FrameSupply, SharersFull};
 use sv39_entry::FrameNo;
-
-/// Frame 0 has the trampoline's code, for all address spaces.
-pub(crate) const TRAMPOLINE_FRAME: FrameNo = FrameNo(0);
 
 /// Takes one more reference of frame 0, and of the frame of each settled page, and lists them. Where one of them has as many
 /// references as can be counted, those that were taken are listed.

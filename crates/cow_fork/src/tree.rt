@@ -11,8 +11,7 @@ ghost use Rattle.process_model.specs.Residence.{marked};
 ghost use Rattle.sv39_entry.specs.Address.{trapframe_page};
 ghost use Rattle.table_walk.specs.Tables.{Tables};
 
-use crate::sharing::TRAMPOLINE_FRAME;
-use address_space::{SettledPage, Space, leaf_for_kernel};
+use address_space::{SettledPage, Space, TRAMPOLINE_FRAME, leaf_for_kernel};
 use frame_store::{FrameAccess, FrameSeat, FrameSupply};
 use sv39_entry::{Access, FrameNo, TRAMPOLINE, TRAPFRAME};
 use table_walk::{map, missing_is_growth, new_table};

@@ -1,3 +1,4 @@
+pub mod Blank
 pub mod View
 pub mod Holds
 pub mod Many

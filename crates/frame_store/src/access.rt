@@ -3,7 +3,7 @@
 ghost use Rattle.std.specs.Int.{from_le_bytes, w64};
 ghost use Rattle.std.specs.Prelude.{◌≡◌, ◌≢◌, ◌+◌, ◌-◌, ◌*◌, ◌/◌, ◌<◌, ◌≤◌, ◌==◌, ◌++◌, ◌∷◌, ℕ, cond, drop, length, List, Some, take};
 ghost use Rattle.frame_store.specs.Laws.{CountBecomes, Fits, IsAnchored, Keeps};
-ghost use Rattle.frame_store.specs.Next.{IsNextWord};
+ghost use Rattle.frame_store.specs.Next.{IsNextBusyWord, IsNextWord};
 ghost use Rattle.frame_store.specs.View.{AllKnown, IsHeld, IsSole, joined, known_word, looked, released, View, with_many, with_word, without_credits, words_known};
 
 use crate::bytes::whole_word;
@@ -66,6 +66,28 @@ pub trait FrameAccess {
             }
         }
         None
+    }
+
+    /// A word of a frame that is not 0, from one index on and before another, and its index. Each word before it is 0 or names a
+    /// frame of zeros: as a page table entry, it points to a table without entries. A store that keeps no account of such frames
+    /// returns the first word that is not 0.
+    fn next_busy_word(
+        &mut self,
+        seat: &mut Self::Seat,
+        frame: FrameNo,
+        first: usize,
+        last: usize,
+    ) -> Option<(usize, u64)>
+        requires fits { Fits rule self.old seat.old }
+        requires held { IsHeld (Self.Seat.view seat.old) frame.0 }
+        requires low { first ≤ last }
+        requires in_page { last ≤ 512 }
+        ensures word { IsNextBusyWord (Self.Seat.view seat.old) frame.0 first last result }
+        ensures view { Self.Seat.view seat.new ≡ Self.Seat.view seat.old }
+        ensures same { self.new ≡ self.old }
+        ensures keeps { Keeps rule self.old seat.old self.new seat.new }
+    {
+        self.next_word(seat, frame, first, last)
     }
 
     /// Puts a word at an index of a frame of which the seat is the sole holder.

@@ -9,6 +9,7 @@
 mod access;
 mod bytes;
 mod knowledge;
+mod memory;
 mod opening;
 mod plain;
 mod refusal;

@@ -5,19 +5,15 @@ ghost use Rattle.frame_store.specs.Plain.{BankRule, held_within, is_shared, is_z
 ghost use Rattle.frame_store.specs.View.{opening_view};
 
 use crate::access::{FrameAccess, FrameSeat};
-use crate::bytes::put_words;
 use crate::knowledge::{Knowledge, knowing};
+use crate::memory::Memory;
 use crate::refusal::{NoFrame, SharersFull};
 use crate::supply::FrameSupply;
-use crate::zeros::zeros_in_front;
 use arrayvec::ArrayVec;
 use process_model::Report;
 use std::alloc::{AllocError, Global};
 use std::marker::Model;
 use sv39_entry::FrameNo;
-
-/// How many words a frame has.
-const WORDS: usize = 512;
 
 /// As many references as a frame can have.
 const MOST_REFERENCES: u16 = u16::MAX;
@@ -26,8 +22,7 @@ const MOST_REFERENCES: u16 = u16::MAX;
 /// frames of count 0 there are beside all credits.
 #[derive(Drop)]
 pub struct PlainFrames {
-    /// All words, frame by frame.
-    words: Vec<u64>,
+    words: Memory,
     counts: Vec<u16>,
     free: usize,
     /// The frames of count 0.
@@ -39,7 +34,7 @@ impl Model for PlainFrames {
 
     ghost Value = { Bank };
 
-    ghost view = { λ s. record { words = s.words.items; counts = s.counts.items; free = s.free } };
+    ghost view = { λ s. record { words = s.words; counts = s.counts.items; free = s.free } };
 
     ghost invariant = { λ s. ListsUnused s.unused.items s.counts.items };
 }
@@ -73,7 +68,7 @@ impl PlainFrames {
         ensures store { IfOk result (λ r. r.0 ≡ opening_bank frames) }
         ensures rule { IfOk result (λ r. BankRule r.0 (r.1 ∷ [])) }
     {
-        let words = Vec::from_elem(alloc, 0, WORDS * frames)?;
+        let words = Memory::new(alloc, frames)?;
         let mut counts = Vec::from_elem(alloc, 0, frames)?;
         let mut unused = ArrayVec::new();
         for frame in 1..frames {
@@ -151,8 +146,7 @@ impl FrameAccess for PlainFrames {
     ghost within = { held_within };
 
     fn load(&mut self, _seat: &mut PlainSeat, frame: FrameNo, index: usize) -> u64 {
-        let place = WORDS * frame.0 as usize + index;
-        self.words[place]
+        self.words.word(frame, index)
     }
 
     fn next_word(
@@ -162,37 +156,36 @@ impl FrameAccess for PlainFrames {
         first: usize,
         last: usize,
     ) -> Option<(usize, u64)> {
-        let base = WORDS * frame.0 as usize;
-        let words = &self.words[base + first..base + last];
-        let zeros = zeros_in_front(words);
-        if zeros == words.len() {
-            return None;
-        }
-        Some((first + zeros, words[zeros]))
+        self.words.next(frame, first, last)
+    }
+
+    fn next_busy_word(
+        &mut self,
+        _seat: &mut PlainSeat,
+        frame: FrameNo,
+        first: usize,
+        last: usize,
+    ) -> Option<(usize, u64)> {
+        self.words.next_busy(frame, first, last)
     }
 
     fn store(&mut self, seat: &mut PlainSeat, frame: FrameNo, index: usize, value: u64) {
-        let place = WORDS * frame.0 as usize + index;
-        self.words[place] = value;
+        self.words.put(frame, index, value);
         seat.known = knowing(&(&seat.known, frame, index, value));
     }
 
     fn clear(&mut self, seat: &mut PlainSeat, frame: FrameNo, first: usize) {
-        let base = WORDS * frame.0 as usize;
-        self.words[base + first..base + WORDS].fill(0);
+        self.words.clear(frame, first);
         seat.known = knowing(&(&seat.known, frame, first));
     }
 
     fn fill(&mut self, seat: &mut PlainSeat, frame: FrameNo, bytes: &[u8]) {
-        let base = WORDS * frame.0 as usize;
-        put_words(&mut self.words[base..base + WORDS], bytes);
+        self.words.fill(frame, bytes);
         seat.known = knowing(&(&seat.known, frame, bytes));
     }
 
     fn copy(&mut self, seat: &mut PlainSeat, from: FrameNo, to: FrameNo) {
-        let source = WORDS * from.0 as usize;
-        let target = WORDS * to.0 as usize;
-        self.words.copy_within(source..source + WORDS, target);
+        self.words.copy(from, to);
         seat.known = knowing(&(&seat.known, from, to));
     }
 

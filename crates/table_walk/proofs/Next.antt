@@ -1,19 +1,22 @@
 -- The first leaf from a place on, index by index.
-use Rattle.std.proofs.Common.{◌≡◌, ℕ, zero, suc, ◌+◌, ◌-◌, ◌*◌, ◌/◌, ◌%◌, ◌^◌, ◌<◌, ◌≤◌, min, inl, inr, refl, ap, sym, subst, ◌∙◌, arith, Option, Some, None, unwrap_or}
+use Rattle.std.proofs.Common.{◌≡◌, ℕ, zero, suc, ◌+◌, ◌-◌, ◌*◌, ◌/◌, ◌%◌, ◌^◌, ◌<◌, ◌≤◌, min, inl, inr, refl, ap, sym, subst, ◌∙◌, arith, Option, Some, None, option_map, unwrap_or}
 use Rattle.std.proofs.Math.Nat.{div-div-eq-div-mul, mul-le-mul_right}
 use Rattle.std.proofs.lemmas.Bool.{cases_lt}
 use Rattle.std.proofs.lemmas.Nat.{div-add-mod', div-mul-add, mod_below, pow-add}
+use Rattle.std.proofs.lemmas.Option.{same_Some}
 use Rattle.std.specs.FinMap.{get}
 use Rattle.frame_store.specs.View.{View, known_word}
-use Rattle.sv39_entry.specs.Word.{kind_of}
+use Rattle.sv39_entry.specs.Frame.{frame_at}
+use Rattle.sv39_entry.specs.Word.{kind_of, ppn}
 use Rattle.sv39_entry.specs.declared.entry.Kind.TheVariants.{Invalid}
-use Rattle.table_walk.specs.Changed.{HasEntry, IsTableAt}
-use Rattle.table_walk.specs.Tables.{Tables, AreTables, HasTables, first_leaf}
-use Rattle.frame_store.specs.Next.{AreZeros}
+use Rattle.sv39_entry.specs.declared.frame.FrameNo.{FrameNo}
+use Rattle.table_walk.specs.Changed.{ArePassed, HasEntry, IsIdle, IsTableAt}
+use Rattle.table_walk.specs.Tables.{Tables, AreTables, HasTables, first_leaf, pointer_or_zero}
+use Rattle.frame_store.specs.Next.{AreZeros, NamesZeros}
 use Rattle.table_walk.specs.Places.{IsBare, IsBareTo, IsFirstLeaf, IsFirstLeafTo}
 use Rattle.table_walk.specs.Walk.{top_level}
-use Rattle.table_walk.proofs.Children.{child_none}
-use Rattle.table_walk.proofs.TableWords.{kind-zero, word_leaf}
+use Rattle.table_walk.proofs.Children.{child_none, frame_named, pointer_ppn}
+use Rattle.table_walk.proofs.TableWords.{kind-zero, word_high, word_leaf}
 use Rattle.table_walk.specs.Nodes.{power_next, power_some, power_up}
 
 -- the word that was read at an index of a table
@@ -33,6 +36,25 @@ nine_bits (suc k) =
 -- a place of an index of a number is a place of the number
 at_index : (k i width m : ℕ) → k * (512 * width) + (i * width + m) ≡ (k * 512 + i) * width + m
 at_index k i width m = omega arith
+
+-- no place of an index from one on and before another has a leaf
+index_bare : (t : Tables) (k width b from : ℕ) → 1 ≤ width → ((i : ℕ) → from / width ≤ i → i < b → IsBare t (k * 512 + i) width 0 width)
+    → (n : ℕ) → from ≤ n → n < b * width → get t.leaves (k * (512 * width) + n) ≡ None
+index_bare t k width b from some each n le lt =
+    let i = n / width in
+    let whole = div-add-mod' n width in
+    let rest = mod_below n width some in
+    let start = div-add-mod' from width in
+    let after : from / width ≤ i = elim (cases_lt i (from / width)) [
+      | inl less ↦ absurd (let row = mul-le-mul_right {m = suc i} {n = from / width} width (omega (arith, less)) in omega (arith, row, whole, rest, start, le))
+      | inr more ↦ omega (arith, more)
+    ] in
+    let before : i < b = elim (cases_lt i b) [
+      | inl less ↦ less
+      | inr more ↦ absurd (let row = mul-le-mul_right {m = b} {n = i} width (omega (arith, more)) in omega (arith, row, whole, lt))
+    ] in
+    let place : i * width + n % width ≡ n = omega (arith, whole) in
+    ap (get t.leaves) (ap (λ x. k * (512 * width) + x) (sym place) ∙ at_index k i width (n % width)) ∙ each i after before (n % width) (omega arith) rest
 
 module _ (t : Tables) (k width from i place end : ℕ) where
   pub bare_more : IsBareTo t k (512 * width) from (i * width + place) end → IsBareTo t (k * 512 + i) width place width (end - i * width)
@@ -229,30 +251,46 @@ module _ (v : View) (root : ℕ) (t : Tables) (h : HasTables v root t) where
       let inside : i < 512 = omega (arith, before, small) in
       no_child k f i 0 at inside (table_child k level i is low inside some).0 (λ x known. sym (zeros i x from before known)) refl
 
-  -- words that are 0 are passed over
-  module _ (k f level : ℕ) (at : get t.tables k ≡ Some f) (is : IsTableAt k level) (low : level ≤ top_level) (b from : ℕ) (zeros : AreZeros v f (from / 512 ^ level) b) (small : b ≤ 512) where
-    zeros_bare : (n : ℕ) → from ≤ n → n < b * 512 ^ level → get t.leaves (k * (512 * 512 ^ level) + n) ≡ None
-    zeros_bare n le lt =
-        let width = 512 ^ level in
-        let i = n / width in
-        let some = power_some level in
-        let whole = div-add-mod' n width in
-        let rest = mod_below n width some in
-        let start = div-add-mod' from width in
-        let after : from / width ≤ i = elim (cases_lt i (from / width)) [
-          | inl less ↦ absurd (let row = mul-le-mul_right {m = suc i} {n = from / width} width (omega (arith, less)) in omega (arith, row, whole, rest, start, le))
-          | inr more ↦ omega (arith, more)
-        ] in
-        let before : i < b = elim (cases_lt i b) [
-          | inl less ↦ less
-          | inr more ↦ absurd (let row = mul-le-mul_right {m = b} {n = i} width (omega (arith, more)) in omega (arith, row, whole, lt))
-        ] in
-        let place : i * width + n % width ≡ n = omega (arith, whole) in
-        ap (get t.leaves) (ap (λ x. k * (512 * width) + x) (sym place) ∙ at_index k i width (n % width))
-        ∙ bare_zero k f i level 0 at is low (omega (arith, before, small)) (λ x known. sym (zeros i x after before known)) 0 refl (n % width) (omega arith) rest
+  -- a table of zeros has no leaf below it
+  zeros_bare : (k f level : ℕ) → get t.tables k ≡ Some f → IsTableAt k level → level ≤ top_level → AreZeros v f 0 512 → IsBare t k (512 * 512 ^ level) 0 (512 * 512 ^ level)
+  zeros_bare k f level at is low zeros = index_bare t k (512 ^ level) 512 0 (power_some level)
+      (λ i from before. bare_zero k f i level 0 at is low before (λ x known. sym (zeros i x (omega arith) before known)) 0 refl)
+
+  -- nor has a number whose word is 0, or names a frame of zeros
+  named_bare : (k f i l w : ℕ) → get t.tables k ≡ Some f → IsTableAt k (suc l) → suc l ≤ top_level → i < 512 → known_word v f i ≡ Some w → NamesZeros v w
+      → (o : Option ℕ) → get t.tables (k * 512 + i) ≡ o → w ≡ pointer_or_zero o → IsBare t (k * 512 + i) (512 ^ suc l) 0 (512 ^ suc l)
+  named_bare k f i l w at is low small known names None there word =
+      bare_zero k f i (suc l) w at is low small (λ x here. same_Some w x (sym known ∙ here)) 0 word
+  named_bare k f i l w at is low small known names (Some g) there word =
+      let below = table_child k (suc l) i is low small (λ e. absurd (omega (arith, e))) in
+      let few : g < 2 ^ 16 = (h.known.below _ g there).2 in
+      let named : option_map (λ (x : FrameNo). x.0) (frame_at (ppn w)) ≡ Some g = rw (word, pointer_ppn g few) (frame_named g few) in
+      let same : names.0.0 ≡ g = same_Some names.0.0 g (ap (option_map (λ (x : FrameNo). x.0)) (sym names.1) ∙ named) in
+      let zeros : AreZeros v g 0 512 = subst (λ x. AreZeros v x 0 512) same names.2 in
+      let width : 512 * 512 ^ l ≡ 512 ^ suc l = sym (power_next l) in
+      let one : suc l - 1 ≡ l = omega arith in
+      subst (λ x. IsBare t (k * 512 + i) x 0 x) width (zeros_bare (k * 512 + i) g l there (subst (λ x. IsTableAt (k * 512 + i) x) one below.1) (omega (arith, low)) zeros)
+
+  idle_bare : (k f i level w : ℕ) → get t.tables k ≡ Some f → IsTableAt k level → level ≤ top_level → i < 512 → known_word v f i ≡ Some w → IsIdle v level w
+      → IsBare t (k * 512 + i) (512 ^ level) 0 (512 ^ level)
+  idle_bare k f i level w at is low small known (inl nil) = bare_zero k f i level w at is low small (λ x here. same_Some w x (sym known ∙ here)) 0 nil
+  idle_bare k f i zero w at is low small known (inr names) = absurd (omega (arith, names.0))
+  idle_bare k f i (suc l) w at is low small known (inr names) =
+      let below = table_child k (suc l) i is low small (λ e. absurd (omega (arith, e))) in
+      let word : w ≡ pointer_or_zero (get t.tables (k * 512 + i)) = same_Some w _ (sym known ∙ h.known.words k f i at small ∙ ap Some (word_high t (k * 512 + i) below.0)) in
+      named_bare k f i l w at is low small known names.1 (get t.tables (k * 512 + i)) refl word
+
+  -- such words are passed over
+  module _ (k f level : ℕ) (at : get t.tables k ≡ Some f) (is : IsTableAt k level) (low : level ≤ top_level) (b from : ℕ) (passed : ArePassed v f level (from / 512 ^ level) b) (small : b ≤ 512) where
+    passed_bare : (n : ℕ) → from ≤ n → n < b * 512 ^ level → get t.leaves (k * (512 * 512 ^ level) + n) ≡ None
+    passed_bare = index_bare t k (512 ^ level) b from (power_some level)
+        (λ i after before.
+        let inside : i < 512 = omega (arith, before, small) in
+        let known = h.known.words k f i at inside in
+        idle_bare k f i level _ at is low inside known (passed i _ after before known))
 
     pub bare_skip : (first end : ℕ) → IsBareTo t k (512 * 512 ^ level) first from end → IsBareTo t k (512 * 512 ^ level) first (b * 512 ^ level + (from - b * 512 ^ level)) end
     bare_skip first end before n le lt to = elim (cases_lt n from) [
       | inl less ↦ before n le less to
-      | inr more ↦ zeros_bare n (omega (arith, more)) (omega (arith, more, lt))
+      | inr more ↦ passed_bare n (omega (arith, more)) (omega (arith, more, lt))
     ]

@@ -1,6 +1,7 @@
 -- What a change of tables does to walks, and what an enumeration finds.
-use Rattle.std.specs.Prelude.{◌≡◌, ◌≢◌, ◌↔◌, ℕ, suc, ◌-◌, ◌*◌, ◌^◌, ◌<◌, ◌≤◌, Option, None, Some}
+use Rattle.std.specs.Prelude.{◌≡◌, ◌≢◌, ◌↔◌, ◌⊎◌, ℕ, suc, ◌-◌, ◌*◌, ◌^◌, ◌<◌, ◌≤◌, Option, None, Some}
 use Rattle.std.specs.FinMap.{get}
+use Rattle.frame_store.specs.Next.{NamesZeros}
 use Rattle.frame_store.specs.View.{known_word, View}
 use Rattle.table_walk.specs.Tables.{Tables, leaf_node}
 use Rattle.table_walk.specs.Memory.{Memory}
@@ -39,3 +40,17 @@ IsNextLeaf t from found = IsNextLeafIn t 1 top_level from found
 abbrev pub IsNextLeafBefore : Tables → ℕ → ℕ → Option (ℕ × ℕ) → Type 0
 IsNextLeafBefore t from end None = IsBare t 1 (places top_level) from end
 IsNextLeafBefore t from end (Some p) = (p.0 < end) × IsNextLeaf t from (Some p)
+
+-- a word of a table of a level that is no leaf, and below which there is none: it is 0, or points to a table of zeros
+abbrev pub IsIdle : View → ℕ → ℕ → Type 0
+IsIdle v level w = (w ≡ 0) ⊎ ((0 < level) × NamesZeros v w)
+
+-- the words of a table from one index on and before another are such
+abbrev pub ArePassed : View → ℕ → ℕ → ℕ → ℕ → Type 0
+ArePassed v f level first end = (i w : ℕ) → first ≤ i → i < end → known_word v f i ≡ Some w → IsIdle v level w
+
+-- a word of a table that is not 0, from one index on and before another, and its index; those before it are such
+abbrev pub IsNextEntry : View → ℕ → ℕ → ℕ → ℕ → Option (ℕ × ℕ) → Type 0
+IsNextEntry v f level first last None = ArePassed v f level first last
+IsNextEntry v f level first last (Some p) =
+    (first ≤ p.0) × (p.0 < last) × ArePassed v f level first p.0 × (p.1 ≢ 0) × ((w : ℕ) → known_word v f p.0 ≡ Some w → p.1 ≡ w)

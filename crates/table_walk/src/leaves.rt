@@ -3,7 +3,8 @@
 ghost use Rattle.std.specs.FinMap.{get};
 ghost use Rattle.std.specs.Prelude.{◌≡◌, ◌+◌, ◌*◌, ◌/◌, ◌^◌, ◌<◌, ◌≤◌, ℕ, Some};
 ghost use Rattle.frame_store.specs.Laws.{Fits, Keeps};
-ghost use Rattle.table_walk.specs.Changed.{HasEntry, IsNextLeaf, IsNextLeafBefore, IsTableAt, places};
+ghost use Rattle.frame_store.specs.View.{IsHeld};
+ghost use Rattle.table_walk.specs.Changed.{HasEntry, IsNextEntry, IsNextLeafBefore, IsTableAt, places};
 ghost use Rattle.table_walk.specs.Tables.{HasTables, Tables};
 ghost use Rattle.table_walk.specs.Places.{IsFirstLeafTo};
 ghost use Rattle.table_walk.specs.Walk.{top_level};
@@ -13,31 +14,9 @@ use crate::tables::table_in;
 use frame_store::{FrameAccess, FrameSeat};
 use sv39_entry::{Entry, FrameNo, Vpn};
 
-/// How many pages the indices of three levels tell apart.
-const PAGES: u64 = 1 << 27;
-
-/// The first leaf at or after a page, and its page. Pages are numbered by their indices alone, which is the page number
-/// below 2^26: of the pages above, which no process has, the answer's number has the indices and not the upper bits.
-/// Reads no table that is not there.
-pub fn next_leaf<F: FrameAccess>(
-    store: &mut F,
-    seat: &mut F::Seat,
-    root: FrameNo,
-    from: Vpn,
-) -> Option<(Vpn, Entry)>
-    requires fits { Fits F.rule store.old seat.old }
-    requires held { (t : Tables) × HasTables (F.Seat.view seat.old) root.0 t }
-    ensures leaf { (t : Tables) → HasTables (F.Seat.view seat.old) root.0 t → IsNextLeaf t from result }
-    ensures view { F.Seat.view seat.new ≡ F.Seat.view seat.old }
-    ensures same { store.new ≡ store.old }
-    ensures keeps { Keeps F.rule store.old seat.old store.new seat.new }
-{
-    let (number, word) = next_below(store, seat, root, TOP_LEVEL, from.number(), PAGES)?;
-    Some((Vpn::new(number)?, Entry::from_word(word)))
-}
-
-/// The first leaf at or after a page and before another one, which is given by its number, and its page. The tables of pages
-/// behind that one are not read.
+/// The first leaf at or after `from` and before the page numbered `end`, and its page. Pages are numbered by their indices alone,
+/// which is the page number below 2^26: of the pages above, which no process has, the result's number has the indices and not the
+/// upper bits. Reads only tables that exist and have a page before the end, and no table that the store knows to be empty.
 pub fn next_leaf_before<F: FrameAccess>(
     store: &mut F,
     seat: &mut F::Seat,
@@ -84,7 +63,7 @@ fn next_below<F: FrameAccess>(
     let mut at = from;
     'indices: while at < stop {
         let last = index_of(stop - 1, level) + 1;
-        let (index, word) = store.next_word(seat, table, index_of(at, level), last)?;
+        let (index, word) = next_entry(store, seat, table, level, index_of(at, level), last)?;
         let start = index as u64 * width;
         let place = at.saturating_sub(start);
         let next = next_at(store, seat, word, level, place, end - start);
@@ -121,6 +100,31 @@ fn next_at<F: FrameAccess>(
     }
     let next = table_in(word)?;
     next_below(store, seat, next, level - 1, from, end)
+}
+
+/// A word of a table of a level that is not 0, from one index on and before another, and its index. No word before it is a leaf or
+/// has one below it. Passes over pointers to tables that the store knows to be empty.
+fn next_entry<F: FrameAccess>(
+    store: &mut F,
+    seat: &mut F::Seat,
+    table: FrameNo,
+    level: u32,
+    first: usize,
+    last: usize,
+) -> Option<(usize, u64)>
+    requires fits { Fits F.rule store.old seat.old }
+    requires held { IsHeld (F.Seat.view seat.old) table.0 }
+    requires low { first ≤ last }
+    requires in_page { last ≤ 512 }
+    ensures word { IsNextEntry (F.Seat.view seat.old) table.0 level first last result }
+    ensures view { F.Seat.view seat.new ≡ F.Seat.view seat.old }
+    ensures same { store.new ≡ store.old }
+    ensures keeps { Keeps F.rule store.old seat.old store.new seat.new }
+{
+    if level == 0 {
+        return store.next_word(seat, table, first, last);
+    }
+    store.next_busy_word(seat, table, first, last)
 }
 
 /// The places of each index of a table of a level.

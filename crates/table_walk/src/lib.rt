@@ -24,7 +24,7 @@ pub use growth::new_table;
 pub use held::HeldWords;
 pub use laws::{one_found, one_outcome, walks_of_tables};
 pub use leaf::physical_address;
-pub use leaves::{next_leaf, next_leaf_before};
+pub use leaves::next_leaf_before;
 pub use plain::PlainWords;
 pub use release::release_tables;
 pub use tables::{missing_tables, table_at};

@@ -149,6 +149,10 @@ fn finds_next_words<F: FrameSupply>(store: &mut F, seat: &mut F::Seat) -> Result
         if *first > *last || *last > 512 || store.next_word(seat, frame, *first, *last) != *next {
             return Ok(false);
         }
+        // none of these words names a frame
+        if store.next_busy_word(seat, frame, *first, *last) != *next {
+            return Ok(false);
+        }
     }
     Ok(true)
 }

@@ -8,7 +8,7 @@ use Rattle.std.proofs.lemmas.Bool.{cases_eq}
 use Rattle.std.proofs.lemmas.Option.{same_Some}
 use Rattle.frame_store.specs.Holds.{opening_holds, hold_of-frames, hold_of-with_hold_other, hold_of-with_hold_same, hold_of-without_hold_other}
 use Rattle.frame_store.specs.View.{Hold, View, opening_view, with_credits, claimed, hold_of, IsHeld, IsSole, references, released, sole_hold, with_hold, with_word, without_hold}
-use Rattle.table_walk.specs.Changed.{IsNextLeaf, places}
+use Rattle.table_walk.specs.Changed.{IsNextLeafBefore, places}
 use Rattle.table_walk.specs.Tables.{HasTables, Tables, IsGrown, ChangesTables, bare_root, blank_hold, leaf_node, missing, node, with_leaf, without_leaf}
 use Rattle.table_walk.specs.Keys.{insert_other, insert_same, remove_other, remove_same}
 use Rattle.table_walk.specs.Same.{same_held}
@@ -78,9 +78,9 @@ pub same_view : (v w : View) (root : ℕ) (t : Tables) → w ≡ v → HasTables
 same_view v w root t same has = subst (λ u. HasTables u root t) (sym same) has
 
 -- a page that was found has a leaf
-pub found_leaf : (t : Tables) (from : ℕ) (o : Option (ℕ × ℕ)) (p : ℕ × ℕ) → o ≡ Some p → IsNextLeaf t from o → IsSome (get t.leaves (leaf_node p.0))
-found_leaf t from o p is found =
-    let leaf = subst (IsNextLeaf t from) is found in
+pub found_leaf : (t : Tables) (from end : ℕ) (o : Option (ℕ × ℕ)) (p : ℕ × ℕ) → o ≡ Some p → IsNextLeafBefore t from end o → IsSome (get t.leaves (leaf_node p.0))
+found_leaf t from end o p is found =
+    let leaf = (subst (IsNextLeafBefore t from end) is found).1 in
     let number = leaf_node_is p.0 in
     let same : leaf_node p.0 ≡ 1 * places top_level + p.0 = omega (arith, number, leaf.1) in
     ap is_some (ap (get t.leaves) same ∙ leaf.2)

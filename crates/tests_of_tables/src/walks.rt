@@ -11,9 +11,12 @@ use std::alloc::{AllocError, Global};
 use std::test::Fail;
 use sv39_entry::{Access, Entry, FrameNo, Mode, Rights, Va};
 use table_walk::{
-    Found, HeldWords, PlainWords, Walk, lookup, map, missing_tables, new_table, next_leaf, protect,
+    Found, HeldWords, PlainWords, Walk, lookup, map, missing_tables, new_table, next_leaf_before, protect,
     release_tables, translate, unmap, walks_of_tables,
 };
+
+/// How many pages the indices of three levels tell apart.
+const PAGES: u64 = 1 << 27;
 
 /// Word 0 of frame 1: a pointer to frame 2.
 const POINTER: u64 = 0x20000801;
@@ -157,11 +160,11 @@ fn finds_what_is_mapped(rt: HostRuntime) -> Result<(), Fail> {
     walks_of_tables();
     let mut from = Va(0).page();
     'found: for (va, _, word) in MAPPINGS {
-        let found = next_leaf(&mut frames, &mut seat, root, from);
+        let found = next_leaf_before(&mut frames, &mut seat, root, from, PAGES);
         assert_eq!(rt; found, Some((va.page(), Entry::from_word(word))));
         from = Va(va.0.wrapping_add(4096)).page();
     }
-    assert_eq!(rt; next_leaf(&mut frames, &mut seat, root, from), None);
+    assert_eq!(rt; next_leaf_before(&mut frames, &mut seat, root, from, PAGES), None);
     let mut words = HeldWords {
         store: &mut frames,
         seat: &mut seat,
@@ -184,7 +187,7 @@ fn changes_one_leaf(rt: HostRuntime) -> Result<(), Fail> {
     let leaf = unmap(&mut frames, &mut seat, root, gone.page());
     assert_eq!(rt; leaf, Some(Entry::from_word(0x20002c53)));
     assert_eq!(rt; unmap(&mut frames, &mut seat, root, gone.page()), None);
-    let next = next_leaf(&mut frames, &mut seat, root, Va(0x2000).page());
+    let next = next_leaf_before(&mut frames, &mut seat, root, Va(0x2000).page(), PAGES);
     let (page, _) = next.expect(&rt, "the next page is still mapped");
     let leaf = Entry::leaf(FrameNo(12), Rights::READ, false, false, true);
     protect(&mut frames, &mut seat, root, page, leaf);

@@ -1,77 +1,67 @@
-use Rattle.std.proofs.Common.{◌+◌, ◌-◌, ◌/◌, ◌<◌, ap, ◌∙◌, arith}
-use Rattle.frame_store.specs.Laws.{fits_after}
-use Rattle.address_space.specs.Standing.{standing}
+use Rattle.std.proofs.Common.{◌≡◌, ℕ, ◌+◌, ◌/◌, ◌<◌, ◌≤◌, ◌∷◌, List, drop, length, ap, subst, sym, ◌∙◌, arith}
+use Rattle.std.specs.Prelude.{slice_index_or}
+use Rattle.std.proofs.lemmas.List.{at_drop_all, at_drop_more}
+use Rattle.address_space.specs.Settled.{AreSettled, AreUnsettled}
+use Rattle.address_space.specs.declared.settled.SettledPage.{SettledPage}
+use Rattle.process_model.specs.Process.{Process}
 use Rattle.sv39_entry.specs.Address.{trapframe_page}
-use Rattle.cow_fork.proofs.Counting.{counts_more, goes_up, still_near, top_counted, top_new}
-use Rattle.cow_fork.proofs.Walking.{same_body}
+use Rattle.table_walk.specs.Tables.{Tables}
+use Rattle.cow_fork.proofs.Counting.{counts_more, counts_none, in_table, next_table, none_left, same_table, still_near, top_counted, top_new}
 use Rattle.cow_fork.proofs.need.table_count.Goals as goal
+use Rattle.cow_fork.proofs.need.table_count.Goals.{then-needed-table, else-needed-table}
 
-pub next_settled-requires-clause-fits : goal.next_settled-requires-clause-fits
-next_settled-requires-clause-fits g c = fits_after g.F.FrameAccess.rule c.tables.invariant.keeps c.requires.fits
+-- the next page of the list is the next settled one
+listed : (t : Tables) (p : Process) (first : ℕ) (settled : List SettledPage) (i : ℕ) (x : SettledPage) → i < length settled → x ≡ slice_index_or settled i x
+    → AreSettled t p first trapframe_page (drop i settled) → AreSettled t p first trapframe_page (x ∷ drop (i + 1) settled)
+listed t p first settled i x lt is left =
+    subst (AreSettled t p first trapframe_page) (at_drop_more (λ l. l) settled i x lt ∙ ap (λ (b : SettledPage). b ∷ drop (i + 1) settled) (sym is)) left
 
-pub next_settled-requires-clause-ready : goal.next_settled-requires-clause-ready
-next_settled-requires-clause-ready g c =
-    let r = c.requires.ready in
-    let i = c.tables.invariant in
-    let body = same_body g.S.FrameSeat.view c.tables.space c.args.space.now i.view i.root i.trapframe i.layout in
-    (r.0, r.1, standing (rw body r.2))
+pub pages-init : goal.pages-init
+pages-init c = record {
+  few = omega arith;
+  counted = λ t p are. (0, omega arith, omega arith, counts_none c.args.pages p.settled, are);
+}
 
-pub tables-smaller : goal.tables-smaller
-tables-smaller g c =
-    let r = c.requires.ready in
-    let i = c.tables.invariant in
-    let body = same_body g.S.FrameSeat.view c.tables.space c.args.space.now i.view i.root i.trapframe i.layout in
-    let next = rw (c.in-Some.is, c.page.ensures.number) at c.next_settled.ensures.page r.0 r.1 (standing (rw body r.2)) in
-    let counted = i.counted r.0 r.1 r.2 in
-    let higher = goes_up c.args.pages c.requires.some r.0 r.1 c.tables.count c.tables.table counted c.in-Some.found next in
-    let near = still_near c.args.pages c.requires.some r.0 r.1 c.tables.count c.tables.table counted c.in-Some.found next in
-    let number = ap (λ n. n / c.args.pages) c.number.ensures.value in
-    let less : trapframe_page / c.args.pages + 1 - (c.number.result / c.args.pages + 1) < trapframe_page / c.args.pages + 1 - c.tables.table = omega (arith, higher, near, number) in
-    less
-
-pub tables-preserved : goal.tables-preserved
-tables-preserved g c =
-    let r = c.requires.ready in
-    let i = c.tables.invariant in
-    let body = same_body g.S.FrameSeat.view c.tables.space c.args.space.now i.view i.root i.trapframe i.layout in
-    let near_next = rw (c.in-Some.is, c.page.ensures.number) at c.next_settled.ensures.page r.0 r.1 (standing (rw body r.2)) in
-    let near_counted = i.counted r.0 r.1 r.2 in
-    let higher = goes_up c.args.pages c.requires.some r.0 r.1 c.tables.count c.tables.table near_counted c.in-Some.found near_next in
-    let near = still_near c.args.pages c.requires.some r.0 r.1 c.tables.count c.tables.table near_counted c.in-Some.found near_next in
-    let number = ap (λ n. n / c.args.pages) c.number.ensures.value in
-    let few = i.few in
-    record {
-      few = omega (arith, few, higher, number);
-      near = omega (arith, near, number);
-      root = c.next_settled.ensures.root ∙ i.root;
-      trapframe = c.next_settled.ensures.trapframe ∙ i.trapframe;
-      layout = c.next_settled.ensures.layout ∙ i.layout;
-      view = c.next_settled.ensures.view ∙ i.view;
-      same = c.next_settled.ensures.same ∙ i.same;
-      keeps = λ others s. c.next_settled.ensures.keeps others (i.keeps others s);
-      counted = λ t p space.
-          let next = rw (c.in-Some.is, c.page.ensures.number) at c.next_settled.ensures.page t p (standing (rw body space)) in
-          rw c.number.ensures.value (counts_more c.args.pages c.requires.some t p c.tables.count c.tables.table (i.counted t p space) c.in-Some.found next);
-    }
+pub pages-preserved : goal.pages-preserved
+pages-preserved c =
+    let few = c.pages.invariant.few in
+    let x = c.page-item.result in
+    let number : c.number.result / c.args.pages ≡ x.page / c.args.pages = ap (λ n. n / c.args.pages) c.number.ensures.value in
+    elim c.if-needed-table.branch [
+      | then-needed-table w ↦ record {
+        few = omega (arith, few, w.count-is);
+        counted = λ t p are.
+            let i = c.pages.invariant.counted t p are in
+            let left = listed t p i.0 c.args.settled.now c.pages.page-index x c.pages-test.true c.page-item.is i.4 in
+            let above : c.pages.table ≤ x.page / c.args.pages = omega (arith, number, w.if-needed-table.true) in
+            let next = next_table c.args.pages c.requires.some t p c.pages.count c.pages.table i.3 i.0 i.1 x left.0 above in
+            let near = still_near c.args.pages c.requires.some t p c.pages.count c.pages.table i.3 x next in
+            rw (w.count-is, w.table-is, number)
+            (x.page + 1, in_table c.args.pages x.page c.requires.some, near, counts_more c.args.pages c.requires.some t p c.pages.count c.pages.table i.3 x next, left.1);
+      }
+      | else-needed-table w ↦ record {
+        few = omega (arith, few, w.count-is);
+        counted = λ t p are.
+            let i = c.pages.invariant.counted t p are in
+            let left = listed t p i.0 c.args.settled.now c.pages.page-index x c.pages-test.true c.page-item.is i.4 in
+            let below : x.page / c.args.pages < c.pages.table = omega (arith, number, w.if-needed-table.false) in
+            rw (w.count-is, w.table-is)
+            (x.page + 1, same_table c.args.pages c.requires.some t p c.pages.count c.pages.table i.3 i.0 i.1 x.page below, i.2, i.3, left.1);
+      }
+    ]
 
 pub returns-then-table-number-clause-count : goal.returns-then-table-number-clause-count
-returns-then-table-number-clause-count g c t p space =
-    let i = c.tables.invariant in
-    let body = same_body g.S.FrameSeat.view c.tables.space c.args.space.now i.view i.root i.trapframe i.layout in
-    let none = rw (c.in_default.is, c.page.ensures.number) at c.next_settled.ensures.page t p (standing (rw body space)) in
-    let less = rw (c.number-2.ensures.value, c.page-2.ensures.number) at c.if-table-number.true in
-    top_counted c.args.pages c.requires.some t p c.tables.count c.tables.table (i.counted t p space) none space.stands.shows.low i.near c.requires.top less
-
-pub returns-then-table-number-clause-keeps : goal.returns-then-table-number-clause-keeps
-returns-then-table-number-clause-keeps g c others r = c.next_settled.ensures.keeps others (c.tables.invariant.keeps others r)
+returns-then-table-number-clause-count c t p low are =
+    let i = c.pages.invariant.counted t p are in
+    let last : AreUnsettled p i.0 trapframe_page = subst (AreSettled t p i.0 trapframe_page) (at_drop_all (λ l. l) c.args.settled.now c.pages.page-index c.pages-test.false) i.4 in
+    let none = none_left c.args.pages c.requires.some t p c.pages.count c.pages.table i.3 i.0 i.1 last in
+    let less = rw (c.number-2.ensures.value, c.page.ensures.number) at c.if-table-number.true in
+    top_counted c.args.pages c.requires.some t p c.pages.count c.pages.table i.3 none low i.2 c.requires.top less
 
 pub returns-else-table-number-clause-count : goal.returns-else-table-number-clause-count
-returns-else-table-number-clause-count g c t p space =
-    let i = c.tables.invariant in
-    let body = same_body g.S.FrameSeat.view c.tables.space c.args.space.now i.view i.root i.trapframe i.layout in
-    let none = rw (c.in_default.is, c.page.ensures.number) at c.next_settled.ensures.page t p (standing (rw body space)) in
-    let le = rw (c.number-2.ensures.value, c.page-2.ensures.number) at c.if-table-number.false in
-    top_new c.args.pages c.requires.some t p c.tables.count c.tables.table (i.counted t p space) none space.stands.shows.low i.near c.requires.top le
-
-pub returns-else-table-number-clause-keeps : goal.returns-else-table-number-clause-keeps
-returns-else-table-number-clause-keeps g c others r = c.next_settled.ensures.keeps others (c.tables.invariant.keeps others r)
+returns-else-table-number-clause-count c t p low are =
+    let i = c.pages.invariant.counted t p are in
+    let last : AreUnsettled p i.0 trapframe_page = subst (AreSettled t p i.0 trapframe_page) (at_drop_all (λ l. l) c.args.settled.now c.pages.page-index c.pages-test.false) i.4 in
+    let none = none_left c.args.pages c.requires.some t p c.pages.count c.pages.table i.3 i.0 i.1 last in
+    let le = rw (c.number-2.ensures.value, c.page.ensures.number) at c.if-table-number.false in
+    top_new c.args.pages c.requires.some t p c.pages.count c.pages.table i.3 none low i.2 c.requires.top le

@@ -1,4 +1,4 @@
-use Rattle.std.proofs.Common.{◌≡◌, ◌+◌, ◌-◌, ◌*◌, ◌≤◌, ◌<◌, ◌∙◌, arith, inl, inr, ap, sym, slice_index, length}
+use Rattle.std.proofs.Common.{◌≡◌, ◌+◌, ◌-◌, ◌<◌, ◌∙◌, arith, inl, inr, ap, sym, slice_index}
 use Rattle.std.proofs.lemmas.Bool.{cases_lt}
 use Rattle.frame_store.proofs.Words.{index-part}
 use Rattle.frame_store.proofs.zeros.zeros_in_front.Goals as goal

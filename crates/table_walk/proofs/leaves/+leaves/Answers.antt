@@ -64,14 +64,14 @@ next_below-next_at-next-requires g u c =
     let h = c.requires.held in
     let n = c.in_ok-index.ensures.word in
     let index = c.in_ok-index.index in
-    let fits : Fits g.F.FrameAccess.rule c.next_word.new.self c.next_word.new.seat =
-    (c.requires.fits.0, c.next_word.ensures.keeps c.requires.fits.0 (i.keeps c.requires.fits.0 c.requires.fits.1)) in
+    let fits : Fits g.F.FrameAccess.rule c.next_entry.new.store c.next_entry.new.seat =
+    (c.requires.fits.0, c.next_entry.ensures.keeps c.requires.fits.0 (i.keeps c.requires.fits.0 c.requires.fits.1)) in
     let most = last_index c.index_of-last.result c.min-stop.result c.args.end (512 ^ c.args.level) (power_some c.args.level)
     (rw c.index_places-width.ensures.value at c.min-stop.ensures) c.index_of-last.ensures in
-    let entry = entry_here _ _ h.2 h.1 c.args.table.0 c.args.level index c.in_ok-index.word c.next_word.ensures.view h.4 h.5 (omega (arith, most, n.1)) n.4 in
-    let held : (root k j : ℕ) × (t : Tables) × HasTables (g.F.Seat.FrameSeat.view c.next_word.new.seat) root t
-    × HasEntry (g.F.Seat.FrameSeat.view c.next_word.new.seat) t k c.args.level j c.in_ok-index.word =
-    (h.0, h.1, index, h.2, rw (c.next_word.ensures.view, i.view) h.3, entry) in
+    let entry = entry_here _ _ h.2 h.1 c.args.table.0 c.args.level index c.in_ok-index.word c.next_entry.ensures.view h.4 h.5 (omega (arith, most, n.1)) n.4 in
+    let held : (root k j : ℕ) × (t : Tables) × HasTables (g.F.Seat.FrameSeat.view c.next_entry.new.seat) root t
+    × HasEntry (g.F.Seat.FrameSeat.view c.next_entry.new.seat) t k c.args.level j c.in_ok-index.word =
+    (h.0, h.1, index, h.2, rw (c.next_entry.ensures.view, i.view) h.3, entry) in
     let some : 0 < c.in_ok-index.word = omega (arith, n.3) in
     let past = past_index c.indices.at (512 ^ c.args.level) index (power_some c.args.level) (rw c.index_of.ensures at n.0) in
     let place = rw c.index_places-width.ensures.value at c.saturating_sub-place.ensures in
@@ -86,8 +86,8 @@ next_below-overflow_add-result g u c =
     let most = last_index c.index_of-last.result c.min-stop.result c.args.end (512 ^ c.args.level) (power_some c.args.level)
     (rw c.index_places-width.ensures.value at c.min-stop.ensures) c.index_of-last.ensures in
     let small : index < 512 = omega (arith, most, n.1) in
-    let entry = entry_here _ _ h.2 h.1 c.args.table.0 c.args.level index c.in_ok-index.word c.next_word.ensures.view h.4 h.5 small n.4 in
-    let leaf = c.in-Some.ensures.leaf h.0 h.1 index h.2 (rw (c.next_word.ensures.view, c.indices.invariant.view) h.3) entry in
+    let entry = entry_here _ _ h.2 h.1 c.args.table.0 c.args.level index c.in_ok-index.word c.next_entry.ensures.view h.4 h.5 small n.4 in
+    let leaf = c.in-Some.ensures.leaf h.0 h.1 index h.2 (rw (c.next_entry.ensures.view, c.indices.invariant.view) h.3) entry in
     let fits = fits_word c.index_places-width.result index c.in-Some.found c.index_places-width.ensures.few small (rw c.index_places-width.ensures.value leaf.1) in
     omega (arith, fits)
 
@@ -113,8 +113,8 @@ next_below-returns-in-Some-clause-leaf g u c root k t has at is =
     let most = last_index c.index_of-last.result c.min-stop.result c.args.end width (power_some c.args.level) (rw value at c.min-stop.ensures) c.index_of-last.ensures in
     let small : index < 512 = omega (arith, most, n.1) in
     let skip = bare_skip _ root t has k c.args.table.0 c.args.level at is c.requires.low index c.indices.at zeros (omega (arith, small)) c.args.from c.args.end (i.bare root k t has at is) in
-    let entry = entry_here _ _ t k c.args.table.0 c.args.level index c.in_ok-index.word c.next_word.ensures.view at is small n.4 in
-    let here = rw (c.saturating_sub-place.ensures, value) at (c.in-Some.ensures.leaf root k index t (rw (c.next_word.ensures.view, i.view) has) entry) in
+    let entry = entry_here _ _ t k c.args.table.0 c.args.level index c.in_ok-index.word c.next_entry.ensures.view at is small n.4 in
+    let here = rw (c.saturating_sub-place.ensures, value) at (c.in-Some.ensures.leaf root k index t (rw (c.next_entry.ensures.view, i.view) has) entry) in
     let first = first_more t k width c.args.from index (c.indices.at - index * width) c.args.end (c.in-Some.found, c.in-Some.leaf) skip (omega (arith, i.on)) small here in
     let found : ℕ × ℕ = (index * width + c.in-Some.found, c.in-Some.leaf) in
     rw value (same_places t k (512 * width) (512 ^ suc c.args.level) c.args.from c.args.end (Some found) (sym (power_next c.args.level)) first)
@@ -132,14 +132,14 @@ next_below-indices-preserved g u c =
     let near = rw c.index_of.ensures at n.0 in
     let past = past_index c.indices.at c.index_places-width.result index c.index_places-width.ensures.some (rw value near) in
     record {
-      view = c.next_at-next.ensures.view ∙ c.next_word.ensures.view ∙ i.view;
-      same = c.next_at-next.ensures.same ∙ c.next_word.ensures.same ∙ i.same;
-      keeps = λ others r. c.next_at-next.ensures.keeps others (c.next_word.ensures.keeps others (i.keeps others r));
+      view = c.next_at-next.ensures.view ∙ c.next_entry.ensures.view ∙ i.view;
+      same = c.next_at-next.ensures.same ∙ c.next_entry.ensures.same ∙ i.same;
+      keeps = λ others r. c.next_at-next.ensures.keeps others (c.next_entry.ensures.keeps others (i.keeps others r));
       on = omega (arith, i.on, past);
       bare = λ root k t has at is.
           let skip = bare_skip _ root t has k c.args.table.0 c.args.level at is c.requires.low index c.indices.at zeros (omega (arith, small)) c.args.from c.args.end (i.bare root k t has at is) in
-          let entry = entry_here _ _ t k c.args.table.0 c.args.level index c.in_ok-index.word c.next_word.ensures.view at is small n.4 in
-          let here = rw (c.saturating_sub-place.ensures, value) at (c.in_default.ensures.leaf root k index t (rw (c.next_word.ensures.view, i.view) has) entry) in
+          let entry = entry_here _ _ t k c.args.table.0 c.args.level index c.in_ok-index.word c.next_entry.ensures.view at is small n.4 in
+          let here = rw (c.saturating_sub-place.ensures, value) at (c.in_default.ensures.leaf root k index t (rw (c.next_entry.ensures.view, i.view) has) entry) in
           rw value (bare_more t k width c.args.from index (c.indices.at - index * width) c.args.end skip here);
     }
 

@@ -5,12 +5,12 @@ use Rattle.tests_of_tables.proofs.walks.finds_what_is_mapped.Goals as goal
 pub found-preserved : goal.found-preserved
 found-preserved g c =
     let i = c.found.invariant in
-    record { rule = c.next_leaf-found.ensures.keeps [] i.rule; tables = (i.tables.0, same_view _ _ _ _ c.next_leaf-found.ensures.view i.tables.1) }
+    record { rule = c.next_leaf_before-found.ensures.keeps [] i.rule; tables = (i.tables.0, same_view _ _ _ _ c.next_leaf_before-found.ensures.view i.tables.1) }
 
 pub walked-init : goal.walked-init
 walked-init g c =
     let i = c.found.invariant in
-    record { rule = c.next_leaf.ensures.keeps [] i.rule; tables = (i.tables.0, same_view _ _ _ _ c.next_leaf.ensures.view i.tables.1) }
+    record { rule = c.next_leaf_before.ensures.keeps [] i.rule; tables = (i.tables.0, same_view _ _ _ _ c.next_leaf_before.ensures.view i.tables.1) }
 
 pub walked-preserved : goal.walked-preserved
 walked-preserved g c =

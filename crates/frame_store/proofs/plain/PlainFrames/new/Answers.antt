@@ -1,10 +1,16 @@
-use Rattle.std.proofs.Common.{◌≡◌, ◌*◌, rules}
+use Rattle.std.proofs.Common.{◌≡◌, arith, rules, subst}
 use Rattle.std.specs.Prelude.{replicate}
 use Rattle.frame_store.proofs.PlainSteps.{rule-open}
+use Rattle.frame_store.proofs.Unused.{all_listed, ListsFrom}
 use Rattle.frame_store.proofs.plain.PlainFrames.new.Goals as goal
+
+pub invariant_of-store : goal.invariant_of-store
+invariant_of-store c =
+    let counts : c.in_ok-counts.counts.items ≡ replicate c.args.frames 0 = search rules in
+    let all : c.loop-frame.frame ≡ c.args.frames = omega (arith, c.loop-frame.auto.frame-end) in
+    rw counts (all_listed _ c.args.frames c.requires.some c.requires.few (subst (ListsFrom c.loop-frame.unused.items) all c.loop-frame.invariant))
 
 pub returns-clause-rule : goal.returns-clause-rule
 returns-clause-rule c =
-    let a : c.in_ok-words.words.items ≡ replicate (512 * c.args.frames) 0 = search rules in
-    let b : c.in_ok-counts.counts.items ≡ replicate c.args.frames 0 = search rules in
-    rw (a, b, c.knowing.ensures) (rule-open c.args.frames c.requires.some c.requires.few)
+    let counts : c.in_ok-counts.counts.items ≡ replicate c.args.frames 0 = search rules in
+    rw (c.in_ok-words.ensures.zeros, counts, c.knowing.ensures) (rule-open c.args.frames c.requires.some c.requires.few)

@@ -1,0 +1,125 @@
+-- Where frames have words that are not 0, as words are written.
+use Rattle.std.proofs.Common.{◌≡◌, ◌≢◌, ℕ, ◌+◌, ◌-◌, ◌*◌, ◌<◌, ◌≤◌, inl, inr, List, length, slice_index, arith, refl, ◌∙◌}
+use Rattle.std.specs.Prelude.{slice_set, min, max}
+use Rattle.std.proofs.lemmas.Bool.{cases_eq, cases_lt}
+use Rattle.std.proofs.lemmas.List.{get_or-set_same, get_or-set_other, length-set}
+use Rattle.frame_store.specs.Blank.{PutsMany, Runs, ZerosIn}
+
+-- one frame's words and indices change
+pub runs_by : (words lows highs words' lows' highs' : List ℕ) (f : ℕ) → Runs words lows highs → length words' ≡ length words → length lows' ≡ length lows → length highs' ≡ length highs
+    → ((g i : ℕ) → g ≢ f → i < 512 → slice_index words' (512 * g + i) ≡ slice_index words (512 * g + i))
+    → ((g : ℕ) → g ≢ f → slice_index lows' g ≡ slice_index lows g) → ((g : ℕ) → g ≢ f → slice_index highs' g ≡ slice_index highs g)
+    → slice_index lows' f ≤ 512 → ZerosIn words' f 0 (slice_index lows' f) → ZerosIn words' f (slice_index highs' f) 512 → Runs words' lows' highs'
+runs_by words lows highs words' lows' highs' f r long long_lows long_highs apart lows_apart highs_apart small before behind = record {
+  sized = omega (arith, r.sized, long, long_lows);
+  same = omega (arith, r.same, long_lows, long_highs);
+  small = λ g. elim (cases_eq g f) as (λ _. slice_index lows' g ≤ 512) [
+    | inl here ↦ rw here small
+    | inr other ↦ rw (lows_apart g other) (r.small g)
+  ];
+  before = λ g i from lt. elim (cases_eq g f) as (λ _. slice_index words' (512 * g + i) ≡ 0) [
+    | inl here ↦ rw here (before i from (rw (← here) lt))
+    | inr other ↦
+        let less : i < slice_index lows g = rw (← (lows_apart g other)) lt in
+        apart g i other (omega (arith, less, r.small g)) ∙ r.before g i from less
+  ];
+  behind = λ g i from lt. elim (cases_eq g f) as (λ _. slice_index words' (512 * g + i) ≡ 0) [
+    | inl here ↦ rw here (behind i (rw (← here) from) lt)
+    | inr other ↦ apart g i other lt ∙ r.behind g i (rw (← (highs_apart g other)) from) lt
+  ];
+}
+
+module _ (words lows highs : List ℕ) (f : ℕ) (r : Runs words lows highs) (room : 512 * f + 512 ≤ length words) where
+  pub in_lows : f < length lows
+  in_lows = omega (arith, r.sized, room)
+
+  pub in_highs : f < length highs
+  in_highs = omega (arith, r.same, in_lows)
+
+  -- words from one index on and before another are 0
+  pub runs_low : (first end : ℕ) → first ≤ slice_index lows f → end ≤ 512 → ZerosIn words f first end → Runs words (slice_set lows f (max (slice_index lows f) end)) highs
+  runs_low first end front small zeros =
+      let low : ℕ = slice_index lows f in
+      let here : slice_index (slice_set lows f (max low end)) f ≡ max low end = get_or-set_same lows f (max low end) 0 in_lows in
+      runs_by words lows highs words (slice_set lows f (max low end)) highs f r refl (length-set lows f _) refl (λ g i ne lt. refl)
+      (λ g ne. get_or-set_other lows f g _ 0 ne) (λ g ne. refl)
+      (let most = r.small f in omega (arith, here, most, small))
+      (λ i from lt. elim (cases_lt i low) as (λ _. slice_index words (512 * f + i) ≡ 0) [
+        | inl less ↦ r.before f i from less
+        | inr more ↦ zeros i (omega (arith, front, more)) (omega (arith, more, here, lt))
+      ])
+      (r.behind f)
+
+  pub runs_high : (first end : ℕ) → slice_index highs f ≤ end → ZerosIn words f first end → Runs words lows (slice_set highs f (min (slice_index highs f) first))
+  runs_high first end back zeros =
+      let high : ℕ = slice_index highs f in
+      let here : slice_index (slice_set highs f (min high first)) f ≡ min high first = get_or-set_same highs f (min high first) 0 in_highs in
+      runs_by words lows highs words lows (slice_set highs f (min high first)) f r refl refl (length-set highs f _) (λ g i ne lt. refl)
+      (λ g ne. refl) (λ g ne. get_or-set_other highs f g _ 0 ne) (r.small f) (r.before f)
+      (λ i from lt. elim (cases_lt i high) as (λ _. slice_index words (512 * f + i) ≡ 0) [
+        | inl less ↦ zeros i (omega (arith, from, here, less)) (omega (arith, less, back))
+        | inr more ↦ r.behind f i more lt
+      ])
+
+  -- the words that are 0 where none is from one index on that is below another
+  pub zeros_by : (first last from to at : ℕ) → from ≡ max first (slice_index lows f) → to ≡ min last (slice_index highs f) → last ≤ 512 → at ≤ last
+      → ((i : ℕ) → from ≤ i → i < at → i < to → slice_index words (512 * f + i) ≡ 0) → ZerosIn words f first at
+  zeros_by first last from to at from_is to_is small low zeros i le lt = elim (cases_lt i (slice_index lows f)) as (λ _. slice_index words (512 * f + i) ≡ 0) [
+    | inl less ↦ r.before f i (omega arith) less
+    | inr more ↦ elim (cases_lt i (slice_index highs f)) as (λ _. slice_index words (512 * f + i) ≡ 0) [
+      | inl below ↦ zeros i (omega (arith, from_is, le, more)) lt (omega (arith, to_is, lt, low, below))
+      | inr past ↦ r.behind f i past (omega (arith, lt, low, small))
+    ]
+  ]
+
+-- many words of a frame are written
+
+module _ (words lows highs : List ℕ) (f : ℕ) (r : Runs words lows highs) (words' : List ℕ) (first n : ℕ) (word : ℕ → ℕ) (small : first + n ≤ 512) (p : PutsMany words words' f first n word) where
+  puts_apart : (g i : ℕ) → g ≢ f → i < 512 → slice_index words' (512 * g + i) ≡ slice_index words (512 * g + i)
+  puts_apart g i other lt = p.outside (512 * g + i) (λ from before. other (omega (arith, from, before, lt, small)))
+
+  puts_here : (i : ℕ) → (first ≤ i → i < first + n → ⊥) → slice_index words' (512 * f + i) ≡ slice_index words (512 * f + i)
+  puts_here i apart = p.outside (512 * f + i) (λ from before. apart (omega (arith, from)) (omega (arith, before)))
+
+module _ (words lows highs : List ℕ) (f : ℕ) (r : Runs words lows highs) (room : 512 * f + 512 ≤ length words) (words' : List ℕ) (first : ℕ) (small : first ≤ 512) (p : PutsMany words words' f first (512 - first) (λ _. 0)) where
+  cleared_zero : (i : ℕ) → first ≤ i → i < 512 → slice_index words' (512 * f + i) ≡ 0
+  cleared_zero i from lt = p.inside i from (omega (arith, lt, small))
+
+  cleared_high : ZerosIn words' f (min (slice_index highs f) first) 512
+  cleared_high i from lt = elim (cases_lt i first) as (λ _. slice_index words' (512 * f + i) ≡ 0) [
+    | inl less ↦ puts_here words lows highs f r words' first (512 - first) (λ _. 0) (omega (arith, small)) p i (λ a b. omega (arith, a, less)) ∙ r.behind f i (omega (arith, from, less)) lt
+    | inr more ↦ cleared_zero i more lt
+  ]
+
+  pub runs_cleared : Runs words' lows (slice_set highs f (min (slice_index highs f) first))
+  runs_cleared =
+      let high : ℕ = min (slice_index highs f) first in
+      let here : slice_index (slice_set highs f high) f ≡ high = get_or-set_same highs f high 0 (in_highs words lows highs f r room) in
+      runs_by words lows highs words' lows (slice_set highs f high) f r p.long refl (length-set highs f _)
+      (puts_apart words lows highs f r words' first (512 - first) (λ _. 0) (omega (arith, small)) p)
+      (λ g ne. refl) (λ g ne. get_or-set_other highs f g _ 0 ne) (r.small f)
+      (λ i from lt. elim (cases_lt i first) as (λ _. slice_index words' (512 * f + i) ≡ 0) [
+        | inl less ↦ puts_here words lows highs f r words' first (512 - first) (λ _. 0) (omega (arith, small)) p i (λ a b. omega (arith, a, less)) ∙ r.before f i from lt
+        | inr more ↦ cleared_zero i more (omega (arith, lt, r.small f))
+      ])
+      (rw here cleared_high)
+
+  pub runs_emptied : first ≡ 0 → Runs words' (slice_set lows f 512) (slice_set highs f (min (slice_index highs f) first))
+  runs_emptied none =
+      let low : slice_index (slice_set lows f 512) f ≡ 512 = get_or-set_same lows f 512 0 (in_lows words lows highs f r room) in
+      runs_by words' lows (slice_set highs f (min (slice_index highs f) first)) words' (slice_set lows f 512) (slice_set highs f (min (slice_index highs f) first)) f runs_cleared refl (length-set lows f _) refl
+      (λ g i ne lt. refl) (λ g ne. get_or-set_other lows f g _ 0 ne) (λ g ne. refl) (omega (arith, low))
+      (λ i from lt. cleared_zero i (omega (arith, none)) (omega (arith, low, lt)))
+      (runs_cleared.behind f)
+
+module _ (words lows highs : List ℕ) (f : ℕ) (r : Runs words lows highs) (room : 512 * f + 512 ≤ length words) (words' : List ℕ) (n : ℕ) (word : ℕ → ℕ) (small : n ≤ 512) (p : PutsMany words words' f 0 n word) where
+  pub runs_filled : Runs words' (slice_set lows f 0) (slice_set highs f (max (slice_index highs f) n))
+  runs_filled =
+      let high : ℕ = max (slice_index highs f) n in
+      let here : slice_index (slice_set highs f high) f ≡ high = get_or-set_same highs f high 0 (in_highs words lows highs f r room) in
+      let low : slice_index (slice_set lows f 0) f ≡ 0 = get_or-set_same lows f 0 0 (in_lows words lows highs f r room) in
+      runs_by words lows highs words' (slice_set lows f 0) (slice_set highs f high) f r p.long (length-set lows f _) (length-set highs f _)
+      (puts_apart words lows highs f r words' 0 n word (omega (arith, small)) p)
+      (λ g ne. get_or-set_other lows f g _ 0 ne) (λ g ne. get_or-set_other highs f g _ 0 ne) (omega (arith, low))
+      (λ i from lt. absurd (omega (arith, low, lt)))
+      (λ i from lt. puts_here words lows highs f r words' 0 n word (omega (arith, small)) p i (λ a b. omega (arith, b, here, from)) ∙ r.behind f i (omega (arith, here, from)) lt)

@@ -1,0 +1,206 @@
+// The words of frames, and where each frame has words that are not 0.
+
+ghost use Rattle.std.specs.Int.{from_le_bytes, w64};
+ghost use Rattle.std.specs.Prelude.{◌≡◌, ◌+◌, ◌-◌, ◌*◌, ◌/◌, ◌<◌, ◌≤◌, ◌≢◌, false, IfOk, length, drop, replicate, slice_index, slice_set, take, true};
+ghost use Rattle.frame_store.specs.Blank.{IsIdle, IsNextBusy, IsNextIn, NamesBlank, PutsMany, ZerosIn};
+
+use crate::bytes::put_words;
+use crate::zeros::zeros_in_front;
+use std::alloc::{AllocError, Global};
+use std::marker::Model;
+use sv39_entry::{Entry, FrameNo};
+
+/// How many words a frame has.
+const WORDS: usize = 512;
+
+/// The words of all frames, frame by frame; contracts see the list. For each frame, two indices bound its words that are not 0:
+/// a store moves them apart, and a search that reads zeros moves them together. So once a search has found a frame to be all
+/// zeros, no search reads its words until another word is stored.
+#[derive(Drop)]
+pub(crate) struct Memory {
+    words: Vec<u64>,
+    /// The words of a frame before this index are 0.
+    lows: Vec<u16>,
+    /// The words of a frame from this index on are 0.
+    highs: Vec<u16>,
+}
+
+impl Model for Memory {
+    ghost use Rattle.std.specs.Prelude.{List, ℕ};
+    ghost use Rattle.frame_store.specs.Blank.{Runs};
+
+    ghost Value = { List ℕ };
+
+    ghost view = { λ s. s.words.items };
+
+    ghost invariant = { λ s. Runs s.words.items s.lows.items s.highs.items };
+}
+
+impl Memory {
+    /// `frames` frames of zeros.
+    pub(crate) fn new(alloc: Global, frames: usize) -> Result<Memory, AllocError>
+        requires few { frames ≤ 1024 }
+        ensures zeros { IfOk result (λ m. m ≡ replicate (512 * frames) 0) }
+    {
+        let words = Vec::from_elem(alloc, 0, WORDS * frames)?;
+        let lows = Vec::from_elem(alloc, WORDS as u16, frames)?;
+        let highs = Vec::from_elem(alloc, 0, frames)?;
+        Ok(Memory { words, lows, highs })
+    }
+
+    /// The word at an index of a frame.
+    pub(crate) fn word(&self, frame: FrameNo, index: usize) -> u64
+        requires room { 512 * frame.0 + 512 ≤ length self.now }
+        requires in_page { index < 512 }
+        ensures { result ≡ slice_index self.now (512 * frame.0 + index) }
+    {
+        self.words[WORDS * frame.0 as usize + index]
+    }
+
+    /// The first word of a frame that is not 0, at or after `first` and before `last`, and its index.
+    pub(crate) fn next(&mut self, frame: FrameNo, first: usize, last: usize) -> Option<(usize, u64)>
+        requires room { 512 * frame.0 + 512 ≤ length self.old }
+        requires low { first ≤ last }
+        requires in_page { last ≤ 512 }
+        ensures word { IsNextIn self.old frame.0 first last result }
+        ensures same { self.new ≡ self.old }
+    {
+        let from = first.max(self.lows[frame.0 as usize] as usize);
+        let to = last.min(self.highs[frame.0 as usize] as usize);
+        if to <= from {
+            return None;
+        }
+        let base = WORDS * frame.0 as usize;
+        let at = from + zeros_in_front(&self.words[base + from..base + to]);
+        if at == to {
+            self.learn(frame, first, last);
+            return None;
+        }
+        self.learn(frame, first, at);
+        Some((at, self.words[base + at]))
+    }
+
+    /// Moves an index of a frame whose words from `first` on and before `end` were found to be 0.
+    fn learn(&mut self, frame: FrameNo, first: usize, end: usize)
+        requires room { 512 * frame.0 + 512 ≤ length self.old }
+        requires low { first ≤ end }
+        requires in_page { end ≤ 512 }
+        requires zeros { ZerosIn self.old frame.0 first end }
+        ensures { self.new ≡ self.old }
+    {
+        let at = frame.0 as usize;
+        if first <= self.lows[at] as usize {
+            self.lows[at] = self.lows[at].max(end as u16);
+            return;
+        }
+        if end < self.highs[at] as usize {
+            return;
+        }
+        self.highs[at] = self.highs[at].min(first as u16);
+    }
+
+    /// The first word of a frame, at or after `first` and before `last`, that is not 0 and names no frame known to be all zeros,
+    /// and its index.
+    pub(crate) fn next_busy(
+        &self,
+        frame: FrameNo,
+        first: usize,
+        last: usize,
+    ) -> Option<(usize, u64)>
+        requires room { 512 * frame.0 + 512 ≤ length self.now }
+        requires in_page { last ≤ 512 }
+        ensures { IsNextBusy self.now frame.0 first last result }
+    {
+        let base = WORDS * frame.0 as usize;
+        let from = first.max(self.lows[frame.0 as usize] as usize);
+        let to = last.min(self.highs[frame.0 as usize] as usize);
+        'words: for index in from..to {
+            let word = self.words[base + index];
+            if !self.is_idle(word) {
+                return Some((index, word));
+            }
+        }
+        None
+    }
+
+    /// Whether a word is 0 or names a frame known to be all zeros.
+    fn is_idle(&self, word: u64) -> bool
+        ensures idle { result ≡ true → IsIdle self.now word }
+        ensures busy { result ≡ false → word ≢ 0 }
+    {
+        word == 0 || self.names_blank(word)
+    }
+
+    /// Whether a word names a frame known to be all zeros, by the page number that it has as a page table entry.
+    fn names_blank(&self, word: u64) -> bool
+        ensures { result ≡ true → NamesBlank self.now word }
+    {
+        match FrameNo::from_ppn(Entry::from_word(word).ppn()) {
+            Some(frame) => self.is_blank(frame),
+            None => false,
+        }
+    }
+
+    /// Whether a frame is known to be all zeros.
+    fn is_blank(&self, frame: FrameNo) -> bool
+        ensures { result ≡ true → ZerosIn self.now frame.0 0 512 }
+    {
+        let at = frame.0 as usize;
+        at < self.lows.len() && self.highs[at] <= self.lows[at]
+    }
+
+    /// Puts a word at an index of a frame.
+    pub(crate) fn put(&mut self, frame: FrameNo, index: usize, value: u64)
+        requires room { 512 * frame.0 + 512 ≤ length self.old }
+        requires in_page { index < 512 }
+        ensures { self.new ≡ slice_set self.old (512 * frame.0 + index) value }
+    {
+        self.words[WORDS * frame.0 as usize + index] = value;
+        if value == 0 {
+            return;
+        }
+        let place = index as u16;
+        self.lows[frame.0 as usize] = self.lows[frame.0 as usize].min(place);
+        self.highs[frame.0 as usize] = self.highs[frame.0 as usize].max(place + 1);
+    }
+
+    /// Makes the words of a frame 0 from an index on.
+    pub(crate) fn clear(&mut self, frame: FrameNo, first: usize)
+        requires room { 512 * frame.0 + 512 ≤ length self.old }
+        requires in_page { first ≤ 512 }
+        ensures { PutsMany self.old self.new frame.0 first (512 - first) (λ _. 0) }
+    {
+        let base = WORDS * frame.0 as usize;
+        self.words[base + first..base + WORDS].fill(0);
+        self.highs[frame.0 as usize] = self.highs[frame.0 as usize].min(first as u16);
+        if first > 0 {
+            return;
+        }
+        self.lows[frame.0 as usize] = WORDS as u16;
+    }
+
+    /// Fills the first words of a frame, each with eight bytes, the lowest first. Bytes after the last whole word are left out.
+    pub(crate) fn fill(&mut self, frame: FrameNo, bytes: &[u8])
+        requires room { 512 * frame.0 + 512 ≤ length self.old }
+        requires in_page { length bytes.now ≤ 4096 }
+        ensures { PutsMany self.old self.new frame.0 0 (length bytes.now / 8) (λ i. from_le_bytes w64 (take 8 (drop (8 * i) bytes.now))) }
+    {
+        let base = WORDS * frame.0 as usize;
+        put_words(&mut self.words[base..base + WORDS], bytes);
+        self.lows[frame.0 as usize] = 0;
+        self.highs[frame.0 as usize] = self.highs[frame.0 as usize].max((bytes.len() / 8) as u16);
+    }
+
+    /// Copies all words of a frame into another one.
+    pub(crate) fn copy(&mut self, from: FrameNo, to: FrameNo)
+        requires from { 512 * from.0 + 512 ≤ length self.old }
+        requires to { 512 * to.0 + 512 ≤ length self.old }
+        ensures { PutsMany self.old self.new to.0 0 512 (λ i. slice_index self.old (512 * from.0 + i)) }
+    {
+        let source = WORDS * from.0 as usize;
+        let target = WORDS * to.0 as usize;
+        self.words.copy_within(source..source + WORDS, target);
+        self.lows[to.0 as usize] = self.lows[from.0 as usize];
+        self.highs[to.0 as usize] = self.highs[from.0 as usize];
+    }
+}
