@@ -11,8 +11,8 @@ use std::alloc::{AllocError, Global};
 use std::test::Fail;
 use sv39_entry::{Access, Entry, FrameNo, Mode, Rights, Va};
 use table_walk::{
-    Found, HeldWords, PlainWords, Walk, lookup, map, missing_tables, new_table, next_leaf_before, protect,
-    release_tables, translate, unmap, walks_of_tables,
+    Found, HeldWords, PlainWords, Walk, lookup, map, missing_tables, new_table, next_leaf_before,
+    protect, release_tables, translate, unmap, walks_of_tables,
 };
 
 /// How many pages the indices of three levels tell apart.
@@ -164,7 +164,10 @@ fn finds_what_is_mapped(rt: HostRuntime) -> Result<(), Fail> {
         assert_eq!(rt; found, Some((va.page(), Entry::from_word(word))));
         from = Va(va.0.wrapping_add(4096)).page();
     }
-    assert_eq!(rt; next_leaf_before(&mut frames, &mut seat, root, from, PAGES), None);
+    assert_eq!(rt;
+        next_leaf_before(&mut frames, &mut seat, root, from, PAGES),
+        None
+    );
     let mut words = HeldWords {
         store: &mut frames,
         seat: &mut seat,
