@@ -1,9 +1,21 @@
-use Rattle.std.proofs.Common.{◌≡◌, ◌+◌, ◌≤◌, true, length, drop, subst, arith, rules}
+use Rattle.std.proofs.Common.{◌≡◌, ◌+◌, ◌≤◌, true, [], length, drop, map, refl, subst, arith, rules}
 use Rattle.std.specs.Io.KnownBytes.{Appends}
+use Rattle.process_model.specs.Script.{file_of}
 use Rattle.process_model.specs.Text.{text_of}
+use Rattle.process_model.specs.World.{booted}
 use Rattle.audit_player.specs.Taken.{WroteSome}
 use Rattle.audit_player.proofs.Written.{declared, page_more, turned, cut, ended}
 use Rattle.audit_player.proofs.running.run.Goals as goal
+
+pub lines-init : goal.lines-init
+lines-init g c = record {
+  fine = λ fine. fine;
+  low = search rules;
+  room = search rules;
+  text =
+      let made = booted c.args.script.now.config (map file_of c.args.script.now.files) in
+      ([], (search rules, (made, (c.in-Ok.ensures.machine, rw (c.put.ensures.text, c.in-Ok.ensures.page, c.images-images.ensures, c.commands-commands.ensures) refl))));
+}
 
 pub put_line-requires-clause-declared : goal.put_line-requires-clause-declared
 put_line-requires-clause-declared g c =
