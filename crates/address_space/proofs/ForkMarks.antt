@@ -4,7 +4,7 @@ use Rattle.std.proofs.lemmas.Bool.{cases_eq}
 use Rattle.std.proofs.lemmas.Option.{same_Some}
 use Rattle.std.specs.FinMap.{get}
 use Rattle.std.specs.Prelude.{IsSome}
-use Rattle.frame_store.specs.View.{View, with_word}
+use Rattle.frame_store.specs.View.{AllKnown, View, with_word}
 use Rattle.process_model.specs.Inserted.{put_back}
 use Rattle.process_model.specs.OrderKept.{leafy_at}
 use Rattle.process_model.specs.PageMap as pages
@@ -14,9 +14,11 @@ use Rattle.process_model.specs.Residence.{marked_page, with_page}
 use Rattle.sv39_entry.specs.Address.{has, vpn}
 use Rattle.sv39_entry.specs.Word.{ppn}
 use Rattle.sv39_entry.specs.declared.access.Access.TheVariants.{Store}
+use Rattle.table_walk.specs.Backed.{IsBacked}
 use Rattle.table_walk.specs.Tables.{HasTables, Tables, last_table, leaf_node, with_leaf}
 use Rattle.table_walk.specs.Keys.{insert_other, insert_same}
 use Rattle.address_space.specs.Agreement.{body, is_dirty_page, IsOn, IsPageLeaf}
+use Rattle.address_space.specs.ProcessLeaves.{bytes_known, page_backed}
 use Rattle.address_space.specs.Settled.{IsSettledPage}
 use Rattle.address_space.specs.Standing.{IsStanding, MarksForked}
 use Rattle.address_space.specs.Layouts.{Layout}
@@ -59,6 +61,13 @@ module _ {v : View} {root trapframe : ℕ} {l : Layout} {t : Tables} {p : Proces
 
   pub fork_mapped : IsSome (get t.leaves (leaf_node a.page))
   fork_mapped = rw is.on.1 refl
+
+  -- its frame has its bytes, and a leaf with the mark may not be stored to
+  pub fork_backed : (leaf : ℕ) (r : Region) (dirty : Bool) → IsPageLeaf leaf (a.frame).0 r true dirty → IsBacked v leaf
+  fork_backed leaf r dirty made =
+      let here = found.1 in
+      let same : found.0 ≡ (a.frame).0 = one_frame found.0 (a.frame).0 (sym here.made.names ∙ ap ppn (same_Some here.leaf is.on.0 (sym here.mapped ∙ is.on.1)) ∙ is.on.2) in
+      page_backed v leaf (a.frame).0 r true dirty made (subst (AllKnown v) same (bytes_known v found.0 s.bytes here.bytes)) (λ writes. absurd (never r.writes writes))
 
   module _ (r : Region) (in_region : region_at (regions p) page ≡ Some r) where
     pub fork_leafy : makes_leaf r ≡ true

@@ -3,7 +3,7 @@ use Rattle.std.proofs.Common.{◌≡◌, ℕ, Option, Some, Bool, true, false, n
 use Rattle.std.proofs.lemmas.Option.{same_Some}
 use Rattle.std.specs.FinMap.{get}
 use Rattle.std.specs.Prelude.{option_and_then, option_map}
-use Rattle.frame_store.specs.View.{View, with_word}
+use Rattle.frame_store.specs.View.{AllKnown, IsSole, View, with_word}
 use Rattle.process_model.specs.OrderKept.{leafy_at}
 use Rattle.process_model.specs.Process.{Page, Process, regions}
 use Rattle.process_model.specs.Regions.{is_shared_kind, keeps_stores, makes_leaf, Region, region_at}
@@ -16,6 +16,7 @@ use Rattle.table_walk.specs.Tables.{HasTables, Tables, last_table, leaf_node, wi
 use Rattle.table_walk.specs.Keys.{insert_other, insert_same}
 use Rattle.address_space.specs.Agreement.{body, is_dirty_page, IsPageLeaf, nothing}
 use Rattle.address_space.specs.Layouts.{Layout}
+use Rattle.address_space.specs.ProcessLeaves.{bytes_known}
 use Rattle.address_space.specs.Steps.{CanWrite, Marks}
 use Rattle.address_space.proofs.Owned.{no_table}
 use Rattle.address_space.proofs.Owning.{owns_same, turned_stands, turned_words}
@@ -35,6 +36,16 @@ module _ {v : View} {root trapframe : ℕ} {l : Layout} {t : Tables} {p : Proces
   pub mark_some : (o : Option (FrameNo × Bool)) → o ≡ option_and_then (λ w. option_map (λ f. (f, has_flag w 128)) (frame_at (ppn w))) (get t.leaves (leaf_node page))
       → o ≡ Some (record { 0 = found.0 }, is_dirty_page found.1.region s)
   mark_some o is = page_found v t p page s found.0 found.1 o is
+
+  pub mark_frame : (o : Option (FrameNo × Bool)) (x : FrameNo × Bool) → o ≡ option_and_then (λ w. option_map (λ f. (f, has_flag w 128)) (frame_at (ppn w))) (get t.leaves (leaf_node page))
+      → o ≡ Some x → (x.0).0 ≡ found.0
+  mark_frame o x is some = ap (λ (y : FrameNo × Bool). (y.0).0) (same_Some x _ (sym some ∙ mark_some o is))
+
+  pub mark_known : AllKnown v found.0
+  mark_known = bytes_known v found.0 s.bytes found.1.bytes
+
+  pub mark_sole : IsSole v found.0
+  mark_sole = page_sole v root trapframe l t p page s found.0 can found.1
 
   module _ (r : Region) (in_region : region_at (regions p) page ≡ Some r) where
     pub mark_leafy : makes_leaf r ≡ true
@@ -57,7 +68,7 @@ module _ {v : View} {root trapframe : ℕ} {l : Layout} {t : Tables} {p : Proces
         (some : o ≡ Some x) (leaf : ℕ) (made : IsPageLeaf leaf (x.0).0 r false (true && r.writes)) (tables : HasTables w root (with_leaf t (leaf_node page) leaf))
         (word : (y : ℕ) → get t.tables (last_table page) ≡ Some y → w ≡ with_word y (vpn page 0) leaf v) where
       same_frame : (x.0).0 ≡ found.0
-      same_frame = ap (λ (y : FrameNo × Bool). (y.0).0) (same_Some x _ (sym some ∙ mark_some o is))
+      same_frame = mark_frame o x is some
 
       shown : IsPageLeaf leaf found.0 r marked.fork_mark (is_dirty_page r marked)
       shown =
@@ -79,7 +90,7 @@ module _ {v : View} {root trapframe : ℕ} {l : Layout} {t : Tables} {p : Proces
               stands = turned_stands v w root trapframe nothing t p page s r found.0 leaf space.stands can.read.settled in_region tables word marked shown nothing
                   (no_table v t root nothing space.stands.tables space.stands.owns (leaf_node page) here.leaf found.0 here.mapped here.made.names) here.bytes
                   (owns_same v root t space.stands.tables page here.leaf leaf found.0 found.0 here.mapped here.made.names shown.names refl
-                  (λ _. page_sole v root trapframe l t p page s found.0 can here) nothing space.stands.owns);
+                  (λ _. mark_sole) nothing space.stands.owns);
               credits = ap (λ (x : View). x.credits) changes.1.1 ∙ space.credits;
             };
             on = λ f on. (

@@ -9,7 +9,7 @@ use Rattle.frame_store.specs.Holds.{hold_of-frames, hold_of-with_hold_other, hol
 use Rattle.frame_store.specs.Laws.{IsDry}
 use Rattle.frame_store.specs.Tallies.{spent_none}
 use Rattle.frame_store.specs.View as views
-use Rattle.frame_store.specs.View.{counted, Hold, View, hold_of, IsSole, looked, references, with_credits, with_word}
+use Rattle.frame_store.specs.View.{AllKnown, counted, Hold, View, hold_of, IsSole, looked, references, with_credits, with_word}
 use Rattle.process_model.specs.Frames.{part_need}
 use Rattle.process_model.specs.OrderKept.{leafy_at}
 use Rattle.process_model.specs.Process.{Page, Process, regions}
@@ -23,6 +23,7 @@ use Rattle.table_walk.specs.Tables.{HasTables, Tables, last_table, leaf_node, wi
 use Rattle.table_walk.specs.Keys.{insert_other, insert_same}
 use Rattle.address_space.specs.Agreement.{body, IsSpace, is_dirty_page, IsPageLeaf, nothing, Stands}
 use Rattle.address_space.specs.Layouts.{Layout}
+use Rattle.address_space.specs.ProcessLeaves.{bytes_known}
 use Rattle.address_space.specs.Separating.{CanSeparate, Separates}
 use Rattle.address_space.specs.Steps.{CanOwn, Owned, Spends, Takes, RunsDry}
 use Rattle.address_space.proofs.Sound.{sound_page}
@@ -239,11 +240,17 @@ module _ {v : View} {root trapframe : ℕ} {l : Layout} {t : Tables} {p : Proces
     pub own_stands : Stands a root trapframe nothing t p
     own_stands = like_stands v a like root trapframe nothing t p can.agrees.stands
 
+    pub own_known : AllKnown a f
+    own_known = bytes_known a f s.bytes (like_bytes v a like f s.bytes here.bytes)
+
+    pub own_sole : c ≡ 1 → IsSole a f
+    own_sole one = ap (λ x. (hold_of x f).sole) look ∙ looked_sole f c v one
+
     -- the seat holds it alone
     module _ (one : c ≡ 1) (w : View) (leaf : ℕ) (made : IsPageLeaf leaf f r false (is_dirty_page r s)) (tables : HasTables w root (with_leaf t (leaf_node page) leaf))
         (word : (x : ℕ) → get t.tables (last_table page) ≡ Some x → w ≡ with_word x (vpn page 0) leaf a) where
       sole : IsSole a f
-      sole = ap (λ x. (hold_of x f).sole) look ∙ looked_sole f c v one
+      sole = own_sole one
 
       bare : (k : ℕ) → get t.tables k ≡ Some f → ⊥
       bare = no_table a t root nothing own_stands.tables own_stands.owns (leaf_node page) can.on.0 f can.on.1 can.on.2

@@ -1,16 +1,20 @@
 -- The leaves of a process: their frames are there, and none has G.
-use Rattle.std.proofs.Common.{◌≡◌, ℕ, ◌-◌, ◌+◌, ◌^◌, ◌<◌, nat_le, nat_lt, true, false, Some, refl, ap, sym, subst, ◌∙◌, inl, inr, arith}
+use Rattle.std.proofs.Common.{◌≡◌, ℕ, ◌-◌, ◌+◌, ◌^◌, ◌<◌, ◌&&◌, nat_le, nat_lt, not, Bool, List, true, false, Some, refl, ap, sym, subst, ◌∙◌, inl, inr, arith}
 use Rattle.std.proofs.lemmas.Option.{same_Some}
 use Rattle.std.specs.Prelude.{is_some}
 use Rattle.std.specs.FinMap.{get}
-use Rattle.frame_store.specs.View.{View}
+use Rattle.frame_bytes.specs.Contents.{HasBytes}
+use Rattle.frame_store.specs.View.{AllKnown, IsSole, or_zero, View}
 use Rattle.process_model.specs.Process.{Process}
+use Rattle.process_model.specs.Regions.{Region}
 use Rattle.sv39_entry.specs.Address.{has, trampoline_page, trapframe_page}
 use Rattle.sv39_entry.specs.Frame.{frame_at, ppn_of}
 use Rattle.sv39_entry.specs.Word.{ppn}
+use Rattle.sv39_entry.specs.declared.frame.FrameNo.{FrameNo}
+use Rattle.table_walk.specs.Backed.{IsBacked}
 use Rattle.table_walk.specs.Leaves.{LeavesAreLocal, LeavesAreThere}
 use Rattle.table_walk.specs.Tables.{Tables, leaf_node}
-use Rattle.address_space.specs.Agreement.{HasKernelLeaf, IsShown, Shows}
+use Rattle.address_space.specs.Agreement.{HasKernelLeaf, IsPageLeaf, IsShown, Shows}
 
 -- a number of 16 bits is that of a frame
 pub frame_is : (f : ℕ) → f < 2 ^ 16 → frame_at (ppn_of f) ≡ Some (record { 0 = f })
@@ -19,6 +23,20 @@ frame_is f small =
     let high : nat_lt (524288 + f) (524288 + 2 ^ 16) ≡ true = grind (arith, small) in
     let back : 524288 + f - 524288 ≡ f = omega arith in
     rw (low, high, back) refl
+
+-- the leaf of a page may be written over a frame whose words are known, and that the seat has alone if the leaf has W
+
+pub bytes_known : (v : View) (f : ℕ) (bytes : List ℕ) → HasBytes v f bytes → AllKnown v f
+bytes_known v f bytes has i low = has.words i low ∙ ap (λ o. Some (or_zero o)) (sym (has.words i low))
+
+pub page_backed : (v : View) (w f : ℕ) (r : Region) (mark dirty : Bool) → IsPageLeaf w f r mark dirty → AllKnown v f → ((r.writes && not mark) ≡ true → IsSole v f) → IsBacked v w
+page_backed v w f r mark dirty made known sole =
+    let named : (g : FrameNo) → frame_at (ppn w) ≡ Some g → f ≡ g.0
+    = λ g at. ap (λ (x : FrameNo). x.0) (same_Some (record { 0 = f }) g (sym (frame_is f made.small) ∙ sym (ap frame_at made.names) ∙ at)) in
+    record {
+      known = λ user g at. subst (AllKnown v) (named g at) known;
+      sole = λ user writes g at. subst (IsSole v) (named g at) (sole (sym made.write ∙ writes));
+    }
 
 -- the frame of a leaf is there, and it has no G
 abbrev pub IsUsable : ℕ → Type 0

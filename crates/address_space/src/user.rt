@@ -1,13 +1,16 @@
 // Accesses of the user: translated by the tables of the space, and made.
 
-ghost use Rattle.std.specs.Prelude.{◌≡◌, ◌%◌, IsTrue};
+ghost use Rattle.std.specs.Prelude.{[], ◌≡◌, ◌≢◌, ◌%◌, ℕ, IsTrue};
 ghost use Rattle.address_space.specs.Accesses.{asked_of, IsWalkOf};
 ghost use Rattle.address_space.specs.Agreement.{body_of, IsSpace};
+ghost use Rattle.address_space.specs.Steps.{Takes};
 ghost use Rattle.frame_store.specs.Laws.{Fits, Keeps};
 ghost use Rattle.process_model.specs.Briefs.{of_brief};
 ghost use Rattle.process_model.specs.Bytes.{is_width};
 ghost use Rattle.process_model.specs.Process.{Process};
 ghost use Rattle.process_model.specs.Service as service;
+ghost use Rattle.process_model.specs.declared.brief.Brief.TheVariants as Brief;
+ghost use Rattle.process_model.specs.declared.step.Reply.TheVariants as Reply;
 ghost use Rattle.table_walk.specs.Leaves.{walk_answer};
 ghost use Rattle.table_walk.specs.Tables.{Tables};
 
@@ -62,7 +65,7 @@ impl<S: FrameSeat> Space<S> {
     }
 
     /// Makes an access of the user that was translated, or tells its fault. A misaligned access is told before any other
-    /// fault.
+    /// fault. No count is read and no frame is taken, and only an answered store changes a word.
     pub fn user_access_briefly<F: FrameAccess<Seat = S>>(
         &mut self,
         store: &mut F,
@@ -79,8 +82,12 @@ impl<S: FrameSeat> Space<S> {
         ensures root { self.new.root ≡ self.old.root }
         ensures trapframe { self.new.trapframe ≡ self.old.trapframe }
         ensures layout { self.new.layout ≡ self.old.layout }
+        ensures view { result ≢ Brief.Stored → S.view self.new.seat ≡ S.view self.old.seat }
+        ensures same { result ≢ Brief.Stored → store.new ≡ store.old }
+        ensures tallies { Takes (S.view self.old.seat) (S.view self.new.seat) 0 [] }
         ensures keeps { Keeps F.rule store.old self.old.seat store.new self.new.seat }
         ensures free { F.alone → F.free store.new ≡ F.free store.old }
+        ensures counts { F.alone → (f : ℕ) → F.count store.new f ≡ F.count store.old f }
     {
         if remainder(asked.va.0, asked.width) != 0 {
             return Brief::Fault(asked.access.misaligned_cause());
@@ -120,8 +127,12 @@ impl<S: FrameSeat> Space<S> {
         ensures root { self.new.root ≡ self.old.root }
         ensures trapframe { self.new.trapframe ≡ self.old.trapframe }
         ensures layout { self.new.layout ≡ self.old.layout }
+        ensures view { result ≢ Reply.Stored → S.view self.new.seat ≡ S.view self.old.seat }
+        ensures same { result ≢ Reply.Stored → store.new ≡ store.old }
+        ensures tallies { Takes (S.view self.old.seat) (S.view self.new.seat) 0 [] }
         ensures keeps { Keeps F.rule store.old self.old.seat store.new self.new.seat }
         ensures free { F.alone → F.free store.new ≡ F.free store.old }
+        ensures counts { F.alone → (f : ℕ) → F.count store.new f ≡ F.count store.old f }
     {
         self.user_access_briefly(store, walk, asked).reply()
     }

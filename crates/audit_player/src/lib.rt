@@ -1,5 +1,5 @@
-//! Scripts of steps: read whole, played, and answered line by line. Files for threads: read, played on harts that are threads, and answered
-//! process by process.
+//! Scripts of steps: read whole, played, and answered line by line. Files for threads: read, played on harts that are
+//! threads, and answered process by process.
 #![tactic(auto)]
 
 mod answer;

@@ -23,8 +23,8 @@ pub(crate) fn told(error: ScriptError) -> PlayError
 
 /// Reads a script, plays it, and writes its replies, a line each.
 ///
-/// A script that is refused, and want of memory, come before anything is written. `Io` comes just where the reader or the writer failed, and what was written is then a
-/// beginning of the text.
+/// A script that is refused, and want of memory, come before anything is written. `Io` comes just where the reader or the
+/// writer failed, and what was written is then a beginning of the text.
 pub fn play<R: Source, W: Sink>(
     alloc: Global,
     reader: &mut R,

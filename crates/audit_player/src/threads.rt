@@ -31,8 +31,8 @@ use std::thread::Threads;
 /// How many calls a hart makes of a process before it takes the next one.
 const QUANTUM: usize = 8;
 
-/// Runs lists of calls over the pool and the files of a script, on so many harts, each of them a thread. Answers the processes as they ended, and
-/// how many frames are free then. Where memory is refused nothing was started.
+/// Runs lists of calls over the pool and the files of a script, on so many harts, each of them a thread. Answers the
+/// processes as they ended, and how many frames are free then. Where memory is refused nothing was started.
 pub fn run_pool<'a, T: Threads + Wait + Sync, G: Gate + Sync>(
     rt: &T,
     alloc: Global,
@@ -111,11 +111,12 @@ fn run_threads<T: Threads + Wait + Sync, W: Sink, G: Gate + Sync>(
     }
 }
 
-/// Reads a file for threads, plays its lists of calls on so many harts, each of them a thread, and writes what each process came to, a line
-/// for each start and each child, sorted by their names, and last how many user frames are free.
+/// Reads a file for threads, plays its lists of calls on so many harts, each of them a thread, and writes what each process
+/// came to, a line for each start and each child, sorted by their names, and last how many user frames are free.
 ///
-/// A file that is refused, and want of memory, come before anything is written; a process for whose calls there is no memory ends by
-/// that, and is told. `Io` comes just where the reader or the writer failed, and what was written is then a beginning of the text.
+/// A file that is refused, and want of memory, come before anything is written; a process for whose calls there is no memory
+/// ends by that, and is told. `Io` comes just where the reader or the writer failed, and what was written is then a
+/// beginning of the text.
 pub fn play_threads<T: Threads + Wait + Sync, R: Source, W: Sink>(
     rt: &T,
     alloc: Global,

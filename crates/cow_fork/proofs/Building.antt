@@ -6,7 +6,7 @@ use Rattle.std.proofs.lemmas.Bool.{cases_eq}
 use Rattle.frame_bytes.specs.Contents.{ChangesWords}
 use Rattle.frame_store.specs.Holds.{hold_of-frames, hold_of-with_hold_other, hold_of-with_hold_same}
 use Rattle.frame_store.specs.Tallies.{spent_on}
-use Rattle.frame_store.specs.View.{claimed, Hold, hold_of, IsHeld, IsSole, references, sole_hold, spent, View}
+use Rattle.frame_store.specs.View.{AllKnown, claimed, Hold, hold_of, IsHeld, IsSole, or_zero, references, sole_hold, spent, View}
 use Rattle.process_model.specs.Frames.{fork_need, tables_needed}
 use Rattle.process_model.specs.Inserted.{first_or}
 use Rattle.process_model.specs.PageMap as pages
@@ -18,6 +18,7 @@ use Rattle.sv39_entry.specs.Word.{ppn}
 use Rattle.table_walk.specs.Tables.{leaf_node, Tables}
 use Rattle.address_space.specs.Agreement.{Body, body, IsOn, IsSpace, Names}
 use Rattle.address_space.specs.Layouts.{Layout}
+use Rattle.address_space.specs.ProcessLeaves.{bytes_known}
 use Rattle.address_space.specs.declared.settled.SettledPage.{SettledPage}
 use Rattle.cow_fork.specs.Children.{CanCopy, CopiesTree, HasChildLeaf}
 use Rattle.cow_fork.specs.Forks.{CanDivide, HasChild}
@@ -83,6 +84,19 @@ module _ (v : View) (x : Body) (t : Tables) (p : Process) (list : List SettledPa
     apart : own ≡ 0 → ⊥
     apart same = let held = divide_anchored in let is = ap (references x.view) same in omega (arith, free, is, held)
 
+    -- a settled page is on a frame that has its bytes
+    known : (n : ℕ) (s : Page) → pages.get p.settled n ≡ Some s → (f : ℕ) → IsOn t n f → IsHeld b f × AllKnown b f
+    known n s at f on =
+        let shown = can.space.stands.shows.settled n s at in
+        let same : shown.frame ≡ f = one_named shown.frame f (sym shown.made.names ∙ ap ppn (one_leaf t (leaf_node n) shown.leaf on.0 shown.mapped on.1) ∙ on.2) in
+        let once = can.space.stands.owns.named f (leaf_node n) (inr (on.0, on.1, on.2)) in
+        let held = held_still v x.view L f can.more (omega (arith, once)) in
+        let is = others f (λ same. let none : references x.view f ≡ 0 = ap (references x.view) same ∙ free in omega (arith, none, held)) in
+        let words : (hold_of b f).words ≡ (hold_of v f).words = ap (λ (h : Hold). h.words) (is ∙ can.more.holds f) in
+        let had = subst (AllKnown v) same (bytes_known v shown.frame s.bytes shown.bytes) in
+        let references = ap (λ (h : Hold). h.references) is in
+        (omega (arith, held, references), subst (λ m. (i : ℕ) → i < 512 → get m i ≡ Some (or_zero (get m i))) (sym words) had)
+
     -- the child's tables can be copied
     pub can_copy : CanCopy b x.layout t p own list
     can_copy = record {
@@ -93,6 +107,7 @@ module _ (v : View) (x : Body) (t : Tables) (p : Process) (list : List SettledPa
       lays = can.space.lays;
       settled = can.settled;
       low = can.space.stands.shows.low;
+      known = known;
       credits = let spends = (claimed_spends x.view w b own free claims clears).0 in let had = can.credits in omega (arith, spends, had);
     }
 

@@ -7,7 +7,7 @@ use Rattle.std.proofs.lemmas.Option.{same_Some}
 use Rattle.std.specs.FinMap.{get}
 use Rattle.std.specs.Prelude.{All, Contains}
 use Rattle.frame_store.specs.Tallies.{spent_is}
-use Rattle.frame_store.specs.View.{IsHeld, View}
+use Rattle.frame_store.specs.View.{AllKnown, Hold, IsHeld, or_zero, View}
 use Rattle.process_model.specs.Frames.{tables_needed}
 use Rattle.process_model.specs.Inserted.{behind, first_or, in_front}
 use Rattle.process_model.specs.PageMap as pages
@@ -50,6 +50,14 @@ child_leaf p n s r x frame mark dirty in_region mark_is dirty_is made =
     let grants : grants_write p n ≡ r.writes = ap (λ o. not (lacks_right Store o)) in_region ∙ twice r.writes in
     let is : mark ≡ (child_page p n s).fork_mark = mark_is ∙ ap (λ b. s.fork_mark || b) (sym grants) in
     subst (λ m. IsPageLeaf x frame r m (is_dirty_page r (child_page p n s))) is (subst (λ d. IsPageLeaf x frame r mark (d && r.writes)) dirty_is made)
+
+-- so it has no W
+pub child_unwritable : (w had mark : Bool) → mark ≡ (had || w) → (w && not mark) ≡ true → ⊥
+child_unwritable w had mark is writes = go w had (subst (λ m. (w && not m) ≡ true) is writes) where
+  go : (w m : Bool) → (w && not (m || w)) ≡ true → ⊥
+  go true true e = cc
+  go true false e = cc
+  go false m e = cc
 
 -- pages below 2 ^ 27 have different leaves
 leaf_apart : (m n : ℕ) → m < 2 ^ 27 → n < 2 ^ 27 → (m ≡ n → ⊥) → leaf_node m ≡ leaf_node n → ⊥
@@ -101,6 +109,14 @@ module _ (o v : View) (l : Layout) (t u : Tables) (p : Process) (root trapframe 
   module _ (a : SettledPage) (next : IsNextSettled t p bound trapframe_page (Some a)) where
     pub page_low : a.page < 512 ^ suc top_level
     page_low = let low = next.1 in omega (arith, low)
+
+    -- its frame has its bytes still
+    pub page_known : AllKnown v (a.frame).0
+    page_known =
+        let f = (a.frame).0 in
+        let had = can.known a.page (next.3).page (next.3).settled f (next.3).on in
+        let same = so_far.same f (λ k at. let none = (so_far.fresh k f at).0 in omega (arith, none, had.0)) in
+        subst (λ (h : Hold). (i : ℕ) → i < 512 → get h.words i ≡ Some (or_zero (get h.words i))) (sym same) had.1
 
     next_keys : AreAmong (a.page ∷ done) (pages.keys p.settled)
     next_keys n h = elim (first_or a.page n done h) [

@@ -1,7 +1,7 @@
 -- The child's page tables, beside the parent's on the parent's seat.
 use Rattle.std.specs.Prelude.{◌≡◌, ◌≢◌, ℕ, ◌-◌, ◌<◌, ◌≤◌, Contains, List, Some}
 use Rattle.std.specs.FinMap.{get}
-use Rattle.frame_store.specs.View.{hold_of, IsHeld, references, spent, View}
+use Rattle.frame_store.specs.View.{AllKnown, hold_of, IsHeld, references, spent, View}
 use Rattle.process_model.specs.Frames.{tables_needed}
 use Rattle.process_model.specs.Order.{HasOrder}
 use Rattle.process_model.specs.PageMap as pages
@@ -34,7 +34,7 @@ pub record CanOpen (v : View) (trapframe : ℕ) : Type 0 where
   pub apart : trapframe ≢ 0
   pub credits : 3 ≤ v.credits
 
--- the credits are there for the tables of all settled pages
+-- the credits are there for the tables of all settled pages, and each page is on a frame that is held, with its bytes
 pub record CanCopy (v : View) (l : Layout) (t : Tables) (p : Process) (trapframe : ℕ) (list : List SettledPage) : Type 0 where
   pub anchored : IsHeld v 0
   pub saved : IsHeld v trapframe
@@ -43,6 +43,7 @@ pub record CanCopy (v : View) (l : Layout) (t : Tables) (p : Process) (trapframe
   pub lays : LaysOut l p
   pub settled : AreSettled t p 0 trapframe_page list
   pub low : (n : ℕ) (s : Page) → pages.get p.settled n ≡ Some s → n < trapframe_page
+  pub known : (n : ℕ) (s : Page) → pages.get p.settled n ≡ Some s → (f : ℕ) → IsOn t n f → IsHeld v f × AllKnown v f
   pub credits : tables_needed (pages.keys p.settled) ≤ v.credits
 
 -- The child's tables, made of credits, as far as some pages were gone through, which are told as a list too: leaves for those below a

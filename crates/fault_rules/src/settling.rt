@@ -45,7 +45,8 @@ pub(crate) fn initial_bytes<C: Files>(
     Ok(())
 }
 
-/// Gives a page of a region a frame with these bytes and zeros behind them, and the stored mark where that is said and stores go back to a file.
+/// Gives a page of a region a frame with these bytes and zeros behind them, and the stored mark where that is said and
+/// stores go back to a file.
 pub(crate) fn settle_as<S: FrameSeat, F: FrameSupply<Seat = S>>(
     space: &mut Space<S>,
     store: &mut F,

@@ -84,9 +84,6 @@ impl Files for Shelf {
 
     /// Takes the memory for so many entries more.
     fn promise(&mut self, pages: usize) -> Result<(), PromiseError> {
-        if pages == 0 {
-            return Ok(());
-        }
         if pages > MOST_USES - self.history.len() {
             return Err(PromiseError::JournalFull);
         }

@@ -220,10 +220,10 @@ fn run_in<'a, B: Plan + Send + Sync, R: Threads + Wait + Sync, G: Gate + Sync>(
 /// is this thread, and a thread that cannot be started is left out. A hart takes a process from the run queue, makes up to
 /// `quantum` calls and puts it back. `slots` is the number of places for processes.
 ///
-/// Each process that was started, and each child that a journal names, comes back once, as it ended, and nobody else: its journal
-/// has the first calls of its list, which is that of its start, or of its parent's fork, up to the one that ended it, and its seat
-/// holds nothing; so does each start that was refused, with an empty journal. The kernel's seat needs frame 0, which it shares with the processes, and holds
-/// what it held.
+/// Each process that was started, and each child that a journal names, comes back once, as it ended, and nobody else: its
+/// journal has the first calls of its list, which is that of its start, or of its parent's fork, up to the one that ended
+/// it, and its seat holds nothing; so does each start that was refused, with an empty journal. The kernel's seat needs frame
+/// 0, which it shares with the processes, and holds what it held.
 ///
 /// A start is refused for want of a slot exactly when at least `slots` of the starts before it took one. A start whose process made
 /// a call took one, and one that was refused took none; nothing is said of a process that ended for want of memory before its first

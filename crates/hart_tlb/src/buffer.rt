@@ -64,9 +64,9 @@ impl<const N: usize> Buffer<N> {
         self.entries.as_slice().get(n).copied()
     }
 
-    /// Walks to an address under satp, whose MODE is taken to be Sv39, and keeps what the walk found, whatever the rights, as the newest entry; a full
-    /// buffer loses its oldest. Of a walk that ends in an access fault nothing is kept. Entries for the same page stay
-    /// beside the new one (the standard, 4.2.1 permits each of them).
+    /// Walks to an address under satp, whose MODE is taken to be Sv39, and keeps what the walk found, whatever the rights,
+    /// as the newest entry; a full buffer loses its oldest. Of a walk that ends in an access fault nothing is kept. Entries
+    /// for the same page stay beside the new one (the standard, 4.2.1 permits each of them).
     pub fn fill<M: Words>(&mut self, words: &mut M, satp: Satp, va: Va)
         requires { CanWalk (M.readable words.old) (M.memory words.old) (satps.root_ppn satp) (page_of va.0) }
         ensures fills { Fills (M.memory words.old) (M.there words.old) (satps.root_ppn satp) (satps.asid satp) va.0 N self.old self.new }

@@ -9,7 +9,7 @@ use Rattle.process_laws.proofs.Granting.{granted_by}
 use Rattle.process_laws.proofs.HeldBytes.{none_some}
 use Rattle.process_laws.proofs.Running.{has_it, process_runs, ran_on, step_reply, was_made}
 use Rattle.process_laws.proofs.Users.{same_from}
-use Rattle.process_laws.specs.Headline.{Copies, EndsAfter}
+use Rattle.process_laws.specs.Headline.{Copies, StopsAfter}
 use Rattle.process_laws.specs.Words.{byte, copied, Forbids, IsGranted, IsIn, IsMade, IsOn, stopped_by, tells_no_frame}
 use Rattle.process_model.specs.Around.{Around, Progress, reached, resident_at, unless_dry, unless_resident}
 use Rattle.process_model.specs.Bytes.{numbers_from}
@@ -206,28 +206,28 @@ out_so_far a g address bs = subst (λ k. SoFar a g.process access.Store address 
 
 -- where the byte alone is told that there is no frame, if that stopped it
 module _ (alone : Reply) where
-  stop_says : (p : Process) (kind : Access) (address n k : ℕ) (rule : Rule) → k < n → Stops p kind (address + k) rule → (rule ≡ NoFrame → tells_no_frame alone ≡ true) → EndsAfter p kind address n k alone (Some rule)
-  stop_says p kind address n k rule l (denied e) says = EndsAfter.forbidden l (byte_forbidden p kind (address + k) rule e)
-  stop_says p kind address n k rule l (dry e) says = EndsAfter.no_frame l (byte_granted p kind (address + k) e) (says refl)
+  stop_says : (p : Process) (kind : Access) (address n k : ℕ) (rule : Rule) → k < n → Stops p kind (address + k) rule → (rule ≡ NoFrame → tells_no_frame alone ≡ true) → StopsAfter p kind address n k alone (Some rule)
+  stop_says p kind address n k rule l (denied e) says = StopsAfter.forbidden l (byte_forbidden p kind (address + k) rule e)
+  stop_says p kind address n k rule l (dry e) says = StopsAfter.no_frame l (byte_granted p kind (address + k) e) (says refl)
 
   ends_so : (a : Around) (p : Process) (kind : Access) (address n : ℕ) (c : Copied) (o : Option Rule) → c.stop ≡ o → SoFar a p kind address n c → (c.stop ≡ Some NoFrame → tells_no_frame alone ≡ true)
       → Copies p kind address n (length c.bytes) alone o
-  ends_so a p kind address n c None e f says = record { granted = λ i l. byte_granted p kind (address + i) (f.granted i l); ends = EndsAfter.whole (f.goes_on e) }
+  ends_so a p kind address n c None e f says = record { granted = λ i l. byte_granted p kind (address + i) (f.granted i l); stops = StopsAfter.whole (f.goes_on e) }
   ends_so a p kind address n c (Some rule) e f says =
       let g = f.stops rule e in
-      record { granted = λ i l. byte_granted p kind (address + i) (f.granted i l); ends = stop_says p kind address n (length c.bytes) rule g.0 g.1 (λ is. says (e ∙ ap Some is)) }
+      record { granted = λ i l. byte_granted p kind (address + i) (f.granted i l); stops = stop_says p kind address n (length c.bytes) rule g.0 g.1 (λ is. says (e ∙ ap Some is)) }
 
   -- a process that no access of waits has the same regions
   copies_same : (p : Process) (kind : Access) (address n k : ℕ) (o : Option Rule) → Copies (without_pending p) kind address n k alone o → Copies p kind address n k alone o
-  copies_same p kind address n k o c = record { granted = λ i l. grants (address + i) (c.granted i l); ends = ends_same o c.ends }
+  copies_same p kind address n k o c = record { granted = λ i l. grants (address + i) (c.granted i l); stops = ends_same o c.stops }
     where
       grants : (at : ℕ) → IsGranted (without_pending p) (byte kind at) → IsGranted p (byte kind at)
       grants at g = record { region = g.region; has = g.has; right = g.right; aligned = g.aligned }
 
-      ends_same : (o : Option Rule) → EndsAfter (without_pending p) kind address n k alone o → EndsAfter p kind address n k alone o
-      ends_same o (EndsAfter.whole e) = EndsAfter.whole e
-      ends_same o (EndsAfter.forbidden l f) = EndsAfter.forbidden l f
-      ends_same o (EndsAfter.no_frame l g so) = EndsAfter.no_frame l (grants (address + k) g) so
+      ends_same : (o : Option Rule) → StopsAfter (without_pending p) kind address n k alone o → StopsAfter p kind address n k alone o
+      ends_same o (StopsAfter.whole e) = StopsAfter.whole e
+      ends_same o (StopsAfter.forbidden l f) = StopsAfter.forbidden l f
+      ends_same o (StopsAfter.no_frame l g so) = StopsAfter.no_frame l (grants (address + k) g) so
 
 pub Says : Process → Access → ℕ → ℕ → (ℕ → Reply) → Reply → Type 0
 Says p kind address n alone r = Copies p kind address n (copied r) (alone (copied r)) (stopped_by r)

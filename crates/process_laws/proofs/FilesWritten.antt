@@ -1,6 +1,6 @@
 -- What a process writes back: bytes that it stored to shared mappings, each to its place in the file, and no others.
-use Rattle.std.proofs.Common.{◌≡◌, ◌⊎◌, ℕ, true, false, cond, ◌&&◌, ◌+◌, ◌-◌, ◌*◌, ◌%◌, ◌<◌, ◌≤◌, inl, inr, refl, sym, ap, subst, ◌∙◌, arith, List, [], ◌∷◌, ◌++◌, Option, None, Some, length, take, drop}
-use Rattle.std.specs.Prelude.{T, fold, nat_le, nat_lt, slice_get}
+use Rattle.std.proofs.Common.{◌≡◌, ◌⊎◌, ℕ, zero, suc, true, false, cond, ◌&&◌, ◌+◌, ◌-◌, ◌*◌, ◌%◌, ◌<◌, ◌≤◌, inl, inr, refl, sym, ap, subst, ◌∙◌, arith, List, [], ◌∷◌, ◌++◌, Option, None, Some, length, take, drop}
+use Rattle.std.specs.Prelude.{T, fold, nat_le, nat_lt, slice_get, slice_set}
 use Rattle.std.specs.Ordering.{nat_cmp}
 use Rattle.std.specs.Cmp.{unsigned_tied}
 use Rattle.std.specs.FinMap.Entries.{find, is_sorted}
@@ -19,7 +19,7 @@ use Rattle.process_laws.specs.Latest.{byte_at, page_byte}
 use Rattle.process_laws.specs.Pages.{grant, grant_in, has_mark, has_stored_mark, pages_on}
 use Rattle.process_laws.specs.Words.{Written, WroteBack}
 use Rattle.process_model.specs.Bytes.{pages_for, write_bytes}
-use Rattle.process_model.specs.Files.{bytes_of, File, with_file_at, with_page_written, written_over}
+use Rattle.process_model.specs.Files.{bytes_of, File, is_writable, with_file_at, with_page_written, written_over}
 use Rattle.process_model.specs.Mappings.{all_written_back, is_written_back, mapping_around, mapping_written_back, page_written, with_written, written_back}
 use Rattle.process_model.specs.Order.{IsInOrder, Row}
 use Rattle.process_model.specs.PageMap.{get}
@@ -45,6 +45,21 @@ other_file files n k o page apart = by (slice_get files n)
     by None = refl
     by (Some f) = ap bytes_of (get_set_other files n k (record f { bytes = written_over f.bytes o page }) apart)
 
+-- a file that is written to stays one that may be written
+mode_stays : (files : List File) (n k o : ℕ) (page : List ℕ) → is_writable (slice_get (with_page_written files n o page) k) ≡ is_writable (slice_get files k)
+mode_stays files n k o page = by (slice_get files n) refl
+  where
+    set : (fs : List File) (n k : ℕ) (f : File) (bytes : List ℕ) → slice_get fs n ≡ Some f → is_writable (slice_get (slice_set fs n (record f { bytes = bytes })) k) ≡ is_writable (slice_get fs k)
+    set [] n k f bytes e = refl
+    set (g ∷ gs) zero zero f bytes e = ap (λ (x : File). x.writable) (sym (same_Some g f e))
+    set (g ∷ gs) zero (suc k) f bytes e = refl
+    set (g ∷ gs) (suc n) zero f bytes e = refl
+    set (g ∷ gs) (suc n) (suc k) f bytes e = set gs n k f bytes e
+
+    by : (x : Option File) → slice_get files n ≡ x → is_writable (slice_get (with_file_at files n x o page) k) ≡ is_writable (slice_get files k)
+    by None e = refl
+    by (Some f) e = set files n k f (written_over f.bytes o page) e
+
 shared_kind : (kind : RegionKind) → is_shared_kind kind ≡ true → kind ≡ shared_mapping
 shared_kind segment e = absurd cc
 shared_kind guard e = absurd cc
@@ -54,10 +69,11 @@ shared_kind shared_mapping e = refl
 shared_kind private_mapping e = absurd cc
 
 pub none_written : (p : Process) (files : List File) → Written p files files
-none_written p files = record { long = λ n. refl; bytes = λ n i less. inl refl }
+none_written p files = record { mode = λ n. refl; long = λ n. refl; bytes = λ n i less. inl refl }
 
 written_on : (p : Process) (one two three : List File) → Written p one two → Written p two three → Written p one three
 written_on p one two three f g = record {
+  mode = λ n. g.mode n ∙ f.mode n;
   long = λ n. g.long n ∙ f.long n;
   bytes = λ n i less. elim (g.bytes n i (let same = f.long n in omega (arith, same, less))) [
     | inl same ↦ elim (f.bytes n i less) [
@@ -100,6 +116,7 @@ module _ (p : Process) (sized : AllSized p.settled) where
         let page = (e.1).bytes in
         let goes = page_goes files n o page in
         record {
+          mode = λ k. mode_stays files n k o page;
           long = λ k. elim (cases_eq n k) [
             | inl same ↦ subst (λ j. length (file_bytes (with_page_written files n o page) j) ≡ length (file_bytes files j)) same (ap length goes ∙ length_stays bs page o)
             | inr apart ↦ ap length (other_file files n k o page apart)

@@ -1,6 +1,6 @@
 -- What calls give to the pages that they move.
-use Rattle.std.proofs.Common.{◌≡◌, ◌⊎◌, ℕ, ℤ, Bool, true, false, cond, ◌&&◌, ◌||◌, ◌==◌, ◌+◌, ◌-◌, ◌*◌, ◌<◌, ◌≤◌, inl, inr, refl, sym, ap, subst, ◌∙◌, arith, List, [], ◌∷◌, ◌++◌, map, Option, None, Some}
-use Rattle.std.specs.Prelude.{nat_abs, Ok, nat_le, nat_lt, if◌then◌else◌}
+use Rattle.std.proofs.Common.{◌≡◌, ◌⊎◌, ℕ, ℤ, pos, negsuc, Bool, true, false, cond, ◌&&◌, ◌||◌, ◌==◌, ◌+◌, ◌-◌, ◌*◌, ◌<◌, ◌≤◌, inl, inr, refl, sym, ap, subst, ◌∙◌, arith, List, [], ◌∷◌, ◌++◌, map, Option, None, Some}
+use Rattle.std.specs.Prelude.{int_lt, nat_abs, Ok, nat_le, nat_lt, if◌then◌else◌}
 use Rattle.std.specs.List.{list_all}
 use Rattle.std.proofs.lemmas.Bool.{and_parts, cases_eq, eqb-true, eq-eqb, leb-true, ltb-false, ltb-true, ne_eqb}
 use Rattle.std.proofs.lemmas.Bool.Decides.{nat_tests}
@@ -8,7 +8,7 @@ use Rattle.std.proofs.lemmas.Option.{same_Some}
 use Rattle.process_laws.proofs.Grants.{around_above, Found, here, skipped}
 use Rattle.process_laws.specs.Pages.{Grant, grant, grant_in, has_fork_mark, has_mark, has_stored_mark, heap_grant, image_size, is_between, loads_grant, mapping_grant}
 use Rattle.process_model.specs.Bytes.{pages_for}
-use Rattle.process_model.specs.Granted.{size_granted}
+use Rattle.process_model.specs.Granted.{none_true, size_granted}
 use Rattle.process_model.specs.Heap.{heap_limit, resized, size_refusal, without_pages}
 use Rattle.process_model.specs.Images.{end_of_loads, end_page, LoadSegment}
 use Rattle.process_model.specs.Inserted.{inserted_here, inserted_other}
@@ -20,6 +20,7 @@ use Rattle.process_model.specs.Process.{heap_of, Page, Process}
 use Rattle.process_model.specs.RegionRows.{row_up}
 use Rattle.process_model.specs.Regions.{end_of, file, guard, heap, holds_page, image, Region, region_at, segment, stack, zeros}
 use Rattle.process_model.specs.World.{is_unserved_access}
+use Rattle.process_model.specs.declared.step.Refusal.TheVariants.{BadSize, NoRoom}
 use Rattle.sv39_entry.specs.Address.{page_of, trapframe_page}
 
 -- ---- rows
@@ -104,6 +105,14 @@ module _ (p : Process) (order : IsInOrder p) (page : ℕ) where
         first_of : (a b : Bool) → (a || b) ≡ true → b ≡ false → a ≡ true
         first_of true b e f = refl
         first_of false b e f = absurd (let no : true ≡ false = sym e ∙ f in cc)
+
+    -- the size is what was asked for
+    pub resized_size : pos (nat_abs wanted) ≡ wanted
+    resized_size = whole wanted (none_true ((int_lt wanted (pos p.heap_base), BadSize) ∷ (nat_lt (heap_limit p.mappings) (pages_for (nat_abs wanted)), NoRoom) ∷ []) none).0
+      where
+        whole : (z : ℤ) → int_lt z (pos p.heap_base) ≡ false → pos (nat_abs z) ≡ z
+        whole (pos n) e = refl
+        whole (negsuc n) e = absurd cc
 
     pub resized_given : (is_between new old page || is_between old new page) ≡ true → grant q page ≡ (if nat_lt page new then Some heap_grant else None)
     resized_given e = resized_at (nat_lt page new) refl e

@@ -1,5 +1,5 @@
 -- The way of a process from its start into user mode and back into the kernel.
-use Rattle.std.proofs.Common.{◌≡◌, ◌≢◌, ◌⊎◌, ◌==◌, ℕ, zero, suc, Bool, true, false, ◌&&◌, inl, inr, refl, sym, ap, subst, ◌∙◌, arith, List, [], ◌∷◌, Option, None, Some}
+use Rattle.std.proofs.Common.{◌≡◌, ◌≢◌, ◌⊎◌, ◌==◌, ℕ, zero, suc, Bool, true, false, ◌&&◌, inl, inr, refl, sym, ap, subst, ◌∙◌, arith, List, [], ◌∷◌, Option, None, Some, pos}
 use Rattle.std.specs.Prelude.{Err, Ok, option_map, Result, slice_get, slice_set, unwrap_or}
 use Rattle.std.specs.List.{list_any}
 use Rattle.std.proofs.lemmas.Bool.{eqb-true, false≢true}
@@ -196,7 +196,7 @@ module _ (w : World) (image : Image) where
       grants = λ page. image_given w.counter ls page ∙ ap (λ l. image_grant l page) (sym loads);
       unmarked = image_unmarked w.counter ls;
       quiet = image_idle w.counter ls;
-      size = image_sized w.counter ls ∙ ap image_size (sym loads) ∙ ap (λ x. size_after (Start image) x 0) (sym told);
+      size = ap pos (image_sized w.counter ls ∙ ap image_size (sym loads)) ∙ ap (λ x. size_after (Start image) x 0) (sym told);
     }
 
     unless : (t : ℕ) (ls : List LoadSegment) (b : Bool) → free_slot w ≡ Some t → image_loads image ≡ Ok ls → (started_unless w t ls b).reply ≡ Started s → ((n : ℕ) → process_in v n ≡ process_in (started_unless w t ls b).world n) → Starts w image s r v

@@ -1,25 +1,26 @@
--- Harts that a step does not move, and files that it does not write back to.
-use Rattle.std.proofs.Common.{◌≡◌, ◌≢◌, ◌==◌, ℕ, Bool, true, false, refl, sym, ap, ◌∙◌, inl, inr, List, Option, None, Some}
-use Rattle.std.specs.Prelude.{option_map, Result, Ok, Err, slice_get, slice_set}
-use Rattle.std.proofs.lemmas.Bool.{cases_eq, eq-eqb, false≢true}
-use Rattle.std.proofs.lemmas.Option.{slice_get-map}
-use Rattle.process_laws.proofs.Going.{set_there}
+-- Harts that a step does not move, which process comes on one that it moves, and files that it does not write back to.
+use Rattle.std.proofs.Common.{◌≡◌, ◌≢◌, ◌⊎◌, ◌==◌, ◌&&◌, ◌||◌, not, ℕ, zero, suc, Bool, true, false, refl, sym, ap, subst, ◌∙◌, inl, inr, List, [], ◌∷◌, Option, None, Some}
+use Rattle.std.specs.List.{list_any}
+use Rattle.std.specs.Prelude.{is_some, option_map, Result, Ok, Err, slice_get, slice_set}
+use Rattle.std.proofs.lemmas.Bool.{and_parts, cases_eq, eq-eqb, false≢true}
+use Rattle.std.proofs.lemmas.Option.{same_Some, slice_get-map}
+use Rattle.process_laws.proofs.Going.{fenced_slot, set_there}
 use Rattle.process_laws.proofs.HeldBytes.{none_some}
-use Rattle.process_laws.proofs.OnHarts.{access_good, its_good, kernel_good, on_hart_good}
+use Rattle.process_laws.proofs.OnHarts.{access_there, its_good, kernel_good, on_hart_can, on_hart_good}
 use Rattle.process_laws.proofs.Untouched.{get_set_other}
 use Rattle.process_laws.specs.Moments.{slot_at, slot_on}
 use Rattle.process_laws.specs.Words.{is_born, moved_hart, phase_on, writes_back}
 use Rattle.process_model.specs.Around.{Progress}
 use Rattle.process_model.specs.Calls.{forked, forked_unless, mapped_to, replaced, replaced_unless, resized_to, started, started_unless, unmapped_to, with_image}
 use Rattle.process_model.specs.Copies.{Copied, copied_in, copied_out, in_reply, out_reply}
-use Rattle.process_model.specs.Harts.{Hart}
+use Rattle.process_model.specs.Harts.{Hart, may_switch}
 use Rattle.process_model.specs.Images.{image_loads, LoadSegment}
 use Rattle.process_model.specs.Mappings.{Mapped, Unmapped}
 use Rattle.process_model.specs.Process.{Pending, Process, without_pending}
 use Rattle.process_model.specs.Service.{around, begun, served, served_or_ended, with_progress}
 use Rattle.process_model.specs.Stale.{changed_slots, with_stale, with_stale_slots}
 use Rattle.process_model.specs.Steps.{plain_step, step}
-use Rattle.process_model.specs.World.{answers, flat, free_slot, Outcome, process_in, refuses, World}
+use Rattle.process_model.specs.World.{answers, can_run, flat, free_slot, has_slot, Outcome, process_in, refuses, World}
 use Rattle.process_model.specs.declared.config.Policy.{Policy}
 use Rattle.process_model.specs.declared.config.Policy.TheVariants.{Full, Asid}
 use Rattle.process_model.specs.declared.image.BadImage.{BadImage}
@@ -39,7 +40,12 @@ SameHart w v k = (slot_on v k ≡ slot_on w k) × (phase_on v k ≡ phase_on w k
 abbrev StaysEmpty : World → Outcome → Type 0
 StaysEmpty w o = (s : ℕ) → process_in w s ≡ None → is_born o.reply s ≡ false → process_in o.world s ≡ None
 
+-- a hart has the process that it had, or one that was on no hart
+abbrev pub Comes : World → ℕ → Option ℕ → Type 0
+Comes w h o = (s : ℕ) → o ≡ Some s → (slot_on w h ≡ Some s) ⊎ ((k : ℕ) → slot_on w k ≢ Some s)
+
 pub record Keeps (w : World) (x : Step) (o : Outcome) : Type 0 where
+  pub comes : (k : ℕ) → Comes w k (slot_on o.world k)
   pub harts : (k : ℕ) → moved_hart x o.reply ≢ Some k → SameHart w o.world k
   pub files : writes_back x o.reply ≡ false → (o.world).files ≡ w.files
   pub empty : StaysEmpty w o
@@ -67,6 +73,49 @@ like_hart w v h before after there slot phase e k = elim (cases_eq h k) [
       let is : slice_get v.harts k ≡ slice_get w.harts k = ap (λ hs. slice_get hs k) e ∙ get_set_other w.harts h k after apart in
       (ap slot_at is, ap (option_map (λ (hart : Hart). hart.phase)) is)
 ]
+
+-- a hart that has the process that it had
+came : (w v : World) (k : ℕ) → slot_on v k ≡ slot_on w k → Comes w k (slot_on v k)
+came w v k same s is = inl (sym same ∙ is)
+
+came_there : (w : World) (h : ℕ) (hart : Hart) (o : Option ℕ) → slice_get w.harts h ≡ Some hart → o ≡ hart.slot → Comes w h o
+came_there w h hart o there same s is = inl (ap slot_at there ∙ sym same ∙ is)
+
+-- a hart was set
+set_slot : (harts : List Hart) (h : ℕ) (after : Hart) (s : ℕ) → slot_at (slice_get (slice_set harts h after) h) ≡ Some s → after.slot ≡ Some s
+set_slot [] h after s e = absurd cc
+set_slot (z ∷ zs) zero after s e = e
+set_slot (z ∷ zs) (suc h) after s e = set_slot zs h after s e
+
+set_comes : (w v : World) (h : ℕ) (after : Hart) → v.harts ≡ slice_set w.harts h after → Comes w h after.slot → (k : ℕ) → Comes w k (slot_on v k)
+set_comes w v h after e comes k s is = elim (cases_eq h k) [
+  | inl same ↦ subst (λ j. (slot_on w j ≡ Some s) ⊎ ((i : ℕ) → slot_on w i ≢ Some s)) same (comes s (set_slot w.harts h after s (sym (ap (λ hs. slot_at (slice_get hs h)) e) ∙ ap (slot_on v) same ∙ is)))
+  | inr apart ↦ inl (sym (other_hart w v h after e k (λ f. apart (same_Some h k f))).0 ∙ is)
+]
+
+-- no hart has a process that can be put on one
+none_on : (harts : List Hart) (s : ℕ) → list_any (λ (hart : Hart). has_slot s hart.slot) harts ≡ false → (k : ℕ) → slot_at (slice_get harts k) ≢ Some s
+none_on [] s e k is = absurd cc
+none_on (hart ∷ harts) s e zero is = absurd (let it : has_slot s hart.slot ≡ true = ap (has_slot s) is ∙ eq-eqb s s refl in let no : true ≡ false = sym (or_first it) ∙ e in cc)
+  where
+    or_first : has_slot s hart.slot ≡ true → (has_slot s hart.slot || list_any (λ (h : Hart). has_slot s h.slot) harts) ≡ true
+    or_first it = ap (λ b. b || list_any (λ (h : Hart). has_slot s h.slot) harts) it
+none_on (hart ∷ harts) s e (suc k) is = none_on harts s (or_second (has_slot s hart.slot) e) k is
+  where
+    or_second : (b : Bool) → (b || list_any (λ (h : Hart). has_slot s h.slot) harts) ≡ false → list_any (λ (h : Hart). has_slot s h.slot) harts ≡ false
+    or_second true f = absurd cc
+    or_second false f = f
+
+switch_comes : (w : World) (h : ℕ) (slot : Option ℕ) (may : Bool) → (may && can_run w slot) ≡ true → Comes w h slot
+switch_comes w h None may can s is = absurd cc
+switch_comes w h (Some t) may can s is =
+    let run : can_run w (Some t) ≡ true = (and_parts may (can_run w (Some t)) can).1 in
+    let none : list_any (λ (hart : Hart). has_slot t hart.slot) w.harts ≡ false = not_true _ (and_parts (is_some (process_in w t)) _ run).1 in
+    inr (subst (λ n. (k : ℕ) → slot_on w k ≢ Some n) (same_Some t s is) (none_on w.harts t none))
+  where
+    not_true : (b : Bool) → not b ≡ true → b ≡ false
+    not_true true e = absurd cc
+    not_true false e = refl
 
 -- the slots are as they were
 same_empty : (w v : World) (r : Reply) → v.slots ≡ w.slots → StaysEmpty w (answers v r)
@@ -99,27 +148,27 @@ slots_empty w v r (both t p o child u lives is e) = λ s none calm.
 
 module _ (w : World) where
   quiet : (x : Step) (r : Refusal) → Keeps w x (refuses w r)
-  quiet x r = record { harts = λ k other. same_harts w w refl k; files = λ e. refl; empty = same_empty w w (Refused r) refl }
+  quiet x r = record { comes = λ k. came w w k refl; harts = λ k other. same_harts w w refl k; files = λ e. refl; empty = same_empty w w (Refused r) refl }
 
   -- neither changes
   still : (x : Step) (v : World) (r : Reply) → v.harts ≡ w.harts → v.files ≡ w.files → Slots w v r → Keeps w x (answers v r)
-  still x v r harts files slots = record { harts = λ k other. same_harts w v harts k; files = λ e. files; empty = slots_empty w v r slots }
+  still x v r harts files slots = record { comes = λ k. came w v k (same_harts w v harts k).0; harts = λ k other. same_harts w v harts k; files = λ e. files; empty = slots_empty w v r slots }
 
   -- the step writes back
   writing : (x : Step) (v : World) (r : Reply) → v.harts ≡ w.harts → writes_back x r ≡ true → Slots w v r → Keeps w x (answers v r)
-  writing x v r harts writes slots = record { empty = slots_empty w v r slots; harts = λ k other. same_harts w v harts k; files = λ e. absurd (let no : true ≡ false = sym writes ∙ e in cc) }
+  writing x v r harts writes slots = record { comes = λ k. came w v k (same_harts w v harts k).0; empty = slots_empty w v r slots; harts = λ k other. same_harts w v harts k; files = λ e. absurd (let no : true ≡ false = sym writes ∙ e in cc) }
 
   -- the step moves a hart
-  moving : (x : Step) (v : World) (r : Reply) (h : ℕ) (after : Hart) → v.harts ≡ slice_set w.harts h after → moved_hart x r ≡ Some h → (writes_back x r ≡ false → v.files ≡ w.files) → Slots w v r → Keeps w x (answers v r)
-  moving x v r h after e moves files slots = record { empty = slots_empty w v r slots; harts = λ k other. other_hart w v h after e k (λ same. other (moves ∙ same)); files = files }
+  moving : (x : Step) (v : World) (r : Reply) (h : ℕ) (after : Hart) → v.harts ≡ slice_set w.harts h after → moved_hart x r ≡ Some h → Comes w h after.slot → (writes_back x r ≡ false → v.files ≡ w.files) → Slots w v r → Keeps w x (answers v r)
+  moving x v r h after e moves comes files slots = record { comes = set_comes w v h after e comes; empty = slots_empty w v r slots; harts = λ k other. other_hart w v h after e k (λ same. other (moves ∙ same)); files = files }
 
-  ending : (x : Step) (v : World) (r : Reply) (h : ℕ) (after : Hart) → v.harts ≡ slice_set w.harts h after → moved_hart x r ≡ Some h → writes_back x r ≡ true → Slots w v r → Keeps w x (answers v r)
-  ending x v r h after e moves writes slots = moving x v r h after e moves (λ f. absurd (let no : true ≡ false = sym writes ∙ f in cc)) slots
+  ending : (x : Step) (v : World) (r : Reply) (h : ℕ) (after : Hart) → v.harts ≡ slice_set w.harts h after → moved_hart x r ≡ Some h → after.slot ≡ None → writes_back x r ≡ true → Slots w v r → Keeps w x (answers v r)
+  ending x v r h after e moves idle writes slots = moving x v r h after e moves (λ s is. absurd (let no = sym idle ∙ is in cc)) (λ f. absurd (let no : true ≡ false = sym writes ∙ f in cc)) slots
 
   -- a hart gets another buffer
   filling : (x : Step) (v : World) (r : Reply) (h : ℕ) (before after : Hart) → slice_get w.harts h ≡ Some before → after.slot ≡ before.slot → after.phase ≡ before.phase → v.harts ≡ slice_set w.harts h after
       → v.files ≡ w.files → Slots w v r → Keeps w x (answers v r)
-  filling x v r h before after there slot phase e files slots = record { empty = slots_empty w v r slots; harts = λ k other. like_hart w v h before after there slot phase e k; files = λ f. files }
+  filling x v r h before after there slot phase e files slots = record { comes = λ k. came w v k (like_hart w v h before after there slot phase e k).0; empty = slots_empty w v r slots; harts = λ k other. like_hart w v h before after there slot phase e k; files = λ f. files }
 
   image_keeps : (x : Step) (s : ℕ) (ls : List LoadSegment) (b : Bool) → Keeps w x (started_unless w s ls b)
   image_keeps x s ls true = quiet x _
@@ -159,7 +208,7 @@ module _ (w : World) where
   unmap_keeps h address len s p (Ok u) lives = writing _ _ _ refl refl (set s p _ lives refl)
 
   reach_keeps : (h : ℕ) (hart : Hart) (s : ℕ) (p : Process) (a : Pending) (r : Result Progress Rule) → process_in w s ≡ Some p → Keeps w (step_of.Serve h) (served_or_ended w h hart s p a r)
-  reach_keeps h hart s p a (Err r) lives = ending _ _ _ h _ refl refl refl (set s p _ lives refl)
+  reach_keeps h hart s p a (Err r) lives = ending _ _ _ h _ refl refl refl refl (set s p _ lives refl)
   reach_keeps h hart s p a (Ok g) lives = still _ _ _ refl refl (set s p _ lives refl)
 
   serve_keeps : (h : ℕ) (hart : Hart) (s : ℕ) (p : Process) (o : Option Pending) → process_in w s ≡ Some p → Keeps w (step_of.Serve h) (served w h hart s p o)
@@ -174,17 +223,17 @@ module _ (w : World) where
 
   plain_keeps : (x : Step) → Keeps w x (plain_step w x)
   plain_keeps (step_of.Start image) = start_keeps _ (image_loads image) (free_slot w)
-  plain_keeps (step_of.Switch h slot) = on_hart_good w (Keeps w _) (quiet _) h true _ _ _ (λ hart is _. moving _ _ _ h _ refl refl (λ e. refl) (same refl))
-  plain_keeps (step_of.Trap h) = on_hart_good w (Keeps w _) (quiet _) h true _ _ _ (λ hart is _. its_good w (Keeps w _) (quiet _) h hart _ is (λ t p on here. moving _ _ _ h _ refl refl (λ e. refl) (set t p _ here refl)))
-  plain_keeps (step_of.Next h) = on_hart_good w (Keeps w _) (quiet _) h true _ _ _ (λ hart is _. moving _ _ _ h _ refl refl (λ e. refl) (same refl))
+  plain_keeps (step_of.Switch h slot) = on_hart_can w (Keeps w _) (quiet _) h _ _ _ (λ hart is can. moving _ _ _ h _ refl refl (switch_comes w h slot (may_switch hart.phase) can) (λ e. refl) (same refl))
+  plain_keeps (step_of.Trap h) = on_hart_good w (Keeps w _) (quiet _) h true _ _ _ (λ hart is _. its_good w (Keeps w _) (quiet _) h hart _ is (λ t p on here. moving _ _ _ h _ refl refl (came_there w h hart _ is refl) (λ e. refl) (set t p _ here refl)))
+  plain_keeps (step_of.Next h) = on_hart_good w (Keeps w _) (quiet _) h true _ _ _ (λ hart is _. moving _ _ _ h _ refl refl (came_there w h hart _ is (fenced_slot w.policy hart)) (λ e. refl) (same refl))
   plain_keeps (step_of.Fill h address) = on_hart_good w (Keeps w _) (quiet _) h true _ _ _ (λ hart is _. filling _ _ _ h hart _ is refl refl refl refl (same refl))
   plain_keeps (step_of.Evict h n) = on_hart_good w (Keeps w _) (quiet _) h true _ _ _ (λ hart is _. filling _ _ _ h hart _ is refl refl refl refl (same refl))
   plain_keeps (step_of.Fetch h address via) =
-      access_good w (Keeps w _) (quiet _) h access.Fetch address 4 0 via (λ hart t p cause here on. moving _ _ _ h _ refl refl (λ e. refl) (set t p _ here refl)) (λ hart t p page here on is fits. still _ _ _ refl refl (set t p _ here refl))
+      access_there w (Keeps w _) (quiet _) h access.Fetch address 4 0 via (λ hart t p cause here on is. moving _ _ _ h _ refl refl (came_there w h hart _ is refl) (λ e. refl) (set t p _ here refl)) (λ hart t p page here on is fits. still _ _ _ refl refl (set t p _ here refl))
   plain_keeps (step_of.Load h address width via) =
-      access_good w (Keeps w _) (quiet _) h access.Load address width 0 via (λ hart t p cause here on. moving _ _ _ h _ refl refl (λ e. refl) (set t p _ here refl)) (λ hart t p page here on is fits. still _ _ _ refl refl (set t p _ here refl))
+      access_there w (Keeps w _) (quiet _) h access.Load address width 0 via (λ hart t p cause here on is. moving _ _ _ h _ refl refl (came_there w h hart _ is refl) (λ e. refl) (set t p _ here refl)) (λ hart t p page here on is fits. still _ _ _ refl refl (set t p _ here refl))
   plain_keeps (step_of.Store h address width value via) =
-      access_good w (Keeps w _) (quiet _) h access.Store address width value via (λ hart t p cause here on. moving _ _ _ h _ refl refl (λ e. refl) (set t p _ here refl)) (λ hart t p page here on is fits. still _ _ _ refl refl (set t p _ here refl))
+      access_there w (Keeps w _) (quiet _) h access.Store address width value via (λ hart t p cause here on is. moving _ _ _ h _ refl refl (came_there w h hart _ is refl) (λ e. refl) (set t p _ here refl)) (λ hart t p page here on is fits. still _ _ _ refl refl (set t p _ here refl))
   plain_keeps (step_of.TrampolineFetch h offset via) = on_hart_good w (Keeps w _) (quiet _) h _ _ _ _ (λ hart is _. still _ _ _ refl refl (same refl))
   plain_keeps (step_of.Serve h) = on_hart_good w (Keeps w _) (quiet _) h true _ _ _ (λ hart is _. its_good w (Keeps w _) (quiet _) h hart _ is (λ t p on here. serve_keeps h hart t p p.pending here))
   plain_keeps (step_of.Fork h) = kernel_good w (Keeps w _) (quiet _) h true _ (λ hart t p on here. fork_keeps _ t p (free_slot w) here)
@@ -194,7 +243,7 @@ module _ (w : World) where
   plain_keeps (step_of.Munmap h address len) = kernel_good w (Keeps w _) (quiet _) h true _ (λ hart t p on here. unmap_keeps h address len t p _ here)
   plain_keeps (step_of.CopyIn h address n) = kernel_good w (Keeps w _) (quiet _) h _ _ (λ hart t p on here. let c = copied_in (around w t) (begun w (without_pending p)) address n in in_keeps (step_of.CopyIn h address n) t p c c.stop here)
   plain_keeps (step_of.CopyOut h address bytes) = kernel_good w (Keeps w _) (quiet _) h _ _ (λ hart t p on here. let c = copied_out (around w t) (begun w (without_pending p)) address bytes.now in out_keeps (step_of.CopyOut h address bytes) t p c c.stop here)
-  plain_keeps (step_of.Exit h status) = kernel_good w (Keeps w _) (quiet _) h true _ (λ hart t p on here. ending _ _ _ h _ refl refl refl (set t p _ here refl))
+  plain_keeps (step_of.Exit h status) = kernel_good w (Keeps w _) (quiet _) h true _ (λ hart t p on here. ending _ _ _ h _ refl refl refl refl (set t p _ here refl))
 
   -- marks move no hart
 
@@ -209,6 +258,10 @@ module _ (w : World) where
   marks_keep : (policy : Policy) (x : Step) (o : Outcome) → Keeps w x o → Keeps w x (with_stale_slots policy w o)
   marks_keep Full x o k = k
   marks_keep Asid x o k = record {
+    comes = λ n s e.
+        let slots = changed_slots 0 w.slots (o.world).slots in
+        let is = slice_get-map (with_stale slots) (o.world).harts n in
+        k.comes n s (sym (ap slot_at is ∙ stale_slot slots (slice_get (o.world).harts n)) ∙ e);
     harts = λ n other.
         let slots = changed_slots 0 w.slots (o.world).slots in
         let is = slice_get-map (with_stale slots) (o.world).harts n in

@@ -27,7 +27,13 @@ pub mod KeptFrames
 pub mod Grants
 pub mod Givens
 pub mod FilesWritten
+pub mod Further
 pub mod OwnSteps
+pub mod OwnFiles
+pub mod Children
+pub mod CallsMade
+pub mod OneHart
+pub mod Proper
 pub mod Told
 pub mod WrongModels
 pub mod ScriptLines

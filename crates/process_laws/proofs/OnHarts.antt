@@ -17,6 +17,7 @@ use Rattle.process_model.specs.World.{World, Outcome, refuses, process_in, can_c
 use Rattle.process_model.specs.Service.{Answer, Asked, faulted, answered, if_resident, if_settled, told, unless_denied, access_step}
 use Rattle.process_model.specs.declared.phase.Phase.{Phase}
 use Rattle.process_model.specs.declared.step.Refusal.{Refusal}
+use Rattle.process_model.specs.declared.step.Refusal.TheVariants.{Impossible}
 use Rattle.process_laws.specs.Moments.{slot_at, slot_on}
 
 abbrev pub asks : Access → ℕ → ℕ → ℕ → Asked
@@ -82,6 +83,19 @@ module _ (w : World) (Good : Outcome → Type 0) (quiet : (r : Refusal) → Good
   unfolding on_hart
   on_hart_good h proper possible entry run f = at_hart h proper possible entry run (slice_get w.harts h) refl f
 
+  -- what is proper runs where it is possible
+  pub on_hart_can : (h : ℕ) (possible entry : Hart → Bool) (run : Hart → Outcome) → ((hart : Hart) → slice_get w.harts h ≡ Some hart → possible hart ≡ true → Good (run hart)) → Good (on_hart w h true possible entry run)
+  unfolding on_hart
+  on_hart_can h possible entry run f = at (slice_get w.harts h) refl
+    where
+      by : (hart : Hart) (b : Bool) → possible hart ≡ b → slice_get w.harts h ≡ Some hart → Good (unless_refused w run hart (common_refusal hart true possible entry))
+      by hart true can e = if_not_refused run hart _ (f hart e can)
+      by hart false can e = rw can (quiet (Impossible hart.phase))
+
+      at : (o : Option Hart) → slice_get w.harts h ≡ o → Good (on_hart_at w true possible entry run o)
+      at None e = quiet _
+      at (Some hart) e = by hart (possible hart) refl e
+
   if_process : (phase : Phase) (run : ℕ → Process → Outcome) (t : ℕ) (o : Option Process) → process_in w t ≡ o → ((p : Process) → process_in w t ≡ Some p → Good (run t p)) → Good (with_process_of w phase run t o)
   if_process phase run t None e f = quiet _
   if_process phase run t (Some p) e f = f p e
@@ -99,11 +113,18 @@ module _ (w : World) (Good : Outcome → Type 0) (quiet : (r : Refusal) → Good
 
   -- accesses
 
+  pub access_there : (h : ℕ) (access : Access) (address width value : ℕ) (via : Option ℕ)
+      → ((hart : Hart) (t : ℕ) (p : Process) (cause : ℕ) → process_in w t ≡ Some p → slot_on w h ≡ Some t → slice_get w.harts h ≡ Some hart → Good (told w h hart t (faulted p (asks access address width value) cause)))
+      → ((hart : Hart) (t : ℕ) (p : Process) (page : Page) → process_in w t ≡ Some p → slot_on w h ≡ Some t → get p.settled (page_of address) ≡ Some page → address % 4096 + width ≤ 4096
+      → Good (told w h hart t (answered p (asks access address width value) (access_answer access page (address % 4096) width value))))
+      → Good (access_step w h access address width value via)
+  access_there h access address width value via fails f = on_hart_good h (is_width width) _ _ _ (λ hart is proper. its_good h hart _ is
+      (λ t p on here. granted_good (λ x. Good (told w h hart t x)) (asks access address width value) p _ (λ cause. fails hart t p cause here on is)
+      (λ page e granted. f hart t p page here on e (granted_fits p access address width proper granted))))
+
   pub access_good : (h : ℕ) (access : Access) (address width value : ℕ) (via : Option ℕ)
       → ((hart : Hart) (t : ℕ) (p : Process) (cause : ℕ) → process_in w t ≡ Some p → slot_on w h ≡ Some t → Good (told w h hart t (faulted p (asks access address width value) cause)))
       → ((hart : Hart) (t : ℕ) (p : Process) (page : Page) → process_in w t ≡ Some p → slot_on w h ≡ Some t → get p.settled (page_of address) ≡ Some page → address % 4096 + width ≤ 4096
       → Good (told w h hart t (answered p (asks access address width value) (access_answer access page (address % 4096) width value))))
       → Good (access_step w h access address width value via)
-  access_good h access address width value via fails f = on_hart_good h (is_width width) _ _ _ (λ hart is proper. its_good h hart _ is
-      (λ t p on here. granted_good (λ x. Good (told w h hart t x)) (asks access address width value) p _ (λ cause. fails hart t p cause here on)
-      (λ page e granted. f hart t p page here on e (granted_fits p access address width proper granted))))
+  access_good h access address width value via fails f = access_there h access address width value via (λ hart t p cause here on is. fails hart t p cause here on) f

@@ -1,10 +1,9 @@
 -- A process is changed by its own steps alone.
 use Rattle.std.proofs.Common.{◌≡◌, ◌≢◌, ℕ, refl, sym, ap, ◌∙◌, Option, Some}
-use Rattle.process_laws.specs.Words.{maker}
+use Rattle.process_laws.specs.Words.{hart_of, maker}
 use Rattle.process_laws.proofs.OnHarts.{on_hart_good}
 use Rattle.process_laws.proofs.Untouched.{other_kept}
 use Rattle.process_laws.specs.Moments.{slot_at, slot_on}
-use Rattle.process_laws.proofs.Makers.{hart_of}
 use Rattle.process_model.specs.Process.{Process}
 use Rattle.process_model.specs.Stale.{with_stale_slots}
 use Rattle.process_model.specs.Steps.{plain_step}

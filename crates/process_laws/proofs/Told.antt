@@ -1,6 +1,6 @@
 -- The headline holds of each step of every run.
-use Rattle.std.proofs.Common.{false, ◌≡◌, ◌≢◌, ◌⊎◌, length, ◌+◌, ℕ, true, refl, sym, subst, ◌∙◌, Option, None, Some, List, [], ◌∷◌, ◌++◌, take, Bor, ◌≤◌}
-use Rattle.std.specs.Prelude.{Err}
+use Rattle.std.proofs.Common.{false, ◌≡◌, ◌≢◌, ◌⊎◌, length, ◌+◌, ◌/◌, ◌%◌, ℕ, true, refl, sym, subst, ◌∙◌, Option, None, Some, List, [], ◌∷◌, ◌++◌, take, Bor, ◌≤◌}
+use Rattle.std.specs.Prelude.{Err, slice_get}
 use Rattle.process_laws.proofs.CopyAlone.{in_alone, out_alone}
 use Rattle.process_laws.proofs.CopyFronts.{in_front_world, out_front_world}
 use Rattle.process_laws.proofs.CopyFrames.{copies_in_spend, copies_out_spend, New, are_new}
@@ -19,7 +19,12 @@ use Rattle.process_laws.proofs.KnownRuns.{copy_holds, has_latest, fetch_reads, H
 use Rattle.process_laws.proofs.OnHarts.{access_good}
 use Rattle.process_laws.proofs.Others.{kept_by}
 use Rattle.process_laws.proofs.HeldBytes.{Sized}
-use Rattle.process_laws.proofs.OwnSteps.{becomes_as, child_is, exec_goes, exit_goes, fork_goes, Own, own_files, owns, told_as}
+use Rattle.process_laws.proofs.CallsMade.{exec_goes, exit_goes, fork_goes}
+use Rattle.process_laws.proofs.Children.{child_is}
+use Rattle.process_laws.proofs.OneHart.{always_one, one_after, OneEach}
+use Rattle.process_laws.proofs.OwnFiles.{own_files}
+use Rattle.process_laws.proofs.OwnSteps.{becomes_as, Own, owns, told_as}
+use Rattle.process_laws.proofs.Proper.{access_wide, call_quiet, copy_few, exit_tells, fetch_tells, map_tells, step_in_phase}
 use Rattle.process_laws.proofs.Possible.{access_made, calls_possible, copy_in_made, copy_out_made}
 use Rattle.process_laws.proofs.Refused.{refused_same}
 use Rattle.process_laws.proofs.Replies.{bad_exec, bad_start, served_waits, serves_it, step_hosted, step_suits}
@@ -28,12 +33,13 @@ use Rattle.process_laws.proofs.Untold.{untold}
 use Rattle.process_laws.proofs.Users.{ends}
 use Rattle.process_laws.proofs.Users as users
 use Rattle.process_laws.specs.Headline as headline
-use Rattle.process_laws.specs.Headline.{AllHold, AnswersUser, Copies, CopiesForKernel, CountsFrames, elsewhere, Headline, IsDry, Becomes, ChangesOwn, LeavesOthers, MakesOwn, MakesSteps, ReadsLatest}
+use Rattle.process_laws.specs.Headline.{AllHold, AnswersUser, Copies, CopiesForKernel, CountsFrames, elsewhere, Headline, IsDry, Becomes, ChangesOwn, LeavesOthers, ReadsLatest}
+use Rattle.process_laws.specs.Makes.{MakesOwn, MakesSteps}
 use Rattle.process_laws.specs.Latest.{AreLatest, bytes_in, IsLatest}
 use Rattle.process_laws.specs.Moments.{Moment, moment_of, moments_from, slot_on}
 use Rattle.process_laws.specs.Words.{Asked, Asks, Begins, copied, CopiesBytes, Forbids, in_memory, IsChild, IsIn, IsMade, IsOn, IsResident, Loads, maker, MayCall, stopped_by, takes_frames, tells_no_frame, Written}
 use Rattle.process_model.specs.Copies.{longest_copy}
-use Rattle.process_model.specs.Files.{File}
+use Rattle.process_model.specs.Files.{File, is_writable}
 use Rattle.process_model.specs.Images.{image_loads}
 use Rattle.process_model.specs.Process.{Process, regions}
 use Rattle.process_model.specs.Steps.{plain_step, run, step}
@@ -42,7 +48,7 @@ use Rattle.process_model.specs.declared.config.Config.{Config}
 use Rattle.process_model.specs.declared.image.BadImage.{BadImage}
 use Rattle.process_model.specs.declared.image.Image.{Image}
 use Rattle.process_model.specs.declared.phase.Phase.TheVariants.{Enter0, Idle, Kernel}
-use Rattle.process_model.specs.declared.step.Reply.TheVariants.{Done, Ended, Forked, Ready, Started, Value}
+use Rattle.process_model.specs.declared.step.Reply.TheVariants.{Done, Ended, Exited, Forked, InFrame, MappedAt, Ready, Started, Value}
 use Rattle.process_model.specs.declared.step.Step.{Step}
 use Rattle.process_model.specs.declared.step.Step.TheVariants.{CopyIn, CopyOut, Exec, Exit, Fork, Serve, Start, Store}
 use Rattle.sv39_entry.specs.declared.access.Access.TheVariants as access
@@ -105,14 +111,15 @@ module _ (w : World) (x : Step) where
             (out_front_world w h s p on address bytes front (out_ran w h s address bytes p on (made_as (CopyOut h address bytes) is)));
       }
 
-  leaves_others : LeavesOthers m
-  leaves_others =
+  leaves_others : OneEach w → LeavesOthers m
+  leaves_others one =
       let k = step_keeps w x in
       record {
         kept = λ s q apart lives. kept_by s q w x apart lives;
         refused = λ e is. refused_same w x e is;
         empty = k.empty;
         harts = k.harts;
+        one_hart = one_after w x one;
         files = k.files;
         memory = (step_suits w x).memory;
       }
@@ -142,17 +149,24 @@ module _ (w : World) (x : Step) where
       leave = λ kernel is. subst (λ (y : Step). (slot_on (step w y).world h ≡ None) × IsIn (step w y).world h Idle) (sym is) (leave_goes w h kernel);
       access = λ a user asks wide. access_made w h s p a x on user asks wide;
       service = λ kernel waits is. made_if (Serve h) is (serves_it w h s p on kernel waits);
-      served = λ is made. served_waits w h s p on (made_as_one (Serve h) is made);
+      only_waiting = λ is made. served_waits w h s p on (made_as_one (Serve h) is made);
       fork = λ t k is free calm. made_if (Fork h) is (fork_goes w h s t p on k free (frames_there (Fork h) is calm));
       exec = λ image ls k is loads calm. made_if (Exec h image) is (exec_goes w h s p image ls on k loads (frames_there (Exec h image) is calm));
       copy = λ n k copies few. copies_made n x k copies few;
       exit = λ status k is. made_if (Exit h status) is (exit_goes w h s p status on k);
       call = λ phase k calls. calls_possible w h s p on k.quiet k.in_kernel x calls phase;
+      only_quiet = λ calls made. call_quiet w h s p on x calls made;
     }
 
   makes_steps : MakesSteps m
   makes_steps = record {
     replies = (step_suits w x).replies;
+    exited = λ h status code is. subst (λ (y : Step). (step w y).reply ≡ Exited code → code ≡ status) (sym is) (exit_tells w h status code);
+    in_frame = λ h offset n via is. subst (λ (y : Step). (step w y).reply ≡ InFrame n → n ≡ 0) (sym is) (fetch_tells w h offset n via);
+    mapped = λ h len protection flags n at is. subst (λ (y : Step). (step w y).reply ≡ MappedAt at → (at % 4096 ≡ 0) × (flags ≡ 1 → protection / 2 % 2 ≡ 1 → is_writable (slice_get w.files n) ≡ true)) (sym is) (map_tells w len protection flags n at h);
+    in_phase = λ h e made. step_in_phase w x h e made;
+    wide = λ h a via asks made. access_wide w h a via x asks made;
+    few = λ h n copies made. copy_few w h n x copies made;
     hosted = λ h e made. step_hosted w h x e made;
     start = λ image s ls free loads is quiet. subst (λ (y : Step). IsMade (step w y).reply) (sym is) (start_goes w image s ls free loads (subst (λ (y : Step). tells_no_frame (step w y).reply ≡ false) is quiet));
     started = λ image s is. subst (λ (y : Step). (step w y).reply ≡ Started s → (free_slot w ≡ Some s) × (p : Process) × (process_in (step w y).world s ≡ Some p) × Begins (moment_of w y) p) (sym is) (start_brings w image s);
@@ -187,7 +201,7 @@ module _ (w : World) (x : Step) where
   -- ---- bytes
 
   reads_latest : (past : List Moment) → HoldsLatest past w → ReadsLatest past m
-  reads_latest past l = record { has = λ s a. has_latest (m ∷ past) (step w x).world s a (run_holds (x ∷ []) w past l); read = read; copied = brought }
+  reads_latest past l = record { has = λ s a. has_latest (m ∷ past) (step w x).world s a (run_holds (x ∷ []) w past l); read = read; brought = brought }
     where
       -- a store answers no value
       no_value : (h address width value v : ℕ) (via : Option ℕ) → (plain_step w (Store h address width value via)).reply ≢ Value v
@@ -226,7 +240,7 @@ module _ (c : Config) (files : List File) where
         copies = copies_for_kernel w x (always_holds New fresh_is_kept c files done);
         frames = counts_frames w x (always_holds New fresh_is_kept c files done);
         bytes = reads_latest w x (past_of done) (latest_held c files done);
-        others = leaves_others w x;
+        others = leaves_others w x (always_one c files done);
         own = own_steps w x (latest_held c files done).sized (always_sound c files done);
         made_own = makes_own w x;
         made = makes_steps w x;

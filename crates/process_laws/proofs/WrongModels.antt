@@ -3,7 +3,8 @@ use Rattle.std.proofs.Common.{◌≡◌, ◌≢◌, ◌≤◌, inl, inr, ◌+◌
 use Rattle.std.specs.Prelude.{Err}
 use Rattle.std.proofs.lemmas.Bool.{false≢true, ltb-true}
 use Rattle.std.proofs.lemmas.Option.{same_Some}
-use Rattle.process_laws.specs.Headline.{AnswersUser, Becomes, ChangesOwn, CopiesForKernel, EndsAfter, IsDry, MakesSteps, ReadsLatest}
+use Rattle.process_laws.specs.Headline.{AnswersUser, Becomes, ChangesOwn, CopiesForKernel, StopsAfter, IsDry, ReadsLatest}
+use Rattle.process_laws.specs.Makes.{MakesSteps}
 use Rattle.process_laws.specs.Latest.{byte_had, is_released, latest, left_by}
 use Rattle.process_laws.specs.Moments.{Moment, moment_of, slot_on}
 use Rattle.process_laws.specs.Pages.{grant, grant_after, has_fork_mark, has_stored_mark, is_between, is_remapped, is_store_at, is_stored_to, mapping_grant}
@@ -24,16 +25,16 @@ use Rattle.sv39_entry.specs.declared.rule.Rule.{Rule}
 use Rattle.sv39_entry.specs.declared.rule.Rule.TheVariants.{NoFrame}
 
 -- a copy that stops by NoFrame before a byte for which there are frames
-ends_dry : (p : Process) (kind : Access) (address n k : ℕ) (alone : Reply) (o : Option Rule) → o ≡ Some NoFrame → EndsAfter p kind address n k alone o → tells_no_frame alone ≡ true
-ends_dry p kind address n k alone o e (EndsAfter.whole is) = absurd cc
-ends_dry p kind address n k alone o e (EndsAfter.forbidden {rule} less f) = absurd (let is : rule ≡ NoFrame = cc in subst (λ (r : Rule). Forbids p (byte kind (address + k)) r) is f).denies
-ends_dry p kind address n k alone o e (EndsAfter.no_frame less g so) = so
+ends_dry : (p : Process) (kind : Access) (address n k : ℕ) (alone : Reply) (o : Option Rule) → o ≡ Some NoFrame → StopsAfter p kind address n k alone o → tells_no_frame alone ≡ true
+ends_dry p kind address n k alone o e (StopsAfter.whole is) = absurd cc
+ends_dry p kind address n k alone o e (StopsAfter.forbidden {rule} less f) = absurd (let is : rule ≡ NoFrame = cc in subst (λ (r : Rule). Forbids p (byte kind (address + k)) r) is f).denies
+ends_dry p kind address n k alone o e (StopsAfter.no_frame less g so) = so
 
 pub copy_with_frames : (m : Moment) (h address n need : ℕ) (p : Process) (bytes : _) → CopiesForKernel m h address (copied m.reply) p → m.step ≡ CopyIn h address n → m.reply ≡ ShortIn NoFrame bytes
     → (let alone = moment_of m.after (CopyIn h (address + length bytes.items) 1) in IsDry alone need → need ≤ free alone.before → ⊥)
 copy_with_frames m h address n need p bytes k step is dry enough =
     let c = k.from n step in
-    let so = ends_dry p access.Load address n (copied m.reply) _ (stopped_by m.reply) (ap stopped_by is) c.ends in
+    let so = ends_dry p access.Load address n (copied m.reply) _ (stopped_by m.reply) (ap stopped_by is) c.stops in
     let alone : tells_no_frame (moment_of m.after (CopyIn h (address + length bytes.items) 1)).reply ≡ true = ap (λ (r : Reply). tells_no_frame (moment_of m.after (CopyIn h (address + copied r) 1)).reply) (sym is) ∙ so in
     let less = ltb-true (free m.after) need (sym dry ∙ alone) in
     absurd (omega (arith, less, enough))

@@ -1,72 +1,68 @@
 -- THE HEADLINE: what a process of xv6 on Sv39 may rely on, whatever the harts do.
 --
--- The harts have made any list of steps since boot, and now make one more. `past` is what has been, the newest first; `m` is this step
--- with its reply, the world before it and the world after it. A world has files and, in its slots, processes: each has regions, and the
--- bytes of its settled pages. The words are in `Words`; `Pages` has what a region gives to a page, `Latest` the latest byte at an address.
-use Rattle.std.specs.Prelude.{◌≡◌, ◌≢◌, ◌⊎◌, ℕ, ℤ, Err, false, true, ◌+◌, ◌-◌, ◌<◌, ◌≤◌, nat_lt, Option, None, Some, Ok, List, [], ◌∷◌, length, take}
+-- The harts have made any list of steps since boot, and now make one more. `past` has the moments before, the newest first. `m` is the
+-- moment now: the step, its reply, the world before it and the world after it. The replies are what the machine answered; the worlds are
+-- the model's. A world has files and, in its slots, processes; a process has regions, and the bytes of its settled pages. `Words` has the
+-- words, `Pages` what a region gives to a page, `Latest` the latest byte at an address, and `Makes` part (g).
+use Rattle.std.specs.Prelude.{◌≡◌, ◌≢◌, ◌⊎◌, ℕ, ℤ, false, true, ◌+◌, ◌-◌, ◌<◌, ◌≤◌, nat_lt, Option, None, Some, List, [], ◌∷◌, length, take, pos}
 use Rattle.std.specs.Borrow.{Bor}
 use Rattle.process_laws.specs.Latest.{AreLatest, byte_had, bytes_in, IsLatest, latest}
 use Rattle.process_laws.specs.Moments.{Moment, moment_of, moments_from, slot_on}
 use Rattle.process_laws.specs.Pages.{grant, grant_after, has_fork_mark, has_stored_mark, is_remapped, is_stored_to, size_after}
-use Rattle.process_laws.specs.Words.{Asked, Asks, Begins, byte, Calls, cause, copied, CopiesBytes, Forbids, in_memory, is_end, is_fault, IsAnswer, IsChild, IsGranted, IsIn, IsMade, IsOn, IsResident, is_born, is_reply, Loads, maker, MayCall, moved_hart, phase_on, Serves, stopped_by, takes_frames, tells_no_frame, Tries, waiting, writes_back, Written}
-use Rattle.process_model.specs.Bytes.{is_width}
-use Rattle.process_model.specs.Copies.{longest_copy}
+use Rattle.process_laws.specs.Words.{Asked, Asks, byte, cause, copied, Forbids, in_memory, is_end, is_fault, IsAnswer, IsChild, IsGranted, IsIn, IsMade, IsOn, IsResident, is_born, maker, moved_hart, phase_on, Serves, stopped_by, takes_frames, tells_no_frame, Tries, waiting, writes_back, Written}
 use Rattle.process_model.specs.Files.{File}
-use Rattle.process_model.specs.Harts.{next_phase}
-use Rattle.process_model.specs.Images.{image_loads, LoadSegment}
 use Rattle.process_model.specs.Process.{Process}
 use Rattle.process_model.specs.Steps.{run}
 use Rattle.process_model.specs.World.{booted, free, free_slot, is_unserved_access, process_in, World}
 use Rattle.process_model.specs.declared.config.Config.{Config}
-use Rattle.process_model.specs.declared.image.BadImage.{BadImage}
 use Rattle.process_model.specs.declared.image.Image.{Image}
-use Rattle.process_model.specs.declared.phase.Phase.{Phase}
-use Rattle.process_model.specs.declared.phase.Phase.TheVariants.{Enter0, Idle, Kernel, User}
+use Rattle.process_model.specs.declared.phase.Phase.TheVariants.{Enter0, Idle}
 use Rattle.process_model.specs.declared.step.Refusal.{Refusal}
-use Rattle.process_model.specs.declared.step.Refusal.TheVariants.{Impossible}
 use Rattle.process_model.specs.declared.step.Reply.{Reply}
-use Rattle.process_model.specs.declared.step.Reply.TheVariants.{Done, Ended, Fault, Forked, OldSize, Ready, Refused, Started, Value}
+use Rattle.process_model.specs.declared.step.Reply.TheVariants.{Done, Ended, Fault, Forked, OldSize, Ready, Refused, Value}
 use Rattle.process_model.specs.declared.step.Step.{Step}
-use Rattle.process_model.specs.declared.step.Step.TheVariants.{CopyIn, CopyOut, Exec, Exit, Fork, Next, Sbrk, Serve, Start, Switch, Trap}
+use Rattle.process_model.specs.declared.step.Step.TheVariants.{CopyIn, CopyOut, Exec, Fork, Sbrk, Start}
 use Rattle.sv39_entry.specs.declared.access.Access.{Access}
 use Rattle.sv39_entry.specs.declared.access.Access.TheVariants.{Load, Store}
 use Rattle.sv39_entry.specs.declared.rule.Rule.{Rule}
 use Rattle.sv39_entry.specs.declared.rule.Rule.TheVariants.{NoFrame}
+use Rattle.process_laws.specs.Makes.{MakesOwn, MakesSteps}
 
 -- (a) The user access a of process p, in slot s, on hart h. With a page of data at 0x1000 and the guard after it, `load 0 0x1000 1` answers
 -- `value 0x61`; `load 0 0x2000 1` answers `fault 13`, and its service `ended 4 GuardPage`
 pub record AnswersUser (m : Moment) (h s : ℕ) (p : Process) (a : Asked) : Type 0 where
-  -- It is never both granted and forbidden
+  -- No access is both granted and forbidden
   pub apart : process_in m.before s ≡ Some p → (rule : Rule) → IsGranted p a → Forbids p a rule → ⊥
   -- If it is granted and its page is resident, it is answered: a fetch or a load by a value, a store by `Stored`
   pub answered : Tries m h s p a → IsGranted p a → IsResident p a → IsAnswer a.access m.reply
   -- Otherwise it faults with its own cause and waits for service; nothing else of p changes, and the hart is at the kernel's entry
   pub faults : Tries m h s p a → (IsGranted p a → IsResident p a → ⊥) → (m.reply ≡ Fault (cause a)) × IsOn m.after h s (waiting p a) × IsIn m.after h Enter0
-  -- If it is granted, its service makes its page resident, so that one fault is enough, or ends p with NoFrame
+  -- If the kernel serves a, for which p waits, and a is granted, then its page is resident, so that one fault is enough; or p ends by NoFrame
   pub served : Serves m h s p a → IsGranted p a → ((m.reply ≡ Ready) × ((q : Process) → process_in m.after s ≡ Some q → IsResident q a)) ⊎ (m.reply ≡ Ended NoFrame)
-  -- If it is not, its service ends p by the first rule that forbids it
+  -- If a is not granted, p ends by the first rule that forbids it
   pub ended : Serves m h s p a → (IsGranted p a → ⊥) → (rule : Rule) × (m.reply ≡ Ended rule) × Forbids p a rule
 
--- (b) A kernel copy of n bytes ends after k: all are copied; or the next is forbidden; or the next lacks a frame, and the reply to a copy of
--- it `alone`, made then, says so too. `copyin 0 0x1ffc 8`, whose last four bytes are the guard's, answers `short 4 GuardPage done 4 00000000`
-pub data EndsAfter (p : Process) (access : Access) (address n k : ℕ) (alone : Reply) : Option Rule → Type 0 where
-  whole : k ≡ n → EndsAfter p access address n k alone None
-  forbidden : {rule : Rule} → k < n → Forbids p (byte access (address + k)) rule → EndsAfter p access address n k alone (Some rule)
-  no_frame : k < n → IsGranted p (byte access (address + k)) → tells_no_frame alone ≡ true → EndsAfter p access address n k alone (Some NoFrame)
+-- (b) A kernel copy of n bytes stops after k: all are copied; or the next is forbidden; or the next lacks a frame, and the reply to a copy of
+-- it `alone`, made then, says so too. `copyin 0 0x1ffd 8`, whose last five bytes are the guard's, answers `short 4 GuardPage done 3 000000`
+pub data StopsAfter (p : Process) (access : Access) (address n k : ℕ) (alone : Reply) : Option Rule → Type 0 where
+  whole : k ≡ n → StopsAfter p access address n k alone None
+  forbidden : {rule : Rule} → k < n → Forbids p (byte access (address + k)) rule → StopsAfter p access address n k alone (Some rule)
+  no_frame : k < n → IsGranted p (byte access (address + k)) → tells_no_frame alone ≡ true → StopsAfter p access address n k alone (Some NoFrame)
 
 pub record Copies (p : Process) (access : Access) (address n k : ℕ) (alone : Reply) (stop : Option Rule) : Type 0 where
   pub granted : (i : ℕ) → i < k → IsGranted p (byte access (address + i))
-  pub ends : EndsAfter p access address n k alone stop
+  pub stops : StopsAfter p access address n k alone stop
 
--- A copy that stops changes what a copy of the first k bytes changes: it neither undoes them nor takes a frame for the rest
+-- A copy that stops early changes what a copy of the first k bytes changes: it neither undoes them nor takes a frame for the rest. (`one` is
+-- any byte, and `front` the first k)
 pub record CopiesForKernel (m : Moment) (h address k : ℕ) (p : Process) : Type 0 where
   pub from : (n : ℕ) → m.step ≡ CopyIn h address n → Copies p Load address n k (moment_of m.after (CopyIn h (address + k) 1)).reply (stopped_by m.reply)
   pub from_front : (n : ℕ) → m.step ≡ CopyIn h address n → m.after ≡ (moment_of m.before (CopyIn h address k)).after
   pub to : (bytes one : Bor (List ℕ)) → m.step ≡ CopyOut h address bytes → length one.now ≡ 1 → Copies p Store address (length bytes.now) k (moment_of m.after (CopyOut h (address + k) one)).reply (stopped_by m.reply)
   pub to_front : (bytes front : Bor (List ℕ)) → m.step ≡ CopyOut h address bytes → front.now ≡ take k bytes.now → m.after ≡ (moment_of m.before (CopyOut h address front)).after
 
--- (c) A reply says NoFrame exactly when the step needs more frames, n, than are free; n is the same however many frames the memory has. A
--- start of nine pages needs 17, so it is refused if 16 frames are free, and made if 17 are
+-- (c) A reply says NoFrame exactly when fewer frames are free than the step needs, n; and n is the same however many frames the memory has
+-- (`elsewhere`). A start of nine pages needs 17: it is refused if 16 frames are free, and made if 17 are
 abbrev pub IsDry : Moment → ℕ → Type 0
 IsDry m n = tells_no_frame m.reply ≡ nat_lt (free m.before) n
 
@@ -79,19 +75,20 @@ elsewhere m frames = moment_of (in_memory m.before frames) m.step
 pub record CountsFrames (m : Moment) : Type 0 where
   -- A start, a service, a fork and a copy need the frames by which the free ones then fall
   pub takes : takes_frames m.step ≡ true → (n : ℕ) × Takes m n × ((frames : ℕ) → Takes (elsewhere m frames) n)
-  -- Exec needs one less than a start of the image, since the process keeps its trapframe; the frames of its old pages do not count as free
+  -- Exec needs one less than a start of the same image in any world, since the process keeps its trapframe; the frames of its old pages do
+  -- not count as free
   pub replaces : (h : ℕ) (image : Image) → m.step ≡ Exec h image → (n : ℕ) × IsDry m n × ((frames : ℕ) → IsDry (elsewhere m frames) n)
       × (m.reply ≡ Done → (u : World) (s : ℕ) → free_slot u ≡ Some s → IsDry (moment_of u (Start image)) (n + 1))
   -- No other step says NoFrame or takes a frame
   pub no_other : takes_frames m.step ≡ false → ((h : ℕ) (image : Image) → m.step ≢ Exec h image) → (tells_no_frame m.reply ≡ false) × (free m.before ≤ free m.after)
 
 -- (d) At each address a process has the latest byte that was left there since the page was settled, else the page's initial byte; none if
--- the page is not settled. These bytes are what is read. A forked child reads what its parent stored before the fork, and nothing that it
--- stores after
+-- the page is not settled. These bytes are what is read. A forked child reads what its parent stored before the fork, and nothing that the
+-- parent stores later
 pub record ReadsLatest (past : List Moment) (m : Moment) : Type 0 where
   pub has : (s a : ℕ) → byte_had (process_in m.after s) a ≡ latest (m ∷ past) s a
   pub read : (h s v : ℕ) (a : Asked) (via : Option ℕ) → slot_on m.before h ≡ Some s → Asks h via a m.step → m.reply ≡ Value v → IsLatest past s a.address a.width v
-  pub copied : (h s address n : ℕ) → slot_on m.before h ≡ Some s → m.step ≡ CopyIn h address n → AreLatest (m ∷ past) s address (bytes_in m.reply)
+  pub brought : (h s address n : ℕ) → slot_on m.before h ≡ Some s → m.step ≡ CopyIn h address n → AreLatest (m ∷ past) s address (bytes_in m.reply)
 
 -- (e) Only its own steps change a process q: its bytes, its regions and all else. (The bytes with which a page of a file will begin are
 -- those that the file has then, and other processes change a file by what they write back)
@@ -103,6 +100,8 @@ pub record LeavesOthers (m : Moment) : Type 0 where
   pub empty : (s : ℕ) → process_in m.before s ≡ None → is_born m.reply s ≡ false → process_in m.after s ≡ None
   -- A hart keeps its process and its phase but for its own switch, trap, next instruction, fault or end
   pub harts : (k : ℕ) → moved_hart m.step m.reply ≢ Some k → (slot_on m.after k ≡ slot_on m.before k) × (phase_on m.after k ≡ phase_on m.before k)
+  -- A process is on one hart at a time
+  pub one_hart : (h k s : ℕ) → slot_on m.after h ≡ Some s → slot_on m.after k ≡ Some s → h ≡ k
   -- Files stay but for what munmap, exec, an exit and an end write back; the memory keeps its size
   pub files : writes_back m.step m.reply ≡ false → (m.after).files ≡ (m.before).files
   pub memory : (m.after).frames ≡ (m.before).frames
@@ -111,7 +110,8 @@ pub record LeavesOthers (m : Moment) : Type 0 where
 pub record Becomes (m : Moment) (h : ℕ) (p q : Process) : Type 0 where
   -- It waits for service exactly if the step faulted
   pub waits : IsMade m.reply → is_unserved_access q.pending ≡ is_fault m.reply
-  -- Each page keeps its grant (rights, kind of region, initial bytes) and its stored mark, but those that exec, sbrk, mmap and munmap remap
+  -- Each page keeps its grant (rights, kind of region, source of its initial bytes) and its stored mark, but those that exec, sbrk, mmap and
+  -- munmap remap
   pub stays : (page : ℕ) → is_remapped m.step m.reply page ≡ false → (grant q page ≡ grant p page) × (has_stored_mark p page ≡ true → has_stored_mark q page ≡ true)
   -- Such a page has what the call gives; and only exec puts one grant in the place of another
   pub remapped : (page : ℕ) → is_remapped m.step m.reply page ≡ true → grant q page ≡ grant_after m.step m.reply page
@@ -121,48 +121,17 @@ pub record Becomes (m : Moment) (h : ℕ) (p q : Process) : Type 0 where
   pub stored : (page : ℕ) → has_stored_mark q page ≡ true → (has_stored_mark p page ≡ true) ⊎ (is_stored_to p m.step page ≡ true)
   pub cleared : (image : Image) → m.step ≡ Exec h image → m.reply ≡ Done → (page : ℕ) → (has_fork_mark q page ≡ false) × (has_stored_mark q page ≡ false)
   -- The size is what sbrk or exec makes of it, else what it was; sbrk replies the old one
-  pub size : q.size ≡ size_after m.step m.reply p.size
+  pub size : pos q.size ≡ size_after m.step m.reply p.size
   pub old_size : (delta : ℤ) (n : ℕ) → m.step ≡ Sbrk h delta → m.reply ≡ OldSize n → n ≡ p.size
 
 pub record ChangesOwn (m : Moment) (h s : ℕ) (p : Process) : Type 0 where
   pub lives : is_end m.reply ≡ false → (q : Process) × (process_in m.after s ≡ Some q) × Becomes m h p q
   -- After an exit, and after an end by a rule, the slot is empty and the hart idle
   pub gone : is_end m.reply ≡ true → (process_in m.after s ≡ None) × (slot_on m.after h ≡ None) × IsIn m.after h Idle
-  -- What it writes back to files is what it stored to shared mappings
+  -- What it writes back to files is what it has stored to shared mappings; no file changes its length, or whether it may be written
   pub files : Written p (m.before).files (m.after).files
   -- A child is in the lowest free slot; it has its parent's regions and size, waits for nothing, and has nothing to write back
   pub child : (t : ℕ) → m.step ≡ Fork h → m.reply ≡ Forked t → (free_slot m.before ≡ Some t) × (c : Process) × (process_in m.after t ≡ Some c) × IsChild p c
-
--- (g) These steps of a process p on hart h are made:
-pub record MakesOwn (m : Moment) (h s : ℕ) (p : Process) : Type 0 where
-  -- the instructions of its way into user mode, a trap back into the kernel, and the switch off its hart;
-  pub next : (phase after : Phase) → IsIn m.before h phase → next_phase phase ≡ Some after → (phase ≡ Kernel → is_unserved_access p.pending ≡ false) → m.step ≡ Next h → IsOn m.after h s p × IsIn m.after h after
-  pub trap : IsIn m.before h User → m.step ≡ Trap h → (slot_on m.after h ≡ Some s) × IsIn m.after h Enter0
-  pub leave : IsIn m.before h Kernel → m.step ≡ Switch h None → (slot_on m.after h ≡ None) × IsIn m.after h Idle
-  -- in user mode each access by a walk; in the kernel the service of an access that waits, and of no other;
-  pub access : (a : Asked) → IsIn m.before h User → Asks h None a m.step → is_width a.width ≡ true → IsMade m.reply
-  pub service : IsIn m.before h Kernel → is_unserved_access p.pending ≡ true → m.step ≡ Serve h → IsMade m.reply
-  pub served : m.step ≡ Serve h → IsMade m.reply → is_unserved_access p.pending ≡ true
-  -- and if none waits, a fork if a slot is free, and an exec of a good image, unless they lack frames; a copy of at most 256 bytes; an exit.
-  -- Any other call may be refused, but not as Impossible
-  pub fork : (t : ℕ) → MayCall m.before h p → m.step ≡ Fork h → free_slot m.before ≡ Some t → tells_no_frame m.reply ≡ false → IsMade m.reply
-  pub exec : (image : Image) (ls : List LoadSegment) → MayCall m.before h p → m.step ≡ Exec h image → image_loads image ≡ Ok ls → tells_no_frame m.reply ≡ false → IsMade m.reply
-  pub copy : (n : ℕ) → MayCall m.before h p → CopiesBytes h n m.step → n ≤ longest_copy → IsMade m.reply
-  pub exit : (status : ℤ) → MayCall m.before h p → m.step ≡ Exit h status → IsMade m.reply
-  pub call : (phase : Phase) → MayCall m.before h p → Calls h m.step → m.reply ≢ Refused (Impossible phase)
-
--- And of all steps:
-pub record MakesSteps (m : Moment) : Type 0 where
-  -- Each reply is one that such a step may get. A step of a process is made only on a hart that has one
-  pub replies : is_reply m.step m.reply ≡ true
-  pub hosted : (h : ℕ) → maker m.step ≡ Some h → IsMade m.reply → (s : ℕ) × (p : Process) × IsOn m.before h s p
-  -- A good image starts in the lowest free slot, unless it lacks frames. A bad one neither starts nor takes the place of a process
-  pub start : (image : Image) (s : ℕ) (ls : List LoadSegment) → free_slot m.before ≡ Some s → image_loads image ≡ Ok ls → m.step ≡ Start image → tells_no_frame m.reply ≡ false → IsMade m.reply
-  pub started : (image : Image) (s : ℕ) → m.step ≡ Start image → m.reply ≡ Started s → (free_slot m.before ≡ Some s) × (p : Process) × (process_in m.after s ≡ Some p) × Begins m p
-  pub bad_image : (image : Image) (e : BadImage) → Loads image m.step → image_loads image ≡ Err e → IsMade m.reply → ⊥
-  -- A process that is on no hart can be put on one that is idle or in the kernel
-  pub switch : (h s : ℕ) (p : Process) → process_in m.before s ≡ Some p → ((k : ℕ) → slot_on m.before k ≢ Some s) → IsIn m.before h Idle ⊎ IsIn m.before h Kernel → m.step ≡ Switch h (Some s)
-      → IsOn m.after h s p × IsIn m.after h Kernel
 
 pub record Holds (past : List Moment) (m : Moment) : Type 0 where
   pub users : (h s : ℕ) (p : Process) (a : Asked) → AnswersUser m h s p a

@@ -2,6 +2,7 @@ pub mod Denied
 pub mod Apart
 pub mod Numbered
 pub mod Headline
+pub mod Makes
 pub mod ScriptRuns
 pub mod Moments
 pub mod Pages

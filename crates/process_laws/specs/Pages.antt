@@ -1,5 +1,5 @@
 -- What a process has at a page, and which pages a step remaps.
-use Rattle.std.specs.Prelude.{ℕ, pos, ◌+ℤ◌, nat_abs, Bool, true, false, not, ◌+◌, ◌-◌, ◌*◌, ◌/◌, ◌%◌, ◌==◌, nat_le, nat_lt, ◌&&◌, ◌||◌, Option, None, Some, Result, Ok, Err, List, [], ◌∷◌, length, if◌then◌else◌}
+use Rattle.std.specs.Prelude.{ℕ, ℤ, pos, ◌+ℤ◌, nat_abs, Bool, true, false, not, ◌+◌, ◌-◌, ◌*◌, ◌/◌, ◌%◌, ◌==◌, nat_le, nat_lt, ◌&&◌, ◌||◌, Option, None, Some, Result, Ok, Err, List, [], ◌∷◌, length, if◌then◌else◌}
 use Rattle.process_model.specs.Bytes.{pages_for}
 use Rattle.process_model.specs.Images.{end_of_loads, end_page, image_loads, LoadSegment}
 use Rattle.process_model.specs.PageMap.{get}
@@ -115,18 +115,18 @@ grant_after (Sbrk h delta) (OldSize n) page = if nat_lt page (pages_for (nat_abs
 grant_after (Mmap h len protection flags n) (MappedAt at) page = Some (mapping_grant protection flags n (page - page_of at))
 grant_after _ r page = None
 
--- the size of a process after its step
+-- the size of a process after its step, as a whole number
 
 -- an image: the heap begins, empty, at the top of the stack
 abbrev pub image_size : Result (List LoadSegment) BadImage → ℕ
 image_size (Err e) = 0
 image_size (Ok ls) = 4096 * (end_of_loads 0 ls + 2)
 
-abbrev pub size_after : Step → Reply → ℕ → ℕ
-size_after (Start i) (Started s) size = image_size (image_loads i)
-size_after (Exec h i) Done size = image_size (image_loads i)
-size_after (Sbrk h delta) (OldSize n) size = nat_abs (pos size +ℤ delta)
-size_after _ r size = size
+abbrev pub size_after : Step → Reply → ℕ → ℤ
+size_after (Start i) (Started s) size = pos (image_size (image_loads i))
+size_after (Exec h i) Done size = pos (image_size (image_loads i))
+size_after (Sbrk h delta) (OldSize n) size = pos size +ℤ delta
+size_after _ r size = pos size
 
 -- the pages that a step makes ready for a store: the page of the store that is served, and those of a copy to the process
 

@@ -1,12 +1,13 @@
 -- The words of the headline.
-use Rattle.std.specs.Prelude.{◌≡◌, ◌≢◌, ◌⊎◌, ℕ, Bool, true, false, ◌+◌, ◌<◌, ◌%◌, ◌==◌, Option, None, Some, List, length, option_map, slice_get, if◌then◌else◌}
+use Rattle.std.specs.Prelude.{◌≡◌, ◌≢◌, ◌⊎◌, ℕ, Bool, true, false, ◌+◌, ◌<◌, ◌%◌, ◌==◌, Option, None, Some, List, length, is_some, option_map, pos, slice_get, if◌then◌else◌}
 use Rattle.std.specs.Borrow.{Bor}
 use Rattle.process_laws.specs.Denied.{IsFirst}
 use Rattle.process_laws.specs.Moments.{Moment, slot_on}
 use Rattle.process_laws.specs.FilePlaces.{file_bytes}
 use Rattle.process_laws.specs.Latest.{byte_at, byte_had}
 use Rattle.process_laws.specs.Pages.{Grant, grant as grant_of, grant_after, has_fork_mark, has_stored_mark, is_ready_page, size_after}
-use Rattle.process_model.specs.Files.{File}
+use Rattle.process_model.specs.Files.{File, is_writable}
+use Rattle.process_model.specs.Harts.{in_trampoline, is_kernel, is_user, may_switch, next_phase}
 use Rattle.process_model.specs.Process.{Process, regions}
 use Rattle.process_model.specs.Regions.{file, Region, region_at, shared_mapping}
 use Rattle.process_model.specs.World.{World, is_unserved_access, process_in}
@@ -60,6 +61,29 @@ maker (CopyIn h address n) = Some h
 maker (CopyOut h address bytes) = Some h
 maker (Exit h status) = Some h
 maker _ = None
+
+-- the hart that makes the step; a start is made by none
+abbrev pub hart_of : Step → Option ℕ
+hart_of (Switch h slot) = Some h
+hart_of (Next h) = Some h
+hart_of (Fill h address) = Some h
+hart_of (Evict h n) = Some h
+hart_of (TrampolineFetch h offset via) = Some h
+hart_of x = maker x
+
+-- the phases in which a step is made
+abbrev pub is_phase_for : Step → Phase → Bool
+is_phase_for (Switch h slot) phase = may_switch phase
+is_phase_for (Next h) phase = is_some (next_phase phase)
+is_phase_for (TrampolineFetch h offset via) phase = in_trampoline phase
+is_phase_for (Trap h) phase = is_user phase
+is_phase_for (Fetch h address via) phase = is_user phase
+is_phase_for (Load h address width via) phase = is_user phase
+is_phase_for (Store h address width value via) phase = is_user phase
+is_phase_for (Start image) phase = true
+is_phase_for (Fill h address) phase = true
+is_phase_for (Evict h n) phase = true
+is_phase_for x phase = is_kernel phase
 
 -- the hart whose phase or process the step may change
 abbrev pub moved_hart : Step → Reply → Option ℕ
@@ -260,7 +284,7 @@ pub record Begins (m : Moment) (p : Process) : Type 0 where
   pub grants : (page : ℕ) → grant_of p page ≡ grant_after m.step m.reply page
   pub unmarked : (page : ℕ) → (has_fork_mark p page ≡ false) × (has_stored_mark p page ≡ false)
   pub quiet : is_unserved_access p.pending ≡ false
-  pub size : p.size ≡ size_after m.step m.reply 0
+  pub size : pos p.size ≡ size_after m.step m.reply 0
 
 -- the child of a fork, its bytes aside: `latest` says that they are its parent's
 pub record IsChild (p c : Process) : Type 0 where
@@ -285,7 +309,8 @@ pub record WroteBack (p : Process) (n i b : ℕ) : Type 0 where
   pub stored : has_stored_mark p (page_of address) ≡ true
   pub byte : byte_had (Some p) address ≡ Some b
 
--- each file keeps its length, and each byte of it stays or becomes such a byte
+-- each file keeps its length and whether it may be written, and each byte of it stays or becomes such a byte
 pub record Written (p : Process) (files later : List File) : Type 0 where
+  pub mode : (n : ℕ) → is_writable (slice_get later n) ≡ is_writable (slice_get files n)
   pub long : (n : ℕ) → length (file_bytes later n) ≡ length (file_bytes files n)
   pub bytes : (n i : ℕ) → i < length (file_bytes files n) → (byte_at (file_bytes later n) i ≡ byte_at (file_bytes files n) i) ⊎ WroteBack p n i (byte_at (file_bytes later n) i)

@@ -1,7 +1,8 @@
 // What the headline refuses.
 ghost use Rattle.std.specs.Prelude.{◌≡◌, ◌≢◌, ◌≤◌, ◌+◌, ◌-◌, ℕ, ℤ, Err, false, length, None, Some, true};
-ghost use Rattle.process_laws.specs.Headline.{AnswersUser, Becomes, ChangesOwn, CopiesForKernel, IsDry, MakesSteps, ReadsLatest};
+ghost use Rattle.process_laws.specs.Headline.{AnswersUser, Becomes, ChangesOwn, CopiesForKernel, IsDry, ReadsLatest};
 ghost use Rattle.process_laws.specs.Latest.{byte_had, is_released, latest};
+ghost use Rattle.process_laws.specs.Makes.{MakesSteps};
 ghost use Rattle.process_laws.specs.Moments.{Moment, moment_of, slot_on};
 ghost use Rattle.process_laws.specs.Pages.{grant, has_fork_mark, has_stored_mark, is_between, is_store_at, mapping_grant};
 ghost use Rattle.process_laws.specs.Words.{Asked, cause, copied, IsGranted, IsResident, Tries};

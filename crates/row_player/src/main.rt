@@ -1,8 +1,9 @@
 //! Plays the rows of the folder that it runs in, in the order of their names, and says of each whether it comes to what
 //! it should.
 //!
-//! A row is a script, `NAME.script`, or a file for threads, `NAME.threads`, and beside it all that is written for it, `NAME.expect`, or the
-//! line on standard error by which it is refused, `NAME.refused`. A file for threads is played on one hart, on two and on eight.
+//! A row is a script, `NAME.script`, or a file for threads, `NAME.threads`, and beside it all that is written for it,
+//! `NAME.expect`, or the line on standard error by which it is refused, `NAME.refused`. A file for threads is played on one
+//! hart, on two and on eight.
 #![tactic(auto)]
 
 ghost use Rattle.std.specs.Prelude.{◌≤◌};

@@ -1,3 +1,4 @@
+pub mod Backed
 pub mod Changed
 pub mod Counted
 pub mod Held

@@ -8,6 +8,7 @@ ghost use Rattle.sv39_entry.specs.Address.{vpn};
 ghost use Rattle.sv39_entry.specs.Frame.{ppn_of};
 ghost use Rattle.sv39_entry.specs.Word.{kind_of};
 ghost use Rattle.sv39_entry.specs.declared.entry.Kind.TheVariants.{Leaf};
+ghost use Rattle.table_walk.specs.Backed.{IsBacked};
 ghost use Rattle.table_walk.specs.Changed.{OthersStay};
 ghost use Rattle.table_walk.specs.Held.{held_memory};
 ghost use Rattle.table_walk.specs.Tables.{ChangesTables, HasTables, Tables, IsGrown, last_table, leaf_node, missing, with_leaf, without_leaf};
@@ -18,11 +19,13 @@ use crate::tables::table_of;
 use frame_store::{FrameAccess, FrameSeat, FrameSupply};
 use sv39_entry::{Entry, FrameNo, Vpn};
 
-/// Maps a page to a leaf. Tables that are missing on the way are made of credits: `missing_tables` says of how many.
+/// Maps a page to a leaf. Tables that are missing on the way are made of credits: `missing_tables` says of how many. A leaf
+/// for the user is written last: its frame has its words, and no other process has it if the leaf has W.
 pub fn map<F: FrameSupply>(store: &mut F, seat: &mut F::Seat, root: FrameNo, page: Vpn, leaf: Entry)
     requires fits { Fits F.rule store.old seat.old }
     requires anchored { IsHeld (F.Seat.view seat.old) 0 }
     requires leaf { kind_of leaf ≡ Leaf }
+    requires backed { IsBacked (F.Seat.view seat.old) leaf }
     requires tables { (t : Tables) × HasTables (F.Seat.view seat.old) root.0 t × (missing t page ≤ (F.Seat.view seat.old).credits) }
     ensures tables { (t : Tables) → HasTables (F.Seat.view seat.old) root.0 t → (u : Tables) × IsGrown t u page top_level × HasTables (F.Seat.view seat.new) root.0 (with_leaf u (leaf_node page) leaf) × ChangesTables (F.Seat.view seat.old) (F.Seat.view seat.new) t u (missing t page) }
     ensures here { Maps (held_memory (F.Seat.view seat.new)) (ppn_of root.0) page leaf 0 }
@@ -35,7 +38,7 @@ pub fn map<F: FrameSupply>(store: &mut F, seat: &mut F::Seat, root: FrameNo, pag
     store.store(seat, table, page.index(0), leaf.to_word());
 }
 
-/// Puts another leaf in the place of a page's leaf.
+/// Puts another leaf in the place of a page's leaf, as ready as one that `map` writes.
 pub fn protect<F: FrameAccess>(
     store: &mut F,
     seat: &mut F::Seat,
@@ -45,6 +48,7 @@ pub fn protect<F: FrameAccess>(
 )
     requires fits { Fits F.rule store.old seat.old }
     requires leaf { kind_of leaf ≡ Leaf }
+    requires backed { IsBacked (F.Seat.view seat.old) leaf }
     requires mapped { (t : Tables) × HasTables (F.Seat.view seat.old) root.0 t × IsSome (get t.leaves (leaf_node page)) }
     ensures word { (t : Tables) (f : ℕ) → HasTables (F.Seat.view seat.old) root.0 t → get t.tables (last_table page) ≡ Some f → F.Seat.view seat.new ≡ with_word f (vpn page 0) leaf (F.Seat.view seat.old) }
     ensures tables { (t : Tables) → HasTables (F.Seat.view seat.old) root.0 t → HasTables (F.Seat.view seat.new) root.0 (with_leaf t (leaf_node page) leaf) × ChangesTables (F.Seat.view seat.old) (F.Seat.view seat.new) t t 0 }

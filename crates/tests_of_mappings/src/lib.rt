@@ -1,5 +1,5 @@
-//! Tests of mappings, and of the kernel's copies from and to them, through what their crates export: what a process does with them is data, with the replies that it is
-//! to get, and is played over both stores. Nothing stands on it.
+//! Tests of mappings, and of the kernel's copies from and to them, through what their crates export: what a process does
+//! with them is data, with the replies that it is to get, and is played over both stores. Nothing stands on it.
 #![tactic(auto)]
 
 #[cfg(test)]

@@ -109,13 +109,13 @@ fn finds_leaves(rt: HostRuntime) -> Result<(), Fail> {
 /// An address, the frame that its page is mapped to, and the word of the leaf.
 type Mapping = (Va, u16, u64);
 
-/// In ascending order. A user may load there.
+/// In ascending order. The kernel alone may load there.
 const MAPPINGS: [Mapping; 5] = [
-    (Va(0), 9, 0x20002453),
-    (Va(0x1000), 10, 0x20002853),
-    (Va(0x200000), 11, 0x20002c53),
-    (Va(0x40000000), 12, 0x20003053),
-    (Va(0x3ffffff000), 13, 0x20003453),
+    (Va(0), 9, 0x20002443),
+    (Va(0x1000), 10, 0x20002843),
+    (Va(0x200000), 11, 0x20002c43),
+    (Va(0x40000000), 12, 0x20003043),
+    (Va(0x3ffffff000), 13, 0x20003443),
 ];
 
 /// Leaves words in a free frame.
@@ -146,7 +146,7 @@ fn mapped(alloc: Global) -> Result<(PlainFrames, PlainSeat, FrameNo, [usize; 5])
     leave_words(&mut frames, &mut seat);
     let mut missing = [0; 5];
     for (index, (va, frame, _)) in MAPPINGS.iter().enumerate() {
-        let leaf = Entry::leaf(FrameNo(*frame), Rights::READ, true, false, true);
+        let leaf = Entry::leaf(FrameNo(*frame), Rights::READ, false, false, true);
         missing[index] = missing_tables(&mut frames, &mut seat, root, va.page());
         map(&mut frames, &mut seat, root, va.page(), leaf);
     }
@@ -188,7 +188,7 @@ fn changes_one_leaf(rt: HostRuntime) -> Result<(), Fail> {
     let (mut frames, mut seat, root, _) = mapped(rt.alloc())?;
     let gone = Va(0x200000);
     let leaf = unmap(&mut frames, &mut seat, root, gone.page());
-    assert_eq!(rt; leaf, Some(Entry::from_word(0x20002c53)));
+    assert_eq!(rt; leaf, Some(Entry::from_word(0x20002c43)));
     assert_eq!(rt; unmap(&mut frames, &mut seat, root, gone.page()), None);
     let next = next_leaf_before(&mut frames, &mut seat, root, Va(0x2000).page(), PAGES);
     let (page, _) = next.expect(&rt, "the next page is still mapped");
@@ -216,7 +216,7 @@ fn releases_what_was_made(rt: HostRuntime) -> Result<(), Fail> {
     prove!(reserved.is_ok());
     let root = new_table(&mut frames, &mut seat);
     let page = Va(0x200000).page();
-    let leaf = Entry::leaf(FrameNo(9), Rights::READ, true, false, true);
+    let leaf = Entry::leaf(FrameNo(9), Rights::READ, false, false, true);
     map(&mut frames, &mut seat, root, page, leaf);
     unmap(&mut frames, &mut seat, root, page);
     assert_eq!(rt; frames.report().held, 4);

@@ -1,6 +1,7 @@
 use Rattle.std.proofs.Common.{◌≡◌, ℕ, [], refl, ◌∙◌, arith}
 use Rattle.frame_store.specs.View.{hold_of, IsHeld}
 use Rattle.sv39_entry.specs.Address.{trampoline_page, trapframe_page}
+use Rattle.table_walk.specs.Backed.{kernel_backed}
 use Rattle.table_walk.specs.Tables.{bare_root, ChangesTables, HasTables, Tables, IsGrown, leaf_node, missing, with_leaf}
 use Rattle.table_walk.specs.Walk.{top_level}
 use Rattle.address_space.specs.Agreement.{Names, Owns}
@@ -69,6 +70,9 @@ map-requires-clause-tables g c =
     let two = two_missing root (c.missing_is_growth.ensures.missing_first (bare_root root) root refl) in
     (bare_root root, c.new_table-root.ensures.root, first_enough _ _ root c.page.result c.page.ensures.number two spent c.requires.ready.credits)
 
+pub map-requires-clause-backed : goal.map-requires-clause-backed
+map-requires-clause-backed g c = kernel_backed _ _ c.leaf-trampoline.ensures.made.for_user
+
 -- ---- TRAPFRAME
 
 pub map-requires-2-clause-tables : goal.map-requires-2-clause-tables
@@ -78,6 +82,9 @@ map-requires-2-clause-tables g c =
     let has = on_trampoline g first in
     let none = c.missing_is_growth.ensures.none before [] trapframe_page has.tabled trapframe_shares in
     (before, has.tables, second_enough _ before c.page-2.result c.page-2.ensures.number none)
+
+pub map-requires-2-clause-backed : goal.map-requires-2-clause-backed
+map-requires-2-clause-backed g c = kernel_backed _ _ c.leaf-saved.ensures.made.for_user
 
 pub returns-clause-opened : goal.returns-clause-opened
 returns-clause-opened g c =

@@ -1,5 +1,6 @@
 use Rattle.std.proofs.Common.{◌≡◌, ◌+◌, ◌<◌, refl, ◌∙◌, arith}
 use Rattle.frame_store.specs.Laws.{fits_after}
+use Rattle.table_walk.specs.Backed.{kernel_backed}
 use Rattle.address_space.specs.Kernel.{first_direct}
 use Rattle.address_space.proofs.KernelFrames.{code_held, spends_none}
 use Rattle.address_space.proofs.KernelSteps.{frame_is_missing, frame_maps, frame_page_is, frame_spends}
@@ -33,6 +34,9 @@ map-requires-clause-tables g c =
     let fewer = fewer_tables (c.loop-number.number + 1) c.args.frames (omega (arith, c.loop-number-test.true)) in
     let spent = c.loop-number.invariant.spends.credits in
     (i.0, i.1.tables, omega (arith, sum, fewer, spent, c.requires.ready.3))
+
+pub map-requires-clause-backed : goal.map-requires-clause-backed
+map-requires-clause-backed g c = kernel_backed _ _ c.leaf_for_kernel.ensures.made.for_user
 
 pub loop-number-preserved : goal.loop-number-preserved
 loop-number-preserved g c =

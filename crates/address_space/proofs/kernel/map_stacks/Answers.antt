@@ -1,6 +1,7 @@
 use Rattle.std.proofs.Common.{◌≡◌, ℕ, ◌+◌, ◌<◌, [], ◌∷◌, ◌++◌, refl, ap, ◌∙◌, arith}
 use Rattle.std.proofs.lemmas.List.{length_push}
 use Rattle.frame_store.specs.Laws.{fits_after}
+use Rattle.table_walk.specs.Backed.{kernel_backed}
 use Rattle.address_space.specs.Kernel.{stack_page}
 use Rattle.address_space.proofs.KernelFrames.{code_held, spends_is, spends_none, spends_on}
 use Rattle.address_space.proofs.KernelSteps.{stack_held, stack_maps, stack_none_missing, stack_page_is, stack_spends, stack_tables}
@@ -47,6 +48,9 @@ map-requires-clause-tables g c =
     let claims = c.claim-frame.ensures in
     let none = stack_none_missing _ _ _ _ _ i.0 i.1 i.2 (few g c _ i.3) claims.view claims.fresh (page g c _ i.3) in
     (i.1, stack_tables _ _ _ _ _ i.0 i.1 i.2 (few g c _ i.3) claims.view claims.fresh (page g c _ i.3), omega (arith, none))
+
+pub map-requires-clause-backed : goal.map-requires-clause-backed
+map-requires-clause-backed g c = kernel_backed _ _ c.leaf_for_kernel.ensures.made.for_user
 
 pub loop-slot-preserved : goal.loop-slot-preserved
 loop-slot-preserved g c =

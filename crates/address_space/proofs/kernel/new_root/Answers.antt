@@ -1,5 +1,6 @@
 use Rattle.std.proofs.Common.{ap, arith}
 use Rattle.frame_store.specs.View.{View}
+use Rattle.table_walk.specs.Backed.{kernel_backed}
 use Rattle.table_walk.specs.Tables.{bare_root}
 use Rattle.address_space.proofs.KernelSteps.{root_maps, root_missing, root_spends}
 use Rattle.address_space.proofs.kernel.new_root.Goals as goal
@@ -10,6 +11,9 @@ map-requires-clause-tables g c =
     let short = root_missing c.new_table-root.result.0 c.page.result c.page.ensures.number in
     let spent = ap (λ (v : View). v.credits) root.view in
     (bare_root c.new_table-root.result.0, root.root, omega (arith, short, spent, c.requires.credits))
+
+pub map-requires-clause-backed : goal.map-requires-clause-backed
+map-requires-clause-backed g c = kernel_backed _ _ c.leaf_for_kernel.ensures.made.for_user
 
 pub returns-clause-mapped : goal.returns-clause-mapped
 returns-clause-mapped g c =

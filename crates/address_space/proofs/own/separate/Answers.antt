@@ -1,7 +1,9 @@
 use Rattle.std.proofs.Common.{refl, arith, ◌∙◌}
 use Rattle.frame_store.specs.Laws.{fits_after}
+use Rattle.address_space.specs.ProcessLeaves.{bytes_known, page_backed}
 use Rattle.address_space.proofs.Owned.{anchored}
 use Rattle.address_space.proofs.OwningSteps.{part_anchored, part_apart, part_bytes, part_copied, part_done, part_held, part_sole, part_yet}
+use Rattle.address_space.proofs.Writing.{words_sole}
 use Rattle.address_space.proofs.own.separate.Goals as goal
 
 pub claim-own-requires-clause-anchored : goal.claim-own-requires-clause-anchored
@@ -33,6 +35,13 @@ protect-requires-clause-mapped g c =
     let r = c.requires.ready in
     let stands = part_copied r.4 _ c.claim-own.ensures.fresh _ c.claim-own.ensures.view _ c.copy_frame.ensures.others c.copy_frame.ensures.bytes in
     (r.1, stands.tables, rw r.4.on.1 refl)
+
+pub protect-requires-clause-backed : goal.protect-requires-clause-backed
+protect-requires-clause-backed g c =
+    let r = c.requires.ready in
+    let bytes = c.copy_frame.ensures.bytes (r.3).bytes (part_bytes r.4 _ c.claim-own.ensures.fresh _ c.claim-own.ensures.view) in
+    let sole = part_sole r.4 _ c.claim-own.ensures.fresh _ c.claim-own.ensures.view in
+    page_backed _ _ _ _ _ _ c.leaf.ensures.leaf (bytes_known _ _ _ bytes) (λ writes. words_sole _ _ _ c.copy_frame.ensures.others _ sole)
 
 pub release-requires-clause-fits : goal.release-requires-clause-fits
 release-requires-clause-fits g c =

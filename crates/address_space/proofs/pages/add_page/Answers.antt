@@ -3,6 +3,7 @@ use Rattle.frame_store.specs.Laws.{fits_after}
 use Rattle.process_model.specs.PageMap as pages
 use Rattle.table_walk.specs.Tables.{leaf_node, with_leaf}
 use Rattle.address_space.specs.Agreement.{nothing}
+use Rattle.address_space.specs.ProcessLeaves.{bytes_known, page_backed}
 use Rattle.address_space.proofs.AddingFrames.{Comes, claimed_comes, come_held, come_tables, filled_comes}
 use Rattle.address_space.proofs.AddingPages.{adds}
 use Rattle.address_space.proofs.BuildSoles.{soles_stay}
@@ -37,6 +38,11 @@ map-requires-clause-tables g c =
     let come = comes g (goal.at.map-requires-clause-tables g c).After-fill_frame in
     let ready = c.requires.ready in
     (ready.1, come_tables _ _ _ come c.args.root.0 ready.1 ready.3.stands.tables, omega (arith, ready.4, come.spends.credits))
+
+pub map-requires-clause-backed : goal.map-requires-clause-backed
+map-requires-clause-backed g c =
+    let come = comes g (goal.at.map-requires-clause-backed g c).After-fill_frame in
+    page_backed _ _ _ _ _ _ c.leaf.ensures.leaf (bytes_known _ _ _ c.fill_frame.ensures.bytes) (λ writes. come.sole)
 
 pub returns-clause-added : goal.returns-clause-added
 returns-clause-added g c trapframe t p can =

@@ -7,7 +7,8 @@ use Rattle.process_model.specs.Regions.{region_at}
 use Rattle.process_model.specs.ValueSets.{none_in}
 use Rattle.table_walk.specs.Tables.{leaf_node, with_leaf}
 use Rattle.address_space.specs.Layouts.{LaysOut, region_of}
-use Rattle.cow_fork.proofs.Copying.{child_leaf, copies_all, copies_more, done_low, enough, mark_had, mark_new, next_left, none_left, open_first, page_low, still_anchored}
+use Rattle.address_space.specs.ProcessLeaves.{page_backed}
+use Rattle.cow_fork.proofs.Copying.{child_leaf, child_unwritable, copies_all, copies_more, done_low, enough, mark_had, mark_new, next_left, none_left, open_first, page_known, page_low, still_anchored}
 use Rattle.cow_fork.proofs.NeededTables.{tables_up, three_needed}
 use Rattle.cow_fork.proofs.tree.copy_tree.Goals as goal
 use Rattle.cow_fork.proofs.tree.copy_tree.Goals.{else-page, then-page}
@@ -68,6 +69,20 @@ map-requires-clause-tables g c =
     let small = page_low _ _ _ r.0 k.0 r.1 _ _ k.1 k.2 _ r.2 k.3 a next in
     let law = c.missing_is_growth.ensures.missing k.0 k.2 a.page k.3.tabled low small in
     (k.0, k.3.tables, enough _ _ _ r.0 k.0 r.1 _ _ k.1 k.2 _ r.2 k.3 a next law)
+
+pub map-requires-clause-backed : goal.map-requires-clause-backed
+map-requires-clause-backed g c =
+    let r = c.requires.ready in
+    let k = c.pages.invariant.copied r.0 r.1 r.2 in
+    let a = c.page-item.result in
+    let writes = (region_of c.in-Some.region).writes in
+    let next = (next_left r.0 r.1 k.1 c.pages.page-index c.args.settled.now k.4 a c.pages-test.true c.page-item.is).0 in
+    let mark : c.if-page.mark ≡ (a.fork_mark || writes) = elim c.if-page.branch [
+      | then-page w ↦ mark_had c.if-page.mark a.fork_mark writes w.mark-is w.if-page.true
+      | else-page w ↦ mark_new c.if-page.mark a.fork_mark w.lacks_right.result writes w.mark-is w.if-page.false w.lacks_right.ensures
+    ] in
+    page_backed _ _ _ _ _ _ c.leaf-leaf.ensures.leaf (page_known _ _ _ r.0 k.0 r.1 _ _ k.1 k.2 _ r.2 k.3 a next)
+    (λ allowed. absurd (child_unwritable writes a.fork_mark c.if-page.mark mark allowed))
 
 pub pages-preserved : goal.pages-preserved
 pages-preserved g c =

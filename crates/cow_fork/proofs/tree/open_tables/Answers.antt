@@ -1,5 +1,6 @@
 use Rattle.std.proofs.Common.{◌≡◌, [], refl}
 use Rattle.sv39_entry.specs.Address.{trampoline_page, trapframe_page}
+use Rattle.table_walk.specs.Backed.{kernel_backed}
 use Rattle.table_walk.specs.Tables.{bare_root, ChangesTables, HasTables, IsGrown, leaf_node, missing, Tables, with_leaf}
 use Rattle.table_walk.specs.Walk.{top_level}
 use Rattle.cow_fork.proofs.Opening.{data_leaf, first_enough, makes_root, opens, second_enough, trapframe_shares, two_missing}
@@ -13,6 +14,12 @@ map-requires-clause-tables g c =
     let first = makes_root _ _ root c.new_table-root.ensures.fresh c.new_table-root.ensures.view in
     let two = two_missing root c.page.result c.page.ensures.number (c.missing_is_growth.ensures.missing_first (bare_root root) root refl) in
     (bare_root root, c.new_table-root.ensures.root, first_enough _ _ root _ c.page.result c.requires.ready first two)
+
+pub map-requires-clause-backed : goal.map-requires-clause-backed
+map-requires-clause-backed g c = kernel_backed _ _ c.leaf_for_kernel-code.ensures.made.for_user
+
+pub map-requires-2-clause-backed : goal.map-requires-2-clause-backed
+map-requires-2-clause-backed g c = kernel_backed _ _ c.leaf_for_kernel-saved.ensures.made.for_user
 
 -- TRAMPOLINE is mapped
 module _ (g : given.Over) (c : After-map g) where

@@ -1,4 +1,5 @@
 use Rattle.std.proofs.Common.{ℕ, [], subst}
+use Rattle.table_walk.specs.Backed.{kernel_backed}
 use Rattle.table_walk.specs.Held.{held_memory}
 use Rattle.table_walk.specs.Tables.{leaf_node, without_leaf}
 use Rattle.table_walk.specs.Walk.{IsAt}
@@ -30,6 +31,9 @@ protect-requires-clause-mapped g c =
     let has = (c.unmap.ensures.tables _ (c.unmap-leaf.ensures.tables t.0 t.1).0).0 in
     let u = without_leaf (without_leaf t.0 (leaf_node c.page.result)) (leaf_node c.page-2.result) in
     (u, same_view _ _ _ _ c.next_leaf_before-next.ensures.view has, found_leaf u _ _ _ _ c.expect-page.ensures (c.next_leaf_before-next.ensures.leaf u has))
+
+pub protect-requires-clause-backed : goal.protect-requires-clause-backed
+protect-requires-clause-backed g c = kernel_backed _ _ c.leaf-leaf.ensures.made.for_user
 
 pub lookup-requires : goal.lookup-requires
 lookup-requires g c k table low at =

@@ -3,6 +3,7 @@ use Rattle.frame_store.specs.Laws.{fits_after}
 use Rattle.frame_store.specs.Plain.{BankRule}
 use Rattle.frame_store.specs.View.{View}
 use Rattle.tests_of_tables.proofs.TableSteps.{enough_left, enough_now, of_ok, reserved_held, same_view}
+use Rattle.table_walk.specs.Backed.{kernel_backed}
 use Rattle.table_walk.specs.Same.{same_held, same_tables}
 use Rattle.tests_of_tables.proofs.walks.mapped.Goals as goal
 
@@ -38,6 +39,9 @@ map-requires-clause-tables c =
     let same = ap (λ (v : View). v.credits) view in
     let enough : 2 * (5 - c.loop-index.index) ≤ c.missing_tables.new.seat.credits = rw same i.tables.2 in
     (i.tables.0, same_view _ _ _ _ view i.tables.1, enough_now c.missing_tables.new.seat i.tables.0 c.page-in-loop-index.result c.loop-index.index (omega (arith, c.loop-index-test.true)) enough)
+
+pub map-requires-clause-backed : goal.map-requires-clause-backed
+map-requires-clause-backed c = kernel_backed _ _ c.leaf-leaf.ensures.made.for_user
 
 pub loop-index-preserved : goal.loop-index-preserved
 loop-index-preserved c =

@@ -1,5 +1,6 @@
 use Rattle.std.proofs.Common.{[], ap, arith, sym, ◌∙◌}
 use Rattle.frame_store.specs.View.{View}
+use Rattle.table_walk.specs.Backed.{kernel_backed}
 use Rattle.table_walk.specs.Tables.{bare_root}
 use Rattle.tests_of_tables.proofs.TableSteps.{left_last, missing_low, of_ok, reserved_held}
 use Rattle.tests_of_tables.proofs.walks.releases_what_was_made.Goals as goal
@@ -23,6 +24,9 @@ map-requires-clause-tables g c =
     let spent = ap (λ (v : View). v.credits) c.new_table-root.ensures.view in
     let low = missing_low (bare_root c.new_table-root.result.0) c.page-page.result in
     (bare_root c.new_table-root.result.0, c.new_table-root.ensures.root, omega (arith, opened, had, spent, low))
+
+pub map-requires-clause-backed : goal.map-requires-clause-backed
+map-requires-clause-backed g c = kernel_backed _ _ c.leaf-leaf.ensures.made.for_user
 
 pub unmap-requires-clause-fits : goal.unmap-requires-clause-fits
 unmap-requires-clause-fits g c = ([], c.map.ensures.keeps [] (c.new_table-root.ensures.keeps [] (c.reserve-reserved.ensures.keeps [] c.in_ok-frames.ensures.rule)))

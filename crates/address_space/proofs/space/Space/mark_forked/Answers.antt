@@ -1,7 +1,7 @@
 use Rattle.std.proofs.Common.{ap, sym, ◌∙◌}
 use Rattle.std.specs.Prelude.{option_map}
 use Rattle.address_space.specs.Layouts.{region_of}
-use Rattle.address_space.proofs.ForkMarks.{fork_kept, fork_leafy, fork_mapped, fork_turned}
+use Rattle.address_space.proofs.ForkMarks.{fork_backed, fork_kept, fork_leafy, fork_mapped, fork_turned}
 use Rattle.address_space.proofs.space.Space.mark_forked.Goals as goal
 
 pub unreachable-requires : goal.unreachable-requires
@@ -27,6 +27,9 @@ pub protect-requires-clause-mapped : goal.protect-requires-clause-mapped
 protect-requires-clause-mapped g c =
     let r = c.requires.ready in
     (r.0, r.3.stands.tables, fork_mapped c.args.settled.now r.3 r.4)
+
+pub protect-requires-clause-backed : goal.protect-requires-clause-backed
+protect-requires-clause-backed g c = let r = c.requires.ready in fork_backed c.args.settled.now r.3 r.4 _ _ _ c.leaf-leaf.ensures.leaf
 
 pub returns-clause-marked : goal.returns-clause-marked
 returns-clause-marked g c t p extra can is =

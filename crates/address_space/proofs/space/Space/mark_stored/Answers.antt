@@ -2,7 +2,8 @@ use Rattle.std.proofs.Common.{refl, ap, sym, ◌∙◌}
 use Rattle.std.specs.Prelude.{option_map}
 use Rattle.frame_store.specs.Laws.{fits_after}
 use Rattle.address_space.specs.Layouts.{region_of}
-use Rattle.address_space.proofs.Marks.{mark_leafy, mark_some, marks}
+use Rattle.address_space.specs.ProcessLeaves.{page_backed}
+use Rattle.address_space.proofs.Marks.{mark_frame, mark_known, mark_leafy, mark_sole, mark_some, marks}
 use Rattle.address_space.proofs.space.Space.mark_stored.Goals as goal
 use Rattle.address_space.proofs.space.Space.mark_stored.Goals.{After-protect}
 
@@ -34,6 +35,12 @@ protect-requires-clause-mapped g c =
     let stands = r.3.read.agrees.stands in
     let shown = stands.shows.settled c.args.page r.2 r.3.read.settled in
     (r.0, rw c.frame_of.ensures.view stands.tables, rw shown.mapped refl)
+
+pub protect-requires-clause-backed : goal.protect-requires-clause-backed
+protect-requires-clause-backed g c =
+    let r = c.requires.ready in
+    let same = mark_frame r.3 _ _ (c.frame_of.ensures.frame r.0 r.3.read.agrees.stands.tables) c.in-Some-frame_of.is in
+    rw c.frame_of.ensures.view (page_backed _ _ _ _ _ _ (rw same at c.leaf-leaf.ensures.leaf) (mark_known r.3) (λ writes. mark_sole r.3))
 
 pub returns-clause-marked : goal.returns-clause-marked
 returns-clause-marked g c t p s can =

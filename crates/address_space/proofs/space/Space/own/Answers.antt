@@ -8,8 +8,9 @@ use Rattle.process_model.specs.Regions.{region_at}
 use Rattle.table_walk.specs.Tables.{Tables}
 use Rattle.address_space.specs.Agreement.{body_of, is_dirty_page}
 use Rattle.address_space.specs.Layouts.{region_of}
+use Rattle.address_space.specs.ProcessLeaves.{page_backed}
 use Rattle.address_space.specs.Steps.{CanOwn}
-use Rattle.address_space.proofs.OwningCounts.{exact_kept, exact_parted, exact_refused, free_kept, free_parted, free_refused, look_at, own_frame, own_kept, own_one, own_part, own_parted, own_some, own_stands, own_stays_dirty, refused_agrees, refused_dry}
+use Rattle.address_space.proofs.OwningCounts.{exact_kept, exact_parted, exact_refused, free_kept, free_parted, free_refused, look_at, own_frame, own_kept, own_known, own_one, own_part, own_parted, own_sole, own_some, own_stands, own_stays_dirty, refused_agrees, refused_dry}
 use Rattle.address_space.proofs.space.Space.own.Given as given
 use Rattle.address_space.proofs.space.Space.own.Goals as goal
 use Rattle.address_space.proofs.space.Space.own.Goals.{After-from_residual, After-look-sole, In-Some-frame_of}
@@ -78,6 +79,15 @@ protect-requires-clause-mapped g c =
     let at = (goal.at.protect-requires-clause-mapped g c).In-Some-frame_of in
     let look = look_at _ _ _ _ _ _ c.frame_of.ensures.view c.look-sole.ensures.view (frame_is g at r.0 r.1 r.2 r.3 r.4) in
     (r.0, (own_stands r.4 _ _ look _ (region_is g at r.0 r.1 r.2 r.3 r.4)).tables, rw r.4.on.1 refl)
+
+pub protect-requires-clause-backed : goal.protect-requires-clause-backed
+protect-requires-clause-backed g c =
+    let r = c.requires.ready in
+    let at = (goal.at.protect-requires-clause-backed g c).In-Some-frame_of in
+    let is = frame_is g at r.0 r.1 r.2 r.3 r.4 in
+    let look = look_at _ _ _ _ _ _ c.frame_of.ensures.view c.look-sole.ensures.view is in
+    let region = region_is g at r.0 r.1 r.2 r.3 r.4 in
+    page_backed _ _ _ _ _ _ (rw is at c.leaf.ensures.leaf) (own_known r.4 _ _ look _ region) (λ writes. own_sole r.4 _ _ look _ region c.if-sole.true)
 
 -- the page keeps its frame
 

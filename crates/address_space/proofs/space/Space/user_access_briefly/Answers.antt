@@ -1,7 +1,9 @@
 use Rattle.std.proofs.Common.{None, ap, sym, ◌∙◌, refl}
+use Rattle.frame_store.specs.View.{View}
 use Rattle.process_model.specs.declared.step.Reply.TheVariants.{Value}
 use Rattle.address_space.specs.Accesses.{asked_of}
 use Rattle.address_space.specs.Pending.{agrees_pending}
+use Rattle.address_space.proofs.DroppedLeaf.{takes_none}
 use Rattle.address_space.proofs.UserAnswers.{answers_load, answers_store, fault_answer, granted, misaligned, on_frame, still_agrees}
 use Rattle.address_space.proofs.space.Space.user_access_briefly.Goals as goal
 
@@ -69,8 +71,12 @@ returns-in-Fetch g c = record {
   root = c.read_at.ensures.root;
   trapframe = c.read_at.ensures.trapframe;
   layout = c.read_at.ensures.layout;
+  view = λ apart. c.read_at.ensures.view;
+  same = λ apart. c.read_at.ensures.same;
+  tallies = takes_none _ _ (ap (λ (v : View). v.tallies) c.read_at.ensures.view);
   keeps = c.read_at.ensures.keeps;
   free = λ alone. ap g.F.FrameAccess.free c.read_at.ensures.same;
+  counts = λ alone f. ap (λ x. g.F.FrameAccess.count x f) c.read_at.ensures.same;
 }
 
 pub returns-in-PageFault-2-clause-reply : goal.returns-in-PageFault-2-clause-reply
@@ -80,3 +86,18 @@ returns-in-PageFault-2-clause-reply g c t p agrees walks =
 pub returns-in-PageFault-2-clause-after : goal.returns-in-PageFault-2-clause-after
 returns-in-PageFault-2-clause-after g c t p agrees walks =
     still_agrees _ _ _ _ t p agrees (asked_of c.args.asked) _ (fault_answer _ _ _ _ t p agrees (asked_of c.args.asked) (sym c.remainder.ensures ∙ c.if-remainder-ne0.false) c.args.walk c.in-PageFault.cause walks c.in-PageFault.is)
+
+pub returns-in-Store-clause-view : goal.returns-in-Store-clause-view
+returns-in-Store-clause-view g c apart = absurd (apart refl)
+
+pub returns-in-Store-clause-same : goal.returns-in-Store-clause-same
+returns-in-Store-clause-same g c apart = absurd (apart refl)
+
+pub returns-then-remainder-ne0-clause-tallies : goal.returns-then-remainder-ne0-clause-tallies
+returns-then-remainder-ne0-clause-tallies g c = takes_none _ _ refl
+
+pub returns-in-PageFault-clause-tallies : goal.returns-in-PageFault-clause-tallies
+returns-in-PageFault-clause-tallies g c = takes_none _ _ refl
+
+pub returns-in-PageFault-2-clause-tallies : goal.returns-in-PageFault-2-clause-tallies
+returns-in-PageFault-2-clause-tallies g c = takes_none _ _ refl
