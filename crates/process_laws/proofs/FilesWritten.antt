@@ -17,7 +17,8 @@ use Rattle.process_laws.proofs.WrittenBack.{below_stays, length_stays, over_is, 
 use Rattle.process_laws.specs.FilePlaces.{file_bytes}
 use Rattle.process_laws.specs.Latest.{byte_at, page_byte}
 use Rattle.process_laws.specs.Pages.{grant, grant_in, has_mark, has_stored_mark, pages_on}
-use Rattle.process_laws.specs.Words.{Written, WroteBack}
+use Rattle.process_laws.specs.Words.{goes_back, Written, WroteBack}
+use Rattle.process_model.specs.declared.step.Step.{Step}
 use Rattle.process_model.specs.Bytes.{pages_for, write_bytes}
 use Rattle.process_model.specs.Files.{bytes_of, File, is_writable, with_file_at, with_page_written, written_over}
 use Rattle.process_model.specs.Mappings.{all_written_back, is_written_back, mapping_around, mapping_written_back, page_written, with_written, written_back}
@@ -68,29 +69,29 @@ shared_kind heap e = absurd cc
 shared_kind shared_mapping e = refl
 shared_kind private_mapping e = absurd cc
 
-pub none_written : (p : Process) (files : List File) → Written p files files
-none_written p files = record { mode = λ n. refl; long = λ n. refl; bytes = λ n i less. inl refl }
+pub none_written : (x : Step) (p : Process) (files : List File) → Written x p files files
+none_written x p files = record { mode = λ n. refl; long = λ n. refl; bytes = λ n i less. inl refl }
 
-written_on : (p : Process) (one two three : List File) → Written p one two → Written p two three → Written p one three
-written_on p one two three f g = record {
+written_on : (x : Step) (p : Process) (one two three : List File) → Written x p one two → Written x p two three → Written x p one three
+written_on x p one two three f g = record {
   mode = λ n. g.mode n ∙ f.mode n;
   long = λ n. g.long n ∙ f.long n;
   bytes = λ n i less. elim (g.bytes n i (let same = f.long n in omega (arith, same, less))) [
     | inl same ↦ elim (f.bytes n i less) [
       | inl was ↦ inl (same ∙ was)
-      | inr wrote ↦ inr (subst (WroteBack p n i) (sym same) wrote)
+      | inr wrote ↦ inr (subst (WroteBack x p n i) (sym same) wrote)
     ]
     | inr wrote ↦ inr wrote
   ];
 }
 
-module _ (p : Process) (sized : AllSized p.settled) where
+module _ (x : Step) (p : Process) (sized : AllSized p.settled) where
   -- one page
-  module _ (m : Region) (e : ℕ × Page) (there : get p.settled e.0 ≡ Some e.1) (grants : grant p e.0 ≡ grant_in (Some m) e.0) (due : is_written_back m e.1 ≡ true) where
+  module _ (m : Region) (e : ℕ × Page) (there : get p.settled e.0 ≡ Some e.1) (grants : grant p e.0 ≡ grant_in (Some m) e.0) (due : is_written_back m e.1 ≡ true) (goes : goes_back x e.0 ≡ true) where
     size : length (e.1).bytes ≡ 4096
     size = sized.size e.0 (e.1).bytes (ap bytes_on there)
 
-    wrote : (n offset i b : ℕ) → m.source ≡ file n offset → i < 4096 → byte_at (e.1).bytes i ≡ b → WroteBack p n (offset + 4096 * (e.0 - m.first) + i) b
+    wrote : (n offset i b : ℕ) → m.source ≡ file n offset → i < 4096 → byte_at (e.1).bytes i ≡ b → WroteBack x p n (offset + 4096 * (e.0 - m.first) + i) b
     wrote n offset i b source few is =
         let both = and_parts (keeps_stores (Some m)) (e.1).stored_mark due in
         let keeps = and_parts m.writes (is_shared_kind m.kind) both.0 in
@@ -105,11 +106,12 @@ module _ (p : Process) (sized : AllSized p.settled) where
           offset = offset + 4096 * (e.0 - m.first);
           of_file = ap (λ s. pages_on s (e.0 - m.first)) source;
           place = ap (λ k. offset + 4096 * (e.0 - m.first) + k) place;
+          goes = ap (goes_back x) page ∙ goes;
           stored = ap (has_stored_mark p) page ∙ ap (has_mark (λ x. x.stored_mark)) there ∙ both.1;
           byte = ap (λ k. page_byte (get p.settled k) ((4096 * e.0 + i) % 4096)) page ∙ ap (λ k. page_byte (get p.settled e.0) k) place ∙ ap (λ o. page_byte o i) there ∙ ap Some is;
         }
 
-    over_written : (files : List File) (n offset : ℕ) → m.source ≡ file n offset → Written p files (with_page_written files n (offset + 4096 * (e.0 - m.first)) (e.1).bytes)
+    over_written : (files : List File) (n offset : ℕ) → m.source ≡ file n offset → Written x p files (with_page_written files n (offset + 4096 * (e.0 - m.first)) (e.1).bytes)
     over_written files n offset source =
         let o = offset + 4096 * (e.0 - m.first) in
         let bs = file_bytes files n in
@@ -122,7 +124,7 @@ module _ (p : Process) (sized : AllSized p.settled) where
             | inr apart ↦ ap length (other_file files n k o page apart)
           ];
           bytes = λ k i. elim (cases_eq n k) [
-            | inl same ↦ subst (λ j. i < length (file_bytes files j) → (byte_at (file_bytes (with_page_written files n o page) j) i ≡ byte_at (file_bytes files j) i) ⊎ WroteBack p j i (byte_at (file_bytes (with_page_written files n o page) j) i)) same
+            | inl same ↦ subst (λ j. i < length (file_bytes files j) → (byte_at (file_bytes (with_page_written files n o page) j) i ≡ byte_at (file_bytes files j) i) ⊎ WroteBack x p j i (byte_at (file_bytes (with_page_written files n o page) j) i)) same
                 (λ less. here_written files n offset source i less)
             | inr apart ↦ λ less. inl (ap (λ ys. byte_at ys i) (other_file files n k o page apart))
           ];
@@ -130,7 +132,7 @@ module _ (p : Process) (sized : AllSized p.settled) where
       where
         here_written : (files : List File) (n offset : ℕ) → m.source ≡ file n offset → (i : ℕ) → i < length (file_bytes files n)
             → (byte_at (file_bytes (with_page_written files n (offset + 4096 * (e.0 - m.first)) (e.1).bytes) n) i ≡ byte_at (file_bytes files n) i)
-            ⊎ WroteBack p n i (byte_at (file_bytes (with_page_written files n (offset + 4096 * (e.0 - m.first)) (e.1).bytes) n) i)
+            ⊎ WroteBack x p n i (byte_at (file_bytes (with_page_written files n (offset + 4096 * (e.0 - m.first)) (e.1).bytes) n) i)
         here_written files n offset source i less =
             let o = offset + 4096 * (e.0 - m.first) in
             let bs = file_bytes files n in
@@ -143,55 +145,55 @@ module _ (p : Process) (sized : AllSized p.settled) where
                 | inl inside ↦
                     let at : o + (i - o) ≡ i = omega (arith, from) in
                     let is : byte_at (file_bytes (with_page_written files n o page) n) i ≡ byte_at page (i - o) = now ∙ ap (byte_at (written_over bs o page)) (sym at) ∙ over_is bs page o (i - o) (omega (arith, from, inside)) (omega (arith, from, less)) in
-                    inr (subst (λ k. WroteBack p n k (byte_at (file_bytes (with_page_written files n o page) n) i)) at (wrote n offset (i - o) (byte_at (file_bytes (with_page_written files n o page) n) i) source (omega (arith, from, inside, long)) (sym is)))
+                    inr (subst (λ k. WroteBack x p n k (byte_at (file_bytes (with_page_written files n o page) n) i)) at (wrote n offset (i - o) (byte_at (file_bytes (with_page_written files n o page) n) i) source (omega (arith, from, inside, long)) (sym is)))
                 | inr past ↦ inl (now ∙ above_stays bs page o i past less)
               ]
             ]
 
-    source_written : (files : List File) (s : Source) → m.source ≡ s → Written p files (page_written s files (4096 * (e.0 - m.first)) (e.1).bytes)
-    source_written files zeros is = none_written p files
-    source_written files image is = none_written p files
+    source_written : (files : List File) (s : Source) → m.source ≡ s → Written x p files (page_written s files (4096 * (e.0 - m.first)) (e.1).bytes)
+    source_written files zeros is = none_written x p files
+    source_written files image is = none_written x p files
     source_written files (file n offset) is = over_written files n offset is
 
   -- all pages of a run
-  module _ (m : Region) (from end : ℕ) (grants : (page : ℕ) → from ≤ page → page < end → grant p page ≡ grant_in (Some m) page) where
-    one_written : (files : List File) (e : ℕ × Page) → get p.settled e.0 ≡ Some e.1 → Written p files (with_written m from end files e)
+  module _ (m : Region) (from end : ℕ) (grants : (page : ℕ) → from ≤ page → page < end → grant p page ≡ grant_in (Some m) page) (go : (page : ℕ) → from ≤ page → page < end → goes_back x page ≡ true) where
+    one_written : (files : List File) (e : ℕ × Page) → get p.settled e.0 ≡ Some e.1 → Written x p files (with_written m from end files e)
     one_written files e there = elim (nat_le from e.0 && nat_lt e.0 end && is_written_back m e.1) as (λ b. (nat_le from e.0 && nat_lt e.0 end && is_written_back m e.1) ≡ b
-        → Written p files (cond b (page_written m.source files (4096 * (e.0 - m.first)) (e.1).bytes) files)) [
+        → Written x p files (cond b (page_written m.source files (4096 * (e.0 - m.first)) (e.1).bytes) files)) [
           | true ↦ λ t.
               let outer = and_parts (nat_le from e.0 && nat_lt e.0 end) (is_written_back m e.1) t in
               let inner = and_parts (nat_le from e.0) (nat_lt e.0 end) outer.0 in
-              source_written m e there (grants e.0 (leb-true from e.0 inner.0) (ltb-true e.0 end inner.1)) outer.1 files m.source refl
-          | false ↦ λ t. none_written p files
+              source_written m e there (grants e.0 (leb-true from e.0 inner.0) (ltb-true e.0 end inner.1)) outer.1 (go e.0 (leb-true from e.0 inner.0) (ltb-true e.0 end inner.1)) files m.source refl
+          | false ↦ λ t. none_written x p files
         ] refl
 
-    all_written : (es : List (ℕ × Page)) (files : List File) → T (is_sorted nat_cmp es) → ((k : ℕ) (v : Page) → find nat_cmp k es ≡ Some v → get p.settled k ≡ Some v) → Written p files (fold (with_written m from end) files es)
-    all_written [] files rising sub = none_written p files
+    all_written : (es : List (ℕ × Page)) (files : List File) → T (is_sorted nat_cmp es) → ((k : ℕ) (v : Page) → find nat_cmp k es ≡ Some v → get p.settled k ≡ Some v) → Written x p files (fold (with_written m from end) files es)
+    all_written [] files rising sub = none_written x p files
     all_written (e ∷ es) files rising sub =
-        written_on p files (with_written m from end files e) (fold (with_written m from end) (with_written m from end files e) es)
+        written_on x p files (with_written m from end files e) (fold (with_written m from end) (with_written m from end files e) es)
         (one_written files e (sub e.0 e.1 (rw (unsigned_tied e.0 e.0, eq-eqb e.0 e.0 refl) refl)))
         (all_written es (with_written m from end files e) (second _ _ rising) (λ k v there.
         let above = found_above e.0 k v es (first _ _ rising) there in
         sub k v (rw (unsigned_tied k e.0, ne_eqb k e.0 (λ same. omega (arith, above, same))) there)))
 
-    pub run_written : (files : List File) → Written p files (written_back files p m from end)
+    pub run_written : (files : List File) → Written x p files (written_back files p m from end)
     run_written files = all_written p.settled.entries files p.settled.sorted (λ k v there. there)
 
   -- and of all mappings
   module _ (order : IsInOrder p) where
-    mappings_written : (low high : ℕ) (ms : List Region) (files : List File) → pages_for p.size ≤ low → Row 1 low ms high → ((page : ℕ) → low ≤ page → Found p.mappings page ≡ Found ms page) → Written p files (fold (mapping_written_back p) files ms)
-    mappings_written low high [] files base row sub = none_written p files
-    mappings_written low high (m ∷ ms) files base row sub =
+    mappings_written : ((page : ℕ) → goes_back x page ≡ true) → (low high : ℕ) (ms : List Region) (files : List File) → pages_for p.size ≤ low → Row 1 low ms high → ((page : ℕ) → low ≤ page → Found p.mappings page ≡ Found ms page) → Written x p files (fold (mapping_written_back p) files ms)
+    mappings_written all low high [] files base row sub = none_written x p files
+    mappings_written all low high (m ∷ ms) files base row sub =
         let start = row.0 in
         let some = row.1 in
-        written_on p files (mapping_written_back p files m) (fold (mapping_written_back p) (mapping_written_back p files m) ms)
+        written_on x p files (mapping_written_back p files m) (fold (mapping_written_back p) (mapping_written_back p files m) ms)
         (run_written m m.first (end_of m)
-        (λ page from to. past_heap p order page p.mappings (omega (arith, base, start, from)) ∙ sub page (omega (arith, start, from)) ∙ here m ms page (grind (arith, nat_tests, from, to))) files)
-        (mappings_written (end_of m) high ms (mapping_written_back p files m) (omega (arith, base, start, some)) row.2
+        (λ page from to. past_heap p order page p.mappings (omega (arith, base, start, from)) ∙ sub page (omega (arith, start, from)) ∙ here m ms page (grind (arith, nat_tests, from, to))) (λ page from to. all page) files)
+        (mappings_written all (end_of m) high ms (mapping_written_back p files m) (omega (arith, base, start, some)) row.2
         (λ page from. sub page (omega (arith, start, some, from)) ∙ skipped m ms page (grind (arith, nat_tests, from))))
 
-    pub end_written : (files : List File) → Written p files (all_written_back files p)
-    end_written files = mappings_written (pages_for p.size) trapframe_page p.mappings files (omega arith) order.above (λ page from. refl)
+    pub end_written : ((page : ℕ) → goes_back x page ≡ true) → (files : List File) → Written x p files (all_written_back files p)
+    end_written all files = mappings_written all (pages_for p.size) trapframe_page p.mappings files (omega arith) order.above (λ page from. refl)
 
     around_found : (low high first_page end page : ℕ) (ms : List Region) (m : Region) → first_page ≤ page → page < end → Row 1 low ms high → mapping_around ms first_page end ≡ Some m → (low ≤ page) × (Found ms page ≡ grant_in (Some m) page)
     around_found low high first_page end page [] m from to row e = absurd cc
@@ -211,7 +213,7 @@ module _ (p : Process) (sized : AllSized p.settled) where
               (omega (arith, start, past), skipped x ms page (grind (arith, nat_tests, past)) ∙ rest.1)
         ] refl e
 
-    pub unmap_written : (m : Region) (from end : ℕ) (files : List File) → mapping_around p.mappings from end ≡ Some m → Written p files (written_back files p m from end)
-    unmap_written m from end files around = run_written m from end (λ page start stop.
+    pub unmap_written : (m : Region) (from end : ℕ) → ((page : ℕ) → from ≤ page → page < end → goes_back x page ≡ true) → (files : List File) → mapping_around p.mappings from end ≡ Some m → Written x p files (written_back files p m from end)
+    unmap_written m from end go files around = run_written m from end (λ page start stop.
         let k = around_found (pages_for p.size) trapframe_page from end page p.mappings m start stop order.above around in
-        past_heap p order page p.mappings k.0 ∙ k.1) files
+        past_heap p order page p.mappings k.0 ∙ k.1) go files

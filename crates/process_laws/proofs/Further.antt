@@ -19,10 +19,13 @@ use Rattle.sv39_entry.specs.declared.access.Access.{Access}
 use Rattle.sv39_entry.specs.declared.access.Access.TheVariants as access
 use Rattle.sv39_entry.specs.declared.rule.Rule.{Rule}
 
--- the regions and the size are the same, no page has a fork mark anew, none lost its stored mark, and only those have one anew that may
+-- The regions, the size and the heap's base are the same, no page has a fork mark anew, and none lost its stored mark; only those that may have
+-- a stored mark anew, or lost their fork mark
 pub record Further (may : ℕ → Bool) (p q : Process) : Type 0 where
   pub same : regions q ≡ regions p
   pub size : q.size ≡ p.size
+  pub base : q.heap_base ≡ p.heap_base
+  pub kept : (page : ℕ) → has_fork_mark p page ≡ true → (has_fork_mark q page ≡ true) ⊎ (may page ≡ true)
   pub forked : (page : ℕ) → has_fork_mark q page ≡ true → has_fork_mark p page ≡ true
   pub stored : (page : ℕ) → has_stored_mark p page ≡ true → has_stored_mark q page ≡ true
   pub anew : (page : ℕ) → has_stored_mark q page ≡ true → (has_stored_mark p page ≡ true) ⊎ (may page ≡ true)
@@ -31,6 +34,8 @@ further_on : (may : ℕ → Bool) (p q r : Process) → Further may p q → Furt
 further_on may p q r f g = record {
   same = g.same ∙ f.same;
   size = g.size ∙ f.size;
+  base = g.base ∙ f.base;
+  kept = λ page e. elim (f.kept page e) [ inl there ↦ g.kept page there | inr here ↦ inr here ];
   forked = λ page e. f.forked page (g.forked page e);
   stored = λ page e. g.stored page (f.stored page e);
   anew = λ page e. elim (g.anew page e) [ inl was ↦ f.anew page was | inr here ↦ inr here ];
@@ -38,10 +43,18 @@ further_on may p q r f g = record {
 
 -- a page that is put again
 put_further : (may : ℕ → Bool) (p : Process) (n : ℕ) (x y : Page) → get p.settled n ≡ Some x → (y.fork_mark ≡ true → x.fork_mark ≡ true) → (x.stored_mark ≡ true → y.stored_mark ≡ true)
-    → (y.stored_mark ≡ true → (x.stored_mark ≡ true) ⊎ (may n ≡ true)) → Further may p (with_page p n y)
-put_further may p n x y there fork store goes = record {
+    → (y.stored_mark ≡ true → (x.stored_mark ≡ true) ⊎ (may n ≡ true)) → (x.fork_mark ≡ true → (y.fork_mark ≡ true) ⊎ (may n ≡ true)) → Further may p (with_page p n y)
+put_further may p n x y there fork store goes keep = record {
   same = refl;
   size = refl;
+  base = refl;
+  kept = λ page e. elim (cases_eq page n) [
+    | inl same ↦ elim (keep (sym (mark_at (λ z. z.fork_mark) (get p.settled page) (Some x) (ap (get p.settled) same ∙ there)) ∙ e)) [
+      | inl still ↦ inl (mark_at (λ z. z.fork_mark) (get (with_page p n y).settled page) (Some y) (inserted_here n y p.settled page same) ∙ still)
+      | inr here ↦ inr (ap may same ∙ here)
+    ]
+    | inr apart ↦ inl (mark_at (λ z. z.fork_mark) (get (with_page p n y).settled page) (get p.settled page) (inserted_other n y p.settled page apart) ∙ e)
+  ];
   forked = λ page e. elim (cases_eq page n) [
     | inl same ↦ mark_at (λ z. z.fork_mark) (get p.settled page) (Some x) (ap (get p.settled) same ∙ there) ∙ fork (sym (mark_at (λ z. z.fork_mark) (get (with_page p n y).settled page) (Some y) (inserted_here n y p.settled page same)) ∙ e)
     | inr apart ↦ sym (mark_at (λ z. z.fork_mark) (get (with_page p n y).settled page) (get p.settled page) (inserted_other n y p.settled page apart)) ∙ e
@@ -60,12 +73,12 @@ put_further may p n x y there fork store goes = record {
 }
 
 pub answer_further : (may : ℕ → Bool) (p : Process) (n : ℕ) (x : Page) (kind : Access) (offset width value : ℕ) → get p.settled n ≡ Some x → Further may p (with_page p n (access_answer kind x offset width value).1)
-answer_further may p n x access.Fetch offset width value there = put_further may p n x x there (λ e. e) (λ e. e) (λ e. inl e)
-answer_further may p n x access.Load offset width value there = put_further may p n x x there (λ e. e) (λ e. e) (λ e. inl e)
-answer_further may p n x access.Store offset width value there = put_further may p n x _ there (λ e. e) (λ e. e) (λ e. inl e)
+answer_further may p n x access.Fetch offset width value there = put_further may p n x x there (λ e. e) (λ e. e) (λ e. inl e) (λ e. inl e)
+answer_further may p n x access.Load offset width value there = put_further may p n x x there (λ e. e) (λ e. e) (λ e. inl e) (λ e. inl e)
+answer_further may p n x access.Store offset width value there = put_further may p n x _ there (λ e. e) (λ e. e) (λ e. inl e) (λ e. inl e)
 
 pub still : (may : ℕ → Bool) (p : Process) → Further may p p
-still may p = record { same = refl; size = refl; forked = λ page e. e; stored = λ page e. e; anew = λ page e. inl e }
+still may p = record { same = refl; size = refl; base = refl; kept = λ page e. inl e; forked = λ page e. e; stored = λ page e. e; anew = λ page e. inl e }
 
 leaves_store : (kind : Access) (r : Option Region) → leaves_mark kind r ≡ true → is_store kind ≡ true
 leaves_store access.Fetch r e = absurd cc
@@ -78,6 +91,11 @@ anew_further may files fresh p kind page none goes =
     record {
       same = refl;
       size = refl;
+      base = refl;
+      kept = λ at e. elim (cases_eq at page) [
+        | inl same ↦ absurd (let no : true ≡ false = sym e ∙ mark_at (λ z. z.fork_mark) (get p.settled at) None (ap (get p.settled) same ∙ none) in cc)
+        | inr apart ↦ inl (mark_at (λ z. z.fork_mark) (get (settled_anew files fresh p kind page).settled at) (get p.settled at) (inserted_other page new p.settled at apart) ∙ e)
+      ];
       forked = λ at e. elim (cases_eq at page) [
         | inl same ↦ absurd (let no : true ≡ false = sym e ∙ mark_at (λ z. z.fork_mark) (get (settled_anew files fresh p kind page).settled at) (Some new) (inserted_here page new p.settled at same) in cc)
         | inr apart ↦ sym (mark_at (λ z. z.fork_mark) (get (settled_anew files fresh p kind page).settled at) (get p.settled at) (inserted_other page new p.settled at apart)) ∙ e
@@ -98,7 +116,7 @@ or_more false b e = absurd cc
 
 over_further : (may : ℕ → Bool) (fresh : ℕ) (shared : Bool) (p : Process) (page : ℕ) (x : Page) (b : Bool) → get p.settled page ≡ Some x → (b ≡ false → may page ≡ true) → Further may p (taken_over_unless fresh shared p page x b)
 over_further may fresh shared p page x true there goes = still may p
-over_further may fresh shared p page x false there goes = put_further may p page x (taken_over fresh shared (region_on p page) x) there (λ e. absurd cc) (or_more x.stored_mark _) (λ e. inr (goes refl))
+over_further may fresh shared p page x false there goes = put_further may p page x (taken_over fresh shared (region_on p page) x) there (λ e. absurd cc) (or_more x.stored_mark _) (λ e. inr (goes refl)) (λ e. inr (goes refl))
 
 -- only a store is held back
 held_store : (kind : Access) (r : Option Region) (x : Page) → goes_through kind r x ≡ false → is_store kind ≡ true
@@ -138,7 +156,7 @@ module _ (may : ℕ → Bool) (a : Around) (g : Progress) (kind : Access) where
 
 byte_further : (may : ℕ → Bool) (q : Process) (at b : ℕ) (o : Option Page) → get q.settled (page_of at) ≡ o → Further may q (with_byte_on q at b o)
 byte_further may q at b None e = still may q
-byte_further may q at b (Some x) e = put_further may q (page_of at) x (stored x (at % 4096) (b ∷ [])) e (λ e. e) (λ e. e) (λ e. inl e)
+byte_further may q at b (Some x) e = put_further may q (page_of at) x (stored x (at % 4096) (b ∷ [])) e (λ e. e) (λ e. e) (λ e. inl e) (λ e. inl e)
 
 abbrev AllMay : (ℕ → Bool) → List (ℕ × ℕ) → Type 0
 AllMay may [] = Unit {0}

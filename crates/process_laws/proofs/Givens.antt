@@ -2,7 +2,7 @@
 use Rattle.std.proofs.Common.{◌≡◌, ◌⊎◌, ℕ, ℤ, pos, negsuc, Bool, true, false, cond, ◌&&◌, ◌||◌, ◌==◌, ◌+◌, ◌-◌, ◌*◌, ◌<◌, ◌≤◌, inl, inr, refl, sym, ap, subst, ◌∙◌, arith, List, [], ◌∷◌, ◌++◌, map, Option, None, Some}
 use Rattle.std.specs.Prelude.{int_lt, nat_abs, Ok, nat_le, nat_lt, if◌then◌else◌}
 use Rattle.std.specs.List.{list_all}
-use Rattle.std.proofs.lemmas.Bool.{and_parts, cases_eq, eqb-true, eq-eqb, leb-true, ltb-false, ltb-true, ne_eqb}
+use Rattle.std.proofs.lemmas.Bool.{and_parts, cases_eq, eqb-true, eq-eqb, le-leb, leb-true, ltb-false, ltb-true, ne_eqb}
 use Rattle.std.proofs.lemmas.Bool.Decides.{nat_tests}
 use Rattle.std.proofs.lemmas.Option.{same_Some}
 use Rattle.process_laws.proofs.Grants.{around_above, Found, here, skipped}
@@ -106,6 +106,23 @@ module _ (p : Process) (order : IsInOrder p) (page : ℕ) where
         first_of true b e f = refl
         first_of false b e f = absurd (let no : true ≡ false = sym e ∙ f in cc)
 
+    -- it is not below the heap's base
+    base_at : (b : Bool) → nat_lt page new ≡ b → (is_between new old page || is_between old new page) ≡ true → page_of p.heap_base ≤ page
+    base_at true less e =
+        let below = ltb-true page new less in
+        let not : is_between new old page ≡ false = grind (arith, nat_tests, below) in
+        let t = between old new page (either (is_between new old page) (is_between old new page) e not) in
+        let room = order.room in
+        omega (arith, room, t.0)
+    base_at false past e =
+        let above = ltb-false page new past in
+        let base = (size_granted p wanted none).0 in
+        let start : page_of p.heap_base ≤ new = omega (arith, base) in
+        omega (arith, start, above)
+
+    pub resized_base : (is_between new old page || is_between old new page) ≡ true → nat_le (page_of p.heap_base) page ≡ true
+    resized_base e = le-leb (page_of p.heap_base) page (base_at (nat_lt page new) refl e)
+
     -- the size is what was asked for
     pub resized_size : pos (nat_abs wanted) ≡ wanted
     resized_size = whole wanted (none_true ((int_lt wanted (pos p.heap_base), BadSize) ∷ (nat_lt (heap_limit p.mappings) (pages_for (nat_abs wanted)), NoRoom) ∷ []) none).0
@@ -159,6 +176,14 @@ module _ (p : Process) (order : IsInOrder p) (page : ℕ) where
       let start = leb-true (pages_for p.size) r.first inner.0 in
       let in_it = between r.first (end_of r) page inside in
       past_heap (with_mapping r p.mappings) (omega (arith, start, in_it.0)) ∙ with_there r p.mappings inside outer.1
+
+  pub mapped_above : (r : Region) → fits_at p r.pages r.first ≡ true → holds_page r page ≡ true → nat_le (pages_for p.size) page ≡ true
+  mapped_above r fits inside =
+      let outer = and_parts (nat_le (pages_for p.size) r.first && nat_le (r.first + r.pages) trapframe_page) (list_all (is_apart r.first r.pages) p.mappings) fits in
+      let inner = and_parts (nat_le (pages_for p.size) r.first) (nat_le (r.first + r.pages) trapframe_page) outer.0 in
+      let start = leb-true (pages_for p.size) r.first inner.0 in
+      let in_it = between r.first (end_of r) page inside in
+      le-leb (pages_for p.size) page (omega (arith, start, in_it.0))
 
   apart_none : (r : Region) (ms : List Region) → holds_page r page ≡ true → list_all (is_apart r.first r.pages) ms ≡ true → Found ms page ≡ None
   apart_none r [] inside apart = refl
@@ -241,6 +266,13 @@ module _ (p : Process) (order : IsInOrder p) (page : ℕ) where
         let start = from in
         past_heap (with_instead p.mappings m.first (front_of m first ++ back_of m end)) (omega (arith, above, le, start)) ∙ instead_none (pages_for p.size) trapframe_page p.mappings m order.above around
 
+    pub unmapped_above : (m : Region) → mapping_around p.mappings first end ≡ Some m → nat_le (pages_for p.size) page ≡ true
+    unmapped_above m around =
+        let above = around_above (pages_for p.size) trapframe_page first end p.mappings m order.above around in
+        let le = (around_in p.mappings m around).0 in
+        let start = from in
+        le-leb (pages_for p.size) page (omega (arith, above, le, start))
+
 -- ---- mmap, as it is asked for
 
 pub mapping_given : (first pages protection flags n page : ℕ) → grant_in (Some (mapping_of first pages protection flags n)) page ≡ Some (mapping_grant protection flags n (page - first))
@@ -312,3 +344,8 @@ image_idle fresh ls = refl
 pub image_sized : (fresh : ℕ) (ls : List LoadSegment) → (process_of fresh ls).size ≡ image_size (Ok ls)
 unfolding process_of
 image_sized fresh ls = refl
+
+-- its heap begins at its size
+pub image_based : (fresh : ℕ) (ls : List LoadSegment) → (process_of fresh ls).heap_base ≡ (process_of fresh ls).size
+unfolding process_of
+image_based fresh ls = refl

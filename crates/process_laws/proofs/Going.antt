@@ -4,7 +4,7 @@ use Rattle.std.specs.Prelude.{Err, Ok, option_map, Result, slice_get, slice_set,
 use Rattle.std.specs.List.{list_any}
 use Rattle.std.proofs.lemmas.Bool.{eqb-true, false≢true}
 use Rattle.std.proofs.lemmas.Option.{slice_get-map}
-use Rattle.process_laws.proofs.Givens.{image_given, image_idle, image_sized, image_unmarked}
+use Rattle.process_laws.proofs.Givens.{image_given, image_idle, image_sized, image_unmarked, image_based}
 use Rattle.process_laws.proofs.HeldBytes.{free_there, Puts, set_puts}
 use Rattle.process_laws.proofs.Possible.{stands}
 use Rattle.process_laws.proofs.Running.{has_it, hart_runs, process_runs, step_process, step_reply}
@@ -197,6 +197,7 @@ module _ (w : World) (image : Image) where
       unmarked = image_unmarked w.counter ls;
       quiet = image_idle w.counter ls;
       size = ap pos (image_sized w.counter ls ∙ ap image_size (sym loads)) ∙ ap (λ x. size_after (Start image) x 0) (sym told);
+      base = image_based w.counter ls;
     }
 
     unless : (t : ℕ) (ls : List LoadSegment) (b : Bool) → free_slot w ≡ Some t → image_loads image ≡ Ok ls → (started_unless w t ls b).reply ≡ Started s → ((n : ℕ) → process_in v n ≡ process_in (started_unless w t ls b).world n) → Starts w image s r v

@@ -1,8 +1,9 @@
 -- Harts that a step does not move, which process comes on one that it moves, and files that it does not write back to.
-use Rattle.std.proofs.Common.{◌≡◌, ◌≢◌, ◌⊎◌, ◌==◌, ◌&&◌, ◌||◌, not, ℕ, zero, suc, Bool, true, false, refl, sym, ap, subst, ◌∙◌, inl, inr, List, [], ◌∷◌, Option, None, Some}
+use Rattle.std.proofs.Common.{◌≡◌, ◌≢◌, ◌⊎◌, ◌==◌, ◌&&◌, ◌||◌, not, ℕ, zero, suc, Bool, true, false, length, refl, sym, ap, subst, ◌∙◌, inl, inr, List, [], ◌∷◌, Option, None, Some}
 use Rattle.std.specs.List.{list_any}
 use Rattle.std.specs.Prelude.{is_some, option_map, Result, Ok, Err, slice_get, slice_set}
 use Rattle.std.proofs.lemmas.Bool.{and_parts, cases_eq, eq-eqb, false≢true}
+use Rattle.std.proofs.lemmas.List.{length-set}
 use Rattle.std.proofs.lemmas.Option.{same_Some, slice_get-map}
 use Rattle.process_laws.proofs.Going.{fenced_slot, set_there}
 use Rattle.process_laws.proofs.HeldBytes.{none_some}
@@ -49,6 +50,7 @@ pub record Keeps (w : World) (x : Step) (o : Outcome) : Type 0 where
   pub harts : (k : ℕ) → moved_hart x o.reply ≢ Some k → SameHart w o.world k
   pub files : writes_back x o.reply ≡ false → (o.world).files ≡ w.files
   pub empty : StaysEmpty w o
+  pub places : length (o.world).slots ≡ length w.slots
 
 -- the harts are as they were
 same_harts : (w v : World) → v.harts ≡ w.harts → (k : ℕ) → SameHart w v k
@@ -94,7 +96,7 @@ set_comes w v h after e comes k s is = elim (cases_eq h k) [
 ]
 
 -- no hart has a process that can be put on one
-none_on : (harts : List Hart) (s : ℕ) → list_any (λ (hart : Hart). has_slot s hart.slot) harts ≡ false → (k : ℕ) → slot_at (slice_get harts k) ≢ Some s
+pub none_on : (harts : List Hart) (s : ℕ) → list_any (λ (hart : Hart). has_slot s hart.slot) harts ≡ false → (k : ℕ) → slot_at (slice_get harts k) ≢ Some s
 none_on [] s e k is = absurd cc
 none_on (hart ∷ harts) s e zero is = absurd (let it : has_slot s hart.slot ≡ true = ap (has_slot s) is ∙ eq-eqb s s refl in let no : true ≡ false = sym (or_first it) ∙ e in cc)
   where
@@ -146,21 +148,27 @@ slots_empty w v r (both t p o child u lives is e) = λ s none calm.
     let middle : World = record w { slots = slice_set w.slots t o } in
     born_empty middle v r child u is e s (set_empty w middle Done t p o lives refl s none refl) calm
 
+slots_long : (w v : World) (r : Reply) → Slots w v r → length v.slots ≡ length w.slots
+slots_long w v r (same e) = ap length e
+slots_long w v r (set t p o lives e) = ap length e ∙ length-set w.slots t o
+slots_long w v r (born t o is e) = ap length e ∙ length-set w.slots t o
+slots_long w v r (both t p o child u lives is e) = ap length e ∙ length-set (slice_set w.slots t o) child u ∙ length-set w.slots t o
+
 module _ (w : World) where
   quiet : (x : Step) (r : Refusal) → Keeps w x (refuses w r)
-  quiet x r = record { comes = λ k. came w w k refl; harts = λ k other. same_harts w w refl k; files = λ e. refl; empty = same_empty w w (Refused r) refl }
+  quiet x r = record { comes = λ k. came w w k refl; harts = λ k other. same_harts w w refl k; files = λ e. refl; empty = same_empty w w (Refused r) refl; places = refl }
 
   -- neither changes
   still : (x : Step) (v : World) (r : Reply) → v.harts ≡ w.harts → v.files ≡ w.files → Slots w v r → Keeps w x (answers v r)
-  still x v r harts files slots = record { comes = λ k. came w v k (same_harts w v harts k).0; harts = λ k other. same_harts w v harts k; files = λ e. files; empty = slots_empty w v r slots }
+  still x v r harts files slots = record { comes = λ k. came w v k (same_harts w v harts k).0; harts = λ k other. same_harts w v harts k; files = λ e. files; empty = slots_empty w v r slots; places = slots_long w v r slots }
 
   -- the step writes back
   writing : (x : Step) (v : World) (r : Reply) → v.harts ≡ w.harts → writes_back x r ≡ true → Slots w v r → Keeps w x (answers v r)
-  writing x v r harts writes slots = record { comes = λ k. came w v k (same_harts w v harts k).0; empty = slots_empty w v r slots; harts = λ k other. same_harts w v harts k; files = λ e. absurd (let no : true ≡ false = sym writes ∙ e in cc) }
+  writing x v r harts writes slots = record { comes = λ k. came w v k (same_harts w v harts k).0; empty = slots_empty w v r slots; places = slots_long w v r slots; harts = λ k other. same_harts w v harts k; files = λ e. absurd (let no : true ≡ false = sym writes ∙ e in cc) }
 
   -- the step moves a hart
   moving : (x : Step) (v : World) (r : Reply) (h : ℕ) (after : Hart) → v.harts ≡ slice_set w.harts h after → moved_hart x r ≡ Some h → Comes w h after.slot → (writes_back x r ≡ false → v.files ≡ w.files) → Slots w v r → Keeps w x (answers v r)
-  moving x v r h after e moves comes files slots = record { comes = set_comes w v h after e comes; empty = slots_empty w v r slots; harts = λ k other. other_hart w v h after e k (λ same. other (moves ∙ same)); files = files }
+  moving x v r h after e moves comes files slots = record { comes = set_comes w v h after e comes; empty = slots_empty w v r slots; places = slots_long w v r slots; harts = λ k other. other_hart w v h after e k (λ same. other (moves ∙ same)); files = files }
 
   ending : (x : Step) (v : World) (r : Reply) (h : ℕ) (after : Hart) → v.harts ≡ slice_set w.harts h after → moved_hart x r ≡ Some h → after.slot ≡ None → writes_back x r ≡ true → Slots w v r → Keeps w x (answers v r)
   ending x v r h after e moves idle writes slots = moving x v r h after e moves (λ s is. absurd (let no = sym idle ∙ is in cc)) (λ f. absurd (let no : true ≡ false = sym writes ∙ f in cc)) slots
@@ -168,7 +176,7 @@ module _ (w : World) where
   -- a hart gets another buffer
   filling : (x : Step) (v : World) (r : Reply) (h : ℕ) (before after : Hart) → slice_get w.harts h ≡ Some before → after.slot ≡ before.slot → after.phase ≡ before.phase → v.harts ≡ slice_set w.harts h after
       → v.files ≡ w.files → Slots w v r → Keeps w x (answers v r)
-  filling x v r h before after there slot phase e files slots = record { comes = λ k. came w v k (like_hart w v h before after there slot phase e k).0; empty = slots_empty w v r slots; harts = λ k other. like_hart w v h before after there slot phase e k; files = λ f. files }
+  filling x v r h before after there slot phase e files slots = record { comes = λ k. came w v k (like_hart w v h before after there slot phase e k).0; empty = slots_empty w v r slots; places = slots_long w v r slots; harts = λ k other. like_hart w v h before after there slot phase e k; files = λ f. files }
 
   image_keeps : (x : Step) (s : ℕ) (ls : List LoadSegment) (b : Bool) → Keeps w x (started_unless w s ls b)
   image_keeps x s ls true = quiet x _
@@ -269,6 +277,7 @@ module _ (w : World) where
         (ap slot_at is ∙ stale_slot slots (slice_get (o.world).harts n) ∙ before.0, ap (option_map (λ (hart : Hart). hart.phase)) is ∙ stale_phase slots (slice_get (o.world).harts n) ∙ before.1);
     files = k.files;
     empty = k.empty;
+    places = k.places;
   }
 
   pub step_keeps : (x : Step) → Keeps w x (step w x)

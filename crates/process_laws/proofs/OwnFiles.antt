@@ -1,13 +1,14 @@
 -- What its own step writes back to files.
-use Rattle.std.proofs.Common.{◌≡◌, ℕ, Bool, true, false, ◌+◌, refl, sym, subst, List, Option, None, Some}
+use Rattle.std.proofs.Common.{◌≡◌, ℕ, Bool, true, false, ◌+◌, refl, sym, subst, List, Option, None, Some, ◌<◌, ◌≤◌, arith}
 use Rattle.std.specs.Prelude.{Result, Ok, Err}
+use Rattle.std.proofs.lemmas.Bool.Decides.{nat_tests}
 use Rattle.std.proofs.lemmas.Option.{same_Some}
 use Rattle.process_laws.proofs.FilesWritten.{end_written, none_written, unmap_written}
 use Rattle.process_laws.proofs.Granting.{IsSound}
 use Rattle.process_laws.proofs.Kept.{step_keeps}
 use Rattle.process_laws.proofs.OnHarts.{kernel_good}
 use Rattle.process_laws.proofs.PageBytes.{AllSized}
-use Rattle.process_laws.specs.Words.{is_end, IsOn, maker, Written}
+use Rattle.process_laws.specs.Words.{goes_back, is_end, IsOn, maker, Written}
 use Rattle.process_model.specs.Bytes.{pages_for}
 use Rattle.process_model.specs.Calls.{replaced, replaced_unless, unmapped_to}
 use Rattle.process_model.specs.Images.{image_loads, LoadSegment}
@@ -25,53 +26,74 @@ use Rattle.sv39_entry.specs.Address.{page_of}
 use Rattle.process_laws.proofs.OwnSteps.{Own, owns, same_process, step_files}
 
 module _ (w : World) (h s : ℕ) (p : Process) (on : IsOn w h s p) (sound : IsSound p) (sized : AllSized p.settled) where
-  abbrev Good : Outcome → Type 0
-  Good o = Written p w.files (o.world).files
+  abbrev Good : Step → Outcome → Type 0
+  Good x o = Written x p w.files (o.world).files
 
-  as_it_was : (r : Refusal) → Good (refuses w r)
-  as_it_was r = none_written p w.files
+  as_it_was : (x : Step) (r : Refusal) → Good x (refuses w r)
+  as_it_was x r = none_written x p w.files
 
-  hole_files : (t from end : ℕ) (m : Region) (b : Bool) → mapping_around p.mappings from end ≡ Some m → Good (unmapped_to w t (unmapped_unless w.files p m from end b))
-  hole_files t from stop m true at = none_written p w.files
-  hole_files t from stop m false at = unmap_written p sized sound.ordered m from stop w.files at
+  -- munmap
 
-  range_files : (t from end : ℕ) (o : Option Region) → mapping_around p.mappings from end ≡ o → Good (unmapped_to w t (unmapped_in w.files p from end o))
-  range_files t from stop None at = none_written p w.files
-  range_files t from stop (Some m) at = hole_files t from stop m _ at
+  module _ (address len : ℕ) where
+    abbrev munmap : Step
+    munmap = step_of.Munmap h address len
 
-  if_files : (t from end : ℕ) (b : Bool) → Good (unmapped_to w t (unmapped_if w.files p from end b))
-  if_files t from stop false = none_written p w.files
-  if_files t from stop true = range_files t from stop _ refl
+    abbrev from : ℕ
+    from = page_of address
 
-  munmap_files : (t address len : ℕ) → Good (unmapped_to w t (unmapped w.files p address len))
-  unfolding unmapped
-  munmap_files t address len = if_files t (page_of address) (page_of address + pages_for len) _
+    abbrev stop : ℕ
+    stop = from + pages_for len
 
-  unmaps : (address len : ℕ) → Good (plain_step w (step_of.Munmap h address len))
-  unmaps address len = kernel_good w Good as_it_was h true _ (λ hart t q at here. subst (λ (z : Process). Good (unmapped_to w t (unmapped w.files z address len))) (same_process w h s p on t q at here) (munmap_files t address len))
+    in_range : (page : ℕ) → from ≤ page → page < stop → goes_back munmap page ≡ true
+    in_range page start before = grind (arith, nat_tests, start, before)
 
-  replace_files : (t : ℕ) (ls : List LoadSegment) (b : Bool) → Good (replaced_unless w t p ls b)
-  replace_files t ls true = none_written p w.files
-  replace_files t ls false = end_written p sized sound.ordered w.files
+    hole_files : (t : ℕ) (m : Region) (b : Bool) → mapping_around p.mappings from stop ≡ Some m → Good munmap (unmapped_to w t (unmapped_unless w.files p m from stop b))
+    hole_files t m true at = none_written munmap p w.files
+    hole_files t m false at = unmap_written munmap p sized sound.ordered m from stop in_range w.files at
 
-  exec_files : (t : ℕ) (r : Result (List LoadSegment) BadImage) → Good (replaced w t p r)
-  exec_files t (Err e) = none_written p w.files
-  exec_files t (Ok ls) = replace_files t ls _
+    range_files : (t : ℕ) (o : Option Region) → mapping_around p.mappings from stop ≡ o → Good munmap (unmapped_to w t (unmapped_in w.files p from stop o))
+    range_files t None at = none_written munmap p w.files
+    range_files t (Some m) at = hole_files t m _ at
 
-  execs : (image : Image) → Good (plain_step w (step_of.Exec h image))
-  execs image = kernel_good w Good as_it_was h true _ (λ hart t q at here. subst (λ (z : Process). Good (replaced w t z (image_loads image))) (same_process w h s p on t q at here) (exec_files t (image_loads image)))
+    if_files : (t : ℕ) (b : Bool) → Good munmap (unmapped_to w t (unmapped_if w.files p from stop b))
+    if_files t false = none_written munmap p w.files
+    if_files t true = range_files t _ refl
 
-  to_step : (x : Step) → Good (plain_step w x) → Good (step w x)
-  to_step x = subst (Written p w.files) (sym (step_files w x))
+    munmap_files : (t : ℕ) → Good munmap (unmapped_to w t (unmapped w.files p address len))
+    unfolding unmapped
+    munmap_files t = if_files t _
 
-  calm_files : (x : Step) → maker x ≡ Some h → is_end (step w x).reply ≡ false → Good (step w x)
-  calm_files (step_of.Munmap k address len) e lives = subst (λ n. Good (step w (step_of.Munmap n address len))) (sym (same_Some k h e)) (to_step (step_of.Munmap h address len) (unmaps address len))
-  calm_files (step_of.Exec k image) e lives = subst (λ n. Good (step w (step_of.Exec n image))) (sym (same_Some k h e)) (to_step (step_of.Exec h image) (execs image))
-  calm_files x e lives = subst (Written p w.files) (sym ((step_keeps w x).files lives)) (none_written p w.files)
+    unmaps : Good munmap (plain_step w munmap)
+    unmaps = kernel_good w (Good munmap) (as_it_was munmap) h true _ (λ hart t q at here. subst (λ (z : Process). Good munmap (unmapped_to w t (unmapped w.files z address len))) (same_process w h s p on t q at here) (munmap_files t))
 
-  files_by : (x : Step) → maker x ≡ Some h → Own w h s x p (step w x) → Good (step w x)
-  files_by x e (Own.alive q there lives k) = calm_files x e lives
-  files_by x e (Own.gone there is at written) = subst (Written p w.files) (sym written) (end_written p sized sound.ordered w.files)
+  -- exec
 
-  pub own_files : (x : Step) → maker x ≡ Some h → Written p w.files ((step w x).world).files
-  own_files x e = files_by x e (owns w h s p on sound x e)
+  module _ (image : Image) where
+    abbrev exec : Step
+    exec = step_of.Exec h image
+
+    replace_files : (t : ℕ) (ls : List LoadSegment) (b : Bool) → Good exec (replaced_unless w t p ls b)
+    replace_files t ls true = none_written exec p w.files
+    replace_files t ls false = end_written exec p sized sound.ordered (λ page. refl) w.files
+
+    exec_files : (t : ℕ) (r : Result (List LoadSegment) BadImage) → Good exec (replaced w t p r)
+    exec_files t (Err e) = none_written exec p w.files
+    exec_files t (Ok ls) = replace_files t ls _
+
+    execs : Good exec (plain_step w exec)
+    execs = kernel_good w (Good exec) (as_it_was exec) h true _ (λ hart t q at here. subst (λ (z : Process). Good exec (replaced w t z (image_loads image))) (same_process w h s p on t q at here) (exec_files t (image_loads image)))
+
+  to_step : (x : Step) → Good x (plain_step w x) → Good x (step w x)
+  to_step x = subst (Written x p w.files) (sym (step_files w x))
+
+  -- an end writes all back, and any other step what it says
+  files_by : (x : Step) → ((page : ℕ) → goes_back x page ≡ true) → (is_end (step w x).reply ≡ false → Good x (step w x)) → Own w h s x p (step w x) → Good x (step w x)
+  files_by x all calm (Own.alive q there lives k) = calm lives
+  files_by x all calm (Own.gone there is at written) = subst (Written x p w.files) (sym written) (end_written x p sized sound.ordered all w.files)
+
+  pub own_files : (x : Step) → maker x ≡ Some h → Written x p w.files ((step w x).world).files
+  own_files (step_of.Munmap k address len) e = subst (λ n. Good (step_of.Munmap n address len) (step w (step_of.Munmap n address len))) (sym (same_Some k h e)) (to_step (step_of.Munmap h address len) (unmaps address len))
+  own_files (step_of.Exec k image) e = files_by (step_of.Exec k image) (λ page. refl)
+      (λ lives. subst (λ n. Good (step_of.Exec n image) (step w (step_of.Exec n image))) (sym (same_Some k h e)) (to_step (step_of.Exec h image) (execs image)))
+      (owns w h s p on sound (step_of.Exec k image) e)
+  own_files x e = files_by x (λ page. refl) (λ lives. subst (Written x p w.files) (sym ((step_keeps w x).files lives)) (none_written x p w.files)) (owns w h s p on sound x e)

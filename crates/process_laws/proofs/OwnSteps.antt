@@ -1,5 +1,5 @@
 -- What its own step makes of a process, beside its bytes.
-use Rattle.std.proofs.Common.{pos, ◌≡◌, ◌≢◌, ℕ, ℤ, Bool, true, false, cond, ◌+◌, ◌-◌, ◌*◌, ◌%◌, inl, inr, refl, sym, ap, subst, ◌∙◌, arith, List, [], ◌∷◌, length, Option, None, Some, Bor}
+use Rattle.std.proofs.Common.{pos, ◌≡◌, ◌≢◌, ℕ, ℤ, Bool, true, false, cond, ◌+◌, ◌-◌, ◌*◌, ◌%◌, inl, inr, refl, sym, ap, subst, ◌∙◌, arith, List, [], ◌∷◌, length, Option, None, Some, Bor, ◌||◌}
 use Rattle.std.specs.Prelude.{nat_abs, Result, Ok, Err, slice_get, unwrap_or}
 use Rattle.std.specs.Ordering.{eq_by_cmp, nat_cmp}
 use Rattle.std.specs.FinMap.Entries.{find}
@@ -7,7 +7,7 @@ use Rattle.std.proofs.lemmas.Bool.{eq-eqb}
 use Rattle.std.proofs.lemmas.Option.{same_Some}
 use Rattle.process_laws.proofs.Copying.{in_so_far, out_so_far}
 use Rattle.process_laws.proofs.EveryChange.{has_place}
-use Rattle.process_laws.proofs.Givens.{image_given, image_idle, image_sized, image_unmarked, mapped_given, mapped_vacant, mapping_given, mark_at, resized_given, resized_size, resized_vacant, unmapped_given}
+use Rattle.process_laws.proofs.Givens.{image_given, image_idle, image_sized, image_unmarked, mapped_above, mapped_given, mapped_vacant, mapping_given, mark_at, resized_base, resized_given, resized_size, resized_vacant, unmapped_above, unmapped_given, image_based}
 use Rattle.process_laws.proofs.Going.{At, put_at, step_at}
 use Rattle.process_laws.proofs.Granting.{IsSound}
 use Rattle.process_laws.proofs.Grants.{inside_released, mapped_same, outside_settled, resized_same, unmapped_same}
@@ -18,7 +18,7 @@ use Rattle.process_laws.proofs.Running.{set_lives, step_process, step_reply}
 use Rattle.process_laws.proofs.Untouched.{free_is_empty}
 use Rattle.process_laws.specs.Moments.{Moment, slot_on}
 use Rattle.process_laws.specs.Headline.{Becomes}
-use Rattle.process_laws.specs.Pages.{grant_in, has_mark, has_some_of, has_stored_mark, image_grant, image_size, is_between, is_remapped, is_store, is_store_at, is_stored_to, mapping_grant, size_after}
+use Rattle.process_laws.specs.Pages.{grant_in, has_mark, has_some_of, has_stored_mark, image_grant, image_size, is_between, is_remapped, is_store, is_store_at, is_stored_to, mapping_grant, size_after, has_fork_mark}
 use Rattle.process_laws.specs.Words.{is_end, is_fault, IsMade, IsOn, maker}
 use Rattle.process_model.specs.Around.{Progress}
 use Rattle.process_model.specs.Bytes.{pages_for}
@@ -31,7 +31,7 @@ use Rattle.process_model.specs.Images.{image_loads, LoadSegment}
 use Rattle.process_model.specs.Loading.{process_of}
 use Rattle.process_model.specs.Mappings.{all_written_back, map_refusal, mapped, mapped_unless, mapping_around, mapping_of, mapping_place, unmapped, unmapped_if, unmapped_in, unmapped_unless}
 use Rattle.process_model.specs.PageMap.{each_value, get}
-use Rattle.process_model.specs.Process.{Page, Pending, Process, regions, without_pending}
+use Rattle.process_model.specs.Process.{grants_write, Page, Pending, Process, regions, without_pending}
 use Rattle.process_model.specs.Regions.{first_rule, Region, region_at}
 use Rattle.process_model.specs.Residence.{access_answer, child_of, marked, marked_page, with_page}
 use Rattle.process_model.specs.Service.{around, begun, ended, faulted, is_dry, served, served_or_ended, told, with_progress, with_served}
@@ -64,7 +64,7 @@ pub becomes_as : (m n : Moment) (h : ℕ) (p q : Process) → n.step ≡ m.step 
 becomes_as m n h p q step reply k =
     let told = subst (λ r. Becomes (record { before = m.before; step = m.step; reply = r; after = m.after }) h p q) (sym reply) k in
     let j = subst (λ x. Becomes (record { before = m.before; step = x; reply = n.reply; after = m.after }) h p q) (sym step) told in
-    record { waits = j.waits; stays = j.stays; remapped = j.remapped; vacant = j.vacant; forked = j.forked; stored = j.stored; cleared = j.cleared; size = j.size; old_size = j.old_size }
+    record { waits = j.waits; stays = j.stays; remapped = j.remapped; vacant = j.vacant; below = j.below; forked = j.forked; unforked = j.unforked; base = j.base; stored = j.stored; cleared = j.cleared; size = j.size; old_size = j.old_size }
 
 -- marks change no file
 
@@ -106,7 +106,10 @@ module _ (w : World) (h s : ℕ) (p : Process) (on : IsOn w h s p) (x : Step) wh
     stays = λ page out. (ap (λ rs. grant_in (region_at rs page) page) f.same, f.stored page);
     remapped = λ page e. absurd (let no : true ≡ false = sym e ∙ none page in cc);
     vacant = λ page e. absurd (let no : true ≡ false = sym e ∙ none page in cc);
+    below = λ page e. absurd (let no : true ≡ false = sym e ∙ none page in cc);
     forked = λ other. f.forked;
+    unforked = λ page out. f.kept page;
+    base = inl f.base;
     stored = f.anew;
     cleared = λ image e is. absurd (let no : true ≡ false = sym (ap (λ y. is_remapped y r 0) e ∙ ap (λ t. is_remapped (step_of.Exec h image) t 0) is) ∙ none 0 in cc);
     size = ap pos f.size ∙ sym same;
@@ -140,19 +143,19 @@ module _ (w : World) (h s : ℕ) (p : Process) (on : IsOn w h s p) (x : Step) wh
   -- accesses
 
   fault_fate : (hart : Hart) (a : service.Asked) (cause : ℕ) → Calm (Fault cause) → Fate (told w h hart s (faulted p a cause))
-  fault_fate hart a cause still = further _ _ _ refl refl refl still (λ n e. absurd cc) (record { same = refl; size = refl; forked = λ page e. e; stored = λ page e. e; anew = λ page e. inl e })
+  fault_fate hart a cause still = further _ _ _ refl refl refl still (λ n e. absurd cc) (record { same = refl; size = refl; base = refl; kept = λ page e. inl e; forked = λ page e. e; stored = λ page e. e; anew = λ page e. inl e })
 
   answer_fate : (v : World) (r : Reply) (kind : Access) (address width value : ℕ) (page : Page) → v.slots ≡ (with_process w s (without_pending (with_page p (page_of address) (access_answer kind page (address % 4096) width value).1))).slots
       → is_end r ≡ false → false ≡ is_fault r → Calm r → ((n : ℕ) → r ≢ OldSize n) → get p.settled (page_of address) ≡ Some page → Fate (answers v r)
   answer_fate v r kind address width value page e lives calm still other there =
       let f = answer_further (is_stored_to p x) p (page_of address) page kind (address % 4096) width value there in
-      further v r (without_pending (with_page p (page_of address) (access_answer kind page (address % 4096) width value).1)) e lives calm still other (record { same = f.same; size = f.size; forked = f.forked; stored = f.stored; anew = f.anew })
+      further v r (without_pending (with_page p (page_of address) (access_answer kind page (address % 4096) width value).1)) e lives calm still other (record { same = f.same; size = f.size; base = f.base; kept = f.kept; forked = f.forked; stored = f.stored; anew = f.anew })
 
   -- service
 
   serve_or : (hart : Hart) (a : Pending) (r : Result Progress Rule) → slice_get w.harts h ≡ Some hart → Calm Ready → FurtherIfOk (is_stored_to p x) p r → Fate (served_or_ended w h hart s p a r)
   serve_or hart a (Err r) there still FurtherIfOk.stopped = ends hart _ there refl
-  serve_or hart a (Ok g) there still (FurtherIfOk.came f) = further _ _ (with_served g a).process refl refl refl still (λ n e. absurd cc) (record { same = f.same; size = f.size; forked = f.forked; stored = f.stored; anew = f.anew })
+  serve_or hart a (Ok g) there still (FurtherIfOk.came f) = further _ _ (with_served g a).process refl refl refl still (λ n e. absurd cc) (record { same = f.same; size = f.size; base = f.base; kept = f.kept; forked = f.forked; stored = f.stored; anew = f.anew })
 
   serve_fate : (hart : Hart) (o : Option Pending) → slice_get w.harts h ≡ Some hart → Calm Ready → ((a : Pending) → o ≡ Some a → is_store a.access ≡ true → is_stored_to p x (page_of a.address) ≡ true) → Fate (served w h hart s p o)
   serve_fate hart None there still goes = quiet _
@@ -169,7 +172,7 @@ module _ (w : World) (h s : ℕ) (p : Process) (on : IsOn w h s p) (x : Step) wh
   out_fate c (Some r) still idle f = further _ _ (c.progress).process refl refl (ap is_unserved_access idle) still (λ n e. absurd cc) f
 
   begun_further : (may : ℕ → Bool) (q : Process) → Further may (without_pending p) q → Further may p q
-  begun_further may q f = record { same = f.same; size = f.size; forked = f.forked; stored = f.stored; anew = f.anew }
+  begun_further may q f = record { same = f.same; size = f.size; base = f.base; kept = f.kept; forked = f.forked; stored = f.stored; anew = f.anew }
 
   copy_in_fate : (address n : ℕ) → ((r : Reply) → Calm r) → ((q : Process) → Further (λ page. false) p q → Further (is_stored_to p x) p q) → Fate (told_in w s (copied_in (around w s) (begun w (without_pending p)) address n))
   copy_in_fate address n still may =
@@ -203,6 +206,19 @@ marked_stores f same (e ∷ es) page = mark_cond (eq_by_cmp nat_cmp page e.0) (f
 fork_stored : (p : Process) (page : ℕ) → has_stored_mark (marked p) page ≡ has_stored_mark p page
 fork_stored p page = marked_stores (marked_page p) (λ n x. refl) p.settled.entries page
 
+kept_cond : (b : Bool) (x y : Page) (o u : Option Page) → (y.fork_mark ≡ true → x.fork_mark ≡ true) → (has_mark (λ z. z.fork_mark) u ≡ true → has_mark (λ z. z.fork_mark) o ≡ true)
+    → has_mark (λ z. z.fork_mark) (cond b (Some y) u) ≡ true → has_mark (λ z. z.fork_mark) (cond b (Some x) o) ≡ true
+kept_cond true x y o u e f is = e is
+kept_cond false x y o u e f is = f is
+
+marks_kept : (f : ℕ → Page → Page) → ((n : ℕ) (x : Page) → x.fork_mark ≡ true → (f n x).fork_mark ≡ true) → (es : List (ℕ × Page)) (page : ℕ)
+    → has_mark (λ z. z.fork_mark) (find nat_cmp page es) ≡ true → has_mark (λ z. z.fork_mark) (find nat_cmp page (each_value f es)) ≡ true
+marks_kept f keeps [] page is = is
+marks_kept f keeps (e ∷ es) page is = kept_cond (eq_by_cmp nat_cmp page e.0) (f e.0 e.1) e.1 (find nat_cmp page (each_value f es)) (find nat_cmp page es) (keeps e.0 e.1) (marks_kept f keeps es page) is
+
+fork_kept : (p : Process) (page : ℕ) → has_fork_mark p page ≡ true → has_fork_mark (marked p) page ≡ true
+fork_kept p page is = marks_kept (marked_page p) (λ n x e. ap (λ b. b || grants_write p n) e) p.settled.entries page is
+
 -- calls that change regions, fork and exec
 
 module _ (w : World) (h s : ℕ) (p : Process) (on : IsOn w h s p) where
@@ -217,6 +233,9 @@ module _ (w : World) (h s : ℕ) (p : Process) (on : IsOn w h s p) where
             (k.grants, λ e. mark_at (λ z. z.stored_mark) (get (without_pages p (pages_for size) (pages_for p.size)).settled page) (get p.settled page) k.settled ∙ e);
         remapped = λ page inside. resized_given p sound.ordered page (wanted_size p delta) none inside;
         vacant = λ page inside other. resized_vacant p sound.ordered page (wanted_size p delta) none inside;
+        below = λ page inside. resized_base p sound.ordered page (wanted_size p delta) none inside;
+        unforked = λ page out e. inl (mark_at (λ z. z.fork_mark) (get (without_pages p (pages_for size) (pages_for p.size)).settled page) (get p.settled page) (resized_same p size page out).settled ∙ e);
+        base = inl refl;
         forked = λ other page. released_mark (λ z. z.fork_mark) p (pages_for size) (pages_for p.size) page;
         stored = λ page e. inl (released_mark (λ z. z.stored_mark) p (pages_for size) (pages_for p.size) page e);
         cleared = λ image e is. absurd cc;
@@ -244,6 +263,9 @@ module _ (w : World) (h s : ℕ) (p : Process) (on : IsOn w h s p) where
         stays = λ page out. let k = mapped_same p m page (first_page first (pages_for len) page out) in (k.grants, λ e. e);
         remapped = λ page inside. mapped_given p sound.ordered page m (place_fits p (pages_for len) first at) (at_first page inside) ∙ mapping_given first (pages_for len) protection flags n page ∙ ap (λ k. Some (mapping_grant protection flags n (page - k))) (sym start);
         vacant = λ page inside other. inl (mapped_vacant p sound.ordered page m (place_fits p (pages_for len) first at) (at_first page inside));
+        below = λ page inside. mapped_above p sound.ordered page m (place_fits p (pages_for len) first at) (at_first page inside);
+        unforked = λ page out e. inl e;
+        base = inl refl;
         forked = λ other page e. e;
         stored = λ page e. inl e;
         cleared = λ image e is. absurd cc;
@@ -271,6 +293,9 @@ module _ (w : World) (h s : ℕ) (p : Process) (on : IsOn w h s p) where
           (k.grants, λ e. mark_at (λ z. z.stored_mark) (get (without_pages p first end).settled page) (get p.settled page) k.settled ∙ e);
       remapped = λ page inside. unmapped_given p sound.ordered page first end inside m around;
       vacant = λ page inside other. inr (unmapped_given p sound.ordered page first end inside m around);
+      below = λ page inside. unmapped_above p sound.ordered page first end inside m around;
+      unforked = λ page out e. inl (mark_at (λ z. z.fork_mark) (get (without_pages p first end).settled page) (get p.settled page) (unmapped_same p m (pages_for p.size) trapframe_page first end page (omega arith) out (sound.ordered).above around).settled ∙ e);
+      base = inl refl;
       forked = λ other page. released_mark (λ z. z.fork_mark) p first end page;
       stored = λ page e. inl (released_mark (λ z. z.stored_mark) p first end page e);
       cleared = λ image e is. absurd cc;
@@ -297,6 +322,9 @@ module _ (w : World) (h s : ℕ) (p : Process) (on : IsOn w h s p) where
     stays = λ page out. absurd cc;
     remapped = λ page inside. image_given w.counter ls page ∙ ap (λ r. image_grant r page) (sym loads);
     vacant = λ page inside other. absurd (other image refl);
+    below = λ page inside. refl;
+    unforked = λ page out. absurd cc;
+    base = inr (image, refl, image_based w.counter ls);
     forked = λ other page e. absurd (let no : true ≡ false = sym e ∙ (image_unmarked w.counter ls page).0 in cc);
     stored = λ page e. absurd (let no : true ≡ false = sym e ∙ (image_unmarked w.counter ls page).1 in cc);
     cleared = λ other e is. image_unmarked w.counter ls;
@@ -319,7 +347,10 @@ module _ (w : World) (h s : ℕ) (p : Process) (on : IsOn w h s p) where
     stays = λ page out. (refl, λ e. fork_stored p page ∙ e);
     remapped = λ page inside. absurd cc;
     vacant = λ page inside. absurd cc;
+    below = λ page inside. absurd cc;
     forked = λ other. absurd (other refl);
+    unforked = λ page out e. inl (fork_kept p page e);
+    base = inl refl;
     stored = λ page e. inl (sym (fork_stored p page) ∙ e);
     cleared = λ image e is. absurd cc;
     size = refl;
@@ -352,7 +383,7 @@ module _ (w : World) (h s : ℕ) (p : Process) (on : IsOn w h s p) where
       let x = step_of.Trap h in
       on_hart_good w (Own w h s x p) (quiet w h s p on x) h true _ _ _ (λ hart is _. its_good w (Own w h s x p) (quiet w h s p on x) h hart _ is
       (λ t q at here. its w h s p on x (λ t q. answers (with_hart (with_process w t (without_pending q)) h (record hart { phase = Enter0 })) Done) t q at here
-      (further w h s p on x (with_hart (with_process w s (without_pending p)) h (record hart { phase = Enter0 })) Done (without_pending p) refl refl refl ((λ page. refl), refl) (λ n e. absurd cc) (record { same = refl; size = refl; forked = λ page e. e; stored = λ page e. e; anew = λ page e. inl e }))))
+      (further w h s p on x (with_hart (with_process w s (without_pending p)) h (record hart { phase = Enter0 })) Done (without_pending p) refl refl refl ((λ page. refl), refl) (λ n e. absurd cc) (record { same = refl; size = refl; base = refl; kept = λ page e. inl e; forked = λ page e. e; stored = λ page e. e; anew = λ page e. inl e }))))
 
   answer_there : (hart : Hart) (kind : Access) (address width value : ℕ) (x : Step) → (page : Page) (t : ℕ) (q : Process) → slot_on w h ≡ Some t → process_in w t ≡ Some q → get q.settled (page_of address) ≡ Some page
       → get p.settled (page_of address) ≡ Some page

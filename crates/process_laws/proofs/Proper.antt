@@ -1,26 +1,32 @@
 -- What was so of a step that was made, and what replies tell.
-use Rattle.std.proofs.Common.{◌≡◌, ℕ, ℤ, Bool, true, false, not, ◌&&◌, ◌/◌, ◌%◌, ◌*◌, ◌≤◌, refl, sym, ap, subst, ◌∙◌, arith, [], ◌∷◌, Option, None, Some, length}
-use Rattle.std.specs.Prelude.{is_none, nat_le, option_map, slice_get}
-use Rattle.std.proofs.lemmas.Bool.{and_parts, eq-eqb, leb-true}
+use Rattle.std.proofs.Common.{◌≡◌, ℕ, ℤ, Bool, true, false, not, ◌&&◌, ◌/◌, ◌%◌, ◌*◌, ◌≤◌, refl, sym, ap, subst, ◌∙◌, arith, [], ◌∷◌, Option, None, Some, length, ◌<◌, ◌≢◌, ◌+◌}
+use Rattle.std.specs.Prelude.{is_none, nat_le, option_map, slice_get, is_some, nat_lt, ◌==◌}
+use Rattle.std.proofs.lemmas.Bool.{and_parts, eq-eqb, leb-true, lt-ltb}
 use Rattle.std.proofs.lemmas.Option.{same_Some}
 use Rattle.process_laws.proofs.OnHarts.{kernel_good, on_hart_good}
-use Rattle.process_laws.proofs.Running.{has_it, Ran, ran_on, was_made, step_reply}
+use Rattle.process_laws.proofs.Running.{has_it, Ran, ran_on, was_made, step_reply, hart_runs}
 use Rattle.process_laws.specs.Words.{Asked, Asks, Calls, CopiesBytes, hart_of, is_phase_for, IsIn, IsMade, IsOn}
+use Rattle.process_laws.proofs.Going.{At, put_at, step_at}
+use Rattle.process_laws.proofs.Kept.{none_on}
+use Rattle.process_laws.proofs.Possible.{stands}
+use Rattle.process_laws.specs.Moments.{slot_on}
+use Rattle.process_model.specs.declared.phase.Phase.TheVariants.{Idle, Kernel}
+use Rattle.sv39_entry.specs.Address.{trampoline_page}
 use Rattle.process_model.specs.Bytes.{is_width, pages_for}
 use Rattle.process_model.specs.Calls.{mapped_to}
 use Rattle.process_model.specs.Copies.{longest_copy}
 use Rattle.process_model.specs.Files.{is_writable}
-use Rattle.process_model.specs.Granted.{none_true}
-use Rattle.process_model.specs.Harts.{Hart, is_kernel, may_switch}
+use Rattle.process_model.specs.Granted.{map_granted, none_true}
+use Rattle.process_model.specs.Harts.{Hart, is_kernel, may_switch, entry_serves, phase_for, in_trampoline}
 use Rattle.process_model.specs.Mappings.{asks_write, is_bad_mapping, is_shared, map_refusal, mapped, mapped_unless, mapping_place, most_mappings}
 use Rattle.process_model.specs.Process.{Process}
 use Rattle.process_model.specs.Regions.{Region}
-use Rattle.process_model.specs.Steps.{plain_step, step}
-use Rattle.process_model.specs.World.{can_call, is_unserved, is_unserved_access, Outcome, process_of_slot, World}
+use Rattle.process_model.specs.Steps.{plain_step, step, advanced}
+use Rattle.process_model.specs.World.{can_call, is_unserved, is_unserved_access, Outcome, process_of_slot, World, always, answers, awaits_service, can_go_on, can_run, process_in, with_hart}
 use Rattle.process_model.specs.declared.phase.Phase.{Phase}
 use Rattle.process_model.specs.declared.step.Refusal.{Refusal}
 use Rattle.process_model.specs.declared.step.Refusal.TheVariants.{BadArgument, FileNotWritable, MappingsFull, NoRoom}
-use Rattle.process_model.specs.declared.step.Reply.TheVariants.{Exited, InFrame, MappedAt}
+use Rattle.process_model.specs.declared.step.Reply.TheVariants.{Exited, InFrame, MappedAt, Done}
 use Rattle.process_model.specs.declared.step.Step.{Step}
 use Rattle.process_model.specs.declared.step.Step.TheVariants as step_of
 
@@ -93,6 +99,53 @@ module _ (w : World) where
     call_quiet x (Calls.copy_out {address} {bytes}) made = quiet_by _ _ _ (ran_on w h _ _ _ _ (was_made w (step_of.CopyOut h address bytes) made))
     call_quiet x (Calls.exit {status}) made = quiet_by _ _ _ (ran_on w h _ _ _ _ (was_made w (step_of.Exit h status) made))
 
+  -- nor does a hart go on from the kernel
+  pub next_quiet : (h s : ℕ) (p : Process) → IsOn w h s p → IsIn w h Kernel → IsMade (step w (step_of.Next h)).reply → is_unserved_access p.pending ≡ false
+  next_quiet h s p on kernel made =
+      let r = ran_on w h true (can_go_on w) always (advanced w h) (was_made w (step_of.Next h) made) in
+      let k = stands w h Kernel kernel in
+      let same : k.hart ≡ r.hart = same_Some k.hart r.hart (sym k.there ∙ r.there) in
+      let in_kernel : is_kernel (r.hart).phase ≡ true = ap (λ (x : Hart). is_kernel x.phase) (sym same) ∙ ap is_kernel k.in_phase in
+      let slot : (r.hart).slot ≡ Some s = has_it w h s r.hart on.there r.there in
+      ap is_unserved (sym on.lives) ∙ ap (λ o. is_unserved (process_of_slot w o)) (sym slot) ∙ not_both (is_kernel (r.hart).phase) (awaits_service w r.hart) in_kernel (and_parts _ _ r.can).1
+    where
+      not_both : (a b : Bool) → a ≡ true → not (a && b) ≡ true → b ≡ false
+      not_both true true e f = absurd cc
+      not_both true false e f = refl
+      not_both false b e f = absurd cc
+
+  -- ---- switches
+
+  some_is : (o : Option Process) → is_some o ≡ true → (p : Process) × (o ≡ Some p)
+  some_is None e = absurd cc
+  some_is (Some p) e = (p, refl)
+
+  pub switch_was : (h s : ℕ) → IsMade (step w (step_of.Switch h (Some s))).reply → (p : Process) × (process_in w s ≡ Some p) × ((k : ℕ) → slot_on w k ≢ Some s)
+  switch_was h s made =
+      let r = ran_on w h _ _ _ _ (was_made w (step_of.Switch h (Some s)) made) in
+      let run : can_run w (Some s) ≡ true = (and_parts (may_switch (r.hart).phase) (can_run w (Some s)) r.can).1 in
+      let parts = and_parts (is_some (process_in w s)) _ run in
+      let it = some_is (process_in w s) parts.0 in
+      (it.0, it.1, none_on w.harts s (not_true _ parts.1))
+
+  pub switch_off : (h : ℕ) → IsMade (step w (step_of.Switch h None)).reply → (slot_on (step w (step_of.Switch h None)).world h ≡ None) × IsIn (step w (step_of.Switch h None)).world h Idle
+  switch_off h made =
+      let r = ran_on w h true (λ hart. may_switch hart.phase && can_run w None) always (λ hart. answers (with_hart w h (record hart { phase = phase_for None; slot = None })) Done) (was_made w (step_of.Switch h None) made) in
+      let hart = record r.hart { phase = Idle; slot = None } in
+      let at : At (with_hart w h hart) h None Idle = put_at w h r.hart hart r.there in
+      let there = step_at w (step_of.Switch h None) h None Idle (subst (λ (o : Outcome). At o.world h None Idle) (sym r.is) at) in
+      (there.on, there.is_in)
+
+  -- ---- the trampoline's code
+
+  pub fetches : (h offset : ℕ) (phase : Phase) → IsIn w h phase → in_trampoline phase ≡ true → offset % 4 ≡ 0 → offset < 4096 → IsMade (step w (step_of.TrampolineFetch h offset None)).reply
+  fetches h offset phase in_phase runs whole low e f =
+      let k = stands w h phase in_phase in
+      let fits : (offset % 4 == 0 && nat_lt offset 4096) ≡ true = rw (eq-eqb (offset % 4) 0 whole, lt-ltb offset 4096 low) refl in
+      let is = hart_runs w h (offset % 4 == 0 && nat_lt offset 4096) (λ hart. in_trampoline hart.phase) (λ hart. entry_serves w.policy hart (4096 * trampoline_page + offset) None) (λ hart. answers w (InFrame 0)) k.hart k.there fits (ap in_trampoline k.in_phase ∙ runs) refl in
+      let no = sym f ∙ step_reply w (step_of.TrampolineFetch h offset None) ∙ ap (λ (o : Outcome). o.reply) is in
+      absurd cc
+
   -- ---- replies
 
   pub exit_tells : (h : ℕ) (status code : ℤ) → (step w (step_of.Exit h status)).reply ≡ Exited code → code ≡ status
@@ -103,13 +156,16 @@ module _ (w : World) where
 
   module _ (len protection flags n at : ℕ) where
     abbrev MapsRight : Type 0
-    MapsRight = (at % 4096 ≡ 0) × (flags ≡ 1 → protection / 2 % 2 ≡ 1 → is_writable (slice_get w.files n) ≡ true)
+    MapsRight = (at % 4096 ≡ 0) × (is_bad_mapping w.files len protection flags n ≡ false) × (flags ≡ 1 → protection / 2 % 2 ≡ 1 → is_writable (slice_get w.files n) ≡ true)
 
     writable_by : (a b c : Bool) → (a && b && not c) ≡ false → a ≡ true → b ≡ true → c ≡ true
     writable_by true true true e f g = refl
     writable_by true true false e f g = absurd cc
     writable_by true false c e f g = absurd cc
     writable_by false b c e f g = absurd cc
+
+    is_good : (p : Process) → map_refusal w.files p len protection flags n ≡ None → is_bad_mapping w.files len protection flags n ≡ false
+    is_good p none = (map_granted w.files p len protection flags n none).0
 
     may_be_written : (p : Process) → map_refusal w.files p len protection flags n ≡ None → flags ≡ 1 → protection / 2 % 2 ≡ 1 → is_writable (slice_get w.files n) ≡ true
     may_be_written p none shared writes =
@@ -123,7 +179,7 @@ module _ (w : World) where
 
     mapped_right : (t : ℕ) (p : Process) (m : Region) (o : Option Refusal) → map_refusal w.files p len protection flags n ≡ o → (mapped_to w t (mapped_unless p m o)).reply ≡ MappedAt at → MapsRight
     mapped_right t p m (Some e) none is = absurd cc
-    mapped_right t p m None none is = (let same : 4096 * m.first ≡ at = cc in omega (arith, same), may_be_written p none)
+    mapped_right t p m None none is = (let same : 4096 * m.first ≡ at = cc in omega (arith, same), is_good p none, may_be_written p none)
 
     map_right : (t : ℕ) (p : Process) → (mapped_to w t (mapped w.files p len protection flags n)).reply ≡ MappedAt at → MapsRight
     unfolding mapped

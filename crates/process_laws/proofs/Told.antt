@@ -24,7 +24,7 @@ use Rattle.process_laws.proofs.Children.{child_is}
 use Rattle.process_laws.proofs.OneHart.{always_one, one_after, OneEach}
 use Rattle.process_laws.proofs.OwnFiles.{own_files}
 use Rattle.process_laws.proofs.OwnSteps.{becomes_as, Own, owns, told_as}
-use Rattle.process_laws.proofs.Proper.{access_wide, call_quiet, copy_few, exit_tells, fetch_tells, map_tells, step_in_phase}
+use Rattle.process_laws.proofs.Proper.{access_wide, call_quiet, copy_few, exit_tells, fetch_tells, fetches, map_tells, next_quiet, step_in_phase, switch_off, switch_was}
 use Rattle.process_laws.proofs.Possible.{access_made, calls_possible, copy_in_made, copy_out_made}
 use Rattle.process_laws.proofs.Refused.{refused_same}
 use Rattle.process_laws.proofs.Replies.{bad_exec, bad_start, served_waits, serves_it, step_hosted, step_suits}
@@ -41,6 +41,7 @@ use Rattle.process_laws.specs.Words.{Asked, Asks, Begins, copied, CopiesBytes, F
 use Rattle.process_model.specs.Copies.{longest_copy}
 use Rattle.process_model.specs.Files.{File, is_writable}
 use Rattle.process_model.specs.Images.{image_loads}
+use Rattle.process_model.specs.Mappings.{is_bad_mapping}
 use Rattle.process_model.specs.Process.{Process, regions}
 use Rattle.process_model.specs.Steps.{plain_step, run, step}
 use Rattle.process_model.specs.World.{booted, free_slot, Outcome, process_in, World}
@@ -50,7 +51,7 @@ use Rattle.process_model.specs.declared.image.Image.{Image}
 use Rattle.process_model.specs.declared.phase.Phase.TheVariants.{Enter0, Idle, Kernel}
 use Rattle.process_model.specs.declared.step.Reply.TheVariants.{Done, Ended, Exited, Forked, InFrame, MappedAt, Ready, Started, Value}
 use Rattle.process_model.specs.declared.step.Step.{Step}
-use Rattle.process_model.specs.declared.step.Step.TheVariants.{CopyIn, CopyOut, Exec, Exit, Fork, Serve, Start, Store}
+use Rattle.process_model.specs.declared.step.Step.TheVariants.{CopyIn, CopyOut, Exec, Exit, Fork, Next, Serve, Start, Store, Switch}
 use Rattle.sv39_entry.specs.declared.access.Access.TheVariants as access
 use Rattle.sv39_entry.specs.declared.rule.Rule.{Rule}
 use Rattle.sv39_entry.specs.declared.rule.Rule.TheVariants.{NoFrame}
@@ -79,7 +80,7 @@ module _ (w : World) (x : Step) where
         children : (t : ℕ) → x ≡ Fork h → (step w x).reply ≡ Forked t → (free_slot w ≡ Some t) × (c : Process) × (process_in (step w x).world t ≡ Some c) × IsChild p c
         children t is = subst (λ (y : Step). (step w y).reply ≡ Forked t → (free_slot w ≡ Some t) × (c : Process) × (process_in (step w y).world t ≡ Some c) × IsChild p c) (sym is) (child_is w h s p on t)
 
-        by : Own w h s x p (step w x) → Written p w.files ((step w x).world).files → ChangesOwn m h s p
+        by : Own w h s x p (step w x) → Written x p w.files ((step w x).world).files → ChangesOwn m h s p
         by (Own.alive q e lives k) written = record {
           files = written;
           lives = λ _. (q, e, becomes_as (told_as w x (step w x).reply) m h p q refl refl k);
@@ -122,6 +123,7 @@ module _ (w : World) (x : Step) where
         one_hart = one_after w x one;
         files = k.files;
         memory = (step_suits w x).memory;
+        slots = k.places;
       }
 
   refuses_bad : (image : Image) (e : BadImage) (y : Step) → Loads image y → image_loads image ≡ Err e → IsMade (step w y).reply → ⊥
@@ -145,6 +147,7 @@ module _ (w : World) (x : Step) where
     makes_own : MakesOwn m h s p
     makes_own = record {
       next = λ phase after from next quiet is. subst (λ (y : Step). IsOn (step w y).world h s p × IsIn (step w y).world h after) (sym is) (next_goes w h s p phase after on from next quiet);
+      only_served = λ is kernel made. next_quiet w h s p on kernel (made_as_one (Next h) is made);
       trap = λ user is. subst (λ (y : Step). (slot_on (step w y).world h ≡ Some s) × IsIn (step w y).world h Enter0) (sym is) (trap_goes w h s p on user);
       leave = λ kernel is. subst (λ (y : Step). (slot_on (step w y).world h ≡ None) × IsIn (step w y).world h Idle) (sym is) (leave_goes w h kernel);
       access = λ a user asks wide. access_made w h s p a x on user asks wide;
@@ -158,12 +161,15 @@ module _ (w : World) (x : Step) where
       only_quiet = λ calls made. call_quiet w h s p on x calls made;
     }
 
+  as_made : (y : Step) → x ≡ y → IsMade (step w x).reply → IsMade (step w y).reply
+  as_made y is = subst (λ (z : Step). IsMade (step w z).reply) is
+
   makes_steps : MakesSteps m
   makes_steps = record {
     replies = (step_suits w x).replies;
     exited = λ h status code is. subst (λ (y : Step). (step w y).reply ≡ Exited code → code ≡ status) (sym is) (exit_tells w h status code);
     in_frame = λ h offset n via is. subst (λ (y : Step). (step w y).reply ≡ InFrame n → n ≡ 0) (sym is) (fetch_tells w h offset n via);
-    mapped = λ h len protection flags n at is. subst (λ (y : Step). (step w y).reply ≡ MappedAt at → (at % 4096 ≡ 0) × (flags ≡ 1 → protection / 2 % 2 ≡ 1 → is_writable (slice_get w.files n) ≡ true)) (sym is) (map_tells w len protection flags n at h);
+    mapped = λ h len protection flags n at is. subst (λ (y : Step). (step w y).reply ≡ MappedAt at → (at % 4096 ≡ 0) × (is_bad_mapping w.files len protection flags n ≡ false) × (flags ≡ 1 → protection / 2 % 2 ≡ 1 → is_writable (slice_get w.files n) ≡ true)) (sym is) (map_tells w len protection flags n at h);
     in_phase = λ h e made. step_in_phase w x h e made;
     wide = λ h a via asks made. access_wide w h a via x asks made;
     few = λ h n copies made. copy_few w h n x copies made;
@@ -171,6 +177,9 @@ module _ (w : World) (x : Step) where
     start = λ image s ls free loads is quiet. subst (λ (y : Step). IsMade (step w y).reply) (sym is) (start_goes w image s ls free loads (subst (λ (y : Step). tells_no_frame (step w y).reply ≡ false) is quiet));
     started = λ image s is. subst (λ (y : Step). (step w y).reply ≡ Started s → (free_slot w ≡ Some s) × (p : Process) × (process_in (step w y).world s ≡ Some p) × Begins (moment_of w y) p) (sym is) (start_brings w image s);
     bad_image = λ image e is bad made. refuses_bad image e x is bad made;
+    only_off = λ h s is made. switch_was w h s (as_made (Switch h (Some s)) is made);
+    left = λ h is made. subst (λ (y : Step). (slot_on (step w y).world h ≡ None) × IsIn (step w y).world h Idle) (sym is) (switch_off w h (as_made (Switch h None) is made));
+    trampoline = λ h offset phase in_phase runs whole low is. subst (λ (y : Step). IsMade (step w y).reply) (sym is) (fetches w h offset phase in_phase runs whole low);
     switch = λ h s p lives apart phase is. subst (λ (y : Step). IsOn (step w y).world h s p × IsIn (step w y).world h Kernel) (sym is) (switch_goes w h s p lives apart phase);
   }
 

@@ -1,14 +1,15 @@
 -- THE HEADLINE: what a process of xv6 on Sv39 may rely on, whatever the harts do.
 --
 -- The harts have made any list of steps since boot, and now make one more. `past` has the moments before, the newest first. `m` is the
--- moment now: the step, its reply, the world before it and the world after it. The replies are what the machine answered; the worlds are
--- the model's. A world has files and, in its slots, processes; a process has regions, and the bytes of its settled pages. `Words` has the
--- words, `Pages` what a region gives to a page, `Latest` the latest byte at an address, and `Makes` part (g).
+-- moment now: the step, its reply, the world before it and the world after it. The reply of `m` is what the machine answered; worlds, and
+-- the replies of the past and of each `moment_of`, are the model's. A world has files and, in its slots, processes; a process has regions,
+-- and the bytes of its settled pages (xv6: those with a valid leaf: an image's from the start, others by a service or a copy). `Words` has
+-- the words, `Pages` what a region gives to a page, `Latest` the latest byte at an address, and `Makes` part (g).
 use Rattle.std.specs.Prelude.{◌≡◌, ◌≢◌, ◌⊎◌, ℕ, ℤ, false, true, ◌+◌, ◌-◌, ◌<◌, ◌≤◌, nat_lt, Option, None, Some, List, [], ◌∷◌, length, take, pos}
 use Rattle.std.specs.Borrow.{Bor}
 use Rattle.process_laws.specs.Latest.{AreLatest, byte_had, bytes_in, IsLatest, latest}
 use Rattle.process_laws.specs.Moments.{Moment, moment_of, moments_from, slot_on}
-use Rattle.process_laws.specs.Pages.{grant, grant_after, has_fork_mark, has_stored_mark, is_remapped, is_stored_to, size_after}
+use Rattle.process_laws.specs.Pages.{grant, grant_after, has_fork_mark, has_stored_mark, is_remapped, is_stored_to, may_remap, size_after}
 use Rattle.process_laws.specs.Words.{Asked, Asks, byte, cause, copied, Forbids, in_memory, is_end, is_fault, IsAnswer, IsChild, IsGranted, IsIn, IsMade, IsOn, IsResident, is_born, maker, moved_hart, phase_on, Serves, stopped_by, takes_frames, tells_no_frame, Tries, waiting, writes_back, Written}
 use Rattle.process_model.specs.Files.{File}
 use Rattle.process_model.specs.Process.{Process}
@@ -28,16 +29,18 @@ use Rattle.sv39_entry.specs.declared.rule.Rule.{Rule}
 use Rattle.sv39_entry.specs.declared.rule.Rule.TheVariants.{NoFrame}
 use Rattle.process_laws.specs.Makes.{MakesOwn, MakesSteps}
 
--- (a) The user access a of process p, in slot s, on hart h. With a page of data at 0x1000 and the guard after it, `load 0 0x1000 1` answers
--- `value 0x61`; `load 0 0x2000 1` answers `fault 13`, and its service `ended 4 GuardPage`
+-- (a) The user access a of process p, in slot s, on hart h. If its page at 0x1000 begins with the byte 0x61, and its guard is after it,
+-- `load 0 0x1000 1` answers `value 0x61`; `load 0 0x2000 1` answers `fault 13`, and its service `ended 4 GuardPage`
 pub record AnswersUser (m : Moment) (h s : ℕ) (p : Process) (a : Asked) : Type 0 where
   -- No access is both granted and forbidden
   pub apart : process_in m.before s ≡ Some p → (rule : Rule) → IsGranted p a → Forbids p a rule → ⊥
   -- If it is granted and its page is resident, it is answered: a fetch or a load by a value, a store by `Stored`
   pub answered : Tries m h s p a → IsGranted p a → IsResident p a → IsAnswer a.access m.reply
-  -- Otherwise it faults with its own cause and waits for service; nothing else of p changes, and the hart is at the kernel's entry
+  -- Otherwise it faults, with the misaligned cause (0, 4, 6) or else the page fault's (12, 13, 15), and waits for service; nothing else of p
+  -- changes, and the hart is at the kernel's entry
   pub faults : Tries m h s p a → (IsGranted p a → IsResident p a → ⊥) → (m.reply ≡ Fault (cause a)) × IsOn m.after h s (waiting p a) × IsIn m.after h Enter0
-  -- If the kernel serves a, for which p waits, and a is granted, then its page is resident, so that one fault is enough; or p ends by NoFrame
+  -- If the kernel serves a, for which p waits, and a is granted, then its page is resident, and one fault is enough unless p itself calls the
+  -- kernel first; or p ends by NoFrame
   pub served : Serves m h s p a → IsGranted p a → ((m.reply ≡ Ready) × ((q : Process) → process_in m.after s ≡ Some q → IsResident q a)) ⊎ (m.reply ≡ Ended NoFrame)
   -- If a is not granted, p ends by the first rule that forbids it
   pub ended : Serves m h s p a → (IsGranted p a → ⊥) → (rule : Rule) × (m.reply ≡ Ended rule) × Forbids p a rule
@@ -62,7 +65,7 @@ pub record CopiesForKernel (m : Moment) (h address k : ℕ) (p : Process) : Type
   pub to_front : (bytes front : Bor (List ℕ)) → m.step ≡ CopyOut h address bytes → front.now ≡ take k bytes.now → m.after ≡ (moment_of m.before (CopyOut h address front)).after
 
 -- (c) A reply says NoFrame exactly when fewer frames are free than the step needs, n; and n is the same however many frames the memory has
--- (`elsewhere`). A start of nine pages needs 17: it is refused if 16 frames are free, and made if 17 are
+-- (`elsewhere`). Which n that is, the page leaves to the model: a start of nine pages in the first two megabytes needs 17
 abbrev pub IsDry : Moment → ℕ → Type 0
 IsDry m n = tells_no_frame m.reply ≡ nat_lt (free m.before) n
 
@@ -73,10 +76,10 @@ abbrev pub elsewhere : Moment → ℕ → Moment
 elsewhere m frames = moment_of (in_memory m.before frames) m.step
 
 pub record CountsFrames (m : Moment) : Type 0 where
-  -- A start, a service, a fork and a copy need the frames by which the free ones then fall
+  -- A start, a service, a fork and a copy need the frames by which the free ones then fall, if the reply does not say NoFrame
   pub takes : takes_frames m.step ≡ true → (n : ℕ) × Takes m n × ((frames : ℕ) → Takes (elsewhere m frames) n)
-  -- Exec needs one less than a start of the same image in any world, since the process keeps its trapframe; the frames of its old pages do
-  -- not count as free
+  -- An exec that is done needs one less than a start of the same image in any world with a free slot, since the process keeps its trapframe;
+  -- the frames of its old pages do not count as free
   pub replaces : (h : ℕ) (image : Image) → m.step ≡ Exec h image → (n : ℕ) × IsDry m n × ((frames : ℕ) → IsDry (elsewhere m frames) n)
       × (m.reply ≡ Done → (u : World) (s : ℕ) → free_slot u ≡ Some s → IsDry (moment_of u (Start image)) (n + 1))
   -- No other step says NoFrame or takes a frame
@@ -98,13 +101,14 @@ pub record LeavesOthers (m : Moment) : Type 0 where
   pub refused : (e : Refusal) → m.reply ≡ Refused e → m.after ≡ m.before
   -- A slot stays empty but for a start and a fork
   pub empty : (s : ℕ) → process_in m.before s ≡ None → is_born m.reply s ≡ false → process_in m.after s ≡ None
-  -- A hart keeps its process and its phase but for its own switch, trap, next instruction, fault or end
+  -- A hart keeps its process and its phase but for its own switch, trap, step in the trampoline (`Next`), fault or end
   pub harts : (k : ℕ) → moved_hart m.step m.reply ≢ Some k → (slot_on m.after k ≡ slot_on m.before k) × (phase_on m.after k ≡ phase_on m.before k)
   -- A process is on one hart at a time
   pub one_hart : (h k s : ℕ) → slot_on m.after h ≡ Some s → slot_on m.after k ≡ Some s → h ≡ k
-  -- Files stay but for what munmap, exec, an exit and an end write back; the memory keeps its size
+  -- Files stay but for what munmap, exec, an exit and an end write back; the memory keeps its size, and the process table its slots
   pub files : writes_back m.step m.reply ≡ false → (m.after).files ≡ (m.before).files
   pub memory : (m.after).frames ≡ (m.before).frames
+  pub slots : length (m.after).slots ≡ length (m.before).slots
 
 -- (f) By its own step on hart h a process p becomes q
 pub record Becomes (m : Moment) (h : ℕ) (p q : Process) : Type 0 where
@@ -113,23 +117,30 @@ pub record Becomes (m : Moment) (h : ℕ) (p q : Process) : Type 0 where
   -- Each page keeps its grant (rights, kind of region, source of its initial bytes) and its stored mark, but those that exec, sbrk, mmap and
   -- munmap remap
   pub stays : (page : ℕ) → is_remapped m.step m.reply page ≡ false → (grant q page ≡ grant p page) × (has_stored_mark p page ≡ true → has_stored_mark q page ≡ true)
-  -- Such a page has what the call gives; and only exec puts one grant in the place of another
+  -- Such a page has what the call gives; only exec puts one grant in the place of another; sbrk leaves the pages below the heap as they are,
+  -- mmap and munmap the heap too
   pub remapped : (page : ℕ) → is_remapped m.step m.reply page ≡ true → grant q page ≡ grant_after m.step m.reply page
   pub vacant : (page : ℕ) → is_remapped m.step m.reply page ≡ true → ((image : Image) → m.step ≢ Exec h image) → (grant p page ≡ None) ⊎ (grant q page ≡ None)
-  -- Only a fork leaves a fork mark; only the service of a store and a copy to a page leave a stored mark there; exec leaves neither
+  pub below : (page : ℕ) → is_remapped m.step m.reply page ≡ true → may_remap p m.step page ≡ true
+  -- Only a fork adds a fork mark, and only the service of a store and a copy to the page take it away; these alone add a stored mark. After
+  -- exec there is neither
   pub forked : m.step ≢ Fork h → (page : ℕ) → has_fork_mark q page ≡ true → has_fork_mark p page ≡ true
+  pub unforked : (page : ℕ) → is_remapped m.step m.reply page ≡ false → has_fork_mark p page ≡ true → (has_fork_mark q page ≡ true) ⊎ (is_stored_to p m.step page ≡ true)
   pub stored : (page : ℕ) → has_stored_mark q page ≡ true → (has_stored_mark p page ≡ true) ⊎ (is_stored_to p m.step page ≡ true)
   pub cleared : (image : Image) → m.step ≡ Exec h image → m.reply ≡ Done → (page : ℕ) → (has_fork_mark q page ≡ false) × (has_stored_mark q page ≡ false)
-  -- The size is what sbrk or exec makes of it, else what it was; sbrk replies the old one
+  -- The size is what sbrk or exec makes of it, else what it was; sbrk replies the old one. The heap's base stays but for exec
   pub size : pos q.size ≡ size_after m.step m.reply p.size
+  pub base : (q.heap_base ≡ p.heap_base) ⊎ ((image : Image) × (m.step ≡ Exec h image) × (q.heap_base ≡ q.size))
   pub old_size : (delta : ℤ) (n : ℕ) → m.step ≡ Sbrk h delta → m.reply ≡ OldSize n → n ≡ p.size
 
 pub record ChangesOwn (m : Moment) (h s : ℕ) (p : Process) : Type 0 where
+  -- Unless the reply says that it ended, it is still in its slot
   pub lives : is_end m.reply ≡ false → (q : Process) × (process_in m.after s ≡ Some q) × Becomes m h p q
   -- After an exit, and after an end by a rule, the slot is empty and the hart idle
   pub gone : is_end m.reply ≡ true → (process_in m.after s ≡ None) × (slot_on m.after h ≡ None) × IsIn m.after h Idle
-  -- What it writes back to files is what it has stored to shared mappings; no file changes its length, or whether it may be written
-  pub files : Written p (m.before).files (m.after).files
+  -- A byte of a file that changes becomes the byte that p had at that place, on a page with the stored mark of a writable shared mapping (of
+  -- the range, if the step is munmap). No file changes its length, or whether it may be written
+  pub files : Written m.step p (m.before).files (m.after).files
   -- A child is in the lowest free slot; it has its parent's regions and size, waits for nothing, and has nothing to write back
   pub child : (t : ℕ) → m.step ≡ Fork h → m.reply ≡ Forked t → (free_slot m.before ≡ Some t) × (c : Process) × (process_in m.after t ≡ Some c) × IsChild p c
 

@@ -1,11 +1,12 @@
 -- Part (g) of the headline: which steps are made, that is, not refused.
-use Rattle.std.specs.Prelude.{◌≡◌, ◌≢◌, ◌⊎◌, ℕ, ℤ, Err, false, true, ◌≤◌, Option, None, Some, Ok, List, ◌%◌, ◌/◌, slice_get}
+use Rattle.std.specs.Prelude.{◌≡◌, ◌≢◌, ◌⊎◌, ℕ, ℤ, Err, false, true, ◌≤◌, Option, None, Some, Ok, List, ◌%◌, ◌/◌, slice_get, ◌<◌}
 use Rattle.process_laws.specs.Moments.{Moment, slot_on}
 use Rattle.process_laws.specs.Words.{Asked, Asks, Begins, Calls, CopiesBytes, IsIn, IsMade, IsOn, is_reply, Loads, maker, MayCall, tells_no_frame, hart_of, is_phase_for}
 use Rattle.process_model.specs.Bytes.{is_width}
 use Rattle.process_model.specs.Copies.{longest_copy}
 use Rattle.process_model.specs.Files.{is_writable}
-use Rattle.process_model.specs.Harts.{next_phase}
+use Rattle.process_model.specs.Harts.{in_trampoline, next_phase}
+use Rattle.process_model.specs.Mappings.{is_bad_mapping}
 use Rattle.process_model.specs.Images.{image_loads, LoadSegment}
 use Rattle.process_model.specs.Process.{Process}
 use Rattle.process_model.specs.World.{free_slot, is_unserved_access, process_in}
@@ -19,8 +20,10 @@ use Rattle.process_model.specs.declared.step.Step.TheVariants.{Exec, Exit, Fork,
 
 -- These steps of a process p, in slot s, on hart h are made:
 pub record MakesOwn (m : Moment) (h s : ℕ) (p : Process) : Type 0 where
-  -- the instructions of its way into user mode, a trap back into the kernel, and the switch off its hart;
+  -- each step in the trampoline, on the way into the kernel and back into user mode, but none out of the kernel while p waits for service; a
+  -- trap, to the kernel's entry; the switch off its hart;
   pub next : (phase after : Phase) → IsIn m.before h phase → next_phase phase ≡ Some after → (phase ≡ Kernel → is_unserved_access p.pending ≡ false) → m.step ≡ Next h → IsOn m.after h s p × IsIn m.after h after
+  pub only_served : m.step ≡ Next h → IsIn m.before h Kernel → IsMade m.reply → is_unserved_access p.pending ≡ false
   pub trap : IsIn m.before h User → m.step ≡ Trap h → (slot_on m.after h ≡ Some s) × IsIn m.after h Enter0
   pub leave : IsIn m.before h Kernel → m.step ≡ Switch h None → (slot_on m.after h ≡ None) × IsIn m.after h Idle
   -- in user mode each access by a walk; in the kernel the service of an access for which p waits, and of no other;
@@ -38,23 +41,28 @@ pub record MakesOwn (m : Moment) (h s : ℕ) (p : Process) : Type 0 where
 
 -- And of all steps:
 pub record MakesSteps (m : Moment) : Type 0 where
-  -- Each reply is one that such a step may get. An exit replies its status, a fetch in the trampoline frame 0, and mmap the address of a page;
-  -- a mapping whose stores are written back is of a file that may be written
+  -- Each reply is a refusal, or of its step's own kind (`is_reply`). An exit replies its status, a fetch in the trampoline frame 0, and mmap the
+  -- address of a page, if its arguments are good (`is_bad_mapping`); a mapping whose stores are written back is of a file that may be written
   pub replies : is_reply m.step m.reply ≡ true
   pub exited : (h : ℕ) (status code : ℤ) → m.step ≡ Exit h status → m.reply ≡ Exited code → code ≡ status
   pub in_frame : (h offset n : ℕ) (via : Option ℕ) → m.step ≡ TrampolineFetch h offset via → m.reply ≡ InFrame n → n ≡ 0
   pub mapped : (h len protection flags n at : ℕ) → m.step ≡ Mmap h len protection flags n → m.reply ≡ MappedAt at
-      → (at % 4096 ≡ 0) × (flags ≡ 1 → protection / 2 % 2 ≡ 1 → is_writable (slice_get (m.before).files n) ≡ true)
+      → (at % 4096 ≡ 0) × (is_bad_mapping (m.before).files len protection flags n ≡ false) × (flags ≡ 1 → protection / 2 % 2 ≡ 1 → is_writable (slice_get (m.before).files n) ≡ true)
   -- A step on a hart is made only in its phase, and a step of a process only on a hart that has one. An access of another width than 1, 2, 4
   -- and 8, and a copy of more than 256 bytes are not made
   pub in_phase : (h : ℕ) → hart_of m.step ≡ Some h → IsMade m.reply → (phase : Phase) × IsIn m.before h phase × (is_phase_for m.step phase ≡ true)
   pub hosted : (h : ℕ) → maker m.step ≡ Some h → IsMade m.reply → (s : ℕ) × (p : Process) × IsOn m.before h s p
   pub wide : (h : ℕ) (a : Asked) (via : Option ℕ) → Asks h via a m.step → IsMade m.reply → is_width a.width ≡ true
   pub few : (h n : ℕ) → CopiesBytes h n m.step → IsMade m.reply → n ≤ longest_copy
-  -- A good image starts in the lowest free slot, unless it lacks frames. A bad one neither starts nor takes the place of a process
+  -- A good image starts in the lowest free slot, unless it lacks frames, with its pages, no mark, and an empty heap. A bad one neither starts nor
+  -- takes the place of a process
   pub start : (image : Image) (s : ℕ) (ls : List LoadSegment) → free_slot m.before ≡ Some s → image_loads image ≡ Ok ls → m.step ≡ Start image → tells_no_frame m.reply ≡ false → IsMade m.reply
   pub started : (image : Image) (s : ℕ) → m.step ≡ Start image → m.reply ≡ Started s → (free_slot m.before ≡ Some s) × (p : Process) × (process_in m.after s ≡ Some p) × Begins m p
   pub bad_image : (image : Image) (e : BadImage) → Loads image m.step → image_loads image ≡ Err e → IsMade m.reply → ⊥
-  -- A process that is on no hart can be put on one that is idle or in the kernel
+  -- A process that is on no hart can be put on one that is idle or in the kernel, and nothing else can; any of these harts can be left idle
   pub switch : (h s : ℕ) (p : Process) → process_in m.before s ≡ Some p → ((k : ℕ) → slot_on m.before k ≢ Some s) → IsIn m.before h Idle ⊎ IsIn m.before h Kernel → m.step ≡ Switch h (Some s)
       → IsOn m.after h s p × IsIn m.after h Kernel
+  pub only_off : (h s : ℕ) → m.step ≡ Switch h (Some s) → IsMade m.reply → (p : Process) × (process_in m.before s ≡ Some p) × ((k : ℕ) → slot_on m.before k ≢ Some s)
+  pub left : (h : ℕ) → m.step ≡ Switch h None → IsMade m.reply → (slot_on m.after h ≡ None) × IsIn m.after h Idle
+  -- The kernel's code in the trampoline can be fetched wherever it runs
+  pub trampoline : (h offset : ℕ) (phase : Phase) → IsIn m.before h phase → in_trampoline phase ≡ true → offset % 4 ≡ 0 → offset < 4096 → m.step ≡ TrampolineFetch h offset None → IsMade m.reply

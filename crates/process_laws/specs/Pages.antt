@@ -78,6 +78,13 @@ is_remapped (Mmap h len protection flags n) (MappedAt at) page = is_between (pag
 is_remapped (Munmap h address len) Done page = is_between (page_of address) (page_of address + pages_for len) page
 is_remapped _ _ page = false
 
+-- the pages that a call may remap: sbrk from the heap's base on, mmap and munmap above the heap
+abbrev pub may_remap : Process → Step → ℕ → Bool
+may_remap p (Sbrk h delta) page = nat_le (page_of p.heap_base) page
+may_remap p (Mmap h len protection flags n) page = nat_le (pages_for p.size) page
+may_remap p (Munmap h address len) page = nat_le (pages_for p.size) page
+may_remap p x page = true
+
 -- and the grant of such a page after the call
 
 abbrev pub heap_grant : Grant

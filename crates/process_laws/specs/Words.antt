@@ -5,7 +5,8 @@ use Rattle.process_laws.specs.Denied.{IsFirst}
 use Rattle.process_laws.specs.Moments.{Moment, slot_on}
 use Rattle.process_laws.specs.FilePlaces.{file_bytes}
 use Rattle.process_laws.specs.Latest.{byte_at, byte_had}
-use Rattle.process_laws.specs.Pages.{Grant, grant as grant_of, grant_after, has_fork_mark, has_stored_mark, is_ready_page, size_after}
+use Rattle.process_laws.specs.Pages.{Grant, grant as grant_of, grant_after, has_fork_mark, has_stored_mark, is_between, is_ready_page, size_after}
+use Rattle.process_model.specs.Bytes.{pages_for}
 use Rattle.process_model.specs.Files.{File, is_writable}
 use Rattle.process_model.specs.Harts.{in_trampoline, is_kernel, is_user, may_switch, next_phase}
 use Rattle.process_model.specs.Process.{Process, regions}
@@ -279,12 +280,13 @@ in_memory w n = record w { frames = n }
 
 -- processes that begin
 
--- a process that was started: each page has its image's grant, and no mark; it waits for nothing
+-- a process that was started: each page has its image's grant, and no mark; it waits for nothing, and its heap is empty, above the stack
 pub record Begins (m : Moment) (p : Process) : Type 0 where
   pub grants : (page : ℕ) → grant_of p page ≡ grant_after m.step m.reply page
   pub unmarked : (page : ℕ) → (has_fork_mark p page ≡ false) × (has_stored_mark p page ≡ false)
   pub quiet : is_unserved_access p.pending ≡ false
   pub size : pos p.size ≡ size_after m.step m.reply 0
+  pub base : p.heap_base ≡ p.size
 
 -- the child of a fork, its bytes aside: `latest` says that they are its parent's
 pub record IsChild (p c : Process) : Type 0 where
@@ -296,8 +298,13 @@ pub record IsChild (p c : Process) : Type 0 where
 
 -- files
 
--- b is a byte of p on a page with the stored mark, in a writable shared mapping, at the address that maps byte i of file n
-pub record WroteBack (p : Process) (n i b : ℕ) : Type 0 where
+-- the pages that a step writes back, if it does: munmap those that it unmaps, exec and an end all
+abbrev pub goes_back : Step → ℕ → Bool
+goes_back (Munmap h address len) page = is_between (page_of address) (page_of address + pages_for len) page
+goes_back x page = true
+
+-- b is a byte of p on such a page with the stored mark, in a writable shared mapping, at the address that maps byte i of file n
+pub record WroteBack (x : Step) (p : Process) (n i b : ℕ) : Type 0 where
   pub address : ℕ
   pub grant : Grant
   pub has : grant_of p (page_of address) ≡ Some grant
@@ -306,11 +313,12 @@ pub record WroteBack (p : Process) (n i b : ℕ) : Type 0 where
   pub offset : ℕ
   pub of_file : grant.source ≡ file n offset
   pub place : offset + address % 4096 ≡ i
+  pub goes : goes_back x (page_of address) ≡ true
   pub stored : has_stored_mark p (page_of address) ≡ true
   pub byte : byte_had (Some p) address ≡ Some b
 
 -- each file keeps its length and whether it may be written, and each byte of it stays or becomes such a byte
-pub record Written (p : Process) (files later : List File) : Type 0 where
+pub record Written (x : Step) (p : Process) (files later : List File) : Type 0 where
   pub mode : (n : ℕ) → is_writable (slice_get later n) ≡ is_writable (slice_get files n)
   pub long : (n : ℕ) → length (file_bytes later n) ≡ length (file_bytes files n)
-  pub bytes : (n i : ℕ) → i < length (file_bytes files n) → (byte_at (file_bytes later n) i ≡ byte_at (file_bytes files n) i) ⊎ WroteBack p n i (byte_at (file_bytes later n) i)
+  pub bytes : (n i : ℕ) → i < length (file_bytes files n) → (byte_at (file_bytes later n) i ≡ byte_at (file_bytes files n) i) ⊎ WroteBack x p n i (byte_at (file_bytes later n) i)
