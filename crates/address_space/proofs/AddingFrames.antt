@@ -12,7 +12,8 @@ use Rattle.sv39_entry.specs.Word.{ppn}
 use Rattle.table_walk.specs.Tables.{ChangesTables, HasTables, Tables, IsGrown, leaf_node, with_leaf}
 use Rattle.table_walk.specs.Keys.{insert_other, insert_same}
 use Rattle.table_walk.specs.Same.{same_tables}
-use Rattle.table_walk.specs.Walk.{top_level}
+use Rattle.sv39_entry.specs.Schemes.{top_level}
+use Rattle.sv39_entry.specs.declared.scheme.Scheme.TheVariants.{Sv39}
 use Rattle.address_space.specs.Agreement.{Names, nothing, one_of, Owns}
 use Rattle.address_space.specs.Steps.{Spends}
 use Rattle.address_space.proofs.Owned.{claimed_here, claimed_other, no_table, one_else, one_frame, one_here, recounted_owns, same_references, same_sole, spare_comes, unnamed}
@@ -58,7 +59,7 @@ module _ (v w : View) (f : ℕ) (c : Comes v w f) where
   pub not_held_before : (g : ℕ) → IsHeld v g → g ≡ f → ⊥
   not_held_before g held same = let none : references v g ≡ 0 = ap (references v) same ∙ c.fresh in omega (arith, none, held)
 
-  pub come_tables : (root : ℕ) (t : Tables) → HasTables v root t → HasTables w root t
+  pub come_tables : (root : ℕ) (t : Tables) → HasTables Sv39 v root t → HasTables Sv39 w root t
   come_tables root t h = same_tables v w root t (λ k g at. c.others g (not_held_before g (h.own k g at).0)) h
 
   pub come_held : (g : ℕ) → IsHeld v g → IsHeld w g
@@ -73,8 +74,8 @@ module _ (v w : View) (f : ℕ) (c : Comes v w f) where
 
 -- a leaf is put over a frame that had no name and one reference more, and tables that were missing are there
 module _ (v w : View) (t u : Tables) (n root page x f : ℕ) (before after : ℕ → ℕ) (o : Owns v t before) (free : (k : ℕ) → Names t f k → ⊥)
-    (moves : (g : ℕ) → before g ≡ after g + one_of f g) (h : HasTables v root t) (grown : IsGrown t u page top_level)
-    (changes : ChangesTables v w t u n) (has_tables : HasTables w root (with_leaf u (leaf_node page) x)) (names : ppn x ≡ ppn_of f)
+    (moves : (g : ℕ) → before g ≡ after g + one_of f g) (h : HasTables Sv39 v root t) (grown : IsGrown Sv39 t u page (top_level Sv39))
+    (changes : ChangesTables v w t u n) (has_tables : HasTables Sv39 w root (with_leaf u (leaf_node page) x)) (names : ppn x ≡ ppn_of f)
     (unmapped : get t.leaves (leaf_node page) ≡ None) (sole : has x 2 ≡ true → IsSole v f) where
   f_count : references v f ≡ 1 + after f
   f_count = let was = o.bare f free in let one = one_here f f refl in let m = moves f in omega (arith, was, one, m)

@@ -17,7 +17,8 @@ use Rattle.sv39_entry.specs.Word.{ppn}
 use Rattle.table_walk.specs.Counted.{AreTablesOf, same_members}
 use Rattle.table_walk.specs.Tables.{ChangesTables, HasTables, Tables, IsGrown, leaf_node, missing, with_leaf}
 use Rattle.table_walk.specs.Keys.{insert_other, insert_same, is_none}
-use Rattle.table_walk.specs.Walk.{top_level}
+use Rattle.sv39_entry.specs.Schemes.{top_level}
+use Rattle.sv39_entry.specs.declared.scheme.Scheme.TheVariants.{Sv39}
 use Rattle.address_space.specs.Agreement.{IsLeafNumber, IsPageLeaf, nothing, one_of, OthersKeep, Shows}
 use Rattle.address_space.specs.Steps.{Adds, CanAdd, settled_with}
 use Rattle.address_space.proofs.AddingFrames.{Comes, come_owns, come_tables, come_unnamed, f_same, leaf_owns, leaf_same, not_held_before}
@@ -50,7 +51,7 @@ module _ (v : View) (root trapframe : ℕ) (t : Tables) (p : Process) (page : �
   unmapped = is_none (get t.leaves (leaf_node page)) (λ y leaf. no_number (can.stands.shows.only (leaf_node page) y leaf))
 
   module _ (r w : View) (u : Tables) (x f : ℕ) (bytes : List ℕ) (c : Comes v r f) (has : HasBytes r f (padded 4096 bytes)) (made : IsPageLeaf x f region false (not (is_shared_kind region.kind) && region.writes))
-      (grown : IsGrown t u page top_level) (tables : HasTables w root (with_leaf u (leaf_node page) x)) (changes : ChangesTables r w t u (missing t page)) where
+      (grown : IsGrown Sv39 t u page (top_level Sv39)) (tables : HasTables Sv39 w root (with_leaf u (leaf_node page) x)) (changes : ChangesTables r w t u (missing Sv39 t page)) where
     keeps : OthersKeep t (with_leaf u (leaf_node page) x) page
     keeps k apart = insert_other u.leaves (leaf_node page) x k apart ∙ ap (λ leaves. get leaves k) grown.leaves
 
@@ -58,12 +59,12 @@ module _ (v : View) (root trapframe : ℕ) (t : Tables) (p : Process) (page : �
     here = insert_same u.leaves (leaf_node page) x (leaf_node page) refl
 
     filled_same : hold_of w f ≡ hold_of r f
-    filled_same = f_same r w t u (missing t page) root page x f (one_of f) nothing (come_owns v r f c t can.stands.owns) (come_unnamed v r f c t can.stands.owns) (λ g. omega arith) (come_tables v r f c root t can.stands.tables) grown changes tables made.names unmapped (λ writes. c.sole)
+    filled_same = f_same r w t u (missing Sv39 t page) root page x f (one_of f) nothing (come_owns v r f c t can.stands.owns) (come_unnamed v r f c t can.stands.owns) (λ g. omega arith) (come_tables v r f c root t can.stands.tables) grown changes tables made.names unmapped (λ writes. c.sole)
 
     old_same : (m y g : ℕ) → get t.leaves m ≡ Some y → ppn y ≡ ppn_of g → hold_of w g ≡ hold_of v g
     old_same m y g leaf names =
         let held : IsHeld v g = named_held v t nothing can.stands.owns g m (inr (y, leaf, names)) in
-        leaf_same r w t u (missing t page) root page x f (one_of f) nothing (come_owns v r f c t can.stands.owns) (come_unnamed v r f c t can.stands.owns) (λ g. omega arith) (come_tables v r f c root t can.stands.tables) grown changes tables made.names unmapped (λ writes. c.sole) m y g leaf names
+        leaf_same r w t u (missing Sv39 t page) root page x f (one_of f) nothing (come_owns v r f c t can.stands.owns) (come_unnamed v r f c t can.stands.owns) (λ g. omega arith) (come_tables v r f c root t can.stands.tables) grown changes tables made.names unmapped (λ writes. c.sole) m y g leaf names
         ∙ c.others g (not_held_before v r f c g held)
 
     module _ (fresh : ℕ) where
@@ -113,13 +114,13 @@ module _ (v : View) (root trapframe : ℕ) (t : Tables) (p : Process) (page : �
             ];
           }
 
-    pub adds : AreTablesOf u (page ∷ pages.keys p.tabled) → Adds v w root trapframe t (with_leaf u (leaf_node page) x) p page bytes f
+    pub adds : AreTablesOf Sv39 u (page ∷ pages.keys p.tabled) → Adds v w root trapframe t (with_leaf u (leaf_node page) x) p page bytes f
     adds tabled = record {
       stands = λ fresh. record {
         tables = tables;
-        owns = leaf_owns r w t u (missing t page) root page x f (one_of f) nothing (come_owns v r f c t can.stands.owns) (come_unnamed v r f c t can.stands.owns) (λ g. omega arith) (come_tables v r f c root t can.stands.tables) grown changes tables made.names unmapped (λ writes. c.sole);
+        owns = leaf_owns r w t u (missing Sv39 t page) root page x f (one_of f) nothing (come_owns v r f c t can.stands.owns) (come_unnamed v r f c t can.stands.owns) (λ g. omega arith) (come_tables v r f c root t can.stands.tables) grown changes tables made.names unmapped (λ writes. c.sole);
         shows = added_shows fresh;
-        tabled = same_members u (page ∷ pages.keys p.tabled) (pages.keys (pages.insert p.tabled page tt)) (key_in page tt p.tabled) (key_out page tt p.tabled) tabled;
+        tabled = same_members Sv39 u (page ∷ pages.keys p.tabled) (pages.keys (pages.insert p.tabled page tt)) (key_in page tt p.tabled) (key_out page tt p.tabled) tabled;
         tabled_low = all_keys (λ n. n < trapframe_page) p.tabled page tt can.low can.stands.tabled_low;
       };
       on = (x, here, made.names);
@@ -129,6 +130,6 @@ module _ (v : View) (root trapframe : ℕ) (t : Tables) (p : Process) (page : �
       saved = let leaf = can.stands.shows.on_trapframe in old_same (leaf_node trapframe_page) leaf.0 trapframe leaf.1 leaf.2.names;
       spends = record {
         credits = omega (arith, changes.credits, c.spends.credits);
-        tallies = spent_on _ _ _ 1 (missing t page) c.spends.tallies changes.tallies;
+        tallies = spent_on _ _ _ 1 (missing Sv39 t page) c.spends.tallies changes.tallies;
       };
     }

@@ -17,6 +17,7 @@ use Rattle.address_space.specs.Layouts.{Layout}
 use Rattle.address_space.specs.Steps.{Adds, CanAdd, CanSettle, RunsDry, Settles}
 use Rattle.address_space.proofs.Owned.{same_references, same_stands}
 use Rattle.address_space.proofs.Sound.{low_at, sound_more}
+use Rattle.sv39_entry.specs.declared.scheme.Scheme.TheVariants.{Sv39}
 
 -- an error of a reservation
 
@@ -34,11 +35,11 @@ none_taken (Err e) n a b c err left free = omega (arith, left, free)
 
 -- the tables that are missing on the way to a page are those that it needs beside the tables of others
 abbrev pub CountsGrowth : Type 0
-CountsGrowth = (t : Tables) (others : List ℕ) (page : ℕ) → AreTablesOf t others → All (λ n. n < 2 ^ 27) others → page < 2 ^ 27
-    → missing t page ≡ tables_needed (page ∷ others) - tables_needed others
+CountsGrowth = (t : Tables) (others : List ℕ) (page : ℕ) → AreTablesOf Sv39 t others → All (λ n. n < 2 ^ 27) others → page < 2 ^ 27
+    → missing Sv39 t page ≡ tables_needed Sv39 (page ∷ others) - tables_needed Sv39 others
 
 pub need_is : (v : View) (root trapframe : ℕ) (l : Layout) (t : Tables) (p : Process) (page : ℕ) → CanSettle (body v root trapframe l) t p page → CountsGrowth
-    → settle_need p page ≡ 1 + missing t page
+    → settle_need p page ≡ 1 + missing Sv39 t page
 need_is v root trapframe l t p page can law =
     let low = low_at p can.agrees.sound.order page can.region can.in_region in
     let all : All (λ n. n < 2 ^ 27) (pages.keys p.tabled) = λ k d less. let one = can.agrees.stands.tabled_low k d less in omega (arith, one) in
@@ -46,7 +47,7 @@ need_is v root trapframe l t p page can law =
 
 -- a reservation of n credits was refused
 module _ (v u w : View) (n : ℕ) (is : u ≡ v) (dry : IsDry n u w) where
-  pub runs_dry : (root trapframe : ℕ) (l : Layout) (page : ℕ) → CountsGrowth → ((t : Tables) → HasTables v root t → n ≡ 1 + missing t page)
+  pub runs_dry : (root trapframe : ℕ) (l : Layout) (page : ℕ) → CountsGrowth → ((t : Tables) → HasTables Sv39 v root t → n ≡ 1 + missing Sv39 t page)
       → (t : Tables) (p : Process) → CanSettle (body v root trapframe l) t p page → RunsDry v w (settle_need p page) []
   runs_dry root trapframe l page law enough t p can =
       let need = need_is v root trapframe l t p page can law in
@@ -89,7 +90,7 @@ module _ (v : View) (root trapframe : ℕ) (l : Layout) (t : Tables) (p : Proces
           low = low_at p can.agrees.sound.order page r in_region;
         }
 
-    pub settles : (x : View) (s : Tables) (bytes : List ℕ) (f : ℕ) → n ≡ 1 + missing t page → settle_need p page ≡ 1 + missing t page
+    pub settles : (x : View) (s : Tables) (bytes : List ℕ) (f : ℕ) → n ≡ 1 + missing Sv39 t page → settle_need p page ≡ 1 + missing Sv39 t page
         → Adds w x root trapframe t s p page bytes f → Settles v (body x root trapframe l) t s p page bytes f
     settles x s bytes f enough need a = record {
       agrees = λ fresh. record {
@@ -105,6 +106,6 @@ module _ (v : View) (root trapframe : ℕ) (l : Layout) (t : Tables) (p : Proces
       takes = record {
         tallies =
             let old : w.tallies ≡ v.tallies = ap (λ (y : View). y.tallies) reserved ∙ ap (λ (y : View). y.tallies) is in
-            spent_taken v.tallies x.tallies (settle_need p page) (spent_is v.tallies x.tallies (1 + missing t page) (settle_need p page) (omega (arith, need)) (a.spends.tallies ∙ ap (spent (1 + missing t page)) old));
+            spent_taken v.tallies x.tallies (settle_need p page) (spent_is v.tallies x.tallies (1 + missing Sv39 t page) (settle_need p page) (omega (arith, need)) (a.spends.tallies ∙ ap (spent (1 + missing Sv39 t page)) old));
       };
     }

@@ -9,6 +9,7 @@ use Rattle.process_model.specs.PageMap as pages
 use Rattle.process_model.specs.PageMap.{contains, count}
 use Rattle.process_model.specs.Process.{Page, Process, regions}
 use Rattle.sv39_entry.specs.Address.{trampoline_page, trapframe_page}
+use Rattle.sv39_entry.specs.declared.scheme.Scheme.TheVariants.{Sv39}
 use Rattle.address_space.specs.Parts.{with_settled, with_pages}
 use Rattle.process_model.specs.ValueSets.{count_next, none_in, same_count, values}
 use Rattle.process_model.specs.Inserted.{behind, behind_more, first_or, in_front, inserted_other, key_in, key_out}
@@ -108,7 +109,7 @@ more_behind_two f a b x xs =
     omega (arith, same, more)
 
 -- the order of the pages does not matter
-pub same_tables_needed : (xs ys : List ℕ) → ((x : ℕ) → Contains xs x → Contains ys x) → ((x : ℕ) → Contains ys x → Contains xs x) → tables_needed xs ≡ tables_needed ys
+pub same_tables_needed : (xs ys : List ℕ) → ((x : ℕ) → Contains xs x → Contains ys x) → ((x : ℕ) → Contains ys x → Contains xs x) → tables_needed Sv39 xs ≡ tables_needed Sv39 ys
 unfolding tables_needed
 same_tables_needed xs ys there back =
     let kernel = λ (ns ms : List ℕ) (into : (x : ℕ) → Contains ns x → Contains ms x).
@@ -118,14 +119,14 @@ same_tables_needed xs ys there back =
     rw (large, small) refl
 
 -- a page more needs no fewer tables
-pub more_tables : (x : ℕ) (xs : List ℕ) → tables_needed xs ≤ tables_needed (x ∷ xs)
+pub more_tables : (x : ℕ) (xs : List ℕ) → tables_needed Sv39 xs ≤ tables_needed Sv39 (x ∷ xs)
 unfolding tables_needed
 more_tables x xs =
     let large = more_behind_two (λ n. n / 2 ^ 18) trampoline_page trapframe_page x xs in
     let small = more_behind_two (λ n. n / 2 ^ 9) trampoline_page trapframe_page x xs in
     omega (arith, large, small)
 
-pub tables_next : (p : Process) (e : ℕ × List ℕ) → tables_of (with_settled p e) ≡ tables_needed (e.0 ∷ pages.keys p.tabled)
+pub tables_next : (p : Process) (e : ℕ × List ℕ) → tables_of (with_settled p e) ≡ tables_needed Sv39 (e.0 ∷ pages.keys p.tabled)
 tables_next p e = same_tables_needed _ _ (key_out e.0 tt p.tabled) (key_in e.0 tt p.tabled)
 
 tables_up : (p : Process) (e : ℕ × List ℕ) → tables_of p ≤ tables_of (with_settled p e)

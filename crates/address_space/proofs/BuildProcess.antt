@@ -17,6 +17,7 @@ use Rattle.process_model.specs.PageMap.{NumberSet, from_list, numbers, with_numb
 use Rattle.process_model.specs.Process.{Page, Process, regions}
 use Rattle.process_model.specs.Regions.{end_of, region_at}
 use Rattle.sv39_entry.specs.Address.{trapframe_page}
+use Rattle.sv39_entry.specs.declared.scheme.Scheme.TheVariants.{Sv39}
 use Rattle.table_walk.specs.Counted.{AreTablesOf}
 use Rattle.table_walk.specs.Tables.{Tables}
 use Rattle.address_space.specs.Agreement.{is_dirty_page, IsPageLeaf, Shows, Stands}
@@ -95,7 +96,7 @@ module _ (p q : Process) (like : IsLike p q) where
     tables = s.tables;
     owns = s.owns;
     shows = shows_like v trapframe t s.shows;
-    tabled = subst (AreTablesOf t) like.tabled s.tabled;
+    tabled = subst (AreTablesOf Sv39 t) like.tabled s.tabled;
     tabled_low = subst (All (λ n. n < trapframe_page)) like.tabled s.tabled_low;
   }
 
@@ -186,9 +187,9 @@ from_numbers : (ns : List ℕ) (x : ℕ) → Contains (pages.keys (numbers ns)) 
 from_numbers [] x h = h
 from_numbers (n ∷ ns) x h = behind_more n (pages.keys (numbers ns)) ns (from_numbers ns) x (key_out n tt (numbers ns) x h)
 
-pub whole_tables : (ps : List Part) → tables_of (with_pages (bare_process ps) (pages_of ps)) ≡ tables_needed (numbers_of ps)
+pub whole_tables : (ps : List Part) → tables_of (with_pages (bare_process ps) (pages_of ps)) ≡ tables_needed Sv39 (numbers_of ps)
 whole_tables ps =
-    ap tables_needed (same_keys (with_pages (bare_process ps) (pages_of ps)).tabled (numbers (numbers_of ps)) (same_tabled (pages_of ps) (bare_process ps)))
+    ap (tables_needed Sv39) (same_keys (with_pages (bare_process ps) (pages_of ps)).tabled (numbers (numbers_of ps)) (same_tabled (pages_of ps) (bare_process ps)))
     ∙ same_tables_needed (pages.keys (numbers (numbers_of ps))) (numbers_of ps) (from_numbers (numbers_of ps)) (in_numbers (numbers_of ps))
 
 pub bare_tables : (ps : List Part) → tables_of (bare_process ps) ≡ 3

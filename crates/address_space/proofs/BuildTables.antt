@@ -14,9 +14,10 @@ use Rattle.process_model.specs.Process.{Page, Process}
 use Rattle.sv39_entry.specs.Address.{has, trampoline_page, trapframe_page}
 use Rattle.sv39_entry.specs.Word.{IsLeafOf, ppn}
 use Rattle.table_walk.specs.Counted.{AreTablesOf}
-use Rattle.table_walk.specs.Tables.{bare_root, blank_hold, ChangesTables, HasTables, Tables, IsGrown, leaf_node, missing, with_leaf}
+use Rattle.table_walk.specs.Tables.{bare_root, blank_hold, ChangesTables, HasTables, Tables, IsGrown, leaf_node, missing, with_leaf, root_node}
 use Rattle.table_walk.specs.Keys.{insert_other, insert_same, is_none}
-use Rattle.table_walk.specs.Walk.{top_level}
+use Rattle.sv39_entry.specs.Schemes.{top_level}
+use Rattle.sv39_entry.specs.declared.scheme.Scheme.TheVariants.{Sv39}
 use Rattle.address_space.specs.Agreement.{HasKernelLeaf, Names, nothing, one_of, Owns, Shows, Stands, code_rights, data_rights}
 use Rattle.address_space.specs.Parts.{CanOpen, Opens, OwnsAlone}
 use Rattle.address_space.specs.Steps.{Spends}
@@ -25,16 +26,16 @@ use Rattle.address_space.proofs.Owned.{apart_by, both_of, claimed_other, one_els
 
 -- ---- the root
 
-bare_table : (root k f : ℕ) → get (bare_root root).tables k ≡ Some f → (k ≡ 1) × (f ≡ root)
-bare_table root k f at = elim (cases_eq k 1) [
-  | inl is ↦ (is, sym (same_Some root f (sym (insert_same empty 1 root k is) ∙ at)))
-  | inr ne ↦ absurd (let none = sym (insert_other empty 1 root k ne ∙ get-empty {X = ℕ} nat_cmp k) ∙ at in cc)
+bare_table : (root k f : ℕ) → get (bare_root Sv39 root).tables k ≡ Some f → (k ≡ root_node Sv39) × (f ≡ root)
+bare_table root k f at = elim (cases_eq k 512) [
+  | inl is ↦ (is, sym (same_Some root f (sym (insert_same empty 512 root k is) ∙ at)))
+  | inr ne ↦ absurd (let none = sym (insert_other empty 512 root k ne ∙ get-empty {X = ℕ} nat_cmp k) ∙ at in cc)
 ]
 
-bare_leaf : (root k y : ℕ) → get (bare_root root).leaves k ≡ Some y → ⊥
+bare_leaf : (root k y : ℕ) → get (bare_root Sv39 root).leaves k ≡ Some y → ⊥
 bare_leaf root k y at = let none = sym (get-empty {X = ℕ} nat_cmp k) ∙ at in cc
 
-bare_name : (root f k : ℕ) → Names (bare_root root) f k → (k ≡ 1) × (f ≡ root)
+bare_name : (root f k : ℕ) → Names (bare_root Sv39 root) f k → (k ≡ root_node Sv39) × (f ≡ root)
 bare_name root f k (inl table) = bare_table root k f table
 bare_name root f k (inr (y, leaf, names)) = absurd (bare_leaf root k y leaf)
 
@@ -72,10 +73,10 @@ module _ (v w : View) (root trapframe : ℕ) (can : CanOpen v trapframe) (fresh 
     ]
   ]
 
-  pub zero_unnamed : (k : ℕ) → Names (bare_root root) 0 k → ⊥
+  pub zero_unnamed : (k : ℕ) → Names (bare_root Sv39 root) 0 k → ⊥
   zero_unnamed k names = not_zero (bare_name root 0 k names).1
 
-  pub trapframe_unnamed : (k : ℕ) → Names (bare_root root) trapframe k → ⊥
+  pub trapframe_unnamed : (k : ℕ) → Names (bare_root Sv39 root) trapframe k → ⊥
   trapframe_unnamed k names = not_trapframe (bare_name root trapframe k names).1
 
   pub trapframe_as_was : hold_of w trapframe ≡ hold_of v trapframe
@@ -84,7 +85,7 @@ module _ (v w : View) (root trapframe : ℕ) (can : CanOpen v trapframe) (fresh 
   pub trapframe_yet : IsHeld w trapframe
   trapframe_yet = let one = can.holds.saved in let same = same_references v w trapframe trapframe_as_was in omega (arith, one, same)
 
-  pub root_owns : Owns w (bare_root root) (both_of trapframe 0)
+  pub root_owns : Owns w (bare_root Sv39 root) (both_of trapframe 0)
   root_owns = record {
     once = λ f j k first second. (bare_name root f j first).0 ∙ sym (bare_name root f k second).0;
     named = λ f k names.
@@ -94,7 +95,7 @@ module _ (v w : View) (root trapframe : ℕ) (can : CanOpen v trapframe) (fresh 
         let saved = one_else trapframe f (λ same. not_trapframe (sym same ∙ is)) in
         omega (arith, one, zero, saved);
     bare = λ f free.
-        let apart : f ≡ root → ⊥ = λ same. free 1 (inl (insert_same empty 1 root 1 refl ∙ ap Some (sym same))) in
+        let apart : f ≡ root → ⊥ = λ same. free 512 (inl (insert_same empty 512 root 512 refl ∙ ap Some (sym same))) in
         same_references v w f (other_hold f apart) ∙ other_count f;
     writable = λ f n y leaf names writes. absurd (bare_leaf root n y leaf);
   }
@@ -108,22 +109,22 @@ module _ (v w : View) (root trapframe : ℕ) (can : CanOpen v trapframe) (fresh 
 -- ---- TRAMPOLINE, over a frame that all processes share
 
 pub record HasTrampoline (w : View) (root trapframe : ℕ) (t : Tables) : Type 0 where
-  pub tables : HasTables w root t
+  pub tables : HasTables Sv39 w root t
   pub owns : Owns w t (one_of trapframe)
   pub free : (k : ℕ) → Names t trapframe k → ⊥
   pub leaf : HasKernelLeaf t trampoline_page 0 code_rights
   pub only : (k y : ℕ) → get t.leaves k ≡ Some y → k ≡ leaf_node trampoline_page
-  pub tabled : AreTablesOf t []
+  pub tabled : AreTablesOf Sv39 t []
 
-module _ (v w : View) (root trapframe x n : ℕ) (u : Tables) (o : Owns v (bare_root root) (both_of trapframe 0)) (zero_free : (k : ℕ) → Names (bare_root root) 0 k → ⊥)
-    (bare : HasTables v root (bare_root root)) (grown : IsGrown (bare_root root) u trampoline_page top_level)
-    (tables : HasTables w root (with_leaf u (leaf_node trampoline_page) x)) (changes : ChangesTables v w (bare_root root) u n)
+module _ (v w : View) (root trapframe x n : ℕ) (u : Tables) (o : Owns v (bare_root Sv39 root) (both_of trapframe 0)) (zero_free : (k : ℕ) → Names (bare_root Sv39 root) 0 k → ⊥)
+    (bare : HasTables Sv39 v root (bare_root Sv39 root)) (grown : IsGrown Sv39 (bare_root Sv39 root) u trampoline_page (top_level Sv39))
+    (tables : HasTables Sv39 w root (with_leaf u (leaf_node trampoline_page) x)) (changes : ChangesTables v w (bare_root Sv39 root) u n)
     (made : IsLeafOf x 0 code_rights false false true) where
   abbrev after : Tables
   after = with_leaf u (leaf_node trampoline_page) x
 
-  no_leaf : get (bare_root root).leaves (leaf_node trampoline_page) ≡ None
-  no_leaf = is_none (get (bare_root root).leaves (leaf_node trampoline_page)) (bare_leaf root (leaf_node trampoline_page))
+  no_leaf : get (bare_root Sv39 root).leaves (leaf_node trampoline_page) ≡ None
+  no_leaf = is_none (get (bare_root Sv39 root).leaves (leaf_node trampoline_page)) (bare_leaf root (leaf_node trampoline_page))
 
   one_leaf : (k y : ℕ) → get after.leaves k ≡ Some y → k ≡ leaf_node trampoline_page
   one_leaf k y leaf = elim (cases_eq k (leaf_node trampoline_page)) [
@@ -135,15 +136,15 @@ module _ (v w : View) (root trapframe x n : ℕ) (u : Tables) (o : Owns v (bare_
   not_written writes = absurd (let both = sym made.write ∙ writes in cc)
 
   -- the trapframe's frame waits
-  module _ (apart : trapframe ≡ 0 → ⊥) (held : IsHeld v trapframe) (free : (k : ℕ) → Names (bare_root root) trapframe k → ⊥) where
+  module _ (apart : trapframe ≡ 0 → ⊥) (held : IsHeld v trapframe) (free : (k : ℕ) → Names (bare_root Sv39 root) trapframe k → ⊥) where
     pub trampoline_saved : hold_of w trapframe ≡ hold_of v trapframe
-    trampoline_saved = still_held v w (bare_root root) u n root trampoline_page x 0 (both_of trapframe 0) (one_of trapframe) o zero_free (λ g. refl) bare grown changes tables made.names no_leaf not_written trapframe apart held free
+    trampoline_saved = still_held v w (bare_root Sv39 root) u n root trampoline_page x 0 (both_of trapframe 0) (one_of trapframe) o zero_free (λ g. refl) bare grown changes tables made.names no_leaf not_written trapframe apart held free
 
-    pub has_trampoline : AreTablesOf u [] → HasTrampoline w root trapframe after
+    pub has_trampoline : AreTablesOf Sv39 u [] → HasTrampoline w root trapframe after
     has_trampoline are = record {
       tables = tables;
-      owns = leaf_owns v w (bare_root root) u n root trampoline_page x 0 (both_of trapframe 0) (one_of trapframe) o zero_free (λ g. refl) bare grown changes tables made.names no_leaf not_written;
-      free = still_unnamed v w (bare_root root) u n root trampoline_page x 0 (both_of trapframe 0) (one_of trapframe) o zero_free (λ g. refl) bare grown changes tables made.names no_leaf not_written trapframe apart held free;
+      owns = leaf_owns v w (bare_root Sv39 root) u n root trampoline_page x 0 (both_of trapframe 0) (one_of trapframe) o zero_free (λ g. refl) bare grown changes tables made.names no_leaf not_written;
+      free = still_unnamed v w (bare_root Sv39 root) u n root trampoline_page x 0 (both_of trapframe 0) (one_of trapframe) o zero_free (λ g. refl) bare grown changes tables made.names no_leaf not_written trapframe apart held free;
       leaf = (x, insert_same u.leaves (leaf_node trampoline_page) x (leaf_node trampoline_page) refl, made);
       only = one_leaf;
       tabled = are;
@@ -158,13 +159,13 @@ pub trapframe_shares : Contains (trampoline_page ∷ trapframe_page ∷ []) trap
 trapframe_shares = (1, omega arith, refl)
 
 -- TRAMPOLINE's tables beside the root
-pub two_missing : (root : ℕ) → missing (bare_root root) trampoline_page ≡ tables_needed [] - 1 → missing (bare_root root) trampoline_page ≡ 2
+pub two_missing : (root : ℕ) → missing Sv39 (bare_root Sv39 root) trampoline_page ≡ tables_needed Sv39 [] - 1 → missing Sv39 (bare_root Sv39 root) trampoline_page ≡ 2
 unfolding tables_needed
 two_missing root law = law
 
-module _ (v w : View) (root x f n : ℕ) (t u : Tables) (before : HasTrampoline v root f t) (sole : IsSole v f) (grown : IsGrown t u trapframe_page top_level)
-    (tables : HasTables w root (with_leaf u (leaf_node trapframe_page) x)) (changes : ChangesTables v w t u n)
-    (made : IsLeafOf x f data_rights false false true) (are : AreTablesOf u []) where
+module _ (v w : View) (root x f n : ℕ) (t u : Tables) (before : HasTrampoline v root f t) (sole : IsSole v f) (grown : IsGrown Sv39 t u trapframe_page (top_level Sv39))
+    (tables : HasTables Sv39 w root (with_leaf u (leaf_node trapframe_page) x)) (changes : ChangesTables v w t u n)
+    (made : IsLeafOf x f data_rights false false true) (are : AreTablesOf Sv39 u []) where
   unmapped : get t.leaves (leaf_node trapframe_page) ≡ None
   unmapped = is_none (get t.leaves (leaf_node trapframe_page)) (λ y leaf. kernel_apart (before.only (leaf_node trapframe_page) y leaf))
 
@@ -233,10 +234,10 @@ open_spends o a v w t u t2 u2 m n first two second none last = record {
 }
 
 -- the credits that each of the two takes are there
-pub first_enough : (o v : View) (root page : ℕ) → page ≡ trampoline_page → missing (bare_root root) trampoline_page ≡ 2 → Spends o v 1 → 3 ≤ o.credits → missing (bare_root root) page ≤ v.credits
+pub first_enough : (o v : View) (root page : ℕ) → page ≡ trampoline_page → missing Sv39 (bare_root Sv39 root) trampoline_page ≡ 2 → Spends o v 1 → 3 ≤ o.credits → missing Sv39 (bare_root Sv39 root) page ≤ v.credits
 first_enough o v root page is two spent enough =
-    let same = ap (missing (bare_root root)) is in
+    let same = ap (missing Sv39 (bare_root Sv39 root)) is in
     omega (arith, same, two, spent.credits, enough)
 
-pub second_enough : (credits : ℕ) (t : Tables) (page : ℕ) → page ≡ trapframe_page → missing t trapframe_page ≡ 0 → missing t page ≤ credits
-second_enough credits t page is none = let same = ap (missing t) is in omega (arith, same, none)
+pub second_enough : (credits : ℕ) (t : Tables) (page : ℕ) → page ≡ trapframe_page → missing Sv39 t trapframe_page ≡ 0 → missing Sv39 t page ≤ credits
+second_enough credits t page is none = let same = ap (missing Sv39 t) is in omega (arith, same, none)

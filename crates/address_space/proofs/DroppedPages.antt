@@ -1,5 +1,5 @@
 -- Pages of a run that go one after another.
-use Rattle.std.proofs.Common.{◌≡◌, ℕ, suc, ◌+◌, ◌*◌, ◌^◌, ◌<◌, ◌≤◌, ◌⊎◌, max, Option, None, Some, refl, ap, sym, ◌∙◌, inl, inr, arith}
+use Rattle.std.proofs.Common.{◌≡◌, ℕ, ◌+◌, ◌*◌, ◌^◌, ◌<◌, ◌≤◌, ◌⊎◌, max, Option, None, Some, refl, ap, sym, ◌∙◌, inl, inr, arith}
 use Rattle.std.specs.Prelude.{IsSome}
 use Rattle.std.proofs.lemmas.Bool.{cases_eq, cases_lt}
 use Rattle.std.specs.FinMap.{get}
@@ -10,10 +10,11 @@ use Rattle.process_model.specs.PageMap.{PageMap}
 use Rattle.process_model.specs.Process.{Page, Process}
 use Rattle.process_model.specs.Released.{still_settled, was_settled}
 use Rattle.sv39_entry.specs.Address.{trampoline_page, trapframe_page}
-use Rattle.table_walk.specs.Changed.{IsNextLeafBefore}
-use Rattle.table_walk.specs.Tables.{Tables, leaf_node, without_leaf}
+use Rattle.sv39_entry.specs.declared.scheme.Scheme.TheVariants.{Sv39}
+use Rattle.sv39_entry.specs.Schemes.{top_level}
+use Rattle.table_walk.specs.Changed.{IsNextLeafBefore, places}
+use Rattle.table_walk.specs.Tables.{Tables, leaf_node, without_leaf, root_node}
 use Rattle.table_walk.specs.Keys.{remove_same, remove_other}
-use Rattle.table_walk.specs.Nodes.{leaf_node_is}
 use Rattle.table_walk.specs.Places.{IsBare}
 use Rattle.address_space.specs.Agreement.{body, IsSpace, IsLeafNumber, IsOn, nothing, Shows, Stands}
 use Rattle.address_space.specs.Ending.{AreUnmapped, CanDrop, Drops, DropsLeaf, DropsRun, IsFirstMapped, MayDrop}
@@ -24,13 +25,13 @@ use Rattle.address_space.proofs.Owned.{one_page, same_bytes}
 
 -- places below the root, and pages
 
-leaf_place : (n : ℕ) → n < 2 ^ 27 → leaf_node n ≡ 1 * 512 ^ suc 2 + n
-leaf_place n low = let at = leaf_node_is n in omega (arith, at, low)
+leaf_place : (n : ℕ) → n < 2 ^ 27 → leaf_node n ≡ root_node Sv39 * places (top_level Sv39) + n
+leaf_place n low = omega (arith, low)
 
-unmapped_to : (t : Tables) (first end : ℕ) → IsBare t 1 (512 ^ suc 2) first end → end ≤ 2 ^ 27 → AreUnmapped t first end
+unmapped_to : (t : Tables) (first end : ℕ) → IsBare t (root_node Sv39) (places (top_level Sv39)) first end → end ≤ 2 ^ 27 → AreUnmapped t first end
 unmapped_to t first end bare low n from less = ap (get t.leaves) (leaf_place n (omega arith)) ∙ bare n from less
 
-pub first_is_mapped : (t : Tables) (first end : ℕ) (o : Option (ℕ × ℕ)) → IsNextLeafBefore t first end o → end ≤ 2 ^ 27 → IsFirstMapped t first end o
+pub first_is_mapped : (t : Tables) (first end : ℕ) (o : Option (ℕ × ℕ)) → IsNextLeafBefore Sv39 t first end o → end ≤ 2 ^ 27 → IsFirstMapped t first end o
 first_is_mapped t first end None bare low = unmapped_to t first end bare low
 first_is_mapped t first end (Some p) next low =
     let before = next.0 in

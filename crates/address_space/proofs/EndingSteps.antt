@@ -13,6 +13,7 @@ use Rattle.process_model.specs.Regions.{Region, region_at}
 use Rattle.sv39_entry.specs.Address.{trampoline_page, trapframe_page}
 use Rattle.sv39_entry.specs.Word.{ppn}
 use Rattle.sv39_entry.specs.Frame.{ppn_of}
+use Rattle.sv39_entry.specs.declared.scheme.Scheme.TheVariants.{Sv39}
 use Rattle.table_walk.specs.Tables.{ChangesTables, HasTables, Tables, leaf_node, without_leaf}
 use Rattle.table_walk.specs.Keys.{is_none, remove_other}
 use Rattle.table_walk.specs.Released.{AreLast, SameTallies}
@@ -73,7 +74,7 @@ module _ (v w m : View) (root trapframe : ℕ) (t : Tables) (a : IsEmptied v roo
       let saved = a.on_trapframe in
       leaves_apart (a.owns.once 0 (leaf_node trampoline_page) (leaf_node trapframe_page) (inr (code.0, code.1, code.2.names)) (inr (saved.0, saved.1, saved.2.names ∙ ap ppn_of same)))
 
-  module _ (c : ChangesTables v w t t 0) (has : HasTables w root (without_leaf t (leaf_node trapframe_page)))
+  module _ (c : ChangesTables v w t t 0) (has : HasTables Sv39 w root (without_leaf t (leaf_node trapframe_page)))
       (d : ChangesTables w m (without_leaf t (leaf_node trapframe_page)) (without_leaf t (leaf_node trapframe_page)) 0) where
     one_waits : Owns w first (one_of trapframe)
     one_waits = let on = a.on_trapframe in unmapped v w root t (leaf_node trapframe_page) on.0 trapframe a.tables a.owns on.1 on.2.names c

@@ -12,10 +12,10 @@ use Rattle.sv39_entry.specs.Word.{leaf_word, permits, ppn}
 use Rattle.sv39_entry.specs.declared.access.Access.{Access}
 use Rattle.sv39_entry.specs.declared.access.Access.TheVariants.{Fetch, Load, Store}
 use Rattle.sv39_entry.specs.declared.access.Mode.TheVariants.{Supervisor}
+use Rattle.sv39_entry.specs.declared.scheme.Scheme.TheVariants.{Sv39}
 use Rattle.table_walk.specs.Held.{held_memory}
-use Rattle.table_walk.specs.Tables.{Tables, leaf_node}
+use Rattle.table_walk.specs.Tables.{Tables, leaf_node, walk_leaf}
 use Rattle.table_walk.specs.Memory.{Extent, has_byte, physical_address}
-use Rattle.table_walk.specs.Nodes.{leaf_node_is}
 use Rattle.table_walk.specs.Walk.{Finds, FindsLeaf, LeavesMemory, Maps, Translates}
 use Rattle.table_walk.specs.declared.walk.Found.TheVariants as found
 use Rattle.table_walk.specs.declared.walk.Walk.TheVariants as walk
@@ -76,17 +76,15 @@ abbrev pub extent : Extent
 extent ppn index = is_some (frame_at ppn)
 
 module _ (v : View) (root frames slots : ℕ) (stacks : List ℕ) (t : Tables) (built : IsKernelTable v root frames slots stacks t)
-    (found_leaves : (page leaf level : ℕ) → Maps (held_memory v) (ppn_of root) page leaf level ↔ (level ≡ 0) × (get t.leaves (leaf_node page) ≡ Some leaf))
-    (inside : (page : ℕ) → LeavesMemory (held_memory v) (ppn_of root) page → ⊥) (address : ℕ) (access : Access) where
-  any_leaf : get t.leaves (leaf_node (page_of address)) ≡ kernel_leaf (kernel_page frames stacks (page_of address % 2 ^ 27))
+    (found_leaves : (page leaf level : ℕ) → Maps Sv39 (held_memory v) (ppn_of root) page leaf level ↔ (level ≡ 0) × (get t.leaves (walk_leaf Sv39 page) ≡ Some leaf))
+    (inside : (page : ℕ) → LeavesMemory Sv39 (held_memory v) (ppn_of root) page → ⊥) (address : ℕ) (access : Access) where
+  any_leaf : get t.leaves (walk_leaf Sv39 (page_of address)) ≡ kernel_leaf (kernel_page frames stacks (page_of address % 2 ^ 27))
   any_leaf =
-      let one = leaf_node_is (page_of address) in
-      let two = leaf_node_is (page_of address % 2 ^ 27) in
-      let same : leaf_node (page_of address) ≡ leaf_node (page_of address % 2 ^ 27) = omega (arith, one, two) in
+      let same : walk_leaf Sv39 (page_of address) ≡ leaf_node (page_of address % 2 ^ 27) = omega arith in
       ap (get t.leaves) same ∙ built.maps.leaves (page_of address % 2 ^ 27) (omega arith)
 
   -- pages of the upper half have the numbers of pages above the trampoline
-  leaf_here : is_canonical address ≡ true → get t.leaves (leaf_node (page_of address)) ≡ kernel_leaf (kernel_page frames stacks (page_of address))
+  leaf_here : is_canonical address ≡ true → get t.leaves (walk_leaf Sv39 (page_of address)) ≡ kernel_leaf (kernel_page frames stacks (page_of address))
   leaf_here canonical = elim (or_cases (address / 2 ^ 38 == 0) (address / 2 ^ 38 == 2 ^ 26 - 1) canonical) [
     | inl low ↦
         let zero = eqb-true (address / 2 ^ 38) 0 low in
@@ -100,7 +98,7 @@ module _ (v : View) (root frames slots : ℕ) (stacks : List ℕ) (t : Tables) (
         ∙ ap kernel_leaf (sym (above_none frames stacks (page_of address) built.few_frames far))
   ]
 
-  nothing : kernel_page frames stacks (page_of address) ≡ None → Finds (held_memory v) (ppn_of root) address found.NoLeaf
+  nothing : kernel_page frames stacks (page_of address) ≡ None → Finds Sv39 (held_memory v) (ppn_of root) address found.NoLeaf
   nothing is = elim (cases_Bool (is_canonical address)) [
     | inl canonical ↦ inr ((λ leaf level maps. (let there = ((found_leaves (page_of address) leaf level).0 maps).1 in let none = leaf_here canonical ∙ ap kernel_leaf is in cc)), inside (page_of address))
     | inr not_canonical ↦ inl not_canonical
@@ -115,7 +113,7 @@ module _ (v : View) (root frames slots : ℕ) (stacks : List ℕ) (t : Tables) (
         let low = page_low frames stacks (page_of address) built.few_frames p is in
         rw (eq-eqb (address / 2 ^ 38) 0 (omega (arith, low))) refl
 
-    finds : FindsLeaf (held_memory v) (ppn_of root) address (leaf_word p.0 p.1 false false true) 0
+    finds : FindsLeaf Sv39 (held_memory v) (ppn_of root) address (leaf_word p.0 p.1 false false true) 0
     finds = (canonical_here, (found_leaves (page_of address) (leaf_word p.0 p.1 false false true) 0).1 (refl, leaf_here canonical_here ∙ ap kernel_leaf is))
 
     place : 4096 * ppn_of p.0 + address % 2 ^ 12 ≡ physical_address (leaf_word p.0 p.1 false false true) 0 address
@@ -124,15 +122,15 @@ module _ (v : View) (root frames slots : ℕ) (stacks : List ℕ) (t : Tables) (
     byte_there : has_byte extent (4096 * ppn_of p.0 + address % 2 ^ 12) ≡ true
     byte_there = let page : (4096 * ppn_of p.0 + address % 2 ^ 12) / 4096 ≡ ppn_of p.0 = omega arith in rw page (frame_there p.0 known.0)
 
-    something : Translates (held_memory v) extent (ppn_of root) address access Supervisor (walk_to address access (Some p))
+    something : Translates Sv39 (held_memory v) extent (ppn_of root) address access Supervisor (walk_to address access (Some p))
     something = cond_both (grants p.1 access) (walk.Leaf (leaf_word p.0 p.1 false false true) 0 (4096 * ppn_of p.0 + address % 2 ^ 12)) (walk.PageFault (page_fault_cause access))
-        (Translates (held_memory v) extent (ppn_of root) address access Supervisor)
+        (Translates Sv39 (held_memory v) extent (ppn_of root) address access Supervisor)
         (λ granted. (finds, leaf_permits p access known ∙ granted, place, byte_there))
         (λ denied. (refl, inr (leaf_word p.0 p.1 false false true, 0, finds, leaf_permits p access known ∙ denied)))
 
-  walks_to : (o : Option (ℕ × ℕ)) → kernel_page frames stacks (page_of address) ≡ o → Translates (held_memory v) extent (ppn_of root) address access Supervisor (walk_to address access o)
+  walks_to : (o : Option (ℕ × ℕ)) → kernel_page frames stacks (page_of address) ≡ o → Translates Sv39 (held_memory v) extent (ppn_of root) address access Supervisor (walk_to address access o)
   walks_to None is = (refl, inl (nothing is))
   walks_to (Some p) is = something p is
 
-  pub kernel_walks : Translates (held_memory v) extent (ppn_of root) address access Supervisor (kernel_walk frames stacks address access)
+  pub kernel_walks : Translates Sv39 (held_memory v) extent (ppn_of root) address access Supervisor (kernel_walk frames stacks address access)
   kernel_walks = walks_to (kernel_page frames stacks (page_of address)) refl

@@ -20,6 +20,7 @@ pub mod KernelPages
 pub mod KernelSteps
 pub mod KernelTables
 pub mod KernelWalks
+pub mod LowLeaves
 pub mod MappingLists
 pub mod Marks
 pub mod NeededParts
@@ -27,10 +28,10 @@ pub mod Owned
 pub mod Owning
 pub mod OwningCounts
 pub mod OwningSteps
+pub mod RegionEnds
 pub mod Relaid
 pub mod SettledPages
 pub mod Sound
 pub mod UserAnswers
 pub mod Users
 pub mod Writing
-pub mod RegionEnds

@@ -7,6 +7,7 @@ use Rattle.process_model.specs.PageMap.{NumberSet, PageMap}
 use Rattle.process_model.specs.Process.{Page, Process}
 use Rattle.process_model.specs.Regions.{is_guard_kind, is_shared_kind, Region}
 use Rattle.sv39_entry.specs.Address.{trapframe_page}
+use Rattle.sv39_entry.specs.declared.scheme.Scheme.TheVariants.{Sv39}
 use Rattle.table_walk.specs.Counted.{AreTablesOf}
 use Rattle.table_walk.specs.Tables.{Tables}
 use Rattle.address_space.specs.Agreement.{body, is_dirty_page, IsLeafNumber, IsPageLeaf, IsShown, IsSpace, Shows}
@@ -76,7 +77,7 @@ module _ (v : View) (root trapframe : ℕ) (l m : Layout) (t : Tables) (p q : Pr
       tables = space.stands.tables;
       owns = space.stands.owns;
       shows = shows_relaid;
-      tabled = subst (λ (x : NumberSet). AreTablesOf t (pages.keys x)) (sym can.tabled) space.stands.tabled;
+      tabled = subst (λ (x : NumberSet). AreTablesOf Sv39 t (pages.keys x)) (sym can.tabled) space.stands.tabled;
       tabled_low = subst (λ (x : NumberSet). All (λ n. n < trapframe_page) (pages.keys x)) (sym can.tabled) space.stands.tabled_low;
     };
     credits = space.credits;

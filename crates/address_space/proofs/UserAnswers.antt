@@ -19,6 +19,7 @@ use Rattle.table_walk.specs.Memory.{physical_address}
 use Rattle.sv39_entry.specs.declared.access.Access.TheVariants.{Fetch, Load, Store}
 use Rattle.sv39_entry.specs.declared.access.Mode.TheVariants.{User}
 use Rattle.sv39_entry.specs.declared.frame.FrameNo.{FrameNo}
+use Rattle.sv39_entry.specs.declared.scheme.Scheme.TheVariants.{Sv39}
 use Rattle.table_walk.specs.Tables.{Tables}
 use Rattle.table_walk.specs.declared.walk.Walk.{Walk}
 use Rattle.table_walk.specs.declared.walk.Walk.TheVariants as walk
@@ -52,19 +53,19 @@ module _ (v : View) (root trapframe : ℕ) (l : Layout) (t : Tables) (p : Proces
   still_agrees cause is = subst (λ (z : Answer). IsSpace (body v root trapframe l) t z.process) (sym is) (agrees_pending v root trapframe l t p agrees (Some (pending_of x)))
 
 module _ (v : View) (root trapframe : ℕ) (l : Layout) (t : Tables) (p : Process) (agrees : IsSpace (body v root trapframe l) t p) (x : Asked) (at : x.address % x.width ≡ 0) where
-  pub faults : (cause : ℕ) → walk.PageFault cause ≡ walk_answer t x.address x.access User → user_access p x ≡ faulted p x cause
+  pub faults : (cause : ℕ) → walk.PageFault cause ≡ walk_answer Sv39 t x.address x.access User → user_access p x ≡ faulted p x cause
   faults cause is = elim (walked_by_user v trapframe t p agrees.stands.shows x) [
     | inl goes ↦ absurd (let other = is ∙ goes.5 in cc)
     | inr fails ↦ let same : cause ≡ page_fault_cause x.access = cc in aligned p x at ∙ fails.1 ∙ ap (faulted p x) (sym same)
   ]
 
-  pub no_access_fault : (cause : ℕ) → walk.AccessFault cause ≡ walk_answer t x.address x.access User → ⊥
+  pub no_access_fault : (cause : ℕ) → walk.AccessFault cause ≡ walk_answer Sv39 t x.address x.access User → ⊥
   no_access_fault cause is = elim (walked_by_user v trapframe t p agrees.stands.shows x) [
     | inl goes ↦ let other = is ∙ goes.5 in cc
     | inr fails ↦ let other = is ∙ fails.0 in cc
   ]
 
-  pub fault_answer : (w : Walk) (cause : ℕ) → w ≡ walk_answer t x.address x.access User → (w ≡ walk.PageFault cause) ⊎ (w ≡ walk.AccessFault cause) → user_access p x ≡ faulted p x cause
+  pub fault_answer : (w : Walk) (cause : ℕ) → w ≡ walk_answer Sv39 t x.address x.access User → (w ≡ walk.PageFault cause) ⊎ (w ≡ walk.AccessFault cause) → user_access p x ≡ faulted p x cause
   fault_answer w cause walks (inl is) = faults cause (sym is ∙ walks)
   fault_answer w cause walks (inr is) = absurd (no_access_fault cause (sym is ∙ walks))
 
@@ -93,7 +94,7 @@ pub record Granted (v : View) (root trapframe : ℕ) (l : Layout) (t : Tables) (
   pub writes : x.access ≡ Store → CanWrite (body v root trapframe l) t p (page_of x.address) page
 
 module _ (v : View) (root trapframe : ℕ) (l : Layout) (t : Tables) (p : Process) (agrees : IsSpace (body v root trapframe l) t p) (x : Asked) (at : x.address % x.width ≡ 0) where
-  pub granted : (word level address : ℕ) → walk.Leaf word level address ≡ walk_answer t x.address x.access User → Granted v root trapframe l t p x address
+  pub granted : (word level address : ℕ) → walk.Leaf word level address ≡ walk_answer Sv39 t x.address x.access User → Granted v root trapframe l t p x address
   granted word level address is = elim (walked_by_user v trapframe t p agrees.stands.shows x) [
     | inr fails ↦ absurd (let other = is ∙ fails.0 in cc)
     | inl goes ↦

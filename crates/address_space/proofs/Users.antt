@@ -19,10 +19,11 @@ use Rattle.sv39_entry.specs.declared.access.Access.TheVariants.{Fetch, Load, Sto
 use Rattle.sv39_entry.specs.declared.access.Mode.TheVariants.{User}
 use Rattle.sv39_entry.specs.declared.rule.Rule.{Rule}
 use Rattle.sv39_entry.specs.declared.rule.Rule.TheVariants as rule
-use Rattle.table_walk.specs.Tables.{Tables, leaf_node}
+use Rattle.sv39_entry.specs.declared.scheme.Scheme.TheVariants.{Sv39}
+use Rattle.table_walk.specs.Tables.{Tables, leaf_node, walk_leaf}
 use Rattle.table_walk.specs.Memory.{physical_address}
-use Rattle.table_walk.specs.Nodes.{leaf_node_is}
 use Rattle.table_walk.specs.declared.walk.Walk.TheVariants as walk
+use Rattle.table_walk.specs.Nodes.{low_leaf}
 use Rattle.address_space.specs.Agreement.{HasKernelLeaf, is_dirty_page, IsPageLeaf, IsShown, Shows}
 
 -- addresses
@@ -32,13 +33,11 @@ low_canonical : (a : ℕ) → page_of a < 2 ^ 26 → is_canonical a ≡ true
 low_canonical a low = let zero : a / 2 ^ 38 ≡ 0 = omega (arith, low) in rw zero refl
 
 -- of two pages with one leaf number, of which one is below 2^26 and the other canonical, both are one
-same_page : (n a : ℕ) → n < 2 ^ 26 → is_canonical a ≡ true → leaf_node (page_of a) ≡ leaf_node n → page_of a ≡ n
+same_page : (n a : ℕ) → n < 2 ^ 26 → is_canonical a ≡ true → walk_leaf Sv39 (page_of a) ≡ leaf_node n → page_of a ≡ n
 same_page n a low canonical same =
-    let at = leaf_node_is n in
-    let is = leaf_node_is (page_of a) in
     elim (cases_eq (a / 2 ^ 38) 0) [
-      | inl lower ↦ omega (arith, at, is, same, low, lower)
-      | inr upper ↦ absurd (let high : a / 2 ^ 38 ≡ 2 ^ 26 - 1 = grind (arith, canonical, upper) in omega (arith, at, is, same, low, high))
+      | inl lower ↦ omega (arith, same, low, lower)
+      | inr upper ↦ absurd (let high : a / 2 ^ 38 ≡ 2 ^ 26 - 1 = grind (arith, canonical, upper) in omega (arith, same, low, high))
     ]
 
 -- rights
@@ -184,18 +183,19 @@ module _ (v : View) (trapframe : ℕ) (t : Tables) (p : Process) (shows : Shows 
   access = x.access
 
   abbrev fails : Type 0
-  fails = (walk_answer t a access User ≡ walk.PageFault (page_fault_cause access)) × (unless_denied p x (copy_rule (regions p) access a) ≡ faulted p x (page_fault_cause access))
+  fails = (walk_answer Sv39 t a access User ≡ walk.PageFault (page_fault_cause access)) × (unless_denied p x (copy_rule (regions p) access a) ≡ faulted p x (page_fault_cause access))
 
   abbrev goes : Type 0
   goes = (s : Page) × (shown : IsShown v t p (page_of a) s) × (pages.get p.settled (page_of a) ≡ Some s) × (copy_rule (regions p) access a ≡ None) × (goes_through access (region_on p (page_of a)) s ≡ true)
-      × (walk_answer t a access User ≡ walk.Leaf shown.leaf 0 (physical_address shown.leaf 0 a))
+      × (walk_answer Sv39 t a access User ≡ walk.Leaf shown.leaf 0 (physical_address shown.leaf 0 a))
 
   by_settled : (s : Page) → pages.get p.settled (page_of a) ≡ Some s → goes ⊎ fails
   by_settled s is =
       let shown : IsShown v t p (page_of a) s = shows.settled (page_of a) s is in
       let low : page_of a < trapframe_page = shows.low (page_of a) s is in
-      let leaf : leaf_at t a ≡ Some (page_leaf shown.leaf) = rw (low_canonical a (omega (arith, low)), shown.mapped) refl in
-      let answers : walk_answer t a access User ≡ answer (Some (page_leaf shown.leaf)) a access User = ap (λ o. answer o a access User) leaf in
+      let number : walk_leaf Sv39 (page_of a) ≡ leaf_node (page_of a) = low_leaf Sv39 (page_of a) (omega (arith, low)) in
+      let leaf : leaf_at Sv39 t a ≡ Some (page_leaf shown.leaf) = rw (low_canonical a (omega (arith, low)), number, shown.mapped) refl in
+      let answers : walk_answer Sv39 t a access User ≡ answer (Some (page_leaf shown.leaf)) a access User = ap (λ o. answer o a access User) leaf in
       let right = permits_is shown.leaf shown.frame shown.region s access shown.made in
       let through_is : (b : Bool) → goes_through access (Some shown.region) s ≡ b → goes_through access (region_on p (page_of a)) s ≡ b = λ b goes. ap (λ r. goes_through access r s) shown.in_region ∙ goes in
       let rule_is : copy_rule (regions p) access a ≡ passes shown.region access = rule_of_region (regions p) access a low shown.region shown.in_region in
@@ -212,8 +212,8 @@ module _ (v : View) (trapframe : ℕ) (t : Tables) (p : Process) (shows : Shows 
         )
       ]
 
-  kernel_leaf : (page f rights w : ℕ) → page < 2 ^ 26 → HasKernelLeaf t page f rights → is_canonical a ≡ true → get t.leaves (leaf_node (page_of a)) ≡ Some w → leaf_node (page_of a) ≡ leaf_node page
-      → walk_answer t a access User ≡ walk.PageFault (page_fault_cause access)
+  kernel_leaf : (page f rights w : ℕ) → page < 2 ^ 26 → HasKernelLeaf t page f rights → is_canonical a ≡ true → get t.leaves (walk_leaf Sv39 (page_of a)) ≡ Some w → walk_leaf Sv39 (page_of a) ≡ leaf_node page
+      → walk_answer Sv39 t a access User ≡ walk.PageFault (page_fault_cause access)
   kernel_leaf page f rights w low leaf canonical at same =
       let is : w ≡ leaf.0 = same_Some w leaf.0 (sym at ∙ ap (get t.leaves) same ∙ leaf.1) in
       rw (canonical, at) (rw (not_for_user w access (ap (λ x. has x 4) is ∙ leaf.2.for_user)) refl)
@@ -222,11 +222,11 @@ module _ (v : View) (trapframe : ℕ) (t : Tables) (p : Process) (shows : Shows 
   by_unsettled none = inr (
     elim (cases_Bool (is_canonical a)) [
       | inr other ↦ rw other refl
-      | inl canonical ↦ by_leaf canonical (get t.leaves (leaf_node (page_of a))) refl
+      | inl canonical ↦ by_leaf canonical (get t.leaves (walk_leaf Sv39 (page_of a))) refl
     ],
     unsettled p x none,
   ) where
-    by_leaf : is_canonical a ≡ true → (o : Option ℕ) → get t.leaves (leaf_node (page_of a)) ≡ o → walk_answer t a access User ≡ walk.PageFault (page_fault_cause access)
+    by_leaf : is_canonical a ≡ true → (o : Option ℕ) → get t.leaves (walk_leaf Sv39 (page_of a)) ≡ o → walk_answer Sv39 t a access User ≡ walk.PageFault (page_fault_cause access)
     by_leaf canonical None at = rw (canonical, at) refl
     by_leaf canonical (Some w) at = elim (shows.only _ w at) [
       | inl same ↦ kernel_leaf trampoline_page 0 _ w (omega arith) shows.on_trampoline canonical at same

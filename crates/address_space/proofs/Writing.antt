@@ -22,6 +22,7 @@ use Rattle.sv39_entry.specs.Flags.{has_flag_is}
 use Rattle.sv39_entry.specs.Frame.{frame_at, ppn_of}
 use Rattle.sv39_entry.specs.Word.{has_flag, ppn}
 use Rattle.sv39_entry.specs.declared.frame.FrameNo.{FrameNo}
+use Rattle.sv39_entry.specs.declared.scheme.Scheme.TheVariants.{Sv39}
 use Rattle.table_walk.specs.Counted.{AreTablesOf}
 use Rattle.table_walk.specs.Tables.{HasTables, Tables, leaf_node}
 use Rattle.table_walk.specs.Same.{same_tables}
@@ -173,8 +174,8 @@ module _ (v w : View) (trapframe : ℕ) (t u : Tables) (p : Process) (page : ℕ
     ];
   }
 
-  pub page_stands : (root : ℕ) (before after : ℕ → ℕ) → Stands v root trapframe before t p → HasTables w root u → Owns w u after
-      → AreTablesOf u (pages.keys p.tabled) → Stands w root trapframe after u (with_page p page s)
+  pub page_stands : (root : ℕ) (before after : ℕ → ℕ) → Stands v root trapframe before t p → HasTables Sv39 w root u → Owns w u after
+      → AreTablesOf Sv39 u (pages.keys p.tabled) → Stands w root trapframe after u (with_page p page s)
   page_stands root before after stands tables owns tabled = record {
     tables = tables;
     owns = owns;

@@ -7,6 +7,7 @@ use Rattle.process_model.specs.Service as service
 use Rattle.sv39_entry.specs.Address.{page_of}
 use Rattle.sv39_entry.specs.declared.access.Access.{Access}
 use Rattle.sv39_entry.specs.declared.access.Mode.TheVariants.{User}
+use Rattle.sv39_entry.specs.declared.scheme.Scheme.TheVariants.{Sv39}
 use Rattle.table_walk.specs.Leaves.{walk_answer}
 use Rattle.table_walk.specs.Tables.{Tables}
 use Rattle.table_walk.specs.declared.walk.Walk.{Walk}
@@ -18,7 +19,7 @@ asked_of x = record { access = x.access; address = x.va.0; width = x.width; valu
 
 -- what an access of the user is translated to by these tables
 abbrev pub IsWalkOf : Tables → Asked → Walk → Type 0
-IsWalkOf t x z = z ≡ walk_answer t x.va.0 x.access User
+IsWalkOf t x z = z ≡ walk_answer Sv39 t x.va.0 x.access User
 
 -- no rule of the process's regions denies the access, alignment aside, and its page is resident for it
 abbrev pub IsGranted : Process → Access → ℕ → Type 0

@@ -10,6 +10,7 @@ use Rattle.process_model.specs.Regions.{Region, is_guard_kind, is_shared_kind, r
 use Rattle.sv39_entry.specs.Address.{has, trampoline_page, trapframe_page}
 use Rattle.sv39_entry.specs.Frame.{ppn_of}
 use Rattle.sv39_entry.specs.Word.{IsLeafOf, ppn}
+use Rattle.sv39_entry.specs.declared.scheme.Scheme.TheVariants.{Sv39}
 use Rattle.table_walk.specs.Counted.{AreTablesOf}
 use Rattle.table_walk.specs.Tables.{HasTables, Tables, leaf_node}
 use Rattle.address_space.specs.Layouts.{Layout, LaysOut}
@@ -110,10 +111,10 @@ pub record Shows (v : View) (trapframe : ℕ) (t : Tables) (p : Process) : Type 
 
 -- a process that stands in memory, whatever its seat has of credits, and of references beside the process's
 pub record Stands (v : View) (root trapframe : ℕ) (extra : ℕ → ℕ) (t : Tables) (p : Process) : Type 0 where
-  pub tables : HasTables v root t
+  pub tables : HasTables Sv39 v root t
   pub owns : Owns v t extra
   pub shows : Shows v trapframe t p
-  pub tabled : AreTablesOf t (pages.keys p.tabled)
+  pub tabled : AreTablesOf Sv39 t (pages.keys p.tabled)
   pub tabled_low : All (λ n. n < trapframe_page) (pages.keys p.tabled)
 
 -- agreement

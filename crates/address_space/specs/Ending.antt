@@ -7,6 +7,7 @@ use Rattle.process_model.specs.Process.{Process}
 use Rattle.sv39_entry.specs.Address.{trampoline_page, trapframe_page}
 use Rattle.sv39_entry.specs.Frame.{ppn_of}
 use Rattle.sv39_entry.specs.Word.{ppn}
+use Rattle.sv39_entry.specs.declared.scheme.Scheme.TheVariants.{Sv39}
 use Rattle.table_walk.specs.Tables.{HasTables, Tables, leaf_node, without_leaf}
 use Rattle.address_space.specs.Agreement.{Body, code_rights, data_rights, HasKernelLeaf, HoldsTrapframe, IsOn, nothing, Owns, Stands}
 use Rattle.address_space.specs.Steps.{Takes}
@@ -28,7 +29,7 @@ pub record Drops (t u : Tables) (first end : ℕ) : Type 0 where
 
 -- a page has a leaf that may go: TRAMPOLINE has another, which names frame 0
 pub record CanDrop (v : View) (root : ℕ) (t : Tables) (page : ℕ) : Type 0 where
-  pub tables : HasTables v root t
+  pub tables : HasTables Sv39 v root t
   pub owns : Owns v t nothing
   pub anchor : IsOn t trampoline_page 0
   pub apart : leaf_node page ≢ leaf_node trampoline_page
@@ -38,7 +39,7 @@ pub record CanDrop (v : View) (root : ℕ) (t : Tables) (page : ℕ) : Type 0 wh
 
 -- the leaf of a page is gone, and the frame that it named; what other leaves name is held as it was
 pub record DropsLeaf (v w : View) (root : ℕ) (t : Tables) (page : ℕ) : Type 0 where
-  pub tables : HasTables w root (without_leaf t (leaf_node page))
+  pub tables : HasTables Sv39 w root (without_leaf t (leaf_node page))
   pub owns : Owns w (without_leaf t (leaf_node page)) nothing
   pub others : (n x f : ℕ) → get (without_leaf t (leaf_node page)).leaves n ≡ Some x → ppn x ≡ ppn_of f → hold_of w f ≡ hold_of v f
   pub credits : w.credits ≡ v.credits
@@ -72,7 +73,7 @@ CanEnd x t p = Stands x.view x.root x.trapframe nothing t p
 
 -- no leaf stands but TRAMPOLINE's and TRAPFRAME's
 pub record IsEmptied (v : View) (root trapframe : ℕ) (t : Tables) : Type 0 where
-  pub tables : HasTables v root t
+  pub tables : HasTables Sv39 v root t
   pub owns : Owns v t nothing
   pub on_trampoline : HasKernelLeaf t trampoline_page 0 code_rights
   pub on_trapframe : HasKernelLeaf t trapframe_page trapframe data_rights

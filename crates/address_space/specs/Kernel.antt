@@ -10,7 +10,8 @@ use Rattle.sv39_entry.specs.Frame.{ppn_of}
 use Rattle.sv39_entry.specs.Rights.{grants}
 use Rattle.sv39_entry.specs.Word.{leaf_word}
 use Rattle.sv39_entry.specs.declared.access.Access.{Access}
-use Rattle.table_walk.specs.Tables.{HasTables, Tables, leaf_node, node}
+use Rattle.sv39_entry.specs.declared.scheme.Scheme.TheVariants.{Sv39}
+use Rattle.table_walk.specs.Tables.{HasTables, Tables, leaf_node, node, root_node}
 use Rattle.table_walk.specs.declared.walk.Walk.{Walk}
 use Rattle.table_walk.specs.declared.walk.Walk.TheVariants as walk
 use Rattle.address_space.specs.Agreement.{code_rights, data_rights}
@@ -58,9 +59,9 @@ kernel_walk frames stacks address access = walk_to address access (kernel_page f
 -- which the stacks share, and for each two megabytes of frames one, below one of their gigabyte
 abbrev pub is_kernel_table : ℕ → ℕ → Bool
 is_kernel_table frames k =
-    k == 1 || k == node trampoline_page 1 || k == node trampoline_page 2
-    || (nat_lt 0 frames && (k == node first_direct 1 || k == node first_direct 2))
-    || (nat_lt 512 frames && (k == node (first_direct + 512) 2))
+    k == root_node Sv39 || k == node Sv39 trampoline_page 1 || k == node Sv39 trampoline_page 2
+    || (nat_lt 0 frames && (k == node Sv39 first_direct 1 || k == node Sv39 first_direct 2))
+    || (nat_lt 512 frames && (k == node Sv39 (first_direct + 512) 2))
 
 -- how many of these tables the frames need
 abbrev pub direct_tables : ℕ → ℕ
@@ -80,7 +81,7 @@ pub record HoldsKernel (v : View) (stacks : List ℕ) (tables : FinMap nat_cmp �
 -- the tables below a root map the trampoline, so many frames and these stacks, and nothing else. Leaves are numbered by the lowest 27
 -- bits of a page's number
 pub record MapsKernel (v : View) (root frames : ℕ) (stacks : List ℕ) (t : Tables) : Type 0 where
-  pub tables : HasTables v root t
+  pub tables : HasTables Sv39 v root t
   pub leaves : (page : ℕ) → page < 2 ^ 27 → get t.leaves (leaf_node page) ≡ kernel_leaf (kernel_page frames stacks page)
   pub numbers : (k : ℕ) → is_some (get t.tables k) ≡ is_kernel_table frames k
   pub holds : HoldsKernel v stacks t.tables

@@ -9,6 +9,7 @@ use Rattle.process_model.specs.PageMap.{PageMap, NumberSet, empty, from_list, nu
 use Rattle.process_model.specs.Process.{Page, Process, regions}
 use Rattle.process_model.specs.Regions.{end_of, makes_leaf, Region, region_at}
 use Rattle.sv39_entry.specs.Address.{trapframe_page}
+use Rattle.sv39_entry.specs.declared.scheme.Scheme.TheVariants.{Sv39}
 use Rattle.table_walk.specs.Tables.{Tables}
 use Rattle.address_space.specs.Agreement.{HoldsTrapframe, Names, nothing, Stands}
 use Rattle.address_space.specs.Layouts.{last_page, region_of}
@@ -33,7 +34,7 @@ numbers_of ps = map (λ (e : ℕ × List ℕ). e.0) (pages_of ps)
 
 -- the trapframe, the pages, and their tables
 abbrev pub build_need : List Part → ℕ
-build_need ps = 1 + length (pages_of ps) + tables_needed (numbers_of ps)
+build_need ps = 1 + length (pages_of ps) + tables_needed Sv39 (numbers_of ps)
 
 -- each part begins where the one before it ends, or later
 abbrev pub IsAscending : ℕ → List Part → Type 0
@@ -66,7 +67,7 @@ OwnsAlone v t = (f k : ℕ) → Names t f k → f ≢ 0 → IsSole v f
 
 -- what it takes where the trapframe's frame is there
 abbrev pub tree_need : List Part → ℕ
-tree_need ps = length (pages_of ps) + tables_needed (numbers_of ps)
+tree_need ps = length (pages_of ps) + tables_needed Sv39 (numbers_of ps)
 
 -- no page is settled
 abbrev pub bare_process : List Part → Process

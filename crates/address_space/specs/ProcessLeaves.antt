@@ -11,9 +11,10 @@ use Rattle.sv39_entry.specs.Address.{has, trampoline_page, trapframe_page}
 use Rattle.sv39_entry.specs.Frame.{frame_at, ppn_of}
 use Rattle.sv39_entry.specs.Word.{ppn}
 use Rattle.sv39_entry.specs.declared.frame.FrameNo.{FrameNo}
+use Rattle.sv39_entry.specs.declared.scheme.Scheme.TheVariants.{Sv39}
 use Rattle.table_walk.specs.Backed.{IsBacked}
 use Rattle.table_walk.specs.Leaves.{LeavesAreLocal, LeavesAreThere}
-use Rattle.table_walk.specs.Tables.{Tables, leaf_node}
+use Rattle.table_walk.specs.Tables.{Tables, leaf_node, walk_leaf}
 use Rattle.address_space.specs.Agreement.{HasKernelLeaf, IsPageLeaf, IsShown, Shows}
 
 -- a number of 16 bits is that of a frame
@@ -63,8 +64,8 @@ module _ (v : View) (trapframe : ℕ) (t : Tables) (p : Process) (shows : Shows 
     ]
   ]
 
-  pub process_there : LeavesAreThere t
-  process_there page w found = (each_leaf (leaf_node page) w found).0
+  pub process_there : LeavesAreThere Sv39 t
+  process_there page w found = (each_leaf (walk_leaf Sv39 page) w found).0
 
-  pub process_local : LeavesAreLocal t
-  process_local page w found = (each_leaf (leaf_node page) w found).1
+  pub process_local : LeavesAreLocal Sv39 t
+  process_local page w found = (each_leaf (walk_leaf Sv39 page) w found).1

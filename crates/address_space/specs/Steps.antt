@@ -11,6 +11,7 @@ use Rattle.process_model.specs.Process.{Page, Process, regions}
 use Rattle.process_model.specs.Regions.{is_guard_kind, is_shared_kind, makes_leaf, Region, region_at}
 use Rattle.process_model.specs.Residence.{marked_stored, region_on, stored, unmarked, with_page}
 use Rattle.sv39_entry.specs.Address.{page_of, trapframe_page}
+use Rattle.sv39_entry.specs.declared.scheme.Scheme.TheVariants.{Sv39}
 use Rattle.table_walk.specs.Tables.{Tables, missing}
 use Rattle.address_space.specs.Agreement.{Body, IsSpace, IsOn, nothing, OthersKeep, Stands}
 use Rattle.address_space.specs.Standing.{IsAt, standing}
@@ -56,7 +57,7 @@ pub record Adds (v w : View) (root trapframe : ℕ) (t u : Tables) (p : Process)
   pub sole : IsSole w f
   pub others : OthersKeep t u page
   pub saved : hold_of w trapframe ≡ hold_of v trapframe
-  pub spends : Spends v w (1 + missing t page)
+  pub spends : Spends v w (1 + missing Sv39 t page)
 
 -- any page of a region that is not settled yet
 pub record CanSettle (x : Body) (t : Tables) (p : Process) (page : ℕ) : Type 0 where

@@ -19,7 +19,7 @@ use crate::space::Space;
 use bitflags::Flags;
 use frame_bytes::fill_frame;
 use frame_store::{FrameAccess, FrameSeat, FrameSupply, NoFrame};
-use sv39_entry::{Entry, FrameNo, PAGE_SIZE, Rights, TRAMPOLINE, TRAPFRAME, Va};
+use sv39_entry::{Entry, FrameNo, PAGE_SIZE, Rights, Scheme, TRAMPOLINE, TRAPFRAME, Va};
 use table_walk::{map, missing_is_growth, new_table};
 
 /// Frame 0 has the trampoline's code, for all address spaces.
@@ -121,11 +121,18 @@ fn open_tables<F: FrameSupply>(store: &mut F, seat: &mut F::Seat, trapframe: Fra
     let mut code = Rights::READ;
     code.insert(Rights::EXECUTE);
     let trampoline = Entry::leaf(TRAMPOLINE_FRAME, code, false, false, true);
-    map(store, seat, root, TRAMPOLINE.page(), trampoline);
+    map(
+        store,
+        seat,
+        Scheme::Sv39,
+        root,
+        TRAMPOLINE.page(),
+        trampoline,
+    );
     let mut data = Rights::READ;
     data.insert(Rights::WRITE);
     let saved = Entry::leaf(trapframe, data, false, false, true);
-    map(store, seat, root, TRAPFRAME.page(), saved);
+    map(store, seat, Scheme::Sv39, root, TRAPFRAME.page(), saved);
     root
 }
 

@@ -11,11 +11,12 @@ ghost use Rattle.frame_store.specs.View.{hold_of};
 ghost use Rattle.process_model.specs.Heap.{without_pages};
 ghost use Rattle.process_model.specs.Process.{Process};
 ghost use Rattle.sv39_entry.specs.Address.{trapframe_page};
-ghost use Rattle.table_walk.specs.Tables.{HasTables, leaf_node, Tables};
+ghost use Rattle.sv39_entry.specs.declared.scheme.Scheme.TheVariants.{Sv39};
+ghost use Rattle.table_walk.specs.Tables.{HasTables, leaf_node, Tables, walk_leaf};
 
 use crate::space::Space;
 use frame_store::{FrameAccess, FrameSeat};
-use sv39_entry::{Entry, FrameNo, TRAMPOLINE, TRAPFRAME, Va, Vpn};
+use sv39_entry::{Entry, FrameNo, Scheme, TRAMPOLINE, TRAPFRAME, Va, Vpn};
 use table_walk::{leaf_of, next_leaf_before, release_tables, unmap};
 
 /// The first page that has a leaf, of those from one number up to, and without, another, and the leaf. The first page is
@@ -28,9 +29,9 @@ pub(crate) fn first_mapped<F: FrameAccess>(
     end: u64,
 ) -> Option<(Vpn, Entry)>
     requires fits { Fits F.rule store.old seat.old }
-    requires held { (t : Tables) × HasTables (F.Seat.view seat.old) root.0 t }
+    requires held { (t : Tables) × HasTables Sv39 (F.Seat.view seat.old) root.0 t }
     requires low { end ≤ 2 ^ 27 }
-    ensures page { (t : Tables) → HasTables (F.Seat.view seat.old) root.0 t → IsFirstMapped t first end result }
+    ensures page { (t : Tables) → HasTables Sv39 (F.Seat.view seat.old) root.0 t → IsFirstMapped t first end result }
     ensures view { F.Seat.view seat.new ≡ F.Seat.view seat.old }
     ensures same { store.new ≡ store.old }
     ensures keeps { Keeps F.rule store.old seat.old store.new seat.new }
@@ -39,7 +40,7 @@ pub(crate) fn first_mapped<F: FrameAccess>(
     if let Some(leaf) = leaf_before(store, seat, root, page, end) {
         return Some((page, leaf));
     }
-    next_leaf_before(store, seat, root, page, end)
+    next_leaf_before(store, seat, Scheme::Sv39, root, page, end)
 }
 
 /// The leaf of a page, where it has one and is before an end.
@@ -51,14 +52,14 @@ fn leaf_before<F: FrameAccess>(
     end: u64,
 ) -> Option<Entry>
     requires fits { Fits F.rule store.old seat.old }
-    requires held { (t : Tables) × HasTables (F.Seat.view seat.old) root.0 t }
-    ensures leaf { (t : Tables) → HasTables (F.Seat.view seat.old) root.0 t → IfSome result (λ leaf. (page < end) × (get t.leaves (leaf_node page) ≡ Some leaf)) }
+    requires held { (t : Tables) × HasTables Sv39 (F.Seat.view seat.old) root.0 t }
+    ensures leaf { (t : Tables) → HasTables Sv39 (F.Seat.view seat.old) root.0 t → IfSome result (λ leaf. (page < end) × (get t.leaves (walk_leaf Sv39 page) ≡ Some leaf)) }
     ensures view { F.Seat.view seat.new ≡ F.Seat.view seat.old }
     ensures same { store.new ≡ store.old }
     ensures keeps { Keeps F.rule store.old seat.old store.new seat.new }
 {
     if page.number() < end {
-        leaf_of(store, seat, root, page)
+        leaf_of(store, seat, Scheme::Sv39, root, page)
     } else {
         None
     }
@@ -74,8 +75,9 @@ fn drop_leaf<F: FrameAccess>(
     end: u64,
 ) -> bool
     requires fits { Fits F.rule store.old seat.old }
-    requires ready { (t : Tables) × HasTables (F.Seat.view seat.old) root.0 t × MayDrop (F.Seat.view seat.old) root.0 t page end }
-    ensures dropped { (t : Tables) → HasTables (F.Seat.view seat.old) root.0 t → MayDrop (F.Seat.view seat.old) root.0 t page end →
+    requires ready { (t : Tables) × HasTables Sv39 (F.Seat.view seat.old) root.0 t × MayDrop (F.Seat.view seat.old) root.0 t page end }
+    requires low { end ≤ 2 ^ 27 }
+    ensures dropped { (t : Tables) → HasTables Sv39 (F.Seat.view seat.old) root.0 t → MayDrop (F.Seat.view seat.old) root.0 t page end →
         DropsIf result (F.Seat.view seat.old) (F.Seat.view seat.new) root.0 t page end }
     ensures keeps { Keeps F.rule store.old seat.old store.new seat.new }
     ensures free { F.alone → F.free store.old ≤ F.free store.new }
@@ -83,7 +85,7 @@ fn drop_leaf<F: FrameAccess>(
     if end <= page.number() {
         return false;
     }
-    let Some(leaf) = unmap(store, seat, root, page) else {
+    let Some(leaf) = unmap(store, seat, Scheme::Sv39, root, page) else {
         return false;
     };
     let Some(frame) = FrameNo::from_ppn(leaf.ppn()) else {
@@ -103,9 +105,9 @@ fn drop_first<F: FrameAccess>(
     end: u64,
 ) -> Option<u64>
     requires fits { Fits F.rule store.old seat.old }
-    requires ready { (t : Tables) × HasTables (F.Seat.view seat.old) root.0 t × ((page : ℕ) → MayDrop (F.Seat.view seat.old) root.0 t page end) }
+    requires ready { (t : Tables) × HasTables Sv39 (F.Seat.view seat.old) root.0 t × ((page : ℕ) → MayDrop (F.Seat.view seat.old) root.0 t page end) }
     requires low { end ≤ 2 ^ 27 }
-    ensures dropped { (t : Tables) → HasTables (F.Seat.view seat.old) root.0 t → ((page : ℕ) → MayDrop (F.Seat.view seat.old) root.0 t page end) →
+    ensures dropped { (t : Tables) → HasTables Sv39 (F.Seat.view seat.old) root.0 t → ((page : ℕ) → MayDrop (F.Seat.view seat.old) root.0 t page end) →
         DropsFirst result (F.Seat.view seat.old) (F.Seat.view seat.new) root.0 t first end }
     ensures keeps { Keeps F.rule store.old seat.old store.new seat.new }
     ensures free { F.alone → F.free store.old ≤ F.free store.new }
@@ -114,7 +116,7 @@ fn drop_first<F: FrameAccess>(
     if drop_leaf(store, seat, root, page, end) {
         return Some(first);
     }
-    let (page, _) = next_leaf_before(store, seat, root, page, end)?;
+    let (page, _) = next_leaf_before(store, seat, Scheme::Sv39, root, page, end)?;
     if !drop_leaf(store, seat, root, page, end) {
         unreachable!()
     }
@@ -154,9 +156,9 @@ pub(crate) fn release_emptied<F: FrameAccess>(store: &mut F, seat: &mut F::Seat,
     ensures keeps { Keeps F.rule store.old seat.old store.new seat.new }
     ensures free { F.alone → F.free store.old ≤ F.free store.new }
 {
-    unmap(store, seat, root, TRAPFRAME.page());
-    unmap(store, seat, root, TRAMPOLINE.page());
-    release_tables(store, seat, root);
+    unmap(store, seat, Scheme::Sv39, root, TRAPFRAME.page());
+    unmap(store, seat, Scheme::Sv39, root, TRAMPOLINE.page());
+    release_tables(store, seat, Scheme::Sv39, root);
 }
 
 impl<S: FrameSeat> Space<S> {

@@ -14,7 +14,7 @@ ghost use Rattle.table_walk.specs.Tables.{Tables};
 use bitflags::Flags;
 use frame_store::{FrameAccess, FrameSeat, FrameSupply, NoFrame};
 use process_model::kernel_frames;
-use sv39_entry::{Access, Entry, FrameNo, Mode, Rights, TRAMPOLINE, Va, kernel_stack};
+use sv39_entry::{Access, Entry, FrameNo, Mode, Rights, Scheme, TRAMPOLINE, Va, kernel_stack};
 use table_walk::{HeldWords, Walk, map, new_table, one_outcome, translate, walks_of_tables};
 
 /// The page table of the kernel (the xv6 book, "Kernel address space"), without devices: each frame of the memory at its
@@ -79,7 +79,14 @@ impl<S: FrameSeat> KernelTable<S> {
             store,
             seat: &mut self.seat,
         };
-        translate(&mut words, self.root.ppn(), va, access, Mode::Supervisor)
+        translate(
+            &mut words,
+            Scheme::Sv39,
+            self.root.ppn(),
+            va,
+            access,
+            Mode::Supervisor,
+        )
     }
 }
 
@@ -121,6 +128,7 @@ fn new_root<F: FrameSupply>(store: &mut F, seat: &mut F::Seat) -> FrameNo
     map(
         store,
         seat,
+        Scheme::Sv39,
         root,
         TRAMPOLINE.page(),
         leaf_for_kernel(FrameNo(0)),
@@ -143,6 +151,7 @@ fn map_stacks<F: FrameSupply>(store: &mut F, seat: &mut F::Seat, root: FrameNo, 
         map(
             store,
             seat,
+            Scheme::Sv39,
             root,
             kernel_stack(slot).page(),
             leaf_for_kernel(frame),
@@ -165,6 +174,7 @@ fn map_frames<F: FrameSupply>(store: &mut F, seat: &mut F::Seat, root: FrameNo, 
         map(
             store,
             seat,
+            Scheme::Sv39,
             root,
             Va(frame.address()).page(),
             leaf_for_kernel(frame),

@@ -13,7 +13,7 @@ use crate::pages::frame_of;
 use crate::settled::SettledPage;
 use crate::space::Space;
 use frame_store::{FrameAccess, FrameSeat};
-use sv39_entry::{Access, Vpn};
+use sv39_entry::{Access, Scheme, Vpn};
 use table_walk::protect;
 
 impl<S: FrameSeat> Space<S> {
@@ -38,7 +38,7 @@ impl<S: FrameSeat> Space<S> {
             unreachable!()
         };
         let leaf = region.leaf(frame, false, true);
-        protect(store, &mut self.seat, self.root, page, leaf);
+        protect(store, &mut self.seat, Scheme::Sv39, self.root, page, leaf);
     }
 
     /// Puts the fork mark on a settled page whose region grants writing: its leaf may not be written any more, and names the
@@ -62,6 +62,13 @@ impl<S: FrameSeat> Space<S> {
             return;
         }
         let leaf = region.leaf(settled.frame, true, settled.dirty);
-        protect(store, &mut self.seat, self.root, settled.page, leaf);
+        protect(
+            store,
+            &mut self.seat,
+            Scheme::Sv39,
+            self.root,
+            settled.page,
+            leaf,
+        );
     }
 }

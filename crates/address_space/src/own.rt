@@ -14,7 +14,7 @@ use crate::region::Region;
 use crate::space::Space;
 use frame_bytes::copy_frame;
 use frame_store::{FrameAccess, FrameSeat, FrameSupply, NoFrame};
-use sv39_entry::{FrameNo, Vpn};
+use sv39_entry::{FrameNo, Scheme, Vpn};
 use table_walk::protect;
 
 impl<S: FrameSeat> Space<S> {
@@ -47,6 +47,7 @@ impl<S: FrameSeat> Space<S> {
             protect(
                 store,
                 &mut self.seat,
+                Scheme::Sv39,
                 self.root,
                 page,
                 region.leaf(shared, false, dirty),
@@ -89,6 +90,13 @@ fn separate<F: FrameSupply>(
 {
     let own = store.claim(seat);
     copy_frame(store, seat, shared, own);
-    protect(store, seat, root, page, region.leaf(own, false, dirty));
+    protect(
+        store,
+        seat,
+        Scheme::Sv39,
+        root,
+        page,
+        region.leaf(own, false, dirty),
+    );
     store.release(seat, shared);
 }

@@ -14,7 +14,7 @@ ghost use Rattle.table_walk.specs.Tables.{Tables};
 use crate::ending::first_mapped;
 use crate::space::Space;
 use frame_store::{FrameAccess, FrameSeat};
-use sv39_entry::{Entry, EntryFlags, FrameNo, Va, Vpn};
+use sv39_entry::{Entry, EntryFlags, FrameNo, Scheme, Va, Vpn};
 use table_walk::leaf_of;
 
 /// A settled page, its frame, whether a fork shared it so that a store has to make it the process's own first, and whether its
@@ -61,7 +61,7 @@ impl<S: FrameSeat> Space<S> {
         ensures same { store.new ≡ store.old }
         ensures keeps { Keeps F.rule store.old self.old.seat store.new self.new.seat }
     {
-        let leaf = leaf_of(store, &mut self.seat, self.root, page)?;
+        let leaf = leaf_of(store, &mut self.seat, Scheme::Sv39, self.root, page)?;
         Some(settled_by(page, leaf))
     }
 

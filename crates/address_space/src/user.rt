@@ -13,11 +13,12 @@ ghost use Rattle.process_model.specs.declared.brief.Brief.TheVariants as Brief;
 ghost use Rattle.process_model.specs.declared.step.Reply.TheVariants as Reply;
 ghost use Rattle.table_walk.specs.Leaves.{walk_answer};
 ghost use Rattle.table_walk.specs.Tables.{Tables};
+ghost use Rattle.sv39_entry.specs.declared.scheme.Scheme.TheVariants.{Sv39};
 
 use crate::space::Space;
 use frame_store::{FrameAccess, FrameSeat};
 use process_model::{Brief, Reply};
-use sv39_entry::{Access, FrameNo, Mode, PAGE_SIZE, Va};
+use sv39_entry::{Access, FrameNo, Mode, PAGE_SIZE, Scheme, Va};
 use table_walk::{Walk, translate_held};
 
 /// What the user asks of memory. `width` is in bytes, and `value` is what is stored.
@@ -53,7 +54,7 @@ impl<S: FrameSeat> Space<S> {
     ) -> Walk
         requires fits { Fits F.rule store.old self.old.seat }
         requires ready { (t : Tables) × (p : Process) × IsSpace (body_of S.view self.old) t p }
-        ensures walk { (t : Tables) (p : Process) → IsSpace (body_of S.view self.old) t p → result ≡ walk_answer t va.0 access mode }
+        ensures walk { (t : Tables) (p : Process) → IsSpace (body_of S.view self.old) t p → result ≡ walk_answer Sv39 t va.0 access mode }
         ensures root { self.new.root ≡ self.old.root }
         ensures trapframe { self.new.trapframe ≡ self.old.trapframe }
         ensures layout { self.new.layout ≡ self.old.layout }
@@ -61,7 +62,15 @@ impl<S: FrameSeat> Space<S> {
         ensures same { store.new ≡ store.old }
         ensures keeps { Keeps F.rule store.old self.old.seat store.new self.new.seat }
     {
-        translate_held(store, &mut self.seat, self.root, va, access, mode)
+        translate_held(
+            store,
+            &mut self.seat,
+            Scheme::Sv39,
+            self.root,
+            va,
+            access,
+            mode,
+        )
     }
 
     /// Makes an access of the user that was translated, or tells its fault. A misaligned access is told before any other

@@ -15,6 +15,7 @@ use Rattle.process_model.specs.Regions.{Region, region_at}
 use Rattle.sv39_entry.specs.Address.{trampoline_page, trapframe_page}
 use Rattle.sv39_entry.specs.Frame.{ppn_of}
 use Rattle.sv39_entry.specs.Word.{ppn}
+use Rattle.sv39_entry.specs.declared.scheme.Scheme.TheVariants.{Sv39}
 use Rattle.table_walk.specs.Tables.{leaf_node, Tables}
 use Rattle.address_space.specs.Agreement.{Body, body, IsOn, IsSpace, Names}
 use Rattle.address_space.specs.Layouts.{Layout}
@@ -366,5 +367,5 @@ module _ (v a b c : View) (root saved : ℕ) (l : Layout) (t u : Tables) (p : Pr
       own_sole = ap (λ (h : Hold). h.sole) (tree.same own own_no_table) ∙ sole;
       own_apart = own_no_table;
       credits = let now = tree.credits in omega (arith, now, spends, credits);
-      tallies = spent_on v.tallies b.tallies c.tallies 1 (tables_needed (pages.keys p.settled)) (tells ∙ ap (spent 1) tallies) tree.tallies;
+      tallies = spent_on v.tallies b.tallies c.tallies 1 (tables_needed Sv39 (pages.keys p.settled)) (tells ∙ ap (spent 1) tallies) tree.tallies;
     }

@@ -18,9 +18,9 @@ use Rattle.sv39_entry.specs.Address.{trampoline_page, trapframe_page}
 use Rattle.sv39_entry.specs.declared.access.Access.TheVariants.{Store}
 use Rattle.table_walk.specs.Counted.{AreTablesOf, same_members}
 use Rattle.table_walk.specs.Keys.{insert_other, insert_same}
-use Rattle.table_walk.specs.Nodes.{leaf_node_is}
 use Rattle.table_walk.specs.Tables.{ChangesTables, HasTables, IsGrown, leaf_node, missing, Tables, with_leaf}
-use Rattle.table_walk.specs.Walk.{top_level}
+use Rattle.sv39_entry.specs.Schemes.{top_level}
+use Rattle.sv39_entry.specs.declared.scheme.Scheme.TheVariants.{Sv39}
 use Rattle.address_space.specs.Agreement.{is_dirty_page, IsPageLeaf}
 use Rattle.address_space.specs.Layouts.{Layout}
 use Rattle.address_space.specs.Settled.{AreSettled, AreUnsettled, IsNextSettled}
@@ -61,21 +61,21 @@ child_unwritable w had mark is writes = go w had (subst (λ m. (w && not m) ≡ 
 
 -- pages below 2 ^ 27 have different leaves
 leaf_apart : (m n : ℕ) → m < 2 ^ 27 → n < 2 ^ 27 → (m ≡ n → ⊥) → leaf_node m ≡ leaf_node n → ⊥
-leaf_apart m n low small apart same = let at = leaf_node_is m in let is = leaf_node_is n in apart (omega (arith, at, is, same, low, small))
+leaf_apart m n low small apart same = apart (omega (arith, same, low, small))
 
 -- ---- as far as some pages were gone through
 
-pub open_first : (o : View) (l : Layout) (t : Tables) (p : Process) (trapframe : ℕ) (list : List SettledPage) → 3 ≤ tables_needed (pages.keys p.settled) → CanCopy o l t p trapframe list → CanOpen o trapframe
+pub open_first : (o : View) (l : Layout) (t : Tables) (p : Process) (trapframe : ℕ) (list : List SettledPage) → 3 ≤ tables_needed Sv39 (pages.keys p.settled) → CanCopy o l t p trapframe list → CanOpen o trapframe
 open_first o l t p trapframe list three can = record { anchored = can.anchored; saved = can.saved; apart = can.apart; credits = (let some = can.credits in omega (arith, some, three)) }
 
 module _ (o v : View) (l : Layout) (t u : Tables) (p : Process) (root trapframe bound : ℕ) (done : List ℕ) (list : List SettledPage) (can : CanCopy o l t p trapframe list) (so_far : CopiesPages o v t u p root trapframe bound done) where
-  makes : Makes o v u.tables (tables_needed done)
+  makes : Makes o v u.tables (tables_needed Sv39 done)
   makes = record { fresh = so_far.fresh; same = so_far.same; credits = so_far.credits; tallies = so_far.tallies }
 
   pub still_anchored : IsHeld v 0
-  still_anchored = held_beside o v u.tables (tables_needed done) 0 makes can.anchored
+  still_anchored = held_beside o v u.tables (tables_needed Sv39 done) 0 makes can.anchored
 
-  pub done_low : All (λ n. n < 512 ^ suc top_level) done
+  pub done_low : All (λ n. n < 512 ^ suc (top_level Sv39)) done
   done_low = λ i d less.
       let page = so_far.there _ (All-contains_itself done i d less) in
       let low = can.low _ page.0 page.1 in
@@ -92,14 +92,14 @@ module _ (o v : View) (l : Layout) (t u : Tables) (p : Process) (root trapframe 
         | inr late ↦ absurd (let gone = none n (omega (arith, late)) (can.low n s at) in let both = sym gone ∙ at in cc)
       ] in
       let back : AreAmong (pages.keys p.settled) done = λ n h. (let s = found_in p.settled.entries n h in so_far.all n s.0 s.1 (below n s.0 s.1)) in
-      let same = tables_same done (pages.keys p.settled) are_keys back in
+      let same = tables_same Sv39 done (pages.keys p.settled) are_keys back in
       record {
         tables = so_far.tables;
         on_trampoline = so_far.on_trampoline;
         on_trapframe = so_far.on_trapframe;
         settled = λ n s at. so_far.settled n s at (below n s at);
         only = so_far.only;
-        tabled = same_members u done (pages.keys p.settled) are_keys back so_far.tabled;
+        tabled = same_members Sv39 u done (pages.keys p.settled) are_keys back so_far.tabled;
         fresh = so_far.fresh;
         same = so_far.same;
         credits = subst (λ n. v.credits ≡ o.credits - n) same so_far.credits;
@@ -107,7 +107,7 @@ module _ (o v : View) (l : Layout) (t u : Tables) (p : Process) (root trapframe 
       }
 
   module _ (a : SettledPage) (next : IsNextSettled t p bound trapframe_page (Some a)) where
-    pub page_low : a.page < 512 ^ suc top_level
+    pub page_low : a.page < 512 ^ suc (top_level Sv39)
     page_low = let low = next.1 in omega (arith, low)
 
     -- its frame has its bytes still
@@ -124,20 +124,20 @@ module _ (o v : View) (l : Layout) (t u : Tables) (p : Process) (root trapframe 
       | inr later ↦ are_keys n later
     ]
 
-    module _ (law : missing u a.page ≡ tables_needed (a.page ∷ done) - tables_needed done) where
-      pub enough : missing u a.page ≤ v.credits
+    module _ (law : missing Sv39 u a.page ≡ tables_needed Sv39 (a.page ∷ done) - tables_needed Sv39 done) where
+      pub enough : missing Sv39 u a.page ≤ v.credits
       enough =
-          let up = tables_up (a.page ∷ done) (pages.keys p.settled) next_keys in
+          let up = tables_up Sv39 (a.page ∷ done) (pages.keys p.settled) next_keys in
           let all = can.credits in
           let left = so_far.credits in
           omega (arith, up, all, left, law)
 
-      more_needed : tables_needed done + missing u a.page ≡ tables_needed (a.page ∷ done)
-      more_needed = let up = tables_up done (a.page ∷ done) (λ n h. behind a.page n done h) in omega (arith, up, law)
+      more_needed : tables_needed Sv39 done + missing Sv39 u a.page ≡ tables_needed Sv39 (a.page ∷ done)
+      more_needed = let up = tables_up Sv39 done (a.page ∷ done) (λ n h. behind a.page n done h) in omega (arith, up, law)
 
       module _ (w : View) (s : Tables) (x : ℕ) (r : Region) (in_region : region_at (regions p) a.page ≡ Some r)
           (made : IsPageLeaf x (a.frame).0 r (child_page p a.page (next.3).page).fork_mark (is_dirty_page r (child_page p a.page (next.3).page)))
-          (grown : IsGrown u s a.page top_level) (tables : HasTables w root (with_leaf s (leaf_node a.page) x)) (changes : ChangesTables v w u s (missing u a.page)) (tabled : AreTablesOf s (a.page ∷ done)) where
+          (grown : IsGrown Sv39 u s a.page (top_level Sv39)) (tables : HasTables Sv39 w root (with_leaf s (leaf_node a.page) x)) (changes : ChangesTables v w u s (missing Sv39 u a.page)) (tabled : AreTablesOf Sv39 s (a.page ∷ done)) where
         abbrev after : Tables
         after = with_leaf s (leaf_node a.page) x
 
@@ -148,8 +148,8 @@ module _ (o v : View) (l : Layout) (t u : Tables) (p : Process) (root trapframe 
         stays : (n : ℕ) → n < 2 ^ 27 → (n ≡ a.page → ⊥) → get after.leaves (leaf_node n) ≡ get u.leaves (leaf_node n)
         stays n low apart = passed (leaf_node n) (leaf_apart n a.page low (let small = next.1 in omega (arith, small)) apart)
 
-        made_all : Makes o w s.tables (tables_needed done + missing u a.page)
-        made_all = makes_more o v w u s a.page top_level (missing u a.page) (tables_needed done) makes grown changes
+        made_all : Makes o w s.tables (tables_needed Sv39 done + missing Sv39 u a.page)
+        made_all = makes_more o v w u s a.page (top_level Sv39) (missing Sv39 u a.page) (tables_needed Sv39 done) makes grown changes
 
         child_leaves : (n : ℕ) (q : Page) → pages.get p.settled n ≡ Some q → n < a.page + 1 → HasChildLeaf t after p n q
         child_leaves n q at below = elim (cases_eq n a.page) [

@@ -16,6 +16,7 @@ use Rattle.process_model.specs.Residence.{child_of, child_page, marked, marked_p
 use Rattle.process_model.specs.ValueSets.{none_in}
 use Rattle.sv39_entry.specs.Address.{trampoline_page, trapframe_page}
 use Rattle.sv39_entry.specs.Word.{ppn}
+use Rattle.sv39_entry.specs.declared.scheme.Scheme.TheVariants.{Sv39}
 use Rattle.table_walk.specs.Counted.{AreTablesOf, same_members}
 use Rattle.table_walk.specs.Nodes.{leaf_number}
 use Rattle.table_walk.specs.Same.{same_tables}
@@ -113,8 +114,8 @@ set_has (x ∷ xs) y h = elim (cases_eq y x) [
 ]
 
 module _ (p : Process) (low : (n : ℕ) (s : Page) → pages.get p.settled n ≡ Some s → n < trapframe_page) where
-  pub child_tabled : (u : Tables) → AreTablesOf u (pages.keys p.settled) → AreTablesOf u (pages.keys (child_of p).tabled)
-  child_tabled u are = same_members u (pages.keys p.settled) (pages.keys (numbers (pages.keys p.settled))) (set_in (pages.keys p.settled)) (set_out (pages.keys p.settled)) are
+  pub child_tabled : (u : Tables) → AreTablesOf Sv39 u (pages.keys p.settled) → AreTablesOf Sv39 u (pages.keys (child_of p).tabled)
+  child_tabled u are = same_members Sv39 u (pages.keys p.settled) (pages.keys (numbers (pages.keys p.settled))) (set_in (pages.keys p.settled)) (set_out (pages.keys p.settled)) are
 
   each_low : (y : ℕ) → Contains (pages.keys p.settled) y → y < trapframe_page
   each_low y h = let s = found_in p.settled.entries y h in low y s.0 s.1
@@ -174,7 +175,7 @@ module _ (v w x : View) (root saved : ℕ) (l : Layout) (t r u : Tables) (p : Pr
   table_apart : (k f : ℕ) → finite.get r.tables k ≡ Some f → IsUnnamed u f
   table_apart k f at =
       let was = ap (λ m. finite.get m k) (sym turns.tables) ∙ at in
-      not_shared f k (inl was) (λ n _ same. let below = (space.stands.tables.known.below k f was).1 in let above = leaf_number n in omega (arith, below, above, same))
+      not_shared f k (inl was) (λ n _ same. let below = (space.stands.tables.known.below k f was).1 in let above = leaf_number Sv39 n in omega (arith, below, above, same))
 
   saved_apart : IsUnnamed u saved
   saved_apart =
@@ -204,7 +205,7 @@ module _ (v w x : View) (root saved : ℕ) (l : Layout) (t r u : Tables) (p : Pr
     made = c.made;
   }
 
-  child_tables : HasTables x croot u
+  child_tables : HasTables Sv39 x croot u
   child_tables = same_tables w x croot u (λ k f at. new_same f (child.fresh k f at)) child.tables
 
   child_on : (n f : ℕ) (s : Page) → pages.get p.settled n ≡ Some s → IsOn u n f → IsOn t n f

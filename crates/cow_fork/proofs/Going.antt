@@ -10,7 +10,6 @@ use Rattle.process_model.specs.Process.{Page, Process}
 use Rattle.sv39_entry.specs.Address.{trampoline_page, trapframe_page}
 use Rattle.sv39_entry.specs.Frame.{ppn_of}
 use Rattle.sv39_entry.specs.Word.{ppn}
-use Rattle.table_walk.specs.Nodes.{leaf_node_is}
 use Rattle.table_walk.specs.Tables.{leaf_node, Tables}
 use Rattle.address_space.specs.Agreement.{Body, IsOn, IsSpace, Names, nothing, Owns, Shows}
 use Rattle.address_space.specs.Settled.{AreSettled, IsNextSettled}
@@ -32,7 +31,7 @@ times_last_other f g (h ∷ L) apart = let rest = times_last_other f g L apart i
 
 -- pages below 2 ^ 27 have different leaves
 pub one_page : (m n : ℕ) → m < 2 ^ 27 → n < 2 ^ 27 → leaf_node m ≡ leaf_node n → m ≡ n
-one_page m n low small same = let at = leaf_node_is m in let is = leaf_node_is n in omega (arith, at, is, same, low, small)
+one_page m n low small same = omega (arith, same, low, small)
 
 module _ (x : Body) (t : Tables) (p : Process) (is : IsSpace x t p) where
   abbrev owns : Owns x.view t nothing

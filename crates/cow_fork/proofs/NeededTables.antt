@@ -1,13 +1,15 @@
 -- More pages need no fewer tables.
-use Rattle.std.proofs.Common.{◌≡◌, ℕ, ◌+◌, ◌/◌, ◌^◌, ◌≤◌, cond, inl, inr, refl, ap, ◌∙◌, arith, List, [], ◌∷◌, ◌++◌}
+use Rattle.std.proofs.Common.{◌≡◌, ℕ, ◌+◌, ◌/◌, ◌≤◌, cond, inl, inr, refl, ap, ◌∙◌, arith, List, [], ◌∷◌, ◌++◌}
 use Rattle.std.proofs.lemmas.Bool.{cases_Bool}
 use Rattle.std.proofs.lemmas.List.Elements.{Contains-append_cases, Contains-append_left}
 use Rattle.std.specs.Prelude.{Contains}
-use Rattle.process_model.specs.Frames.{tables_needed}
+use Rattle.process_model.specs.Frames.{table_sizes, tables_needed, tables_of_sizes}
 use Rattle.process_model.specs.Inserted.{behind_more}
 use Rattle.process_model.specs.PageMap.{contains, count}
 use Rattle.process_model.specs.ValueSets.{count_next, same_count, values}
-use Rattle.sv39_entry.specs.Address.{trampoline_page, trapframe_page}
+use Rattle.sv39_entry.specs.Schemes.{trampoline_page, trapframe_page}
+use Rattle.sv39_entry.specs.declared.scheme.Scheme.{Scheme}
+use Rattle.sv39_entry.specs.declared.scheme.Scheme.TheVariants.{Sv39}
 
 -- each member of the first list is one of the second
 abbrev pub AreAmong : List ℕ → List ℕ → Type 0
@@ -30,23 +32,23 @@ module _ (f : ℕ → ℕ) where
       let same = same_count f (ys ++ xs) ys (λ x h. elim (Contains-append_cases ys xs x h) [ inl first ↦ first | inr second ↦ into x second ]) (λ x h. Contains-append_left ys xs x h) in
       omega (arith, up, same)
 
-with_kernel : (xs ys : List ℕ) → AreAmong xs ys → AreAmong (trampoline_page ∷ trapframe_page ∷ xs) (trampoline_page ∷ trapframe_page ∷ ys)
-with_kernel xs ys into = behind_more trampoline_page (trapframe_page ∷ xs) (trapframe_page ∷ ys) (behind_more trapframe_page xs ys into)
+sizes_up : (sizes xs ys : List ℕ) → AreAmong xs ys → tables_of_sizes sizes xs ≤ tables_of_sizes sizes ys
+sizes_up [] xs ys into = omega arith
+sizes_up (size ∷ sizes) xs ys into = let here = values_up (λ n. n / size) xs ys into in let rest = sizes_up sizes xs ys into in omega (arith, here, rest)
 
-sum_up : (a b c d : ℕ) → a ≤ c → b ≤ d → 1 + a + b ≤ 1 + c + d
-sum_up a b c d first second = omega (arith, first, second)
+with_kernel : (s : Scheme) (xs ys : List ℕ) → AreAmong xs ys → AreAmong (trampoline_page s ∷ trapframe_page s ∷ xs) (trampoline_page s ∷ trapframe_page s ∷ ys)
+with_kernel s xs ys into = behind_more (trampoline_page s) (trapframe_page s ∷ xs) (trapframe_page s ∷ ys) (behind_more (trapframe_page s) xs ys into)
 
-pub tables_up : (xs ys : List ℕ) → AreAmong xs ys → tables_needed xs ≤ tables_needed ys
+pub tables_up : (s : Scheme) (xs ys : List ℕ) → AreAmong xs ys → tables_needed s xs ≤ tables_needed s ys
 unfolding tables_needed
-tables_up xs ys into =
-    let all = with_kernel xs ys into in
-    sum_up _ _ _ _ (values_up (λ n. n / 2 ^ 18) (trampoline_page ∷ trapframe_page ∷ xs) (trampoline_page ∷ trapframe_page ∷ ys) all)
-    (values_up (λ n. n / 2 ^ 9) (trampoline_page ∷ trapframe_page ∷ xs) (trampoline_page ∷ trapframe_page ∷ ys) all)
+tables_up s xs ys into =
+    let up = sizes_up (table_sizes s) (trampoline_page s ∷ trapframe_page s ∷ xs) (trampoline_page s ∷ trapframe_page s ∷ ys) (with_kernel s xs ys into) in
+    omega (arith, up)
 
-pub tables_same : (xs ys : List ℕ) → AreAmong xs ys → AreAmong ys xs → tables_needed xs ≡ tables_needed ys
-tables_same xs ys there back = let up = tables_up xs ys there in let down = tables_up ys xs back in omega (arith, up, down)
+pub tables_same : (s : Scheme) (xs ys : List ℕ) → AreAmong xs ys → AreAmong ys xs → tables_needed s xs ≡ tables_needed s ys
+tables_same s xs ys there back = let up = tables_up s xs ys there in let down = tables_up s ys xs back in omega (arith, up, down)
 
 -- the root, and TRAMPOLINE's two tables, which TRAPFRAME shares
-pub three_needed : tables_needed [] ≡ 3
+pub three_needed : tables_needed Sv39 [] ≡ 3
 unfolding tables_needed
 three_needed = refl

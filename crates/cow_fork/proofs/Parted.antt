@@ -15,8 +15,8 @@ use Rattle.sv39_entry.specs.Address.{has, trampoline_page, trapframe_page}
 use Rattle.sv39_entry.specs.Frame.{ppn_of}
 use Rattle.sv39_entry.specs.Word.{ppn}
 use Rattle.sv39_entry.specs.declared.access.Access.TheVariants.{Store}
+use Rattle.sv39_entry.specs.declared.scheme.Scheme.TheVariants.{Sv39}
 use Rattle.table_walk.specs.Counted.{AreTablesOf}
-use Rattle.table_walk.specs.Nodes.{leaf_node_is}
 use Rattle.table_walk.specs.Same.{same_tables}
 use Rattle.table_walk.specs.Tables.{HasTables, leaf_node, Tables}
 use Rattle.address_space.specs.Agreement.{body, code_rights, data_rights, HasKernelLeaf, IsLeafNumber, IsOn, IsShown, IsSpace, Names, nothing, Owns, Shows}
@@ -135,7 +135,7 @@ module _ (v a b : View) (root saved : ℕ) (l : Layout) (t u : Tables) (p : Proc
 
   -- the child
 
-  module _ (croot own : ℕ) (tree : HasTables v croot u) (on_trampoline : HasKernelLeaf u trampoline_page 0 code_rights) (on_trapframe : HasKernelLeaf u trapframe_page own data_rights)
+  module _ (croot own : ℕ) (tree : HasTables Sv39 v croot u) (on_trampoline : HasKernelLeaf u trampoline_page 0 code_rights) (on_trapframe : HasKernelLeaf u trapframe_page own data_rights)
       (settled : (n : ℕ) (s : Page) → pages.get p.settled n ≡ Some s → HasChildLeaf t u p n s) (only : (k x : ℕ) → finite.get u.leaves k ≡ Some x → IsLeafNumber p k)
       (fresh : (k f : ℕ) → finite.get u.tables k ≡ Some f → (references v f ≡ 1) × IsUnnamed t f)
       (own_once : references v own ≡ 1) (own_sole : IsSole v own) (own_unnamed : IsUnnamed t own) (own_apart : (k : ℕ) → finite.get u.tables k ≡ Some own → ⊥) where
@@ -170,9 +170,7 @@ module _ (v a b : View) (root saved : ℕ) (l : Layout) (t u : Tables) (p : Proc
     not_code n f s there on nought =
         let same = owns.once 0 (leaf_node n) (leaf_node trampoline_page) (subst (λ g. Names t g (leaf_node n)) nought (on_names n f on)) code_named in
         let small = low n s there in
-        let here = leaf_node_is n in
-        let top = leaf_node_is trampoline_page in
-        omega (arith, same, small, here, top)
+        omega (arith, same, small)
 
     leaves_once : (f j k : ℕ) → IsLeafFor j f → IsLeafFor k f → j ≡ k
     leaves_once f j k (inl code) (inl also) = code.0 ∙ sym also.0
@@ -244,7 +242,7 @@ module _ (v a b : View) (root saved : ℕ) (l : Layout) (t u : Tables) (p : Proc
       ]
     ]
 
-    pub child_after : AreTablesOf u (pages.keys (child_of p).tabled) → All (λ n. n < trapframe_page) (pages.keys (child_of p).tabled)
+    pub child_after : AreTablesOf Sv39 u (pages.keys (child_of p).tabled) → All (λ n. n < trapframe_page) (pages.keys (child_of p).tabled)
         → ((n : ℕ) (s : Page) → pages.get (child_of p).settled n ≡ Some s → pages.contains (child_of p).tabled n ≡ true) → IsSpace (body b croot own l) u (child_of p)
     child_after tabled tabled_low has_tables = record {
       sound = record { order = same_order 0 (marked p) (child_of p).settled (child_of p).tabled None parent.sound.order; tabled = has_tables };

@@ -9,6 +9,7 @@ use Rattle.process_model.specs.Residence.{child_of, marked}
 use Rattle.process_model.specs.declared.step.Refusal.{Refusal}
 use Rattle.process_model.specs.declared.step.Refusal.TheVariants as refusal
 use Rattle.sv39_entry.specs.Address.{trampoline_page, trapframe_page}
+use Rattle.sv39_entry.specs.declared.scheme.Scheme.TheVariants.{Sv39}
 use Rattle.table_walk.specs.Counted.{AreTablesOf}
 use Rattle.table_walk.specs.Tables.{HasTables, Tables}
 use Rattle.address_space.specs.Agreement.{Body, body, code_rights, data_rights, HasKernelLeaf, IsLeafNumber, IsOn, IsSpace}
@@ -57,12 +58,12 @@ pub record CanDivide (v : View) (x : Body) (t : Tables) (p : Process) (list : Li
 
 -- the child's tables stand beside the parent's, and its frames are listed
 pub record HasChild (v w : View) (t u : Tables) (p : Process) (root own : ℕ) (frames : List ℕ) : Type 0 where
-  pub tables : HasTables w root u
+  pub tables : HasTables Sv39 w root u
   pub on_trampoline : HasKernelLeaf u trampoline_page 0 code_rights
   pub on_trapframe : HasKernelLeaf u trapframe_page own data_rights
   pub settled : (n : ℕ) (s : Page) → pages.get p.settled n ≡ Some s → HasChildLeaf t u p n s
   pub only : (k x : ℕ) → get u.leaves k ≡ Some x → IsLeafNumber p k
-  pub tabled : AreTablesOf u (pages.keys p.settled)
+  pub tabled : AreTablesOf Sv39 u (pages.keys p.settled)
   pub counts : (f : ℕ) → references w f ≡ references v f + times f frames
   pub same : (f : ℕ) → IsHeld v f → ((hold_of w f).words ≡ (hold_of v f).words) × ((hold_of w f).sole ≡ (hold_of v f).sole)
   pub fresh : (k f : ℕ) → get u.tables k ≡ Some f → references v f ≡ 0

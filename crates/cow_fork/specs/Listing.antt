@@ -4,12 +4,13 @@ use Rattle.std.specs.FinMap.{get}
 use Rattle.frame_store.specs.View.{View}
 use Rattle.sv39_entry.specs.Address.{trampoline_page, trapframe_page}
 use Rattle.table_walk.specs.Tables.{HasTables, leaf_node, node, Tables}
-use Rattle.table_walk.specs.Walk.{top_level}
+use Rattle.sv39_entry.specs.Schemes.{top_level}
+use Rattle.sv39_entry.specs.declared.scheme.Scheme.TheVariants.{Sv39}
 use Rattle.cow_fork.specs.Lists.{times}
 
 -- each table is on the way to a leaf
 abbrev pub IsLed : Tables → Type 0
-IsLed t = (k f : ℕ) → get t.tables k ≡ Some f → (n d w : ℕ) × (d ≤ top_level) × (n < 2 ^ 27) × (k ≡ node n d) × (get t.leaves (leaf_node n) ≡ Some w)
+IsLed t = (k f : ℕ) → get t.tables k ≡ Some f → (n d w : ℕ) × (d ≤ top_level Sv39) × (n < 2 ^ 27) × (k ≡ node Sv39 n d) × (get t.leaves (leaf_node n) ≡ Some w)
 
 -- no page from one on and before TRAPFRAME has a leaf, nor one behind TRAMPOLINE, and TRAPFRAME has one
 pub record IsEdged (t : Tables) (end : ℕ) : Type 0 where
@@ -35,7 +36,7 @@ ListsBelow t bound L M = (f : ℕ) → ((k : ℕ) × (k < bound) × (get t.table
 
 -- the tables with numbers below a bound are listed, behind the list L
 pub record IsListing (v : View) (root : ℕ) (t : Tables) (bound : ℕ) (L M : List ℕ) : Type 0 where
-  pub tables : HasTables v root t
+  pub tables : HasTables Sv39 v root t
   pub led : IsLed t
   pub can : CanList t L
   pub listed : ListsBelow t bound L M

@@ -6,11 +6,12 @@ ghost use Rattle.frame_store.specs.Laws.{Fits, Keeps};
 ghost use Rattle.sv39_entry.specs.Address.{trapframe_page};
 ghost use Rattle.table_walk.specs.Changed.{places};
 ghost use Rattle.table_walk.specs.Tables.{HasTables, Tables};
-ghost use Rattle.table_walk.specs.Walk.{top_level};
+ghost use Rattle.sv39_entry.specs.Schemes.{top_level};
+ghost use Rattle.sv39_entry.specs.declared.scheme.Scheme.TheVariants.{Sv39};
 
 use arrayvec::ArrayVec;
 use frame_store::{FrameAccess, FrameSeat};
-use sv39_entry::{FrameNo, TRAMPOLINE, TRAPFRAME, Vpn};
+use sv39_entry::{FrameNo, Scheme, TRAMPOLINE, TRAPFRAME, Vpn};
 use table_walk::{next_leaf_before, table_at};
 
 /// Lists the tables below a root, each of which is on the way to a leaf: level by level, and in each level by the leaves.
@@ -23,8 +24,8 @@ pub(crate) fn list_tables<S: FrameSeat, F: FrameAccess<Seat = S>>(
     frames: &mut ArrayVec<FrameNo, 1024>,
 )
     requires fits { Fits F.rule store.old seat.old }
-    requires ready { (t : Tables) × HasTables (S.view seat.old) root.0 t × IsLed t × CanList t (map (λ f. f.0) frames.old.items) × IsEdged t end }
-    ensures listed { (t : Tables) → HasTables (S.view seat.old) root.0 t → IsLed t → CanList t (map (λ f. f.0) frames.old.items) → IsEdged t end →
+    requires ready { (t : Tables) × HasTables Sv39 (S.view seat.old) root.0 t × IsLed t × CanList t (map (λ f. f.0) frames.old.items) × IsEdged t end }
+    ensures listed { (t : Tables) → HasTables Sv39 (S.view seat.old) root.0 t → IsLed t → CanList t (map (λ f. f.0) frames.old.items) → IsEdged t end →
         ListsTables t (map (λ f. f.0) frames.old.items) (map (λ f. f.0) frames.new.items) }
     ensures view { S.view seat.new ≡ S.view seat.old }
     ensures same { store.new ≡ store.old }
@@ -49,18 +50,18 @@ fn list_level<S: FrameSeat, F: FrameAccess<Seat = S>>(
     frames: &mut ArrayVec<FrameNo, 1024>,
 )
     requires fits { Fits F.rule store.old seat.old }
-    requires deep { depth ≤ top_level }
-    requires size { pages ≡ places (top_level - depth) }
-    requires ready { (t : Tables) × (L : List ℕ) × IsListing (S.view seat.old) root.0 t (512 ^ depth) L (map (λ f. f.0) frames.old.items) × IsEdged t end }
-    ensures listed { (t : Tables) (L : List ℕ) → IsListing (S.view seat.old) root.0 t (512 ^ depth) L (map (λ f. f.0) frames.old.items) → IsEdged t end →
-        IsListing (S.view seat.old) root.0 t (512 ^ suc depth) L (map (λ f. f.0) frames.new.items) }
+    requires deep { depth ≤ top_level Sv39 }
+    requires size { pages ≡ places (top_level Sv39 - depth) }
+    requires ready { (t : Tables) × (L : List ℕ) × IsListing (S.view seat.old) root.0 t (512 ^ suc depth) L (map (λ f. f.0) frames.old.items) × IsEdged t end }
+    ensures listed { (t : Tables) (L : List ℕ) → IsListing (S.view seat.old) root.0 t (512 ^ suc depth) L (map (λ f. f.0) frames.old.items) → IsEdged t end →
+        IsListing (S.view seat.old) root.0 t (512 ^ suc (suc depth)) L (map (λ f. f.0) frames.new.items) }
     ensures view { S.view seat.new ≡ S.view seat.old }
     ensures same { store.new ≡ store.old }
     ensures keeps { Keeps F.rule store.old seat.old store.new seat.new }
 {
     let mut table = 0;
     'tables: while let Some(page) = first_page(store, seat, root, table * pages, end) {
-        let Some(frame) = table_at(store, seat, root, page, depth) else {
+        let Some(frame) = table_at(store, seat, Scheme::Sv39, root, page, depth) else {
             unreachable!()
         };
         frames.push(frame);
@@ -78,22 +79,29 @@ fn first_page<S: FrameSeat, F: FrameAccess<Seat = S>>(
     end: u64,
 ) -> Option<Vpn>
     requires fits { Fits F.rule store.old seat.old }
-    requires held { (t : Tables) × HasTables (S.view seat.old) root.0 t }
+    requires held { (t : Tables) × HasTables Sv39 (S.view seat.old) root.0 t }
     requires low { from ≤ 2 ^ 27 }
     requires edge { end ≤ trapframe_page }
-    ensures page { (t : Tables) → HasTables (S.view seat.old) root.0 t → IsEdged t end → IsFirstPage t from result }
+    ensures page { (t : Tables) → HasTables Sv39 (S.view seat.old) root.0 t → IsEdged t end → IsFirstPage t from result }
     ensures view { S.view seat.new ≡ S.view seat.old }
     ensures same { store.new ≡ store.old }
     ensures keeps { Keeps F.rule store.old seat.old store.new seat.new }
 {
     let first = Vpn::new(from)?;
-    if let Some(found) = next_leaf_before(store, seat, root, first, end) {
+    if let Some(found) = next_leaf_before(store, seat, Scheme::Sv39, root, first, end) {
         return Some(found.0);
     }
     let trapframe = TRAPFRAME.page();
     if from <= trapframe.number() {
         return Some(trapframe);
     }
-    let (page, _) = next_leaf_before(store, seat, root, first, TRAMPOLINE.page().number() + 1)?;
+    let (page, _) = next_leaf_before(
+        store,
+        seat,
+        Scheme::Sv39,
+        root,
+        first,
+        TRAMPOLINE.page().number() + 1,
+    )?;
     Some(page)
 }

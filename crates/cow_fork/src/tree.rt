@@ -13,7 +13,7 @@ ghost use Rattle.table_walk.specs.Tables.{Tables};
 
 use address_space::{SettledPage, Space, TRAMPOLINE_FRAME, leaf_for_kernel};
 use frame_store::{FrameAccess, FrameSeat, FrameSupply};
-use sv39_entry::{Access, FrameNo, TRAMPOLINE, TRAPFRAME};
+use sv39_entry::{Access, FrameNo, Scheme, TRAMPOLINE, TRAPFRAME};
 use table_walk::{map, missing_is_growth, new_table};
 
 /// The child's page tables, made of credits of the parent's seat: each settled page has a leaf over the frame that it has in
@@ -43,7 +43,7 @@ pub(crate) fn copy_tree<S: FrameSeat, F: FrameSupply<Seat = S>>(
         };
         let mark = page.fork_mark || !region.lacks_right(Access::Store);
         let leaf = region.leaf(page.frame, mark, region.is_dirty_from_start());
-        map(store, &mut space.seat, root, page.page, leaf);
+        map(store, &mut space.seat, Scheme::Sv39, root, page.page, leaf);
     }
     root
 }
@@ -63,9 +63,9 @@ fn open_tables<S: FrameSeat, F: FrameSupply<Seat = S>>(
     missing_is_growth();
     let root = new_table(store, seat);
     let code = leaf_for_kernel(TRAMPOLINE_FRAME);
-    map(store, seat, root, TRAMPOLINE.page(), code);
+    map(store, seat, Scheme::Sv39, root, TRAMPOLINE.page(), code);
     let saved = leaf_for_kernel(trapframe);
-    map(store, seat, root, TRAPFRAME.page(), saved);
+    map(store, seat, Scheme::Sv39, root, TRAPFRAME.page(), saved);
     root
 }
 

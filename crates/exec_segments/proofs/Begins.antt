@@ -14,6 +14,7 @@ use Rattle.process_model.specs.PageMap.{from_list, numbers}
 use Rattle.process_model.specs.Process.{Process}
 use Rattle.process_model.specs.Regions.{Region, end_of, guard_pages, makes_leaf, stack_pages}
 use Rattle.sv39_entry.specs.Address.{page_of, trapframe_page}
+use Rattle.sv39_entry.specs.declared.scheme.Scheme.TheVariants.{Sv39}
 use Rattle.address_space.specs.Layouts.{last_page}
 use Rattle.address_space.specs.Parts.{AreParts, build_need, IsAscending, pages_of, part_pages, process_of_parts, region_in, regions_in}
 use Rattle.address_space.specs.declared.part.Part.{Part}
@@ -145,7 +146,7 @@ made fresh rs es end = record {
 }
 
 abbrev need_of : List (ℕ × List ℕ) → ℕ
-need_of es = 1 + length es + tables_needed (map (λ e. e.0) es)
+need_of es = 1 + length es + tables_needed Sv39 (map (λ e. e.0) es)
 
 in_row : (end : ℕ) (ls : List LoadSegment) → AreInOrder end ls → InRow end ls
 in_row end [] ordered = tt

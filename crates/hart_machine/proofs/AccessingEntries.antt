@@ -14,6 +14,7 @@ use Rattle.process_model.specs.declared.phase.Phase.TheVariants as phase
 use Rattle.sv39_entry.specs.Address.{page_of}
 use Rattle.sv39_entry.specs.declared.access.Access.{Access}
 use Rattle.sv39_entry.specs.declared.access.Mode.{Mode}
+use Rattle.sv39_entry.specs.declared.scheme.Scheme.TheVariants.{Sv39}
 use Rattle.table_walk.specs.Tables.{Tables}
 use Rattle.table_walk.specs.declared.walk.Walk.{Walk}
 use Rattle.hart_machine.specs.Harts.{hart_of, key_of}
@@ -25,7 +26,7 @@ use Rattle.hart_machine.specs.declared.hart.Hart.{Hart}
 use Rattle.hart_machine.specs.declared.tenant.Tenant.{Tenant}
 
 -- addresses of one page have one leaf
-pub leaf_on_page : (t : Tables) (a : ℕ) → leaf_at t (4096 * page_of a) ≡ leaf_at t a
+pub leaf_on_page : (t : Tables) (a : ℕ) → leaf_at Sv39 t (4096 * page_of a) ≡ leaf_at Sv39 t a
 leaf_on_page t a =
     let upper : 4096 * (a / 4096) / 2 ^ 38 ≡ a / 2 ^ 38 = omega arith in
     let page : 4096 * (a / 4096) / 4096 ≡ a / 4096 = omega arith in
@@ -97,8 +98,8 @@ satp_is x idle asid is = go (has_user_satp x.phase) refl x.slot refl is where
 -- and it answers what a walk does
 
 module _ (a : ℕ) (access : Access) (mode : Mode) (z : Walk) where
-  by_entry_of : (t : Tables) (asid : ℕ) (e : TlbEntry) → IsEntryOf t asid e → e.page ≡ page_of a → z ≡ answer e.leaf a access mode → z ≡ walk_answer t a access mode
-  by_entry_of t asid e entry page answers = answers ∙ ap (λ l. answer l a access mode) (entry.leaf ∙ ap (λ (k : ℕ). leaf_at t (4096 * k)) page ∙ leaf_on_page t a)
+  by_entry_of : (t : Tables) (asid : ℕ) (e : TlbEntry) → IsEntryOf t asid e → e.page ≡ page_of a → z ≡ answer e.leaf a access mode → z ≡ walk_answer Sv39 t a access mode
+  by_entry_of t asid e entry page answers = answers ∙ ap (λ l. answer l a access mode) (entry.leaf ∙ ap (λ (k : ℕ). leaf_at Sv39 t (4096 * k)) page ∙ leaf_on_page t a)
 
   module _ (tables : ℕ → Tables) (kernel : Tables) (x : Hart) where
     by_fenced : (e : TlbEntry) → IsFenced x tables kernel e → e.page ≡ page_of a → z ≡ answer e.leaf a access mode → IsServed x tables kernel a access mode z
@@ -156,9 +157,9 @@ module _ (a : ℕ) (access : Access) (mode : Mode) (z : Walk) where
 
 -- the user's accesses are answered by the table of the process
 pub user_served : (tables : ℕ → Tables) (kernel : Tables) (x : Hart) (s a : ℕ) (access : Access) (mode : Mode) (z : Walk) → x.phase ≡ phase.User → x.slot ≡ Some s → IsServed x tables kernel a access mode z
-    → z ≡ walk_answer (tables s) a access mode
+    → z ≡ walk_answer Sv39 (tables s) a access mode
 user_served tables kernel x s a access mode z user on (inl of_kernel) = absurd (let never : may_have_kernel phase.User ≡ true = ap may_have_kernel (sym user) ∙ of_kernel.0 in cc)
-user_served tables kernel x s a access mode z user on (inr (inl own)) = own.3 ∙ ap (λ (k : ℕ). walk_answer (tables k) a access mode) (same_Some own.0 s (sym own.2 ∙ on))
+user_served tables kernel x s a access mode z user on (inr (inl own)) = own.3 ∙ ap (λ (k : ℕ). walk_answer Sv39 (tables k) a access mode) (same_Some own.0 s (sym own.2 ∙ on))
 user_served tables kernel x s a access mode z user on (inr (inr code)) = absurd (code.0 user)
 
 -- a result that is told from an equation

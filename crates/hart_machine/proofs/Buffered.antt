@@ -19,10 +19,11 @@ use Rattle.process_model.specs.declared.phase.Phase.TheVariants as phase
 use Rattle.process_model.specs.declared.step.Reply.{Reply}
 use Rattle.process_model.specs.declared.step.Step.{Step}
 use Rattle.sv39_entry.specs.Address.{is_canonical, page_of}
+use Rattle.sv39_entry.specs.declared.scheme.Scheme.TheVariants.{Sv39}
 use Rattle.table_walk.specs.Leaves.{page_leaf}
 use Rattle.hart_machine.specs.Tables.{present_table, tables_of}
 use Rattle.hart_tlb.specs.Entries.{is_fenced}
-use Rattle.table_walk.specs.Tables.{Tables}
+use Rattle.table_walk.specs.Tables.{Tables, walk_leaf}
 use Rattle.hart_machine.specs.Buffers.{buffer_after, BuffersAre, is_about}
 use Rattle.hart_machine.specs.Harts.{cleaned_for, cleaned_if, emptied, fenced, hart_of, is_before_user}
 use Rattle.process_model.specs.Text.{is_refused}
@@ -51,7 +52,7 @@ entry_moves : (t u : Tables) → HaveSameLeaves t u → (asid : ℕ) (e : TlbEnt
 entry_moves t u same asid e entry = record {
   of_space = entry.of_space;
   local = entry.local;
-  leaf = entry.leaf ∙ ap (λ (o : Option ℕ). if is_canonical (4096 * e.page) then option_map page_leaf o else None) (sym (same (page_of (4096 * e.page))));
+  leaf = entry.leaf ∙ ap (λ (o : Option ℕ). if is_canonical (4096 * e.page) then option_map page_leaf o else None) (sym (same (walk_leaf Sv39 (page_of (4096 * e.page)))));
 }
 
 -- where there is nothing, the end was passed

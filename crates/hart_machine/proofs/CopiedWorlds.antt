@@ -30,7 +30,7 @@ use Rattle.sv39_entry.specs.declared.access.Access.{Access}
 use Rattle.sv39_entry.specs.declared.rule.Rule.{Rule}
 use Rattle.sv39_entry.specs.declared.rule.Rule.TheVariants.{NoFrame}
 use Rattle.sv39_entry.specs.declared.access.Access.TheVariants as access
-use Rattle.table_walk.specs.Tables.{Tables}
+use Rattle.table_walk.specs.Tables.{Tables, leaf_node}
 use Rattle.user_copy.specs.Reaching.{Place, Reaches}
 use Rattle.user_copy.specs.Runs.{Puts}
 use Rattle.user_copy.specs.declared.short.Stop.TheVariants.{Denied}
@@ -74,7 +74,7 @@ same_slots m n w frames kernel slots files harts ruled is = record {
 
 -- a page is on the frame that it was on, where its leaf is the one that it had
 same_on : (t u : Tables) → HaveSameLeaves t u → (n f : ℕ) → IsOn u n f → IsOn t n f
-same_on t u same n f on = (on.0, sym (same n) ∙ on.1, on.2)
+same_on t u same n f on = (on.0, sym (same (leaf_node n)) ∙ on.1, on.2)
 
 -- no copy number is given twice: the counter only grows
 module _ (a : Around) (kind : Access) (g h : Progress) where

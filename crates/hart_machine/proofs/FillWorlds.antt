@@ -16,6 +16,7 @@ use Rattle.process_model.specs.declared.step.Refusal.TheVariants.{BadArgument}
 use Rattle.process_model.specs.declared.step.Reply.TheVariants.{Filled, Refused}
 use Rattle.process_model.specs.declared.step.Step.TheVariants as step
 use Rattle.sv39_entry.specs.Address.{page_of}
+use Rattle.sv39_entry.specs.declared.scheme.Scheme.TheVariants.{Sv39}
 use Rattle.table_walk.specs.Tables.{HasTables, Tables}
 use Rattle.hart_machine.specs.Harts.{hart_of, next_number, with_entry}
 use Rattle.hart_machine.specs.Tables.{tables_of, IsThere, present_table}
@@ -79,7 +80,7 @@ has_at m w is h x at = record {
 -- a hart that keeps the entry of a table keeps that of the table that was taken
 module _ (m : Machine) (w : World) (is : IsWorld m w) (asid a : ℕ) (x y : Hart) (t : Table) where
   abbrev KeepsOf : View → ℕ → Type 0
-  KeepsOf v root = (i : Tables) → HasTables v root i → LeavesAreThere i → LeavesAreLocal i → y ≡ with_entry x (entry_for i asid a)
+  KeepsOf v root = (i : Tables) → HasTables Sv39 v root i → LeavesAreThere Sv39 i → LeavesAreLocal Sv39 i → y ≡ with_entry x (entry_for i asid a)
 
   abbrev Keeps : Table → Type 0
   Keeps u = y ≡ with_entry x (entry_for (tables_of is.tables is.kernel u) asid a)

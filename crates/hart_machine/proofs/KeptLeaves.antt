@@ -14,7 +14,7 @@ use Rattle.frame_store.specs.View.{View}
 use Rattle.process_model.specs.PageMap as pages
 use Rattle.process_model.specs.Process.{Page, Process, regions}
 use Rattle.process_model.specs.Stale.{is_changed}
-use Rattle.table_walk.specs.Tables.{leaf_node, Tables}
+use Rattle.table_walk.specs.Tables.{Tables}
 use Rattle.hart_machine.specs.Calls.{Follows}
 use Rattle.hart_machine.specs.Tenants.{body_in, IsTenant}
 use Rattle.hart_machine.specs.Worlds.{HaveSameLeaves, KeepsTables}
@@ -48,9 +48,9 @@ module _ (p q : Process) (unchanged : is_changed (Some p) (Some q) ≡ false) wh
 module _ (x y : Tenant) (t u : Tables) (p q : Process) (before : IsTenant x t p) (after : IsTenant y u q) (unchanged : is_changed (Some p) (Some q) ≡ false) where
   -- where a run of pages was dropped, none of it was settled
   pub dropped_none : (first end : ℕ) → Drops t u first end → HaveSameLeaves t u
-  dropped_none first end drops page = go (finite.get u.leaves (leaf_node page)) refl (finite.get t.leaves (leaf_node page)) refl where
-    none_left : (w : ℕ) → finite.get t.leaves (leaf_node page) ≡ Some w → finite.get u.leaves (leaf_node page) ≡ None → ⊥
-    none_left w at none = elim (before.agrees.stands.shows.only (leaf_node page) w at) [
+  dropped_none first end drops number = go (finite.get u.leaves number) refl (finite.get t.leaves number) refl where
+    none_left : (w : ℕ) → finite.get t.leaves number ≡ Some w → finite.get u.leaves number ≡ None → ⊥
+    none_left w at none = elim (before.agrees.stands.shows.only number w at) [
       | inl same ↦ (let leaf = after.agrees.stands.shows.on_trampoline in let both : None ≡ Some leaf.0 = sym none ∙ ap (finite.get u.leaves) same ∙ leaf.1 in cc)
       | inr more ↦ elim more [
         | inl same ↦ (let leaf = after.agrees.stands.shows.on_trapframe in let both : None ≡ Some leaf.0 = sym none ∙ ap (finite.get u.leaves) same ∙ leaf.1 in cc)
@@ -61,8 +61,8 @@ module _ (x y : Tenant) (t u : Tables) (p q : Process) (before : IsTenant x t p)
       ]
     ]
 
-    go : (o : Option ℕ) → finite.get u.leaves (leaf_node page) ≡ o → (r : Option ℕ) → finite.get t.leaves (leaf_node page) ≡ r → finite.get u.leaves (leaf_node page) ≡ finite.get t.leaves (leaf_node page)
-    go (Some w) now r was = drops.others (leaf_node page) (λ n from to same. let both : Some w ≡ None = sym now ∙ ap (finite.get u.leaves) same ∙ drops.gone n from to in cc)
+    go : (o : Option ℕ) → finite.get u.leaves number ≡ o → (r : Option ℕ) → finite.get t.leaves number ≡ r → finite.get u.leaves number ≡ finite.get t.leaves number
+    go (Some w) now r was = drops.others number (λ n from to same. let both : Some w ≡ None = sym now ∙ ap (finite.get u.leaves) same ∙ drops.gone n from to in cc)
     go None now None was = now ∙ sym was
     go None now (Some w) was = absurd (none_left w was now)
 
@@ -77,7 +77,7 @@ module _ (x y : Tenant) (t u : Tables) (p q : Process) (before : IsTenant x t p)
         record { before = old.0; settled = old.1; fork_mark = old.3; stored_mark = old.4; on = λ f. on n f z there (omega (arith, below, copy)) }
 
     pub followed_same : HaveSameLeaves t u
-    followed_same page = leaves_stay (body_in x) (body_in y) t u p q before.agrees after.agrees (ap (λ f. f.0) trapframe) same_regions (still_settled p q unchanged) alike (leaf_node page)
+    followed_same number = leaves_stay (body_in x) (body_in y) t u p q before.agrees after.agrees (ap (λ f. f.0) trapframe) same_regions (still_settled p q unchanged) alike number
 
 -- a page that follows one is on its frame, where its copy number is an old one
 pub old_on : (v : View) (t u : Tables) (p q : Process) (low high : ℕ) → Follows v t u p q low high → (n f : ℕ) (z : Page) → pages.get q.settled n ≡ Some z → z.copy < low → IsOn u n f → IsOn t n f

@@ -8,7 +8,8 @@ use Rattle.std.proofs.lemmas.Option.{same_Some}
 use Rattle.frame_store.specs.View.{IsSole, View, references}
 use Rattle.process_model.specs.Frames.{kernel_frames}
 use Rattle.sv39_entry.specs.Address.{trampoline_page}
-use Rattle.table_walk.specs.Tables.{Tables, node}
+use Rattle.sv39_entry.specs.declared.scheme.Scheme.TheVariants.{Sv39}
+use Rattle.table_walk.specs.Tables.{Tables, node, root_node}
 use Rattle.address_space.specs.Kernel.{first_direct, HoldsKernel, IsKernelTable, is_kernel_table}
 use Rattle.hart_machine.proofs.NumberLists.{Among, among_back, among_front, among_parts, Distinct, distinct_append, times, times_among, times_are}
 use Rattle.hart_machine.proofs.MatchedLists.{Matched, matched}
@@ -17,8 +18,8 @@ use Rattle.hart_machine.proofs.KeySets.{value}
 -- the numbers of tables
 
 abbrev numbers_by : Bool → List ℕ
-numbers_by true = 1 ∷ node trampoline_page 1 ∷ node trampoline_page 2 ∷ node first_direct 1 ∷ node first_direct 2 ∷ []
-numbers_by false = 1 ∷ node trampoline_page 1 ∷ node trampoline_page 2 ∷ node first_direct 1 ∷ node first_direct 2 ∷ node (first_direct + 512) 2 ∷ []
+numbers_by true = root_node Sv39 ∷ node Sv39 trampoline_page 1 ∷ node Sv39 trampoline_page 2 ∷ node Sv39 first_direct 1 ∷ node Sv39 first_direct 2 ∷ []
+numbers_by false = root_node Sv39 ∷ node Sv39 trampoline_page 1 ∷ node Sv39 trampoline_page 2 ∷ node Sv39 first_direct 1 ∷ node Sv39 first_direct 2 ∷ node Sv39 (first_direct + 512) 2 ∷ []
 
 abbrev are_distinct : List ℕ → Bool
 are_distinct [] = true
@@ -65,19 +66,19 @@ module _ (frames : ℕ) (some : 0 < frames) where
   there = lt-ltb 0 frames some
 
   kernel_in : (few : Bool) → Tests frames few → (k : ℕ) → is_kernel_table frames k ≡ true → Among k (numbers_by few)
-  kernel_in few t k is = elim (five_of (k == 1) (k == node trampoline_page 1) (k == node trampoline_page 2) (nat_lt 0 frames && (k == node first_direct 1 || k == node first_direct 2)) (nat_lt 512 frames && (k == node (first_direct + 512) 2)) is) [
-    | inl a ↦ at few 0 (inl (same_of k 1 a))
+  kernel_in few t k is = elim (five_of (k == root_node Sv39) (k == node Sv39 trampoline_page 1) (k == node Sv39 trampoline_page 2) (nat_lt 0 frames && (k == node Sv39 first_direct 1 || k == node Sv39 first_direct 2)) (nat_lt 512 frames && (k == node Sv39 (first_direct + 512) 2)) is) [
+    | inl a ↦ at few 0 (inl (same_of k _ a))
     | inr o ↦ elim o [
       | inl a ↦ at few 0 (inr (inl (same_of k _ a)))
       | inr p ↦ elim p [
         | inl a ↦ at few 0 (inr (inr (inl (same_of k _ a))))
         | inr q ↦ elim q [
-          | inl a ↦ elim (two_of (k == node first_direct 1) (k == node first_direct 2) (both_of (nat_lt 0 frames) (k == node first_direct 1 || k == node first_direct 2) a).1) [
+          | inl a ↦ elim (two_of (k == node Sv39 first_direct 1) (k == node Sv39 first_direct 2) (both_of (nat_lt 0 frames) (k == node Sv39 first_direct 1 || k == node Sv39 first_direct 2) a).1) [
             | inl b ↦ at few 0 (inr (inr (inr (inl (same_of k _ b)))))
             | inr b ↦ at few 0 (inr (inr (inr (inr (inl (same_of k _ b))))))
           ]
           | inr a ↦ (
-              let two = both_of (nat_lt 512 frames) (k == node (first_direct + 512) 2) a in
+              let two = both_of (nat_lt 512 frames) (k == node Sv39 (first_direct + 512) 2) a in
               last few (sym t.more ∙ two.0) (same_of k _ two.1))
         ]
       ]
@@ -85,9 +86,9 @@ module _ (frames : ℕ) (some : 0 < frames) where
   ] where
     at : (few : Bool) → ℕ → Among k (numbers_by true) → Among k (numbers_by few)
     at true n i = i
-    at false n i = among_front k (numbers_by true) (node (first_direct + 512) 2 ∷ []) i
+    at false n i = among_front k (numbers_by true) (node Sv39 (first_direct + 512) 2 ∷ []) i
 
-    last : (few : Bool) → cond few false true ≡ true → k ≡ node (first_direct + 512) 2 → Among k (numbers_by few)
+    last : (few : Bool) → cond few false true ≡ true → k ≡ node Sv39 (first_direct + 512) 2 → Among k (numbers_by few)
     last true e is = absurd (cc)
     last false e is = inr (inr (inr (inr (inr (inl is)))))
 
@@ -96,9 +97,9 @@ module _ (frames : ℕ) (some : 0 < frames) where
     | inl j ↦ base k j
     | inr last ↦ (let more = t.more ∙ last.0 in rw (last.1, there, more) refl)
   ] where
-    first : (few : Bool) → Among k (numbers_by few) → Among k (numbers_by true) ⊎ ((cond few false true ≡ true) × (k ≡ node (first_direct + 512) 2))
+    first : (few : Bool) → Among k (numbers_by few) → Among k (numbers_by true) ⊎ ((cond few false true ≡ true) × (k ≡ node Sv39 (first_direct + 512) 2))
     first true i = inl i
-    first false i = elim (among_parts k (numbers_by true) (node (first_direct + 512) 2 ∷ []) i) [
+    first false i = elim (among_parts k (numbers_by true) (node Sv39 (first_direct + 512) 2 ∷ []) i) [
       | inl j ↦ inl j
       | inr j ↦ elim j [ inl e ↦ inr (refl, e) | inr none ↦ absurd none ]
     ]

@@ -4,12 +4,12 @@ use Rattle.std.proofs.lemmas.Option.{same_Some}
 use Rattle.std.specs.FinMap.{get}
 use Rattle.std.specs.Prelude.{slice_get}
 use Rattle.std.proofs.lemmas.Bool.{cases_eq, cases_lt, eq-eqb, ne_eqb}
-use Rattle.table_walk.specs.Nodes.{leaf_node_is}
 use Rattle.address_space.specs.Kernel.{first_direct, frame_rights, IsKernelTable, kernel_leaf, kernel_page}
 use Rattle.frame_store.specs.View.{View}
 use Rattle.sv39_entry.specs.Address.{trampoline_page}
 use Rattle.sv39_entry.specs.Word.{leaf_word}
-use Rattle.table_walk.specs.Tables.{Tables, leaf_node}
+use Rattle.sv39_entry.specs.declared.scheme.Scheme.TheVariants.{Sv39}
+use Rattle.table_walk.specs.Tables.{Tables, leaf_node, walk_leaf}
 use Rattle.address_space.specs.Agreement.{code_rights, data_rights}
 use Rattle.table_walk.specs.Leaves.{LeavesAreLocal, LeavesAreThere}
 use Rattle.address_space.specs.ProcessLeaves.{IsUsable, usable}
@@ -57,14 +57,14 @@ module _ (v : View) (root frames slots : ℕ) (stacks : List ℕ) (t : Tables) (
   kernel_leaf_of None each w is = absurd (cc)
   kernel_leaf_of (Some z) each w is = subst IsUsable (same_Some (leaf_word z.0 z.1 false false true) w is) (sound_kernel z (each z refl))
 
-  of_page : (page w : ℕ) → get t.leaves (leaf_node page) ≡ Some w → IsUsable w
+  of_page : (page w : ℕ) → get t.leaves (walk_leaf Sv39 page) ≡ Some w → IsUsable w
   of_page page w found =
       let low : page % 2 ^ 27 < 2 ^ 27 = omega arith in
-      let same : leaf_node page ≡ leaf_node (page % 2 ^ 27) = let a = leaf_node_is page in let b = leaf_node_is (page % 2 ^ 27) in omega (arith, a, b) in
+      let same : walk_leaf Sv39 page ≡ leaf_node (page % 2 ^ 27) = omega arith in
       kernel_leaf_of (kernel_page frames stacks (page % 2 ^ 27)) (kernel_page_is (page % 2 ^ 27)) w (sym (k.maps.leaves (page % 2 ^ 27) low) ∙ ap (get t.leaves) (sym same) ∙ found)
 
-  pub kernel_there : LeavesAreThere t
+  pub kernel_there : LeavesAreThere Sv39 t
   kernel_there page w found = (of_page page w found).0
 
-  pub kernel_local : LeavesAreLocal t
+  pub kernel_local : LeavesAreLocal Sv39 t
   kernel_local page w found = (of_page page w found).1

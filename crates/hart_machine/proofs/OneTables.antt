@@ -1,19 +1,20 @@
--- What a seat knows of the tables below a root says which leaf each page has: there are no other leaves.
-use Rattle.std.proofs.Common.{◌≡◌, ℕ, zero, suc, ◌-◌, ◌^◌, ◌≤◌, nat_lt, true, false, Option, None, Some, option_map, refl, ap, sym, subst, ◌∙◌, inl, inr, arith, if◌then◌else◌}
+-- What a seat knows of the tables below a root says which leaves there are: there are no others.
+use Rattle.std.proofs.Common.{◌≡◌, ℕ, zero, suc, ◌+◌, ◌*◌, ◌/◌, ◌%◌, ◌≤◌, nat_lt, true, false, Option, None, Some, option_map, refl, ap, sym, subst, ◌∙◌, inl, inr, arith, if◌then◌else◌}
 use Rattle.std.specs.Prelude.{unwrap_or}
 use Rattle.std.specs.FinMap.{get}
 use Rattle.std.proofs.lemmas.Bool.{le-ltb, lt-ltb}
 use Rattle.std.proofs.lemmas.Option.{same_Some}
 use Rattle.frame_store.specs.View.{View}
-use Rattle.sv39_entry.specs.Address.{is_canonical, page_of, vpn}
+use Rattle.sv39_entry.specs.Address.{page_of}
 use Rattle.sv39_entry.specs.Word.{kind_of}
 use Rattle.sv39_entry.specs.declared.entry.Kind.TheVariants.{Leaf}
 use Rattle.sv39_entry.specs.declared.access.Access.{Access}
 use Rattle.sv39_entry.specs.declared.access.Mode.{Mode}
 use Rattle.table_walk.specs.Leaves.{answer, page_leaf, walk_answer}
-use Rattle.table_walk.specs.Nodes.{above, leaf_number, node_from, power_up, table_number, vpn_low}
-use Rattle.table_walk.specs.Tables.{HasTables, leaf_node, node, pointer_or_zero, Tables, word_in}
-use Rattle.table_walk.specs.Walk.{top_level}
+use Rattle.table_walk.specs.Nodes.{root_some}
+use Rattle.table_walk.specs.Tables.{first_leaf, HasTables, pointer_or_zero, Tables, walk_leaf, word_in}
+use Rattle.sv39_entry.specs.Schemes.{is_canonical}
+use Rattle.sv39_entry.specs.declared.scheme.Scheme.{Scheme}
 use Rattle.hart_machine.specs.Worlds.{HaveSameLeaves}
 
 -- a word says whether a frame is there, and which
@@ -34,52 +35,44 @@ one_leaf None (Some w) of_a of_b e = absurd (zero_invalid (subst (λ (k : ℕ). 
 one_leaf (Some w) None of_a of_b e = absurd (zero_invalid (subst (λ (k : ℕ). kind_of k ≡ Leaf) e (of_a w refl)))
 one_leaf (Some w) (Some x) of_a of_b e = ap Some e
 
-module _ (v : View) (root : ℕ) (t u : Tables) (a : HasTables v root t) (b : HasTables v root u) (page : ℕ) where
-  -- the word at the index of a page, in a table that both have
-  same_words : (k f : ℕ) → get t.tables (node page k) ≡ Some f → get u.tables (node page k) ≡ Some f → word_in t (node page (suc k)) ≡ word_in u (node page (suc k))
-  same_words k f at_t at_u =
-      let low = vpn_low page (top_level - k) in
-      same_Some _ _ (sym (a.known.words (node page k) f (vpn page (top_level - k)) at_t low) ∙ b.known.words (node page k) f (vpn page (top_level - k)) at_u low)
+module _ {s : Scheme} (v : View) (root : ℕ) (t u : Tables) (a : HasTables s v root t) (b : HasTables s v root u) where
+  -- the word of a number, below a table that both have
+  same_word : (n g : ℕ) → get t.tables (n / 512) ≡ Some g → get u.tables (n / 512) ≡ Some g → word_in t n ≡ word_in u n
+  same_word n g at_t at_u =
+      let whole : n / 512 * 512 + n % 512 ≡ n = omega arith in
+      let words = same_Some _ _ (sym (a.known.words (n / 512) g (n % 512) at_t (omega arith)) ∙ b.known.words (n / 512) g (n % 512) at_u (omega arith)) in
+      rw whole at words
 
-  -- where one has no table, it has none below it
-  none_below : (x : Tables) → HasTables v root x → (k : ℕ) → get x.tables (node page k) ≡ None → get x.tables (node page (suc k)) ≡ None
-  none_below x has k none = go (get x.tables (node page (suc k))) refl where
-    go : (o : Option ℕ) → get x.tables (node page (suc k)) ≡ o → get x.tables (node page (suc k)) ≡ None
-    go None is = is
-    go (Some f) is = absurd (elim (has.known.hung (node page (suc k)) f is) [
-      | inl rooted ↦ (let from = node_from page (suc k) in let power : 512 ^ 1 ≤ 512 ^ suc k = power_up 1 (suc k) (omega arith) in omega (arith, rooted, from, power))
-      | inr hung ↦ (let both : None ≡ Some hung.0 = sym none ∙ ap (get x.tables) (sym (above page k)) ∙ hung.1 in cc)
-    ])
+  -- a table of the one is one of the other: so is the table above it, down from the root
+  same_table : (most k f : ℕ) → k ≤ most → get t.tables k ≡ Some f → get u.tables k ≡ Some f
+  same_table zero k f low at = absurd (let from = (a.known.below k f at).0 in let some = root_some s in omega (arith, from, some, low))
+  same_table (suc most) k f low at = elim (a.known.hung k f at) [
+    | inl is ↦ ap (get u.tables) is ∙ b.known.rooted ∙ sym a.known.rooted ∙ ap (get t.tables) (sym is) ∙ at
+    | inr hung ↦
+        let below = a.known.below k f at in
+        let from = below.0 in
+        let some = root_some s in
+        let upper = same_table most (k / 512) hung.0 (omega (arith, low, from, some)) hung.1 in
+        let table : nat_lt k first_leaf ≡ true = lt-ltb k first_leaf below.1 in
+        sym (one_pointer (get t.tables k) (get u.tables k) (rw table at (same_word k hung.0 hung.1 upper))) ∙ at
+  ]
 
-  same_tables : (k : ℕ) → k ≤ top_level → get t.tables (node page k) ≡ get u.tables (node page k)
-  same_tables zero low = a.known.rooted ∙ sym b.known.rooted
-  same_tables (suc k) low = go (same_tables k (omega (arith, low))) (get t.tables (node page k)) refl where
-    go : get t.tables (node page k) ≡ get u.tables (node page k) → (o : Option ℕ) → get t.tables (node page k) ≡ o → get t.tables (node page (suc k)) ≡ get u.tables (node page (suc k))
-    go same None none = none_below t a k none ∙ sym (none_below u b k (sym same ∙ none))
-    go same (Some f) at =
-        let words = same_words k f at (sym same ∙ at) in
-        let table : nat_lt (node page (suc k)) (512 ^ suc top_level) ≡ true = lt-ltb _ _ (table_number page (suc k) low) in
-        one_pointer _ _ (rw table at words)
-
-  same_leaf : get t.leaves (leaf_node page) ≡ get u.leaves (leaf_node page)
-  same_leaf = go (get t.tables (node page top_level)) refl where
-    none_of : (x : Tables) → HasTables v root x → get x.tables (node page top_level) ≡ None → get x.leaves (leaf_node page) ≡ None
-    none_of x has none = at (get x.leaves (leaf_node page)) refl where
-      at : (o : Option ℕ) → get x.leaves (leaf_node page) ≡ o → get x.leaves (leaf_node page) ≡ None
-      at None is = is
-      at (Some w) is = absurd (let hung = (has.known.leaf_hung (leaf_node page) w is).2 in let both : None ≡ Some hung.0 = sym none ∙ ap (get x.tables) (sym (above page top_level)) ∙ hung.1 in cc)
-
-    go : (o : Option ℕ) → get t.tables (node page top_level) ≡ o → get t.leaves (leaf_node page) ≡ get u.leaves (leaf_node page)
-    go None none = none_of t a none ∙ sym (none_of u b (sym (same_tables top_level (omega arith)) ∙ none))
-    go (Some f) at =
-        let words = same_words top_level f at (sym (same_tables top_level (omega arith)) ∙ at) in
-        let leaf : nat_lt (leaf_node page) (512 ^ suc top_level) ≡ false = le-ltb _ _ (leaf_number page) in
-        one_leaf _ _ (λ w is. (a.known.leaf_hung (leaf_node page) w is).0) (λ w is. (b.known.leaf_hung (leaf_node page) w is).0) (rw leaf at words)
+  same_leaf : (n w : ℕ) → get t.leaves n ≡ Some w → get u.leaves n ≡ Some w
+  same_leaf n w at =
+      let hung = a.known.leaf_hung n w at in
+      let table = same_table (n / 512) (n / 512) hung.2.0 (omega arith) hung.2.1 in
+      let leaf : nat_lt n first_leaf ≡ false = le-ltb n first_leaf hung.1 in
+      sym (one_leaf (get t.leaves n) (get u.leaves n) (λ x is. (a.known.leaf_hung n x is).0) (λ x is. (b.known.leaf_hung n x is).0) (rw leaf at (same_word n hung.2.0 hung.2.1 table))) ∙ at
 
 -- two tables that a seat has below one root
-pub one_tables : (v : View) (root : ℕ) (t u : Tables) → HasTables v root t → HasTables v root u → HaveSameLeaves t u
-one_tables v root t u a b page = sym (same_leaf v root t u a b page)
+pub one_tables : {s : Scheme} (v : View) (root : ℕ) (t u : Tables) → HasTables s v root t → HasTables s v root u → HaveSameLeaves t u
+one_tables v root t u a b n = go (get t.leaves n) refl (get u.leaves n) refl where
+  go : (o : Option ℕ) → get t.leaves n ≡ o → (r : Option ℕ) → get u.leaves n ≡ r → get u.leaves n ≡ get t.leaves n
+  go (Some w) at r is = same_leaf v root t u a b n w at ∙ sym at
+  go None at None is = is ∙ sym at
+  go None at (Some x) is = absurd (let both : None ≡ Some x = sym at ∙ same_leaf v root u t b a n x is in cc)
 
 -- by tables that have the same leaves, an access comes to the same
-pub one_answer : (t u : Tables) (address : ℕ) (access : Access) (mode : Mode) → HaveSameLeaves t u → walk_answer t address access mode ≡ walk_answer u address access mode
-one_answer t u address access mode same = ap (λ (o : Option ℕ). answer (if is_canonical address then option_map page_leaf o else None) address access mode) (sym (same (page_of address)))
+pub one_answer : (s : Scheme) (t u : Tables) (address : ℕ) (access : Access) (mode : Mode) → HaveSameLeaves t u → walk_answer s t address access mode ≡ walk_answer s u address access mode
+one_answer s t u address access mode same =
+    ap (λ (o : Option ℕ). answer (if is_canonical s address then option_map page_leaf o else None) address access mode) (sym (same (walk_leaf s (page_of address))))

@@ -8,6 +8,7 @@ use Rattle.process_model.specs.declared.phase.Phase.{Phase}
 use Rattle.process_model.specs.declared.phase.Phase.TheVariants as phase
 use Rattle.sv39_entry.specs.declared.access.Access.{Access}
 use Rattle.sv39_entry.specs.declared.access.Mode.{Mode}
+use Rattle.sv39_entry.specs.declared.scheme.Scheme.TheVariants.{Sv39}
 use Rattle.table_walk.specs.Tables.{Tables}
 use Rattle.table_walk.specs.declared.walk.Walk.{Walk}
 use Rattle.hart_machine.specs.Tables.{tables_of, IsServed, IsThere, present_table}
@@ -50,10 +51,10 @@ module _ (tables : ℕ → Tables) (kernel : Tables) (x : Hart) (idle : x.slot �
   ]
 
   -- and so does a walk by it
-  pub present_served : (a : ℕ) (access : Access) (mode : Mode) (z : Walk) → z ≡ walk_answer (tables_of tables kernel (present_table x)) a access mode → IsServed x tables kernel a access mode z
+  pub present_served : (a : ℕ) (access : Access) (mode : Mode) (z : Walk) → z ≡ walk_answer Sv39 (tables_of tables kernel (present_table x)) a access mode → IsServed x tables kernel a access mode z
   present_served a access mode z walked = elim (present_is x idle) [
-    | inl of_kernel ↦ inl (of_kernel.0, walked ∙ ap (λ (t : Table). walk_answer (tables_of tables kernel t) a access mode) of_kernel.1)
-    | inr own ↦ inr (inl (own.0, own.1, own.2, walked ∙ ap (λ (t : Table). walk_answer (tables_of tables kernel t) a access mode) own.3))
+    | inl of_kernel ↦ inl (of_kernel.0, walked ∙ ap (λ (t : Table). walk_answer Sv39 (tables_of tables kernel t) a access mode) of_kernel.1)
+    | inr own ↦ inr (inl (own.0, own.1, own.2, walked ∙ ap (λ (t : Table). walk_answer Sv39 (tables_of tables kernel t) a access mode) own.3))
   ]
 
 -- and it is there

@@ -12,7 +12,6 @@ use Rattle.sv39_entry.specs.Address.{trampoline_page, trapframe_page}
 use Rattle.sv39_entry.specs.Frame.{ppn_of}
 use Rattle.sv39_entry.specs.Word.{ppn}
 use Rattle.table_walk.specs.Tables.{Tables, leaf_node}
-use Rattle.table_walk.specs.Nodes.{leaf_node_is}
 use Rattle.address_space.specs.Agreement.{IsOn, Names, nothing, Stands}
 use Rattle.hart_machine.proofs.NumberLists.{Among, among_back, among_front, among_map, among_parts, Distinct, distinct_append, distinct_map, mapped_from, times, times_are}
 use Rattle.hart_machine.proofs.MatchedLists.{Matched, matched, matched_append, matched_cons}
@@ -84,30 +83,25 @@ module _ (v : View) (root trapframe : ℕ) (t : Tables) (p : Process) (s : Stand
   leaves_distinct = distinct_map leaf_node (keys p.settled) (λ a b i j e.
       let low = page_low a i in
       let lower = page_low b j in
-      let here = leaf_node_is a in
-      let there = leaf_node_is b in
-      omega (arith, e, low, lower, here, there)) (keys_distinct p.settled)
+      omega (arith, e, low, lower)) (keys_distinct p.settled)
 
   leaf_far : (k page : ℕ) → trapframe_page ≤ page → page ≤ trampoline_page → k ≡ leaf_node page → Among k (table_numbers tabled ++ leaf_numbers) → ⊥
   leaf_far k page from to is i =
-      let here = leaf_node_is page in
       elim (among_parts k (table_numbers tabled) leaf_numbers i) [
-        | inl j ↦ (let low = table_range tabled s.tabled_low k j in absurd (omega (arith, low, here, is)))
+        | inl j ↦ (let low = table_range tabled s.tabled_low k j in absurd (omega (arith, low, is)))
         | inr j ↦ (
             let n = mapped_from leaf_node k (keys p.settled) j in
             let low = page_low n.0 n.1 in
-            let there = leaf_node_is n.0 in
             let same = n.2 in
-            absurd (omega (arith, low, here, there, is, same, from, to)))
+            absurd (omega (arith, low, is, same, from, to)))
       ]
 
   apart_numbers : (k : ℕ) → Among k (table_numbers tabled) → Among k leaf_numbers → ⊥
   apart_numbers k i j =
       let low = table_range tabled s.tabled_low k i in
       let n = mapped_from leaf_node k (keys p.settled) j in
-      let here = leaf_node_is n.0 in
       let same = n.2 in
-      absurd (omega (arith, low, here, same))
+      absurd (omega (arith, low, same))
 
   rest_distinct : Distinct (table_numbers tabled ++ leaf_numbers)
   rest_distinct = distinct_append (table_numbers tabled) leaf_numbers (tables_distinct tabled s.tabled_low) leaves_distinct apart_numbers
@@ -144,7 +138,7 @@ module _ (v : View) (root trapframe : ℕ) (t : Tables) (p : Process) (s : Stand
       (matched_append (Names t) (table_numbers tabled) leaf_numbers table_frames.0 page_frames.0 rest_distinct (λ f j k _ _. s.owns.once f j k) table_frames.1 page_frames.1 apart_numbers)
 
   code_apart : (j : ℕ) → Among j (leaf_node trapframe_page ∷ (table_numbers tabled ++ leaf_numbers)) → j ≡ leaf_node trampoline_page → ⊥
-  code_apart j (inl e) same = let here = leaf_node_is trampoline_page in let there = leaf_node_is trapframe_page in absurd (omega (arith, here, there, same, e))
+  code_apart j (inl e) same = absurd (omega (arith, same, e))
   code_apart j (inr later) same = leaf_far j trampoline_page (omega arith) (omega arith) same later
 
   with_code : Matched (Names t) every_number (0 ∷ trapframe ∷ (table_frames.0 ++ page_frames.0))

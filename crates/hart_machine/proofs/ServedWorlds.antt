@@ -28,7 +28,6 @@ use Rattle.sv39_entry.specs.declared.access.Access.{Access}
 use Rattle.sv39_entry.specs.declared.access.Access.TheVariants as access
 use Rattle.sv39_entry.specs.declared.rule.Rule.{Rule}
 use Rattle.sv39_entry.specs.declared.rule.Rule.TheVariants.{NoFrame}
-use Rattle.table_walk.specs.Nodes.{leaf_node_is}
 use Rattle.table_walk.specs.Tables.{leaf_node, Tables}
 use Rattle.hart_machine.specs.Calls.{Follows, IsInKernel, IsKept, IsNew}
 use Rattle.hart_machine.specs.Harts.{hart_of}
@@ -77,9 +76,7 @@ is_there (Some c) there = (c, refl)
 -- a page of another number has another leaf
 other_leaf : (n page : ℕ) → n < 2 ^ 27 → page < 2 ^ 27 → (n ≡ page → ⊥) → leaf_node n ≡ leaf_node page → ⊥
 other_leaf n page low lower apart same =
-    let here = leaf_node_is n in
-    let there = leaf_node_is page in
-    apart (omega (arith, here, there, same, low, lower))
+    apart (omega (arith, same, low, lower))
 
 -- a page is made resident for an access, or it can't be: by the service of a fault, or for a copy
 module _ (m : Machine) (w : World) (is : IsWorld m w) (h s : ℕ) (waits : Bool) (k : IsInKernel m w h s waits) (x y : Tenant) (place : slice_get m.slots.items s ≡ Some (Some x))

@@ -18,7 +18,6 @@ use Rattle.sv39_entry.specs.Address.{trampoline_page}
 use Rattle.sv39_entry.specs.Frame.{ppn_of}
 use Rattle.sv39_entry.specs.Word.{ppn}
 use Rattle.table_walk.specs.Tables.{Tables, leaf_node}
-use Rattle.table_walk.specs.Nodes.{leaf_node_is}
 
 -- copy numbers
 
@@ -76,9 +75,7 @@ module _ (v : View) (root trapframe : ℕ) (t : Tables) (p : Process) (stands : 
       let one = stands.owns.once f (leaf_node m) (leaf_node n) (on_names m f on) (subst (λ h. Names t h (leaf_node n)) (sym same) (on_names n g upon)) in
       let low = stands.shows.low m a at in
       let lower = stands.shows.low n b also in
-      let here = leaf_node_is m in
-      let there = leaf_node_is n in
-      omega (arith, one, low, lower, here, there)
+      omega (arith, one, low, lower)
 
   -- and not that of the trampoline
   pub page_no_code : (n f : ℕ) (a : Page) → get p.settled n ≡ Some a → IsOn t n f → f ≡ 0 → ⊥
@@ -86,9 +83,7 @@ module _ (v : View) (root trapframe : ℕ) (t : Tables) (p : Process) (stands : 
       let code = stands.shows.on_trampoline in
       let one = stands.owns.once f (leaf_node n) (leaf_node trampoline_page) (on_names n f on) (inr (code.0, code.1, code.2.names ∙ ap ppn_of (sym code_frame))) in
       let low = stands.shows.low n a at in
-      let here = leaf_node_is n in
-      let there = leaf_node_is trampoline_page in
-      omega (arith, one, low, here, there)
+      omega (arith, one, low)
 
   -- a page is on one frame
   pub one_frame : (m n f g : ℕ) → IsOn t m f → IsOn t n g → m ≡ n → f ≡ g

@@ -21,7 +21,8 @@ use Rattle.sv39_entry.specs.Word.{IsLeafOf, kind_of, leaf_word, permits, ppn}
 use Rattle.sv39_entry.specs.declared.access.Access.TheVariants.{Fetch}
 use Rattle.sv39_entry.specs.declared.access.Mode.TheVariants.{Supervisor}
 use Rattle.sv39_entry.specs.declared.frame.FrameNo.{FrameNo}
-use Rattle.table_walk.specs.Tables.{Tables, leaf_node}
+use Rattle.sv39_entry.specs.declared.scheme.Scheme.TheVariants.{Sv39}
+use Rattle.table_walk.specs.Tables.{Tables, walk_leaf}
 use Rattle.table_walk.specs.Memory.{physical_address}
 use Rattle.table_walk.specs.declared.walk.Walk.{Walk}
 use Rattle.table_walk.specs.declared.walk.Walk.TheVariants as walk
@@ -41,7 +42,7 @@ use Rattle.hart_machine.proofs.HartSteps.{HasHart, impossible, improper, makes, 
 -- the leaf of the page leads to frame 0, and the kernel may fetch by it
 record HasCode (t : Tables) : Type 0 where
   word : ℕ
-  mapped : get t.leaves (leaf_node trampoline_page) ≡ Some word
+  mapped : get t.leaves (walk_leaf Sv39 trampoline_page) ≡ Some word
   names : ppn word ≡ ppn_of 0
   lets : permits Supervisor Fetch word ≡ true
 
@@ -63,7 +64,7 @@ kernel_code v root frames slots stacks t k = record {
 
 -- the same of an entry of a buffer that tells of the page
 
-code_leaf : (t : Tables) (word a : ℕ) → get t.leaves (leaf_node trampoline_page) ≡ Some word → IsLeafOf word 0 code_rights false false true → page_of a ≡ trampoline_page → IsCode (leaf_at t a)
+code_leaf : (t : Tables) (word a : ℕ) → get t.leaves (walk_leaf Sv39 trampoline_page) ≡ Some word → IsLeafOf word 0 code_rights false false true → page_of a ≡ trampoline_page → IsCode (leaf_at Sv39 t a)
 code_leaf t word a mapped made page =
     let canonical : is_canonical a ≡ true = rw (eq-eqb (a / 2 ^ 38) 0 (omega (arith, page))) refl in
     (word, rw (canonical, page, mapped) refl, made)
@@ -86,10 +87,10 @@ kernel_leaf = record {
   executable = λ e none. refl;
 }
 
-pub kernel_code_leaf : (v : View) (root frames slots : ℕ) (stacks : List ℕ) (t : Tables) → IsKernelTable v root frames slots stacks t → (a : ℕ) → page_of a ≡ trampoline_page → IsCode (leaf_at t a)
+pub kernel_code_leaf : (v : View) (root frames slots : ℕ) (stacks : List ℕ) (t : Tables) → IsKernelTable v root frames slots stacks t → (a : ℕ) → page_of a ≡ trampoline_page → IsCode (leaf_at Sv39 t a)
 kernel_code_leaf v root frames slots stacks t k a page = code_leaf t (leaf_word 0 code_rights false false true) a (k.maps.leaves trampoline_page (omega arith)) kernel_leaf page
 
-pub process_code_leaf : (v : View) (trapframe : ℕ) (t : Tables) (p : Process) → Shows v trapframe t p → (a : ℕ) → page_of a ≡ trampoline_page → IsCode (leaf_at t a)
+pub process_code_leaf : (v : View) (trapframe : ℕ) (t : Tables) (p : Process) → Shows v trapframe t p → (a : ℕ) → page_of a ≡ trampoline_page → IsCode (leaf_at Sv39 t a)
 process_code_leaf v trapframe t p shows a page = let leaf = shows.on_trampoline in code_leaf t leaf.0 a leaf.1 leaf.2 page
 
 module _ (offset : ℕ) (low : offset < 4096) where
@@ -100,7 +101,7 @@ module _ (offset : ℕ) (low : offset < 4096) where
   abbrev IsFetched : Walk → Type 0
   IsFetched z = (w : ℕ) × (z ≡ walk.Leaf w 0 (physical_address w 0 address)) × (ppn w ≡ ppn_of 0)
 
-  by_table : (t : Tables) → HasCode t → (z : Walk) → z ≡ walk_answer t address Fetch Supervisor → IsFetched z
+  by_table : (t : Tables) → HasCode t → (z : Walk) → z ≡ walk_answer Sv39 t address Fetch Supervisor → IsFetched z
   by_table t code z is =
       let page : page_of address ≡ trampoline_page = omega (arith, low) in
       let canonical : is_canonical address ≡ true = rw (eq-eqb (address / 2 ^ 38) 0 (omega (arith, low))) refl in

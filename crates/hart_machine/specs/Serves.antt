@@ -9,6 +9,7 @@ use Rattle.process_model.specs.declared.phase.Phase.{Phase}
 use Rattle.process_model.specs.declared.phase.Phase.TheVariants as phase
 use Rattle.sv39_entry.specs.Address.{trampoline_page}
 use Rattle.sv39_entry.specs.Word.{IsLeafOf}
+use Rattle.sv39_entry.specs.declared.scheme.Scheme.TheVariants.{Sv39}
 use Rattle.table_walk.specs.Leaves.{Leaf, page_leaf}
 use Rattle.table_walk.specs.Tables.{HasTables, Tables}
 use Rattle.hart_machine.specs.Tenants.{view_of}
@@ -75,7 +76,7 @@ pub record IsIn (m : Machine) (w : World) : Type 0 where
 -- table of the process says now, by a walk over it, or the hart is marked for its slot; a hart on which it runs is not; and each entry of
 -- TRAMPOLINE's page, under any identifier, tells of the kernel's code in frame 0.
 pub record AreTrue (m : Machine) : Type 0 where
-  pub own : (h s : ℕ) (x : Hart) (y : Tenant) (t : Tables) (e : TlbEntry) → slice_get m.harts.items h ≡ Some x → slice_get m.slots.items s ≡ Some (Some y) → HasTables (view_of y) y.space.root.0 t → Contains x.buffer e
+  pub own : (h s : ℕ) (x : Hart) (y : Tenant) (t : Tables) (e : TlbEntry) → slice_get m.harts.items h ≡ Some x → slice_get m.slots.items s ≡ Some (Some y) → HasTables Sv39 (view_of y) y.space.root.0 t → Contains x.buffer e
       → e.asid ≡ s + 1 → (marks_of x.stale s ≡ true) ⊎ IsEntryOf t (s + 1) e
   pub unmarked : (h s : ℕ) (x : Hart) → slice_get m.harts.items h ≡ Some x → x.phase ≡ phase.User → x.slot ≡ Some s → marks_of x.stale s ≡ false
   pub code : (h : ℕ) (x : Hart) (e : TlbEntry) → slice_get m.harts.items h ≡ Some x → Contains x.buffer e → e.page ≡ trampoline_page → IsCode e.leaf

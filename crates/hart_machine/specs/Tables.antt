@@ -7,6 +7,7 @@ use Rattle.table_walk.specs.Tables.{Tables}
 use Rattle.table_walk.specs.declared.walk.Walk.{Walk}
 use Rattle.process_model.specs.declared.phase.Phase.TheVariants.{User}
 use Rattle.sv39_entry.specs.Address.{page_of, trampoline_page}
+use Rattle.sv39_entry.specs.declared.scheme.Scheme.TheVariants.{Sv39}
 use Rattle.table_walk.specs.Leaves.{answer, Leaf, walk_answer}
 use Rattle.hart_machine.specs.Serves.{IsCode, may_have_kernel, may_have_own}
 use Rattle.hart_machine.specs.declared.hart.Hart.{Hart}
@@ -39,8 +40,8 @@ IsCodeWalk address access mode z = (page_of address ≡ trampoline_page) × (l :
 -- an access is translated by a table of which the hart's buffer may have entries; where the user does not run, also to the kernel's code
 abbrev pub IsServed : Hart → (ℕ → Tables) → Tables → ℕ → Access → Mode → Walk → Type 0
 IsServed x tables kernel address access mode z =
-    ((may_have_kernel x.phase ≡ true) × (z ≡ walk_answer kernel address access mode))
-    ⊎ (((s : ℕ) × (may_have_own x.phase ≡ true) × (x.slot ≡ Some s) × (z ≡ walk_answer (tables s) address access mode))
+    ((may_have_kernel x.phase ≡ true) × (z ≡ walk_answer Sv39 kernel address access mode))
+    ⊎ (((s : ℕ) × (may_have_own x.phase ≡ true) × (x.slot ≡ Some s) × (z ≡ walk_answer Sv39 (tables s) address access mode))
     ⊎ ((x.phase ≡ User → ⊥) × IsCodeWalk address access mode z))
 
 -- what is asked of memory: by the user where it runs, or else in TRAMPOLINE's page

@@ -11,7 +11,7 @@ use Rattle.process_model.specs.World.{Outcome, World}
 use Rattle.process_model.specs.declared.phase.Phase.TheVariants as phase
 use Rattle.process_model.specs.declared.step.Reply.{Reply}
 use Rattle.hart_tlb.specs.declared.entry.TlbEntry.{TlbEntry}
-use Rattle.table_walk.specs.Tables.{leaf_node, Tables}
+use Rattle.table_walk.specs.Tables.{Tables}
 use Rattle.address_space.specs.Agreement.{IsOn}
 use Rattle.address_space.specs.Kernel.{IsKernelTable}
 use Rattle.hart_machine.specs.Harts.{hart_of}
@@ -71,9 +71,9 @@ pub record IsWorld (m : Machine) (w : World) : Type 0 where
 
 -- tables, as buffers may have entries of them
 
--- each page has the leaf that it had
+-- each number has the leaf that it had
 abbrev pub HaveSameLeaves : Tables → Tables → Type 0
-HaveSameLeaves t u = (page : ℕ) → get u.leaves (leaf_node page) ≡ get t.leaves (leaf_node page)
+HaveSameLeaves t u = (n : ℕ) → get u.leaves n ≡ get t.leaves n
 
 -- the kernel has its table, and each process of which no page's leaf changes, as the model has it, has the leaves that it had
 pub record KeepsTables (m n : Machine) (before after : List (Option Process)) : Type 0 where

@@ -7,11 +7,12 @@ ghost use Rattle.table_walk.specs.Leaves.{LeavesAreLocal, LeavesAreThere};
 ghost use Rattle.hart_tlb.specs.Buffer.{newest_entries};
 ghost use Rattle.process_model.specs.Harts.{buffer_size};
 ghost use Rattle.table_walk.specs.Tables.{HasTables, Tables};
+ghost use Rattle.sv39_entry.specs.declared.scheme.Scheme.TheVariants.{Sv39};
 
 use crate::hart::BUFFER_SIZE;
 use frame_store::{FrameAccess, FrameSeat};
 use hart_tlb::Buffer;
-use sv39_entry::{FrameNo, Satp, Va};
+use sv39_entry::{FrameNo, Satp, Scheme, Va};
 use table_walk::{HeldWords, walks_of_tables};
 
 /// Translates the page of an address by the tables below a root, and keeps the outcome in a buffer.
@@ -24,8 +25,8 @@ pub(crate) fn filled<F: FrameAccess>(
     va: Va,
 )
     requires fits { Fits F.rule store.old seat.old }
-    requires held { (t : Tables) × HasTables (F.Seat.view seat.old) root.0 t }
-    ensures entries { (t : Tables) → HasTables (F.Seat.view seat.old) root.0 t → LeavesAreThere t → LeavesAreLocal t →
+    requires held { (t : Tables) × HasTables Sv39 (F.Seat.view seat.old) root.0 t }
+    ensures entries { (t : Tables) → HasTables Sv39 (F.Seat.view seat.old) root.0 t → LeavesAreThere Sv39 t → LeavesAreLocal Sv39 t →
         buffer.new ≡ newest_entries buffer_size (buffer.old ++ entry_for t asid va.0 ∷ []) }
     ensures view { F.Seat.view seat.new ≡ F.Seat.view seat.old }
     ensures same { store.new ≡ store.old }
@@ -33,5 +34,10 @@ pub(crate) fn filled<F: FrameAccess>(
 {
     walks_of_tables();
     let mut words = HeldWords { store, seat };
-    buffer.fill(&mut words, Satp::sv39(asid, root), va);
+    buffer.fill(
+        &mut words,
+        Scheme::Sv39,
+        Satp::new(Scheme::Sv39, asid, root),
+        va,
+    );
 }

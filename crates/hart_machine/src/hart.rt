@@ -8,6 +8,7 @@ ghost use Rattle.hart_machine.specs.Walked.{entry_for};
 ghost use Rattle.table_walk.specs.Leaves.{LeavesAreLocal, LeavesAreThere};
 ghost use Rattle.process_model.specs.Harts as model;
 ghost use Rattle.table_walk.specs.Tables.{HasTables, Tables};
+ghost use Rattle.sv39_entry.specs.declared.scheme.Scheme.TheVariants.{Sv39};
 
 use crate::filled::filled;
 use crate::slots::SlotSet;
@@ -106,8 +107,8 @@ impl Hart {
         va: Va,
     ) -> usize
         requires fits { Fits F.rule store.old seat.old }
-        requires held { (t : Tables) × HasTables (F.Seat.view seat.old) root.0 t }
-        ensures kept { (t : Tables) → HasTables (F.Seat.view seat.old) root.0 t → LeavesAreThere t → LeavesAreLocal t → self.new ≡ with_entry self.old (entry_for t asid va.0) }
+        requires held { (t : Tables) × HasTables Sv39 (F.Seat.view seat.old) root.0 t }
+        ensures kept { (t : Tables) → HasTables Sv39 (F.Seat.view seat.old) root.0 t → LeavesAreThere Sv39 t → LeavesAreLocal Sv39 t → self.new ≡ with_entry self.old (entry_for t asid va.0) }
         ensures number { result ≡ next_number self.old.buffer }
         ensures few { length self.old.buffer ≤ model.buffer_size }
         ensures view { F.Seat.view seat.new ≡ F.Seat.view seat.old }

@@ -13,11 +13,12 @@ ghost use Rattle.process_model.specs.Steps.{plain_step};
 ghost use Rattle.process_model.specs.World.{World};
 ghost use Rattle.process_model.specs.declared.step.Reply.TheVariants.{Filled};
 ghost use Rattle.process_model.specs.declared.step.Step.TheVariants as step;
+ghost use Rattle.sv39_entry.specs.declared.scheme.Scheme.TheVariants.{Sv39};
 
 use crate::hart::{Hart, has_user_satp};
 use crate::machine::Machine;
 use hart_tlb::NoEntry;
-use sv39_entry::{Access, Mode, Va};
+use sv39_entry::{Access, Mode, Scheme, Va};
 use table_walk::{Walk, translate_held};
 
 /// A table that satp may have.
@@ -105,7 +106,7 @@ impl Machine {
     fn walk(&mut self, table: Table, va: Va, access: Access, mode: Mode) -> Walk
         requires there { IsThere self.old table }
         requires world { (w : World) × IsWorld self.old w }
-        ensures walk { (w : World) (is : IsWorld self.old w) → result ≡ walk_answer (tables_of is.tables is.kernel table) va.0 access mode }
+        ensures walk { (w : World) (is : IsWorld self.old w) → result ≡ walk_answer Sv39 (tables_of is.tables is.kernel table) va.0 access mode }
         ensures world { StaysIn self.old self.new }
         ensures places { SamePlaces self.old self.new }
         ensures policy { self.new.policy ≡ self.old.policy }
@@ -115,7 +116,15 @@ impl Machine {
         match table {
             Table::OfKernel => {
                 let kernel = &mut self.kernel;
-                translate_held(frames, &mut kernel.seat, kernel.root, va, access, mode)
+                translate_held(
+                    frames,
+                    &mut kernel.seat,
+                    Scheme::Sv39,
+                    kernel.root,
+                    va,
+                    access,
+                    mode,
+                )
             }
             Table::OfProcess(slot) => {
                 let slots = &mut self.slots;

@@ -5,6 +5,7 @@ use Rattle.sv39_entry.specs.Address.{page_of}
 use Rattle.sv39_entry.specs.Word.{permits}
 use Rattle.sv39_entry.specs.declared.access.Access.{Access}
 use Rattle.sv39_entry.specs.declared.access.Mode.{Mode}
+use Rattle.sv39_entry.specs.declared.scheme.Scheme.{Scheme}
 use Rattle.table_walk.specs.Memory.{Extent, Memory}
 use Rattle.table_walk.specs.Walk.{Finds, Translates}
 use Rattle.table_walk.specs.declared.walk.Found.{Found}
@@ -14,9 +15,9 @@ use Rattle.hart_tlb.specs.Outcome.{EndsInAccessFault, IsOutcome, LeadsToWhole, S
 use Rattle.hart_tlb.specs.declared.entry.TlbEntry.{TlbEntry}
 use Rattle.hart_tlb.proofs.Pages.{byte_on_page, finds_on_page}
 
-module _ (m : Memory) (there : Extent) (root address : ℕ) where
-  module _ (one : (x y : Found) → Finds m root address x → Finds m root address y → x ≡ y) where
-    one_shown : (a b : Option Leaf) (g h : Bool) → Shows m there root address a g → Shows m there root address b h → (a ≡ b) × (g ≡ h)
+module _ (s : Scheme) (m : Memory) (there : Extent) (root address : ℕ) where
+  module _ (one : (x y : Found) → Finds s m root address x → Finds s m root address y → x ≡ y) where
+    one_shown : (a b : Option Leaf) (g h : Bool) → Shows s m there root address a g → Shows s m there root address b h → (a ≡ b) × (g ≡ h)
     one_shown None None g h p q = (refl, p.1 ∙ sym q.1)
     one_shown None (Some b) g h p q = let same = one found.NoLeaf (found.Leaf b.word b.level h) p.0 q.0 in absurd (cc)
     one_shown (Some a) None g h p q = let same = one (found.Leaf a.word a.level g) found.NoLeaf p.0 q.0 in absurd (cc)
@@ -28,14 +29,14 @@ module _ (m : Memory) (there : Extent) (root address : ℕ) where
         let leaves : a ≡ b = λ i. record { word = words i; level = levels i } in
         (ap Some leaves, marks)
 
-    pub one_outcome : (asid : ℕ) (d e : TlbEntry) → IsOutcome m there root asid address d → IsOutcome m there root asid address e → d ≡ e
+    pub one_outcome : (asid : ℕ) (d e : TlbEntry) → IsOutcome s m there root asid address d → IsOutcome s m there root asid address e → d ≡ e
     one_outcome asid d e p q =
         let pages = p.of_page ∙ sym q.of_page in
         let spaces = p.of_space ∙ sym q.of_space in
         let shown = one_shown d.leaf e.leaf d.global e.global p.shown q.shown in
         λ i. record { page = pages i; asid = spaces i; global = shown.1 i; leaf = shown.0 i }
 
-    no_fault : (leaf : Option Leaf) (global : Bool) → Shows m there root address leaf global → EndsInAccessFault m there root address → ⊥
+    no_fault : (leaf : Option Leaf) (global : Bool) → Shows s m there root address leaf global → EndsInAccessFault s m there root address → ⊥
     no_fault None global p (inl out) = let same = one found.NoLeaf found.Outside p.0 out in cc
     no_fault None global p (inr gone) = let same = one found.NoLeaf (found.Leaf gone.0.word gone.0.level gone.1) p.0 gone.2 in cc
     no_fault (Some leaf) global p (inl out) = let same = one (found.Leaf leaf.word leaf.level global) found.Outside p.0 out in cc
@@ -45,14 +46,14 @@ module _ (m : Memory) (there : Extent) (root address : ℕ) where
         let levels : leaf.level ≡ gone.0.level = cc in
         false≢true (sym gone.3 ∙ (rw (words, levels) at p.1))
 
-    pub outcome_or_fault : (asid : ℕ) (e : TlbEntry) → IsOutcome m there root asid address e → EndsInAccessFault m there root address → ⊥
+    pub outcome_or_fault : (asid : ℕ) (e : TlbEntry) → IsOutcome s m there root asid address e → EndsInAccessFault s m there root address → ⊥
     outcome_or_fault asid e p fault = no_fault e.leaf e.global p.shown fault
 
   pub answer_translates : (access : Access) (mode : Mode) (a : ℕ) (leaf : Option Leaf) (global : Bool) → page_of a ≡ page_of address
-      → Shows m there root a leaf global → LeadsToWhole there address leaf → Translates m there root address access mode (answer leaf address access mode)
-  answer_translates access mode a None global same p whole = (refl, inl (finds_on_page a address same m root found.NoLeaf p.0))
+      → Shows s m there root a leaf global → LeadsToWhole there address leaf → Translates s m there root address access mode (answer leaf address access mode)
+  answer_translates access mode a None global same p whole = (refl, inl (finds_on_page a address same s m root found.NoLeaf p.0))
   answer_translates access mode a (Some leaf) global same p whole =
-      let finds = finds_on_page a address same m root (found.Leaf leaf.word leaf.level global) p.0 in
+      let finds = finds_on_page a address same s m root (found.Leaf leaf.word leaf.level global) p.0 in
       elim (cases_Bool (permits mode access leaf.word)) [
         | inl permitted ↦ rw permitted (finds.0, permitted, refl, byte_on_page a address same there leaf.word leaf.level whole p.1)
         | inr denied ↦ rw denied (refl, inr (leaf.word, leaf.level, finds.0, denied))

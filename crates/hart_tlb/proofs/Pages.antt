@@ -1,7 +1,10 @@
 -- Addresses of one page have one walk.
 use Rattle.std.proofs.Common.{◌≡◌, ℕ, ◌+◌, ◌*◌, ◌/◌, ◌%◌, ◌^◌, true, refl, ◌∙◌, arith}
 use Rattle.std.proofs.lemmas.Nat.{mod-pow-add}
-use Rattle.sv39_entry.specs.Address.{is_canonical, page_of}
+use Rattle.sv39_entry.specs.Address.{page_of}
+use Rattle.sv39_entry.specs.Schemes.{is_canonical}
+use Rattle.sv39_entry.specs.declared.scheme.Scheme.{Scheme}
+use Rattle.sv39_entry.specs.declared.scheme.Scheme.TheVariants.{Sv39, Sv48}
 use Rattle.table_walk.specs.Memory.{Extent, Memory, has_byte, physical_address}
 use Rattle.table_walk.specs.Walk.{Finds}
 use Rattle.table_walk.specs.declared.walk.Found.{Found}
@@ -9,13 +12,14 @@ use Rattle.table_walk.specs.declared.walk.Found.TheVariants as found
 use Rattle.hart_tlb.specs.Outcome.{IsWhole}
 
 module _ (a b : ℕ) (same : page_of a ≡ page_of b) where
-  canonical_on_page : is_canonical a ≡ is_canonical b
-  canonical_on_page = let upper : a / 2 ^ 38 ≡ b / 2 ^ 38 = omega arith in rw upper refl
+  canonical_on_page : (s : Scheme) → is_canonical s a ≡ is_canonical s b
+  canonical_on_page Sv39 = let upper : a / 2 ^ 38 ≡ b / 2 ^ 38 = omega arith in rw upper refl
+  canonical_on_page Sv48 = let upper : a / 2 ^ 47 ≡ b / 2 ^ 47 = omega arith in rw upper refl
 
-  pub finds_on_page : (m : Memory) (root : ℕ) (x : Found) → Finds m root a x → Finds m root b x
-  finds_on_page m root (found.Leaf leaf level global) p = rw (canonical_on_page, same) at p
-  finds_on_page m root found.Outside p = rw (canonical_on_page, same) at p
-  finds_on_page m root found.NoLeaf p = rw (canonical_on_page, same) at p
+  pub finds_on_page : (s : Scheme) (m : Memory) (root : ℕ) (x : Found) → Finds s m root a x → Finds s m root b x
+  finds_on_page s m root (found.Leaf leaf level global) p = rw (canonical_on_page s, same) at p
+  finds_on_page s m root found.Outside p = rw (canonical_on_page s, same) at p
+  finds_on_page s m root found.NoLeaf p = rw (canonical_on_page s, same) at p
 
   -- the low bits of a leaf's size, without the offset
   page_low : (n : ℕ) → a % 2 ^ (12 + n) / 4096 ≡ b % 2 ^ (12 + n) / 4096

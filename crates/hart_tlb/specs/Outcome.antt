@@ -1,6 +1,7 @@
 -- Which entries a memory permits: those that a walk over it has for its outcome (the standard, 4.2.1 and 4.3.2).
 use Rattle.std.specs.Prelude.{◌≡◌, ◌⊎◌, ℕ, ◌<◌, ◌/◌, Bool, true, false, Option, None, Some}
 use Rattle.sv39_entry.specs.Address.{page_of}
+use Rattle.sv39_entry.specs.declared.scheme.Scheme.{Scheme}
 use Rattle.table_walk.specs.Memory.{Extent, Memory, has_byte, physical_address}
 use Rattle.table_walk.specs.Walk.{Finds}
 use Rattle.table_walk.specs.declared.walk.Found.TheVariants as found
@@ -9,27 +10,27 @@ use Rattle.hart_tlb.specs.declared.entry.TlbEntry.{TlbEntry}
 
 -- a walk for an address finds this leaf, or none, and the mark G. What tells of no leaf is never global, and the byte that a
 -- leaf leads to is there
-abbrev pub Shows : Memory → Extent → ℕ → ℕ → Option Leaf → Bool → Type 0
-Shows m there root address None global = Finds m root address found.NoLeaf × (global ≡ false)
-Shows m there root address (Some leaf) global =
-    Finds m root address (found.Leaf leaf.word leaf.level global) × (has_byte there (physical_address leaf.word leaf.level address) ≡ true)
+abbrev pub Shows : Scheme → Memory → Extent → ℕ → ℕ → Option Leaf → Bool → Type 0
+Shows s m there root address None global = Finds s m root address found.NoLeaf × (global ≡ false)
+Shows s m there root address (Some leaf) global =
+    Finds s m root address (found.Leaf leaf.word leaf.level global) × (has_byte there (physical_address leaf.word leaf.level address) ≡ true)
 
 -- the entry is the outcome of a walk for an address from a root, under an address space number
-pub record IsOutcome (m : Memory) (there : Extent) (root asid address : ℕ) (e : TlbEntry) : Type 0 where
+pub record IsOutcome (s : Scheme) (m : Memory) (there : Extent) (root asid address : ℕ) (e : TlbEntry) : Type 0 where
   pub of_page : e.page ≡ page_of address
   pub of_space : e.asid ≡ asid
-  pub shown : Shows m there root address e.leaf e.global
+  pub shown : Shows s m there root address e.leaf e.global
 
 -- a walk that ends in an access fault has none: a word on the way, or the byte that its leaf leads to, lies outside the memory
-abbrev pub EndsInAccessFault : Memory → Extent → ℕ → ℕ → Type 0
-EndsInAccessFault m there root address =
-    Finds m root address found.Outside
-    ⊎ ((leaf : Leaf) × (global : Bool) × Finds m root address (found.Leaf leaf.word leaf.level global)
+abbrev pub EndsInAccessFault : Scheme → Memory → Extent → ℕ → ℕ → Type 0
+EndsInAccessFault s m there root address =
+    Finds s m root address found.Outside
+    ⊎ ((leaf : Leaf) × (global : Bool) × Finds s m root address (found.Leaf leaf.word leaf.level global)
     × (has_byte there (physical_address leaf.word leaf.level address) ≡ false))
 
 -- the memory permits an entry from a root, under an address space number: it is the outcome of a walk for an address of its page
-abbrev pub IsPermitted : Memory → Extent → ℕ → ℕ → TlbEntry → Type 0
-IsPermitted m there root asid e = (address : ℕ) × IsOutcome m there root asid address e
+abbrev pub IsPermitted : Scheme → Memory → Extent → ℕ → ℕ → TlbEntry → Type 0
+IsPermitted s m there root asid e = (address : ℕ) × IsOutcome s m there root asid address e
 
 -- a frame is there as a whole, or not at all
 abbrev pub IsWhole : Extent → ℕ → Type 0

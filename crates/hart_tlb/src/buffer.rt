@@ -8,6 +8,8 @@ ghost use Rattle.hart_tlb.specs.Outcome.{IsPermitted, LeadsToWhole};
 ghost use Rattle.hart_tlb.specs.declared.entry.TlbEntry.{TlbEntry};
 ghost use Rattle.sv39_entry.specs.Address.{page_of};
 ghost use Rattle.sv39_entry.specs.Satp as satps;
+ghost use Rattle.sv39_entry.specs.Schemes.{mode_of};
+ghost use Rattle.sv39_entry.specs.declared.scheme.Scheme.{Scheme};
 ghost use Rattle.table_walk.specs.Memory.{Extent, Memory};
 ghost use Rattle.table_walk.specs.Walk.{CanWalk, Translates};
 
@@ -15,7 +17,7 @@ use crate::entry::TlbEntry;
 use crate::walked::outcome;
 use arrayvec::ArrayVec;
 use std::marker::Model;
-use sv39_entry::{Access, Mode, Satp, Va};
+use sv39_entry::{Access, Mode, Satp, Scheme, Va};
 use table_walk::{Walk, Words, one_found};
 
 /// A translation buffer of at most `N` entries, in order of filling. Writes to memory or to satp change nothing in it: an
@@ -64,17 +66,18 @@ impl<const N: usize> Buffer<N> {
         self.entries.as_slice().get(n).copied()
     }
 
-    /// Walks to an address under satp, whose MODE is taken to be Sv39, and keeps what the walk found, whatever the rights,
+    /// Walks to an address under satp, whose MODE is that of the scheme, and keeps what the walk found, whatever the rights,
     /// as the newest entry; a full buffer loses its oldest. Of a walk that ends in an access fault nothing is kept. Entries
     /// for the same page stay beside the new one (the standard, 4.2.1 permits each of them).
-    pub fn fill<M: Words>(&mut self, words: &mut M, satp: Satp, va: Va)
-        requires { CanWalk (M.readable words.old) (M.memory words.old) (satps.root_ppn satp) (page_of va.0) }
-        ensures fills { Fills (M.memory words.old) (M.there words.old) (satps.root_ppn satp) (satps.asid satp) va.0 N self.old self.new }
+    pub fn fill<M: Words>(&mut self, words: &mut M, scheme: Scheme, satp: Satp, va: Va)
+        requires readable { CanWalk scheme (M.readable words.old) (M.memory words.old) (satps.root_ppn satp) (page_of va.0) }
+        requires mode { satps.mode satp ≡ mode_of scheme }
+        ensures fills { Fills scheme (M.memory words.old) (M.there words.old) (satps.root_ppn satp) (satps.asid satp) va.0 N self.old self.new }
         ensures stays { M.stays words.old words.new }
     {
         // its law is what makes the outcome of the walk the only one
         one_found();
-        if let Some(entry) = outcome(words, satp, va) {
+        if let Some(entry) = outcome(words, scheme, satp, va) {
             self.add(entry);
         }
     }
@@ -125,8 +128,8 @@ impl<const N: usize> Buffer<N> {
         ensures ok { IfOk result (λ w. (e : TlbEntry) → slice_get self.now n ≡ Some e → w ≡ answer e.leaf va.0 access mode) }
         // What a walk over any memory translates the access to, if that memory permits the entry. It takes that the frame
         // that the leaf leads to, that one alone, is there as a whole or not at all.
-        ensures permitted { IfOk result (λ w. (m : Memory) (there : Extent) (root space : ℕ) (e : TlbEntry) → slice_get self.now n ≡ Some e
-            → IsPermitted m there root space e → LeadsToWhole there va.0 e.leaf → Translates m there root va.0 access mode w) }
+        ensures permitted { IfOk result (λ w. (s : Scheme) (m : Memory) (there : Extent) (root space : ℕ) (e : TlbEntry) → slice_get self.now n ≡ Some e
+            → IsPermitted s m there root space e → LeadsToWhole there va.0 e.leaf → Translates s m there root va.0 access mode w) }
     {
         let Some(entry) = self.entry(n) else {
             return Err(NoEntry);

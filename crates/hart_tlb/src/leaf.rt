@@ -3,7 +3,6 @@
 ghost use Rattle.std.specs.Prelude.{◌≡◌, ◌≤◌};
 ghost use Rattle.hart_tlb.specs.Entries.{covers};
 ghost use Rattle.table_walk.specs.Memory as memory;
-ghost use Rattle.table_walk.specs.Walk.{top_level};
 
 use std::marker::Model;
 use sv39_entry::{Entry, Va, Vpn};
@@ -19,21 +18,20 @@ pub struct TlbLeaf {
 /// Contracts see the word and the level.
 impl Model for TlbLeaf {
     ghost use Rattle.std.specs.Prelude.{◌≤◌};
-    ghost use Rattle.table_walk.specs.Walk.{top_level};
     ghost use Rattle.table_walk.specs.Leaves.{Leaf};
 
     ghost Value = { Leaf };
 
     ghost view = { λ leaf. record { word = leaf.word; level = leaf.level } };
 
-    ghost invariant = { λ leaf. leaf.level ≤ top_level };
+    ghost invariant = { λ leaf. leaf.level ≤ 3 };
 
     ghost inverse = { λ leaf. record { word = leaf.word; level = leaf.level } };
 }
 
 impl TlbLeaf {
     pub(crate) fn new(word: u64, level: u32) -> TlbLeaf
-        requires { level ≤ top_level }
+        requires { level ≤ 3 }
         ensures word { result.word ≡ word }
         ensures level { result.level ≡ level }
     {
@@ -50,7 +48,7 @@ impl TlbLeaf {
     /// The level at which the walk found it.
     pub fn level(self) -> u32
         ensures value { result ≡ self.level }
-        ensures low { result ≤ top_level }
+        ensures low { result ≤ 3 }
     {
         self.level
     }

@@ -8,17 +8,22 @@ ghost use Rattle.table_walk.specs.Walk.{CanWalk};
 
 use crate::entry::TlbEntry;
 use crate::leaf::TlbLeaf;
-use sv39_entry::{Satp, Va};
+use sv39_entry::{Satp, Scheme, Va};
 use table_walk::{Found, Words, has_byte, lookup};
 
 /// The outcome of a walk under satp; `None` where it ends in an access fault.
-pub(crate) fn outcome<M: Words>(words: &mut M, satp: Satp, va: Va) -> Option<TlbEntry>
-    requires { CanWalk (M.readable words.old) (M.memory words.old) (root_ppn satp) (page_of va.0) }
-    ensures entry { IfSome result (λ e. IsOutcome (M.memory words.old) (M.there words.old) (root_ppn satp) (asid satp) va.0 e) }
-    ensures fault { IfNone result (EndsInAccessFault (M.memory words.old) (M.there words.old) (root_ppn satp) va.0) }
+pub(crate) fn outcome<M: Words>(
+    words: &mut M,
+    scheme: Scheme,
+    satp: Satp,
+    va: Va,
+) -> Option<TlbEntry>
+    requires { CanWalk scheme (M.readable words.old) (M.memory words.old) (root_ppn satp) (page_of va.0) }
+    ensures entry { IfSome result (λ e. IsOutcome scheme (M.memory words.old) (M.there words.old) (root_ppn satp) (asid satp) va.0 e) }
+    ensures fault { IfNone result (EndsInAccessFault scheme (M.memory words.old) (M.there words.old) (root_ppn satp) va.0) }
     ensures stays { M.stays words.old words.new }
 {
-    let (leaf, global) = match lookup(words, satp.ppn(), va) {
+    let (leaf, global) = match lookup(words, scheme, satp.ppn(), va) {
         Found::Leaf {
             word,
             level,

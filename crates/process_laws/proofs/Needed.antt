@@ -4,6 +4,7 @@ use Rattle.process_model.specs.PageMap.{NumberSet, insert, numbers, keys, count}
 use Rattle.process_model.specs.Frames.{tables_needed}
 use Rattle.process_laws.proofs.SetSizes.{Within, within_map, numbers_have, numbers_have_only, insert_has, insert_has_only, count_same, count_grows}
 use Rattle.sv39_entry.specs.Address.{trampoline_page, trapframe_page}
+use Rattle.sv39_entry.specs.declared.scheme.Scheme.TheVariants.{Sv39}
 
 within_two : (a b : ℕ) (xs ys : List ℕ) → Within xs ys → Within (a ∷ b ∷ xs) (a ∷ b ∷ ys)
 within_two a b xs ys w q (inl e) = inl e
@@ -40,14 +41,14 @@ values_grow f a b c xs =
     let same : count (numbers (f c ∷ map f (a ∷ b ∷ xs))) ≡ values f a b (c ∷ xs) = count_same (map f (c ∷ a ∷ b ∷ xs)) (map f (a ∷ b ∷ c ∷ xs)) there back in
     omega (grown, same, arith)
 
-pub tables_same : (xs ys : List ℕ) → Within xs ys → Within ys xs → tables_needed xs ≡ tables_needed ys
+pub tables_same : (xs ys : List ℕ) → Within xs ys → Within ys xs → tables_needed Sv39 xs ≡ tables_needed Sv39 ys
 unfolding tables_needed
 tables_same xs ys v w =
     let large = values_same (λ n. n / 2 ^ 18) trampoline_page trapframe_page xs ys v w in
     let small = values_same (λ n. n / 2 ^ 9) trampoline_page trapframe_page xs ys v w in
     rw (large, small)
 
-pub tables_grow : (page : ℕ) (xs : List ℕ) → tables_needed xs ≤ tables_needed (page ∷ xs)
+pub tables_grow : (page : ℕ) (xs : List ℕ) → tables_needed Sv39 xs ≤ tables_needed Sv39 (page ∷ xs)
 unfolding tables_needed
 tables_grow page xs =
     let large = values_grow (λ n. n / 2 ^ 18) trampoline_page trapframe_page page xs in
@@ -55,8 +56,8 @@ tables_grow page xs =
     omega (large, small, arith)
 
 -- the tables of the pages that went into a set
-pub tables_of_numbers : (xs : List ℕ) → tables_needed (keys (numbers xs)) ≡ tables_needed xs
+pub tables_of_numbers : (xs : List ℕ) → tables_needed Sv39 (keys (numbers xs)) ≡ tables_needed Sv39 xs
 tables_of_numbers xs = tables_same (keys (numbers xs)) xs (numbers_have_only xs) (numbers_have xs)
 
-pub tables_of_insert : (s : NumberSet) (page : ℕ) → tables_needed (keys (insert s page tt)) ≡ tables_needed (page ∷ keys s)
+pub tables_of_insert : (s : NumberSet) (page : ℕ) → tables_needed Sv39 (keys (insert s page tt)) ≡ tables_needed Sv39 (page ∷ keys s)
 tables_of_insert s page = tables_same (keys (insert s page tt)) (page ∷ keys s) (insert_has_only s page tt) (insert_has s page tt)

@@ -23,6 +23,7 @@ use Rattle.process_laws.proofs.FreeFrames.{different, spent}
 use Rattle.process_laws.proofs.DistinctPages.{Rises, image_rises}
 use Rattle.process_laws.proofs.ImageOrder.{accepted_is_placed}
 use Rattle.process_model.specs.declared.image.Image.{Image}
+use Rattle.sv39_entry.specs.declared.scheme.Scheme.TheVariants.{Sv39}
 
 -- the pages of an image as they are settled, with copy numbers from one on
 abbrev settled_from : ℕ → List (ℕ × List ℕ) → PageMap Page
@@ -85,7 +86,7 @@ start_spends w s image ls new to loaded wet =
     let pages : count (numbers (copies_of p ++ all_copies w.slots)) ≡ different w.slots + length (image_pages ls) =
     count_image 0 w.counter (image_pages ls) (all_copies w.slots) (image_rises image ls loaded) (copies_below w new) in
     let sums : sum_by own_frames (live after) + 0 ≡ sum_by own_frames (live w.slots) + own_frames p = sum_set own_frames w.slots s None (Some p) empty in
-    let tables : own_frames p ≡ 1 + tables_needed (page_numbers ls) = ap (λ n. 1 + n) (tables_of_numbers (page_numbers ls)) in
-    let need : exec_need ls ≡ length (page_numbers ls) + tables_needed (page_numbers ls) = exec_need_is ls (accepted_is_placed image ls loaded) in
+    let tables : own_frames p ≡ 1 + tables_needed Sv39 (page_numbers ls) = ap (λ n. 1 + n) (tables_of_numbers (page_numbers ls)) in
+    let need : exec_need ls ≡ length (page_numbers ls) + tables_needed Sv39 (page_numbers ls) = exec_need_is ls (accepted_is_placed image ls loaded) in
     let long : length (page_numbers ls) ≡ length (image_pages ls) = length-map (image_pages ls) (λ e. e.0) in
     spent w.frames (start_need ls) w.slots after (length-set w.slots s (Some p)) (omega (put, alone, pages, sums, tables, need, long, arith)) wet

@@ -6,28 +6,38 @@ use Rattle.process_model.specs.Process.{Process, Page}
 use Rattle.process_model.specs.Residence.{goes_through, parts_from, region_on}
 use Rattle.process_model.specs.Regions.{guard_pages, stack_pages}
 use Rattle.process_model.specs.Images.{LoadSegment, end_page}
-use Rattle.sv39_entry.specs.Address.{page_of, trampoline_page, trapframe_page}
+use Rattle.sv39_entry.specs.Address.{page_of}
+use Rattle.sv39_entry.specs.Schemes.{trampoline_page, trapframe_page}
 use Rattle.sv39_entry.specs.declared.access.Access.{Access}
+use Rattle.sv39_entry.specs.declared.scheme.Scheme.{Scheme}
+use Rattle.sv39_entry.specs.declared.scheme.Scheme.TheVariants.{Sv39, Sv48}
 use Rattle.process_model.specs.declared.step.Report.{Report}
 
 -- tables
 
--- the page tables for a set of pages (the standard, 4.4): the root, one for each gigabyte and one for each two megabytes. The
--- trampoline's page and the trapframe's are always among them
-unfoldable pub tables_needed : List ℕ → ℕ
-tables_needed pages =
-    let all = trampoline_page ∷ trapframe_page ∷ pages in
-    1 + count (numbers (map (λ n. n / 2 ^ 18) all)) + count (numbers (map (λ n. n / 2 ^ 9) all))
+-- how many pages a table of each level below the root's is for (the standard, 4.4 and 4.5), the uppermost first
+abbrev pub table_sizes : Scheme → List ℕ
+table_sizes Sv39 = 2 ^ 18 ∷ 2 ^ 9 ∷ []
+table_sizes Sv48 = 2 ^ 27 ∷ 2 ^ 18 ∷ 2 ^ 9 ∷ []
+
+abbrev pub tables_of_sizes : List ℕ → List ℕ → ℕ
+tables_of_sizes [] pages = 0
+tables_of_sizes (size ∷ sizes) pages = count (numbers (map (λ n. n / size) pages)) + tables_of_sizes sizes pages
+
+-- the page tables for a set of pages: the root, and one for each run of so many pages that has one of them. The trampoline's page and the
+-- trapframe's are always among them
+unfoldable pub tables_needed : Scheme → List ℕ → ℕ
+tables_needed s pages = 1 + tables_of_sizes (table_sizes s) (trampoline_page s ∷ trapframe_page s ∷ pages)
 
 -- tables stay until exec or the end, so they are those of all tabled pages
 abbrev pub tables_of : Process → ℕ
-tables_of p = tables_needed (keys p.tabled)
+tables_of p = tables_needed Sv39 (keys p.tabled)
 
 -- what a step takes
 
 -- a page is settled: one frame for its bytes, and the tables that are missing
 abbrev pub settle_need : Process → ℕ → ℕ
-settle_need p page = 1 + (tables_needed (page ∷ keys p.tabled) - tables_of p)
+settle_need p page = 1 + (tables_needed Sv39 (page ∷ keys p.tabled) - tables_of p)
 
 -- a page is taken over: one frame where it parts from another process, and none for a mark
 abbrev pub part_need : Bool → ℕ
@@ -47,7 +57,7 @@ resident_need shared p access page = resident_need_of shared p access page (get 
 
 -- the child's trapframe and its tables, and no page
 abbrev pub fork_need : Process → ℕ
-fork_need p = 1 + tables_needed (keys p.settled)
+fork_need p = 1 + tables_needed Sv39 (keys p.settled)
 
 -- the pages of an image are a few runs, each from a first page up to, and without, an end: so its need is counted run by run, and no
 -- page is listed. It is the number of its pages and `tables_needed` by them (`exec_need_is`)
@@ -73,15 +83,19 @@ tables_from size counted [] = 0
 tables_from size counted (r ∷ rs) = let end = (r.end - 1) / size + 1 in end - max (r.first / size) counted + tables_from size end rs
 
 -- the trapframe's page and the trampoline's, above all others
-abbrev pub kernel_run : PageRun
-kernel_run = record { first = trapframe_page; end = trampoline_page + 1 }
+abbrev pub kernel_run : Scheme → PageRun
+kernel_run s = record { first = trapframe_page s; end = trampoline_page s + 1 }
 
-abbrev pub tables_in : List PageRun → ℕ
-tables_in rs = let all = rs ++ kernel_run ∷ [] in 1 + tables_from (2 ^ 18) 0 all + tables_from (2 ^ 9) 0 all
+abbrev pub tables_by_sizes : List ℕ → List PageRun → ℕ
+tables_by_sizes [] runs = 0
+tables_by_sizes (size ∷ sizes) runs = tables_from size 0 runs + tables_by_sizes sizes runs
+
+abbrev pub tables_in : Scheme → List PageRun → ℕ
+tables_in s rs = 1 + tables_by_sizes (table_sizes s) (rs ++ kernel_run s ∷ [])
 
 -- the pages of the image, guard and stack among them, and their tables
 abbrev pub exec_need : List LoadSegment → ℕ
-exec_need ls = let runs = image_runs ls in pages_in runs + tables_in runs
+exec_need ls = let runs = image_runs ls in pages_in runs + tables_in Sv39 runs
 
 -- and the trapframe
 abbrev pub start_need : List LoadSegment → ℕ

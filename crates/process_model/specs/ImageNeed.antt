@@ -1,10 +1,10 @@
 -- What an image needs, counted run by run, is the number of its pages and the tables needed by them.
 use Rattle.std.proofs.Common.{◌≡◌, ℕ, zero, suc, ◌+◌, ◌-◌, ◌/◌, ◌<◌, ◌≤◌, refl, ap, sym, ◌∙◌, arith, List, [], ◌∷◌, ◌++◌, map, length}
-use Rattle.std.specs.Prelude.{◌^◌, flat_map}
+use Rattle.std.specs.Prelude.{flat_map}
 use Rattle.std.proofs.lemmas.List.{append-nil, append_assoc, length-append, map-append}
 use Rattle.std.proofs.lemmas.List.Concat.{flat_map-cons}
 use Rattle.process_model.specs.Bytes.{numbers_from, pages_for}
-use Rattle.process_model.specs.Frames.{exec_need, image_runs, kernel_run, PageRun, pages_in, runs_between, tables_from, tables_needed}
+use Rattle.process_model.specs.Frames.{exec_need, image_runs, kernel_run, PageRun, pages_in, runs_between, tables_by_sizes, tables_from, tables_needed, tables_of_sizes, table_sizes}
 use Rattle.process_model.specs.Images.{LoadSegment, end_of_loads, end_page}
 use Rattle.process_model.specs.Inserted.{behind_more}
 use Rattle.process_model.specs.Loading.{load_pages, page_numbers, page_run}
@@ -12,7 +12,10 @@ use Rattle.process_model.specs.Order.{InRow, IsPlaced}
 use Rattle.process_model.specs.PageMap.{count}
 use Rattle.process_model.specs.Regions.{guard_pages, stack_pages}
 use Rattle.process_model.specs.ValueSets.{AreCounted, div_near, div_up, first_last, last_first, none_counted, run_counted, same_count, values}
-use Rattle.sv39_entry.specs.Address.{page_of, trampoline_page, trapframe_page}
+use Rattle.sv39_entry.specs.Address.{page_of}
+use Rattle.sv39_entry.specs.Schemes.{of_scheme, trampoline_page, trapframe_page}
+use Rattle.sv39_entry.specs.declared.scheme.Scheme.{Scheme}
+use Rattle.sv39_entry.specs.declared.scheme.Scheme.TheVariants.{Sv39, Sv48}
 
 -- runs of pages
 
@@ -71,18 +74,45 @@ module _ (size : ℕ) (some : 0 < size) where
       ap (λ ys. count (values group ys)) (sym (append_assoc xs (run_pages r) (numbers_in rs))) ∙ rest ∙ omega arith
 
   -- the kernel's two pages, which stand first where tables are needed, may stand last
-  kernel_last : (ns : List ℕ) → count (values group (trampoline_page ∷ trapframe_page ∷ ns)) ≡ count (values group (ns ++ trapframe_page ∷ trampoline_page ∷ []))
-  kernel_last ns =
-      let front : List ℕ = ns ++ trapframe_page ∷ [] in
-      same_count group (trampoline_page ∷ trapframe_page ∷ ns) (trampoline_page ∷ front)
-      (behind_more trampoline_page (trapframe_page ∷ ns) front (first_last ns trapframe_page)) (behind_more trampoline_page front (trapframe_page ∷ ns) (last_first ns trapframe_page))
-      ∙ same_count group (trampoline_page ∷ front) (front ++ trampoline_page ∷ []) (first_last front trampoline_page) (last_first front trampoline_page)
-      ∙ ap (λ ys. count (values group ys)) (append_assoc ns (trapframe_page ∷ []) (trampoline_page ∷ []))
+  kernel_last : (z : Scheme) (ns : List ℕ) → count (values group (trampoline_page z ∷ trapframe_page z ∷ ns)) ≡ count (values group (ns ++ trapframe_page z ∷ trampoline_page z ∷ []))
+  kernel_last z ns =
+      let last = trampoline_page z in
+      let next = trapframe_page z in
+      let front : List ℕ = ns ++ next ∷ [] in
+      same_count group (last ∷ next ∷ ns) (last ∷ front)
+      (behind_more last (next ∷ ns) front (first_last ns next)) (behind_more last front (next ∷ ns) (last_first ns next))
+      ∙ same_count group (last ∷ front) (front ++ last ∷ []) (first_last front last) (last_first front last)
+      ∙ ap (λ ys. count (values group ys)) (append_assoc ns (next ∷ []) (last ∷ []))
 
-  tables_counted : (rs : List PageRun) → AreRising 0 (rs ++ kernel_run ∷ []) → tables_from size 0 (rs ++ kernel_run ∷ []) ≡ count (values group (trampoline_page ∷ trapframe_page ∷ numbers_in rs))
-  tables_counted rs up =
-      let all = groups (rs ++ kernel_run ∷ []) 0 up [] 0 0 (none_counted group) (omega arith) in
-      sym (kernel_last (numbers_in rs) ∙ ap (λ ys. count (values group ys)) (sym (numbers_split rs (kernel_run ∷ []))) ∙ all ∙ omega arith)
+  -- the run of these two pages has them
+  kernel_numbers : (z : Scheme) → numbers_in (kernel_run z ∷ []) ≡ trapframe_page z ∷ trampoline_page z ∷ []
+  kernel_numbers Sv39 = refl
+  kernel_numbers Sv48 = refl
+
+  tables_counted : (z : Scheme) (rs : List PageRun) → AreRising 0 (rs ++ kernel_run z ∷ [])
+      → tables_from size 0 (rs ++ kernel_run z ∷ []) ≡ count (values group (trampoline_page z ∷ trapframe_page z ∷ numbers_in rs))
+  tables_counted z rs up =
+      let all = groups (rs ++ kernel_run z ∷ []) 0 up [] 0 0 (none_counted group) (omega arith) in
+      sym (kernel_last z (numbers_in rs)
+      ∙ ap (λ ys. count (values group (numbers_in rs ++ ys))) (sym (kernel_numbers z))
+      ∙ ap (λ ys. count (values group ys)) (sym (numbers_split rs (kernel_run z ∷ []))) ∙ all ∙ omega arith)
+
+-- each of some sizes is that of one page at least
+abbrev AreSome : List ℕ → Type 0
+AreSome [] = Unit {0}
+AreSome (size ∷ sizes) = (0 < size) × AreSome sizes
+
+all_some : (z : Scheme) → AreSome (table_sizes z)
+all_some Sv39 = (omega arith, (omega arith, tt))
+all_some Sv48 = (omega arith, (omega arith, (omega arith, tt)))
+
+sizes_counted : (z : Scheme) (sizes : List ℕ) → AreSome sizes → (rs : List PageRun) → AreRising 0 (rs ++ kernel_run z ∷ [])
+    → tables_by_sizes sizes (rs ++ kernel_run z ∷ []) ≡ tables_of_sizes sizes (trampoline_page z ∷ trapframe_page z ∷ numbers_in rs)
+sizes_counted z [] some rs up = refl
+sizes_counted z (size ∷ sizes) some rs up =
+    let here = tables_counted size some.0 z rs up in
+    let rest = sizes_counted z sizes some.1 rs up in
+    omega (arith, here, rest)
 
 -- the pages of an image
 
@@ -104,20 +134,19 @@ image_numbers end (l ∷ ls) row =
     ∙ ap (λ ns. ns ++ map number_of rest) (run_numbers (pages_for l.memory_size) (page_of l.address) l.bytes ∙ ap (numbers_from (page_of l.address)) many)
     ∙ ap (λ ns. numbers_from (page_of l.address) (end_page l - page_of l.address) ++ ns) (image_numbers (end_page l) ls row.1)
 
-runs_rise : (end : ℕ) (ls : List LoadSegment) → InRow end ls → end_of_loads end ls + (guard_pages + stack_pages) ≤ trapframe_page → AreRising end (runs_between end ls ++ kernel_run ∷ [])
-runs_rise end [] row room = (omega arith, omega arith, (omega (arith, room), omega arith, tt))
-runs_rise end (l ∷ ls) row room =
+runs_rise : (z : Scheme) (end : ℕ) (ls : List LoadSegment) → InRow end ls → end_of_loads end ls + (guard_pages + stack_pages) ≤ trapframe_page z → AreRising end (runs_between end ls ++ kernel_run z ∷ [])
+runs_rise z end [] row room = let facts = of_scheme z in (omega arith, omega arith, (omega (arith, room), omega (arith, facts), tt))
+runs_rise z end (l ∷ ls) row room =
     let at = row.0 in
     let some = at.some in
     let last = at.end in
-    (at.above, omega (arith, some, last), runs_rise (end_page l) ls row.1 room)
+    (at.above, omega (arith, some, last), runs_rise z (end_page l) ls row.1 room)
 
-pub exec_need_is : (ls : List LoadSegment) → IsPlaced ls → exec_need ls ≡ length (page_numbers ls) + tables_needed (page_numbers ls)
+pub exec_need_is : (ls : List LoadSegment) → IsPlaced ls → exec_need ls ≡ length (page_numbers ls) + tables_needed Sv39 (page_numbers ls)
 unfolding tables_needed
 exec_need_is ls is =
-    let up : AreRising 0 (image_runs ls ++ kernel_run ∷ []) = runs_rise 0 ls is.row is.below in
+    let up : AreRising 0 (image_runs ls ++ kernel_run Sv39 ∷ []) = runs_rise Sv39 0 ls is.row is.below in
     let same : page_numbers ls ≡ numbers_in (image_runs ls) = image_numbers 0 ls is.row in
     let pages = pages_counted (image_runs ls) in
-    let high = tables_counted (2 ^ 18) (omega arith) (image_runs ls) up in
-    let low = tables_counted (2 ^ 9) (omega arith) (image_runs ls) up in
-    rw same (omega (arith, pages, high, low))
+    let all = sizes_counted Sv39 (table_sizes Sv39) (all_some Sv39) (image_runs ls) up in
+    rw same (omega (arith, pages, all))

@@ -1,5 +1,5 @@
 -- How the lines of a script are read, one after the other, whatever their words are.
-use Rattle.std.specs.Prelude.{ℕ, Bool, true, false, List, [], ◌∷◌, Option, Some, None, Result, Ok, Err, length, ◌+◌, ◌==◌, nat_lt, nat_le, if◌then◌else◌}
+use Rattle.std.specs.Prelude.{ℕ, Bool, false, List, [], ◌∷◌, Option, Some, None, Result, Ok, Err, length, ◌+◌, ◌==◌, nat_lt, nat_le, if◌then◌else◌}
 use Rattle.std.specs.List.{list_all}
 use Rattle.process_model.specs.Lines.{without_return, fields_of}
 use Rattle.process_model.specs.Fields.{Row, row_among, values_of}

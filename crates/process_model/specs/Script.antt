@@ -1,9 +1,8 @@
 -- What a script says, or its first fault.
-use Rattle.std.specs.Prelude.{ℕ, ℤ, pos, negsuc, ◌++◌, Bool, true, false, not, List, [], ◌∷◌, Option, Some, None, is_some, Result, Ok, Err, length, slice_get, ◌+◌, ◌^◌, ◌==◌, ◌&&◌, nat_lt, nat_le, if◌then◌else◌}
-use Rattle.std.specs.List.{list_all}
+use Rattle.std.specs.Prelude.{ℕ, ℤ, pos, negsuc, ◌++◌, Bool, true, false, not, List, [], ◌∷◌, Option, Some, None, is_some, Result, Ok, Err, length, slice_get, ◌+◌, ◌^◌, ◌&&◌, nat_lt, nat_le, if◌then◌else◌}
 use Rattle.process_model.specs.Bytes.{is_width, padded}
-use Rattle.process_model.specs.Lines.{raw_lines, without_return, fields_of}
-use Rattle.process_model.specs.Fields.{Row, command_table, row_among, values_of}
+use Rattle.process_model.specs.Lines.{raw_lines}
+use Rattle.process_model.specs.Fields.{command_table}
 pub use Rattle.process_model.specs.ReadLines.{◌>>=◌, test, row_named, in_limits, item_by, is_comment, is_ascii, some_item, fields_by, longest_line, longest_script, line_by, ReadTo, with_said, next_by, lines_by}
 use Rattle.process_model.specs.Files.{File}
 use Rattle.process_model.specs.Frames.{can_boot}

@@ -5,4 +5,5 @@ pub mod Frame
 pub mod Rights
 pub mod RuleText
 pub mod Satp
+pub mod Schemes
 pub mod Word

@@ -10,6 +10,7 @@ mod frame;
 mod rights;
 mod rule;
 mod satp;
+mod scheme;
 
 pub use access::{Access, Mode};
 pub use address::{MAXVA, PAGE_SIZE, TRAMPOLINE, TRAPFRAME, Va, Vpn, kernel_stack};
@@ -18,4 +19,5 @@ pub use flags::EntryFlags;
 pub use frame::{FrameNo, KERNBASE};
 pub use rights::Rights;
 pub use rule::Rule;
-pub use satp::{SATP_MODE_SV39, Satp};
+pub use satp::Satp;
+pub use scheme::Scheme;

@@ -3,14 +3,13 @@
 ghost use Rattle.std.specs.Prelude.{◌≡◌};
 ghost use Rattle.sv39_entry.specs.Frame.{ppn_of};
 ghost use Rattle.sv39_entry.specs.Satp as words;
+ghost use Rattle.sv39_entry.specs.Schemes.{mode_of};
 
 use crate::frame::FrameNo;
+use crate::scheme::Scheme;
 use std::marker::Model;
 
-/// The MODE of satp for Sv39 (RISC-V Privileged Architecture 20211203, 4.1.11).
-pub const SATP_MODE_SV39: u64 = 8;
-
-/// The supervisor address translation and protection register (the standard, 4.1.11).
+/// The supervisor address translation and protection register (RISC-V Privileged Architecture 20211203, 4.1.11).
 #[derive(Clone, Copy, PartialEq, Eq, Debug)]
 pub struct Satp {
     word: u64,
@@ -28,15 +27,15 @@ impl Model for Satp {
 }
 
 impl Satp {
-    /// Sv39, with the root table in a frame, for an address space number.
-    pub fn sv39(asid: u16, root: FrameNo) -> Satp
-        ensures word { result ≡ words.satp_word 8 asid root.0 }
-        ensures mode { words.mode result ≡ 8 }
+    /// A scheme, with the root table in a frame, for an address space number.
+    pub fn new(scheme: Scheme, asid: u16, root: FrameNo) -> Satp
+        ensures word { result ≡ words.satp_word (mode_of scheme) asid root.0 }
+        ensures mode { words.mode result ≡ mode_of scheme }
         ensures asid { words.asid result ≡ asid }
         ensures root { words.root_ppn result ≡ ppn_of root.0 }
     {
         Satp {
-            word: (SATP_MODE_SV39 << 60) + (u64::from(asid) << 44) + root.ppn(),
+            word: (scheme.mode() << 60) + (u64::from(asid) << 44) + root.ppn(),
         }
     }
 

@@ -6,13 +6,14 @@ use Rattle.std.proofs.lemmas.Bool.{le-leb, lt-ltb}
 use Rattle.frame_store.specs.View.{View, known_word}
 use Rattle.sv39_entry.specs.Address.{vpn}
 use Rattle.sv39_entry.specs.Frame.{frame_at, ppn_of}
+use Rattle.sv39_entry.specs.Schemes.{top_level}
 use Rattle.sv39_entry.specs.Word.{kind_of, pointer_word, ppn}
+use Rattle.sv39_entry.specs.declared.scheme.Scheme.{Scheme}
 use Rattle.sv39_entry.specs.declared.entry.Kind.TheVariants.{Pointer}
 use Rattle.sv39_entry.specs.declared.frame.FrameNo.{FrameNo}
 use Rattle.table_walk.specs.Tables.{Tables, AreTables, HasTables, first_leaf, missing_to, node, pointer_or_zero}
-use Rattle.table_walk.specs.Walk.{top_level}
 use Rattle.table_walk.proofs.TableWords.{kind-zero, word_high}
-use Rattle.table_walk.specs.Nodes.{above, node_from, power_next, power_some, table_number}
+use Rattle.table_walk.specs.Nodes.{above, not_root, table_number}
 
 -- ---- words of pointers
 
@@ -50,7 +51,7 @@ none_in : (o : Option ℕ) → ((g : ℕ) → o ≡ Some g → g < 2 ^ 16) → (
 none_in None small w is kind = refl
 none_in (Some g) small w is kind = absurd (kind (rw is (pointer_kind g (small g refl))))
 
-module _ (v : View) (root : ℕ) (t : Tables) (h : HasTables v root t) where
+module _ {s : Scheme} (v : View) (root : ℕ) (t : Tables) (h : HasTables s v root t) where
   module _ (k f i : ℕ) (at : get t.tables k ≡ Some f) (low : i < 512) (high : k * 512 + i < first_leaf) where
     entry_known : known_word v f i ≡ Some (pointer_or_zero (get t.tables (k * 512 + i)))
     entry_known = h.known.words k f i at low ∙ ap Some (word_high t (k * 512 + i) high)
@@ -67,42 +68,39 @@ module _ (v : View) (root : ℕ) (t : Tables) (h : HasTables v root t) where
 
 -- ---- tables on the way to a page
 
-module _ (m : ℕ → ℕ → Option ℕ) (root : ℕ) (t : Tables) (h : AreTables m root t) (page : ℕ) where
-  not_root : (k : ℕ) → node page (suc k) ≡ 1 → ⊥
-  not_root k is = let far = node_from page (suc k) in let next = power_next k in let some = power_some k in omega (arith, is, far, next, some)
-
+module _ {s : Scheme} (m : ℕ → ℕ → Option ℕ) (root : ℕ) (t : Tables) (h : AreTables s m root t) (page : ℕ) where
   -- above a table there is one
-  pub parent_there : (k f : ℕ) → get t.tables (node page (suc k)) ≡ Some f → (g : ℕ) × (get t.tables (node page k) ≡ Some g)
+  pub parent_there : (k f : ℕ) → get t.tables (node s page (suc k)) ≡ Some f → (g : ℕ) × (get t.tables (node s page k) ≡ Some g)
   parent_there k f is = elim (h.hung _ f is) [
-    | inl root_is ↦ absurd (not_root k root_is)
-    | inr p ↦ (p.0, rw (above page k) at p.1)
+    | inl root_is ↦ absurd (not_root s page k root_is)
+    | inr p ↦ (p.0, rw (above s page k) at p.1)
   ]
 
-  missing_from : (o : Option ℕ) (k : ℕ) → get t.tables (node page k) ≡ None → get t.tables (node page (suc k)) ≡ o → o ≡ None
+  missing_from : (o : Option ℕ) (k : ℕ) → get t.tables (node s page k) ≡ None → get t.tables (node s page (suc k)) ≡ o → o ≡ None
   missing_from None k none is = refl
   missing_from (Some f) k none is = absurd (let p = parent_there k f is in let there = p.1 in cc)
 
   -- below a missing table each is missing
-  pub missing_below : (d k : ℕ) → get t.tables (node page k) ≡ None → get t.tables (node page (k + d)) ≡ None
+  pub missing_below : (d k : ℕ) → get t.tables (node s page k) ≡ None → get t.tables (node s page (k + d)) ≡ None
   missing_below zero k none = let same : k + 0 ≡ k = omega arith in rw same none
   missing_below (suc d) k none =
       let more : k + suc d ≡ suc (k + d) = omega arith in
       rw more (missing_from _ (k + d) (missing_below d k none) refl)
 
-  pub missing_at : (k d : ℕ) → k ≤ d → get t.tables (node page k) ≡ None → get t.tables (node page d) ≡ None
+  pub missing_at : (k d : ℕ) → k ≤ d → get t.tables (node s page k) ≡ None → get t.tables (node s page d) ≡ None
   missing_at k d low none =
       let whole : k + (d - k) ≡ d = omega arith in
       rw whole at (missing_below (d - k) k none)
 
-  one_more : (k : ℕ) → get t.tables (node page (suc k)) ≡ None → missing_to t page (suc k) ≡ missing_to t page k + 1
+  one_more : (k : ℕ) → get t.tables (node s page (suc k)) ≡ None → missing_to s t page (suc k) ≡ missing_to s t page k + 1
   one_more k none = rw none refl
 
   -- down to a table none is missing
-  pub none_missing : (k f : ℕ) → get t.tables (node page k) ≡ Some f → missing_to t page k ≡ 0
+  pub none_missing : (k f : ℕ) → get t.tables (node s page k) ≡ Some f → missing_to s t page k ≡ 0
   none_missing zero f is = refl
   none_missing (suc k) f is = let p = parent_there k f is in rw is (omega (arith, none_missing k p.0 p.1))
 
-  missing_so_far : (k f d : ℕ) → get t.tables (node page k) ≡ Some f → get t.tables (node page (suc k)) ≡ None → missing_to t page (k + d) ≡ d
+  missing_so_far : (k f d : ℕ) → get t.tables (node s page k) ≡ Some f → get t.tables (node s page (suc k)) ≡ None → missing_to s t page (k + d) ≡ d
   missing_so_far k f zero is none = let same : k + 0 ≡ k = omega arith in rw same (none_missing k f is)
   missing_so_far k f (suc d) is none =
       let more : k + suc d ≡ suc (k + d) = omega arith in
@@ -112,31 +110,31 @@ module _ (m : ℕ → ℕ → Option ℕ) (root : ℕ) (t : Tables) (h : AreTabl
       rw more (omega (arith, one_more (k + d) below, so_far))
 
   -- where the first missing table is one deeper than the last that is there
-  pub count_missing : (k f : ℕ) → k ≤ top_level → get t.tables (node page k) ≡ Some f → get t.tables (node page (suc k)) ≡ None
-      → missing_to t page top_level ≡ top_level - k
+  pub count_missing : (k f : ℕ) → k ≤ (top_level s) → get t.tables (node s page k) ≡ Some f → get t.tables (node s page (suc k)) ≡ None
+      → missing_to s t page (top_level s) ≡ (top_level s) - k
   count_missing k f low is none =
-      let whole : k + (top_level - k) ≡ top_level = omega arith in
-      rw whole at (missing_so_far k f (top_level - k) is none)
+      let whole : k + ((top_level s) - k) ≡ (top_level s) = omega arith in
+      rw whole at (missing_so_far k f ((top_level s) - k) is none)
 
   -- the same by the level of that last one's entries
-  pub deepest_missing : (level f : ℕ) → level ≤ top_level → get t.tables (node page (top_level - level)) ≡ Some f
-      → (0 < level → get t.tables (node page (suc (top_level - level))) ≡ None) → level ≡ missing_to t page top_level
-  deepest_missing zero f low is none = sym (none_missing top_level f is)
+  pub deepest_missing : (level f : ℕ) → level ≤ (top_level s) → get t.tables (node s page ((top_level s) - level)) ≡ Some f
+      → (0 < level → get t.tables (node s page (suc ((top_level s) - level))) ≡ None) → level ≡ missing_to s t page (top_level s)
+  deepest_missing zero f low is none = let all : top_level s - 0 ≡ top_level s = omega arith in sym (none_missing (top_level s) f (rw all at is))
   deepest_missing (suc n) f low is none =
-      let missing = count_missing (top_level - suc n) f (omega arith) is (none (omega arith)) in
+      let missing = count_missing ((top_level s) - suc n) f (omega arith) is (none (omega arith)) in
       omega (arith, missing, low)
 
 -- ---- the table of the next level
 
-module _ (level : ℕ) (one : 1 ≤ level) (low : level ≤ top_level) where
-  pub next_depth : top_level - (level - 1) ≡ suc (top_level - level)
+module _ (s : Scheme) (level : ℕ) (one : 1 ≤ level) (low : level ≤ (top_level s)) where
+  pub next_depth : (top_level s) - (level - 1) ≡ suc ((top_level s) - level)
   next_depth = omega arith
 
-  pub back : top_level - (top_level - level) ≡ level
+  pub back : (top_level s) - ((top_level s) - level) ≡ level
   back = omega arith
 
-  pub next_node : (page : ℕ) → node page (top_level - level) * 512 + vpn page level ≡ node page (top_level - (level - 1))
+  pub next_node : (page : ℕ) → node s page ((top_level s) - level) * 512 + vpn page level ≡ node s page ((top_level s) - (level - 1))
   next_node page = rw (next_depth, back) refl
 
-  pub next_is_table : (page : ℕ) → node page (top_level - level) * 512 + vpn page level < first_leaf
-  next_is_table page = rw (next_node page) (table_number page (top_level - (level - 1)) (omega arith))
+  pub next_is_table : (page : ℕ) → node s page ((top_level s) - level) * 512 + vpn page level < first_leaf
+  next_is_table page = rw (next_node page) (table_number s page ((top_level s) - (level - 1)) (omega arith))

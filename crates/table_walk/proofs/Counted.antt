@@ -8,10 +8,11 @@ use Rattle.std.specs.Ordering.{nat_cmp, eq_by_cmp}
 use Rattle.std.proofs.lemmas.Map.Lookups.{exact_unsigned}
 use Rattle.process_model.specs.Frames.{tables_needed}
 use Rattle.process_model.specs.PageMap.{NumberSet, contains, count, numbers}
-use Rattle.sv39_entry.specs.Address.{trampoline_page, trapframe_page}
+use Rattle.sv39_entry.specs.Schemes.{of_scheme, page_limit, top_level, trampoline_page, trapframe_page}
+use Rattle.sv39_entry.specs.declared.scheme.Scheme.{Scheme}
+use Rattle.sv39_entry.specs.declared.scheme.Scheme.TheVariants.{Sv39, Sv48}
 use Rattle.table_walk.specs.Counted.{AreTablesOf}
-use Rattle.table_walk.specs.Tables.{Tables, IsGrown, bare_root, missing, node}
-use Rattle.table_walk.specs.Walk.{top_level}
+use Rattle.table_walk.specs.Tables.{Tables, IsGrown, bare_root, missing, missing_to, node}
 use Rattle.table_walk.proofs.Roots.{no_table, one_table}
 use Rattle.table_walk.specs.Nodes.{one_depth}
 
@@ -111,63 +112,87 @@ same_test true b on back = sym (on refl)
 same_test false true on back = back refl
 same_test false false on back = refl
 
-all_small : (pages : List ℕ) → All (λ n. n < 2 ^ 27) pages → (x : ℕ) → Contains (trampoline_page ∷ trapframe_page ∷ pages) x → x < 2 ^ 27
-all_small pages small x h = elim (first_or trampoline_page x (trapframe_page ∷ pages) h) [
-  | inl e ↦ omega (arith, e)
-  | inr i ↦ elim (first_or trapframe_page x pages i) [
-    | inl e ↦ omega (arith, e)
-    | inr j ↦ of_all (λ n. n < 2 ^ 27) x pages small j
+all_small : (s : Scheme) (pages : List ℕ) → All (λ n. n < page_limit s) pages → (x : ℕ) → Contains (trampoline_page s ∷ trapframe_page s ∷ pages) x → x < page_limit s
+all_small s pages small x h = elim (first_or (trampoline_page s) x (trapframe_page s ∷ pages) h) [
+  | inl e ↦ let facts = of_scheme s in omega (arith, e, facts)
+  | inr i ↦ elim (first_or (trapframe_page s) x pages i) [
+    | inl e ↦ let facts = of_scheme s in omega (arith, e, facts)
+    | inr j ↦ of_all (λ n. n < page_limit s) x pages small j
   ]
 ]
 
-first_number : (p : ℕ) → p < 2 ^ 27 → node p 1 ≡ 512 + p / 2 ^ 18
-first_number p small = omega (arith, small)
+-- the numbers of the tables of each depth
 
-second_number : (p : ℕ) → p < 2 ^ 27 → node p 2 ≡ 2 ^ 18 + p / 2 ^ 9
-second_number p small = omega (arith, small)
+upper39 : (p : ℕ) → p < 2 ^ 27 → node Sv39 p 1 ≡ 2 ^ 18 + p / 2 ^ 18
+upper39 p small = omega (arith, small)
 
-module _ (t : Tables) (pages : List ℕ) (page : ℕ) (are : AreTablesOf t pages) (small : All (λ n. n < 2 ^ 27) pages) (low : page < 2 ^ 27) where
+lower39 : (p : ℕ) → p < 2 ^ 27 → node Sv39 p 2 ≡ 2 ^ 27 + p / 2 ^ 9
+lower39 p small = omega (arith, small)
+
+upper48 : (p : ℕ) → p < 2 ^ 36 → node Sv48 p 1 ≡ 512 + p / 2 ^ 27
+upper48 p small = omega (arith, small)
+
+middle48 : (p : ℕ) → p < 2 ^ 36 → node Sv48 p 2 ≡ 2 ^ 18 + p / 2 ^ 18
+middle48 p small = omega (arith, small)
+
+lower48 : (p : ℕ) → p < 2 ^ 36 → node Sv48 p 3 ≡ 2 ^ 27 + p / 2 ^ 9
+lower48 p small = omega (arith, small)
+
+module _ (s : Scheme) (t : Tables) (pages : List ℕ) (page : ℕ) (are : AreTablesOf s t pages) (small : All (λ n. n < page_limit s) pages) (low : page < page_limit s) where
   -- the tables of a depth are numbered by the upper bits of their pages
-  there : (depth from : ℕ) (f : ℕ → ℕ) → depth ≤ top_level → ((p : ℕ) → p < 2 ^ 27 → node p depth ≡ from + f p)
-      → is_some (get t.tables (node page depth)) ≡ contains (values f (trampoline_page ∷ trapframe_page ∷ pages)) (f page)
+  there : (depth from : ℕ) (f : ℕ → ℕ) → depth ≤ top_level s → ((p : ℕ) → p < page_limit s → node s p depth ≡ from + f p)
+      → is_some (get t.tables (node s page depth)) ≡ contains (values f (trampoline_page s ∷ trapframe_page s ∷ pages)) (f page)
   there depth from f shallow numbers_are =
       same_test _ _
       (λ some.
-      let way = (are (node page depth)).0 some in
-      let depths : depth ≡ way.1 = one_depth page way.0 depth way.1 way.4 in
-      let there = numbers_are way.0 (all_small pages small way.0 way.2) in
-      let same : node page depth ≡ node way.0 depth = way.4 ∙ ap (node way.0) (sym depths) in
+      let way = (are (node s page depth)).0 some in
+      let depths : depth ≡ way.1 = one_depth s page way.0 depth way.1 way.4 in
+      let there = numbers_are way.0 (all_small s pages small way.0 way.2) in
+      let same : node s page depth ≡ node s way.0 depth = way.4 ∙ ap (node s way.0) (sym depths) in
       let here = numbers_are page low in
-      has_value f way.0 (f page) (trampoline_page ∷ trapframe_page ∷ pages) way.2 (omega (arith, here, there, same)))
+      has_value f way.0 (f page) (trampoline_page s ∷ trapframe_page s ∷ pages) way.2 (omega (arith, here, there, same)))
       (λ some.
-      let other = value_of f (f page) (trampoline_page ∷ trapframe_page ∷ pages) some in
-      let there = numbers_are other.0 (all_small pages small other.0 other.1) in
+      let other = value_of f (f page) (trampoline_page s ∷ trapframe_page s ∷ pages) some in
+      let there = numbers_are other.0 (all_small s pages small other.0 other.1) in
       let here = numbers_are page low in
-      let same : node page depth ≡ node other.0 depth = omega (arith, here, there, other.2) in
-      (are (node page depth)).1 (other.0, depth, other.1, shallow, same))
+      let same : node s page depth ≡ node s other.0 depth = omega (arith, here, there, other.2) in
+      (are (node s page depth)).1 (other.0, depth, other.1, shallow, same))
 
-  pub missing_growth : missing t page ≡ tables_needed (page ∷ pages) - tables_needed pages
-  unfolding tables_needed
-  missing_growth =
-      let large = grows (λ n. n / 2 ^ 18) trampoline_page trapframe_page page pages in
-      let little = grows (λ n. n / 2 ^ 9) trampoline_page trapframe_page page pages in
-      let one = there 1 512 (λ n. n / 2 ^ 18) (omega arith) first_number in
-      let two = there 2 (2 ^ 18) (λ n. n / 2 ^ 9) (omega arith) second_number in
-      rw (large, little, one, two) (omega arith)
+pub missing_growth : (s : Scheme) (t : Tables) (pages : List ℕ) (page : ℕ) → AreTablesOf s t pages → All (λ n. n < page_limit s) pages → page < page_limit s
+    → missing s t page ≡ tables_needed s (page ∷ pages) - tables_needed s pages
+unfolding tables_needed
+missing_growth Sv39 t pages page are small low =
+    let tall : ℕ = trampoline_page Sv39 in
+    let next : ℕ = trapframe_page Sv39 in
+    let large = grows (λ n. n / 2 ^ 18) tall next page pages in
+    let little = grows (λ n. n / 2 ^ 9) tall next page pages in
+    let one = there Sv39 t pages page are small low 1 (2 ^ 18) (λ n. n / 2 ^ 18) (omega arith) upper39 in
+    let two = there Sv39 t pages page are small low 2 (2 ^ 27) (λ n. n / 2 ^ 9) (omega arith) lower39 in
+    rw (large, little, one, two) (omega arith)
+missing_growth Sv48 t pages page are small low =
+    let tall : ℕ = trampoline_page Sv48 in
+    let next : ℕ = trapframe_page Sv48 in
+    let huge = grows (λ n. n / 2 ^ 27) tall next page pages in
+    let large = grows (λ n. n / 2 ^ 18) tall next page pages in
+    let little = grows (λ n. n / 2 ^ 9) tall next page pages in
+    let one = there Sv48 t pages page are small low 1 512 (λ n. n / 2 ^ 27) (omega arith) upper48 in
+    let two = there Sv48 t pages page are small low 2 (2 ^ 18) (λ n. n / 2 ^ 18) (omega arith) middle48 in
+    let three = there Sv48 t pages page are small low 3 (2 ^ 27) (λ n. n / 2 ^ 9) (omega arith) lower48 in
+    rw (huge, large, little, one, two, three) (omega arith)
 
 value : {A : Type 0} (o : Option A) → IsSome o → (x : A) × (o ≡ Some x)
 value None some = absurd (cc)
 value (Some x) some = (x, refl)
 
 -- the tables that are grown are those of the page too
-module _ (t u : Tables) (pages : List ℕ) (page : ℕ) (are : AreTablesOf t pages) (grown : IsGrown t u page top_level) where
-  put_third : (x : ℕ) → Contains (trampoline_page ∷ trapframe_page ∷ pages) x → Contains (trampoline_page ∷ trapframe_page ∷ page ∷ pages) x
-  put_third x h = to_third (λ (n : ℕ). n) trampoline_page trapframe_page page pages x (behind page x (trampoline_page ∷ trapframe_page ∷ pages) h)
+module _ (s : Scheme) (t u : Tables) (pages : List ℕ) (page : ℕ) (are : AreTablesOf s t pages) (grown : IsGrown s t u page (top_level s)) where
+  put_third : (x : ℕ) → Contains (trampoline_page s ∷ trapframe_page s ∷ pages) x → Contains (trampoline_page s ∷ trapframe_page s ∷ page ∷ pages) x
+  put_third x h = to_third (λ (n : ℕ). n) (trampoline_page s) (trapframe_page s) page pages x (behind page x (trampoline_page s ∷ trapframe_page s ∷ pages) h)
 
-  itself : Contains (trampoline_page ∷ trapframe_page ∷ page ∷ pages) page
-  itself = behind trampoline_page page (trapframe_page ∷ page ∷ pages) (behind trapframe_page page (page ∷ pages) (in_front page pages))
+  itself : Contains (trampoline_page s ∷ trapframe_page s ∷ page ∷ pages) page
+  itself = behind (trampoline_page s) page (trapframe_page s ∷ page ∷ pages) (behind (trapframe_page s) page (page ∷ pages) (in_front page pages))
 
-  pub grown_tables : AreTablesOf u (page ∷ pages)
+  pub grown_tables : AreTablesOf s u (page ∷ pages)
   grown_tables k = (
     (λ some.
         let f = value (get u.tables k) some in
@@ -175,8 +200,8 @@ module _ (t u : Tables) (pages : List ℕ) (page : ℕ) (are : AreTablesOf t pag
           | inl old ↦ let way = (are k).0 (ap is_some old) in (way.0, way.1, put_third way.0 way.2, way.3, way.4)
           | inr new ↦ (page, new.1.0, itself, new.1.1, new.1.2)
         ]),
-    (λ way. elim (first_or page way.0 (trampoline_page ∷ trapframe_page ∷ pages) (from_third (λ (n : ℕ). n) trampoline_page trapframe_page page pages way.0 way.2)) [
-      | inl same ↦ let f = grown.whole way.1 way.3 in ap is_some (ap (get u.tables) (way.4 ∙ ap (λ (p : ℕ). node p way.1) (sym same)) ∙ f.1)
+    (λ way. elim (first_or page way.0 (trampoline_page s ∷ trapframe_page s ∷ pages) (from_third (λ (n : ℕ). n) (trampoline_page s) (trapframe_page s) page pages way.0 way.2)) [
+      | inl same ↦ let f = grown.whole way.1 way.3 in ap is_some (ap (get u.tables) (way.4 ∙ ap (λ (p : ℕ). node s p way.1) (sym same)) ∙ f.1)
       | inr other ↦
           let f = value (get t.tables k) ((are k).1 (way.0, way.1, other, way.3, way.4)) in
           ap is_some (grown.kept k f.0 f.1)
@@ -184,16 +209,20 @@ module _ (t u : Tables) (pages : List ℕ) (page : ℕ) (are : AreTablesOf t pag
   )
 
 -- a page that is counted already
-module _ (t : Tables) (pages : List ℕ) (page : ℕ) (are : AreTablesOf t pages) (has : Contains (trampoline_page ∷ trapframe_page ∷ pages) page) where
-  pub none_missing : missing t page ≡ 0
-  none_missing =
-      let one = (are (node page 1)).1 (page, 1, has, omega arith, refl) in
-      let two = (are (node page 2)).1 (page, 2, has, omega arith, refl) in
-      rw (one, two) refl
+module _ (s : Scheme) (t : Tables) (pages : List ℕ) (page : ℕ) (are : AreTablesOf s t pages) (has : Contains (trampoline_page s ∷ trapframe_page s ∷ pages) page) where
+  none_to : (k : ℕ) → k ≤ top_level s → missing_to s t page k ≡ 0
+  none_to zero low = refl
+  none_to (suc k) low =
+      let there = (are (node s page (suc k))).1 (page, suc k, has, low, refl) in
+      let before = none_to k (omega (arith, low)) in
+      rw there (omega (arith, before))
 
-pub same_tables : (t u : Tables) (pages : List ℕ) (page : ℕ) → AreTablesOf t pages → Contains (trampoline_page ∷ trapframe_page ∷ pages) page
-    → IsGrown t u page top_level → AreTablesOf u pages
-same_tables t u pages page are has grown k = (
+  pub none_missing : missing s t page ≡ 0
+  none_missing = none_to (top_level s) (omega arith)
+
+pub same_tables : (s : Scheme) (t u : Tables) (pages : List ℕ) (page : ℕ) → AreTablesOf s t pages → Contains (trampoline_page s ∷ trapframe_page s ∷ pages) page
+    → IsGrown s t u page (top_level s) → AreTablesOf s u pages
+same_tables s t u pages page are has grown k = (
   (λ some.
       let f = value (get u.tables k) some in
       elim (grown.new k f.0 f.1) [
@@ -205,33 +234,43 @@ same_tables t u pages page are has grown k = (
 
 -- ---- the first tables, which TRAMPOLINE's and TRAPFRAME's page share
 
-shared_way : (depth : ℕ) → depth ≤ top_level → node trapframe_page depth ≡ node trampoline_page depth
-shared_way zero low = refl
-shared_way (suc zero) low = refl
-shared_way (suc (suc zero)) low = refl
-shared_way (suc (suc (suc depth))) low = absurd (omega (arith, low))
+shared_way : (s : Scheme) (depth : ℕ) → depth ≤ top_level s → node s (trapframe_page s) depth ≡ node s (trampoline_page s) depth
+shared_way Sv39 zero low = refl
+shared_way Sv39 (suc zero) low = refl
+shared_way Sv39 (suc (suc zero)) low = refl
+shared_way Sv39 (suc (suc (suc depth))) low = absurd (omega (arith, low))
+shared_way Sv48 zero low = refl
+shared_way Sv48 (suc zero) low = refl
+shared_way Sv48 (suc (suc zero)) low = refl
+shared_way Sv48 (suc (suc (suc zero))) low = refl
+shared_way Sv48 (suc (suc (suc (suc depth)))) low = absurd (omega (arith, low))
 
-pub first_missing : (t : Tables) (root : ℕ) → t ≡ bare_root root → missing t trampoline_page ≡ tables_needed [] - 1
+pub first_missing : (s : Scheme) (t : Tables) (root : ℕ) → t ≡ bare_root s root → missing s t (trampoline_page s) ≡ tables_needed s [] - 1
 unfolding tables_needed
-first_missing t root is =
-    let one = no_table root (node trampoline_page 1) (λ e. omega (arith, e)) in
-    let two = no_table root (node trampoline_page 2) (λ e. omega (arith, e)) in
+first_missing Sv39 t root is =
+    let one = no_table Sv39 root (node Sv39 (trampoline_page Sv39) 1) (λ e. omega (arith, e)) in
+    let two = no_table Sv39 root (node Sv39 (trampoline_page Sv39) 2) (λ e. omega (arith, e)) in
     rw (is, one, two) refl
+first_missing Sv48 t root is =
+    let one = no_table Sv48 root (node Sv48 (trampoline_page Sv48) 1) (λ e. omega (arith, e)) in
+    let two = no_table Sv48 root (node Sv48 (trampoline_page Sv48) 2) (λ e. omega (arith, e)) in
+    let three = no_table Sv48 root (node Sv48 (trampoline_page Sv48) 3) (λ e. omega (arith, e)) in
+    rw (is, one, two, three) refl
 
-pub first_tables : (t u : Tables) (root : ℕ) → t ≡ bare_root root → IsGrown t u trampoline_page top_level → AreTablesOf u []
-first_tables t u root is grown k = (
+pub first_tables : (s : Scheme) (t u : Tables) (root : ℕ) → t ≡ bare_root s root → IsGrown s t u (trampoline_page s) (top_level s) → AreTablesOf s u []
+first_tables s t u root is grown k = (
   (λ some.
       let f = value (get u.tables k) some in
       elim (grown.new k f.0 f.1) [
-        | inl old ↦ (trampoline_page, 0, in_front trampoline_page (trapframe_page ∷ []), omega arith, (one_table root k f.0 (rw is at old)).0)
-        | inr new ↦ (trampoline_page, new.1.0, in_front trampoline_page (trapframe_page ∷ []), new.1.1, new.1.2)
+        | inl old ↦ (trampoline_page s, 0, in_front (trampoline_page s) (trapframe_page s ∷ []), omega arith, (one_table s root k f.0 (rw is at old)).0)
+        | inr new ↦ (trampoline_page s, new.1.0, in_front (trampoline_page s) (trapframe_page s ∷ []), new.1.1, new.1.2)
       ]),
   (λ way.
       let there = grown.whole way.1 way.3 in
-      elim (first_or trampoline_page way.0 (trapframe_page ∷ []) way.2) [
-        | inl e ↦ ap is_some (ap (get u.tables) (way.4 ∙ ap (λ (p : ℕ). node p way.1) (sym e)) ∙ there.1)
-        | inr i ↦ elim (first_or trapframe_page way.0 [] i) [
-          | inl e ↦ ap is_some (ap (get u.tables) (way.4 ∙ ap (λ (p : ℕ). node p way.1) (sym e) ∙ shared_way way.1 way.3) ∙ there.1)
+      elim (first_or (trampoline_page s) way.0 (trapframe_page s ∷ []) way.2) [
+        | inl e ↦ ap is_some (ap (get u.tables) (way.4 ∙ ap (λ (p : ℕ). node s p way.1) (sym e)) ∙ there.1)
+        | inr i ↦ elim (first_or (trapframe_page s) way.0 [] i) [
+          | inl e ↦ ap is_some (ap (get u.tables) (way.4 ∙ ap (λ (p : ℕ). node s p way.1) (sym e) ∙ shared_way s way.1 way.3) ∙ there.1)
           | inr j ↦ absurd (none_in way.0 j)
         ]
       ]),

@@ -8,21 +8,22 @@ use Rattle.frame_store.specs.Holds.{hold_of-with_hold_other, hold_of-with_hold_s
 use Rattle.frame_store.specs.Tallies.{spent_none, spent_on}
 use Rattle.frame_store.specs.View.{Hold, View, hold_of, IsHeld, IsSole, known_word, references, with_word}
 use Rattle.sv39_entry.specs.Address.{vpn}
+use Rattle.sv39_entry.specs.Schemes.{top_level}
 use Rattle.sv39_entry.specs.Word.{pointer_word}
-use Rattle.table_walk.specs.Tables.{ChangesTables, HasTables, Tables, IsGrown, AreTables, blank_hold, first_leaf, missing_to, node, pointer_or_zero, with_table, word_in}
-use Rattle.table_walk.specs.Walk.{top_level}
+use Rattle.sv39_entry.specs.declared.scheme.Scheme.{Scheme}
+use Rattle.table_walk.specs.Tables.{ChangesTables, HasTables, Tables, IsGrown, AreTables, blank_hold, first_leaf, missing_to, node, pointer_or_zero, root_node, with_table, word_in}
 use Rattle.table_walk.proofs.Blank.{blanked, blank_known, hold_of-blanked_other, hold_of-blanked_same, not_fresh, others_known}
 use Rattle.table_walk.proofs.TableWords.{Writes, rewritten, with_word-writes, word_high, word_leaf}
 use Rattle.table_walk.specs.Keys.{insert_other, insert_same, is_none}
 use Rattle.table_walk.proofs.Children.{back, next_depth}
-use Rattle.table_walk.specs.Nodes.{one_depth, table_number, vpn_low}
+use Rattle.table_walk.specs.Nodes.{one_depth, root_some, table_number, vpn_low}
 
 -- ---- known tables, where the words of other frames change, and where a table of zeros is added
 
 -- what is written in a frame that is no table leaves the tables
-elsewhere : (m : ℕ → ℕ → Option ℕ) (root : ℕ) (t : Tables) → AreTables m root t
+elsewhere : {s : Scheme} (m : ℕ → ℕ → Option ℕ) (root : ℕ) (t : Tables) → AreTables s m root t
     → (n : ℕ → ℕ → Option ℕ) (g : ℕ) → ((j : ℕ) → get t.tables j ≡ Some g → ⊥)
-    → ((f i : ℕ) → (f ≡ g → ⊥) → n f i ≡ m f i) → AreTables n root t
+    → ((f i : ℕ) → (f ≡ g → ⊥) → n f i ≡ m f i) → AreTables s n root t
 elsewhere m root t h n g fresh same = record {
   rooted = h.rooted;
   words = λ k f i at low. same f i (λ e. fresh k (at ∙ ap Some e)) ∙ h.words k f i at low;
@@ -44,12 +45,12 @@ which t n g j x is = elim (cases_eq j n) [
 pub kept : (t : Tables) (n g j x : ℕ) → get t.tables n ≡ None → get t.tables j ≡ Some x → get (with_table t n g).tables j ≡ Some x
 kept t n g j x none is = insert_other t.tables n g j (λ e. let gone = rw e at is in cc) ∙ is
 
-module _ (m : ℕ → ℕ → Option ℕ) (root : ℕ) (t : Tables) (h : AreTables m root t) (k f i : ℕ) (at : get t.tables k ≡ Some f) (low : i < 512)
+module _ {s : Scheme} (m : ℕ → ℕ → Option ℕ) (root : ℕ) (t : Tables) (h : AreTables s m root t) (k f i : ℕ) (at : get t.tables k ≡ Some f) (low : i < 512)
     (high : k * 512 + i < first_leaf) (none : get t.tables (k * 512 + i) ≡ None) where
   -- nothing hangs on a table that isn't there
   no_child : (a x : ℕ) → a < 512 → get t.tables ((k * 512 + i) * 512 + a) ≡ Some x → ⊥
   no_child a x small is = elim (h.hung _ x is) [
-    | inl e ↦ (let one = (h.below k f at).0 in omega (arith, e, one))
+    | inl e ↦ (let one = (h.below k f at).0 in let some = root_some s in omega (arith, e, one, some))
     | inr p ↦ (let up : ((k * 512 + i) * 512 + a) / 512 ≡ k * 512 + i = omega arith in let there = rw up at p.1 in cc)
   ]
 
@@ -61,7 +62,7 @@ module _ (m : ℕ → ℕ → Option ℕ) (root : ℕ) (t : Tables) (h : AreTabl
       cc
 
   not_itself : (a : ℕ) → (k * 512 + i) * 512 + a ≡ k * 512 + i → ⊥
-  not_itself a e = let one = (h.below k f at).0 in omega (arith, e, one)
+  not_itself a e = let one = (h.below k f at).0 in let some = root_some s in omega (arith, e, one, some)
 
   module _ (g : ℕ) where
     empty_word : (a : ℕ) → a < 512 → word_in (with_table t (k * 512 + i) g) ((k * 512 + i) * 512 + a) ≡ 0
@@ -77,9 +78,9 @@ module _ (m : ℕ → ℕ → Option ℕ) (root : ℕ) (t : Tables) (h : AreTabl
     ]
 
     pub put_table : (n : ℕ → ℕ → Option ℕ) → ((j : ℕ) → get t.tables j ≡ Some g → ⊥) → g < 2 ^ 16
-        → ((a : ℕ) → a < 512 → m g a ≡ Some 0) → Writes m n f i (pointer_word g) → AreTables n root (with_table t (k * 512 + i) g)
+        → ((a : ℕ) → a < 512 → m g a ≡ Some 0) → Writes m n f i (pointer_word g) → AreTables s n root (with_table t (k * 512 + i) g)
     put_table n fresh fits blank writes = record {
-      rooted = kept t _ g 1 root none h.rooted;
+      rooted = kept t _ g (root_node s) root none h.rooted;
       words = λ j x a is small. elim (which t _ g j x is) [
         | inl e ↦ rw (e.0, e.1)
             (writes.others g a (λ s _. fresh k (at ∙ ap Some (sym s))) ∙ blank a small ∙ ap Some (sym (empty_word a small)))
@@ -107,7 +108,7 @@ module _ (m : ℕ → ℕ → Option ℕ) (root : ℕ) (t : Tables) (h : AreTabl
 abbrev pub with_child : ℕ → ℕ → ℕ → View → View
 with_child f i g v = with_word f i (pointer_word g) (blanked g v)
 
-module _ (v : View) (root : ℕ) (t : Tables) (h : HasTables v root t) (k f i g : ℕ) (at : get t.tables k ≡ Some f)
+module _ {s : Scheme} (v : View) (root : ℕ) (t : Tables) (h : HasTables s v root t) (k f i g : ℕ) (at : get t.tables k ≡ Some f)
     (fresh : references v g ≡ 0) where
   apart_from : (j x : ℕ) → get t.tables j ≡ Some x → x ≡ g → ⊥
   apart_from j x is e = not_fresh g x v fresh (h.own j x is).0 e
@@ -140,7 +141,7 @@ module _ (v : View) (root : ℕ) (t : Tables) (h : HasTables v root t) (k f i g 
   still_held x held = let same = same_references x (not_fresh g x v fresh held) in omega (arith, same, held)
 
   module _ (low : i < 512) (high : k * 512 + i < first_leaf) (none : get t.tables (k * 512 + i) ≡ None) where
-    pub has_new : g < 2 ^ 16 → HasTables (with_child f i g v) root (with_table t (k * 512 + i) g)
+    pub has_new : g < 2 ^ 16 → HasTables s (with_child f i g v) root (with_table t (k * 512 + i) g)
     has_new fits = record {
       known = put_table (known_word (blanked g v)) root t
           (elsewhere (known_word v) root t h.known (known_word (blanked g v)) g no_table (others_known g v)) k f i at low high none g
@@ -214,15 +215,15 @@ module _ (u v w : View) (r s t : Tables) (m n : ℕ) (first : ChangesTables u v 
 -- ---- the tables on the way to a page, down to a depth
 
 -- those that were missing down to there were made
-pub record Grows (v w : View) (root : ℕ) (t u : Tables) (page depth : ℕ) : Type 0 where
-  pub grown : IsGrown t u page depth
-  pub tables : HasTables w root u
-  pub changes : ChangesTables v w t u (missing_to t page depth)
+pub record Grows (s : Scheme) (v w : View) (root : ℕ) (t u : Tables) (page depth : ℕ) : Type 0 where
+  pub grown : IsGrown s t u page depth
+  pub tables : HasTables s w root u
+  pub changes : ChangesTables v w t u (missing_to s t page depth)
 
-abbrev pub HasGrown : View → View → ℕ → Tables → ℕ → ℕ → ℕ → Type 0
-HasGrown v w root t page depth table = (u : Tables) × Grows v w root t u page depth × (get u.tables (node page depth) ≡ Some table)
+abbrev pub HasGrown : Scheme → View → View → ℕ → Tables → ℕ → ℕ → ℕ → Type 0
+HasGrown s v w root t page depth table = (u : Tables) × Grows s v w root t u page depth × (get u.tables (node s page depth) ≡ Some table)
 
-pub grown_none : (v : View) (root : ℕ) (t : Tables) (page : ℕ) → HasTables v root t → HasGrown v v root t page 0 root
+pub grown_none : {s : Scheme} (v : View) (root : ℕ) (t : Tables) (page : ℕ) → HasTables s v root t → HasGrown s v v root t page 0 root
 grown_none v root t page h = (
   t,
   record {
@@ -238,34 +239,34 @@ grown_none v root t page h = (
   h.known.rooted,
 )
 
-module _ (v w : View) (root : ℕ) (t u : Tables) (page depth table : ℕ) (g : Grows v w root t u page depth)
-    (at : get u.tables (node page depth) ≡ Some table) where
-  deeper : {A : Type 0} {k : ℕ} → A ⊎ ((get t.tables k ≡ None) × ((i : ℕ) × (i ≤ depth) × (k ≡ node page i)))
-      → A ⊎ ((get t.tables k ≡ None) × ((i : ℕ) × (i ≤ suc depth) × (k ≡ node page i)))
+module _ {s : Scheme} (v w : View) (root : ℕ) (t u : Tables) (page depth table : ℕ) (g : Grows s v w root t u page depth)
+    (at : get u.tables (node s page depth) ≡ Some table) where
+  deeper : {A : Type 0} {k : ℕ} → A ⊎ ((get t.tables k ≡ None) × ((i : ℕ) × (i ≤ depth) × (k ≡ node s page i)))
+      → A ⊎ ((get t.tables k ≡ None) × ((i : ℕ) × (i ≤ suc depth) × (k ≡ node s page i)))
   deeper (inl a) = inl a
   deeper (inr p) = inr (p.0, (p.1.0, (let low = p.1.1 in omega (arith, low)), p.1.2))
 
-  whole_to : (s : Tables) → ((k f : ℕ) → get u.tables k ≡ Some f → get s.tables k ≡ Some f)
-      → (f : ℕ) → get s.tables (node page (suc depth)) ≡ Some f → (i : ℕ) → i ≤ suc depth → (x : ℕ) × (get s.tables (node page i) ≡ Some x)
-  whole_to s stay f here i low = elim (cases_eq i (suc depth)) [
+  whole_to : (after : Tables) → ((k f : ℕ) → get u.tables k ≡ Some f → get after.tables k ≡ Some f)
+      → (f : ℕ) → get after.tables (node s page (suc depth)) ≡ Some f → (i : ℕ) → i ≤ suc depth → (x : ℕ) × (get after.tables (node s page i) ≡ Some x)
+  whole_to after stay f here i low = elim (cases_eq i (suc depth)) [
     | inl same ↦ (f, rw same here)
     | inr ne ↦ let p = g.grown.whole i (omega (arith, ne, low)) in (p.0, stay _ _ p.1)
   ]
 
   -- a table that is there at the next depth was there before
-  was_there : (f : ℕ) → get u.tables (node page (suc depth)) ≡ Some f → get t.tables (node page (suc depth)) ≡ Some f
+  was_there : (f : ℕ) → get u.tables (node s page (suc depth)) ≡ Some f → get t.tables (node s page (suc depth)) ≡ Some f
   was_there f is = elim (g.grown.new _ f is) [
     | inl old ↦ old
-    | inr p ↦ absurd (let same = one_depth page page (suc depth) p.1.0 p.1.2 in let low = p.1.1 in omega (arith, same, low))
+    | inr p ↦ absurd (let same = one_depth s page page (suc depth) p.1.0 p.1.2 in let low = p.1.1 in omega (arith, same, low))
   ]
 
-  none_more : (f : ℕ) → get t.tables (node page (suc depth)) ≡ Some f → missing_to t page depth ≡ missing_to t page (suc depth)
+  none_more : (f : ℕ) → get t.tables (node s page (suc depth)) ≡ Some f → missing_to s t page depth ≡ missing_to s t page (suc depth)
   none_more f is = rw is (omega arith)
 
-  one_more : get t.tables (node page (suc depth)) ≡ None → missing_to t page depth + 1 ≡ missing_to t page (suc depth)
+  one_more : get t.tables (node s page (suc depth)) ≡ None → missing_to s t page depth + 1 ≡ missing_to s t page (suc depth)
   one_more none = rw none refl
 
-  pub goes_to : (f : ℕ) → get u.tables (node page (suc depth)) ≡ Some f → HasGrown v w root t page (suc depth) f
+  pub goes_to : (f : ℕ) → get u.tables (node s page (suc depth)) ≡ Some f → HasGrown s v w root t page (suc depth) f
   goes_to f is = (
     u,
     record {
@@ -281,44 +282,44 @@ module _ (v w : View) (root : ℕ) (t u : Tables) (page depth table : ℕ) (g : 
     is,
   )
 
-  none_before : get u.tables (node page (suc depth)) ≡ None → get t.tables (node page (suc depth)) ≡ None
+  none_before : get u.tables (node s page (suc depth)) ≡ None → get t.tables (node s page (suc depth)) ≡ None
   none_before none = is_none _ (λ x is. let there = g.grown.kept _ x is in cc)
 
-  module _ (f : ℕ) (low : suc depth ≤ top_level) (none : get u.tables (node page (suc depth)) ≡ None) (fresh : references w f ≡ 0)
+  module _ (f : ℕ) (low : suc depth ≤ (top_level s)) (none : get u.tables (node s page (suc depth)) ≡ None) (fresh : references w f ≡ 0)
       (fits : f < 2 ^ 16) where
     -- the tables and the view with the new one
     abbrev larger : Tables
-    larger = with_table u (node page (suc depth)) f
+    larger = with_table u (node s page (suc depth)) f
 
     abbrev after : View
-    after = with_child table (vpn page (top_level - depth)) f w
+    after = with_child table (vpn page ((top_level s) - depth)) f w
 
-    here : get larger.tables (node page (suc depth)) ≡ Some f
+    here : get larger.tables (node s page (suc depth)) ≡ Some f
     here = insert_same u.tables _ f _ refl
 
     stays : (k x : ℕ) → get u.tables k ≡ Some x → get larger.tables k ≡ Some x
-    stays k x is = kept u (node page (suc depth)) f k x none is
+    stays k x is = kept u (node s page (suc depth)) f k x none is
 
-    new_table : HasTables after root larger
+    new_table : HasTables s after root larger
     new_table =
-        has_new w root u g.tables (node page depth) table (vpn page (top_level - depth)) f at fresh
-        (vpn_low page (top_level - depth)) (table_number page (suc depth) low) none fits
+        has_new w root u g.tables (node s page depth) table (vpn page ((top_level s) - depth)) f at fresh
+        (vpn_low page ((top_level s) - depth)) (table_number s page (suc depth) low) none fits
 
-    new_changes : ChangesTables v after t larger (missing_to t page depth + 1)
+    new_changes : ChangesTables v after t larger (missing_to s t page depth + 1)
     new_changes =
-        changes_both v w after t u larger (missing_to t page depth) 1 g.changes
-        (changes_new w root u g.tables (node page depth) table (vpn page (top_level - depth)) f at fresh
-        (vpn_low page (top_level - depth)) (table_number page (suc depth) low) none)
+        changes_both v w after t u larger (missing_to s t page depth) 1 g.changes
+        (changes_new w root u g.tables (node s page depth) table (vpn page ((top_level s) - depth)) f at fresh
+        (vpn_low page ((top_level s) - depth)) (table_number s page (suc depth) low) none)
         stays g.grown.kept new_table.known.apart
 
-    pub grows_to : HasGrown v (with_child table (vpn page (top_level - depth)) f w) root t page (suc depth) f
+    pub grows_to : HasGrown s v (with_child table (vpn page ((top_level s) - depth)) f w) root t page (suc depth) f
     grows_to = (
       larger,
       record {
         grown = record {
           leaves = g.grown.leaves;
           kept = λ k x is. stays k x (g.grown.kept k x is);
-          new = λ k x is. elim (which u (node page (suc depth)) f k x is) [
+          new = λ k x is. elim (which u (node s page (suc depth)) f k x is) [
             | inl e ↦ inr (rw e.0 (none_before none), (suc depth, omega arith, e.0))
             | inr o ↦ deeper (g.grown.new k x o.1)
           ];
@@ -331,49 +332,49 @@ module _ (v w : View) (root : ℕ) (t u : Tables) (page depth table : ℕ) (g : 
     )
 
 -- fewer tables are missing on a part of the way
-missing_up : (t : Tables) (page k d : ℕ) → missing_to t page k ≤ missing_to t page (k + d)
-missing_up t page k zero = let same : k + 0 ≡ k = omega arith in rw same (omega arith)
-missing_up t page k (suc d) =
+missing_up : (s : Scheme) (t : Tables) (page k d : ℕ) → missing_to s t page k ≤ missing_to s t page (k + d)
+missing_up s t page k zero = let same : k + 0 ≡ k = omega arith in rw same (omega arith)
+missing_up s t page k (suc d) =
     let more : k + suc d ≡ suc (k + d) = omega arith in
-    let so_far = missing_up t page k d in
+    let so_far = missing_up s t page k d in
     rw more (omega (arith, so_far))
 
 -- ---- the same, by the level of a table's entries
 
-module _ (v w : View) (root : ℕ) (t : Tables) (page level table : ℕ) (one : 1 ≤ level) (low : level ≤ top_level)
-    (h : HasGrown v w root t page (top_level - level) table) where
+module _ {s : Scheme} (v w : View) (root : ℕ) (t : Tables) (page level table : ℕ) (one : 1 ≤ level) (low : level ≤ (top_level s))
+    (h : HasGrown s v w root t page ((top_level s) - level) table) where
   pub table_own : IsHeld w table × IsSole w table
-  table_own = h.1.tables.own (node page (top_level - level)) table h.2
+  table_own = h.1.tables.own (node s page ((top_level s) - level)) table h.2
 
   -- what stands at the page's index of the table
   abbrev entry : Option ℕ
-  entry = get h.0.tables (node page (top_level - level) * 512 + vpn page level)
+  entry = get h.0.tables (node s page ((top_level s) - level) * 512 + vpn page level)
 
-  at_depth : (o : Option ℕ) → o ≡ entry → get h.0.tables (node page (suc (top_level - level))) ≡ o
-  at_depth o is = rw (back level one low) (sym is)
+  at_depth : (o : Option ℕ) → o ≡ entry → get h.0.tables (node s page (suc ((top_level s) - level))) ≡ o
+  at_depth o is = rw (back s level one low) (sym is)
 
-  pub found_next : (f : ℕ) → Some f ≡ get h.0.tables (node page (top_level - level) * 512 + vpn page level)
-      → HasGrown v w root t page (top_level - (level - 1)) f
+  pub found_next : (f : ℕ) → Some f ≡ get h.0.tables (node s page ((top_level s) - level) * 512 + vpn page level)
+      → HasGrown s v w root t page ((top_level s) - (level - 1)) f
   found_next f is =
-      subst (λ k. HasGrown v w root t page k f) (sym (next_depth level one low))
-      (goes_to v w root t h.0 page (top_level - level) table h.1 h.2 f (at_depth (Some f) is))
+      subst (λ k. HasGrown s v w root t page k f) (sym (next_depth s level one low))
+      (goes_to v w root t h.0 page ((top_level s) - level) table h.1 h.2 f (at_depth (Some f) is))
 
-  module _ (gone : None ≡ get h.0.tables (node page (top_level - level) * 512 + vpn page level)) where
+  module _ (gone : None ≡ get h.0.tables (node s page ((top_level s) - level) * 512 + vpn page level)) where
     pub made_next : (f : ℕ) → references w f ≡ 0 → f < 2 ^ 16
-        → HasGrown v (with_child table (vpn page level) f w) root t page (top_level - (level - 1)) f
+        → HasGrown s v (with_child table (vpn page level) f w) root t page ((top_level s) - (level - 1)) f
     made_next f fresh fits =
-        subst (λ k. HasGrown v (with_child table (vpn page level) f w) root t page k f) (sym (next_depth level one low))
-        (subst (λ l. HasGrown v (with_child table (vpn page l) f w) root t page (suc (top_level - level)) f) (back level one low)
-        (grows_to v w root t h.0 page (top_level - level) table h.1 h.2 f (omega arith) (at_depth None gone) fresh fits))
+        subst (λ k. HasGrown s v (with_child table (vpn page level) f w) root t page k f) (sym (next_depth s level one low))
+        (subst (λ l. HasGrown s v (with_child table (vpn page l) f w) root t page (suc ((top_level s) - level)) f) (back s level one low)
+        (grows_to v w root t h.0 page ((top_level s) - level) table h.1 h.2 f (omega arith) (at_depth None gone) fresh fits))
 
     -- a credit is left for each table that is missing
-    pub next_credit : missing_to t page top_level ≤ v.credits → 0 < w.credits
+    pub next_credit : missing_to s t page (top_level s) ≤ v.credits → 0 < w.credits
     next_credit enough =
-        let depth = top_level - level in
+        let depth = (top_level s) - level in
         let none = none_before v w root t h.0 page depth table h.1 h.2 (at_depth None gone) in
         let more = one_more v w root t h.0 page depth table h.1 h.2 none in
-        let whole : suc depth + (top_level - suc depth) ≡ top_level = omega arith in
-        let up = rw whole at (missing_up t page (suc depth) (top_level - suc depth)) in
+        let whole : suc depth + ((top_level s) - suc depth) ≡ (top_level s) = omega arith in
+        let up = rw whole at (missing_up s t page (suc depth) ((top_level s) - suc depth)) in
         let spent = h.1.changes.credits in
         omega (arith, more, up, spent, enough)
 

@@ -10,14 +10,14 @@ use Rattle.sv39_entry.specs.Frame.{frame_at}
 use Rattle.sv39_entry.specs.Word.{kind_of, ppn}
 use Rattle.sv39_entry.specs.declared.entry.Kind.TheVariants.{Invalid}
 use Rattle.sv39_entry.specs.declared.frame.FrameNo.{FrameNo}
+use Rattle.sv39_entry.specs.declared.scheme.Scheme.{Scheme}
 use Rattle.table_walk.specs.Changed.{ArePassed, HasEntry, IsIdle, IsTableAt}
-use Rattle.table_walk.specs.Tables.{Tables, AreTables, HasTables, first_leaf, pointer_or_zero}
+use Rattle.table_walk.specs.Tables.{Tables, AreTables, HasTables, first_leaf, pointer_or_zero, root_node}
 use Rattle.frame_store.specs.Next.{AreZeros, NamesZeros}
 use Rattle.table_walk.specs.Places.{IsBare, IsBareTo, IsFirstLeaf, IsFirstLeafTo}
-use Rattle.table_walk.specs.Walk.{top_level}
 use Rattle.table_walk.proofs.Children.{child_none, frame_named, pointer_ppn}
 use Rattle.table_walk.proofs.TableWords.{kind-zero, word_high, word_leaf}
-use Rattle.table_walk.specs.Nodes.{power_next, power_some, power_up}
+use Rattle.table_walk.specs.Nodes.{power_next, power_some, power_up, root_some}
 
 -- the word that was read at an index of a table
 pub entry_here : (v w : View) (t : Tables) (k f level i word : ℕ) → w ≡ v → get t.tables k ≡ Some f → IsTableAt k level → i < 512
@@ -116,20 +116,20 @@ before_to t k width from end p before first = (first.0, first.1, first.2, λ n l
 
 -- ---- levels
 
-pub table_child : (k level i : ℕ) → IsTableAt k level → level ≤ top_level → i < 512 → (level ≡ 0 → ⊥) → (k * 512 + i < first_leaf) × IsTableAt (k * 512 + i) (level - 1)
+pub table_child : (k level i : ℕ) → IsTableAt k level → level ≤ 3 → i < 512 → (level ≡ 0 → ⊥) → (k * 512 + i < first_leaf) × IsTableAt (k * 512 + i) (level - 1)
 table_child k level i at low small some =
-    let more : top_level - (level - 1) ≡ suc (top_level - level) = omega (arith, low, some) in
-    let next = power_next (top_level - level) in
-    let far = power_up (top_level - level) 1 (omega (arith, low, some)) in
-    let from : 512 ^ (top_level - (level - 1)) ≤ k * 512 + i = rw more (omega (arith, next, at.0)) in
-    let below : k * 512 + i < 2 * 512 ^ (top_level - (level - 1)) = rw more (omega (arith, next, at.1, small)) in
+    let more : 3 - (level - 1) ≡ suc (3 - level) = omega (arith, low, some) in
+    let next = power_next (3 - level) in
+    let far = power_up (3 - level) 2 (omega (arith, low, some)) in
+    let from : 512 ^ (3 - (level - 1)) ≤ k * 512 + i = rw more (omega (arith, next, at.0)) in
+    let below : k * 512 + i < 2 * 512 ^ (3 - (level - 1)) = rw more (omega (arith, next, at.1, small)) in
     (omega (arith, far, at.1, small), (from, below))
 
 pub same_places : (t : Tables) (k v w from end : ℕ) (o : Option (ℕ × ℕ)) → v ≡ w → IsFirstLeafTo t k v from end o → IsFirstLeafTo t k w from end o
 same_places t k v w from end None same first = subst (λ (x : ℕ). IsFirstLeafTo t k x from end None) same first
 same_places t k v w from end (Some p) same first = subst (λ (x : ℕ). IsFirstLeafTo t k x from end (Some p)) same first
 
-pub fits_word : (w i found : ℕ) → w ≤ 512 ^ top_level → i < 512 → found < w → i * w + found < 2 ^ 64
+pub fits_word : (w i found : ℕ) → w ≤ 512 ^ 3 → i < 512 → found < w → i * w + found < 2 ^ 64
 fits_word w i found few low less = let row = mul-le-mul_right {m = suc i} {n = 512} w (omega (arith, low)) in omega (arith, few, less, row)
 
 -- an index at or after a place's has its end behind the place
@@ -170,27 +170,28 @@ bare_all t k level from last at stop end is to_last skip n le lt to =
 
 -- ---- one index
 
-module _ (m : ℕ → ℕ → Option ℕ) (root : ℕ) (t : Tables) (h : AreTables m root t) where
+module _ {s : Scheme} (m : ℕ → ℕ → Option ℕ) (root : ℕ) (t : Tables) (h : AreTables s m root t) where
   one_up : (n j : ℕ) → n / 512 ^ suc j ≡ n / 512 ^ j / 512
   one_up n j =
       let turned : 512 ^ suc j ≡ 512 ^ j * 512 = omega (arith, power_next j) in
       ap (λ x. n / x) turned ∙ sym (div-div-eq-div-mul n (512 ^ j) 512)
 
   -- the tables above a leaf are there
-  tables_above : (n w : ℕ) → get t.leaves n ≡ Some w → (j : ℕ) → 1 ≤ n / 512 ^ suc j → (g : ℕ) × (get t.tables (n / 512 ^ suc j) ≡ Some g)
+  tables_above : (n w : ℕ) → get t.leaves n ≡ Some w → (j : ℕ) → root_node s ≤ n / 512 ^ suc j → (g : ℕ) × (get t.tables (n / 512 ^ suc j) ≡ Some g)
   tables_above n w is zero some = (h.leaf_hung n w is).2
   tables_above n w is (suc j) some =
       let up = one_up n (suc j) in
       let x = n / 512 ^ suc j in
-      let far : 1 ≤ x / 512 = rw up at some in
-      let below = tables_above n w is j (omega (arith, far)) in
+      let far : root_node s ≤ x / 512 = rw up at some in
+      let one_root = root_some s in
+      let below = tables_above n w is j (omega (arith, far, one_root)) in
       elim (h.hung x below.0 below.1) [
-        | inl one ↦ absurd (omega (arith, far, one))
+        | inl one ↦ absurd (omega (arith, far, one, one_root))
         | inr above ↦ rw up above
       ]
 
   -- where there is no table there is no leaf
-  no_leaf : (k l n : ℕ) (o : Option ℕ) → 1 ≤ k → get t.tables k ≡ None → n < 512 ^ suc l → get t.leaves (k * 512 ^ suc l + n) ≡ o → get t.leaves (k * 512 ^ suc l + n) ≡ None
+  no_leaf : (k l n : ℕ) (o : Option ℕ) → root_node s ≤ k → get t.tables k ≡ None → n < 512 ^ suc l → get t.leaves (k * 512 ^ suc l + n) ≡ o → get t.leaves (k * 512 ^ suc l + n) ≡ None
   no_leaf k l n None some none lt is = is
   no_leaf k l n (Some w) some none lt is =
       let same : (k * 512 ^ suc l + n) / 512 ^ suc l ≡ k = div-mul-add k (512 ^ suc l) n lt in
@@ -198,11 +199,11 @@ module _ (m : ℕ → ℕ → Option ℕ) (root : ℕ) (t : Tables) (h : AreTabl
       let here = rw same at there.1 in
       absurd cc
 
-  pub no_table : (k l from : ℕ) → 1 ≤ k → get t.tables k ≡ None → IsBare t k (512 ^ suc l) from (512 ^ suc l)
+  pub no_table : (k l from : ℕ) → root_node s ≤ k → get t.tables k ≡ None → IsBare t k (512 ^ suc l) from (512 ^ suc l)
   no_table k l from some none n le lt = no_leaf k l n (get t.leaves (k * 512 ^ suc l + n)) some none lt refl
 
   -- the word of an index of a last table
-  one_word : (k f i w : ℕ) → get t.tables k ≡ Some f → 512 ^ 2 ≤ k → i < 512 → ((x : ℕ) → m f i ≡ Some x → w ≡ x) → w ≡ unwrap_or (get t.leaves (k * 512 + i)) 0
+  one_word : (k f i w : ℕ) → get t.tables k ≡ Some f → 512 ^ 3 ≤ k → i < 512 → ((x : ℕ) → m f i ≡ Some x → w ≡ x) → w ≡ unwrap_or (get t.leaves (k * 512 + i)) 0
   one_word k f i w at low small read = read _ (h.words k f i at small) ∙ word_leaf t (k * 512 + i) (omega (arith, low))
 
   leaf_of : (n w : ℕ) (o : Option ℕ) → get t.leaves n ≡ o → w ≡ unwrap_or o 0 → (w ≡ 0 → ⊥) → get t.leaves n ≡ Some w
@@ -216,7 +217,7 @@ module _ (m : ℕ → ℕ → Option ℕ) (root : ℕ) (t : Tables) (h : AreTabl
       let invalid : kind_of x ≡ Invalid = ap kind_of (sym word ∙ nil) ∙ kind-zero in
       absurd cc
 
-  module _ (k f i w : ℕ) (at : get t.tables k ≡ Some f) (low : 512 ^ 2 ≤ k) (small : i < 512) (read : (x : ℕ) → m f i ≡ Some x → w ≡ x) where
+  module _ (k f i w : ℕ) (at : get t.tables k ≡ Some f) (low : 512 ^ 3 ≤ k) (small : i < 512) (read : (x : ℕ) → m f i ≡ Some x → w ≡ x) where
     pub bare_word : (from : ℕ) → w ≡ 0 → IsBare t (k * 512 + i) 1 from 1
     bare_word from nil n le lt =
         let same : (k * 512 + i) * 1 + n ≡ k * 512 + i = omega (arith, lt) in
@@ -232,32 +233,32 @@ module _ (m : ℕ → ℕ → Option ℕ) (root : ℕ) (t : Tables) (h : AreTabl
     )
 
 -- where the word is 0 there is neither a leaf nor a table
-module _ (v : View) (root : ℕ) (t : Tables) (h : HasTables v root t) where
+module _ {s : Scheme} (v : View) (root : ℕ) (t : Tables) (h : HasTables s v root t) where
   no_child : (k f i w : ℕ) → get t.tables k ≡ Some f → i < 512 → k * 512 + i < first_leaf → ((x : ℕ) → known_word v f i ≡ Some x → w ≡ x) → w ≡ 0
       → get t.tables (k * 512 + i) ≡ None
   no_child k f i w at small high read nil = sym (child_none v root t h k f i at small high w read (λ is. (let invalid : kind_of w ≡ Invalid = ap kind_of nil ∙ kind-zero in cc)))
 
-  pub bare_zero : (k f i level w : ℕ) → get t.tables k ≡ Some f → IsTableAt k level → level ≤ top_level → i < 512 → ((x : ℕ) → known_word v f i ≡ Some x → w ≡ x)
+  pub bare_zero : (k f i level w : ℕ) → get t.tables k ≡ Some f → IsTableAt k level → level ≤ 3 → i < 512 → ((x : ℕ) → known_word v f i ≡ Some x → w ≡ x)
       → (from : ℕ) → w ≡ 0 → IsBare t (k * 512 + i) (512 ^ level) from (512 ^ level)
   bare_zero k f i zero w at is low small read from nil = bare_word (known_word v) root t h.known k f i w at is.0 small read from nil
   bare_zero k f i (suc l) w at is low small read from nil =
       let below = table_child k (suc l) i is low small (λ e. absurd (omega (arith, e))) in
-      let some = power_some (top_level - (suc l - 1)) in
-      no_table (known_word v) root t h.known (k * 512 + i) l from (omega (arith, some, below.1.0)) (no_child k f i w at small below.0 read nil)
+      let high = (h.known.below k f at).0 in
+      no_table (known_word v) root t h.known (k * 512 + i) l from (omega (arith, high)) (no_child k f i w at small below.0 read nil)
 
-  pub zeros_none : (k f level : ℕ) → get t.tables k ≡ Some f → IsTableAt k level → level ≤ top_level → (level ≡ 0 → ⊥) → (a b : ℕ) → AreZeros v f a b
+  pub zeros_none : (k f level : ℕ) → get t.tables k ≡ Some f → IsTableAt k level → level ≤ 3 → (level ≡ 0 → ⊥) → (a b : ℕ) → AreZeros v f a b
       → (i : ℕ) → a ≤ i → i < b → b ≤ 512 → get t.tables (k * 512 + i) ≡ None
   zeros_none k f level at is low some a b zeros i from before small =
       let inside : i < 512 = omega (arith, before, small) in
       no_child k f i 0 at inside (table_child k level i is low inside some).0 (λ x known. sym (zeros i x from before known)) refl
 
   -- a table of zeros has no leaf below it
-  zeros_bare : (k f level : ℕ) → get t.tables k ≡ Some f → IsTableAt k level → level ≤ top_level → AreZeros v f 0 512 → IsBare t k (512 * 512 ^ level) 0 (512 * 512 ^ level)
+  zeros_bare : (k f level : ℕ) → get t.tables k ≡ Some f → IsTableAt k level → level ≤ 3 → AreZeros v f 0 512 → IsBare t k (512 * 512 ^ level) 0 (512 * 512 ^ level)
   zeros_bare k f level at is low zeros = index_bare t k (512 ^ level) 512 0 (power_some level)
       (λ i from before. bare_zero k f i level 0 at is low before (λ x known. sym (zeros i x (omega arith) before known)) 0 refl)
 
   -- nor has a number whose word is 0, or names a frame of zeros
-  named_bare : (k f i l w : ℕ) → get t.tables k ≡ Some f → IsTableAt k (suc l) → suc l ≤ top_level → i < 512 → known_word v f i ≡ Some w → NamesZeros v w
+  named_bare : (k f i l w : ℕ) → get t.tables k ≡ Some f → IsTableAt k (suc l) → suc l ≤ 3 → i < 512 → known_word v f i ≡ Some w → NamesZeros v w
       → (o : Option ℕ) → get t.tables (k * 512 + i) ≡ o → w ≡ pointer_or_zero o → IsBare t (k * 512 + i) (512 ^ suc l) 0 (512 ^ suc l)
   named_bare k f i l w at is low small known names None there word =
       bare_zero k f i (suc l) w at is low small (λ x here. same_Some w x (sym known ∙ here)) 0 word
@@ -271,7 +272,7 @@ module _ (v : View) (root : ℕ) (t : Tables) (h : HasTables v root t) where
       let one : suc l - 1 ≡ l = omega arith in
       subst (λ x. IsBare t (k * 512 + i) x 0 x) width (zeros_bare (k * 512 + i) g l there (subst (λ x. IsTableAt (k * 512 + i) x) one below.1) (omega (arith, low)) zeros)
 
-  idle_bare : (k f i level w : ℕ) → get t.tables k ≡ Some f → IsTableAt k level → level ≤ top_level → i < 512 → known_word v f i ≡ Some w → IsIdle v level w
+  idle_bare : (k f i level w : ℕ) → get t.tables k ≡ Some f → IsTableAt k level → level ≤ 3 → i < 512 → known_word v f i ≡ Some w → IsIdle v level w
       → IsBare t (k * 512 + i) (512 ^ level) 0 (512 ^ level)
   idle_bare k f i level w at is low small known (inl nil) = bare_zero k f i level w at is low small (λ x here. same_Some w x (sym known ∙ here)) 0 nil
   idle_bare k f i zero w at is low small known (inr names) = absurd (omega (arith, names.0))
@@ -281,7 +282,7 @@ module _ (v : View) (root : ℕ) (t : Tables) (h : HasTables v root t) where
       named_bare k f i l w at is low small known names.1 (get t.tables (k * 512 + i)) refl word
 
   -- such words are passed over
-  module _ (k f level : ℕ) (at : get t.tables k ≡ Some f) (is : IsTableAt k level) (low : level ≤ top_level) (b from : ℕ) (passed : ArePassed v f level (from / 512 ^ level) b) (small : b ≤ 512) where
+  module _ (k f level : ℕ) (at : get t.tables k ≡ Some f) (is : IsTableAt k level) (low : level ≤ 3) (b from : ℕ) (passed : ArePassed v f level (from / 512 ^ level) b) (small : b ≤ 512) where
     passed_bare : (n : ℕ) → from ≤ n → n < b * 512 ^ level → get t.leaves (k * (512 * 512 ^ level) + n) ≡ None
     passed_bare = index_bare t k (512 ^ level) b from (power_some level)
         (λ i after before.

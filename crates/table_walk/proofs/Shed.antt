@@ -6,13 +6,14 @@ use Rattle.std.specs.FinMap.{get}
 use Rattle.frame_store.specs.Holds.{hold_of-without_hold_other, hold_of-without_hold_same}
 use Rattle.frame_store.specs.Laws.{IsAnchored}
 use Rattle.frame_store.specs.View.{Hold, View, hold_of, IsHeld, IsSole, known_word, not_held, references, released, with_hold, with_word, without_hold}
+use Rattle.sv39_entry.specs.Schemes.{top_level}
 use Rattle.sv39_entry.specs.Word.{pointer_word}
+use Rattle.sv39_entry.specs.declared.scheme.Scheme.{Scheme}
 use Rattle.table_walk.specs.Changed.{IsTableAt}
-use Rattle.table_walk.specs.Tables.{HasTables, Tables, AreTables, first_leaf, pointer_or_zero, word_in}
+use Rattle.table_walk.specs.Tables.{HasTables, Tables, AreTables, first_leaf, pointer_or_zero, root_node, word_in}
 use Rattle.table_walk.specs.Keys.{is_none, remove_other, remove_same}
 use Rattle.table_walk.specs.Released.{AreLast, LetsGo, SameTallies, without_table}
-use Rattle.table_walk.specs.Walk.{top_level}
-use Rattle.table_walk.specs.Nodes.{power_next}
+use Rattle.table_walk.specs.Nodes.{power_next, root_some}
 use Rattle.table_walk.proofs.Next.{table_child}
 use Rattle.table_walk.proofs.TableWords.{rewritten, with_word-writes, word_high, word_leaf}
 use Rattle.table_walk.proofs.LeafChanges.{hold_elsewhere, same_references, still_own}
@@ -43,7 +44,7 @@ tallies_both u v w first second = record {
   tallies = second.tallies ∙ first.tallies;
 }
 
-pub lets_none : (v : View) (root k : ℕ) (t : Tables) → HasTables v root t → LetsGo v v root k t t
+pub lets_none : {z : Scheme} (v : View) (root k : ℕ) (t : Tables) → HasTables z v root t → LetsGo z v v root k t t
 lets_none v root k t has = record {
   tables = has;
   leaves = refl;
@@ -55,7 +56,7 @@ lets_none v root k t has = record {
   tallies = record { credits = refl; tallies = refl };
 }
 
-module _ (u v w : View) (root j k : ℕ) (r s t : Tables) (has : HasTables u root r) (first : LetsGo u v root j r s) (second : LetsGo v w root k s t) where
+module _ {z : Scheme} (u v w : View) (root j k : ℕ) (r s t : Tables) (has : HasTables z u root r) (first : LetsGo z u v root j r s) (second : LetsGo z v w root k s t) where
   gone_in : (n f : ℕ) (o : Option ℕ) → get s.tables n ≡ o → get r.tables n ≡ Some f → get t.tables n ≡ None → hold_of w f ≡ not_held
   gone_in n f (Some x) is at none =
       let same : x ≡ f = same_Some x f (sym (first.fewer n x is) ∙ at) in
@@ -69,7 +70,7 @@ module _ (u v w : View) (root j k : ℕ) (r s t : Tables) (has : HasTables u roo
       second.apart f not_there ∙ first.gone n f at is
 
   -- what stays in both changes: tables with numbers up to both bounds
-  lets_both : (l : ℕ) → l ≤ j → l ≤ k → LetsGo u w root l r t
+  lets_both : (l : ℕ) → l ≤ j → l ≤ k → LetsGo z u w root l r t
   lets_both l low small = record {
     tables = second.tables;
     leaves = second.leaves ∙ first.leaves;
@@ -82,7 +83,7 @@ module _ (u v w : View) (root j k : ℕ) (r s t : Tables) (has : HasTables u roo
   }
 
 -- those that are left may be let go too
-pub still_last : (v w : View) (root k : ℕ) (t u : Tables) → LetsGo v w root k t u → AreLast v t → AreLast w u
+pub still_last : {z : Scheme} (v w : View) (root k : ℕ) (t u : Tables) → LetsGo z v w root k t u → AreLast v t → AreLast w u
 still_last v w root k t u goes last = record {
   bare = λ n. ap (λ leaves. get leaves n) goes.leaves ∙ last.bare n;
   once = λ j f at. goes.old j f at ∙ last.once j f (goes.fewer j f at);
@@ -92,11 +93,14 @@ still_last v w root k t u goes last = record {
 
 -- ---- a table below which there is none is let go, after the pointer to it
 
-module _ (v : View) (root : ℕ) (t : Tables) (has : HasTables v root t) (last : AreLast v t) (k f i g : ℕ) (at : get t.tables k ≡ Some f) (low : i < 512)
+module _ {z : Scheme} (v : View) (root : ℕ) (t : Tables) (has : HasTables z v root t) (last : AreLast v t) (k f i g : ℕ) (at : get t.tables k ≡ Some f) (low : i < 512)
     (high : k * 512 + i < first_leaf) (there : get t.tables (k * 512 + i) ≡ Some g)
     (none : (a : ℕ) → a < 512 → get t.tables ((k * 512 + i) * 512 + a) ≡ None) where
+  from_root : root_node z ≤ k
+  from_root = (has.known.below k f at).0
+
   some : 1 ≤ k
-  some = (has.known.below k f at).0
+  some = let root_is = root_some z in omega (arith, root_is, from_root)
 
   other_frame : (j x : ℕ) → get t.tables j ≡ Some x → (j ≡ k * 512 + i → ⊥) → x ≡ g → ⊥
   other_frame j x is ne e = ne (has.known.apart j (k * 512 + i) g (is ∙ ap Some e) there)
@@ -142,10 +146,10 @@ module _ (v : View) (root : ℕ) (t : Tables) (has : HasTables v root t) (last :
     | inr ne ↦ remove_other t.tables (k * 512 + i) (j / 512) ne ∙ up
   ]
 
-  tables_left : HasTables after root fewer
+  tables_left : HasTables z after root fewer
   tables_left = record {
     known = record {
-      rooted = remove_other t.tables (k * 512 + i) 1 (λ e. omega (arith, e, some)) ∙ has.known.rooted;
+      rooted = remove_other t.tables (k * 512 + i) (root_node z) (λ e. omega (arith, e, some, from_root)) ∙ has.known.rooted;
       words = λ j x a is small.
           ap (λ (h : Hold). get h.words a) (same_hold j x is)
           ∙ rewritten (known_word v) root t has.known (known_word (with_word f i 0 v)) k f i at low fewer 0 (with_word-writes v f i 0) word_elsewhere word_here j x a (was j x is).1 small;
@@ -162,7 +166,7 @@ module _ (v : View) (root : ℕ) (t : Tables) (has : HasTables v root t) (last :
         subst (λ (h : Hold). (0 < h.references) × (h.sole ≡ true)) (sym (same_hold j x is)) own;
   }
 
-  lets_child : LetsGo v (released g (with_word f i 0 v)) root k t (without_table t (k * 512 + i))
+  lets_child : LetsGo z v (released g (with_word f i 0 v)) root k t (without_table t (k * 512 + i))
   lets_child = record {
     tables = tables_left;
     leaves = refl;
@@ -191,12 +195,12 @@ module _ (v : View) (root : ℕ) (t : Tables) (has : HasTables v root t) (last :
 -- ---- the tables below a table of a level, index by index
 
 -- the tables at the first so many indices of table k, and those below them, are gone
-abbrev pub LetsGoTo : View → View → ℕ → ℕ → Tables → ℕ → Type 0
-LetsGoTo v w root k t n = (u : Tables) × LetsGo v w root k t u × ((i : ℕ) → i < n → get u.tables (k * 512 + i) ≡ None)
+abbrev pub LetsGoTo : Scheme → View → View → ℕ → ℕ → Tables → ℕ → Type 0
+LetsGoTo z v w root k t n = (u : Tables) × LetsGo z v w root k t u × ((i : ℕ) → i < n → get u.tables (k * 512 + i) ≡ None)
 
 -- the next index
-pub lets_next : (u v w : View) (root k n : ℕ) (t : Tables) → HasTables u root t → (below : LetsGoTo u v root k t n)
-    → (here : (s : Tables) × LetsGo v w root k below.0 s × (get s.tables (k * 512 + n) ≡ None)) → LetsGoTo u w root k t (n + 1)
+pub lets_next : {z : Scheme} (u v w : View) (root k n : ℕ) (t : Tables) → HasTables z u root t → (below : LetsGoTo z u v root k t n)
+    → (here : (s : Tables) × LetsGo z v w root k below.0 s × (get s.tables (k * 512 + n) ≡ None)) → LetsGoTo z u w root k t (n + 1)
 lets_next u v w root k n t has below here = (
   here.0,
   lets_both u v w root k k t below.0 here.0 has below.1 here.1 k (omega arith) (omega arith),
@@ -207,29 +211,29 @@ lets_next u v w root k n t has below here = (
 )
 
 -- below a last table there is none
-pub lets_last : (v : View) (root k f : ℕ) (t : Tables) → HasTables v root t → IsTableAt k 0 → LetsGoTo v v root k t 512
+pub lets_last : {z : Scheme} (v : View) (root k f : ℕ) (t : Tables) → HasTables z v root t → IsTableAt k 0 → LetsGoTo z v v root k t 512
 lets_last v root k f t has is = (t, lets_none v root k t has, λ i less. is_none _ (λ x at. let high = (has.known.below _ x at).1 in omega (arith, high, is.0)))
 
 -- tables below index i of table k are gone, and the table at the index is the next
-pub record AtIndex (v w : View) (root k f g i : ℕ) (t : Tables) : Type 0 where
-  pub has : HasTables v root t
+pub record AtIndex (z : Scheme) (v w : View) (root k f g i : ℕ) (t : Tables) : Type 0 where
+  pub has : HasTables z v root t
   pub last : AreLast v t
   pub at : get t.tables k ≡ Some f
   pub low : i < 512
   pub high : k * 512 + i < first_leaf
   pub there : get t.tables (k * 512 + i) ≡ Some g
-  pub below : LetsGoTo v w root (k * 512 + i) t 512
+  pub below : LetsGoTo z v w root (k * 512 + i) t 512
 
 pub some_level : (level : ℕ) → 0 < level → level ≡ 0 → ⊥
 some_level level some e = omega (arith, some, e)
 
 -- by what the calls for the table at the index say
-pub at_index : (v x w : View) (root k f g i level : ℕ) (t : Tables) → x ≡ v → HasTables v root t → AreLast v t → get t.tables k ≡ Some f → IsTableAt k level
-    → level ≤ top_level → 0 < level → i < 512
-    → ((r n : ℕ) (s : Tables) → HasTables v r s → get s.tables n ≡ Some f → n * 512 + i < first_leaf → Some g ≡ get s.tables (n * 512 + i))
-    → ((r n : ℕ) (s : Tables) → HasTables x r s → AreLast x s → get s.tables n ≡ Some g → IsTableAt n (level - 1) → LetsGoTo x w r n s 512)
-    → AtIndex v w root k f g i t
-at_index v x w root k f g i level t same has last at is low some small found below =
+pub at_index : (z : Scheme) (v x w : View) (root k f g i level : ℕ) (t : Tables) → x ≡ v → HasTables z v root t → AreLast v t → get t.tables k ≡ Some f → IsTableAt k level
+    → level ≤ 3 → 0 < level → i < 512
+    → ((r n : ℕ) (s : Tables) → HasTables z v r s → get s.tables n ≡ Some f → n * 512 + i < first_leaf → Some g ≡ get s.tables (n * 512 + i))
+    → ((r n : ℕ) (s : Tables) → HasTables z x r s → AreLast x s → get s.tables n ≡ Some g → IsTableAt n (level - 1) → LetsGoTo z x w r n s 512)
+    → AtIndex z v w root k f g i t
+at_index z v x w root k f g i level t same has last at is low some small found below =
     let next = table_child k level i is low small (some_level level some) in
     let there = sym (found root k t has at next.0) in
     record {
@@ -239,10 +243,10 @@ at_index v x w root k f g i level t same has last at is low some small found bel
       low = small;
       high = next.0;
       there = there;
-      below = subst (λ y. LetsGoTo y w root (k * 512 + i) t 512) same (below root (k * 512 + i) t (rw same has) (rw same last) there next.1);
+      below = subst (λ y. LetsGoTo z y w root (k * 512 + i) t 512) same (below root (k * 512 + i) t (rw same has) (rw same last) there next.1);
     }
 
-module _ (v w : View) (root k f g i : ℕ) (t : Tables) (a : AtIndex v w root k f g i t) where
+module _ {z : Scheme} (v w : View) (root k f g i : ℕ) (t : Tables) (a : AtIndex z v w root k f g i t) where
   abbrev left : Tables
   left = a.below.0
 
@@ -264,7 +268,7 @@ module _ (v w : View) (root k f g i : ℕ) (t : Tables) (a : AtIndex v w root k 
   pub index_anchored : IsAnchored (released g (with_word f i 0 w))
   index_anchored = child_anchored w root left a.below.1.tables last_left k f i g at_left a.low a.high there_left a.below.2
 
-  pub lets_index : (s : Tables) × LetsGo v (released g (with_word f i 0 w)) root k t s × (get s.tables (k * 512 + i) ≡ None)
+  pub lets_index : (s : Tables) × LetsGo z v (released g (with_word f i 0 w)) root k t s × (get s.tables (k * 512 + i) ≡ None)
   lets_index = (
     without_table left (k * 512 + i),
     lets_both v w (released g (with_word f i 0 w)) root (k * 512 + i) k t left (without_table left (k * 512 + i)) a.has a.below.1
@@ -274,19 +278,19 @@ module _ (v w : View) (root k f g i : ℕ) (t : Tables) (a : AtIndex v w root k 
 
 -- ---- the root is let go
 
-pub root_level : IsTableAt 1 top_level
-root_level = (omega arith, omega arith)
+pub root_level : (z : Scheme) → IsTableAt (root_node z) (top_level z)
+root_level z = let some = root_some z in (omega arith, omega (arith, some))
 
 -- where no table hangs on the root there is no other
-only_root : (m : ℕ → ℕ → Option ℕ) (root : ℕ) (t : Tables) → AreTables m root t → ((i : ℕ) → i < 512 → get t.tables (1 * 512 + i) ≡ None)
-    → (d j f : ℕ) → j < 512 ^ d → get t.tables j ≡ Some f → j ≡ 1
-only_root m root t h none zero j f less at = absurd (let one = (h.below j f at).0 in omega (arith, one, less))
-only_root m root t h none (suc d) j f less at = elim (h.hung j f at) [
+only_root : {z : Scheme} (m : ℕ → ℕ → Option ℕ) (root : ℕ) (t : Tables) → AreTables z m root t → ((i : ℕ) → i < 512 → get t.tables (root_node z * 512 + i) ≡ None)
+    → (d j f : ℕ) → j < 512 ^ d → get t.tables j ≡ Some f → j ≡ root_node z
+only_root {z} m root t h none zero j f less at = absurd (let one = (h.below j f at).0 in let some = root_some z in omega (arith, one, less, some))
+only_root {z} m root t h none (suc d) j f less at = elim (h.hung j f at) [
   | inl one ↦ one
   | inr p ↦ absurd (
       let next = power_next d in
       let up = only_root m root t h none d (j / 512) p.0 (omega (arith, less, next)) p.1 in
-      let same : 1 * 512 + j % 512 ≡ j = omega (arith, up) in
+      let same : root_node z * 512 + j % 512 ≡ j = omega (arith, up) in
       let gone = rw same at (none (j % 512) (omega arith)) in
       cc)
 ]
@@ -296,9 +300,9 @@ pointer_of None f same = absurd (omega (arith, same))
 pointer_of (Some g) f same = ap Some (omega (arith, same))
 
 -- the same words are those of the same tables
-module _ (m : ℕ → ℕ → Option ℕ) (root : ℕ) (t s : Tables) (h : AreTables m root t) (i : AreTables m root s) where
+module _ {z : Scheme} (m : ℕ → ℕ → Option ℕ) (root : ℕ) (t s : Tables) (h : AreTables z m root t) (i : AreTables z m root s) where
   table_in : (d k f : ℕ) → k < 512 ^ d → get t.tables k ≡ Some f → get s.tables k ≡ Some f
-  table_in zero k f less at = absurd (let one = (h.below k f at).0 in omega (arith, one, less))
+  table_in zero k f less at = absurd (let one = (h.below k f at).0 in let some = root_some z in omega (arith, one, less, some))
   table_in (suc d) k f less at = elim (h.hung k f at) [
     | inl one ↦ ap (get s.tables) one ∙ i.rooted ∙ ap Some (sym (same_Some f root (sym at ∙ ap (get t.tables) one ∙ h.rooted)))
     | inr p ↦
@@ -313,17 +317,17 @@ module _ (m : ℕ → ℕ → Option ℕ) (root : ℕ) (t s : Tables) (h : AreTa
   ]
 
   same_table : (k f : ℕ) → get t.tables k ≡ Some f → get s.tables k ≡ Some f
-  same_table k f at = table_in (suc top_level) k f (h.below k f at).1 at
+  same_table k f at = table_in 4 k f (h.below k f at).1 at
 
-module _ (v w : View) (root : ℕ) (t : Tables) (has : HasTables v root t) (last : AreLast v t) (below : LetsGoTo v w root 1 t 512) where
+module _ {z : Scheme} (v w : View) (root : ℕ) (t : Tables) (has : HasTables z v root t) (last : AreLast v t) (below : LetsGoTo z v w root (root_node z) t 512) where
   root_once : references w root ≡ 1
-  root_once = (still_last v w root 1 t below.0 below.1 last).once 1 root below.1.tables.known.rooted
+  root_once = (still_last v w root (root_node z) t below.0 below.1 last).once (root_node z) root below.1.tables.known.rooted
 
   pub root_held : IsHeld w root
   root_held = omega (arith, root_once)
 
   pub root_anchored : IsAnchored (released root w)
-  root_anchored = released_anchored root w root_once (still_last v w root 1 t below.0 below.1 last).anchored (λ e. last.apart 1 (has.known.rooted ∙ ap Some e))
+  root_anchored = released_anchored root w root_once (still_last v w root (root_node z) t below.0 below.1 last).anchored (λ e. last.apart (root_node z) (has.known.rooted ∙ ap Some e))
 
   gone_by : (k f : ℕ) (o : Option ℕ) → get below.0.tables k ≡ o → get t.tables k ≡ Some f → hold_of (released root w) f ≡ not_held
   gone_by k f None is at = elim (cases_eq f root) [
@@ -331,16 +335,16 @@ module _ (v w : View) (root : ℕ) (t : Tables) (has : HasTables v root t) (last
     | inr ne ↦ released_elsewhere root w root_once f ne ∙ below.1.gone k f at is
   ]
   gone_by k f (Some x) is at =
-      let one = only_root _ root below.0 below.1.tables.known below.2 (suc top_level) k x (below.1.tables.known.below k x is).1 is in
+      let one = only_root _ root below.0 below.1.tables.known below.2 4 k x (below.1.tables.known.below k x is).1 is in
       let same : f ≡ root = same_Some f root (sym at ∙ ap (get t.tables) one ∙ has.known.rooted) in
       rw same (released_same root w root_once)
 
-  pub all_gone : (s : Tables) → HasTables v root s → (k f : ℕ) → get s.tables k ≡ Some f → hold_of (released root w) f ≡ not_held
+  pub all_gone : (s : Tables) → HasTables z v root s → (k f : ℕ) → get s.tables k ≡ Some f → hold_of (released root w) f ≡ not_held
   all_gone s h k f at = gone_by k f _ refl (same_table (known_word v) root s t h.known has.known k f at)
 
-  pub others_same : (s : Tables) → HasTables v root s → (f : ℕ) → ((k : ℕ) → get s.tables k ≡ Some f → ⊥) → hold_of (released root w) f ≡ hold_of v f
+  pub others_same : (s : Tables) → HasTables z v root s → (f : ℕ) → ((k : ℕ) → get s.tables k ≡ Some f → ⊥) → hold_of (released root w) f ≡ hold_of v f
   others_same s h f not =
-      released_elsewhere root w root_once f (λ e. not 1 (h.known.rooted ∙ ap Some (sym e)))
+      released_elsewhere root w root_once f (λ e. not (root_node z) (h.known.rooted ∙ ap Some (sym e)))
       ∙ below.1.apart f (λ k at. not k (same_table (known_word v) root t s has.known h.known k f at))
 
   pub all_tallies : SameTallies v (released root w)

@@ -8,6 +8,7 @@ use Rattle.std.specs.FinMap.{get}
 use Rattle.frame_store.specs.Holds.{hold_of-with_hold_same, hold_of-with_hold_other}
 use Rattle.frame_store.specs.View.{Hold, View, hold_of, known_word, with_word}
 use Rattle.sv39_entry.specs.Word.{kind_of}
+use Rattle.sv39_entry.specs.declared.scheme.Scheme.{Scheme}
 use Rattle.sv39_entry.specs.declared.entry.Kind.TheVariants.{Invalid}
 use Rattle.table_walk.specs.Tables.{Tables, AreTables, first_leaf, pointer_or_zero, word_in}
 use Rattle.table_walk.specs.Keys.{insert_same, insert_other}
@@ -43,7 +44,7 @@ with_word-writes v f i w =
       ];
     }
 
-module _ (m : ℕ → ℕ → Option ℕ) (root : ℕ) (t : Tables) (h : AreTables m root t) where
+module _ {s : Scheme} (m : ℕ → ℕ → Option ℕ) (root : ℕ) (t : Tables) (h : AreTables s m root t) where
   -- the word that was read
   pub read : (k f i w : ℕ) → get t.tables k ≡ Some f → i < 512 → m f i ≡ Some w → w ≡ word_in t (k * 512 + i)
   read k f i w at low is = same_Some w _ (sym is ∙ h.words k f i at low)

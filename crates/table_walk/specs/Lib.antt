@@ -5,6 +5,7 @@ pub mod Held
 pub mod Tables
 pub mod Keys
 pub mod Leaves
+pub mod Mapped
 pub mod Memory
 pub mod Nodes
 pub mod Places

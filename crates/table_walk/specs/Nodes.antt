@@ -1,9 +1,11 @@
 -- The numbers of tables and leaves.
-use Rattle.std.proofs.Common.{◌≡◌, ℕ, zero, suc, ◌+◌, ◌-◌, ◌*◌, ◌/◌, ◌%◌, ◌^◌, ◌<◌, ◌≤◌, arith, inl, inr, rules}
+use Rattle.std.proofs.Common.{◌≡◌, ℕ, zero, suc, ◌+◌, ◌-◌, ◌*◌, ◌/◌, ◌%◌, ◌^◌, ◌<◌, ◌≤◌, arith, inl, inr, rules, ap}
 use Rattle.std.proofs.lemmas.Bool.{cases_eq, cases_lt}
 use Rattle.sv39_entry.specs.Address.{vpn}
-use Rattle.table_walk.specs.Tables.{node, leaf_node, first_leaf}
-use Rattle.table_walk.specs.Walk.{top_level}
+use Rattle.sv39_entry.specs.Schemes.{low_page, of_scheme, page_limit, top_level}
+use Rattle.sv39_entry.specs.declared.scheme.Scheme.{Scheme}
+use Rattle.sv39_entry.specs.declared.scheme.Scheme.TheVariants.{Sv39, Sv48}
+use Rattle.table_walk.specs.Tables.{first_leaf, last_table, leaf_node, node, root_node, walk_leaf}
 
 pub vpn_low : (page level : ℕ) → vpn page level < 512
 vpn_low page level = omega arith
@@ -23,55 +25,99 @@ power_up j (suc k) le = elim (cases_eq j (suc k)) [
   | inr ne ↦ let below = power_up j k (omega (arith, ne)) in let next = power_next k in omega (arith, below, next)
 ]
 
-pub node_from : (page k : ℕ) → 512 ^ k ≤ node page k
-node_from page zero = omega arith
-node_from page (suc k) = let above = node_from page k in let next = power_next k in omega (arith, above, next)
+-- how many levels of the tree of four stand above a scheme's root
+abbrev pub above_root : Scheme → ℕ
+above_root s = 3 - top_level s
 
-pub node_below : (page k : ℕ) → node page k < 2 * 512 ^ k
-node_below page zero = omega arith
-node_below page (suc k) = let above = node_below page k in let next = power_next k in let low = vpn_low page (top_level - k) in omega (arith, above, next, low)
+pub root_some : (s : Scheme) → 1 ≤ root_node s
+root_some s = power_some (3 - top_level s)
+
+pub root_few : (s : Scheme) → root_node s ≤ 512
+root_few Sv39 = omega arith
+root_few Sv48 = omega arith
+
+pub node_from : (s : Scheme) (page k : ℕ) → 512 ^ (above_root s + k) ≤ node s page k
+node_from s page zero = let same : above_root s + 0 ≡ above_root s = omega arith in rw same (omega arith)
+node_from s page (suc k) =
+    let above = node_from s page k in
+    let next = power_next (above_root s + k) in
+    let more : above_root s + suc k ≡ suc (above_root s + k) = omega arith in
+    rw more (omega (arith, above, next))
+
+pub node_below : (s : Scheme) (page k : ℕ) → node s page k < 2 * 512 ^ (above_root s + k)
+node_below s page zero = let same : above_root s + 0 ≡ above_root s = omega arith in let some = power_some (above_root s) in rw same (omega (arith, some))
+node_below s page (suc k) =
+    let above = node_below s page k in
+    let next = power_next (above_root s + k) in
+    let low = vpn_low page (top_level s - k) in
+    let more : above_root s + suc k ≡ suc (above_root s + k) = omega arith in
+    rw more (omega (arith, above, next, low))
 
 -- a table of a page is at one depth
-pub one_depth : (page other j k : ℕ) → node page j ≡ node other k → j ≡ k
-one_depth page other j k same = elim (cases_lt j k) [
+pub one_depth : (s : Scheme) (page other j k : ℕ) → node s page j ≡ node s other k → j ≡ k
+one_depth s page other j k same = elim (cases_lt j k) [
   | inl less ↦ absurd (
-      let far = power_up (suc j) k less in
-      let next = power_next j in
-      let high = node_below page j in
-      let low = node_from other k in
-      let some = power_some j in
+      let far = power_up (suc (above_root s + j)) (above_root s + k) (omega (arith, less)) in
+      let next = power_next (above_root s + j) in
+      let high = node_below s page j in
+      let low = node_from s other k in
+      let some = power_some (above_root s + j) in
       omega (arith, far, next, high, low, some, same))
   | inr more ↦ elim (cases_eq j k) [
     | inl is ↦ is
     | inr ne ↦ absurd (
-        let far = power_up (suc k) j (omega (arith, ne)) in
-        let next = power_next k in
-        let high = node_below other k in
-        let low = node_from page j in
-        let some = power_some k in
+        let far = power_up (suc (above_root s + k)) (above_root s + j) (omega (arith, ne, more)) in
+        let next = power_next (above_root s + k) in
+        let high = node_below s other k in
+        let low = node_from s page j in
+        let some = power_some (above_root s + k) in
         omega (arith, far, next, high, low, some, same))
   ]
 ]
 
+-- the root is no other table
+pub not_root : (s : Scheme) (page k : ℕ) → node s page (suc k) ≡ root_node s → ⊥
+not_root s page k same = let depths = one_depth s page page (suc k) zero same in omega (arith, depths)
+
 -- tables have numbers below the leaves
-pub table_number : (page k : ℕ) → k ≤ top_level → node page k < first_leaf
-table_number page k low =
-    let far = power_up (suc k) (suc top_level) (omega arith) in
-    let next = power_next k in
-    let high = node_below page k in
-    let some = power_some k in
+pub table_number : (s : Scheme) (page k : ℕ) → k ≤ top_level s → node s page k < first_leaf
+table_number s page k low =
+    let few = (of_scheme s).few_levels in
+    let far = power_up (suc (above_root s + k)) 4 (omega (arith, low, few)) in
+    let next = power_next (above_root s + k) in
+    let high = node_below s page k in
+    let some = power_some (above_root s + k) in
     omega (arith, far, next, high, some)
 
-pub leaf_number : (page : ℕ) → first_leaf ≤ leaf_node page
-leaf_number page = node_from page (suc top_level)
+pub leaf_number : (s : Scheme) (page : ℕ) → first_leaf ≤ walk_leaf s page
+leaf_number s page =
+    let few = (of_scheme s).few_levels in
+    let all : above_root s + suc (top_level s) ≡ 4 = omega (arith, few) in
+    rw all at (node_from s page (suc (top_level s)))
 
 -- what stands above a node, and at which index
-pub above : (page k : ℕ) → node page (suc k) / 512 ≡ node page k
-above page k = let low = vpn_low page (top_level - k) in omega (arith, low)
+pub above : (s : Scheme) (page k : ℕ) → node s page (suc k) / 512 ≡ node s page k
+above s page k = let low = vpn_low page (top_level s - k) in omega (arith, low)
 
-pub index : (page k : ℕ) → node page (suc k) % 512 ≡ vpn page (top_level - k)
-index page k = let low = vpn_low page (top_level - k) in omega (arith, low)
+pub index : (s : Scheme) (page k : ℕ) → node s page (suc k) % 512 ≡ vpn page (top_level s - k)
+index s page k = let low = vpn_low page (top_level s - k) in omega (arith, low)
 
--- pages below 2 ^ 27 are numbered by themselves
-pub leaf_node_is : (page : ℕ) → leaf_node page ≡ first_leaf + page % 2 ^ 27
-leaf_node_is page = omega arith
+-- pages are numbered by their indices
+pub walk_leaf_is : (s : Scheme) (page : ℕ) → walk_leaf s page ≡ leaf_node (low_page s page)
+walk_leaf_is Sv39 page = omega arith
+walk_leaf_is Sv48 page = omega arith
+
+pub low_leaf : (s : Scheme) (page : ℕ) → page < page_limit s → walk_leaf s page ≡ leaf_node page
+low_leaf Sv39 page low = omega (arith, low)
+low_leaf Sv48 page low = omega (arith, low)
+
+-- the number of a page's leaf, from its last table on
+pub walk_leaf_step : (s : Scheme) (page : ℕ) → last_table s page * 512 + vpn page 0 ≡ walk_leaf s page
+walk_leaf_step s page =
+    let last : 0 ≡ top_level s - top_level s = omega arith in
+    ap (λ (level : ℕ). last_table s page * 512 + vpn page level) last
+
+-- a root's table is one of its level
+pub root_power : (s : Scheme) → root_node s * 512 ^ suc (top_level s) ≡ first_leaf
+root_power Sv39 = omega arith
+root_power Sv48 = omega arith

@@ -2,6 +2,7 @@
 use Rattle.std.specs.Prelude.{◌≡◌, ℕ, ◌≤◌, None, Some}
 use Rattle.std.specs.FinMap.{get, remove}
 use Rattle.frame_store.specs.View.{View, hold_of, IsHeld, not_held, references}
+use Rattle.sv39_entry.specs.declared.scheme.Scheme.{Scheme}
 use Rattle.table_walk.specs.Tables.{HasTables, Tables}
 
 -- the credits and tallies of a seat are as they were
@@ -20,8 +21,8 @@ abbrev pub without_table : Tables → ℕ → Tables
 without_table t k = record t { tables = remove t.tables k }
 
 -- some of the tables with numbers above k were let go, and are not held
-pub record LetsGo (v w : View) (root k : ℕ) (t u : Tables) : Type 0 where
-  pub tables : HasTables w root u
+pub record LetsGo (s : Scheme) (v w : View) (root k : ℕ) (t u : Tables) : Type 0 where
+  pub tables : HasTables s w root u
   pub leaves : u.leaves ≡ t.leaves
   pub fewer : (j f : ℕ) → get u.tables j ≡ Some f → get t.tables j ≡ Some f
   pub stay : (j f : ℕ) → j ≤ k → get t.tables j ≡ Some f → get u.tables j ≡ Some f

@@ -2,13 +2,14 @@
 use Rattle.std.proofs.Common.{◌≡◌, ℕ, ◌<◌, Some, sym, ap, ◌∙◌, subst}
 use Rattle.std.specs.FinMap.{get}
 use Rattle.frame_store.specs.View.{Hold, View, hold_of, IsHeld}
+use Rattle.sv39_entry.specs.declared.scheme.Scheme.{Scheme}
 use Rattle.table_walk.specs.Tables.{HasTables, Tables}
 
 pub same_held : (v w : View) (f : ℕ) → hold_of w f ≡ hold_of v f → IsHeld v f → IsHeld w f
 same_held v w f same held = subst (λ (h : Hold). 0 < h.references) (sym same) held
 
 -- tables of which no frame changed
-pub same_tables : (v w : View) (root : ℕ) (t : Tables) → ((k f : ℕ) → get t.tables k ≡ Some f → hold_of w f ≡ hold_of v f) → HasTables v root t → HasTables w root t
+pub same_tables : {s : Scheme} (v w : View) (root : ℕ) (t : Tables) → ((k f : ℕ) → get t.tables k ≡ Some f → hold_of w f ≡ hold_of v f) → HasTables s v root t → HasTables s w root t
 same_tables v w root t same has = record {
   known = record {
     rooted = has.known.rooted;

@@ -1,28 +1,40 @@
 -- The tables below a root as two finite maps, and the words that they are.
--- Tables and leaves have numbers: the root is 1, and what stands at an index of table k has the number 512 * k + index.
+-- Tables and leaves have numbers, those of a tree of four levels: its root is 1, and what stands at an index of table k has the number
+-- 512 * k + index. A root of three levels has the place of the table for the lowest 2^27 pages, so that a page has one number under
+-- both schemes.
 use Rattle.std.specs.Prelude.{◌≡◌, ℕ, zero, suc, ◌+◌, ◌-◌, ◌*◌, ◌/◌, ◌^◌, ◌<◌, ◌≤◌, ◌⊎◌, nat_lt, is_some, true, if◌then◌else◌, Option, None, Some, unwrap_or}
 use Rattle.std.specs.Ordering.{nat_cmp}
 use Rattle.std.specs.FinMap.{FinMap, empty, get, insert, remove}
 use Rattle.frame_store.specs.View.{spent, Hold, View, hold_of, IsHeld, IsSole, known_word, references}
 use Rattle.sv39_entry.specs.Address.{vpn}
+use Rattle.sv39_entry.specs.Schemes.{top_level}
 use Rattle.sv39_entry.specs.Word.{kind_of, pointer_word}
 use Rattle.sv39_entry.specs.declared.entry.Kind.TheVariants.{Leaf}
-use Rattle.table_walk.specs.Walk.{top_level}
+use Rattle.sv39_entry.specs.declared.scheme.Scheme.{Scheme}
+
+-- the number of the root
+abbrev pub root_node : Scheme → ℕ
+root_node s = 512 ^ (3 - top_level s)
 
 -- the number of what a page has so many levels below the root: its tables, and below the last of them its leaf
-abbrev pub node : ℕ → ℕ → ℕ
-node page zero = 1
-node page (suc k) = node page k * 512 + vpn page (top_level - k)
+abbrev pub node : Scheme → ℕ → ℕ → ℕ
+node s page zero = root_node s
+node s page (suc k) = node s page k * 512 + vpn page (top_level s - k)
 
-abbrev pub last_table : ℕ → ℕ
-last_table page = node page top_level
+abbrev pub last_table : Scheme → ℕ → ℕ
+last_table s page = node s page (top_level s)
 
-abbrev pub leaf_node : ℕ → ℕ
-leaf_node page = node page (suc top_level)
+-- the number of the leaf that a walk of a page may find
+abbrev pub walk_leaf : Scheme → ℕ → ℕ
+walk_leaf s page = node s page (suc (top_level s))
 
 -- leaves have numbers from here on, and tables below it
 abbrev pub first_leaf : ℕ
-first_leaf = 512 ^ suc top_level
+first_leaf = 512 ^ 4
+
+-- the number of the leaf of a page, of those that the indices tell apart (`walk_leaf_is`)
+abbrev pub leaf_node : ℕ → ℕ
+leaf_node page = first_leaf + page
 
 -- the frame of each table, and the word of each leaf
 pub record Tables : Type 0 where
@@ -38,25 +50,25 @@ abbrev pub word_in : Tables → ℕ → ℕ
 word_in t n = if nat_lt n first_leaf then pointer_or_zero (get t.tables n) else unwrap_or (get t.leaves n) 0
 
 -- these are the tables below a root, where these words of frames are known
-pub record AreTables (known : ℕ → ℕ → Option ℕ) (root : ℕ) (t : Tables) : Type 0 where
-  pub rooted : get t.tables 1 ≡ Some root
+pub record AreTables (s : Scheme) (known : ℕ → ℕ → Option ℕ) (root : ℕ) (t : Tables) : Type 0 where
+  pub rooted : get t.tables (root_node s) ≡ Some root
   -- every word of every table is what they say
   pub words : (k f i : ℕ) → get t.tables k ≡ Some f → i < 512 → known f i ≡ Some (word_in t (k * 512 + i))
   -- no frame is two tables
   pub apart : (j k f : ℕ) → get t.tables j ≡ Some f → get t.tables k ≡ Some f → j ≡ k
-  pub below : (k f : ℕ) → get t.tables k ≡ Some f → (1 ≤ k) × (k < first_leaf) × (f < 2 ^ 16)
+  pub below : (k f : ℕ) → get t.tables k ≡ Some f → (root_node s ≤ k) × (k < first_leaf) × (f < 2 ^ 16)
   -- each table but the root, and each leaf, stands in a table
-  pub hung : (k f : ℕ) → get t.tables k ≡ Some f → (k ≡ 1) ⊎ ((g : ℕ) × (get t.tables (k / 512) ≡ Some g))
+  pub hung : (k f : ℕ) → get t.tables k ≡ Some f → (k ≡ root_node s) ⊎ ((g : ℕ) × (get t.tables (k / 512) ≡ Some g))
   pub leaf_hung : (n w : ℕ) → get t.leaves n ≡ Some w → (kind_of w ≡ Leaf) × (first_leaf ≤ n) × ((g : ℕ) × (get t.tables (n / 512) ≡ Some g))
 
 -- a seat knows the tables below a root, and is the sole holder of each
-pub record HasTables (v : View) (root : ℕ) (t : Tables) : Type 0 where
-  pub known : AreTables (known_word v) root t
+pub record HasTables (s : Scheme) (v : View) (root : ℕ) (t : Tables) : Type 0 where
+  pub known : AreTables s (known_word v) root t
   pub own : (k f : ℕ) → get t.tables k ≡ Some f → IsHeld v f × IsSole v f
 
 -- a root without entries
-abbrev pub bare_root : ℕ → Tables
-bare_root root = record { tables = insert empty 1 root; leaves = empty }
+abbrev pub bare_root : Scheme → ℕ → Tables
+bare_root s root = record { tables = insert empty (root_node s) root; leaves = empty }
 
 -- changes of tables
 
@@ -70,19 +82,19 @@ abbrev pub without_leaf : Tables → ℕ → Tables
 without_leaf t n = record t { leaves = remove t.leaves n }
 
 -- how many of the first so many tables below the root are missing on the way to a page
-abbrev pub missing_to : Tables → ℕ → ℕ → ℕ
-missing_to t page zero = 0
-missing_to t page (suc k) = missing_to t page k + (if is_some (get t.tables (node page (suc k))) then 0 else 1)
+abbrev pub missing_to : Scheme → Tables → ℕ → ℕ → ℕ
+missing_to s t page zero = 0
+missing_to s t page (suc k) = missing_to s t page k + (if is_some (get t.tables (node s page (suc k))) then 0 else 1)
 
-abbrev pub missing : Tables → ℕ → ℕ
-missing t page = missing_to t page top_level
+abbrev pub missing : Scheme → Tables → ℕ → ℕ
+missing s t page = missing_to s t page (top_level s)
 
 -- of the tables on the way to a page those down to a depth are there, and no others are new
-pub record IsGrown (t u : Tables) (page depth : ℕ) : Type 0 where
+pub record IsGrown (s : Scheme) (t u : Tables) (page depth : ℕ) : Type 0 where
   pub leaves : u.leaves ≡ t.leaves
   pub kept : (k f : ℕ) → get t.tables k ≡ Some f → get u.tables k ≡ Some f
-  pub new : (k f : ℕ) → get u.tables k ≡ Some f → (get t.tables k ≡ Some f) ⊎ ((get t.tables k ≡ None) × ((i : ℕ) × (i ≤ depth) × (k ≡ node page i)))
-  pub whole : (i : ℕ) → i ≤ depth → (f : ℕ) × (get u.tables (node page i) ≡ Some f)
+  pub new : (k f : ℕ) → get u.tables k ≡ Some f → (get t.tables k ≡ Some f) ⊎ ((get t.tables k ≡ None) × ((i : ℕ) × (i ≤ depth) × (k ≡ node s page i)))
+  pub whole : (i : ℕ) → i ≤ depth → (f : ℕ) × (get u.tables (node s page i) ≡ Some f)
 
 -- what a change of tables does to a seat: so many credits became new tables, each held once; the references of the others are as they
 -- were; and of each frame that is no table the seat has what it had

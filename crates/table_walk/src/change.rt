@@ -6,35 +6,43 @@ ghost use Rattle.frame_store.specs.Laws.{Fits, Keeps};
 ghost use Rattle.frame_store.specs.View.{IsHeld, with_word};
 ghost use Rattle.sv39_entry.specs.Address.{vpn};
 ghost use Rattle.sv39_entry.specs.Frame.{ppn_of};
+ghost use Rattle.sv39_entry.specs.Schemes.{top_level};
 ghost use Rattle.sv39_entry.specs.Word.{kind_of};
 ghost use Rattle.sv39_entry.specs.declared.entry.Kind.TheVariants.{Leaf};
 ghost use Rattle.table_walk.specs.Backed.{IsBacked};
 ghost use Rattle.table_walk.specs.Changed.{OthersStay};
 ghost use Rattle.table_walk.specs.Held.{held_memory};
-ghost use Rattle.table_walk.specs.Tables.{ChangesTables, HasTables, Tables, IsGrown, last_table, leaf_node, missing, with_leaf, without_leaf};
-ghost use Rattle.table_walk.specs.Walk.{Maps, top_level};
+ghost use Rattle.table_walk.specs.Tables.{ChangesTables, HasTables, Tables, IsGrown, last_table, walk_leaf, missing, with_leaf, without_leaf};
+ghost use Rattle.table_walk.specs.Walk.{Maps};
 
 use crate::growth::grown_table;
 use crate::tables::table_of;
 use frame_store::{FrameAccess, FrameSeat, FrameSupply};
-use sv39_entry::{Entry, FrameNo, Vpn};
+use sv39_entry::{Entry, FrameNo, Scheme, Vpn};
 
 /// Maps a page to a leaf. Tables that are missing on the way are made of credits: `missing_tables` says of how many. A leaf
 /// for the user is written last: its frame has its words, and no other process has it if the leaf has W.
-pub fn map<F: FrameSupply>(store: &mut F, seat: &mut F::Seat, root: FrameNo, page: Vpn, leaf: Entry)
+pub fn map<F: FrameSupply>(
+    store: &mut F,
+    seat: &mut F::Seat,
+    scheme: Scheme,
+    root: FrameNo,
+    page: Vpn,
+    leaf: Entry,
+)
     requires fits { Fits F.rule store.old seat.old }
     requires anchored { IsHeld (F.Seat.view seat.old) 0 }
     requires leaf { kind_of leaf ≡ Leaf }
     requires backed { IsBacked (F.Seat.view seat.old) leaf }
-    requires tables { (t : Tables) × HasTables (F.Seat.view seat.old) root.0 t × (missing t page ≤ (F.Seat.view seat.old).credits) }
-    ensures tables { (t : Tables) → HasTables (F.Seat.view seat.old) root.0 t → (u : Tables) × IsGrown t u page top_level × HasTables (F.Seat.view seat.new) root.0 (with_leaf u (leaf_node page) leaf) × ChangesTables (F.Seat.view seat.old) (F.Seat.view seat.new) t u (missing t page) }
-    ensures here { Maps (held_memory (F.Seat.view seat.new)) (ppn_of root.0) page leaf 0 }
-    ensures others { OthersStay (held_memory (F.Seat.view seat.old)) (held_memory (F.Seat.view seat.new)) (ppn_of root.0) page }
+    requires tables { (t : Tables) × HasTables scheme (F.Seat.view seat.old) root.0 t × (missing scheme t page ≤ (F.Seat.view seat.old).credits) }
+    ensures tables { (t : Tables) → HasTables scheme (F.Seat.view seat.old) root.0 t → (u : Tables) × IsGrown scheme t u page (top_level scheme) × HasTables scheme (F.Seat.view seat.new) root.0 (with_leaf u (walk_leaf scheme page) leaf) × ChangesTables (F.Seat.view seat.old) (F.Seat.view seat.new) t u (missing scheme t page) }
+    ensures here { Maps scheme (held_memory (F.Seat.view seat.new)) (ppn_of root.0) page leaf 0 }
+    ensures others { OthersStay scheme (held_memory (F.Seat.view seat.old)) (held_memory (F.Seat.view seat.new)) (ppn_of root.0) page }
     ensures anchored { IsHeld (F.Seat.view seat.new) 0 }
     ensures keeps { Keeps F.rule store.old seat.old store.new seat.new }
     ensures free { F.alone → F.free store.new ≡ F.free store.old }
 {
-    let table = grown_table(store, seat, root, page);
+    let table = grown_table(store, seat, scheme, root, page);
     store.store(seat, table, page.index(0), leaf.to_word());
 }
 
@@ -42,6 +50,7 @@ pub fn map<F: FrameSupply>(store: &mut F, seat: &mut F::Seat, root: FrameNo, pag
 pub fn protect<F: FrameAccess>(
     store: &mut F,
     seat: &mut F::Seat,
+    scheme: Scheme,
     root: FrameNo,
     page: Vpn,
     leaf: Entry,
@@ -49,16 +58,16 @@ pub fn protect<F: FrameAccess>(
     requires fits { Fits F.rule store.old seat.old }
     requires leaf { kind_of leaf ≡ Leaf }
     requires backed { IsBacked (F.Seat.view seat.old) leaf }
-    requires mapped { (t : Tables) × HasTables (F.Seat.view seat.old) root.0 t × IsSome (get t.leaves (leaf_node page)) }
-    ensures word { (t : Tables) (f : ℕ) → HasTables (F.Seat.view seat.old) root.0 t → get t.tables (last_table page) ≡ Some f → F.Seat.view seat.new ≡ with_word f (vpn page 0) leaf (F.Seat.view seat.old) }
-    ensures tables { (t : Tables) → HasTables (F.Seat.view seat.old) root.0 t → HasTables (F.Seat.view seat.new) root.0 (with_leaf t (leaf_node page) leaf) × ChangesTables (F.Seat.view seat.old) (F.Seat.view seat.new) t t 0 }
-    ensures here { Maps (held_memory (F.Seat.view seat.new)) (ppn_of root.0) page leaf 0 }
-    ensures others { OthersStay (held_memory (F.Seat.view seat.old)) (held_memory (F.Seat.view seat.new)) (ppn_of root.0) page }
+    requires mapped { (t : Tables) × HasTables scheme (F.Seat.view seat.old) root.0 t × IsSome (get t.leaves (walk_leaf scheme page)) }
+    ensures word { (t : Tables) (f : ℕ) → HasTables scheme (F.Seat.view seat.old) root.0 t → get t.tables (last_table scheme page) ≡ Some f → F.Seat.view seat.new ≡ with_word f (vpn page 0) leaf (F.Seat.view seat.old) }
+    ensures tables { (t : Tables) → HasTables scheme (F.Seat.view seat.old) root.0 t → HasTables scheme (F.Seat.view seat.new) root.0 (with_leaf t (walk_leaf scheme page) leaf) × ChangesTables (F.Seat.view seat.old) (F.Seat.view seat.new) t t 0 }
+    ensures here { Maps scheme (held_memory (F.Seat.view seat.new)) (ppn_of root.0) page leaf 0 }
+    ensures others { OthersStay scheme (held_memory (F.Seat.view seat.old)) (held_memory (F.Seat.view seat.new)) (ppn_of root.0) page }
     ensures keeps { Keeps F.rule store.old seat.old store.new seat.new }
     ensures free { F.alone → F.free store.new ≡ F.free store.old }
     ensures counts { F.alone → (f : ℕ) → F.count store.new f ≡ F.count store.old f }
 {
-    if let Some(table) = table_of(store, seat, root, page) {
+    if let Some(table) = table_of(store, seat, scheme, root, page) {
         store.store(seat, table, page.index(0), leaf.to_word());
     }
 }
@@ -67,17 +76,18 @@ pub fn protect<F: FrameAccess>(
 pub fn leaf_of<F: FrameAccess>(
     store: &mut F,
     seat: &mut F::Seat,
+    scheme: Scheme,
     root: FrameNo,
     page: Vpn,
 ) -> Option<Entry>
     requires fits { Fits F.rule store.old seat.old }
-    requires held { (t : Tables) × HasTables (F.Seat.view seat.old) root.0 t }
-    ensures leaf { (t : Tables) → HasTables (F.Seat.view seat.old) root.0 t → result ≡ get t.leaves (leaf_node page) }
+    requires held { (t : Tables) × HasTables scheme (F.Seat.view seat.old) root.0 t }
+    ensures leaf { (t : Tables) → HasTables scheme (F.Seat.view seat.old) root.0 t → result ≡ get t.leaves (walk_leaf scheme page) }
     ensures view { F.Seat.view seat.new ≡ F.Seat.view seat.old }
     ensures same { store.new ≡ store.old }
     ensures keeps { Keeps F.rule store.old seat.old store.new seat.new }
 {
-    let (_, leaf) = leaf_in_table(store, seat, root, page)?;
+    let (_, leaf) = leaf_in_table(store, seat, scheme, root, page)?;
     Some(leaf)
 }
 
@@ -85,22 +95,23 @@ pub fn leaf_of<F: FrameAccess>(
 pub fn unmap<F: FrameAccess>(
     store: &mut F,
     seat: &mut F::Seat,
+    scheme: Scheme,
     root: FrameNo,
     page: Vpn,
 ) -> Option<Entry>
     requires fits { Fits F.rule store.old seat.old }
-    requires held { (t : Tables) × HasTables (F.Seat.view seat.old) root.0 t }
-    ensures leaf { (t : Tables) → HasTables (F.Seat.view seat.old) root.0 t → result ≡ get t.leaves (leaf_node page) }
-    ensures word { (t : Tables) (f : ℕ) → HasTables (F.Seat.view seat.old) root.0 t → get t.tables (last_table page) ≡ Some f → IsSome result → F.Seat.view seat.new ≡ with_word f (vpn page 0) 0 (F.Seat.view seat.old) }
+    requires held { (t : Tables) × HasTables scheme (F.Seat.view seat.old) root.0 t }
+    ensures leaf { (t : Tables) → HasTables scheme (F.Seat.view seat.old) root.0 t → result ≡ get t.leaves (walk_leaf scheme page) }
+    ensures word { (t : Tables) (f : ℕ) → HasTables scheme (F.Seat.view seat.old) root.0 t → get t.tables (last_table scheme page) ≡ Some f → IsSome result → F.Seat.view seat.new ≡ with_word f (vpn page 0) 0 (F.Seat.view seat.old) }
     ensures none { result ≡ None → F.Seat.view seat.new ≡ F.Seat.view seat.old }
-    ensures tables { (t : Tables) → HasTables (F.Seat.view seat.old) root.0 t → HasTables (F.Seat.view seat.new) root.0 (without_leaf t (leaf_node page)) × ChangesTables (F.Seat.view seat.old) (F.Seat.view seat.new) t t 0 }
-    ensures here { (leaf level : ℕ) → Maps (held_memory (F.Seat.view seat.new)) (ppn_of root.0) page leaf level → ⊥ }
-    ensures others { OthersStay (held_memory (F.Seat.view seat.old)) (held_memory (F.Seat.view seat.new)) (ppn_of root.0) page }
+    ensures tables { (t : Tables) → HasTables scheme (F.Seat.view seat.old) root.0 t → HasTables scheme (F.Seat.view seat.new) root.0 (without_leaf t (walk_leaf scheme page)) × ChangesTables (F.Seat.view seat.old) (F.Seat.view seat.new) t t 0 }
+    ensures here { (leaf level : ℕ) → Maps scheme (held_memory (F.Seat.view seat.new)) (ppn_of root.0) page leaf level → ⊥ }
+    ensures others { OthersStay scheme (held_memory (F.Seat.view seat.old)) (held_memory (F.Seat.view seat.new)) (ppn_of root.0) page }
     ensures keeps { Keeps F.rule store.old seat.old store.new seat.new }
     ensures free { F.alone → F.free store.new ≡ F.free store.old }
     ensures counts { F.alone → (f : ℕ) → F.count store.new f ≡ F.count store.old f }
 {
-    let (table, leaf) = leaf_in_table(store, seat, root, page)?;
+    let (table, leaf) = leaf_in_table(store, seat, scheme, root, page)?;
     store.store(seat, table, page.index(0), 0);
     Some(leaf)
 }
@@ -109,18 +120,19 @@ pub fn unmap<F: FrameAccess>(
 fn leaf_in_table<F: FrameAccess>(
     store: &mut F,
     seat: &mut F::Seat,
+    scheme: Scheme,
     root: FrameNo,
     page: Vpn,
 ) -> Option<(FrameNo, Entry)>
     requires fits { Fits F.rule store.old seat.old }
-    requires held { (t : Tables) × HasTables (F.Seat.view seat.old) root.0 t }
-    ensures leaf { (t : Tables) → HasTables (F.Seat.view seat.old) root.0 t → option_map (λ p. p.1) result ≡ get t.leaves (leaf_node page) }
-    ensures table { (t : Tables) → HasTables (F.Seat.view seat.old) root.0 t → IfSome result (λ p. get t.tables (last_table page) ≡ Some p.0.0) }
+    requires held { (t : Tables) × HasTables scheme (F.Seat.view seat.old) root.0 t }
+    ensures leaf { (t : Tables) → HasTables scheme (F.Seat.view seat.old) root.0 t → option_map (λ p. p.1) result ≡ get t.leaves (walk_leaf scheme page) }
+    ensures table { (t : Tables) → HasTables scheme (F.Seat.view seat.old) root.0 t → IfSome result (λ p. get t.tables (last_table scheme page) ≡ Some p.0.0) }
     ensures view { F.Seat.view seat.new ≡ F.Seat.view seat.old }
     ensures same { store.new ≡ store.old }
     ensures keeps { Keeps F.rule store.old seat.old store.new seat.new }
 {
-    let table = table_of(store, seat, root, page)?;
+    let table = table_of(store, seat, scheme, root, page)?;
     let word = store.load(seat, table, page.index(0));
     if word == 0 {
         return None;

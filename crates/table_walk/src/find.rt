@@ -1,30 +1,45 @@
 // The walk.
 
+ghost use Rattle.std.specs.Prelude.{◌≡◌, true};
 ghost use Rattle.sv39_entry.specs.Address.{page_of};
+ghost use Rattle.sv39_entry.specs.Schemes.{is_canonical, top_level};
 ghost use Rattle.table_walk.specs.Walk.{CanWalk, Finds};
 
 use crate::leaf::is_aligned;
 use crate::walk::Found;
 use crate::words::Words;
-use sv39_entry::{Entry, EntryFlags, Kind, Va};
-
-/// The level of the root's entries, one less than LEVELS (RISC-V Privileged Architecture 20211203, 4.4.1).
-pub(crate) const TOP_LEVEL: u32 = 2;
+use sv39_entry::{Entry, EntryFlags, Kind, Scheme, Va};
 
 /// Walks the tables below a root, which is given by its physical page number, to the leaf of an address (the standard,
 /// 4.3.2, steps 1 to 4 and 6).
-pub fn lookup<M: Words>(words: &mut M, root: u64, va: Va) -> Found
-    requires { CanWalk (M.readable words.old) (M.memory words.old) root (page_of va.0) }
-    ensures found { Finds (M.memory words.old) root va.0 result }
+pub fn lookup<M: Words>(words: &mut M, scheme: Scheme, root: u64, va: Va) -> Found
+    requires { CanWalk scheme (M.readable words.old) (M.memory words.old) root (page_of va.0) }
+    ensures found { Finds scheme (M.memory words.old) root va.0 result }
     ensures stays { M.stays words.old words.new }
 {
-    if !va.is_canonical() {
+    if !scheme.is_canonical(va) {
         return Found::NoLeaf;
     }
+    match scheme {
+        Scheme::Sv39 => lookup_from::<M, 2>(words, scheme, root, va),
+        Scheme::Sv48 => lookup_from::<M, 3>(words, scheme, root, va),
+    }
+}
+
+/// The same of a canonical address, from the level of the root's entries on. That is a constant of the call, so that the walk of
+/// each scheme is compiled for itself, with as many steps as it has levels.
+#[inline]
+fn lookup_from<M: Words, const TOP: u32>(words: &mut M, scheme: Scheme, root: u64, va: Va) -> Found
+    requires walk { CanWalk scheme (M.readable words.old) (M.memory words.old) root (page_of va.0) }
+    requires canonical { is_canonical scheme va.0 ≡ true }
+    requires top { top_level scheme ≡ TOP }
+    ensures found { Finds scheme (M.memory words.old) root va.0 result }
+    ensures stays { M.stays words.old words.new }
+{
     let page = va.page();
     let mut table = root;
     let mut global = false;
-    'levels: for level in (0..=TOP_LEVEL).rev() {
+    'levels: for level in (0..=TOP).rev() {
         let Some(word) = words.word(table, page.index(level)) else {
             return Found::Outside;
         };

@@ -4,31 +4,33 @@ ghost use Rattle.std.specs.FinMap.{get};
 ghost use Rattle.std.specs.Prelude.{◌≡◌, ◌<◌, ◌≤◌, ℕ, Some};
 ghost use Rattle.frame_store.specs.Laws.{Fits, Keeps};
 ghost use Rattle.frame_store.specs.View.{claimed, hold_of, IsHeld, IsSole, references, sole_hold, with_hold, with_word};
+ghost use Rattle.sv39_entry.specs.Schemes.{top_level};
 ghost use Rattle.sv39_entry.specs.Word.{pointer_word};
+ghost use Rattle.sv39_entry.specs.declared.scheme.Scheme.{Scheme};
 ghost use Rattle.table_walk.specs.Tables.{bare_root, blank_hold, ChangesTables, HasTables, Tables, IsGrown, last_table, missing};
-ghost use Rattle.table_walk.specs.Walk.{top_level};
 
-use crate::find::TOP_LEVEL;
 use crate::tables::child;
 use frame_store::{FrameAccess, FrameSeat, FrameSupply};
-use sv39_entry::{Entry, FrameNo, Vpn};
+use sv39_entry::{Entry, FrameNo, Scheme, Vpn};
 
 /// The last table on the way to a page, after those that were missing were made.
 pub(crate) fn grown_table<F: FrameSupply>(
     store: &mut F,
     seat: &mut F::Seat,
+    scheme: Scheme,
     root: FrameNo,
     page: Vpn,
 ) -> FrameNo
     requires fits { Fits F.rule store.old seat.old }
     requires anchored { IsHeld (F.Seat.view seat.old) 0 }
-    requires tables { (t : Tables) × HasTables (F.Seat.view seat.old) root.0 t × (missing t page ≤ (F.Seat.view seat.old).credits) }
-    ensures tables { (t : Tables) → HasTables (F.Seat.view seat.old) root.0 t → (u : Tables) × IsGrown t u page top_level × HasTables (F.Seat.view seat.new) root.0 u × ChangesTables (F.Seat.view seat.old) (F.Seat.view seat.new) t u (missing t page) × (get u.tables (last_table page) ≡ Some result.0) }
+    requires tables { (t : Tables) × HasTables scheme (F.Seat.view seat.old) root.0 t × (missing scheme t page ≤ (F.Seat.view seat.old).credits) }
+    ensures tables { (t : Tables) → HasTables scheme (F.Seat.view seat.old) root.0 t → (u : Tables) × IsGrown scheme t u page (top_level scheme) × HasTables scheme (F.Seat.view seat.new) root.0 u × ChangesTables (F.Seat.view seat.old) (F.Seat.view seat.new) t u (missing scheme t page) × (get u.tables (last_table scheme page) ≡ Some result.0) }
     ensures keeps { Keeps F.rule store.old seat.old store.new seat.new }
     ensures free { F.alone → F.free store.new ≡ F.free store.old }
 {
     let mut table = root;
-    'levels: for level in (1..=TOP_LEVEL).rev() {
+    let top = scheme.top_level();
+    'levels: for level in (1..=top).rev() {
         let index = page.index(level);
         table = match child(store, seat, table, index) {
             Some(next) => next,
@@ -45,7 +47,7 @@ pub fn new_table<F: FrameSupply>(store: &mut F, seat: &mut F::Seat) -> FrameNo
     requires credit { 0 < (F.Seat.view seat.old).credits }
     ensures fresh { references (F.Seat.view seat.old) result.0 ≡ 0 }
     ensures view { F.Seat.view seat.new ≡ with_hold result.0 blank_hold (claimed result.0 (F.Seat.view seat.old)) }
-    ensures root { HasTables (F.Seat.view seat.new) result.0 (bare_root result.0) }
+    ensures root { (s : Scheme) → HasTables s (F.Seat.view seat.new) result.0 (bare_root s result.0) }
     ensures anchored { IsHeld (F.Seat.view seat.new) 0 }
     ensures keeps { Keeps F.rule store.old seat.old store.new seat.new }
     ensures free { F.alone → F.free store.new ≡ F.free store.old }

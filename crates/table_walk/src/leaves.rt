@@ -4,35 +4,37 @@ ghost use Rattle.std.specs.FinMap.{get};
 ghost use Rattle.std.specs.Prelude.{◌≡◌, ◌+◌, ◌*◌, ◌/◌, ◌^◌, ◌<◌, ◌≤◌, ℕ, Some};
 ghost use Rattle.frame_store.specs.Laws.{Fits, Keeps};
 ghost use Rattle.frame_store.specs.View.{IsHeld};
+ghost use Rattle.sv39_entry.specs.Schemes.{page_limit};
+ghost use Rattle.sv39_entry.specs.declared.scheme.Scheme.{Scheme};
 ghost use Rattle.table_walk.specs.Changed.{HasEntry, IsNextEntry, IsNextLeafBefore, IsTableAt, places};
 ghost use Rattle.table_walk.specs.Tables.{HasTables, Tables};
 ghost use Rattle.table_walk.specs.Places.{IsFirstLeafTo};
-ghost use Rattle.table_walk.specs.Walk.{top_level};
 
-use crate::find::TOP_LEVEL;
 use crate::tables::table_in;
 use frame_store::{FrameAccess, FrameSeat};
-use sv39_entry::{Entry, FrameNo, Vpn};
+use sv39_entry::{Entry, FrameNo, Scheme, Vpn};
 
 /// The first leaf at or after `from` and before the page numbered `end`, and its page. Pages are numbered by their indices alone,
-/// which is the page number below 2^26: of the pages above, which no process has, the result's number has the indices and not the
-/// upper bits. Reads only tables that exist and have a page before the end, and no table that the store knows to be empty.
+/// which is the page number in the lower half of the addresses: of the pages of the upper half, which no process has, the result's
+/// number has the indices and not the upper bits. Reads only tables that exist and have a page before the end, and no table that
+/// the store knows to be empty.
 pub fn next_leaf_before<F: FrameAccess>(
     store: &mut F,
     seat: &mut F::Seat,
+    scheme: Scheme,
     root: FrameNo,
     from: Vpn,
     end: u64,
 ) -> Option<(Vpn, Entry)>
     requires fits { Fits F.rule store.old seat.old }
-    requires held { (t : Tables) × HasTables (F.Seat.view seat.old) root.0 t }
-    requires low { end ≤ 2 ^ 27 }
-    ensures leaf { (t : Tables) → HasTables (F.Seat.view seat.old) root.0 t → IsNextLeafBefore t from end result }
+    requires held { (t : Tables) × HasTables scheme (F.Seat.view seat.old) root.0 t }
+    requires low { end ≤ page_limit scheme }
+    ensures leaf { (t : Tables) → HasTables scheme (F.Seat.view seat.old) root.0 t → IsNextLeafBefore scheme t from end result }
     ensures view { F.Seat.view seat.new ≡ F.Seat.view seat.old }
     ensures same { store.new ≡ store.old }
     ensures keeps { Keeps F.rule store.old seat.old store.new seat.new }
 {
-    let (number, word) = next_below(store, seat, root, TOP_LEVEL, from.number(), end)?;
+    let (number, word) = next_below(store, seat, root, scheme.top_level(), from.number(), end)?;
     if end <= number {
         return None;
     }
@@ -51,9 +53,9 @@ fn next_below<F: FrameAccess>(
     end: u64,
 ) -> Option<(u64, u64)>
     requires fits { Fits F.rule store.old seat.old }
-    requires low { level ≤ top_level }
-    requires held { (root k : ℕ) × (t : Tables) × HasTables (F.Seat.view seat.old) root t × (get t.tables k ≡ Some table.0) × IsTableAt k level }
-    ensures leaf { (root k : ℕ) (t : Tables) → HasTables (F.Seat.view seat.old) root t → get t.tables k ≡ Some table.0 → IsTableAt k level → IsFirstLeafTo t k (places level) from end result }
+    requires low { level ≤ 3 }
+    requires held { (s : Scheme) × (root k : ℕ) × (t : Tables) × HasTables s (F.Seat.view seat.old) root t × (get t.tables k ≡ Some table.0) × IsTableAt k level }
+    ensures leaf { (s : Scheme) (root k : ℕ) (t : Tables) → HasTables s (F.Seat.view seat.old) root t → get t.tables k ≡ Some table.0 → IsTableAt k level → IsFirstLeafTo t k (places level) from end result }
     ensures view { F.Seat.view seat.new ≡ F.Seat.view seat.old }
     ensures same { store.new ≡ store.old }
     ensures keeps { Keeps F.rule store.old seat.old store.new seat.new }
@@ -86,11 +88,11 @@ fn next_at<F: FrameAccess>(
     end: u64,
 ) -> Option<(u64, u64)>
     requires fits { Fits F.rule store.old seat.old }
-    requires low { level ≤ top_level }
+    requires low { level ≤ 3 }
     requires some { 0 < word }
     requires within { from < 512 ^ level }
-    requires held { (root k i : ℕ) × (t : Tables) × HasTables (F.Seat.view seat.old) root t × HasEntry (F.Seat.view seat.old) t k level i word }
-    ensures leaf { (root k i : ℕ) (t : Tables) → HasTables (F.Seat.view seat.old) root t → HasEntry (F.Seat.view seat.old) t k level i word → IsFirstLeafTo t (k * 512 + i) (512 ^ level) from end result }
+    requires held { (s : Scheme) × (root k i : ℕ) × (t : Tables) × HasTables s (F.Seat.view seat.old) root t × HasEntry (F.Seat.view seat.old) t k level i word }
+    ensures leaf { (s : Scheme) (root k i : ℕ) (t : Tables) → HasTables s (F.Seat.view seat.old) root t → HasEntry (F.Seat.view seat.old) t k level i word → IsFirstLeafTo t (k * 512 + i) (512 ^ level) from end result }
     ensures view { F.Seat.view seat.new ≡ F.Seat.view seat.old }
     ensures same { store.new ≡ store.old }
     ensures keeps { Keeps F.rule store.old seat.old store.new seat.new }
@@ -130,10 +132,10 @@ fn next_entry<F: FrameAccess>(
 /// The places of each index of a table of a level.
 #[tactic(auto, using(std::proofs::lemmas::Nat::one_shl))]
 fn index_places(level: u32) -> u64
-    requires { level ≤ top_level }
+    requires { level ≤ 3 }
     ensures value { result ≡ 512 ^ level }
     ensures some { 0 < result }
-    ensures few { result ≤ 512 ^ top_level }
+    ensures few { result ≤ 512 ^ 3 }
 {
     1 << (9 * level)
 }
@@ -141,7 +143,7 @@ fn index_places(level: u32) -> u64
 /// The index of a table of a level that has a place.
 #[tactic(auto, using(crate::proofs::Next::nine_bits))]
 fn index_of(place: u64, level: u32) -> usize
-    requires low { level ≤ top_level }
+    requires low { level ≤ 3 }
     ensures { result ≡ place / 512 ^ level }
 {
     (place >> (9 * level)) as usize

@@ -5,27 +5,31 @@ ghost use Rattle.std.specs.Prelude.{◌≡◌, ◌+◌, ◌*◌, ◌<◌, ◌≤
 ghost use Rattle.frame_store.specs.Laws.{Fits, Keeps};
 ghost use Rattle.frame_store.specs.Next.{AreZeros};
 ghost use Rattle.frame_store.specs.View.{hold_of, IsHeld, not_held};
+ghost use Rattle.sv39_entry.specs.declared.scheme.Scheme.{Scheme};
 ghost use Rattle.table_walk.specs.Changed.{IsTableAt};
 ghost use Rattle.table_walk.specs.Tables.{HasTables, Tables};
 ghost use Rattle.table_walk.specs.Released.{AreLast, LetsGo, SameTallies};
-ghost use Rattle.table_walk.specs.Walk.{top_level};
 
-use crate::find::TOP_LEVEL;
 use crate::tables::child;
 use frame_store::{FrameAccess, FrameSeat};
-use sv39_entry::FrameNo;
+use sv39_entry::{FrameNo, Scheme};
 
 /// Lets the tables below a root go, the root last. There must be no leaf any more, and each table be held once.
-pub fn release_tables<F: FrameAccess>(store: &mut F, seat: &mut F::Seat, root: FrameNo)
+pub fn release_tables<F: FrameAccess>(
+    store: &mut F,
+    seat: &mut F::Seat,
+    scheme: Scheme,
+    root: FrameNo,
+)
     requires fits { Fits F.rule store.old seat.old }
-    requires bare { (t : Tables) × HasTables (F.Seat.view seat.old) root.0 t × AreLast (F.Seat.view seat.old) t }
-    ensures gone { (t : Tables) → HasTables (F.Seat.view seat.old) root.0 t → (k f : ℕ) → get t.tables k ≡ Some f → hold_of (F.Seat.view seat.new) f ≡ not_held }
-    ensures others { (t : Tables) → HasTables (F.Seat.view seat.old) root.0 t → (f : ℕ) → ((k : ℕ) → get t.tables k ≡ Some f → ⊥) → hold_of (F.Seat.view seat.new) f ≡ hold_of (F.Seat.view seat.old) f }
+    requires bare { (t : Tables) × HasTables scheme (F.Seat.view seat.old) root.0 t × AreLast (F.Seat.view seat.old) t }
+    ensures gone { (t : Tables) → HasTables scheme (F.Seat.view seat.old) root.0 t → (k f : ℕ) → get t.tables k ≡ Some f → hold_of (F.Seat.view seat.new) f ≡ not_held }
+    ensures others { (t : Tables) → HasTables scheme (F.Seat.view seat.old) root.0 t → (f : ℕ) → ((k : ℕ) → get t.tables k ≡ Some f → ⊥) → hold_of (F.Seat.view seat.new) f ≡ hold_of (F.Seat.view seat.old) f }
     ensures tallies { SameTallies (F.Seat.view seat.old) (F.Seat.view seat.new) }
     ensures keeps { Keeps F.rule store.old seat.old store.new seat.new }
     ensures free { F.alone → F.free store.old ≤ F.free store.new }
 {
-    release_below(store, seat, root, TOP_LEVEL);
+    release_below(store, seat, root, scheme.top_level());
     store.release(seat, root);
 }
 
@@ -33,9 +37,9 @@ pub fn release_tables<F: FrameAccess>(store: &mut F, seat: &mut F::Seat, root: F
 #[cycle(release)]
 fn release_below<F: FrameAccess>(store: &mut F, seat: &mut F::Seat, table: FrameNo, level: u32)
     requires fits { Fits F.rule store.old seat.old }
-    requires low { level ≤ top_level }
-    requires bare { (root k : ℕ) × (t : Tables) × HasTables (F.Seat.view seat.old) root t × AreLast (F.Seat.view seat.old) t × (get t.tables k ≡ Some table.0) × IsTableAt k level }
-    ensures below { (root k : ℕ) (t : Tables) → HasTables (F.Seat.view seat.old) root t → AreLast (F.Seat.view seat.old) t → get t.tables k ≡ Some table.0 → IsTableAt k level → (u : Tables) × LetsGo (F.Seat.view seat.old) (F.Seat.view seat.new) root k t u × ((i : ℕ) → i < 512 → get u.tables (k * 512 + i) ≡ None) }
+    requires low { level ≤ 3 }
+    requires bare { (s : Scheme) × (root k : ℕ) × (t : Tables) × HasTables s (F.Seat.view seat.old) root t × AreLast (F.Seat.view seat.old) t × (get t.tables k ≡ Some table.0) × IsTableAt k level }
+    ensures below { (s : Scheme) (root k : ℕ) (t : Tables) → HasTables s (F.Seat.view seat.old) root t → AreLast (F.Seat.view seat.old) t → get t.tables k ≡ Some table.0 → IsTableAt k level → (u : Tables) × LetsGo s (F.Seat.view seat.old) (F.Seat.view seat.new) root k t u × ((i : ℕ) → i < 512 → get u.tables (k * 512 + i) ≡ None) }
     ensures keeps { Keeps F.rule store.old seat.old store.new seat.new }
     ensures free { F.alone → F.free store.old ≤ F.free store.new }
 {
@@ -59,11 +63,11 @@ fn release_at<F: FrameAccess>(
     index: usize,
 )
     requires fits { Fits F.rule store.old seat.old }
-    requires low { level ≤ top_level }
+    requires low { level ≤ 3 }
     requires above { 0 < level }
     requires in_table { index < 512 }
-    requires bare { (root k : ℕ) × (t : Tables) × HasTables (F.Seat.view seat.old) root t × AreLast (F.Seat.view seat.old) t × (get t.tables k ≡ Some table.0) × IsTableAt k level }
-    ensures here { (root k : ℕ) (t : Tables) → HasTables (F.Seat.view seat.old) root t → AreLast (F.Seat.view seat.old) t → get t.tables k ≡ Some table.0 → IsTableAt k level → (u : Tables) × LetsGo (F.Seat.view seat.old) (F.Seat.view seat.new) root k t u × (get u.tables (k * 512 + index) ≡ None) }
+    requires bare { (s : Scheme) × (root k : ℕ) × (t : Tables) × HasTables s (F.Seat.view seat.old) root t × AreLast (F.Seat.view seat.old) t × (get t.tables k ≡ Some table.0) × IsTableAt k level }
+    ensures here { (s : Scheme) (root k : ℕ) (t : Tables) → HasTables s (F.Seat.view seat.old) root t → AreLast (F.Seat.view seat.old) t → get t.tables k ≡ Some table.0 → IsTableAt k level → (u : Tables) × LetsGo s (F.Seat.view seat.old) (F.Seat.view seat.new) root k t u × (get u.tables (k * 512 + index) ≡ None) }
     ensures keeps { Keeps F.rule store.old seat.old store.new seat.new }
     ensures free { F.alone → F.free store.old ≤ F.free store.new }
 {

@@ -15,16 +15,23 @@ use crate::leaf::physical_address;
 use crate::walk::{Found, Walk};
 use crate::words::Words;
 use frame_store::{FrameAccess, FrameSeat};
-use sv39_entry::{Access, Entry, FrameNo, Mode, PAGE_SIZE, Va};
+use sv39_entry::{Access, Entry, FrameNo, Mode, PAGE_SIZE, Scheme, Va};
 
 /// Translates the address of an access, whose bytes lie in one word, by the tables below a root, which is given by its
 /// physical page number (RISC-V Privileged Architecture 20211203, 4.3.2).
-pub fn translate<M: Words>(words: &mut M, root: u64, va: Va, access: Access, mode: Mode) -> Walk
-    requires { CanWalk (M.readable words.old) (M.memory words.old) root (page_of va.0) }
-    ensures outcome { Translates (M.memory words.old) (M.there words.old) root va.0 access mode result }
+pub fn translate<M: Words>(
+    words: &mut M,
+    scheme: Scheme,
+    root: u64,
+    va: Va,
+    access: Access,
+    mode: Mode,
+) -> Walk
+    requires { CanWalk scheme (M.readable words.old) (M.memory words.old) root (page_of va.0) }
+    ensures outcome { Translates scheme (M.memory words.old) (M.there words.old) root va.0 access mode result }
     ensures stays { M.stays words.old words.new }
 {
-    let (word, level) = match lookup(words, root, va) {
+    let (word, level) = match lookup(words, scheme, root, va) {
         Found::Leaf { word, level, .. } => (word, level),
         Found::NoLeaf => return Walk::PageFault(access.page_fault_cause()),
         Found::Outside => return Walk::AccessFault(access.access_fault_cause()),
@@ -55,14 +62,15 @@ pub fn has_byte<M: Words>(words: &M, address: u64) -> bool
 pub fn translate_held<F: FrameAccess>(
     store: &mut F,
     seat: &mut F::Seat,
+    scheme: Scheme,
     root: FrameNo,
     va: Va,
     access: Access,
     mode: Mode,
 ) -> Walk
     requires fits { Fits F.rule store.old seat.old }
-    requires held { (t : Tables) × HasTables (F.Seat.view seat.old) root.0 t }
-    ensures outcome { (t : Tables) → HasTables (F.Seat.view seat.old) root.0 t → LeavesAreThere t → result ≡ walk_answer t va.0 access mode }
+    requires held { (t : Tables) × HasTables scheme (F.Seat.view seat.old) root.0 t }
+    ensures outcome { (t : Tables) → HasTables scheme (F.Seat.view seat.old) root.0 t → LeavesAreThere scheme t → result ≡ walk_answer scheme t va.0 access mode }
     ensures view { F.Seat.view seat.new ≡ F.Seat.view seat.old }
     ensures same { store.new ≡ store.old }
     ensures keeps { Keeps F.rule store.old seat.old store.new seat.new }
@@ -71,5 +79,5 @@ pub fn translate_held<F: FrameAccess>(
     walks_of_tables();
     one_outcome();
     let mut words = HeldWords { store, seat };
-    translate(&mut words, root.ppn(), va, access, mode)
+    translate(&mut words, scheme, root.ppn(), va, access, mode)
 }

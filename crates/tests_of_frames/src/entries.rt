@@ -2,7 +2,7 @@
 
 use std::test::Fail;
 use sv39_entry::{
-    Access, Entry, FrameNo, Kind, Mode, Rights, Rule, Satp, TRAMPOLINE, TRAPFRAME, Va, Vpn,
+    Access, Entry, FrameNo, Kind, Mode, Rights, Rule, Satp, Scheme, TRAMPOLINE, TRAPFRAME, Va, Vpn,
     kernel_stack,
 };
 
@@ -22,9 +22,14 @@ fn writes_words(rt: HostRuntime) {
     for (entry, word) in rows {
         assert_eq!(rt; entry.to_word(), word, "at {word:x}");
     }
-    let satp = Satp::sv39(0, FrameNo(3)).to_word();
     let asid = Satp::from_word(0x8012300000080003).asid();
-    assert_eq!(rt; (satp, asid), (0x8000000000080003, 0x123));
+    assert_eq!(rt; asid, 0x123);
+    for (scheme, word) in [
+        (Scheme::Sv39, 0x8000700000080003),
+        (Scheme::Sv48, 0x9000700000080003),
+    ] {
+        assert_eq!(rt; Satp::new(scheme, 7, FrameNo(3)).to_word(), word);
+    }
 }
 
 #[test]
@@ -115,13 +120,71 @@ fn takes_addresses_apart(rt: HostRuntime) -> Result<(), Fail> {
 #[test]
 fn knows_canonical_addresses(rt: HostRuntime) {
     let rows = [
-        (0x3fffffffff, true),
-        (0x4000000000, false),
-        (0xffffffbfffffffff, false),
-        (0xffffffc000000000, true),
+        (0x3fffffffff, true, true),
+        (0x4000000000, false, true),
+        (0x7fffffffffff, false, true),
+        (0x800000000000, false, false),
+        (0xffff7fffffffffff, false, false),
+        (0xffff800000000000, false, true),
+        (0xffffffbfffffffff, false, true),
+        (0xffffffc000000000, true, true),
     ];
-    for (address, canonical) in rows {
-        assert_eq!(rt; Va(address).is_canonical(), canonical, "at {address:x}");
+    for (address, in_sv39, in_sv48) in rows {
+        let va = Va(address);
+        assert_eq!(rt; va.is_canonical(), in_sv39, "at {address:x}");
+        assert_eq!(rt; Scheme::Sv39.is_canonical(va), in_sv39, "at {address:x}");
+        assert_eq!(rt; Scheme::Sv48.is_canonical(va), in_sv48, "at {address:x}");
+    }
+}
+
+/// Where a scheme has what: `maxva`, `trampoline`, `trapframe`, and the kernel stacks of slots 0, 1 and 55.
+type Places = [u64; 6];
+
+#[test]
+fn knows_schemes(rt: HostRuntime) {
+    let rows: [(Scheme, u32, u64, u64, Places); 2] = [
+        (
+            Scheme::Sv39,
+            2,
+            0x8000000,
+            8,
+            [
+                0x4000000000,
+                0x3ffffff000,
+                0x3fffffe000,
+                0x3fffffd000,
+                0x3fffffb000,
+                0x3ffff8f000,
+            ],
+        ),
+        (
+            Scheme::Sv48,
+            3,
+            0x1000000000,
+            9,
+            [
+                0x800000000000,
+                0x7ffffffff000,
+                0x7fffffffe000,
+                0x7fffffffd000,
+                0x7fffffffb000,
+                0x7ffffff8f000,
+            ],
+        ),
+    ];
+    for (scheme, top_level, pages, mode, places) in rows {
+        assert_eq!(rt; scheme.top_level(), top_level);
+        assert_eq!(rt; scheme.page_limit(), pages);
+        assert_eq!(rt; scheme.mode(), mode);
+        let has = [
+            scheme.maxva().0,
+            scheme.trampoline().0,
+            scheme.trapframe().0,
+            scheme.kernel_stack(0).0,
+            scheme.kernel_stack(1).0,
+            scheme.kernel_stack(55).0,
+        ];
+        assert_eq!(rt; has, places);
     }
 }
 

@@ -1,5 +1,5 @@
 -- What the seats of the tests hold, step by step.
-use Rattle.std.proofs.Common.{◌≡◌, ℕ, ◌+◌, ◌-◌, ◌*◌, ◌<◌, ◌≤◌, ◌==◌, Bool, true, false, cond, refl, ap, sym, subst, ◌∙◌, arith, Option, None, Some, Result, Ok, Err, lit<, inl, inr}
+use Rattle.std.proofs.Common.{◌≡◌, ℕ, zero, suc, ◌+◌, ◌-◌, ◌*◌, ◌<◌, ◌≤◌, ◌==◌, Bool, true, false, cond, refl, ap, sym, subst, ◌∙◌, arith, Option, None, Some, Result, Ok, Err, lit<, inl, inr}
 use Rattle.std.specs.Prelude.{if◌then◌else◌, is_ok, is_some, IfOk, IsSome}
 use Rattle.std.specs.FinMap as map
 use Rattle.std.specs.FinMap.{get, insert}
@@ -9,12 +9,14 @@ use Rattle.std.proofs.lemmas.Option.{same_Some}
 use Rattle.frame_store.specs.Holds.{opening_holds, hold_of-frames, hold_of-with_hold_other, hold_of-with_hold_same, hold_of-without_hold_other}
 use Rattle.frame_store.specs.View.{Hold, View, opening_view, with_credits, claimed, hold_of, IsHeld, IsSole, references, released, sole_hold, with_hold, with_word, without_hold}
 use Rattle.table_walk.specs.Changed.{IsNextLeafBefore, places}
-use Rattle.table_walk.specs.Tables.{HasTables, Tables, IsGrown, ChangesTables, bare_root, blank_hold, leaf_node, missing, node, with_leaf, without_leaf}
+use Rattle.table_walk.specs.Tables.{HasTables, Tables, IsGrown, ChangesTables, bare_root, blank_hold, missing, missing_to, node, root_node, walk_leaf, with_leaf, without_leaf}
 use Rattle.table_walk.specs.Keys.{insert_other, insert_same, remove_other, remove_same}
 use Rattle.table_walk.specs.Same.{same_held}
 use Rattle.table_walk.specs.Released.{AreLast}
-use Rattle.table_walk.specs.Walk.{top_level}
-use Rattle.table_walk.specs.Nodes.{leaf_node_is}
+use Rattle.table_walk.specs.Nodes.{low_leaf}
+use Rattle.sv39_entry.specs.Schemes.{of_scheme, top_level}
+use Rattle.sv39_entry.specs.declared.scheme.Scheme.{Scheme}
+use Rattle.sv39_entry.specs.declared.scheme.Scheme.TheVariants.{Sv39, Sv48}
 
 -- ---- a frame is claimed, written and let go
 
@@ -55,35 +57,38 @@ one_or_none : (b : Bool) → (if b then 0 else 1) ≤ 1
 one_or_none true = omega arith
 one_or_none false = omega arith
 
-pub missing_low : (t : Tables) (page : ℕ) → missing t page ≤ 2
-missing_low t page =
-    let one = one_or_none (is_some (get t.tables (node page 1))) in
-    let two = one_or_none (is_some (get t.tables (node page 2))) in
-    omega (arith, one, two)
+some_missing : (s : Scheme) (t : Tables) (page k : ℕ) → missing_to s t page k ≤ k
+some_missing s t page zero = omega arith
+some_missing s t page (suc k) = let rest = some_missing s t page k in let one = one_or_none (is_some (get t.tables (node s page (suc k)))) in omega (arith, rest, one)
+
+pub missing_low : (s : Scheme) (t : Tables) (page : ℕ) → missing s t page ≤ 3
+missing_low s t page = let some = some_missing s t page (top_level s) in let few = (of_scheme s).few_levels in omega (arith, some, few)
 
 -- as many credits as the pages that are left may need
-pub enough_left : (v w : View) (t u : Tables) (page i : ℕ) → ChangesTables v w t u (missing t page) → 2 * (5 - i) ≤ v.credits → 2 * (5 - (i + 1)) ≤ w.credits
-enough_left v w t u page i changes enough = let low = missing_low t page in let left = changes.credits in omega (arith, low, left, enough)
+pub enough_left : (s : Scheme) (v w : View) (t u : Tables) (page i : ℕ) → ChangesTables v w t u (missing s t page) → 3 * (5 - i) ≤ v.credits → 3 * (5 - (i + 1)) ≤ w.credits
+enough_left s v w t u page i changes enough = let low = missing_low s t page in let left = changes.credits in omega (arith, low, left, enough)
 
 -- and the page that comes next can be mapped
-pub enough_now : (v : View) (t : Tables) (page i : ℕ) → i < 5 → 2 * (5 - i) ≤ v.credits → missing t page ≤ v.credits
-enough_now v t page i more enough = let low = missing_low t page in omega (arith, low, more, enough)
+pub enough_now : (s : Scheme) (v : View) (t : Tables) (page i : ℕ) → i < 5 → 3 * (5 - i) ≤ v.credits → missing s t page ≤ v.credits
+enough_now s v t page i more enough = let low = missing_low s t page in omega (arith, low, more, enough)
 
 -- what is ensured of a success
 pub of_ok : {A E : Type 0} {P : Type 0} (r : Result A E) → is_ok r ≡ true → IfOk r (λ _. P) → P
 of_ok (Ok x) is ok = ok
 of_ok (Err x) is ok = absurd (cc)
 
-pub same_view : (v w : View) (root : ℕ) (t : Tables) → w ≡ v → HasTables v root t → HasTables w root t
-same_view v w root t same has = subst (λ u. HasTables u root t) (sym same) has
+pub same_view : {s : Scheme} (v w : View) (root : ℕ) (t : Tables) → w ≡ v → HasTables s v root t → HasTables s w root t
+same_view {s} v w root t same has = subst (λ u. HasTables s u root t) (sym same) has
 
 -- a page that was found has a leaf
-pub found_leaf : (t : Tables) (from end : ℕ) (o : Option (ℕ × ℕ)) (p : ℕ × ℕ) → o ≡ Some p → IsNextLeafBefore t from end o → IsSome (get t.leaves (leaf_node p.0))
-found_leaf t from end o p is found =
-    let leaf = (subst (IsNextLeafBefore t from end) is found).1 in
-    let number = leaf_node_is p.0 in
-    let same : leaf_node p.0 ≡ 1 * places top_level + p.0 = omega (arith, number, leaf.1) in
-    ap is_some (ap (get t.leaves) same ∙ leaf.2)
+found_number : (s : Scheme) (page : ℕ) → page < places (top_level s) → walk_leaf s page ≡ root_node s * places (top_level s) + page
+found_number Sv39 page low = low_leaf Sv39 page low
+found_number Sv48 page low = low_leaf Sv48 page low
+
+pub found_leaf : (s : Scheme) (t : Tables) (from end : ℕ) (o : Option (ℕ × ℕ)) (p : ℕ × ℕ) → o ≡ Some p → IsNextLeafBefore s t from end o → IsSome (get t.leaves (walk_leaf s p.0))
+found_leaf s t from end o p is found =
+    let leaf = (subst (IsNextLeafBefore s t from end) is found).1 in
+    ap is_some (ap (get t.leaves) (found_number s p.0 leaf.1) ∙ leaf.2)
 
 -- ---- frames are reserved at a new store
 
@@ -92,38 +97,38 @@ reserved_held v w n opened reserved = same_held v w 0 (ap (λ u. hold_of u 0) re
 
 -- ---- a page is mapped below a new root, and unmapped
 
-module _ (v w x y : View) (root page leaf n : ℕ) (u : Tables) (held : IsHeld v 0) (fresh : references v root ≡ 0) (made : w ≡ with_hold root blank_hold (claimed root v))
-    (still_held : IsHeld w 0) (grown : IsGrown (bare_root root) u page top_level) (mapped : ChangesTables w x (bare_root root) u n) (anchored : IsHeld x 0)
-    (unmapped : ChangesTables x y (with_leaf u (leaf_node page) leaf) (with_leaf u (leaf_node page) leaf) 0) where
+module _ (s : Scheme) (v w x y : View) (root page number leaf n : ℕ) (u : Tables) (held : IsHeld v 0) (fresh : references v root ≡ 0) (made : w ≡ with_hold root blank_hold (claimed root v))
+    (still_held : IsHeld w 0) (grown : IsGrown s (bare_root s root) u page (top_level s)) (mapped : ChangesTables w x (bare_root s root) u n) (anchored : IsHeld x 0)
+    (unmapped : ChangesTables x y (with_leaf u number leaf) (with_leaf u number leaf) 0) where
   -- beside its root a bare tree has no table
-  no_table : (k : ℕ) → (k ≡ 1 → ⊥) → get (bare_root root).tables k ≡ None
-  no_table k ne = insert_other map.empty 1 root k ne ∙ map.get-empty {X = ℕ} nat_cmp k
+  no_table : (k : ℕ) → (k ≡ root_node s → ⊥) → get (bare_root s root).tables k ≡ None
+  no_table k ne = insert_other map.empty (root_node s) root k ne ∙ map.get-empty {X = ℕ} nat_cmp k
 
-  root_at : get (bare_root root).tables 1 ≡ Some root
-  root_at = insert_same map.empty 1 root 1 refl
+  root_at : get (bare_root s root).tables (root_node s) ≡ Some root
+  root_at = insert_same map.empty (root_node s) root (root_node s) refl
 
-  the_root : (k f : ℕ) → get u.tables k ≡ Some f → k ≡ 1 → f ≡ root
-  the_root k f at e = same_Some f root (sym at ∙ ap (get u.tables) e ∙ grown.kept 1 root root_at)
+  the_root : (k f : ℕ) → get u.tables k ≡ Some f → k ≡ root_node s → f ≡ root
+  the_root k f at e = same_Some f root (sym at ∙ ap (get u.tables) e ∙ grown.kept (root_node s) root root_at)
 
   made_once : (k f : ℕ) → get u.tables k ≡ Some f → references x f ≡ 1
-  made_once k f at = elim (cases_eq k 1) [
-    | inl e ↦ rw (the_root k f at e) (mapped.old 1 root root_at ∙ ap (λ (h : Hold). h.references) (ap (λ z. hold_of z root) made ∙ hold_of-with_hold_same root blank_hold (claimed root v)))
+  made_once k f at = elim (cases_eq k (root_node s)) [
+    | inl e ↦ rw (the_root k f at e) (mapped.old (root_node s) root root_at ∙ ap (λ (h : Hold). h.references) (ap (λ z. hold_of z root) made ∙ hold_of-with_hold_same root blank_hold (claimed root v)))
     | inr ne ↦ (mapped.new k f at (no_table k ne)).1
   ]
 
   not_anchor : (k : ℕ) → get u.tables k ≡ Some 0 → ⊥
-  not_anchor k at = elim (cases_eq k 1) [
+  not_anchor k at = elim (cases_eq k (root_node s)) [
     | inl e ↦ (let same = the_root k 0 at e in let none = rw (← same) at fresh in omega (arith, none, held))
     | inr ne ↦ (let none = (mapped.new k 0 at (no_table k ne)).0 in omega (arith, none, still_held))
   ]
 
-  pub left_last : AreLast y (without_leaf (with_leaf u (leaf_node page) leaf) (leaf_node page))
+  pub left_last : AreLast y (without_leaf (with_leaf u number leaf) number)
   left_last = record {
-    bare = λ m. elim (cases_eq m (leaf_node page)) [
-      | inl e ↦ remove_same (insert u.leaves (leaf_node page) leaf) (leaf_node page) m e
+    bare = λ m. elim (cases_eq m number) [
+      | inl e ↦ remove_same (insert u.leaves number leaf) number m e
       | inr ne ↦
-          remove_other (insert u.leaves (leaf_node page) leaf) (leaf_node page) m ne
-          ∙ insert_other u.leaves (leaf_node page) leaf m ne ∙ ap (λ leaves. get leaves m) grown.leaves ∙ map.get-empty {X = ℕ} nat_cmp m
+          remove_other (insert u.leaves number leaf) number m ne
+          ∙ insert_other u.leaves number leaf m ne ∙ ap (λ leaves. get leaves m) grown.leaves ∙ map.get-empty {X = ℕ} nat_cmp m
     ];
     once = λ k f at. unmapped.old k f at ∙ made_once k f at;
     anchored = same_held x y 0 (unmapped.apart 0 not_anchor) anchored;

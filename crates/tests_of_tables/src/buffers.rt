@@ -1,11 +1,12 @@
 // Fills, fences and uses over a memory of 1,024 frames with two tables.
 
-ghost use Rattle.std.specs.Prelude.{◌≤◌};
+ghost use Rattle.std.specs.Prelude.{◌≡◌, ◌≤◌};
+ghost use Rattle.sv39_entry.specs.Satp as satps;
 
 use hart_tlb::{Buffer, NoEntry};
 use std::alloc::{AllocError, Global};
 use std::test::Fail;
-use sv39_entry::{Access, FrameNo, Mode, Satp, Va};
+use sv39_entry::{Access, FrameNo, Mode, Satp, Scheme, Va};
 use table_walk::{PlainWords, Walk};
 
 /// Word 0 of frame 1: a pointer to frame 2.
@@ -32,8 +33,10 @@ fn tables(alloc: Global, frames: usize, word: u64) -> Result<Vec<u64>, AllocErro
 }
 
 /// Address space 7, with its root in frame 1.
-fn satp() -> Satp {
-    Satp::sv39(7, FrameNo(1))
+fn satp() -> Satp
+    ensures mode { satps.mode result ≡ 8 }
+{
+    Satp::new(Scheme::Sv39, 7, FrameNo(1))
 }
 
 #[test]
@@ -41,12 +44,37 @@ fn fences_whole_superpages(rt: HostRuntime) -> Result<(), Fail> {
     let words = tables(rt.alloc(), 1024, DATA)?;
     let mut memory = PlainWords::new(&words);
     let mut buffer: Buffer<32> = Buffer::new();
-    buffer.fill(&mut memory, satp(), Va(0x200000));
-    buffer.fill(&mut memory, satp(), Va(0x234000));
+    buffer.fill(&mut memory, Scheme::Sv39, satp(), Va(0x200000));
+    buffer.fill(&mut memory, Scheme::Sv39, satp(), Va(0x234000));
     buffer.fence(Some(Va(0x401000)), None);
     buffer.fence(Some(Va(0x201000)), Some(8));
     assert_eq!(rt; buffer.len(), 2);
     buffer.fence(Some(Va(0x201000)), None);
+    assert_eq!(rt; buffer.len(), 0);
+    Ok(())
+}
+
+/// A leaf of the root of four levels is fenced by any address of its 512 GiB.
+#[test]
+fn fences_leaves_of_level_3(rt: HostRuntime) -> Result<(), Fail> {
+    let mut words = vec![in rt.alloc(); 0; 1024 * 512]?;
+    words[512] = NOWHERE;
+    let mut memory = PlainWords::new(&words);
+    let satp = Satp::new(Scheme::Sv48, 7, FrameNo(1));
+    assert_eq!(rt; satp.mode(), 9);
+    let mut buffer: Buffer<32> = Buffer::new();
+    buffer.fill(&mut memory, Scheme::Sv48, satp, Va(0x80234000));
+    assert_eq!(rt;
+        buffer.use_entry(0, Va(0x80234567), 7, Access::Load, Mode::User),
+        Ok(Walk::Leaf {
+            word: NOWHERE,
+            level: 3,
+            address: 0x80234567
+        })
+    );
+    buffer.fence(Some(Va(0x8000000000)), None);
+    assert_eq!(rt; buffer.len(), 1);
+    buffer.fence(Some(Va(0x7000000000)), None);
     assert_eq!(rt; buffer.len(), 0);
     Ok(())
 }
@@ -56,8 +84,8 @@ fn fences_missing_leaves_at_each_address(rt: HostRuntime) -> Result<(), Fail> {
     let words = tables(rt.alloc(), 1024, GLOBAL)?;
     let mut memory = PlainWords::new(&words);
     let mut buffer: Buffer<32> = Buffer::new();
-    buffer.fill(&mut memory, satp(), Va(0x400000));
-    buffer.fill(&mut memory, satp(), Va(0x234000));
+    buffer.fill(&mut memory, Scheme::Sv39, satp(), Va(0x400000));
+    buffer.fill(&mut memory, Scheme::Sv39, satp(), Va(0x234000));
     buffer.fence(Some(Va(0)), Some(7));
     assert_eq!(rt; buffer.len(), 1);
     buffer.fence(None, Some(7));
@@ -73,7 +101,7 @@ fn keeps_the_last_32(rt: HostRuntime) -> Result<(), Fail> {
     let mut memory = PlainWords::new(&words);
     let mut buffer: Buffer<32> = Buffer::new();
     for n in 0..33 {
-        buffer.fill(&mut memory, satp(), Va(0x200000 + 0x1000 * n));
+        buffer.fill(&mut memory, Scheme::Sv39, satp(), Va(0x200000 + 0x1000 * n));
     }
     assert_eq!(rt; buffer.len(), 32);
     for n in 0..32 {
@@ -89,7 +117,12 @@ fn keeps_nothing_of_access_faults(rt: HostRuntime) -> Result<(), Fail> {
     let mut buffer: Buffer<32> = Buffer::new();
     for (frames, word) in [(3, DATA), (1024, NOWHERE), (1024, 0x00000001)] {
         let words = tables(rt.alloc(), frames, word)?;
-        buffer.fill(&mut PlainWords::new(&words), satp(), Va(0x200000));
+        buffer.fill(
+            &mut PlainWords::new(&words),
+            Scheme::Sv39,
+            satp(),
+            Va(0x200000),
+        );
         assert_eq!(rt; buffer.len(), 0, "at {frames} {word:x}");
     }
     Ok(())
@@ -103,7 +136,7 @@ fn answers_by_entries(rt: HostRuntime) -> Result<(), Fail> {
     let mut memory = PlainWords::new(&words);
     let mut buffer: Buffer<32> = Buffer::new();
     for address in [0x234567, 0x400000, 0x234fff] {
-        buffer.fill(&mut memory, satp(), Va(address));
+        buffer.fill(&mut memory, Scheme::Sv39, satp(), Va(address));
     }
     let mapped = Walk::Leaf {
         word: DATA,
@@ -142,7 +175,7 @@ fn shows_what_entries_keep(rt: HostRuntime) -> Result<(), Fail> {
     let words = tables(rt.alloc(), 1024, GLOBAL)?;
     let mut memory = PlainWords::new(&words);
     let mut buffer: Buffer<2> = Buffer::new();
-    buffer.fill(&mut memory, satp(), Va(0x234567));
+    buffer.fill(&mut memory, Scheme::Sv39, satp(), Va(0x234567));
     let entry = buffer.entry(0).ok_or("an entry")?;
     let leaf = entry.leaf.ok_or("a leaf")?;
     assert_eq!(rt;

@@ -1,4 +1,4 @@
-// Vectors from outside: walks over a memory of 1,024 frames with two tables, and changes of tables that a seat holds.
+// Vectors from outside: walks over a memory of 1,024 frames with a few tables, and changes of tables that a seat holds.
 
 ghost use Rattle.std.specs.Prelude.{◌≡◌, ◌+◌, ◌≤◌, ◌<◌, [], ◌∷◌, ℕ, IfOk};
 ghost use Rattle.frame_store.specs.Laws.{Fits, Keeps};
@@ -9,17 +9,20 @@ ghost use Rattle.table_walk.specs.Tables.{HasTables, Tables};
 use frame_store::{FrameAccess, FrameSeat, FrameSupply, PlainFrames, PlainSeat};
 use std::alloc::{AllocError, Global};
 use std::test::Fail;
-use sv39_entry::{Access, Entry, FrameNo, Mode, Rights, Va};
+use sv39_entry::{Access, Entry, FrameNo, Mode, Rights, Scheme, Va};
 use table_walk::{
     Found, HeldWords, PlainWords, Walk, lookup, map, missing_tables, new_table, next_leaf_before,
     protect, release_tables, translate, unmap, walks_of_tables,
 };
 
-/// How many pages the indices of three levels tell apart.
-const PAGES: u64 = 1 << 27;
-
 /// Word 0 of frame 1: a pointer to frame 2.
 const POINTER: u64 = 0x20000801;
+
+/// Word 0 of frame 3: a pointer to frame 1.
+const UPPER: u64 = 0x20000401;
+
+/// The same tables below a root of three levels and of four.
+const ROOTS: [(Scheme, FrameNo); 2] = [(Scheme::Sv39, FrameNo(1)), (Scheme::Sv48, FrameNo(3))];
 
 /// A leaf of frame 512 that a user may load and store, accessed and dirty.
 const DATA: u64 = 0x200800d7;
@@ -36,14 +39,15 @@ const KERNEL: u64 = 0x200800c7;
 /// The word at index 1 of frame 2, an access to an address in a mode, and its outcome.
 type Row = (u64, Access, u64, Mode, Walk);
 
-/// The words of so many frames, all 0 but those two of frames 1 and 2.
+/// The words of so many frames, all 0 but the pointers of frames 1 and 3 and the one at index 1 of frame 2.
 fn tables(alloc: Global, frames: usize, word: u64) -> Result<Vec<u64>, AllocError>
-    requires some { 3 ≤ frames }
+    requires some { 4 ≤ frames }
     requires few { frames ≤ 1024 }
 {
     let mut words = vec![in alloc; 0; frames * 512]?;
     words[512] = POINTER;
     words[2 * 512 + 1] = word;
+    words[3 * 512] = UPPER;
     Ok(words)
 }
 
@@ -74,14 +78,60 @@ fn translates_accesses(rt: HostRuntime) -> Result<(), Fail> {
         (DATA, load, 0x4000000000, user, Walk::PageFault(13)),
         (DATA, load, 0xffffffc000000000, user, Walk::PageFault(13)),
     ];
-    let root = FrameNo(1).ppn();
     for (word, access, address, mode, outcome) in rows {
         let words = tables(rt.alloc(), 1024, word)?;
         let mut memory = PlainWords::new(&words);
+        for (scheme, root) in ROOTS {
+            assert_eq!(rt;
+                translate(&mut memory, scheme, root.ppn(), Va(address), access, mode),
+                outcome,
+                "at {scheme:?} {word:x} {access:?} {address:x} {mode:?}"
+            );
+        }
+    }
+    Ok(())
+}
+
+/// Leaves of a root of four levels: index 0 has one that begins at a multiple of its size, and so has index 256, the first of
+/// the upper half. That of index 1 does not.
+#[test]
+fn walks_from_the_root(rt: HostRuntime) -> Result<(), Fail> {
+    let mut words = vec![in rt.alloc(); 0; 1024 * 512]?;
+    words[512] = 0x000000d7;
+    words[512 + 1] = DATA;
+    words[512 + 256] = 0x000000d7;
+    let mapped = Walk::Leaf {
+        word: 0x000000d7,
+        level: 3,
+        address: 0x80234567,
+    };
+    let rows = [
+        (0x80234567, mapped),
+        (0x00234567, Walk::AccessFault(5)),
+        (0x4080234567, Walk::AccessFault(5)),
+        (0x8000000000, Walk::PageFault(13)),
+        (0x7fffffffffff, Walk::PageFault(13)),
+        (0x800080234567, Walk::PageFault(13)),
+        (0xffff000080234567, Walk::PageFault(13)),
+        (0xffff7fffffffffff, Walk::PageFault(13)),
+        (0xffff800080234567, mapped),
+        (0xffff800000234567, Walk::AccessFault(5)),
+        (0xffffffffffffffff, Walk::PageFault(13)),
+    ];
+    let mut memory = PlainWords::new(&words);
+    let root = FrameNo(1).ppn();
+    for (address, outcome) in rows {
         assert_eq!(rt;
-            translate(&mut memory, root, Va(address), access, mode),
+            translate(
+                &mut memory,
+                Scheme::Sv48,
+                root,
+                Va(address),
+                Access::Load,
+                Mode::User
+            ),
             outcome,
-            "at {word:x} {access:?} {address:x} {mode:?}"
+            "at {address:x}"
         );
     }
     Ok(())
@@ -89,33 +139,46 @@ fn translates_accesses(rt: HostRuntime) -> Result<(), Fail> {
 
 #[test]
 fn finds_leaves(rt: HostRuntime) -> Result<(), Fail> {
-    let root = FrameNo(1).ppn();
-    let words = tables(rt.alloc(), 3, DATA)?;
+    let words = tables(rt.alloc(), 4, DATA)?;
     let mut memory = PlainWords::new(&words);
     let leaf = Found::Leaf {
         word: DATA,
         level: 1,
         global: false,
     };
-    assert_eq!(rt; lookup(&mut memory, root, Va(0x3fffff)), leaf);
-    assert_eq!(rt; lookup(&mut memory, root, Va(0x400000)), Found::NoLeaf);
-    assert_eq!(rt;
-        lookup(&mut memory, FrameNo(3).ppn(), Va(0)),
-        Found::Outside
-    );
+    for (scheme, root) in ROOTS {
+        let root = root.ppn();
+        assert_eq!(rt; lookup(&mut memory, scheme, root, Va(0x3fffff)), leaf);
+        assert_eq!(rt;
+            lookup(&mut memory, scheme, root, Va(0x400000)),
+            Found::NoLeaf
+        );
+        assert_eq!(rt;
+            lookup(&mut memory, scheme, FrameNo(4).ppn(), Va(0)),
+            Found::Outside
+        );
+    }
     Ok(())
 }
 
 /// An address, the frame that its page is mapped to, and the word of the leaf.
 type Mapping = (Va, u16, u64);
 
-/// In ascending order. The kernel alone may load there.
-const MAPPINGS: [Mapping; 5] = [
-    (Va(0), 9, 0x20002443),
-    (Va(0x1000), 10, 0x20002843),
-    (Va(0x200000), 11, 0x20002c43),
-    (Va(0x40000000), 12, 0x20003043),
-    (Va(0x3ffffff000), 13, 0x20003443),
+/// In ascending order; the last address is that of a scheme. The kernel alone may load there.
+const fn mappings(last: Va) -> [Mapping; 5] {
+    [
+        (Va(0), 9, 0x20002443),
+        (Va(0x1000), 10, 0x20002843),
+        (Va(0x200000), 11, 0x20002c43),
+        (Va(0x40000000), 12, 0x20003043),
+        (last, 13, 0x20003443),
+    ]
+}
+
+/// A scheme, the last of its lower pages, and how many tables are missing at each mapping.
+const CASES: [(Scheme, Va, [usize; 5]); 2] = [
+    (Scheme::Sv39, Va(0x3ffffff000), [2, 0, 1, 2, 2]),
+    (Scheme::Sv48, Va(0x7ffffffff000), [3, 0, 1, 2, 3]),
 ];
 
 /// Leaves words in a free frame.
@@ -134,93 +197,115 @@ fn leave_words<F: FrameSupply>(store: &mut F, seat: &mut F::Seat)
     store.release(seat, frame);
 }
 
-/// Tables of `MAPPINGS` at a new store: its seat, the root, and how many tables were missing at each of them.
-fn mapped(alloc: Global) -> Result<(PlainFrames, PlainSeat, FrameNo, [usize; 5]), AllocError>
+/// Tables of the mappings at a new store: its seat, the root, and how many tables were missing at each of them.
+fn mapped(
+    alloc: Global,
+    scheme: Scheme,
+    last: Va,
+) -> Result<(PlainFrames, PlainSeat, FrameNo, [usize; 5]), AllocError>
     ensures rule { IfOk result (λ r. BankRule r.0 (r.1 ∷ [])) }
-    ensures tables { IfOk result (λ r. (t : Tables) × HasTables r.1 r.2.0 t) }
+    ensures tables { IfOk result (λ r. (t : Tables) × HasTables scheme r.1 r.2.0 t) }
 {
-    let (mut frames, mut seat) = PlainFrames::new(alloc, 16)?;
-    let reserved = frames.reserve(&mut seat, 12);
+    let (mut frames, mut seat) = PlainFrames::new(alloc, 32)?;
+    let reserved = frames.reserve(&mut seat, 20);
     prove!(reserved.is_ok());
     let root = new_table(&mut frames, &mut seat);
     leave_words(&mut frames, &mut seat);
     let mut missing = [0; 5];
-    for (index, (va, frame, _)) in MAPPINGS.iter().enumerate() {
+    for (index, (va, frame, _)) in mappings(last).iter().enumerate() {
         let leaf = Entry::leaf(FrameNo(*frame), Rights::READ, false, false, true);
-        missing[index] = missing_tables(&mut frames, &mut seat, root, va.page());
-        map(&mut frames, &mut seat, root, va.page(), leaf);
+        missing[index] = missing_tables(&mut frames, &mut seat, scheme, root, va.page());
+        map(&mut frames, &mut seat, scheme, root, va.page(), leaf);
     }
     Ok((frames, seat, root, missing))
 }
 
 #[test]
 fn finds_what_is_mapped(rt: HostRuntime) -> Result<(), Fail> {
-    let (mut frames, mut seat, root, missing) = mapped(rt.alloc())?;
-    assert_eq!(rt; missing, [2, 0, 1, 2, 2]);
-    walks_of_tables();
-    let mut from = Va(0).page();
-    'found: for (va, _, word) in MAPPINGS {
-        let found = next_leaf_before(&mut frames, &mut seat, root, from, PAGES);
-        assert_eq!(rt; found, Some((va.page(), Entry::from_word(word))));
-        from = Va(va.0.wrapping_add(4096)).page();
-    }
-    assert_eq!(rt;
-        next_leaf_before(&mut frames, &mut seat, root, from, PAGES),
-        None
-    );
-    let mut words = HeldWords {
-        store: &mut frames,
-        seat: &mut seat,
-    };
-    'walked: for (va, _, word) in MAPPINGS {
-        let leaf = Found::Leaf {
-            word,
-            level: 0,
-            global: false,
+    for (scheme, last, needed) in CASES {
+        let (mut frames, mut seat, root, missing) = mapped(rt.alloc(), scheme, last)?;
+        assert_eq!(rt; missing, needed);
+        walks_of_tables();
+        let end = scheme.page_limit();
+        let mut from = Va(0).page();
+        'found: for (va, _, word) in mappings(last) {
+            let found = next_leaf_before(&mut frames, &mut seat, scheme, root, from, end);
+            assert_eq!(rt; found, Some((va.page(), Entry::from_word(word))));
+            from = Va(va.0.wrapping_add(4096)).page();
+        }
+        let found = next_leaf_before(&mut frames, &mut seat, scheme, root, from, end);
+        assert_eq!(rt; found, None);
+        let mut words = HeldWords {
+            store: &mut frames,
+            seat: &mut seat,
         };
-        assert_eq!(rt; lookup(&mut words, root.ppn(), va), leaf);
+        'walked: for (va, _, word) in mappings(last) {
+            let leaf = Found::Leaf {
+                word,
+                level: 0,
+                global: false,
+            };
+            assert_eq!(rt; lookup(&mut words, scheme, root.ppn(), va), leaf);
+        }
     }
     Ok(())
 }
 
-#[test]
-fn changes_one_leaf(rt: HostRuntime) -> Result<(), Fail> {
-    let (mut frames, mut seat, root, _) = mapped(rt.alloc())?;
+/// The leaf that is dropped, what is dropped a second time, and what walks find then: at that page, and at the next one, which
+/// gets a leaf of frame 12.
+type Changed = (Option<Entry>, Option<Entry>, Found, Found);
+
+/// Changes two pages of the mappings.
+fn changed(alloc: Global, scheme: Scheme, last: Va) -> Result<Option<Changed>, AllocError> {
+    let (mut frames, mut seat, root, _) = mapped(alloc, scheme, last)?;
     let gone = Va(0x200000);
-    let leaf = unmap(&mut frames, &mut seat, root, gone.page());
-    assert_eq!(rt; leaf, Some(Entry::from_word(0x20002c43)));
-    assert_eq!(rt; unmap(&mut frames, &mut seat, root, gone.page()), None);
-    let next = next_leaf_before(&mut frames, &mut seat, root, Va(0x2000).page(), PAGES);
-    let (page, _) = next.expect(&rt, "the next page is still mapped");
-    let leaf = Entry::leaf(FrameNo(12), Rights::READ, false, false, true);
-    protect(&mut frames, &mut seat, root, page, leaf);
+    let leaf = unmap(&mut frames, &mut seat, scheme, root, gone.page());
+    let again = unmap(&mut frames, &mut seat, scheme, root, gone.page());
+    let (from, end) = (Va(0x2000).page(), scheme.page_limit());
+    let next = next_leaf_before(&mut frames, &mut seat, scheme, root, from, end);
+    let Some(found) = next else {
+        return Ok(None);
+    };
+    let new = Entry::leaf(FrameNo(12), Rights::READ, false, false, true);
+    protect(&mut frames, &mut seat, scheme, root, found.0, new);
     walks_of_tables();
     let mut words = HeldWords {
         store: &mut frames,
         seat: &mut seat,
     };
-    assert_eq!(rt; lookup(&mut words, root.ppn(), gone), Found::NoLeaf);
+    let first = lookup(&mut words, scheme, root.ppn(), gone);
+    let second = lookup(&mut words, scheme, root.ppn(), Va(0x40000123));
+    Ok(Some((leaf, again, first, second)))
+}
+
+#[test]
+fn changes_one_leaf(rt: HostRuntime) -> Result<(), Fail> {
+    let dropped = Entry::from_word(0x20002c43);
     let leaf = Found::Leaf {
         word: 0x20003043,
         level: 0,
         global: false,
     };
-    assert_eq!(rt; lookup(&mut words, root.ppn(), Va(0x40000123)), leaf);
+    for (scheme, last, _) in CASES {
+        let found = changed(rt.alloc(), scheme, last)?;
+        assert_eq!(rt; found, Some((Some(dropped), None, Found::NoLeaf, leaf)));
+    }
     Ok(())
 }
 
 #[test]
 fn releases_what_was_made(rt: HostRuntime) -> Result<(), Fail> {
     let (mut frames, mut seat) = PlainFrames::new(rt.alloc(), 16)?;
-    let reserved = frames.reserve(&mut seat, 3);
+    let reserved = frames.reserve(&mut seat, 4);
     prove!(reserved.is_ok());
+    let scheme = Scheme::Sv48;
     let root = new_table(&mut frames, &mut seat);
     let page = Va(0x200000).page();
     let leaf = Entry::leaf(FrameNo(9), Rights::READ, false, false, true);
-    map(&mut frames, &mut seat, root, page, leaf);
-    unmap(&mut frames, &mut seat, root, page);
-    assert_eq!(rt; frames.report().held, 4);
-    release_tables(&mut frames, &mut seat, root);
+    map(&mut frames, &mut seat, scheme, root, page, leaf);
+    unmap(&mut frames, &mut seat, scheme, root, page);
+    assert_eq!(rt; frames.report().held, 5);
+    release_tables(&mut frames, &mut seat, scheme, root);
     assert_eq!(rt; frames.report().held, 1);
     Ok(())
 }

@@ -1,4 +1,5 @@
-//! How fast walks of page tables are: those of `table_walk` beside the same walk in plain code, over the same tables.
+//! How fast walks of page tables are: those of `table_walk`, by tables of three levels and of four, beside the walk of three levels
+//! in plain code. All find the same pages.
 //!
 //! Standard output has the sums of the addresses that were found, which have to be equal, and standard error the rates.
 #![tactic(auto)]
@@ -7,23 +8,24 @@ mod plain;
 mod tables;
 
 use crate::plain::plain_walk;
-use crate::tables::{PAGES, ROOT, addresses, words};
+use crate::tables::{PAGES, ROOT, TALL_ROOT, addresses, scheme_of, words};
 use std::io;
 use std::time::{Duration, Instant};
-use sv39_entry::{Access, FrameNo, Mode, Va};
+use sv39_entry::{Access, FrameNo, Mode, Scheme, Va};
 use table_walk::{PlainWords, Walk, translate};
 
 /// How often all pages are walked to.
 const ROUNDS: usize = 10_000;
 
 /// The sum of the addresses that all walks of a round find.
-fn proved_round(words: &[u64], addresses: &[u64]) -> u64 {
+fn proved_round(scheme: Scheme, words: &[u64], root: u16, addresses: &[u64]) -> u64 {
     let mut memory = PlainWords::new(words);
     let mut sum = 0u64;
     for address in addresses {
         if let Walk::Leaf { address, .. } = translate(
             &mut memory,
-            FrameNo(ROOT).ppn(),
+            scheme,
+            FrameNo(root).ppn(),
             Va(*address),
             Access::Load,
             Mode::User,
@@ -34,12 +36,24 @@ fn proved_round(words: &[u64], addresses: &[u64]) -> u64 {
     sum
 }
 
-/// The same by the plain walk.
-fn plain_round(words: &[u64], addresses: &[u64]) -> u64 {
+/// The sum of all rounds by the tables below a root.
+fn proved_rounds(words: &[u64], root: u16, addresses: &[u64]) -> u64 {
+    let scheme = scheme_of(words, root);
     let mut sum = 0u64;
-    for address in addresses {
-        if let Some(address) = plain_walk(words, FrameNo(ROOT).ppn(), *address) {
-            sum = sum.wrapping_add(address);
+    for _ in 0..ROUNDS {
+        sum = sum.wrapping_add(proved_round(scheme, words, root, addresses));
+    }
+    sum
+}
+
+/// The same by the plain walk.
+fn plain_rounds(words: &[u64], addresses: &[u64]) -> u64 {
+    let mut sum = 0u64;
+    for _ in 0..ROUNDS {
+        for address in addresses {
+            if let Some(address) = plain_walk(words, FrameNo(ROOT).ppn(), *address) {
+                sum = sum.wrapping_add(address);
+            }
         }
     }
     sum
@@ -51,25 +65,30 @@ fn rate(time: Duration) -> u64 {
     ((ROUNDS * PAGES) as u128 * 1_000_000_000 / nanos) as u64
 }
 
+/// A rate for 100 plain walks.
+fn percent(rate: u64, plain: u64) -> u128 {
+    rate as u128 * 100 / plain.max(1) as u128
+}
+
 fn main(rt: HostRuntime) -> io::Result<()> {
     let words = words(rt.alloc())?;
     let addresses = addresses(rt.alloc())?;
-    let (mut proved, mut plain) = (0u64, 0u64);
     let start = Instant::now(&rt)?;
-    for _ in 0..ROUNDS {
-        proved = proved.wrapping_add(proved_round(&words, &addresses));
-    }
-    let middle = Instant::now(&rt)?;
-    for _ in 0..ROUNDS {
-        plain = plain.wrapping_add(plain_round(&words, &addresses));
-    }
+    let three = proved_rounds(&words, ROOT, &addresses);
+    let first = Instant::now(&rt)?;
+    let four = proved_rounds(&words, TALL_ROOT, &addresses);
+    let second = Instant::now(&rt)?;
+    let plain = plain_rounds(&words, &addresses);
     let end = Instant::now(&rt)?;
-    println!(rt; "proved sum {proved:x}")?;
-    println!(rt; "plain sum {plain:x}")?;
-    let proved = rate(middle.duration_since(start));
-    let plain = rate(end.duration_since(middle));
-    let percent = proved as u128 * 100 / plain.max(1) as u128;
-    eprintln!(rt; "proved: {proved} walks a second, {percent} for 100 plain ones")?;
-    eprintln!(rt; "plain: {plain} walks a second")?;
+    println!(rt; "proved sum, three levels {three:x}")?;
+    println!(rt; "proved sum, four levels {four:x}")?;
+    println!(rt; "plain sum, three levels {plain:x}")?;
+    let three = rate(first.duration_since(start));
+    let four = rate(second.duration_since(first));
+    let plain = rate(end.duration_since(second));
+    let (of_three, of_four) = (percent(three, plain), percent(four, plain));
+    eprintln!(rt; "proved, three levels: {three} walks a second, {of_three} for 100 plain ones")?;
+    eprintln!(rt; "proved, four levels: {four} walks a second, {of_four} for 100 plain ones")?;
+    eprintln!(rt; "plain, three levels: {plain} walks a second")?;
     Ok(())
 }

@@ -5,6 +5,7 @@ use Rattle.address_space.specs.Parts.{with_pages}
 use Rattle.address_space.proofs.BuildPages.{bytes_behind, bytes_here}
 use Rattle.address_space.proofs.BuildSteps.{can_add, enough_left, fills_none, next_fills, place}
 use Rattle.address_space.proofs.build.fill_part.Goals as goal
+use Rattle.sv39_entry.specs.declared.scheme.Scheme.TheVariants.{Sv39}
 
 pub pages-init : goal.pages-init
 pages-init g c =
@@ -28,7 +29,7 @@ add_page-requires-clause-ready g c =
       so_far.0,
       with_pages r.2 (page_run c.args.part.now.region.first c.args.part.now.bytes.now (c.pages.number - c.args.part.now.region.first)),
       can_add _ c.args.root.0 r.0 r.1 r.2 c.args.part.now r.3 _ here.0 _ so_far.0 so_far.1 c.page-page.result here.1,
-      enough_left _ c.args.root.0 r.0 r.1 r.2 c.args.part.now r.3 _ here.0 _ so_far.0 so_far.1 c.page-page.result here.1 c.missing_is_growth.ensures.missing r.4,
+      enough_left _ c.args.root.0 r.0 r.1 r.2 c.args.part.now r.3 _ here.0 _ so_far.0 so_far.1 c.page-page.result here.1 (c.missing_is_growth.ensures.missing Sv39) r.4,
     )
 
 pub pages-preserved : goal.pages-preserved
@@ -48,7 +49,7 @@ pages-preserved g c =
           let added = c.add_page.ensures.added trapframe so_far.0 (with_pages p (page_run c.args.part.now.region.first whole k)) can_now in (
             added.0,
             rw next (next_fills _ c.args.root.0 trapframe t p c.args.part.now can k here.0 _ so_far.0 so_far.1 c.page-page.result here.1
-                c.missing_is_growth.ensures.missing _ added.0 c.split_at.result.0.now added.1 bytes added.2 c.add_page.ensures.soles),
+                (c.missing_is_growth.ensures.missing Sv39) _ added.0 c.split_at.result.0.now added.1 bytes added.2 c.add_page.ensures.soles),
           );
       keeps = λ others r. c.add_page.ensures.keeps others (i.keeps others r);
       free = λ a. c.add_page.ensures.free a ∙ i.free a;

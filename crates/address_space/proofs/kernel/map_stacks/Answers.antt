@@ -1,13 +1,15 @@
-use Rattle.std.proofs.Common.{◌≡◌, ℕ, ◌+◌, ◌<◌, [], ◌∷◌, ◌++◌, refl, ap, ◌∙◌, arith}
+use Rattle.std.proofs.Common.{◌≡◌, ℕ, ◌+◌, ◌<◌, [], ◌∷◌, ◌++◌, refl, ap, ◌∙◌, arith, ◌^◌}
 use Rattle.std.proofs.lemmas.List.{length_push}
 use Rattle.frame_store.specs.Laws.{fits_after}
 use Rattle.table_walk.specs.Backed.{kernel_backed}
+use Rattle.table_walk.specs.Mapped.{maps_low}
 use Rattle.address_space.specs.Kernel.{stack_page}
 use Rattle.address_space.proofs.KernelFrames.{code_held, spends_is, spends_none, spends_on}
 use Rattle.address_space.proofs.KernelSteps.{stack_held, stack_maps, stack_none_missing, stack_page_is, stack_spends, stack_tables}
 use Rattle.address_space.proofs.kernel.map_stacks.Given as given
 use Rattle.address_space.proofs.kernel.map_stacks.Goals as goal
 use Rattle.address_space.proofs.kernel.map_stacks.Goals.{After-leaf_for_kernel}
+use Rattle.sv39_entry.specs.declared.scheme.Scheme.TheVariants.{Sv39}
 
 pub loop-slot-init : goal.loop-slot-init
 loop-slot-init g c = record { mapped = λ t maps. ([], t, maps, refl); spends = spends_none _; keeps = λ others r. r; free = λ a. refl }
@@ -32,6 +34,9 @@ map-requires-clause-fits g c =
 -- the slot's page
 page : (g : given.Over) (c : After-leaf_for_kernel g) (n : ℕ) → n ≡ c.loop-slot.slot → c.page.result ≡ stack_page n
 page g c n same = stack_page_is _ _ _ n c.page.ensures.number c.kernel_stack.ensures same
+
+low_stack : (p n : ℕ) → p ≡ stack_page n → p < 2 ^ 27
+low_stack p n is = omega (arith, is)
 
 few : (g : given.Over) (c : After-leaf_for_kernel g) (n : ℕ) → n ≡ c.loop-slot.slot → n < 64
 few g c n same = omega (arith, same, c.loop-slot-test.true, c.requires.few)
@@ -63,7 +68,7 @@ loop-slot-preserved g c =
             i.0 ++ c.claim-frame.result.0 ∷ [],
             _,
             stack_maps _ _ _ _ _ i.0 i.1 i.2 (few g at _ i.3) claims.view claims.fresh (page g at _ i.3) _ _ (omega arith) c.leaf_for_kernel.ensures.word
-                (c.map.ensures.tables i.1 has),
+                (maps_low Sv39 _ _ _ _ c.page.result _ _ (low_stack _ _ (page g at _ i.3)) (c.map.ensures.tables i.1 has)),
             length_push i.0 c.claim-frame.result.0 ∙ ap (λ n. n + 1) i.3,
           );
       spends =
@@ -71,7 +76,7 @@ loop-slot-preserved g c =
           let has = stack_tables _ _ _ _ _ i.0 i.1 i.2 (few g at _ i.3) claims.view claims.fresh (page g at _ i.3) in
           spends_on _ _ _ _ _ c.loop-slot.invariant.spends
           (stack_spends _ _ _ _ _ i.0 i.1 i.2 (few g at _ i.3) claims.view claims.fresh (page g at _ i.3) _ _ (omega arith) c.leaf_for_kernel.ensures.word
-          (c.map.ensures.tables i.1 has));
+          (maps_low Sv39 _ _ _ _ c.page.result _ _ (low_stack _ _ (page g at _ i.3)) (c.map.ensures.tables i.1 has)));
       keeps = λ others r. c.map.ensures.keeps others (claims.keeps others (c.loop-slot.invariant.keeps others r));
       free = λ a. c.map.ensures.free a ∙ claims.free a ∙ c.loop-slot.invariant.free a;
     }

@@ -5,6 +5,7 @@ use Rattle.address_space.proofs.Owned.{anchored}
 use Rattle.address_space.proofs.OwningSteps.{part_anchored, part_apart, part_bytes, part_copied, part_done, part_held, part_sole, part_yet}
 use Rattle.address_space.proofs.Writing.{words_sole}
 use Rattle.address_space.proofs.own.separate.Goals as goal
+use Rattle.address_space.proofs.LowLeaves.{settled_number}
 
 pub claim-own-requires-clause-anchored : goal.claim-own-requires-clause-anchored
 claim-own-requires-clause-anchored g c = let r = c.requires.ready in anchored _ _ r.0 _ r.1 r.2 r.4.stands
@@ -34,7 +35,7 @@ pub protect-requires-clause-mapped : goal.protect-requires-clause-mapped
 protect-requires-clause-mapped g c =
     let r = c.requires.ready in
     let stands = part_copied r.4 _ c.claim-own.ensures.fresh _ c.claim-own.ensures.view _ c.copy_frame.ensures.others c.copy_frame.ensures.bytes in
-    (r.1, stands.tables, rw r.4.on.1 refl)
+    (r.1, stands.tables, rw ((settled_number _ _ r.1 r.2 c.args.page r.3 r.4.stands.shows r.4.settled), r.4.on.1) refl)
 
 pub protect-requires-clause-backed : goal.protect-requires-clause-backed
 protect-requires-clause-backed g c =
@@ -53,7 +54,7 @@ release-requires-clause-held g c =
     let r = c.requires.ready in
     let stands = part_copied r.4 _ c.claim-own.ensures.fresh _ c.claim-own.ensures.view _ c.copy_frame.ensures.others c.copy_frame.ensures.bytes in
     let one = part_held r.4 _ c.claim-own.ensures.fresh _ c.claim-own.ensures.view _ c.copy_frame.ensures.others c.copy_frame.ensures.bytes
-    _ _ (rw r.4.kept at c.leaf.ensures.leaf) (c.protect.ensures.tables r.1 stands.tables).0 (λ x at. c.protect.ensures.word r.1 x stands.tables at) in
+    _ _ (rw r.4.kept at c.leaf.ensures.leaf) (rw (settled_number _ _ r.1 r.2 c.args.page r.3 r.4.stands.shows r.4.settled) at (c.protect.ensures.tables r.1 stands.tables)).0 (λ x at. c.protect.ensures.word r.1 x stands.tables at) in
     omega (arith, one)
 
 pub release-requires-clause-anchored : goal.release-requires-clause-anchored
@@ -61,7 +62,7 @@ release-requires-clause-anchored g c =
     let r = c.requires.ready in
     let stands = part_copied r.4 _ c.claim-own.ensures.fresh _ c.claim-own.ensures.view _ c.copy_frame.ensures.others c.copy_frame.ensures.bytes in
     part_anchored r.4 _ c.claim-own.ensures.fresh _ c.claim-own.ensures.view _ c.copy_frame.ensures.others c.copy_frame.ensures.bytes
-    _ _ (rw r.4.kept at c.leaf.ensures.leaf) (c.protect.ensures.tables r.1 stands.tables).0 (λ x at. c.protect.ensures.word r.1 x stands.tables at)
+    _ _ (rw r.4.kept at c.leaf.ensures.leaf) (rw (settled_number _ _ r.1 r.2 c.args.page r.3 r.4.stands.shows r.4.settled) at (c.protect.ensures.tables r.1 stands.tables)).0 (λ x at. c.protect.ensures.word r.1 x stands.tables at)
 
 pub returns-clause-separated : goal.returns-clause-separated
 returns-clause-separated g c trapframe t p s can =
@@ -69,7 +70,7 @@ returns-clause-separated g c trapframe t p s can =
       _,
       _,
       part_done can _ c.claim-own.ensures.fresh _ c.claim-own.ensures.view _ c.copy_frame.ensures.others c.copy_frame.ensures.bytes
-          _ _ (rw can.kept at c.leaf.ensures.leaf) (c.protect.ensures.tables t stands.tables).0 (λ x at. c.protect.ensures.word t x stands.tables at)
+          _ _ (rw can.kept at c.leaf.ensures.leaf) (rw (settled_number _ _ t p c.args.page s can.stands.shows can.settled) at (c.protect.ensures.tables t stands.tables)).0 (λ x at. c.protect.ensures.word t x stands.tables at)
           _ c.release.ensures.view,
     )
 

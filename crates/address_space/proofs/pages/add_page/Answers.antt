@@ -1,7 +1,8 @@
-use Rattle.std.proofs.Common.{arith}
+use Rattle.std.proofs.Common.{arith, ◌^◌, ◌<◌}
 use Rattle.frame_store.specs.Laws.{fits_after}
 use Rattle.process_model.specs.PageMap as pages
 use Rattle.table_walk.specs.Tables.{leaf_node, with_leaf}
+use Rattle.table_walk.specs.Mapped.{maps_low}
 use Rattle.address_space.specs.Agreement.{nothing}
 use Rattle.address_space.specs.ProcessLeaves.{bytes_known, page_backed}
 use Rattle.address_space.proofs.AddingFrames.{Comes, claimed_comes, come_held, come_tables, filled_comes}
@@ -11,6 +12,7 @@ use Rattle.address_space.proofs.Owned.{anchored}
 use Rattle.address_space.proofs.pages.add_page.Given as given
 use Rattle.address_space.proofs.pages.add_page.Goals as goal
 use Rattle.address_space.proofs.pages.add_page.Goals.{After-fill_frame}
+use Rattle.sv39_entry.specs.declared.scheme.Scheme.TheVariants.{Sv39}
 
 comes : (g : given.Over) (c : After-fill_frame g) → Comes (g.F.Seat.FrameSeat.view c.args.seat.now) (g.F.Seat.FrameSeat.view c.fill_frame.new.seat) c.claim-frame.result.0
 comes g c = filled_comes _ _ _ _ (claimed_comes _ _ _ c.claim-frame.ensures.fresh c.claim-frame.ensures.view) c.fill_frame.ensures.others
@@ -47,11 +49,12 @@ map-requires-clause-backed g c =
 pub returns-clause-added : goal.returns-clause-added
 returns-clause-added g c trapframe t p can =
     let come = comes g (goal.at.returns-clause-added g c).After-fill_frame in
-    let x = c.map.ensures.tables t (come_tables _ _ _ come c.args.root.0 t can.stands.tables) in (
+    let low : c.args.page < 2 ^ 27 = let below = can.low in omega (arith, below) in
+    let x = maps_low Sv39 _ _ _ _ c.args.page _ _ low (c.map.ensures.tables t (come_tables _ _ _ come c.args.root.0 t can.stands.tables)) in (
       with_leaf x.0 (leaf_node c.args.page) c.leaf.result,
       c.claim-frame.result.0,
       adds _ _ trapframe t p c.args.page _ can _ _ x.0 c.leaf.result _ c.args.bytes.now come c.fill_frame.ensures.bytes (rw c.is_dirty_from_start.ensures at c.leaf.ensures.leaf) x.1 x.2 x.3
-          (c.missing_is_growth.ensures.grown t x.0 (pages.keys p.tabled) c.args.page can.stands.tabled x.1),
+          (c.missing_is_growth.ensures.grown Sv39 t x.0 (pages.keys p.tabled) c.args.page can.stands.tabled x.1),
     )
 
 pub returns-clause-keeps : goal.returns-clause-keeps

@@ -5,6 +5,7 @@ use Rattle.cow_fork.proofs.Listing.{from_low, goes_up, length_numbers, level_don
 use Rattle.cow_fork.proofs.tables.list_level.Given as given
 use Rattle.cow_fork.proofs.tables.list_level.Goals as goal
 use Rattle.cow_fork.proofs.tables.list_level.Goals.{In-Some-table_at}
+use Rattle.sv39_entry.specs.declared.scheme.Scheme.TheVariants.{Sv39}
 
 pub first_page-requires-clause-held : goal.first_page-requires-clause-held
 first_page-requires-clause-held g c = let r = c.requires.ready in let i = c.tables.invariant in (r.0, rw i.view r.2.tables)
@@ -43,8 +44,8 @@ unreachable-requires g c =
     cc (told, found)
 
 -- the frame of the table found
-frame_is : (g : given.Over) (c : In-Some-table_at g) (t : Tables) → HasTables (g.S.FrameSeat.view c.args.seat.now) c.args.root.0 t
-    → get t.tables (node c.in-Some.page c.args.depth) ≡ Some c.in-Some-table_at.frame.0
+frame_is : (g : given.Over) (c : In-Some-table_at g) (t : Tables) → HasTables Sv39 (g.S.FrameSeat.view c.args.seat.now) c.args.root.0 t
+    → get t.tables (node Sv39 c.in-Some.page c.args.depth) ≡ Some c.in-Some-table_at.frame.0
 frame_is g c t h =
     let same = c.in-Some.ensures.view ∙ c.tables.invariant.view in
     sym (rw c.in-Some-table_at.is at c.table_at.ensures.table t (rw same h))

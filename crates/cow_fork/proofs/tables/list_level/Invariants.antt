@@ -1,4 +1,4 @@
-use Rattle.std.proofs.Common.{◌≡◌, ◌≤◌, ◌+◌, ◌-◌, ◌^◌, ℕ, List, map}
+use Rattle.std.proofs.Common.{◌≡◌, ◌≤◌, ◌+◌, ◌-◌, ◌^◌, ℕ, List, map, suc}
 use Rattle.frame_store.specs.Laws.{Keeps}
 use Rattle.table_walk.specs.Tables.{Tables}
 use Rattle.cow_fork.specs.Listing.{IsEdged, IsListing}
@@ -11,8 +11,8 @@ invariant-tables g l = record {
   view : g.S.FrameSeat.view l.seat ≡ g.S.FrameSeat.view l.fn.seat;
   same : l.store ≡ l.fn.store;
   keeps : Keeps g.F.FrameAccess.rule l.fn.store l.fn.seat l.store l.seat;
-  listed : (t : Tables) (L : List ℕ) → IsListing (g.S.FrameSeat.view l.fn.seat) l.fn.root.0 t (512 ^ l.depth) L (map (λ f. f.0) l.fn.frames.items) → IsEdged t l.end
-      → IsListing (g.S.FrameSeat.view l.fn.seat) l.fn.root.0 t (512 ^ l.depth + l.table) L (map (λ f. f.0) l.frames.items);
+  listed : (t : Tables) (L : List ℕ) → IsListing (g.S.FrameSeat.view l.fn.seat) l.fn.root.0 t (512 ^ suc l.depth) L (map (λ f. f.0) l.fn.frames.items) → IsEdged t l.end
+      → IsListing (g.S.FrameSeat.view l.fn.seat) l.fn.root.0 t (512 ^ suc l.depth + l.table) L (map (λ f. f.0) l.frames.items);
 }
 
 abbrev pub decreases-tables : goal.decreases-tables

@@ -1,15 +1,16 @@
-use Rattle.std.proofs.Common.{map}
+use Rattle.std.proofs.Common.{◌^◌, map}
 use Rattle.table_walk.specs.Tables.{HasTables, Tables}
 use Rattle.cow_fork.specs.Listing.{CanList, IsEdged, IsLed, IsListing}
 use Rattle.cow_fork.proofs.Listing.{all_listed, none_listed}
 use Rattle.cow_fork.proofs.tables.list_tables.Given as given
 use Rattle.cow_fork.proofs.tables.list_tables.Goals as goal
 use Rattle.cow_fork.proofs.tables.list_tables.Goals.{After-list_level}
+use Rattle.sv39_entry.specs.declared.scheme.Scheme.TheVariants.{Sv39}
 
 -- the root is listed
-root_listed : (g : given.Over) (c : After-list_level g) (t : Tables) → HasTables (g.S.FrameSeat.view c.args.seat.now) c.args.root.0 t → IsLed t
+root_listed : (g : given.Over) (c : After-list_level g) (t : Tables) → HasTables Sv39 (g.S.FrameSeat.view c.args.seat.now) c.args.root.0 t → IsLed t
     → CanList t (map (λ f. f.0) c.args.frames.now.items) → IsEdged t c.args.end
-    → IsListing (g.S.FrameSeat.view c.list_level.new.seat) c.args.root.0 t 512 (map (λ f. f.0) c.args.frames.now.items) (map (λ f. f.0) c.list_level.new.frames.items)
+    → IsListing (g.S.FrameSeat.view c.list_level.new.seat) c.args.root.0 t (512 ^ 2) (map (λ f. f.0) c.args.frames.now.items) (map (λ f. f.0) c.list_level.new.frames.items)
 root_listed g c t h led can edged = rw c.list_level.ensures.view (c.list_level.ensures.listed t _ (none_listed _ c.args.root.0 t _ h led can) edged)
 
 pub list_level-requires-clause-ready : goal.list_level-requires-clause-ready

@@ -9,7 +9,7 @@ use Rattle.hart_tlb.proofs.walked.outcome.Goals.{After-has_byte, After-new}
 
 -- the leaf that was found
 finds : (g : given.Over) (c : After-new g)
-    → Finds (g.M.Words.memory c.args.words.now) (root_ppn c.args.satp) c.args.va.0 (found.Leaf c.new.result.word c.new.result.level c.in-Leaf.global)
+    → Finds c.args.scheme (g.M.Words.memory c.args.words.now) (root_ppn c.args.satp) c.args.va.0 (found.Leaf c.new.result.word c.new.result.level c.in-Leaf.global)
 finds g c = rw (c.new.ensures.word, c.new.ensures.level, ← c.ppn.ensures) c.in-Leaf.ensures.found
 
 -- whether its byte is there

@@ -2,8 +2,8 @@ use Rattle.std.proofs.Common.{◌≡◌, ap, refl, sym, subst, ◌∙◌, rules}
 use Rattle.std.specs.FinMap.{get}
 use Rattle.frame_store.specs.View.{with_word}
 use Rattle.sv39_entry.specs.Address.{vpn}
-use Rattle.table_walk.specs.Tables.{ChangesTables, HasTables, Tables, IsGrown, last_table, leaf_node, missing, with_leaf}
-use Rattle.table_walk.specs.Walk.{top_level}
+use Rattle.sv39_entry.specs.Schemes.{top_level}
+use Rattle.table_walk.specs.Tables.{ChangesTables, HasTables, Tables, IsGrown, last_table, walk_leaf, missing, with_leaf}
 use Rattle.table_walk.proofs.Grown.{still_anchored}
 use Rattle.table_walk.specs.Keys.{insert_same, insert_other}
 use Rattle.table_walk.proofs.LeafChanges.{maps_leaf, others_stay, put_page, word_changes}
@@ -15,18 +15,18 @@ stored : (g : given.Over) (c : After-store g) → g.F.Seat.FrameSeat.view c.stor
     ≡ with_word c.grown_table-table.result.0 (vpn c.args.page 0) c.args.leaf (g.F.Seat.FrameSeat.view c.grown_table-table.new.seat)
 stored g c = search rules
 
-changed : (g : given.Over) (c : After-store g) (t : Tables) → HasTables (g.F.Seat.FrameSeat.view c.args.seat.now) c.args.root.0 t
-    → (u : Tables) × IsGrown t u c.args.page top_level
-    × HasTables (g.F.Seat.FrameSeat.view c.store.new.seat) c.args.root.0 (with_leaf u (leaf_node c.args.page) c.args.leaf)
-    × ChangesTables (g.F.Seat.FrameSeat.view c.args.seat.now) (g.F.Seat.FrameSeat.view c.store.new.seat) t u (missing t c.args.page)
+changed : (g : given.Over) (c : After-store g) (t : Tables) → HasTables c.args.scheme (g.F.Seat.FrameSeat.view c.args.seat.now) c.args.root.0 t
+    → (u : Tables) × IsGrown c.args.scheme t u c.args.page (top_level c.args.scheme)
+    × HasTables c.args.scheme (g.F.Seat.FrameSeat.view c.store.new.seat) c.args.root.0 (with_leaf u (walk_leaf c.args.scheme c.args.page) c.args.leaf)
+    × ChangesTables (g.F.Seat.FrameSeat.view c.args.seat.now) (g.F.Seat.FrameSeat.view c.store.new.seat) t u (missing c.args.scheme t c.args.page)
 changed g c t h =
     let x = c.grown_table-table.ensures.tables t h in
     let u = x.0 in
-    let changes = word_changes _ _ t u _ x.3 (last_table c.args.page) _ (vpn c.args.page 0) c.args.leaf x.4 in (
+    let changes = word_changes _ _ t u _ x.3 (last_table c.args.scheme c.args.page) _ (vpn c.args.page 0) c.args.leaf x.4 in (
       u,
       x.1,
       put_page _ c.args.root.0 u x.2 c.args.page _ x.4 _ c.args.leaf c.requires.leaf (stored g c),
-      subst (λ w. ChangesTables (g.F.Seat.FrameSeat.view c.args.seat.now) w t u (missing t c.args.page)) (sym (stored g c)) changes,
+      subst (λ w. ChangesTables (g.F.Seat.FrameSeat.view c.args.seat.now) w t u (missing c.args.scheme t c.args.page)) (sym (stored g c)) changes,
     )
 
 pub returns-clause-tables : goal.returns-clause-tables

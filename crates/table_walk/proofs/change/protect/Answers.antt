@@ -2,7 +2,7 @@ use Rattle.std.proofs.Common.{◌≡◌, refl, sym, subst, rules, Some}
 use Rattle.std.specs.FinMap.{get}
 use Rattle.frame_store.specs.View.{with_word}
 use Rattle.sv39_entry.specs.Address.{vpn}
-use Rattle.table_walk.specs.Tables.{ChangesTables, HasTables, Tables, last_table, leaf_node, with_leaf}
+use Rattle.table_walk.specs.Tables.{ChangesTables, HasTables, Tables, last_table, walk_leaf, with_leaf}
 use Rattle.table_walk.specs.Keys.{insert_same, insert_other}
 use Rattle.table_walk.proofs.Grown.{no_change}
 use Rattle.table_walk.proofs.LeafChanges.{maps_leaf, no_table, others_stay, put_page, word_changes}
@@ -14,17 +14,17 @@ stored : (g : given.Over) (c : After-store g)
     → g.F.Seat.FrameSeat.view c.store.new.seat ≡ with_word c.in-Some.table.0 (vpn c.args.page 0) c.args.leaf (g.F.Seat.FrameSeat.view c.args.seat.now)
 stored g c = search rules
 
-table : (g : given.Over) (c : After-store g) (t : Tables) → HasTables (g.F.Seat.FrameSeat.view c.args.seat.now) c.args.root.0 t
-    → get t.tables (last_table c.args.page) ≡ Some c.in-Some.table.0
+table : (g : given.Over) (c : After-store g) (t : Tables) → HasTables c.args.scheme (g.F.Seat.FrameSeat.view c.args.seat.now) c.args.root.0 t
+    → get t.tables (last_table c.args.scheme c.args.page) ≡ Some c.in-Some.table.0
 table g c t h = sym (c.in-Some.ensures.table t h)
 
-changed : (g : given.Over) (c : After-store g) (t : Tables) → HasTables (g.F.Seat.FrameSeat.view c.args.seat.now) c.args.root.0 t
-    → HasTables (g.F.Seat.FrameSeat.view c.store.new.seat) c.args.root.0 (with_leaf t (leaf_node c.args.page) c.args.leaf)
+changed : (g : given.Over) (c : After-store g) (t : Tables) → HasTables c.args.scheme (g.F.Seat.FrameSeat.view c.args.seat.now) c.args.root.0 t
+    → HasTables c.args.scheme (g.F.Seat.FrameSeat.view c.store.new.seat) c.args.root.0 (with_leaf t (walk_leaf c.args.scheme c.args.page) c.args.leaf)
 changed g c t h = put_page _ c.args.root.0 t h c.args.page _ (table g c t h) _ c.args.leaf c.requires.leaf (stored g c)
 
 pub returns-in-Some-clause-tables : goal.returns-in-Some-clause-tables
 returns-in-Some-clause-tables g c t h =
-    let changes = word_changes _ _ t t 0 (no_change _ t) (last_table c.args.page) _ (vpn c.args.page 0) c.args.leaf (table g c t h) in
+    let changes = word_changes _ _ t t 0 (no_change _ t) (last_table c.args.scheme c.args.page) _ (vpn c.args.page 0) c.args.leaf (table g c t h) in
     (changed g c t h, subst (λ w. ChangesTables (g.F.Seat.FrameSeat.view c.args.seat.now) w t t 0) (sym (stored g c)) changes)
 
 pub returns-in-Some-clause-here : goal.returns-in-Some-clause-here

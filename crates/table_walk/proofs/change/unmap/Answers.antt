@@ -2,7 +2,7 @@ use Rattle.std.proofs.Common.{◌≡◌, refl, sym, subst, None}
 use Rattle.std.specs.FinMap.{get}
 use Rattle.frame_store.specs.View.{with_word}
 use Rattle.sv39_entry.specs.Address.{vpn}
-use Rattle.table_walk.specs.Tables.{ChangesTables, HasTables, Tables, last_table, leaf_node, without_leaf}
+use Rattle.table_walk.specs.Tables.{ChangesTables, HasTables, Tables, last_table, walk_leaf, without_leaf}
 use Rattle.table_walk.specs.Keys.{remove_same, remove_other}
 use Rattle.table_walk.proofs.Grown.{no_change}
 use Rattle.table_walk.proofs.LeafChanges.{drop_none, drop_page, maps_nothing, others_stay, word_changes}
@@ -12,8 +12,8 @@ use Rattle.table_walk.proofs.change.unmap.Goals.{After-from_residual, After-stor
 
 -- there is no leaf
 
-no_leaf : (g : given.Over) (c : After-from_residual g) (t : Tables) → HasTables (g.F.Seat.FrameSeat.view c.args.seat.now) c.args.root.0 t
-    → get t.leaves (leaf_node c.args.page) ≡ None
+no_leaf : (g : given.Over) (c : After-from_residual g) (t : Tables) → HasTables c.args.scheme (g.F.Seat.FrameSeat.view c.args.seat.now) c.args.root.0 t
+    → get t.leaves (walk_leaf c.args.scheme c.args.page) ≡ None
 no_leaf g c t h = sym (c.in_err-table.ensures.leaf t h)
 
 pub returns-in_err-table-clause-tables : goal.returns-in_err-table-clause-tables
@@ -30,13 +30,13 @@ stored : (g : given.Over) (c : After-store g)
     → g.F.Seat.FrameSeat.view c.store.new.seat ≡ with_word c.in_ok-table.table.0 (vpn c.args.page 0) 0 (g.F.Seat.FrameSeat.view c.args.seat.now)
 stored g c = rw (c.store.ensures.view, c.index.ensures.value, c.leaf_in_table.ensures.view) refl
 
-changed : (g : given.Over) (c : After-store g) (t : Tables) → HasTables (g.F.Seat.FrameSeat.view c.args.seat.now) c.args.root.0 t
-    → HasTables (g.F.Seat.FrameSeat.view c.store.new.seat) c.args.root.0 (without_leaf t (leaf_node c.args.page))
+changed : (g : given.Over) (c : After-store g) (t : Tables) → HasTables c.args.scheme (g.F.Seat.FrameSeat.view c.args.seat.now) c.args.root.0 t
+    → HasTables c.args.scheme (g.F.Seat.FrameSeat.view c.store.new.seat) c.args.root.0 (without_leaf t (walk_leaf c.args.scheme c.args.page))
 changed g c t h = drop_page _ c.args.root.0 t h c.args.page _ (c.in_ok-table.ensures.table t h) _ (stored g c)
 
 pub returns-clause-tables : goal.returns-clause-tables
 returns-clause-tables g c t h =
-    let changes = word_changes _ _ t t 0 (no_change _ t) (last_table c.args.page) _ (vpn c.args.page 0) 0 (c.in_ok-table.ensures.table t h) in
+    let changes = word_changes _ _ t t 0 (no_change _ t) (last_table c.args.scheme c.args.page) _ (vpn c.args.page 0) 0 (c.in_ok-table.ensures.table t h) in
     (changed g c t h, subst (λ w. ChangesTables (g.F.Seat.FrameSeat.view c.args.seat.now) w t t 0) (sym (stored g c)) changes)
 
 pub returns-clause-here : goal.returns-clause-here

@@ -10,7 +10,7 @@ pub clear-requires-clause-claimed : goal.clear-requires-clause-claimed
 clear-requires-clause-claimed g c = ap (λ v. hold_of v c.claim-table.result.0) c.claim-table.ensures.view ∙ hold_of-claimed_same _ _
 
 pub returns-clause-root : goal.returns-clause-root
-returns-clause-root g c = root_tables c.claim-table.result.0 _ (omega arith) (ap (λ v. hold_of v c.claim-table.result.0) c.clear.ensures.view ∙ hold_of-with_hold_same c.claim-table.result.0 blank_hold _)
+returns-clause-root g c s = root_tables s c.claim-table.result.0 _ (omega arith) (ap (λ v. hold_of v c.claim-table.result.0) c.clear.ensures.view ∙ hold_of-with_hold_same c.claim-table.result.0 blank_hold _)
 
 pub returns-clause-anchored : goal.returns-clause-anchored
 returns-clause-anchored g c =

@@ -1,6 +1,7 @@
 use Rattle.std.proofs.Common.{◌≡◌, ℕ, ◌+◌, ◌-◌, ◌*◌, ◌<◌, ◌≤◌, None, Some}
 use Rattle.std.specs.FinMap.{get}
 use Rattle.frame_store.specs.Laws.{Keeps}
+use Rattle.sv39_entry.specs.declared.scheme.Scheme.{Scheme}
 use Rattle.table_walk.specs.Changed.{IsTableAt}
 use Rattle.table_walk.specs.Tables.{HasTables, Tables}
 use Rattle.table_walk.specs.Released.{AreLast, LetsGo}
@@ -18,8 +19,8 @@ invariant-release_below-indices g l = record {
   low : l.index ≤ 512;
   keeps : Keeps g.F.FrameAccess.rule l.fn.store l.fn.seat l.store l.seat;
   free : g.F.FrameAccess.alone → g.F.FrameAccess.free l.fn.store ≤ g.F.FrameAccess.free l.store;
-  below : (root k : ℕ) (t : Tables) → HasTables (g.F.Seat.FrameSeat.view l.fn.seat) root t → AreLast (g.F.Seat.FrameSeat.view l.fn.seat) t → get t.tables k ≡ Some l.table.0 → IsTableAt k l.level
-      → (u : Tables) × LetsGo (g.F.Seat.FrameSeat.view l.fn.seat) (g.F.Seat.FrameSeat.view l.seat) root k t u × ((i : ℕ) → i < l.index → get u.tables (k * 512 + i) ≡ None);
+  below : (s : Scheme) (root k : ℕ) (t : Tables) → HasTables s (g.F.Seat.FrameSeat.view l.fn.seat) root t → AreLast (g.F.Seat.FrameSeat.view l.fn.seat) t → get t.tables k ≡ Some l.table.0 → IsTableAt k l.level
+      → (u : Tables) × LetsGo s (g.F.Seat.FrameSeat.view l.fn.seat) (g.F.Seat.FrameSeat.view l.seat) root k t u × ((i : ℕ) → i < l.index → get u.tables (k * 512 + i) ≡ None);
 }
 
 abbrev pub decreases-release_below-indices : goal.decreases-release_below-indices

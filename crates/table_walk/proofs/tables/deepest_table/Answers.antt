@@ -2,24 +2,24 @@ use Rattle.std.proofs.Common.{◌≡◌, ◌-◌, refl, ap, sym, ◌∙◌, arit
 use Rattle.std.specs.FinMap.{get}
 use Rattle.std.specs.Prelude.{option_map}
 use Rattle.frame_store.specs.Laws.{fits_after}
+use Rattle.sv39_entry.specs.Schemes.{top_level}
 use Rattle.table_walk.specs.Tables.{HasTables, Tables, node}
-use Rattle.table_walk.specs.Walk.{top_level}
 use Rattle.table_walk.proofs.Children.{next_depth, next_is_table, next_node}
 use Rattle.table_walk.proofs.tables.deepest_table.Given as given
 use Rattle.table_walk.proofs.tables.deepest_table.Goals as goal
 use Rattle.table_walk.proofs.tables.deepest_table.Goals.{After-child}
 
 -- the table of the next level, whatever is known of the others
-found : (g : given.Over) (c : After-child g) (t : Tables) → HasTables (g.F.Seat.FrameSeat.view c.args.seat.now) c.args.root.0 t
-    → option_map (λ f. f.0) c.child.result ≡ get t.tables (node c.args.page (top_level - (c.levels.level - 1)))
+found : (g : given.Over) (c : After-child g) (t : Tables) → HasTables c.args.scheme (g.F.Seat.FrameSeat.view c.args.seat.now) c.args.root.0 t
+    → option_map (λ f. f.0) c.child.result ≡ get t.tables (node c.args.scheme c.args.page ((top_level c.args.scheme) - (c.levels.level - 1)))
 found g c t h =
     let i = c.levels.invariant in
-    c.child.ensures.child c.args.root.0 (node c.args.page (top_level - c.levels.level)) t (rw i.view h) (i.way t h)
-    (rw c.index.ensures.value (next_is_table c.levels.level c.levels-test.true c.levels.auto.level c.args.page))
-    ∙ ap (get t.tables) (rw c.index.ensures.value (next_node c.levels.level c.levels-test.true c.levels.auto.level c.args.page))
+    c.child.ensures.child c.args.scheme c.args.root.0 (node c.args.scheme c.args.page ((top_level c.args.scheme) - c.levels.level)) t (rw i.view h) (i.way t h)
+    (rw c.index.ensures.value (next_is_table c.args.scheme c.levels.level c.levels-test.true (rw c.top_level-top.ensures.value at c.levels.auto.level) c.args.page))
+    ∙ ap (get t.tables) (rw c.index.ensures.value (next_node c.args.scheme c.levels.level c.levels-test.true (rw c.top_level-top.ensures.value at c.levels.auto.level) c.args.page))
 
 pub levels-init : goal.levels-init
-levels-init g c = record { view = refl; same = refl; keeps = λ others r. r; way = λ t h. h.known.rooted }
+levels-init g c = record { view = refl; same = refl; keeps = λ others r. r; way = λ t h. (let none : top_level c.args.scheme - c.top_level-top.result ≡ 0 = omega (arith, c.top_level-top.ensures.value) in rw none h.known.rooted) }
 
 pub child-requires-clause-fits : goal.child-requires-clause-fits
 child-requires-clause-fits g c = fits_after g.F.FrameAccess.rule c.levels.invariant.keeps c.requires.fits
@@ -28,12 +28,13 @@ pub child-requires-clause-held : goal.child-requires-clause-held
 child-requires-clause-held g c =
     let h = c.requires.held in
     let i = c.levels.invariant in (
+      c.args.scheme,
       c.args.root.0,
-      node c.args.page (top_level - c.levels.level),
+      node c.args.scheme c.args.page ((top_level c.args.scheme) - c.levels.level),
       h.0,
       rw i.view h.1,
       i.way h.0 h.1,
-      rw c.index.ensures.value (next_is_table c.levels.level c.levels-test.true c.levels.auto.level c.args.page),
+      rw c.index.ensures.value (next_is_table c.args.scheme c.levels.level c.levels-test.true (rw c.top_level-top.ensures.value at c.levels.auto.level) c.args.page),
     )
 
 pub returns-in-None-clause-there : goal.returns-in-None-clause-there
@@ -42,7 +43,7 @@ returns-in-None-clause-there g c t h = c.levels.invariant.way t h
 pub returns-in-None-clause-last : goal.returns-in-None-clause-last
 returns-in-None-clause-last g c t h some =
     let none = rw c.in-None.is at (found g (goal.at.returns-in-None-clause-last g c).After-child t h) in
-    let depth = next_depth c.levels.level c.levels-test.true c.levels.auto.level in
+    let depth = next_depth c.args.scheme c.levels.level c.levels-test.true (rw c.top_level-top.ensures.value at c.levels.auto.level) in
     sym (rw depth at none)
 
 pub returns-in-None-clause-view : goal.returns-in-None-clause-view

@@ -9,15 +9,15 @@ use Rattle.table_walk.proofs.tables.table_at.Goals as goal
 use Rattle.table_walk.proofs.tables.table_at.Goals.{After-child}
 
 -- the table that is one deeper
-found : (g : given.Over) (c : After-child g) (t : Tables) → HasTables (g.F.Seat.FrameSeat.view c.args.seat.now) c.args.root.0 t
-    → option_map (λ f. f.0) c.child.result ≡ get t.tables (node c.args.page (suc c.depths.step))
+found : (g : given.Over) (c : After-child g) (t : Tables) → HasTables c.args.scheme (g.F.Seat.FrameSeat.view c.args.seat.now) c.args.root.0 t
+    → option_map (λ f. f.0) c.child.result ≡ get t.tables (node c.args.scheme c.args.page (suc c.depths.step))
 found g c t h =
     let i = c.depths.invariant in
     let low = c.requires.low in
     let test = c.depths-test.true in
-    c.child.ensures.child c.args.root.0 (node c.args.page c.depths.step) t (rw i.view h) (i.way t h)
-    (rw c.index.ensures.value (table_number c.args.page (suc c.depths.step) (omega (arith, low, test))))
-    ∙ ap (get t.tables) (rw c.index.ensures.value refl)
+    c.child.ensures.child c.args.scheme c.args.root.0 (node c.args.scheme c.args.page c.depths.step) t (rw i.view h) (i.way t h)
+    (rw (c.index.ensures.value, c.top_level-top.ensures.value) (table_number c.args.scheme c.args.page (suc c.depths.step) (omega (arith, low, test))))
+    ∙ ap (get t.tables) (rw (c.index.ensures.value, c.top_level-top.ensures.value) refl)
 
 pub child-requires-clause-held : goal.child-requires-clause-held
 child-requires-clause-held g c =
@@ -25,12 +25,13 @@ child-requires-clause-held g c =
     let i = c.depths.invariant in
     let low = c.requires.low in
     let test = c.depths-test.true in (
+      c.args.scheme,
       c.args.root.0,
-      node c.args.page c.depths.step,
+      node c.args.scheme c.args.page c.depths.step,
       h.0,
       rw i.view h.1,
       i.way h.0 h.1,
-      rw c.index.ensures.value (table_number c.args.page (suc c.depths.step) (omega (arith, low, test))),
+      rw (c.index.ensures.value, c.top_level-top.ensures.value) (table_number c.args.scheme c.args.page (suc c.depths.step) (omega (arith, low, test))),
     )
 
 pub returns-in_err-table-clause-table : goal.returns-in_err-table-clause-table

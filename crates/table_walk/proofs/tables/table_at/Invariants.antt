@@ -10,6 +10,6 @@ invariant-depths g l = record {
   view : g.F.Seat.FrameSeat.view l.seat ≡ g.F.Seat.FrameSeat.view l.fn.seat;
   same : l.store ≡ l.fn.store;
   keeps : Keeps g.F.FrameAccess.rule l.fn.store l.fn.seat l.store l.seat;
-  way : (t : Tables) → HasTables (g.F.Seat.FrameSeat.view l.fn.seat) l.fn.root.0 t
-      → get t.tables (node l.fn.page l.step) ≡ Some l.table.0;
+  way : (t : Tables) → HasTables l.fn.scheme (g.F.Seat.FrameSeat.view l.fn.seat) l.fn.root.0 t
+      → get t.tables (node l.fn.scheme l.fn.page l.step) ≡ Some l.table.0;
 }

@@ -10,7 +10,7 @@ found-preserved g c =
 pub walked-init : goal.walked-init
 walked-init g c =
     let i = c.found.invariant in
-    record { rule = c.next_leaf_before.ensures.keeps [] i.rule; tables = (i.tables.0, same_view _ _ _ _ c.next_leaf_before.ensures.view i.tables.1) }
+    record { rule = c.next_leaf_before-found-in-loop-scheme.ensures.keeps [] i.rule; tables = (i.tables.0, same_view _ _ _ _ c.next_leaf_before-found-in-loop-scheme.ensures.view i.tables.1) }
 
 pub walked-preserved : goal.walked-preserved
 walked-preserved g c =

@@ -9,5 +9,5 @@ abbrev pub invariant-loop-index : goal.invariant-loop-index
 invariant-loop-index l = record {
   rule : BankRule l.frames (l.seat ∷ []);
   anchored : IsHeld l.seat 0;
-  tables : (t : Tables) × HasTables l.seat l.root.0 t × (2 * (5 - l.index) ≤ l.seat.credits);
+  tables : (t : Tables) × HasTables l.fn.scheme l.seat l.root.0 t × (3 * (5 - l.index) ≤ l.seat.credits);
 }

@@ -4,6 +4,7 @@ use Rattle.table_walk.specs.Backed.{kernel_backed}
 use Rattle.table_walk.specs.Tables.{bare_root}
 use Rattle.tests_of_tables.proofs.TableSteps.{left_last, missing_low, of_ok, reserved_held}
 use Rattle.tests_of_tables.proofs.walks.releases_what_was_made.Goals as goal
+use Rattle.sv39_entry.specs.declared.scheme.Scheme.TheVariants.{Sv48}
 
 pub new_table-root-requires-clause-fits : goal.new_table-root-requires-clause-fits
 new_table-root-requires-clause-fits g c = ([], c.reserve-reserved.ensures.keeps [] c.in_ok-frames.ensures.rule)
@@ -11,7 +12,7 @@ new_table-root-requires-clause-fits g c = ([], c.reserve-reserved.ensures.keeps 
 pub new_table-root-requires-clause-anchored : goal.new_table-root-requires-clause-anchored
 new_table-root-requires-clause-anchored g c =
     let reserved = of_ok _ (sym c.is_ok.ensures.value ∙ c.if-prove.false) c.reserve-reserved.ensures.ok in
-    reserved_held _ _ 3 c.in_ok-frames.ensures.seat reserved
+    reserved_held _ _ 4 c.in_ok-frames.ensures.seat reserved
 
 pub map-requires-clause-fits : goal.map-requires-clause-fits
 map-requires-clause-fits g c = ([], c.new_table-root.ensures.keeps [] (c.reserve-reserved.ensures.keeps [] c.in_ok-frames.ensures.rule))
@@ -22,8 +23,8 @@ map-requires-clause-tables g c =
     let reserved = of_ok _ (sym c.is_ok.ensures.value ∙ c.if-prove.false) c.reserve-reserved.ensures.ok in
     let had = ap (λ (v : View). v.credits) reserved in
     let spent = ap (λ (v : View). v.credits) c.new_table-root.ensures.view in
-    let low = missing_low (bare_root c.new_table-root.result.0) c.page-page.result in
-    (bare_root c.new_table-root.result.0, c.new_table-root.ensures.root, omega (arith, opened, had, spent, low))
+    let low = missing_low Sv48 (bare_root Sv48 c.new_table-root.result.0) c.page-page.result in
+    (bare_root Sv48 c.new_table-root.result.0, c.new_table-root.ensures.root Sv48, omega (arith, opened, had, spent, low))
 
 pub map-requires-clause-backed : goal.map-requires-clause-backed
 map-requires-clause-backed g c = kernel_backed _ _ c.leaf-leaf.ensures.made.for_user
@@ -32,7 +33,7 @@ pub unmap-requires-clause-fits : goal.unmap-requires-clause-fits
 unmap-requires-clause-fits g c = ([], c.map.ensures.keeps [] (c.new_table-root.ensures.keeps [] (c.reserve-reserved.ensures.keeps [] c.in_ok-frames.ensures.rule)))
 
 pub unmap-requires-clause-held : goal.unmap-requires-clause-held
-unmap-requires-clause-held g c = (_, (c.map.ensures.tables _ c.new_table-root.ensures.root).2)
+unmap-requires-clause-held g c = (_, (c.map.ensures.tables _ (c.new_table-root.ensures.root Sv48)).2)
 
 pub release_tables-requires-clause-fits : goal.release_tables-requires-clause-fits
 release_tables-requires-clause-fits g c =
@@ -42,10 +43,10 @@ pub release_tables-requires-clause-bare : goal.release_tables-requires-clause-ba
 release_tables-requires-clause-bare g c =
     let reserved = of_ok _ (sym c.is_ok.ensures.value ∙ c.if-prove.false) c.reserve-reserved.ensures.ok in
     let root = c.new_table-root.ensures in
-    let mapped = c.map.ensures.tables _ root.root in
+    let mapped = c.map.ensures.tables _ (root.root Sv48) in
     let unmapped = c.unmap.ensures.tables _ mapped.2 in (
       _,
       unmapped.0,
-      left_last _ _ _ _ _ c.page-page.result c.leaf-leaf.result _ mapped.0 (reserved_held _ _ 3 c.in_ok-frames.ensures.seat reserved)
+      left_last Sv48 _ _ _ _ _ c.page-page.result _ c.leaf-leaf.result _ mapped.0 (reserved_held _ _ 4 c.in_ok-frames.ensures.seat reserved)
           root.fresh root.view root.anchored mapped.1 mapped.3 c.map.ensures.anchored unmapped.1,
     )

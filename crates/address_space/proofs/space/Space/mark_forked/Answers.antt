@@ -3,6 +3,7 @@ use Rattle.std.specs.Prelude.{option_map}
 use Rattle.address_space.specs.Layouts.{region_of}
 use Rattle.address_space.proofs.ForkMarks.{fork_backed, fork_kept, fork_leafy, fork_mapped, fork_turned}
 use Rattle.address_space.proofs.space.Space.mark_forked.Goals as goal
+use Rattle.address_space.proofs.LowLeaves.{settled_number}
 
 pub unreachable-requires : goal.unreachable-requires
 unreachable-requires g c =
@@ -26,7 +27,7 @@ leaf-leaf-requires g c =
 pub protect-requires-clause-mapped : goal.protect-requires-clause-mapped
 protect-requires-clause-mapped g c =
     let r = c.requires.ready in
-    (r.0, r.3.stands.tables, fork_mapped c.args.settled.now r.3 r.4)
+    (r.0, r.3.stands.tables, rw (settled_number _ _ r.0 r.1 c.args.settled.now.page r.4.page r.3.stands.shows r.4.settled) (fork_mapped c.args.settled.now r.3 r.4))
 
 pub protect-requires-clause-backed : goal.protect-requires-clause-backed
 protect-requires-clause-backed g c = let r = c.requires.ready in fork_backed c.args.settled.now r.3 r.4 _ _ _ c.leaf-leaf.ensures.leaf
@@ -36,6 +37,6 @@ returns-clause-marked g c t p extra can is =
     let at = sym (rw c.number.ensures.value at (c.region_at.ensures p can.lays)) ∙ ap (option_map region_of) c.in-Some.is in
     let tables = can.stands.tables in (
       _,
-      fork_turned _ can is _ at (sym c.lacks_right.ensures ∙ c.if-lacks_right.false) _ _ c.leaf-leaf.ensures.leaf (c.protect.ensures.tables t tables).0
+      fork_turned _ can is _ at (sym c.lacks_right.ensures ∙ c.if-lacks_right.false) _ _ c.leaf-leaf.ensures.leaf (rw (settled_number _ _ t p c.args.settled.now.page is.page can.stands.shows is.settled) at (c.protect.ensures.tables t tables)).0
           (λ x table. c.protect.ensures.word t x tables table),
     )

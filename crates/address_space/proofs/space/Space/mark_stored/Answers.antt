@@ -1,4 +1,4 @@
-use Rattle.std.proofs.Common.{refl, ap, sym, ◌∙◌}
+use Rattle.std.proofs.Common.{refl, ap, sym, ◌∙◌, ℕ, ◌≡◌}
 use Rattle.std.specs.Prelude.{option_map}
 use Rattle.frame_store.specs.Laws.{fits_after}
 use Rattle.address_space.specs.Layouts.{region_of}
@@ -6,6 +6,16 @@ use Rattle.address_space.specs.ProcessLeaves.{page_backed}
 use Rattle.address_space.proofs.Marks.{mark_frame, mark_known, mark_leafy, mark_sole, mark_some, marks}
 use Rattle.address_space.proofs.space.Space.mark_stored.Goals as goal
 use Rattle.address_space.proofs.space.Space.mark_stored.Goals.{After-protect}
+use Rattle.address_space.proofs.LowLeaves.{settled_number}
+use Rattle.address_space.specs.Agreement.{Body}
+use Rattle.address_space.specs.Steps.{CanWrite}
+use Rattle.table_walk.specs.Tables.{walk_leaf, leaf_node, Tables}
+use Rattle.sv39_entry.specs.declared.scheme.Scheme.TheVariants.{Sv39}
+use Rattle.process_model.specs.Process.{Process, Page}
+
+-- the number of the page's leaf
+number_is : {x : Body} {t : Tables} {p : Process} {page : ℕ} {s : Page} → CanWrite x t p page s → walk_leaf Sv39 page ≡ leaf_node page
+number_is {x} {t} {p} {page} {s} can = settled_number _ _ t p page s can.read.agrees.stands.shows can.read.settled
 
 pub unreachable-requires : goal.unreachable-requires
 unreachable-requires g c =
@@ -17,7 +27,7 @@ unreachable-requires g c =
 pub unreachable-requires-in_default-frame_of : goal.unreachable-requires-in_default-frame_of
 unreachable-requires-in_default-frame_of g c =
     let can = c.requires.ready.3 in
-    let some = mark_some can c.frame_of.result (c.frame_of.ensures.frame c.requires.ready.0 can.read.agrees.stands.tables) in
+    let some = mark_some can c.frame_of.result (rw (number_is can) at (c.frame_of.ensures.frame c.requires.ready.0 can.read.agrees.stands.tables)) in
     cc (some, c.in_default-frame_of.is)
 
 pub leaf-leaf-requires : goal.leaf-leaf-requires
@@ -34,12 +44,12 @@ protect-requires-clause-mapped g c =
     let r = c.requires.ready in
     let stands = r.3.read.agrees.stands in
     let shown = stands.shows.settled c.args.page r.2 r.3.read.settled in
-    (r.0, rw c.frame_of.ensures.view stands.tables, rw shown.mapped refl)
+    (r.0, rw c.frame_of.ensures.view stands.tables, rw (number_is r.3, shown.mapped) refl)
 
 pub protect-requires-clause-backed : goal.protect-requires-clause-backed
 protect-requires-clause-backed g c =
     let r = c.requires.ready in
-    let same = mark_frame r.3 _ _ (c.frame_of.ensures.frame r.0 r.3.read.agrees.stands.tables) c.in-Some-frame_of.is in
+    let same = mark_frame r.3 _ _ (rw (number_is r.3) at (c.frame_of.ensures.frame r.0 r.3.read.agrees.stands.tables)) c.in-Some-frame_of.is in
     rw c.frame_of.ensures.view (page_backed _ _ _ _ _ _ (rw same at c.leaf-leaf.ensures.leaf) (mark_known r.3) (λ writes. mark_sole r.3))
 
 pub returns-clause-marked : goal.returns-clause-marked
@@ -48,8 +58,8 @@ returns-clause-marked g c t p s can =
     let tables = can.read.agrees.stands.tables in
     let same = c.frame_of.ensures.view in (
       _,
-      marks can _ at _ _ c.frame_of.result (c.frame_of.ensures.frame t tables) c.in-Some-frame_of.is _ c.leaf-leaf.ensures.leaf
-          (rw same at (c.protect.ensures.tables t) tables).0
+      marks can _ at _ _ c.frame_of.result (rw (number_is can) at (c.frame_of.ensures.frame t tables)) c.in-Some-frame_of.is _ c.leaf-leaf.ensures.leaf
+          (rw (number_is can) at ((rw same at (c.protect.ensures.tables t)) tables)).0
           (λ x table. (rw same at (c.protect.ensures.word t x)) tables table),
     )
 

@@ -5,8 +5,8 @@ use Rattle.frame_store.specs.Laws.{fits_after}
 use Rattle.process_model.specs.OrderKept.{leafy_at}
 use Rattle.process_model.specs.Process.{Page, Process, regions}
 use Rattle.process_model.specs.Regions.{region_at}
-use Rattle.table_walk.specs.Tables.{Tables}
-use Rattle.address_space.specs.Agreement.{body_of, is_dirty_page}
+use Rattle.table_walk.specs.Tables.{Tables, walk_leaf, leaf_node}
+use Rattle.address_space.specs.Agreement.{body_of, is_dirty_page, Body}
 use Rattle.address_space.specs.Layouts.{region_of}
 use Rattle.address_space.specs.ProcessLeaves.{page_backed}
 use Rattle.address_space.specs.Steps.{CanOwn}
@@ -14,13 +14,19 @@ use Rattle.address_space.proofs.OwningCounts.{exact_kept, exact_parted, exact_re
 use Rattle.address_space.proofs.space.Space.own.Given as given
 use Rattle.address_space.proofs.space.Space.own.Goals as goal
 use Rattle.address_space.proofs.space.Space.own.Goals.{After-from_residual, After-look-sole, In-Some-frame_of}
+use Rattle.address_space.proofs.LowLeaves.{settled_number}
+use Rattle.sv39_entry.specs.declared.scheme.Scheme.TheVariants.{Sv39}
+
+-- the number of the page's leaf
+number_is : {x : Body} {t : Tables} {p : Process} {page : ℕ} {s : Page} {f : ℕ} → CanOwn x t p page s f → walk_leaf Sv39 page ≡ leaf_node page
+number_is {x} {t} {p} {page} {s} can = settled_number _ _ t p page s can.agrees.stands.shows can.settled
 
 -- what was found
 
 frame_is : (g : given.Over) (c : In-Some-frame_of g) (t : Tables) (p : Process) (s : Page) (f : ℕ)
     → CanOwn (body_of g.S.FrameSeat.view c.args.self.now) t p c.args.page s f
     → c.in-Some-frame_of.shared.0 ≡ f
-frame_is g c t p s f can = own_frame can c.frame_of.result _ (c.frame_of.ensures.frame t can.agrees.stands.tables) c.in-Some-frame_of.is
+frame_is g c t p s f can = own_frame can c.frame_of.result _ (rw (number_is can) at (c.frame_of.ensures.frame t can.agrees.stands.tables)) c.in-Some-frame_of.is
 
 region_is : (g : given.Over) (c : In-Some-frame_of g) (t : Tables) (p : Process) (s : Page) (f : ℕ)
     → CanOwn (body_of g.S.FrameSeat.view c.args.self.now) t p c.args.page s f
@@ -32,7 +38,7 @@ dirty_is : (g : given.Over) (c : In-Some-frame_of g) (t : Tables) (p : Process) 
     → CanOwn (body_of g.S.FrameSeat.view c.args.self.now) t p c.args.page s f
     → (c.in-Some-frame_of.dirty && (region_of c.in-Some.region).writes) ≡ is_dirty_page (region_of c.in-Some.region) s
 dirty_is g c t p s f can =
-    own_stays_dirty can c.frame_of.result _ (c.frame_of.ensures.frame t can.agrees.stands.tables) c.in-Some-frame_of.is
+    own_stays_dirty can c.frame_of.result _ (rw (number_is can) at (c.frame_of.ensures.frame t can.agrees.stands.tables)) c.in-Some-frame_of.is
     (region_of c.in-Some.region) (region_is g c t p s f can)
 
 pub leaf-requires : goal.leaf-requires
@@ -55,7 +61,7 @@ unreachable-requires g c =
 pub unreachable-requires-in_default-frame_of : goal.unreachable-requires-in_default-frame_of
 unreachable-requires-in_default-frame_of g c =
     let can = c.requires.ready.4 in
-    let some = own_some can c.frame_of.result (c.frame_of.ensures.frame c.requires.ready.0 can.agrees.stands.tables) in
+    let some = own_some can c.frame_of.result (rw (number_is can) at (c.frame_of.ensures.frame c.requires.ready.0 can.agrees.stands.tables)) in
     cc (some, c.in_default-frame_of.is)
 
 pub look-sole-requires-clause-fits : goal.look-sole-requires-clause-fits
@@ -78,7 +84,7 @@ protect-requires-clause-mapped g c =
     let r = c.requires.ready in
     let at = (goal.at.protect-requires-clause-mapped g c).In-Some-frame_of in
     let look = look_at _ _ _ _ _ _ c.frame_of.ensures.view c.look-sole.ensures.view (frame_is g at r.0 r.1 r.2 r.3 r.4) in
-    (r.0, (own_stands r.4 _ _ look _ (region_is g at r.0 r.1 r.2 r.3 r.4)).tables, rw r.4.on.1 refl)
+    (r.0, (own_stands r.4 _ _ look _ (region_is g at r.0 r.1 r.2 r.3 r.4)).tables, rw (number_is r.4, r.4.on.1) refl)
 
 pub protect-requires-clause-backed : goal.protect-requires-clause-backed
 protect-requires-clause-backed g c =
@@ -100,7 +106,7 @@ returns-then-sole-clause-owned g c t p s f can =
       _,
       f,
       c.look-sole.result,
-      own_kept can _ _ look _ (region_is g at t p s f can) c.if-sole.true _ _ (rw (is, dirty_is g at t p s f can) at c.leaf.ensures.leaf) (c.protect.ensures.tables t stands.tables).0
+      own_kept can _ _ look _ (region_is g at t p s f can) c.if-sole.true _ _ (rw (is, dirty_is g at t p s f can) at c.leaf.ensures.leaf) (rw (number_is can) at (c.protect.ensures.tables t stands.tables)).0
           (λ x table. c.protect.ensures.word t x stands.tables table),
       λ alone. counted g (goal.at.returns-then-sole-clause-owned g c).After-look-sole alone f is,
     )

@@ -5,6 +5,7 @@ use Rattle.process_model.specs.Regions.{region_at}
 use Rattle.address_space.specs.Layouts.{region_of}
 use Rattle.address_space.proofs.AddingReserved.{agrees_still, can_add, if_err, need_is, none_taken, not_enough, reserved_credits, runs_dry, settles}
 use Rattle.address_space.proofs.space.Space.settle.Goals as goal
+use Rattle.sv39_entry.specs.declared.scheme.Scheme.TheVariants.{Sv39}
 
 pub unreachable-requires : goal.unreachable-requires
 unreachable-requires g c =
@@ -19,7 +20,7 @@ reserve-requires g c = record { fits = fits_after g.F.FrameAccess.rule c.missing
 pub returns-in_err-reserve-clause-dry : goal.returns-in_err-reserve-clause-dry
 returns-in_err-reserve-clause-dry g c = if_err _ _
     (runs_dry _ _ _ _ c.missing_tables-missing.ensures.view c.in_err-reserve.ensures.err c.args.self.now.root.0 c.args.self.now.trapframe.0 c.args.self.now.layout c.args.page
-    c.missing_is_growth.ensures.missing (λ t has. ap (λ (n : ℕ). 1 + n) (c.missing_tables-missing.ensures.missing t has)))
+    (c.missing_is_growth.ensures.missing Sv39) (λ t has. ap (λ (n : ℕ). 1 + n) (c.missing_tables-missing.ensures.missing t has)))
 
 pub returns-in_err-reserve-clause-whole : goal.returns-in_err-reserve-clause-whole
 returns-in_err-reserve-clause-whole g c = if_err _ _
@@ -28,7 +29,7 @@ returns-in_err-reserve-clause-whole g c = if_err _ _
 pub returns-in_err-reserve-clause-exact : goal.returns-in_err-reserve-clause-exact
 returns-in_err-reserve-clause-exact g c a t p can =
     let few = c.missing_tables-missing.ensures.missing t can.agrees.stands.tables in
-    let need = need_is _ _ _ _ t p c.args.page can c.missing_is_growth.ensures.missing in
+    let need = need_is _ _ _ _ t p c.args.page can (c.missing_is_growth.ensures.missing Sv39) in
     not_enough _ _ _ _ _ c.from_residual.ensures.0 (ap (λ (n : ℕ). 1 + n) few ∙ sym need) (ap g.F.FrameAccess.free c.missing_tables-missing.ensures.same) (c.in_err-reserve.ensures.exact a).1
 
 pub returns-in_err-reserve-clause-free : goal.returns-in_err-reserve-clause-free
@@ -65,20 +66,20 @@ returns-clause-settled g c t p can =
       x.0,
       x.1,
       settles _ _ _ _ t p c.args.page can _ _ _ c.missing_tables-missing.ensures.view c.in_ok-reserve.ensures.ok _ x.0 c.args.bytes.now x.1
-          (ap (λ (n : ℕ). 1 + n) few) (need_is _ _ _ _ t p c.args.page can c.missing_is_growth.ensures.missing) x.2,
+          (ap (λ (n : ℕ). 1 + n) few) (need_is _ _ _ _ t p c.args.page can (c.missing_is_growth.ensures.missing Sv39)) x.2,
     )
 
 pub returns-clause-exact : goal.returns-clause-exact
 returns-clause-exact g c a t p can =
     let few = c.missing_tables-missing.ensures.missing t can.agrees.stands.tables in
-    let need = need_is _ _ _ _ t p c.args.page can c.missing_is_growth.ensures.missing in
+    let need = need_is _ _ _ _ t p c.args.page can (c.missing_is_growth.ensures.missing Sv39) in
     let free = ap g.F.FrameAccess.free c.missing_tables-missing.ensures.same in
     (λ ok. let enough = (c.in_ok-reserve.ensures.exact a).0 ok in omega (arith, few, need, free, enough), λ le. refl)
 
 pub returns-clause-free : goal.returns-clause-free
 returns-clause-free g c a t p can =
     let few = c.missing_tables-missing.ensures.missing t can.agrees.stands.tables in
-    let need = need_is _ _ _ _ t p c.args.page can c.missing_is_growth.ensures.missing in
+    let need = need_is _ _ _ _ t p c.args.page can (c.missing_is_growth.ensures.missing Sv39) in
     let free = ap g.F.FrameAccess.free c.missing_tables-missing.ensures.same in
     let left = c.in_ok-reserve.ensures.free a in
     c.add_page.ensures.free a ∙ omega (arith, few, need, free, left)

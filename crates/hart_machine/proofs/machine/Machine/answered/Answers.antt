@@ -2,6 +2,7 @@ use Rattle.std.proofs.Common.{◌∙◌, ◌<◌, Some, refl, subst, sym}
 use Rattle.std.proofs.lemmas.Option.{get_or_from_slice_get, same_Some, slice_get_within}
 use Rattle.address_space.specs.Accesses.{asked_of}
 use Rattle.sv39_entry.specs.declared.access.Mode.TheVariants.{User}
+use Rattle.sv39_entry.specs.declared.scheme.Scheme.TheVariants.{Sv39}
 use Rattle.hart_machine.specs.Tenants.{IsTenant, view_of}
 use Rattle.hart_machine.proofs.AccessingWorlds.{access_changes, seat_fits, slot_has}
 use Rattle.hart_machine.proofs.HartSteps.{process_at}
@@ -57,5 +58,5 @@ returns-clause-tables c =
     one_below m _ c.args.slot c.in-Some.tenant c.access.new.self there refl refl (λ t p a. (
       _,
       c.access.ensures.after t p a
-          (r.4 ∙ one_answer ((r.1).tables c.args.slot) t c.args.asked.va.0 c.args.asked.access User (one_tables (view_of c.in-Some.tenant) c.in-Some.tenant.space.root.0 ((r.1).tables c.args.slot) t before.agrees.stands.tables a.agrees.stands.tables)),
+          (r.4 ∙ one_answer Sv39 ((r.1).tables c.args.slot) t c.args.asked.va.0 c.args.asked.access User (one_tables (view_of c.in-Some.tenant) c.in-Some.tenant.space.root.0 ((r.1).tables c.args.slot) t before.agrees.stands.tables a.agrees.stands.tables)),
     ))

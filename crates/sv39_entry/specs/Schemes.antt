@@ -1,0 +1,88 @@
+-- The schemes of translation: Sv39 has tables of three levels, Sv48 of four (the standard, 4.4 and 4.5). A page number has nine bits a
+-- level; bits of an address above them equal the highest of them. Of the addresses a process has the lower half.
+use Rattle.std.specs.Prelude.{◌≡◌, ℕ, Bool, ◌+◌, ◌-◌, ◌*◌, ◌/◌, ◌%◌, ◌^◌, ◌<◌, ◌≤◌, ◌==◌, ◌||◌, refl}
+use Rattle.std.proofs.Common.{arith}
+use Rattle.sv39_entry.specs.declared.scheme.Scheme.{Scheme}
+use Rattle.sv39_entry.specs.declared.scheme.Scheme.TheVariants.{Sv39, Sv48}
+
+-- the level of the root's entries; those of the last tables have level 0
+abbrev pub top_level : Scheme → ℕ
+top_level Sv39 = 2
+top_level Sv48 = 3
+
+-- how many pages the indices of all levels tell apart
+abbrev pub page_limit : Scheme → ℕ
+page_limit Sv39 = 2 ^ 27
+page_limit Sv48 = 2 ^ 36
+
+-- a page by its indices alone
+abbrev pub low_page : Scheme → ℕ → ℕ
+low_page s page = page % page_limit s
+
+-- bits 63 to 38, or 63 to 47, are all clear or all set
+abbrev pub is_canonical : Scheme → ℕ → Bool
+is_canonical Sv39 a = a / 2 ^ 38 == 0 || a / 2 ^ 38 == 2 ^ 26 - 1
+is_canonical Sv48 a = a / 2 ^ 47 == 0 || a / 2 ^ 47 == 2 ^ 17 - 1
+
+abbrev pub mode_of : Scheme → ℕ
+mode_of Sv39 = 8
+mode_of Sv48 = 9
+
+-- addresses of a process end below (xv6's MAXVA); the two pages below it are the trampoline's and the trapframe's
+abbrev pub maxva : Scheme → ℕ
+maxva Sv39 = 2 ^ 38
+maxva Sv48 = 2 ^ 47
+
+abbrev pub trampoline_page : Scheme → ℕ
+trampoline_page Sv39 = 2 ^ 26 - 1
+trampoline_page Sv48 = 2 ^ 35 - 1
+
+abbrev pub trapframe_page : Scheme → ℕ
+trapframe_page Sv39 = 2 ^ 26 - 2
+trapframe_page Sv48 = 2 ^ 35 - 2
+
+-- what holds of both schemes, for proofs that know no more of one
+pub record IsScheme (s : Scheme) : Type 0 where
+  pub some_levels : 2 ≤ top_level s
+  pub few_levels : top_level s ≤ 3
+  -- the two pages of the kernel stand side by side, at the end of the lower half of the pages
+  pub side_by_side : trampoline_page s ≡ trapframe_page s + 1
+  pub half : 2 * (trampoline_page s + 1) ≡ page_limit s
+  pub addresses : maxva s ≡ 4096 * (trampoline_page s + 1)
+  pub at_least : 2 ^ 27 ≤ page_limit s
+  pub at_most : page_limit s ≤ 2 ^ 36
+  -- and share each table
+  pub last_tables : trampoline_page s / 2 ^ 9 ≡ trapframe_page s / 2 ^ 9
+  pub next_tables : trampoline_page s / 2 ^ 18 ≡ trapframe_page s / 2 ^ 18
+  pub upper_tables : trampoline_page s / 2 ^ 27 ≡ trapframe_page s / 2 ^ 27
+
+pub of_scheme : (s : Scheme) → IsScheme s
+of_scheme Sv39 = record {
+  some_levels = omega arith;
+  few_levels = omega arith;
+  side_by_side = refl;
+  half = refl;
+  addresses = refl;
+  at_least = omega arith;
+  at_most = omega arith;
+  last_tables = refl;
+  next_tables = refl;
+  upper_tables = refl;
+}
+of_scheme Sv48 = record {
+  some_levels = omega arith;
+  few_levels = omega arith;
+  side_by_side = refl;
+  half = refl;
+  addresses = refl;
+  at_least = omega arith;
+  at_most = omega arith;
+  last_tables = refl;
+  next_tables = refl;
+  upper_tables = refl;
+}
+
+-- a page of the lower half is its own low page
+pub low_is : (s : Scheme) (page : ℕ) → page < page_limit s → low_page s page ≡ page
+low_is Sv39 page low = omega (arith, low)
+low_is Sv48 page low = omega (arith, low)

@@ -1,0 +1,16 @@
+-- What a call on tables says of the leaf that a walk of a page finds, it says of the page's own: pages of processes and of the kernel are low.
+use Rattle.std.specs.Prelude.{ℕ, ◌<◌}
+use Rattle.std.proofs.Common.{subst}
+use Rattle.frame_store.specs.View.{View}
+use Rattle.sv39_entry.specs.Schemes.{page_limit, top_level}
+use Rattle.sv39_entry.specs.declared.scheme.Scheme.{Scheme}
+use Rattle.table_walk.specs.Nodes.{low_leaf}
+use Rattle.table_walk.specs.Tables.{ChangesTables, HasTables, IsGrown, leaf_node, Tables, walk_leaf, with_leaf}
+
+-- the tables after a page was mapped, as `map` has it, by the number of the leaf
+abbrev pub MapsAt : Scheme → View → View → ℕ → Tables → ℕ → ℕ → ℕ → ℕ → Type 0
+MapsAt s v w root t page number leaf n = (u : Tables) × IsGrown s t u page (top_level s) × HasTables s w root (with_leaf u number leaf) × ChangesTables v w t u n
+
+pub maps_low : (s : Scheme) (v w : View) (root : ℕ) (t : Tables) (page leaf n : ℕ) → page < page_limit s → MapsAt s v w root t page (walk_leaf s page) leaf n
+    → MapsAt s v w root t page (leaf_node page) leaf n
+maps_low s v w root t page leaf n low maps = subst (λ (number : ℕ). MapsAt s v w root t page number leaf n) (low_leaf s page low) maps
