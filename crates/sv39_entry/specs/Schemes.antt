@@ -82,7 +82,7 @@ of_scheme Sv48 = record {
   upper_tables = refl;
 }
 
--- a page of the lower half is its own low page
+-- a page below the limit is its own low page
 pub low_is : (s : Scheme) (page : ℕ) → page < page_limit s → low_page s page ≡ page
 low_is Sv39 page low = omega (arith, low)
 low_is Sv48 page low = omega (arith, low)
