@@ -55,9 +55,9 @@ fn deepest_table<F: FrameAccess>(
 ) -> (FrameNo, u32)
     requires fits { Fits F.rule store.old seat.old }
     requires held { (t : Tables) × HasTables scheme (F.Seat.view seat.old) root.0 t }
-    ensures there { (t : Tables) → HasTables scheme (F.Seat.view seat.old) root.0 t → get t.tables (node scheme page ((top_level scheme) - result.1)) ≡ Some result.0.0 }
-    ensures last { (t : Tables) → HasTables scheme (F.Seat.view seat.old) root.0 t → 0 < result.1 → get t.tables (node scheme page (suc ((top_level scheme) - result.1))) ≡ None }
-    ensures low { result.1 ≤ (top_level scheme) }
+    ensures there { (t : Tables) → HasTables scheme (F.Seat.view seat.old) root.0 t → get t.tables (node scheme page (top_level scheme - result.1)) ≡ Some result.0.0 }
+    ensures last { (t : Tables) → HasTables scheme (F.Seat.view seat.old) root.0 t → 0 < result.1 → get t.tables (node scheme page (suc (top_level scheme - result.1))) ≡ None }
+    ensures low { result.1 ≤ top_level scheme }
     ensures view { F.Seat.view seat.new ≡ F.Seat.view seat.old }
     ensures same { store.new ≡ store.old }
     ensures keeps { Keeps F.rule store.old seat.old store.new seat.new }
@@ -84,7 +84,7 @@ pub fn table_at<F: FrameAccess>(
 ) -> Option<FrameNo>
     requires fits { Fits F.rule store.old seat.old }
     requires held { (t : Tables) × HasTables scheme (F.Seat.view seat.old) root.0 t }
-    requires low { depth ≤ (top_level scheme) }
+    requires low { depth ≤ top_level scheme }
     ensures table { (t : Tables) → HasTables scheme (F.Seat.view seat.old) root.0 t → option_map (λ f. f.0) result ≡ get t.tables (node scheme page depth) }
     ensures view { F.Seat.view seat.new ≡ F.Seat.view seat.old }
     ensures same { store.new ≡ store.old }
@@ -127,7 +127,7 @@ pub fn missing_tables<F: FrameAccess>(
     requires fits { Fits F.rule store.old seat.old }
     requires held { (t : Tables) × HasTables scheme (F.Seat.view seat.old) root.0 t }
     ensures missing { (t : Tables) → HasTables scheme (F.Seat.view seat.old) root.0 t → result ≡ missing scheme t page }
-    ensures few { result ≤ (top_level scheme) }
+    ensures few { result ≤ top_level scheme }
     ensures view { F.Seat.view seat.new ≡ F.Seat.view seat.old }
     ensures same { store.new ≡ store.old }
     ensures keeps { Keeps F.rule store.old seat.old store.new seat.new }
