@@ -13,7 +13,7 @@ use Rattle.table_walk.specs.Tables.{ChangesTables, HasTables, Tables, IsGrown, l
 use Rattle.table_walk.specs.Keys.{insert_other, insert_same}
 use Rattle.table_walk.specs.Same.{same_tables}
 use Rattle.sv39_entry.specs.Schemes.{top_level}
-use Rattle.sv39_entry.specs.declared.scheme.Scheme.TheVariants.{Sv39}
+use Rattle.sv39_entry.specs.declared.scheme.Scheme.{Scheme}
 use Rattle.address_space.specs.Agreement.{Names, nothing, one_of, Owns}
 use Rattle.address_space.specs.Steps.{Spends}
 use Rattle.address_space.proofs.Owned.{claimed_here, claimed_other, no_table, one_else, one_frame, one_here, recounted_owns, same_references, same_sole, spare_comes, unnamed}
@@ -59,7 +59,7 @@ module _ (v w : View) (f : ℕ) (c : Comes v w f) where
   pub not_held_before : (g : ℕ) → IsHeld v g → g ≡ f → ⊥
   not_held_before g held same = let none : references v g ≡ 0 = ap (references v) same ∙ c.fresh in omega (arith, none, held)
 
-  pub come_tables : (root : ℕ) (t : Tables) → HasTables Sv39 v root t → HasTables Sv39 w root t
+  pub come_tables : {z : Scheme} (root : ℕ) (t : Tables) → HasTables z v root t → HasTables z w root t
   come_tables root t h = same_tables v w root t (λ k g at. c.others g (not_held_before g (h.own k g at).0)) h
 
   pub come_held : (g : ℕ) → IsHeld v g → IsHeld w g
@@ -73,9 +73,9 @@ module _ (v w : View) (f : ℕ) (c : Comes v w f) where
   come_owns t o = recounted_owns v w t nothing (one_of f) (spare_comes v w t f c.fresh c.one c.others (come_unnamed t o)) o
 
 -- a leaf is put over a frame that had no name and one reference more, and tables that were missing are there
-module _ (v w : View) (t u : Tables) (n root page x f : ℕ) (before after : ℕ → ℕ) (o : Owns v t before) (free : (k : ℕ) → Names t f k → ⊥)
-    (moves : (g : ℕ) → before g ≡ after g + one_of f g) (h : HasTables Sv39 v root t) (grown : IsGrown Sv39 t u page (top_level Sv39))
-    (changes : ChangesTables v w t u n) (has_tables : HasTables Sv39 w root (with_leaf u (leaf_node page) x)) (names : ppn x ≡ ppn_of f)
+module _ {z : Scheme} (v w : View) (t u : Tables) (n root page x f : ℕ) (before after : ℕ → ℕ) (o : Owns v t before) (free : (k : ℕ) → Names t f k → ⊥)
+    (moves : (g : ℕ) → before g ≡ after g + one_of f g) (h : HasTables z v root t) (grown : IsGrown z t u page (top_level z))
+    (changes : ChangesTables v w t u n) (has_tables : HasTables z w root (with_leaf u (leaf_node page) x)) (names : ppn x ≡ ppn_of f)
     (unmapped : get t.leaves (leaf_node page) ≡ None) (sole : has x 2 ≡ true → IsSole v f) where
   f_count : references v f ≡ 1 + after f
   f_count = let was = o.bare f free in let one = one_here f f refl in let m = moves f in omega (arith, was, one, m)
@@ -196,7 +196,7 @@ module _ (v w : View) (t u : Tables) (n root page x f : ℕ) (before after : ℕ
         ∙ o.bare g (λ k names_g. none k (stays g k names_g))
         ∙ other_count g (λ is. none (leaf_node page) (subst (λ y. Names (with_leaf u (leaf_node page) x) y (leaf_node page)) (sym is) here));
     writable = λ g k y leaf names_g writes. elim (leaf_origin g k y leaf names_g) [
-      | inl is ↦ subst (IsSole w) (sym is.2) (same_sole v w f f_same (sole (ap (λ z. has z 2) (sym is.1) ∙ writes)))
+      | inl is ↦ subst (IsSole w) (sym is.2) (same_sole v w f f_same (sole (ap (λ y. has y 2) (sym is.1) ∙ writes)))
       | inr is ↦ same_sole v w g (leaf_same k y g is names_g) (o.writable g k y is names_g writes)
     ];
   }

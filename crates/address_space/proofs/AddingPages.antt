@@ -1,6 +1,5 @@
 -- A space gets a page: its frame is claimed and filled, the tables that were missing are made, and a leaf names the frame.
 use Rattle.std.proofs.Common.{◌≡◌, ℕ, ◌<◌, None, Some, List, ◌∷◌, not, ◌&&◌, false, refl, ap, sym, ◌∙◌, inl, inr, arith}
-use Rattle.std.specs.Prelude.{◌^◌}
 use Rattle.std.proofs.lemmas.Bool.{cases_eq}
 use Rattle.std.proofs.lemmas.Option.{same_Some}
 use Rattle.std.specs.FinMap.{get}
@@ -11,14 +10,12 @@ use Rattle.process_model.specs.Bytes.{padded}
 use Rattle.process_model.specs.PageMap as pages
 use Rattle.process_model.specs.Process.{Page, Process}
 use Rattle.process_model.specs.Regions.{Region, is_shared_kind}
-use Rattle.sv39_entry.specs.Address.{trampoline_page, trapframe_page}
 use Rattle.sv39_entry.specs.Frame.{ppn_of}
 use Rattle.sv39_entry.specs.Word.{ppn}
 use Rattle.table_walk.specs.Counted.{AreTablesOf, same_members}
 use Rattle.table_walk.specs.Tables.{ChangesTables, HasTables, Tables, IsGrown, leaf_node, missing, with_leaf}
 use Rattle.table_walk.specs.Keys.{insert_other, insert_same, is_none}
-use Rattle.sv39_entry.specs.Schemes.{top_level}
-use Rattle.sv39_entry.specs.declared.scheme.Scheme.TheVariants.{Sv39}
+use Rattle.sv39_entry.specs.Schemes.{top_level, trampoline_page, trapframe_page, of_scheme}
 use Rattle.address_space.specs.Agreement.{IsLeafNumber, IsPageLeaf, nothing, one_of, OthersKeep, Shows}
 use Rattle.address_space.specs.Steps.{Adds, CanAdd, settled_with}
 use Rattle.address_space.proofs.AddingFrames.{Comes, come_owns, come_tables, come_unnamed, f_same, leaf_owns, leaf_same, not_held_before}
@@ -27,20 +24,20 @@ use Rattle.process_model.specs.Inserted.{all_keys, inserted_here, inserted_other
 
 module _ (v : View) (root trapframe : ℕ) (t : Tables) (p : Process) (page : ℕ) (region : Region) (can : CanAdd v root trapframe t p page region) where
   -- the page's leaf is no other one
-  leaf_apart : (n : ℕ) → n < 2 ^ 27 → (n ≡ page → ⊥) → leaf_node n ≡ leaf_node page → ⊥
-  leaf_apart n low apart same = apart (one_page n page low (omega (arith, can.low)) same)
+  leaf_apart : (n : ℕ) → (n ≡ page → ⊥) → leaf_node n ≡ leaf_node page → ⊥
+  leaf_apart n apart same = apart (one_page n page same)
 
   not_settled : (n : ℕ) (s : Page) → pages.get p.settled n ≡ Some s → n ≡ page → ⊥
   not_settled n s found same = let none = rw (same, can.unsettled) at found in cc
 
   settled_apart : (n : ℕ) (s : Page) → pages.get p.settled n ≡ Some s → leaf_node n ≡ leaf_node page → ⊥
-  settled_apart n s found = leaf_apart n (omega (arith, can.stands.shows.low n s found)) (not_settled n s found)
+  settled_apart n s found = leaf_apart n (not_settled n s found)
 
-  trampoline_apart : leaf_node trampoline_page ≡ leaf_node page → ⊥
-  trampoline_apart = leaf_apart trampoline_page (omega arith) (λ same. omega (arith, same, can.low))
+  trampoline_apart : leaf_node (trampoline_page p.scheme) ≡ leaf_node page → ⊥
+  trampoline_apart = leaf_apart (trampoline_page p.scheme) (λ same. omega (arith, same, can.low, of_scheme p.scheme))
 
-  trapframe_apart : leaf_node trapframe_page ≡ leaf_node page → ⊥
-  trapframe_apart = leaf_apart trapframe_page (omega arith) (λ same. omega (arith, same, can.low))
+  trapframe_apart : leaf_node (trapframe_page p.scheme) ≡ leaf_node page → ⊥
+  trapframe_apart = leaf_apart (trapframe_page p.scheme) (λ same. omega (arith, same, can.low, of_scheme p.scheme))
 
   no_number : IsLeafNumber p (leaf_node page) → ⊥
   no_number (inl is) = trampoline_apart (sym is)
@@ -51,7 +48,7 @@ module _ (v : View) (root trapframe : ℕ) (t : Tables) (p : Process) (page : �
   unmapped = is_none (get t.leaves (leaf_node page)) (λ y leaf. no_number (can.stands.shows.only (leaf_node page) y leaf))
 
   module _ (r w : View) (u : Tables) (x f : ℕ) (bytes : List ℕ) (c : Comes v r f) (has : HasBytes r f (padded 4096 bytes)) (made : IsPageLeaf x f region false (not (is_shared_kind region.kind) && region.writes))
-      (grown : IsGrown Sv39 t u page (top_level Sv39)) (tables : HasTables Sv39 w root (with_leaf u (leaf_node page) x)) (changes : ChangesTables r w t u (missing Sv39 t page)) where
+      (grown : IsGrown p.scheme t u page (top_level p.scheme)) (tables : HasTables p.scheme w root (with_leaf u (leaf_node page) x)) (changes : ChangesTables r w t u (missing p.scheme t page)) where
     keeps : OthersKeep t (with_leaf u (leaf_node page) x) page
     keeps k apart = insert_other u.leaves (leaf_node page) x k apart ∙ ap (λ leaves. get leaves k) grown.leaves
 
@@ -59,12 +56,12 @@ module _ (v : View) (root trapframe : ℕ) (t : Tables) (p : Process) (page : �
     here = insert_same u.leaves (leaf_node page) x (leaf_node page) refl
 
     filled_same : hold_of w f ≡ hold_of r f
-    filled_same = f_same r w t u (missing Sv39 t page) root page x f (one_of f) nothing (come_owns v r f c t can.stands.owns) (come_unnamed v r f c t can.stands.owns) (λ g. omega arith) (come_tables v r f c root t can.stands.tables) grown changes tables made.names unmapped (λ writes. c.sole)
+    filled_same = f_same r w t u (missing p.scheme t page) root page x f (one_of f) nothing (come_owns v r f c t can.stands.owns) (come_unnamed v r f c t can.stands.owns) (λ g. omega arith) (come_tables v r f c root t can.stands.tables) grown changes tables made.names unmapped (λ writes. c.sole)
 
     old_same : (m y g : ℕ) → get t.leaves m ≡ Some y → ppn y ≡ ppn_of g → hold_of w g ≡ hold_of v g
     old_same m y g leaf names =
         let held : IsHeld v g = named_held v t nothing can.stands.owns g m (inr (y, leaf, names)) in
-        leaf_same r w t u (missing Sv39 t page) root page x f (one_of f) nothing (come_owns v r f c t can.stands.owns) (come_unnamed v r f c t can.stands.owns) (λ g. omega arith) (come_tables v r f c root t can.stands.tables) grown changes tables made.names unmapped (λ writes. c.sole) m y g leaf names
+        leaf_same r w t u (missing p.scheme t page) root page x f (one_of f) nothing (come_owns v r f c t can.stands.owns) (come_unnamed v r f c t can.stands.owns) (λ g. omega arith) (come_tables v r f c root t can.stands.tables) grown changes tables made.names unmapped (λ writes. c.sole) m y g leaf names
         ∙ c.others g (not_held_before v r f c g held)
 
     module _ (fresh : ℕ) where
@@ -114,22 +111,22 @@ module _ (v : View) (root trapframe : ℕ) (t : Tables) (p : Process) (page : �
             ];
           }
 
-    pub adds : AreTablesOf Sv39 u (page ∷ pages.keys p.tabled) → Adds v w root trapframe t (with_leaf u (leaf_node page) x) p page bytes f
+    pub adds : AreTablesOf p.scheme u (page ∷ pages.keys p.tabled) → Adds v w root trapframe t (with_leaf u (leaf_node page) x) p page bytes f
     adds tabled = record {
       stands = λ fresh. record {
         tables = tables;
-        owns = leaf_owns r w t u (missing Sv39 t page) root page x f (one_of f) nothing (come_owns v r f c t can.stands.owns) (come_unnamed v r f c t can.stands.owns) (λ g. omega arith) (come_tables v r f c root t can.stands.tables) grown changes tables made.names unmapped (λ writes. c.sole);
+        owns = leaf_owns r w t u (missing p.scheme t page) root page x f (one_of f) nothing (come_owns v r f c t can.stands.owns) (come_unnamed v r f c t can.stands.owns) (λ g. omega arith) (come_tables v r f c root t can.stands.tables) grown changes tables made.names unmapped (λ writes. c.sole);
         shows = added_shows fresh;
-        tabled = same_members Sv39 u (page ∷ pages.keys p.tabled) (pages.keys (pages.insert p.tabled page tt)) (key_in page tt p.tabled) (key_out page tt p.tabled) tabled;
-        tabled_low = all_keys (λ n. n < trapframe_page) p.tabled page tt can.low can.stands.tabled_low;
+        tabled = same_members p.scheme u (page ∷ pages.keys p.tabled) (pages.keys (pages.insert p.tabled page tt)) (key_in page tt p.tabled) (key_out page tt p.tabled) tabled;
+        tabled_low = all_keys (λ n. n < (trapframe_page p.scheme)) p.tabled page tt can.low can.stands.tabled_low;
       };
       on = (x, here, made.names);
       fresh = c.fresh;
       sole = same_sole r w f filled_same c.sole;
       others = keeps;
-      saved = let leaf = can.stands.shows.on_trapframe in old_same (leaf_node trapframe_page) leaf.0 trapframe leaf.1 leaf.2.names;
+      saved = let leaf = can.stands.shows.on_trapframe in old_same (leaf_node (trapframe_page p.scheme)) leaf.0 trapframe leaf.1 leaf.2.names;
       spends = record {
         credits = omega (arith, changes.credits, c.spends.credits);
-        tallies = spent_on _ _ _ 1 (missing Sv39 t page) c.spends.tallies changes.tallies;
+        tallies = spent_on _ _ _ 1 (missing p.scheme t page) c.spends.tallies changes.tallies;
       };
     }

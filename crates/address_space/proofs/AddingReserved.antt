@@ -1,6 +1,6 @@
 -- Frames for a page are reserved together, and then the page is added.
-use Rattle.std.proofs.Common.{◌≡◌, ℕ, ◌+◌, ◌-◌, ◌<◌, ◌≤◌, Option, Some, List, ◌∷◌, append-nil, Result, Ok, Err, IsOk, IsErr, IfErr, is_ok, if◌then◌else◌, true, false, ap, sym, ◌∙◌, arith, []}
-use Rattle.std.specs.Prelude.{◌^◌, All}
+use Rattle.std.proofs.Common.{◌≡◌, ℕ, ◌+◌, ◌-◌, ◌<◌, ◌≤◌, Option, Some, List, ◌∷◌, append-nil, Result, Ok, Err, IsOk, IsErr, IfErr, is_ok, if◌then◌else◌, true, false, ap, sym, ◌∙◌, arith, [], subst}
+use Rattle.std.specs.Prelude.{All}
 use Rattle.frame_store.specs.Holds.{hold_of-frames}
 use Rattle.frame_store.specs.Laws.{IsDry}
 use Rattle.frame_store.specs.Tallies.{spent_is, spent_taken}
@@ -17,7 +17,8 @@ use Rattle.address_space.specs.Layouts.{Layout}
 use Rattle.address_space.specs.Steps.{Adds, CanAdd, CanSettle, RunsDry, Settles}
 use Rattle.address_space.proofs.Owned.{same_references, same_stands}
 use Rattle.address_space.proofs.Sound.{low_at, sound_more}
-use Rattle.sv39_entry.specs.declared.scheme.Scheme.TheVariants.{Sv39}
+use Rattle.sv39_entry.specs.Schemes.{page_limit, of_scheme}
+use Rattle.sv39_entry.specs.declared.scheme.Scheme.{Scheme}
 
 -- an error of a reservation
 
@@ -34,24 +35,25 @@ none_taken (Ok x) n a b c err left free = absurd (cc)
 none_taken (Err e) n a b c err left free = omega (arith, left, free)
 
 -- the tables that are missing on the way to a page are those that it needs beside the tables of others
-abbrev pub CountsGrowth : Type 0
-CountsGrowth = (t : Tables) (others : List ℕ) (page : ℕ) → AreTablesOf Sv39 t others → All (λ n. n < 2 ^ 27) others → page < 2 ^ 27
-    → missing Sv39 t page ≡ tables_needed Sv39 (page ∷ others) - tables_needed Sv39 others
+abbrev pub CountsGrowth : Scheme → Type 0
+CountsGrowth z = (t : Tables) (others : List ℕ) (page : ℕ) → AreTablesOf z t others → All (λ n. n < page_limit z) others → page < page_limit z
+    → missing z t page ≡ tables_needed z (page ∷ others) - tables_needed z others
 
-pub need_is : (v : View) (root trapframe : ℕ) (l : Layout) (t : Tables) (p : Process) (page : ℕ) → CanSettle (body v root trapframe l) t p page → CountsGrowth
-    → settle_need p page ≡ 1 + missing Sv39 t page
+pub need_is : (v : View) (root trapframe : ℕ) (l : Layout) (t : Tables) (p : Process) (page : ℕ) → CanSettle (body v root trapframe l) t p page → CountsGrowth p.scheme
+    → settle_need p page ≡ 1 + missing p.scheme t page
 need_is v root trapframe l t p page can law =
     let low = low_at p can.agrees.sound.order page can.region can.in_region in
-    let all : All (λ n. n < 2 ^ 27) (pages.keys p.tabled) = λ k d less. let one = can.agrees.stands.tabled_low k d less in omega (arith, one) in
-    ap (λ n. 1 + n) (sym (law t (pages.keys p.tabled) page can.agrees.stands.tabled all (omega (arith, low))))
+    let all : All (λ n. n < page_limit p.scheme) (pages.keys p.tabled) = λ k d less. let one = can.agrees.stands.tabled_low k d less in omega (arith, one, of_scheme p.scheme) in
+    ap (λ n. 1 + n) (sym (law t (pages.keys p.tabled) page can.agrees.stands.tabled all (omega (arith, low, of_scheme p.scheme))))
 
 -- a reservation of n credits was refused
 module _ (v u w : View) (n : ℕ) (is : u ≡ v) (dry : IsDry n u w) where
-  pub runs_dry : (root trapframe : ℕ) (l : Layout) (page : ℕ) → CountsGrowth → ((t : Tables) → HasTables Sv39 v root t → n ≡ 1 + missing Sv39 t page)
+  pub runs_dry : (root trapframe : ℕ) (l : Layout) (page : ℕ) → CountsGrowth l.scheme → ((t : Tables) → HasTables l.scheme v root t → n ≡ 1 + missing l.scheme t page)
       → (t : Tables) (p : Process) → CanSettle (body v root trapframe l) t p page → RunsDry v w (settle_need p page) []
   runs_dry root trapframe l page law enough t p can =
-      let need = need_is v root trapframe l t p page can law in
-      let n_is = enough t can.agrees.stands.tables in
+      let scheme = can.agrees.lays.scheme in
+      let need = need_is v root trapframe l t p page can (subst CountsGrowth (sym scheme) law) in
+      let n_is : n ≡ 1 + missing p.scheme t page = subst (λ z. n ≡ 1 + missing z t page) (sym scheme) (enough t (subst (λ z. HasTables z v root t) scheme can.agrees.stands.tables)) in
       record {
         claims = dry.claims ∙ ap (λ (x : View). x.tallies.claims) is;
         zeros = let old = ap (λ (x : View). x.tallies.zeros) is in omega (arith, dry.zeros, old);
@@ -90,12 +92,12 @@ module _ (v : View) (root trapframe : ℕ) (l : Layout) (t : Tables) (p : Proces
           low = low_at p can.agrees.sound.order page r in_region;
         }
 
-    pub settles : (x : View) (s : Tables) (bytes : List ℕ) (f : ℕ) → n ≡ 1 + missing Sv39 t page → settle_need p page ≡ 1 + missing Sv39 t page
+    pub settles : (x : View) (s : Tables) (bytes : List ℕ) (f : ℕ) → n ≡ 1 + missing p.scheme t page → settle_need p page ≡ 1 + missing p.scheme t page
         → Adds w x root trapframe t s p page bytes f → Settles v (body x root trapframe l) t s p page bytes f
     settles x s bytes f enough need a = record {
       agrees = λ fresh. record {
         sound = sound_more fresh bytes p page can.agrees.sound;
-        lays = record { parts = can.agrees.lays.parts; mappings = can.agrees.lays.mappings; heap_base = can.agrees.lays.heap_base; size = can.agrees.lays.size };
+        lays = record { scheme = can.agrees.lays.scheme; parts = can.agrees.lays.parts; mappings = can.agrees.lays.mappings; heap_base = can.agrees.lays.heap_base; size = can.agrees.lays.size };
         stands = a.stands fresh;
         credits = omega (arith, a.spends.credits, reserved_credits, enough);
       };
@@ -106,6 +108,6 @@ module _ (v : View) (root trapframe : ℕ) (l : Layout) (t : Tables) (p : Proces
       takes = record {
         tallies =
             let old : w.tallies ≡ v.tallies = ap (λ (y : View). y.tallies) reserved ∙ ap (λ (y : View). y.tallies) is in
-            spent_taken v.tallies x.tallies (settle_need p page) (spent_is v.tallies x.tallies (1 + missing Sv39 t page) (settle_need p page) (omega (arith, need)) (a.spends.tallies ∙ ap (spent (1 + missing Sv39 t page)) old));
+            spent_taken v.tallies x.tallies (settle_need p page) (spent_is v.tallies x.tallies (1 + missing p.scheme t page) (settle_need p page) (omega (arith, need)) (a.spends.tallies ∙ ap (spent (1 + missing p.scheme t page)) old));
       };
     }

@@ -9,11 +9,12 @@ use Rattle.process_model.specs.PageMap as pages
 use Rattle.process_model.specs.PageMap.{from_list, numbers}
 use Rattle.process_model.specs.Process.{Page}
 use Rattle.process_model.specs.Regions.{end_of, makes_leaf}
-use Rattle.sv39_entry.specs.Address.{trapframe_page}
 use Rattle.address_space.specs.Layouts.{last_page}
 use Rattle.address_space.specs.Parts.{AreParts, IsAscending, pages_of, process_of_parts, region_in, regions_in}
 use Rattle.address_space.specs.declared.part.Part.{Part}
 use Rattle.address_space.proofs.BuildPages.{page_numbers, Pages}
+use Rattle.sv39_entry.specs.Schemes.{trapframe_page}
+use Rattle.sv39_entry.specs.declared.scheme.Scheme.{Scheme}
 
 tail : (P : Part → Type 0) (p : Part) (ps : List Part) → All P (p ∷ ps) → All P ps
 tail P p ps all k d less = all (suc k) d (omega (arith, less))
@@ -22,9 +23,9 @@ row_parts : (ps : List Part) (end : ℕ) → IsAscending end ps → Row 0 end (r
 row_parts [] end up = omega arith
 row_parts (p ∷ ps) end up = (up.0, omega arith, row_parts ps (end_of (region_in p)) up.1)
 
-last_low : (ps : List Part) (end : ℕ) → end ≤ trapframe_page → All (λ p. p.region.first + p.region.pages ≤ trapframe_page) ps → last_page end (regions_in ps) ≤ trapframe_page
-last_low [] end low all = low
-last_low (p ∷ ps) end low all = last_low ps (end_of (region_in p)) (all 0 p (omega arith)) (tail (λ x. x.region.first + x.region.pages ≤ trapframe_page) p ps all)
+last_low : (z : Scheme) (ps : List Part) (end : ℕ) → end ≤ (trapframe_page z) → All (λ p. p.region.first + p.region.pages ≤ (trapframe_page z)) ps → last_page end (regions_in ps) ≤ (trapframe_page z)
+last_low z [] end low all = low
+last_low z (p ∷ ps) end low all = last_low z ps (end_of (region_in p)) (all 0 p (omega arith)) (tail (λ x. x.region.first + x.region.pages ≤ (trapframe_page z)) p ps all)
 
 each_leafy : (ps : List Part) → All (λ p. makes_leaf (region_in p) ≡ true) ps → EachRegion HasLeaves (regions_in ps)
 each_leafy [] all = tt
@@ -43,10 +44,10 @@ tabled_from (e ∷ es) fresh n s at = elim (cases_eq n e.0) [
       ∙ tabled_from es (fresh + 1) n s (sym (inserted_other e.0 _ (from_list (numbered (fresh + 1) es)) n apart) ∙ at)
 ]
 
-pub sound_whole : (ps : List Part) → AreParts ps → (fresh : ℕ) → IsSound (process_of_parts fresh ps)
-sound_whole ps are fresh =
+pub sound_whole : (z : Scheme) (ps : List Part) → AreParts z ps → (fresh : ℕ) → IsSound (process_of_parts z fresh ps)
+sound_whole z ps are fresh =
     let end = last_page 0 (regions_in ps) in
-    let low = last_low ps 0 (omega arith) are.low in
+    let low = last_low z ps 0 (omega arith) are.low in
     let base : 4096 * end / 4096 ≡ end = omega arith in
     record {
       order = record {

@@ -1,15 +1,15 @@
 -- Pages that are settled one after another: what the process has then, and how many frames they take.
-use Rattle.std.proofs.Common.{◌≡◌, ℕ, zero, suc, true, false, cond, ◌+◌, ◌-◌, ◌*◌, ◌/◌, ◌^◌, ◌<◌, ◌≤◌, inl, inr, refl, ap, sym, subst, ◌∙◌, arith, List, [], ◌∷◌, ◌++◌, map, length, min, take, drop, replicate}
+use Rattle.std.proofs.Common.{◌≡◌, ℕ, zero, suc, true, false, cond, ◌+◌, ◌-◌, ◌*◌, ◌/◌, ◌<◌, ◌≤◌, inl, inr, refl, ap, sym, subst, ◌∙◌, arith, List, [], ◌∷◌, ◌++◌, map, length, min, take, drop, replicate}
 use Rattle.std.specs.Prelude.{Contains}
 use Rattle.std.proofs.lemmas.List.{drop-drop, drop_min, length-take, take_all, take_min}
 use Rattle.process_model.specs.Bytes.{numbers_from, padded}
-use Rattle.process_model.specs.Frames.{tables_needed, tables_of}
+use Rattle.process_model.specs.Frames.{tables_needed, tables_of, table_sizes, tables_of_sizes}
 use Rattle.process_model.specs.Loading.{page_run}
 use Rattle.process_model.specs.PageMap as pages
 use Rattle.process_model.specs.PageMap.{contains, count}
 use Rattle.process_model.specs.Process.{Page, Process, regions}
-use Rattle.sv39_entry.specs.Address.{trampoline_page, trapframe_page}
-use Rattle.sv39_entry.specs.declared.scheme.Scheme.TheVariants.{Sv39}
+use Rattle.sv39_entry.specs.Schemes.{trampoline_page, trapframe_page}
+use Rattle.sv39_entry.specs.declared.scheme.Scheme.{Scheme}
 use Rattle.address_space.specs.Parts.{with_settled, with_pages}
 use Rattle.process_model.specs.ValueSets.{count_next, none_in, same_count, values}
 use Rattle.process_model.specs.Inserted.{behind, behind_more, first_or, in_front, inserted_other, key_in, key_out}
@@ -77,6 +77,10 @@ other_stays (e ∷ es) p page other =
     other_stays es (with_settled p e) page (λ h. other (behind e.0 page (page_numbers es) h))
     ∙ inserted_other e.0 new p.settled page (λ same. other (subst (λ x. Contains (e.0 ∷ page_numbers es) x) (sym same) (in_front e.0 (page_numbers es))))
 
+pub same_scheme : (es : Pages) (p : Process) → (with_pages p es).scheme ≡ p.scheme
+same_scheme [] p = refl
+same_scheme (e ∷ es) p = same_scheme es (with_settled p e)
+
 -- ---- their tables
 
 more_values : (f : ℕ → ℕ) (x : ℕ) (xs : List ℕ) → count (values f xs) ≤ count (values f (x ∷ xs))
@@ -109,28 +113,31 @@ more_behind_two f a b x xs =
     omega (arith, same, more)
 
 -- the order of the pages does not matter
-pub same_tables_needed : (xs ys : List ℕ) → ((x : ℕ) → Contains xs x → Contains ys x) → ((x : ℕ) → Contains ys x → Contains xs x) → tables_needed Sv39 xs ≡ tables_needed Sv39 ys
+same_sizes : (sizes xs ys : List ℕ) → ((x : ℕ) → Contains xs x → Contains ys x) → ((x : ℕ) → Contains ys x → Contains xs x) → tables_of_sizes sizes xs ≡ tables_of_sizes sizes ys
+same_sizes [] xs ys there back = refl
+same_sizes (size ∷ sizes) xs ys there back = rw (same_count (λ n. n / size) xs ys there back, same_sizes sizes xs ys there back) refl
+
+pub same_tables_needed : (z : Scheme) (xs ys : List ℕ) → ((x : ℕ) → Contains xs x → Contains ys x) → ((x : ℕ) → Contains ys x → Contains xs x) → tables_needed z xs ≡ tables_needed z ys
 unfolding tables_needed
-same_tables_needed xs ys there back =
+same_tables_needed z xs ys there back =
     let kernel = λ (ns ms : List ℕ) (into : (x : ℕ) → Contains ns x → Contains ms x).
-    behind_more trampoline_page (trapframe_page ∷ ns) (trapframe_page ∷ ms) (behind_more trapframe_page ns ms into) in
-    let large = same_count (λ n. n / 2 ^ 18) (trampoline_page ∷ trapframe_page ∷ xs) (trampoline_page ∷ trapframe_page ∷ ys) (kernel xs ys there) (kernel ys xs back) in
-    let small = same_count (λ n. n / 2 ^ 9) (trampoline_page ∷ trapframe_page ∷ xs) (trampoline_page ∷ trapframe_page ∷ ys) (kernel xs ys there) (kernel ys xs back) in
-    rw (large, small) refl
+    behind_more (trampoline_page z) (trapframe_page z ∷ ns) (trapframe_page z ∷ ms) (behind_more (trapframe_page z) ns ms into) in
+    ap (λ (n : ℕ). 1 + n) (same_sizes (table_sizes z) (trampoline_page z ∷ trapframe_page z ∷ xs) (trampoline_page z ∷ trapframe_page z ∷ ys) (kernel xs ys there) (kernel ys xs back))
 
 -- a page more needs no fewer tables
-pub more_tables : (x : ℕ) (xs : List ℕ) → tables_needed Sv39 xs ≤ tables_needed Sv39 (x ∷ xs)
-unfolding tables_needed
-more_tables x xs =
-    let large = more_behind_two (λ n. n / 2 ^ 18) trampoline_page trapframe_page x xs in
-    let small = more_behind_two (λ n. n / 2 ^ 9) trampoline_page trapframe_page x xs in
-    omega (arith, large, small)
+more_sizes : (sizes : List ℕ) (a b x : ℕ) (xs : List ℕ) → tables_of_sizes sizes (a ∷ b ∷ xs) ≤ tables_of_sizes sizes (a ∷ b ∷ x ∷ xs)
+more_sizes [] a b x xs = omega arith
+more_sizes (size ∷ sizes) a b x xs = let here = more_behind_two (λ n. n / size) a b x xs in let rest = more_sizes sizes a b x xs in omega (arith, here, rest)
 
-pub tables_next : (p : Process) (e : ℕ × List ℕ) → tables_of (with_settled p e) ≡ tables_needed Sv39 (e.0 ∷ pages.keys p.tabled)
-tables_next p e = same_tables_needed _ _ (key_out e.0 tt p.tabled) (key_in e.0 tt p.tabled)
+pub more_tables : (z : Scheme) (x : ℕ) (xs : List ℕ) → tables_needed z xs ≤ tables_needed z (x ∷ xs)
+unfolding tables_needed
+more_tables z x xs = let more = more_sizes (table_sizes z) (trampoline_page z) (trapframe_page z) x xs in omega (arith, more)
+
+pub tables_next : (p : Process) (e : ℕ × List ℕ) → tables_of (with_settled p e) ≡ tables_needed p.scheme (e.0 ∷ pages.keys p.tabled)
+tables_next p e = same_tables_needed p.scheme _ _ (key_out e.0 tt p.tabled) (key_in e.0 tt p.tabled)
 
 tables_up : (p : Process) (e : ℕ × List ℕ) → tables_of p ≤ tables_of (with_settled p e)
-tables_up p e = let next = tables_next p e in let more = more_tables e.0 (pages.keys p.tabled) in omega (arith, next, more)
+tables_up p e = let next = tables_next p e in let more = more_tables p.scheme e.0 (pages.keys p.tabled) in omega (arith, next, more)
 
 pub tables_up_to : (es : Pages) (p : Process) → tables_of p ≤ tables_of (with_pages p es)
 tables_up_to [] p = omega arith

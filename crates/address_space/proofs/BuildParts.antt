@@ -17,10 +17,12 @@ use Rattle.table_walk.specs.Tables.{Tables}
 use Rattle.address_space.specs.Layouts.{last_page}
 use Rattle.address_space.specs.Parts.{AreParts, bare_process, CanFill, Fills, IsAscending, numbers_of, pages_need, pages_of, part_pages, region_in, regions_in, StandsAlone, with_pages}
 use Rattle.address_space.specs.declared.part.Part.{Part}
-use Rattle.address_space.proofs.BuildPages.{Pages, in_run, other_stays, same_regions, tables_up_to, with_both}
+use Rattle.address_space.proofs.BuildPages.{Pages, in_run, other_stays, same_regions, tables_up_to, with_both, same_scheme}
 use Rattle.address_space.proofs.Found.{first_found, first_passed, in_front}
 use Rattle.address_space.proofs.NeededParts.{begins, pages_more}
 use Rattle.process_model.specs.ValueSets.{none_in}
+use Rattle.sv39_entry.specs.declared.scheme.Scheme.{Scheme}
+use Rattle.sv39_entry.specs.Schemes.{trapframe_page}
 
 -- ---- pages of some parts, and then of others
 
@@ -93,48 +95,48 @@ in_part (p ∷ ps) end (suc i) page d up less from below =
 
 -- ---- one part more
 
-module _ (v : View) (root trapframe : ℕ) (ps : List Part) (are : AreParts ps) where
-  pub fills_bare : (t : Tables) → StandsAlone v root trapframe t (bare_process ps) → Fills v v root trapframe t (bare_process ps) []
+module _ (z : Scheme) (v : View) (root trapframe : ℕ) (ps : List Part) (are : AreParts z ps) where
+  pub fills_bare : (t : Tables) → StandsAlone v root trapframe t (bare_process z ps) → Fills v v root trapframe t (bare_process z ps) []
   fills_bare t stands = record {
     after = stands;
     saved = refl;
     spends = record { credits = omega arith; tallies = spent_is v.tallies v.tallies 0 _ (omega arith) (spent_none v.tallies) };
   }
 
-  module _ (i : ℕ) (d : Part) (less : i < length ps) (w : View) (u : Tables) (fills : Fills v w root trapframe u (bare_process ps) (pages_of (take i ps))) where
+  module _ (i : ℕ) (d : Part) (less : i < length ps) (w : View) (u : Tables) (fills : Fills v w root trapframe u (bare_process z ps) (pages_of (take i ps))) where
     abbrev part : Part
     part = get_or ps i d
 
     abbrev before : Process
-    before = with_pages (bare_process ps) (pages_of (take i ps))
+    before = with_pages (bare_process z ps) (pages_of (take i ps))
 
     pub can_fill : CanFill w root trapframe u before part
     can_fill = record {
       before = fills.after;
       unsettled = λ page from.
-          other_stays (pages_of (take i ps)) (bare_process ps) page
+          other_stays (pages_of (take i ps)) (bare_process z ps) page
           (λ h. let below = numbers_below ps 0 i page are.ascending h in let next = begins ps i d less are.ascending in omega (arith, below, next, from));
       in_region = λ page from below.
-          ap (λ rs. region_at rs page) (same_regions (pages_of (take i ps)) (bare_process ps))
-          ∙ in_front (regions_in ps) (heap_of (bare_process ps) ∷ []) page (region_in part) (in_part ps 0 i page d are.ascending less from below);
+          ap (λ rs. region_at rs page) (same_regions (pages_of (take i ps)) (bare_process z ps))
+          ∙ in_front (regions_in ps) (heap_of (bare_process z ps) ∷ []) page (region_in part) (in_part ps 0 i page d are.ascending less from below);
       leafy = are.leafy i d less;
-      low = are.low i d less;
+      low = subst (λ s. end_of (region_in part) ≤ trapframe_page s) (sym (same_scheme (pages_of (take i ps)) (bare_process z ps))) (are.low i d less);
     }
 
-    need_part : pages_need (bare_process ps) (pages_of (take (i + 1) ps)) ≡ pages_need (bare_process ps) (pages_of (take i ps)) + pages_need before (part_pages part)
-    need_part = ap (pages_need (bare_process ps)) (pages_more ps i d less) ∙ need_both (pages_of (take i ps)) (part_pages part) (bare_process ps)
+    need_part : pages_need (bare_process z ps) (pages_of (take (i + 1) ps)) ≡ pages_need (bare_process z ps) (pages_of (take i ps)) + pages_need before (part_pages part)
+    need_part = ap (pages_need (bare_process z ps)) (pages_more ps i d less) ∙ need_both (pages_of (take i ps)) (part_pages part) (bare_process z ps)
 
-    need_all : pages_need (bare_process ps) (pages_of ps) ≡ pages_need (bare_process ps) (pages_of (take (i + 1) ps)) + pages_need (with_pages (bare_process ps) (pages_of (take (i + 1) ps))) (pages_of (drop (i + 1) ps))
+    need_all : pages_need (bare_process z ps) (pages_of ps) ≡ pages_need (bare_process z ps) (pages_of (take (i + 1) ps)) + pages_need (with_pages (bare_process z ps) (pages_of (take (i + 1) ps))) (pages_of (drop (i + 1) ps))
     need_all =
-        ap (λ qs. pages_need (bare_process ps) (pages_of qs)) (sym (take-append-drop (i + 1) ps)) ∙ ap (pages_need (bare_process ps)) (flat_map-append part_pages (take (i + 1) ps) (drop (i + 1) ps))
-        ∙ need_both (pages_of (take (i + 1) ps)) (pages_of (drop (i + 1) ps)) (bare_process ps)
+        ap (λ qs. pages_need (bare_process z ps) (pages_of qs)) (sym (take-append-drop (i + 1) ps)) ∙ ap (pages_need (bare_process z ps)) (flat_map-append part_pages (take (i + 1) ps) (drop (i + 1) ps))
+        ∙ need_both (pages_of (take (i + 1) ps)) (pages_of (drop (i + 1) ps)) (bare_process z ps)
 
-    pub part_enough : pages_need (bare_process ps) (pages_of ps) ≤ v.credits → pages_need before (part_pages part) ≤ w.credits
+    pub part_enough : pages_need (bare_process z ps) (pages_of ps) ≤ v.credits → pages_need before (part_pages part) ≤ w.credits
     part_enough enough =
         let here = need_part in
         let all = need_all in
         let spent = fills.spends.credits in
         omega (arith, enough, here, all, spent)
 
-    pub part_fills : (x : View) (y : Tables) → Fills w x root trapframe y before (part_pages part) → Fills v x root trapframe y (bare_process ps) (pages_of (take (i + 1) ps))
-    part_fills x y more = rw (pages_more ps i d less) (fills_both v w x root trapframe u y (bare_process ps) (pages_of (take i ps)) (part_pages part) fills more)
+    pub part_fills : (x : View) (y : Tables) → Fills w x root trapframe y before (part_pages part) → Fills v x root trapframe y (bare_process z ps) (pages_of (take (i + 1) ps))
+    part_fills x y more = rw (pages_more ps i d less) (fills_both v w x root trapframe u y (bare_process z ps) (pages_of (take i ps)) (part_pages part) fills more)

@@ -16,16 +16,17 @@ use Rattle.process_model.specs.PageMap as pages
 use Rattle.process_model.specs.PageMap.{NumberSet, from_list, numbers, with_numbers}
 use Rattle.process_model.specs.Process.{Page, Process, regions}
 use Rattle.process_model.specs.Regions.{end_of, region_at}
-use Rattle.sv39_entry.specs.Address.{trapframe_page}
-use Rattle.sv39_entry.specs.declared.scheme.Scheme.TheVariants.{Sv39}
 use Rattle.table_walk.specs.Counted.{AreTablesOf}
-use Rattle.table_walk.specs.Tables.{Tables}
-use Rattle.address_space.specs.Agreement.{is_dirty_page, IsPageLeaf, Shows, Stands}
+use Rattle.table_walk.specs.Tables.{Tables, HasTables, leaf_node}
+use Rattle.address_space.specs.Agreement.{is_dirty_page, IsPageLeaf, Shows, Stands, HasKernelLeaf, code_rights, data_rights}
 use Rattle.address_space.specs.Parts.{bare_process, IsAscending, numbers_of, pages_of, part_pages, process_of_parts, region_in, with_settled, with_pages}
 use Rattle.address_space.specs.declared.part.Part.{Part}
-use Rattle.address_space.proofs.BuildPages.{Pages, other_stays, page_numbers, same_regions, same_tables_needed}
+use Rattle.address_space.proofs.BuildPages.{Pages, other_stays, page_numbers, same_regions, same_tables_needed, same_scheme}
 use Rattle.process_model.specs.ValueSets.{none_in}
 use Rattle.process_model.specs.Inserted.{behind_more, first_or, inserted_here, inserted_other, key_in, key_out}
+use Rattle.sv39_entry.specs.Schemes.{trapframe_page, top_level, trampoline_page}
+use Rattle.sv39_entry.specs.declared.scheme.Scheme.{Scheme}
+use Rattle.sv39_entry.specs.declared.scheme.Scheme.TheVariants.{Sv39, Sv48}
 
 -- ---- processes that differ in their copy numbers alone
 
@@ -34,6 +35,7 @@ abbrev shown : Option Page → Option (List ℕ × Bool × Bool)
 shown o = option_map (λ (s : Page). (s.bytes, s.fork_mark, s.stored_mark)) o
 
 pub record IsLike (p q : Process) : Type 0 where
+  pub scheme : p.scheme ≡ q.scheme
   pub regions : regions p ≡ regions q
   pub shows : (n : ℕ) → shown (pages.get p.settled n) ≡ shown (pages.get q.settled n)
   pub tabled : pages.keys p.tabled ≡ pages.keys q.tabled
@@ -67,8 +69,8 @@ module _ (p q : Process) (like : IsLike p q) where
 
   shows_like : (v : View) (trapframe : ℕ) (t : Tables) → Shows v trapframe t p → Shows v trapframe t q
   shows_like v trapframe t s = record {
-    on_trampoline = s.on_trampoline;
-    on_trapframe = s.on_trapframe;
+    on_trampoline = subst (λ z. HasKernelLeaf t (trampoline_page z) 0 code_rights) like.scheme s.on_trampoline;
+    on_trapframe = subst (λ z. HasKernelLeaf t (trapframe_page z) trapframe data_rights) like.scheme s.on_trapframe;
     settled = λ n page at.
         let there = found_there n page at in
         let is = s.settled n there.page there.found in
@@ -84,20 +86,20 @@ module _ (p q : Process) (like : IsLike p q) where
           bytes = subst (HasBytes v is.frame) there.bytes is.bytes;
         };
     only = λ k w leaf. elim (s.only k w leaf) [
-      | inl is ↦ inl is
-      | inr (inl is) ↦ inr (inl is)
+      | inl is ↦ inl (is ∙ ap (λ z. leaf_node (trampoline_page z)) like.scheme)
+      | inr (inl is) ↦ inr (inl (is ∙ ap (λ z. leaf_node (trapframe_page z)) like.scheme))
       | inr (inr (n, page, is, at)) ↦ let there = found_back n page at in inr (inr (n, there.page, is, there.found))
     ];
-    low = λ n page at. let there = found_there n page at in s.low n there.page there.found;
+    low = λ n page at. let there = found_there n page at in subst (λ z. n < trapframe_page z) like.scheme (s.low n there.page there.found);
   }
 
   pub stands_like : (v : View) (root trapframe : ℕ) (extra : ℕ → ℕ) (t : Tables) → Stands v root trapframe extra t p → Stands v root trapframe extra t q
   stands_like v root trapframe extra t s = record {
-    tables = s.tables;
+    tables = subst (λ z. HasTables z v root t) like.scheme s.tables;
     owns = s.owns;
     shows = shows_like v trapframe t s.shows;
-    tabled = subst (AreTablesOf Sv39 t) like.tabled s.tabled;
-    tabled_low = subst (All (λ n. n < trapframe_page)) like.tabled s.tabled_low;
+    tabled = subst (λ z. AreTablesOf z t (pages.keys q.tabled)) like.scheme (subst (AreTablesOf p.scheme t) like.tabled s.tabled);
+    tabled_low = subst (λ z. All (λ n. n < trapframe_page z) (pages.keys q.tabled)) like.scheme (subst (All (λ n. n < trapframe_page p.scheme)) like.tabled s.tabled_low);
   }
 
 -- ---- pages in ascending order
@@ -170,11 +172,12 @@ same_tabled (e ∷ es) p q = same_tabled es (with_settled p e) q ∙ number_last
 same_keys : (m n : NumberSet) → ((q : ℕ) → pages.get m q ≡ pages.get n q) → pages.keys m ≡ pages.keys n
 same_keys m n same = ap (map (λ (e : ℕ × Unit {0}). e.0)) (same_entries nat_cmp nat_cmp_total exact_unsigned m.entries n.entries m.sorted n.sorted same)
 
-pub whole_process : (ps : List Part) → IsAscending 0 ps → (fresh : ℕ) → IsLike (with_pages (bare_process ps) (pages_of ps)) (process_of_parts fresh ps)
-whole_process ps up fresh = record {
-  regions = same_regions (pages_of ps) (bare_process ps);
-  shows = λ n. same_pages (pages_of ps) 0 (rising_parts ps 0 up) (bare_process ps) fresh n refl;
-  tabled = same_keys (with_pages (bare_process ps) (pages_of ps)).tabled (numbers (numbers_of ps)) (same_tabled (pages_of ps) (bare_process ps));
+pub whole_process : (z : Scheme) (ps : List Part) → IsAscending 0 ps → (fresh : ℕ) → IsLike (with_pages (bare_process z ps) (pages_of ps)) (process_of_parts z fresh ps)
+whole_process z ps up fresh = record {
+  scheme = same_scheme (pages_of ps) (bare_process z ps);
+  regions = same_regions (pages_of ps) (bare_process z ps);
+  shows = λ n. same_pages (pages_of ps) 0 (rising_parts ps 0 up) (bare_process z ps) fresh n refl;
+  tabled = same_keys (with_pages (bare_process z ps) (pages_of ps)).tabled (numbers (numbers_of ps)) (same_tabled (pages_of ps) (bare_process z ps));
 }
 
 -- ---- its tables
@@ -187,11 +190,12 @@ from_numbers : (ns : List ℕ) (x : ℕ) → Contains (pages.keys (numbers ns)) 
 from_numbers [] x h = h
 from_numbers (n ∷ ns) x h = behind_more n (pages.keys (numbers ns)) ns (from_numbers ns) x (key_out n tt (numbers ns) x h)
 
-pub whole_tables : (ps : List Part) → tables_of (with_pages (bare_process ps) (pages_of ps)) ≡ tables_needed Sv39 (numbers_of ps)
-whole_tables ps =
-    ap (tables_needed Sv39) (same_keys (with_pages (bare_process ps) (pages_of ps)).tabled (numbers (numbers_of ps)) (same_tabled (pages_of ps) (bare_process ps)))
-    ∙ same_tables_needed (pages.keys (numbers (numbers_of ps))) (numbers_of ps) (from_numbers (numbers_of ps)) (in_numbers (numbers_of ps))
+pub whole_tables : (z : Scheme) (ps : List Part) → tables_of (with_pages (bare_process z ps) (pages_of ps)) ≡ tables_needed z (numbers_of ps)
+whole_tables z ps =
+    ap (λ s. tables_needed s (pages.keys (with_pages (bare_process z ps) (pages_of ps)).tabled)) (same_scheme (pages_of ps) (bare_process z ps)) ∙ ap (tables_needed z) (same_keys (with_pages (bare_process z ps) (pages_of ps)).tabled (numbers (numbers_of ps)) (same_tabled (pages_of ps) (bare_process z ps)))
+    ∙ same_tables_needed z (pages.keys (numbers (numbers_of ps))) (numbers_of ps) (from_numbers (numbers_of ps)) (in_numbers (numbers_of ps))
 
-pub bare_tables : (ps : List Part) → tables_of (bare_process ps) ≡ 3
+pub bare_tables : (z : Scheme) (ps : List Part) → tables_of (bare_process z ps) ≡ 1 + top_level z
 unfolding tables_needed
-bare_tables ps = refl
+bare_tables Sv39 ps = refl
+bare_tables Sv48 ps = refl

@@ -1,5 +1,5 @@
 -- One page more of a part stands, and one part more.
-use Rattle.std.proofs.Common.{◌≡◌, ℕ, ◌+◌, ◌-◌, ◌*◌, ◌^◌, ◌<◌, ◌≤◌, inl, inr, refl, ap, sym, subst, ◌∙◌, arith, List, [], ◌∷◌, drop}
+use Rattle.std.proofs.Common.{◌≡◌, ℕ, ◌+◌, ◌-◌, ◌*◌, ◌<◌, ◌≤◌, inl, inr, refl, ap, sym, subst, ◌∙◌, arith, List, [], ◌∷◌, drop}
 use Rattle.std.specs.Prelude.{All, Contains}
 use Rattle.std.proofs.lemmas.Bool.{cases_eq}
 use Rattle.std.proofs.lemmas.Option.{same_Some}
@@ -14,18 +14,19 @@ use Rattle.process_model.specs.Process.{Process}
 use Rattle.process_model.specs.Regions.{region_at}
 use Rattle.sv39_entry.specs.Address.{page_of}
 use Rattle.sv39_entry.specs.Word.{ppn}
-use Rattle.sv39_entry.specs.declared.scheme.Scheme.TheVariants.{Sv39}
+use Rattle.sv39_entry.specs.Schemes.{page_limit, of_scheme, trapframe_page}
+use Rattle.sv39_entry.specs.declared.scheme.Scheme.{Scheme}
 use Rattle.table_walk.specs.Counted.{AreTablesOf}
 use Rattle.table_walk.specs.Tables.{Tables, leaf_node, missing}
 use Rattle.address_space.specs.Parts.{CanFill, Fills, OwnsAlone, pages_need, part_pages, region_in, with_settled, with_pages}
 use Rattle.address_space.specs.Steps.{Adds, CanAdd, settled_with}
 use Rattle.address_space.specs.declared.part.Part.{Part}
-use Rattle.address_space.proofs.BuildPages.{Pages, in_run, other_stays, page_numbers, run_next, run_split, same_regions, tables_next, tables_up_to, with_both}
+use Rattle.address_space.proofs.BuildPages.{Pages, in_run, other_stays, page_numbers, run_next, run_split, same_regions, tables_next, tables_up_to, with_both, same_scheme}
 use Rattle.address_space.proofs.Owned.{one_frame}
 
 -- how many tables are missing on the way to a page
-abbrev pub CountsMissing : Type 0
-CountsMissing = (t : Tables) (pages : List ℕ) (page : ℕ) → AreTablesOf Sv39 t pages → All (λ n. n < 2 ^ 27) pages → page < 2 ^ 27 → missing Sv39 t page ≡ tables_needed Sv39 (page ∷ pages) - tables_needed Sv39 pages
+abbrev pub CountsMissing : Scheme → Type 0
+CountsMissing z = (t : Tables) (pages : List ℕ) (page : ℕ) → AreTablesOf z t pages → All (λ n. n < page_limit z) pages → page < page_limit z → missing z t page ≡ tables_needed z (page ∷ pages) - tables_needed z pages
 
 -- no other seat has a frame of the page that was added
 added_alone : (v w : View) (root trapframe : ℕ) (t u : Tables) (p : Process) (page : ℕ) (bytes : List ℕ) (f : ℕ) → Adds v w root trapframe t u p page bytes f
@@ -69,7 +70,7 @@ module _ (v : View) (root trapframe : ℕ) (t : Tables) (p : Process) (part : Pa
       unsettled = other_stays (run k) p page not_in_run ∙ can.unsettled page (omega (arith, at));
       in_region = ap (λ rs. region_at rs page) (same_regions (run k) p) ∙ can.in_region page (omega (arith, at)) (omega (arith, at, less));
       leafy = can.leafy;
-      low = let low = can.low in omega (arith, at, less, low);
+      low = subst (λ z. page < trapframe_page z) (sym (same_scheme (run k) p)) (let low = can.low in omega (arith, at, less, low));
     }
 
     abbrev entry : ℕ × List ℕ
@@ -86,13 +87,13 @@ module _ (v : View) (root trapframe : ℕ) (t : Tables) (p : Process) (part : Pa
         ap (λ n. n + (tables_of (with_pages p (run (k + 1))) - tables_of p)) (run_length (k + 1) part.region.first part.bytes.now)
         ∙ ap (λ q. k + 1 + (tables_of q - tables_of p)) after_is
 
-    module _ (law : CountsMissing) where
-      missing_is : missing Sv39 u page ≡ tables_of (with_settled before entry) - tables_of before
+    module _ (law : CountsMissing before.scheme) where
+      missing_is : missing before.scheme u page ≡ tables_of (with_settled before entry) - tables_of before
       missing_is =
           let low = can.low in
           let stands = fills.after.stands in
-          law u (pages.keys before.tabled) page stands.tabled (λ i d inside. omega (arith, stands.tabled_low i d inside)) (omega (arith, at, less, low))
-          ∙ ap (λ n. tables_needed Sv39 (n ∷ pages.keys before.tabled) - tables_of before) at ∙ ap (λ n. n - tables_of before) (sym (tables_next before entry))
+          law u (pages.keys before.tabled) page stands.tabled (λ i d inside. omega (arith, stands.tabled_low i d inside, of_scheme before.scheme)) (omega (arith, at, less, low, ap trapframe_page (same_scheme (run k) p), of_scheme before.scheme))
+          ∙ ap (λ n. tables_needed before.scheme (n ∷ pages.keys before.tabled) - tables_of before) at ∙ ap (λ n. n - tables_of before) (sym (tables_next before entry))
 
       tables_grow : tables_of before ≤ tables_of (with_settled before entry)
       tables_grow = tables_up_to (entry ∷ []) before
@@ -109,7 +110,7 @@ module _ (v : View) (root trapframe : ℕ) (t : Tables) (p : Process) (part : Pa
           ap (λ m. with_pages p (run m)) (sym all) ∙ ap (with_pages p) (run_split (k + 1) n part.region.first part.bytes.now) ∙ with_both (run (k + 1)) rest p ∙ ap (λ q. with_pages q rest) after_is in
           rw whole (tables_up_to rest (with_settled before entry))
 
-      pub enough_left : pages_need p (part_pages part) ≤ v.credits → 1 + missing Sv39 u page ≤ w.credits
+      pub enough_left : pages_need p (part_pages part) ≤ v.credits → 1 + missing before.scheme u page ≤ w.credits
       enough_left enough =
           let all = run_length part.region.pages part.region.first part.bytes.now in
           let missing_now = missing_is in
@@ -140,7 +141,7 @@ module _ (v : View) (root trapframe : ℕ) (t : Tables) (p : Process) (part : Pa
             saved = adds.saved ∙ fills.saved;
             spends = record {
               credits = omega (arith, spent.credits, spend.credits, missing_now, up, grew, need, needs);
-              tallies = spent_is v.tallies x.tallies (pages_need p (run k) + (1 + missing Sv39 u page)) (pages_need p (run (k + 1))) (omega (arith, missing_now, up, grew, need, needs))
-                  (spent_on v.tallies w.tallies x.tallies (pages_need p (run k)) (1 + missing Sv39 u page) spent.tallies spend.tallies);
+              tallies = spent_is v.tallies x.tallies (pages_need p (run k) + (1 + missing before.scheme u page)) (pages_need p (run (k + 1))) (omega (arith, missing_now, up, grew, need, needs))
+                  (spent_on v.tallies w.tallies x.tallies (pages_need p (run k)) (1 + missing before.scheme u page) spent.tallies spend.tallies);
             };
           }

@@ -11,13 +11,14 @@ use Rattle.frame_store.specs.View.{Hold, View, claimed, hold_of, IsHeld, IsSole,
 use Rattle.process_model.specs.Frames.{tables_needed}
 use Rattle.process_model.specs.PageMap as pages
 use Rattle.process_model.specs.Process.{Page, Process}
-use Rattle.sv39_entry.specs.Address.{has, trampoline_page, trapframe_page}
+use Rattle.sv39_entry.specs.Address.{has}
 use Rattle.sv39_entry.specs.Word.{IsLeafOf, ppn}
 use Rattle.table_walk.specs.Counted.{AreTablesOf}
 use Rattle.table_walk.specs.Tables.{bare_root, blank_hold, ChangesTables, HasTables, Tables, IsGrown, leaf_node, missing, with_leaf, root_node}
 use Rattle.table_walk.specs.Keys.{insert_other, insert_same, is_none}
-use Rattle.sv39_entry.specs.Schemes.{top_level}
-use Rattle.sv39_entry.specs.declared.scheme.Scheme.TheVariants.{Sv39}
+use Rattle.sv39_entry.specs.Schemes.{top_level, trampoline_page, trapframe_page, of_scheme}
+use Rattle.sv39_entry.specs.declared.scheme.Scheme.{Scheme}
+use Rattle.sv39_entry.specs.declared.scheme.Scheme.TheVariants.{Sv39, Sv48}
 use Rattle.address_space.specs.Agreement.{HasKernelLeaf, Names, nothing, one_of, Owns, Shows, Stands, code_rights, data_rights}
 use Rattle.address_space.specs.Parts.{CanOpen, Opens, OwnsAlone}
 use Rattle.address_space.specs.Steps.{Spends}
@@ -26,20 +27,20 @@ use Rattle.address_space.proofs.Owned.{apart_by, both_of, claimed_other, one_els
 
 -- ---- the root
 
-bare_table : (root k f : ℕ) → get (bare_root Sv39 root).tables k ≡ Some f → (k ≡ root_node Sv39) × (f ≡ root)
-bare_table root k f at = elim (cases_eq k 512) [
-  | inl is ↦ (is, sym (same_Some root f (sym (insert_same empty 512 root k is) ∙ at)))
-  | inr ne ↦ absurd (let none = sym (insert_other empty 512 root k ne ∙ get-empty {X = ℕ} nat_cmp k) ∙ at in cc)
+bare_table : (z : Scheme) (root k f : ℕ) → get (bare_root z root).tables k ≡ Some f → (k ≡ root_node z) × (f ≡ root)
+bare_table z root k f at = elim (cases_eq k (root_node z)) [
+  | inl is ↦ (is, sym (same_Some root f (sym (insert_same empty (root_node z) root k is) ∙ at)))
+  | inr ne ↦ absurd (let none = sym (insert_other empty (root_node z) root k ne ∙ get-empty {X = ℕ} nat_cmp k) ∙ at in cc)
 ]
 
-bare_leaf : (root k y : ℕ) → get (bare_root Sv39 root).leaves k ≡ Some y → ⊥
-bare_leaf root k y at = let none = sym (get-empty {X = ℕ} nat_cmp k) ∙ at in cc
+bare_leaf : (z : Scheme) (root k y : ℕ) → get (bare_root z root).leaves k ≡ Some y → ⊥
+bare_leaf z root k y at = let none = sym (get-empty {X = ℕ} nat_cmp k) ∙ at in cc
 
-bare_name : (root f k : ℕ) → Names (bare_root Sv39 root) f k → (k ≡ root_node Sv39) × (f ≡ root)
-bare_name root f k (inl table) = bare_table root k f table
-bare_name root f k (inr (y, leaf, names)) = absurd (bare_leaf root k y leaf)
+bare_name : (z : Scheme) (root f k : ℕ) → Names (bare_root z root) f k → (k ≡ root_node z) × (f ≡ root)
+bare_name z root f k (inl table) = bare_table z root k f table
+bare_name z root f k (inr (y, leaf, names)) = absurd (bare_leaf z root k y leaf)
 
-module _ (v w : View) (root trapframe : ℕ) (can : CanOpen v trapframe) (fresh : references v root ≡ 0) (is : w ≡ with_hold root blank_hold (claimed root v)) where
+module _ (z : Scheme) (v w : View) (root trapframe : ℕ) (can : CanOpen z v trapframe) (fresh : references v root ≡ 0) (is : w ≡ with_hold root blank_hold (claimed root v)) where
   other_hold : (f : ℕ) → (f ≡ root → ⊥) → hold_of w f ≡ hold_of v f
   other_hold f apart = ap (λ (u : View). hold_of u f) is ∙ hold_of-with_hold_other root blank_hold (claimed root v) f apart ∙ claimed_other root f v apart
 
@@ -73,11 +74,11 @@ module _ (v w : View) (root trapframe : ℕ) (can : CanOpen v trapframe) (fresh 
     ]
   ]
 
-  pub zero_unnamed : (k : ℕ) → Names (bare_root Sv39 root) 0 k → ⊥
-  zero_unnamed k names = not_zero (bare_name root 0 k names).1
+  pub zero_unnamed : (k : ℕ) → Names (bare_root z root) 0 k → ⊥
+  zero_unnamed k names = not_zero (bare_name z root 0 k names).1
 
-  pub trapframe_unnamed : (k : ℕ) → Names (bare_root Sv39 root) trapframe k → ⊥
-  trapframe_unnamed k names = not_trapframe (bare_name root trapframe k names).1
+  pub trapframe_unnamed : (k : ℕ) → Names (bare_root z root) trapframe k → ⊥
+  trapframe_unnamed k names = not_trapframe (bare_name z root trapframe k names).1
 
   pub trapframe_as_was : hold_of w trapframe ≡ hold_of v trapframe
   trapframe_as_was = other_hold trapframe not_trapframe
@@ -85,19 +86,19 @@ module _ (v w : View) (root trapframe : ℕ) (can : CanOpen v trapframe) (fresh 
   pub trapframe_yet : IsHeld w trapframe
   trapframe_yet = let one = can.holds.saved in let same = same_references v w trapframe trapframe_as_was in omega (arith, one, same)
 
-  pub root_owns : Owns w (bare_root Sv39 root) (both_of trapframe 0)
+  pub root_owns : Owns w (bare_root z root) (both_of trapframe 0)
   root_owns = record {
-    once = λ f j k first second. (bare_name root f j first).0 ∙ sym (bare_name root f k second).0;
+    once = λ f j k first second. (bare_name z root f j first).0 ∙ sym (bare_name z root f k second).0;
     named = λ f k names.
-        let is = (bare_name root f k names).1 in
+        let is = (bare_name z root f k names).1 in
         let one : references w f ≡ 1 = ap (references w) is ∙ root_held in
         let zero = one_else 0 f (λ same. not_zero (sym same ∙ is)) in
         let saved = one_else trapframe f (λ same. not_trapframe (sym same ∙ is)) in
         omega (arith, one, zero, saved);
     bare = λ f free.
-        let apart : f ≡ root → ⊥ = λ same. free 512 (inl (insert_same empty 512 root 512 refl ∙ ap Some (sym same))) in
+        let apart : f ≡ root → ⊥ = λ same. free (root_node z) (inl (insert_same empty (root_node z) root (root_node z) refl ∙ ap Some (sym same))) in
         same_references v w f (other_hold f apart) ∙ other_count f;
-    writable = λ f n y leaf names writes. absurd (bare_leaf root n y leaf);
+    writable = λ f n y leaf names writes. absurd (bare_leaf z root n y leaf);
   }
 
   pub root_spends : Spends v w 1
@@ -108,85 +109,86 @@ module _ (v w : View) (root trapframe : ℕ) (can : CanOpen v trapframe) (fresh 
 
 -- ---- TRAMPOLINE, over a frame that all processes share
 
-pub record HasTrampoline (w : View) (root trapframe : ℕ) (t : Tables) : Type 0 where
-  pub tables : HasTables Sv39 w root t
+pub record HasTrampoline (z : Scheme) (w : View) (root trapframe : ℕ) (t : Tables) : Type 0 where
+  pub tables : HasTables z w root t
   pub owns : Owns w t (one_of trapframe)
   pub free : (k : ℕ) → Names t trapframe k → ⊥
-  pub leaf : HasKernelLeaf t trampoline_page 0 code_rights
-  pub only : (k y : ℕ) → get t.leaves k ≡ Some y → k ≡ leaf_node trampoline_page
-  pub tabled : AreTablesOf Sv39 t []
+  pub leaf : HasKernelLeaf t (trampoline_page z) 0 code_rights
+  pub only : (k y : ℕ) → get t.leaves k ≡ Some y → k ≡ leaf_node (trampoline_page z)
+  pub tabled : AreTablesOf z t []
 
-module _ (v w : View) (root trapframe x n : ℕ) (u : Tables) (o : Owns v (bare_root Sv39 root) (both_of trapframe 0)) (zero_free : (k : ℕ) → Names (bare_root Sv39 root) 0 k → ⊥)
-    (bare : HasTables Sv39 v root (bare_root Sv39 root)) (grown : IsGrown Sv39 (bare_root Sv39 root) u trampoline_page (top_level Sv39))
-    (tables : HasTables Sv39 w root (with_leaf u (leaf_node trampoline_page) x)) (changes : ChangesTables v w (bare_root Sv39 root) u n)
+module _ (z : Scheme) (v w : View) (root trapframe x n : ℕ) (u : Tables) (o : Owns v (bare_root z root) (both_of trapframe 0)) (zero_free : (k : ℕ) → Names (bare_root z root) 0 k → ⊥)
+    (bare : HasTables z v root (bare_root z root)) (grown : IsGrown z (bare_root z root) u (trampoline_page z) (top_level z))
+    (tables : HasTables z w root (with_leaf u (leaf_node (trampoline_page z)) x)) (changes : ChangesTables v w (bare_root z root) u n)
     (made : IsLeafOf x 0 code_rights false false true) where
   abbrev after : Tables
-  after = with_leaf u (leaf_node trampoline_page) x
+  after = with_leaf u (leaf_node (trampoline_page z)) x
 
-  no_leaf : get (bare_root Sv39 root).leaves (leaf_node trampoline_page) ≡ None
-  no_leaf = is_none (get (bare_root Sv39 root).leaves (leaf_node trampoline_page)) (bare_leaf root (leaf_node trampoline_page))
+  no_leaf : get (bare_root z root).leaves (leaf_node (trampoline_page z)) ≡ None
+  no_leaf = is_none (get (bare_root z root).leaves (leaf_node (trampoline_page z))) (bare_leaf z root (leaf_node (trampoline_page z)))
 
-  one_leaf : (k y : ℕ) → get after.leaves k ≡ Some y → k ≡ leaf_node trampoline_page
-  one_leaf k y leaf = elim (cases_eq k (leaf_node trampoline_page)) [
+  one_leaf : (k y : ℕ) → get after.leaves k ≡ Some y → k ≡ leaf_node (trampoline_page z)
+  one_leaf k y leaf = elim (cases_eq k (leaf_node (trampoline_page z))) [
     | inl here ↦ here
-    | inr apart ↦ absurd (bare_leaf root k y (ap (λ leaves. get leaves k) (sym grown.leaves) ∙ sym (insert_other u.leaves (leaf_node trampoline_page) x k apart) ∙ leaf))
+    | inr apart ↦ absurd (bare_leaf z root k y (ap (λ leaves. get leaves k) (sym grown.leaves) ∙ sym (insert_other u.leaves (leaf_node (trampoline_page z)) x k apart) ∙ leaf))
   ]
 
   not_written : has x 2 ≡ true → IsSole v 0
   not_written writes = absurd (let both = sym made.write ∙ writes in cc)
 
   -- the trapframe's frame waits
-  module _ (apart : trapframe ≡ 0 → ⊥) (held : IsHeld v trapframe) (free : (k : ℕ) → Names (bare_root Sv39 root) trapframe k → ⊥) where
+  module _ (apart : trapframe ≡ 0 → ⊥) (held : IsHeld v trapframe) (free : (k : ℕ) → Names (bare_root z root) trapframe k → ⊥) where
     pub trampoline_saved : hold_of w trapframe ≡ hold_of v trapframe
-    trampoline_saved = still_held v w (bare_root Sv39 root) u n root trampoline_page x 0 (both_of trapframe 0) (one_of trapframe) o zero_free (λ g. refl) bare grown changes tables made.names no_leaf not_written trapframe apart held free
+    trampoline_saved = still_held v w (bare_root z root) u n root (trampoline_page z) x 0 (both_of trapframe 0) (one_of trapframe) o zero_free (λ g. refl) bare grown changes tables made.names no_leaf not_written trapframe apart held free
 
-    pub has_trampoline : AreTablesOf Sv39 u [] → HasTrampoline w root trapframe after
+    pub has_trampoline : AreTablesOf z u [] → HasTrampoline z w root trapframe after
     has_trampoline are = record {
       tables = tables;
-      owns = leaf_owns v w (bare_root Sv39 root) u n root trampoline_page x 0 (both_of trapframe 0) (one_of trapframe) o zero_free (λ g. refl) bare grown changes tables made.names no_leaf not_written;
-      free = still_unnamed v w (bare_root Sv39 root) u n root trampoline_page x 0 (both_of trapframe 0) (one_of trapframe) o zero_free (λ g. refl) bare grown changes tables made.names no_leaf not_written trapframe apart held free;
-      leaf = (x, insert_same u.leaves (leaf_node trampoline_page) x (leaf_node trampoline_page) refl, made);
+      owns = leaf_owns v w (bare_root z root) u n root (trampoline_page z) x 0 (both_of trapframe 0) (one_of trapframe) o zero_free (λ g. refl) bare grown changes tables made.names no_leaf not_written;
+      free = still_unnamed v w (bare_root z root) u n root (trampoline_page z) x 0 (both_of trapframe 0) (one_of trapframe) o zero_free (λ g. refl) bare grown changes tables made.names no_leaf not_written trapframe apart held free;
+      leaf = (x, insert_same u.leaves (leaf_node (trampoline_page z)) x (leaf_node (trampoline_page z)) refl, made);
       only = one_leaf;
       tabled = are;
     }
 
 -- ---- and TRAPFRAME
 
-kernel_apart : leaf_node trapframe_page ≡ leaf_node trampoline_page → ⊥
-kernel_apart same = omega (arith, same)
+kernel_apart : (z : Scheme) → leaf_node (trapframe_page z) ≡ leaf_node (trampoline_page z) → ⊥
+kernel_apart z same = omega (arith, same, of_scheme z)
 
-pub trapframe_shares : Contains (trampoline_page ∷ trapframe_page ∷ []) trapframe_page
-trapframe_shares = (1, omega arith, refl)
+pub trapframe_shares : (z : Scheme) → Contains ((trampoline_page z) ∷ (trapframe_page z) ∷ []) (trapframe_page z)
+trapframe_shares z = (1, omega arith, refl)
 
 -- TRAMPOLINE's tables beside the root
-pub two_missing : (root : ℕ) → missing Sv39 (bare_root Sv39 root) trampoline_page ≡ tables_needed Sv39 [] - 1 → missing Sv39 (bare_root Sv39 root) trampoline_page ≡ 2
+pub top_missing : (z : Scheme) (root : ℕ) → missing z (bare_root z root) (trampoline_page z) ≡ tables_needed z [] - 1 → missing z (bare_root z root) (trampoline_page z) ≡ top_level z
 unfolding tables_needed
-two_missing root law = law
+top_missing Sv39 root law = law
+top_missing Sv48 root law = law
 
-module _ (v w : View) (root x f n : ℕ) (t u : Tables) (before : HasTrampoline v root f t) (sole : IsSole v f) (grown : IsGrown Sv39 t u trapframe_page (top_level Sv39))
-    (tables : HasTables Sv39 w root (with_leaf u (leaf_node trapframe_page) x)) (changes : ChangesTables v w t u n)
-    (made : IsLeafOf x f data_rights false false true) (are : AreTablesOf Sv39 u []) where
-  unmapped : get t.leaves (leaf_node trapframe_page) ≡ None
-  unmapped = is_none (get t.leaves (leaf_node trapframe_page)) (λ y leaf. kernel_apart (before.only (leaf_node trapframe_page) y leaf))
+module _ (z : Scheme) (v w : View) (root x f n : ℕ) (t u : Tables) (before : HasTrampoline z v root f t) (sole : IsSole v f) (grown : IsGrown z t u (trapframe_page z) (top_level z))
+    (tables : HasTables z w root (with_leaf u (leaf_node (trapframe_page z)) x)) (changes : ChangesTables v w t u n)
+    (made : IsLeafOf x f data_rights false false true) (are : AreTablesOf z u []) where
+  unmapped : get t.leaves (leaf_node (trapframe_page z)) ≡ None
+  unmapped = is_none (get t.leaves (leaf_node (trapframe_page z))) (λ y leaf. kernel_apart z (before.only (leaf_node (trapframe_page z)) y leaf))
 
   abbrev last : Tables
-  last = with_leaf u (leaf_node trapframe_page) x
+  last = with_leaf u (leaf_node (trapframe_page z)) x
 
-  keeps : (k : ℕ) → (k ≡ leaf_node trapframe_page → ⊥) → get last.leaves k ≡ get t.leaves k
-  keeps k apart = insert_other u.leaves (leaf_node trapframe_page) x k apart ∙ ap (λ leaves. get leaves k) grown.leaves
+  keeps : (k : ℕ) → (k ≡ leaf_node (trapframe_page z) → ⊥) → get last.leaves k ≡ get t.leaves k
+  keeps k apart = insert_other u.leaves (leaf_node (trapframe_page z)) x k apart ∙ ap (λ leaves. get leaves k) grown.leaves
 
-  here : get last.leaves (leaf_node trapframe_page) ≡ Some x
-  here = insert_same u.leaves (leaf_node trapframe_page) x (leaf_node trapframe_page) refl
+  here : get last.leaves (leaf_node (trapframe_page z)) ≡ Some x
+  here = insert_same u.leaves (leaf_node (trapframe_page z)) x (leaf_node (trapframe_page z)) refl
 
   pub frame_same : hold_of w f ≡ hold_of v f
-  frame_same = f_same v w t u n root trapframe_page x f (one_of f) nothing before.owns before.free (λ g. omega arith) before.tables grown changes tables made.names unmapped (λ _. sole)
+  frame_same = f_same v w t u n root (trapframe_page z) x f (one_of f) nothing before.owns before.free (λ g. omega arith) before.tables grown changes tables made.names unmapped (λ _. sole)
 
   pub opens_owns : Owns w last nothing
-  opens_owns = leaf_owns v w t u n root trapframe_page x f (one_of f) nothing before.owns before.free (λ g. omega arith) before.tables grown changes tables made.names unmapped (λ _. sole)
+  opens_owns = leaf_owns v w t u n root (trapframe_page z) x f (one_of f) nothing before.owns before.free (λ g. omega arith) before.tables grown changes tables made.names unmapped (λ _. sole)
 
-  two_leaves : (k y : ℕ) → get last.leaves k ≡ Some y → ((k ≡ leaf_node trampoline_page) × (get t.leaves k ≡ Some y)) ⊎ ((k ≡ leaf_node trapframe_page) × (y ≡ x))
-  two_leaves k y leaf = elim (cases_eq k (leaf_node trapframe_page)) [
-    | inl is ↦ inr (is, same_Some y x (sym leaf ∙ insert_same u.leaves (leaf_node trapframe_page) x k is))
+  two_leaves : (k y : ℕ) → get last.leaves k ≡ Some y → ((k ≡ leaf_node (trampoline_page z)) × (get t.leaves k ≡ Some y)) ⊎ ((k ≡ leaf_node (trapframe_page z)) × (y ≡ x))
+  two_leaves k y leaf = elim (cases_eq k (leaf_node (trapframe_page z))) [
+    | inl is ↦ inr (is, same_Some y x (sym leaf ∙ insert_same u.leaves (leaf_node (trapframe_page z)) x k is))
     | inr apart ↦ let old = sym (keeps k apart) ∙ leaf in inl (before.only k y old, old)
   ]
 
@@ -200,44 +202,44 @@ module _ (v w : View) (root x f n : ℕ) (t u : Tables) (before : HasTrampoline 
     | inr new ↦ rw (one_frame g f (sym names ∙ ap ppn new.1 ∙ made.names)) (same_sole v w f frame_same sole)
   ]
 
-  module _ (p : Process) (settled : p.settled ≡ pages.empty Page) (tabled : p.tabled ≡ pages.empty (Unit {0})) where
+  module _ (p : Process) (schemed : p.scheme ≡ z) (settled : p.settled ≡ pages.empty Page) (tabled : p.tabled ≡ pages.empty (Unit {0})) where
     none_settled : (k : ℕ) (s : Page) → pages.get p.settled k ≡ Some s → ⊥
     none_settled k s found = let none = rw settled at found in cc
 
     opens_shows : Shows w f last p
     opens_shows = record {
-      on_trampoline = (before.leaf.0, keeps (leaf_node trampoline_page) (λ same. kernel_apart (sym same)) ∙ before.leaf.1, before.leaf.2);
-      on_trapframe = (x, here, made);
+      on_trampoline = rw schemed (before.leaf.0, keeps (leaf_node (trampoline_page z)) (λ same. kernel_apart z (sym same)) ∙ before.leaf.1, before.leaf.2);
+      on_trapframe = rw schemed (x, here, made);
       settled = λ k s found. absurd (none_settled k s found);
-      only = λ k y leaf. elim (two_leaves k y leaf) [ inl old ↦ inl old.0 | inr new ↦ inr (inl new.0) ];
+      only = λ k y leaf. rw schemed (elim (two_leaves k y leaf) [ inl old ↦ inl old.0 | inr new ↦ inr (inl new.0) ]);
       low = λ k s found. absurd (none_settled k s found);
     }
 
     opens_stands : Stands w root f nothing last p
     opens_stands = record {
-      tables = tables;
+      tables = rw schemed tables;
       owns = opens_owns;
       shows = opens_shows;
-      tabled = rw tabled are;
+      tabled = rw (schemed, tabled) are;
       tabled_low = rw tabled (λ i d less. absurd (omega (arith, less)));
     }
 
-  pub opens : (o : View) → hold_of v f ≡ hold_of o f → Spends o w 3 → Opens o w root f last
+  pub opens : (o : View) → hold_of v f ≡ hold_of o f → Spends o w (1 + top_level z) → Opens z o w root f last
   opens o saved spends = record { stands = opens_stands; alone = opens_alone; saved = frame_same ∙ saved; spends = spends }
 
--- ---- what it takes: the root, and two tables below it
-pub open_spends : (o a v w : View) (t u t2 u2 : Tables) (m n : ℕ) → Spends o a 1 → m ≡ 2 → ChangesTables a v t u m → n ≡ 0 → ChangesTables v w t2 u2 n → Spends o w 3
-open_spends o a v w t u t2 u2 m n first two second none last = record {
+-- ---- what it takes: the root, and the tables below it
+pub open_spends : (z : Scheme) (o a v w : View) (t u t2 u2 : Tables) (m n : ℕ) → Spends o a 1 → m ≡ top_level z → ChangesTables a v t u m → n ≡ 0 → ChangesTables v w t2 u2 n → Spends o w (1 + top_level z)
+open_spends z o a v w t u t2 u2 m n first two second none last = record {
   credits = omega (arith, first.credits, two, second.credits, none, last.credits);
-  tallies = spent_is o.tallies w.tallies (1 + m + n) 3 (omega (arith, two, none))
+  tallies = spent_is o.tallies w.tallies (1 + m + n) (1 + top_level z) (omega (arith, two, none))
       (spent_on o.tallies v.tallies w.tallies (1 + m) n (spent_on o.tallies a.tallies v.tallies 1 m first.tallies second.tallies) last.tallies);
 }
 
 -- the credits that each of the two takes are there
-pub first_enough : (o v : View) (root page : ℕ) → page ≡ trampoline_page → missing Sv39 (bare_root Sv39 root) trampoline_page ≡ 2 → Spends o v 1 → 3 ≤ o.credits → missing Sv39 (bare_root Sv39 root) page ≤ v.credits
-first_enough o v root page is two spent enough =
-    let same = ap (missing Sv39 (bare_root Sv39 root)) is in
+pub first_enough : (z : Scheme) (o v : View) (root page : ℕ) → page ≡ (trampoline_page z) → missing z (bare_root z root) (trampoline_page z) ≡ top_level z → Spends o v 1 → 1 + top_level z ≤ o.credits → missing z (bare_root z root) page ≤ v.credits
+first_enough z o v root page is two spent enough =
+    let same = ap (missing z (bare_root z root)) is in
     omega (arith, same, two, spent.credits, enough)
 
-pub second_enough : (credits : ℕ) (t : Tables) (page : ℕ) → page ≡ trapframe_page → missing Sv39 t trapframe_page ≡ 0 → missing Sv39 t page ≤ credits
-second_enough credits t page is none = let same = ap (missing Sv39 t) is in omega (arith, same, none)
+pub second_enough : (z : Scheme) (credits : ℕ) (t : Tables) (page : ℕ) → page ≡ (trapframe_page z) → missing z t (trapframe_page z) ≡ 0 → missing z t page ≤ credits
+second_enough z credits t page is none = let same = ap (missing z t) is in omega (arith, same, none)

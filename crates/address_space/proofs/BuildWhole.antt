@@ -14,33 +14,35 @@ use Rattle.address_space.proofs.BuildOrder.{sound_whole}
 use Rattle.address_space.proofs.BuildPages.{tables_up_to}
 use Rattle.address_space.proofs.BuildProcess.{bare_tables, stands_like, whole_process, whole_tables}
 use Rattle.address_space.proofs.Owned.{same_references}
+use Rattle.sv39_entry.specs.declared.scheme.Scheme.{Scheme}
+use Rattle.sv39_entry.specs.Schemes.{top_level}
 
-module _ (ps : List Part) where
-  need_pages : pages_need (bare_process ps) (pages_of ps) + 3 ≡ tree_need ps
+module _ (z : Scheme) (ps : List Part) where
+  need_pages : pages_need (bare_process z ps) (pages_of ps) + (1 + top_level z) ≡ tree_need z ps
   need_pages =
-      let bare = bare_tables ps in
-      let whole = whole_tables ps in
-      let up = tables_up_to (pages_of ps) (bare_process ps) in
+      let bare = bare_tables z ps in
+      let whole = whole_tables z ps in
+      let up = tables_up_to (pages_of ps) (bare_process z ps) in
       omega (arith, bare, whole, up)
 
-  module _ (v : View) (saved : ℕ) (holds : HoldsTrapframe v saved) (credits : v.credits ≡ tree_need ps) where
-    pub can_open : CanOpen v saved
+  module _ (v : View) (saved : ℕ) (holds : HoldsTrapframe v saved) (credits : v.credits ≡ tree_need z ps) where
+    pub can_open : CanOpen z v saved
     can_open = record { holds = holds; credits = let pages = need_pages in omega (arith, credits, pages) }
 
-    module _ (x : View) (root : ℕ) (t : Tables) (opens : Opens v x root saved t) where
-      pub stands_bare : StandsAlone x root saved t (bare_process ps)
-      stands_bare = record { stands = opens.stands (bare_process ps) refl refl; alone = opens.alone }
+    module _ (x : View) (root : ℕ) (t : Tables) (opens : Opens z v x root saved t) where
+      pub stands_bare : StandsAlone x root saved t (bare_process z ps)
+      stands_bare = record { stands = opens.stands (bare_process z ps) refl refl refl; alone = opens.alone }
 
-      pub credits_left : pages_need (bare_process ps) (pages_of ps) ≤ x.credits
+      pub credits_left : pages_need (bare_process z ps) (pages_of ps) ≤ x.credits
       credits_left = let pages = need_pages in let spent = opens.spends.credits in omega (arith, credits, pages, spent)
 
-      module _ (y : View) (u : Tables) (fills : Fills x y root saved u (bare_process ps) (pages_of ps)) where
-        pub agrees_whole : AreParts ps → (l : Layout) → l.parts ≡ regions_in ps → l.mappings ≡ [] → l.heap_base ≡ 4096 * last_page 0 (regions_in ps) → l.size ≡ l.heap_base
-            → (fresh : ℕ) → IsSpace (body y root saved l) u (process_of_parts fresh ps)
-        agrees_whole are l parts mappings base size fresh = record {
-          sound = sound_whole ps are fresh;
-          lays = record { parts = sym parts; mappings = sym mappings; heap_base = sym base; size = sym (size ∙ base) };
-          stands = stands_like (with_pages (bare_process ps) (pages_of ps)) (process_of_parts fresh ps) (whole_process ps are.ascending fresh) y root saved nothing u fills.after.stands;
+      module _ (y : View) (u : Tables) (fills : Fills x y root saved u (bare_process z ps) (pages_of ps)) where
+        pub agrees_whole : AreParts z ps → (l : Layout) → l.scheme ≡ z → l.parts ≡ regions_in ps → l.mappings ≡ [] → l.heap_base ≡ 4096 * last_page 0 (regions_in ps) → l.size ≡ l.heap_base
+            → (fresh : ℕ) → IsSpace (body y root saved l) u (process_of_parts z fresh ps)
+        agrees_whole are l scheme parts mappings base size fresh = record {
+          sound = sound_whole z ps are fresh;
+          lays = record { scheme = sym scheme; parts = sym parts; mappings = sym mappings; heap_base = sym base; size = sym (size ∙ base) };
+          stands = stands_like (with_pages (bare_process z ps) (pages_of ps)) (process_of_parts z fresh ps) (whole_process z ps are.ascending fresh) y root saved nothing u fills.after.stands;
           credits =
               let pages = need_pages in
               let first = opens.spends.credits in
@@ -51,18 +53,18 @@ module _ (ps : List Part) where
         pub saved_whole : hold_of y saved ≡ hold_of v saved
         saved_whole = fills.saved ∙ opens.saved
 
-        pub takes_whole : Takes v y (tree_need ps) []
+        pub takes_whole : Takes v y (tree_need z ps) []
         takes_whole =
             let pages = need_pages in
-            let whole = spent_on v.tallies x.tallies y.tallies 3 (pages_need (bare_process ps) (pages_of ps)) opens.spends.tallies fills.spends.tallies in
-            record { tallies = spent_taken v.tallies y.tallies (tree_need ps) (spent_is v.tallies y.tallies _ (tree_need ps) (omega (arith, pages)) whole) }
+            let whole = spent_on v.tallies x.tallies y.tallies (1 + top_level z) (pages_need (bare_process z ps) (pages_of ps)) opens.spends.tallies fills.spends.tallies in
+            record { tallies = spent_taken v.tallies y.tallies (tree_need z ps) (spent_is v.tallies y.tallies _ (tree_need z ps) (omega (arith, pages)) whole) }
 
   -- frames are reserved, and the first of them is the trapframe's
-  module _ (v w : View) (n : ℕ) (holds : HoldsTrampoline v) (reserved : w ≡ with_credits n v) (need : n ≡ build_need ps) where
+  module _ (v w : View) (n : ℕ) (holds : HoldsTrampoline v) (reserved : w ≡ with_credits n v) (need : n ≡ build_need z ps) where
     same : (f : ℕ) → references w f ≡ references v f
     same f = ap (λ (u : View). references u f) reserved ∙ same_references v (with_credits n v) f (hold_of-frames (with_credits n v) v refl f)
 
-    credits_is : w.credits ≡ build_need ps
+    credits_is : w.credits ≡ build_need z ps
     credits_is = let credits = ap (λ (u : View). u.credits) reserved in let none = holds.credits in omega (arith, credits, none, need)
 
     pub may_claim : 0 < w.credits
@@ -87,11 +89,11 @@ module _ (ps : List Part) where
         others = λ g some ne. other g ne ∙ holds.others g some;
       }
 
-      pub credits_then : r.credits ≡ tree_need ps
+      pub credits_then : r.credits ≡ tree_need z ps
       credits_then = let credits = credits_is in let spent = come.spends.credits in omega (arith, credits, spent)
 
-      pub takes_all : (y : View) → Takes r y (tree_need ps) [] → Takes v y (build_need ps) []
+      pub takes_all : (y : View) → Takes r y (tree_need z ps) [] → Takes v y (build_need z ps) []
       takes_all y takes =
           let first : Takes v r 1 [] = record { tallies = spent_taken v.tallies r.tallies 1 (come.spends.tallies ∙ ap (λ (u : View). spent 1 u.tallies) reserved) } in
-          let all = taken_on v.tallies r.tallies y.tallies 1 (tree_need ps) [] [] first.tallies takes.tallies in
+          let all = taken_on v.tallies r.tallies y.tallies 1 (tree_need z ps) [] [] first.tallies takes.tallies in
           record { tallies = all ∙ ap (λ n. taken n [] v.tallies) (omega arith) }

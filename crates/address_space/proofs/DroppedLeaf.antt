@@ -6,11 +6,11 @@ use Rattle.std.specs.FinMap.{get}
 use Rattle.frame_store.specs.Laws.{IsAnchored}
 use Rattle.frame_store.specs.Tallies.{spent_taken, taken_none, taken_on}
 use Rattle.frame_store.specs.View.{View, hold_of, IsHeld, references, released, taken}
-use Rattle.sv39_entry.specs.Address.{trampoline_page}
 use Rattle.sv39_entry.specs.Frame.{frame_at, ppn_of}
 use Rattle.sv39_entry.specs.Word.{ppn}
 use Rattle.sv39_entry.specs.declared.frame.FrameNo.{FrameNo}
-use Rattle.sv39_entry.specs.declared.scheme.Scheme.TheVariants.{Sv39}
+use Rattle.sv39_entry.specs.Schemes.{trampoline_page}
+use Rattle.sv39_entry.specs.declared.scheme.Scheme.{Scheme}
 use Rattle.table_walk.specs.Tables.{ChangesTables, HasTables, Tables, leaf_node, without_leaf}
 use Rattle.table_walk.specs.Keys.{remove_same, remove_other}
 use Rattle.table_walk.specs.Same.{same_tables}
@@ -45,7 +45,7 @@ named_before t n f k names = elim names as (λ _. Names t f k) [
 ]
 
 -- a leaf of a space, and the frame that it names
-module _ (v : View) (root : ℕ) (t : Tables) (n x f : ℕ) (h : HasTables Sv39 v root t) (extra : ℕ → ℕ) (o : Owns v t extra) (leaf : get t.leaves n ≡ Some x) (names : ppn x ≡ ppn_of f) where
+module _ {z : Scheme} (v : View) (root : ℕ) (t : Tables) (n x f : ℕ) (h : HasTables z v root t) (extra : ℕ → ℕ) (o : Owns v t extra) (leaf : get t.leaves n ≡ Some x) (names : ppn x ≡ ppn_of f) where
   -- nothing else names the frame
   pub no_name : (k : ℕ) → Names (without_leaf t n) f k → ⊥
   no_name k still = elim still as (λ _. ⊥) [
@@ -106,7 +106,7 @@ module _ (v : View) (root : ℕ) (t : Tables) (n x f : ℕ) (h : HasTables Sv39 
       }
 
 -- and then its frame
-module _ (v w : View) (root : ℕ) (t : Tables) (n x f : ℕ) (h : HasTables Sv39 v root t) (o : Owns v t nothing) (leaf : get t.leaves n ≡ Some x) (names : ppn x ≡ ppn_of f)
+module _ {z : Scheme} (v w : View) (root : ℕ) (t : Tables) (n x f : ℕ) (h : HasTables z v root t) (o : Owns v t nothing) (leaf : get t.leaves n ≡ Some x) (names : ppn x ≡ ppn_of f)
     (c : ChangesTables v w t t 0) where
   pub unmapped : Owns w (without_leaf t n) (one_of f)
   unmapped = leaf_goes v root t n x f h nothing o leaf names w c (one_of f) (λ g. omega arith)
@@ -126,7 +126,7 @@ module _ (v w : View) (root : ℕ) (t : Tables) (n x f : ℕ) (h : HasTables Sv3
         let goes = spare_goes w after (without_leaf t n) f once_held (ap (λ u. references u f) is ∙ released_here f w once_held) away nameless in
         recounted_owns w after (without_leaf t n) (one_of f) nothing goes unmapped
 
-    tables_left : HasTables Sv39 w root (without_leaf t n) → HasTables Sv39 after root (without_leaf t n)
+    tables_left : HasTables z w root (without_leaf t n) → HasTables z after root (without_leaf t n)
     tables_left has = same_tables w after root (without_leaf t n) (λ k g at. away g (λ same. nameless k (inl (at ∙ ap Some same)))) has
 
     others_left : (m y g : ℕ) → get (without_leaf t n).leaves m ≡ Some y → ppn y ≡ ppn_of g → hold_of after g ≡ hold_of v g
@@ -158,22 +158,22 @@ pub released_takes : (f : ℕ) (v : View) → references v f ≡ 1 → Takes v (
 released_takes f v one = takes_none v (released f v) (ap (λ (u : View). u.tallies) (released_once f v one))
 
 -- a page is unmapped, and its frame let go
-module _ (v w : View) (root : ℕ) (t : Tables) (page x f : ℕ) (d : CanDrop v root t page) (leaf : get t.leaves (leaf_node page) ≡ Some x) (names : ppn x ≡ ppn_of f) (c : ChangesTables v w t t 0) where
+module _ {z : Scheme} (v w : View) (root : ℕ) (t : Tables) (page x f : ℕ) (d : CanDrop z v root t page) (leaf : get t.leaves (leaf_node page) ≡ Some x) (names : ppn x ≡ ppn_of f) (c : ChangesTables v w t t 0) where
   once_yet : references w f ≡ 1
   once_yet = once_held v w root t (leaf_node page) x f d.tables d.owns leaf names c
 
   pub held_yet : IsHeld w f
   held_yet = let one = once_yet in omega (arith, one)
 
-  anchor : Names (without_leaf t (leaf_node page)) 0 (leaf_node trampoline_page)
-  anchor = inr (d.anchor.0, remove_other t.leaves (leaf_node page) (leaf_node trampoline_page) (λ same. d.apart (sym same)) ∙ d.anchor.1, d.anchor.2)
+  anchor : Names (without_leaf t (leaf_node page)) 0 (leaf_node (trampoline_page z))
+  anchor = inr (d.anchor.0, remove_other t.leaves (leaf_node page) (leaf_node (trampoline_page z)) (λ same. d.apart (sym same)) ∙ d.anchor.1, d.anchor.2)
 
   pub anchored_yet : IsAnchored (released f w)
   anchored_yet g held =
       named_held (released f w) (without_leaf t (leaf_node page)) nothing (frame_goes v w root t (leaf_node page) x f d.tables d.owns leaf names c (released f w) refl)
-      0 (leaf_node trampoline_page) anchor
+      0 (leaf_node (trampoline_page z)) anchor
 
-  pub drops_leaf : (after : View) → HasTables Sv39 w root (without_leaf t (leaf_node page)) → after ≡ released f w → DropsLeaf v after root t page
+  pub drops_leaf : (after : View) → HasTables z w root (without_leaf t (leaf_node page)) → after ≡ released f w → DropsLeaf z v after root t page
   drops_leaf after has is =
       let one = once_yet in
       let credits = c.credits in

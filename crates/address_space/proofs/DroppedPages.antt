@@ -1,5 +1,5 @@
 -- Pages of a run that go one after another.
-use Rattle.std.proofs.Common.{◌≡◌, ℕ, ◌+◌, ◌*◌, ◌^◌, ◌<◌, ◌≤◌, ◌⊎◌, max, Option, None, Some, refl, ap, sym, ◌∙◌, inl, inr, arith}
+use Rattle.std.proofs.Common.{◌≡◌, ℕ, ◌+◌, ◌*◌, ◌^◌, ◌<◌, ◌≤◌, ◌⊎◌, max, Option, None, Some, refl, ap, sym, ◌∙◌, inl, inr, arith, subst}
 use Rattle.std.specs.Prelude.{IsSome}
 use Rattle.std.proofs.lemmas.Bool.{cases_eq, cases_lt}
 use Rattle.std.specs.FinMap.{get}
@@ -9,13 +9,13 @@ use Rattle.process_model.specs.PageMap as pages
 use Rattle.process_model.specs.PageMap.{PageMap}
 use Rattle.process_model.specs.Process.{Page, Process}
 use Rattle.process_model.specs.Released.{still_settled, was_settled}
-use Rattle.sv39_entry.specs.Address.{trampoline_page, trapframe_page}
-use Rattle.sv39_entry.specs.declared.scheme.Scheme.TheVariants.{Sv39}
-use Rattle.sv39_entry.specs.Schemes.{top_level}
+use Rattle.sv39_entry.specs.Schemes.{top_level, trampoline_page, trapframe_page, of_scheme}
+use Rattle.sv39_entry.specs.declared.scheme.Scheme.{Scheme}
 use Rattle.table_walk.specs.Changed.{IsNextLeafBefore, places}
-use Rattle.table_walk.specs.Tables.{Tables, leaf_node, without_leaf, root_node}
+use Rattle.table_walk.specs.Tables.{Tables, leaf_node, without_leaf, root_node, HasTables}
 use Rattle.table_walk.specs.Keys.{remove_same, remove_other}
 use Rattle.table_walk.specs.Places.{IsBare}
+use Rattle.table_walk.specs.Nodes.{root_power}
 use Rattle.address_space.specs.Agreement.{body, IsSpace, IsLeafNumber, IsOn, nothing, Shows, Stands}
 use Rattle.address_space.specs.Ending.{AreUnmapped, CanDrop, Drops, DropsLeaf, DropsRun, IsFirstMapped, MayDrop}
 use Rattle.address_space.specs.Layouts.{Layout}
@@ -25,17 +25,16 @@ use Rattle.address_space.proofs.Owned.{one_page, same_bytes}
 
 -- places below the root, and pages
 
-leaf_place : (n : ℕ) → n < 2 ^ 27 → leaf_node n ≡ root_node Sv39 * places (top_level Sv39) + n
-leaf_place n low = omega (arith, low)
+leaf_place : (z : Scheme) (n : ℕ) → leaf_node n ≡ root_node z * places (top_level z) + n
+leaf_place z n = omega (arith, root_power z)
 
-unmapped_to : (t : Tables) (first end : ℕ) → IsBare t (root_node Sv39) (places (top_level Sv39)) first end → end ≤ 2 ^ 27 → AreUnmapped t first end
-unmapped_to t first end bare low n from less = ap (get t.leaves) (leaf_place n (omega arith)) ∙ bare n from less
+unmapped_to : (z : Scheme) (t : Tables) (first end : ℕ) → IsBare t (root_node z) (places (top_level z)) first end → AreUnmapped t first end
+unmapped_to z t first end bare n from less = ap (get t.leaves) (leaf_place z n) ∙ bare n from less
 
-pub first_is_mapped : (t : Tables) (first end : ℕ) (o : Option (ℕ × ℕ)) → IsNextLeafBefore Sv39 t first end o → end ≤ 2 ^ 27 → IsFirstMapped t first end o
-first_is_mapped t first end None bare low = unmapped_to t first end bare low
-first_is_mapped t first end (Some p) next low =
-    let before = next.0 in
-    (next.1.0, before, ap (get t.leaves) (leaf_place p.0 (omega (arith, before, low))) ∙ next.1.2, unmapped_to t first p.0 next.1.3 (omega (arith, before, low)))
+pub first_is_mapped : (z : Scheme) (t : Tables) (first end : ℕ) (o : Option (ℕ × ℕ)) → IsNextLeafBefore z t first end o → IsFirstMapped t first end o
+first_is_mapped z t first end None bare = unmapped_to z t first end bare
+first_is_mapped z t first end (Some p) next =
+    (next.1.0, next.0, ap (get t.leaves) (leaf_place z p.0) ∙ next.1.2, unmapped_to z t first p.0 next.1.3)
 
 everywhere : (first n : ℕ) → (n < first) ⊎ (first ≤ n)
 everywhere first n = elim (cases_lt n first) [ inl before ↦ inl before | inr after ↦ inr (omega (arith, after)) ]
@@ -115,7 +114,7 @@ module _ (first from end : ℕ) (within : from ≤ max first end) where
         still_settled p first end n s was.0 (long_run n w (ap (get u.leaves) (sym is) ∙ leaf) was.1))
 
 -- the page behind a run goes
-module _ (first page : ℕ) (from : first ≤ page) (low : page < trapframe_page) where
+module _ (first page : ℕ) (from : first ≤ page) where
   one_less : (n : ℕ) → (n < first) ⊎ (page + 1 ≤ n) → (n < first) ⊎ (page ≤ n)
   one_less n (inl before) = inl before
   one_less n (inr after) = inr (omega (arith, after))
@@ -124,8 +123,8 @@ module _ (first page : ℕ) (from : first ≤ page) (low : page < trapframe_page
   one_more n apart (inl before) = inl before
   one_more n apart (inr after) = inr (omega (arith, after, apart))
 
-  other_page : (n : ℕ) → n < 2 ^ 27 → (n ≡ page → ⊥) → leaf_node n ≡ leaf_node page → ⊥
-  other_page n small apart same = apart (one_page n page small (omega (arith, low)) same)
+  other_page : (n : ℕ) → (n ≡ page → ⊥) → leaf_node n ≡ leaf_node page → ⊥
+  other_page n apart same = apart (one_page n page same)
 
   drops_more : (t u : Tables) → Drops t u first page → Drops t (without_leaf u (leaf_node page)) first (page + 1)
   drops_more t u d = record {
@@ -133,16 +132,16 @@ module _ (first page : ℕ) (from : first ≤ page) (low : page < trapframe_page
     gone = λ n after before. elim (cases_eq n page) [
       | inl same ↦ remove_same u.leaves (leaf_node page) (leaf_node n) (ap leaf_node same)
       | inr apart ↦
-          remove_other u.leaves (leaf_node page) (leaf_node n) (other_page n (omega (arith, low, before)) apart)
+          remove_other u.leaves (leaf_node page) (leaf_node n) (other_page n apart)
           ∙ d.gone n after (omega (arith, before, apart))
     ];
     others = λ k apart.
         remove_other u.leaves (leaf_node page) k (apart page from (omega arith)) ∙ d.others k (λ n after before. apart n after (omega (arith, before)));
   }
 
-  module _ (v w : View) (root trapframe : ℕ) (u : Tables) (p : Process) (d : DropsLeaf v w root u page) where
-    kept : (n x : ℕ) → n < 2 ^ 27 → (n ≡ page → ⊥) → get u.leaves (leaf_node n) ≡ Some x → get (without_leaf u (leaf_node page)).leaves (leaf_node n) ≡ Some x
-    kept n x small apart leaf = remove_other u.leaves (leaf_node page) (leaf_node n) (other_page n small apart) ∙ leaf
+  module _ (v w : View) (root trapframe : ℕ) (u : Tables) (p : Process) (low : page < trapframe_page p.scheme) (d : DropsLeaf p.scheme v w root u page) where
+    kept : (n x : ℕ) → (n ≡ page → ⊥) → get u.leaves (leaf_node n) ≡ Some x → get (without_leaf u (leaf_node page)).leaves (leaf_node n) ≡ Some x
+    kept n x apart leaf = remove_other u.leaves (leaf_node page) (leaf_node n) (other_page n apart) ∙ leaf
 
     before_that : (n : ℕ) (s : Page) → pages.get (without_pages p first (page + 1)).settled n ≡ Some s
         → (pages.get (without_pages p first page).settled n ≡ Some s) × (n ≡ page → ⊥)
@@ -171,15 +170,14 @@ module _ (first page : ℕ) (from : first ≤ page) (low : page < trapframe_page
     shows_more s = record {
       on_trampoline =
           let t = s.on_trampoline in
-          (t.0, kept trampoline_page t.0 (omega arith) (λ same. omega (arith, same, low)) t.1, t.2);
+          (t.0, kept (trampoline_page p.scheme) t.0 (λ same. omega (arith, same, low, of_scheme p.scheme)) t.1, t.2);
       on_trapframe =
           let t = s.on_trapframe in
-          (t.0, kept trapframe_page t.0 (omega arith) (λ same. omega (arith, same, low)) t.1, t.2);
+          (t.0, kept (trapframe_page p.scheme) t.0 (λ same. omega (arith, same, low)) t.1, t.2);
       settled = λ n page_there at.
           let was = before_that n page_there at in
           let shown = s.settled n page_there was.0 in
-          let small = s.low n page_there was.0 in
-          let still = kept n shown.leaf (omega (arith, small)) was.1 shown.mapped in
+          let still = kept n shown.leaf was.1 shown.mapped in
           record {
             region = shown.region;
             frame = shown.frame;
@@ -208,7 +206,7 @@ module _ (first page : ℕ) (from : first ≤ page) (low : page < trapframe_page
     saved_more : Shows v trapframe u (without_pages p first page) → hold_of w trapframe ≡ hold_of v trapframe
     saved_more s =
         let t = s.on_trapframe in
-        d.others (leaf_node trapframe_page) t.0 trapframe (kept trapframe_page t.0 (omega arith) (λ same. omega (arith, same, low)) t.1) t.2.names
+        d.others (leaf_node (trapframe_page p.scheme)) t.0 trapframe (kept (trapframe_page p.scheme) t.0 (λ same. omega (arith, same, low)) t.1) t.2.names
 
 -- a page below TRAPFRAME's that has a leaf
 
@@ -225,12 +223,12 @@ goes_first t first end before some =
     let leaf = some_leaf (get t.leaves (leaf_node first)) some in
     (leaf.0, (omega arith, before, leaf.1, λ n from less. absurd (omega (arith, from, less))))
 
-may_drop : (v : View) (root trapframe : ℕ) (u : Tables) (q : Process) → Stands v root trapframe nothing u q → (page : ℕ) → page < trapframe_page
-    → IsSome (get u.leaves (leaf_node page)) → CanDrop v root u page
+may_drop : (v : View) (root trapframe : ℕ) (u : Tables) (q : Process) → Stands v root trapframe nothing u q → (page : ℕ) → page < trapframe_page q.scheme
+    → IsSome (get u.leaves (leaf_node page)) → CanDrop q.scheme v root u page
 may_drop v root trapframe u q s page low some =
     let leaf = some_leaf (get u.leaves (leaf_node page)) some in
-    let of_trampoline : leaf_node page ≡ leaf_node trampoline_page → ⊥ = λ same. omega (arith, low, one_page page trampoline_page (omega (arith, low)) (omega arith) same) in
-    let of_trapframe : leaf_node page ≡ leaf_node trapframe_page → ⊥ = λ same. omega (arith, low, one_page page trapframe_page (omega (arith, low)) (omega arith) same) in
+    let of_trampoline : leaf_node page ≡ leaf_node (trampoline_page q.scheme) → ⊥ = λ same. omega (arith, low, one_page page (trampoline_page q.scheme) same, of_scheme q.scheme) in
+    let of_trapframe : leaf_node page ≡ leaf_node (trapframe_page q.scheme) → ⊥ = λ same. omega (arith, low, one_page page (trapframe_page q.scheme) same) in
     let on : (f : ℕ) × IsOn u page f × (f < 2 ^ 16) =
     elim (s.shows.only (leaf_node page) leaf.0 leaf.1) as (λ _. (f : ℕ) × IsOn u page f × (f < 2 ^ 16)) [
       | inl same ↦ absurd (of_trampoline same)
@@ -293,35 +291,43 @@ module _ (v : View) (root trapframe : ℕ) (t : Tables) (p : Process) where
       },
     )
 
-    pub any_may_drop : end ≤ trapframe_page → (page : ℕ) → MayDrop w root so_far.0 page end
-    any_may_drop low page before some = may_drop w root trapframe so_far.0 (without_pages p first from) so_far.1.stands page (omega (arith, low, before)) some
+    -- by the scheme of the process, which the caller tells
+    module _ (z : Scheme) (schemed : p.scheme ≡ z) where
+      pub tables_yet : HasTables z w root so_far.0
+      tables_yet = subst (λ s. HasTables s w root so_far.0) schemed so_far.1.stands.tables
 
-    module _ (page leaf : ℕ) (found : IsFirstMapped so_far.0 from end (Some (page, leaf))) (low : end ≤ trapframe_page) where
-      pub dropped_next : first ≤ from → (x : View) → DropsLeaf w x root so_far.0 page → HasDropped v x root trapframe t p first (page + 1)
-      dropped_next after x d =
-          let near = found.0 in
-          let before = found.1 in
-          let within : from ≤ max first page = omega (arith, near) in
-          let till = stands_longer first from page within so_far.0 found.3 w root trapframe p so_far.1.stands in
-          let less = drops_longer first from page within so_far.0 found.3 t so_far.1.drops in
-          let behind : first ≤ page = omega (arith, after, near) in
-          let inside : page < trapframe_page = omega (arith, before, low) in (
-            without_leaf so_far.0 (leaf_node page),
-            record {
-              stands = stands_more first page behind inside w x root trapframe so_far.0 p d till;
-              drops = drops_more first page behind inside t so_far.0 less;
-              saved = saved_more first page behind inside w x root trapframe so_far.0 p d till.shows ∙ so_far.1.saved;
-              credits = d.credits ∙ so_far.1.credits;
-              takes = takes_then v w x so_far.1.takes d.takes;
-            },
-          )
+      pub any_may_drop : end ≤ trapframe_page z → (page : ℕ) → MayDrop z w root so_far.0 page end
+      any_may_drop low page before some =
+          subst (λ s. CanDrop s w root so_far.0 page) schemed
+          (may_drop w root trapframe so_far.0 (without_pages p first from) so_far.1.stands page (subst (λ s. page < trapframe_page s) (sym schemed) (omega (arith, low, before))) some)
+
+      module _ (page leaf : ℕ) (found : IsFirstMapped so_far.0 from end (Some (page, leaf))) (low : end ≤ trapframe_page z) where
+        pub dropped_next : first ≤ from → (x : View) → DropsLeaf z w x root so_far.0 page → HasDropped v x root trapframe t p first (page + 1)
+        dropped_next after x drops =
+            let d : DropsLeaf p.scheme w x root so_far.0 page = subst (λ s. DropsLeaf s w x root so_far.0 page) (sym schemed) drops in
+            let near = found.0 in
+            let before = found.1 in
+            let within : from ≤ max first page = omega (arith, near) in
+            let till = stands_longer first from page within so_far.0 found.3 w root trapframe p so_far.1.stands in
+            let less = drops_longer first from page within so_far.0 found.3 t so_far.1.drops in
+            let behind : first ≤ page = omega (arith, after, near) in
+            let inside : page < trapframe_page p.scheme = subst (λ s. page < trapframe_page s) (sym schemed) (omega (arith, before, low)) in (
+              without_leaf so_far.0 (leaf_node page),
+              record {
+                stands = stands_more first page behind w x root trapframe so_far.0 p inside d till;
+                drops = drops_more first page behind t so_far.0 less;
+                saved = saved_more first page behind w x root trapframe so_far.0 p inside d till.shows ∙ so_far.1.saved;
+                credits = d.credits ∙ so_far.1.credits;
+                takes = takes_then v w x so_far.1.takes d.takes;
+              },
+            )
 
 -- the space that is left
 pub agrees_dropped : (v w : View) (root trapframe : ℕ) (l : Layout) (t u : Tables) (p : Process) (first end : ℕ) → IsSpace (body v root trapframe l) t p
     → DropsRun v w root trapframe t u p first end → IsSpace (body w root trapframe l) u (without_pages p first end)
 agrees_dropped v w root trapframe l t u p first end a d = record {
   sound = sound_fewer p (without_pages p first end).settled (λ n s at. (was_settled p first end n s at).0) a.sound;
-  lays = record { parts = a.lays.parts; mappings = a.lays.mappings; heap_base = a.lays.heap_base; size = a.lays.size };
+  lays = record { scheme = a.lays.scheme; parts = a.lays.parts; mappings = a.lays.mappings; heap_base = a.lays.heap_base; size = a.lays.size };
   stands = d.stands;
   credits = d.credits ∙ a.credits;
 }

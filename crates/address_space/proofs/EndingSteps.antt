@@ -1,6 +1,6 @@
 -- A space that ends, once its pages are gone: TRAPFRAME's leaf goes, then TRAMPOLINE's, and then the tables; and at the very end the
 -- frames of these two pages.
-use Rattle.std.proofs.Common.{◌≡◌, ℕ, ◌<◌, ◌⊎◌, None, Some, refl, ap, sym, ◌∙◌, inl, inr, arith}
+use Rattle.std.proofs.Common.{◌≡◌, ℕ, ◌<◌, ◌⊎◌, None, Some, refl, ap, sym, ◌∙◌, inl, inr, arith, subst}
 use Rattle.std.specs.Prelude.{[]}
 use Rattle.std.proofs.lemmas.Bool.{cases_eq}
 use Rattle.std.specs.FinMap.{get}
@@ -10,10 +10,10 @@ use Rattle.process_model.specs.Heap.{without_pages}
 use Rattle.process_model.specs.PageMap as pages
 use Rattle.process_model.specs.Process.{Page, Process, regions}
 use Rattle.process_model.specs.Regions.{Region, region_at}
-use Rattle.sv39_entry.specs.Address.{trampoline_page, trapframe_page}
 use Rattle.sv39_entry.specs.Word.{ppn}
 use Rattle.sv39_entry.specs.Frame.{ppn_of}
-use Rattle.sv39_entry.specs.declared.scheme.Scheme.TheVariants.{Sv39}
+use Rattle.sv39_entry.specs.Schemes.{trampoline_page, trapframe_page, of_scheme}
+use Rattle.sv39_entry.specs.declared.scheme.Scheme.{Scheme}
 use Rattle.table_walk.specs.Tables.{ChangesTables, HasTables, Tables, leaf_node, without_leaf}
 use Rattle.table_walk.specs.Keys.{is_none, remove_other}
 use Rattle.table_walk.specs.Released.{AreLast, SameTallies}
@@ -25,6 +25,10 @@ use Rattle.address_space.proofs.DroppedLeaf.{changes_take, leaf_goes, left, no_n
 use Rattle.process_model.specs.Released.{was_settled}
 use Rattle.address_space.proofs.Owned.{both_of, no_table, one_else, one_here, one_page, released_here, released_other, same_references, same_sole}
 
+-- what is known by the scheme of a process is known by that which code has
+pub emptied_of_scheme : {x y : Scheme} {v : View} {root trapframe : ℕ} {t : Tables} → x ≡ y → IsEmptied x v root trapframe t → IsEmptied y v root trapframe t
+emptied_of_scheme {x} {y} {v} {root} {trapframe} {t} same emptied = subst (λ z. IsEmptied z v root trapframe t) same emptied
+
 -- each settled page is one of a region
 pub below : {x : Body} (t : Tables) (p : Process) → IsStanding x t p nothing → (end : ℕ) → ((n : ℕ) (r : Region) → region_at (regions p) n ≡ Some r → n < end)
     → (n : ℕ) (s : Page) → pages.get p.settled n ≡ Some s → n < end
@@ -33,10 +37,10 @@ below t p space end no_region n s is = let shown = space.stands.shows.settled n 
 -- no page is settled
 module _ (v : View) (root trapframe : ℕ) (u : Tables) (p : Process) (end : ℕ) (all : (n : ℕ) (s : Page) → pages.get p.settled n ≡ Some s → n < end)
     (a : Stands v root trapframe nothing u (without_pages p 0 end)) where
-  two_left : (k w : ℕ) → get u.leaves k ≡ Some w → (k ≡ leaf_node trampoline_page) ⊎ (k ≡ leaf_node trapframe_page)
-  two_left k w leaf = elim (a.shows.only k w leaf) as (λ _. (k ≡ leaf_node trampoline_page) ⊎ (k ≡ leaf_node trapframe_page)) [
+  two_left : (k w : ℕ) → get u.leaves k ≡ Some w → (k ≡ leaf_node (trampoline_page p.scheme)) ⊎ (k ≡ leaf_node (trapframe_page p.scheme))
+  two_left k w leaf = elim (a.shows.only k w leaf) as (λ _. (k ≡ leaf_node (trampoline_page p.scheme)) ⊎ (k ≡ leaf_node (trapframe_page p.scheme))) [
     | inl trampoline ↦ inl trampoline
-    | inr rest ↦ elim rest as (λ _. (k ≡ leaf_node trampoline_page) ⊎ (k ≡ leaf_node trapframe_page)) [
+    | inr rest ↦ elim rest as (λ _. (k ≡ leaf_node (trampoline_page p.scheme)) ⊎ (k ≡ leaf_node (trapframe_page p.scheme))) [
       | inl frame ↦ inr frame
       | inr there ↦ absurd (
           let was = was_settled p 0 end there.0 there.1 there.3 in
@@ -48,7 +52,7 @@ module _ (v : View) (root trapframe : ℕ) (u : Tables) (p : Process) (end : ℕ
     ]
   ]
 
-  pub emptied : IsEmptied v root trapframe u
+  pub emptied : IsEmptied p.scheme v root trapframe u
   emptied = record {
     tables = a.tables;
     owns = a.owns;
@@ -58,40 +62,40 @@ module _ (v : View) (root trapframe : ℕ) (u : Tables) (p : Process) (end : ℕ
   }
 
 -- `w` is the view after TRAPFRAME's leaf went, `m` after TRAMPOLINE's
-module _ (v w m : View) (root trapframe : ℕ) (t : Tables) (a : IsEmptied v root trapframe t) where
+module _ {z : Scheme} (v w m : View) (root trapframe : ℕ) (t : Tables) (a : IsEmptied z v root trapframe t) where
   abbrev first : Tables
-  first = without_leaf t (leaf_node trapframe_page)
+  first = without_leaf t (leaf_node (trapframe_page z))
 
   abbrev second : Tables
-  second = without_leaf first (leaf_node trampoline_page)
+  second = without_leaf first (leaf_node (trampoline_page z))
 
-  leaves_apart : leaf_node trampoline_page ≡ leaf_node trapframe_page → ⊥
-  leaves_apart same = omega (arith, one_page trampoline_page trapframe_page (omega arith) (omega arith) same)
+  leaves_apart : leaf_node (trampoline_page z) ≡ leaf_node (trapframe_page z) → ⊥
+  leaves_apart same = omega (arith, one_page (trampoline_page z) (trapframe_page z) same, of_scheme z)
 
   apart : trapframe ≡ 0 → ⊥
   apart same =
       let code = a.on_trampoline in
       let saved = a.on_trapframe in
-      leaves_apart (a.owns.once 0 (leaf_node trampoline_page) (leaf_node trapframe_page) (inr (code.0, code.1, code.2.names)) (inr (saved.0, saved.1, saved.2.names ∙ ap ppn_of same)))
+      leaves_apart (a.owns.once 0 (leaf_node (trampoline_page z)) (leaf_node (trapframe_page z)) (inr (code.0, code.1, code.2.names)) (inr (saved.0, saved.1, saved.2.names ∙ ap ppn_of same)))
 
-  module _ (c : ChangesTables v w t t 0) (has : HasTables Sv39 w root (without_leaf t (leaf_node trapframe_page)))
-      (d : ChangesTables w m (without_leaf t (leaf_node trapframe_page)) (without_leaf t (leaf_node trapframe_page)) 0) where
+  module _ (c : ChangesTables v w t t 0) (has : HasTables z w root (without_leaf t (leaf_node (trapframe_page z))))
+      (d : ChangesTables w m (without_leaf t (leaf_node (trapframe_page z))) (without_leaf t (leaf_node (trapframe_page z))) 0) where
     one_waits : Owns w first (one_of trapframe)
-    one_waits = let on = a.on_trapframe in unmapped v w root t (leaf_node trapframe_page) on.0 trapframe a.tables a.owns on.1 on.2.names c
+    one_waits = let on = a.on_trapframe in unmapped v w root t (leaf_node (trapframe_page z)) on.0 trapframe a.tables a.owns on.1 on.2.names c
 
     saved_unnamed : (k : ℕ) → Names first trapframe k → ⊥
-    saved_unnamed = let on = a.on_trapframe in no_name v root t (leaf_node trapframe_page) on.0 trapframe a.tables nothing a.owns on.1 on.2.names
+    saved_unnamed = let on = a.on_trapframe in no_name v root t (leaf_node (trapframe_page z)) on.0 trapframe a.tables nothing a.owns on.1 on.2.names
 
-    last : (x : ℕ) × (get first.leaves (leaf_node trampoline_page) ≡ Some x) × (ppn x ≡ ppn_of 0)
-    last = let on = a.on_trampoline in (on.0, remove_other t.leaves (leaf_node trapframe_page) (leaf_node trampoline_page) leaves_apart ∙ on.1, on.2.names)
+    last : (x : ℕ) × (get first.leaves (leaf_node (trampoline_page z)) ≡ Some x) × (ppn x ≡ ppn_of 0)
+    last = let on = a.on_trampoline in (on.0, remove_other t.leaves (leaf_node (trapframe_page z)) (leaf_node (trampoline_page z)) leaves_apart ∙ on.1, on.2.names)
 
     two_wait : Owns m second (both_of trapframe 0)
-    two_wait = leaf_goes w root first (leaf_node trampoline_page) last.0 0 has (one_of trapframe) one_waits last.1 last.2 m d (both_of trapframe 0) (λ g. refl)
+    two_wait = leaf_goes w root first (leaf_node (trampoline_page z)) last.0 0 has (one_of trapframe) one_waits last.1 last.2 m d (both_of trapframe 0) (λ g. refl)
 
     none_left : (n : ℕ) → get second.leaves n ≡ None
     none_left n = is_none _ (λ x leaf.
-        let below = left first (leaf_node trampoline_page) n x leaf in
-        let above = left t (leaf_node trapframe_page) n x below.0 in
+        let below = left first (leaf_node (trampoline_page z)) n x leaf in
+        let above = left t (leaf_node (trapframe_page z)) n x below.0 in
         elim (a.only n x above.0) as (λ _. ⊥) [
           | inl trampoline ↦ below.1 trampoline
           | inr frame ↦ above.1 frame
@@ -99,10 +103,10 @@ module _ (v w m : View) (root trapframe : ℕ) (t : Tables) (a : IsEmptied v roo
 
     -- the two frames are no tables
     zero_no_table : (k : ℕ) → get t.tables k ≡ Some 0 → ⊥
-    zero_no_table = let on = a.on_trampoline in no_table v t root nothing a.tables a.owns (leaf_node trampoline_page) on.0 0 on.1 on.2.names
+    zero_no_table = let on = a.on_trampoline in no_table v t root nothing a.tables a.owns (leaf_node (trampoline_page z)) on.0 0 on.1 on.2.names
 
     saved_no_table : (k : ℕ) → get t.tables k ≡ Some trapframe → ⊥
-    saved_no_table = let on = a.on_trapframe in no_table v t root nothing a.tables a.owns (leaf_node trapframe_page) on.0 trapframe on.1 on.2.names
+    saved_no_table = let on = a.on_trapframe in no_table v t root nothing a.tables a.owns (leaf_node (trapframe_page z)) on.0 trapframe on.1 on.2.names
 
     no_names : (f : ℕ) → ((k : ℕ) → get t.tables k ≡ Some f → ⊥) → (k : ℕ) → Names second f k → ⊥
     no_names f none k (inl table) = none k table
@@ -122,7 +126,7 @@ module _ (v w m : View) (root trapframe : ℕ) (t : Tables) (a : IsEmptied v roo
         let none = one_else trapframe 0 (λ same. apart (sym same)) in
         omega (arith, count, here, none)
 
-    pub are_last : AreLast m (without_leaf (without_leaf t (leaf_node trapframe_page)) (leaf_node trampoline_page))
+    pub are_last : AreLast m (without_leaf (without_leaf t (leaf_node (trapframe_page z))) (leaf_node (trampoline_page z)))
     are_last = record {
       bare = none_left;
       once = table_once;
@@ -139,12 +143,12 @@ module _ (v w m : View) (root trapframe : ℕ) (t : Tables) (a : IsEmptied v roo
       as_was = others trapframe saved_no_table ∙ d.apart trapframe saved_no_table ∙ c.apart trapframe saved_no_table
 
       saved_once : references e trapframe ≡ 1
-      saved_once = let on = a.on_trapframe in same_references v e trapframe as_was ∙ a.owns.named trapframe (leaf_node trapframe_page) (inr (on.0, on.1, on.2.names))
+      saved_once = let on = a.on_trapframe in same_references v e trapframe as_was ∙ a.owns.named trapframe (leaf_node (trapframe_page z)) (inr (on.0, on.1, on.2.names))
 
       saved_sole : IsSole e trapframe
       saved_sole =
           let on = a.on_trapframe in
-          same_sole v e trapframe as_was (a.owns.writable trapframe (leaf_node trapframe_page) on.0 on.1 on.2.names on.2.write)
+          same_sole v e trapframe as_was (a.owns.writable trapframe (leaf_node (trapframe_page z)) on.0 on.1 on.2.names on.2.write)
 
       -- nothing else is held
       none_else : (f : ℕ) → (f ≡ 0 → ⊥) → (f ≡ trapframe → ⊥) → references e f ≡ 0

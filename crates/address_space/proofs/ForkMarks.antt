@@ -14,7 +14,6 @@ use Rattle.process_model.specs.Residence.{marked_page, with_page}
 use Rattle.sv39_entry.specs.Address.{has, vpn}
 use Rattle.sv39_entry.specs.Word.{ppn}
 use Rattle.sv39_entry.specs.declared.access.Access.TheVariants.{Store}
-use Rattle.sv39_entry.specs.declared.scheme.Scheme.TheVariants.{Sv39}
 use Rattle.table_walk.specs.Backed.{IsBacked}
 use Rattle.table_walk.specs.Tables.{HasTables, Tables, last_table, leaf_node, with_leaf}
 use Rattle.table_walk.specs.Keys.{insert_other, insert_same}
@@ -100,8 +99,8 @@ module _ {v : View} {root trapframe : ℕ} {l : Layout} {t : Tables} {p : Proces
 
     -- the region grants writing, and the leaf is turned
     module _ (lacks : lacks_right Store (Some r) ≡ false) (w : View) (leaf : ℕ)
-        (made : IsPageLeaf leaf (a.frame).0 r true (a.dirty && r.writes)) (tables : HasTables Sv39 w root (with_leaf t (leaf_node page) leaf))
-        (word : (y : ℕ) → get t.tables (last_table Sv39 page) ≡ Some y → w ≡ with_word y (vpn page 0) leaf v) where
+        (made : IsPageLeaf leaf (a.frame).0 r true (a.dirty && r.writes)) (tables : HasTables p.scheme w root (with_leaf t (leaf_node page) leaf))
+        (word : (y : ℕ) → get t.tables (last_table p.scheme page) ≡ Some y → w ≡ with_word y (vpn page 0) leaf v) where
       abbrev marked : Page
       marked = marked_page p page s
 

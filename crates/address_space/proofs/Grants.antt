@@ -13,7 +13,6 @@ use Rattle.sv39_entry.specs.Causes.{page_fault_cause}
 use Rattle.sv39_entry.specs.declared.access.Access.{Access}
 use Rattle.sv39_entry.specs.declared.access.Access.TheVariants.{Fetch, Load, Store}
 use Rattle.sv39_entry.specs.declared.access.Mode.TheVariants.{User}
-use Rattle.sv39_entry.specs.declared.scheme.Scheme.TheVariants.{Sv39}
 use Rattle.table_walk.specs.Leaves.{walk_answer}
 use Rattle.table_walk.specs.Tables.{Tables}
 use Rattle.address_space.specs.Accesses.{gives_leaf}
@@ -42,7 +41,7 @@ module _ (x : Body) (t : Tables) (p : Process) (access : Access) (address : ℕ)
   abbrev asked : Asked
   asked = record { access = access; address = address; width = 1; value = 0 }
 
-  pub grants : (gives_leaf (walk_answer Sv39 t address access User) ≡ true) ↔ ((copy_rule (regions p) access address ≡ None) × (is_resident p access (page_of address) ≡ true))
+  pub grants : (gives_leaf (walk_answer p.scheme t address access User) ≡ true) ↔ ((copy_rule p.scheme (regions p) access address ≡ None) × (is_resident p access (page_of address) ≡ true))
   grants = elim (walked_by_user x.view x.trapframe t p space.stands.shows asked) [
     | inl goes ↦ (
       (λ _. (goes.3, ap (is_resident_page access (region_on p (page_of address))) goes.2 ∙ goes.4)),

@@ -7,13 +7,13 @@ use Rattle.std.proofs.lemmas.Option.{same_Some, slice_get_within}
 use Rattle.frame_store.specs.Holds.{hold_of-frames, hold_of-with_hold_other, hold_of-with_hold_same}
 use Rattle.frame_store.specs.Tallies.{spent_none, spent_on}
 use Rattle.frame_store.specs.View.{Hold, View, claimed, hold_of, IsHeld, references, sole_hold, with_credits, with_hold}
-use Rattle.table_walk.specs.Tables.{bare_root, blank_hold, ChangesTables, HasTables, Tables}
+use Rattle.table_walk.specs.Tables.{bare_root, blank_hold, ChangesTables, HasTables, Tables, root_node}
 use Rattle.table_walk.specs.Keys.{insert_other, insert_same}
 use Rattle.table_walk.specs.Same.{same_tables}
 use Rattle.address_space.specs.Kernel.{HoldsKernel}
 use Rattle.address_space.specs.Steps.{Spends}
 use Rattle.address_space.proofs.KernelPages.{get_before, get_last}
-use Rattle.sv39_entry.specs.declared.scheme.Scheme.TheVariants.{Sv39}
+use Rattle.sv39_entry.specs.declared.scheme.Scheme.{Scheme}
 
 -- ---- credits that are spent
 
@@ -57,7 +57,7 @@ module _ (f : ℕ) (v w : View) (is : w ≡ claimed f v) where
     pub not_claimed : (g : ℕ) → references v g ≡ 1 → g ≡ f → ⊥
     not_claimed g once e = let none : references v g ≡ 0 = ap (references v) e ∙ fresh in omega (arith, none, once)
 
-    pub tables_stay : (root : ℕ) (t : Tables) → HasTables Sv39 v root t → HasTables Sv39 w root t
+    pub tables_stay : {z : Scheme} (root : ℕ) (t : Tables) → HasTables z v root t → HasTables z w root t
     tables_stay root t has = same_tables v w root t (λ k g at. claimed_other g (λ e. let none : references v g ≡ 0 = ap (references v) e ∙ fresh in let held = (has.own k g at).0 in omega (arith, none, held))) has
 
     pub once_still : (g : ℕ) → references v g ≡ 1 → references w g ≡ 1
@@ -150,7 +150,7 @@ module _ (v w : View) (stacks : List ℕ) (t u : Tables) (n : ℕ) (holds : Hold
 
 -- ---- an empty root is made
 
-module _ (root : ℕ) (v w : View) (is : w ≡ with_hold root blank_hold (claimed root v)) (fresh : references v root ≡ 0) (once : references v 0 ≡ 1)
+module _ (z : Scheme) (root : ℕ) (v w : View) (is : w ≡ with_hold root blank_hold (claimed root v)) (fresh : references v root ≡ 0) (once : references v 0 ≡ 1)
     (none : (f : ℕ) → (f ≡ 0 → ⊥) → references v f ≡ 0) where
   root_here : references w root ≡ 1
   root_here = ap (λ (h : Hold). h.references) (ap (λ u. hold_of u root) is ∙ hold_of-with_hold_same root blank_hold _)
@@ -161,19 +161,19 @@ module _ (root : ℕ) (v w : View) (is : w ≡ with_hold root blank_hold (claime
   root_no_code : root ≡ 0 → ⊥
   root_no_code e = let gone : references v 0 ≡ 0 = ap (references v) (sym e) ∙ fresh in omega (arith, gone, once)
 
-  the_root : (k f : ℕ) → get (bare_root Sv39 root).tables k ≡ Some f → f ≡ root
-  the_root k f at = elim (cases_eq k 512) [
-    | inl e ↦ same_Some f root (sym at ∙ insert_same empty 512 root k e)
-    | inr ne ↦ absurd (let gone = sym at ∙ insert_other empty 512 root k ne ∙ get-empty {X = ℕ} nat_cmp k in cc)
+  the_root : (k f : ℕ) → get (bare_root z root).tables k ≡ Some f → f ≡ root
+  the_root k f at = elim (cases_eq k (root_node z)) [
+    | inl e ↦ same_Some f root (sym at ∙ insert_same empty (root_node z) root k e)
+    | inr ne ↦ absurd (let gone = sym at ∙ insert_other empty (root_node z) root k ne ∙ get-empty {X = ℕ} nat_cmp k in cc)
   ]
 
-  pub holds_root : HoldsKernel w [] (bare_root Sv39 root).tables
+  pub holds_root : HoldsKernel w [] (bare_root z root).tables
   holds_root = record {
     code = root_other 0 (λ e. root_no_code (sym e)) ∙ once;
     stack = λ slot f at. absurd (cc);
     table = λ k f at. ap (references w) (the_root k f at) ∙ root_here;
     bare = λ f no_code no_stack no_table.
-        let other : f ≡ root → ⊥ = λ e. no_table 512 (insert_same empty 512 root 512 refl ∙ ap Some (sym e)) in
+        let other : f ≡ root → ⊥ = λ e. no_table (root_node z) (insert_same empty (root_node z) root (root_node z) refl ∙ ap Some (sym e)) in
         root_other f other ∙ none f no_code;
     stacks_apart = λ i j f at also. absurd (cc);
     stack_no_table = λ slot k f at table. cc;

@@ -3,9 +3,10 @@ use Rattle.std.proofs.Common.{◌≡◌, ℕ, zero, suc, ◌+◌, ◌-◌, ◌/�
 use Rattle.std.specs.Prelude.{◌==◌, ◌&&◌, nat_le, nat_lt, option_map, slice_get}
 use Rattle.std.proofs.lemmas.Bool.{cases_eq, cases_lt, eq-eqb, ne_eqb, lt-ltb, le-ltb, le-leb, lt-leb, and_left, and_right, and_parts, eqb-true, ltb-true}
 use Rattle.std.proofs.lemmas.Option.{same_Some}
-use Rattle.sv39_entry.specs.Address.{trampoline_page}
 use Rattle.address_space.specs.Agreement.{code_rights, data_rights}
 use Rattle.address_space.specs.Kernel.{first_direct, frame_rights, kernel_page, stack_page}
+use Rattle.sv39_entry.specs.Schemes.{of_scheme, trampoline_page}
+use Rattle.sv39_entry.specs.declared.scheme.Scheme.{Scheme}
 
 -- ---- lists that grow at their end
 
@@ -47,45 +48,48 @@ none_either_way false = refl
 abbrev is_direct : ℕ → ℕ → Bool
 is_direct frames page = nat_le first_direct page && nat_lt page (first_direct + frames)
 
-abbrev on_stack : List ℕ → ℕ → Option (ℕ × ℕ)
-on_stack stacks page = option_map (λ frame. (frame, data_rights)) (slice_get stacks ((trampoline_page - page) / 2 - 1))
+abbrev on_stack : Scheme → List ℕ → ℕ → Option (ℕ × ℕ)
+on_stack z stacks page = option_map (λ frame. (frame, data_rights)) (slice_get stacks (((trampoline_page z) - page) / 2 - 1))
 
-module _ (frames : ℕ) (stacks : List ℕ) (page : ℕ) where
-  pub on_trampoline : page ≡ trampoline_page → kernel_page frames stacks page ≡ Some (0, code_rights)
-  on_trampoline is = rw (eq-eqb page trampoline_page is) refl
+module _ (z : Scheme) (frames : ℕ) (stacks : List ℕ) (page : ℕ) where
+  pub on_trampoline : page ≡ (trampoline_page z) → kernel_page z frames stacks page ≡ Some (0, code_rights)
+  on_trampoline is = rw (eq-eqb page (trampoline_page z) is) refl
 
-  pub on_frame : frames ≤ 1024 → (i : ℕ) → i < frames → page ≡ first_direct + i → kernel_page frames stacks page ≡ Some (i, frame_rights i)
+  pub on_frame : frames ≤ 1024 → (i : ℕ) → i < frames → page ≡ first_direct + i → kernel_page z frames stacks page ≡ Some (i, frame_rights i)
   on_frame few i less is =
-      let apart : page ≡ trampoline_page → ⊥ = λ e. omega (arith, e, is, few, less) in
+      let facts = of_scheme z in
+      let apart : page ≡ (trampoline_page z) → ⊥ = λ e. omega (arith, e, is, few, less, facts) in
       let i_is : page - first_direct ≡ i = omega (arith, is) in
-      rw (ne_eqb page trampoline_page apart, le-leb first_direct page (omega (arith, is)), lt-ltb page (first_direct + frames) (omega (arith, is, less)), i_is) refl
+      rw (ne_eqb page (trampoline_page z) apart, le-leb first_direct page (omega (arith, is)), lt-ltb page (first_direct + frames) (omega (arith, is, less)), i_is) refl
 
-  pub on_slot : frames ≤ 1024 → (slot f : ℕ) → slot < 64 → page ≡ stack_page slot → slice_get stacks slot ≡ Some f → kernel_page frames stacks page ≡ Some (f, data_rights)
+  pub on_slot : frames ≤ 1024 → (slot f : ℕ) → slot < 64 → page ≡ stack_page z slot → slice_get stacks slot ≡ Some f → kernel_page z frames stacks page ≡ Some (f, data_rights)
   on_slot few slot f less is at =
-      let apart : page ≡ trampoline_page → ⊥ = λ e. omega (arith, e, is, less) in
-      let even : (trampoline_page - page) % 2 ≡ 0 = omega (arith, is, less) in
-      let slot_is : (trampoline_page - page) / 2 - 1 ≡ slot = omega (arith, is, less) in
+      let facts = of_scheme z in
+      let apart : page ≡ (trampoline_page z) → ⊥ = λ e. omega (arith, e, is, less, facts) in
+      let even : ((trampoline_page z) - page) % 2 ≡ 0 = omega (arith, is, less, facts) in
+      let slot_is : ((trampoline_page z) - page) / 2 - 1 ≡ slot = omega (arith, is, less, facts) in
       rw (
-        ne_eqb page trampoline_page apart,
-        and_right (nat_le first_direct page) (nat_lt page (first_direct + frames)) (le-ltb page (first_direct + frames) (omega (arith, is, few, less))),
-        lt-ltb page trampoline_page (omega (arith, is, less)),
-        eq-eqb ((trampoline_page - page) % 2) 0 even,
+        ne_eqb page (trampoline_page z) apart,
+        and_right (nat_le first_direct page) (nat_lt page (first_direct + frames)) (le-ltb page (first_direct + frames) (omega (arith, is, few, less, facts))),
+        lt-ltb page (trampoline_page z) (omega (arith, is, less, facts)),
+        eq-eqb (((trampoline_page z) - page) % 2) 0 even,
         slot_is,
         at,
       ) refl
 
   -- nothing is mapped above the trampoline
-  pub above_none : frames ≤ 1024 → 2 ^ 26 ≤ page → kernel_page frames stacks page ≡ None
+  pub above_none : frames ≤ 1024 → trampoline_page z < page → kernel_page z frames stacks page ≡ None
   above_none few high =
-      let apart : page ≡ trampoline_page → ⊥ = λ e. omega (arith, e, high) in
+      let facts = of_scheme z in
+      let apart : page ≡ (trampoline_page z) → ⊥ = λ e. omega (arith, e, high) in
       rw (
-        ne_eqb page trampoline_page apart,
-        and_right (nat_le first_direct page) (nat_lt page (first_direct + frames)) (le-ltb page (first_direct + frames) (omega (arith, few, high))),
-        le-ltb page trampoline_page (omega (arith, high)),
+        ne_eqb page (trampoline_page z) apart,
+        and_right (nat_le first_direct page) (nat_lt page (first_direct + frames)) (le-ltb page (first_direct + frames) (omega (arith, few, high, facts))),
+        le-ltb page (trampoline_page z) (omega (arith, high)),
       ) refl
 
   -- one more frame is mapped
-  pub frame_other : (page ≡ first_direct + frames → ⊥) → kernel_page (frames + 1) stacks page ≡ kernel_page frames stacks page
+  pub frame_other : (page ≡ first_direct + frames → ⊥) → kernel_page z (frames + 1) stacks page ≡ kernel_page z frames stacks page
   frame_other apart =
       let test : nat_lt page (first_direct + (frames + 1)) ≡ nat_lt page (first_direct + frames) = elim (cases_lt page (first_direct + frames)) [
         | inl less ↦ lt-ltb page (first_direct + (frames + 1)) (omega (arith, less)) ∙ sym (lt-ltb page (first_direct + frames) less)
@@ -94,24 +98,24 @@ module _ (frames : ℕ) (stacks : List ℕ) (page : ℕ) where
       rw test refl
 
   -- one more stack is mapped
-  pub stack_other : (f : ℕ) → (page ≡ stack_page (length stacks) → ⊥) → kernel_page frames (stacks ++ f ∷ []) page ≡ kernel_page frames stacks page
+  pub stack_other : (f : ℕ) → (page ≡ stack_page z (length stacks) → ⊥) → kernel_page z frames (stacks ++ f ∷ []) page ≡ kernel_page z frames stacks page
   stack_other f apart =
-      let on = nat_lt page trampoline_page && ((trampoline_page - page) % 2 == 0) in
-      ap (λ (o : Option (ℕ × ℕ)). cond (page == trampoline_page) (Some (0, code_rights)) (cond (is_direct frames page) (Some (page - first_direct, frame_rights (page - first_direct))) o))
-      (under on (on_stack (stacks ++ f ∷ []) page) (on_stack stacks page) None (λ is.
-      let parts = and_parts (nat_lt page trampoline_page) ((trampoline_page - page) % 2 == 0) is in
-      let below = ltb-true page trampoline_page parts.0 in
-      let even = eqb-true ((trampoline_page - page) % 2) 0 parts.1 in
-      ap (option_map (λ (frame : ℕ). (frame, data_rights))) (get_before stacks f ((trampoline_page - page) / 2 - 1) (λ e. apart (omega (arith, e, below, even))))))
+      let on = nat_lt page (trampoline_page z) && (((trampoline_page z) - page) % 2 == 0) in
+      ap (λ (o : Option (ℕ × ℕ)). cond (page == (trampoline_page z)) (Some (0, code_rights)) (cond (is_direct frames page) (Some (page - first_direct, frame_rights (page - first_direct))) o))
+      (under on (on_stack z (stacks ++ f ∷ []) page) (on_stack z stacks page) None (λ is.
+      let parts = and_parts (nat_lt page (trampoline_page z)) (((trampoline_page z) - page) % 2 == 0) is in
+      let below = ltb-true page (trampoline_page z) parts.0 in
+      let even = eqb-true (((trampoline_page z) - page) % 2) 0 parts.1 in
+      ap (option_map (λ (frame : ℕ). (frame, data_rights))) (get_before stacks f (((trampoline_page z) - page) / 2 - 1) (λ e. apart (omega (arith, e, below, even))))))
 
 -- before the first frame and the first stack
-pub nothing_else : (page : ℕ) → (page ≡ trampoline_page → ⊥) → kernel_page 0 [] page ≡ None
-nothing_else page apart =
+pub nothing_else : (z : Scheme) (page : ℕ) → (page ≡ (trampoline_page z) → ⊥) → kernel_page z 0 [] page ≡ None
+nothing_else z page apart =
     let far : is_direct 0 page ≡ false = elim (cases_lt page first_direct) [
       | inl less ↦ and_left (nat_le first_direct page) (nat_lt page (first_direct + 0)) (lt-leb first_direct page less)
       | inr more ↦ and_right (nat_le first_direct page) (nat_lt page (first_direct + 0)) (le-ltb page (first_direct + 0) (omega (arith, more)))
     ] in
-    rw (ne_eqb page trampoline_page apart, far) (none_either_way {A = ℕ × ℕ} (nat_lt page trampoline_page && ((trampoline_page - page) % 2 == 0)))
+    rw (ne_eqb page (trampoline_page z) apart, far) (none_either_way {A = ℕ × ℕ} (nat_lt page (trampoline_page z) && (((trampoline_page z) - page) % 2 == 0)))
 
 -- ---- what pages are mapped to
 
@@ -125,20 +129,20 @@ rights_of_frame f = elim (cases_eq f 0) [
   | inr ne ↦ inr (rw (ne_eqb f 0 ne) refl)
 ]
 
-module _ (frames : ℕ) (stacks : List ℕ) (page : ℕ) (few : frames ≤ 1024) where
-  pub page_low : (p : ℕ × ℕ) → kernel_page frames stacks page ≡ Some p → page < 2 ^ 26
-  page_low p is = elim (cases_lt page (2 ^ 26)) [
-    | inl low ↦ low
-    | inr high ↦ absurd (let none = above_none frames stacks page few high in cc)
+module _ (z : Scheme) (frames : ℕ) (stacks : List ℕ) (page : ℕ) (few : frames ≤ 1024) where
+  pub page_low : (p : ℕ × ℕ) → kernel_page z frames stacks page ≡ Some p → page ≤ trampoline_page z
+  page_low p is = elim (cases_lt (trampoline_page z) page) [
+    | inl high ↦ absurd (let none = above_none z frames stacks page few high in cc)
+    | inr low ↦ low
   ]
 
-  pub of_kernel : ((slot f : ℕ) → slice_get stacks slot ≡ Some f → f < 2 ^ 16) → (p : ℕ × ℕ) → kernel_page frames stacks page ≡ Some p → IsOfKernel p
+  pub of_kernel : ((slot f : ℕ) → slice_get stacks slot ≡ Some f → f < 2 ^ 16) → (p : ℕ × ℕ) → kernel_page z frames stacks page ≡ Some p → IsOfKernel p
   of_kernel small =
-      let on = nat_lt page trampoline_page && ((trampoline_page - page) % 2 == 0) in
-      chosen IsOfKernel (page == trampoline_page) (Some (0, code_rights)) _ (λ _ p is. subst IsOfKernel (same_Some (0, code_rights) p is) (omega arith, inl refl))
+      let on = nat_lt page (trampoline_page z) && (((trampoline_page z) - page) % 2 == 0) in
+      chosen IsOfKernel (page == (trampoline_page z)) (Some (0, code_rights)) _ (λ _ p is. subst IsOfKernel (same_Some (0, code_rights) p is) (omega arith, inl refl))
       (chosen IsOfKernel (is_direct frames page) (Some (page - first_direct, frame_rights (page - first_direct))) _ (λ test p is.
       let less = ltb-true page (first_direct + frames) (and_parts (nat_le first_direct page) (nat_lt page (first_direct + frames)) test).1 in
       subst IsOfKernel (same_Some (page - first_direct, frame_rights (page - first_direct)) p is) (omega (arith, less, few), rights_of_frame (page - first_direct)))
-      (chosen IsOfKernel on (on_stack stacks page) None (λ _ p is.
-      let from = mapped_from (λ (frame : ℕ). (frame, data_rights)) (slice_get stacks ((trampoline_page - page) / 2 - 1)) p is in
+      (chosen IsOfKernel on (on_stack z stacks page) None (λ _ p is.
+      let from = mapped_from (λ (frame : ℕ). (frame, data_rights)) (slice_get stacks (((trampoline_page z) - page) / 2 - 1)) p is in
       subst IsOfKernel (sym from.2) (small _ from.0 from.1, inr refl)) (λ p is. absurd (cc))))

@@ -1,10 +1,10 @@
 -- What the kernel's accesses lead to.
-use Rattle.std.proofs.Common.{◌≡◌, ℕ, ◌+◌, ◌-◌, ◌*◌, ◌/◌, ◌%◌, ◌^◌, ◌<◌, ◌≤◌, true, false, List, Option, None, Some, inl, inr, refl, ap, sym, ◌∙◌, arith}
+use Rattle.std.proofs.Common.{◌≡◌, ℕ, ◌+◌, ◌-◌, ◌*◌, ◌/◌, ◌%◌, ◌^◌, ◌<◌, true, false, List, Option, None, Some, inl, inr, refl, ap, sym, ◌∙◌, arith, ◌⊎◌}
 use Rattle.std.specs.FinMap.{get}
 use Rattle.std.specs.Prelude.{◌↔◌, ◌==◌, is_some}
-use Rattle.std.proofs.lemmas.Bool.{cases_Bool, cond_both, eq-eqb, eqb-true, le-leb, lt-ltb, or_cases}
+use Rattle.std.proofs.lemmas.Bool.{cases_Bool, cond_both, eqb-true, le-leb, lt-ltb, or_cases}
 use Rattle.frame_store.specs.View.{View}
-use Rattle.sv39_entry.specs.Address.{is_canonical, page_of}
+use Rattle.sv39_entry.specs.Address.{page_of}
 use Rattle.sv39_entry.specs.Causes.{page_fault_cause}
 use Rattle.sv39_entry.specs.Frame.{frame_at, ppn_of}
 use Rattle.sv39_entry.specs.Rights.{grants}
@@ -12,13 +12,16 @@ use Rattle.sv39_entry.specs.Word.{leaf_word, permits, ppn}
 use Rattle.sv39_entry.specs.declared.access.Access.{Access}
 use Rattle.sv39_entry.specs.declared.access.Access.TheVariants.{Fetch, Load, Store}
 use Rattle.sv39_entry.specs.declared.access.Mode.TheVariants.{Supervisor}
-use Rattle.sv39_entry.specs.declared.scheme.Scheme.TheVariants.{Sv39}
+use Rattle.sv39_entry.specs.declared.scheme.Scheme.TheVariants.{Sv39, Sv48}
+use Rattle.sv39_entry.specs.Schemes.{is_canonical, low_canonical, low_page, page_limit, trampoline_page}
+use Rattle.sv39_entry.specs.declared.scheme.Scheme.{Scheme}
 use Rattle.table_walk.specs.Held.{held_memory}
-use Rattle.table_walk.specs.Tables.{Tables, leaf_node, walk_leaf}
+use Rattle.table_walk.specs.Tables.{Tables, walk_leaf}
 use Rattle.table_walk.specs.Memory.{Extent, has_byte, physical_address}
 use Rattle.table_walk.specs.Walk.{Finds, FindsLeaf, LeavesMemory, Maps, Translates}
 use Rattle.table_walk.specs.declared.walk.Found.TheVariants as found
 use Rattle.table_walk.specs.declared.walk.Walk.TheVariants as walk
+use Rattle.table_walk.specs.Nodes.{walk_leaf_is}
 use Rattle.address_space.specs.Agreement.{code_rights, data_rights}
 use Rattle.address_space.specs.Kernel.{IsKernelTable, kernel_leaf, kernel_page, kernel_walk, walk_to}
 use Rattle.address_space.proofs.KernelPages.{above_none, IsOfKernel, of_kernel, page_low}
@@ -70,50 +73,58 @@ leaf_ppn p known = elim known.1 [
 frame_there : (f : ℕ) → f < 2 ^ 16 → is_some (frame_at (ppn_of f)) ≡ true
 frame_there f small = rw (le-leb 0x80000 (ppn_of f) (omega arith), lt-ltb (ppn_of f) (0x80000 + 2 ^ 16) (omega (arith, small))) refl
 
+-- ---- addresses
+
+page_low_is : (z : Scheme) (page : ℕ) → low_page z page < page_limit z
+page_low_is Sv39 page = omega arith
+page_low_is Sv48 page = omega arith
+
+-- a canonical address is in the lower half, or its page is above the trampoline, and so is the page of its indices
+halves : (z : Scheme) (a : ℕ) → is_canonical z a ≡ true → (low_page z (page_of a) ≡ page_of a) ⊎ ((trampoline_page z < low_page z (page_of a)) × (trampoline_page z < page_of a))
+halves Sv39 a canonical = elim (or_cases (a / 2 ^ 38 == 0) (a / 2 ^ 38 == 2 ^ 26 - 1) canonical) [
+  | inl low ↦ (let zero = eqb-true (a / 2 ^ 38) 0 low in inl (omega (arith, zero)))
+  | inr high ↦ (let ones = eqb-true (a / 2 ^ 38) (2 ^ 26 - 1) high in inr (omega (arith, ones), omega (arith, ones)))
+]
+halves Sv48 a canonical = elim (or_cases (a / 2 ^ 47 == 0) (a / 2 ^ 47 == 2 ^ 17 - 1) canonical) [
+  | inl low ↦ (let zero = eqb-true (a / 2 ^ 47) 0 low in inl (omega (arith, zero)))
+  | inr high ↦ (let ones = eqb-true (a / 2 ^ 47) (2 ^ 17 - 1) high in inr (omega (arith, ones), omega (arith, ones)))
+]
+
 -- ---- walks
 
 abbrev pub extent : Extent
 extent ppn index = is_some (frame_at ppn)
 
-module _ (v : View) (root frames slots : ℕ) (stacks : List ℕ) (t : Tables) (built : IsKernelTable v root frames slots stacks t)
-    (found_leaves : (page leaf level : ℕ) → Maps Sv39 (held_memory v) (ppn_of root) page leaf level ↔ (level ≡ 0) × (get t.leaves (walk_leaf Sv39 page) ≡ Some leaf))
-    (inside : (page : ℕ) → LeavesMemory Sv39 (held_memory v) (ppn_of root) page → ⊥) (address : ℕ) (access : Access) where
-  any_leaf : get t.leaves (walk_leaf Sv39 (page_of address)) ≡ kernel_leaf (kernel_page frames stacks (page_of address % 2 ^ 27))
-  any_leaf =
-      let same : walk_leaf Sv39 (page_of address) ≡ leaf_node (page_of address % 2 ^ 27) = omega arith in
-      ap (get t.leaves) same ∙ built.maps.leaves (page_of address % 2 ^ 27) (omega arith)
+module _ (z : Scheme) (v : View) (root frames slots : ℕ) (stacks : List ℕ) (t : Tables) (built : IsKernelTable z v root frames slots stacks t)
+    (found_leaves : (page leaf level : ℕ) → Maps z (held_memory v) (ppn_of root) page leaf level ↔ (level ≡ 0) × (get t.leaves (walk_leaf z page) ≡ Some leaf))
+    (inside : (page : ℕ) → LeavesMemory z (held_memory v) (ppn_of root) page → ⊥) (address : ℕ) (access : Access) where
+  any_leaf : get t.leaves (walk_leaf z (page_of address)) ≡ kernel_leaf (kernel_page z frames stacks (low_page z (page_of address)))
+  any_leaf = ap (get t.leaves) (walk_leaf_is z (page_of address)) ∙ built.maps.leaves (low_page z (page_of address)) (page_low_is z (page_of address))
 
   -- pages of the upper half have the numbers of pages above the trampoline
-  leaf_here : is_canonical address ≡ true → get t.leaves (walk_leaf Sv39 (page_of address)) ≡ kernel_leaf (kernel_page frames stacks (page_of address))
-  leaf_here canonical = elim (or_cases (address / 2 ^ 38 == 0) (address / 2 ^ 38 == 2 ^ 26 - 1) canonical) [
-    | inl low ↦
-        let zero = eqb-true (address / 2 ^ 38) 0 low in
-        let same : page_of address % 2 ^ 27 ≡ page_of address = omega (arith, zero) in
-        any_leaf ∙ ap (λ n. kernel_leaf (kernel_page frames stacks n)) same
+  leaf_here : is_canonical z address ≡ true → get t.leaves (walk_leaf z (page_of address)) ≡ kernel_leaf (kernel_page z frames stacks (page_of address))
+  leaf_here canonical = elim (halves z address canonical) [
+    | inl low ↦ any_leaf ∙ ap (λ n. kernel_leaf (kernel_page z frames stacks n)) low
     | inr high ↦
-        let ones = eqb-true (address / 2 ^ 38) (2 ^ 26 - 1) high in
-        let over : 2 ^ 26 ≤ page_of address % 2 ^ 27 = omega (arith, ones) in
-        let far : 2 ^ 26 ≤ page_of address = omega (arith, ones) in
-        any_leaf ∙ ap kernel_leaf (above_none frames stacks (page_of address % 2 ^ 27) built.few_frames over)
-        ∙ ap kernel_leaf (sym (above_none frames stacks (page_of address) built.few_frames far))
+        any_leaf ∙ ap kernel_leaf (above_none z frames stacks (low_page z (page_of address)) built.few_frames high.0)
+        ∙ ap kernel_leaf (sym (above_none z frames stacks (page_of address) built.few_frames high.1))
   ]
 
-  nothing : kernel_page frames stacks (page_of address) ≡ None → Finds Sv39 (held_memory v) (ppn_of root) address found.NoLeaf
-  nothing is = elim (cases_Bool (is_canonical address)) [
+  nothing : kernel_page z frames stacks (page_of address) ≡ None → Finds z (held_memory v) (ppn_of root) address found.NoLeaf
+  nothing is = elim (cases_Bool (is_canonical z address)) [
     | inl canonical ↦ inr ((λ leaf level maps. (let there = ((found_leaves (page_of address) leaf level).0 maps).1 in let none = leaf_here canonical ∙ ap kernel_leaf is in cc)), inside (page_of address))
     | inr not_canonical ↦ inl not_canonical
   ]
 
-  module _ (p : ℕ × ℕ) (is : kernel_page frames stacks (page_of address) ≡ Some p) where
+  module _ (p : ℕ × ℕ) (is : kernel_page z frames stacks (page_of address) ≡ Some p) where
     known : IsOfKernel p
-    known = of_kernel frames stacks (page_of address) built.few_frames (λ slot f at. (built.maps.holds.stack slot f at).2) p is
+    known = of_kernel z frames stacks (page_of address) built.few_frames (λ slot f at. (built.maps.holds.stack slot f at).2) p is
 
-    canonical_here : is_canonical address ≡ true
+    canonical_here : is_canonical z address ≡ true
     canonical_here =
-        let low = page_low frames stacks (page_of address) built.few_frames p is in
-        rw (eq-eqb (address / 2 ^ 38) 0 (omega (arith, low))) refl
+        low_canonical z address (page_low z frames stacks (page_of address) built.few_frames p is)
 
-    finds : FindsLeaf Sv39 (held_memory v) (ppn_of root) address (leaf_word p.0 p.1 false false true) 0
+    finds : FindsLeaf z (held_memory v) (ppn_of root) address (leaf_word p.0 p.1 false false true) 0
     finds = (canonical_here, (found_leaves (page_of address) (leaf_word p.0 p.1 false false true) 0).1 (refl, leaf_here canonical_here ∙ ap kernel_leaf is))
 
     place : 4096 * ppn_of p.0 + address % 2 ^ 12 ≡ physical_address (leaf_word p.0 p.1 false false true) 0 address
@@ -122,15 +133,15 @@ module _ (v : View) (root frames slots : ℕ) (stacks : List ℕ) (t : Tables) (
     byte_there : has_byte extent (4096 * ppn_of p.0 + address % 2 ^ 12) ≡ true
     byte_there = let page : (4096 * ppn_of p.0 + address % 2 ^ 12) / 4096 ≡ ppn_of p.0 = omega arith in rw page (frame_there p.0 known.0)
 
-    something : Translates Sv39 (held_memory v) extent (ppn_of root) address access Supervisor (walk_to address access (Some p))
+    something : Translates z (held_memory v) extent (ppn_of root) address access Supervisor (walk_to address access (Some p))
     something = cond_both (grants p.1 access) (walk.Leaf (leaf_word p.0 p.1 false false true) 0 (4096 * ppn_of p.0 + address % 2 ^ 12)) (walk.PageFault (page_fault_cause access))
-        (Translates Sv39 (held_memory v) extent (ppn_of root) address access Supervisor)
+        (Translates z (held_memory v) extent (ppn_of root) address access Supervisor)
         (λ granted. (finds, leaf_permits p access known ∙ granted, place, byte_there))
         (λ denied. (refl, inr (leaf_word p.0 p.1 false false true, 0, finds, leaf_permits p access known ∙ denied)))
 
-  walks_to : (o : Option (ℕ × ℕ)) → kernel_page frames stacks (page_of address) ≡ o → Translates Sv39 (held_memory v) extent (ppn_of root) address access Supervisor (walk_to address access o)
+  walks_to : (o : Option (ℕ × ℕ)) → kernel_page z frames stacks (page_of address) ≡ o → Translates z (held_memory v) extent (ppn_of root) address access Supervisor (walk_to address access o)
   walks_to None is = (refl, inl (nothing is))
   walks_to (Some p) is = something p is
 
-  pub kernel_walks : Translates Sv39 (held_memory v) extent (ppn_of root) address access Supervisor (kernel_walk frames stacks address access)
-  kernel_walks = walks_to (kernel_page frames stacks (page_of address)) refl
+  pub kernel_walks : Translates z (held_memory v) extent (ppn_of root) address access Supervisor (kernel_walk z frames stacks address access)
+  kernel_walks = walks_to (kernel_page z frames stacks (page_of address)) refl

@@ -12,7 +12,6 @@ use Rattle.sv39_entry.specs.Address.{vpn}
 use Rattle.sv39_entry.specs.Frame.{frame_at}
 use Rattle.sv39_entry.specs.Word.{has_flag, ppn}
 use Rattle.sv39_entry.specs.declared.frame.FrameNo.{FrameNo}
-use Rattle.sv39_entry.specs.declared.scheme.Scheme.TheVariants.{Sv39}
 use Rattle.table_walk.specs.Tables.{HasTables, Tables, last_table, leaf_node, with_leaf}
 use Rattle.table_walk.specs.Keys.{insert_other, insert_same}
 use Rattle.address_space.specs.Agreement.{body, is_dirty_page, IsPageLeaf, nothing}
@@ -66,8 +65,8 @@ module _ {v : View} {root trapframe : ℕ} {l : Layout} {t : Tables} {p : Proces
         ∙ all_dirty s.stored_mark (is_shared_kind r.kind))
 
     module _ (w : View) (x : FrameNo × Bool) (o : Option (FrameNo × Bool)) (is : o ≡ option_and_then (λ w. option_map (λ f. (f, has_flag w 128)) (frame_at (ppn w))) (get t.leaves (leaf_node page)))
-        (some : o ≡ Some x) (leaf : ℕ) (made : IsPageLeaf leaf (x.0).0 r false (true && r.writes)) (tables : HasTables Sv39 w root (with_leaf t (leaf_node page) leaf))
-        (word : (y : ℕ) → get t.tables (last_table Sv39 page) ≡ Some y → w ≡ with_word y (vpn page 0) leaf v) where
+        (some : o ≡ Some x) (leaf : ℕ) (made : IsPageLeaf leaf (x.0).0 r false (true && r.writes)) (tables : HasTables p.scheme w root (with_leaf t (leaf_node page) leaf))
+        (word : (y : ℕ) → get t.tables (last_table p.scheme page) ≡ Some y → w ≡ with_word y (vpn page 0) leaf v) where
       same_frame : (x.0).0 ≡ found.0
       same_frame = mark_frame o x is some
 

@@ -9,7 +9,8 @@ use Rattle.process_model.specs.PageMap.{count, numbers}
 use Rattle.process_model.specs.Regions.{end_of}
 use Rattle.address_space.specs.Layouts.{last_page, region_of}
 use Rattle.std.proofs.Math.Nat.{div-le_self}
-use Rattle.sv39_entry.specs.Address.{trampoline_page, trapframe_page}
+use Rattle.sv39_entry.specs.Schemes.{trampoline_page, trapframe_page, of_scheme}
+use Rattle.sv39_entry.specs.declared.scheme.Scheme.{Scheme}
 use Rattle.address_space.specs.Parts.{AreParts, IsAscending, numbers_of, pages_of, part_pages, region_in, regions_in}
 use Rattle.address_space.specs.declared.part.Part.{Part}
 use Rattle.address_space.specs.declared.region.Region.{Region as Run}
@@ -56,23 +57,23 @@ module _ (ps : List Part) (i : ℕ) (d : Part) (less : i < length ps) where
 -- ---- tables of so many pages
 
 -- of the first parts so many tables are counted, and the numbers of those that come later are not below a bound by more than one
-pub record CountsTables (size : ℕ) (ps : List Part) (i n bound : ℕ) : Type 0 where
+pub record CountsTables (z : Scheme) (size : ℕ) (ps : List Part) (i n bound : ℕ) : Type 0 where
   pub tables : AreCounted (λ m. m / size) (numbers_of (take i ps)) n bound
   pub few : n ≤ bound
-  pub low : last_page 0 (regions_in (take i ps)) ≤ trapframe_page
+  pub low : last_page 0 (regions_in (take i ps)) ≤ (trapframe_page z)
   pub near : (m : ℕ) → last_page 0 (regions_in (take i ps)) ≤ m → bound ≤ m / size + 1
 
-pub counts_none : (size : ℕ) (ps : List Part) → CountsTables size ps 0 0 0
-counts_none size ps = record { tables = none_counted (λ m. m / size); few = omega arith; low = omega arith; near = λ m le. omega arith }
+pub counts_none : (z : Scheme) (size : ℕ) (ps : List Part) → CountsTables z size ps 0 0 0
+counts_none z size ps = record { tables = none_counted (λ m. m / size); few = omega arith; low = omega arith; near = λ m le. omega arith }
 
-module _ (size : ℕ) (some : 0 < size) (ps : List Part) (i : ℕ) (d : Part) (less : i < length ps) (are : AreParts ps) (n bound : ℕ) (so_far : CountsTables size ps i n bound) where
+module _ (z : Scheme) (size : ℕ) (some : 0 < size) (ps : List Part) (i : ℕ) (d : Part) (less : i < length ps) (are : AreParts z ps) (n bound : ℕ) (so_far : CountsTables z size ps i n bound) where
   abbrev part : Part
   part = get_or ps i d
 
   from_here : bound ≤ part.region.first / size + 1
   from_here = so_far.near part.region.first (begins ps i d less are.ascending)
 
-  pub counts_empty : part.region.pages ≤ 0 → CountsTables size ps (i + 1) n bound
+  pub counts_empty : part.region.pages ≤ 0 → CountsTables z size ps (i + 1) n bound
   counts_empty empty =
       let zero_pages : part.region.pages ≡ 0 = omega (arith, empty) in
       let numbers : numbers_of (take (i + 1) ps) ≡ numbers_of (take i ps) = numbers_more ps i d less ∙ ap (λ k. numbers_of (take i ps) ++ numbers_from part.region.first k) zero_pages ∙ append-nil (numbers_of (take i ps)) in
@@ -93,7 +94,7 @@ module _ (size : ℕ) (some : 0 < size) (ps : List Part) (i : ℕ) (d : Part) (l
     pub starts_below : max (part.region.first / size) bound ≤ (part.region.first + part.region.pages - 1) / size + 1
     starts_below = let up = last_up in let here = from_here in omega (arith, up, here)
 
-    pub counts_run : CountsTables size ps (i + 1) (n + ((part.region.first + part.region.pages - 1) / size + 1 - max (part.region.first / size) bound)) ((part.region.first + part.region.pages - 1) / size + 1)
+    pub counts_run : CountsTables z size ps (i + 1) (n + ((part.region.first + part.region.pages - 1) / size + 1 - max (part.region.first / size) bound)) ((part.region.first + part.region.pages - 1) / size + 1)
     counts_run =
         let last = last_more ps i d less in
         let low = are.low i d less in
@@ -109,7 +110,7 @@ module _ (size : ℕ) (some : 0 < size) (ps : List Part) (i : ℕ) (d : Part) (l
           near = λ m le. let far = div_up size some (part.region.first + part.region.pages - 1) m (omega (arith, le, last)) in omega (arith, far);
         }
 
-    pub counts_few : n + ((part.region.first + part.region.pages - 1) / size + 1 - max (part.region.first / size) bound) ≤ trapframe_page
+    pub counts_few : n + ((part.region.first + part.region.pages - 1) / size + 1 - max (part.region.first / size) bound) ≤ (trapframe_page z)
     counts_few =
         let up = last_up in
         let here = from_here in
@@ -119,30 +120,30 @@ module _ (size : ℕ) (some : 0 < size) (ps : List Part) (i : ℕ) (d : Part) (l
         omega (arith, up, here, few, low, quotient, full)
 
 -- with the two pages of the kernel, which share their tables
-module _ (size : ℕ) (ps : List Part) (i n bound : ℕ) (all : length ps ≤ i) (top : trampoline_page / size ≡ trapframe_page / size) (so_far : CountsTables size ps i n bound) where
-  counts_top : count (numbers (map (λ m. m / size) (trampoline_page ∷ trapframe_page ∷ numbers_of ps))) ≡ n + (trapframe_page / size + 1 - max (trapframe_page / size) bound)
+module _ (z : Scheme) (size : ℕ) (ps : List Part) (i n bound : ℕ) (all : length ps ≤ i) (top : (trampoline_page z) / size ≡ (trapframe_page z) / size) (so_far : CountsTables z size ps i n bound) where
+  counts_top : count (numbers (map (λ m. m / size) ((trampoline_page z) ∷ (trapframe_page z) ∷ numbers_of ps))) ≡ n + ((trapframe_page z) / size + 1 - max ((trapframe_page z) / size) bound)
   counts_top =
       let tables = rw (take_all i ps all) at so_far.tables in
-      two_more (λ m. m / size) (numbers_of ps) n bound trapframe_page trampoline_page tables (so_far.near trapframe_page so_far.low) top
+      two_more (λ m. m / size) (numbers_of ps) n bound (trapframe_page z) (trampoline_page z) tables (so_far.near (trapframe_page z) so_far.low) top
 
-  pub top_counted : (page : ℕ) → page ≡ trapframe_page → page / size < bound → n ≡ count (numbers (map (λ m. m / size) (trampoline_page ∷ trapframe_page ∷ numbers_of ps)))
+  pub top_counted : (page : ℕ) → page ≡ (trapframe_page z) → page / size < bound → n ≡ count (numbers (map (λ m. m / size) ((trampoline_page z) ∷ (trapframe_page z) ∷ numbers_of ps)))
   top_counted page is less = let test = rw is at less in sym (counts_top ∙ omega (arith, test))
 
-  pub top_new : (page : ℕ) → page ≡ trapframe_page → bound ≤ page / size → n + 1 ≡ count (numbers (map (λ m. m / size) (trampoline_page ∷ trapframe_page ∷ numbers_of ps)))
+  pub top_new : (page : ℕ) → page ≡ (trapframe_page z) → bound ≤ page / size → n + 1 ≡ count (numbers (map (λ m. m / size) ((trampoline_page z) ∷ (trapframe_page z) ∷ numbers_of ps)))
   top_new page is le = let test = rw is at le in sym (counts_top ∙ omega (arith, test))
 
 -- ---- pages
 
-pub record CountsPages (ps : List Part) (i n : ℕ) : Type 0 where
+pub record CountsPages (z : Scheme) (ps : List Part) (i n : ℕ) : Type 0 where
   pub counted : n ≡ length (pages_of (take i ps))
   pub below : n ≤ last_page 0 (regions_in (take i ps))
-  pub few : n ≤ trapframe_page
+  pub few : n ≤ (trapframe_page z)
 
-pub pages_none : (ps : List Part) → CountsPages ps 0 0
-pages_none ps = record { counted = refl; below = omega arith; few = omega arith }
+pub pages_none : (z : Scheme) (ps : List Part) → CountsPages z ps 0 0
+pages_none z ps = record { counted = refl; below = omega arith; few = omega arith }
 
-module _ (ps : List Part) (i : ℕ) (d : Part) (less : i < length ps) (are : AreParts ps) (n : ℕ) (so_far : CountsPages ps i n) where
-  few_more : n + (get_or ps i d).region.pages ≤ trapframe_page
+module _ (z : Scheme) (ps : List Part) (i : ℕ) (d : Part) (less : i < length ps) (are : AreParts z ps) (n : ℕ) (so_far : CountsPages z ps i n) where
+  few_more : n + (get_or ps i d).region.pages ≤ (trapframe_page z)
   few_more =
       let below = so_far.below in
       let next = begins ps i d less are.ascending in
@@ -150,9 +151,9 @@ module _ (ps : List Part) (i : ℕ) (d : Part) (less : i < length ps) (are : Are
       omega (arith, below, next, low)
 
   pub pages_fit : Fits w64 (n + (get_or ps i d).region.pages)
-  pages_fit = let few = few_more in omega (arith, few)
+  pages_fit = let few = few_more in omega (arith, few, of_scheme z)
 
-  pub pages_counted : CountsPages ps (i + 1) (n + (get_or ps i d).region.pages)
+  pub pages_counted : CountsPages z ps (i + 1) (n + (get_or ps i d).region.pages)
   pages_counted =
       let below = so_far.below in
       let next = begins ps i d less are.ascending in
@@ -161,5 +162,5 @@ module _ (ps : List Part) (i : ℕ) (d : Part) (less : i < length ps) (are : Are
       let counted = so_far.counted in
       record { counted = omega (arith, counted, more); below = omega (arith, below, next, last); few = few_more }
 
-pub all_pages : (ps : List Part) (i n : ℕ) → length ps ≤ i → CountsPages ps i n → n ≡ length (pages_of ps)
-all_pages ps i n all so_far = so_far.counted ∙ ap (λ qs. length (pages_of qs)) (take_all i ps all)
+pub all_pages : (z : Scheme) (ps : List Part) (i n : ℕ) → length ps ≤ i → CountsPages z ps i n → n ≡ length (pages_of ps)
+all_pages z ps i n all so_far = so_far.counted ∙ ap (λ qs. length (pages_of qs)) (take_all i ps all)

@@ -1,5 +1,5 @@
 -- Frames that tables name, and references beside them.
-use Rattle.std.proofs.Common.{◌≡◌, ℕ, ◌<◌, ◌^◌, ◌+◌, Some, refl, ap, sym, subst, ◌∙◌, inl, inr, arith, cond, ◌-◌, Bool, if◌then◌else◌}
+use Rattle.std.proofs.Common.{◌≡◌, ℕ, ◌+◌, Some, refl, ap, sym, subst, ◌∙◌, inl, inr, arith, cond, ◌-◌, Bool, if◌then◌else◌}
 use Rattle.std.proofs.lemmas.Bool.{cases_eq, eq-eqb, ne_eqb}
 use Rattle.std.specs.FinMap.{get}
 use Rattle.frame_bytes.specs.Contents.{HasBytes}
@@ -8,7 +8,7 @@ use Rattle.frame_store.specs.View.{spent, Hold, View, claimed, hold_of, IsHeld, 
 use Rattle.process_model.specs.Process.{Process}
 use Rattle.sv39_entry.specs.Frame.{ppn_of}
 use Rattle.sv39_entry.specs.Word.{ppn}
-use Rattle.sv39_entry.specs.declared.scheme.Scheme.TheVariants.{Sv39}
+use Rattle.sv39_entry.specs.declared.scheme.Scheme.{Scheme}
 use Rattle.table_walk.specs.Tables.{HasTables, Tables, leaf_node}
 use Rattle.address_space.specs.Agreement.{Names, nothing, one_of, Owns, Shows, Stands}
 
@@ -19,8 +19,8 @@ pub one_frame : (f g : ℕ) → ppn_of f ≡ ppn_of g → f ≡ g
 one_frame f g same = omega (arith, same)
 
 -- and pages with one leaf
-pub one_page : (m n : ℕ) → m < 2 ^ 27 → n < 2 ^ 27 → leaf_node m ≡ leaf_node n → m ≡ n
-one_page m n low small same = omega (arith, same, low, small)
+pub one_page : (m n : ℕ) → leaf_node m ≡ leaf_node n → m ≡ n
+one_page m n same = omega (arith, same)
 
 -- holds
 
@@ -79,7 +79,7 @@ module _ (v : View) (t : Tables) where
   named_held extra o f k names = omega (arith, o.named f k names)
 
   -- the frame of a leaf is no table
-  pub no_table : (root : ℕ) (extra : ℕ → ℕ) → HasTables Sv39 v root t → Owns v t extra → (n w f : ℕ) → get t.leaves n ≡ Some w → ppn w ≡ ppn_of f
+  pub no_table : {z : Scheme} (root : ℕ) (extra : ℕ → ℕ) → HasTables z v root t → Owns v t extra → (n w f : ℕ) → get t.leaves n ≡ Some w → ppn w ≡ ppn_of f
       → (k : ℕ) → get t.tables k ≡ Some f → ⊥
   no_table root extra h o n w f leaf names k table =
       let same = o.once f k n (inl table) (inr (w, leaf, names)) in
@@ -135,7 +135,7 @@ module _ (v w : View) (t : Tables) where
       writable = λ f n x leaf names writes. r.soles f n (inr (x, leaf, names)) (o.writable f n x leaf names writes);
     }
 
-    recounted_tables : (root : ℕ) → Owns v t before → HasTables Sv39 v root t → HasTables Sv39 w root t
+    recounted_tables : {z : Scheme} (root : ℕ) → Owns v t before → HasTables z v root t → HasTables z w root t
     recounted_tables root o has = record {
       known = record {
         rooted = has.known.rooted;

@@ -14,9 +14,9 @@ use Rattle.sv39_entry.specs.Frame.{ppn_of}
 use Rattle.sv39_entry.specs.Word.{ppn}
 use Rattle.table_walk.specs.Tables.{HasTables, Tables, last_table, leaf_node, with_leaf, walk_leaf}
 use Rattle.table_walk.specs.Keys.{insert_other, insert_same}
-use Rattle.table_walk.specs.Nodes.{above, leaf_number}
+use Rattle.table_walk.specs.Nodes.{above}
 use Rattle.sv39_entry.specs.Schemes.{top_level}
-use Rattle.sv39_entry.specs.declared.scheme.Scheme.TheVariants.{Sv39}
+use Rattle.sv39_entry.specs.declared.scheme.Scheme.{Scheme}
 use Rattle.address_space.specs.Agreement.{is_dirty_page, IsPageLeaf, Names, one_of, Owns, Stands}
 use Rattle.address_space.proofs.Owned.{no_table, one_else, one_frame, one_here, same_bytes, same_owns}
 use Rattle.address_space.proofs.Writing.{page_stands, words_other, words_references, words_sole}
@@ -24,11 +24,11 @@ use Rattle.address_space.proofs.LowLeaves.{settled_number}
 
 -- what is named
 
-module _ (v : View) (root : ℕ) (t : Tables) (h : HasTables Sv39 v root t) (page old leaf f g : ℕ) (was : get t.leaves (leaf_node page) ≡ Some old)
+module _ {z : Scheme} (v : View) (root : ℕ) (t : Tables) (h : HasTables z v root t) (page old leaf f g : ℕ) (was : get t.leaves (leaf_node page) ≡ Some old)
     (names_old : ppn old ≡ ppn_of f) (names : ppn leaf ≡ ppn_of g) where
   -- no table has the number of a leaf
   not_table : (x k : ℕ) → k ≡ leaf_node page → get t.tables k ≡ Some x → ⊥
-  not_table x k at table = let low = (h.known.below k x table).1 in let high = leaf_number Sv39 page in omega (arith, low, high, at)
+  not_table x k at table = let low = (h.known.below k x table).1 in omega (arith, low, at)
 
   stays : (x k : ℕ) → (k ≡ leaf_node page → ⊥) → Names t x k → Names (with_leaf t (leaf_node page) leaf) x k
   stays x k ne (inl table) = inl table
@@ -177,14 +177,14 @@ module _ (v : View) (root : ℕ) (t : Tables) (h : HasTables Sv39 v root t) (pag
 
 module _ (v w : View) (root trapframe : ℕ) (extra : ℕ → ℕ) (t : Tables) (p : Process) (page : ℕ) (s : Page) (r : Region) (g leaf : ℕ)
     (stands : Stands v root trapframe extra t p) (settled : pages.get p.settled page ≡ Some s) (in_region : region_at (regions p) page ≡ Some r)
-    (tables : HasTables Sv39 w root (with_leaf t (leaf_node page) leaf))
-    (word : (x : ℕ) → get t.tables (last_table Sv39 page) ≡ Some x → w ≡ with_word x (vpn page 0) leaf v) where
-  table : (x : ℕ) × (get t.tables (last_table Sv39 page) ≡ Some x)
+    (tables : HasTables p.scheme w root (with_leaf t (leaf_node page) leaf))
+    (word : (x : ℕ) → get t.tables (last_table p.scheme page) ≡ Some x → w ≡ with_word x (vpn page 0) leaf v) where
+  table : (x : ℕ) × (get t.tables (last_table p.scheme page) ≡ Some x)
   table =
       let shown = stands.shows.settled page s settled in
       let same = settled_number v trapframe t p page s stands.shows settled in
-      let hung = (stands.tables.known.leaf_hung (walk_leaf Sv39 page) shown.leaf (ap (get t.leaves) same ∙ shown.mapped)).2 in
-      (hung.0, ap (get t.tables) (sym (above Sv39 page (top_level Sv39))) ∙ hung.1)
+      let hung = (stands.tables.known.leaf_hung (walk_leaf p.scheme page) shown.leaf (ap (get t.leaves) same ∙ shown.mapped)).2 in
+      (hung.0, ap (get t.tables) (sym (above p.scheme page (top_level p.scheme))) ∙ hung.1)
 
   pub turned_words : (x : ℕ) × ChangesWords x v w
   turned_words = let x = table in (x.0, (_, word x.0 x.1))
@@ -198,7 +198,7 @@ module _ (v w : View) (root trapframe : ℕ) (extra : ℕ → ℕ) (t : Tables) 
   pub turned_other : (x : ℕ) → ((k : ℕ) → get t.tables k ≡ Some x → ⊥) → hold_of w x ≡ hold_of v x
   turned_other x apart =
       let y = table in
-      words_other y.0 v w (_, word y.0 y.1) x (λ same. apart (last_table Sv39 page) (y.1 ∙ ap Some (sym same)))
+      words_other y.0 v w (_, word y.0 y.1) x (λ same. apart (last_table p.scheme page) (y.1 ∙ ap Some (sym same)))
 
   -- another page in the place of the settled one
   pub turned_stands : (n : Page) → IsPageLeaf leaf g r n.fork_mark (is_dirty_page r n) → (after : ℕ → ℕ) → ((k : ℕ) → get t.tables k ≡ Some g → ⊥) → HasBytes v g n.bytes

@@ -19,7 +19,6 @@ use Rattle.sv39_entry.specs.Address.{vpn}
 use Rattle.sv39_entry.specs.Frame.{frame_at}
 use Rattle.sv39_entry.specs.Word.{has_flag, ppn}
 use Rattle.sv39_entry.specs.declared.frame.FrameNo.{FrameNo}
-use Rattle.sv39_entry.specs.declared.scheme.Scheme.TheVariants.{Sv39}
 use Rattle.table_walk.specs.Tables.{HasTables, Tables, last_table, leaf_node, with_leaf}
 use Rattle.table_walk.specs.Keys.{insert_other, insert_same}
 use Rattle.address_space.specs.Agreement.{body, IsSpace, is_dirty_page, IsPageLeaf, nothing, Stands}
@@ -248,8 +247,8 @@ module _ {v : View} {root trapframe : ℕ} {l : Layout} {t : Tables} {p : Proces
     own_sole one = ap (λ x. (hold_of x f).sole) look ∙ looked_sole f c v one
 
     -- the seat holds it alone
-    module _ (one : c ≡ 1) (w : View) (leaf : ℕ) (made : IsPageLeaf leaf f r false (is_dirty_page r s)) (tables : HasTables Sv39 w root (with_leaf t (leaf_node page) leaf))
-        (word : (x : ℕ) → get t.tables (last_table Sv39 page) ≡ Some x → w ≡ with_word x (vpn page 0) leaf a) where
+    module _ (one : c ≡ 1) (w : View) (leaf : ℕ) (made : IsPageLeaf leaf f r false (is_dirty_page r s)) (tables : HasTables p.scheme w root (with_leaf t (leaf_node page) leaf))
+        (word : (x : ℕ) → get t.tables (last_table p.scheme page) ≡ Some x → w ≡ with_word x (vpn page 0) leaf a) where
       sole : IsSole a f
       sole = own_sole one
 

@@ -11,7 +11,6 @@ use Rattle.process_model.specs.Regions.{Region}
 use Rattle.process_model.specs.Residence.{unmarked, with_page}
 use Rattle.sv39_entry.specs.Address.{vpn}
 use Rattle.sv39_entry.specs.Word.{ppn}
-use Rattle.sv39_entry.specs.declared.scheme.Scheme.TheVariants.{Sv39}
 use Rattle.table_walk.specs.Tables.{HasTables, Tables, last_table, leaf_node, with_leaf}
 use Rattle.table_walk.specs.Keys.{insert_other, insert_same}
 use Rattle.address_space.specs.Agreement.{is_dirty_page, IsPageLeaf, Names, nothing, one_of, Stands}
@@ -104,8 +103,8 @@ module _ {v : View} {root trapframe : ℕ} {t : Tables} {p : Process} {page : �
           filled_stands a b root trapframe t p g (one_of g) copied part_free
           (subst (λ x. Stands x root trapframe (one_of g) t p) (sym claim) (claimed_stands v root trapframe t p g fresh can.stands))
 
-      module _ (d : View) (leaf : ℕ) (made : IsPageLeaf leaf g r false (is_dirty_page r s)) (tables : HasTables Sv39 d root (with_leaf t (leaf_node page) leaf))
-          (word : (x : ℕ) → get t.tables (last_table Sv39 page) ≡ Some x → d ≡ with_word x (vpn page 0) leaf b) where
+      module _ (d : View) (leaf : ℕ) (made : IsPageLeaf leaf g r false (is_dirty_page r s)) (tables : HasTables p.scheme d root (with_leaf t (leaf_node page) leaf))
+          (word : (x : ℕ) → get t.tables (last_table p.scheme page) ≡ Some x → d ≡ with_word x (vpn page 0) leaf b) where
         sole : IsSole b g
         sole = words_sole g a b copied g part_sole
 

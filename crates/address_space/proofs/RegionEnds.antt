@@ -7,9 +7,9 @@ use Rattle.process_model.specs.Order.{HasOrder, Row}
 use Rattle.process_model.specs.Process.{heap_of, Process, regions}
 use Rattle.process_model.specs.RegionRows.{first_or_second, held, here_or_later, row_up, row_within}
 use Rattle.process_model.specs.Regions.{Region, region_at}
-use Rattle.sv39_entry.specs.Address.{trapframe_page}
 use Rattle.address_space.specs.Layouts.{region_of}
 use Rattle.address_space.specs.declared.region.Region.{Region as Run}
+use Rattle.sv39_entry.specs.Schemes.{trapframe_page}
 
 pub no_regions : (rs : List Run) → (length rs == 0) ≡ true → map region_of rs ≡ []
 no_regions [] none = refl
@@ -19,8 +19,8 @@ no_regions (r ∷ rs) none = absurd (elim (eqb_tells (length (r ∷ rs)) 0) as (
 ])
 
 module _ (p : Process) (order : HasOrder 0 p) where
-  pub heap_low : pages_for p.size ≤ trapframe_page
-  heap_low = row_up 1 (pages_for p.size) trapframe_page p.mappings order.above
+  pub heap_low : pages_for p.size ≤ (trapframe_page p.scheme)
+  heap_low = row_up 1 (pages_for p.size) (trapframe_page p.scheme) p.mappings order.above
 
   region_below : (end : ℕ) → pages_for p.size ≤ end → Row 1 (pages_for p.size) p.mappings end → (n : ℕ) (r : Region) → region_at (regions p) n ≡ Some r → n < end
   region_below end low row n r is = elim (first_or_second p.parts (heap_of p ∷ p.mappings) n r is) [
@@ -31,8 +31,8 @@ module _ (p : Process) (order : HasOrder 0 p) where
     ]
   ]
 
-  pub below_mappings : (n : ℕ) (r : Region) → region_at (regions p) n ≡ Some r → n < trapframe_page
-  below_mappings = region_below trapframe_page heap_low order.above
+  pub below_mappings : (n : ℕ) (r : Region) → region_at (regions p) n ≡ Some r → n < (trapframe_page p.scheme)
+  below_mappings = region_below (trapframe_page p.scheme) heap_low order.above
 
   pub below_heap : p.mappings ≡ [] → (n : ℕ) (r : Region) → region_at (regions p) n ≡ Some r → n < pages_for p.size
   below_heap none = region_below (pages_for p.size) (omega arith) (subst (λ ms. Row 1 (pages_for p.size) ms (pages_for p.size)) (sym none) (omega arith))

@@ -6,13 +6,13 @@ use Rattle.process_model.specs.PageMap as pages
 use Rattle.process_model.specs.PageMap.{NumberSet, PageMap}
 use Rattle.process_model.specs.Process.{Page, Process}
 use Rattle.process_model.specs.Regions.{is_guard_kind, is_shared_kind, Region}
-use Rattle.sv39_entry.specs.Address.{trapframe_page}
-use Rattle.sv39_entry.specs.declared.scheme.Scheme.TheVariants.{Sv39}
 use Rattle.table_walk.specs.Counted.{AreTablesOf}
-use Rattle.table_walk.specs.Tables.{Tables}
+use Rattle.table_walk.specs.Tables.{Tables, leaf_node}
 use Rattle.address_space.specs.Agreement.{body, is_dirty_page, IsLeafNumber, IsPageLeaf, IsShown, IsSpace, Shows}
 use Rattle.address_space.specs.Layouts.{LaysOut, Layout}
 use Rattle.address_space.specs.Steps.{CanRelay, LeafLike}
+use Rattle.sv39_entry.specs.Schemes.{trapframe_page, trampoline_page}
+use Rattle.sv39_entry.specs.declared.scheme.Scheme.{Scheme}
 
 module _ (r x : Region) (like : LeafLike r x) where
   same_dirty : (s : Page) → is_dirty_page r s ≡ is_dirty_page x s
@@ -51,19 +51,19 @@ module _ (v : View) (root trapframe : ℕ) (l m : Layout) (t : Tables) (p q : Pr
       }
 
   number_kept : (k : ℕ) → IsLeafNumber p k → IsLeafNumber q k
-  number_kept k (inl is) = inl is
-  number_kept k (inr (inl is)) = inr (inl is)
+  number_kept k (inl is) = inl (is ∙ ap (λ (z : Scheme). leaf_node (trampoline_page z)) (sym can.scheme))
+  number_kept k (inr (inl is)) = inr (inl (is ∙ ap (λ (z : Scheme). leaf_node (trapframe_page z)) (sym can.scheme)))
   number_kept k (inr (inr (n, s, is, at))) = inr (inr (n, s, is, ap (λ (x : PageMap Page). pages.get x n) can.settled ∙ at))
 
   shows_relaid : Shows v trapframe t q
   shows_relaid =
       let shows = space.stands.shows in
       record {
-        on_trampoline = shows.on_trampoline;
-        on_trapframe = shows.on_trapframe;
+        on_trampoline = rw can.scheme shows.on_trampoline;
+        on_trapframe = rw can.scheme shows.on_trapframe;
         settled = λ n s at. shown n s (shows.settled n s (was n s at)) (was n s at);
         only = λ k w at. number_kept k (shows.only k w at);
-        low = λ n s at. shows.low n s (was n s at);
+        low = λ n s at. rw can.scheme (shows.low n s (was n s at));
       }
 
   pub relaid : LaysOut m q → IsSpace (body v root trapframe m) t q
@@ -74,11 +74,11 @@ module _ (v : View) (root trapframe : ℕ) (l m : Layout) (t : Tables) (p q : Pr
     };
     lays = lays;
     stands = record {
-      tables = space.stands.tables;
+      tables = rw can.scheme space.stands.tables;
       owns = space.stands.owns;
       shows = shows_relaid;
-      tabled = subst (λ (x : NumberSet). AreTablesOf Sv39 t (pages.keys x)) (sym can.tabled) space.stands.tabled;
-      tabled_low = subst (λ (x : NumberSet). All (λ n. n < trapframe_page) (pages.keys x)) (sym can.tabled) space.stands.tabled_low;
+      tabled = rw can.scheme (subst (λ (x : NumberSet). AreTablesOf p.scheme t (pages.keys x)) (sym can.tabled) space.stands.tabled);
+      tabled_low = rw can.scheme (subst (λ (x : NumberSet). All (λ n. n < (trapframe_page p.scheme)) (pages.keys x)) (sym can.tabled) space.stands.tabled_low);
     };
     credits = space.credits;
   }

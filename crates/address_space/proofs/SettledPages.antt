@@ -8,11 +8,12 @@ use Rattle.frame_store.specs.View.{View}
 use Rattle.process_model.specs.PageMap as pages
 use Rattle.process_model.specs.Process.{Page, Process, regions}
 use Rattle.process_model.specs.Regions.{Region, region_at}
-use Rattle.sv39_entry.specs.Address.{has, trampoline_page, trapframe_page}
+use Rattle.sv39_entry.specs.Address.{has}
 use Rattle.sv39_entry.specs.Flags.{has_flag_is}
 use Rattle.sv39_entry.specs.Frame.{frame_at, ppn_of}
 use Rattle.sv39_entry.specs.Word.{has_flag, ppn}
 use Rattle.sv39_entry.specs.declared.frame.FrameNo.{FrameNo}
+use Rattle.sv39_entry.specs.Schemes.{trampoline_page, trapframe_page, of_scheme}
 use Rattle.table_walk.specs.Tables.{Tables, leaf_node}
 use Rattle.address_space.specs.Agreement.{body, nothing}
 use Rattle.address_space.specs.Ending.{AreUnmapped, IsFirstMapped}
@@ -51,14 +52,14 @@ module _ (v : View) (root trapframe : ℕ) (l : Layout) (t : Tables) (p : Proces
     ]
 
   -- a leaf below the trapframe's is a settled page's
-  of_leaf : (page w : ℕ) → page < trapframe_page → get t.leaves (leaf_node page) ≡ Some w → (s : Page) × (pages.get p.settled page ≡ Some s)
+  of_leaf : (page w : ℕ) → page < (trapframe_page p.scheme) → get t.leaves (leaf_node page) ≡ Some w → (s : Page) × (pages.get p.settled page ≡ Some s)
   of_leaf page w low leaf = elim (space.stands.shows.only (leaf_node page) w leaf) [
-    | inl same ↦ absurd (let is = one_page page trampoline_page (omega (arith, low)) (omega arith) same in omega (arith, is, low))
+    | inl same ↦ absurd (let is = one_page page (trampoline_page p.scheme) same in omega (arith, is, low, of_scheme p.scheme))
     | inr rest ↦ elim rest [
-      | inl same ↦ absurd (let is = one_page page trapframe_page (omega (arith, low)) (omega arith) same in omega (arith, is, low))
+      | inl same ↦ absurd (let is = one_page page (trapframe_page p.scheme) same in omega (arith, is, low))
       | inr there ↦
           let small = space.stands.shows.low there.0 there.1 there.3 in
-          let is = one_page page there.0 (omega (arith, low)) (omega (arith, small)) there.2 in
+          let is = one_page page there.0 there.2 in
           (there.1, ap (pages.get p.settled) is ∙ there.3)
     ]
   ]
@@ -71,7 +72,7 @@ module _ (v : View) (root trapframe : ℕ) (l : Layout) (t : Tables) (p : Proces
       between n from to = omega (arith, from, to)
 
   -- and one with a leaf is
-  module _ (page w : ℕ) (low : page < trapframe_page) (leaf : get t.leaves (leaf_node page) ≡ Some w) where
+  module _ (page w : ℕ) (low : page < (trapframe_page p.scheme)) (leaf : get t.leaves (leaf_node page) ≡ Some w) where
     pub its_page : (s : Page) × (pages.get p.settled page ≡ Some s)
     its_page = of_leaf page w low leaf
 
@@ -107,8 +108,8 @@ module _ (v : View) (root trapframe : ℕ) (l : Layout) (t : Tables) (p : Proces
         subst (λ n. IsSettledPage t p (record { page = n; frame = x.frame; fork_mark = x.fork_mark; dirty = x.dirty })) (sym same)
         (shows_page x.frame x.fork_mark x.dirty named marked dirtied)
 
-  module _ (first last end page w : ℕ) (found : IsFirstMapped t first last (Some (page, w))) (sooner : last ≤ end) (up : end ≤ trapframe_page) where
-    pub low_page : page < trapframe_page
+  module _ (first last end page w : ℕ) (found : IsFirstMapped t first last (Some (page, w))) (sooner : last ≤ end) (up : end ≤ (trapframe_page p.scheme)) where
+    pub low_page : page < (trapframe_page p.scheme)
     low_page = let before = found.1 in omega (arith, before, sooner, up)
 
     -- the first page with a leaf is the first that is settled

@@ -11,14 +11,14 @@ use Rattle.process_model.specs.Process.{Page, Process, regions}
 use Rattle.process_model.specs.RegionRows.{row_within}
 use Rattle.process_model.specs.Regions.{Region, region_at}
 use Rattle.process_model.specs.Residence.{with_page}
-use Rattle.sv39_entry.specs.Address.{trapframe_page}
 use Rattle.address_space.specs.Steps.{settled_with}
+use Rattle.sv39_entry.specs.Schemes.{trapframe_page}
 
 -- ---- the regions of a process
 
 module _ (p : Process) (order : HasOrder 0 p) where
-  pub low_at : (n : ℕ) (r : Region) → region_at (regions p) n ≡ Some r → n < trapframe_page
-  low_at n r at = (row_within 0 0 trapframe_page n (regions p) r (regions_row 0 p order) at).1
+  pub low_at : (n : ℕ) (r : Region) → region_at (regions p) n ≡ Some r → n < (trapframe_page p.scheme)
+  low_at n r at = (row_within 0 0 (trapframe_page p.scheme) n (regions p) r (regions_row 0 p order) at).1
 
 -- ---- what keeps a process sound
 

@@ -19,7 +19,6 @@ use Rattle.table_walk.specs.Memory.{physical_address}
 use Rattle.sv39_entry.specs.declared.access.Access.TheVariants.{Fetch, Load, Store}
 use Rattle.sv39_entry.specs.declared.access.Mode.TheVariants.{User}
 use Rattle.sv39_entry.specs.declared.frame.FrameNo.{FrameNo}
-use Rattle.sv39_entry.specs.declared.scheme.Scheme.TheVariants.{Sv39}
 use Rattle.table_walk.specs.Tables.{Tables}
 use Rattle.table_walk.specs.declared.walk.Walk.{Walk}
 use Rattle.table_walk.specs.declared.walk.Walk.TheVariants as walk
@@ -37,12 +36,12 @@ module _ (p : Process) (x : Asked) where
   pub misaligned : (x.address % x.width ≡ 0 → ⊥) → user_access p x ≡ faulted p x (misaligned_cause x.access)
   misaligned apart = rw (ne_eqb (x.address % x.width) 0 apart) refl
 
-  aligned : x.address % x.width ≡ 0 → user_access p x ≡ unless_denied p x (copy_rule (regions p) x.access x.address)
+  aligned : x.address % x.width ≡ 0 → user_access p x ≡ unless_denied p x (copy_rule p.scheme (regions p) x.access x.address)
   aligned is = rw (eq-eqb (x.address % x.width) 0 is) refl
 
   -- what an access comes to that goes through
-  through : (s : Page) → copy_rule (regions p) x.access x.address ≡ None → pages.get p.settled (page_of x.address) ≡ Some s → goes_through x.access (region_on p (page_of x.address)) s ≡ true
-      → unless_denied p x (copy_rule (regions p) x.access x.address) ≡ answered p x (access_answer x.access s (x.address % 4096) x.width x.value)
+  through : (s : Page) → copy_rule p.scheme (regions p) x.access x.address ≡ None → pages.get p.settled (page_of x.address) ≡ Some s → goes_through x.access (region_on p (page_of x.address)) s ≡ true
+      → unless_denied p x (copy_rule p.scheme (regions p) x.access x.address) ≡ answered p x (access_answer x.access s (x.address % 4096) x.width x.value)
   through s granted is goes = ap (unless_denied p x) granted ∙ ap (if_settled p x) is ∙ ap (if_resident p x s) goes
 
 -- faults
@@ -53,19 +52,19 @@ module _ (v : View) (root trapframe : ℕ) (l : Layout) (t : Tables) (p : Proces
   still_agrees cause is = subst (λ (z : Answer). IsSpace (body v root trapframe l) t z.process) (sym is) (agrees_pending v root trapframe l t p agrees (Some (pending_of x)))
 
 module _ (v : View) (root trapframe : ℕ) (l : Layout) (t : Tables) (p : Process) (agrees : IsSpace (body v root trapframe l) t p) (x : Asked) (at : x.address % x.width ≡ 0) where
-  pub faults : (cause : ℕ) → walk.PageFault cause ≡ walk_answer Sv39 t x.address x.access User → user_access p x ≡ faulted p x cause
+  pub faults : (cause : ℕ) → walk.PageFault cause ≡ walk_answer p.scheme t x.address x.access User → user_access p x ≡ faulted p x cause
   faults cause is = elim (walked_by_user v trapframe t p agrees.stands.shows x) [
     | inl goes ↦ absurd (let other = is ∙ goes.5 in cc)
     | inr fails ↦ let same : cause ≡ page_fault_cause x.access = cc in aligned p x at ∙ fails.1 ∙ ap (faulted p x) (sym same)
   ]
 
-  pub no_access_fault : (cause : ℕ) → walk.AccessFault cause ≡ walk_answer Sv39 t x.address x.access User → ⊥
+  pub no_access_fault : (cause : ℕ) → walk.AccessFault cause ≡ walk_answer p.scheme t x.address x.access User → ⊥
   no_access_fault cause is = elim (walked_by_user v trapframe t p agrees.stands.shows x) [
     | inl goes ↦ let other = is ∙ goes.5 in cc
     | inr fails ↦ let other = is ∙ fails.0 in cc
   ]
 
-  pub fault_answer : (w : Walk) (cause : ℕ) → w ≡ walk_answer Sv39 t x.address x.access User → (w ≡ walk.PageFault cause) ⊎ (w ≡ walk.AccessFault cause) → user_access p x ≡ faulted p x cause
+  pub fault_answer : (w : Walk) (cause : ℕ) → w ≡ walk_answer p.scheme t x.address x.access User → (w ≡ walk.PageFault cause) ⊎ (w ≡ walk.AccessFault cause) → user_access p x ≡ faulted p x cause
   fault_answer w cause walks (inl is) = faults cause (sym is ∙ walks)
   fault_answer w cause walks (inr is) = absurd (no_access_fault cause (sym is ∙ walks))
 
@@ -94,7 +93,7 @@ pub record Granted (v : View) (root trapframe : ℕ) (l : Layout) (t : Tables) (
   pub writes : x.access ≡ Store → CanWrite (body v root trapframe l) t p (page_of x.address) page
 
 module _ (v : View) (root trapframe : ℕ) (l : Layout) (t : Tables) (p : Process) (agrees : IsSpace (body v root trapframe l) t p) (x : Asked) (at : x.address % x.width ≡ 0) where
-  pub granted : (word level address : ℕ) → walk.Leaf word level address ≡ walk_answer Sv39 t x.address x.access User → Granted v root trapframe l t p x address
+  pub granted : (word level address : ℕ) → walk.Leaf word level address ≡ walk_answer p.scheme t x.address x.access User → Granted v root trapframe l t p x address
   granted word level address is = elim (walked_by_user v trapframe t p agrees.stands.shows x) [
     | inr fails ↦ absurd (let other = is ∙ fails.0 in cc)
     | inl goes ↦
@@ -115,7 +114,7 @@ module _ (v : View) (root trapframe : ℕ) (l : Layout) (t : Tables) (p : Proces
             unmarked = no_mark _ _ (ap (λ y. goes_through y (region_on p (page_of x.address)) goes.0) (sym store) ∙ goes.4);
             region = shown.region;
             in_region = shown.in_region;
-            writes = grants shown.region (sym (ap (λ y. copy_rule (regions p) y x.address) store ∙ rule_of_region (regions p) Store x.address (agrees.stands.shows.low _ _ goes.2) shown.region shown.in_region) ∙ goes.3);
+            writes = grants shown.region (sym (ap (λ y. copy_rule p.scheme (regions p) y x.address) store ∙ rule_of_region p.scheme (regions p) Store x.address (agrees.stands.shows.low _ _ goes.2) shown.region shown.in_region) ∙ goes.3);
           };
         }
   ]

@@ -1,6 +1,6 @@
 -- What the walk of a user's access comes to in a space that agrees with its process.
-use Rattle.std.proofs.Common.{◌≡◌, ℕ, ◌-◌, ◌/◌, ◌^◌, ◌<◌, ◌==◌, ◌&&◌, ◌||◌, Bool, not, true, false, Option, None, Some, refl, ap, sym, ◌∙◌, inl, inr, ◌⊎◌, arith, nat_le, List, [], ◌∷◌, cond}
-use Rattle.std.proofs.lemmas.Bool.{cases_Bool, cases_eq}
+use Rattle.std.proofs.Common.{◌≡◌, ℕ, ◌-◌, ◌/◌, ◌^◌, ◌<◌, ◌==◌, ◌&&◌, ◌||◌, Bool, not, true, false, Option, None, Some, refl, ap, sym, ◌∙◌, inl, inr, ◌⊎◌, arith, nat_le, List, [], ◌∷◌, cond, ◌≤◌}
+use Rattle.std.proofs.lemmas.Bool.{cases_Bool, eqb-true, lt-leb, ne_eqb, or_cases}
 use Rattle.std.proofs.lemmas.Option.{same_Some}
 use Rattle.std.specs.FinMap.{get}
 use Rattle.frame_store.specs.View.{View}
@@ -11,7 +11,7 @@ use Rattle.process_model.specs.Bytes.{first_true}
 use Rattle.process_model.specs.Regions.{Region, copy_rule, copy_tests, fault_cause, is_guard_kind, is_shared_kind, lacks_right, region_at, right_rule}
 use Rattle.process_model.specs.Residence.{goes_through, region_on}
 use Rattle.process_model.specs.Service.{Answer, Asked, faulted, if_resident, if_settled, unless_denied}
-use Rattle.sv39_entry.specs.Address.{has, is_canonical, maxva, page_of, trampoline_page, trapframe_page}
+use Rattle.sv39_entry.specs.Address.{has, page_of}
 use Rattle.sv39_entry.specs.Causes.{page_fault_cause}
 use Rattle.sv39_entry.specs.Word.{permits}
 use Rattle.sv39_entry.specs.declared.access.Access.{Access}
@@ -19,7 +19,9 @@ use Rattle.sv39_entry.specs.declared.access.Access.TheVariants.{Fetch, Load, Sto
 use Rattle.sv39_entry.specs.declared.access.Mode.TheVariants.{User}
 use Rattle.sv39_entry.specs.declared.rule.Rule.{Rule}
 use Rattle.sv39_entry.specs.declared.rule.Rule.TheVariants as rule
-use Rattle.sv39_entry.specs.declared.scheme.Scheme.TheVariants.{Sv39}
+use Rattle.sv39_entry.specs.Schemes.{trampoline_page, trapframe_page, maxva, is_canonical, low_canonical, of_scheme}
+use Rattle.sv39_entry.specs.declared.scheme.Scheme.{Scheme}
+use Rattle.sv39_entry.specs.declared.scheme.Scheme.TheVariants.{Sv39, Sv48}
 use Rattle.table_walk.specs.Tables.{Tables, leaf_node, walk_leaf}
 use Rattle.table_walk.specs.Memory.{physical_address}
 use Rattle.table_walk.specs.declared.walk.Walk.TheVariants as walk
@@ -28,17 +30,16 @@ use Rattle.address_space.specs.Agreement.{HasKernelLeaf, is_dirty_page, IsPageLe
 
 -- addresses
 
--- addresses of a process's pages are canonical
-low_canonical : (a : ℕ) → page_of a < 2 ^ 26 → is_canonical a ≡ true
-low_canonical a low = let zero : a / 2 ^ 38 ≡ 0 = omega (arith, low) in rw zero refl
-
--- of two pages with one leaf number, of which one is below 2^26 and the other canonical, both are one
-same_page : (n a : ℕ) → n < 2 ^ 26 → is_canonical a ≡ true → walk_leaf Sv39 (page_of a) ≡ leaf_node n → page_of a ≡ n
-same_page n a low canonical same =
-    elim (cases_eq (a / 2 ^ 38) 0) [
-      | inl lower ↦ omega (arith, same, low, lower)
-      | inr upper ↦ absurd (let high : a / 2 ^ 38 ≡ 2 ^ 26 - 1 = grind (arith, canonical, upper) in omega (arith, same, low, high))
-    ]
+-- of two pages with one leaf number, of which one is up to the trampoline's and the other that of a canonical address, both are one
+same_page : (z : Scheme) (n a : ℕ) → n ≤ trampoline_page z → is_canonical z a ≡ true → walk_leaf z (page_of a) ≡ leaf_node n → page_of a ≡ n
+same_page Sv39 n a low canonical same = elim (or_cases (a / 2 ^ 38 == 0) (a / 2 ^ 38 == 2 ^ 26 - 1) canonical) [
+  | inl lower ↦ (let zero = eqb-true (a / 2 ^ 38) 0 lower in omega (arith, same, low, zero))
+  | inr upper ↦ absurd (let ones = eqb-true (a / 2 ^ 38) (2 ^ 26 - 1) upper in omega (arith, same, low, ones))
+]
+same_page Sv48 n a low canonical same = elim (or_cases (a / 2 ^ 47 == 0) (a / 2 ^ 47 == 2 ^ 17 - 1) canonical) [
+  | inl lower ↦ (let zero = eqb-true (a / 2 ^ 47) 0 lower in omega (arith, same, low, zero))
+  | inr upper ↦ absurd (let ones = eqb-true (a / 2 ^ 47) (2 ^ 17 - 1) upper in omega (arith, same, low, ones))
+]
 
 -- rights
 
@@ -87,20 +88,20 @@ right_faults Load = refl
 right_faults Store = refl
 
 -- no rule of a copy is about alignment
-copy_faults : (rs : List Region) (access : Access) (a : ℕ) (r : Rule) → copy_rule rs access a ≡ Some r → fault_cause access r ≡ page_fault_cause access
-copy_faults rs access a r is = first_faults access (copy_tests rs access a) (refl, (refl, (refl, (refl, (right_faults access, tt))))) r is
+copy_faults : (z : Scheme) (rs : List Region) (access : Access) (a : ℕ) (r : Rule) → copy_rule z rs access a ≡ Some r → fault_cause access r ≡ page_fault_cause access
+copy_faults z rs access a r is = first_faults access (copy_tests z rs access a) (refl, (refl, (refl, (refl, (right_faults access, tt))))) r is
 
 -- what is answered
 
 module _ (p : Process) (x : Asked) where
   abbrev rule_now : Option Rule
-  rule_now = copy_rule (regions p) x.access x.address
+  rule_now = copy_rule p.scheme (regions p) x.access x.address
 
   abbrev failed : Answer
   failed = faulted p x (page_fault_cause x.access)
 
   by_rule : (r : Rule) → rule_now ≡ Some r → unless_denied p x rule_now ≡ failed
-  by_rule r is = ap (unless_denied p x) is ∙ ap (faulted p x) (copy_faults (regions p) x.access x.address r is)
+  by_rule r is = ap (unless_denied p x) is ∙ ap (faulted p x) (copy_faults p.scheme (regions p) x.access x.address r is)
 
   -- where what follows a grant is a fault, so is all
   by_rest : unless_denied p x None ≡ failed → unless_denied p x rule_now ≡ failed
@@ -116,15 +117,18 @@ module _ (p : Process) (x : Asked) where
   marked s is stops = by_rest (ap (if_settled p x) is ∙ ap (if_resident p x s) stops)
 
 -- the rule of a page that has a region
-module _ (rs : List Region) (access : Access) (a : ℕ) (low : page_of a < trapframe_page) (r : Region) (at : region_at rs (page_of a) ≡ Some r) where
-  below_max : nat_le maxva a ≡ false
-  below_max = grind (arith, low)
+module _ (z : Scheme) (rs : List Region) (access : Access) (a : ℕ) (low : page_of a < trapframe_page z) (r : Region) (at : region_at rs (page_of a) ≡ Some r) where
+  below_max : nat_le (maxva z) a ≡ false
+  below_max = lt-leb (maxva z) a (omega (arith, low, of_scheme z))
 
-  no_kernel_page : (page_of a == trampoline_page || page_of a == trapframe_page) ≡ false
-  no_kernel_page = grind (arith, low)
+  no_trampoline : (page_of a == trampoline_page z) ≡ false
+  no_trampoline = ne_eqb (page_of a) (trampoline_page z) (λ e. omega (arith, e, low, of_scheme z))
 
-  pub rule_of_region : copy_rule rs access a ≡ cond (is_guard_kind r.kind) (Some rule.GuardPage) (cond (lacks_right access (Some r)) (Some (right_rule access)) None)
-  rule_of_region = rw (below_max, no_kernel_page, at) refl
+  no_trapframe : (page_of a == trapframe_page z) ≡ false
+  no_trapframe = ne_eqb (page_of a) (trapframe_page z) (λ e. omega (arith, e, low))
+
+  pub rule_of_region : copy_rule z rs access a ≡ cond (is_guard_kind r.kind) (Some rule.GuardPage) (cond (lacks_right access (Some r)) (Some (right_rule access)) None)
+  rule_of_region = rw (below_max, no_trampoline, no_trapframe, at) refl
 
 pass : (g x : Bool) → (not g && x) ≡ true → (g ≡ false) × (x ≡ true)
 pass true x is = absurd (cc)
@@ -183,22 +187,22 @@ module _ (v : View) (trapframe : ℕ) (t : Tables) (p : Process) (shows : Shows 
   access = x.access
 
   abbrev fails : Type 0
-  fails = (walk_answer Sv39 t a access User ≡ walk.PageFault (page_fault_cause access)) × (unless_denied p x (copy_rule (regions p) access a) ≡ faulted p x (page_fault_cause access))
+  fails = (walk_answer p.scheme t a access User ≡ walk.PageFault (page_fault_cause access)) × (unless_denied p x (copy_rule p.scheme (regions p) access a) ≡ faulted p x (page_fault_cause access))
 
   abbrev goes : Type 0
-  goes = (s : Page) × (shown : IsShown v t p (page_of a) s) × (pages.get p.settled (page_of a) ≡ Some s) × (copy_rule (regions p) access a ≡ None) × (goes_through access (region_on p (page_of a)) s ≡ true)
-      × (walk_answer Sv39 t a access User ≡ walk.Leaf shown.leaf 0 (physical_address shown.leaf 0 a))
+  goes = (s : Page) × (shown : IsShown v t p (page_of a) s) × (pages.get p.settled (page_of a) ≡ Some s) × (copy_rule p.scheme (regions p) access a ≡ None) × (goes_through access (region_on p (page_of a)) s ≡ true)
+      × (walk_answer p.scheme t a access User ≡ walk.Leaf shown.leaf 0 (physical_address shown.leaf 0 a))
 
   by_settled : (s : Page) → pages.get p.settled (page_of a) ≡ Some s → goes ⊎ fails
   by_settled s is =
       let shown : IsShown v t p (page_of a) s = shows.settled (page_of a) s is in
-      let low : page_of a < trapframe_page = shows.low (page_of a) s is in
-      let number : walk_leaf Sv39 (page_of a) ≡ leaf_node (page_of a) = low_leaf Sv39 (page_of a) (omega (arith, low)) in
-      let leaf : leaf_at Sv39 t a ≡ Some (page_leaf shown.leaf) = rw (low_canonical a (omega (arith, low)), number, shown.mapped) refl in
-      let answers : walk_answer Sv39 t a access User ≡ answer (Some (page_leaf shown.leaf)) a access User = ap (λ o. answer o a access User) leaf in
+      let low : page_of a < (trapframe_page p.scheme) = shows.low (page_of a) s is in
+      let number : walk_leaf p.scheme (page_of a) ≡ leaf_node (page_of a) = low_leaf p.scheme (page_of a) (omega (arith, low, of_scheme p.scheme)) in
+      let leaf : leaf_at p.scheme t a ≡ Some (page_leaf shown.leaf) = rw (low_canonical p.scheme a (omega (arith, low, of_scheme p.scheme)), number, shown.mapped) refl in
+      let answers : walk_answer p.scheme t a access User ≡ answer (Some (page_leaf shown.leaf)) a access User = ap (λ o. answer o a access User) leaf in
       let right = permits_is shown.leaf shown.frame shown.region s access shown.made in
       let through_is : (b : Bool) → goes_through access (Some shown.region) s ≡ b → goes_through access (region_on p (page_of a)) s ≡ b = λ b goes. ap (λ r. goes_through access r s) shown.in_region ∙ goes in
-      let rule_is : copy_rule (regions p) access a ≡ passes shown.region access = rule_of_region (regions p) access a low shown.region shown.in_region in
+      let rule_is : copy_rule p.scheme (regions p) access a ≡ passes shown.region access = rule_of_region p.scheme (regions p) access a low shown.region shown.in_region in
       elim (cases_Bool (lets access shown.region s)) [
         | inl lets_it ↦
             let through = let_through shown.region s access lets_it in
@@ -212,29 +216,29 @@ module _ (v : View) (trapframe : ℕ) (t : Tables) (p : Process) (shows : Shows 
         )
       ]
 
-  kernel_leaf : (page f rights w : ℕ) → page < 2 ^ 26 → HasKernelLeaf t page f rights → is_canonical a ≡ true → get t.leaves (walk_leaf Sv39 (page_of a)) ≡ Some w → walk_leaf Sv39 (page_of a) ≡ leaf_node page
-      → walk_answer Sv39 t a access User ≡ walk.PageFault (page_fault_cause access)
-  kernel_leaf page f rights w low leaf canonical at same =
+  kernel_leaf : (page f rights w : ℕ) → HasKernelLeaf t page f rights → is_canonical p.scheme a ≡ true → get t.leaves (walk_leaf p.scheme (page_of a)) ≡ Some w → walk_leaf p.scheme (page_of a) ≡ leaf_node page
+      → walk_answer p.scheme t a access User ≡ walk.PageFault (page_fault_cause access)
+  kernel_leaf page f rights w leaf canonical at same =
       let is : w ≡ leaf.0 = same_Some w leaf.0 (sym at ∙ ap (get t.leaves) same ∙ leaf.1) in
       rw (canonical, at) (rw (not_for_user w access (ap (λ x. has x 4) is ∙ leaf.2.for_user)) refl)
 
   by_unsettled : pages.get p.settled (page_of a) ≡ None → goes ⊎ fails
   by_unsettled none = inr (
-    elim (cases_Bool (is_canonical a)) [
+    elim (cases_Bool (is_canonical p.scheme a)) [
       | inr other ↦ rw other refl
-      | inl canonical ↦ by_leaf canonical (get t.leaves (walk_leaf Sv39 (page_of a))) refl
+      | inl canonical ↦ by_leaf canonical (get t.leaves (walk_leaf p.scheme (page_of a))) refl
     ],
     unsettled p x none,
   ) where
-    by_leaf : is_canonical a ≡ true → (o : Option ℕ) → get t.leaves (walk_leaf Sv39 (page_of a)) ≡ o → walk_answer Sv39 t a access User ≡ walk.PageFault (page_fault_cause access)
+    by_leaf : is_canonical p.scheme a ≡ true → (o : Option ℕ) → get t.leaves (walk_leaf p.scheme (page_of a)) ≡ o → walk_answer p.scheme t a access User ≡ walk.PageFault (page_fault_cause access)
     by_leaf canonical None at = rw (canonical, at) refl
     by_leaf canonical (Some w) at = elim (shows.only _ w at) [
-      | inl same ↦ kernel_leaf trampoline_page 0 _ w (omega arith) shows.on_trampoline canonical at same
+      | inl same ↦ kernel_leaf (trampoline_page p.scheme) 0 _ w shows.on_trampoline canonical at same
       | inr more ↦ elim more [
-        | inl same ↦ kernel_leaf trapframe_page trapframe _ w (omega arith) shows.on_trapframe canonical at same
+        | inl same ↦ kernel_leaf (trapframe_page p.scheme) trapframe _ w shows.on_trapframe canonical at same
         | inr page ↦ absurd (
             let low = shows.low page.0 page.1 page.3 in
-            let is : page_of a ≡ page.0 = same_page page.0 a (omega (arith, low)) canonical page.2 in
+            let is : page_of a ≡ page.0 = same_page p.scheme page.0 a (omega (arith, low, of_scheme p.scheme)) canonical page.2 in
             let found = sym none ∙ ap (pages.get p.settled) is ∙ page.3 in
             cc)
       ]

@@ -1,5 +1,5 @@
 -- A page of a process whose frame or bytes change, while the seat's references stay.
-use Rattle.std.proofs.Common.{◌≡◌, ℕ, ◌<◌, ◌^◌, ◌%◌, ◌&&◌, not, Bool, List, Option, Some, IsTrue, true, false, refl, ap, sym, subst, ◌∙◌, inl, inr, arith, []}
+use Rattle.std.proofs.Common.{◌≡◌, ℕ, ◌<◌, ◌%◌, ◌&&◌, not, Bool, List, Option, Some, IsTrue, true, false, refl, ap, sym, subst, ◌∙◌, inl, inr, arith, []}
 use Rattle.std.specs.Prelude.{option_and_then, option_map}
 use Rattle.std.proofs.lemmas.Bool.{cases_eq, ne_eqb}
 use Rattle.std.proofs.lemmas.Bool.Decides.{nat_tests}
@@ -17,12 +17,12 @@ use Rattle.process_model.specs.PageMap as pages
 use Rattle.process_model.specs.Process.{Page, Process, regions}
 use Rattle.process_model.specs.Regions.{Region, region_at}
 use Rattle.process_model.specs.Residence.{with_page}
-use Rattle.sv39_entry.specs.Address.{has, trampoline_page, trapframe_page}
+use Rattle.sv39_entry.specs.Address.{has}
 use Rattle.sv39_entry.specs.Flags.{has_flag_is}
 use Rattle.sv39_entry.specs.Frame.{frame_at, ppn_of}
 use Rattle.sv39_entry.specs.Word.{has_flag, ppn}
 use Rattle.sv39_entry.specs.declared.frame.FrameNo.{FrameNo}
-use Rattle.sv39_entry.specs.declared.scheme.Scheme.TheVariants.{Sv39}
+use Rattle.sv39_entry.specs.Schemes.{trampoline_page, trapframe_page, of_scheme}
 use Rattle.table_walk.specs.Counted.{AreTablesOf}
 use Rattle.table_walk.specs.Tables.{HasTables, Tables, leaf_node}
 use Rattle.table_walk.specs.Same.{same_tables}
@@ -66,7 +66,7 @@ pub record HasPage (v : View) (t : Tables) (p : Process) (page : ℕ) (s : Page)
   pub made : IsPageLeaf leaf f region s.fork_mark (is_dirty_page region s)
   pub bytes : HasBytes v f s.bytes
   pub held : IsHeld v f
-  pub low : page < trapframe_page
+  pub low : page < (trapframe_page p.scheme)
 
 pub page_here : (v : View) (root trapframe : ℕ) (extra : ℕ → ℕ) (t : Tables) (p : Process) (page : ℕ) (s : Page) → Stands v root trapframe extra t p
     → pages.get p.settled page ≡ Some s → (f : ℕ) × HasPage v t p page s f
@@ -120,21 +120,21 @@ put_other m k q x apart = find-put nat_cmp nat_cmp_total q k x m.entries ∙ rw 
 
 -- One page has this leaf over this frame; the frames of the other leaves have the holds that they had.
 module _ (v w : View) (trapframe : ℕ) (t u : Tables) (p : Process) (page : ℕ) (s : Page) (leaf g : ℕ) (region : Region)
-    (low : page < trapframe_page) (others : OthersKeep t u page) (mapped : get u.leaves (leaf_node page) ≡ Some leaf)
+    (low : page < (trapframe_page p.scheme)) (others : OthersKeep t u page) (mapped : get u.leaves (leaf_node page) ≡ Some leaf)
     (made : IsPageLeaf leaf g region s.fork_mark (is_dirty_page region s)) (in_region : region_at (regions p) page ≡ Some region) (bytes : HasBytes w g s.bytes)
     (apart : (k x f : ℕ) → (k ≡ leaf_node page → ⊥) → get t.leaves k ≡ Some x → ppn x ≡ ppn_of f → hold_of w f ≡ hold_of v f) where
-  away : (n : ℕ) → n < 2 ^ 26 → (n ≡ page → ⊥) → leaf_node n ≡ leaf_node page → ⊥
-  away n small ne same = ne (one_page n page (omega arith) (omega arith) same)
+  away : (n : ℕ) → (n ≡ page → ⊥) → leaf_node n ≡ leaf_node page → ⊥
+  away n ne same = ne (one_page n page same)
 
-  there : (n : ℕ) (x : Page) → (n ≡ page → ⊥) → n < trapframe_page → IsShown v t p n x → IsShown w u (with_page p page s) n x
+  there : (n : ℕ) (x : Page) → (n ≡ page → ⊥) → n < (trapframe_page p.scheme) → IsShown v t p n x → IsShown w u (with_page p page s) n x
   there n x ne small shown = record {
     region = shown.region;
     frame = shown.frame;
     leaf = shown.leaf;
     in_region = shown.in_region;
-    mapped = others (leaf_node n) (away n (omega arith) ne) ∙ shown.mapped;
+    mapped = others (leaf_node n) (away n ne) ∙ shown.mapped;
     made = shown.made;
-    bytes = same_bytes v w shown.frame x.bytes (apart _ _ _ (away n (omega arith) ne) shown.mapped shown.made.names) shown.bytes;
+    bytes = same_bytes v w shown.frame x.bytes (apart _ _ _ (away n ne) shown.mapped shown.made.names) shown.bytes;
   }
 
   shown_here : (n : ℕ) (x : Page) → n ≡ page → s ≡ x → IsShown w u (with_page p page s) n x
@@ -156,10 +156,10 @@ module _ (v w : View) (trapframe : ℕ) (t u : Tables) (p : Process) (page : ℕ
   page_shows shows = record {
     on_trampoline =
         let is = shows.on_trampoline in
-        (is.0, others (leaf_node trampoline_page) (away trampoline_page (omega arith) (λ same. omega (arith, same))) ∙ is.1, is.2);
+        (is.0, others (leaf_node (trampoline_page p.scheme)) (away (trampoline_page p.scheme) (λ same. omega (arith, same, low, of_scheme p.scheme))) ∙ is.1, is.2);
     on_trapframe =
         let is = shows.on_trapframe in
-        (is.0, others (leaf_node trapframe_page) (away trapframe_page (omega arith) (λ same. omega (arith, same))) ∙ is.1, is.2);
+        (is.0, others (leaf_node (trapframe_page p.scheme)) (away (trapframe_page p.scheme) (λ same. omega (arith, same, low, of_scheme p.scheme))) ∙ is.1, is.2);
     settled = λ n x at. elim (cases_eq n page) [
       | inl same ↦ shown_here n x same (same_Some s x (sym (put_here p.settled page n s same) ∙ at))
       | inr ne ↦ let was = sym (put_other p.settled page n s ne) ∙ at in there n x ne (shows.low n x was) (shows.settled n x was)
@@ -174,8 +174,8 @@ module _ (v w : View) (trapframe : ℕ) (t u : Tables) (p : Process) (page : ℕ
     ];
   }
 
-  pub page_stands : (root : ℕ) (before after : ℕ → ℕ) → Stands v root trapframe before t p → HasTables Sv39 w root u → Owns w u after
-      → AreTablesOf Sv39 u (pages.keys p.tabled) → Stands w root trapframe after u (with_page p page s)
+  pub page_stands : (root : ℕ) (before after : ℕ → ℕ) → Stands v root trapframe before t p → HasTables p.scheme w root u → Owns w u after
+      → AreTablesOf p.scheme u (pages.keys p.tabled) → Stands w root trapframe after u (with_page p page s)
   page_stands root before after stands tables owns tabled = record {
     tables = tables;
     owns = owns;
@@ -186,7 +186,7 @@ module _ (v w : View) (trapframe : ℕ) (t u : Tables) (p : Process) (page : ℕ
 
 -- regions are the same
 pub lays_with : (l : Layout) (p : Process) (page : ℕ) (s : Page) → LaysOut l p → LaysOut l (with_page p page s)
-lays_with l p page s lays = record { parts = lays.parts; mappings = lays.mappings; heap_base = lays.heap_base; size = lays.size }
+lays_with l p page s lays = record { parts = lays.parts; mappings = lays.mappings; heap_base = lays.heap_base; size = lays.size; scheme = lays.scheme }
 
 -- a page is written
 

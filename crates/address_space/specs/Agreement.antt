@@ -7,10 +7,10 @@ use Rattle.process_model.specs.Order.{IsSound}
 use Rattle.process_model.specs.PageMap as pages
 use Rattle.process_model.specs.Process.{Page, Process, regions}
 use Rattle.process_model.specs.Regions.{Region, is_guard_kind, is_shared_kind, region_at}
-use Rattle.sv39_entry.specs.Address.{has, trampoline_page, trapframe_page}
+use Rattle.sv39_entry.specs.Address.{has}
 use Rattle.sv39_entry.specs.Frame.{ppn_of}
 use Rattle.sv39_entry.specs.Word.{IsLeafOf, ppn}
-use Rattle.sv39_entry.specs.declared.scheme.Scheme.TheVariants.{Sv39}
+use Rattle.sv39_entry.specs.Schemes.{trampoline_page, trapframe_page}
 use Rattle.table_walk.specs.Counted.{AreTablesOf}
 use Rattle.table_walk.specs.Tables.{HasTables, Tables, leaf_node}
 use Rattle.address_space.specs.Layouts.{Layout, LaysOut}
@@ -99,23 +99,23 @@ pub record IsShown (v : View) (t : Tables) (p : Process) (n : ℕ) (s : Page) : 
 -- the number of a leaf that a process has
 abbrev pub IsLeafNumber : Process → ℕ → Type 0
 IsLeafNumber p k =
-    (k ≡ leaf_node trampoline_page) ⊎ ((k ≡ leaf_node trapframe_page) ⊎ ((n : ℕ) × (s : Page) × (k ≡ leaf_node n) × (pages.get p.settled n ≡ Some s)))
+    (k ≡ leaf_node (trampoline_page p.scheme)) ⊎ ((k ≡ leaf_node (trapframe_page p.scheme)) ⊎ ((n : ℕ) × (s : Page) × (k ≡ leaf_node n) × (pages.get p.settled n ≡ Some s)))
 
 -- the leaves are those of the settled pages, of TRAMPOLINE and of TRAPFRAME
 pub record Shows (v : View) (trapframe : ℕ) (t : Tables) (p : Process) : Type 0 where
-  pub on_trampoline : HasKernelLeaf t trampoline_page 0 code_rights
-  pub on_trapframe : HasKernelLeaf t trapframe_page trapframe data_rights
+  pub on_trampoline : HasKernelLeaf t (trampoline_page p.scheme) 0 code_rights
+  pub on_trapframe : HasKernelLeaf t (trapframe_page p.scheme) trapframe data_rights
   pub settled : (n : ℕ) (s : Page) → pages.get p.settled n ≡ Some s → IsShown v t p n s
   pub only : (k w : ℕ) → get t.leaves k ≡ Some w → IsLeafNumber p k
-  pub low : (n : ℕ) (s : Page) → pages.get p.settled n ≡ Some s → n < trapframe_page
+  pub low : (n : ℕ) (s : Page) → pages.get p.settled n ≡ Some s → n < (trapframe_page p.scheme)
 
 -- a process that stands in memory, whatever its seat has of credits, and of references beside the process's
 pub record Stands (v : View) (root trapframe : ℕ) (extra : ℕ → ℕ) (t : Tables) (p : Process) : Type 0 where
-  pub tables : HasTables Sv39 v root t
+  pub tables : HasTables p.scheme v root t
   pub owns : Owns v t extra
   pub shows : Shows v trapframe t p
-  pub tabled : AreTablesOf Sv39 t (pages.keys p.tabled)
-  pub tabled_low : All (λ n. n < trapframe_page) (pages.keys p.tabled)
+  pub tabled : AreTablesOf p.scheme t (pages.keys p.tabled)
+  pub tabled_low : All (λ n. n < (trapframe_page p.scheme)) (pages.keys p.tabled)
 
 -- agreement
 

@@ -1,16 +1,17 @@
 -- The page table of the kernel (the xv6 book, "Kernel address space"; no device is mapped): the frames of the memory at their own
 -- addresses, the trampoline, and a stack for each slot. No leaf is for the user.
-use Rattle.std.specs.Prelude.{◌≡◌, ℕ, Bool, true, false, ◌+◌, ◌-◌, ◌*◌, ◌/◌, ◌%◌, ◌^◌, ◌<◌, ◌≤◌, ◌==◌, ◌&&◌, ◌||◌, nat_le, nat_lt, if◌then◌else◌, Option, None, Some, option_map, is_some, List, length, slice_get}
+use Rattle.std.specs.Prelude.{◌≡◌, ℕ, zero, suc, Bool, true, false, ◌+◌, ◌-◌, ◌*◌, ◌/◌, ◌%◌, ◌^◌, ◌<◌, ◌≤◌, ◌==◌, ◌&&◌, ◌||◌, nat_le, nat_lt, if◌then◌else◌, Option, None, Some, option_map, is_some, List, [], ◌∷◌, length, slice_get}
 use Rattle.std.specs.FinMap.{FinMap, get}
 use Rattle.std.specs.Ordering.{nat_cmp}
 use Rattle.frame_store.specs.View.{View, IsSole, references}
-use Rattle.sv39_entry.specs.Address.{page_of, page_offset, trampoline_page}
+use Rattle.sv39_entry.specs.Address.{page_of, page_offset}
 use Rattle.sv39_entry.specs.Causes.{page_fault_cause}
 use Rattle.sv39_entry.specs.Frame.{ppn_of}
 use Rattle.sv39_entry.specs.Rights.{grants}
 use Rattle.sv39_entry.specs.Word.{leaf_word}
 use Rattle.sv39_entry.specs.declared.access.Access.{Access}
-use Rattle.sv39_entry.specs.declared.scheme.Scheme.TheVariants.{Sv39}
+use Rattle.sv39_entry.specs.Schemes.{page_limit, top_level, trampoline_page}
+use Rattle.sv39_entry.specs.declared.scheme.Scheme.{Scheme}
 use Rattle.table_walk.specs.Tables.{HasTables, Tables, leaf_node, node, root_node}
 use Rattle.table_walk.specs.declared.walk.Walk.{Walk}
 use Rattle.table_walk.specs.declared.walk.Walk.TheVariants as walk
@@ -27,15 +28,15 @@ abbrev pub first_direct : ℕ
 first_direct = ppn_of 0
 
 -- the page of KSTACK of a slot: the one above it is not mapped
-abbrev pub stack_page : ℕ → ℕ
-stack_page slot = trampoline_page - (slot + 1) * 2
+abbrev pub stack_page : Scheme → ℕ → ℕ
+stack_page z slot = trampoline_page z - (slot + 1) * 2
 
 -- the frame that a page is mapped to and its rights, where so many frames and these stacks are mapped
-abbrev pub kernel_page : ℕ → List ℕ → ℕ → Option (ℕ × ℕ)
-kernel_page frames stacks page =
-    if page == trampoline_page then Some (0, code_rights)
+abbrev pub kernel_page : Scheme → ℕ → List ℕ → ℕ → Option (ℕ × ℕ)
+kernel_page z frames stacks page =
+    if page == trampoline_page z then Some (0, code_rights)
     else (if nat_le first_direct page && nat_lt page (first_direct + frames) then Some (page - first_direct, frame_rights (page - first_direct))
-    else (if nat_lt page trampoline_page && ((trampoline_page - page) % 2 == 0) then option_map (λ frame. (frame, data_rights)) (slice_get stacks ((trampoline_page - page) / 2 - 1))
+    else (if nat_lt page (trampoline_page z) && ((trampoline_page z - page) % 2 == 0) then option_map (λ frame. (frame, data_rights)) (slice_get stacks ((trampoline_page z - page) / 2 - 1))
     else None))
 
 -- the word of the leaf
@@ -50,22 +51,35 @@ walk_to address access (Some p) =
     if grants p.1 access then walk.Leaf (leaf_word p.0 p.1 false false true) 0 (4096 * ppn_of p.0 + page_offset address)
     else walk.PageFault (page_fault_cause access)
 
-abbrev pub kernel_walk : ℕ → List ℕ → ℕ → Access → Walk
-kernel_walk frames stacks address access = walk_to address access (kernel_page frames stacks (page_of address))
+abbrev pub kernel_walk : Scheme → ℕ → List ℕ → ℕ → Access → Walk
+kernel_walk z frames stacks address access = walk_to address access (kernel_page z frames stacks (page_of address))
 
 -- what is held
 
--- k is the number of a table that the trampoline, the stacks and so many frames need: the root, the two on the way to the trampoline,
--- which the stacks share, and for each two megabytes of frames one, below one of their gigabyte
-abbrev pub is_kernel_table : ℕ → ℕ → Bool
-is_kernel_table frames k =
-    k == root_node Sv39 || k == node Sv39 trampoline_page 1 || k == node Sv39 trampoline_page 2
-    || (nat_lt 0 frames && (k == node Sv39 first_direct 1 || k == node Sv39 first_direct 2))
-    || (nat_lt 512 frames && (k == node Sv39 (first_direct + 512) 2))
+-- the tables on the way to a page, below the root, the lowest first
+abbrev pub way_to : Scheme → ℕ → ℕ → List ℕ
+way_to z page zero = []
+way_to z page (suc k) = node z page (suc k) ∷ way_to z page k
 
--- how many of these tables the frames need
-abbrev pub direct_tables : ℕ → ℕ
-direct_tables frames = if frames == 0 then 0 else (if nat_le frames 512 then 2 else 3)
+abbrev pub way : Scheme → ℕ → List ℕ
+way z page = way_to z page (top_level z)
+
+abbrev pub is_among : ℕ → List ℕ → Bool
+is_among k [] = false
+is_among k (n ∷ ns) = k == n || is_among k ns
+
+-- k is the number of a table that the trampoline, the stacks and so many frames need: the root, those on the way to the trampoline, which
+-- the stacks share, those on the way to the first frame, which the frames of its two megabytes share, and those on the way to the first
+-- frame behind these
+abbrev pub is_kernel_table : Scheme → ℕ → ℕ → Bool
+is_kernel_table z frames k =
+    k == root_node z || is_among k (way z (trampoline_page z))
+    || (nat_lt 0 frames && is_among k (way z first_direct))
+    || (nat_lt 512 frames && is_among k (way z (first_direct + 512)))
+
+-- how many of these tables the frames need: of the last way all tables but one are on the way to the first frame
+abbrev pub direct_tables : Scheme → ℕ → ℕ
+direct_tables z frames = if frames == 0 then 0 else (if nat_le frames 512 then top_level z else top_level z + 1)
 
 -- the references that a seat has: one of frame 0, of each stack and of each table, and no other. No frame is two of these
 pub record HoldsKernel (v : View) (stacks : List ℕ) (tables : FinMap nat_cmp ℕ) : Type 0 where
@@ -78,17 +92,16 @@ pub record HoldsKernel (v : View) (stacks : List ℕ) (tables : FinMap nat_cmp �
   pub stack_no_code : (slot f : ℕ) → slice_get stacks slot ≡ Some f → f ≡ 0 → ⊥
   pub table_no_code : (k f : ℕ) → get tables k ≡ Some f → f ≡ 0 → ⊥
 
--- the tables below a root map the trampoline, so many frames and these stacks, and nothing else. Leaves are numbered by the lowest 27
--- bits of a page's number
-pub record MapsKernel (v : View) (root frames : ℕ) (stacks : List ℕ) (t : Tables) : Type 0 where
-  pub tables : HasTables Sv39 v root t
-  pub leaves : (page : ℕ) → page < 2 ^ 27 → get t.leaves (leaf_node page) ≡ kernel_leaf (kernel_page frames stacks page)
-  pub numbers : (k : ℕ) → is_some (get t.tables k) ≡ is_kernel_table frames k
+-- the tables below a root map the trampoline, so many frames and these stacks, and nothing else. Pages are numbered by their indices
+pub record MapsKernel (z : Scheme) (v : View) (root frames : ℕ) (stacks : List ℕ) (t : Tables) : Type 0 where
+  pub tables : HasTables z v root t
+  pub leaves : (page : ℕ) → page < page_limit z → get t.leaves (leaf_node page) ≡ kernel_leaf (kernel_page z frames stacks page)
+  pub numbers : (k : ℕ) → is_some (get t.tables k) ≡ is_kernel_table z frames k
   pub holds : HoldsKernel v stacks t.tables
 
 -- the whole table of the kernel
-pub record IsKernelTable (v : View) (root frames slots : ℕ) (stacks : List ℕ) (t : Tables) : Type 0 where
-  pub maps : MapsKernel v root frames stacks t
+pub record IsKernelTable (z : Scheme) (v : View) (root frames slots : ℕ) (stacks : List ℕ) (t : Tables) : Type 0 where
+  pub maps : MapsKernel z v root frames stacks t
   pub stacked : length stacks ≡ slots
   pub few_frames : frames ≤ 1024
   pub few_slots : slots ≤ 64

@@ -5,6 +5,8 @@ use Rattle.process_model.specs.Regions.{Region, RegionKind, end_of, Source, segm
 use Rattle.process_model.specs.Process.{Process}
 use Rattle.sv39_entry.specs.declared.rule.Rule.{Rule}
 use Rattle.sv39_entry.specs.Rights.{reads, writes, executes}
+use Rattle.sv39_entry.specs.declared.scheme.Scheme.{Scheme}
+use Rattle.sv39_entry.specs.declared.scheme.Scheme.TheVariants.{Sv39, Sv48}
 use Rattle.address_space.specs.declared.region.Region.{Region as Run}
 use Rattle.address_space.specs.declared.region.RegionKind.{RegionKind as Kind}
 use Rattle.address_space.specs.declared.region.RegionKind.TheVariants as kind
@@ -94,22 +96,39 @@ region_code = code_by (ℕ × (ℕ × (Bool × (Bool × (Bool × (RegionKind × 
     (λ p. record { first = p.0; pages = p.1.0; reads = p.1.1.0; writes = p.1.1.1.0; executes = p.1.1.1.1.0; kind = p.1.1.1.1.1.0; source = p.1.1.1.1.1.1 })
     (λ _. refl)
 
--- the regions of a process but its heap, and where that begins and ends
+abbrev pub scheme_number : Scheme → ℕ
+scheme_number Sv39 = 0
+scheme_number Sv48 = 1
+
+abbrev pub scheme_at : ℕ → Scheme
+scheme_at zero = Sv39
+scheme_at (suc n) = Sv48
+
+pub scheme_back : (z : Scheme) → scheme_at (scheme_number z) ≡ z
+scheme_back Sv39 = refl
+scheme_back Sv48 = refl
+
+abbrev pub scheme_code : Coded Scheme
+scheme_code = code_by ℕ coded_ℕ scheme_number scheme_at scheme_back
+
+-- the scheme and the regions of a process but its heap, and where that begins and ends
 pub record Layout : Type 0 where
+  pub scheme : Scheme
   pub parts : List Region
   pub mappings : List Region
   pub heap_base : ℕ
   pub size : ℕ
 
 abbrev pub layout_code : Coded Layout
-layout_code = code_by (List Region × (List Region × (ℕ × ℕ)))
-    (coded× (coded_list region_code) (coded× (coded_list region_code) (coded× coded_ℕ coded_ℕ)))
-    (λ l. (l.parts, (l.mappings, (l.heap_base, l.size))))
-    (λ p. record { parts = p.0; mappings = p.1.0; heap_base = p.1.1.0; size = p.1.1.1 })
+layout_code = code_by (Scheme × (List Region × (List Region × (ℕ × ℕ))))
+    (coded× scheme_code (coded× (coded_list region_code) (coded× (coded_list region_code) (coded× coded_ℕ coded_ℕ))))
+    (λ l. (l.scheme, (l.parts, (l.mappings, (l.heap_base, l.size)))))
+    (λ p. record { scheme = p.0; parts = p.1.0; mappings = p.1.1.0; heap_base = p.1.1.1.0; size = p.1.1.1.1 })
     (λ _. refl)
 
 -- a process of the model has these regions
 pub record LaysOut (l : Layout) (p : Process) : Type 0 where
+  pub scheme : p.scheme ≡ l.scheme
   pub parts : p.parts ≡ l.parts
   pub mappings : p.mappings ≡ l.mappings
   pub heap_base : p.heap_base ≡ l.heap_base

@@ -12,7 +12,7 @@ module _ (v : View) (root trapframe : ℕ) (l : Layout) (t : Tables) (p : Proces
   pub agrees_pending : (o : Option of_model.Pending) → IsSpace (body v root trapframe l) t (record p { pending = o })
   agrees_pending o = record {
     sound = record { order = same_order 0 p p.settled p.tabled o a.sound.order; tabled = a.sound.tabled };
-    lays = record { parts = a.lays.parts; mappings = a.lays.mappings; heap_base = a.lays.heap_base; size = a.lays.size };
+    lays = record { parts = a.lays.parts; mappings = a.lays.mappings; heap_base = a.lays.heap_base; size = a.lays.size; scheme = a.lays.scheme };
     stands = record {
       tables = a.stands.tables;
       owns = a.stands.owns;

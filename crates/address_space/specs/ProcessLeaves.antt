@@ -7,11 +7,11 @@ use Rattle.frame_bytes.specs.Contents.{HasBytes}
 use Rattle.frame_store.specs.View.{AllKnown, IsSole, or_zero, View}
 use Rattle.process_model.specs.Process.{Process}
 use Rattle.process_model.specs.Regions.{Region}
-use Rattle.sv39_entry.specs.Address.{has, trampoline_page, trapframe_page}
+use Rattle.sv39_entry.specs.Address.{has}
 use Rattle.sv39_entry.specs.Frame.{frame_at, ppn_of}
 use Rattle.sv39_entry.specs.Word.{ppn}
 use Rattle.sv39_entry.specs.declared.frame.FrameNo.{FrameNo}
-use Rattle.sv39_entry.specs.declared.scheme.Scheme.TheVariants.{Sv39}
+use Rattle.sv39_entry.specs.Schemes.{trampoline_page, trapframe_page}
 use Rattle.table_walk.specs.Backed.{IsBacked}
 use Rattle.table_walk.specs.Leaves.{LeavesAreLocal, LeavesAreThere}
 use Rattle.table_walk.specs.Tables.{Tables, leaf_node, walk_leaf}
@@ -54,9 +54,9 @@ module _ (v : View) (trapframe : ℕ) (t : Tables) (p : Process) (shows : Shows 
 
   each_leaf : (k w : ℕ) → get t.leaves k ≡ Some w → IsUsable w
   each_leaf k w found = elim (shows.only k w found) [
-    | inl same ↦ of_kernel trampoline_page 0 _ k w (omega arith) shows.on_trampoline same found
+    | inl same ↦ of_kernel (trampoline_page p.scheme) 0 _ k w (omega arith) shows.on_trampoline same found
     | inr more ↦ elim more [
-      | inl same ↦ of_kernel trapframe_page trapframe _ k w small shows.on_trapframe same found
+      | inl same ↦ of_kernel (trapframe_page p.scheme) trapframe _ k w small shows.on_trapframe same found
       | inr page ↦
           let shown : IsShown v t p page.0 page.1 = shows.settled page.0 page.1 page.3 in
           let is : shown.leaf ≡ w = same_Some shown.leaf w (sym shown.mapped ∙ ap (get t.leaves) (sym page.2) ∙ found) in
@@ -64,8 +64,8 @@ module _ (v : View) (trapframe : ℕ) (t : Tables) (p : Process) (shows : Shows 
     ]
   ]
 
-  pub process_there : LeavesAreThere Sv39 t
-  process_there page w found = (each_leaf (walk_leaf Sv39 page) w found).0
+  pub process_there : LeavesAreThere p.scheme t
+  process_there page w found = (each_leaf (walk_leaf p.scheme page) w found).0
 
-  pub process_local : LeavesAreLocal Sv39 t
-  process_local page w found = (each_leaf (walk_leaf Sv39 page) w found).1
+  pub process_local : LeavesAreLocal p.scheme t
+  process_local page w found = (each_leaf (walk_leaf p.scheme page) w found).1

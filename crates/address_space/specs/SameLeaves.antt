@@ -6,10 +6,11 @@ use Rattle.std.specs.FinMap.{get}
 use Rattle.process_model.specs.PageMap as pages
 use Rattle.process_model.specs.Process.{Page, Process, regions}
 use Rattle.process_model.specs.Regions.{Region, region_at}
-use Rattle.sv39_entry.specs.Address.{has, trampoline_page, trapframe_page}
+use Rattle.sv39_entry.specs.Address.{has}
 use Rattle.sv39_entry.specs.Word.{flags_kind, IsLeafOf, kind_of, ppn}
 use Rattle.sv39_entry.specs.declared.entry.Kind.{Kind}
 use Rattle.sv39_entry.specs.declared.entry.Kind.TheVariants.{Invalid, Leaf}
+use Rattle.sv39_entry.specs.Schemes.{trampoline_page, trapframe_page}
 use Rattle.table_walk.specs.Tables.{leaf_node, Tables}
 use Rattle.address_space.specs.Agreement.{Body, code_rights, data_rights, HasKernelLeaf, is_dirty_page, IsOn, IsPageLeaf, IsSpace}
 
@@ -111,7 +112,7 @@ pub record WasAlike (t u : Tables) (p : Process) (n : ℕ) (z : Page) : Type 0 w
   pub stored_mark : z.stored_mark ≡ before.stored_mark
   pub on : (f : ℕ) → IsOn u n f → IsOn t n f
 
-module _ (x y : Body) (t u : Tables) (p q : Process) (a : IsSpace x t p) (b : IsSpace y u q) (trapframe : y.trapframe ≡ x.trapframe) (same_regions : regions q ≡ regions p)
+module _ (x y : Body) (t u : Tables) (p q : Process) (a : IsSpace x t p) (b : IsSpace y u q) (trapframe : y.trapframe ≡ x.trapframe) (same_scheme : q.scheme ≡ p.scheme) (same_regions : regions q ≡ regions p)
     (still : (n : ℕ) (s : Page) → pages.get p.settled n ≡ Some s → (z : Page) × (pages.get q.settled n ≡ Some z)) (was : (n : ℕ) (z : Page) → pages.get q.settled n ≡ Some z → WasAlike t u p n z) where
   kind_t : (k w : ℕ) → get t.leaves k ≡ Some w → kind_of w ≡ Leaf
   kind_t k w found = (a.stands.tables.known.leaf_hung k w found).0
@@ -140,11 +141,11 @@ module _ (x y : Body) (t u : Tables) (p q : Process) (a : IsSpace x t p) (b : Is
       let same : now.leaf ≡ shown.leaf = same_word now.leaf shown.leaf (kind_u _ now.leaf now.mapped) (kind_t _ shown.leaf shown.mapped) (page_same now.leaf shown.leaf now.frame shown.frame shown.region _ _ names made shown.made) in
       now.mapped ∙ ap Some same ∙ sym shown.mapped
 
-  on_trampoline : get u.leaves (leaf_node trampoline_page) ≡ get t.leaves (leaf_node trampoline_page)
-  on_trampoline = kernel_kept trampoline_page 0 code_rights a.stands.shows.on_trampoline b.stands.shows.on_trampoline
+  on_trampoline : get u.leaves (leaf_node (trampoline_page p.scheme)) ≡ get t.leaves (leaf_node (trampoline_page p.scheme))
+  on_trampoline = kernel_kept (trampoline_page p.scheme) 0 code_rights a.stands.shows.on_trampoline (rw same_scheme at b.stands.shows.on_trampoline)
 
-  on_trapframe : get u.leaves (leaf_node trapframe_page) ≡ get t.leaves (leaf_node trapframe_page)
-  on_trapframe = kernel_kept trapframe_page x.trapframe data_rights a.stands.shows.on_trapframe (subst (λ (f : ℕ). HasKernelLeaf u trapframe_page f data_rights) trapframe b.stands.shows.on_trapframe)
+  on_trapframe : get u.leaves (leaf_node (trapframe_page p.scheme)) ≡ get t.leaves (leaf_node (trapframe_page p.scheme))
+  on_trapframe = kernel_kept (trapframe_page p.scheme) x.trapframe data_rights a.stands.shows.on_trapframe (subst (λ (f : ℕ). HasKernelLeaf u (trapframe_page p.scheme) f data_rights) trapframe (rw same_scheme at b.stands.shows.on_trapframe))
 
   at_number : (k j : ℕ) → k ≡ j → get u.leaves j ≡ get t.leaves j → get u.leaves k ≡ get t.leaves k
   at_number k j same kept = ap (get u.leaves) same ∙ kept ∙ sym (ap (get t.leaves) same)
@@ -162,9 +163,9 @@ module _ (x y : Body) (t u : Tables) (p q : Process) (a : IsSpace x t p) (b : Is
     ]
     go None found None is = is ∙ sym found
     go None found (Some v) is = elim (b.stands.shows.only k v is) [
-      | inl same ↦ at_number k _ same on_trampoline
+      | inl same ↦ at_number k _ (same ∙ ap (λ z. leaf_node (trampoline_page z)) same_scheme) on_trampoline
       | inr more ↦ elim more [
-        | inl same ↦ at_number k _ same on_trapframe
+        | inl same ↦ at_number k _ (same ∙ ap (λ z. leaf_node (trapframe_page z)) same_scheme) on_trapframe
         | inr page ↦ at_number k _ page.2 (page_kept page.0 page.1 page.3)
       ]
     ]

@@ -10,8 +10,8 @@ use Rattle.process_model.specs.PageMap as pages
 use Rattle.process_model.specs.Process.{Page, Process, regions}
 use Rattle.process_model.specs.Regions.{is_guard_kind, is_shared_kind, makes_leaf, Region, region_at}
 use Rattle.process_model.specs.Residence.{marked_stored, region_on, stored, unmarked, with_page}
-use Rattle.sv39_entry.specs.Address.{page_of, trapframe_page}
-use Rattle.sv39_entry.specs.declared.scheme.Scheme.TheVariants.{Sv39}
+use Rattle.sv39_entry.specs.Address.{page_of}
+use Rattle.sv39_entry.specs.Schemes.{trapframe_page}
 use Rattle.table_walk.specs.Tables.{Tables, missing}
 use Rattle.address_space.specs.Agreement.{Body, IsSpace, IsOn, nothing, OthersKeep, Stands}
 use Rattle.address_space.specs.Standing.{IsAt, standing}
@@ -40,7 +40,7 @@ pub record CanAdd (v : View) (root trapframe : ℕ) (t : Tables) (p : Process) (
   pub unsettled : pages.get p.settled page ≡ None
   pub in_region : region_at (regions p) page ≡ Some r
   pub leafy : makes_leaf r ≡ true
-  pub low : page < trapframe_page
+  pub low : page < (trapframe_page p.scheme)
 
 -- the process with one more page, of these bytes with zeros behind them
 abbrev pub settled_with : ℕ → List ℕ → Process → ℕ → Process
@@ -57,7 +57,7 @@ pub record Adds (v w : View) (root trapframe : ℕ) (t u : Tables) (p : Process)
   pub sole : IsSole w f
   pub others : OthersKeep t u page
   pub saved : hold_of w trapframe ≡ hold_of v trapframe
-  pub spends : Spends v w (1 + missing Sv39 t page)
+  pub spends : Spends v w (1 + missing p.scheme t page)
 
 -- any page of a region that is not settled yet
 pub record CanSettle (x : Body) (t : Tables) (p : Process) (page : ℕ) : Type 0 where
@@ -186,6 +186,7 @@ left_with p first rest = record p { mappings = with_instead p.mappings first (op
 pub record CanRelay (p q : Process) : Type 0 where
   pub settled : q.settled ≡ p.settled
   pub tabled : q.tabled ≡ p.tabled
+  pub scheme : q.scheme ≡ p.scheme
   pub order : HasOrder 0 q
   pub leaves : KeepsLeaves p q
 

@@ -10,13 +10,12 @@ ghost use Rattle.frame_store.specs.Laws.{Fits, Keeps};
 ghost use Rattle.frame_store.specs.View.{hold_of};
 ghost use Rattle.process_model.specs.Heap.{without_pages};
 ghost use Rattle.process_model.specs.Process.{Process};
-ghost use Rattle.sv39_entry.specs.Address.{trapframe_page};
-ghost use Rattle.sv39_entry.specs.declared.scheme.Scheme.TheVariants.{Sv39};
+ghost use Rattle.sv39_entry.specs.Schemes.{trapframe_page, page_limit};
 ghost use Rattle.table_walk.specs.Tables.{HasTables, leaf_node, Tables, walk_leaf};
 
 use crate::space::Space;
 use frame_store::{FrameAccess, FrameSeat};
-use sv39_entry::{Entry, FrameNo, Scheme, TRAMPOLINE, TRAPFRAME, Va, Vpn};
+use sv39_entry::{Entry, FrameNo, Scheme, Va, Vpn};
 use table_walk::{leaf_of, next_leaf_before, release_tables, unmap};
 
 /// The first page that has a leaf, of those from one number up to, and without, another, and the leaf. The first page is
@@ -24,42 +23,44 @@ use table_walk::{leaf_of, next_leaf_before, release_tables, unmap};
 pub(crate) fn first_mapped<F: FrameAccess>(
     store: &mut F,
     seat: &mut F::Seat,
+    scheme: Scheme,
     root: FrameNo,
     first: u64,
     end: u64,
 ) -> Option<(Vpn, Entry)>
     requires fits { Fits F.rule store.old seat.old }
-    requires held { (t : Tables) × HasTables Sv39 (F.Seat.view seat.old) root.0 t }
-    requires low { end ≤ 2 ^ 27 }
-    ensures page { (t : Tables) → HasTables Sv39 (F.Seat.view seat.old) root.0 t → IsFirstMapped t first end result }
+    requires held { (t : Tables) × HasTables scheme (F.Seat.view seat.old) root.0 t }
+    requires low { end ≤ page_limit scheme }
+    ensures page { (t : Tables) → HasTables scheme (F.Seat.view seat.old) root.0 t → IsFirstMapped t first end result }
     ensures view { F.Seat.view seat.new ≡ F.Seat.view seat.old }
     ensures same { store.new ≡ store.old }
     ensures keeps { Keeps F.rule store.old seat.old store.new seat.new }
 {
     let page = Vpn::new(first)?;
-    if let Some(leaf) = leaf_before(store, seat, root, page, end) {
+    if let Some(leaf) = leaf_before(store, seat, scheme, root, page, end) {
         return Some((page, leaf));
     }
-    next_leaf_before(store, seat, Scheme::Sv39, root, page, end)
+    next_leaf_before(store, seat, scheme, root, page, end)
 }
 
 /// The leaf of a page, where it has one and is before an end.
 fn leaf_before<F: FrameAccess>(
     store: &mut F,
     seat: &mut F::Seat,
+    scheme: Scheme,
     root: FrameNo,
     page: Vpn,
     end: u64,
 ) -> Option<Entry>
     requires fits { Fits F.rule store.old seat.old }
-    requires held { (t : Tables) × HasTables Sv39 (F.Seat.view seat.old) root.0 t }
-    ensures leaf { (t : Tables) → HasTables Sv39 (F.Seat.view seat.old) root.0 t → IfSome result (λ leaf. (page < end) × (get t.leaves (walk_leaf Sv39 page) ≡ Some leaf)) }
+    requires held { (t : Tables) × HasTables scheme (F.Seat.view seat.old) root.0 t }
+    ensures leaf { (t : Tables) → HasTables scheme (F.Seat.view seat.old) root.0 t → IfSome result (λ leaf. (page < end) × (get t.leaves (walk_leaf scheme page) ≡ Some leaf)) }
     ensures view { F.Seat.view seat.new ≡ F.Seat.view seat.old }
     ensures same { store.new ≡ store.old }
     ensures keeps { Keeps F.rule store.old seat.old store.new seat.new }
 {
     if page.number() < end {
-        leaf_of(store, seat, Scheme::Sv39, root, page)
+        leaf_of(store, seat, scheme, root, page)
     } else {
         None
     }
@@ -70,22 +71,23 @@ fn leaf_before<F: FrameAccess>(
 fn drop_leaf<F: FrameAccess>(
     store: &mut F,
     seat: &mut F::Seat,
+    scheme: Scheme,
     root: FrameNo,
     page: Vpn,
     end: u64,
 ) -> bool
     requires fits { Fits F.rule store.old seat.old }
-    requires ready { (t : Tables) × HasTables Sv39 (F.Seat.view seat.old) root.0 t × MayDrop (F.Seat.view seat.old) root.0 t page end }
-    requires low { end ≤ 2 ^ 27 }
-    ensures dropped { (t : Tables) → HasTables Sv39 (F.Seat.view seat.old) root.0 t → MayDrop (F.Seat.view seat.old) root.0 t page end →
-        DropsIf result (F.Seat.view seat.old) (F.Seat.view seat.new) root.0 t page end }
+    requires ready { (t : Tables) × HasTables scheme (F.Seat.view seat.old) root.0 t × MayDrop scheme (F.Seat.view seat.old) root.0 t page end }
+    requires low { end ≤ page_limit scheme }
+    ensures dropped { (t : Tables) → HasTables scheme (F.Seat.view seat.old) root.0 t → MayDrop scheme (F.Seat.view seat.old) root.0 t page end →
+        DropsIf scheme result (F.Seat.view seat.old) (F.Seat.view seat.new) root.0 t page end }
     ensures keeps { Keeps F.rule store.old seat.old store.new seat.new }
     ensures free { F.alone → F.free store.old ≤ F.free store.new }
 {
     if end <= page.number() {
         return false;
     }
-    let Some(leaf) = unmap(store, seat, Scheme::Sv39, root, page) else {
+    let Some(leaf) = unmap(store, seat, scheme, root, page) else {
         return false;
     };
     let Some(frame) = FrameNo::from_ppn(leaf.ppn()) else {
@@ -100,24 +102,25 @@ fn drop_leaf<F: FrameAccess>(
 fn drop_first<F: FrameAccess>(
     store: &mut F,
     seat: &mut F::Seat,
+    scheme: Scheme,
     root: FrameNo,
     first: u64,
     end: u64,
 ) -> Option<u64>
     requires fits { Fits F.rule store.old seat.old }
-    requires ready { (t : Tables) × HasTables Sv39 (F.Seat.view seat.old) root.0 t × ((page : ℕ) → MayDrop (F.Seat.view seat.old) root.0 t page end) }
-    requires low { end ≤ 2 ^ 27 }
-    ensures dropped { (t : Tables) → HasTables Sv39 (F.Seat.view seat.old) root.0 t → ((page : ℕ) → MayDrop (F.Seat.view seat.old) root.0 t page end) →
-        DropsFirst result (F.Seat.view seat.old) (F.Seat.view seat.new) root.0 t first end }
+    requires ready { (t : Tables) × HasTables scheme (F.Seat.view seat.old) root.0 t × ((page : ℕ) → MayDrop scheme (F.Seat.view seat.old) root.0 t page end) }
+    requires low { end ≤ page_limit scheme }
+    ensures dropped { (t : Tables) → HasTables scheme (F.Seat.view seat.old) root.0 t → ((page : ℕ) → MayDrop scheme (F.Seat.view seat.old) root.0 t page end) →
+        DropsFirst scheme result (F.Seat.view seat.old) (F.Seat.view seat.new) root.0 t first end }
     ensures keeps { Keeps F.rule store.old seat.old store.new seat.new }
     ensures free { F.alone → F.free store.old ≤ F.free store.new }
 {
     let page = Vpn::new(first)?;
-    if drop_leaf(store, seat, root, page, end) {
+    if drop_leaf(store, seat, scheme, root, page, end) {
         return Some(first);
     }
-    let (page, _) = next_leaf_before(store, seat, Scheme::Sv39, root, page, end)?;
-    if !drop_leaf(store, seat, root, page, end) {
+    let (page, _) = next_leaf_before(store, seat, scheme, root, page, end)?;
+    if !drop_leaf(store, seat, scheme, root, page, end) {
         unreachable!()
     }
     Some(page.number())
@@ -128,37 +131,43 @@ fn drop_first<F: FrameAccess>(
 pub(crate) fn drop_run<F: FrameAccess>(
     store: &mut F,
     seat: &mut F::Seat,
+    scheme: Scheme,
     root: FrameNo,
     first: Vpn,
     end: u64,
 )
     requires fits { Fits F.rule store.old seat.old }
-    requires ready { (trapframe : ℕ) × (t : Tables) × (p : Process) × Stands (F.Seat.view seat.old) root.0 trapframe nothing t p }
-    requires low { end ≤ trapframe_page }
-    ensures dropped { (trapframe : ℕ) (t : Tables) (p : Process) → Stands (F.Seat.view seat.old) root.0 trapframe nothing t p →
+    requires ready { (trapframe : ℕ) × (t : Tables) × (p : Process) × (p.scheme ≡ scheme) × Stands (F.Seat.view seat.old) root.0 trapframe nothing t p }
+    requires low { end ≤ trapframe_page scheme }
+    ensures dropped { (trapframe : ℕ) (t : Tables) (p : Process) → p.scheme ≡ scheme → Stands (F.Seat.view seat.old) root.0 trapframe nothing t p →
         (u : Tables) × DropsRun (F.Seat.view seat.old) (F.Seat.view seat.new) root.0 trapframe t u p first end }
     ensures keeps { Keeps F.rule store.old seat.old store.new seat.new }
     ensures free { F.alone → F.free store.old ≤ F.free store.new }
 {
     let mut from = first.number();
-    'pages: while let Some(page) = drop_first(store, seat, root, from, end) {
+    'pages: while let Some(page) = drop_first(store, seat, scheme, root, from, end) {
         from = page + 1;
     }
 }
 
 /// Takes the tables of a space without pages away: TRAPFRAME's leaf goes, then TRAMPOLINE's, and then the tables. The
 /// frames of these two pages stay.
-pub(crate) fn release_emptied<F: FrameAccess>(store: &mut F, seat: &mut F::Seat, root: FrameNo)
+pub(crate) fn release_emptied<F: FrameAccess>(
+    store: &mut F,
+    seat: &mut F::Seat,
+    scheme: Scheme,
+    root: FrameNo,
+)
     requires fits { Fits F.rule store.old seat.old }
-    requires emptied { (trapframe : ℕ) × (t : Tables) × IsEmptied (F.Seat.view seat.old) root.0 trapframe t }
-    ensures strips { (trapframe : ℕ) (t : Tables) → IsEmptied (F.Seat.view seat.old) root.0 trapframe t →
+    requires emptied { (trapframe : ℕ) × (t : Tables) × IsEmptied scheme (F.Seat.view seat.old) root.0 trapframe t }
+    ensures strips { (trapframe : ℕ) (t : Tables) → IsEmptied scheme (F.Seat.view seat.old) root.0 trapframe t →
         Strips (F.Seat.view seat.old) (F.Seat.view seat.new) trapframe }
     ensures keeps { Keeps F.rule store.old seat.old store.new seat.new }
     ensures free { F.alone → F.free store.old ≤ F.free store.new }
 {
-    unmap(store, seat, Scheme::Sv39, root, TRAPFRAME.page());
-    unmap(store, seat, Scheme::Sv39, root, TRAMPOLINE.page());
-    release_tables(store, seat, Scheme::Sv39, root);
+    unmap(store, seat, scheme, root, scheme.trapframe().page());
+    unmap(store, seat, scheme, root, scheme.trampoline().page());
+    release_tables(store, seat, scheme, root);
 }
 
 impl<S: FrameSeat> Space<S> {
@@ -166,7 +175,7 @@ impl<S: FrameSeat> Space<S> {
     pub fn drop_pages<F: FrameAccess<Seat = S>>(&mut self, store: &mut F, first: Vpn, end: Vpn)
         requires fits { Fits F.rule store.old self.old.seat }
         requires ready { (t : Tables) × (p : Process) × IsSpace (body_of S.view self.old) t p }
-        requires low { end ≤ trapframe_page }
+        requires low { end ≤ trapframe_page self.old.layout.scheme }
         ensures dropped { (t : Tables) (p : Process) →
             IsSpace (body_of S.view self.old) t p →
             (u : Tables) × IsSpace (body_of S.view self.new) u (without_pages p first end) × Drops t u first end }
@@ -177,7 +186,15 @@ impl<S: FrameSeat> Space<S> {
         ensures keeps { Keeps F.rule store.old self.old.seat store.new self.new.seat }
         ensures free { F.alone → F.free store.old ≤ F.free store.new }
     {
-        drop_run(store, &mut self.seat, self.root, first, end.number());
+        let scheme = self.layout.scheme();
+        drop_run(
+            store,
+            &mut self.seat,
+            scheme,
+            self.root,
+            first,
+            end.number(),
+        );
     }
 
     /// Takes the space apart: its pages go, and then its tables. The seat keeps its credits, frame 0, and the trapframe's
@@ -193,6 +210,7 @@ impl<S: FrameSeat> Space<S> {
         ensures keeps { Keeps F.rule store.old self.seat store.new result.0 }
         ensures free { F.alone → F.free store.old ≤ F.free store.new }
     {
+        let scheme = self.layout.scheme();
         let end = self.layout.end();
         let Space {
             mut seat,
@@ -200,8 +218,8 @@ impl<S: FrameSeat> Space<S> {
             trapframe,
             ..
         } = self;
-        drop_run(store, &mut seat, root, Va(0).page(), end);
-        release_emptied(store, &mut seat, root);
+        drop_run(store, &mut seat, scheme, root, Va(0).page(), end);
+        release_emptied(store, &mut seat, scheme, root);
         (seat, trapframe)
     }
 

@@ -9,12 +9,13 @@ ghost use Rattle.frame_store.specs.View.{references, spent};
 ghost use Rattle.process_model.specs.Frames as model;
 ghost use Rattle.sv39_entry.specs.Word.{IsLeafOf, kind_of, leaf_word};
 ghost use Rattle.sv39_entry.specs.declared.entry.Kind.TheVariants.{Leaf};
+ghost use Rattle.sv39_entry.specs.Schemes.{top_level};
 ghost use Rattle.table_walk.specs.Tables.{Tables};
 
 use bitflags::Flags;
 use frame_store::{FrameAccess, FrameSeat, FrameSupply, NoFrame};
 use process_model::kernel_frames;
-use sv39_entry::{Access, Entry, FrameNo, Mode, Rights, Scheme, TRAMPOLINE, Va, kernel_stack};
+use sv39_entry::{Access, Entry, FrameNo, Mode, Rights, Scheme, Va};
 use table_walk::{HeldWords, Walk, map, new_table, one_outcome, translate, walks_of_tables};
 
 /// The page table of the kernel (the xv6 book, "Kernel address space"), without devices: each frame of the memory at its
@@ -23,6 +24,7 @@ use table_walk::{HeldWords, Walk, map, new_table, one_outcome, translate, walks_
 pub struct KernelTable<S: FrameSeat> {
     pub seat: S,
     pub root: FrameNo,
+    pub scheme: Scheme,
 }
 
 impl<S: FrameSeat> KernelTable<S> {
@@ -31,6 +33,7 @@ impl<S: FrameSeat> KernelTable<S> {
     pub fn build<F: FrameSupply<Seat = S>>(
         store: &mut F,
         seat: S,
+        scheme: Scheme,
         frames: u16,
         slots: u16,
     ) -> Result<KernelTable<S>, (NoFrame, S)>
@@ -40,22 +43,23 @@ impl<S: FrameSeat> KernelTable<S> {
         requires few_frames { frames ≤ 1024 }
         requires some_slots { 1 ≤ slots }
         requires few_slots { slots ≤ 64 }
-        ensures built { IfOk result (λ k. (stacks : List ℕ) × (t : Tables) × IsKernelTable (S.view k.seat) k.root.0 frames slots stacks t) }
-        ensures tallies { IfOk result (λ k. (S.view k.seat).tallies ≡ spent (model.kernel_frames frames slots - 1) (S.view seat).tallies) }
-        ensures dry { IfErr result (λ e. IsDry (model.kernel_frames frames slots - 1) (S.view seat) (S.view e.1)) }
-        ensures exact { F.alone → IsOk result ↔ (model.kernel_frames frames slots - 1 ≤ F.free store.old) }
-        ensures free { F.alone → F.free store.new ≡ F.free store.old - (if is_ok result then model.kernel_frames frames slots - 1 else 0) }
+        ensures built { IfOk result (λ k. (stacks : List ℕ) × (t : Tables) × IsKernelTable k.scheme (S.view k.seat) k.root.0 frames slots stacks t) }
+        ensures scheme { IfOk result (λ k. k.scheme ≡ scheme) }
+        ensures tallies { IfOk result (λ k. (S.view k.seat).tallies ≡ spent (model.kernel_frames scheme frames slots - 1) (S.view seat).tallies) }
+        ensures dry { IfErr result (λ e. IsDry (model.kernel_frames scheme frames slots - 1) (S.view seat) (S.view e.1)) }
+        ensures exact { F.alone → IsOk result ↔ (model.kernel_frames scheme frames slots - 1 ≤ F.free store.old) }
+        ensures free { F.alone → F.free store.new ≡ F.free store.old - (if is_ok result then model.kernel_frames scheme frames slots - 1 else 0) }
         ensures keeps { IfOk result (λ k. Keeps F.rule store.old seat store.new k.seat) }
         ensures keeps_dry { IfErr result (λ e. Keeps F.rule store.old seat store.new e.1) }
     {
         let mut seat = seat;
-        if let Err(refusal) = store.reserve(&mut seat, need(frames, slots)) {
+        if let Err(refusal) = store.reserve(&mut seat, need(scheme, frames, slots)) {
             return Err((refusal, seat));
         }
-        let root = new_root(store, &mut seat);
-        map_stacks(store, &mut seat, root, slots);
-        map_frames(store, &mut seat, root, frames);
-        Ok(KernelTable { seat, root })
+        let root = new_root(store, &mut seat, scheme);
+        map_stacks(store, &mut seat, scheme, root, slots);
+        map_frames(store, &mut seat, scheme, root, frames);
+        Ok(KernelTable { seat, root, scheme })
     }
 
     /// What the kernel's access to an address leads to.
@@ -66,10 +70,11 @@ impl<S: FrameSeat> KernelTable<S> {
         access: Access,
     ) -> Walk
         requires fits { Fits F.rule store.old self.old.seat }
-        requires built { (frames slots : ℕ) × (stacks : List ℕ) × (t : Tables) × IsKernelTable (S.view self.old.seat) self.old.root.0 frames slots stacks t }
-        ensures walk { (frames slots : ℕ) (stacks : List ℕ) (t : Tables) → IsKernelTable (S.view self.old.seat) self.old.root.0 frames slots stacks t → result ≡ kernel_walk frames stacks va.0 access }
+        requires built { (frames slots : ℕ) × (stacks : List ℕ) × (t : Tables) × IsKernelTable self.old.scheme (S.view self.old.seat) self.old.root.0 frames slots stacks t }
+        ensures walk { (frames slots : ℕ) (stacks : List ℕ) (t : Tables) → IsKernelTable self.old.scheme (S.view self.old.seat) self.old.root.0 frames slots stacks t → result ≡ kernel_walk self.old.scheme frames stacks va.0 access }
         ensures view { S.view self.new.seat ≡ S.view self.old.seat }
         ensures root { self.new.root ≡ self.old.root }
+        ensures scheme { self.new.scheme ≡ self.old.scheme }
         ensures same { store.new ≡ store.old }
         ensures keeps { Keeps F.rule store.old self.old.seat store.new self.new.seat }
     {
@@ -81,7 +86,7 @@ impl<S: FrameSeat> KernelTable<S> {
         };
         translate(
             &mut words,
-            Scheme::Sv39,
+            self.scheme,
             self.root.ppn(),
             va,
             access,
@@ -91,11 +96,11 @@ impl<S: FrameSeat> KernelTable<S> {
 }
 
 /// How many free frames the table takes: all that the kernel takes, but frame 0, which is there.
-fn need(frames: u16, slots: u16) -> usize
+fn need(scheme: Scheme, frames: u16, slots: u16) -> usize
     requires few { slots ≤ 64 }
-    ensures { result ≡ model.kernel_frames frames slots - 1 }
+    ensures { result ≡ model.kernel_frames scheme frames slots - 1 }
 {
-    kernel_frames(usize::from(frames), usize::from(slots)) - 1
+    kernel_frames(scheme, usize::from(frames), usize::from(slots)) - 1
 }
 
 /// The leaf of a frame, for the kernel alone. Frame 0 has the trampoline's code, which nothing may write.
@@ -113,14 +118,14 @@ pub fn leaf_for_kernel(frame: FrameNo) -> Entry
     Entry::leaf(frame, rights, false, false, true)
 }
 
-/// A root of three credits that maps the trampoline.
-fn new_root<F: FrameSupply>(store: &mut F, seat: &mut F::Seat) -> FrameNo
+/// A root that maps the trampoline, of a credit for each level.
+fn new_root<F: FrameSupply>(store: &mut F, seat: &mut F::Seat, scheme: Scheme) -> FrameNo
     requires fits { Fits F.rule store.old seat.old }
     requires once { references (F.Seat.view seat.old) 0 ≡ 1 }
     requires bare { (f : ℕ) → (f ≡ 0 → ⊥) → references (F.Seat.view seat.old) f ≡ 0 }
-    requires credits { 3 ≤ (F.Seat.view seat.old).credits }
-    ensures mapped { (t : Tables) × MapsKernel (F.Seat.view seat.new) result.0 0 [] t }
-    ensures spends { Spends (F.Seat.view seat.old) (F.Seat.view seat.new) 3 }
+    requires credits { 1 + top_level scheme ≤ (F.Seat.view seat.old).credits }
+    ensures mapped { (t : Tables) × MapsKernel scheme (F.Seat.view seat.new) result.0 0 [] t }
+    ensures spends { Spends (F.Seat.view seat.old) (F.Seat.view seat.new) (1 + top_level scheme) }
     ensures keeps { Keeps F.rule store.old seat.old store.new seat.new }
     ensures free { F.alone → F.free store.new ≡ F.free store.old }
 {
@@ -128,20 +133,26 @@ fn new_root<F: FrameSupply>(store: &mut F, seat: &mut F::Seat) -> FrameNo
     map(
         store,
         seat,
-        Scheme::Sv39,
+        scheme,
         root,
-        TRAMPOLINE.page(),
+        scheme.trampoline().page(),
         leaf_for_kernel(FrameNo(0)),
     );
     root
 }
 
 /// Gives each slot a stack, of a credit.
-fn map_stacks<F: FrameSupply>(store: &mut F, seat: &mut F::Seat, root: FrameNo, slots: u16)
+fn map_stacks<F: FrameSupply>(
+    store: &mut F,
+    seat: &mut F::Seat,
+    scheme: Scheme,
+    root: FrameNo,
+    slots: u16,
+)
     requires fits { Fits F.rule store.old seat.old }
     requires few { slots ≤ 64 }
-    requires ready { (t : Tables) × MapsKernel (F.Seat.view seat.old) root.0 0 [] t × (slots ≤ (F.Seat.view seat.old).credits) }
-    ensures mapped { (t : Tables) → MapsKernel (F.Seat.view seat.old) root.0 0 [] t → (stacks : List ℕ) × (u : Tables) × MapsKernel (F.Seat.view seat.new) root.0 0 stacks u × (length stacks ≡ slots) }
+    requires ready { (t : Tables) × MapsKernel scheme (F.Seat.view seat.old) root.0 0 [] t × (slots ≤ (F.Seat.view seat.old).credits) }
+    ensures mapped { (t : Tables) → MapsKernel scheme (F.Seat.view seat.old) root.0 0 [] t → (stacks : List ℕ) × (u : Tables) × MapsKernel scheme (F.Seat.view seat.new) root.0 0 stacks u × (length stacks ≡ slots) }
     ensures spends { Spends (F.Seat.view seat.old) (F.Seat.view seat.new) slots }
     ensures keeps { Keeps F.rule store.old seat.old store.new seat.new }
     ensures free { F.alone → F.free store.new ≡ F.free store.old }
@@ -151,21 +162,27 @@ fn map_stacks<F: FrameSupply>(store: &mut F, seat: &mut F::Seat, root: FrameNo, 
         map(
             store,
             seat,
-            Scheme::Sv39,
+            scheme,
             root,
-            kernel_stack(slot).page(),
+            scheme.kernel_stack(slot).page(),
             leaf_for_kernel(frame),
         );
     }
 }
 
 /// Maps each frame at its own address. The tables that this takes are made of credits.
-fn map_frames<F: FrameSupply>(store: &mut F, seat: &mut F::Seat, root: FrameNo, frames: u16)
+fn map_frames<F: FrameSupply>(
+    store: &mut F,
+    seat: &mut F::Seat,
+    scheme: Scheme,
+    root: FrameNo,
+    frames: u16,
+)
     requires fits { Fits F.rule store.old seat.old }
     requires few { frames ≤ 1024 }
-    requires ready { (stacks : List ℕ) × (t : Tables) × MapsKernel (F.Seat.view seat.old) root.0 0 stacks t × (direct_tables frames ≤ (F.Seat.view seat.old).credits) }
-    ensures mapped { (stacks : List ℕ) (t : Tables) → MapsKernel (F.Seat.view seat.old) root.0 0 stacks t → (u : Tables) × MapsKernel (F.Seat.view seat.new) root.0 frames stacks u }
-    ensures spends { Spends (F.Seat.view seat.old) (F.Seat.view seat.new) (direct_tables frames) }
+    requires ready { (stacks : List ℕ) × (t : Tables) × MapsKernel scheme (F.Seat.view seat.old) root.0 0 stacks t × (direct_tables scheme frames ≤ (F.Seat.view seat.old).credits) }
+    ensures mapped { (stacks : List ℕ) (t : Tables) → MapsKernel scheme (F.Seat.view seat.old) root.0 0 stacks t → (u : Tables) × MapsKernel scheme (F.Seat.view seat.new) root.0 frames stacks u }
+    ensures spends { Spends (F.Seat.view seat.old) (F.Seat.view seat.new) (direct_tables scheme frames) }
     ensures keeps { Keeps F.rule store.old seat.old store.new seat.new }
     ensures free { F.alone → F.free store.new ≡ F.free store.old }
 {
@@ -174,7 +191,7 @@ fn map_frames<F: FrameSupply>(store: &mut F, seat: &mut F::Seat, root: FrameNo, 
         map(
             store,
             seat,
-            Scheme::Sv39,
+            scheme,
             root,
             Va(frame.address()).page(),
             leaf_for_kernel(frame),

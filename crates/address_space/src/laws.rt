@@ -6,7 +6,6 @@ ghost use Rattle.address_space.specs.Agreement.{Body, IsSpace};
 ghost use Rattle.process_model.specs.Process.{Process};
 ghost use Rattle.sv39_entry.specs.declared.access.Access.{Access};
 ghost use Rattle.sv39_entry.specs.declared.access.Mode.TheVariants.{User};
-ghost use Rattle.sv39_entry.specs.declared.scheme.Scheme.TheVariants.{Sv39};
 ghost use Rattle.table_walk.specs.Leaves.{walk_answer};
 ghost use Rattle.table_walk.specs.Tables.{Tables};
 
@@ -14,5 +13,5 @@ ghost use Rattle.table_walk.specs.Tables.{Tables};
 /// process's regions denies it, alignment aside, and its page is resident for it.
 pub fn walks_grant_what_is_resident()
     ensures { (x : Body) (t : Tables) (p : Process) (access : Access) (address : ℕ) → IsSpace x t p →
-        (gives_leaf (walk_answer Sv39 t address access User) ≡ true) ↔ IsGranted p access address }
+        (gives_leaf (walk_answer p.scheme t address access User) ≡ true) ↔ IsGranted p access address }
 {}

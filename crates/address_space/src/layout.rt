@@ -2,7 +2,6 @@
 
 ghost use Rattle.std.specs.Prelude.{[], ◌≡◌, ◌+◌, ◌*◌, ◌<◌, ◌≤◌, All, length, map, nat_le, not, option_map, option_to_list, ◌==◌, ℕ, Some};
 ghost use Rattle.std.specs.List.{prefix_len};
-ghost use Rattle.sv39_entry.specs.Address.{trapframe_page};
 ghost use Rattle.process_model.specs.Mappings.{most_mappings, with_instead, with_mapping};
 ghost use Rattle.process_model.specs.Order.{HasOrder};
 ghost use Rattle.process_model.specs.Process.{heap_of, Process, regions};
@@ -10,17 +9,19 @@ ghost use Rattle.process_model.specs.Regions as model;
 ghost use Rattle.address_space.specs.Layouts.{granted_unless, last_page, LaysOut, region_of};
 ghost use Rattle.address_space.specs.Parts.{regions_in};
 ghost use Rattle.address_space.specs.declared.region.Region.{Region as Run};
+ghost use Rattle.sv39_entry.specs.Schemes.{trapframe_page};
 
 use crate::part::Part;
 use crate::region::{Region, RegionKind, Source};
 use arrayvec::ArrayVec;
 use bitflags::Flags;
 use std::marker::Model;
-use sv39_entry::{Access, MAXVA, PAGE_SIZE, Rights, Rule, TRAMPOLINE, TRAPFRAME, Va};
+use sv39_entry::{Access, PAGE_SIZE, Rights, Rule, Scheme, Va};
 
-/// Segments, guard and stack, mappings, and where the heap begins and ends.
+/// The scheme of translation; segments, guard and stack, mappings, and where the heap begins and ends.
 #[derive(Drop)]
 pub struct Layout {
+    scheme: Scheme,
     parts: ArrayVec<Region, 18>,
     mappings: ArrayVec<Region, 16>,
     heap_base: u64,
@@ -35,15 +36,16 @@ impl Model for Layout {
 
     ghost coded = { layout_code };
 
-    ghost view = { λ l. record { parts = map region_of l.parts.items; mappings = map region_of l.mappings.items; heap_base = l.heap_base; size = l.size } };
+    ghost view = { λ l. record { scheme = l.scheme; parts = map region_of l.parts.items; mappings = map region_of l.mappings.items; heap_base = l.heap_base; size = l.size } };
 }
 
 impl Layout {
     /// The regions of a process that begins: its parts, in ascending order, with an empty heap at the end of the last of
     /// them.
-    pub fn new(parts: &[Part]) -> Layout
+    pub fn new(scheme: Scheme, parts: &[Part]) -> Layout
         requires few { length parts.now ≤ 18 }
-        requires low { All (λ p. p.region.first + p.region.pages ≤ trapframe_page) parts.now }
+        requires low { All (λ p. p.region.first + p.region.pages ≤ trapframe_page scheme) parts.now }
+        ensures scheme { result.scheme ≡ scheme }
         ensures parts { result.parts ≡ regions_in parts.now }
         ensures mappings { result.mappings ≡ [] }
         ensures heap_base { result.heap_base ≡ 4096 * last_page 0 (regions_in parts.now) }
@@ -56,6 +58,7 @@ impl Layout {
             end = part.region.first + part.region.pages;
         }
         Layout {
+            scheme,
             parts: list,
             mappings: ArrayVec::new(),
             heap_base: end * PAGE_SIZE,
@@ -65,6 +68,7 @@ impl Layout {
 
     /// Ends the heap at another address.
     pub(crate) fn set_size(&mut self, size: u64)
+        ensures scheme { self.new.scheme ≡ self.old.scheme }
         ensures parts { self.new.parts ≡ self.old.parts }
         ensures mappings { self.new.mappings ≡ self.old.mappings }
         ensures heap_base { self.new.heap_base ≡ self.old.heap_base }
@@ -76,6 +80,7 @@ impl Layout {
     /// Adds a mapping, in its place by address. There has to be room for one more.
     pub(crate) fn add_mapping(&mut self, mapping: Region)
         requires few { length self.old.mappings < most_mappings }
+        ensures scheme { self.new.scheme ≡ self.old.scheme }
         ensures parts { self.new.parts ≡ self.old.parts }
         ensures mappings { self.new.mappings ≡ with_mapping (region_of mapping) self.old.mappings }
         ensures heap_base { self.new.heap_base ≡ self.old.heap_base }
@@ -87,6 +92,7 @@ impl Layout {
 
     /// Puts what is left of a mapping in the place of the one that begins at a page; where nothing is left, that one goes.
     pub(crate) fn replace_mapping(&mut self, first: u64, rest: Option<Region>)
+        ensures scheme { self.new.scheme ≡ self.old.scheme }
         ensures parts { self.new.parts ≡ self.old.parts }
         ensures mappings { self.new.mappings ≡ with_instead self.old.mappings first (option_to_list (option_map region_of rest)) }
         ensures heap_base { self.new.heap_base ≡ self.old.heap_base }
@@ -110,6 +116,13 @@ impl Layout {
         self.mappings.as_slice()
     }
 
+    /// The scheme of translation of the process.
+    pub fn scheme(&self) -> Scheme
+        ensures { result ≡ self.now.scheme }
+    {
+        self.scheme
+    }
+
     /// Where the heap ends, in bytes.
     pub fn size(&self) -> u64
         ensures { result ≡ self.now.size }
@@ -129,6 +142,7 @@ impl Layout {
         ensures { result ≡ self.now }
     {
         Layout {
+            scheme: self.scheme,
             parts: copied(&self.parts),
             mappings: copied(&self.mappings),
             heap_base: self.heap_base,
@@ -168,25 +182,26 @@ impl Layout {
 
     /// The number of a page from which on no region has any: where the heap ends, or TRAPFRAME's where there are mappings.
     pub fn end(&self) -> u64
-        ensures low { (p : Process) → LaysOut self.now p → HasOrder 0 p → result ≤ trapframe_page }
+        ensures low { (p : Process) → LaysOut self.now p → HasOrder 0 p → result ≤ trapframe_page p.scheme }
         ensures end { (p : Process) → LaysOut self.now p → HasOrder 0 p → (n : ℕ) (r : model.Region) → model.region_at (regions p) n ≡ Some r → n < result }
     {
         if self.mappings.is_empty() {
             self.size.div_ceil(PAGE_SIZE)
         } else {
-            TRAPFRAME.page().number()
+            self.scheme.trapframe().page().number()
         }
     }
 
     /// The first rule that denies a kernel copy at an address.
     pub fn copy_rule(&self, access: Access, va: Va) -> Option<Rule>
-        ensures { (p : Process) → LaysOut self.now p → result ≡ model.copy_rule (regions p) access va.0 }
+        ensures { (p : Process) → LaysOut self.now p → result ≡ model.copy_rule p.scheme (regions p) access va.0 }
     {
         let page = va.page().number();
-        if va >= MAXVA {
+        if va >= self.scheme.maxva() {
             return Some(Rule::BeyondMax);
         }
-        if page == TRAMPOLINE.page().number() || page == TRAPFRAME.page().number() {
+        let (trampoline, trapframe) = (self.scheme.trampoline(), self.scheme.trapframe());
+        if page == trampoline.page().number() || page == trapframe.page().number() {
             return Some(Rule::KernelPage);
         }
         let Some(region) = self.region_at(page) else {
@@ -204,7 +219,7 @@ impl Layout {
     /// Whether the user may make an access, or the first rule that denies it. `width` is in bytes.
     pub fn grant(&self, access: Access, va: Va, width: u64) -> Result<(), Rule>
         requires { 0 < width }
-        ensures { (p : Process) → LaysOut self.now p → result ≡ granted_unless (model.first_rule (regions p) access va.0 width) }
+        ensures { (p : Process) → LaysOut self.now p → result ≡ granted_unless (model.first_rule p.scheme (regions p) access va.0 width) }
     {
         if va.0 % width != 0 {
             return Err(Rule::Misaligned);

@@ -13,7 +13,7 @@ use crate::pages::frame_of;
 use crate::settled::SettledPage;
 use crate::space::Space;
 use frame_store::{FrameAccess, FrameSeat};
-use sv39_entry::{Access, Scheme, Vpn};
+use sv39_entry::{Access, Vpn};
 use table_walk::protect;
 
 impl<S: FrameSeat> Space<S> {
@@ -31,14 +31,15 @@ impl<S: FrameSeat> Space<S> {
         ensures free { F.alone → F.free store.new ≡ F.free store.old }
         ensures counts { F.alone → (f : ℕ) → F.count store.new f ≡ F.count store.old f }
     {
+        let scheme = self.layout.scheme();
         let Some(region) = self.layout.region_at(page.number()) else {
             unreachable!()
         };
-        let Some((frame, _)) = frame_of(store, &mut self.seat, self.root, page) else {
+        let Some((frame, _)) = frame_of(store, &mut self.seat, scheme, self.root, page) else {
             unreachable!()
         };
         let leaf = region.leaf(frame, false, true);
-        protect(store, &mut self.seat, Scheme::Sv39, self.root, page, leaf);
+        protect(store, &mut self.seat, scheme, self.root, page, leaf);
     }
 
     /// Puts the fork mark on a settled page whose region grants writing: its leaf may not be written any more, and names the
@@ -55,6 +56,7 @@ impl<S: FrameSeat> Space<S> {
         ensures free { F.alone → F.free store.new ≡ F.free store.old }
         ensures counts { F.alone → (f : ℕ) → F.count store.new f ≡ F.count store.old f }
     {
+        let scheme = self.layout.scheme();
         let Some(region) = self.layout.region_at(settled.page.number()) else {
             unreachable!()
         };
@@ -62,13 +64,6 @@ impl<S: FrameSeat> Space<S> {
             return;
         }
         let leaf = region.leaf(settled.frame, true, settled.dirty);
-        protect(
-            store,
-            &mut self.seat,
-            Scheme::Sv39,
-            self.root,
-            settled.page,
-            leaf,
-        );
+        protect(store, &mut self.seat, scheme, self.root, settled.page, leaf);
     }
 }

@@ -3,26 +3,31 @@
 ghost use Rattle.std.specs.Prelude.{◌≡◌, ◌+◌, ◌/◌, ◌<◌, ◌≤◌, ◌∷◌, length, map};
 ghost use Rattle.address_space.specs.Parts.{AreParts, build_need, numbers_of, pages_of};
 ghost use Rattle.process_model.specs.PageMap.{count, numbers};
-ghost use Rattle.sv39_entry.specs.Address.{trampoline_page, trapframe_page};
+ghost use Rattle.sv39_entry.specs.Schemes.{trampoline_page, trapframe_page};
 
 use crate::part::Part;
-use sv39_entry::TRAPFRAME;
+use sv39_entry::Scheme;
 
 /// How many frames the space of a process with these parts takes: the trapframe's, one for each page, and the tables.
-pub fn frames_needed(parts: &[Part]) -> usize
-    requires { AreParts parts.now }
-    ensures { result ≡ build_need parts.now }
+pub fn frames_needed(scheme: Scheme, parts: &[Part]) -> usize
+    requires { AreParts scheme parts.now }
+    ensures { result ≡ build_need scheme parts.now }
 {
-    // A table of level 1 is for 2^18 pages, and one of level 0 for 2^9 (RISC-V Privileged Architecture 20211203, 4.4.1).
-    let tables = 1 + table_count(parts, 1 << 18) + table_count(parts, 1 << 9);
-    (1 + page_count(parts) + tables) as usize
+    // A table of level 2 is for 2^27 pages, one of level 1 for 2^18, and one of level 0 for 2^9 (RISC-V Privileged Architecture
+    // 20211203, 4.4.1 and 4.5.1).
+    let lower = table_count(scheme, parts, 1 << 18) + table_count(scheme, parts, 1 << 9);
+    let frames = 2 + page_count(scheme, parts) + lower;
+    match scheme {
+        Scheme::Sv39 => frames as usize,
+        Scheme::Sv48 => (frames + table_count(scheme, parts, 1 << 27)) as usize,
+    }
 }
 
 /// How many pages the parts have.
-fn page_count(parts: &[Part]) -> u64
-    requires { AreParts parts.now }
+fn page_count(scheme: Scheme, parts: &[Part]) -> u64
+    requires { AreParts scheme parts.now }
     ensures count { result ≡ length (pages_of parts.now) }
-    ensures few { result ≤ trapframe_page }
+    ensures few { result ≤ trapframe_page scheme }
 {
     let mut count = 0;
     'parts: for part in parts {
@@ -33,12 +38,12 @@ fn page_count(parts: &[Part]) -> u64
 
 /// How many tables of so many pages the parts have with TRAMPOLINE and TRAPFRAME: parts that follow one another can
 /// share a table.
-fn table_count(parts: &[Part], pages: u64) -> u64
-    requires parts { AreParts parts.now }
+fn table_count(scheme: Scheme, parts: &[Part], pages: u64) -> u64
+    requires parts { AreParts scheme parts.now }
     requires some { 0 < pages }
-    requires top { trampoline_page / pages ≡ trapframe_page / pages }
-    ensures count { result ≡ count (numbers (map (λ n. n / pages) (trampoline_page ∷ trapframe_page ∷ numbers_of parts.now))) }
-    ensures few { result ≤ trapframe_page + 1 }
+    requires top { trampoline_page scheme / pages ≡ trapframe_page scheme / pages }
+    ensures count { result ≡ count (numbers (map (λ n. n / pages) (trampoline_page scheme ∷ trapframe_page scheme ∷ numbers_of parts.now))) }
+    ensures few { result ≤ trapframe_page scheme + 1 }
 {
     let mut count = 0;
     let mut counted = 0;
@@ -51,6 +56,6 @@ fn table_count(parts: &[Part], pages: u64) -> u64
             counted = end;
         }
     }
-    let top = TRAPFRAME.page().number() / pages;
+    let top = scheme.trapframe().page().number() / pages;
     if counted > top { count } else { count + 1 }
 }

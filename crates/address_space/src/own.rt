@@ -36,10 +36,11 @@ impl<S: FrameSeat> Space<S> {
         ensures layout { self.new.layout ≡ self.old.layout }
         ensures keeps { Keeps F.rule store.old self.old.seat store.new self.new.seat }
     {
+        let scheme = self.layout.scheme();
         let Some(region) = self.layout.region_at(page.number()) else {
             unreachable!()
         };
-        let Some((shared, dirty)) = frame_of(store, &mut self.seat, self.root, page) else {
+        let Some((shared, dirty)) = frame_of(store, &mut self.seat, scheme, self.root, page) else {
             unreachable!()
         };
         let sole = store.look(&mut self.seat, shared) == 1;
@@ -47,7 +48,7 @@ impl<S: FrameSeat> Space<S> {
             protect(
                 store,
                 &mut self.seat,
-                Scheme::Sv39,
+                scheme,
                 self.root,
                 page,
                 region.leaf(shared, false, dirty),
@@ -58,6 +59,7 @@ impl<S: FrameSeat> Space<S> {
         separate(
             store,
             &mut self.seat,
+            scheme,
             self.root,
             page,
             &region,
@@ -73,6 +75,7 @@ impl<S: FrameSeat> Space<S> {
 fn separate<F: FrameSupply>(
     store: &mut F,
     seat: &mut F::Seat,
+    scheme: Scheme,
     root: FrameNo,
     page: Vpn,
     region: &Region,
@@ -80,9 +83,9 @@ fn separate<F: FrameSupply>(
     dirty: bool,
 )
     requires fits { Fits F.rule store.old seat.old }
-    requires ready { (trapframe : ℕ) × (t : Tables) × (p : Process) × (s : Page) × CanSeparate (F.Seat.view seat.old) root.0 trapframe t p page s (region_of region.now) shared.0 dirty }
+    requires ready { (trapframe : ℕ) × (t : Tables) × (p : Process) × (s : Page) × (p.scheme ≡ scheme) × CanSeparate (F.Seat.view seat.old) root.0 trapframe t p page s (region_of region.now) shared.0 dirty }
     requires credit { 0 < (F.Seat.view seat.old).credits }
-    ensures separated { (trapframe : ℕ) (t : Tables) (p : Process) (s : Page) →
+    ensures separated { (trapframe : ℕ) (t : Tables) (p : Process) (s : Page) → p.scheme ≡ scheme →
         CanSeparate (F.Seat.view seat.old) root.0 trapframe t p page s (region_of region.now) shared.0 dirty →
         (u : Tables) × (g : ℕ) × Separates (F.Seat.view seat.old) (F.Seat.view seat.new) root.0 trapframe t u p page s g }
     ensures keeps { Keeps F.rule store.old seat.old store.new seat.new }
@@ -93,7 +96,7 @@ fn separate<F: FrameSupply>(
     protect(
         store,
         seat,
-        Scheme::Sv39,
+        scheme,
         root,
         page,
         region.leaf(own, false, dirty),

@@ -14,32 +14,32 @@ ghost use Rattle.process_model.specs.Regions.{makes_leaf};
 ghost use Rattle.sv39_entry.specs.Frame.{frame_at};
 ghost use Rattle.sv39_entry.specs.Word as word;
 ghost use Rattle.sv39_entry.specs.declared.entry.Kind.TheVariants.{Leaf};
-ghost use Rattle.sv39_entry.specs.declared.scheme.Scheme.TheVariants.{Sv39};
 ghost use Rattle.table_walk.specs.Tables.{HasTables, Tables, missing, walk_leaf};
 
 use crate::region::Region;
 use crate::space::Space;
 use frame_bytes::fill_frame;
 use frame_store::{FrameAccess, FrameSeat, FrameSupply, NoFrame};
-use sv39_entry::{Entry, EntryFlags, FrameNo, Scheme, Vpn};
+use sv39_entry::{EntryFlags, FrameNo, Scheme, Vpn};
 use table_walk::{leaf_of, map, missing_is_growth, missing_tables};
 
 /// The frame that the leaf of a page names, and whether the leaf is dirty.
 pub(crate) fn frame_of<F: FrameAccess>(
     store: &mut F,
     seat: &mut F::Seat,
+    scheme: Scheme,
     root: FrameNo,
     page: Vpn,
 ) -> Option<(FrameNo, bool)>
     requires fits { Fits F.rule store.old seat.old }
-    requires held { (t : Tables) × HasTables Sv39 (F.Seat.view seat.old) root.0 t }
-    ensures frame { (t : Tables) → HasTables Sv39 (F.Seat.view seat.old) root.0 t →
-        result ≡ option_and_then (λ w. option_map (λ f. (f, word.has_flag w 128)) (frame_at (word.ppn w))) (get t.leaves (walk_leaf Sv39 page)) }
+    requires held { (t : Tables) × HasTables scheme (F.Seat.view seat.old) root.0 t }
+    ensures frame { (t : Tables) → HasTables scheme (F.Seat.view seat.old) root.0 t →
+        result ≡ option_and_then (λ w. option_map (λ f. (f, word.has_flag w 128)) (frame_at (word.ppn w))) (get t.leaves (walk_leaf scheme page)) }
     ensures view { F.Seat.view seat.new ≡ F.Seat.view seat.old }
     ensures same { store.new ≡ store.old }
     ensures keeps { Keeps F.rule store.old seat.old store.new seat.new }
 {
-    let leaf = leaf_of(store, seat, Scheme::Sv39, root, page)?;
+    let leaf = leaf_of(store, seat, scheme, root, page)?;
     let frame = FrameNo::from_ppn(leaf.ppn())?;
     Some((frame, leaf.has(EntryFlags::DIRTY)))
 }
@@ -49,15 +49,16 @@ pub(crate) fn frame_of<F: FrameAccess>(
 pub(crate) fn add_page<F: FrameSupply>(
     store: &mut F,
     seat: &mut F::Seat,
+    scheme: Scheme,
     root: FrameNo,
     page: Vpn,
     region: &Region,
     bytes: &[u8],
 )
     requires fits { Fits F.rule store.old seat.old }
-    requires ready { (trapframe : ℕ) × (t : Tables) × (p : Process) × CanAdd (F.Seat.view seat.old) root.0 trapframe t p page (region_of region.now) × (1 + missing Sv39 t page ≤ (F.Seat.view seat.old).credits) }
+    requires ready { (trapframe : ℕ) × (t : Tables) × (p : Process) × (p.scheme ≡ scheme) × CanAdd (F.Seat.view seat.old) root.0 trapframe t p page (region_of region.now) × (1 + missing scheme t page ≤ (F.Seat.view seat.old).credits) }
     requires inside { length bytes.now ≤ 4096 }
-    ensures added { (trapframe : ℕ) (t : Tables) (p : Process) → CanAdd (F.Seat.view seat.old) root.0 trapframe t p page (region_of region.now) →
+    ensures added { (trapframe : ℕ) (t : Tables) (p : Process) → p.scheme ≡ scheme → CanAdd (F.Seat.view seat.old) root.0 trapframe t p page (region_of region.now) →
         (u : Tables) × (f : ℕ) × Adds (F.Seat.view seat.old) (F.Seat.view seat.new) root.0 trapframe t u p page bytes.now f }
     ensures soles { (f : ℕ) → IsSole (F.Seat.view seat.old) f → IsSole (F.Seat.view seat.new) f }
     ensures keeps { Keeps F.rule store.old seat.old store.new seat.new }
@@ -68,7 +69,7 @@ pub(crate) fn add_page<F: FrameSupply>(
     map(
         store,
         seat,
-        Scheme::Sv39,
+        scheme,
         root,
         page,
         region.leaf(frame, false, region.is_dirty_from_start()),
@@ -107,14 +108,23 @@ impl<S: FrameSeat> Space<S> {
         ensures layout { self.new.layout ≡ self.old.layout }
         ensures keeps { Keeps F.rule store.old self.old.seat store.new self.new.seat }
     {
+        let scheme = self.layout.scheme();
         let Some(region) = self.layout.region_at(page.number()) else {
             unreachable!()
         };
-        let missing = missing_tables(store, &mut self.seat, Scheme::Sv39, self.root, page);
+        let missing = missing_tables(store, &mut self.seat, scheme, self.root, page);
         // by its law these are the tables that the page needs beside those of others
         missing_is_growth();
         store.reserve(&mut self.seat, 1 + missing)?;
-        add_page(store, &mut self.seat, self.root, page, &region, bytes);
+        add_page(
+            store,
+            &mut self.seat,
+            scheme,
+            self.root,
+            page,
+            &region,
+            bytes,
+        );
         Ok(())
     }
 }

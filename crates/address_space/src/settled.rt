@@ -6,15 +6,15 @@ ghost use Rattle.address_space.specs.Settled.{IsNextSettled, IsSettled};
 ghost use Rattle.address_space.specs.Standing.{IsStanding};
 ghost use Rattle.frame_store.specs.Laws.{Fits, Keeps};
 ghost use Rattle.process_model.specs.Process.{Process};
-ghost use Rattle.sv39_entry.specs.Address.{trapframe_page};
 ghost use Rattle.sv39_entry.specs.Frame.{frame_at};
 ghost use Rattle.sv39_entry.specs.Word as word;
+ghost use Rattle.sv39_entry.specs.Schemes.{trapframe_page};
 ghost use Rattle.table_walk.specs.Tables.{Tables};
 
 use crate::ending::first_mapped;
 use crate::space::Space;
 use frame_store::{FrameAccess, FrameSeat};
-use sv39_entry::{Entry, EntryFlags, FrameNo, Scheme, Va, Vpn};
+use sv39_entry::{Entry, EntryFlags, FrameNo, Va, Vpn};
 use table_walk::leaf_of;
 
 /// A settled page, its frame, whether a fork shared it so that a store has to make it the process's own first, and whether its
@@ -52,7 +52,7 @@ impl<S: FrameSeat> Space<S> {
     ) -> Option<SettledPage>
         requires fits { Fits F.rule store.old self.old.seat }
         requires ready { (t : Tables) × (p : Process) × IsStanding (body_of S.view self.old) t p nothing }
-        requires low { page < trapframe_page }
+        requires low { page < trapframe_page self.old.layout.scheme }
         ensures page { (t : Tables) (p : Process) → IsStanding (body_of S.view self.old) t p nothing → IsSettled t p page result }
         ensures root { self.new.root ≡ self.old.root }
         ensures trapframe { self.new.trapframe ≡ self.old.trapframe }
@@ -61,7 +61,8 @@ impl<S: FrameSeat> Space<S> {
         ensures same { store.new ≡ store.old }
         ensures keeps { Keeps F.rule store.old self.old.seat store.new self.new.seat }
     {
-        let leaf = leaf_of(store, &mut self.seat, Scheme::Sv39, self.root, page)?;
+        let scheme = self.layout.scheme();
+        let leaf = leaf_of(store, &mut self.seat, scheme, self.root, page)?;
         Some(settled_by(page, leaf))
     }
 
@@ -75,7 +76,7 @@ impl<S: FrameSeat> Space<S> {
     ) -> Option<SettledPage>
         requires fits { Fits F.rule store.old self.old.seat }
         requires ready { (t : Tables) × (p : Process) × IsStanding (body_of S.view self.old) t p nothing }
-        requires low { end ≤ trapframe_page }
+        requires low { end ≤ trapframe_page self.old.layout.scheme }
         ensures page { (t : Tables) (p : Process) → IsStanding (body_of S.view self.old) t p nothing → IsNextSettled t p first end result }
         ensures root { self.new.root ≡ self.old.root }
         ensures trapframe { self.new.trapframe ≡ self.old.trapframe }
@@ -84,8 +85,9 @@ impl<S: FrameSeat> Space<S> {
         ensures same { store.new ≡ store.old }
         ensures keeps { Keeps F.rule store.old self.old.seat store.new self.new.seat }
     {
+        let scheme = self.layout.scheme();
         let end = end.number().min(self.layout.end());
-        let (page, leaf) = first_mapped(store, &mut self.seat, self.root, first, end)?;
+        let (page, leaf) = first_mapped(store, &mut self.seat, scheme, self.root, first, end)?;
         Some(settled_by(page, leaf))
     }
 }

@@ -37,7 +37,7 @@ impl<S: FrameSeat> Space<S> {
     pub fn grant(&self, access: Access, va: Va, width: u64) -> Result<(), Rule>
         requires { 0 < width }
         ensures { (t : Tables) (p : Process) → IsSpace (body_of S.view self.now) t p →
-            result ≡ granted_unless (model.first_rule (regions p) access va.0 width) }
+            result ≡ granted_unless (model.first_rule p.scheme (regions p) access va.0 width) }
     {
         self.layout.grant(access, va, width)
     }
@@ -210,7 +210,8 @@ impl<S: FrameSeat> Space<S> {
         ensures same { store.new ≡ store.old }
         ensures keeps { Keeps F.rule store.old self.old.seat store.new self.new.seat }
     {
-        let Some((frame, _)) = frame_of(store, &mut self.seat, self.root, page) else {
+        let scheme = self.layout.scheme();
+        let Some((frame, _)) = frame_of(store, &mut self.seat, scheme, self.root, page) else {
             unreachable!()
         };
         frame

@@ -13,12 +13,11 @@ ghost use Rattle.process_model.specs.declared.brief.Brief.TheVariants as Brief;
 ghost use Rattle.process_model.specs.declared.step.Reply.TheVariants as Reply;
 ghost use Rattle.table_walk.specs.Leaves.{walk_answer};
 ghost use Rattle.table_walk.specs.Tables.{Tables};
-ghost use Rattle.sv39_entry.specs.declared.scheme.Scheme.TheVariants.{Sv39};
 
 use crate::space::Space;
 use frame_store::{FrameAccess, FrameSeat};
 use process_model::{Brief, Reply};
-use sv39_entry::{Access, FrameNo, Mode, PAGE_SIZE, Scheme, Va};
+use sv39_entry::{Access, FrameNo, Mode, PAGE_SIZE, Va};
 use table_walk::{Walk, translate_held};
 
 /// What the user asks of memory. `width` is in bytes, and `value` is what is stored.
@@ -54,7 +53,7 @@ impl<S: FrameSeat> Space<S> {
     ) -> Walk
         requires fits { Fits F.rule store.old self.old.seat }
         requires ready { (t : Tables) × (p : Process) × IsSpace (body_of S.view self.old) t p }
-        ensures walk { (t : Tables) (p : Process) → IsSpace (body_of S.view self.old) t p → result ≡ walk_answer Sv39 t va.0 access mode }
+        ensures walk { (t : Tables) (p : Process) → IsSpace (body_of S.view self.old) t p → result ≡ walk_answer p.scheme t va.0 access mode }
         ensures root { self.new.root ≡ self.old.root }
         ensures trapframe { self.new.trapframe ≡ self.old.trapframe }
         ensures layout { self.new.layout ≡ self.old.layout }
@@ -62,15 +61,8 @@ impl<S: FrameSeat> Space<S> {
         ensures same { store.new ≡ store.old }
         ensures keeps { Keeps F.rule store.old self.old.seat store.new self.new.seat }
     {
-        translate_held(
-            store,
-            &mut self.seat,
-            Scheme::Sv39,
-            self.root,
-            va,
-            access,
-            mode,
-        )
+        let scheme = self.layout.scheme();
+        translate_held(store, &mut self.seat, scheme, self.root, va, access, mode)
     }
 
     /// Makes an access of the user that was translated, or tells its fault. A misaligned access is told before any other
@@ -82,11 +74,11 @@ impl<S: FrameSeat> Space<S> {
         asked: Asked,
     ) -> Brief
         requires fits { Fits F.rule store.old self.old.seat }
-        requires ready { (t : Tables) × (p : Process) × IsSpace (body_of S.view self.old) t p × IsWalkOf t asked walk }
+        requires ready { (t : Tables) × (p : Process) × IsSpace (body_of S.view self.old) t p × IsWalkOf p.scheme t asked walk }
         requires width { IsTrue (is_width asked.width) }
-        ensures reply { (t : Tables) (p : Process) → IsSpace (body_of S.view self.old) t p → IsWalkOf t asked walk →
+        ensures reply { (t : Tables) (p : Process) → IsSpace (body_of S.view self.old) t p → IsWalkOf p.scheme t asked walk →
             of_brief result ≡ (service.user_access p (asked_of asked)).reply }
-        ensures after { (t : Tables) (p : Process) → IsSpace (body_of S.view self.old) t p → IsWalkOf t asked walk →
+        ensures after { (t : Tables) (p : Process) → IsSpace (body_of S.view self.old) t p → IsWalkOf p.scheme t asked walk →
             IsSpace (body_of S.view self.new) t (service.user_access p (asked_of asked)).process }
         ensures root { self.new.root ≡ self.old.root }
         ensures trapframe { self.new.trapframe ≡ self.old.trapframe }
@@ -127,11 +119,11 @@ impl<S: FrameSeat> Space<S> {
         asked: Asked,
     ) -> Reply
         requires fits { Fits F.rule store.old self.old.seat }
-        requires ready { (t : Tables) × (p : Process) × IsSpace (body_of S.view self.old) t p × IsWalkOf t asked walk }
+        requires ready { (t : Tables) × (p : Process) × IsSpace (body_of S.view self.old) t p × IsWalkOf p.scheme t asked walk }
         requires width { IsTrue (is_width asked.width) }
-        ensures reply { (t : Tables) (p : Process) → IsSpace (body_of S.view self.old) t p → IsWalkOf t asked walk →
+        ensures reply { (t : Tables) (p : Process) → IsSpace (body_of S.view self.old) t p → IsWalkOf p.scheme t asked walk →
             result ≡ (service.user_access p (asked_of asked)).reply }
-        ensures after { (t : Tables) (p : Process) → IsSpace (body_of S.view self.old) t p → IsWalkOf t asked walk →
+        ensures after { (t : Tables) (p : Process) → IsSpace (body_of S.view self.old) t p → IsWalkOf p.scheme t asked walk →
             IsSpace (body_of S.view self.new) t (service.user_access p (asked_of asked)).process }
         ensures root { self.new.root ≡ self.old.root }
         ensures trapframe { self.new.trapframe ≡ self.old.trapframe }

@@ -21,16 +21,17 @@ use Rattle.process_model.specs.declared.step.Step.{Step}
 use Rattle.process_model.specs.declared.step.Step.TheVariants.{CopyOut, Exec, Start}
 use Rattle.hart_machine.specs.declared.machine.Machine.{Machine}
 use Rattle.audit_player.specs.Told.{Follows, Tells}
+use Rattle.sv39_entry.specs.declared.scheme.Scheme.{Scheme}
 
 -- start and exec read nothing of an image but what is to be loaded
 
-pub starts : (w : World) (a b : Image) → image_loads a ≡ image_loads b → step w (Start a) ≡ step w (Start b)
+pub starts : (w : World) (a b : Image) → ((scheme : Scheme) → image_loads scheme a ≡ image_loads scheme b) → step w (Start a) ≡ step w (Start b)
 unfolding step
-starts w a b e = ap (λ (loads : Result (List LoadSegment) BadImage). with_stale_slots w.policy w (started w loads (free_slot w))) e
+starts w a b e = ap (λ (loads : Result (List LoadSegment) BadImage). with_stale_slots w.policy w (started w loads (free_slot w))) (e w.scheme)
 
-pub execs : (w : World) (h : ℕ) (a b : Image) → image_loads a ≡ image_loads b → step w (Exec h a) ≡ step w (Exec h b)
+pub execs : (w : World) (h : ℕ) (a b : Image) → ((scheme : Scheme) → image_loads scheme a ≡ image_loads scheme b) → step w (Exec h a) ≡ step w (Exec h b)
 unfolding step
-execs w h a b e = ap (λ (loads : Result (List LoadSegment) BadImage). with_stale_slots w.policy w (kernel_call w h true (λ hart s p. replaced w s p loads))) e
+execs w h a b e = ap (λ (loads : Result (List LoadSegment) BadImage). with_stale_slots w.policy w (kernel_call w h true (λ hart s p. replaced w s p loads))) (e w.scheme)
 
 -- a copy reads nothing of its bytes but what they are
 pub copies : (w : World) (h address : ℕ) (a b : Bor (List ℕ)) → a.now ≡ b.now → step w (CopyOut h address a) ≡ step w (CopyOut h address b)

@@ -1,6 +1,6 @@
 -- Lists and starts that are lent.
 use Rattle.std.proofs.Common.{◌≡◌, ◌⊎◌, inl, inr, ℕ, zero, suc, ◌+◌, ◌<◌, ◌==◌, Bool, true, false, List, [], ◌∷◌, ◌++◌, Option, None, Some, length, get_or, take, refl, sym, ap, subst, ◌∙◌, arith}
-use Rattle.std.specs.Prelude.{All, ◌||◌, slice_get}
+use Rattle.std.specs.Prelude.{All, ◌||◌}
 use Rattle.std.specs.List.{list_any}
 use Rattle.std.proofs.lemmas.Bool.Decides.{eqb_tells}
 use Rattle.std.proofs.lemmas.List.{take_more}
@@ -15,13 +15,14 @@ use Rattle.process_model.specs.declared.call.ListedCall.TheVariants as listed
 use Rattle.process_model.specs.declared.call.ListedStart.{ListedStart}
 use Rattle.process_model.specs.declared.image.OwnedImage.{OwnedImage}
 use Rattle.script_reader.specs.ThreadsPlayable.{HasList, IsDeclaredCall, IsDeclaredLine, IsList, IsStart}
-use Rattle.hart_calls.specs.Replay.{list_at, or_none}
+use Rattle.hart_calls.specs.Replay.{list_at}
 use Rattle.process_model.specs.Images.{image_loads}
 use Rattle.process_model.specs.Text.{image_at, lent}
 use Rattle.process_model.specs.declared.call.Start.{Start}
 use Rattle.process_model.specs.declared.image.Image.{Image}
 use Rattle.audit_player.proofs.Lending.{named}
-use Rattle.audit_player.specs.ThreadLists.{AreCallsOf, AreFew, AreListsOf, AreStartsOf, IsCallOf, IsStartOf, lines_of, or_no_lines}
+use Rattle.audit_player.specs.ThreadLists.{AreCallsOf, AreFew, AreStartsOf, IsCallOf, IsStartOf, lines_of}
+use Rattle.sv39_entry.specs.declared.scheme.Scheme.{Scheme}
 
 -- a list that is there has a number that a list may have
 pub has_below : (lists : List CallList) (k : ℕ) → AreFew lists → HasList lists k → k < most_lists
@@ -73,10 +74,10 @@ start_below images lists starts i d each all lt = has_below lists (get_or starts
 pub one_of : (images : List OwnedImage) (line : ListedCall) (c : Call) → line ≡ listed.One c → IsCallOf images line c
 one_of images line c is = subst (λ (l : ListedCall). IsCallOf images l c) (sym is) refl
 
-pub lent_of : (images : List OwnedImage) (n : ℕ) (o : OwnedImage) (i : Image) → n < length images → o ≡ get_or images n o → image_loads i ≡ image_loads (lent o) → image_loads i ≡ image_loads (image_at images n)
-lent_of images n o i lt is loads = loads ∙ ap image_loads (named images n o lt is)
+pub lent_of : (images : List OwnedImage) (n : ℕ) (o : OwnedImage) (i : Image) → n < length images → o ≡ get_or images n o → ((scheme : Scheme) → image_loads scheme i ≡ image_loads scheme (lent o)) → (scheme : Scheme) → image_loads scheme i ≡ image_loads scheme (image_at images n)
+lent_of images n o i lt is loads scheme = loads scheme ∙ ap (image_loads scheme) (named images n o lt is)
 
-pub exec_of : (images : List OwnedImage) (line : ListedCall) (n : ℕ) (o : OwnedImage) (i : Image) → line ≡ listed.Exec n → n < length images → o ≡ get_or images n o → image_loads i ≡ image_loads (lent o) → IsCallOf images line (call.Exec i)
+pub exec_of : (images : List OwnedImage) (line : ListedCall) (n : ℕ) (o : OwnedImage) (i : Image) → line ≡ listed.Exec n → n < length images → o ≡ get_or images n o → ((scheme : Scheme) → image_loads scheme i ≡ image_loads scheme (lent o)) → IsCallOf images line (call.Exec i)
 exec_of images line n o i line_is lt is loads = subst (λ (l : ListedCall). IsCallOf images l (call.Exec i)) (sym line_is) (lent_of images n o i lt is loads)
 
 calls_push : (images : List OwnedImage) (ls : List ListedCall) (cs : List Call) (l : ListedCall) (c : Call) → AreCallsOf images ls cs → IsCallOf images l c → AreCallsOf images (ls ++ l ∷ []) (cs ++ c ∷ [])

@@ -18,9 +18,10 @@ use Rattle.audit_player.specs.ThreadLists.{AreListsOf, AreStartsOf}
 use Rattle.audit_player.specs.ThreadText.{AreInOrder, threads_text}
 use Rattle.audit_player.specs.declared.fault.PlayError.{PlayError}
 use Rattle.audit_player.specs.declared.fault.PlayError.TheVariants as error
+use Rattle.sv39_entry.specs.declared.scheme.Scheme.TheVariants.{Sv39}
 
 abbrev pub kernel_of : Pool → ℕ
-kernel_of p = kernel_frames p.frames p.slots
+kernel_of p = kernel_frames Sv39 p.frames p.slots
 
 abbrev pub user_frames : Pool → ℕ
 user_frames p = p.frames - kernel_of p

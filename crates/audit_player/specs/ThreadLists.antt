@@ -3,7 +3,7 @@ use Rattle.std.specs.Prelude.{◌≡◌, ℕ, ◌<◌, List, [], ◌∷◌, All,
 use Rattle.hart_calls.specs.Replay.{list_at}
 use Rattle.process_model.specs.Images.{image_loads}
 use Rattle.process_model.specs.Text.{image_at}
-use Rattle.process_model.specs.ThreadScript.{calls_of, most_lists, ThreadScript}
+use Rattle.process_model.specs.ThreadScript.{calls_of, most_lists}
 use Rattle.process_model.specs.declared.call.Call.{Call}
 use Rattle.process_model.specs.declared.call.Call.TheVariants as call
 use Rattle.process_model.specs.declared.call.CallList.{CallList}
@@ -12,6 +12,7 @@ use Rattle.process_model.specs.declared.call.ListedCall.TheVariants as listed
 use Rattle.process_model.specs.declared.call.ListedStart.{ListedStart}
 use Rattle.process_model.specs.declared.call.Start.{Start}
 use Rattle.process_model.specs.declared.image.OwnedImage.{OwnedImage}
+use Rattle.sv39_entry.specs.declared.scheme.Scheme.{Scheme}
 
 -- each has a number that a list may have
 abbrev pub AreFew : List CallList → Type 0
@@ -20,7 +21,7 @@ AreFew lists = All (λ (l : CallList). l.number < most_lists) lists
 -- a call as a line declares it: it borrows the image that the line names, or the bytes that it has
 abbrev pub IsCallOf : List OwnedImage → ListedCall → Call → Type 0
 IsCallOf images (listed.One c) d = d ≡ c
-IsCallOf images (listed.Exec n) (call.Exec image) = image_loads image ≡ image_loads (image_at images n)
+IsCallOf images (listed.Exec n) (call.Exec image) = (scheme : Scheme) → image_loads scheme image ≡ image_loads scheme (image_at images n)
 IsCallOf images (listed.CopyOut address bytes) (call.CopyOut a b) = (a ≡ address) × (b.now ≡ bytes)
 IsCallOf images line c = ⊥
 
@@ -43,7 +44,7 @@ AreListsOf images declared lists = (k : ℕ) → k < most_lists → AreCallsOf i
 
 -- a start as a line declares it
 abbrev pub IsStartOf : List OwnedImage → ListedStart → Start → Type 0
-IsStartOf images d s = (s.list ≡ d.list) × (image_loads s.image ≡ image_loads (image_at images d.image))
+IsStartOf images d s = (s.list ≡ d.list) × ((scheme : Scheme) → image_loads scheme s.image ≡ image_loads scheme (image_at images d.image))
 
 abbrev pub AreStartsOf : List OwnedImage → List ListedStart → List Start → Type 0
 AreStartsOf images [] [] = Unit {0}

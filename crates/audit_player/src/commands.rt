@@ -4,6 +4,7 @@ ghost use Rattle.std.specs.Prelude.{◌≡◌, ◌∷◌, ◌≤◌, ◌+◌, Li
 ghost use Rattle.hart_machine.specs.Serves.{IsIn};
 ghost use Rattle.process_model.specs.Briefs.{is_brief, of_brief};
 ghost use Rattle.process_model.specs.Images.{image_loads};
+ghost use Rattle.sv39_entry.specs.declared.scheme.Scheme.{Scheme};
 ghost use Rattle.process_model.specs.Steps as model;
 ghost use Rattle.process_model.specs.Text as words;
 ghost use Rattle.process_model.specs.World.{World};
@@ -23,7 +24,7 @@ use script_reader::Shown;
 
 /// An image of a script, as a step borrows it.
 pub(crate) fn lend(image: &OwnedImage) -> Image<'_>
-    ensures loads { image_loads result ≡ image_loads (words.lent image.now) }
+    ensures loads { (scheme : Scheme) → image_loads scheme result ≡ image_loads scheme (words.lent image.now) }
 {
     match image {
         OwnedImage::Elf(bytes) => Image::Elf(bytes.as_slice()),

@@ -27,6 +27,7 @@ use shared_frames::SharedFrames;
 use std::alloc::{AllocError, Global};
 use std::sync::{Mutex, Wait};
 use std::thread::Threads;
+use sv39_entry::Scheme;
 
 /// How many calls a hart makes of a process before it takes the next one.
 const QUANTUM: usize = 8;
@@ -55,7 +56,7 @@ pub fn run_pool<'a, T: Threads + Wait + Sync, G: Gate + Sync>(
     let pool = script.pool();
     let shelf = Mutex::new(Shelf::new(alloc, Cabinet::new(alloc, script.files())?));
     let (frames, mut seat) = SharedFrames::new(alloc, pool.frames)?;
-    let kernel = kernel_frames(pool.frames, pool.slots);
+    let kernel = kernel_frames(Scheme::Sv39, pool.frames, pool.slots);
     take_kernel_frames(rt, &frames, &mut seat, kernel);
     let ended = run_harts(
         rt, alloc, &frames, &mut seat, &shelf, lists, starts, pool.slots, harts, QUANTUM, gate,
@@ -103,7 +104,7 @@ fn run_threads<T: Threads + Wait + Sync, W: Sink, G: Gate + Sync>(
     };
     sort_by_name(&mut ended);
     let pool = script.pool();
-    let frames = pool.frames - kernel_frames(pool.frames, pool.slots);
+    let frames = pool.frames - kernel_frames(Scheme::Sv39, pool.frames, pool.slots);
     if write_text(writer, page, ended.as_slice(), free as u64, frames as u64) {
         Ok(())
     } else {

@@ -1,5 +1,5 @@
 -- The child's tables beside the parent's: what the seat has of each frame, and which frames the child has.
-use Rattle.std.proofs.Common.{◌≡◌, ◌⊎◌, ℕ, ◌+◌, ◌-◌, ◌<◌, ◌≤◌, ◌^◌, refl, ap, sym, subst, ◌∙◌, inl, inr, Option, None, Some, List, [], ◌∷◌, ◌++◌, length, arith}
+use Rattle.std.proofs.Common.{◌≡◌, ◌⊎◌, ℕ, ◌+◌, ◌-◌, ◌<◌, ◌≤◌, refl, ap, sym, subst, ◌∙◌, inl, inr, Option, None, Some, List, [], ◌∷◌, ◌++◌, length, arith}
 use Rattle.std.specs.Prelude.{Contains, is_some}
 use Rattle.std.specs.FinMap.{get}
 use Rattle.std.proofs.lemmas.Bool.{cases_eq}
@@ -12,10 +12,9 @@ use Rattle.process_model.specs.Inserted.{first_or}
 use Rattle.process_model.specs.PageMap as pages
 use Rattle.process_model.specs.Process.{Page, Process, regions}
 use Rattle.process_model.specs.Regions.{Region, region_at}
-use Rattle.sv39_entry.specs.Address.{trampoline_page, trapframe_page}
 use Rattle.sv39_entry.specs.Frame.{ppn_of}
 use Rattle.sv39_entry.specs.Word.{ppn}
-use Rattle.sv39_entry.specs.declared.scheme.Scheme.TheVariants.{Sv39}
+use Rattle.sv39_entry.specs.Schemes.{trampoline_page, trapframe_page, page_limit, of_scheme}
 use Rattle.table_walk.specs.Tables.{leaf_node, Tables}
 use Rattle.address_space.specs.Agreement.{Body, body, IsOn, IsSpace, Names}
 use Rattle.address_space.specs.Layouts.{Layout}
@@ -70,7 +69,7 @@ claims_sole v w own claims =
 
 module _ (v : View) (x : Body) (t : Tables) (p : Process) (list : List SettledPage) (L : List ℕ) (can : CanDivide v x t p list L) where
   divide_code : IsHeld v 0
-  divide_code = going_held (body v x.root x.trapframe x.layout) t p can.space trapframe_page 0 (inl refl)
+  divide_code = going_held (body v x.root x.trapframe x.layout) t p can.space (trapframe_page p.scheme) 0 (inl refl)
 
   pub divide_anchored : IsHeld x.view 0
   divide_anchored = held_still v x.view L 0 can.more divide_code
@@ -143,59 +142,59 @@ settled_below t p space end no_region n s is = let shown = space.stands.shows.se
 
 -- ---- each of the child's tables is on the way to a leaf
 
-module _ (v w : View) (t u : Tables) (p : Process) (root own : ℕ) (tree : CopiesTree v w t u p root own) (low : (n : ℕ) (s : Page) → pages.get p.settled n ≡ Some s → n < trapframe_page) where
+module _ (v w : View) (t u : Tables) (p : Process) (root own : ℕ) (tree : CopiesTree v w t u p root own) (low : (n : ℕ) (s : Page) → pages.get p.settled n ≡ Some s → n < (trapframe_page p.scheme)) where
   abbrev HasLeaf : ℕ → Type 0
-  HasLeaf n = (n < 2 ^ 27) × ((x : ℕ) × (get u.leaves (leaf_node n) ≡ Some x))
+  HasLeaf n = (n < page_limit p.scheme) × ((x : ℕ) × (get u.leaves (leaf_node n) ≡ Some x))
 
-  leaf_there : (n : ℕ) → Contains (trampoline_page ∷ trapframe_page ∷ pages.keys p.settled) n → HasLeaf n
-  leaf_there n h = elim (first_or trampoline_page n (trapframe_page ∷ pages.keys p.settled) h) [
-    | inl same ↦ subst HasLeaf same (omega arith, (tree.on_trampoline.0, tree.on_trampoline.1))
-    | inr later ↦ elim (first_or trapframe_page n (pages.keys p.settled) later) [
-      | inl same ↦ subst HasLeaf same (omega arith, (tree.on_trapframe.0, tree.on_trapframe.1))
+  leaf_there : (n : ℕ) → Contains ((trampoline_page p.scheme) ∷ (trapframe_page p.scheme) ∷ pages.keys p.settled) n → HasLeaf n
+  leaf_there n h = elim (first_or (trampoline_page p.scheme) n ((trapframe_page p.scheme) ∷ pages.keys p.settled) h) [
+    | inl same ↦ subst HasLeaf same (omega (arith, of_scheme p.scheme), (tree.on_trampoline.0, tree.on_trampoline.1))
+    | inr later ↦ elim (first_or (trapframe_page p.scheme) n (pages.keys p.settled) later) [
+      | inl same ↦ subst HasLeaf same (omega (arith, of_scheme p.scheme), (tree.on_trapframe.0, tree.on_trapframe.1))
       | inr page ↦ (
           let s = found_in p.settled.entries n page in
           let c = tree.settled n s.0 s.1 in
           let below = low n s.0 s.1 in
-          (omega (arith, below), (c.leaf, c.mapped)))
+          (omega (arith, below, of_scheme p.scheme), (c.leaf, c.mapped)))
     ]
   ]
 
-  pub tables_led : IsLed u
+  pub tables_led : IsLed p.scheme u
   tables_led k f at =
       let way = (tree.tabled k).0 (ap is_some at) in
       let leaf = leaf_there way.0 way.2 in
       (way.0, way.1, leaf.1.0, way.3, leaf.0, way.4, leaf.1.1)
 
   -- and none of its leaves stands between the regions and TRAPFRAME
-  module _ (end : ℕ) (up : end ≤ trapframe_page) (settled_below : (n : ℕ) (s : Page) → pages.get p.settled n ≡ Some s → n < end) where
-    no_leaf : (n : ℕ) (o : Option ℕ) → end ≤ n → n < trapframe_page → get u.leaves (leaf_node n) ≡ o → o ≡ None
+  module _ (end : ℕ) (up : end ≤ (trapframe_page p.scheme)) (settled_below : (n : ℕ) (s : Page) → pages.get p.settled n ≡ Some s → n < end) where
+    no_leaf : (n : ℕ) (o : Option ℕ) → end ≤ n → n < (trapframe_page p.scheme) → get u.leaves (leaf_node n) ≡ o → o ≡ None
     no_leaf n None late before is = refl
     no_leaf n (Some x) late before is = absurd (elim (tree.only (leaf_node n) x is) as (λ _. ⊥) [
-      | inl same ↦ let at = one_page n trampoline_page (omega (arith, before)) (omega arith) same in omega (arith, at, before)
+      | inl same ↦ let at = one_page n (trampoline_page p.scheme) same in omega (arith, at, before, of_scheme p.scheme)
       | inr rest ↦ elim rest as (λ _. ⊥) [
-        | inl same ↦ let at = one_page n trapframe_page (omega (arith, before)) (omega arith) same in omega (arith, at, before)
+        | inl same ↦ let at = one_page n (trapframe_page p.scheme) same in omega (arith, at, before, of_scheme p.scheme)
         | inr there ↦
             let far = low there.0 there.1 there.3 in
-            let at = one_page n there.0 (omega (arith, before)) (omega (arith, far)) there.2 in
+            let at = one_page n there.0 there.2 in
             let less = settled_below there.0 there.1 there.3 in
             omega (arith, at, less, late)
       ]
     ])
 
-    none_above : (n : ℕ) (o : Option ℕ) → trampoline_page < n → n < 2 ^ 27 → get u.leaves (leaf_node n) ≡ o → o ≡ None
+    none_above : (n : ℕ) (o : Option ℕ) → (trampoline_page p.scheme) < n → n < page_limit p.scheme → get u.leaves (leaf_node n) ≡ o → o ≡ None
     none_above n None late before is = refl
     none_above n (Some x) late before is = absurd (elim (tree.only (leaf_node n) x is) as (λ _. ⊥) [
-      | inl same ↦ let at = one_page n trampoline_page before (omega arith) same in omega (arith, at, late)
+      | inl same ↦ let at = one_page n (trampoline_page p.scheme) same in omega (arith, at, late, of_scheme p.scheme)
       | inr rest ↦ elim rest as (λ _. ⊥) [
-        | inl same ↦ let at = one_page n trapframe_page before (omega arith) same in omega (arith, at, late)
+        | inl same ↦ let at = one_page n (trapframe_page p.scheme) same in omega (arith, at, late, of_scheme p.scheme)
         | inr there ↦
             let far = low there.0 there.1 there.3 in
-            let at = one_page n there.0 before (omega (arith, far)) there.2 in
-            omega (arith, at, far, late)
+            let at = one_page n there.0 there.2 in
+            omega (arith, at, far, late, of_scheme p.scheme)
       ]
     ])
 
-    pub tables_edged : IsEdged u end
+    pub tables_edged : IsEdged p.scheme u end
     tables_edged = record {
       low = up;
       bare = λ n late before. no_leaf n (get u.leaves (leaf_node n)) late before refl;
@@ -206,7 +205,7 @@ module _ (v w : View) (t u : Tables) (p : Process) (root own : ℕ) (tree : Copi
 -- ---- all together
 
 module _ (v a b c : View) (root saved : ℕ) (l : Layout) (t u : Tables) (p : Process) (croot own : ℕ) (L : List ℕ)
-    (space : IsSpace (body v root saved l) t p) (more : HasMore v a L) (going : AreGoing t p trapframe_page L)
+    (space : IsSpace (body v root saved l) t p) (more : HasMore v a L) (going : AreGoing t p (trapframe_page p.scheme) L)
     (free : references a own ≡ 0) (here : references b own ≡ 1) (sole : IsSole b own) (others : (f : ℕ) → (f ≡ own → ⊥) → hold_of b f ≡ hold_of a f)
     (tree : CopiesTree b c t u p croot own) where
   count_before : (f : ℕ) → references a f ≡ references v f + times f L
@@ -292,7 +291,7 @@ module _ (v a b c : View) (root saved : ℕ) (l : Layout) (t u : Tables) (p : Pr
     ]
 
     -- what is listed of the parent's frames goes
-    still_going : (f : ℕ) → 0 < times f M → IsHeld v f → IsGoing t p trapframe_page f
+    still_going : (f : ℕ) → 0 < times f M → IsHeld v f → IsGoing t p (trapframe_page p.scheme) f
     still_going f some held = elim (listed f) [
       | inl table ↦ absurd (held_no_table f held table.0 table.1)
       | inr other ↦ (let same_times = other.1 in let is = other_listed f (not_own f held) in elim (going f) [
@@ -307,13 +306,13 @@ module _ (v a b c : View) (root saved : ℕ) (l : Layout) (t u : Tables) (p : Pr
     abbrev IsForChild : ℕ → Type 0
     IsForChild f = ((times f M ≡ 1) × ((k : ℕ) × Names u f k)) ⊎ ((times f M ≡ 0) × IsUnnamed u f)
 
-    goes_named : (f : ℕ) → IsGoing t p trapframe_page f → (k : ℕ) × Names u f k
-    goes_named f (inl code) = (leaf_node trampoline_page, inr (tree.on_trampoline.0, tree.on_trampoline.1, tree.on_trampoline.2.names ∙ ap ppn_of (sym code)))
+    goes_named : (f : ℕ) → IsGoing t p (trapframe_page p.scheme) f → (k : ℕ) × Names u f k
+    goes_named f (inl code) = (leaf_node (trampoline_page p.scheme), inr (tree.on_trampoline.0, tree.on_trampoline.1, tree.on_trampoline.2.names ∙ ap ppn_of (sym code)))
     goes_named f (inr page) =
         let k = tree.settled page.0 page.1 page.3 in
         (leaf_node page.0, inr (k.leaf, k.mapped, k.made.names ∙ ap ppn_of (sym (on_frame page.0 page.1 f k page.4))))
 
-    goes_unnamed : (f : ℕ) → (f ≡ own → ⊥) → ((k : ℕ) → get u.tables k ≡ Some f → ⊥) → (IsGoing t p trapframe_page f → ⊥) → IsUnnamed u f
+    goes_unnamed : (f : ℕ) → (f ≡ own → ⊥) → ((k : ℕ) → get u.tables k ≡ Some f → ⊥) → (IsGoing t p (trapframe_page p.scheme) f → ⊥) → IsUnnamed u f
     goes_unnamed f apart no_table stays k (inl at) = no_table k at
     goes_unnamed f apart no_table stays k (inr leaf) = elim (tree.only k leaf.0 leaf.1) [
       | inl same ↦ (
@@ -338,7 +337,7 @@ module _ (v a b c : View) (root saved : ℕ) (l : Layout) (t u : Tables) (p : Pr
       | inr other ↦ elim (cases_eq f own) [
         | inl same ↦ inl (
           other.1 ∙ ap (λ g. times g with_own) same ∙ own_listed,
-          (leaf_node trapframe_page, inr (tree.on_trapframe.0, tree.on_trapframe.1, tree.on_trapframe.2.names ∙ ap ppn_of (sym same))),
+          (leaf_node (trapframe_page p.scheme), inr (tree.on_trapframe.0, tree.on_trapframe.1, tree.on_trapframe.2.names ∙ ap ppn_of (sym same))),
         )
         | inr apart ↦ (let is = other.1 ∙ other_listed f apart in elim (going f) [
           | inl there ↦ inl (is ∙ there.0, goes_named f there.1)
@@ -367,5 +366,5 @@ module _ (v a b c : View) (root saved : ℕ) (l : Layout) (t u : Tables) (p : Pr
       own_sole = ap (λ (h : Hold). h.sole) (tree.same own own_no_table) ∙ sole;
       own_apart = own_no_table;
       credits = let now = tree.credits in omega (arith, now, spends, credits);
-      tallies = spent_on v.tallies b.tallies c.tallies 1 (tables_needed Sv39 (pages.keys p.settled)) (tells ∙ ap (spent 1) tallies) tree.tallies;
+      tallies = spent_on v.tallies b.tallies c.tallies 1 (tables_needed p.scheme (pages.keys p.settled)) (tells ∙ ap (spent 1) tallies) tree.tallies;
     }

@@ -1,5 +1,5 @@
 -- The child's tables, one settled page after another.
-use Rattle.std.proofs.Common.{◌≡◌, ℕ, suc, ◌+◌, ◌-◌, ◌^◌, ◌<◌, ◌≤◌, Bool, true, false, not, ◌&&◌, ◌||◌, Some, inl, inr, refl, ap, sym, subst, ◌∙◌, arith, List, ◌∷◌, drop, length, slice_index_or}
+use Rattle.std.proofs.Common.{◌≡◌, ℕ, ◌+◌, ◌-◌, ◌<◌, ◌≤◌, Bool, true, false, not, ◌&&◌, ◌||◌, Some, inl, inr, refl, ap, sym, subst, ◌∙◌, arith, List, ◌∷◌, drop, length, slice_index_or}
 use Rattle.std.proofs.lemmas.Bool.{cases_eq, cases_lt}
 use Rattle.std.proofs.lemmas.List.{at_drop_all, at_drop_more}
 use Rattle.std.proofs.lemmas.List.Elements.{All-contains_itself}
@@ -14,13 +14,12 @@ use Rattle.process_model.specs.PageMap as pages
 use Rattle.process_model.specs.Process.{grants_write, Page, Process, regions}
 use Rattle.process_model.specs.Regions.{is_shared_kind, lacks_right, Region, region_at}
 use Rattle.process_model.specs.Residence.{child_page}
-use Rattle.sv39_entry.specs.Address.{trampoline_page, trapframe_page}
 use Rattle.sv39_entry.specs.declared.access.Access.TheVariants.{Store}
 use Rattle.table_walk.specs.Counted.{AreTablesOf, same_members}
 use Rattle.table_walk.specs.Keys.{insert_other, insert_same}
 use Rattle.table_walk.specs.Tables.{ChangesTables, HasTables, IsGrown, leaf_node, missing, Tables, with_leaf}
-use Rattle.sv39_entry.specs.Schemes.{top_level}
-use Rattle.sv39_entry.specs.declared.scheme.Scheme.TheVariants.{Sv39}
+use Rattle.sv39_entry.specs.Schemes.{top_level, trampoline_page, trapframe_page, page_limit, of_scheme}
+use Rattle.sv39_entry.specs.declared.scheme.Scheme.{Scheme}
 use Rattle.address_space.specs.Agreement.{is_dirty_page, IsPageLeaf}
 use Rattle.address_space.specs.Layouts.{Layout}
 use Rattle.address_space.specs.Settled.{AreSettled, AreUnsettled, IsNextSettled}
@@ -59,56 +58,60 @@ child_unwritable w had mark is writes = go w had (subst (λ m. (w && not m) ≡ 
   go true false e = cc
   go false m e = cc
 
--- pages below 2 ^ 27 have different leaves
-leaf_apart : (m n : ℕ) → m < 2 ^ 27 → n < 2 ^ 27 → (m ≡ n → ⊥) → leaf_node m ≡ leaf_node n → ⊥
-leaf_apart m n low small apart same = apart (omega (arith, same, low, small))
+-- pages have different leaves
+leaf_apart : (m n : ℕ) → (m ≡ n → ⊥) → leaf_node m ≡ leaf_node n → ⊥
+leaf_apart m n apart same = apart (omega (arith, same))
+
+-- what is missing by one scheme is missing by an equal one
+pub missing_of_scheme : {x y : Scheme} (t : Tables) (page n : ℕ) → x ≡ y → missing x t page ≤ n → missing y t page ≤ n
+missing_of_scheme t page n same few = subst (λ z. missing z t page ≤ n) same few
 
 -- ---- as far as some pages were gone through
 
-pub open_first : (o : View) (l : Layout) (t : Tables) (p : Process) (trapframe : ℕ) (list : List SettledPage) → 3 ≤ tables_needed Sv39 (pages.keys p.settled) → CanCopy o l t p trapframe list → CanOpen o trapframe
+pub open_first : (o : View) (l : Layout) (t : Tables) (p : Process) (trapframe : ℕ) (list : List SettledPage) → 1 + top_level p.scheme ≤ tables_needed p.scheme (pages.keys p.settled) → CanCopy o l t p trapframe list → CanOpen p.scheme o trapframe
 open_first o l t p trapframe list three can = record { anchored = can.anchored; saved = can.saved; apart = can.apart; credits = (let some = can.credits in omega (arith, some, three)) }
 
 module _ (o v : View) (l : Layout) (t u : Tables) (p : Process) (root trapframe bound : ℕ) (done : List ℕ) (list : List SettledPage) (can : CanCopy o l t p trapframe list) (so_far : CopiesPages o v t u p root trapframe bound done) where
-  makes : Makes o v u.tables (tables_needed Sv39 done)
+  makes : Makes o v u.tables (tables_needed p.scheme done)
   makes = record { fresh = so_far.fresh; same = so_far.same; credits = so_far.credits; tallies = so_far.tallies }
 
   pub still_anchored : IsHeld v 0
-  still_anchored = held_beside o v u.tables (tables_needed Sv39 done) 0 makes can.anchored
+  still_anchored = held_beside o v u.tables (tables_needed p.scheme done) 0 makes can.anchored
 
-  pub done_low : All (λ n. n < 512 ^ suc (top_level Sv39)) done
+  pub done_low : All (λ n. n < page_limit p.scheme) done
   done_low = λ i d less.
       let page = so_far.there _ (All-contains_itself done i d less) in
       let low = can.low _ page.0 page.1 in
-      omega (arith, low)
+      omega (arith, low, of_scheme p.scheme)
 
   are_keys : AreAmong done (pages.keys p.settled)
   are_keys n h = let page = so_far.there n h in in_keys p.settled.entries n page.0 page.1
 
   -- none is left
-  pub copies_all : AreUnsettled p bound trapframe_page → CopiesTree o v t u p root trapframe
+  pub copies_all : AreUnsettled p bound (trapframe_page p.scheme) → CopiesTree o v t u p root trapframe
   copies_all none =
       let below : (n : ℕ) (s : Page) → pages.get p.settled n ≡ Some s → n < bound = λ n s at. elim (cases_lt n bound) [
         | inl less ↦ less
         | inr late ↦ absurd (let gone = none n (omega (arith, late)) (can.low n s at) in let both = sym gone ∙ at in cc)
       ] in
       let back : AreAmong (pages.keys p.settled) done = λ n h. (let s = found_in p.settled.entries n h in so_far.all n s.0 s.1 (below n s.0 s.1)) in
-      let same = tables_same Sv39 done (pages.keys p.settled) are_keys back in
+      let same = tables_same p.scheme done (pages.keys p.settled) are_keys back in
       record {
         tables = so_far.tables;
         on_trampoline = so_far.on_trampoline;
         on_trapframe = so_far.on_trapframe;
         settled = λ n s at. so_far.settled n s at (below n s at);
         only = so_far.only;
-        tabled = same_members Sv39 u done (pages.keys p.settled) are_keys back so_far.tabled;
+        tabled = same_members p.scheme u done (pages.keys p.settled) are_keys back so_far.tabled;
         fresh = so_far.fresh;
         same = so_far.same;
         credits = subst (λ n. v.credits ≡ o.credits - n) same so_far.credits;
         tallies = spent_is o.tallies v.tallies _ _ same so_far.tallies;
       }
 
-  module _ (a : SettledPage) (next : IsNextSettled t p bound trapframe_page (Some a)) where
-    pub page_low : a.page < 512 ^ suc (top_level Sv39)
-    page_low = let low = next.1 in omega (arith, low)
+  module _ (a : SettledPage) (next : IsNextSettled t p bound (trapframe_page p.scheme) (Some a)) where
+    pub page_low : a.page < page_limit p.scheme
+    page_low = let low = next.1 in omega (arith, low, of_scheme p.scheme)
 
     -- its frame has its bytes still
     pub page_known : AllKnown v (a.frame).0
@@ -124,20 +127,20 @@ module _ (o v : View) (l : Layout) (t u : Tables) (p : Process) (root trapframe 
       | inr later ↦ are_keys n later
     ]
 
-    module _ (law : missing Sv39 u a.page ≡ tables_needed Sv39 (a.page ∷ done) - tables_needed Sv39 done) where
-      pub enough : missing Sv39 u a.page ≤ v.credits
+    module _ (law : missing p.scheme u a.page ≡ tables_needed p.scheme (a.page ∷ done) - tables_needed p.scheme done) where
+      pub enough : missing p.scheme u a.page ≤ v.credits
       enough =
-          let up = tables_up Sv39 (a.page ∷ done) (pages.keys p.settled) next_keys in
+          let up = tables_up p.scheme (a.page ∷ done) (pages.keys p.settled) next_keys in
           let all = can.credits in
           let left = so_far.credits in
           omega (arith, up, all, left, law)
 
-      more_needed : tables_needed Sv39 done + missing Sv39 u a.page ≡ tables_needed Sv39 (a.page ∷ done)
-      more_needed = let up = tables_up Sv39 done (a.page ∷ done) (λ n h. behind a.page n done h) in omega (arith, up, law)
+      more_needed : tables_needed p.scheme done + missing p.scheme u a.page ≡ tables_needed p.scheme (a.page ∷ done)
+      more_needed = let up = tables_up p.scheme done (a.page ∷ done) (λ n h. behind a.page n done h) in omega (arith, up, law)
 
       module _ (w : View) (s : Tables) (x : ℕ) (r : Region) (in_region : region_at (regions p) a.page ≡ Some r)
           (made : IsPageLeaf x (a.frame).0 r (child_page p a.page (next.3).page).fork_mark (is_dirty_page r (child_page p a.page (next.3).page)))
-          (grown : IsGrown Sv39 u s a.page (top_level Sv39)) (tables : HasTables Sv39 w root (with_leaf s (leaf_node a.page) x)) (changes : ChangesTables v w u s (missing Sv39 u a.page)) (tabled : AreTablesOf Sv39 s (a.page ∷ done)) where
+          (grown : IsGrown p.scheme u s a.page (top_level p.scheme)) (tables : HasTables p.scheme w root (with_leaf s (leaf_node a.page) x)) (changes : ChangesTables v w u s (missing p.scheme u a.page)) (tabled : AreTablesOf p.scheme s (a.page ∷ done)) where
         abbrev after : Tables
         after = with_leaf s (leaf_node a.page) x
 
@@ -145,11 +148,11 @@ module _ (o v : View) (l : Layout) (t u : Tables) (p : Process) (root trapframe 
         passed k apart = insert_other s.leaves (leaf_node a.page) x k apart ∙ ap (λ leaves. get leaves k) grown.leaves
 
         -- another page has the leaf that it had
-        stays : (n : ℕ) → n < 2 ^ 27 → (n ≡ a.page → ⊥) → get after.leaves (leaf_node n) ≡ get u.leaves (leaf_node n)
-        stays n low apart = passed (leaf_node n) (leaf_apart n a.page low (let small = next.1 in omega (arith, small)) apart)
+        stays : (n : ℕ) → (n ≡ a.page → ⊥) → get after.leaves (leaf_node n) ≡ get u.leaves (leaf_node n)
+        stays n apart = passed (leaf_node n) (leaf_apart n a.page apart)
 
-        made_all : Makes o w s.tables (tables_needed Sv39 done + missing Sv39 u a.page)
-        made_all = makes_more o v w u s a.page (top_level Sv39) (missing Sv39 u a.page) (tables_needed Sv39 done) makes grown changes
+        made_all : Makes o w s.tables (tables_needed p.scheme done + missing p.scheme u a.page)
+        made_all = makes_more p.scheme o v w u s a.page (top_level p.scheme) (missing p.scheme u a.page) (tables_needed p.scheme done) makes grown changes
 
         child_leaves : (n : ℕ) (q : Page) → pages.get p.settled n ≡ Some q → n < a.page + 1 → HasChildLeaf t after p n q
         child_leaves n q at below = elim (cases_eq n a.page) [
@@ -169,14 +172,13 @@ module _ (o v : View) (l : Layout) (t u : Tables) (p : Process) (root trapframe 
           | inr apart ↦ elim (cases_lt n bound) [
             | inl before ↦ (
                 let old = so_far.settled n q at before in
-                let low = can.low n q at in
                 record {
                   region = old.region;
                   frame = old.frame;
                   leaf = old.leaf;
                   in_region = old.in_region;
                   on = old.on;
-                  mapped = stays n (omega (arith, low)) apart ∙ old.mapped;
+                  mapped = stays n apart ∙ old.mapped;
                   made = old.made;
                 })
             | inr late ↦ absurd (let gone = next.2 n (omega (arith, late)) (omega (arith, below, apart)) in let both = sym gone ∙ at in cc)
@@ -197,8 +199,8 @@ module _ (o v : View) (l : Layout) (t u : Tables) (p : Process) (root trapframe 
             let small = next.1 in
             record {
               tables = tables;
-              on_trampoline = (let leaf = so_far.on_trampoline in (leaf.0, stays trampoline_page (omega arith) (λ same. omega (arith, same, small)) ∙ leaf.1, leaf.2));
-              on_trapframe = (let leaf = so_far.on_trapframe in (leaf.0, stays trapframe_page (omega arith) (λ same. omega (arith, same, small)) ∙ leaf.1, leaf.2));
+              on_trampoline = (let leaf = so_far.on_trampoline in (leaf.0, stays (trampoline_page p.scheme) (λ same. omega (arith, same, small, of_scheme p.scheme)) ∙ leaf.1, leaf.2));
+              on_trapframe = (let leaf = so_far.on_trapframe in (leaf.0, stays (trapframe_page p.scheme) (λ same. omega (arith, same, small)) ∙ leaf.1, leaf.2));
               settled = child_leaves;
               only = λ k z at. elim (cases_eq k (leaf_node a.page)) [
                 | inl same ↦ inr (inr (a.page, (next.3).page, same, (next.3).settled))
@@ -220,13 +222,13 @@ module _ (o v : View) (l : Layout) (t u : Tables) (p : Process) (root trapframe 
 
 -- the pages before a place of the list were gone through, and those from there on are left
 abbrev pub IsCopied : View → View → Tables → Process → ℕ → ℕ → List SettledPage → ℕ → Type 0
-IsCopied o v t p root trapframe list i = (u : Tables) × (bound : ℕ) × (done : List ℕ) × CopiesPages o v t u p root trapframe bound done × AreSettled t p bound trapframe_page (drop i list)
+IsCopied o v t p root trapframe list i = (u : Tables) × (bound : ℕ) × (done : List ℕ) × CopiesPages o v t u p root trapframe bound done × AreSettled t p bound (trapframe_page p.scheme) (drop i list)
 
-module _ (t : Tables) (p : Process) (bound i : ℕ) (list : List SettledPage) (left : AreSettled t p bound trapframe_page (drop i list)) where
-  pub next_left : (a : SettledPage) → i < length list → a ≡ slice_index_or list i a → IsNextSettled t p bound trapframe_page (Some a) × AreSettled t p (a.page + 1) trapframe_page (drop (i + 1) list)
+module _ (t : Tables) (p : Process) (bound i : ℕ) (list : List SettledPage) (left : AreSettled t p bound (trapframe_page p.scheme) (drop i list)) where
+  pub next_left : (a : SettledPage) → i < length list → a ≡ slice_index_or list i a → IsNextSettled t p bound (trapframe_page p.scheme) (Some a) × AreSettled t p (a.page + 1) (trapframe_page p.scheme) (drop (i + 1) list)
   next_left a less is =
       let whole : drop i list ≡ a ∷ drop (i + 1) list = at_drop_more (λ (xs : List SettledPage). xs) list i a less ∙ ap (λ (b : SettledPage). b ∷ drop (i + 1) list) (sym is) in
-      subst (AreSettled t p bound trapframe_page) whole left
+      subst (AreSettled t p bound (trapframe_page p.scheme)) whole left
 
-  pub none_left : length list ≤ i → AreUnsettled p bound trapframe_page
-  none_left past = subst (AreSettled t p bound trapframe_page) (at_drop_all (λ (xs : List SettledPage). xs) list i past) left
+  pub none_left : length list ≤ i → AreUnsettled p bound (trapframe_page p.scheme)
+  none_left past = subst (AreSettled t p bound (trapframe_page p.scheme)) (at_drop_all (λ (xs : List SettledPage). xs) list i past) left

@@ -11,7 +11,7 @@ use Rattle.process_model.specs.Inserted.{behind, first_or, in_front, same_finds}
 use Rattle.process_model.specs.PageMap.{contains, count, get, keys, numbers, PageMap}
 use Rattle.process_model.specs.Process.{Page, Process}
 use Rattle.process_model.specs.ValueSets.{AreCounted, div_up, has_value, none_counted, none_in, one_more, two_more, value_of, values}
-use Rattle.sv39_entry.specs.Address.{trampoline_page, trapframe_page}
+use Rattle.sv39_entry.specs.Schemes.{trampoline_page, trapframe_page}
 use Rattle.table_walk.specs.Tables.{Tables}
 use Rattle.address_space.specs.Settled.{IsNextSettled}
 use Rattle.address_space.specs.declared.settled.SettledPage.{SettledPage}
@@ -87,7 +87,7 @@ module _ (size : ℕ) (some : 0 < size) (t : Tables) (p : Process) (n table : �
   at_table m = m / size
 
   -- the page that is found needs the next table
-  module _ (x : SettledPage) (next : IsNextSettled t p (table * size) trapframe_page (Some x)) where
+  module _ (x : SettledPage) (next : IsNextSettled t p (table * size) (trapframe_page p.scheme) (Some x)) where
     up : table ≤ x.page / size
     up = le-div table x.page size some next.0
 
@@ -116,8 +116,8 @@ module _ (size : ℕ) (some : 0 < size) (t : Tables) (p : Process) (n table : �
         }
 
     -- which is not behind the trapframe's
-    pub still_near : x.page / size + 1 ≤ trapframe_page / size + 1
-    still_near = let over = div_up size some x.page trapframe_page (omega (arith, next.1)) in omega (arith, over)
+    pub still_near : x.page / size + 1 ≤ (trapframe_page p.scheme) / size + 1
+    still_near = let over = div_up size some x.page (trapframe_page p.scheme) (omega (arith, next.1)) in omega (arith, over)
 
     pub goes_up : table < x.page / size + 1
     goes_up = let above = up in omega (arith, above)
@@ -125,7 +125,7 @@ module _ (size : ℕ) (some : 0 < size) (t : Tables) (p : Process) (n table : �
   -- the list goes on behind a page, below which each table is counted
   module _ (first : ℕ) (before : first ≤ table * size) where
     -- the next page of the list needs another table
-    pub next_table : (x : SettledPage) → IsNextSettled t p first trapframe_page (Some x) → table ≤ x.page / size → IsNextSettled t p (table * size) trapframe_page (Some x)
+    pub next_table : (x : SettledPage) → IsNextSettled t p first (trapframe_page p.scheme) (Some x) → table ≤ x.page / size → IsNextSettled t p (table * size) (trapframe_page p.scheme) (Some x)
     next_table x next above =
         let from : table * size ≤ x.page = elim (cases_lt x.page (table * size)) as (λ _. table * size ≤ x.page) [
           | inl less ↦ absurd (let under = (div-lt_iff_lt-mul some).1 less in omega (arith, under, above))
@@ -138,12 +138,12 @@ module _ (size : ℕ) (some : 0 < size) (t : Tables) (p : Process) (n table : �
     same_table x less = let under = (div-lt_iff_lt-mul some).0 less in omega (arith, under)
 
     -- no page is left
-    pub none_left : IsNextSettled t p first trapframe_page None → IsNextSettled t p (table * size) trapframe_page None
+    pub none_left : IsNextSettled t p first (trapframe_page p.scheme) None → IsNextSettled t p (table * size) (trapframe_page p.scheme) None
     none_left none n from lt = none n (omega (arith, before, from)) lt
 
   -- no page is left: with the two pages of the kernel, which share their tables
-  module _ (none : IsNextSettled t p (table * size) trapframe_page None) (low : (y : ℕ) (s : Page) → get p.settled y ≡ Some s → y < trapframe_page)
-      (near : table ≤ trapframe_page / size + 1) (top : trampoline_page / size ≡ trapframe_page / size) where
+  module _ (none : IsNextSettled t p (table * size) (trapframe_page p.scheme) None) (low : (y : ℕ) (s : Page) → get p.settled y ≡ Some s → y < (trapframe_page p.scheme))
+      (near : table ≤ (trapframe_page p.scheme) / size + 1) (top : (trampoline_page p.scheme) / size ≡ (trapframe_page p.scheme) / size) where
     all_found : (y : ℕ) → Contains (keys p.settled) y → contains (values at_table so_far.found) (y / size) ≡ true
     all_found y h =
         let s = found_in p.settled.entries y h in
@@ -152,17 +152,17 @@ module _ (size : ℕ) (some : 0 < size) (t : Tables) (p : Process) (n table : �
         so_far.all y s.0 s.1 ((div-lt_iff_lt-mul some).1 below)
 
     abbrev with_kernel : List ℕ → List ℕ
-    with_kernel xs = trampoline_page ∷ trapframe_page ∷ xs
+    with_kernel xs = (trampoline_page p.scheme) ∷ (trapframe_page p.scheme) ∷ xs
 
-    pub counts_top : count (numbers (map at_table (with_kernel (keys p.settled)))) ≡ n + (trapframe_page / size + 1 - max (trapframe_page / size) table)
+    pub counts_top : count (numbers (map at_table (with_kernel (keys p.settled)))) ≡ n + ((trapframe_page p.scheme) / size + 1 - max ((trapframe_page p.scheme) / size) table)
     counts_top =
         let there : AmongValues at_table so_far.found (keys p.settled) = λ x h. has_value at_table x (x / size) (keys p.settled) (so_far.there x h) refl in
-        let both = λ (xs ys : List ℕ) (into : AmongValues at_table xs ys). among_more at_table trampoline_page (trapframe_page ∷ xs) (trapframe_page ∷ ys) (among_more at_table trapframe_page xs ys into) in
+        let both = λ (xs ys : List ℕ) (into : AmongValues at_table xs ys). among_more at_table (trampoline_page p.scheme) ((trapframe_page p.scheme) ∷ xs) ((trapframe_page p.scheme) ∷ ys) (among_more at_table (trapframe_page p.scheme) xs ys into) in
         same_values at_table (with_kernel (keys p.settled)) (with_kernel so_far.found) (both (keys p.settled) so_far.found all_found) (both so_far.found (keys p.settled) there)
-        ∙ two_more at_table so_far.found n table trapframe_page trampoline_page so_far.tables near top
+        ∙ two_more at_table so_far.found n table (trapframe_page p.scheme) (trampoline_page p.scheme) so_far.tables near top
 
-    pub top_counted : trapframe_page / size < table → n ≡ count (numbers (map at_table (with_kernel (keys p.settled))))
+    pub top_counted : (trapframe_page p.scheme) / size < table → n ≡ count (numbers (map at_table (with_kernel (keys p.settled))))
     top_counted less = sym (counts_top ∙ omega (arith, less))
 
-    pub top_new : table ≤ trapframe_page / size → n + 1 ≡ count (numbers (map at_table (with_kernel (keys p.settled))))
+    pub top_new : table ≤ (trapframe_page p.scheme) / size → n + 1 ≡ count (numbers (map at_table (with_kernel (keys p.settled))))
     top_new le = sym (counts_top ∙ omega (arith, le))

@@ -14,9 +14,8 @@ use Rattle.process_model.specs.PageMap as pages
 use Rattle.process_model.specs.PageMap.{numbers}
 use Rattle.process_model.specs.Residence.{child_of, child_page, marked, marked_page}
 use Rattle.process_model.specs.ValueSets.{none_in}
-use Rattle.sv39_entry.specs.Address.{trampoline_page, trapframe_page}
 use Rattle.sv39_entry.specs.Word.{ppn}
-use Rattle.sv39_entry.specs.declared.scheme.Scheme.TheVariants.{Sv39}
+use Rattle.sv39_entry.specs.Schemes.{trampoline_page, trapframe_page, of_scheme}
 use Rattle.table_walk.specs.Counted.{AreTablesOf, same_members}
 use Rattle.table_walk.specs.Nodes.{leaf_number}
 use Rattle.table_walk.specs.Same.{same_tables}
@@ -113,14 +112,14 @@ set_has (x ∷ xs) y h = elim (cases_eq y x) [
   ]
 ]
 
-module _ (p : Process) (low : (n : ℕ) (s : Page) → pages.get p.settled n ≡ Some s → n < trapframe_page) where
-  pub child_tabled : (u : Tables) → AreTablesOf Sv39 u (pages.keys p.settled) → AreTablesOf Sv39 u (pages.keys (child_of p).tabled)
-  child_tabled u are = same_members Sv39 u (pages.keys p.settled) (pages.keys (numbers (pages.keys p.settled))) (set_in (pages.keys p.settled)) (set_out (pages.keys p.settled)) are
+module _ (p : Process) (low : (n : ℕ) (s : Page) → pages.get p.settled n ≡ Some s → n < (trapframe_page p.scheme)) where
+  pub child_tabled : (u : Tables) → AreTablesOf p.scheme u (pages.keys p.settled) → AreTablesOf p.scheme u (pages.keys (child_of p).tabled)
+  child_tabled u are = same_members p.scheme u (pages.keys p.settled) (pages.keys (numbers (pages.keys p.settled))) (set_in (pages.keys p.settled)) (set_out (pages.keys p.settled)) are
 
-  each_low : (y : ℕ) → Contains (pages.keys p.settled) y → y < trapframe_page
+  each_low : (y : ℕ) → Contains (pages.keys p.settled) y → y < (trapframe_page p.scheme)
   each_low y h = let s = found_in p.settled.entries y h in low y s.0 s.1
 
-  pub child_tabled_low : All (λ n. n < trapframe_page) (pages.keys (child_of p).tabled)
+  pub child_tabled_low : All (λ n. n < (trapframe_page p.scheme)) (pages.keys (child_of p).tabled)
   child_tabled_low n d less = each_low _ (set_out (pages.keys p.settled) _ (All-contains_itself (pages.keys (numbers (pages.keys p.settled))) n d less))
 
   pub child_has_tables : (n : ℕ) (s : Page) → pages.get (child_of p).settled n ≡ Some s → pages.contains (child_of p).tabled n ≡ true
@@ -148,24 +147,24 @@ module _ (v w x : View) (root saved : ℕ) (l : Layout) (t r u : Tables) (p : Pr
   named_once f k names = elim (child.for_child f) [ inl his ↦ his.0 | inr not_his ↦ absurd (not_his.1 k names) ]
 
   code_once : times 0 L ≡ 1
-  code_once = named_once 0 (leaf_node trampoline_page) (inr (child.on_trampoline.0, child.on_trampoline.1, child.on_trampoline.2.names))
+  code_once = named_once 0 (leaf_node (trampoline_page p.scheme)) (inr (child.on_trampoline.0, child.on_trampoline.1, child.on_trampoline.2.names))
 
   own_once : times own L ≡ 1
-  own_once = named_once own (leaf_node trapframe_page) (inr (child.on_trapframe.0, child.on_trapframe.1, child.on_trapframe.2.names))
+  own_once = named_once own (leaf_node (trapframe_page p.scheme)) (inr (child.on_trapframe.0, child.on_trapframe.1, child.on_trapframe.2.names))
 
-  code_named : Names t 0 (leaf_node trampoline_page)
+  code_named : Names t 0 (leaf_node (trampoline_page p.scheme))
   code_named = let leaf = space.stands.shows.on_trampoline in inr (leaf.0, leaf.1, leaf.2.names)
 
   code_twice : 1 < references x 0
   code_twice = let one = space.stands.owns.named 0 _ code_named in let sum = counts 0 in let again = code_once in omega (arith, one, sum, again)
 
   -- the leaf that names a frame that goes
-  leaf_of_going : (f : ℕ) → IsGoing t p trapframe_page f → (n : ℕ) × (Names t f (leaf_node n)) × ((n ≡ trampoline_page) ⊎ (n < trapframe_page))
-  leaf_of_going f (inl code) = (trampoline_page, subst (λ g. Names t g (leaf_node trampoline_page)) (sym code) code_named, inl refl)
+  leaf_of_going : (f : ℕ) → IsGoing t p (trapframe_page p.scheme) f → (n : ℕ) × (Names t f (leaf_node n)) × ((n ≡ (trampoline_page p.scheme)) ⊎ (n < (trapframe_page p.scheme)))
+  leaf_of_going f (inl code) = ((trampoline_page p.scheme), subst (λ g. Names t g (leaf_node (trampoline_page p.scheme))) (sym code) code_named, inl refl)
   leaf_of_going f (inr page) = (page.0, inr (page.4.0, page.4.1, page.4.2), inr (space.stands.shows.low page.0 page.1 page.3))
 
   -- the child does not name a frame that the parent has for itself
-  not_shared : (f k : ℕ) → Names t f k → ((n : ℕ) → (n ≡ trampoline_page) ⊎ (n < trapframe_page) → k ≡ leaf_node n → ⊥) → IsUnnamed u f
+  not_shared : (f k : ℕ) → Names t f k → ((n : ℕ) → (n ≡ (trampoline_page p.scheme)) ⊎ (n < (trapframe_page p.scheme)) → k ≡ leaf_node n → ⊥) → IsUnnamed u f
   not_shared f k names off j named =
       let held : IsHeld v f = let one = space.stands.owns.named f k names in omega (arith, one) in
       let once = named_once f j named in
@@ -175,14 +174,14 @@ module _ (v w x : View) (root saved : ℕ) (l : Layout) (t r u : Tables) (p : Pr
   table_apart : (k f : ℕ) → finite.get r.tables k ≡ Some f → IsUnnamed u f
   table_apart k f at =
       let was = ap (λ m. finite.get m k) (sym turns.tables) ∙ at in
-      not_shared f k (inl was) (λ n _ same. let below = (space.stands.tables.known.below k f was).1 in let above = leaf_number Sv39 n in omega (arith, below, above, same))
+      not_shared f k (inl was) (λ n _ same. let below = (space.stands.tables.known.below k f was).1 in let above = leaf_number p.scheme n in omega (arith, below, above, same))
 
   saved_apart : IsUnnamed u saved
   saved_apart =
       let leaf = space.stands.shows.on_trapframe in
-      not_shared saved (leaf_node trapframe_page) (inr (leaf.0, leaf.1, leaf.2.names)) (λ n which same. elim which [
-        | inl top ↦ (let is = one_page trapframe_page n (omega arith) (omega (arith, top)) same in omega (arith, is, top))
-        | inr low ↦ (let is = one_page trapframe_page n (omega arith) (omega (arith, low)) same in omega (arith, is, low))
+      not_shared saved (leaf_node (trapframe_page p.scheme)) (inr (leaf.0, leaf.1, leaf.2.names)) (λ n which same. elim which [
+        | inl top ↦ (let is = one_page (trapframe_page p.scheme) n same in omega (arith, is, top, of_scheme p.scheme))
+        | inr low ↦ (let is = one_page (trapframe_page p.scheme) n same in omega (arith, is, low, of_scheme p.scheme))
       ])
 
   -- the parent's leaf of a page names the frame that it named
@@ -205,7 +204,7 @@ module _ (v w x : View) (root saved : ℕ) (l : Layout) (t r u : Tables) (p : Pr
     made = c.made;
   }
 
-  child_tables : HasTables Sv39 x croot u
+  child_tables : HasTables p.scheme x croot u
   child_tables = same_tables w x croot u (λ k f at. new_same f (child.fresh k f at)) child.tables
 
   child_on : (n f : ℕ) (s : Page) → pages.get p.settled n ≡ Some s → IsOn u n f → IsOn t n f

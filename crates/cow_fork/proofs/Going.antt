@@ -1,5 +1,5 @@
 -- The frames of settled pages, each once, beside that of the trampoline.
-use Rattle.std.proofs.Common.{◌≡◌, ℕ, ◌+◌, ◌<◌, ◌≤◌, ◌^◌, ap, sym, subst, ◌∙◌, inl, inr, List, [], ◌∷◌, ◌++◌, length, Some, None, arith}
+use Rattle.std.proofs.Common.{◌≡◌, ℕ, ◌+◌, ◌<◌, ◌≤◌, ap, sym, subst, ◌∙◌, inl, inr, List, [], ◌∷◌, ◌++◌, length, Some, None, arith}
 use Rattle.std.proofs.lemmas.Bool.{cases_eq, cases_lt}
 use Rattle.std.proofs.lemmas.List.{append_assoc, append-nil}
 use Rattle.std.proofs.lemmas.Option.{same_Some}
@@ -7,9 +7,9 @@ use Rattle.std.specs.FinMap.{get}
 use Rattle.frame_store.specs.View.{IsHeld, references}
 use Rattle.process_model.specs.PageMap as pages
 use Rattle.process_model.specs.Process.{Page, Process}
-use Rattle.sv39_entry.specs.Address.{trampoline_page, trapframe_page}
 use Rattle.sv39_entry.specs.Frame.{ppn_of}
 use Rattle.sv39_entry.specs.Word.{ppn}
+use Rattle.sv39_entry.specs.Schemes.{trampoline_page, trapframe_page, of_scheme}
 use Rattle.table_walk.specs.Tables.{leaf_node, Tables}
 use Rattle.address_space.specs.Agreement.{Body, IsOn, IsSpace, Names, nothing, Owns, Shows}
 use Rattle.address_space.specs.Settled.{AreSettled, IsNextSettled}
@@ -29,9 +29,9 @@ pub times_last_other : (f g : ℕ) (L : List ℕ) → (g ≡ f → ⊥) → time
 times_last_other f g [] apart = times_other f g [] apart
 times_last_other f g (h ∷ L) apart = let rest = times_last_other f g L apart in omega (arith, rest)
 
--- pages below 2 ^ 27 have different leaves
-pub one_page : (m n : ℕ) → m < 2 ^ 27 → n < 2 ^ 27 → leaf_node m ≡ leaf_node n → m ≡ n
-one_page m n low small same = omega (arith, same, low, small)
+-- pages have different leaves
+pub one_page : (m n : ℕ) → leaf_node m ≡ leaf_node n → m ≡ n
+one_page m n same = omega (arith, same)
 
 module _ (x : Body) (t : Tables) (p : Process) (is : IsSpace x t p) where
   abbrev owns : Owns x.view t nothing
@@ -43,7 +43,7 @@ module _ (x : Body) (t : Tables) (p : Process) (is : IsSpace x t p) where
   on_names : (n f : ℕ) → IsOn t n f → Names t f (leaf_node n)
   on_names n f on = inr (on.0, on.1, on.2)
 
-  code_named : Names t 0 (leaf_node trampoline_page)
+  code_named : Names t 0 (leaf_node (trampoline_page p.scheme))
   code_named = let leaf = shows.on_trampoline in inr (leaf.0, leaf.1, leaf.2.names)
 
   -- a frame that goes is held
@@ -54,14 +54,13 @@ module _ (x : Body) (t : Tables) (p : Process) (is : IsSpace x t p) where
   -- the frame of a page that is not gone through is not listed
   not_going : (n f bound : ℕ) (s : Page) → pages.get p.settled n ≡ Some s → bound ≤ n → IsOn t n f → IsGoing t p bound f → ⊥
   not_going n f bound s there above on (inl code) =
-      let same = owns.once 0 (leaf_node n) (leaf_node trampoline_page) (subst (λ g. Names t g (leaf_node n)) code (on_names n f on)) code_named in
+      let same = owns.once 0 (leaf_node n) (leaf_node (trampoline_page p.scheme)) (subst (λ g. Names t g (leaf_node n)) code (on_names n f on)) code_named in
       let low = shows.low n s there in
-      let apart = one_page n trampoline_page (omega (arith, low)) (omega arith) same in
-      omega (arith, apart, low)
+      let apart = one_page n (trampoline_page p.scheme) same in
+      omega (arith, apart, low, of_scheme p.scheme)
   not_going n f bound s there above on (inr other) =
       let same = owns.once f (leaf_node n) (leaf_node other.0) (on_names n f on) (on_names other.0 f other.4) in
-      let low = shows.low n s there in
-      let apart = one_page n other.0 (omega (arith, low)) (let also = shows.low other.0 other.1 other.3 in omega (arith, also)) same in
+      let apart = one_page n other.0 same in
       let below = other.2 in
       omega (arith, apart, below, above)
 
@@ -74,7 +73,7 @@ module _ (x : Body) (t : Tables) (p : Process) (is : IsSpace x t p) where
     go apart (inl code) = apart code
     go apart (inr page) = let none = page.2 in omega (arith, none)
 
-  module _ (from : ℕ) (L : List ℕ) (going : AreGoing t p from L) (a : SettledPage) (next : IsNextSettled t p from trapframe_page (Some a)) where
+  module _ (from : ℕ) (L : List ℕ) (going : AreGoing t p from L) (a : SettledPage) (next : IsNextSettled t p from (trapframe_page p.scheme) (Some a)) where
     abbrev s : Page
     s = (next.3).page
 
@@ -125,7 +124,7 @@ module _ (x : Body) (t : Tables) (p : Process) (is : IsSpace x t p) where
       (λ f some. elim (going f) [ inl there ↦ within f (going_held bound f there.1) | inr none ↦ absurd (let zero_ = none.0 in omega (arith, zero_, some)) ])
 
   -- no page is left
-  pub going_all : (from : ℕ) (L : List ℕ) → AreGoing t p from L → IsNextSettled t p from trapframe_page None → AreGoing t p trapframe_page L
+  pub going_all : (from : ℕ) (L : List ℕ) → AreGoing t p from L → IsNextSettled t p from (trapframe_page p.scheme) None → AreGoing t p (trapframe_page p.scheme) L
   going_all from L going none f = elim (going f) [
     | inl there ↦ inl (
       there.0,
@@ -142,15 +141,15 @@ module _ (x : Body) (t : Tables) (p : Process) (is : IsSpace x t p) where
       ]),
     )
   ] where
-    below : (n : ℕ) (s : Page) → n < trapframe_page → pages.get p.settled n ≡ Some s → n < from
+    below : (n : ℕ) (s : Page) → n < (trapframe_page p.scheme) → pages.get p.settled n ≡ Some s → n < from
     below n s low there = elim (cases_lt n from) [ inl less ↦ less | inr late ↦ absurd (let gone = none n late low in cc) ]
 
   -- the settled pages, one after another
-  going_on : (from : ℕ) (L : List ℕ) (list : List SettledPage) → AreGoing t p from L → AreSettled t p from trapframe_page list → AreGoing t p trapframe_page (L ++ frames_of list)
-  going_on from L [] going none = subst (AreGoing t p trapframe_page) (sym (append-nil L)) (going_all from L going none)
+  going_on : (from : ℕ) (L : List ℕ) (list : List SettledPage) → AreGoing t p from L → AreSettled t p from (trapframe_page p.scheme) list → AreGoing t p (trapframe_page p.scheme) (L ++ frames_of list)
+  going_on from L [] going none = subst (AreGoing t p (trapframe_page p.scheme)) (sym (append-nil L)) (going_all from L going none)
   going_on from L (a ∷ list) going next =
-      subst (AreGoing t p trapframe_page) (append_assoc L ((a.frame).0 ∷ []) (frames_of list))
+      subst (AreGoing t p (trapframe_page p.scheme)) (append_assoc L ((a.frame).0 ∷ []) (frames_of list))
       (going_on (a.page + 1) (L ++ (a.frame).0 ∷ []) list (going_more from L going a next.0) next.1)
 
-  pub going_settled : (list : List SettledPage) → AreSettled t p 0 trapframe_page list → AreGoing t p trapframe_page (0 ∷ frames_of list)
+  pub going_settled : (list : List SettledPage) → AreSettled t p 0 (trapframe_page p.scheme) list → AreGoing t p (trapframe_page p.scheme) (0 ∷ frames_of list)
   going_settled list settled = going_on 0 (0 ∷ []) list going_none settled

@@ -12,8 +12,8 @@ use Rattle.process_model.specs.PageMap.{get, insert, PageMap, with_values}
 use Rattle.process_model.specs.Process as of_model
 use Rattle.process_model.specs.Process.{grants_write, Page, Process}
 use Rattle.process_model.specs.Residence.{marked, marked_page}
-use Rattle.sv39_entry.specs.Address.{trapframe_page}
 use Rattle.sv39_entry.specs.Word.{ppn}
+use Rattle.sv39_entry.specs.Schemes.{trapframe_page}
 use Rattle.table_walk.specs.Tables.{Tables}
 use Rattle.address_space.specs.Agreement.{Body, IsOn}
 use Rattle.address_space.specs.Standing.{HasMarkedForked, IsStanding, TurnsLeaves}
@@ -25,7 +25,7 @@ forking_pending : (x : Body) (t : Tables) (p : Process) (extra : ℕ → ℕ) (o
     → IsStanding x t (record p { pending = o }) extra
 forking_pending x t p extra o a = record {
   sound = record { order = same_order 0 p p.settled p.tabled o a.sound.order; tabled = a.sound.tabled };
-  lays = record { parts = a.lays.parts; mappings = a.lays.mappings; heap_base = a.lays.heap_base; size = a.lays.size };
+  lays = record { parts = a.lays.parts; mappings = a.lays.mappings; heap_base = a.lays.heap_base; size = a.lays.size; scheme = a.lays.scheme };
   stands = record {
     tables = a.stands.tables;
     owns = a.stands.owns;
@@ -78,7 +78,7 @@ pub record IsMarking (x y : Body) (t : Tables) (p : Process) (extra : ℕ → �
   pub forking : IsStanding y tables (record p { settled = done }) extra
   pub turns : TurnsLeaves x y t tables
   pub marks : AreMarkedBelow p bound done
-  pub left : AreSettled t p bound trapframe_page rest
+  pub left : AreSettled t p bound (trapframe_page p.scheme) rest
 
 module _ (p : Process) (bound : ℕ) (done : PageMap Page) (marks : AreMarkedBelow p bound done) where
   -- the next settled page is marked
@@ -121,7 +121,7 @@ module _ (p : Process) (bound : ℕ) (done : PageMap Page) (marks : AreMarkedBel
   }
 
   -- where none is left, all are
-  marks_all : AreUnsettled p bound trapframe_page → ((n : ℕ) (s : Page) → get p.settled n ≡ Some s → n < trapframe_page)
+  marks_all : AreUnsettled p bound (trapframe_page p.scheme) → ((n : ℕ) (s : Page) → get p.settled n ≡ Some s → n < (trapframe_page p.scheme))
       → done ≡ with_values (marked_page p) p.settled
   marks_all none low = same_finds done (with_values (marked_page p) p.settled) (λ n. all n ∙ sym (each_answer (marked_page p) p.settled n)) where
     high_none : (n : ℕ) (o : Option Page) → get p.settled n ≡ o → bound ≤ n → get p.settled n ≡ None
@@ -137,7 +137,7 @@ module _ (p : Process) (bound : ℕ) (done : PageMap Page) (marks : AreMarkedBel
     ]
 
 module _ (x : Body) (t : Tables) (p : Process) (extra : ℕ → ℕ) (settled : List SettledPage) where
-  pub marking_none : IsStanding x t p extra → AreSettled t p 0 trapframe_page settled → IsMarking x x t p extra settled
+  pub marking_none : IsStanding x t p extra → AreSettled t p 0 (trapframe_page p.scheme) settled → IsMarking x x t p extra settled
   marking_none can are = record {
     tables = t;
     bound = 0;
@@ -153,8 +153,8 @@ module _ (x : Body) (t : Tables) (p : Process) (extra : ℕ → ℕ) (settled : 
       here : drop i settled ≡ a ∷ drop (i + 1) settled
       here = at_drop_more (λ l. l) settled i a lt ∙ ap (λ (b : SettledPage). b ∷ drop (i + 1) settled) (sym is)
 
-      left : AreSettled t p m.bound trapframe_page (a ∷ drop (i + 1) settled)
-      left = subst (AreSettled t p m.bound trapframe_page) here m.left
+      left : AreSettled t p m.bound (trapframe_page p.scheme) (a ∷ drop (i + 1) settled)
+      left = subst (AreSettled t p m.bound (trapframe_page p.scheme)) here m.left
 
       page_there : get m.done a.page ≡ Some left.0.3.page
       page_there = m.marks.above a.page left.0.0 ∙ left.0.3.settled
@@ -209,7 +209,7 @@ module _ (x : Body) (t : Tables) (p : Process) (extra : ℕ → ℕ) (settled : 
 
     pub marking_all : IsStanding x t p extra → length settled ≤ i → (w : Tables) × IsStanding y w (marked p) extra × TurnsLeaves x y t w
     marking_all can past =
-        let none : AreUnsettled p m.bound trapframe_page = subst (AreSettled t p m.bound trapframe_page) (at_drop_all (λ l. l) settled i past) m.left in
+        let none : AreUnsettled p m.bound (trapframe_page p.scheme) = subst (AreSettled t p m.bound (trapframe_page p.scheme)) (at_drop_all (λ l. l) settled i past) m.left in
         let same = marks_all p m.bound m.done m.marks none can.stands.shows.low in (
           m.tables,
           forking_pending y m.tables (record p { settled = with_values (marked_page p) p.settled }) extra None

@@ -7,9 +7,9 @@ use Rattle.process_model.specs.Frames.{table_sizes, tables_needed, tables_of_siz
 use Rattle.process_model.specs.Inserted.{behind_more}
 use Rattle.process_model.specs.PageMap.{contains, count}
 use Rattle.process_model.specs.ValueSets.{count_next, same_count, values}
-use Rattle.sv39_entry.specs.Schemes.{trampoline_page, trapframe_page}
+use Rattle.sv39_entry.specs.Schemes.{trampoline_page, trapframe_page, top_level}
 use Rattle.sv39_entry.specs.declared.scheme.Scheme.{Scheme}
-use Rattle.sv39_entry.specs.declared.scheme.Scheme.TheVariants.{Sv39}
+use Rattle.sv39_entry.specs.declared.scheme.Scheme.TheVariants.{Sv39, Sv48}
 
 -- each member of the first list is one of the second
 abbrev pub AreAmong : List ℕ → List ℕ → Type 0
@@ -48,7 +48,8 @@ tables_up s xs ys into =
 pub tables_same : (s : Scheme) (xs ys : List ℕ) → AreAmong xs ys → AreAmong ys xs → tables_needed s xs ≡ tables_needed s ys
 tables_same s xs ys there back = let up = tables_up s xs ys there in let down = tables_up s ys xs back in omega (arith, up, down)
 
--- the root, and TRAMPOLINE's two tables, which TRAPFRAME shares
-pub three_needed : tables_needed Sv39 [] ≡ 3
+-- the root, and TRAMPOLINE's tables, which TRAPFRAME shares
+pub first_needed : (s : Scheme) → tables_needed s [] ≡ 1 + top_level s
 unfolding tables_needed
-three_needed = refl
+first_needed Sv39 = refl
+first_needed Sv48 = refl

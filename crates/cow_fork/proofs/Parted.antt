@@ -11,11 +11,11 @@ use Rattle.process_model.specs.PageMap as pages
 use Rattle.process_model.specs.Process.{grants_write, Page, Process, regions}
 use Rattle.process_model.specs.Regions.{lacks_right, Region, region_at}
 use Rattle.process_model.specs.Residence.{child_of, child_page, marked, marked_page}
-use Rattle.sv39_entry.specs.Address.{has, trampoline_page, trapframe_page}
+use Rattle.sv39_entry.specs.Address.{has}
 use Rattle.sv39_entry.specs.Frame.{ppn_of}
 use Rattle.sv39_entry.specs.Word.{ppn}
 use Rattle.sv39_entry.specs.declared.access.Access.TheVariants.{Store}
-use Rattle.sv39_entry.specs.declared.scheme.Scheme.TheVariants.{Sv39}
+use Rattle.sv39_entry.specs.Schemes.{trampoline_page, trapframe_page, of_scheme}
 use Rattle.table_walk.specs.Counted.{AreTablesOf}
 use Rattle.table_walk.specs.Same.{same_tables}
 use Rattle.table_walk.specs.Tables.{HasTables, leaf_node, Tables}
@@ -135,13 +135,13 @@ module _ (v a b : View) (root saved : ℕ) (l : Layout) (t u : Tables) (p : Proc
 
   -- the child
 
-  module _ (croot own : ℕ) (tree : HasTables Sv39 v croot u) (on_trampoline : HasKernelLeaf u trampoline_page 0 code_rights) (on_trapframe : HasKernelLeaf u trapframe_page own data_rights)
+  module _ (croot own : ℕ) (tree : HasTables p.scheme v croot u) (on_trampoline : HasKernelLeaf u (trampoline_page p.scheme) 0 code_rights) (on_trapframe : HasKernelLeaf u (trapframe_page p.scheme) own data_rights)
       (settled : (n : ℕ) (s : Page) → pages.get p.settled n ≡ Some s → HasChildLeaf t u p n s) (only : (k x : ℕ) → finite.get u.leaves k ≡ Some x → IsLeafNumber p k)
       (fresh : (k f : ℕ) → finite.get u.tables k ≡ Some f → (references v f ≡ 1) × IsUnnamed t f)
       (own_once : references v own ≡ 1) (own_sole : IsSole v own) (own_unnamed : IsUnnamed t own) (own_apart : (k : ℕ) → finite.get u.tables k ≡ Some own → ⊥) where
     -- what the leaf of a number is for
     abbrev IsLeafFor : ℕ → ℕ → Type 0
-    IsLeafFor k f = ((k ≡ leaf_node trampoline_page) × (f ≡ 0)) ⊎ (((k ≡ leaf_node trapframe_page) × (f ≡ own)) ⊎ ((n : ℕ) × (s : Page) × (k ≡ leaf_node n) × (pages.get p.settled n ≡ Some s) × IsOn t n f))
+    IsLeafFor k f = ((k ≡ leaf_node (trampoline_page p.scheme)) × (f ≡ 0)) ⊎ (((k ≡ leaf_node (trapframe_page p.scheme)) × (f ≡ own)) ⊎ ((n : ℕ) × (s : Page) × (k ≡ leaf_node n) × (pages.get p.settled n ≡ Some s) × IsOn t n f))
 
     leaf_for : (k x f : ℕ) → finite.get u.leaves k ≡ Some x → ppn x ≡ ppn_of f → IsLeafFor k f
     leaf_for k x f at names = elim (only k x at) [
@@ -159,24 +159,24 @@ module _ (v a b : View) (root saved : ℕ) (l : Layout) (t u : Tables) (p : Proc
     on_names : (n f : ℕ) → IsOn t n f → Names t f (leaf_node n)
     on_names n f on = inr (on.0, on.1, on.2)
 
-    code_named : Names t 0 (leaf_node trampoline_page)
+    code_named : Names t 0 (leaf_node (trampoline_page p.scheme))
     code_named = let leaf = shows.on_trampoline in inr (leaf.0, leaf.1, leaf.2.names)
 
-    low : (n : ℕ) (s : Page) → pages.get p.settled n ≡ Some s → n < trapframe_page
+    low : (n : ℕ) (s : Page) → pages.get p.settled n ≡ Some s → n < (trapframe_page p.scheme)
     low n s there = shows.low n (marked_page p n s) (each_there (marked_page p) p.settled n s there)
 
     -- a page's frame is not the trampoline's
     not_code : (n f : ℕ) (s : Page) → pages.get p.settled n ≡ Some s → IsOn t n f → f ≡ 0 → ⊥
     not_code n f s there on nought =
-        let same = owns.once 0 (leaf_node n) (leaf_node trampoline_page) (subst (λ g. Names t g (leaf_node n)) nought (on_names n f on)) code_named in
+        let same = owns.once 0 (leaf_node n) (leaf_node (trampoline_page p.scheme)) (subst (λ g. Names t g (leaf_node n)) nought (on_names n f on)) code_named in
         let small = low n s there in
-        omega (arith, same, small)
+        omega (arith, same, small, of_scheme p.scheme)
 
     leaves_once : (f j k : ℕ) → IsLeafFor j f → IsLeafFor k f → j ≡ k
     leaves_once f j k (inl code) (inl also) = code.0 ∙ sym also.0
-    leaves_once f j k (inl code) (inr (inl saved_)) = absurd (own_unnamed (leaf_node trampoline_page) (subst (λ g. Names t g (leaf_node trampoline_page)) (sym code.1 ∙ saved_.1) code_named))
+    leaves_once f j k (inl code) (inr (inl saved_)) = absurd (own_unnamed (leaf_node (trampoline_page p.scheme)) (subst (λ g. Names t g (leaf_node (trampoline_page p.scheme))) (sym code.1 ∙ saved_.1) code_named))
     leaves_once f j k (inl code) (inr (inr page)) = absurd (not_code page.0 f page.1 page.3 page.4 code.1)
-    leaves_once f j k (inr (inl saved_)) (inl code) = absurd (own_unnamed (leaf_node trampoline_page) (subst (λ g. Names t g (leaf_node trampoline_page)) (sym code.1 ∙ saved_.1) code_named))
+    leaves_once f j k (inr (inl saved_)) (inl code) = absurd (own_unnamed (leaf_node (trampoline_page p.scheme)) (subst (λ g. Names t g (leaf_node (trampoline_page p.scheme))) (sym code.1 ∙ saved_.1) code_named))
     leaves_once f j k (inr (inl saved_)) (inr (inl also)) = saved_.0 ∙ sym also.0
     leaves_once f j k (inr (inl saved_)) (inr (inr page)) = absurd (own_unnamed (leaf_node page.0) (subst (λ g. Names t g (leaf_node page.0)) saved_.1 (on_names page.0 f page.4)))
     leaves_once f j k (inr (inr page)) (inl code) = absurd (not_code page.0 f page.1 page.3 page.4 code.1)
@@ -186,7 +186,7 @@ module _ (v a b : View) (root saved : ℕ) (l : Layout) (t u : Tables) (p : Proc
 
     -- no leaf names a table
     table_alone : (f j k : ℕ) → finite.get u.tables j ≡ Some f → IsLeafFor k f → ⊥
-    table_alone f j k at (inl code) = (fresh j f at).1 (leaf_node trampoline_page) (subst (λ g. Names t g (leaf_node trampoline_page)) (sym code.1) code_named)
+    table_alone f j k at (inl code) = (fresh j f at).1 (leaf_node (trampoline_page p.scheme)) (subst (λ g. Names t g (leaf_node (trampoline_page p.scheme))) (sym code.1) code_named)
     table_alone f j k at (inr (inl saved_)) = own_apart j (at ∙ ap (λ g. Some g) saved_.1)
     table_alone f j k at (inr (inr page)) = (fresh j f at).1 (leaf_node page.0) (on_names page.0 f page.4)
 
@@ -207,7 +207,7 @@ module _ (v a b : View) (root saved : ℕ) (l : Layout) (t u : Tables) (p : Proc
         | inl same ↦ (
             let is : on_trapframe.0 ≡ x = one_leaf u n on_trapframe.0 x (ap (finite.get u.leaves) same ∙ on_trapframe.1) at in
             let here : own ≡ f = one_named own f (sym on_trapframe.2.names ∙ ap ppn is ∙ names) in
-            subst (IsSole b) here (parts.sole own (leaf_node trapframe_page) (inr (on_trapframe.0, on_trapframe.1, on_trapframe.2.names)) own_once own_sole))
+            subst (IsSole b) here (parts.sole own (leaf_node (trapframe_page p.scheme)) (inr (on_trapframe.0, on_trapframe.1, on_trapframe.2.names)) own_once own_sole))
         | inr page ↦ absurd (
             let c = settled page.0 page.1 page.3 in
             let is : c.leaf ≡ x = one_leaf u n c.leaf x (ap (finite.get u.leaves) page.2 ∙ c.mapped) at in
@@ -242,11 +242,11 @@ module _ (v a b : View) (root saved : ℕ) (l : Layout) (t u : Tables) (p : Proc
       ]
     ]
 
-    pub child_after : AreTablesOf Sv39 u (pages.keys (child_of p).tabled) → All (λ n. n < trapframe_page) (pages.keys (child_of p).tabled)
+    pub child_after : AreTablesOf p.scheme u (pages.keys (child_of p).tabled) → All (λ n. n < (trapframe_page p.scheme)) (pages.keys (child_of p).tabled)
         → ((n : ℕ) (s : Page) → pages.get (child_of p).settled n ≡ Some s → pages.contains (child_of p).tabled n ≡ true) → IsSpace (body b croot own l) u (child_of p)
     child_after tabled tabled_low has_tables = record {
       sound = record { order = same_order 0 (marked p) (child_of p).settled (child_of p).tabled None parent.sound.order; tabled = has_tables };
-      lays = record { parts = parent.lays.parts; mappings = parent.lays.mappings; heap_base = parent.lays.heap_base; size = parent.lays.size };
+      lays = record { parts = parent.lays.parts; mappings = parent.lays.mappings; heap_base = parent.lays.heap_base; size = parent.lays.size; scheme = parent.lays.scheme };
       stands = record {
         tables = record {
           known = record {

@@ -1,17 +1,16 @@
 -- A fork that is refused, and one that may begin.
-use Rattle.std.proofs.Common.{◌≡◌, ◌⊎◌, ℕ, ◌<◌, ◌≤◌, ap, refl, sym, subst, ◌∙◌, inl, inr, arith, Result, Ok, Err, List, [], ◌∷◌, length}
+use Rattle.std.proofs.Common.{◌≡◌, ◌⊎◌, ℕ, ◌<◌, ◌≤◌, ap, refl, sym, subst, ◌∙◌, inl, inr, arith, Result, Ok, Err, List, [], ◌∷◌, length, ◌++◌, ◌+◌}
 use Rattle.std.proofs.lemmas.List.{append-nil, length-map}
 use Rattle.frame_store.specs.Laws.{IsAnchored, IsDry}
-use Rattle.frame_store.specs.View.{Hold, hold_of, IsHeld, View}
+use Rattle.frame_store.specs.View.{Hold, hold_of, IsHeld, View, counted}
 use Rattle.frame_store.specs.Holds.{hold_of-frames}
 use Rattle.process_model.specs.Frames.{fork_need}
 use Rattle.process_model.specs.Process.{Process}
-use Rattle.sv39_entry.specs.Address.{trapframe_page}
 use Rattle.table_walk.specs.Tables.{Tables}
 use Rattle.address_space.specs.Agreement.{Body, body, body_of, IsSpace, nothing}
 use Rattle.address_space.specs.Layouts.{Layout}
 use Rattle.address_space.specs.Settled.{AreSettled}
-use Rattle.address_space.specs.Steps.{RunsDry}
+use Rattle.address_space.specs.Steps.{RunsDry, Takes}
 use Rattle.address_space.specs.declared.settled.SettledPage.{SettledPage}
 use Rattle.address_space.specs.declared.space.Space.{Space}
 use Rattle.cow_fork.specs.Forks.{CanDivide, Prepares}
@@ -22,6 +21,7 @@ use Rattle.cow_fork.specs.declared.forking.ForkError.TheVariants.{NoFrame, Share
 use Rattle.address_space.specs.Beside.{stands_beside}
 use Rattle.cow_fork.proofs.Going.{going_few, going_held, going_settled}
 use Rattle.cow_fork.proofs.Walking.{body_between}
+use Rattle.sv39_entry.specs.Schemes.{trapframe_page}
 
 -- ---- results
 
@@ -66,34 +66,40 @@ runs_dry o v w n need is dry none same = record {
 
 module _ (x : Body) (t : Tables) (p : Process) (space : IsSpace x t p) where
   pub space_anchored : IsAnchored x.view
-  space_anchored f _ = going_held x t p space trapframe_page 0 (inl refl)
+  space_anchored f _ = going_held x t p space (trapframe_page p.scheme) 0 (inl refl)
 
-  module _ (list : List SettledPage) (settled : AreSettled t p 0 trapframe_page list) where
-    going : AreGoing t p trapframe_page (0 ∷ frames_of list)
+  module _ (list : List SettledPage) (settled : AreSettled t p 0 (trapframe_page p.scheme) list) where
+    going : AreGoing t p (trapframe_page p.scheme) (0 ∷ frames_of list)
     going = going_settled x t p space list settled
 
     pub going_once : (f : ℕ) → times f (0 ∷ frames_of list) ≤ 1
     going_once f = elim (going f) [ inl there ↦ (let one = there.0 in omega (arith, one)) | inr none ↦ (let zero_ = none.0 in omega (arith, zero_)) ]
 
     pub all_held : (f : ℕ) → 0 < times f (0 ∷ frames_of list) → IsHeld x.view f
-    all_held f some = elim (going f) [ inl there ↦ going_held x t p space trapframe_page f there.1 | inr none ↦ absurd (let zero_ = none.0 in omega (arith, zero_, some)) ]
+    all_held f some = elim (going f) [ inl there ↦ going_held x t p space (trapframe_page p.scheme) f there.1 | inr none ↦ absurd (let zero_ = none.0 in omega (arith, zero_, some)) ]
 
     pub few_pages : ((f : ℕ) → IsHeld x.view f → f < 1024) → length list < 1024
     few_pages within =
-        let most = going_few x t p space trapframe_page (0 ∷ frames_of list) going within in
+        let most = going_few x t p space (trapframe_page p.scheme) (0 ∷ frames_of list) going within in
         let same = length-map list (λ (y : SettledPage). (y.frame).0) in
         omega (arith, most, same)
 
 -- it may be divided
 pub can_divide : {S : Type 0} (view : S → View) (x y : Space S) (v : View) (t : Tables) (p : Process) (need : ℕ) (list : List SettledPage) (L : List ℕ)
-    → IsSpace (body_of view y) t p → AreSettled t p 0 trapframe_page list
+    → IsSpace (body_of view y) t p → AreSettled t p 0 (trapframe_page p.scheme) list
     → v ≡ view y.seat → x.root ≡ y.root → x.trapframe ≡ y.trapframe → x.layout ≡ y.layout → need ≡ fork_need p
     → Prepares v (view x.seat) need L (0 ∷ frames_of list) → CanDivide v (body_of view x) t p list L
 can_divide view x y v t p need list L space settled viewed root trapframe layout needs ready = record {
   space = subst (λ b. IsSpace b t p) (sym (body_between v (view y.seat) x y viewed root trapframe layout)) space;
   more = ready.more;
-  going = subst (AreGoing t p trapframe_page) (sym ready.all) (going_settled (body_of view y) t p space list settled);
+  going = subst (AreGoing t p (trapframe_page p.scheme)) (sym ready.all) (going_settled (body_of view y) t p space list settled);
   settled = settled;
   credits = ready.credits ∙ needs;
   tallies = ready.tallies;
 }
+
+-- counts were read, and nothing else was taken
+pub takes_counted : (v w : View) (counts : List ℕ) → w.tallies ≡ counted counts v.tallies → Takes v w 0 counts
+takes_counted v w counts is =
+    let none : (v.tallies).claims ≡ (v.tallies).claims + 0 = omega arith in
+    record { tallies = is ∙ ap (λ k. record v.tallies { claims = k; looks = (v.tallies).looks ++ counts }) none }

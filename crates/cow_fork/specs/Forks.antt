@@ -8,8 +8,7 @@ use Rattle.process_model.specs.Process.{Page, Process}
 use Rattle.process_model.specs.Residence.{child_of, marked}
 use Rattle.process_model.specs.declared.step.Refusal.{Refusal}
 use Rattle.process_model.specs.declared.step.Refusal.TheVariants as refusal
-use Rattle.sv39_entry.specs.Address.{trampoline_page, trapframe_page}
-use Rattle.sv39_entry.specs.declared.scheme.Scheme.TheVariants.{Sv39}
+use Rattle.sv39_entry.specs.Schemes.{trampoline_page, trapframe_page}
 use Rattle.table_walk.specs.Counted.{AreTablesOf}
 use Rattle.table_walk.specs.Tables.{HasTables, Tables}
 use Rattle.address_space.specs.Agreement.{Body, body, code_rights, data_rights, HasKernelLeaf, IsLeafNumber, IsOn, IsSpace}
@@ -51,23 +50,23 @@ pub record IsBack (v w : View) : Type 0 where
 pub record CanDivide (v : View) (x : Body) (t : Tables) (p : Process) (list : List SettledPage) (frames : List ℕ) : Type 0 where
   pub space : IsSpace (body v x.root x.trapframe x.layout) t p
   pub more : HasMore v x.view frames
-  pub going : AreGoing t p trapframe_page frames
-  pub settled : AreSettled t p 0 trapframe_page list
+  pub going : AreGoing t p (trapframe_page p.scheme) frames
+  pub settled : AreSettled t p 0 (trapframe_page p.scheme) list
   pub credits : (x.view).credits ≡ fork_need p
   pub tallies : (x.view).tallies ≡ v.tallies
 
 -- the child's tables stand beside the parent's, and its frames are listed
 pub record HasChild (v w : View) (t u : Tables) (p : Process) (root own : ℕ) (frames : List ℕ) : Type 0 where
-  pub tables : HasTables Sv39 w root u
-  pub on_trampoline : HasKernelLeaf u trampoline_page 0 code_rights
-  pub on_trapframe : HasKernelLeaf u trapframe_page own data_rights
+  pub tables : HasTables p.scheme w root u
+  pub on_trampoline : HasKernelLeaf u (trampoline_page p.scheme) 0 code_rights
+  pub on_trapframe : HasKernelLeaf u (trapframe_page p.scheme) own data_rights
   pub settled : (n : ℕ) (s : Page) → pages.get p.settled n ≡ Some s → HasChildLeaf t u p n s
   pub only : (k x : ℕ) → get u.leaves k ≡ Some x → IsLeafNumber p k
-  pub tabled : AreTablesOf Sv39 u (pages.keys p.settled)
+  pub tabled : AreTablesOf p.scheme u (pages.keys p.settled)
   pub counts : (f : ℕ) → references w f ≡ references v f + times f frames
   pub same : (f : ℕ) → IsHeld v f → ((hold_of w f).words ≡ (hold_of v f).words) × ((hold_of w f).sole ≡ (hold_of v f).sole)
   pub fresh : (k f : ℕ) → get u.tables k ≡ Some f → references v f ≡ 0
-  pub going : (f : ℕ) → 0 < times f frames → IsHeld v f → IsGoing t p trapframe_page f
+  pub going : (f : ℕ) → 0 < times f frames → IsHeld v f → IsGoing t p (trapframe_page p.scheme) f
   pub for_child : AreForChild u (λ f. times f frames)
   pub own_fresh : references v own ≡ 0
   pub own_sole : IsSole w own

@@ -1,23 +1,22 @@
 -- The tables below a root, each once in a list.
-use Rattle.std.specs.Prelude.{◌≡◌, ◌⊎◌, ℕ, ◌^◌, ◌<◌, ◌≤◌, List, Option, None, Some}
+use Rattle.std.specs.Prelude.{◌≡◌, ◌⊎◌, ℕ, ◌<◌, ◌≤◌, List, Option, None, Some}
 use Rattle.std.specs.FinMap.{get}
 use Rattle.frame_store.specs.View.{View}
-use Rattle.sv39_entry.specs.Address.{trampoline_page, trapframe_page}
+use Rattle.sv39_entry.specs.Schemes.{page_limit, top_level, trampoline_page, trapframe_page}
+use Rattle.sv39_entry.specs.declared.scheme.Scheme.{Scheme}
 use Rattle.table_walk.specs.Tables.{HasTables, leaf_node, node, Tables}
-use Rattle.sv39_entry.specs.Schemes.{top_level}
-use Rattle.sv39_entry.specs.declared.scheme.Scheme.TheVariants.{Sv39}
 use Rattle.cow_fork.specs.Lists.{times}
 
 -- each table is on the way to a leaf
-abbrev pub IsLed : Tables → Type 0
-IsLed t = (k f : ℕ) → get t.tables k ≡ Some f → (n d w : ℕ) × (d ≤ top_level Sv39) × (n < 2 ^ 27) × (k ≡ node Sv39 n d) × (get t.leaves (leaf_node n) ≡ Some w)
+abbrev pub IsLed : Scheme → Tables → Type 0
+IsLed z t = (k f : ℕ) → get t.tables k ≡ Some f → (n d w : ℕ) × (d ≤ top_level z) × (n < page_limit z) × (k ≡ node z n d) × (get t.leaves (leaf_node n) ≡ Some w)
 
 -- no page from one on and before TRAPFRAME has a leaf, nor one behind TRAMPOLINE, and TRAPFRAME has one
-pub record IsEdged (t : Tables) (end : ℕ) : Type 0 where
-  pub low : end ≤ trapframe_page
-  pub bare : (n : ℕ) → end ≤ n → n < trapframe_page → get t.leaves (leaf_node n) ≡ None
-  pub there : (w : ℕ) × (get t.leaves (leaf_node trapframe_page) ≡ Some w)
-  pub above : (n : ℕ) → trampoline_page < n → n < 2 ^ 27 → get t.leaves (leaf_node n) ≡ None
+pub record IsEdged (z : Scheme) (t : Tables) (end : ℕ) : Type 0 where
+  pub low : end ≤ trapframe_page z
+  pub bare : (n : ℕ) → end ≤ n → n < trapframe_page z → get t.leaves (leaf_node n) ≡ None
+  pub there : (w : ℕ) × (get t.leaves (leaf_node (trapframe_page z)) ≡ Some w)
+  pub above : (n : ℕ) → trampoline_page z < n → n < page_limit z → get t.leaves (leaf_node n) ≡ None
 
 -- the list has numbers of frames, each once, and no table's
 pub record CanList (t : Tables) (L : List ℕ) : Type 0 where
@@ -35,14 +34,14 @@ ListsBelow t bound L M = (f : ℕ) → ((k : ℕ) × (k < bound) × (get t.table
     ⊎ (((k : ℕ) → k < bound → get t.tables k ≡ Some f → ⊥) × (times f M ≡ times f L))
 
 -- the tables with numbers below a bound are listed, behind the list L
-pub record IsListing (v : View) (root : ℕ) (t : Tables) (bound : ℕ) (L M : List ℕ) : Type 0 where
-  pub tables : HasTables Sv39 v root t
-  pub led : IsLed t
+pub record IsListing (z : Scheme) (v : View) (root : ℕ) (t : Tables) (bound : ℕ) (L M : List ℕ) : Type 0 where
+  pub tables : HasTables z v root t
+  pub led : IsLed z t
   pub can : CanList t L
   pub listed : ListsBelow t bound L M
 
--- the first page from one on that has a leaf, of those below 2 ^ 27
-abbrev pub IsFirstPage : Tables → ℕ → Option ℕ → Type 0
-IsFirstPage t from None = (n : ℕ) → from ≤ n → n < 2 ^ 27 → get t.leaves (leaf_node n) ≡ None
-IsFirstPage t from (Some page) = (from ≤ page) × (page < 2 ^ 27) × ((w : ℕ) × (get t.leaves (leaf_node page) ≡ Some w))
+-- the first page from one on that has a leaf
+abbrev pub IsFirstPage : Scheme → Tables → ℕ → Option ℕ → Type 0
+IsFirstPage z t from None = (n : ℕ) → from ≤ n → n < page_limit z → get t.leaves (leaf_node n) ≡ None
+IsFirstPage z t from (Some page) = (from ≤ page) × (page < page_limit z) × ((w : ℕ) × (get t.leaves (leaf_node page) ≡ Some w))
     × ((n : ℕ) → from ≤ n → n < page → get t.leaves (leaf_node n) ≡ None)

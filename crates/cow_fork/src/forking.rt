@@ -11,7 +11,7 @@ ghost use Rattle.frame_store.specs.Laws.{Fits, IsAnchored, IsDry, Keeps};
 ghost use Rattle.frame_store.specs.View.{IsHeld, View};
 ghost use Rattle.process_model.specs.Frames as model;
 ghost use Rattle.process_model.specs.Process.{Process};
-ghost use Rattle.sv39_entry.specs.Address.{trapframe_page};
+ghost use Rattle.sv39_entry.specs.Schemes.{trapframe_page};
 ghost use Rattle.table_walk.specs.Tables.{Tables};
 
 use crate::need::fork_need;
@@ -107,7 +107,7 @@ pub fn fork_listed<S: FrameSeat, F: FrameSupply<Seat = S>>(
 ) -> Result<Space<S>, ForkError>
     requires fits { Fits F.rule store.old space.old.seat }
     requires ready { (t : Tables) × (p : Process) × IsSpace (body_of S.view space.old) t p }
-    requires settled { (t : Tables) (p : Process) → IsSpace (body_of S.view space.old) t p → AreSettled t p 0 trapframe_page settled.now }
+    requires settled { (t : Tables) (p : Process) → IsSpace (body_of S.view space.old) t p → AreSettled t p 0 (trapframe_page p.scheme) settled.now }
     ensures forked { IfOk result (λ child. HasForked (body_of S.view space.old) (body_of S.view space.new) (body_of S.view child)) }
     ensures whole { IfErr result (λ _. (t : Tables) (p : Process) → IsSpace (body_of S.view space.old) t p → IsSpace (body_of S.view space.new) t p) }
     ensures dry { IsShort result → (t : Tables) (p : Process) → IsSpace (body_of S.view space.old) t p → RunsDry (S.view space.old.seat) (S.view space.new.seat) (model.fork_need p) [] }
@@ -122,7 +122,8 @@ pub fn fork_listed<S: FrameSeat, F: FrameSupply<Seat = S>>(
     ensures keeps { IfOk result (λ child. (others : List S) → F.rule store.old (space.old.seat ∷ others) → F.rule store.new (space.new.seat ∷ child.seat ∷ others)) }
     ensures keeps_refused { IfErr result (λ _. Keeps F.rule store.old space.old.seat store.new space.new.seat) }
 {
-    let need = fork_need(settled);
+    let scheme = space.layout.scheme();
+    let need = fork_need(scheme, settled);
     let mut frames = ArrayVec::new();
     if let Err(refusal) = prepare(space, store, settled, need, &mut frames) {
         return Err(refusal);
@@ -216,7 +217,8 @@ fn build_child<S: FrameSeat, F: FrameSupply<Seat = S>>(
     fill_frame(store, &mut space.seat, trapframe, &[]);
     frames.push(trapframe);
     let root = copy_tree(space, store, trapframe, settled);
+    let scheme = space.layout.scheme();
     let end = space.layout.end();
-    list_tables(store, &mut space.seat, root, end, frames);
+    list_tables(store, &mut space.seat, scheme, root, end, frames);
     (root, trapframe)
 }

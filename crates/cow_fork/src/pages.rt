@@ -5,14 +5,13 @@ ghost use Rattle.address_space.specs.Agreement.{body_of, IsSpace};
 ghost use Rattle.address_space.specs.Settled.{AreSettled};
 ghost use Rattle.frame_store.specs.Laws.{Fits, Keeps};
 ghost use Rattle.process_model.specs.Process.{Process};
-ghost use Rattle.sv39_entry.specs.Address.{trapframe_page};
+ghost use Rattle.sv39_entry.specs.Schemes.{trapframe_page};
 ghost use Rattle.table_walk.specs.Tables.{Tables};
 
 use address_space::{SettledPage, Space};
 use arrayvec::ArrayVec;
 use frame_store::{FrameAccess, FrameSeat};
 use std::marker::Model;
-use sv39_entry::TRAPFRAME;
 
 /// Room for the settled pages of one process after another. Contracts see nothing of what is there.
 #[derive(Drop)]
@@ -42,7 +41,7 @@ impl PageList {
     ) -> &[SettledPage]
         requires fits { Fits F.rule store.old space.old.seat }
         requires ready { (t : Tables) × (p : Process) × IsSpace (body_of S.view space.old) t p }
-        ensures settled { (t : Tables) (p : Process) → IsSpace (body_of S.view space.old) t p → AreSettled t p 0 trapframe_page result.now }
+        ensures settled { (t : Tables) (p : Process) → IsSpace (body_of S.view space.old) t p → AreSettled t p 0 (trapframe_page p.scheme) result.now }
         ensures root { space.new.root ≡ space.old.root }
         ensures trapframe { space.new.trapframe ≡ space.old.trapframe }
         ensures layout { space.new.layout ≡ space.old.layout }
@@ -66,7 +65,7 @@ fn list_settled<S: FrameSeat, F: FrameAccess<Seat = S>>(
     requires fits { Fits F.rule store.old space.old.seat }
     requires ready { (t : Tables) × (p : Process) × IsSpace (body_of S.view space.old) t p }
     requires empty { pages.old.items ≡ [] }
-    ensures settled { (t : Tables) (p : Process) → IsSpace (body_of S.view space.old) t p → AreSettled t p 0 trapframe_page pages.new.items }
+    ensures settled { (t : Tables) (p : Process) → IsSpace (body_of S.view space.old) t p → AreSettled t p 0 (trapframe_page p.scheme) pages.new.items }
     ensures root { space.new.root ≡ space.old.root }
     ensures trapframe { space.new.trapframe ≡ space.old.trapframe }
     ensures layout { space.new.layout ≡ space.old.layout }
@@ -74,8 +73,10 @@ fn list_settled<S: FrameSeat, F: FrameAccess<Seat = S>>(
     ensures same { store.new ≡ store.old }
     ensures keeps { Keeps F.rule store.old space.old.seat store.new space.new.seat }
 {
+    let scheme = space.layout.scheme();
+    let end = scheme.trapframe().page();
     let mut from = 0;
-    'pages: while let Some(found) = space.next_settled(store, from, TRAPFRAME.page()) {
+    'pages: while let Some(found) = space.next_settled(store, from, end) {
         from = found.page.number() + 1;
         pages.push(found);
     }

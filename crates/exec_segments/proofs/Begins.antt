@@ -13,8 +13,9 @@ use Rattle.process_model.specs.Loading.{guard_at, image_pages, load_pages, numbe
 use Rattle.process_model.specs.PageMap.{from_list, numbers}
 use Rattle.process_model.specs.Process.{Process}
 use Rattle.process_model.specs.Regions.{Region, end_of, guard_pages, makes_leaf, stack_pages}
-use Rattle.sv39_entry.specs.Address.{page_of, trapframe_page}
-use Rattle.sv39_entry.specs.declared.scheme.Scheme.TheVariants.{Sv39}
+use Rattle.sv39_entry.specs.Address.{page_of}
+use Rattle.sv39_entry.specs.Schemes.{trapframe_page, of_scheme}
+use Rattle.sv39_entry.specs.declared.scheme.Scheme.{Scheme}
 use Rattle.address_space.specs.Layouts.{last_page}
 use Rattle.address_space.specs.Parts.{AreParts, build_need, IsAscending, pages_of, part_pages, process_of_parts, region_in, regions_in}
 use Rattle.address_space.specs.declared.part.Part.{Part}
@@ -52,8 +53,8 @@ part_pages_are : (p : Part) (l : LoadSegment) → IsPartOf p l → part_pages p 
 part_pages_are p l is = pages_are p _ _ _ (ap (λ (r : Region). r.first) is.region) (ap (λ (r : Region). r.pages) is.region) is.bytes
 
 -- the page after a segment's last
-end_is : (end : ℕ) (p : Part) (l : LoadSegment) → IsPartOf p l → IsLoad end l → end_of (region_in p) ≡ end_page l
-end_is end p l is load =
+end_is : (z : Scheme) (end : ℕ) (p : Part) (l : LoadSegment) → IsPartOf p l → IsLoad z end l → end_of (region_in p) ≡ end_page l
+end_is z end p l is load =
     let first : p.region.first ≡ l.address / 4096 = ap (λ (r : Region). r.first) is.region in
     let pages : p.region.pages ≡ pages_for l.memory_size = ap (λ (r : Region). r.pages) is.region in
     let aligned = load.aligned in
@@ -69,8 +70,8 @@ each_all P [] each i d low = absurd (omega arith)
 each_all P (p ∷ ps) each zero d low = each.0
 each_all P (p ∷ ps) each (suc i) d low = each_all P ps each.1 i d (omega arith)
 
-abbrev IsLow : Part → Type 0
-IsLow p = p.region.first + p.region.pages ≤ trapframe_page
+abbrev IsLow : Scheme → Part → Type 0
+IsLow z p = p.region.first + p.region.pages ≤ trapframe_page z
 
 abbrev IsLeafy : Part → Type 0
 IsLeafy p = makes_leaf (region_in p) ≡ true
@@ -78,10 +79,15 @@ IsLeafy p = makes_leaf (region_in p) ≡ true
 abbrev IsWithoutFile : Part → Type 0
 IsWithoutFile p = is_file (region_in p).source ≡ false
 
+-- the guard and the stack have room below the trapframe
+some_room : (z : Scheme) → guard_pages + stack_pages ≤ trapframe_page z
+some_room z = omega (arith, of_scheme z)
+
 -- below the trapframe there is room for two pages more
-ends_low : (end : ℕ) (ls : List LoadSegment) → AreInOrder end ls → end + (guard_pages + stack_pages) ≤ trapframe_page → end_of_loads end ls + (guard_pages + stack_pages) ≤ trapframe_page
-ends_low end [] ordered low = low
-ends_low end (l ∷ ls) ordered low = ends_low (end_page l) ls ordered.1 (ordered.0).high
+ends_low : (z : Scheme) (end : ℕ) (ls : List LoadSegment) → AreInOrder z end ls → end + (guard_pages + stack_pages) ≤ trapframe_page z
+    → end_of_loads end ls + (guard_pages + stack_pages) ≤ trapframe_page z
+ends_low z end [] ordered low = low
+ends_low z end (l ∷ ls) ordered low = ends_low z (end_page l) ls ordered.1 (ordered.0).high
 
 module _ (g s : Part) where
   abbrev whole : List Part → List Part
@@ -103,13 +109,13 @@ module _ (g s : Part) where
   last_is end [] = refl
   last_is end (p ∷ ps) = last_is (end_of (region_in p)) ps
 
-  module _ (rest_low : (IsLow g × IsLow s)) (rest_leafy : (IsLeafy g × IsLeafy s)) where
-    low : (end : ℕ) (ps : List Part) (ls : List LoadSegment) → ArePartsOf ps ls → AreInOrder end ls → Each IsLow (whole ps)
+  module _ (z : Scheme) (rest_low : (IsLow z g × IsLow z s)) (rest_leafy : (IsLeafy g × IsLeafy s)) where
+    low : (end : ℕ) (ps : List Part) (ls : List LoadSegment) → ArePartsOf ps ls → AreInOrder z end ls → Each (IsLow z) (whole ps)
     low end [] [] are ordered = (rest_low.0, (rest_low.1, tt))
     low end [] (l ∷ ls) are ordered = elim are [ ]
     low end (p ∷ ps) [] are ordered = elim are [ ]
     low end (p ∷ ps) (l ∷ ls) are ordered =
-        ((let last = end_is end p l are.0 ordered.0 in let high = (ordered.0).high in omega (arith, last, high)), low (end_page l) ps ls are.1 ordered.1)
+        ((let last = end_is z end p l are.0 ordered.0 in let high = (ordered.0).high in omega (arith, last, high)), low (end_page l) ps ls are.1 ordered.1)
 
     leafy : (ps : List Part) (ls : List LoadSegment) → ArePartsOf ps ls → Each IsLeafy (whole ps)
     leafy [] [] are = (rest_leafy.0, (rest_leafy.1, tt))
@@ -123,19 +129,20 @@ module _ (g s : Part) where
   without_file rest (p ∷ ps) [] are = elim are [ ]
   without_file rest (p ∷ ps) (l ∷ ls) are = (ap (λ (r : Region). is_file r.source) (are.0).region, without_file rest ps ls are.1)
 
-  ascending : (end : ℕ) (ps : List Part) (ls : List LoadSegment) → ArePartsOf ps ls → AreInOrder end ls → end_of_loads end ls ≤ g.region.first → end_of (region_in g) ≤ s.region.first → IsAscending end (whole ps)
-  ascending end [] [] are ordered first second = (first, (second, tt))
-  ascending end [] (l ∷ ls) are ordered first second = elim are [ ]
-  ascending end (p ∷ ps) [] are ordered first second = elim are [ ]
-  ascending end (p ∷ ps) (l ∷ ls) are ordered first second =
-      let last = end_is end p l are.0 ordered.0 in
+  ascending : (z : Scheme) (end : ℕ) (ps : List Part) (ls : List LoadSegment) → ArePartsOf ps ls → AreInOrder z end ls → end_of_loads end ls ≤ g.region.first → end_of (region_in g) ≤ s.region.first → IsAscending end (whole ps)
+  ascending z end [] [] are ordered first second = (first, (second, tt))
+  ascending z end [] (l ∷ ls) are ordered first second = elim are [ ]
+  ascending z end (p ∷ ps) [] are ordered first second = elim are [ ]
+  ascending z end (p ∷ ps) (l ∷ ls) are ordered first second =
+      let last = end_is z end p l are.0 ordered.0 in
       let at : p.region.first ≡ page_of l.address = ap (λ (r : Region). r.first) (are.0).region in
       let behind = (ordered.0).in_order in
-      (omega (arith, at, behind), subst (λ n. IsAscending n (whole ps)) (sym last) (ascending (end_page l) ps ls are.1 ordered.1 first second))
+      (omega (arith, at, behind), subst (λ n. IsAscending n (whole ps)) (sym last) (ascending z (end_page l) ps ls are.1 ordered.1 first second))
 
--- the process of regions, pages and where its heap begins
-abbrev made : ℕ → List Region → List (ℕ × List ℕ) → ℕ → Process
-made fresh rs es end = record {
+-- the process of a scheme, regions, pages and where its heap begins
+abbrev made : Scheme → ℕ → List Region → List (ℕ × List ℕ) → ℕ → Process
+made z fresh rs es end = record {
+  scheme = z;
   parts = rs;
   mappings = [];
   heap_base = 4096 * end;
@@ -145,21 +152,21 @@ made fresh rs es end = record {
   pending = None;
 }
 
-abbrev need_of : List (ℕ × List ℕ) → ℕ
-need_of es = 1 + length es + tables_needed Sv39 (map (λ e. e.0) es)
+abbrev need_of : Scheme → List (ℕ × List ℕ) → ℕ
+need_of z es = 1 + length es + tables_needed z (map (λ e. e.0) es)
 
-in_row : (end : ℕ) (ls : List LoadSegment) → AreInOrder end ls → InRow end ls
-in_row end [] ordered = tt
-in_row end (l ∷ ls) ordered =
+in_row : (z : Scheme) (end : ℕ) (ls : List LoadSegment) → AreInOrder z end ls → InRow end ls
+in_row z end [] ordered = tt
+in_row z end (l ∷ ls) ordered =
     let some = (ordered.0).some in
     let aligned = (ordered.0).aligned in
-    (record { above = (ordered.0).in_order; some = omega (arith, some); end = omega (arith, aligned) }, in_row (end_page l) ls ordered.1)
+    (record { above = (ordered.0).in_order; some = omega (arith, some); end = omega (arith, aligned) }, in_row z (end_page l) ls ordered.1)
 
-placed : (ls : List LoadSegment) → AreLoads ls → IsPlaced ls
-placed ls loads = record { row = in_row 0 ls loads.in_order; below = ends_low 0 ls loads.in_order (omega arith) }
+placed : (z : Scheme) (ls : List LoadSegment) → AreLoads z ls → IsPlaced z ls
+placed z ls loads = record { row = in_row z 0 ls loads.in_order; below = ends_low z 0 ls loads.in_order (some_room z) }
 
 -- the parts of an image: those of its segments, the guard and the stack
-module _ (ps : List Part) (ls : List LoadSegment) (g s : Part) (are : ArePartsOf ps ls) (loads : AreLoads ls)
+module _ (z : Scheme) (ps : List Part) (ls : List LoadSegment) (g s : Part) (are : ArePartsOf ps ls) (loads : AreLoads z ls)
     (guard_is : region_in g ≡ guard_at (end_of_loads 0 ls)) (stack_is : region_in s ≡ stack_at (end_of_loads 0 ls + guard_pages)) (no_bytes : g.bytes.now ≡ []) (none : s.bytes.now ≡ []) where
   all_regions : regions_in (whole g s ps) ≡ parts_of ls
   all_regions = map-append region_in ps (g ∷ s ∷ []) ∙ ap (λ rs. rs ++ region_in g ∷ region_in s ∷ []) (regions_are g s ps ls are)
@@ -178,31 +185,31 @@ module _ (ps : List Part) (ls : List LoadSegment) (g s : Part) (are : ArePartsOf
   last_page_is : last_page 0 (regions_in (whole g s ps)) ≡ end_of_loads 0 ls + (guard_pages + stack_pages)
   last_page_is = last_is g s 0 ps ∙ ap end_of stack_is ∙ omega arith
 
-  pub begins : (fresh : ℕ) → process_of_parts fresh (whole g s ps) ≡ process_of fresh ls
+  pub begins : (fresh : ℕ) → process_of_parts z fresh (whole g s ps) ≡ process_of z fresh ls
   unfolding process_of
-  begins fresh = ap (λ rs. made fresh rs (pages_of (whole g s ps)) (last_page 0 (regions_in (whole g s ps)))) all_regions
-      ∙ ap (λ es. made fresh (parts_of ls) es (last_page 0 (regions_in (whole g s ps)))) all_pages ∙ ap (made fresh (parts_of ls) (image_pages ls)) last_page_is
+  begins fresh = ap (λ rs. made z fresh rs (pages_of (whole g s ps)) (last_page 0 (regions_in (whole g s ps)))) all_regions
+      ∙ ap (λ es. made z fresh (parts_of ls) es (last_page 0 (regions_in (whole g s ps)))) all_pages ∙ ap (made z fresh (parts_of ls) (image_pages ls)) last_page_is
 
-  pub needs : build_need (whole g s ps) ≡ start_need ls
+  pub needs : build_need z (whole g s ps) ≡ start_need z ls
   needs =
       let numbers_many = length-map (image_pages ls) (λ (e : ℕ × List ℕ). e.0) in
-      let by_runs = exec_need_is ls (placed ls loads) in
-      ap need_of all_pages ∙ omega (arith, numbers_many, by_runs)
+      let by_runs = exec_need_is z ls (placed z ls loads) in
+      ap (need_of z) all_pages ∙ omega (arith, numbers_many, by_runs)
 
-  pub are_parts : AreParts (whole g s ps)
+  pub are_parts : AreParts z (whole g s ps)
   are_parts =
       let first : g.region.first ≡ end_of_loads 0 ls = ap (λ (r : Region). r.first) guard_is in
       let one : g.region.pages ≡ 1 = ap (λ (r : Region). r.pages) guard_is in
       let second : s.region.first ≡ end_of_loads 0 ls + 1 = ap (λ (r : Region). r.first) stack_is in
       let two : s.region.pages ≡ 1 = ap (λ (r : Region). r.pages) stack_is in
-      let high = ends_low 0 ls loads.in_order (omega arith) in
-      let both_low : (IsLow g × IsLow s) = (omega (arith, first, one, high), omega (arith, second, two, high)) in
+      let high = ends_low z 0 ls loads.in_order (some_room z) in
+      let both_low : (IsLow z g × IsLow z s) = (omega (arith, first, one, high), omega (arith, second, two, high)) in
       let both_leafy : (IsLeafy g × IsLeafy s) = (ap makes_leaf guard_is, ap makes_leaf stack_is) in
       record {
         few = let longer = length-append ps (g ∷ s ∷ []) in let same = same_length ps ls are in let most = loads.few in omega (arith, longer, same, most);
-        ascending = ascending g s 0 ps ls are loads.in_order (omega (arith, first)) (omega (arith, first, one, second));
-        low = each_all IsLow (whole g s ps) (low g s both_low both_leafy 0 ps ls are loads.in_order);
-        leafy = each_all IsLeafy (whole g s ps) (leafy g s both_low both_leafy ps ls are);
+        ascending = ascending g s z 0 ps ls are loads.in_order (omega (arith, first)) (omega (arith, first, one, second));
+        low = each_all (IsLow z) (whole g s ps) (low g s z both_low both_leafy 0 ps ls are loads.in_order);
+        leafy = each_all IsLeafy (whole g s ps) (leafy g s z both_low both_leafy ps ls are);
         sources = each_all IsWithoutFile (whole g s ps) (without_file g s (ap (λ (r : Region). is_file r.source) guard_is, ap (λ (r : Region). is_file r.source) stack_is) ps ls are);
       }
 
@@ -222,17 +229,17 @@ module _ (loads : List Load) (i : ℕ) (e : Load) (low : i < length loads) where
   end_forward = ap (end_of_loads 0) next ∙ last_behind 0 (map load_of (take i loads)) (load_of (get_or loads i e))
 
 -- each segment ends below the trapframe
-load_low : (end : ℕ) (loads : List Load) (i : ℕ) (e : Load) → AreInOrder end (map load_of loads) → i < length loads → end_page (load_of (get_or loads i e)) + (guard_pages + stack_pages) ≤ trapframe_page
-load_low end [] i e ordered low = absurd (omega arith)
-load_low end (l ∷ loads) zero e ordered low = (ordered.0).high
-load_low end (l ∷ loads) (suc i) e ordered low = load_low (end_page (load_of l)) loads i e ordered.1 (omega arith)
+load_low : (z : Scheme) (end : ℕ) (loads : List Load) (i : ℕ) (e : Load) → AreInOrder z end (map load_of loads) → i < length loads → end_page (load_of (get_or loads i e)) + (guard_pages + stack_pages) ≤ trapframe_page z
+load_low z end [] i e ordered low = absurd (omega arith)
+load_low z end (l ∷ loads) zero e ordered low = (ordered.0).high
+load_low z end (l ∷ loads) (suc i) e ordered low = load_low z (end_page (load_of l)) loads i e ordered.1 (omega arith)
 
-pub load_fits : (loads : List Load) (i : ℕ) (e : Load) → AreLoads (map load_of loads) → i < length loads → (get_or loads i e).address + (get_or loads i e).memory_size < 2 ^ 64
-load_fits loads i e are low = let high = load_low 0 loads i e are.in_order low in omega (arith, high)
+pub load_fits : (z : Scheme) (loads : List Load) (i : ℕ) (e : Load) → AreLoads z (map load_of loads) → i < length loads → (get_or loads i e).address + (get_or loads i e).memory_size < 2 ^ 64
+load_fits z loads i e are low = let high = load_low z 0 loads i e are.in_order low in omega (arith, high, of_scheme z)
 
 -- so many parts
-pub room : (loads : List Load) (i : ℕ) (ps : List Part) → AreLoads (map load_of loads) → i ≤ length loads → ArePartsOf ps (map load_of (take i loads)) → length ps ≤ 16
-room loads i ps are low parts =
+pub room : (z : Scheme) (loads : List Load) (i : ℕ) (ps : List Part) → AreLoads z (map load_of loads) → i ≤ length loads → ArePartsOf ps (map load_of (take i loads)) → length ps ≤ 16
+room z loads i ps are low parts =
     let same = same_length ps _ parts in
     let mapped = length-map (take i loads) load_of in
     let taken = length-take-le i loads low in
@@ -240,8 +247,8 @@ room loads i ps are low parts =
     let few = are.few in
     omega (arith, same, mapped, taken, all, few, low)
 
-pub end_fits : (loads : List Load) (end : ℕ) → AreLoads (map load_of loads) → end ≡ end_of_loads 0 (map load_of loads) → end + (guard_pages + stack_pages) ≤ trapframe_page
-end_fits loads end are is = let high = ends_low 0 (map load_of loads) are.in_order (omega arith) in omega (arith, high, is)
+pub end_fits : (z : Scheme) (loads : List Load) (end : ℕ) → AreLoads z (map load_of loads) → end ≡ end_of_loads 0 (map load_of loads) → end + (guard_pages + stack_pages) ≤ trapframe_page z
+end_fits z loads end are is = let high = ends_low z 0 (map load_of loads) are.in_order (some_room z) in omega (arith, high, is)
 
 -- all of them
 pub all_parts : (loads : List Load) (i : ℕ) (ps : List Part) → length loads ≤ i → ArePartsOf ps (map load_of (take i loads)) → ArePartsOf ps (map load_of loads)

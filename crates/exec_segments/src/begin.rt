@@ -1,11 +1,11 @@
 // Processes that begin.
 
-ghost use Rattle.std.specs.Prelude.{[], ◌≡◌, ◌-◌, ◌<◌, ◌≤◌, ◌↔◌, if◌then◌else◌, IfErr, IfOk, is_ok, IsOk, map, ℕ};
+ghost use Rattle.std.specs.Prelude.{[], ◌≡◌, ◌-◌, ◌≤◌, ◌↔◌, if◌then◌else◌, IfErr, IfOk, is_ok, IsOk, ℕ};
 ghost use Rattle.address_space.specs.Agreement.{body_of, IsSpace, HoldsTrampoline};
 ghost use Rattle.address_space.specs.Layouts.{region_of};
 ghost use Rattle.address_space.specs.Parts.{AreParts, build_need, OwnsAlone, process_of_parts};
 ghost use Rattle.address_space.specs.Steps.{Takes};
-ghost use Rattle.exec_segments.specs.Loads.{AreLoads, load_of, zeros_region};
+ghost use Rattle.exec_segments.specs.Loads.{load_of, zeros_region};
 ghost use Rattle.frame_store.specs.Laws.{Fits, IsDry, Keeps};
 ghost use Rattle.process_model.specs.Frames.{start_need};
 ghost use Rattle.process_model.specs.Loading as model;
@@ -19,8 +19,8 @@ use bitflags::Flags;
 use frame_store::{FrameSeat, FrameSupply, NoFrame};
 use sv39_entry::{PAGE_SIZE, Rights};
 
-/// Starts a process of an image, on a seat that holds the trampoline's frame and nothing else. All that it takes is
-/// reserved at once, before anything is built; where it is not there the seat comes back as it was.
+/// Starts a process of an image, by the scheme of the image, on a seat that holds the trampoline's frame and nothing else. All
+/// that it takes is reserved at once, before anything is built; where it is not there the seat comes back as it was.
 pub fn start<F: FrameSupply<Seat = S>, S: FrameSeat>(
     store: &mut F,
     seat: S,
@@ -28,26 +28,26 @@ pub fn start<F: FrameSupply<Seat = S>, S: FrameSeat>(
 ) -> Result<Space<S>, (NoFrame, S)>
     requires fits { Fits F.rule store.old seat }
     requires seat { HoldsTrampoline (S.view seat) }
-    ensures started { IfOk result (λ s. (t : tables.Tables) × ((fresh : ℕ) → IsSpace (body_of S.view s) t (model.process_of fresh image.now)) × OwnsAlone (S.view s.seat) t) }
-    ensures takes { IfOk result (λ s. Takes (S.view seat) (S.view s.seat) (start_need image.now) []) }
-    ensures refused { IfErr result (λ e. IsDry (start_need image.now) (S.view seat) (S.view e.1)) }
-    ensures exact { F.alone → IsOk result ↔ (start_need image.now ≤ F.free store.old) }
-    ensures free { F.alone → F.free store.new ≡ F.free store.old - (if is_ok result then start_need image.now else 0) }
+    ensures started { IfOk result (λ s. (t : tables.Tables) × ((fresh : ℕ) → IsSpace (body_of S.view s) t (model.process_of image.now.scheme fresh image.now.loads)) × OwnsAlone (S.view s.seat) t) }
+    ensures takes { IfOk result (λ s. Takes (S.view seat) (S.view s.seat) (start_need image.now.scheme image.now.loads) []) }
+    ensures refused { IfErr result (λ e. IsDry (start_need image.now.scheme image.now.loads) (S.view seat) (S.view e.1)) }
+    ensures exact { F.alone → IsOk result ↔ (start_need image.now.scheme image.now.loads ≤ F.free store.old) }
+    ensures free { F.alone → F.free store.new ≡ F.free store.old - (if is_ok result then start_need image.now.scheme image.now.loads else 0) }
     ensures keeps { IfOk result (λ s. Keeps F.rule store.old seat store.new s.seat) }
     ensures keeps_refused { IfErr result (λ e. Keeps F.rule store.old seat store.new e.1) }
 {
-    let parts = parts_of(image.loads.as_slice());
-    Space::build(store, seat, parts.as_slice())
+    let parts = parts_of(image);
+    Space::build(store, seat, image.scheme, parts.as_slice())
 }
 
 /// The parts of a process: its segments, and after the last one a guard page and a stack page (the xv6 book, "Code:
 /// exec").
-pub(crate) fn parts_of<'a>(loads: &[Load<'a>]) -> ArrayVec<Part<'a>, 18>
-    requires { AreLoads (map load_of loads.now) }
-    ensures parts { AreParts result.items }
-    ensures process { (fresh : ℕ) → process_of_parts fresh result.items ≡ model.process_of fresh (map load_of loads.now) }
-    ensures need { build_need result.items ≡ start_need (map load_of loads.now) }
+pub(crate) fn parts_of<'a>(image: &Image<'a>) -> ArrayVec<Part<'a>, 18>
+    ensures parts { AreParts image.now.scheme result.items }
+    ensures process { (fresh : ℕ) → process_of_parts image.now.scheme fresh result.items ≡ model.process_of image.now.scheme fresh image.now.loads }
+    ensures need { build_need image.now.scheme result.items ≡ start_need image.now.scheme image.now.loads }
 {
+    let loads = image.loads.as_slice();
     let mut parts = ArrayVec::new();
     let mut end = 0;
     'loads: for load in loads {

@@ -1,8 +1,8 @@
 // ELF files of 64 bits, as exec reads them (the xv6 book, "Code: exec"; System V ABI, "Object files").
 
-ghost use Rattle.std.specs.Prelude.{◌≡◌, ◌≤◌, ◌+◌, ◌*◌, length, drop, nat_le, take};
+ghost use Rattle.std.specs.Prelude.{◌≡◌, ◌≤◌, ◌+◌, ◌*◌, IfOk, length, drop, nat_le, take};
 ghost use Rattle.exec_segments.specs.Headers.{HasItsBytes, IsPlace, header_of};
-ghost use Rattle.exec_segments.specs.Loads.{load_of};
+ghost use Rattle.exec_segments.specs.Loads.{load_of, loads_in};
 ghost use Rattle.process_model.specs.Images as model;
 
 use crate::fields::{u16_at, u32_at, u64_at};
@@ -10,6 +10,7 @@ use crate::image::Image;
 use crate::judging::Judging;
 use crate::load::Load;
 use process_model::BadImage;
+use sv39_entry::Scheme;
 
 /// The longest file that is read: 1 MiB.
 const LONGEST_IMAGE: usize = 1 << 20;
@@ -39,11 +40,12 @@ pub(crate) enum Header<'a> {
     Load(Load<'a>),
 }
 
-/// Judges the bytes of an ELF file: its header, and then its program headers one after another, of which the offset in the
-/// file is at byte 32 and the number at byte 56. The first check that fails is told. The image borrows the bytes of its
-/// segments.
-pub fn read_image(bytes: &[u8]) -> Result<Image<'_>, BadImage>
-    ensures { result ≡ model.elf_loads bytes.now }
+/// Judges the bytes of an ELF file, for an address space of a scheme: its header, and then its program headers one after
+/// another, of which the offset in the file is at byte 32 and the number at byte 56. The first check that fails is told. The
+/// image borrows the bytes of its segments.
+pub fn read_image(scheme: Scheme, bytes: &[u8]) -> Result<Image<'_>, BadImage>
+    ensures loads { loads_in result ≡ model.elf_loads scheme bytes.now }
+    ensures scheme { IfOk result (λ i. i.scheme ≡ scheme) }
 {
     if bytes.len() > LONGEST_IMAGE {
         return Err(BadImage::TooLong);
@@ -56,7 +58,7 @@ pub fn read_image(bytes: &[u8]) -> Result<Image<'_>, BadImage>
     }
     let table = u64_at(bytes, 32);
     let count = u16_at(bytes, 56);
-    let mut judging = Judging::new();
+    let mut judging = Judging::new(scheme);
     'headers: for index in 0..count {
         match header_at(bytes, table, index) {
             Header::Outside => return Err(BadImage::ProgramHeader),

@@ -6,7 +6,7 @@ ghost use Rattle.process_model.specs.Images as model;
 ghost use Rattle.process_model.specs.Images.{LoadSegment};
 
 use process_model::{BadImage, Segment};
-use sv39_entry::{PAGE_SIZE, TRAPFRAME};
+use sv39_entry::{PAGE_SIZE, Scheme};
 
 /// How many pages the guard has that stands behind the last segment (the xv6 book, "Code: exec").
 pub(crate) const GUARD_PAGES: u64 = 1;
@@ -74,11 +74,11 @@ impl<'a> Load<'a> {
         (self.address + self.memory_size).div_ceil(PAGE_SIZE)
     }
 
-    /// The first check that it fails, after so many segments with pages before it, and the page where the last of these
-    /// ends.
-    pub(crate) fn fault(&self, end: u64, count: usize) -> Option<BadImage>
+    /// The first check that it fails in an address space of a scheme, after so many segments with pages before it, and the
+    /// page where the last of these ends.
+    pub(crate) fn fault(&self, scheme: Scheme, end: u64, count: usize) -> Option<BadImage>
         ensures { (before : List LoadSegment) → length before ≡ count → model.end_of_loads 0 before ≡ end →
-            result ≡ model.load_fault before (load_of self.now) }
+            result ≡ model.load_fault scheme before (load_of self.now) }
     {
         if self.memory_size < self.file_size {
             return Some(BadImage::Sizes);
@@ -95,7 +95,8 @@ impl<'a> Load<'a> {
         if !self.is_inside {
             return Some(BadImage::Contents);
         }
-        if past.div_ceil(PAGE_SIZE) + (GUARD_PAGES + STACK_PAGES) > TRAPFRAME.0 / PAGE_SIZE {
+        let trapframe = scheme.trapframe().0 / PAGE_SIZE;
+        if past.div_ceil(PAGE_SIZE) + (GUARD_PAGES + STACK_PAGES) > trapframe {
             return Some(BadImage::TooHigh);
         }
         if self.address / PAGE_SIZE < end {

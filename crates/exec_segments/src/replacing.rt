@@ -26,7 +26,7 @@ use process_model::Refusal;
 /// Puts the process of an image in the place of the one in the space (the xv6 book, "Code: exec"): what was stored to its
 /// mappings goes back to their files, in order of address, then its pages and tables go, and those of the image come. The
 /// trapframe keeps its frame. The promise for the files and all frames come first, and what the old process has does not
-/// count as free; a refusal leaves it whole.
+/// count as free; a refusal leaves it whole. The image was judged for the scheme of the space.
 pub fn exec<S: FrameSeat, F: FrameSupply<Seat = S>, C: Files>(
     space: &mut Space<S>,
     store: &mut F,
@@ -35,26 +35,27 @@ pub fn exec<S: FrameSeat, F: FrameSupply<Seat = S>, C: Files>(
 ) -> Result<(), Refusal>
     requires fits { Fits F.rule store.old space.old.seat }
     requires ready { (t : tables.Tables) × (p : Process) × IsSpace (body_of S.view space.old) t p }
-    ensures replaced { IfOk result (λ _. (t : tables.Tables) × ((fresh : ℕ) → IsSpace (body_of S.view space.new) t (model.process_of fresh image.now)) × OwnsAlone (S.view space.new.seat) t) }
+    requires scheme { image.now.scheme ≡ space.old.layout.scheme }
+    ensures replaced { IfOk result (λ _. (t : tables.Tables) × ((fresh : ℕ) → IsSpace (body_of S.view space.new) t (model.process_of image.now.scheme fresh image.now.loads)) × OwnsAlone (S.view space.new.seat) t) }
     ensures moves { IfOk result (λ _. (t : tables.Tables) (p : Process) → IsSpace (body_of S.view space.old) t p → C.becomes files.old (all_moves p) files.new) }
     ensures written { IfOk result (λ _. (t : tables.Tables) (p : Process) → IsSpace (body_of S.view space.old) t p → C.files files.new ≡ all_written_back (C.files files.old) p) }
-    ensures takes { IfOk result (λ _. Takes (S.view space.old.seat) (S.view space.new.seat) (exec_need image.now) []) }
+    ensures takes { IfOk result (λ _. Takes (S.view space.old.seat) (S.view space.new.seat) (exec_need image.now.scheme image.now.loads) []) }
     ensures saved { IfOk result (λ _. hold_of (S.view space.new.seat) space.old.trapframe.0 ≡ hold_of (S.view space.old.seat) space.old.trapframe.0) }
     ensures refused { IfErr result (λ e. (t : tables.Tables) (p : Process) → IsSpace (body_of S.view space.old) t p → IsExecRefusal (C.can_refuse files.old (length (all_moves p))) e) }
     ensures promised { IfErr result (λ e. e ≡ NoFrame → (t : tables.Tables) (p : Process) → IsSpace (body_of S.view space.old) t p → length (all_moves p) ≤ C.room files.new) }
-    ensures dry { IfErr result (λ e. e ≡ NoFrame → RunsDry (S.view space.old.seat) (S.view space.new.seat) (exec_need image.now) []) }
+    ensures dry { IfErr result (λ e. e ≡ NoFrame → RunsDry (S.view space.old.seat) (S.view space.new.seat) (exec_need image.now.scheme image.now.loads) []) }
     ensures whole { IfErr result (λ _. (t : tables.Tables) (p : Process) → IsSpace (body_of S.view space.old) t p → IsSpace (body_of S.view space.new) t p) }
     ensures files_stay { IfErr result (λ _. C.becomes files.old [] files.new) }
     ensures view_stays { IfErr result (λ e. e ≢ NoFrame → S.view space.new.seat ≡ S.view space.old.seat) }
     ensures store_stays { IfErr result (λ e. e ≢ NoFrame → store.new ≡ store.old) }
-    ensures enough { F.alone → IfOk result (λ _. exec_need image.now ≤ F.free store.old) }
-    ensures short { F.alone → IfErr result (λ e. e ≡ NoFrame → F.free store.old < exec_need image.now) }
+    ensures enough { F.alone → IfOk result (λ _. exec_need image.now.scheme image.now.loads ≤ F.free store.old) }
+    ensures short { F.alone → IfErr result (λ e. e ≡ NoFrame → F.free store.old < exec_need image.now.scheme image.now.loads) }
     ensures trapframe { space.new.trapframe ≡ space.old.trapframe }
     ensures keeps { Keeps F.rule store.old space.old.seat store.new space.new.seat }
 {
-    let parts = parts_of(image.loads.as_slice());
+    let parts = parts_of(image);
     promise_write_back(space, store, files)?;
-    let need = frames_needed(parts.as_slice()) - 1;
+    let need = frames_needed(image.scheme, parts.as_slice()) - 1;
     if store.reserve(&mut space.seat, need).is_err() {
         return Err(Refusal::NoFrame);
     }

@@ -94,7 +94,7 @@ module _ (x : Body) (t : Tables) (p : Process) (page : ℕ) (s : Page) (copy : �
       order = same_order 0 before after.settled after.tabled after.pending space.sound.order;
       tabled = λ n y at. let was = was_settled n y at in space.sound.tabled n was.0 was.1;
     };
-    lays = record { parts = space.lays.parts; mappings = space.lays.mappings; heap_base = space.lays.heap_base; size = space.lays.size };
+    lays = record { parts = space.lays.parts; mappings = space.lays.mappings; heap_base = space.lays.heap_base; size = space.lays.size; scheme = space.lays.scheme };
     stands = record {
       tables = space.stands.tables;
       owns = space.stands.owns;

@@ -14,7 +14,7 @@ use Rattle.process_model.specs.Process.{Page, Process, regions}
 use Rattle.process_model.specs.RegionRows.{row_within}
 use Rattle.process_model.specs.Regions.{Region}
 use Rattle.process_model.specs.Residence.{goes_through, made_resident, made_resident_from, parts_from, region_on, taken_over_unless}
-use Rattle.sv39_entry.specs.Address.{trapframe_page}
+use Rattle.sv39_entry.specs.Schemes.{trapframe_page}
 use Rattle.sv39_entry.specs.declared.access.Access.{Access}
 use Rattle.sv39_entry.specs.declared.access.Access.TheVariants as access
 use Rattle.table_walk.specs.Tables.{Tables}
@@ -24,8 +24,8 @@ pub same_body : {S : Type 0} (view : S → View) (x y : Space S) → view x.seat
 same_body view x y seat root trapframe layout = λ i. record { view = seat i; root = (root i).0; trapframe = (trapframe i).0; layout = layout i }
 
 -- regions lie below the trapframe
-pub page_low : (x : Body) (t : Tables) (p : Process) (a : Access) (page : ℕ) → CanReside x t p a page → page < trapframe_page
-page_low x t p a page can = (row_within 0 0 trapframe_page page (regions p) can.region (regions_row 0 p can.agrees.sound.order) can.in_region).1
+pub page_low : (x : Body) (t : Tables) (p : Process) (a : Access) (page : ℕ) → CanReside x t p a page → page < trapframe_page p.scheme
+page_low x t p a page can = (row_within 0 0 (trapframe_page p.scheme) page (regions p) can.region (regions_row 0 p can.agrees.sound.order) can.in_region).1
 
 -- what is said of a store
 

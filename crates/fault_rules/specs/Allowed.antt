@@ -13,15 +13,16 @@ use Rattle.sv39_entry.specs.declared.access.Access.{Access}
 use Rattle.sv39_entry.specs.declared.access.Access.TheVariants as access
 use Rattle.sv39_entry.specs.declared.rule.Rule.{Rule}
 use Rattle.sv39_entry.specs.declared.rule.Rule.TheVariants as rule
+use Rattle.sv39_entry.specs.declared.scheme.Scheme.{Scheme}
 use Rattle.table_walk.specs.Tables.{Tables}
 
 aligned_copy : (b : Bool) (o : Option Rule) → (if b then o else Some rule.Misaligned) ≡ None → o ≡ None
 aligned_copy true o is = is
 aligned_copy false o is = absurd (cc)
 
-pub can_reside : (x : Body) (t : Tables) (p : Process) (a : Access) (address width : ℕ) → IsSpace x t p → first_rule (regions p) a address width ≡ None → CanReside x t p a (page_of address)
+pub can_reside : (x : Body) (t : Tables) (p : Process) (a : Access) (address width : ℕ) → IsSpace x t p → first_rule p.scheme (regions p) a address width ≡ None → CanReside x t p a (page_of address)
 can_reside x t p a address width space none =
-    let tests = none_true (copy_tests (regions p) a address) (aligned_copy (is_aligned address width) (copy_rule (regions p) a address) none) in
+    let tests = none_true (copy_tests p.scheme (regions p) a address) (aligned_copy (is_aligned address width) (copy_rule p.scheme (regions p) a address) none) in
     go (region_at (regions p) (page_of address)) refl tests.1.1.1.1.0
   where
     go : (o : Option Region) → region_at (regions p) (page_of address) ≡ o → lacks_right a (region_at (regions p) (page_of address)) ≡ false → CanReside x t p a (page_of address)
@@ -44,12 +45,12 @@ right_tells access.Fetch is = cc
 right_tells access.Load is = cc
 right_tells access.Store is = cc
 
-pub denied_otherwise : (rs : List Region) (a : Access) (address width : ℕ) → first_rule rs a address width ≡ Some rule.NoFrame → ⊥
-denied_otherwise rs a address width = go (is_aligned address width)
+pub denied_otherwise : (z : Scheme) (rs : List Region) (a : Access) (address width : ℕ) → first_rule z rs a address width ≡ Some rule.NoFrame → ⊥
+denied_otherwise z rs a address width = go (is_aligned address width)
   where
-    never : NeverTells rule.NoFrame (copy_tests rs a address)
+    never : NeverTells rule.NoFrame (copy_tests z rs a address)
     never = (λ is. cc, (λ is. cc, (λ is. cc, (λ is. cc, (right_tells a, tt)))))
 
-    go : (b : Bool) → (if b then copy_rule rs a address else Some rule.Misaligned) ≡ Some rule.NoFrame → ⊥
-    go true is = first_tells rule.NoFrame (copy_tests rs a address) never is
+    go : (b : Bool) → (if b then copy_rule z rs a address else Some rule.Misaligned) ≡ Some rule.NoFrame → ⊥
+    go true is = first_tells rule.NoFrame (copy_tests z rs a address) never is
     go false is = cc

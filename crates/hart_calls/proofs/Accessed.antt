@@ -1,5 +1,5 @@
 -- An access that is made at once, or is served first, is what the model tells of it.
-use Rattle.std.proofs.Common.{◌≡◌, ◌⊎◌, ap₂, ℕ, ◌+◌, ◌<◌, ◌≤◌, ◌%◌, ◌==◌, Bool, true, false, ◌&&◌, Option, None, Some, Result, Ok, Err, List, [], ◌++◌, length, refl, ap, sym, subst, ◌∙◌, arith, inl, inr}
+use Rattle.std.proofs.Common.{◌≡◌, ◌⊎◌, ap₂, ℕ, zero, suc, ◌+◌, ◌<◌, ◌≤◌, ◌%◌, ◌==◌, Bool, true, false, ◌&&◌, Option, None, Some, Result, Ok, Err, List, [], ◌++◌, length, refl, ap, sym, subst, ◌∙◌, arith, inl, inr}
 use Rattle.std.specs.Prelude.{◌↔◌, if◌then◌else◌, is_some, option_to_list}
 use Rattle.std.proofs.lemmas.Bool.{and_parts, eq-eqb}
 use Rattle.std.proofs.lemmas.List.{append-nil}
@@ -39,6 +39,7 @@ use Rattle.sv39_entry.specs.declared.access.Access.{Access}
 use Rattle.sv39_entry.specs.declared.access.Access.TheVariants as access
 use Rattle.sv39_entry.specs.declared.rule.Rule.{Rule}
 use Rattle.sv39_entry.specs.declared.rule.Rule.TheVariants as rule
+use Rattle.sv39_entry.specs.declared.scheme.Scheme.{Scheme}
 use Rattle.table_walk.specs.Tables.{Tables}
 
 -- what a call that is an access says
@@ -198,15 +199,15 @@ module _ (files : List File) (p : Process) (a : Asked) where
   granted leaf both law =
       let parts = and_parts (a.address % a.width == 0) leaf both in
       let is = law.0 parts.1 in
-      (ap (λ (b : Bool). if b then copy_rule (regions p) a.access a.address else Some rule.Misaligned) parts.0 ∙ is.0, is.1)
+      (ap (λ (b : Bool). if b then copy_rule p.scheme (regions p) a.access a.address else Some rule.Misaligned) parts.0 ∙ is.0, is.1)
 
   pub not_granted : (leaf : Bool) → (a.address % a.width == 0 && leaf) ≡ false → ((leaf ≡ true) ↔ IsGranted p a.access a.address) → rule_for p a ≡ None → is_resident p a.access page ≡ false
   not_granted leaf not law none = go (a.address % a.width == 0) refl (is_resident p a.access page) refl
     where
       go : (b : Bool) → (a.address % a.width == 0) ≡ b → (r : Bool) → is_resident p a.access page ≡ r → is_resident p a.access page ≡ false
-      go false at r there = absurd (let misaligned = sym none ∙ ap (λ (z : Bool). if z then copy_rule (regions p) a.access a.address else Some rule.Misaligned) at in cc)
+      go false at r there = absurd (let misaligned = sym none ∙ ap (λ (z : Bool). if z then copy_rule p.scheme (regions p) a.access a.address else Some rule.Misaligned) at in cc)
       go true at true there =
-          let copy = sym (ap (λ (z : Bool). if z then copy_rule (regions p) a.access a.address else Some rule.Misaligned) at) ∙ none in
+          let copy = sym (ap (λ (z : Bool). if z then copy_rule p.scheme (regions p) a.access a.address else Some rule.Misaligned) at) ∙ none in
           let leafy = law.1 (copy, there) in
           absurd (let both = sym not ∙ ap₂ (λ (z w : Bool). z && w) at leafy in cc)
       go true at false there = there
@@ -295,12 +296,12 @@ module _ (files : List File) (p : Process) (a : Asked) where
     made_later none not r told_r space moves =
         let change = made_settles files 0 (is_shared_page (round files nothing) p page) a.access page p in
         goes_on (record { process = q; fresh = 0 + 1; taken = 0 + need_at (round files nothing) a.access page p }) (serves none not)
-        (ap (λ (rs : List Region). first_rule rs a.access a.address a.width) change.regions ∙ none) change.resident r told_r space moves
+        (ap₂ (λ (z : Scheme) (rs : List Region). first_rule z rs a.access a.address a.width) change.scheme change.regions ∙ none) change.resident r told_r space moves
 
     -- it ends the process by a rule of its regions
     pub ends_denied : (r : Rule) → rule_for p a ≡ Some r → ((u : Tables) × IsSpace y u p) → Became (served_moves files p page (rule_for p a)) → Comes x y files Became Refused Kept p c (at_stop r (address_of c)) (reply.Ended r)
     ends_denied r by space moves =
-        let not : (r ≡ rule.NoFrame → ⊥) = λ same. denied_otherwise (regions p) a.access a.address a.width (by ∙ ap Some same) in
+        let not : (r ≡ rule.NoFrame → ⊥) = λ same. denied_otherwise p.scheme (regions p) a.access a.address a.width (by ∙ ap Some same) in
         let tells = tells_by nothing (Err r) (denied nothing r by) in
         subst (λ (w : Want). Comes x y files Became Refused Kept p c w (reply.Ended r)) (sym (otherwise r (address_of c) not)) record {
           possible = tt;
@@ -353,3 +354,8 @@ is_access_call (call.CopyIn address count) a is = is
 is_access_call (call.CopyOut address bytes) a is = is
 is_access_call (call.Exit status) a is = is
 is_access_call (call.Fork list) a is = is
+
+-- an access of a width that there is asks for a byte
+pub some_width : (w : ℕ) → is_width w ≡ true → 0 < w
+some_width zero wide = absurd (cc)
+some_width (suc w) wide = omega arith

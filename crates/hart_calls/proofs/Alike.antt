@@ -43,7 +43,7 @@ module _ (p : Process) (page : ℕ) (a : Page) (copy : ℕ) where
       order = same_order 0 before after.settled after.tabled after.pending space.sound.order;
       tabled = λ n s there. let old = was n s there in space.sound.tabled n old.0 old.1;
     };
-    lays = record { parts = space.lays.parts; mappings = space.lays.mappings; heap_base = space.lays.heap_base; size = space.lays.size };
+    lays = record { parts = space.lays.parts; mappings = space.lays.mappings; heap_base = space.lays.heap_base; size = space.lays.size; scheme = space.lays.scheme };
     stands = record {
       tables = space.stands.tables;
       owns = space.stands.owns;

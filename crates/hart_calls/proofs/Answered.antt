@@ -36,6 +36,7 @@ use Rattle.process_model.specs.declared.step.Refusal.{Refusal}
 use Rattle.process_model.specs.declared.step.Refusal.TheVariants as refusal
 use Rattle.process_model.specs.declared.step.Reply.TheVariants as reply
 use Rattle.sv39_entry.specs.Address.{page_of}
+use Rattle.sv39_entry.specs.declared.scheme.Scheme.{Scheme}
 use Rattle.table_walk.specs.Tables.{Tables}
 
 -- what a first test that is met tells
@@ -223,7 +224,7 @@ module _ (x y : Body) (files : List File) (Became : List PageMove → Type 0) (C
     abbrev put : Want → Result (List LoadSegment) BadImage → Told
     put w z = replaced files w p z
 
-    pub came_bad : (part : BadImage) → image_loads image ≡ Err part → IsSpace y t p → Became [] → HasCome x y files Became Refused Kept p (call.Exec image) (done_or_refused (Err (refusal.BadImage part)))
+    pub came_bad : (part : BadImage) → image_loads p.scheme image ≡ Err part → IsSpace y t p → Became [] → HasCome x y files Became Refused Kept p (call.Exec image) (done_or_refused (Err (refusal.BadImage part)))
     came_bad part is space moves = (
       tt,
       record {
@@ -236,8 +237,8 @@ module _ (x y : Body) (files : List File) (Became : List PageMove → Type 0) (C
       },
     )
 
-    module _ (ls : List LoadSegment) (is : image_loads image ≡ Ok ls) where
-      pub came_replaced : (u : Tables) → IsSpace y u (process_of 0 ls) → Became (all_moves p) → HasCome x y files Became Refused Kept p (call.Exec image) (done_or_refused (Ok tt))
+    module _ (ls : List LoadSegment) (is : image_loads p.scheme image ≡ Ok ls) where
+      pub came_replaced : (u : Tables) → IsSpace y u (process_of p.scheme 0 ls) → Became (all_moves p) → HasCome x y files Became Refused Kept p (call.Exec image) (done_or_refused (Ok tt))
       came_replaced u space moves = (
         tt,
         record {
@@ -263,7 +264,7 @@ module _ (x y : Body) (files : List File) (Became : List PageMove → Type 0) (C
         asked = asked;
       }
 
-      pub came_not_replaced : Asks → (e : Refusal) → IsExecRefusal (CanRefuse (length (all_moves p))) e → (e ≡ refusal.NoFrame → RunsDry x.view y.view (exec_need ls) []) → (e ≡ refusal.NoFrame → Kept (length (all_moves p))) → IsSpace y t p → Became []
+      pub came_not_replaced : Asks → (e : Refusal) → IsExecRefusal (CanRefuse (length (all_moves p))) e → (e ≡ refusal.NoFrame → RunsDry x.view y.view (exec_need p.scheme ls) []) → (e ≡ refusal.NoFrame → Kept (length (all_moves p))) → IsSpace y t p → Became []
           → HasCome x y files Became Refused Kept p (call.Exec image) (done_or_refused (Err e))
       came_not_replaced asks e (inl (why, could, same)) dry kept space moves = (
         tt,
@@ -282,17 +283,19 @@ module _ (x y : Body) (files : List File) (Became : List PageMove → Type 0) (C
           )
 
       -- what exec answers, and what it leaves
-      pub came_exec : Asks → (Alone : Tables → Type 0) (r : Result (Unit {0}) Refusal)
-          → IfOk r (λ _. (u : Tables) × ((fresh : ℕ) → IsSpace y u (process_of fresh ls)) × Alone u)
+      pub came_exec : Asks → (Alone : Tables → Type 0) (scheme : Scheme) → p.scheme ≡ scheme → (r : Result (Unit {0}) Refusal)
+          → IfOk r (λ _. (u : Tables) × ((fresh : ℕ) → IsSpace y u (process_of scheme fresh ls)) × Alone u)
           → IfOk r (λ _. (z : Tables) (q : Process) → IsSpace x z q → Became (all_moves q))
           → IfErr r (λ e. (z : Tables) (q : Process) → IsSpace x z q → IsExecRefusal (CanRefuse (length (all_moves q))) e)
-          → IfErr r (λ e. e ≡ refusal.NoFrame → RunsDry x.view y.view (exec_need ls) [])
+          → IfErr r (λ e. e ≡ refusal.NoFrame → RunsDry x.view y.view (exec_need scheme ls) [])
           → IfErr r (λ e. e ≡ refusal.NoFrame → (z : Tables) (q : Process) → IsSpace x z q → Kept (length (all_moves q)))
           → IfErr r (λ _. (z : Tables) (q : Process) → IsSpace x z q → IsSpace y z q)
           → IfErr r (λ _. Became [])
           → IsSpace x t p → HasCome x y files Became Refused Kept p (call.Exec image) (done_or_refused r)
-      came_exec asks Alone (Ok u) built moves whynot dry kept whole stay space = came_replaced built.0 (built.1 0) (moves t p space)
-      came_exec asks Alone (Err e) built moves whynot dry kept whole stay space = came_not_replaced asks e (whynot t p space) dry (λ none. kept none t p space) (whole t p space) stay
+      came_exec asks Alone scheme same (Ok u) built moves whynot dry kept whole stay space =
+          came_replaced built.0 (subst (λ (z : Scheme). IsSpace y built.0 (process_of z 0 ls)) (sym same) (built.1 0)) (moves t p space)
+      came_exec asks Alone scheme same (Err e) built moves whynot dry kept whole stay space =
+          came_not_replaced asks e (whynot t p space) (λ none. subst (λ (z : Scheme). RunsDry x.view y.view (exec_need z ls) []) (sym same) (dry none)) (λ none. kept none t p space) (whole t p space) stay
 
   -- ---- the same, as the calls tell it
 

@@ -83,7 +83,7 @@ module _ {Seat Frames Cabinet : Type 0} (l : Words Seat Frames Cabinet)
     page = page_of address
 
     abbrev rule_here : Option Rule
-    rule_here = copy_rule (regions g.process) kind address
+    rule_here = copy_rule g.process.scheme (regions g.process) kind address
 
     abbrev pub reads : List PageMove
     reads = served_moves files g.process page rule_here
@@ -95,7 +95,7 @@ module _ {Seat Frames Cabinet : Type 0} (l : Words Seat Frames Cabinet)
       pub under : Under b j (ms ++ reads) (met + resident_need (is_shared_by count) g.process kind page) (counts ++ option_to_list count)
 
     can_be : rule_here ≡ None → CanReside (body_at l a) u.tables g.process kind page
-    can_be none = can_reside (body_at l a) u.tables g.process kind address 1 u.space (no_alignment (regions g.process) kind address ∙ none)
+    can_be none = can_reside (body_at l a) u.tables g.process kind address 1 u.space (no_alignment g.process.scheme (regions g.process) kind address ∙ none)
 
     moved_by : l.becomes a.files (served_moves (l.files a.files) g.process page rule_here) b.files → l.becomes start.files (ms ++ reads) b.files
     moved_by m = goes start.files a.files b.files ms reads u.moves (subst (λ (fs : List File). l.becomes a.files (served_moves fs g.process page rule_here) b.files) u.same m)
@@ -177,7 +177,7 @@ module _ {Seat Frames Cabinet : Type 0} (l : Words Seat Frames Cabinet)
       unfolding resident_at
       stops_as (Some x) is end = (
         ap (reached around kind address g) is ∙ ap (λ (y : Rule). let z : Result Progress Rule = Err y in z) (sym (same_end r x end)),
-        λ none. absurd (denied_otherwise (regions g.process) kind address 1 (no_alignment (regions g.process) kind address ∙ is ∙ ap Some (sym (same_end r x end) ∙ none))),
+        λ none. absurd (denied_otherwise g.process.scheme (regions g.process) kind address 1 (no_alignment g.process.scheme (regions g.process) kind address ∙ is ∙ ap Some (sym (same_end r x end) ∙ none))),
       )
       stops_as None is end =
           let none = end r refl in

@@ -116,7 +116,7 @@ module _ (x y : Body) (files : List File) (Became : List PageMove → Type 0) (R
       ]
 
       pub left_in : (g : Progress) (bytes : List ℕ) (done : ℕ) (r : Refusal) → copied_in (round files nothing) (begun p) address done ≡ so_far g bytes None → ((u : Tables) × IsSpace y u g.process) → Became (moves_in (address + done))
-          → done < n → IsUnpromised r → 0 < length (served_moves files g.process (page_of (address + done)) (copy_rule (regions g.process) Load (address + done))) → Refused (moves_in (address + done)) 1 r → HasCome x y files Became Refused Kept p (call.CopyIn address n) (came.Stopped r done)
+          → done < n → IsUnpromised r → 0 < length (served_moves files g.process (page_of (address + done)) (copy_rule g.process.scheme (regions g.process) Load (address + done))) → Refused (moves_in (address + done)) 1 r → HasCome x y files Became Refused Kept p (call.CopyIn address n) (came.Stopped r done)
       left_in g bytes done r is after moves less un asks told =
           let tells = short_in (sent_by files (refused done r) p address n) ∙ ap (λ (c : Copied). refuses files c.progress.process r) is in
           record {
@@ -213,7 +213,7 @@ module _ (x y : Body) (files : List File) (Became : List PageMove → Type 0) (R
           subst (λ (k : ℕ). HasCome x y files Became Refused Kept p (call.CopyOut address given) (came.Answered (reply.ShortOut r k))) long (halted_out g bytes r is after moves dry)
 
       pub left_out : (g : Progress) (bytes : List ℕ) (done : ℕ) (r : Refusal) → copied_out (round files nothing) (begun p) address (take done given.now) ≡ so_far g bytes None → ((u : Tables) × IsSpace y u g.process) → Became (moves_out (address + done))
-          → done < n → IsUnpromised r → 0 < length (served_moves files g.process (page_of (address + done)) (copy_rule (regions g.process) Store (address + done))) → Refused (moves_out (address + done)) 1 r → HasCome x y files Became Refused Kept p (call.CopyOut address given) (came.Stopped r done)
+          → done < n → IsUnpromised r → 0 < length (served_moves files g.process (page_of (address + done)) (copy_rule g.process.scheme (regions g.process) Store (address + done))) → Refused (moves_out (address + done)) 1 r → HasCome x y files Became Refused Kept p (call.CopyOut address given) (came.Stopped r done)
       left_out g bytes done r is after moves less un asks told =
           let tells = short_out (received_by files (refused done r) p address given.now) ∙ ap (λ (c : Copied). refuses files c.progress.process r) is in
           record {

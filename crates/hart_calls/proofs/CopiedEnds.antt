@@ -29,6 +29,7 @@ use Rattle.sv39_entry.specs.Address.{page_of}
 use Rattle.sv39_entry.specs.declared.access.Access.{Access}
 use Rattle.sv39_entry.specs.declared.rule.Rule.{Rule}
 use Rattle.sv39_entry.specs.declared.rule.Rule.TheVariants as rule
+use Rattle.sv39_entry.specs.declared.scheme.Scheme.{Scheme}
 use Rattle.table_walk.specs.Tables.{Tables}
 use Rattle.user_copy.specs.Reaching.{body_at, Place, Reaches, Words}
 use Rattle.user_copy.specs.declared.short.Stop.TheVariants.{Denied, Unpromised}
@@ -63,13 +64,13 @@ unpromised_by error.JournalFull = tt
 
 -- ---- the pages of files that were read
 
-module _ (files : List File) (p q : Process) (page : ℕ) (same : regions q ≡ regions p) (settled : get q.settled page ≡ get p.settled page) where
+module _ (files : List File) (p q : Process) (page : ℕ) (scheme : q.scheme ≡ p.scheme) (same : regions q ≡ regions p) (settled : get q.settled page ≡ get p.settled page) where
   served_alike : (o : Option Rule) → served_moves files q page o ≡ served_moves files p page o
   served_alike None = ap₂ (λ (rs : List Region) (s : Option Page). moves_for files (region_at rs page) s page) same settled
   served_alike (Some r) = refl
 
-  reads_alike : (kind : Access) (address : ℕ) → served_moves files q page (copy_rule (regions q) kind address) ≡ served_moves files p page (copy_rule (regions p) kind address)
-  reads_alike kind address = served_alike (copy_rule (regions q) kind address) ∙ ap (λ (rs : List Region). served_moves files p page (copy_rule rs kind address)) same
+  reads_alike : (kind : Access) (address : ℕ) → served_moves files q page (copy_rule q.scheme (regions q) kind address) ≡ served_moves files p page (copy_rule p.scheme (regions p) kind address)
+  reads_alike kind address = served_alike (copy_rule q.scheme (regions q) kind address) ∙ ap₂ (λ (z : Scheme) (rs : List Region). served_moves files p page (copy_rule z rs kind address)) scheme same
 
 module _ {Seat Frames Cabinet : Type 0} (l : Words Seat Frames Cabinet)
     (goes : (x y z : Cabinet) (ms ns : List PageMove) → l.becomes x ms y → l.becomes y ns z → l.becomes x (ms ++ ns) z) (comes : (x y : Cabinet) (ms : List PageMove) → l.becomes x ms y → l.files y ≡ files_after (l.files x) ms)
@@ -78,7 +79,7 @@ module _ {Seat Frames Cabinet : Type 0} (l : Words Seat Frames Cabinet)
   present = l.files start.files
 
   abbrev reads_at : ℕ → List PageMove
-  reads_at x = served_moves present p (page_of x) (copy_rule (regions p) kind x)
+  reads_at x = served_moves present p (page_of x) (copy_rule p.scheme (regions p) kind x)
 
   -- ---- the ends
 
@@ -106,7 +107,7 @@ module _ {Seat Frames Cabinet : Type 0} (l : Words Seat Frames Cabinet)
     pub moves : l.becomes start.files (reads_below present p kind (address + done) starts) c.files
     pub less : done < n
     pub unpromised : IsUnpromised r
-    pub of_file : 0 < length (served_moves present progress.process (page_of (address + done)) (copy_rule (regions progress.process) kind (address + done)))
+    pub of_file : 0 < length (served_moves present progress.process (page_of (address + done)) (copy_rule progress.process.scheme (regions progress.process) kind (address + done)))
     pub told : Refuses l.becomes l.can_refuse start.files (reads_below present p kind (address + done) starts) 1 r
 
   pub begun_under : (w : Want) → Under l goes comes start w start (begun p) [] 0 []
@@ -189,11 +190,11 @@ module _ {Seat Frames Cabinet : Type 0} (l : Words Seat Frames Cabinet)
       apart : page_of next ≡ page_of address → ⊥
       apart same = absurd (omega (arith, end, some, same))
 
-      next_reads : served_moves present j.process (page_of next) (copy_rule (regions j.process) kind next) ≡ reads_at next
-      next_reads = reads_alike present p j.process (page_of next) ran.same_regions (ran.others (page_of next) apart) kind next
+      next_reads : served_moves present j.process (page_of next) (copy_rule j.process.scheme (regions j.process) kind next) ≡ reads_at next
+      next_reads = reads_alike present p j.process (page_of next) ran.same_scheme ran.same_regions (ran.others (page_of next) apart) kind next
 
       both_reads : (limit : ℕ) → next < limit
-          → reads_below present p kind limit (address ∷ next ∷ []) ≡ ([] ++ reads_at address) ++ served_moves present j.process (page_of next) (copy_rule (regions j.process) kind next)
+          → reads_below present p kind limit (address ∷ next ∷ []) ≡ ([] ++ reads_at address) ++ served_moves present j.process (page_of next) (copy_rule j.process.scheme (regions j.process) kind next)
       both_reads limit below =
           ap₂ (λ (y z : Bool). (if y then reads_at address else []) ++ ((if z then reads_at next else []) ++ [])) (lt-ltb address limit (omega (arith, below))) (lt-ltb next limit below)
           ∙ ap (λ (ms : List PageMove). reads_at address ++ ms) (append-nil (reads_at next) ∙ sym next_reads)
@@ -212,7 +213,7 @@ module _ {Seat Frames Cabinet : Type 0} (l : Words Seat Frames Cabinet)
             moves = subst (λ (ms : List PageMove). l.becomes start.files ms b.files) (sym only_first) (left_moves l goes comes start w d j _ _ _ ran.under b kind next x e);
             less = less;
             unpromised = subst IsUnpromised (sym un.2) (unpromised_by un.0);
-            of_file = subst (λ (fs : List File). 0 < length (served_moves fs j.process (page_of next) (copy_rule (regions j.process) kind next))) ran.under.same (e.of_file x refl ran.under.tables j.process ran.under.space);
+            of_file = subst (λ (fs : List File). 0 < length (served_moves fs j.process (page_of next) (copy_rule j.process.scheme (regions j.process) kind next))) ran.under.same (e.of_file x refl ran.under.tables j.process ran.under.space);
             told = (d.files, un.0, subst (λ (ms : List PageMove). l.becomes start.files ms d.files) (sym only_first) ran.under.moves, un.1, un.2);
           }
 

@@ -74,11 +74,11 @@ module _ {Seat Frames Cabinet : Type 0} (l : Words Seat Frames Cabinet)
 
     later_none : (limit m : ℕ) → limit ≤ next → reads_below present p Load limit (map (λ (r : ℕ × ℕ). r.0) (some_run next m)) ≡ []
     later_none limit zero below = refl
-    later_none limit (suc m) below = ap (λ (z : Bool). (if z then served_moves present p (page_of next) (copy_rule (regions p) Load next) else []) ++ []) (le-ltb next limit below)
+    later_none limit (suc m) below = ap (λ (z : Bool). (if z then served_moves present p (page_of next) (copy_rule p.scheme (regions p) Load next) else []) ++ []) (le-ltb next limit below)
 
     all_none : (m : ℕ) → reads_below present p Load (address + 0) (address ∷ map (λ (r : ℕ × ℕ). r.0) (some_run next m)) ≡ []
     all_none m =
-        ap₂ (λ (z : Bool) (ms : List PageMove). (if z then served_moves present p (page_of address) (copy_rule (regions p) Load address) else []) ++ ms) (le-ltb address (address + 0) (omega arith)) (later_none (address + 0) m (omega arith))
+        ap₂ (λ (z : Bool) (ms : List PageMove). (if z then served_moves present p (page_of address) (copy_rule p.scheme (regions p) Load address) else []) ++ ms) (le-ltb address (address + 0) (omega arith)) (later_none (address + 0) m (omega arith))
 
     first_halts : (m : ℕ) → Split (suc h) m → (r : Rule) (w : Want) → reached_in (round present w) Load (begun p) address ≡ Err r → model_in w ≡ so_far (begun p) [] (Some r)
     first_halts m split r w is =

@@ -92,11 +92,11 @@ module _ {Seat Frames Cabinet : Type 0} (l : Words Seat Frames Cabinet)
 
     later_none : (limit : ℕ) (back : List ℕ) → limit ≤ next → reads_below present p Store limit (map (λ (r : ℕ × List ℕ). r.0) (some_bytes next back)) ≡ []
     later_none limit [] below = refl
-    later_none limit (x ∷ back) below = ap (λ (z : Bool). (if z then served_moves present p (page_of next) (copy_rule (regions p) Store next) else []) ++ []) (le-ltb next limit below)
+    later_none limit (x ∷ back) below = ap (λ (z : Bool). (if z then served_moves present p (page_of next) (copy_rule p.scheme (regions p) Store next) else []) ++ []) (le-ltb next limit below)
 
     all_none : (back : List ℕ) → reads_below present p Store (address + 0) (address ∷ map (λ (r : ℕ × List ℕ). r.0) (some_bytes next back)) ≡ []
     all_none back =
-        ap₂ (λ (z : Bool) (ms : List PageMove). (if z then served_moves present p (page_of address) (copy_rule (regions p) Store address) else []) ++ ms) (le-ltb address (address + 0) (omega arith)) (later_none (address + 0) back (omega arith))
+        ap₂ (λ (z : Bool) (ms : List PageMove). (if z then served_moves present p (page_of address) (copy_rule p.scheme (regions p) Store address) else []) ++ ms) (le-ltb address (address + 0) (omega arith)) (later_none (address + 0) back (omega arith))
 
     module _ (f : ℕ) (fs : List ℕ) where
       abbrev front : List ℕ

@@ -33,11 +33,12 @@ module _ {Seat Frames Cabinet : Type 0} (l : Words Seat Frames Cabinet)
     (start : Place Seat Frames Cabinet) (w : Want) where
   -- the page of the run was come to, and the other pages are as they were
   pub record Ran (g : Progress) (ms : List PageMove) (met : ℕ) (counts : List ℕ) (kind : Access) (address : ℕ) (d : Place Seat Frames Cabinet) (j : Progress) : Type 0 where
+    pub same_scheme : j.process.scheme ≡ g.process.scheme
     pub same_regions : regions j.process ≡ regions g.process
     pub others : (n : ℕ) → (n ≡ page_of address → ⊥) → get j.process.settled n ≡ get g.process.settled n
     pub count : Option ℕ
     pub counted : is_some count ≡ is_counted kind (get g.process.settled (page_of address))
-    pub under : Under l goes comes start w d j (ms ++ served_moves (l.files start.files) g.process (page_of address) (copy_rule (regions g.process) kind address)) (met + resident_need (is_shared_by count) g.process kind (page_of address)) (counts ++ option_to_list count)
+    pub under : Under l goes comes start w d j (ms ++ served_moves (l.files start.files) g.process (page_of address) (copy_rule g.process.scheme (regions g.process) kind address)) (met + resident_need (is_shared_by count) g.process kind (page_of address)) (counts ++ option_to_list count)
 
   module _ (b d : Place Seat Frames Cabinet) (g : Progress) (ms : List PageMove) (met : ℕ) (counts : List ℕ) (u : Under l goes comes start w b g ms met counts) (address : ℕ) where
     -- its bytes were read
@@ -64,10 +65,10 @@ module _ {Seat Frames Cabinet : Type 0} (l : Words Seat Frames Cabinet)
     is_so false told = absurd (cc)
 
     module _ (given : List ℕ) (s : Page) (settled : get g.process.settled (page_of address) ≡ Some s) (resident : is_resident g.process Store (page_of address) ≡ true)
-        (allowed : copy_rule (regions g.process) Store address ≡ None) (put : Puts l b d address given) where
+        (allowed : copy_rule g.process.scheme (regions g.process) Store address ≡ None) (put : Puts l b d address given) where
       can_write : CanWrite (body_at l b) u.tables g.process (page_of address) s
       can_write =
-          let can = can_reside (body_at l b) u.tables g.process Store address 1 u.space (no_alignment (regions g.process) Store address ∙ allowed) in
+          let can = can_reside (body_at l b) u.tables g.process Store address 1 u.space (no_alignment g.process.scheme (regions g.process) Store address ∙ allowed) in
           let through = ap (is_resident_page Store (region_on g.process (page_of address))) (sym settled) ∙ resident in
           record {
             read = record { agrees = u.space; settled = settled };
@@ -114,7 +115,7 @@ module _ {Seat Frames Cabinet : Type 0} (l : Words Seat Frames Cabinet)
           progress = j;
           is = run_in (around l goes comes start w) g j done address n s some inside r.is there whole ∙ ap (λ (bs : List ℕ). so_far j (done ++ bs) None) (sym told);
           long = ap length told ∙ length-take-le n (drop (address % 4096) s.bytes) (omega (arith, dropped, whole, inside));
-          ran = record { same_regions = serves.regions; others = serves.others; count = r.count; counted = r.counted; under = read_on b d j _ _ _ r.under address n got read };
+          ran = record { same_scheme = serves.scheme; same_regions = serves.regions; others = serves.others; count = r.count; counted = r.counted; under = read_on b d j _ _ _ r.under address n got read };
         }
 
     pub record RanOut (done given : List ℕ) : Type 0 where
@@ -135,6 +136,7 @@ module _ {Seat Frames Cabinet : Type 0} (l : Words Seat Frames Cabinet)
           progress = record j { process = with_page j.process (page_of address) (stored s (address % 4096) given) };
           is = run_out (around l goes comes start w) g j done address s given some inside r.is there whole;
           ran = record {
+            same_scheme = serves.scheme;
             same_regions = serves.regions;
             others = λ n apart. inserted_other (page_of address) (stored s (address % 4096) given) j.process.settled n apart ∙ serves.others n apart;
             count = r.count;

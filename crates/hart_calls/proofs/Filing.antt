@@ -51,14 +51,14 @@ served_reads fs files p page None = reads_for fs files (region_on p page) (get p
 served_reads fs files p page (Some r) = refl
 
 module _ (files : List File) (p : Process) where
-  one_below : (fs : List File) (access : Access) (limit at : ℕ) (b : Bool) → files_after fs (if b then served_moves files p (page_of at) (copy_rule (regions p) access at) else []) ≡ fs
-  one_below fs access limit at true = served_reads fs files p (page_of at) (copy_rule (regions p) access at)
+  one_below : (fs : List File) (access : Access) (limit at : ℕ) (b : Bool) → files_after fs (if b then served_moves files p (page_of at) (copy_rule p.scheme (regions p) access at) else []) ≡ fs
+  one_below fs access limit at true = served_reads fs files p (page_of at) (copy_rule p.scheme (regions p) access at)
   one_below fs access limit at false = refl
 
   all_below : (fs : List File) (access : Access) (limit : ℕ) (starts : List ℕ) → files_after fs (reads_below files p access limit starts) ≡ fs
   all_below fs access limit [] = refl
   all_below fs access limit (at ∷ starts) =
-      files_after-append fs (if nat_lt at limit then served_moves files p (page_of at) (copy_rule (regions p) access at) else []) (reads_below files p access limit starts)
+      files_after-append fs (if nat_lt at limit then served_moves files p (page_of at) (copy_rule p.scheme (regions p) access at) else []) (reads_below files p access limit starts)
       ∙ ap (λ (z : List File). files_after z (reads_below files p access limit starts)) (one_below fs access limit at (nat_lt at limit))
       ∙ all_below fs access limit starts
 
@@ -157,7 +157,7 @@ module _ (files : List File) (p : Process) where
   files_told want (call.Fetch address) stays on = none_after want (call.Fetch address) _ (access_files want (asked access.Fetch address 4 0) true on) refl
   files_told want (call.Load address width) stays on = none_after want (call.Load address width) _ (access_files want (asked access.Load address width 0) (is_width width) on) refl
   files_told want (call.Store address width value) stays on = none_after want (call.Store address width value) _ (access_files want (asked access.Store address width value) (is_width width) on) refl
-  files_told want (call.Exec im) stays on = replaced_done want (image_loads im)
+  files_told want (call.Exec im) stays on = replaced_done want (image_loads p.scheme im)
   files_told want (call.Sbrk delta) stays on = sym (sized_files (sbrk_result p delta))
   files_told want (call.Mmap len protection flags f) stays on = sym (mapped_files (mapped files p len protection flags f))
   files_told want (call.Munmap address len) stays on = unmapped_done want address len (unmapped files p address len) refl
@@ -193,7 +193,7 @@ module _ (files : List File) (p : Process) where
 
   served_ended : (a : Asked) (z : Result Progress Rule) (r : Rule) → (served_access files p a z).reply ≡ reply.Ended r → Leaves (served_access files p a z)
   served_ended a (Err x) r is = (refl, refl)
-  served_ended a (Ok g) r is = absurd (denied_ends g.process a (first_rule (regions g.process) a.access a.address a.width) r is)
+  served_ended a (Ok g) r is = absurd (denied_ends g.process a (first_rule g.process.scheme (regions g.process) a.access a.address a.width) r is)
 
   access_ended : (want : Want) (a : Asked) (b : Bool) (r : Rule) → (access_if files want p a b).reply ≡ reply.Ended r → Leaves (access_if files want p a b)
   access_ended want a false r is = absurd (cc)
@@ -245,7 +245,7 @@ module _ (files : List File) (p : Process) where
   ended_files want (call.Fetch address) r stays is = let l = access_ended want (asked access.Fetch address 4 0) true r is in (l.0, refl, l.1)
   ended_files want (call.Load address width) r stays is = let l = access_ended want (asked access.Load address width 0) (is_width width) r is in (l.0, refl, l.1)
   ended_files want (call.Store address width value) r stays is = let l = access_ended want (asked access.Store address width value) (is_width width) r is in (l.0, refl, l.1)
-  ended_files want (call.Exec im) r stays is = absurd (replaced_ended want (image_loads im) r is)
+  ended_files want (call.Exec im) r stays is = absurd (replaced_ended want (image_loads p.scheme im) r is)
   ended_files want (call.Sbrk delta) r stays is = absurd (sized_ended (sbrk_result p delta) r is)
   ended_files want (call.Mmap len protection flags f) r stays is = absurd (mapped_ended (mapped files p len protection flags f) r is)
   ended_files want (call.Munmap address len) r stays is = absurd (unmapped_ended want (unmapped files p address len) r is)

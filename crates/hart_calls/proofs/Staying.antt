@@ -47,8 +47,8 @@ served_few files p page None = for_few files (region_on p page) (get p.settled p
 served_few files p page (Some r) = omega arith
 
 module _ (files : List File) (p : Process) where
-  if_few : (kind : Access) (at : ℕ) (b : Bool) → length (if b then served_moves files p (page_of at) (copy_rule (regions p) kind at) else []) ≤ 1
-  if_few kind at true = served_few files p (page_of at) (copy_rule (regions p) kind at)
+  if_few : (kind : Access) (at : ℕ) (b : Bool) → length (if b then served_moves files p (page_of at) (copy_rule p.scheme (regions p) kind at) else []) ≤ 1
+  if_few kind at true = served_few files p (page_of at) (copy_rule p.scheme (regions p) kind at)
   if_few kind at false = omega arith
 
   below_few : (kind : Access) (limit : ℕ) (starts : List ℕ) → length (reads_below files p kind limit starts) ≤ length starts
@@ -56,7 +56,7 @@ module _ (files : List File) (p : Process) where
   below_few kind limit (at ∷ starts) =
       let one = if_few kind at (nat_lt at limit) in
       let rest = below_few kind limit starts in
-      omega (arith, one, rest, length-append (if nat_lt at limit then served_moves files p (page_of at) (copy_rule (regions p) kind at) else []) (reads_below files p kind limit starts))
+      omega (arith, one, rest, length-append (if nat_lt at limit then served_moves files p (page_of at) (copy_rule p.scheme (regions p) kind at) else []) (reads_below files p kind limit starts))
 
   short_few : (moves : List PageMove) (b : Bool) → length moves ≤ 2 → length (if_short_reads moves b) ≤ 2
   short_few moves true few = few

@@ -4,13 +4,14 @@ use Rattle.std.proofs.Common.{◌≡◌, ℕ, zero, suc, Bool, List, Option, ref
 use Rattle.std.specs.Coded.{Coded, code_by, coded×, coded_ℕ, coded_bool, coded_list, coded_option}
 use Rattle.std.specs.FinMap.Entries.{find}
 use Rattle.std.specs.Ordering.{nat_cmp}
-use Rattle.address_space.specs.Layouts.{region_code}
+use Rattle.address_space.specs.Layouts.{region_code, scheme_code}
 use Rattle.process_model.specs.Inserted.{same_finds}
 use Rattle.process_model.specs.PageMap.{NumberSet, PageMap}
 use Rattle.process_model.specs.Process.{Page, Pending, Process}
 use Rattle.process_model.specs.Regions.{Region}
 use Rattle.sv39_entry.specs.declared.access.Access.{Access}
 use Rattle.sv39_entry.specs.declared.access.Access.TheVariants as access
+use Rattle.sv39_entry.specs.declared.scheme.Scheme.{Scheme}
 
 abbrev pub access_number : Access → ℕ
 access_number access.Fetch = 0
@@ -46,8 +47,8 @@ pending_code = code_by (Access × (ℕ × (ℕ × Bool))) (coded× access_code (
     (λ _. refl)
 
 abbrev pub process_code : Coded Process
-process_code = code_by (List Region × (List Region × (ℕ × (ℕ × (PageMap Page × (NumberSet × Option Pending))))))
-    (coded× (coded_list region_code) (coded× (coded_list region_code) (coded× coded_ℕ (coded× coded_ℕ (coded× (pages_code page_code) (coded× (pages_code coded_unit) (coded_option pending_code)))))))
-    (λ p. (p.parts, (p.mappings, (p.heap_base, (p.size, (p.settled, (p.tabled, p.pending)))))))
-    (λ c. record { parts = c.0; mappings = c.1.0; heap_base = c.1.1.0; size = c.1.1.1.0; settled = c.1.1.1.1.0; tabled = c.1.1.1.1.1.0; pending = c.1.1.1.1.1.1 })
+process_code = code_by (Scheme × (List Region × (List Region × (ℕ × (ℕ × (PageMap Page × (NumberSet × Option Pending)))))))
+    (coded× scheme_code (coded× (coded_list region_code) (coded× (coded_list region_code) (coded× coded_ℕ (coded× coded_ℕ (coded× (pages_code page_code) (coded× (pages_code coded_unit) (coded_option pending_code))))))))
+    (λ p. (p.scheme, (p.parts, (p.mappings, (p.heap_base, (p.size, (p.settled, (p.tabled, p.pending))))))))
+    (λ c. record { scheme = c.0; parts = c.1.0; mappings = c.1.1.0; heap_base = c.1.1.1.0; size = c.1.1.1.1.0; settled = c.1.1.1.1.1.0; tabled = c.1.1.1.1.1.1.0; pending = c.1.1.1.1.1.1.1 })
     (λ _. refl)

@@ -44,7 +44,7 @@ abbrev pub asked : Access → ℕ → ℕ → ℕ → Asked
 asked access address width value = record { access = access; address = address; width = width; value = value }
 
 abbrev pub rule_for : Process → Asked → Option Rule
-rule_for p a = first_rule (regions p) a.access a.address a.width
+rule_for p a = first_rule p.scheme (regions p) a.access a.address a.width
 
 abbrev pub service : List File → Want → Process → Asked → Result Progress Rule
 service files want p a = reached (round files want) a.access a.address (begun p) (rule_for p a)
@@ -100,7 +100,7 @@ unmapped_as files want p (Ok u) = record { reply = reply.Done; process = u.proce
 abbrev pub replaced : List File → Want → Process → Result (List LoadSegment) BadImage → Told
 replaced files want p (Err e) = refuses files p (refusal.BadImage e)
 replaced files (refused done r) p (Ok ls) = refuses files p r
-replaced files want p (Ok ls) = record { reply = reply.Done; process = process_of 0 ls; files = all_written_back files p }
+replaced files want p (Ok ls) = record { reply = reply.Done; process = process_of p.scheme 0 ls; files = all_written_back files p }
 
 abbrev pub forked_as : List File → Want → ℕ → Process → Told
 forked_as files (refused done r) n p = refuses files p r
@@ -111,7 +111,7 @@ abbrev pub told : List File → Want → ℕ → Process → Call → Told
 told files want n p (call.Fetch address) = accessed files want p (asked Fetch address 4 0)
 told files want n p (call.Load address width) = accessed files want p (asked Load address width 0)
 told files want n p (call.Store address width value) = accessed files want p (asked Store address width value)
-told files want n p (call.Exec image) = replaced files want p (image_loads image)
+told files want n p (call.Exec image) = replaced files want p (image_loads p.scheme image)
 told files want n p (call.Sbrk delta) = resized files p (sbrk_result p delta)
 told files want n p (call.Mmap len protection flags file) = mapped_as files p (mapped files p len protection flags file)
 told files want n p (call.Munmap address len) = unmapped_as files want p (unmapped files p address len)
@@ -128,7 +128,7 @@ access_reads files p a true = served_moves files p (page_of a.address) (rule_for
 
 -- a copy came to each page whose first byte of it lies below a limit
 abbrev pub reads_below : List File → Process → Access → ℕ → List ℕ → List PageMove
-reads_below files p access limit starts = flat_map (λ at. if nat_lt at limit then served_moves files p (page_of at) (copy_rule (regions p) access at) else []) starts
+reads_below files p access limit starts = flat_map (λ at. if nat_lt at limit then served_moves files p (page_of at) (copy_rule p.scheme (regions p) access at) else []) starts
 
 -- the page where it was refused was not read
 abbrev pub limit_of : Want → ℕ → ℕ → ℕ
@@ -164,7 +164,7 @@ if_done r moves = if is_done r then moves else []
 
 abbrev pub writes_of : List File → Want → Process → Call → List PageMove
 writes_of files want p (call.Munmap address len) = if_done (unmapped_as files want p (unmapped files p address len)).reply (unmap_moves p address len)
-writes_of files want p (call.Exec image) = if_done (replaced files want p (image_loads image)).reply (all_moves p)
+writes_of files want p (call.Exec image) = if_done (replaced files want p (image_loads p.scheme image)).reply (all_moves p)
 writes_of files want p c = []
 
 -- what a journal says of an mmap's file: none where there is no such file, and else whether it may be written

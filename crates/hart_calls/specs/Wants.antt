@@ -43,7 +43,7 @@ MayTake files p access page = 0 < need_at (round files nothing) access page p
 
 -- a copy came so far, and asks a promise for its next byte: the byte's page is one of a file, and it is not settled
 abbrev pub AsksNext : List File → Copied → Access → ℕ → Type 0
-AsksNext files c access address = let p = c.progress.process in (c.stop ≡ None) × (0 < length (served_moves files p (page_of address) (copy_rule (regions p) access address)))
+AsksNext files c access address = let p = c.progress.process in (c.stop ≡ None) × (0 < length (served_moves files p (page_of address) (copy_rule p.scheme (regions p) access address)))
 
 -- pages of files that were not promised
 abbrev pub IsUnpromised : Refusal → Type 0

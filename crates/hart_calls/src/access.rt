@@ -95,10 +95,10 @@ fn accessed<S: FrameSeat, F: FrameAccess<Seat = S>>(
     asked: Asked,
 ) -> KeptReply
     requires fits { Fits F.rule store.old space.old.seat }
-    requires ready { (t : Tables) × (p : Process) × IsSpace (body_of S.view space.old) t p × IsWalkOf t asked walk }
+    requires ready { (t : Tables) × (p : Process) × IsSpace (body_of S.view space.old) t p × IsWalkOf p.scheme t asked walk }
     requires width { IsTrue (is_width asked.width) }
-    ensures reply { (t : Tables) (p : Process) → IsSpace (body_of S.view space.old) t p → IsWalkOf t asked walk → result ≡ (service.user_access p (asked_of asked)).reply }
-    ensures after { (t : Tables) (p : Process) → IsSpace (body_of S.view space.old) t p → IsWalkOf t asked walk → IsSpace (body_of S.view space.new) t (service.user_access p (asked_of asked)).process }
+    ensures reply { (t : Tables) (p : Process) → IsSpace (body_of S.view space.old) t p → IsWalkOf p.scheme t asked walk → result ≡ (service.user_access p (asked_of asked)).reply }
+    ensures after { (t : Tables) (p : Process) → IsSpace (body_of S.view space.old) t p → IsWalkOf p.scheme t asked walk → IsSpace (body_of S.view space.new) t (service.user_access p (asked_of asked)).process }
     ensures keeps { Keeps F.rule store.old space.old.seat store.new space.new.seat }
 {
     KeptReply::short(space.user_access_briefly(store, walk, asked))

@@ -94,7 +94,7 @@ pub(crate) fn make_there<S: FrameSeat, F: FrameSupply<Seat = S>, C: Files>(
     make(space, store, files, call, room)
 }
 
-/// The process of an image comes in the place of this one.
+/// The process of an image comes in the place of this one. The image is judged for the scheme of the space.
 #[inline(never)]
 fn replace<S: FrameSeat, F: FrameSupply<Seat = S>, C: Files>(
     space: &mut Space<S>,
@@ -107,7 +107,8 @@ fn replace<S: FrameSeat, F: FrameSupply<Seat = S>, C: Files>(
     ensures came { ComesTo (body_of S.view space.old) (body_of S.view space.new) (C.files files.old) (λ moves. C.becomes files.old moves files.new) (Refuses C.becomes C.can_refuse files.old) (λ n. n ≤ C.room files.new) (call.Exec image.entry) result }
     ensures keeps { Keeps F.FrameAccess.rule store.old space.old.seat store.new space.new.seat }
 {
-    match Image::judged(image) {
+    let scheme = space.layout.scheme();
+    match Image::judged(scheme, image) {
         Ok(image) => done(exec_segments::exec(space, store, &image, files)),
         Err(part) => Came::Answered(KeptReply::short(Brief::Refused(Refusal::BadImage(part)))),
     }

@@ -5,7 +5,7 @@ ghost use Rattle.std.specs.Prelude.{◌≡◌};
 use address_space::{Layout, Space};
 use shared_frames::SharedSeat;
 use std::alloc::{AllocError, Global};
-use sv39_entry::FrameNo;
+use sv39_entry::{FrameNo, Scheme};
 
 /// A place for the space of a child. It is taken before the fork, so that a fork for which the host has no memory has changed
 /// nothing. What lies there until then is no process, and its seat holds nothing.
@@ -20,7 +20,7 @@ impl Place {
             seat: bare,
             root: FrameNo(0),
             trapframe: FrameNo(0),
-            layout: Layout::new(&[]),
+            layout: Layout::new(Scheme::Sv39, &[]),
         };
         let space = Box::new(alloc, nobody)?;
         Ok(Place { space })

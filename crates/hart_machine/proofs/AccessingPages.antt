@@ -81,7 +81,7 @@ module _ (p : Process) (x : Asked) where
   so_denied None = so_settled (pages.get p.settled (page_of x.address)) refl
 
   so : IsSo (user_access p x)
-  so = so_denied (first_rule (regions p) x.access x.address x.width)
+  so = so_denied (first_rule p.scheme (regions p) x.access x.address x.width)
 
   pub access_answers : IsAnswer (user_access p x).reply
   access_answers = so.answers

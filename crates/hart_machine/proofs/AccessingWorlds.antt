@@ -16,6 +16,7 @@ use Rattle.hart_machine.specs.declared.machine.Machine.{Machine}
 use Rattle.hart_machine.specs.declared.tenant.Tenant.{Tenant}
 use Rattle.hart_machine.proofs.AccessingPages.{access_has_copies}
 use Rattle.hart_machine.proofs.ProcessSteps.{HasCopies, process_changes}
+use Rattle.hart_machine.proofs.KeptSchemes.{access_scheme}
 
 -- seats
 
@@ -44,13 +45,13 @@ slot_has places s x y o is read at = at ∙ ap Some (sym (get_or_from_slice_get 
 
 module _ (m : Machine) (w : World) (is : IsWorld m w) (s : ℕ) (x y : Tenant) (p q : Process) (place : slice_get m.slots.items s ≡ Some (Some x)) (at : slice_get w.slots s ≡ Some (Some p)) where
   -- the process of a slot has other bytes
-  pub bytes_change : IsTenant x (is.tables s) p → IsTenant y (is.tables s) q → (b : Bank) → Keeps BankRule m.frames (view_of x) b (view_of y) → HasCopies q p
+  pub bytes_change : IsTenant x (is.tables s) p → IsTenant y (is.tables s) q → (b : Bank) → Keeps BankRule m.frames (view_of x) b (view_of y) → HasCopies q p → q.scheme ≡ p.scheme
       → IsWorld (record m { frames = b; slots = with_item m.slots s (Some y) }) (with_process w s q)
-  bytes_change old new b keeps same = process_changes m w is s x y p q place at same b
-      (seat_steps m.frames m.kernel.seat m.slots.items s x place is.rule b y keeps) new
+  bytes_change old new b keeps same schemed = process_changes m w is s x y p q place at same b
+      (seat_steps m.frames m.kernel.seat m.slots.items s x place is.rule b y keeps) new schemed
 
 module _ (m : Machine) (w : World) (is : IsWorld m w) (s : ℕ) (x y : Tenant) (p : Process) (place : slice_get m.slots.items s ≡ Some (Some x)) (at : slice_get w.slots s ≡ Some (Some p)) (a : Asked) where
   -- the process of a slot made an access
   pub access_changes : IsTenant x (is.tables s) p → IsTenant y (is.tables s) (user_access p a).process → (b : Bank) → Keeps BankRule m.frames (view_of x) b (view_of y)
       → IsWorld (record m { frames = b; slots = with_item m.slots s (Some y) }) (with_process w s (user_access p a).process)
-  access_changes old new b keeps = bytes_change m w is s x y p (user_access p a).process place at old new b keeps (access_has_copies p a)
+  access_changes old new b keeps = bytes_change m w is s x y p (user_access p a).process place at old new b keeps (access_has_copies p a) (access_scheme p a)

@@ -1,5 +1,5 @@
 -- All references of a machine's frames: those of the kernel's seat and of the processes' are those of the model.
-use Rattle.std.proofs.Common.{◌≡◌, ℕ, ◌+◌, ◌<◌, sym, ◌∙◌, inl, inr, arith, List, ◌∷◌, ◌++◌, length, slice_index}
+use Rattle.std.proofs.Common.{◌≡◌, ℕ, ◌+◌, ◌<◌, sym, ◌∙◌, inl, inr, arith, List, ◌∷◌, ◌++◌, length, slice_index, ap}
 use Rattle.std.specs.Prelude.{sum, sum_by}
 use Rattle.std.proofs.lemmas.Bool.{cases_lt}
 use Rattle.std.proofs.lemmas.List.{get_or_past, length-append}
@@ -31,8 +31,8 @@ module _ (m : Machine) (w : World) (is : IsWorld m w) where
         omega (arith, past, all, code))
   ]
 
-  pub kernel : HasKernel m.kernel.seat w.frames (length w.slots)
-  kernel = kernel_has m.kernel.seat m.kernel.root.0 w.frames (length w.slots) is.stacks is.kernel some_frame is.of_kernel
+  pub kernel : HasKernel m.kernel.scheme m.kernel.seat w.frames (length w.slots)
+  kernel = kernel_has m.kernel.scheme m.kernel.seat m.kernel.root.0 w.frames (length w.slots) is.stacks is.kernel some_frame is.of_kernel
 
   pub places : HasAll counts m.slots.items w.slots is.tables
   places = places_have m.frames.words counts m.slots.items w.slots is.tables is.places is.rule.agrees.1
@@ -56,15 +56,16 @@ module _ (m : Machine) (w : World) (is : IsWorld m w) where
       let all = count_kinds f in
       omega (arith, parts, others, last, all)
 
-  pub references_are : sum counts ≡ kernel_frames w.frames (length w.slots) + sum_by references_of (live w.slots)
+  pub references_are : sum counts ≡ kernel_frames w.scheme w.frames (length w.slots) + sum_by references_of (live w.slots)
   references_are =
       let listed = sum_is counts every every_times in
       let parts = length-append (0 ∷ kernel.own) (places.code ++ (places.own ++ places.pages)) in
       let others = length-append places.code (places.own ++ places.pages) in
       let last = length-append places.own places.pages in
       let kernel_long = kernel.long in
+      let of_world = ap (λ k. kernel_frames k w.frames (length w.slots)) is.scheme in
       let code_long = places.code_long in
       let own_long = places.own_long in
       let pages_long = places.pages_long in
       let kinds = sum_kinds (live w.slots) in
-      omega (arith, listed, parts, others, last, kernel_long, code_long, own_long, pages_long, kinds)
+      omega (arith, listed, parts, others, last, kernel_long, of_world, code_long, own_long, pages_long, kinds)

@@ -53,14 +53,14 @@ nothing_buffered [] none e h = absurd (omega (arith, h.1))
 nothing_buffered (a ∷ es) none e h = absurd (cc)
 
 -- the limits of boot
-pub few_slots : (c : Config) → can_boot c.harts c.frames c.slots ≡ true → c.slots ≤ most_slots
+pub few_slots : (c : Config) → can_boot c.scheme c.harts c.frames c.slots ≡ true → c.slots ≤ most_slots
 few_slots c is =
-    let rest = and_parts (nat_le 1 c.harts && nat_le c.harts 8 && nat_le 16 c.frames && nat_le c.frames 1024 && nat_le 1 c.slots && nat_le c.slots 64) (nat_le (kernel_frames c.frames c.slots) c.frames) is in
+    let rest = and_parts (nat_le 1 c.harts && nat_le c.harts 8 && nat_le 16 c.frames && nat_le c.frames 1024 && nat_le 1 c.slots && nat_le c.slots 64) (nat_le (kernel_frames c.scheme c.frames c.slots) c.frames) is in
     let low = and_parts (nat_le 1 c.harts && nat_le c.harts 8 && nat_le 16 c.frames && nat_le c.frames 1024 && nat_le 1 c.slots) (nat_le c.slots 64) rest.0 in
     grind (arith, nat_tests, low.1)
 
-module _ (m : Machine) (c : Config) (files : List File) (ruled : m.policy ≡ c.policy) (small : c.slots ≤ most_slots) (sized : m.kernel.seat.size ≡ c.frames) (stacks : List ℕ) (t : Tables)
-    (table : IsKernelTable m.kernel.seat m.kernel.root.0 c.frames c.slots stacks t) (rule : BankRule m.frames (m.kernel.seat ∷ []))
+module _ (m : Machine) (c : Config) (files : List File) (ruled : m.policy ≡ c.policy) (schemed : m.kernel.scheme ≡ c.scheme) (small : c.slots ≤ most_slots) (sized : m.kernel.seat.size ≡ c.frames) (stacks : List ℕ) (t : Tables)
+    (table : IsKernelTable m.kernel.scheme m.kernel.seat m.kernel.root.0 c.frames c.slots stacks t) (rule : BankRule m.frames (m.kernel.seat ∷ []))
     (slots : m.slots.items ≡ replicate c.slots None) (harts : map hart_of m.harts.items ≡ replicate c.harts model.idle_hart) (filed : m.files ≡ files) where
   idle_at : (h : ℕ) (x : Hart) → slice_get m.harts.items h ≡ Some x → hart_of x ≡ model.idle_hart
   idle_at h x is = hart_idle c.harts m.harts.items harts h x is
@@ -71,10 +71,12 @@ module _ (m : Machine) (c : Config) (files : List File) (ruled : m.policy ≡ c.
     kernel = t;
     stacks = stacks;
     policy = ruled;
+    scheme = schemed;
+    schemes = λ s p at. absurd (none_there c.slots s p at);
     few = subst (λ n. n ≤ most_slots) (sym (length-replicate c.slots None)) small;
     frames = sized;
     rule = subst (λ ts. BankRule m.frames (m.kernel.seat ∷ seats_of ts)) (sym slots) (rw (present_none {A = Tenant} c.slots) rule);
-    of_kernel = subst (λ n. IsKernelTable m.kernel.seat m.kernel.root.0 c.frames n stacks t) (sym (length-replicate c.slots None)) table;
+    of_kernel = subst (λ n. IsKernelTable m.kernel.scheme m.kernel.seat m.kernel.root.0 c.frames n stacks t) (sym (length-replicate c.slots None)) table;
     places = λ s. subst (λ ts. IsPlace (slice_get ts s) (slice_get (replicate c.slots None) s) t) (sym slots) (empty_place c.slots s t);
     copies = λ i j a b f g p q x y at. absurd (none_there c.slots i p at);
     counted = λ i n p a at. absurd (none_there c.slots i p at);

@@ -64,7 +64,7 @@ and_right false b is = absurd (cc)
 module _ (m n : Machine) (tables : ℕ → Tables) (kernel : Tables) where
   -- a step that is about no buffer leaves each
   pub same_are : (s : Step) (reply : Reply) → ((h : ℕ) → is_about s h ≡ false) → SameBuffers m n → BuffersAre m n tables kernel s reply
-  same_are s reply apart same h = same h ∙ sym (ap (λ (b : Bool). option_map (λ (x : Hart). if b then buffer_after m.policy tables kernel s x else x.buffer) (slice_get m.harts.items h)) (and_false (not (is_refused reply)) (is_about s h) (apart h)))
+  same_are s reply apart same h = same h ∙ sym (ap (λ (b : Bool). option_map (λ (x : Hart). if b then buffer_after m.kernel.scheme m.policy tables kernel s x else x.buffer) (slice_get m.harts.items h)) (and_false (not (is_refused reply)) (is_about s h) (apart h)))
 
   -- what is told of a step is told of the one that it is
   pub are_of : (reply : Reply) {s t : Step} → t ≡ s → BuffersAre m n tables kernel s reply → BuffersAre m n tables kernel t reply
@@ -76,16 +76,16 @@ module _ (m : Machine) (h : ℕ) (x y : Hart) (read : x ≡ get_or m.harts.items
   changed = record m { harts = with_item m.harts h y }
 
   pub evicted_are : (n : ℕ) → y.buffer ≡ remove x.buffer n → BuffersAre m changed tables kernel (step.Evict h n) Done
-  evicted_are n made = set_is m.harts.items h x y read (buffer_after m.policy tables kernel (step.Evict h n)) made
+  evicted_are n made = set_is m.harts.items h x y read (buffer_after m.kernel.scheme m.policy tables kernel (step.Evict h n)) made
 
   pub advanced_are : y ≡ advanced m.policy x → BuffersAre m changed tables kernel (step.Next h) Done
-  advanced_are made = set_is m.harts.items h x y read (buffer_after m.policy tables kernel (step.Next h)) (ap (λ (u : Hart). u.buffer) made)
+  advanced_are made = set_is m.harts.items h x y read (buffer_after m.kernel.scheme m.policy tables kernel (step.Next h)) (ap (λ (u : Hart). u.buffer) made)
 
   -- a fill by the table that satp has
-  pub filled_are : (z : Hart) → slice_get m.harts.items h ≡ Some z → (t : Table) → t ≡ present_table z → (a i : ℕ) → i ≡ present_asid m.policy (hart_of x) → y ≡ with_entry x (entry_for (tables_of tables kernel t) i a)
+  pub filled_are : (z : Hart) → slice_get m.harts.items h ≡ Some z → (t : Table) → t ≡ present_table z → (a i : ℕ) → i ≡ present_asid m.policy (hart_of x) → y ≡ with_entry x (entry_for m.kernel.scheme (tables_of tables kernel t) i a)
       → (n : ℕ) → BuffersAre m changed tables kernel (step.Fill h a) (Filled n)
-  filled_are z at t present a i tagged made n = set_is m.harts.items h x y read (buffer_after m.policy tables kernel (step.Fill h a)) (ap (λ (u : Hart). u.buffer) made
-      ∙ ap (λ (j : ℕ). (with_entry x (entry_for (tables_of tables kernel t) j a)).buffer) tagged ∙ ap (λ (u : Table). (with_entry x (entry_for (tables_of tables kernel u) (present_asid m.policy (hart_of x)) a)).buffer) satp) where
+  filled_are z at t present a i tagged made n = set_is m.harts.items h x y read (buffer_after m.kernel.scheme m.policy tables kernel (step.Fill h a)) (ap (λ (u : Hart). u.buffer) made
+      ∙ ap (λ (j : ℕ). (with_entry x (entry_for m.kernel.scheme (tables_of tables kernel t) j a)).buffer) tagged ∙ ap (λ (u : Table). (with_entry x (entry_for m.kernel.scheme (tables_of tables kernel u) (present_asid m.policy (hart_of x)) a)).buffer) satp) where
         satp : t ≡ present_table x
         satp = present ∙ ap present_table (sym (same_hart m.harts.items h z x read at))
 
@@ -97,8 +97,8 @@ module _ (old : Machine) (tables : ℕ → Tables) (kernel : Tables) (h : ℕ) (
   was_there : Contains x.buffer e → HasEntry old h e
   was_there there = (x.buffer, ap (option_map (λ (u : Hart). u.buffer)) at, there)
 
-  by_step : (s : Step) → is_about s h ≡ true → Contains (buffer_after old.policy tables kernel s x) e → Told s
-  by_step (step.Fill k a) about there = elim (in_newest x.buffer (entry_for (tables_of tables kernel (present_table x)) (present_asid old.policy (hart_of x)) a) e there) [
+  by_step : (s : Step) → is_about s h ≡ true → Contains (buffer_after old.kernel.scheme old.policy tables kernel s x) e → Told s
+  by_step (step.Fill k a) about there = elim (in_newest x.buffer (entry_for old.kernel.scheme (tables_of tables kernel (present_table x)) (present_asid old.policy (hart_of x)) a) e there) [
     | inl old ↦ inl (was_there old)
     | inr is ↦ inr (a, x, ap (λ n. step.Fill n a) (eqb-true k h about), at, is)
   ]
@@ -106,13 +106,13 @@ module _ (old : Machine) (tables : ℕ → Tables) (kernel : Tables) (h : ℕ) (
   by_step (step.Next k) about there = inl (was_there (in_fenced old.policy x e there))
   by_step s about there = absurd (cc)
 
-  by_reply : (s : Step) (b : Bool) → (b ≡ true → is_about s h ≡ true) → Contains (if b then buffer_after old.policy tables kernel s x else x.buffer) e → Told s
+  by_reply : (s : Step) (b : Bool) → (b ≡ true → is_about s h ≡ true) → Contains (if b then buffer_after old.kernel.scheme old.policy tables kernel s x else x.buffer) e → Told s
   by_reply s true about there = by_step s (about refl) there
   by_reply s false about there = inl (was_there there)
 
 pub only_fills_add : (old new : Machine) (tables : ℕ → Tables) (kernel : Tables) (s : Step) (reply : Reply) → BuffersAre old new tables kernel s reply → OnlyFillsAdd old new tables kernel s
 only_fills_add old new tables kernel s reply are h e (es, in_new, there) = go (slice_get old.harts.items h) refl (sym (are h) ∙ in_new) where
-  go : (o : Option Hart) → slice_get old.harts.items h ≡ o → option_map (λ (x : Hart). if not (is_refused reply) && is_about s h then buffer_after old.policy tables kernel s x else x.buffer) o ≡ Some es
+  go : (o : Option Hart) → slice_get old.harts.items h ≡ o → option_map (λ (x : Hart). if not (is_refused reply) && is_about s h then buffer_after old.kernel.scheme old.policy tables kernel s x else x.buffer) o ≡ Some es
       → HasEntry old h e ⊎ WasFilled old tables kernel s h e
   go None at is = absurd (cc)
   go (Some x) at is = by_reply old tables kernel h x at e s (not (is_refused reply) && is_about s h) (and_right (not (is_refused reply)) (is_about s h)) (subst (λ (l : List TlbEntry). Contains l e) (sym (same_Some _ es is)) there)

@@ -18,16 +18,18 @@ use Rattle.process_model.specs.declared.phase.Phase.{Phase}
 use Rattle.process_model.specs.declared.phase.Phase.TheVariants as phase
 use Rattle.process_model.specs.declared.step.Reply.{Reply}
 use Rattle.process_model.specs.declared.step.Step.{Step}
-use Rattle.sv39_entry.specs.Address.{is_canonical, page_of}
-use Rattle.sv39_entry.specs.declared.scheme.Scheme.TheVariants.{Sv39}
-use Rattle.table_walk.specs.Leaves.{page_leaf}
+use Rattle.sv39_entry.specs.Address.{page_of}
+use Rattle.sv39_entry.specs.Schemes.{is_canonical, trampoline_page}
+use Rattle.sv39_entry.specs.declared.scheme.Scheme.{Scheme}
+use Rattle.table_walk.specs.Leaves.{page_leaf, leaf_at}
 use Rattle.hart_machine.specs.Tables.{present_table, tables_of}
 use Rattle.hart_tlb.specs.Entries.{is_fenced}
 use Rattle.table_walk.specs.Tables.{Tables, walk_leaf}
+use Rattle.table_walk.specs.Mapped.{tables_of_scheme}
 use Rattle.hart_machine.specs.Buffers.{buffer_after, BuffersAre, is_about}
 use Rattle.hart_machine.specs.Harts.{cleaned_for, cleaned_if, emptied, fenced, hart_of, is_before_user}
 use Rattle.process_model.specs.Text.{is_refused}
-use Rattle.hart_machine.specs.Serves.{AreTrue, IsClean, IsFenced, IsIn, IsOwn, IsServing, IsTagged, may_have_kernel, may_have_own}
+use Rattle.hart_machine.specs.Serves.{AreTrue, IsClean, IsFenced, IsIn, IsOwn, IsServing, IsTagged, may_have_kernel, may_have_own, IsCode}
 use Rattle.hart_machine.specs.Slots.{marks_of}
 use Rattle.hart_machine.specs.Tenants.{IsTenant, view_of}
 use Rattle.hart_machine.specs.Walked.{entry_for, IsEntryOf}
@@ -46,13 +48,14 @@ use Rattle.hart_machine.proofs.PresentTables.{present_serves}
 use Rattle.hart_machine.proofs.Trampolines.{kernel_code_leaf, process_code_leaf}
 use Rattle.hart_machine.proofs.Mapped.{from_map}
 use Rattle.hart_machine.proofs.OneTables.{one_tables}
+use Rattle.hart_machine.proofs.KeptPolicy.{scheme_stays, stale_scheme}
 
 -- an entry tells what other tables say, where these have the same leaves
-entry_moves : (t u : Tables) → HaveSameLeaves t u → (asid : ℕ) (e : TlbEntry) → IsEntryOf t asid e → IsEntryOf u asid e
-entry_moves t u same asid e entry = record {
+entry_moves : (scheme : Scheme) (t u : Tables) → HaveSameLeaves t u → (asid : ℕ) (e : TlbEntry) → IsEntryOf scheme t asid e → IsEntryOf scheme u asid e
+entry_moves scheme t u same asid e entry = record {
   of_space = entry.of_space;
   local = entry.local;
-  leaf = entry.leaf ∙ ap (λ (o : Option ℕ). if is_canonical (4096 * e.page) then option_map page_leaf o else None) (sym (same (walk_leaf Sv39 (page_of (4096 * e.page)))));
+  leaf = entry.leaf ∙ ap (λ (o : Option ℕ). if is_canonical scheme (4096 * e.page) then option_map page_leaf o else None) (sym (same (walk_leaf scheme (page_of (4096 * e.page)))));
 }
 
 -- where there is nothing, the end was passed
@@ -241,26 +244,33 @@ module _ (m n : Machine) (w : World) (s : Step) (inn : IsIn m w) (after : IsWorl
   -- where the hart went on by the trampoline, they are those that the fence left
   left_by_fence : (h : ℕ) (y : Hart) (b : Before h y) → Advances w s o.reply h (hart_of b.was) b.plain_hart.hart → slice_get n.harts.items h ≡ Some y → y.buffer ≡ (fenced m.policy b.was).buffer
   left_by_fence h y b a at =
-      same_Some _ _ (sym (ap (option_map (λ (x : Hart). x.buffer)) at) ∙ are h ∙ ap (option_map (λ (x : Hart). if not (is_refused reply) && is_about s h then buffer_after m.policy is.tables is.kernel s x else x.buffer)) b.there
+      same_Some _ _ (sym (ap (option_map (λ (x : Hart). x.buffer)) at) ∙ are h ∙ ap (option_map (λ (x : Hart). if not (is_refused reply) && is_about s h then buffer_after m.kernel.scheme m.policy is.tables is.kernel s x else x.buffer)) b.there
       ∙ ap Some (rw (told, a.done, a.is_next, eq-eqb h h refl) refl))
+
+  -- the machine has the scheme that it had
+  same_scheme : m.kernel.scheme ≡ n.kernel.scheme
+  same_scheme = is.scheme ∙ sym (after.scheme ∙ stale_scheme w.policy w (plain_step w s) ∙ scheme_stays w s)
+
+  entry_after : (t u : Tables) → HaveSameLeaves t u → (asid : ℕ) (e : TlbEntry) → IsEntryOf m.kernel.scheme t asid e → IsEntryOf n.kernel.scheme u asid e
+  entry_after t u same asid e entry = subst (λ k. IsEntryOf k u asid e) same_scheme (entry_moves m.kernel.scheme t u same asid e entry)
 
   -- with fences of everything
 
   module _ (h : ℕ) (y : Hart) (at : slice_get n.harts.items h ≡ Some y) (b : Before h y) (e : TlbEntry) where
-    own_after : (r : ℕ) (asid : ℕ) → (b.was).slot ≡ Some r → y.slot ≡ Some r → ((b.was).phase ≡ phase.Kernel → ⊥) → IsEntryOf (is.tables r) asid e → IsEntryOf (after.tables r) asid e
+    own_after : (r : ℕ) (asid : ℕ) → (b.was).slot ≡ Some r → y.slot ≡ Some r → ((b.was).phase ≡ phase.Kernel → ⊥) → IsEntryOf m.kernel.scheme (is.tables r) asid e → IsEntryOf n.kernel.scheme (after.tables r) asid e
     own_after r asid on upon other entry =
         let quiet = quiet_slot h r b.was b.there on other in
         let x = is.hosted h r b.was b.there on in
         let z = after.hosted h r y at upon in
-        entry_moves (is.tables r) (after.tables r) (own_same r x.0 z.0 x.1 z.1 quiet) asid e entry
+        entry_after (is.tables r) (after.tables r) (own_same r x.0 z.0 x.1 z.1 quiet) asid e entry
 
-    kernel_after : (asid : ℕ) → IsEntryOf is.kernel asid e → IsEntryOf after.kernel asid e
-    kernel_after asid entry = entry_moves is.kernel after.kernel kernel_same asid e entry
+    kernel_after : (asid : ℕ) → IsEntryOf m.kernel.scheme is.kernel asid e → IsEntryOf n.kernel.scheme after.kernel asid e
+    kernel_after asid entry = entry_after is.kernel after.kernel kernel_same asid e entry
 
     not_kernel : (p : Phase) → may_have_own p ≡ true → p ≡ phase.Kernel → ⊥
     not_kernel p own is_kernel = let never : may_have_own phase.Kernel ≡ true = ap may_have_own (sym is_kernel) ∙ own in cc
 
-    fenced_by : IsFenced b.was is.tables is.kernel e → (MovesTo (hart_of b.was) b.plain_hart.hart × ((b.plain_hart.hart).stale ≡ (hart_of b.was).stale)) → IsFenced y after.tables after.kernel e
+    fenced_by : IsFenced m.kernel.scheme b.was is.tables is.kernel e → (MovesTo (hart_of b.was) b.plain_hart.hart × ((b.plain_hart.hart).stale ≡ (hart_of b.was).stale)) → IsFenced n.kernel.scheme y after.tables after.kernel e
     fenced_by (inl of_kernel) (stays phased slotted, stale) = inl (ap may_have_kernel (sym (b.plain_hart).phased ∙ phased) ∙ of_kernel.0, kernel_after 0 of_kernel.1)
     fenced_by (inr own) (stays phased slotted, stale) =
         let upon : y.slot ≡ Some own.0 = sym (b.plain_hart).slotted ∙ slotted ∙ own.2 in
@@ -273,7 +283,7 @@ module _ (m n : Machine) (w : World) (s : Step) (inn : IsIn m w) (after : IsWorl
         inr (own.0, ap may_have_own (sym (b.plain_hart).phased ∙ entered), upon, own_after own.0 0 own.2 upon (not_kernel (b.was).phase own.1) own.3)
 
     -- by the trampoline: in front of a fence no entry is left
-    advanced_by : (p : Phase) → (b.was).phase ≡ p → (a : Advances w s o.reply h (hart_of b.was) b.plain_hart.hart) → Contains (emptied b.was).buffer e → IsFenced b.was is.tables is.kernel e → IsFenced y after.tables after.kernel e
+    advanced_by : (p : Phase) → (b.was).phase ≡ p → (a : Advances w s o.reply h (hart_of b.was) b.plain_hart.hart) → Contains (emptied b.was).buffer e → IsFenced m.kernel.scheme b.was is.tables is.kernel e → IsFenced n.kernel.scheme y after.tables after.kernel e
     advanced_by p phased a there serves = go p phased (subst (λ (q : Phase). Contains (if model.is_before_fence q then [] else (b.was).buffer) e) phased there) (ap next_phase (sym phased) ∙ a.next) serves where
       upon : (r : ℕ) → (b.was).slot ≡ Some r → y.slot ≡ Some r
       upon r on = sym (b.plain_hart).slotted ∙ a.slotted ∙ on
@@ -281,7 +291,7 @@ module _ (m n : Machine) (w : World) (s : Step) (inn : IsIn m w) (after : IsWorl
       now : (q : Phase) → Some q ≡ Some a.after → y.phase ≡ q
       now q same = sym (b.plain_hart).phased ∙ a.phased ∙ sym (same_Some q a.after same)
 
-      go : (p : Phase) → (b.was).phase ≡ p → Contains (if model.is_before_fence p then [] else (b.was).buffer) e → next_phase p ≡ Some a.after → IsFenced b.was is.tables is.kernel e → IsFenced y after.tables after.kernel e
+      go : (p : Phase) → (b.was).phase ≡ p → Contains (if model.is_before_fence p then [] else (b.was).buffer) e → next_phase p ≡ Some a.after → IsFenced m.kernel.scheme b.was is.tables is.kernel e → IsFenced n.kernel.scheme y after.tables after.kernel e
       go phase.Idle q there next serves = absurd (cc)
       go phase.User q there next serves = absurd (cc)
       go phase.Enter0 q there next serves = absurd (omega (arith, there.1))
@@ -308,30 +318,30 @@ module _ (m n : Machine) (w : World) (s : Step) (inn : IsIn m w) (after : IsWorl
           (subst (λ (q : Policy). Contains (fenced q b.was).buffer e) asid (subst (λ (es : List TlbEntry). Contains es e) (left_by_fence h y b a at) left)) own)
     ]
 
-    tagged_after : m.policy ≡ Asid → Contains y.buffer e → IsTagged m.slots.items b.was is.tables is.kernel e → IsTagged n.slots.items y after.tables after.kernel e
+    tagged_after : m.policy ≡ Asid → Contains y.buffer e → IsTagged m.kernel.scheme m.slots.items b.was is.tables is.kernel e → IsTagged n.kernel.scheme n.slots.items y after.tables after.kernel e
     tagged_after asid left tagged = record {
-      code = tagged.code;
+      code = subst (λ k. e.page ≡ trampoline_page k → IsCode e.leaf) same_scheme tagged.code;
       whose = elim tagged.whose [
         | inl of_kernel ↦ inl (kernel_after 0 of_kernel)
         | inr own ↦ inr (own.0, own.1, owned own.0 own.1 (marks_of y.stale own.0) refl own.2)
       ];
     } where
-      owned : (r : ℕ) → e.asid ≡ r + 1 → (c : Bool) → marks_of y.stale r ≡ c → IsOwn m.slots.items b.was is.tables r e → IsOwn n.slots.items y after.tables r e
+      owned : (r : ℕ) → e.asid ≡ r + 1 → (c : Bool) → marks_of y.stale r ≡ c → IsOwn m.kernel.scheme m.slots.items b.was is.tables r e → IsOwn n.kernel.scheme n.slots.items y after.tables r e
       owned r own true marked old = inl marked
       owned r own false unmarked (inl stale) = absurd (mark_goes asid r stale unmarked left own)
       owned r own false unmarked (inr rest) = inr (at_slot (slice_get n.slots.items r) refl rest) where
         quiet : changed r ≡ false
         quiet = (true_of_or (changed r) ((b.plain_hart).hart.stale r) (sym ((b.plain_hart).marked asid r) ∙ unmarked)).0
 
-        at_slot : (c : Option (Option Tenant)) → slice_get n.slots.items r ≡ c → ((x : Tenant) → slice_get m.slots.items r ≡ Some (Some x) → ⊥) ⊎ IsEntryOf (is.tables r) (r + 1) e
-            → ((x : Tenant) → slice_get n.slots.items r ≡ Some (Some x) → ⊥) ⊎ IsEntryOf (after.tables r) (r + 1) e
+        at_slot : (c : Option (Option Tenant)) → slice_get n.slots.items r ≡ c → ((x : Tenant) → slice_get m.slots.items r ≡ Some (Some x) → ⊥) ⊎ IsEntryOf m.kernel.scheme (is.tables r) (r + 1) e
+            → ((x : Tenant) → slice_get n.slots.items r ≡ Some (Some x) → ⊥) ⊎ IsEntryOf n.kernel.scheme (after.tables r) (r + 1) e
         at_slot None none old = inl (λ x some. let both = sym none ∙ some in cc)
         at_slot (Some None) none old = inl (λ x some. let both = sym none ∙ some in let inner : None ≡ Some x = same_Some _ _ both in cc)
         at_slot (Some (Some z)) some (inl dead) = absurd (let x = was_there r z some quiet in dead x.0 x.1)
-        at_slot (Some (Some z)) some (inr entry) = let x = was_there r z some quiet in inr (entry_moves (is.tables r) (after.tables r) (own_same r x.0 z x.1 some quiet) (r + 1) e entry)
+        at_slot (Some (Some z)) some (inr entry) = let x = was_there r z some quiet in inr (entry_after (is.tables r) (after.tables r) (own_same r x.0 z x.1 some quiet) (r + 1) e entry)
 
     -- by either policy
-    served_after : (q : Policy) → m.policy ≡ q → Contains y.buffer e → IsServing q m.slots.items b.was is.tables is.kernel e → IsServing q n.slots.items y after.tables after.kernel e
+    served_after : (q : Policy) → m.policy ≡ q → Contains y.buffer e → IsServing m.kernel.scheme q m.slots.items b.was is.tables is.kernel e → IsServing n.kernel.scheme q n.slots.items y after.tables after.kernel e
     served_after Asid asid left serves = tagged_after asid left serves
     served_after Full full left serves = elim b.went [
       | inl other ↦ fenced_by serves other
@@ -339,25 +349,25 @@ module _ (m n : Machine) (w : World) (s : Step) (inn : IsIn m w) (after : IsWorl
     ]
 
   -- a fill adds an entry that serves
-  new_serves : (h : ℕ) (x : Hart) → slice_get m.harts.items h ≡ Some x → (a : ℕ) (e : TlbEntry) → e ≡ entry_for (tables_of is.tables is.kernel (present_table x)) (present_asid m.policy (hart_of x)) a
-      → IsServing m.policy m.slots.items x is.tables is.kernel e
+  new_serves : (h : ℕ) (x : Hart) → slice_get m.harts.items h ≡ Some x → (a : ℕ) (e : TlbEntry) → e ≡ entry_for m.kernel.scheme (tables_of is.tables is.kernel (present_table x)) (present_asid m.policy (hart_of x)) a
+      → IsServing m.kernel.scheme m.policy m.slots.items x is.tables is.kernel e
   new_serves h x at a e made = go m.policy made where
     idle : x.slot ≡ None → x.phase ≡ phase.Idle
     idle none = is.idle h x at none
 
-    go : (q : Policy) → e ≡ entry_for (tables_of is.tables is.kernel (present_table x)) (present_asid q (hart_of x)) a → IsServing q m.slots.items x is.tables is.kernel e
-    go Full made = subst (λ (z : TlbEntry). IsFenced x is.tables is.kernel z) (sym made) (present_serves is.tables is.kernel x idle _ (entry_is _ 0 a))
-    go Asid made = subst (λ (z : TlbEntry). IsTagged m.slots.items x is.tables is.kernel z) (sym made) (elim (satp_is x idle (present_asid Asid (hart_of x)) refl) [
+    go : (q : Policy) → e ≡ entry_for m.kernel.scheme (tables_of is.tables is.kernel (present_table x)) (present_asid q (hart_of x)) a → IsServing m.kernel.scheme q m.slots.items x is.tables is.kernel e
+    go Full made = subst (λ (z : TlbEntry). IsFenced m.kernel.scheme x is.tables is.kernel z) (sym made) (present_serves m.kernel.scheme is.tables is.kernel x idle _ (entry_is m.kernel.scheme _ 0 a))
+    go Asid made = subst (λ (z : TlbEntry). IsTagged m.kernel.scheme m.slots.items x is.tables is.kernel z) (sym made) (elim (satp_is x idle (present_asid Asid (hart_of x)) refl) [
       | inl other ↦ rw (other.0) (record {
-        code = λ code. kernel_code_leaf m.kernel.seat m.kernel.root.0 w.frames (length w.slots) is.stacks is.kernel is.of_kernel a code;
-        whose = inl (entry_is is.kernel 0 a);
+        code = λ code. kernel_code_leaf m.kernel.scheme m.kernel.seat m.kernel.root.0 w.frames (length w.slots) is.stacks is.kernel is.of_kernel a code;
+        whose = inl (entry_is m.kernel.scheme is.kernel 0 a);
       })
       | inr own ↦
           let t = is.hosted h own.0 x at own.2 in
           let p = process_at m w is own.0 t.0 t.1 in
           rw (own.1, own.2) (record {
-            code = λ code. process_code_leaf _ _ (is.tables own.0) p.0 (p.2).agrees.stands.shows a code;
-            whose = inr (own.0, refl, inr (inr (entry_is (is.tables own.0) (own.0 + 1) a)));
+            code = subst (λ k. page_of a ≡ trampoline_page k → IsCode (leaf_at k (is.tables own.0) a)) (is.schemes own.0 p.0 p.1 ∙ sym is.scheme) (process_code_leaf _ _ (is.tables own.0) p.0 (p.2).agrees.stands.shows a);
+            whose = inr (own.0, refl, inr (inr (entry_is m.kernel.scheme (is.tables own.0) (own.0 + 1) a)));
           })
     ])
 
@@ -397,7 +407,7 @@ module _ (m n : Machine) (w : World) (s : Step) (inn : IsIn m w) (after : IsWorl
     unmarked : (b.plain_hart.hart).stale r ≡ false
     unmarked = both.1
 
-  serving_after : (h : ℕ) (y : Hart) (e : TlbEntry) → slice_get n.harts.items h ≡ Some y → Contains y.buffer e → IsServing m.policy n.slots.items y after.tables after.kernel e
+  serving_after : (h : ℕ) (y : Hart) (e : TlbEntry) → slice_get n.harts.items h ≡ Some y → Contains y.buffer e → IsServing n.kernel.scheme m.policy n.slots.items y after.tables after.kernel e
   serving_after h y e at left =
       let b = before h y at in
       elim (only_fills_add m n is.tables is.kernel s reply are h e (y.buffer, ap (option_map (λ (x : Hart). x.buffer)) at, left)) [
@@ -406,21 +416,21 @@ module _ (m n : Machine) (w : World) (s : Step) (inn : IsIn m w) (after : IsWorl
             served_after h y at b e m.policy refl left (inn.buffers h b.was e b.there (subst (λ (es : List TlbEntry). Contains es e) (sym same) old.2))
         | inr new ↦
             let one : new.1 ≡ b.was = same_Some new.1 b.was (sym new.3 ∙ b.there) in
-            served_after h y at b e m.policy refl left (subst (λ (x : Hart). IsServing m.policy m.slots.items x is.tables is.kernel e) one (new_serves h new.1 new.3 new.0 e new.4))
+            served_after h y at b e m.policy refl left (subst (λ (x : Hart). IsServing m.kernel.scheme m.policy m.slots.items x is.tables is.kernel e) one (new_serves h new.1 new.3 new.0 e new.4))
       ]
 
   -- the machine is in the model's world, and no buffer tells what may not be told
   pub still_in : IsIn n (with_stale_slots w.policy w o).world
   still_in = record {
     world = after;
-    buffers = λ h y e at left. subst (λ (q : Policy). IsServing q n.slots.items y after.tables after.kernel e) (sym ruled) (serving_after h y e at left);
+    buffers = λ h y e at left. subst (λ (q : Policy). IsServing n.kernel.scheme q n.slots.items y after.tables after.kernel e) (sym ruled) (serving_after h y e at left);
     clean = λ asid h y at. clean_after (sym ruled ∙ asid) h y at;
   }
 
 -- what that says with address-space identifiers
 module _ (m : Machine) (w : World) (inn : IsIn m w) (asid : m.policy ≡ Asid) where
-  tagged : (h : ℕ) (x : Hart) (e : TlbEntry) → slice_get m.harts.items h ≡ Some x → Contains x.buffer e → IsTagged m.slots.items x (inn.world).tables (inn.world).kernel e
-  tagged h x e at there = subst (λ (q : Policy). IsServing q m.slots.items x (inn.world).tables (inn.world).kernel e) asid (inn.buffers h x e at there)
+  tagged : (h : ℕ) (x : Hart) (e : TlbEntry) → slice_get m.harts.items h ≡ Some x → Contains x.buffer e → IsTagged m.kernel.scheme m.slots.items x (inn.world).tables (inn.world).kernel e
+  tagged h x e at there = subst (λ (q : Policy). IsServing m.kernel.scheme q m.slots.items x (inn.world).tables (inn.world).kernel e) asid (inn.buffers h x e at there)
 
   pub are_true : AreTrue m
   are_true = record {
@@ -428,13 +438,15 @@ module _ (m : Machine) (w : World) (inn : IsIn m w) (asid : m.policy ≡ Asid) w
       | inl of_kernel ↦ absurd (let none = of_kernel.of_space in omega (arith, none, own))
       | inr other ↦
           let same : other.0 ≡ s = (let second = other.1 in omega (arith, own, second)) in
-          elim (subst (λ (r : ℕ). IsOwn m.slots.items x (inn.world).tables r e) same other.2) [
+          elim (subst (λ (r : ℕ). IsOwn m.kernel.scheme m.slots.items x (inn.world).tables r e) same other.2) [
             | inl stale ↦ inl stale
             | inr rest ↦ elim rest [
               | inl dead ↦ absurd (dead y place)
               | inr entry ↦
                   let p = process_at m w inn.world s y place in
-                  inr (entry_moves ((inn.world).tables s) t (one_tables (view_of y) y.space.root.0 ((inn.world).tables s) t (p.2).agrees.stands.tables has) (s + 1) e entry)
+                  let of_machine = (inn.world).schemes s p.0 p.1 ∙ sym (inn.world).scheme in
+                  inr (entry_moves m.kernel.scheme ((inn.world).tables s) t
+                  (one_tables (view_of y) y.space.root.0 ((inn.world).tables s) t (tables_of_scheme of_machine (p.2).agrees.stands.tables) has) (s + 1) e entry)
             ]
           ]
     ];

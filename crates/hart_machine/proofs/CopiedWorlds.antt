@@ -57,6 +57,8 @@ same_slots m n w frames kernel slots files harts ruled is = record {
   kernel = is.kernel;
   stacks = is.stacks;
   policy = sym ruled ∙ is.policy;
+  scheme = rw (← kernel) is.scheme;
+  schemes = is.schemes;
   few = is.few;
   frames = rw (← kernel) is.frames;
   rule = rw (← frames, ← kernel, ← slots) is.rule;
@@ -194,12 +196,12 @@ module _ (m : Machine) (w : World) (is : IsWorld m w) (h s : ℕ) (k : IsCaller 
       shift : (r : Result Progress Rule) → reached (around there s) kind address (begun there g.process) (rule_of g.process waiting) ≡ r → reached_in (around w s) kind g address ≡ shifted g.taken r
       shift r e =
           reached_later (around there s) (around w s) refl others g.taken
-          (λ page need. lt_shift (free there) need g.taken ∙ ap (λ n. nat_lt n (g.taken + need)) (sym frees)) g.process g.fresh kind address (copy_rule (regions g.process) kind address)
-          ∙ ap (shifted g.taken) (ap (reached (around there s) kind address (begun there g.process)) (sym (no_alignment (regions g.process) kind address)) ∙ e)
+          (λ page need. lt_shift (free there) need g.taken ∙ ap (λ n. nat_lt n (g.taken + need)) (sym frees)) g.process g.fresh kind address (copy_rule g.process.scheme (regions g.process) kind address)
+          ∙ ap (shifted g.taken) (ap (reached (around there s) kind address (begun there g.process)) (sym (no_alignment g.process.scheme (regions g.process) kind address)) ∙ e)
 
       module _ (e : Reaches plain_words a b kind address (Ok tt)) where
         allowed : rule_of g.process waiting ≡ None
-        allowed = no_alignment (regions g.process) kind address ∙ by (copy_rule (regions g.process) kind address) (e.ended (u.world.tables s) g.process tenant.agrees)
+        allowed = no_alignment g.process.scheme (regions g.process) kind address ∙ by (copy_rule g.process.scheme (regions g.process) kind address) (e.ended (u.world.tables s) g.process tenant.agrees)
           where
             by : (o : Option Rule) → IsEnd o served.Ready → o ≡ None
             by None told = refl
@@ -228,7 +230,7 @@ module _ (m : Machine) (w : World) (is : IsWorld m w) (h s : ℕ) (k : IsCaller 
             }
 
         files_stay : b.files ≡ a.files
-        files_stay = e.moves (λ x un. cc) (u.world.tables s) g.process tenant.agrees ∙ only_reads a.files g.process (page_of address) (copy_rule (regions g.process) kind address)
+        files_stay = e.moves (λ x un. cc) (u.world.tables s) g.process tenant.agrees ∙ only_reads a.files g.process (page_of address) (copy_rule g.process.scheme (regions g.process) kind address)
 
         pub reaches : (j : Progress) × (reached_in (around w s) kind g address ≡ Ok j) × IsUnderWay b j
         reaches =
@@ -273,16 +275,16 @@ module _ (m : Machine) (w : World) (is : IsWorld m w) (h s : ℕ) (k : IsCaller 
             pending = u.quiet;
             wide = subst HasBytes (sym u.quiet) tt;
           };
-          why = by (copy_rule (regions g.process) kind address) refl (e.ended (u.world.tables s) g.process tenant.agrees);
+          why = by (copy_rule g.process.scheme (regions g.process) kind address) refl (e.ended (u.world.tables s) g.process tenant.agrees);
         }
           where
-            aligned : rule_of g.process waiting ≡ copy_rule (regions g.process) kind address
-            aligned = no_alignment (regions g.process) kind address
+            aligned : rule_of g.process waiting ≡ copy_rule g.process.scheme (regions g.process) kind address
+            aligned = no_alignment g.process.scheme (regions g.process) kind address
 
             same_end : (r q : Rule) → served.Ended q ≡ served.Ended r → q ≡ r
             same_end r q same = cc
 
-            by : (o : Option Rule) → copy_rule (regions g.process) kind address ≡ o → IsEnd o (served.Ended rule)
+            by : (o : Option Rule) → copy_rule g.process.scheme (regions g.process) kind address ≡ o → IsEnd o (served.Ended rule)
                 → (rule_of g.process waiting ≡ Some rule) ⊎ ((rule_of g.process waiting ≡ None) × (rule ≡ NoFrame) × WhenShared a.store (u.world.tables s) g.process waiting (λ need. a.store.free < need))
             by None none told =
                 let dry = told rule refl in
@@ -303,18 +305,18 @@ module _ (m : Machine) (w : World) (is : IsWorld m w) (h s : ℕ) (k : IsCaller 
             (shift (Err rule) not, record { world = world; old = old_in b g world (u.world.tables s) g.process must.tenant u.old })
           where
             files_stop : b.files ≡ a.files
-            files_stop = e.moves (λ x un. cc) (u.world.tables s) g.process tenant.agrees ∙ only_reads a.files g.process (page_of address) (copy_rule (regions g.process) kind address)
+            files_stop = e.moves (λ x un. cc) (u.world.tables s) g.process tenant.agrees ∙ only_reads a.files g.process (page_of address) (copy_rule g.process.scheme (regions g.process) kind address)
 
     -- bytes are put into a page that was reached for a store
 
     module _ (d : Spot) (address : ℕ) (given : List ℕ) (x : Page) (settled : get g.process.settled (page_of address) ≡ Some x) (resident : is_resident g.process access.Store (page_of address) ≡ true)
-        (allowed : copy_rule (regions g.process) access.Store address ≡ None) (put : Puts plain_words a d address given) where
+        (allowed : copy_rule g.process.scheme (regions g.process) access.Store address ≡ None) (put : Puts plain_words a d address given) where
       abbrev after : Process
       after = with_page g.process (page_of address) (stored x (address % 4096) given)
 
       can_write : CanWrite (body_in (tenant_at a)) (u.world.tables s) g.process (page_of address) x
       can_write =
-          let can = can_reside (body_in (tenant_at a)) (u.world.tables s) g.process access.Store address 1 tenant.agrees (no_alignment (regions g.process) access.Store address ∙ allowed) in
+          let can = can_reside (body_in (tenant_at a)) (u.world.tables s) g.process access.Store address 1 tenant.agrees (no_alignment g.process.scheme (regions g.process) access.Store address ∙ allowed) in
           let goes = ap (is_resident_page access.Store (region_on g.process (page_of address))) (sym settled) ∙ resident in
           record {
             read = record { agrees = tenant.agrees; settled = settled };
@@ -346,7 +348,7 @@ module _ (m : Machine) (w : World) (is : IsWorld m w) (h s : ℕ) (k : IsCaller 
       pub puts : IsUnderWay d (record g { process = after })
       puts =
           let copies = has_copies g.process (page_of address) x (stored x (address % 4096) given) settled refl in
-          let changed = bytes_change (machine_at a) there u.world s (tenant_at a) (tenant_at d) g.process after placed at tenant put_tenant d.store put.keeps copies in
+          let changed = bytes_change (machine_at a) there u.world s (tenant_at a) (tenant_at d) g.process after placed at tenant put_tenant d.store put.keeps copies refl in
           let free = put.free tt in
           let before = u.left in
           let world : IsWorld (machine_at d) (with_progress w s (record g { process = after })) =

@@ -40,7 +40,7 @@ use Rattle.hart_machine.proofs.CopiedRuns.{are_given, are_runs, as_runs_in, as_r
 use Rattle.hart_machine.proofs.CopiedWorlds.{IsCopied, IsUnderWay, machine_at, old_in, tenant_in}
 use Rattle.hart_machine.proofs.HartSteps.{improper, refused, tenant_is}
 use Rattle.hart_machine.proofs.KeptLeaves.{followed_same, slot_keeps_by}
-use Rattle.hart_machine.proofs.MarkedCopies.{copied_in_regions, copied_in_told, copied_out_regions, copied_out_told}
+use Rattle.hart_machine.proofs.MarkedCopies.{copied_in_regions, copied_in_told, copied_out_regions, copied_out_told, copied_in_scheme, copied_out_scheme}
 use Rattle.hart_machine.proofs.SlotMarks.{set_marks}
 
 sent_is : (sent : List ℕ) (stop : Option Rule) → out_reply sent stop ≡ sent_reply (length sent) stop
@@ -67,7 +67,7 @@ module _ (m : Machine) (w : World) (is : IsWorld m w) (h s : ℕ) (k : IsCaller 
         wide = tt;
       } in
       let world : IsWorld (machine_at m w is h s k spot) (with_progress w s (begun w (without_pending k.process))) =
-      bytes_change m w is s x z k.process (without_pending k.process) place k.in_slot own quiet m.frames (λ others r. r) (λ n a there. (a, there, refl)) in
+      bytes_change m w is s x z k.process (without_pending k.process) place k.in_slot own quiet m.frames (λ others r. r) (λ n a there. (a, there, refl)) refl in
       record {
         world = world;
         left = omega arith;
@@ -94,10 +94,10 @@ module _ (m : Machine) (w : World) (is : IsWorld m w) (h s : ℕ) (k : IsCaller 
         (tenant_in m w is h s k (place_of y b fs) j copied.world)
 
     -- where each page has the copy number and the marks that it had, each leaf is what it was
-    keeps_leaves : y.space.trapframe ≡ x.space.trapframe → regions j.process ≡ regions k.process → KeepsTables m after w.slots (slice_set w.slots s (Some j.process))
-    keeps_leaves trapframe same =
+    keeps_leaves : y.space.trapframe ≡ x.space.trapframe → j.process.scheme ≡ k.process.scheme → regions j.process ≡ regions k.process → KeepsTables m after w.slots (slice_set w.slots s (Some j.process))
+    keeps_leaves trapframe schemed same =
         slot_keeps_by m after w.slots _ s x y k.process j.process (is.tables s) (copied.world.tables s) own tenant_after place k.in_slot refl refl refl
-        (λ unchanged. followed_same x y (is.tables s) (copied.world.tables s) k.process j.process own tenant_after unchanged trapframe same
+        (λ unchanged. followed_same x y (is.tables s) (copied.world.tables s) k.process j.process own tenant_after unchanged schemed trapframe same
         w.counter (λ n z there. is.counted s n k.process z k.in_slot there) (λ n f z. copied.old n f z))
 
   -- from the process
@@ -129,7 +129,7 @@ module _ (m : Machine) (w : World) (is : IsWorld m w) (h s : ℕ) (k : IsCaller 
         (tells_quiet flag k.process (copy_in.progress).process Load address (tells (is.tables s) _ k.process (copy_in.progress).process own (tenant_after from.quiet copy_in.progress copied_from))))
 
     pub keeps_in : y.space.trapframe ≡ x.space.trapframe → KeepsTables m after w.slots (told_in w s copy_in).world.slots
-    keeps_in trapframe = keeps_leaves from.quiet copy_in.progress copied_from trapframe (copied_in_regions (around w s) g address n (omega (arith, small)))
+    keeps_in trapframe = keeps_leaves from.quiet copy_in.progress copied_from trapframe (copied_in_scheme (around w s) g address n (omega (arith, small))) (copied_in_regions (around w s) g address n (omega (arith, small)))
 
   -- to the process
 
@@ -161,7 +161,7 @@ module _ (m : Machine) (w : World) (is : IsWorld m w) (h s : ℕ) (k : IsCaller 
         (tells_quiet flag k.process (copy_out.progress).process Store address (tells (is.tables s) _ k.process (copy_out.progress).process own (tenant_after to.quiet copy_out.progress copied_to))))
 
     pub keeps_out : y.space.trapframe ≡ x.space.trapframe → KeepsTables m after w.slots (told_out w s copy_out).world.slots
-    keeps_out trapframe = keeps_leaves to.quiet copy_out.progress copied_to trapframe (copied_out_regions (around w s) begin address bytes (omega (arith, small)))
+    keeps_out trapframe = keeps_leaves to.quiet copy_out.progress copied_to trapframe (copied_out_scheme (around w s) begin address bytes (omega (arith, small))) (copied_out_regions (around w s) begin address bytes (omega (arith, small)))
 
 -- the step is the copy
 

@@ -71,17 +71,19 @@ module _ (m : Machine) (w : World) (is : IsWorld m w) (s : ℕ) (x : Tenant) (p 
       let apart : r ≡ s → ⊥ = λ same. free h z on (slot ∙ ap Some same) in
       (old.0, place_set_other m.slots.items s r None apart ∙ old.1)
 
-  pub empties : (n : Machine) → n.policy ≡ m.policy → n.kernel.seat.size ≡ m.kernel.seat.size → n.slots.items ≡ slice_set m.slots.items s None → n.harts ≡ m.harts → BankRule n.frames (n.kernel.seat ∷ seats_of (slice_set m.slots.items s None))
-      → IsKernelTable n.kernel.seat n.kernel.root.0 w.frames (length w.slots) is.stacks is.kernel → IsWorld n (record w { slots = slice_set w.slots s None; files = n.files })
-  empties n ruled sized slots harts rule table = record {
+  pub empties : (n : Machine) → n.policy ≡ m.policy → n.kernel.scheme ≡ m.kernel.scheme → n.kernel.seat.size ≡ m.kernel.seat.size → n.slots.items ≡ slice_set m.slots.items s None → n.harts ≡ m.harts → BankRule n.frames (n.kernel.seat ∷ seats_of (slice_set m.slots.items s None))
+      → IsKernelTable n.kernel.scheme n.kernel.seat n.kernel.root.0 w.frames (length w.slots) is.stacks is.kernel → IsWorld n (record w { slots = slice_set w.slots s None; files = n.files })
+  empties n ruled schemed sized slots harts rule table = record {
     tables = is.tables;
     kernel = is.kernel;
     stacks = is.stacks;
     policy = ruled ∙ is.policy;
+    scheme = schemed ∙ is.scheme;
+    schemes = λ i o at. is.schemes i o (left i o at);
     few = subst (λ i. i ≤ most_slots) (sym (length-set w.slots s None)) is.few;
     frames = sized ∙ is.frames;
     rule = rw slots rule;
-    of_kernel = subst (λ i. IsKernelTable n.kernel.seat n.kernel.root.0 w.frames i is.stacks is.kernel) (sym (length-set w.slots s None)) table;
+    of_kernel = subst (λ i. IsKernelTable n.kernel.scheme n.kernel.seat n.kernel.root.0 w.frames i is.stacks is.kernel) (sym (length-set w.slots s None)) table;
     places = rw slots places;
     copies = λ i j l r f g o q a c at_i at_j. is.copies i j l r f g o q a c (left i o at_i) (left j q at_j);
     counted = λ i r o a there. is.counted i r o a (left i o there);
@@ -100,12 +102,12 @@ seat_left b c k places s x v at keeps rule = second_steps b c k (view_of x) v (s
 
 module _ (m : Machine) (w : World) (is : IsWorld m w) (h s : ℕ) (waits : Bool) (k : IsInKernel m w h s waits) where
   -- the process with which a hart is in the kernel ends
-  pub ends : (x : Tenant) → slice_get m.slots.items s ≡ Some (Some x) → (n : Machine) → n.policy ≡ m.policy → n.kernel.seat.size ≡ m.kernel.seat.size → n.slots.items ≡ slice_set m.slots.items s None
+  pub ends : (x : Tenant) → slice_get m.slots.items s ≡ Some (Some x) → (n : Machine) → n.policy ≡ m.policy → n.kernel.scheme ≡ m.kernel.scheme → n.kernel.seat.size ≡ m.kernel.seat.size → n.slots.items ≡ slice_set m.slots.items s None
       → n.harts ≡ with_item m.harts h (idled k.hart) → n.files ≡ all_written_back m.files k.process → BankRule n.frames (n.kernel.seat ∷ seats_of (slice_set m.slots.items s None))
-      → ((frames slots : ℕ) (stacks : List ℕ) (t : Tables) → IsKernelTable m.kernel.seat m.kernel.root.0 frames slots stacks t → IsKernelTable n.kernel.seat n.kernel.root.0 frames slots stacks t)
+      → ((frames slots : ℕ) (stacks : List ℕ) (t : Tables) → IsKernelTable m.kernel.scheme m.kernel.seat m.kernel.root.0 frames slots stacks t → IsKernelTable n.kernel.scheme n.kernel.seat n.kernel.root.0 frames slots stacks t)
       → (reply : Reply) → IsWorld n (ended w h (hart_of k.hart) s k.process reply).world
-  ends x place n ruled sized slots harts files rule table reply =
+  ends x place n ruled schemed sized slots harts files rule table reply =
       let idle : Machine = record m { harts = with_item m.harts h (idled k.hart) } in
       let world = idles m w is h s waits k in
-      let after = empties idle (with_hart w h (hart_of (idled k.hart))) world s x k.process place k.in_slot (on_none m w is h s waits k) n ruled sized slots harts rule (table _ _ _ _ world.of_kernel) in
+      let after = empties idle (with_hart w h (hart_of (idled k.hart))) world s x k.process place k.in_slot (on_none m w is h s waits k) n ruled schemed sized slots harts rule (table _ _ _ _ world.of_kernel) in
       subst (λ (fs : List File). IsWorld n (record (with_hart w h (hart_of (idled k.hart))) { slots = slice_set w.slots s None; files = fs })) (files ∙ ap (λ (fs : List File). all_written_back fs k.process) is.files) after

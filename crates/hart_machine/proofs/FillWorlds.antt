@@ -16,13 +16,14 @@ use Rattle.process_model.specs.declared.step.Refusal.TheVariants.{BadArgument}
 use Rattle.process_model.specs.declared.step.Reply.TheVariants.{Filled, Refused}
 use Rattle.process_model.specs.declared.step.Step.TheVariants as step
 use Rattle.sv39_entry.specs.Address.{page_of}
-use Rattle.sv39_entry.specs.declared.scheme.Scheme.TheVariants.{Sv39}
+use Rattle.sv39_entry.specs.declared.scheme.Scheme.{Scheme}
 use Rattle.table_walk.specs.Tables.{HasTables, Tables}
 use Rattle.hart_machine.specs.Harts.{hart_of, next_number, with_entry}
 use Rattle.hart_machine.specs.Tables.{tables_of, IsThere, present_table}
 use Rattle.hart_machine.specs.Tenants.{view_of}
 use Rattle.hart_machine.specs.Walked.{entry_for, IsEntryOf}
 use Rattle.table_walk.specs.Leaves.{LeavesAreLocal, LeavesAreThere}
+use Rattle.table_walk.specs.Mapped.{tables_of_scheme}
 use Rattle.hart_machine.specs.Worlds.{IsPlace, IsWorld, Makes, seats_of}
 use Rattle.hart_machine.specs.declared.hart.Hart.{Hart}
 use Rattle.hart_machine.specs.declared.machine.Machine.{Machine}
@@ -37,8 +38,8 @@ use Rattle.hart_machine.proofs.Leaves.{kernel_local, kernel_there}
 use Rattle.hart_machine.proofs.PresentTables.{present_there}
 
 -- an entry that is made by a table tells what the table says
-pub entry_is : (t : Tables) (asid a : ℕ) → IsEntryOf t asid (entry_for t asid a)
-entry_is t asid a = record { of_space = refl; local = refl; leaf = sym (leaf_on_page t a) }
+pub entry_is : (scheme : Scheme) (t : Tables) (asid a : ℕ) → IsEntryOf scheme t asid (entry_for scheme t asid a)
+entry_is scheme t asid a = record { of_space = refl; local = refl; leaf = sym (leaf_on_page scheme t a) }
 
 -- a process that is put back changes nothing
 abbrev pub put_back : (m : Machine) (w : World) (is : IsWorld m w) (s : ℕ) (x : Tenant) → slice_get m.slots.items s ≡ Some (Some x) → IsWorld (record m { slots = with_item m.slots s (Some x) }) w
@@ -48,6 +49,8 @@ put_back m w is s x at =
       kernel = is.kernel;
       stacks = is.stacks;
       policy = is.policy;
+      scheme = is.scheme;
+      schemes = is.schemes;
       few = is.few;
       frames = is.frames;
       rule = subst (λ (ps : List (Option Tenant)). BankRule m.frames (m.kernel.seat ∷ seats_of ps)) (sym same) is.rule;
@@ -79,21 +82,26 @@ has_at m w is h x at = record {
 
 -- a hart that keeps the entry of a table keeps that of the table that was taken
 module _ (m : Machine) (w : World) (is : IsWorld m w) (asid a : ℕ) (x y : Hart) (t : Table) where
-  abbrev KeepsOf : View → ℕ → Type 0
-  KeepsOf v root = (i : Tables) → HasTables Sv39 v root i → LeavesAreThere Sv39 i → LeavesAreLocal Sv39 i → y ≡ with_entry x (entry_for i asid a)
+  abbrev KeepsOf : Scheme → View → ℕ → Type 0
+  KeepsOf scheme v root = (i : Tables) → HasTables scheme v root i → LeavesAreThere scheme i → LeavesAreLocal scheme i → y ≡ with_entry x (entry_for scheme i asid a)
 
   abbrev Keeps : Table → Type 0
-  Keeps u = y ≡ with_entry x (entry_for (tables_of is.tables is.kernel u) asid a)
+  Keeps u = y ≡ with_entry x (entry_for m.kernel.scheme (tables_of is.tables is.kernel u) asid a)
 
-  pub keeps_of_kernel : t ≡ OfKernel → KeepsOf m.kernel.seat m.kernel.root.0 → Keeps t
+  pub keeps_of_kernel : t ≡ OfKernel → KeepsOf m.kernel.scheme m.kernel.seat m.kernel.root.0 → Keeps t
   keeps_of_kernel of_kernel kept =
-      subst Keeps (sym of_kernel) (kept is.kernel is.of_kernel.maps.tables (kernel_there _ _ _ _ _ _ is.of_kernel) (kernel_local _ _ _ _ _ _ is.of_kernel))
+      subst Keeps (sym of_kernel) (kept is.kernel is.of_kernel.maps.tables (kernel_there _ _ _ _ _ _ _ is.of_kernel) (kernel_local _ _ _ _ _ _ _ is.of_kernel))
 
-  pub keeps_of_process : (s : ℕ) → t ≡ OfProcess s → (z : Tenant) → slice_get m.slots.items s ≡ Some (Some z) → KeepsOf (view_of z) z.space.root.0 → Keeps t
-  keeps_of_process s of_process z at kept =
+  pub keeps_of_process : (s : ℕ) → t ≡ OfProcess s → (z : Tenant) → slice_get m.slots.items s ≡ Some (Some z) → (scheme : Scheme) → scheme ≡ z.space.layout.scheme
+      → KeepsOf scheme (view_of z) z.space.root.0 → Keeps t
+  keeps_of_process s of_process z at scheme given kept =
       let p = process_at m w is s z at in
       let shows = (p.2).agrees.stands.shows in
-      subst Keeps (sym of_process) (kept (is.tables s) (p.2).agrees.stands.tables (process_there _ _ _ p.0 shows (p.2).framed) (process_local _ _ _ p.0 shows (p.2).framed))
+      let same : (p.0).scheme ≡ scheme = (p.2).agrees.lays.scheme ∙ sym given in
+      let of_machine : scheme ≡ m.kernel.scheme = sym same ∙ is.schemes s p.0 p.1 ∙ sym is.scheme in
+      subst Keeps (sym of_process)
+      (kept (is.tables s) (tables_of_scheme same (p.2).agrees.stands.tables) (subst (λ k. LeavesAreThere k (is.tables s)) same (process_there _ _ _ p.0 shows (p.2).framed))
+      (subst (λ k. LeavesAreLocal k (is.tables s)) same (process_local _ _ _ p.0 shows (p.2).framed)) ∙ ap (λ k. with_entry x (entry_for k (is.tables s) asid a)) of_machine)
 
 module _ (m : Machine) (w : World) (is : IsWorld m w) (h a : ℕ) where
   pub fills_nowhere : None ≡ option_map present_table (slice_get m.harts.items h) → Makes m (Refused BadArgument) (plain_step w (step.Fill h a))
@@ -107,7 +115,7 @@ module _ (m : Machine) (w : World) (is : IsWorld m w) (h a : ℕ) where
     asid = present_asid m.policy (hart_of x)
 
     abbrev entry : TlbEntry
-    entry = entry_for (tables_of is.tables is.kernel (present_table x)) asid a
+    entry = entry_for m.kernel.scheme (tables_of is.tables is.kernel (present_table x)) asid a
 
     abbrev key : Key
     key = record { page = page_of a; asid = asid }
@@ -126,10 +134,10 @@ module _ (m : Machine) (w : World) (is : IsWorld m w) (h a : ℕ) where
 
   -- the hart that is read keeps an entry of the table that its satp has
   pub fills : (x : Hart) → slice_get m.harts.items h ≡ Some x → (t : Table) → t ≡ present_table x → (z : Hart) → z ≡ get_or m.harts.items h z → length z.buffer ≤ buffer_size → (i : ℕ) → i ≡ present_asid m.policy (hart_of z)
-      → (y : Hart) → y ≡ with_entry z (entry_for (tables_of is.tables is.kernel t) i a) → (n : ℕ) → n ≡ next_number z.buffer → Makes (record m { harts = with_item m.harts h y }) (Filled n) (plain_step w (step.Fill h a))
+      → (y : Hart) → y ≡ with_entry z (entry_for m.kernel.scheme (tables_of is.tables is.kernel t) i a) → (n : ℕ) → n ≡ next_number z.buffer → Makes (record m { harts = with_item m.harts h y }) (Filled n) (plain_step w (step.Fill h a))
   fills x at t present z read few i tagged y made n number =
       let same : z ≡ x = same_hart m.harts.items h x z read at in
       fills_at x at (subst (λ (u : Hart). length u.buffer ≤ buffer_size) same few) y
-      (made ∙ ap (λ (j : ℕ). with_entry z (entry_for (tables_of is.tables is.kernel t) j a)) tagged ∙ ap (λ (u : Hart). with_entry u (entry_for (tables_of is.tables is.kernel t) (present_asid m.policy (hart_of u)) a)) same
-      ∙ ap (λ (u : Table). with_entry x (entry_for (tables_of is.tables is.kernel u) (present_asid m.policy (hart_of x)) a)) present) n
+      (made ∙ ap (λ (j : ℕ). with_entry z (entry_for m.kernel.scheme (tables_of is.tables is.kernel t) j a)) tagged ∙ ap (λ (u : Hart). with_entry u (entry_for m.kernel.scheme (tables_of is.tables is.kernel t) (present_asid m.policy (hart_of u)) a)) same
+      ∙ ap (λ (u : Table). with_entry x (entry_for m.kernel.scheme (tables_of is.tables is.kernel u) (present_asid m.policy (hart_of x)) a)) present) n
       (number ∙ ap (λ (u : Hart). next_number u.buffer) same)

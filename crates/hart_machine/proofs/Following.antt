@@ -50,7 +50,7 @@ keeps_follow v t u p q counter low kept = record {
 
 module _ (m : Machine) (w : World) (is : IsWorld m w) (s : ℕ) (x y : Tenant) (p q : Process) (u : Tables)
     (place : slice_get m.slots.items s ≡ Some (Some x)) (at : slice_get w.slots s ≡ Some (Some p)) (tenant : IsTenant y u q)
-    (high : ℕ) (follows : Follows (view_of y) (is.tables s) u p q w.counter high) (b : Bank) (keeps : Keeps BankRule m.frames (view_of x) b (view_of y)) where
+    (high : ℕ) (follows : Follows (view_of y) (is.tables s) u p q w.counter high) (b : Bank) (keeps : Keeps BankRule m.frames (view_of x) b (view_of y)) (schemed : q.scheme ≡ w.scheme) where
   abbrev tables : ℕ → Tables
   tables = tables_with is.tables s u
 
@@ -188,10 +188,12 @@ module _ (m : Machine) (w : World) (is : IsWorld m w) (s : ℕ) (x y : Tenant) (
     kernel = is.kernel;
     stacks = is.stacks;
     policy = is.policy;
+    scheme = is.scheme;
+    schemes = λ k r there. elim (this_or_other k r there) [ inl new ↦ ap (λ (z : Process). z.scheme) (sym new.1) ∙ schemed | inr old ↦ is.schemes k r old.1 ];
     few = subst (λ n. n ≤ most_slots) (sym (length-set w.slots s (Some q))) is.few;
     frames = is.frames;
     rule = rule;
-    of_kernel = subst (λ n. IsKernelTable m.kernel.seat m.kernel.root.0 w.frames n is.stacks is.kernel) (sym (length-set w.slots s (Some q))) is.of_kernel;
+    of_kernel = subst (λ n. IsKernelTable m.kernel.scheme m.kernel.seat m.kernel.root.0 w.frames n is.stacks is.kernel) (sym (length-set w.slots s (Some q))) is.of_kernel;
     places = places;
     copies = copies;
     counted = counted;

@@ -71,7 +71,7 @@ module _ (m : Machine) (w : World) (is : IsWorld m w) (h s : ℕ) (caller : IsCa
         let all = free_is m w is in
         let dry : is_dry w (fork_need q.0) ≡ true = lt-ltb (free w) (fork_need q.0) (omega (arith, few, all)) in
         let n : Machine = record m { frames = b; slots = with_item m.slots s (Some y) } in
-        let after = bytes_change m w is s x y q.0 q.0 place q.1 q.2 (whole (is.tables s) q.0 q.2) b keeps (λ k z there. (z, there, refl)) in
+        let after = bytes_change m w is s x y q.0 q.0 place q.1 q.2 (whole (is.tables s) q.0 q.2) b keeps (λ k z there. (z, there, refl)) refl in
         subst (λ (o : Outcome). Makes n (Refused NoFrame) o) (sym (splits q.0 q.1 ∙ ap (forked_unless w s q.0 e) dry)) (
           refl,
           subst (λ (v : World). IsWorld n v) (ap (λ (ps : List (Option Process)). let v : World = record w { slots = ps } in v) (place_set_back w.slots s (Some q.0) q.1)) after,

@@ -143,6 +143,15 @@ module _ (m : Machine) (w : World) (is : IsWorld m w) (s e : ℕ) (x y z : Tenan
     ]
   ]
 
+  schemes : (i : ℕ) (r : Process) → slice_get slots i ≡ Some (Some r) → r.scheme ≡ w.scheme
+  schemes i r there = elim (cases_eq i e) [
+    | inl same ↦ (let k = at_child i same in ap (λ (q : Process). q.scheme) (sym (same_Some _ _ (same_Some _ _ (sym k.0 ∙ there)))) ∙ is.schemes s p at)
+    | inr far ↦ elim (cases_eq i s) [
+      | inl same ↦ (let k = at_parent i same in ap (λ (q : Process). q.scheme) (sym (same_Some _ _ (same_Some _ _ (sym k.0 ∙ there)))) ∙ is.schemes s p at)
+      | inr off ↦ is.schemes i r (sym (at_other i far off).0 ∙ there)
+    ]
+  ]
+
   hosted : (h k : ℕ) (v : Hart) → slice_get m.harts.items h ≡ Some v → v.slot ≡ Some k → (o : Tenant) × (slice_get items k ≡ Some (Some o))
   hosted h k v on slot = elim (cases_eq k e) [
     | inl same ↦ (z, (at_child k same).1)
@@ -158,10 +167,12 @@ module _ (m : Machine) (w : World) (is : IsWorld m w) (s e : ℕ) (x y z : Tenan
     kernel = is.kernel;
     stacks = is.stacks;
     policy = is.policy;
+    scheme = is.scheme;
+    schemes = schemes;
     few = subst (λ n. n ≤ most_slots) (sym (length-set (slice_set w.slots s (Some (marked p))) e (Some (child_of p)) ∙ length-set w.slots s (Some (marked p)))) is.few;
     frames = is.frames;
     rule = rule;
-    of_kernel = subst (λ n. IsKernelTable m.kernel.seat m.kernel.root.0 w.frames n is.stacks is.kernel) (sym (length-set (slice_set w.slots s (Some (marked p))) e (Some (child_of p)) ∙ length-set w.slots s (Some (marked p)))) is.of_kernel;
+    of_kernel = subst (λ n. IsKernelTable m.kernel.scheme m.kernel.seat m.kernel.root.0 w.frames n is.stacks is.kernel) (sym (length-set (slice_set w.slots s (Some (marked p))) e (Some (child_of p)) ∙ length-set w.slots s (Some (marked p)))) is.of_kernel;
     places = places;
     copies = copies;
     counted = counted;

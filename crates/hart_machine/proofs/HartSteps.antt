@@ -163,6 +163,8 @@ module _ (m : Machine) (w : World) (is : IsWorld m w) where
       kernel = is.kernel;
       stacks = is.stacks;
       policy = is.policy;
+      scheme = is.scheme;
+      schemes = is.schemes;
       few = is.few;
       frames = is.frames;
       rule = is.rule;

@@ -255,7 +255,7 @@ module _ (m : Machine) (w : World) (is : IsWorld m w) where
       ]
 
   abbrev held_frames : ℕ
-  held_frames = kernel_frames w.frames (length w.slots) + length (copies_in all) + sum_by own_frames all
+  held_frames = kernel_frames w.scheme w.frames (length w.slots) + length (copies_in all) + sum_by own_frames all
 
   held_are : count_by (λ c. nat_lt 0 c) counts ≡ held_frames
   held_are =
@@ -263,9 +263,10 @@ module _ (m : Machine) (w : World) (is : IsWorld m w) where
       let parts = length-append (0 ∷ of_kernel) (own ++ copy_frames.0) in
       let others = length-append own copy_frames.0 in
       let kernel_long = (kernel m w is).long in
+      let of_world = ap (λ k. kernel_frames k w.frames (length w.slots)) is.scheme in
       let own_long = (places m w is).own_long in
       let copies_long = copy_frames.1.long in
-      omega (arith, listed, parts, others, kernel_long, own_long, copies_long)
+      omega (arith, listed, parts, others, kernel_long, of_world, own_long, copies_long)
 
   -- free frames
 

@@ -14,7 +14,7 @@ use Rattle.frame_store.specs.View.{View}
 use Rattle.process_model.specs.PageMap as pages
 use Rattle.process_model.specs.Process.{Page, Process, regions}
 use Rattle.process_model.specs.Stale.{is_changed}
-use Rattle.table_walk.specs.Tables.{Tables}
+use Rattle.table_walk.specs.Tables.{Tables, leaf_node}
 use Rattle.hart_machine.specs.Calls.{Follows}
 use Rattle.hart_machine.specs.Tenants.{body_in, IsTenant}
 use Rattle.hart_machine.specs.Worlds.{HaveSameLeaves, KeepsTables}
@@ -22,6 +22,7 @@ use Rattle.hart_machine.specs.declared.machine.Machine.{Machine}
 use Rattle.hart_machine.specs.declared.tenant.Tenant.{Tenant}
 use Rattle.hart_machine.proofs.ChangedSlots.{pages_are_same, sign, sign_of}
 use Rattle.hart_machine.proofs.KeptTables.{same_tenant}
+use Rattle.sv39_entry.specs.Schemes.{trampoline_page, trapframe_page}
 
 not_false : (b : Bool) → not b ≡ false → b ≡ true
 not_false true e = refl
@@ -45,15 +46,15 @@ module _ (p q : Process) (unchanged : is_changed (Some p) (Some q) ≡ false) wh
     go None is same = absurd (cc)
     go (Some a) is same = let one = same_Some (sign a) (sign z) same in (a, is, ap (λ t. t.0) (sym one), ap (λ t. t.1) (sym one), ap (λ t. t.2) (sym one))
 
-module _ (x y : Tenant) (t u : Tables) (p q : Process) (before : IsTenant x t p) (after : IsTenant y u q) (unchanged : is_changed (Some p) (Some q) ≡ false) where
+module _ (x y : Tenant) (t u : Tables) (p q : Process) (before : IsTenant x t p) (after : IsTenant y u q) (unchanged : is_changed (Some p) (Some q) ≡ false) (schemed : q.scheme ≡ p.scheme) where
   -- where a run of pages was dropped, none of it was settled
   pub dropped_none : (first end : ℕ) → Drops t u first end → HaveSameLeaves t u
   dropped_none first end drops number = go (finite.get u.leaves number) refl (finite.get t.leaves number) refl where
     none_left : (w : ℕ) → finite.get t.leaves number ≡ Some w → finite.get u.leaves number ≡ None → ⊥
     none_left w at none = elim (before.agrees.stands.shows.only number w at) [
-      | inl same ↦ (let leaf = after.agrees.stands.shows.on_trampoline in let both : None ≡ Some leaf.0 = sym none ∙ ap (finite.get u.leaves) same ∙ leaf.1 in cc)
+      | inl same ↦ (let leaf = after.agrees.stands.shows.on_trampoline in let both : None ≡ Some leaf.0 = sym none ∙ ap (finite.get u.leaves) (same ∙ ap (λ k. leaf_node (trampoline_page k)) (sym schemed)) ∙ leaf.1 in cc)
       | inr more ↦ elim more [
-        | inl same ↦ (let leaf = after.agrees.stands.shows.on_trapframe in let both : None ≡ Some leaf.0 = sym none ∙ ap (finite.get u.leaves) same ∙ leaf.1 in cc)
+        | inl same ↦ (let leaf = after.agrees.stands.shows.on_trapframe in let both : None ≡ Some leaf.0 = sym none ∙ ap (finite.get u.leaves) (same ∙ ap (λ k. leaf_node (trapframe_page k)) (sym schemed)) ∙ leaf.1 in cc)
         | inr settled ↦ (
             let z = still_settled p q unchanged settled.0 settled.1 settled.3 in
             let shown = after.agrees.stands.shows.settled settled.0 z.0 z.1 in
@@ -77,7 +78,7 @@ module _ (x y : Tenant) (t u : Tables) (p q : Process) (before : IsTenant x t p)
         record { before = old.0; settled = old.1; fork_mark = old.3; stored_mark = old.4; on = λ f. on n f z there (omega (arith, below, copy)) }
 
     pub followed_same : HaveSameLeaves t u
-    followed_same number = leaves_stay (body_in x) (body_in y) t u p q before.agrees after.agrees (ap (λ f. f.0) trapframe) same_regions (still_settled p q unchanged) alike number
+    followed_same number = leaves_stay (body_in x) (body_in y) t u p q before.agrees after.agrees (ap (λ f. f.0) trapframe) schemed same_regions (still_settled p q unchanged) alike number
 
 -- a page that follows one is on its frame, where its copy number is an old one
 pub old_on : (v : View) (t u : Tables) (p q : Process) (low high : ℕ) → Follows v t u p q low high → (n f : ℕ) (z : Page) → pages.get q.settled n ≡ Some z → z.copy < low → IsOn u n f → IsOn t n f
@@ -99,7 +100,7 @@ module _ (m n : Machine) (before after : List (Option Process)) (s : ℕ) (x y :
   pub slot_keeps : KeepsTables m n before after
   slot_keeps = record {
     many = ap length slots ∙ length-set m.slots.items s (Some y);
-    kernel = λ frames slots stacks t is. subst (λ k. IsKernelTable k.seat k.root.0 frames slots stacks t) (sym kernel) is;
+    kernel = λ frames slots stacks t is. subst (λ k. IsKernelTable k.scheme k.seat k.root.0 frames slots stacks t) (sym kernel) is;
     leaves = λ r a b c d t u at_m at_n at_w at_v unchanged of_a of_b. elim (cases_eq r s) [
       | inl same ↦
           let a_is : a ≡ x = same_Some a x (same_Some _ _ (sym at_m ∙ ap (slice_get m.slots.items) same ∙ place)) in

@@ -14,6 +14,9 @@ use Rattle.process_model.specs.declared.image.BadImage.{BadImage}
 use Rattle.process_model.specs.declared.step.Refusal.{Refusal}
 use Rattle.process_model.specs.declared.step.Step.{Step}
 use Rattle.process_model.specs.declared.step.Step.TheVariants as step
+use Rattle.process_model.specs.Stale.{with_stale_slots}
+use Rattle.process_model.specs.declared.config.Policy.{Policy}
+use Rattle.process_model.specs.declared.config.Policy.TheVariants.{Full, Asid}
 use Rattle.sv39_entry.specs.declared.access.Access.{Access}
 use Rattle.sv39_entry.specs.declared.access.Access.TheVariants as access
 use Rattle.sv39_entry.specs.declared.rule.Rule.{Rule}
@@ -21,84 +24,95 @@ use Rattle.hart_machine.proofs.StepShapes.{kernel_call_is, on_hart_is, with_its_
 
 module _ (w : World) where
   abbrev Stays : Outcome → Type 0
-  Stays o = (o.world).policy ≡ w.policy
+  Stays o = ((o.world).policy ≡ w.policy) × ((o.world).scheme ≡ w.scheme)
 
   refused_stays : (r : Refusal) → Stays (refuses w r)
-  refused_stays r = refl
+  refused_stays r = (refl, refl)
 
   started_stays : (s : ℕ) (ls : List LoadSegment) (b : Bool) → Stays (started_unless w s ls b)
-  started_stays s ls true = refl
-  started_stays s ls false = refl
+  started_stays s ls true = (refl, refl)
+  started_stays s ls false = (refl, refl)
 
   start_stays : (r : Result (List LoadSegment) BadImage) (o : Option ℕ) → Stays (started w r o)
-  start_stays r None = refl
-  start_stays (Err e) (Some s) = refl
+  start_stays r None = (refl, refl)
+  start_stays (Err e) (Some s) = (refl, refl)
   start_stays (Ok ls) (Some s) = started_stays s ls _
 
   replaced_stays : (s : ℕ) (p : Process) (ls : List LoadSegment) (b : Bool) → Stays (replaced_unless w s p ls b)
-  replaced_stays s p ls true = refl
-  replaced_stays s p ls false = refl
+  replaced_stays s p ls true = (refl, refl)
+  replaced_stays s p ls false = (refl, refl)
 
   exec_stays : (s : ℕ) (p : Process) (r : Result (List LoadSegment) BadImage) → Stays (replaced w s p r)
-  exec_stays s p (Err e) = refl
+  exec_stays s p (Err e) = (refl, refl)
   exec_stays s p (Ok ls) = replaced_stays s p ls _
 
   forked_stays : (s : ℕ) (p : Process) (child : ℕ) (b : Bool) → Stays (forked_unless w s p child b)
-  forked_stays s p child true = refl
-  forked_stays s p child false = refl
+  forked_stays s p child true = (refl, refl)
+  forked_stays s p child false = (refl, refl)
 
   fork_stays : (s : ℕ) (p : Process) (o : Option ℕ) → Stays (forked w s p o)
-  fork_stays s p None = refl
+  fork_stays s p None = (refl, refl)
   fork_stays s p (Some child) = forked_stays s p child _
 
   resized_stays : (s : ℕ) (p : Process) (r : Result Process Refusal) → Stays (resized_to w s p r)
-  resized_stays s p (Err e) = refl
-  resized_stays s p (Ok q) = refl
+  resized_stays s p (Err e) = (refl, refl)
+  resized_stays s p (Ok q) = (refl, refl)
 
   mapped_stays : (s : ℕ) (r : Result Mapped Refusal) → Stays (mapped_to w s r)
-  mapped_stays s (Err e) = refl
-  mapped_stays s (Ok m) = refl
+  mapped_stays s (Err e) = (refl, refl)
+  mapped_stays s (Ok m) = (refl, refl)
 
   unmapped_stays : (s : ℕ) (r : Result Unmapped Refusal) → Stays (unmapped_to w s r)
-  unmapped_stays s (Err e) = refl
-  unmapped_stays s (Ok u) = refl
+  unmapped_stays s (Err e) = (refl, refl)
+  unmapped_stays s (Ok u) = (refl, refl)
 
   told_stays : (h : ℕ) (hart : Hart) (t : ℕ) (x : Answer) (b : Bool) → Stays (told_if w h hart t x b)
-  told_stays h hart t x true = refl
-  told_stays h hart t x false = refl
+  told_stays h hart t x true = (refl, refl)
+  told_stays h hart t x false = (refl, refl)
 
   access_stays : (h : ℕ) (access : Access) (address width value : ℕ) (via : Option ℕ) → Stays (access_step w h access address width value via)
   access_stays h access address width value via =
       on_hart_is w h _ _ _ _ Stays refused_stays (λ hart there user. with_its_process_is w hart _ Stays refused_stays (λ t p on lives. told_stays h hart t (user_access p (record { access = access; address = address; width = width; value = value })) _))
 
   served_stays : (h : ℕ) (hart : Hart) (t : ℕ) (p : Process) (a : Pending) (r : Result Progress Rule) → Stays (served_or_ended w h hart t p a r)
-  served_stays h hart t p a (Err r) = refl
-  served_stays h hart t p a (Ok g) = refl
+  served_stays h hart t p a (Err r) = (refl, refl)
+  served_stays h hart t p a (Ok g) = (refl, refl)
 
   serve_stays : (h : ℕ) (hart : Hart) (t : ℕ) (p : Process) (o : Option Pending) → Stays (served w h hart t p o)
-  serve_stays h hart t p None = refl
+  serve_stays h hart t p None = (refl, refl)
   serve_stays h hart t p (Some a) = served_stays h hart t p a _
 
   call_stays : (h : ℕ) (proper : Bool) (run : Hart → ℕ → Process → Outcome) → ((hart : Hart) (t : ℕ) (p : Process) → Stays (run hart t p)) → Stays (kernel_call w h proper run)
   call_stays h proper run same = kernel_call_is w h proper run Stays refused_stays (λ hart t p there kernel on lives. same hart t p)
 
-  pub policy_stays : (s : Step) → Stays (plain_step w s)
-  policy_stays (step.Start image) = start_stays (image_loads image) (free_slot w)
-  policy_stays (step.Switch h slot) = on_hart_is w h true _ always _ Stays refused_stays (λ hart there can. refl)
-  policy_stays (step.Trap h) = on_hart_is w h true _ always _ Stays refused_stays (λ hart there user. with_its_process_is w hart _ Stays refused_stays (λ t p on lives. refl))
-  policy_stays (step.Next h) = on_hart_is w h true (can_go_on w) always _ Stays refused_stays (λ hart there can. refl)
-  policy_stays (step.Fill h address) = on_hart_is w h true always always _ Stays refused_stays (λ hart there can. refl)
-  policy_stays (step.Evict h n) = on_hart_is w h true always _ _ Stays refused_stays (λ hart there can. refl)
-  policy_stays (step.Fetch h address via) = access_stays h access.Fetch address 4 0 via
-  policy_stays (step.Load h address width via) = access_stays h access.Load address width 0 via
-  policy_stays (step.Store h address width value via) = access_stays h access.Store address width value via
-  policy_stays (step.TrampolineFetch h offset via) = on_hart_is w h _ _ _ _ Stays refused_stays (λ hart there can. refl)
-  policy_stays (step.Serve h) = on_hart_is w h true (can_serve w) always _ Stays refused_stays (λ hart there can. with_its_process_is w hart _ Stays refused_stays (λ t p on lives. serve_stays h hart t p p.pending))
-  policy_stays (step.Fork h) = call_stays h true _ (λ hart t p. fork_stays t p (free_slot w))
-  policy_stays (step.Exec h image) = call_stays h true _ (λ hart t p. exec_stays t p (image_loads image))
-  policy_stays (step.Sbrk h delta) = call_stays h true _ (λ hart t p. resized_stays t p _)
-  policy_stays (step.Mmap h len protection flags n) = call_stays h true _ (λ hart t p. mapped_stays t _)
-  policy_stays (step.Munmap h address len) = call_stays h true _ (λ hart t p. unmapped_stays t _)
-  policy_stays (step.CopyIn h address n) = call_stays h _ _ (λ hart t p. refl)
-  policy_stays (step.CopyOut h address bytes) = call_stays h _ _ (λ hart t p. refl)
-  policy_stays (step.Exit h status) = call_stays h true _ (λ hart t p. refl)
+  pub rules_stay : (s : Step) → Stays (plain_step w s)
+  rules_stay (step.Start image) = start_stays (image_loads w.scheme image) (free_slot w)
+  rules_stay (step.Switch h slot) = on_hart_is w h true _ always _ Stays refused_stays (λ hart there can. (refl, refl))
+  rules_stay (step.Trap h) = on_hart_is w h true _ always _ Stays refused_stays (λ hart there user. with_its_process_is w hart _ Stays refused_stays (λ t p on lives. (refl, refl)))
+  rules_stay (step.Next h) = on_hart_is w h true (can_go_on w) always _ Stays refused_stays (λ hart there can. (refl, refl))
+  rules_stay (step.Fill h address) = on_hart_is w h true always always _ Stays refused_stays (λ hart there can. (refl, refl))
+  rules_stay (step.Evict h n) = on_hart_is w h true always _ _ Stays refused_stays (λ hart there can. (refl, refl))
+  rules_stay (step.Fetch h address via) = access_stays h access.Fetch address 4 0 via
+  rules_stay (step.Load h address width via) = access_stays h access.Load address width 0 via
+  rules_stay (step.Store h address width value via) = access_stays h access.Store address width value via
+  rules_stay (step.TrampolineFetch h offset via) = on_hart_is w h _ _ _ _ Stays refused_stays (λ hart there can. (refl, refl))
+  rules_stay (step.Serve h) = on_hart_is w h true (can_serve w) always _ Stays refused_stays (λ hart there can. with_its_process_is w hart _ Stays refused_stays (λ t p on lives. serve_stays h hart t p p.pending))
+  rules_stay (step.Fork h) = call_stays h true _ (λ hart t p. fork_stays t p (free_slot w))
+  rules_stay (step.Exec h image) = call_stays h true _ (λ hart t p. exec_stays t p (image_loads w.scheme image))
+  rules_stay (step.Sbrk h delta) = call_stays h true _ (λ hart t p. resized_stays t p _)
+  rules_stay (step.Mmap h len protection flags n) = call_stays h true _ (λ hart t p. mapped_stays t _)
+  rules_stay (step.Munmap h address len) = call_stays h true _ (λ hart t p. unmapped_stays t _)
+  rules_stay (step.CopyIn h address n) = call_stays h _ _ (λ hart t p. (refl, refl))
+  rules_stay (step.CopyOut h address bytes) = call_stays h _ _ (λ hart t p. (refl, refl))
+  rules_stay (step.Exit h status) = call_stays h true _ (λ hart t p. (refl, refl))
+
+  pub policy_stays : (s : Step) → ((plain_step w s).world).policy ≡ w.policy
+  policy_stays s = (rules_stay s).0
+
+  pub scheme_stays : (s : Step) → ((plain_step w s).world).scheme ≡ w.scheme
+  scheme_stays s = (rules_stay s).1
+
+-- marks change neither
+pub stale_scheme : (policy : Policy) (w : World) (o : Outcome) → ((with_stale_slots policy w o).world).scheme ≡ (o.world).scheme
+stale_scheme Full w o = refl
+stale_scheme Asid w o = refl

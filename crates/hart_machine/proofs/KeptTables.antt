@@ -8,6 +8,7 @@ use Rattle.address_space.specs.Kernel.{IsKernelTable}
 use Rattle.frame_store.specs.Seats.{place_set_other, place_set_same}
 use Rattle.process_model.specs.Process.{Process}
 use Rattle.table_walk.specs.Tables.{Tables}
+use Rattle.table_walk.specs.Mapped.{tables_of_scheme}
 use Rattle.hart_machine.specs.Tenants.{IsTenant, view_of}
 use Rattle.hart_machine.specs.Worlds.{HaveSameLeaves, KeepsOthers, KeepsTables, SamePlaces, SameTables}
 use Rattle.hart_machine.specs.declared.machine.Machine.{Machine}
@@ -17,13 +18,14 @@ use Rattle.hart_machine.proofs.OneTables.{one_tables}
 -- the process of a slot has the tables that it had
 pub same_tenant : (x y : Tenant) (p q : Process) (t u : Tables) → x ≡ y → IsTenant x t p → IsTenant y u q → HaveSameLeaves t u
 same_tenant x y p q t u same a b =
-    one_tables (view_of x) x.space.root.0 t u a.agrees.stands.tables (subst (λ (z : Tenant). IsTenant z u q) (sym same) b).agrees.stands.tables
+    let other = subst (λ (z : Tenant). IsTenant z u q) (sym same) b in
+    one_tables (view_of x) x.space.root.0 t u a.agrees.stands.tables (tables_of_scheme (other.agrees.lays.scheme ∙ sym a.agrees.lays.scheme) other.agrees.stands.tables)
 
 -- each is below the tables that it was below
 pub same_tables : (m n : Machine) (before after : List (Option Process)) → SameTables m n → KeepsTables m n before after
 same_tables m n before after same = record {
   many = same.many;
-  kernel = λ frames slots stacks t is. subst (λ k. IsKernelTable k.seat k.root.0 frames slots stacks t) (sym same.kernel) is;
+  kernel = λ frames slots stacks t is. subst (λ k. IsKernelTable k.scheme k.seat k.root.0 frames slots stacks t) (sym same.kernel) is;
   leaves = λ s x y p q t u at_m at_n at_w at_v unchanged a b. let z = same.below s x y p t at_m at_n a in same_tenant y y z.0 q t u refl z.1 b;
 }
 
@@ -78,7 +80,7 @@ others_kept m n o s first then = record {
 pub one_other : (m n : Machine) (s : ℕ) (y : Option Tenant) → n.slots.items ≡ slice_set m.slots.items s y → n.kernel ≡ m.kernel → KeepsOthers m n s
 one_other m n s y slots kernel = record {
   many = ap length slots ∙ length-set m.slots.items s y;
-  kernel = λ frames places stacks t is. subst (λ k. IsKernelTable k.seat k.root.0 frames places stacks t) (sym kernel) is;
+  kernel = λ frames places stacks t is. subst (λ k. IsKernelTable k.scheme k.seat k.root.0 frames places stacks t) (sym kernel) is;
   others = λ r apart. ap (λ xs. slice_get xs r) slots ∙ place_set_other m.slots.items s r y apart;
 }
 
@@ -106,7 +108,7 @@ others_born m n before after s keeps empty = record {
 
 -- none did, and the kernel has its table
 pub same_slots : (m n : Machine) (before after : List (Option Process)) → n.slots.items ≡ m.slots.items
-    → ((frames slots : ℕ) (stacks : List ℕ) (t : Tables) → IsKernelTable m.kernel.seat m.kernel.root.0 frames slots stacks t → IsKernelTable n.kernel.seat n.kernel.root.0 frames slots stacks t) → KeepsTables m n before after
+    → ((frames slots : ℕ) (stacks : List ℕ) (t : Tables) → IsKernelTable m.kernel.scheme m.kernel.seat m.kernel.root.0 frames slots stacks t → IsKernelTable n.kernel.scheme n.kernel.seat n.kernel.root.0 frames slots stacks t) → KeepsTables m n before after
 same_slots m n before after slots kernel = record {
   many = ap length slots;
   kernel = kernel;
@@ -118,7 +120,7 @@ pub then_born : (m n o : Machine) (before between after : List (Option Process))
     → o.slots.items ≡ slice_set n.slots.items e (Some z) → o.kernel ≡ n.kernel → after ≡ slice_set between e (Some q) → KeepsTables m o before after
 then_born m n o before between after e z q keeps empty slots kernel model = record {
   many = ap length slots ∙ length-set n.slots.items e (Some z) ∙ keeps.many;
-  kernel = λ frames slots stacks t table. subst (λ k. IsKernelTable k.seat k.root.0 frames slots stacks t) (sym kernel) (keeps.kernel frames slots stacks t table);
+  kernel = λ frames slots stacks t table. subst (λ k. IsKernelTable k.scheme k.seat k.root.0 frames slots stacks t) (sym kernel) (keeps.kernel frames slots stacks t table);
   leaves = λ r x y p c t u at_m at_o at_w at_v unchanged a b. elim (cases_eq r e) [
     | inl same ↦ absurd (let both : ◌≡◌ {A = Option (Option Tenant)} (Some None) (Some (Some x)) = sym empty ∙ ap (slice_get m.slots.items) (sym same) ∙ at_m in cc)
     | inr apart ↦

@@ -2,24 +2,32 @@
 use Rattle.std.proofs.Common.{◌≡◌, ℕ, zero, suc, ◌+◌, ◌<◌, ◌==◌, ◌⊎◌, Bool, true, false, cond, inl, inr, refl, ap, sym, ◌∙◌, arith, List, [], ◌∷◌, ◌++◌, length, Some}
 use Rattle.std.specs.Prelude.{◌&&◌, ◌||◌, is_some, nat_le, nat_lt, slice_get}
 use Rattle.std.specs.FinMap as finite
-use Rattle.std.proofs.lemmas.Bool.{cases_lt, le-ltb, lt-ltb}
+use Rattle.std.proofs.lemmas.Bool.{cases_lt, le-ltb, lt-ltb, eq-eqb}
 use Rattle.std.proofs.lemmas.List.{length-append}
 use Rattle.std.proofs.lemmas.Option.{same_Some}
 use Rattle.frame_store.specs.View.{IsSole, View, references}
-use Rattle.process_model.specs.Frames.{kernel_frames}
-use Rattle.sv39_entry.specs.Address.{trampoline_page}
-use Rattle.sv39_entry.specs.declared.scheme.Scheme.TheVariants.{Sv39}
-use Rattle.table_walk.specs.Tables.{Tables, node, root_node}
-use Rattle.address_space.specs.Kernel.{first_direct, HoldsKernel, IsKernelTable, is_kernel_table}
+use Rattle.process_model.specs.Frames.{kernel_frames, first_frames}
+use Rattle.sv39_entry.specs.declared.scheme.Scheme.TheVariants.{Sv39, Sv48}
+use Rattle.sv39_entry.specs.Schemes.{trampoline_page}
+use Rattle.sv39_entry.specs.declared.scheme.Scheme.{Scheme}
+use Rattle.table_walk.specs.Tables.{Tables, root_node, last_table}
+use Rattle.address_space.specs.Kernel.{first_direct, HoldsKernel, IsKernelTable, is_kernel_table, is_among, way}
 use Rattle.hart_machine.proofs.NumberLists.{Among, among_back, among_front, among_parts, Distinct, distinct_append, times, times_among, times_are}
 use Rattle.hart_machine.proofs.MatchedLists.{Matched, matched}
 use Rattle.hart_machine.proofs.KeySets.{value}
 
 -- the numbers of tables
 
-abbrev numbers_by : Bool → List ℕ
-numbers_by true = root_node Sv39 ∷ node Sv39 trampoline_page 1 ∷ node Sv39 trampoline_page 2 ∷ node Sv39 first_direct 1 ∷ node Sv39 first_direct 2 ∷ []
-numbers_by false = root_node Sv39 ∷ node Sv39 trampoline_page 1 ∷ node Sv39 trampoline_page 2 ∷ node Sv39 first_direct 1 ∷ node Sv39 first_direct 2 ∷ node Sv39 (first_direct + 512) 2 ∷ []
+-- behind two megabytes of frames one table more
+abbrev behind : Scheme → ℕ
+behind z = last_table z (first_direct + 512)
+
+abbrev few_numbers : Scheme → List ℕ
+few_numbers z = root_node z ∷ (way z (trampoline_page z) ++ way z first_direct)
+
+abbrev numbers_by : Scheme → Bool → List ℕ
+numbers_by z true = few_numbers z
+numbers_by z false = few_numbers z ++ behind z ∷ []
 
 abbrev are_distinct : List ℕ → Bool
 are_distinct [] = true
@@ -38,17 +46,61 @@ distinct_by (k ∷ ks) e =
     let two = both_of (times k ks == 0) (are_distinct ks) e in
     ((λ i. let some = times_among k ks i in let none = same_of (times k ks) 0 two.0 in absurd (omega (arith, some, none))), distinct_by ks two.1)
 
-five_of : (a b c d e : Bool) → (a || b || c || d || e) ≡ true → (a ≡ true) ⊎ ((b ≡ true) ⊎ ((c ≡ true) ⊎ ((d ≡ true) ⊎ (e ≡ true))))
-five_of true b c d e t = inl refl
-five_of false true c d e t = inr (inl refl)
-five_of false false true d e t = inr (inr (inl refl))
-five_of false false false true e t = inr (inr (inr (inl refl)))
-five_of false false false false true t = inr (inr (inr (inr refl)))
-five_of false false false false false t = absurd (cc)
-
 two_of : (a b : Bool) → (a || b) ≡ true → (a ≡ true) ⊎ (b ≡ true)
 two_of true b t = inl refl
 two_of false b t = inr t
+
+four_of : (a b c d : Bool) → (a || b || c || d) ≡ true → (a ≡ true) ⊎ ((b ≡ true) ⊎ ((c ≡ true) ⊎ (d ≡ true)))
+four_of true b c d t = inl refl
+four_of false true c d t = inr (inl refl)
+four_of false false true d t = inr (inr (inl refl))
+four_of false false false true t = inr (inr (inr refl))
+four_of false false false false t = absurd (cc)
+
+second_of : (a b : Bool) → b ≡ true → (a || b) ≡ true
+second_of true b t = refl
+second_of false b t = t
+
+third_of : (a b c d : Bool) → c ≡ true → (a || b || c || d) ≡ true
+third_of true b c d t = refl
+third_of false true c d t = refl
+third_of false false true d t = refl
+third_of false false false d t = absurd (cc)
+
+last_of : (a b c d : Bool) → d ≡ true → (a || b || c || d) ≡ true
+last_of true b c d t = refl
+last_of false true c d t = refl
+last_of false false true d t = refl
+last_of false false false d t = t
+
+middle_of : (a b c d : Bool) → b ≡ true → (a || b || c || d) ≡ true
+middle_of true b c d t = refl
+middle_of false true c d t = refl
+middle_of false false c d t = absurd (cc)
+
+-- members, and what the test of them tells
+among_of : (k : ℕ) (ns : List ℕ) → is_among k ns ≡ true → Among k ns
+among_of k [] t = absurd (cc)
+among_of k (n ∷ ns) t = elim (two_of (k == n) (is_among k ns) t) [ inl here ↦ inl (same_of k n here) | inr later ↦ inr (among_of k ns later) ]
+
+tells : (k : ℕ) (ns : List ℕ) → Among k ns → is_among k ns ≡ true
+tells k [] i = absurd i
+tells k (n ∷ ns) (inl e) = rw (eq-eqb k n e) refl
+tells k (n ∷ ns) (inr i) = second_of (k == n) (is_among k ns) (tells k ns i)
+
+-- of the way behind two megabytes all tables but the last are on the way to the first frame
+shared : (z : Scheme) (k : ℕ) → Among k (way z (first_direct + 512)) → Among k (way z first_direct) ⊎ (k ≡ behind z)
+shared Sv39 k (inl e) = inr e
+shared Sv39 k (inr (inl e)) = inl (inr (inl e))
+shared Sv39 k (inr (inr none)) = absurd none
+shared Sv48 k (inl e) = inr e
+shared Sv48 k (inr (inl e)) = inl (inr (inl e))
+shared Sv48 k (inr (inr (inl e))) = inl (inr (inr (inl e)))
+shared Sv48 k (inr (inr (inr none))) = absurd none
+
+is_behind : (z : Scheme) → is_among (behind z) (way z (first_direct + 512)) ≡ true
+is_behind Sv39 = refl
+is_behind Sv48 = refl
 
 -- the tests of the number of frames
 record Tests (frames : ℕ) (few : Bool) : Type 0 where
@@ -61,65 +113,78 @@ tests frames = elim (cases_lt 512 frames) [
   | inr few ↦ (true, record { is = grind (arith, few); more = le-ltb 512 frames few })
 ]
 
-module _ (frames : ℕ) (some : 0 < frames) where
+module _ (z : Scheme) (frames : ℕ) (some : 0 < frames) where
   there : nat_lt 0 frames ≡ true
   there = lt-ltb 0 frames some
 
-  kernel_in : (few : Bool) → Tests frames few → (k : ℕ) → is_kernel_table frames k ≡ true → Among k (numbers_by few)
-  kernel_in few t k is = elim (five_of (k == root_node Sv39) (k == node Sv39 trampoline_page 1) (k == node Sv39 trampoline_page 2) (nat_lt 0 frames && (k == node Sv39 first_direct 1 || k == node Sv39 first_direct 2)) (nat_lt 512 frames && (k == node Sv39 (first_direct + 512) 2)) is) [
-    | inl a ↦ at few 0 (inl (same_of k _ a))
+  abbrev at_root : ℕ → Bool
+  at_root k = k == root_node z
+
+  abbrev to_top : ℕ → Bool
+  to_top k = is_among k (way z (trampoline_page z))
+
+  abbrev to_first : ℕ → Bool
+  to_first k = nat_lt 0 frames && is_among k (way z first_direct)
+
+  abbrev to_next : ℕ → Bool
+  to_next k = nat_lt 512 frames && is_among k (way z (first_direct + 512))
+
+  few_in : (few : Bool) (k : ℕ) → Among k (few_numbers z) → Among k (numbers_by z few)
+  few_in true k i = i
+  few_in false k i = among_front k (few_numbers z) (behind z ∷ []) i
+
+  kernel_in : (few : Bool) → Tests frames few → (k : ℕ) → is_kernel_table z frames k ≡ true → Among k (numbers_by z few)
+  kernel_in few t k is = elim (four_of (at_root k) (to_top k) (to_first k) (to_next k) is) [
+    | inl a ↦ few_in few k (inl (same_of k _ a))
     | inr o ↦ elim o [
-      | inl a ↦ at few 0 (inr (inl (same_of k _ a)))
+      | inl a ↦ few_in few k (inr (among_front k (way z (trampoline_page z)) (way z first_direct) (among_of k _ a)))
       | inr p ↦ elim p [
-        | inl a ↦ at few 0 (inr (inr (inl (same_of k _ a))))
-        | inr q ↦ elim q [
-          | inl a ↦ elim (two_of (k == node Sv39 first_direct 1) (k == node Sv39 first_direct 2) (both_of (nat_lt 0 frames) (k == node Sv39 first_direct 1 || k == node Sv39 first_direct 2) a).1) [
-            | inl b ↦ at few 0 (inr (inr (inr (inl (same_of k _ b)))))
-            | inr b ↦ at few 0 (inr (inr (inr (inr (inl (same_of k _ b))))))
-          ]
-          | inr a ↦ (
-              let two = both_of (nat_lt 512 frames) (k == node Sv39 (first_direct + 512) 2) a in
-              last few (sym t.more ∙ two.0) (same_of k _ two.1))
-        ]
+        | inl a ↦ few_in few k (on_first (among_of k _ (both_of (nat_lt 0 frames) (is_among k (way z first_direct)) a).1))
+        | inr a ↦ (
+            let two = both_of (nat_lt 512 frames) (is_among k (way z (first_direct + 512))) a in
+            elim (shared z k (among_of k _ two.1)) [
+              | inl upper ↦ few_in few k (on_first upper)
+              | inr new ↦ last few (sym t.more ∙ two.0) new
+            ])
       ]
     ]
   ] where
-    at : (few : Bool) → ℕ → Among k (numbers_by true) → Among k (numbers_by few)
-    at true n i = i
-    at false n i = among_front k (numbers_by true) (node Sv39 (first_direct + 512) 2 ∷ []) i
+    on_first : Among k (way z first_direct) → Among k (few_numbers z)
+    on_first i = inr (among_back k (way z (trampoline_page z)) (way z first_direct) i)
 
-    last : (few : Bool) → cond few false true ≡ true → k ≡ node Sv39 (first_direct + 512) 2 → Among k (numbers_by few)
+    last : (few : Bool) → cond few false true ≡ true → k ≡ behind z → Among k (numbers_by z few)
     last true e is = absurd (cc)
-    last false e is = inr (inr (inr (inr (inr (inl is)))))
+    last false e is = among_back k (few_numbers z) (behind z ∷ []) (inl is)
 
-  in_kernel : (few : Bool) → Tests frames few → (k : ℕ) → Among k (numbers_by few) → is_kernel_table frames k ≡ true
-  in_kernel few t k i = elim (first few i) [
-    | inl j ↦ base k j
-    | inr last ↦ (let more = t.more ∙ last.0 in rw (last.1, there, more) refl)
-  ] where
-    first : (few : Bool) → Among k (numbers_by few) → Among k (numbers_by true) ⊎ ((cond few false true ≡ true) × (k ≡ node Sv39 (first_direct + 512) 2))
-    first true i = inl i
-    first false i = elim (among_parts k (numbers_by true) (node Sv39 (first_direct + 512) 2 ∷ []) i) [
-      | inl j ↦ inl j
-      | inr j ↦ elim j [ inl e ↦ inr (refl, e) | inr none ↦ absurd none ]
+  in_few : (k : ℕ) → Among k (few_numbers z) → is_kernel_table z frames k ≡ true
+  in_few k (inl e) = rw (eq-eqb k (root_node z) e) refl
+  in_few k (inr i) = elim (among_parts k (way z (trampoline_page z)) (way z first_direct) i) [
+    | inl j ↦ middle_of (at_root k) (to_top k) (to_first k) (to_next k) (tells k _ j)
+    | inr j ↦ third_of (at_root k) (to_top k) (to_first k) (to_next k) (rw there (tells k _ j))
+  ]
+
+  in_kernel : (few : Bool) → Tests frames few → (k : ℕ) → Among k (numbers_by z few) → is_kernel_table z frames k ≡ true
+  in_kernel true t k i = in_few k i
+  in_kernel false t k i = elim (among_parts k (few_numbers z) (behind z ∷ []) i) [
+    | inl j ↦ in_few k j
+    | inr j ↦ elim j [
+      | inl e ↦ last_of (at_root k) (to_top k) (to_first k) (to_next k) (rw (t.more, e) (is_behind z))
+      | inr none ↦ absurd none
     ]
+  ]
 
-    base : (k : ℕ) → Among k (numbers_by true) → is_kernel_table frames k ≡ true
-    base k (inl e) = rw e refl
-    base k (inr (inl e)) = rw e refl
-    base k (inr (inr (inl e))) = rw e refl
-    base k (inr (inr (inr (inl e)))) = rw (e, there) refl
-    base k (inr (inr (inr (inr (inl e))))) = rw (e, there) refl
-    base k (inr (inr (inr (inr (inr none))))) = absurd none
-
-numbers_distinct : (few : Bool) → Distinct (numbers_by few)
-numbers_distinct true = distinct_by (numbers_by true) refl
-numbers_distinct false = distinct_by (numbers_by false) refl
+numbers_distinct : (z : Scheme) (few : Bool) → Distinct (numbers_by z few)
+numbers_distinct Sv39 true = distinct_by (numbers_by Sv39 true) refl
+numbers_distinct Sv39 false = distinct_by (numbers_by Sv39 false) refl
+numbers_distinct Sv48 true = distinct_by (numbers_by Sv48 true) refl
+numbers_distinct Sv48 false = distinct_by (numbers_by Sv48 false) refl
 
 -- so many frames as boot takes
-frames_by : (few : Bool) (slots : ℕ) → suc (slots + length (numbers_by few)) ≡ cond few 6 7 + slots
-frames_by true slots = omega arith
-frames_by false slots = omega arith
+frames_by : (z : Scheme) (few : Bool) (slots : ℕ) → suc (slots + length (numbers_by z few)) ≡ first_frames z + cond few 0 1 + slots
+frames_by Sv39 true slots = omega arith
+frames_by Sv39 false slots = omega arith
+frames_by Sv48 true slots = omega arith
+frames_by Sv48 false slots = omega arith
 
 -- stacks
 
@@ -142,15 +207,15 @@ stacks_distinct (x ∷ xs) apart = (
 
 -- the frames of the kernel
 
-pub record HasKernel (v : View) (frames slots : ℕ) : Type 0 where
+pub record HasKernel (z : Scheme) (v : View) (frames slots : ℕ) : Type 0 where
   -- stacks and tables
   pub own : List ℕ
-  pub long : suc (length own) ≡ kernel_frames frames slots
+  pub long : suc (length own) ≡ kernel_frames z frames slots
   pub lone : (f : ℕ) → Among f own → (references v f ≡ 1) × IsSole v f
   pub no_code : Among 0 own → ⊥
   pub all : (f : ℕ) → times f (0 ∷ own) ≡ references v f
 
-module _ (v : View) (root frames slots : ℕ) (stacks : List ℕ) (t : Tables) (some : 0 < frames) (is : IsKernelTable v root frames slots stacks t) where
+module _ (z : Scheme) (v : View) (root frames slots : ℕ) (stacks : List ℕ) (t : Tables) (some : 0 < frames) (is : IsKernelTable z v root frames slots stacks t) where
   abbrev few : Bool
   few = (tests frames).0
 
@@ -163,15 +228,15 @@ module _ (v : View) (root frames slots : ℕ) (stacks : List ℕ) (t : Tables) (
   abbrev IsTable : ℕ → ℕ → Type 0
   IsTable f k = finite.get t.tables k ≡ Some f
 
-  tables : (fs : List ℕ) × Matched IsTable (numbers_by few) fs
-  tables = matched IsTable (numbers_by few) (numbers_distinct few) (λ k i. value (finite.get t.tables k) (is.maps.numbers k ∙ in_kernel frames some few few_tests k i))
+  tables : (fs : List ℕ) × Matched IsTable (numbers_by z few) fs
+  tables = matched IsTable (numbers_by z few) (numbers_distinct z few) (λ k i. value (finite.get t.tables k) (is.maps.numbers k ∙ in_kernel z frames some few few_tests k i))
       (λ f g k _ at also. same_Some f g (sym at ∙ also)) (λ f j k _ _ at also. is.maps.tables.known.apart j k f at also)
 
   abbrev own : List ℕ
   own = stacks ++ tables.0
 
   table_in : (k f : ℕ) → IsTable f k → Among f tables.0
-  table_in k f at = tables.1.has f k (kernel_in frames some few few_tests k (sym (is.maps.numbers k) ∙ ap is_some at)) at
+  table_in k f at = tables.1.has f k (kernel_in z frames some few few_tests k (sym (is.maps.numbers k) ∙ ap is_some at)) at
 
   lone : (f : ℕ) → Among f own → (references v f ≡ 1) × IsSole v f
   lone f i = elim (among_parts f stacks tables.0 i) [
@@ -191,14 +256,14 @@ module _ (v : View) (root frames slots : ℕ) (stacks : List ℕ) (t : Tables) (
       let k = tables.1.of q j in
       holds.stack_no_table slot.0 k.0 q slot.1 k.2)
 
-  pub kernel_has : HasKernel v frames slots
+  pub kernel_has : HasKernel z v frames slots
   kernel_has = record {
     own = own;
     long =
         let parts = length-append stacks tables.0 in
         let tables_long = tables.1.long in
         let stacks_long = is.stacked in
-        let sum = frames_by few slots in
+        let sum = frames_by z few slots in
         rw few_tests.is (omega (arith, parts, tables_long, stacks_long, sum));
     lone = lone;
     no_code = no_code;

@@ -26,6 +26,7 @@ pub mod ForkedTenants
 pub mod ForkedWorlds
 pub mod HartSteps
 pub mod HeldFrames
+pub mod KeptSchemes
 pub mod KeptTables
 pub mod KeptPolicy
 pub mod KernelFrames

@@ -38,6 +38,7 @@ use Rattle.hart_machine.proofs.Calling.{call_runs}
 use Rattle.hart_machine.proofs.FillWorlds.{put_back}
 use Rattle.hart_machine.proofs.Following.{call_changes, keeps_follow}
 use Rattle.hart_machine.proofs.HartSteps.{process_at}
+use Rattle.hart_machine.proofs.KeptSchemes.{mapped_scheme, unmapped_scheme}
 
 -- a space all of whose parts are those of another
 pub same_space : (x y : Space View) → x.seat ≡ y.seat → x.root ≡ y.root → x.trapframe ≡ y.trapframe → x.layout ≡ y.layout → x ≡ y
@@ -124,7 +125,7 @@ module _ (m : Machine) (w : World) (is : IsWorld m w) (h s : ℕ) (caller : IsCa
             ap mapped_or_refused answer,
             bytes_change m w is s x y p (without_pending u.process) place at tenant tenant_after m.frames
                 (subst (λ (v : View). Keeps BankRule m.frames (view_of x) m.frames v) (sym view) (λ others rule. rule))
-                (λ k a there. (a, ap (λ (q : PageMap Page). pages.get q k) (sym settled) ∙ there, refl)),
+                (λ k a there. (a, ap (λ (q : PageMap Page). pages.get q k) (sym settled) ∙ there, refl)) (mapped_scheme m.files p len protection flags n u asked),
           )
       map_comes (Err e) asked answer after refused =
           let same : y ≡ x = subst (λ (o : Result ℕ Refusal). IfErr o (λ _. y ≡ x)) answer refused in (
@@ -176,7 +177,7 @@ module _ (m : Machine) (w : World) (is : IsWorld m w) (h s : ℕ) (caller : IsCa
         subst (λ (o : Outcome). Makes (record m { frames = b; slots = with_item m.slots s (Some y); files = files }) (done_or_refused (done_with a)) o) (sym (unmap_step q.0 q.1 ∙ ap (unmapped_to w s) has.is)) (
           refl,
           subst (λ (fs : List File). IsWorld (record m { frames = b; slots = with_item m.slots s (Some y); files = fs }) (unmapped_to w s (Ok has.what)).world) (sym has.files)
-              (call_changes m w is s x y q.0 (without_pending has.what.process) has.tables place q.1 has.tenant w.counter (follows q.0 q.1 has) b keeps has.what.files),
+              (call_changes m w is s x y q.0 (without_pending has.what.process) has.tables place q.1 has.tenant w.counter (follows q.0 q.1 has) b keeps (unmapped_scheme m.files q.0 address len has.what has.is ∙ is.schemes s q.0 q.1) has.what.files),
         )
     unmaps {A = A} (Err e) told refused same files_stay frames_stay keeps =
         let q = process_at m w is s x place in

@@ -22,6 +22,7 @@ use Rattle.sv39_entry.specs.Address.{page_of}
 use Rattle.sv39_entry.specs.declared.access.Access.{Access}
 use Rattle.sv39_entry.specs.declared.access.Access.TheVariants.{Fetch, Load, Store}
 use Rattle.sv39_entry.specs.declared.rule.Rule.{Rule}
+use Rattle.sv39_entry.specs.declared.scheme.Scheme.{Scheme}
 use Rattle.process_model.specs.declared.step.Refusal.{Refusal}
 
 -- a page that is settled and one that is not have other signs
@@ -238,7 +239,7 @@ module _ (p : Process) (a : Asked) where
 
   -- they change no leaf
   pub access_keeps : changed p (user_access p a).process ≡ false
-  access_keeps = signs_stay p (user_access p a).process (denied_signs (first_rule (regions p) a.access a.address a.width))
+  access_keeps = signs_stay p (user_access p a).process (denied_signs (first_rule p.scheme (regions p) a.access a.address a.width))
 
 -- ---- exec
 
@@ -263,6 +264,6 @@ module _ (p : Process) (fresh : ℕ) (below : (n : ℕ) (a : Page) → get p.set
   run_is_new q (e ∷ es) first bytes n is = first_is_new q e (es ++ page_run first bytes (suc n)) is
 
 -- exec gives new copy numbers
-pub exec_changes : (p : Process) (fresh : ℕ) (ls : List LoadSegment) → ((n : ℕ) (a : Page) → get p.settled n ≡ Some a → a.copy < fresh) → changed p (process_of fresh ls) ≡ true
+pub exec_changes : (scheme : Scheme) (p : Process) (fresh : ℕ) (ls : List LoadSegment) → ((n : ℕ) (a : Page) → get p.settled n ≡ Some a → a.copy < fresh) → changed p (process_of scheme fresh ls) ≡ true
 unfolding process_of
-exec_changes p fresh ls below = run_is_new p fresh below (process_of fresh ls) (flat_map load_pages ls) (end_of_loads 0 ls) [] 1 refl
+exec_changes scheme p fresh ls below = run_is_new p fresh below (process_of scheme fresh ls) (flat_map load_pages ls) (end_of_loads 0 ls) [] 1 refl

@@ -44,22 +44,28 @@ same_progress g h is = cc
 
 -- no rule denies the accesses of a page
 abbrev pub MayReach : Access → Process → ℕ → Type 0
-MayReach kind p k = (x : ℕ) × (page_of x ≡ k) × (copy_rule (regions p) kind x ≡ None)
+MayReach kind p k = (x : ℕ) × (page_of x ≡ k) × (copy_rule p.scheme (regions p) kind x ≡ None)
+
+-- the rules of a process that has the scheme and the regions of another
+same_rules : (kind : Access) (p q : Process) (x : ℕ) → q.scheme ≡ p.scheme → regions q ≡ regions p → copy_rule q.scheme (regions q) kind x ≡ copy_rule p.scheme (regions p) kind x
+same_rules kind p q x scheme same = ap (λ k. copy_rule k (regions q) kind x) scheme ∙ ap (λ rs. copy_rule p.scheme rs kind x) same
 
 -- of the process p where it has become q: its regions stay, and each page has its sign still, or was not resident and is, and is one of
 -- those that the copy comes to, which no rule denies
 record Comes (kind : Access) (R : ℕ → Type 0) (p q : Process) : Type 0 where
   regions : regions q ≡ regions p
+  scheme : q.scheme ≡ p.scheme
   each : (k : ℕ) → (sign_of (get p.settled k) ≡ sign_of (get q.settled k)) ⊎ ((is_resident p kind k ≡ false) × (is_resident q kind k ≡ true) × R k × MayReach kind p k)
 
 module _ (a : Around) (kind : Access) (R : ℕ → Type 0) (p : Process) where
   begins : Comes kind R p p
-  begins = record { regions = refl; each = λ k. inl refl }
+  begins = record { regions = refl; scheme = refl; each = λ k. inl refl }
 
   -- other bytes leave signs and residence
-  keeps : (q r : Process) → regions r ≡ regions q → ((k : ℕ) → sign_of (get q.settled k) ≡ sign_of (get r.settled k)) → Comes kind R p q → Comes kind R p r
-  keeps q r same signs comes = record {
+  keeps : (q r : Process) → r.scheme ≡ q.scheme → regions r ≡ regions q → ((k : ℕ) → sign_of (get q.settled k) ≡ sign_of (get r.settled k)) → Comes kind R p q → Comes kind R p r
+  keeps q r schemed same signs comes = record {
     regions = same ∙ comes.regions;
+    scheme = schemed ∙ comes.scheme;
     each = λ k. elim (comes.each k) [
       | inl sign ↦ inl (sign ∙ signs k)
       | inr went ↦ inr (went.0, sym (resident_by_sign kind q r k same (signs k)) ∙ went.1, went.2, went.3)
@@ -82,8 +88,9 @@ module _ (a : Around) (kind : Access) (R : ℕ → Type 0) (p : Process) where
         let serves = reached_serves a kind g h x is in
         record {
           regions = serves.regions ∙ comes.regions;
+          scheme = serves.scheme ∙ comes.scheme;
           each = λ k. elim (cases_eq k (page_of x)) [
-            | inl same ↦ inr (ap (is_resident p kind) same ∙ was_not now, ap (is_resident h.process kind) same ∙ serves.resident, subst R (sym same) here, (x, sym same, ap (λ rs. copy_rule rs kind x) (sym comes.regions) ∙ (reached_parts a kind g h x is).0))
+            | inl same ↦ inr (ap (is_resident p kind) same ∙ was_not now, ap (is_resident h.process kind) same ∙ serves.resident, subst R (sym same) here, (x, sym same, sym (same_rules kind p g.process x comes.scheme comes.regions) ∙ (reached_parts a kind g h x is).0))
             | inr apart ↦ elim (comes.each k) [
               | inl sign ↦ inl (sign ∙ ap sign_of (sym (serves.others k apart)))
               | inr went ↦ inr (went.0, sym (resident_by_sign kind g.process h.process k serves.regions (ap sign_of (sym (serves.others k apart)))) ∙ went.1, went.2, went.3)
@@ -120,6 +127,10 @@ module _ (a : Around) (R : ℕ → Type 0) (p : Process) where
   byte_regions q x b None = refl
   byte_regions q x b (Some s) = refl
 
+  byte_scheme : (q : Process) (x b : ℕ) (o : Option Page) → (with_byte_on q x b o).scheme ≡ q.scheme
+  byte_scheme q x b None = refl
+  byte_scheme q x b (Some s) = refl
+
   byte_signs : (q : Process) (x b : ℕ) (o : Option Page) → get q.settled (page_of x) ≡ o → (k : ℕ) → sign_of (get q.settled k) ≡ sign_of (get (with_byte_on q x b o).settled k)
   byte_signs q x b None there k = refl
   byte_signs q x b (Some s) there k = signs_after_put q.settled (page_of x) s (stored s (x % 4096) (b ∷ [])) there refl k
@@ -127,7 +138,7 @@ module _ (a : Around) (R : ℕ → Type 0) (p : Process) where
   -- a byte is put where the address is reached
   put_comes : (q : Process) (x b : ℕ) → Comes access.Store R p q → Comes access.Store R p (with_byte q x b)
   put_comes q x b comes =
-      keeps a access.Store R p q (with_byte q x b) (byte_regions q x b (get q.settled (page_of x))) (byte_signs q x b (get q.settled (page_of x)) refl) comes
+      keeps a access.Store R p q (with_byte q x b) (byte_scheme q x b (get q.settled (page_of x))) (byte_regions q x b (get q.settled (page_of x))) (byte_signs q x b (get q.settled (page_of x)) refl) comes
 
   one_comes_out : (c : Copied) (x b : ℕ) (o : Result Progress Rule) → reached_in a access.Store c.progress x ≡ o → R (page_of x) → ComesOut c → ComesOut (one_out c x b o)
   one_comes_out c x b (Err r) is here comes = comes
@@ -177,21 +188,21 @@ module _ (kind : Access) (R : ℕ → Type 0) (p q : Process) (comes : Comes kin
     told_by true tells = sym (elim (tells.some refl).1 [
       | inl lost ↦
           let granted = lost.0 in
-          absurd (lost.1 (ap (λ rs. copy_rule rs kind (tells.some refl).0) comes.regions ∙ granted.0, comes_stays (page_of (tells.some refl).0) granted.1))
+          absurd (lost.1 (same_rules kind p q (tells.some refl).0 comes.scheme comes.regions ∙ granted.0, comes_stays (page_of (tells.some refl).0) granted.1))
       | inr gained ↦
           let granted = gained.1 in
           comes_changes (page_of (tells.some refl).0)
-          (is_not _ (λ was. gained.0 (ap (λ rs. copy_rule rs kind (tells.some refl).0) (sym comes.regions) ∙ granted.0, was))) granted.1
+          (is_not _ (λ was. gained.0 (sym (same_rules kind p q (tells.some refl).0 comes.scheme comes.regions) ∙ granted.0, was))) granted.1
     ])
     told_by false tells = sym (comes_keeps (λ k here may resident. elim (near k here) [
       | inl at ↦ (at_page k may resident address (sym at) (tells.none refl address (inl refl))).1
       | inr at ↦ (at_page k may resident (address + 4096) (omega (arith, at)) (tells.none refl (address + 4096) (inr refl))).1
     ])) where
       at_page : (k : ℕ) → MayReach kind p k → is_resident q kind k ≡ true → (x : ℕ) → page_of x ≡ k → (IsGranted q kind x → IsGranted p kind x)
-          → (copy_rule (regions p) kind x ≡ None) × (is_resident p kind k ≡ true)
+          → (copy_rule p.scheme (regions p) kind x ≡ None) × (is_resident p kind k ≡ true)
       at_page k may resident x at was =
-          let rule = same_rule (regions p) kind x may.0 (at ∙ sym may.1) ∙ may.2 in
-          let granted = was (ap (λ rs. copy_rule rs kind x) comes.regions ∙ rule, ap (is_resident q kind) at ∙ resident) in
+          let rule = same_rule p.scheme (regions p) kind x may.0 (at ∙ sym may.1) ∙ may.2 in
+          let granted = was (same_rules kind p q x comes.scheme comes.regions ∙ rule, ap (is_resident q kind) at ∙ resident) in
           (granted.0, ap (is_resident p kind) (sym at) ∙ granted.1)
 
 -- a copy of at most a page's worth of bytes comes to at most two pages
@@ -215,6 +226,9 @@ module _ (a : Around) (g : Progress) (address : ℕ) where
     pub copied_in_regions : regions after_in ≡ regions g.process
     copied_in_regions = comes_in.regions
 
+    pub copied_in_scheme : after_in.scheme ≡ g.process.scheme
+    copied_in_scheme = comes_in.scheme
+
     -- a flag that tells residence tells whether a leaf changed
     pub copied_in_told : (flag : Bool) → TellsResidence flag g.process after_in access.Load address → flag ≡ changed g.process after_in
     copied_in_told = told_by access.Load (IsNear address) g.process after_in comes_in address (λ k here. here)
@@ -230,6 +244,9 @@ module _ (a : Around) (g : Progress) (address : ℕ) where
     -- the same of copies to the process
     pub copied_out_regions : regions after_out ≡ regions g.process
     copied_out_regions = comes_out.regions
+
+    pub copied_out_scheme : after_out.scheme ≡ g.process.scheme
+    copied_out_scheme = comes_out.scheme
 
     pub copied_out_told : (flag : Bool) → TellsResidence flag g.process after_out access.Store address → flag ≡ changed g.process after_out
     copied_out_told = told_by access.Store (IsNear address) g.process after_out comes_out address (λ k here. here)

@@ -119,6 +119,8 @@ module _ (w : World) (o : Outcome) (changed born : Option ℕ) (marks : AreMarke
       kernel = after.kernel;
       stacks = after.stacks;
       policy = ruled ∙ after.policy;
+      scheme = ap (λ z. z.scheme) kernel ∙ after.scheme;
+      schemes = after.schemes;
       few = after.few;
       frames = ap (λ z. z.seat.size) kernel ∙ after.frames;
       rule = rw (frames, kernel, slots) after.rule;

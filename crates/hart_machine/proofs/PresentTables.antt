@@ -8,7 +8,7 @@ use Rattle.process_model.specs.declared.phase.Phase.{Phase}
 use Rattle.process_model.specs.declared.phase.Phase.TheVariants as phase
 use Rattle.sv39_entry.specs.declared.access.Access.{Access}
 use Rattle.sv39_entry.specs.declared.access.Mode.{Mode}
-use Rattle.sv39_entry.specs.declared.scheme.Scheme.TheVariants.{Sv39}
+use Rattle.sv39_entry.specs.declared.scheme.Scheme.{Scheme}
 use Rattle.table_walk.specs.Tables.{Tables}
 use Rattle.table_walk.specs.declared.walk.Walk.{Walk}
 use Rattle.hart_machine.specs.Tables.{tables_of, IsServed, IsThere, present_table}
@@ -42,19 +42,19 @@ present_is x = go x.phase x.slot where
   go phase.Enter1 (Some s) idle = inr (s, refl, refl, refl)
   go phase.Leave2 (Some s) idle = inr (s, refl, refl, refl)
 
-module _ (tables : ℕ → Tables) (kernel : Tables) (x : Hart) (idle : x.slot ≡ None → x.phase ≡ phase.Idle) where
+module _ (s : Scheme) (tables : ℕ → Tables) (kernel : Tables) (x : Hart) (idle : x.slot ≡ None → x.phase ≡ phase.Idle) where
   -- an entry that is made by it serves
-  pub present_serves : (e : TlbEntry) → IsEntryOf (tables_of tables kernel (present_table x)) 0 e → IsFenced x tables kernel e
+  pub present_serves : (e : TlbEntry) → IsEntryOf s (tables_of tables kernel (present_table x)) 0 e → IsFenced s x tables kernel e
   present_serves e entry = elim (present_is x idle) [
-    | inl of_kernel ↦ inl (of_kernel.0, subst (λ (t : Table). IsEntryOf (tables_of tables kernel t) 0 e) of_kernel.1 entry)
-    | inr own ↦ inr (own.0, own.1, own.2, subst (λ (t : Table). IsEntryOf (tables_of tables kernel t) 0 e) own.3 entry)
+    | inl of_kernel ↦ inl (of_kernel.0, subst (λ (t : Table). IsEntryOf s (tables_of tables kernel t) 0 e) of_kernel.1 entry)
+    | inr own ↦ inr (own.0, own.1, own.2, subst (λ (t : Table). IsEntryOf s (tables_of tables kernel t) 0 e) own.3 entry)
   ]
 
   -- and so does a walk by it
-  pub present_served : (a : ℕ) (access : Access) (mode : Mode) (z : Walk) → z ≡ walk_answer Sv39 (tables_of tables kernel (present_table x)) a access mode → IsServed x tables kernel a access mode z
+  pub present_served : (a : ℕ) (access : Access) (mode : Mode) (z : Walk) → z ≡ walk_answer s (tables_of tables kernel (present_table x)) a access mode → IsServed s x tables kernel a access mode z
   present_served a access mode z walked = elim (present_is x idle) [
-    | inl of_kernel ↦ inl (of_kernel.0, walked ∙ ap (λ (t : Table). walk_answer Sv39 (tables_of tables kernel t) a access mode) of_kernel.1)
-    | inr own ↦ inr (inl (own.0, own.1, own.2, walked ∙ ap (λ (t : Table). walk_answer Sv39 (tables_of tables kernel t) a access mode) own.3))
+    | inl of_kernel ↦ inl (of_kernel.0, walked ∙ ap (λ (t : Table). walk_answer s (tables_of tables kernel t) a access mode) of_kernel.1)
+    | inr own ↦ inr (inl (own.0, own.1, own.2, walked ∙ ap (λ (t : Table). walk_answer s (tables_of tables kernel t) a access mode) own.3))
   ]
 
 -- and it is there

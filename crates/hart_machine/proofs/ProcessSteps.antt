@@ -41,17 +41,20 @@ module _ (m : Machine) (w : World) (is : IsWorld m w) (s : ℕ) (x y : Tenant) (
         (λ same e. let is_q : q ≡ r = same_Some q r (same_Some _ _ e) in let found = has n a (ap (λ (z : Process). pages.get z.settled n) is_q ∙ settled) in (p, found.0, ap (slice_get w.slots) same ∙ at, found.1, found.2))
         (λ apart old e. (r, a, old, settled, refl)) refl
 
-    pub process_changes : (b : Bank) → BankRule b (m.kernel.seat ∷ seats_of (slice_set m.slots.items s (Some y))) → IsTenant y (is.tables s) q
+    pub process_changes : (b : Bank) → BankRule b (m.kernel.seat ∷ seats_of (slice_set m.slots.items s (Some y))) → IsTenant y (is.tables s) q → q.scheme ≡ p.scheme
         → IsWorld (record m { frames = b; slots = with_item m.slots s (Some y) }) (with_process w s q)
-    process_changes b rule tenant = record {
+    process_changes b rule tenant schemed = record {
       tables = is.tables;
       kernel = is.kernel;
       stacks = is.stacks;
       policy = is.policy;
+      scheme = is.scheme;
+      schemes = λ k r there. at_each w.slots p q at k (Some (Some r)) there (λ (c : Option (Option Process)). (c ≡ Some (Some r) → r.scheme ≡ w.scheme))
+          (λ same e. ap (λ (z : Process). z.scheme) (sym (same_Some q r (same_Some _ _ e))) ∙ schemed ∙ is.schemes s p at) (λ apart old e. is.schemes k r old) refl;
       few = subst (λ n. n ≤ most_slots) (sym (length-set w.slots s (Some q))) is.few;
       frames = is.frames;
       rule = rule;
-      of_kernel = subst (λ n. IsKernelTable m.kernel.seat m.kernel.root.0 w.frames n is.stacks is.kernel) (sym (length-set w.slots s (Some q))) is.of_kernel;
+      of_kernel = subst (λ n. IsKernelTable m.kernel.scheme m.kernel.seat m.kernel.root.0 w.frames n is.stacks is.kernel) (sym (length-set w.slots s (Some q))) is.of_kernel;
       places = places;
       copies = λ i j k n f g r o a c at_i at_j in_i in_j on_i on_j.
           let first = old_page i k r a at_i in_i in
@@ -89,4 +92,4 @@ module _ (m : Machine) (w : World) (is : IsWorld m w) (s : ℕ) (x : Tenant) (p 
   pub nothing_pending : IsWorld (record m { slots = with_item m.slots s (Some (record x { pending = None })) }) (with_process w s (record p { pending = None }))
   nothing_pending = process_changes m w is s x (record x { pending = None }) p (record p { pending = None }) place at (λ n a there. (a, there, refl)) m.frames
       (subst (λ vs. BankRule m.frames (m.kernel.seat ∷ vs)) (sym (seats_stay m.slots.items s x (record x { pending = None }) place refl)) is.rule)
-      (record { agrees = agrees_pending _ _ _ _ _ p tenant.agrees None; framed = tenant.framed; pending = refl; wide = tt })
+      (record { agrees = agrees_pending _ _ _ _ _ p tenant.agrees None; framed = tenant.framed; pending = refl; wide = tt }) refl

@@ -11,8 +11,8 @@ use Rattle.process_model.specs.PageMap.{get}
 use Rattle.process_model.specs.Process.{Page, Process}
 use Rattle.process_model.specs.declared.step.Refusal.{Refusal}
 use Rattle.process_model.specs.declared.step.Refusal.TheVariants.{BadSize}
-use Rattle.sv39_entry.specs.Address.{trapframe_page}
 use Rattle.hart_machine.proofs.ChangedSlots.{changed}
+use Rattle.sv39_entry.specs.Schemes.{trapframe_page}
 
 pub ceil : (n : ℕ) → div_ceil n 4096 ≡ pages_for n
 ceil n = omega arith
@@ -58,4 +58,4 @@ module _ (p q : Process) (delta : ℤ) (is : sbrk_result p delta ≡ Ok q) where
   -- and that is a word
   pub is_word : (size : ℕ) → HasOrder 0 p → p.size ≡ size → SFits w64 delta → (FitsUnsigned w64 (pos size +ℤ to_z w64 (of_z w64 delta)) → ⊥) → ⊥
   is_word size order same fits unfit =
-      not_refused BadSize (below_zero p size delta same (subst (λ n. pages_for n ≤ trapframe_page) same (heap_low p order)) fits unfit)
+      not_refused BadSize (below_zero p.scheme p size delta same (subst (λ n. pages_for n ≤ (trapframe_page p.scheme)) same (heap_low p order)) fits unfit)

@@ -1,5 +1,5 @@
 -- The worlds that the service of a fault comes to.
-use Rattle.std.proofs.Common.{◌≡◌, ℕ, ◌+◌, ◌-◌, ◌^◌, ◌<◌, ◌≤◌, ◌==◌, ◌⊎◌, Bool, true, false, not, Option, None, Some, List, refl, ap, sym, subst, ◌∙◌, inl, inr, arith, slice_index, is_some}
+use Rattle.std.proofs.Common.{◌≡◌, ℕ, ◌+◌, ◌-◌, ◌<◌, ◌≤◌, ◌==◌, ◌⊎◌, Bool, true, false, not, Option, None, Some, List, refl, ap, sym, subst, ◌∙◌, inl, inr, arith, slice_index, is_some}
 use Rattle.std.specs.Prelude.{Ok, Err, IfErr, IfOk, Result, slice_get, slice_set}
 use Rattle.std.specs.FinMap as finite
 use Rattle.std.specs.Vec.{with_item}
@@ -28,6 +28,7 @@ use Rattle.sv39_entry.specs.declared.access.Access.{Access}
 use Rattle.sv39_entry.specs.declared.access.Access.TheVariants as access
 use Rattle.sv39_entry.specs.declared.rule.Rule.{Rule}
 use Rattle.sv39_entry.specs.declared.rule.Rule.TheVariants.{NoFrame}
+use Rattle.sv39_entry.specs.Schemes.{trapframe_page}
 use Rattle.table_walk.specs.Tables.{leaf_node, Tables}
 use Rattle.hart_machine.specs.Calls.{Follows, IsInKernel, IsKept, IsNew}
 use Rattle.hart_machine.specs.Harts.{hart_of}
@@ -74,9 +75,8 @@ is_there None never = absurd (cc)
 is_there (Some c) there = (c, refl)
 
 -- a page of another number has another leaf
-other_leaf : (n page : ℕ) → n < 2 ^ 27 → page < 2 ^ 27 → (n ≡ page → ⊥) → leaf_node n ≡ leaf_node page → ⊥
-other_leaf n page low lower apart same =
-    apart (omega (arith, same, low, lower))
+other_leaf : (n page : ℕ) → (n ≡ page → ⊥) → leaf_node n ≡ leaf_node page → ⊥
+other_leaf n page apart same = apart (omega (arith, same))
 
 -- a page is made resident for an access, or it can't be: by the service of a fault, or for a copy
 module _ (m : Machine) (w : World) (is : IsWorld m w) (h s : ℕ) (waits : Bool) (k : IsInKernel m w h s waits) (x y : Tenant) (place : slice_get m.slots.items s ≡ Some (Some x))
@@ -121,7 +121,7 @@ module _ (m : Machine) (w : World) (is : IsWorld m w) (h s : ℕ) (waits : Bool)
   module _ (rule : Rule) (must : MustEnd y t p a m.frames rule) where
     pub unreached : IsWorld (record m { frames = b; slots = with_item m.slots s (Some y) }) w
     unreached =
-        let after = bytes_change m w is s x y p p place k.in_slot tenant must.tenant b keeps (λ n z there. (z, there, refl)) in
+        let after = bytes_change m w is s x y p p place k.in_slot tenant must.tenant b keeps (λ n z there. (z, there, refl)) refl in
         subst (λ (v : World). IsWorld (record m { frames = b; slots = with_item m.slots s (Some y) }) v)
         (ap (λ (ps : List (Option Process)). let v : World = record w { slots = ps } in v) (place_set_back w.slots s (Some p) k.in_slot)) after
 
@@ -177,11 +177,11 @@ module _ (m : Machine) (w : World) (is : IsWorld m w) (h s : ℕ) (waits : Bool)
     is_models : fresh_page ≡ made_resident w.files w.counter shared p a.access page
     is_models = same_made w.counter page m.files from_count shared p a.access (get p.settled page) counted_so ∙ ap (λ (fs : List File). made_resident fs w.counter shared p a.access page) is.files
 
-    low : page < 2 ^ 27
+    low : page < trapframe_page p.scheme
     low =
         let z = page_there w.counter page m.files from_count p a.access (get p.settled page) refl in
         let small = (has.tenant w.counter).agrees.stands.shows.low page z.0 z.1 in
-        omega (arith, small)
+        omega (arith, small, ap trapframe_page (made_settles m.files w.counter from_count a.access page p).scheme)
 
     abbrev with_waiting : Process → Process
     with_waiting q = record q { pending = waiting }
@@ -206,7 +206,7 @@ module _ (m : Machine) (w : World) (is : IsWorld m w) (h s : ℕ) (waits : Bool)
         copy = refl;
         on = λ f on.
             let small = tenant.agrees.stands.shows.low n z other.1 in
-            let same = has.resides.others (leaf_node n) (other_leaf n page (omega (arith, small)) low other.0) in
+            let same = has.resides.others (leaf_node n) (other_leaf n page other.0) in
             (on.0, sym same ∙ on.1, on.2);
       })
       | inr here ↦ go gets refl here.0 here.1
@@ -250,7 +250,7 @@ module _ (m : Machine) (w : World) (is : IsWorld m w) (h s : ℕ) (waits : Bool)
         → IsWorld (record m { frames = b; slots = with_item m.slots s (Some y) }) (record (with_process w s (with_waiting fresh_page)) { counter = high })
     world_after high order more =
         subst (λ (fs : List File). IsWorld (record m { frames = b; slots = with_item m.slots s (Some y) }) (record (with_process w s (with_waiting fresh_page)) { counter = high; files = fs })) is.files
-        (call_changes m w is s x y p (with_waiting fresh_page) has.tables place k.in_slot (has.tenant w.counter) high (follows high order more) b keeps m.files)
+        (call_changes m w is s x y p (with_waiting fresh_page) has.tables place k.in_slot (has.tenant w.counter) high (follows high order more) b keeps ((made_settles m.files w.counter from_count a.access page p).scheme ∙ is.schemes s p k.in_slot) m.files)
 
     -- each page was there, with its copy number, or has a new one
     pub reached_follows : Follows (view_of y) t has.tables p (with_waiting fresh_page) w.counter (w.counter + 1)
@@ -299,7 +299,7 @@ module _ (m : Machine) (w : World) (is : IsWorld m w) (h s : ℕ) (waits : Bool)
 
     -- where none is another, each page has the leaf that it had
     pub leaves_as_before : y.space.trapframe ≡ x.space.trapframe → is_changed (Some p) (Some (with_waiting fresh_page)) ≡ false → HaveSameLeaves t has.tables
-    leaves_as_before trapframe unchanged = followed_same x y t has.tables p (with_waiting fresh_page) tenant (has.tenant w.counter) unchanged trapframe (made_settles m.files w.counter from_count a.access page p).regions
+    leaves_as_before trapframe unchanged = followed_same x y t has.tables p (with_waiting fresh_page) tenant (has.tenant w.counter) unchanged (made_settles m.files w.counter from_count a.access page p).scheme trapframe (made_settles m.files w.counter from_count a.access page p).regions
         w.counter (λ n z there. is.counted s n p z k.in_slot there)
         (old_on (view_of y) t has.tables p (with_waiting fresh_page) w.counter (w.counter + 1) reached_follows)
 

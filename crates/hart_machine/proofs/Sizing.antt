@@ -29,6 +29,7 @@ use Rattle.hart_machine.proofs.FillWorlds.{put_back}
 use Rattle.hart_machine.proofs.Following.{call_changes, keeps_follow}
 use Rattle.hart_machine.proofs.HartSteps.{process_at}
 use Rattle.hart_machine.proofs.Mapping.{dropped_on}
+use Rattle.hart_machine.proofs.KeptSchemes.{sbrk_scheme}
 
 -- the pages above the new size go, and no other
 abbrev IsLeft : Process → Result Process Refusal → Type 0
@@ -79,7 +80,7 @@ module _ (m : Machine) (w : World) (is : IsWorld m w) (h s : ℕ) (caller : IsCa
   sizes (Ok (n, a)) answer told same frames_stay keeps =
       let q = process_at m w is s x place in
       let has = told (is.tables s) q.0 q.2 in
-      let after = call_changes m w is s x y q.0 (without_pending has.process) has.tables place q.1 has.tenant w.counter (follows q.0 q.1 has) b keeps m.files in
+      let after = call_changes m w is s x y q.0 (without_pending has.process) has.tables place q.1 has.tenant w.counter (follows q.0 q.1 has) b keeps (sbrk_scheme q.0 delta has.process has.is ∙ is.schemes s q.0 q.1) m.files in
       subst (λ (o : Outcome). Makes (record m { frames = b; slots = with_item m.slots s (Some y) }) (OldSize n) o) (sym (size_step q.0 q.1 ∙ ap (resized_to w s q.0) has.is)) (
         ap OldSize (size_is q.0 has.process n (sbrk_result q.0 delta) (answer (is.tables s) q.0 q.2) has.is),
         subst (λ (fs : List File). IsWorld (record m { frames = b; slots = with_item m.slots s (Some y) }) (record (with_process w s (without_pending has.process)) { files = fs })) is.files after,

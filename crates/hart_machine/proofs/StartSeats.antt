@@ -21,6 +21,7 @@ use Rattle.process_model.specs.Process.{Process}
 use Rattle.process_model.specs.World.{World}
 use Rattle.table_walk.specs.Tables.{Tables}
 use Rattle.table_walk.specs.Same.{same_tables}
+use Rattle.sv39_entry.specs.declared.scheme.Scheme.{Scheme}
 
 -- a process names no frame twice
 names_once : (f : ℕ) (o : Option (Option Tenant)) (q : Option (Option Process)) (t : Tables) (x : Tenant) → o ≡ Some (Some x) → IsPlace o q t → references (view_of x) f ≤ 1
@@ -86,9 +87,9 @@ module _ (m : Machine) (w : World) (is : IsWorld m w) where
   code_shared = few_shared 0
 
 -- the kernel's table stands on frames that are not frame 0, and on one reference of that
-pub kernel_kept : (v w : View) (root frames slots : ℕ) (stacks : List ℕ) (t : Tables) → ((f : ℕ) → (f ≡ 0 → ⊥) → hold_of w f ≡ hold_of v f) → references w 0 ≡ 1 → w.credits ≡ 0
-    → IsKernelTable v root frames slots stacks t → IsKernelTable w root frames slots stacks t
-kernel_kept v w root frames slots stacks t same once none k =
+pub kernel_kept : (scheme : Scheme) (v w : View) (root frames slots : ℕ) (stacks : List ℕ) (t : Tables) → ((f : ℕ) → (f ≡ 0 → ⊥) → hold_of w f ≡ hold_of v f) → references w 0 ≡ 1 → w.credits ≡ 0
+    → IsKernelTable scheme v root frames slots stacks t → IsKernelTable scheme w root frames slots stacks t
+kernel_kept scheme v w root frames slots stacks t same once none k =
     let h = k.maps.holds in
     let count : (f : ℕ) → (f ≡ 0 → ⊥) → references w f ≡ references v f = λ f far. ap (λ (x : Hold). x.references) (same f far) in
     record {
@@ -133,10 +134,10 @@ module _ (v x : View) (code : references v 0 ≡ 1) (one : HoldsTrampoline x) wh
   pub closed_anchored : IsAnchored (released 0 (joined v x))
   closed_anchored f held = let one = closed_code in omega (arith, one)
 
-  pub closed_kernel : (w : View) → w ≡ released 0 (joined v x) → (root frames slots : ℕ) (stacks : List ℕ) (t : Tables) → IsKernelTable v root frames slots stacks t → IsKernelTable w root frames slots stacks t
-  closed_kernel w is root frames slots stacks t k =
-      subst (λ u. IsKernelTable u root frames slots stacks t) (sym is)
-      (kernel_kept v (released 0 (joined v x)) root frames slots stacks t closed_at closed_code
+  pub closed_kernel : (w : View) → w ≡ released 0 (joined v x) → (scheme : Scheme) (root frames slots : ℕ) (stacks : List ℕ) (t : Tables) → IsKernelTable scheme v root frames slots stacks t → IsKernelTable scheme w root frames slots stacks t
+  closed_kernel w is scheme root frames slots stacks t k =
+      subst (λ u. IsKernelTable scheme u root frames slots stacks t) (sym is)
+      (kernel_kept scheme v (released 0 (joined v x)) root frames slots stacks t closed_at closed_code
       (ap (λ (u : View). u.credits) closed_is ∙ (let own = k.credits in let its = one.credits in omega (arith, own, its))) k)
 
 -- and when it takes one in that holds nothing
@@ -144,8 +145,8 @@ module _ (v x : View) (bare : IsBare x) where
   taken_at : (f : ℕ) → hold_of (joined v x) f ≡ hold_of v f
   taken_at f = hold_of-joined v x f ∙ (let none = bare.none f in rw none refl)
 
-  pub taken_kernel : (w : View) → w ≡ joined v x → (root frames slots : ℕ) (stacks : List ℕ) (t : Tables) → IsKernelTable v root frames slots stacks t → IsKernelTable w root frames slots stacks t
-  taken_kernel w is root frames slots stacks t k =
-      subst (λ u. IsKernelTable u root frames slots stacks t) (sym is)
-      (kernel_kept v (joined v x) root frames slots stacks t (λ f far. taken_at f) (ap (λ (h : Hold). h.references) (taken_at 0) ∙ k.maps.holds.code)
+  pub taken_kernel : (w : View) → w ≡ joined v x → (scheme : Scheme) (root frames slots : ℕ) (stacks : List ℕ) (t : Tables) → IsKernelTable scheme v root frames slots stacks t → IsKernelTable scheme w root frames slots stacks t
+  taken_kernel w is scheme root frames slots stacks t k =
+      subst (λ u. IsKernelTable scheme u root frames slots stacks t) (sym is)
+      (kernel_kept scheme v (joined v x) root frames slots stacks t (λ f far. taken_at f) (ap (λ (h : Hold). h.references) (taken_at 0) ∙ k.maps.holds.code)
       (let own = k.credits in let its = bare.credits in omega (arith, own, its)) k)

@@ -33,49 +33,49 @@ module _ (m : Machine) (w : World) (is : IsWorld m w) where
 
 module _ (m : Machine) (w : World) (is : IsWorld m w) (s : ℕ) (at : slice_get w.slots s ≡ Some None) (ls : List LoadSegment) where
   -- a process of the new world is the new one, or was there
-  pub new_or_old : (i : ℕ) (r : Process) → slice_get (slice_set w.slots s (Some (process_of w.counter ls))) i ≡ Some (Some r)
-      → ((i ≡ s) × (process_of w.counter ls ≡ r)) ⊎ ((i ≡ s → ⊥) × (slice_get w.slots i ≡ Some (Some r)))
+  pub new_or_old : (i : ℕ) (r : Process) → slice_get (slice_set w.slots s (Some (process_of w.scheme w.counter ls))) i ≡ Some (Some r)
+      → ((i ≡ s) × (process_of w.scheme w.counter ls ≡ r)) ⊎ ((i ≡ s → ⊥) × (slice_get w.slots i ≡ Some (Some r)))
   new_or_old i r there = elim (cases_eq i s) [
-    | inl same ↦ inl (same, same_Some _ _ (same_Some _ _ (sym (place_set_same w.slots s (Some (process_of w.counter ls)) (slice_get_within w.slots s None at)) ∙ ap (slice_get (slice_set w.slots s (Some (process_of w.counter ls)))) (sym same) ∙ there)))
-    | inr apart ↦ inr (apart, sym (place_set_other w.slots s i (Some (process_of w.counter ls)) apart) ∙ there)
+    | inl same ↦ inl (same, same_Some _ _ (same_Some _ _ (sym (place_set_same w.slots s (Some (process_of w.scheme w.counter ls)) (slice_get_within w.slots s None at)) ∙ ap (slice_get (slice_set w.slots s (Some (process_of w.scheme w.counter ls)))) (sym same) ∙ there)))
+    | inr apart ↦ inr (apart, sym (place_set_other w.slots s i (Some (process_of w.scheme w.counter ls)) apart) ∙ there)
   ]
 
-  pub started_counted : AreCounted (slice_set w.slots s (Some (process_of w.counter ls))) (w.counter + length (image_pages ls))
+  pub started_counted : AreCounted (slice_set w.slots s (Some (process_of w.scheme w.counter ls))) (w.counter + length (image_pages ls))
   started_counted i n r a there has = elim (new_or_old i r there) [
-    | inl new ↦ copies_below w.counter ls n a (ap (λ (z : Process). pages.get z.settled n) new.1 ∙ has)
+    | inl new ↦ copies_below w.scheme w.counter ls n a (ap (λ (z : Process). pages.get z.settled n) new.1 ∙ has)
     | inr old ↦ (let low = is.counted i n r a old.1 has in omega (arith, low))
   ]
 
   module _ (b : Bank) (k v : View) (rule : BankRule b (k ∷ v ∷ seats_of m.slots.items)) (root trapframe : ℕ) (t : Tables)
-      (stands : Stands v root trapframe nothing t (process_of w.counter ls)) (alone : OwnsAlone v t) where
+      (stands : Stands v root trapframe nothing t (process_of w.scheme w.counter ls)) (alone : OwnsAlone v t) where
     -- a page of the new process and one of another have two frames
-    frames_apart : (j n l f g : ℕ) (q : Process) (a c : Page) → slice_get w.slots j ≡ Some (Some q) → pages.get (process_of w.counter ls).settled n ≡ Some a → IsOn t n f
+    frames_apart : (j n l f g : ℕ) (q : Process) (a c : Page) → slice_get w.slots j ≡ Some (Some q) → pages.get (process_of w.scheme w.counter ls).settled n ≡ Some a → IsOn t n f
         → IsOn (is.tables j) l g → f ≡ g → ⊥
     frames_apart j n l f g q a c there has on upon same =
         let x = tenant_in m w is j q there in
-        let far : f ≡ 0 → ⊥ = page_no_code v root trapframe t (process_of w.counter ls) stands n f a has on in
+        let far : f ≡ 0 → ⊥ = page_no_code v root trapframe t (process_of w.scheme w.counter ls) stands n f a has on in
         let sole = alone f (leaf_node n) (inr (on.0, on.1, on.2)) far in
         let none = sole_apart b k v m.slots.items rule f j x.0 sole x.1 in
         let one : references (view_of x.0) g ≡ 1 = x.2.agrees.stands.owns.named g (leaf_node l) (inr (upon.0, upon.1, upon.2)) in
         let both : references (view_of x.0) f ≡ references (view_of x.0) g = ap (references (view_of x.0)) same in
         omega (arith, none, one, both)
 
-    pub started_copies : HaveCopies (slice_set w.slots s (Some (process_of w.counter ls))) (tables_with is.tables s t)
+    pub started_copies : HaveCopies (slice_set w.slots s (Some (process_of w.scheme w.counter ls))) (tables_with is.tables s t)
     started_copies i j n l f g p q a c at_i at_j in_i in_j on_i on_j = elim (new_or_old i p at_i) [
       | inl new ↦ (
-          let first : pages.get (process_of w.counter ls).settled n ≡ Some a = ap (λ (z : Process). pages.get z.settled n) new.1 ∙ in_i in
+          let first : pages.get (process_of w.scheme w.counter ls).settled n ≡ Some a = ap (λ (z : Process). pages.get z.settled n) new.1 ∙ in_i in
           let on : IsOn t n f = subst (λ (u : Tables). IsOn u n f) (tables_here is.tables s t i new.0) on_i in
           elim (new_or_old j q at_j) [
             | inl same ↦ (
-                let second : pages.get (process_of w.counter ls).settled l ≡ Some c = ap (λ (z : Process). pages.get z.settled l) same.1 ∙ in_j in
+                let second : pages.get (process_of w.scheme w.counter ls).settled l ≡ Some c = ap (λ (z : Process). pages.get z.settled l) same.1 ∙ in_j in
                 let upon : IsOn t l g = subst (λ (u : Tables). IsOn u l g) (tables_here is.tables s t j same.0) on_j in (
-                  (λ e. let page : n ≡ l = one_page v root trapframe t (process_of w.counter ls) stands n l f g a c first second on upon e in
-                      ap (λ (z : Page). z.copy) (same_Some a c (sym first ∙ ap (pages.get (process_of w.counter ls).settled) page ∙ second))),
-                  (λ e. one_frame v root trapframe t (process_of w.counter ls) stands n l f g on upon (copies_once w.counter ls n l a c first second e)),
+                  (λ e. let page : n ≡ l = one_page v root trapframe t (process_of w.scheme w.counter ls) stands n l f g a c first second on upon e in
+                      ap (λ (z : Page). z.copy) (same_Some a c (sym first ∙ ap (pages.get (process_of w.scheme w.counter ls).settled) page ∙ second))),
+                  (λ e. one_frame v root trapframe t (process_of w.scheme w.counter ls) stands n l f g on upon (copies_once w.scheme w.counter ls n l a c first second e)),
                 ))
             | inr old ↦ (
                 let upon : IsOn (is.tables j) l g = subst (λ (u : Tables). IsOn u l g) (tables_there is.tables s t j old.0) on_j in
-                let high = copies_above w.counter ls n a first in
+                let high = copies_above w.scheme w.counter ls n a first in
                 let low = is.counted j l q c old.1 in_j in
                 ((λ e. absurd (frames_apart j n l f g q a c old.1 first on upon e)), (λ e. absurd (omega (arith, high, low, e)))))
           ])
@@ -83,9 +83,9 @@ module _ (m : Machine) (w : World) (is : IsWorld m w) (s : ℕ) (at : slice_get 
           let on : IsOn (is.tables i) n f = subst (λ (u : Tables). IsOn u n f) (tables_there is.tables s t i old.0) on_i in
           elim (new_or_old j q at_j) [
             | inl new ↦ (
-                let second : pages.get (process_of w.counter ls).settled l ≡ Some c = ap (λ (z : Process). pages.get z.settled l) new.1 ∙ in_j in
+                let second : pages.get (process_of w.scheme w.counter ls).settled l ≡ Some c = ap (λ (z : Process). pages.get z.settled l) new.1 ∙ in_j in
                 let upon : IsOn t l g = subst (λ (u : Tables). IsOn u l g) (tables_here is.tables s t j new.0) on_j in
-                let high = copies_above w.counter ls l c second in
+                let high = copies_above w.scheme w.counter ls l c second in
                 let low = is.counted i n p a old.1 in_i in
                 ((λ e. absurd (frames_apart i l n g f p c a old.1 second upon on (sym e))), (λ e. absurd (omega (arith, high, low, e)))))
             | inr also ↦ (

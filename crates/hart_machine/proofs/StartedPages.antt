@@ -1,5 +1,5 @@
 -- The pages of a process that starts, with copy numbers in a row, and each on a frame of its own.
-use Rattle.std.proofs.Common.{◌≡◌, ℕ, suc, ◌+◌, ◌<◌, ◌≤◌, ◌⊎◌, cond, false, ap, sym, subst, ◌∙◌, arith, inl, inr, List, [], ◌∷◌, map, length, Some}
+use Rattle.std.proofs.Common.{◌≡◌, ℕ, suc, ◌+◌, ◌<◌, ◌≤◌, ◌⊎◌, cond, false, ap, sym, subst, ◌∙◌, arith, inl, inr, List, [], ◌∷◌, map, length, Some, refl}
 use Rattle.std.specs.Prelude.{slice_get}
 use Rattle.std.specs.Cmp.{nat_cmp_total, unsigned_tied}
 use Rattle.std.specs.FinMap as finite
@@ -14,9 +14,10 @@ use Rattle.process_model.specs.Images.{LoadSegment}
 use Rattle.process_model.specs.Loading.{image_pages, numbered, process_of}
 use Rattle.process_model.specs.PageMap.{PageMap, from_list, get, insert}
 use Rattle.process_model.specs.Process.{Page, Process}
-use Rattle.sv39_entry.specs.Address.{trampoline_page}
 use Rattle.sv39_entry.specs.Frame.{ppn_of}
 use Rattle.sv39_entry.specs.Word.{ppn}
+use Rattle.sv39_entry.specs.Schemes.{trampoline_page, of_scheme}
+use Rattle.sv39_entry.specs.declared.scheme.Scheme.{Scheme}
 use Rattle.table_walk.specs.Tables.{Tables, leaf_node}
 
 -- copy numbers
@@ -40,15 +41,20 @@ numbered_by fresh (e ∷ es) n a at = elim (found_inserted (from_list (numbered 
   | inr there ↦ (let r = numbered_by (fresh + 1) es n a there in (suc r.0, omega (arith, r.1), r.2))
 ]
 
-module _ (fresh : ℕ) (ls : List LoadSegment) where
-  numbered_page : (n : ℕ) (a : Page) → get (process_of fresh ls).settled n ≡ Some a → (i : ℕ) × (a.copy ≡ fresh + i) × (slice_get (map number_of (image_pages ls)) i ≡ Some n)
+-- a process that starts has the scheme that its image was read by
+pub loaded_scheme : (scheme : Scheme) (fresh : ℕ) (ls : List LoadSegment) → (process_of scheme fresh ls).scheme ≡ scheme
+unfolding process_of
+loaded_scheme scheme fresh ls = refl
+
+module _ (scheme : Scheme) (fresh : ℕ) (ls : List LoadSegment) where
+  numbered_page : (n : ℕ) (a : Page) → get (process_of scheme fresh ls).settled n ≡ Some a → (i : ℕ) × (a.copy ≡ fresh + i) × (slice_get (map number_of (image_pages ls)) i ≡ Some n)
   unfolding process_of
   numbered_page n a at = numbered_by fresh (image_pages ls) n a at
 
-  pub copies_above : (n : ℕ) (a : Page) → get (process_of fresh ls).settled n ≡ Some a → fresh ≤ a.copy
+  pub copies_above : (n : ℕ) (a : Page) → get (process_of scheme fresh ls).settled n ≡ Some a → fresh ≤ a.copy
   copies_above n a at = let r = numbered_page n a at in omega (arith, r.1)
 
-  pub copies_below : (n : ℕ) (a : Page) → get (process_of fresh ls).settled n ≡ Some a → a.copy < fresh + length (image_pages ls)
+  pub copies_below : (n : ℕ) (a : Page) → get (process_of scheme fresh ls).settled n ≡ Some a → a.copy < fresh + length (image_pages ls)
   copies_below n a at =
       let r = numbered_page n a at in
       let within = slice_get_within (map number_of (image_pages ls)) r.0 n r.2 in
@@ -56,7 +62,7 @@ module _ (fresh : ℕ) (ls : List LoadSegment) where
       omega (arith, r.1, within, long)
 
   -- no copy number is at two pages
-  pub copies_once : (m n : ℕ) (a b : Page) → get (process_of fresh ls).settled m ≡ Some a → get (process_of fresh ls).settled n ≡ Some b → a.copy ≡ b.copy → m ≡ n
+  pub copies_once : (m n : ℕ) (a b : Page) → get (process_of scheme fresh ls).settled m ≡ Some a → get (process_of scheme fresh ls).settled n ≡ Some b → a.copy ≡ b.copy → m ≡ n
   copies_once m n a b at also same =
       let r = numbered_page m a at in
       let q = numbered_page n b also in
@@ -81,9 +87,9 @@ module _ (v : View) (root trapframe : ℕ) (t : Tables) (p : Process) (stands : 
   pub page_no_code : (n f : ℕ) (a : Page) → get p.settled n ≡ Some a → IsOn t n f → f ≡ 0 → ⊥
   page_no_code n f a at on code_frame =
       let code = stands.shows.on_trampoline in
-      let one = stands.owns.once f (leaf_node n) (leaf_node trampoline_page) (on_names n f on) (inr (code.0, code.1, code.2.names ∙ ap ppn_of (sym code_frame))) in
+      let one = stands.owns.once f (leaf_node n) (leaf_node (trampoline_page p.scheme)) (on_names n f on) (inr (code.0, code.1, code.2.names ∙ ap ppn_of (sym code_frame))) in
       let low = stands.shows.low n a at in
-      omega (arith, one, low)
+      omega (arith, one, low, of_scheme p.scheme)
 
   -- a page is on one frame
   pub one_frame : (m n f g : ℕ) → IsOn t m f → IsOn t n g → m ≡ n → f ≡ g

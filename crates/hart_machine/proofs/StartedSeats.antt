@@ -19,6 +19,7 @@ use Rattle.hart_machine.specs.declared.tenant.Tenant.{Tenant}
 use Rattle.hart_machine.proofs.AccessingWorlds.{Holds, holds_back}
 use Rattle.hart_machine.proofs.StartSeats.{kernel_kept}
 use Rattle.table_walk.specs.Tables.{Tables}
+use Rattle.sv39_entry.specs.declared.scheme.Scheme.{Scheme}
 
 -- the first seat of a store
 pub opening_holds : (frames : ℕ) → HoldsTrampoline (opening_view frames)
@@ -42,18 +43,18 @@ module _ (v : View) where
   opener_code one = ap (λ (h : Hold). h.references) (hold_of-with_hold_same 0 (record (hold_of v 0) { sole = false }) v) ∙ one
 
   -- the kernel's table stands on the seat that opened it
-  pub opener_kernel : (root frames slots : ℕ) (stacks : List ℕ) (t : Tables) → IsKernelTable v root frames slots stacks t → IsKernelTable (opener v) root frames slots stacks t
-  opener_kernel root frames slots stacks t k =
-      kernel_kept v (opener v) root frames slots stacks t (hold_of-with_hold_other 0 (record (hold_of v 0) { sole = false }) v) (opener_code k.maps.holds.code) k.credits k
+  pub opener_kernel : (scheme : Scheme) (root frames slots : ℕ) (stacks : List ℕ) (t : Tables) → IsKernelTable scheme v root frames slots stacks t → IsKernelTable scheme (opener v) root frames slots stacks t
+  opener_kernel scheme root frames slots stacks t k =
+      kernel_kept scheme v (opener v) root frames slots stacks t (hold_of-with_hold_other 0 (record (hold_of v 0) { sole = false }) v) (opener_code k.maps.holds.code) k.credits k
 
 -- a machine that opened a seat
 module _ (m n : Machine) (opens : n.kernel ≡ record m.kernel { seat = opener m.kernel.seat }) where
   pub open_code : references m.kernel.seat 0 ≡ 1 → references n.kernel.seat 0 ≡ 1
   open_code one = rw opens (opener_code m.kernel.seat one)
 
-  pub open_kernel : (frames slots : ℕ) (stacks : List ℕ) (t : Tables) → IsKernelTable m.kernel.seat m.kernel.root.0 frames slots stacks t
-      → IsKernelTable n.kernel.seat n.kernel.root.0 frames slots stacks t
-  open_kernel frames slots stacks t k = rw opens (opener_kernel m.kernel.seat m.kernel.root.0 frames slots stacks t k)
+  pub open_kernel : (frames slots : ℕ) (stacks : List ℕ) (t : Tables) → IsKernelTable m.kernel.scheme m.kernel.seat m.kernel.root.0 frames slots stacks t
+      → IsKernelTable n.kernel.scheme n.kernel.seat n.kernel.root.0 frames slots stacks t
+  open_kernel frames slots stacks t k = rw opens (opener_kernel m.kernel.seat m.kernel.scheme m.kernel.root.0 frames slots stacks t k)
 
 -- the seat behind the kernel's steps
 pub second_steps : (b c : Bank) (k v w : View) (others : List View) → Keeps BankRule b v c w → BankRule b (k ∷ v ∷ others) → BankRule c (k ∷ w ∷ others)

@@ -19,7 +19,7 @@ use Rattle.process_model.specs.World.{free, free_slot, Outcome, refuses, World}
 use Rattle.process_model.specs.declared.image.Image as model
 use Rattle.process_model.specs.declared.step.Refusal.TheVariants.{NoFrame}
 use Rattle.process_model.specs.declared.step.Reply.TheVariants.{Refused, Started}
-use Rattle.sv39_entry.specs.Address.{trapframe_page}
+use Rattle.process_model.specs.Process.{Process}
 use Rattle.table_walk.specs.Tables.{Tables, leaf_node}
 use Rattle.hart_machine.specs.Tenants.{IsTenant, body_in, view_of}
 use Rattle.hart_machine.specs.Slots.{most_slots}
@@ -29,33 +29,35 @@ use Rattle.hart_machine.specs.declared.machine.Machine.{Machine}
 use Rattle.hart_machine.specs.declared.tenant.Tenant.{Tenant}
 use Rattle.hart_machine.proofs.HeldFrames.{free_is}
 use Rattle.hart_machine.proofs.StartSlots.{free_is_empty, free_place}
-use Rattle.hart_machine.proofs.StartedCopies.{started_copies, started_counted}
+use Rattle.hart_machine.proofs.StartedCopies.{started_copies, started_counted, new_or_old}
 use Rattle.hart_machine.proofs.StartedTables.{tables_here, tables_there, tables_with}
 use Rattle.hart_machine.proofs.StartedSeats.{held_inside, seat_comes}
+use Rattle.hart_machine.proofs.StartedPages.{loaded_scheme}
+use Rattle.sv39_entry.specs.Schemes.{trapframe_page}
 
 module _ (m n : Machine) (w : World) (is : IsWorld m w) (s : ℕ) (place : slice_get m.slots.items s ≡ Some None) (at : slice_get w.slots s ≡ Some None)
-    (ls : List LoadSegment) (y : Tenant) (t : Tables) (sized : n.kernel.seat.size ≡ m.kernel.seat.size) (slots : n.slots.items ≡ slice_set m.slots.items s (Some y)) (harts : n.harts ≡ m.harts) (filed : n.files ≡ m.files) (ruled : n.policy ≡ m.policy)
-    (agrees : IsSpace (body_in y) t (process_of w.counter ls)) (alone : OwnsAlone (view_of y) t) (pending : y.pending ≡ None)
+    (ls : List LoadSegment) (y : Tenant) (t : Tables) (sized : n.kernel.seat.size ≡ m.kernel.seat.size) (slots : n.slots.items ≡ slice_set m.slots.items s (Some y)) (harts : n.harts ≡ m.harts) (filed : n.files ≡ m.files) (ruled : n.policy ≡ m.policy) (schemed : n.kernel.scheme ≡ m.kernel.scheme)
+    (agrees : IsSpace (body_in y) t (process_of w.scheme w.counter ls)) (alone : OwnsAlone (view_of y) t) (pending : y.pending ≡ None)
     (rule : BankRule n.frames (n.kernel.seat ∷ view_of y ∷ seats_of m.slots.items))
-    (table : IsKernelTable n.kernel.seat n.kernel.root.0 w.frames (length w.slots) is.stacks is.kernel) where
+    (table : IsKernelTable n.kernel.scheme n.kernel.seat n.kernel.root.0 w.frames (length w.slots) is.stacks is.kernel) where
   abbrev tables : ℕ → Tables
   tables = tables_with is.tables s t
 
-  tenant : IsTenant y t (process_of w.counter ls)
+  tenant : IsTenant y t (process_of w.scheme w.counter ls)
   unfolding process_of
   tenant = record {
     agrees = agrees;
     framed =
         let leaf = agrees.stands.shows.on_trapframe in
-        held_inside n.frames n.kernel.seat (view_of y) m.slots.items rule y.space.trapframe.0 (agrees.stands.owns.named y.space.trapframe.0 (leaf_node trapframe_page) (inr (leaf.0, leaf.1, leaf.2.names)));
+        held_inside n.frames n.kernel.seat (view_of y) m.slots.items rule y.space.trapframe.0 (agrees.stands.owns.named y.space.trapframe.0 (leaf_node (trapframe_page w.scheme)) (inr (leaf.0, leaf.1, leaf.2.names)));
     pending = rw pending refl;
     wide = tt;
   }
 
-  places_at : (k : ℕ) → IsPlace (slice_get (slice_set m.slots.items s (Some y)) k) (slice_get (slice_set w.slots s (Some (process_of w.counter ls))) k) (tables k)
+  places_at : (k : ℕ) → IsPlace (slice_get (slice_set m.slots.items s (Some y)) k) (slice_get (slice_set w.slots s (Some (process_of w.scheme w.counter ls))) k) (tables k)
   places_at k = elim (cases_eq k s) [
-    | inl same ↦ rw (tables_here is.tables s t k same, same, place_set_same m.slots.items s (Some y) (slice_get_within m.slots.items s None place), place_set_same w.slots s (Some (process_of w.counter ls)) (slice_get_within w.slots s None at)) tenant
-    | inr apart ↦ rw (tables_there is.tables s t k apart, place_set_other m.slots.items s k (Some y) apart, place_set_other w.slots s k (Some (process_of w.counter ls)) apart) (is.places k)
+    | inl same ↦ rw (tables_here is.tables s t k same, same, place_set_same m.slots.items s (Some y) (slice_get_within m.slots.items s None place), place_set_same w.slots s (Some (process_of w.scheme w.counter ls)) (slice_get_within w.slots s None at)) tenant
+    | inr apart ↦ rw (tables_there is.tables s t k apart, place_set_other m.slots.items s k (Some y) apart, place_set_other w.slots s k (Some (process_of w.scheme w.counter ls)) apart) (is.places k)
   ]
 
   on_old : (h : ℕ) (x : Hart) → slice_get n.harts.items h ≡ Some x → slice_get m.harts.items h ≡ Some x
@@ -74,11 +76,16 @@ module _ (m n : Machine) (w : World) (is : IsWorld m w) (s : ℕ) (place : slice
     kernel = is.kernel;
     stacks = is.stacks;
     policy = ruled ∙ is.policy;
-    few = subst (λ k. k ≤ most_slots) (sym (length-set w.slots s (Some (process_of w.counter ls)))) is.few;
+    scheme = schemed ∙ is.scheme;
+    schemes = λ k r there. elim (new_or_old m w is s at ls k r there) [
+      | inl new ↦ ap (λ (q : Process). q.scheme) (sym new.1) ∙ loaded_scheme w.scheme w.counter ls
+      | inr old ↦ is.schemes k r old.1
+    ];
+    few = subst (λ k. k ≤ most_slots) (sym (length-set w.slots s (Some (process_of w.scheme w.counter ls)))) is.few;
     frames = sized ∙ is.frames;
     rule = subst (λ (xs : List (Option Tenant)). BankRule n.frames (n.kernel.seat ∷ seats_of xs)) (sym slots) (seat_comes n.frames n.kernel.seat m.slots.items s y place rule);
-    of_kernel = subst (λ k. IsKernelTable n.kernel.seat n.kernel.root.0 w.frames k is.stacks is.kernel) (sym (length-set w.slots s (Some (process_of w.counter ls)))) table;
-    places = λ k. subst (λ (xs : List (Option Tenant)). IsPlace (slice_get xs k) (slice_get (slice_set w.slots s (Some (process_of w.counter ls))) k) (tables k)) (sym slots) (places_at k);
+    of_kernel = subst (λ k. IsKernelTable n.kernel.scheme n.kernel.seat n.kernel.root.0 w.frames k is.stacks is.kernel) (sym (length-set w.slots s (Some (process_of w.scheme w.counter ls)))) table;
+    places = λ k. subst (λ (xs : List (Option Tenant)). IsPlace (slice_get xs k) (slice_get (slice_set w.slots s (Some (process_of w.scheme w.counter ls))) k) (tables k)) (sym slots) (places_at k);
     copies = started_copies m w is s at ls n.frames n.kernel.seat (view_of y) rule y.space.root.0 y.space.trapframe.0 t agrees.stands alone;
     counted = started_counted m w is s at ls;
     files = filed ∙ is.files;
@@ -90,14 +97,16 @@ module _ (m n : Machine) (w : World) (is : IsWorld m w) (s : ℕ) (place : slice
   }
 
 -- the machine as it was, with another seat of the kernel
-module _ (m n : Machine) (w : World) (is : IsWorld m w) (sized : n.kernel.seat.size ≡ m.kernel.seat.size) (slots : n.slots ≡ m.slots) (harts : n.harts ≡ m.harts) (filed : n.files ≡ m.files) (ruled : n.policy ≡ m.policy) (rule : BankRule n.frames (n.kernel.seat ∷ seats_of m.slots.items))
-    (table : IsKernelTable n.kernel.seat n.kernel.root.0 w.frames (length w.slots) is.stacks is.kernel) where
+module _ (m n : Machine) (w : World) (is : IsWorld m w) (sized : n.kernel.seat.size ≡ m.kernel.seat.size) (slots : n.slots ≡ m.slots) (harts : n.harts ≡ m.harts) (filed : n.files ≡ m.files) (ruled : n.policy ≡ m.policy) (schemed : n.kernel.scheme ≡ m.kernel.scheme) (rule : BankRule n.frames (n.kernel.seat ∷ seats_of m.slots.items))
+    (table : IsKernelTable n.kernel.scheme n.kernel.seat n.kernel.root.0 w.frames (length w.slots) is.stacks is.kernel) where
   pub stays : IsWorld n w
   stays = record {
     tables = is.tables;
     kernel = is.kernel;
     stacks = is.stacks;
     policy = ruled ∙ is.policy;
+    scheme = schemed ∙ is.scheme;
+    schemes = is.schemes;
     few = is.few;
     frames = sized ∙ is.frames;
     rule = rw slots rule;
@@ -114,37 +123,37 @@ module _ (m n : Machine) (w : World) (is : IsWorld m w) (sized : n.kernel.seat.s
   }
 
 -- what the step of the model makes
-module _ (w : World) (s : ℕ) (image : model.Image) (ls : List LoadSegment) (to : free_slot w ≡ Some s) (loaded : image_loads image ≡ Ok ls) where
-  started_wet : is_dry w (start_need ls) ≡ false → started w (image_loads image) (free_slot w) ≡ started_unless w s ls false
+module _ (w : World) (s : ℕ) (image : model.Image) (ls : List LoadSegment) (to : free_slot w ≡ Some s) (loaded : image_loads w.scheme image ≡ Ok ls) where
+  started_wet : is_dry w (start_need w.scheme ls) ≡ false → started w (image_loads w.scheme image) (free_slot w) ≡ started_unless w s ls false
   started_wet wet = rw (to, loaded, wet) refl
 
-  started_dry : is_dry w (start_need ls) ≡ true → started w (image_loads image) (free_slot w) ≡ started_unless w s ls true
+  started_dry : is_dry w (start_need w.scheme ls) ≡ true → started w (image_loads w.scheme image) (free_slot w) ≡ started_unless w s ls true
   started_dry dry = rw (to, loaded, dry) refl
 
-  module _ (m n : Machine) (is : IsWorld m w) (sized : n.kernel.seat.size ≡ m.kernel.seat.size) (harts : n.harts ≡ m.harts) (filed : n.files ≡ m.files) (ruled : n.policy ≡ m.policy)
-      (table : IsKernelTable n.kernel.seat n.kernel.root.0 w.frames (length w.slots) is.stacks is.kernel) where
+  module _ (m n : Machine) (is : IsWorld m w) (sized : n.kernel.seat.size ≡ m.kernel.seat.size) (harts : n.harts ≡ m.harts) (filed : n.files ≡ m.files) (ruled : n.policy ≡ m.policy) (schemed : n.kernel.scheme ≡ m.kernel.scheme)
+      (table : IsKernelTable n.kernel.scheme n.kernel.seat n.kernel.root.0 w.frames (length w.slots) is.stacks is.kernel) where
     -- enough frames are free
     pub makes_started : (y : Tenant) (t : Tables) → n.slots.items ≡ slice_set m.slots.items s (Some y)
-        → IsSpace (body_in y) t (process_of w.counter ls) → OwnsAlone (view_of y) t → y.pending ≡ None
-        → BankRule n.frames (n.kernel.seat ∷ view_of y ∷ seats_of m.slots.items) → start_need ls ≤ m.frames.free
-        → Makes n (Started s) (started w (image_loads image) (free_slot w))
+        → IsSpace (body_in y) t (process_of w.scheme w.counter ls) → OwnsAlone (view_of y) t → y.pending ≡ None
+        → BankRule n.frames (n.kernel.seat ∷ view_of y ∷ seats_of m.slots.items) → start_need w.scheme ls ≤ m.frames.free
+        → Makes n (Started s) (started w (image_loads w.scheme image) (free_slot w))
     makes_started y t slots agrees alone pending rule enough =
         let was = free_is m w is in
-        let wet : is_dry w (start_need ls) ≡ false = le-ltb (free w) (start_need ls) (omega (arith, enough, was)) in
+        let wet : is_dry w (start_need w.scheme ls) ≡ false = le-ltb (free w) (start_need w.scheme ls) (omega (arith, enough, was)) in
         subst (λ (o : Outcome). Makes n (Started s) o) (sym (started_wet wet))
-        (refl, starts m n w is s (free_place m w is s to) (free_is_empty w s to) ls y t sized slots harts filed ruled agrees alone pending rule table)
+        (refl, starts m n w is s (free_place m w is s to) (free_is_empty w s to) ls y t sized slots harts filed ruled schemed agrees alone pending rule table)
 
     -- too few are
-    pub makes_refused : n.slots ≡ m.slots → BankRule n.frames (n.kernel.seat ∷ seats_of m.slots.items) → (start_need ls ≤ m.frames.free → ⊥)
-        → Makes n (Refused NoFrame) (started w (image_loads image) (free_slot w))
+    pub makes_refused : n.slots ≡ m.slots → BankRule n.frames (n.kernel.seat ∷ seats_of m.slots.items) → (start_need w.scheme ls ≤ m.frames.free → ⊥)
+        → Makes n (Refused NoFrame) (started w (image_loads w.scheme image) (free_slot w))
     makes_refused slots rule few =
         let was = free_is m w is in
-        let dry : is_dry w (start_need ls) ≡ true = lt-ltb (free w) (start_need ls) (lt_of_not-le (λ le. few (omega (arith, was, le)))) in
-        subst (λ (o : Outcome). Makes n (Refused NoFrame) o) (sym (started_dry dry)) (refl, stays m n w is sized slots harts filed ruled rule table)
+        let dry : is_dry w (start_need w.scheme ls) ≡ true = lt-ltb (free w) (start_need w.scheme ls) (lt_of_not-le (λ le. few (omega (arith, was, le)))) in
+        subst (λ (o : Outcome). Makes n (Refused NoFrame) o) (sym (started_dry dry)) (refl, stays m n w is sized slots harts filed ruled schemed rule table)
 
   module _ (m : Machine) (is : IsWorld m w) where
-    pub start_sets : start_need ls ≤ m.frames.free → ((started w (image_loads image) (free_slot w)).world).slots ≡ slice_set w.slots s (Some (process_of w.counter ls))
-    start_sets enough = let was = free_is m w is in ap (λ (o : Outcome). (o.world).slots) (started_wet (le-ltb (free w) (start_need ls) (omega (arith, enough, was))))
+    pub start_sets : start_need w.scheme ls ≤ m.frames.free → ((started w (image_loads w.scheme image) (free_slot w)).world).slots ≡ slice_set w.slots s (Some (process_of w.scheme w.counter ls))
+    start_sets enough = let was = free_is m w is in ap (λ (o : Outcome). (o.world).slots) (started_wet (le-ltb (free w) (start_need w.scheme ls) (omega (arith, enough, was))))
 
-    pub start_dry : (start_need ls ≤ m.frames.free → ⊥) → started w (image_loads image) (free_slot w) ≡ refuses w NoFrame
-    start_dry few = let was = free_is m w is in started_dry (lt-ltb (free w) (start_need ls) (lt_of_not-le (λ le. few (omega (arith, was, le)))))
+    pub start_dry : (start_need w.scheme ls ≤ m.frames.free → ⊥) → started w (image_loads w.scheme image) (free_slot w) ≡ refuses w NoFrame
+    start_dry few = let was = free_is m w is in started_dry (lt-ltb (free w) (start_need w.scheme ls) (lt_of_not-le (λ le. few (omega (arith, was, le)))))

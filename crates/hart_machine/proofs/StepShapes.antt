@@ -261,7 +261,7 @@ module _ (w : World) where
 
   -- each hart after a step was there before it, and went on in one of these ways
   pub harts_go : (s : Step) → HartsGo s (plain_step w s)
-  harts_go (step.Start image) = same_harts (step.Start image) (started w (image_loads image) (free_slot w)).reply _ (start_harts (image_loads image) (free_slot w))
+  harts_go (step.Start image) = same_harts (step.Start image) (started w (image_loads w.scheme image) (free_slot w)).reply _ (start_harts (image_loads w.scheme image) (free_slot w))
   harts_go (step.Switch h slot) = on_hart_is w h true _ always _ (HartsGo (step.Switch h slot)) (refused_harts (step.Switch h slot))
       (λ hart there can. set_hart (step.Switch h slot) Done h hart (record hart { phase = phase_for slot; slot = slot }) there
       (inl (switches (and_parts (may_switch hart.phase) (can_run w slot) can).0 (phase_for_switches slot), refl)))
@@ -286,7 +286,7 @@ module _ (w : World) where
       (λ hart there can. with_its_process_is w hart _ (HartsGo (step.Serve h)) (refused_harts (step.Serve h))
       (λ t p on lives. serve_harts (step.Serve h) h hart t p p.pending there (kernel_phase hart.phase (and_parts (is_kernel hart.phase) (awaits_service w hart) can).0)))
   harts_go (step.Fork h) = call_harts (step.Fork h) h true _ (λ hart t p. fork_harts t p (free_slot w))
-  harts_go (step.Exec h image) = call_harts (step.Exec h image) h true _ (λ hart t p. exec_harts t p (image_loads image))
+  harts_go (step.Exec h image) = call_harts (step.Exec h image) h true _ (λ hart t p. exec_harts t p (image_loads w.scheme image))
   harts_go (step.Sbrk h delta) = call_harts (step.Sbrk h delta) h true _ (λ hart t p. resized_harts t p _)
   harts_go (step.Mmap h len protection flags n) = call_harts (step.Mmap h len protection flags n) h true _ (λ hart t p. mapped_harts t _)
   harts_go (step.Munmap h address len) = call_harts (step.Munmap h address len) h true _ (λ hart t p. unmapped_harts t _)
@@ -521,12 +521,12 @@ module _ (w : World) where
   changed_in_kernel (step.Store h address width value via) = quiet_in (step.Store h address width value via) refl
   changed_in_kernel (step.TrampolineFetch h offset via) = quiet_in (step.TrampolineFetch h offset via) refl
   changed_in_kernel (step.Mmap h len protection flags n) = quiet_in (step.Mmap h len protection flags n) refl
-  changed_in_kernel (step.Start image) = start_in (image_loads image) (free_slot w) refl
+  changed_in_kernel (step.Start image) = start_in (image_loads w.scheme image) (free_slot w) refl
   changed_in_kernel (step.Serve h) = on_hart_is w h true (can_serve w) always _ StaysIn refused_in
       (λ hart there can. with_its_process_is w hart _ StaysIn refused_in
       (λ t p on lives. serve_in h hart t there (kernel_phase hart.phase (and_parts (is_kernel hart.phase) (awaits_service w hart) can).0) on p p.pending))
   changed_in_kernel (step.Fork h) = kernel_call_is w h true _ StaysIn refused_in (λ hart t p there kernel on lives. fork_in h hart t there kernel on p (free_slot w) refl)
-  changed_in_kernel (step.Exec h image) = kernel_call_is w h true _ StaysIn refused_in (λ hart t p there kernel on lives. exec_in h hart t there kernel on p (image_loads image))
+  changed_in_kernel (step.Exec h image) = kernel_call_is w h true _ StaysIn refused_in (λ hart t p there kernel on lives. exec_in h hart t there kernel on p (image_loads w.scheme image))
   changed_in_kernel (step.Sbrk h delta) = kernel_call_is w h true _ StaysIn refused_in (λ hart t p there kernel on lives. resized_in h hart t there kernel on p _)
   changed_in_kernel (step.Munmap h address len) = kernel_call_is w h true _ StaysIn refused_in (λ hart t p there kernel on lives. unmapped_in h hart t there kernel on _)
   changed_in_kernel (step.CopyIn h address n) = kernel_call_is w h _ _ StaysIn refused_in (λ hart t p there kernel on lives. sets h hart t there kernel on _)

@@ -13,10 +13,11 @@ use Rattle.process_model.specs.PageMap.{get}
 use Rattle.process_model.specs.Process.{grants_write, Page, Process, regions}
 use Rattle.process_model.specs.Regions.{copy_rule, first_rule, is_aligned}
 use Rattle.process_model.specs.Residence.{is_resident}
-use Rattle.sv39_entry.specs.Address.{page_of, trapframe_page}
+use Rattle.sv39_entry.specs.Address.{page_of}
 use Rattle.sv39_entry.specs.declared.access.Access.{Access}
 use Rattle.sv39_entry.specs.declared.rule.Rule.{Rule}
 use Rattle.sv39_entry.specs.declared.rule.Rule.TheVariants.{Misaligned}
+use Rattle.sv39_entry.specs.Schemes.{trapframe_page}
 use Rattle.table_walk.specs.Tables.{Tables}
 use Rattle.table_walk.specs.declared.walk.Walk.{Walk}
 use Rattle.table_walk.specs.declared.walk.Walk.TheVariants as walk
@@ -32,9 +33,9 @@ same_tenant x z seat root trapframe layout = λ i. record { space = same_space z
 -- ---- settled pages
 
 abbrev pub AreLow : Process → Type 0
-AreLow p = (n : ℕ) (s : Page) → get p.settled n ≡ Some s → n < trapframe_page
+AreLow p = (n : ℕ) (s : Page) → get p.settled n ≡ Some s → n < (trapframe_page p.scheme)
 
-module _ (t : Tables) (p : Process) (first end last : ℕ) (is : last ≡ min end trapframe_page) where
+module _ (t : Tables) (p : Process) (first end last : ℕ) (is : last ≡ min end (trapframe_page p.scheme)) where
   pub some_settled : (o : Option SettledPage) → IsNextSettled t p first last o → is_some o ≡ true → (n : ℕ) × (s : Page) × (get p.settled n ≡ Some s) × (first ≤ n) × (n < end)
   some_settled None next some = absurd cc
   some_settled (Some x) next some = let before = next.1 in (x.page, (next.3).page, (next.3).settled, next.0, omega (arith, before, is))
@@ -88,7 +89,7 @@ module _ (t : Tables) (p : Process) (first last : ℕ) where
     ]
   ]
 
-  pub all_marked : AreLow p → last ≡ trapframe_page → IsNextSettled t p first last None → AreMarkedBelow p first
+  pub all_marked : AreLow p → last ≡ (trapframe_page p.scheme) → IsNextSettled t p first last None → AreMarkedBelow p first
       → (n : ℕ) (s : Page) → get p.settled n ≡ Some s → grants_write p n ≡ true → s.fork_mark ≡ true
   all_marked low is none before n s there grants = elim (cases_lt n first) [
     | inl earlier ↦ before n s there earlier grants
@@ -155,8 +156,8 @@ same_test false true to from = from refl
 same_test false false to from = refl
 
 -- where no rule denies an access, it is granted where its page is resident
-pub no_rule_tells : (p : Process) (access : Access) (address width : ℕ) → first_rule (regions p) access address width ≡ None
+pub no_rule_tells : (p : Process) (access : Access) (address width : ℕ) → first_rule p.scheme (regions p) access address width ≡ None
     → (b : Bool) → (b ≡ true) ↔ IsGranted p access address → b ≡ is_resident p access (page_of address)
 no_rule_tells p access address width free b granted =
-    let none = copy_free (is_aligned address width) (copy_rule (regions p) access address) free in
+    let none = copy_free (is_aligned address width) (copy_rule p.scheme (regions p) access address) free in
     same_test b (is_resident p access (page_of address)) (λ is. (granted.0 is).1) (λ resident. granted.1 (none, resident))

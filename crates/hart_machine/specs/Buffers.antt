@@ -14,6 +14,7 @@ use Rattle.hart_machine.specs.Tables.{tables_of, present_table}
 use Rattle.hart_machine.specs.Walked.{entry_for}
 use Rattle.hart_machine.specs.declared.hart.Hart.{Hart}
 use Rattle.hart_machine.specs.declared.machine.Machine.{Machine}
+use Rattle.sv39_entry.specs.declared.scheme.Scheme.{Scheme}
 
 -- the entries of a hart's, in the order of filling; none where there is no such hart
 abbrev pub buffer_of : Machine → ℕ → Option (List TlbEntry)
@@ -30,7 +31,7 @@ SameBuffers old new = (h : ℕ) → buffer_of new h ≡ buffer_of old h
 -- the step is a fill on the hart, and the entry says what the table that satp has says of the page
 abbrev pub WasFilled : Machine → (ℕ → Tables) → Tables → Step → ℕ → TlbEntry → Type 0
 WasFilled old tables kernel s h e =
-    (address : ℕ) × (x : Hart) × (s ≡ step.Fill h address) × (slice_get old.harts.items h ≡ Some x) × (e ≡ entry_for (tables_of tables kernel (present_table x)) (present_asid old.policy (hart_of x)) address)
+    (address : ℕ) × (x : Hart) × (s ≡ step.Fill h address) × (slice_get old.harts.items h ≡ Some x) × (e ≡ entry_for old.kernel.scheme (tables_of tables kernel (present_table x)) (present_asid old.policy (hart_of x)) address)
 
 -- a hart may keep what a walk found at its fill, and nothing else (RISC-V Privileged Architecture 20211203, 4.2.1): each entry
 -- was there before, or the step filled it
@@ -47,14 +48,14 @@ is_about s k = false
 -- what a step makes of its hart's buffer (RISC-V Privileged Architecture 20211203, 4.2.1): a fill puts what the table that satp has
 -- says of the page last, with the identifier that satp has, and a full buffer loses its first entry; an eviction takes the entry with that
 -- number; an instruction of the trampoline that is a fence takes what it covers
-abbrev pub buffer_after : Policy → (ℕ → Tables) → Tables → Step → Hart → List TlbEntry
-buffer_after policy tables kernel (step.Fill h address) x =
-    newest_entries buffer_size (x.buffer ++ entry_for (tables_of tables kernel (present_table x)) (present_asid policy (hart_of x)) address ∷ [])
-buffer_after policy tables kernel (step.Evict h n) x = remove x.buffer n
-buffer_after policy tables kernel (step.Next h) x = (fenced policy x).buffer
-buffer_after policy tables kernel s x = x.buffer
+abbrev pub buffer_after : Scheme → Policy → (ℕ → Tables) → Tables → Step → Hart → List TlbEntry
+buffer_after z policy tables kernel (step.Fill h address) x =
+    newest_entries buffer_size (x.buffer ++ entry_for z (tables_of tables kernel (present_table x)) (present_asid policy (hart_of x)) address ∷ [])
+buffer_after z policy tables kernel (step.Evict h n) x = remove x.buffer n
+buffer_after z policy tables kernel (step.Next h) x = (fenced policy x).buffer
+buffer_after z policy tables kernel s x = x.buffer
 
 -- the buffer of the hart that a step is about is what the step makes of it, where it was not refused; each other is what it was
 abbrev pub BuffersAre : Machine → Machine → (ℕ → Tables) → Tables → Step → Reply → Type 0
 BuffersAre old new tables kernel s reply =
-    (h : ℕ) → buffer_of new h ≡ option_map (λ x. if not (is_refused reply) && is_about s h then buffer_after old.policy tables kernel s x else x.buffer) (slice_get old.harts.items h)
+    (h : ℕ) → buffer_of new h ≡ option_map (λ x. if not (is_refused reply) && is_about s h then buffer_after old.kernel.scheme old.policy tables kernel s x else x.buffer) (slice_get old.harts.items h)

@@ -13,6 +13,6 @@ use Rattle.hart_machine.specs.declared.tenant.Tenant.{Tenant}
 -- the process is that of the image, on frames that no other has, and what was stored to the mappings of the one before is in the files
 pub record HasExecuted (y : Tenant) (p : Process) (ls : List LoadSegment) (before after : List File) : Type 0 where
   pub tables : Tables
-  pub tenant : (fresh : ℕ) → IsTenant y tables (process_of fresh ls)
+  pub tenant : (fresh : ℕ) → IsTenant y tables (process_of p.scheme fresh ls)
   pub alone : OwnsAlone (view_of y) tables
   pub files : after ≡ all_written_back before p

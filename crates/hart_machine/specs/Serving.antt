@@ -24,7 +24,7 @@ use Rattle.hart_machine.specs.declared.tenant.Tenant.{Tenant}
 
 -- the rule that denies an access that waits
 abbrev pub rule_of : Process → Pending → Option Rule
-rule_of p a = first_rule (regions p) a.access a.address a.width
+rule_of p a = first_rule p.scheme (regions p) a.access a.address a.width
 
 -- the access was served
 abbrev pub was_served : Pending → Option Pending

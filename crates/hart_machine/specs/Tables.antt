@@ -6,8 +6,9 @@ use Rattle.sv39_entry.specs.declared.access.Mode.{Mode}
 use Rattle.table_walk.specs.Tables.{Tables}
 use Rattle.table_walk.specs.declared.walk.Walk.{Walk}
 use Rattle.process_model.specs.declared.phase.Phase.TheVariants.{User}
-use Rattle.sv39_entry.specs.Address.{page_of, trampoline_page}
-use Rattle.sv39_entry.specs.declared.scheme.Scheme.TheVariants.{Sv39}
+use Rattle.sv39_entry.specs.Address.{page_of}
+use Rattle.sv39_entry.specs.Schemes.{trampoline_page}
+use Rattle.sv39_entry.specs.declared.scheme.Scheme.{Scheme}
 use Rattle.table_walk.specs.Leaves.{answer, Leaf, walk_answer}
 use Rattle.hart_machine.specs.Serves.{IsCode, may_have_kernel, may_have_own}
 use Rattle.hart_machine.specs.declared.hart.Hart.{Hart}
@@ -34,16 +35,16 @@ tables_of tables kernel OfKernel = kernel
 tables_of tables kernel (OfProcess s) = tables s
 
 -- an access is translated to the kernel's code in TRAMPOLINE's page
-abbrev pub IsCodeWalk : ℕ → Access → Mode → Walk → Type 0
-IsCodeWalk address access mode z = (page_of address ≡ trampoline_page) × (l : Option Leaf) × IsCode l × (z ≡ answer l address access mode)
+abbrev pub IsCodeWalk : Scheme → ℕ → Access → Mode → Walk → Type 0
+IsCodeWalk z address access mode walk = (page_of address ≡ trampoline_page z) × (l : Option Leaf) × IsCode l × (walk ≡ answer l address access mode)
 
 -- an access is translated by a table of which the hart's buffer may have entries; where the user does not run, also to the kernel's code
-abbrev pub IsServed : Hart → (ℕ → Tables) → Tables → ℕ → Access → Mode → Walk → Type 0
-IsServed x tables kernel address access mode z =
-    ((may_have_kernel x.phase ≡ true) × (z ≡ walk_answer Sv39 kernel address access mode))
-    ⊎ (((s : ℕ) × (may_have_own x.phase ≡ true) × (x.slot ≡ Some s) × (z ≡ walk_answer Sv39 (tables s) address access mode))
-    ⊎ ((x.phase ≡ User → ⊥) × IsCodeWalk address access mode z))
+abbrev pub IsServed : Scheme → Hart → (ℕ → Tables) → Tables → ℕ → Access → Mode → Walk → Type 0
+IsServed z x tables kernel address access mode walk =
+    ((may_have_kernel x.phase ≡ true) × (walk ≡ walk_answer z kernel address access mode))
+    ⊎ (((s : ℕ) × (may_have_own x.phase ≡ true) × (x.slot ≡ Some s) × (walk ≡ walk_answer z (tables s) address access mode))
+    ⊎ ((x.phase ≡ User → ⊥) × IsCodeWalk z address access mode walk))
 
 -- what is asked of memory: by the user where it runs, or else in TRAMPOLINE's page
-abbrev pub MayAsk : Hart → ℕ → Type 0
-MayAsk x address = (x.phase ≡ User) ⊎ (page_of address ≡ trampoline_page)
+abbrev pub MayAsk : Scheme → Hart → ℕ → Type 0
+MayAsk z x address = (x.phase ≡ User) ⊎ (page_of address ≡ trampoline_page z)

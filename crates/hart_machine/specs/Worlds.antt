@@ -51,10 +51,13 @@ pub record IsWorld (m : Machine) (w : World) : Type 0 where
   pub kernel : Tables
   pub stacks : List ℕ
   pub policy : m.policy ≡ w.policy
+  pub scheme : m.kernel.scheme ≡ w.scheme
+  -- each process has the scheme of the machine
+  pub schemes : (s : ℕ) (p : Process) → slice_get w.slots s ≡ Some (Some p) → p.scheme ≡ w.scheme
   pub few : length w.slots ≤ most_slots
   pub frames : m.kernel.seat.size ≡ w.frames
   pub rule : BankRule m.frames (m.kernel.seat ∷ seats_of m.slots.items)
-  pub of_kernel : IsKernelTable m.kernel.seat m.kernel.root.0 w.frames (length w.slots) stacks kernel
+  pub of_kernel : IsKernelTable m.kernel.scheme m.kernel.seat m.kernel.root.0 w.frames (length w.slots) stacks kernel
   pub places : (s : ℕ) → IsPlace (slice_get m.slots.items s) (slice_get w.slots s) (tables s)
   pub copies : HaveCopies w.slots tables
   pub counted : AreCounted w.slots w.counter
@@ -78,14 +81,14 @@ HaveSameLeaves t u = (n : ℕ) → get u.leaves n ≡ get t.leaves n
 -- the kernel has its table, and each process of which no page's leaf changes, as the model has it, has the leaves that it had
 pub record KeepsTables (m n : Machine) (before after : List (Option Process)) : Type 0 where
   pub many : length n.slots.items ≡ length m.slots.items
-  pub kernel : (frames slots : ℕ) (stacks : List ℕ) (t : Tables) → IsKernelTable m.kernel.seat m.kernel.root.0 frames slots stacks t → IsKernelTable n.kernel.seat n.kernel.root.0 frames slots stacks t
+  pub kernel : (frames slots : ℕ) (stacks : List ℕ) (t : Tables) → IsKernelTable m.kernel.scheme m.kernel.seat m.kernel.root.0 frames slots stacks t → IsKernelTable n.kernel.scheme n.kernel.seat n.kernel.root.0 frames slots stacks t
   pub leaves : (s : ℕ) (x y : Tenant) (p q : Process) (t u : Tables) → slice_get m.slots.items s ≡ Some (Some x) → slice_get n.slots.items s ≡ Some (Some y) → slice_get before s ≡ Some (Some p)
       → slice_get after s ≡ Some (Some q) → is_changed (Some p) (Some q) ≡ false → IsTenant x t p → IsTenant y u q → HaveSameLeaves t u
 
 -- each slot but one has what it had, and the kernel has its table
 pub record KeepsOthers (m n : Machine) (s : ℕ) : Type 0 where
   pub many : length n.slots.items ≡ length m.slots.items
-  pub kernel : (frames slots : ℕ) (stacks : List ℕ) (t : Tables) → IsKernelTable m.kernel.seat m.kernel.root.0 frames slots stacks t → IsKernelTable n.kernel.seat n.kernel.root.0 frames slots stacks t
+  pub kernel : (frames slots : ℕ) (stacks : List ℕ) (t : Tables) → IsKernelTable m.kernel.scheme m.kernel.seat m.kernel.root.0 frames slots stacks t → IsKernelTable n.kernel.scheme n.kernel.seat n.kernel.root.0 frames slots stacks t
   pub others : (r : ℕ) → (r ≡ s → ⊥) → slice_get n.slots.items r ≡ slice_get m.slots.items r
 
 -- each process is below the tables that it was below, and the kernel has its table

@@ -17,7 +17,6 @@ ghost use Rattle.process_model.specs.Process.{Process};
 ghost use Rattle.process_model.specs.Service as service;
 ghost use Rattle.process_model.specs.World.{with_process, World};
 ghost use Rattle.sv39_entry.specs.declared.access.Mode.TheVariants.{User};
-ghost use Rattle.sv39_entry.specs.declared.scheme.Scheme.TheVariants.{Sv39};
 ghost use Rattle.table_walk.specs.Tables.{Tables};
 
 use crate::hart::is_user;
@@ -63,10 +62,10 @@ impl Machine {
 
     /// Makes an access of the process of a slot, or tells its fault.
     fn answered(&mut self, slot: usize, walk: Walk, asked: Asked) -> Brief
-        requires ready { (w : World) × (is : IsWorld self.old w) × (x : Tenant) × (slice_get self.old.slots.items slot ≡ Some (Some x)) × (walk ≡ walk_answer Sv39 (is.tables slot) asked.va.0 asked.access User) }
+        requires ready { (w : World) × (is : IsWorld self.old w) × (x : Tenant) × (slice_get self.old.slots.items slot ≡ Some (Some x)) × (walk ≡ walk_answer w.scheme (is.tables slot) asked.va.0 asked.access User) }
         requires width { IsTrue (bytes.is_width asked.width) }
         ensures made { (w : World) (is : IsWorld self.old w) (p : Process) → slice_get w.slots slot ≡ Some (Some p)
-            → walk ≡ walk_answer Sv39 (is.tables slot) asked.va.0 asked.access User
+            → walk ≡ walk_answer w.scheme (is.tables slot) asked.va.0 asked.access User
             → (of_brief result ≡ (service.user_access p (asked_of asked)).reply)
             × IsWorld self.new (with_process w slot (service.user_access p (asked_of asked)).process) }
         ensures harts { self.new.harts ≡ self.old.harts }
@@ -85,11 +84,11 @@ impl Tenant {
     /// Makes an access that was translated, or tells its fault, which is then pending.
     fn access(&mut self, frames: &mut PlainFrames, walk: Walk, asked: Asked) -> Brief
         requires fits { Fits BankRule frames.old (view_of self.old) }
-        requires ready { (t : Tables) × (p : Process) × IsTenant self.old t p × (walk ≡ walk_answer Sv39 t asked.va.0 asked.access User) }
+        requires ready { (t : Tables) × (p : Process) × IsTenant self.old t p × (walk ≡ walk_answer p.scheme t asked.va.0 asked.access User) }
         requires width { IsTrue (bytes.is_width asked.width) }
-        ensures reply { (t : Tables) (p : Process) → IsTenant self.old t p → walk ≡ walk_answer Sv39 t asked.va.0 asked.access User →
+        ensures reply { (t : Tables) (p : Process) → IsTenant self.old t p → walk ≡ walk_answer p.scheme t asked.va.0 asked.access User →
             of_brief result ≡ (service.user_access p (asked_of asked)).reply }
-        ensures after { (t : Tables) (p : Process) → IsTenant self.old t p → walk ≡ walk_answer Sv39 t asked.va.0 asked.access User →
+        ensures after { (t : Tables) (p : Process) → IsTenant self.old t p → walk ≡ walk_answer p.scheme t asked.va.0 asked.access User →
             IsTenant self.new t (service.user_access p (asked_of asked)).process }
         ensures keeps { Keeps BankRule frames.old (view_of self.old) frames.new (view_of self.new) }
     {

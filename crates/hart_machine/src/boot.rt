@@ -52,7 +52,7 @@ impl Machine {
     /// A machine of these sizes, with these files: its slots empty, its harts idle, and the table of the kernel built. All
     /// room that it ever needs is made here. A refusal drops the files.
     pub fn boot(alloc: Global, config: Config, files: Cabinet) -> Result<Machine, BootError>
-        ensures limits { IsErrOf result BootError.BadArgument ↔ (can_boot config.harts config.frames config.slots ≡ false) }
+        ensures limits { IsErrOf result BootError.BadArgument ↔ (can_boot config.scheme config.harts config.frames config.slots ≡ false) }
         ensures booted { IfOk result (λ m. IsIn m (booted config files)) }
     {
         if !config.is_bootable() {
@@ -64,6 +64,7 @@ impl Machine {
         let Ok(kernel) = KernelTable::build(
             &mut frames,
             seat,
+            config.scheme,
             config.frames as u16,
             config.slots as u16,
         ) else {

@@ -66,8 +66,9 @@ impl Machine {
     fn end_seat(&mut self, seat: PlainSeat)
         requires rule { (others : List View) × BankRule self.old.frames (self.old.kernel.seat ∷ seat ∷ others) }
         requires seat { IsBare seat }
-        ensures kernel { (frames slots : ℕ) (stacks : List ℕ) (t : tables.Tables) → IsKernelTable self.old.kernel.seat self.old.kernel.root.0 frames slots stacks t
-            → IsKernelTable self.new.kernel.seat self.new.kernel.root.0 frames slots stacks t }
+        ensures kernel { (frames slots : ℕ) (stacks : List ℕ) (t : tables.Tables) → IsKernelTable self.old.kernel.scheme self.old.kernel.seat self.old.kernel.root.0 frames slots stacks t
+            → IsKernelTable self.new.kernel.scheme self.new.kernel.seat self.new.kernel.root.0 frames slots stacks t }
+        ensures scheme { self.new.kernel.scheme ≡ self.old.kernel.scheme }
         ensures size { self.new.kernel.seat.size ≡ self.old.kernel.seat.size }
         ensures slots { self.new.slots ≡ self.old.slots }
         ensures harts { self.new.harts ≡ self.old.harts }

@@ -51,7 +51,7 @@ impl Machine {
         ensures tables { (w : World) → IsWorld self.old w → KeepsTables self.old self.new w.slots (plain_step w (step.Exec hart image.entry)).world.slots }
     {
         let slot = self.in_kernel(hart, false)?;
-        let image = match Image::judged(image) {
+        let image = match Image::judged(self.kernel.scheme, image) {
             Ok(image) => image,
             Err(part) => return Err(Refusal::BadImage(part)),
         };
@@ -76,9 +76,10 @@ impl Tenant {
     ) -> Result<(), Refusal>
         requires fits { Fits BankRule frames.old (view_of self.old) }
         requires ready { (t : Tables) × (p : Process) × IsTenant self.old t p }
-        ensures executed { IfOk result (λ _. (t : Tables) (p : Process) → IsTenant self.old t p → HasExecuted self.new p image.now files.old files.new) }
-        ensures enough { IfOk result (λ _. exec_need image.now ≤ frames.old.free) }
-        ensures dry { IfErr result (λ e. (e ≡ refusal.NoFrame) × (frames.old.free < exec_need image.now)) }
+        requires scheme { image.now.scheme ≡ self.old.space.layout.scheme }
+        ensures executed { IfOk result (λ _. (t : Tables) (p : Process) → IsTenant self.old t p → HasExecuted self.new p image.now.loads files.old files.new) }
+        ensures enough { IfOk result (λ _. exec_need image.now.scheme image.now.loads ≤ frames.old.free) }
+        ensures dry { IfErr result (λ e. (e ≡ refusal.NoFrame) × (frames.old.free < exec_need image.now.scheme image.now.loads)) }
         ensures whole { IfErr result (λ _. (t : Tables) (p : Process) → IsTenant self.old t p → IsTenant self.new t p) }
         ensures files_stay { IfErr result (λ _. files.new ≡ files.old) }
         ensures trapframe { self.new.space.trapframe ≡ self.old.space.trapframe }

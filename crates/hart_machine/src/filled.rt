@@ -7,7 +7,6 @@ ghost use Rattle.table_walk.specs.Leaves.{LeavesAreLocal, LeavesAreThere};
 ghost use Rattle.hart_tlb.specs.Buffer.{newest_entries};
 ghost use Rattle.process_model.specs.Harts.{buffer_size};
 ghost use Rattle.table_walk.specs.Tables.{HasTables, Tables};
-ghost use Rattle.sv39_entry.specs.declared.scheme.Scheme.TheVariants.{Sv39};
 
 use crate::hart::BUFFER_SIZE;
 use frame_store::{FrameAccess, FrameSeat};
@@ -20,24 +19,20 @@ pub(crate) fn filled<F: FrameAccess>(
     buffer: &mut Buffer<BUFFER_SIZE>,
     store: &mut F,
     seat: &mut F::Seat,
+    scheme: Scheme,
     root: FrameNo,
     asid: u16,
     va: Va,
 )
     requires fits { Fits F.rule store.old seat.old }
-    requires held { (t : Tables) × HasTables Sv39 (F.Seat.view seat.old) root.0 t }
-    ensures entries { (t : Tables) → HasTables Sv39 (F.Seat.view seat.old) root.0 t → LeavesAreThere Sv39 t → LeavesAreLocal Sv39 t →
-        buffer.new ≡ newest_entries buffer_size (buffer.old ++ entry_for t asid va.0 ∷ []) }
+    requires held { (t : Tables) × HasTables scheme (F.Seat.view seat.old) root.0 t }
+    ensures entries { (t : Tables) → HasTables scheme (F.Seat.view seat.old) root.0 t → LeavesAreThere scheme t → LeavesAreLocal scheme t →
+        buffer.new ≡ newest_entries buffer_size (buffer.old ++ entry_for scheme t asid va.0 ∷ []) }
     ensures view { F.Seat.view seat.new ≡ F.Seat.view seat.old }
     ensures same { store.new ≡ store.old }
     ensures keeps { Keeps F.rule store.old seat.old store.new seat.new }
 {
     walks_of_tables();
     let mut words = HeldWords { store, seat };
-    buffer.fill(
-        &mut words,
-        Scheme::Sv39,
-        Satp::new(Scheme::Sv39, asid, root),
-        va,
-    );
+    buffer.fill(&mut words, scheme, Satp::new(scheme, asid, root), va);
 }

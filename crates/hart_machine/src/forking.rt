@@ -18,7 +18,7 @@ ghost use Rattle.process_model.specs.Steps.{plain_step};
 ghost use Rattle.process_model.specs.World.{World};
 ghost use Rattle.process_model.specs.declared.step.Refusal.TheVariants as refusal;
 ghost use Rattle.process_model.specs.declared.step.Step.TheVariants as step;
-ghost use Rattle.sv39_entry.specs.Address.{trapframe_page};
+ghost use Rattle.sv39_entry.specs.Schemes.{trapframe_page};
 ghost use Rattle.table_walk.specs.Tables.{Tables};
 
 use crate::machine::Machine;
@@ -81,7 +81,7 @@ impl Tenant {
     fn fork(&mut self, frames: &mut PlainFrames, settled: &[SettledPage]) -> Result<Tenant, Refusal>
         requires fits { Fits BankRule frames.old (view_of self.old) }
         requires ready { (t : Tables) × (p : Process) × IsTenant self.old t p }
-        requires settled { (t : Tables) (p : Process) → IsSpace (body_in self.old) t p → AreSettled t p 0 trapframe_page settled.now }
+        requires settled { (t : Tables) (p : Process) → IsSpace (body_in self.old) t p → AreSettled t p 0 (trapframe_page p.scheme) settled.now }
         requires few { (f : ℕ) → IsHeld (view_of self.old) f → slice_index frames.old.counts f < 65535 }
         ensures forked { IfOk result (λ child. (t : Tables) (p : Process) → IsTenant self.old t p → HasForkedTenant self.new child t p) }
         ensures trapframe { self.new.space.trapframe ≡ self.old.space.trapframe }

@@ -8,14 +8,13 @@ ghost use Rattle.hart_machine.specs.Walked.{entry_for};
 ghost use Rattle.table_walk.specs.Leaves.{LeavesAreLocal, LeavesAreThere};
 ghost use Rattle.process_model.specs.Harts as model;
 ghost use Rattle.table_walk.specs.Tables.{HasTables, Tables};
-ghost use Rattle.sv39_entry.specs.declared.scheme.Scheme.TheVariants.{Sv39};
 
 use crate::filled::filled;
 use crate::slots::SlotSet;
 use frame_store::{FrameAccess, FrameSeat};
 use hart_tlb::Buffer;
 use process_model::{Phase, Policy};
-use sv39_entry::{FrameNo, Va};
+use sv39_entry::{FrameNo, Scheme, Va};
 
 /// How many entries the translation buffer of a hart holds.
 pub const BUFFER_SIZE: usize = 32;
@@ -102,13 +101,14 @@ impl Hart {
         &mut self,
         store: &mut F,
         seat: &mut F::Seat,
+        scheme: Scheme,
         root: FrameNo,
         asid: u16,
         va: Va,
     ) -> usize
         requires fits { Fits F.rule store.old seat.old }
-        requires held { (t : Tables) × HasTables Sv39 (F.Seat.view seat.old) root.0 t }
-        ensures kept { (t : Tables) → HasTables Sv39 (F.Seat.view seat.old) root.0 t → LeavesAreThere Sv39 t → LeavesAreLocal Sv39 t → self.new ≡ with_entry self.old (entry_for t asid va.0) }
+        requires held { (t : Tables) × HasTables scheme (F.Seat.view seat.old) root.0 t }
+        ensures kept { (t : Tables) → HasTables scheme (F.Seat.view seat.old) root.0 t → LeavesAreThere scheme t → LeavesAreLocal scheme t → self.new ≡ with_entry self.old (entry_for scheme t asid va.0) }
         ensures number { result ≡ next_number self.old.buffer }
         ensures few { length self.old.buffer ≤ model.buffer_size }
         ensures view { F.Seat.view seat.new ≡ F.Seat.view seat.old }
@@ -116,7 +116,7 @@ impl Hart {
     {
         // a full buffer loses its first entry
         let number = self.buffer.len().min(31);
-        filled(&mut self.buffer, store, seat, root, asid, va);
+        filled(&mut self.buffer, store, seat, scheme, root, asid, va);
         number
     }
 

@@ -36,7 +36,7 @@ impl Machine {
         let Some(slot) = self.free_slot() else {
             return Made::quiet(Brief::Refused(Refusal::NoSlot));
         };
-        let image = match Image::judged(image) {
+        let image = match Image::judged(self.kernel.scheme, image) {
             Ok(image) => image,
             Err(part) => return Made::quiet(Brief::Refused(Refusal::BadImage(part))),
         };
@@ -97,8 +97,9 @@ impl Machine {
         requires rule { (others : List View) × BankRule self.old.frames (self.old.kernel.seat ∷ seat ∷ others) }
         requires seat { HoldsTrampoline seat }
         requires code { references self.old.kernel.seat 0 ≡ 1 }
-        ensures kernel { (frames slots : ℕ) (stacks : List ℕ) (t : tables.Tables) → IsKernelTable self.old.kernel.seat self.old.kernel.root.0 frames slots stacks t
-            → IsKernelTable self.new.kernel.seat self.new.kernel.root.0 frames slots stacks t }
+        ensures kernel { (frames slots : ℕ) (stacks : List ℕ) (t : tables.Tables) → IsKernelTable self.old.kernel.scheme self.old.kernel.seat self.old.kernel.root.0 frames slots stacks t
+            → IsKernelTable self.new.kernel.scheme self.new.kernel.seat self.new.kernel.root.0 frames slots stacks t }
+        ensures scheme { self.new.kernel.scheme ≡ self.old.kernel.scheme }
         ensures size { self.new.kernel.seat.size ≡ self.old.kernel.seat.size }
         ensures slots { self.new.slots ≡ self.old.slots }
         ensures harts { self.new.harts ≡ self.old.harts }

@@ -13,12 +13,11 @@ ghost use Rattle.process_model.specs.Steps.{plain_step};
 ghost use Rattle.process_model.specs.World.{World};
 ghost use Rattle.process_model.specs.declared.step.Reply.TheVariants.{Filled};
 ghost use Rattle.process_model.specs.declared.step.Step.TheVariants as step;
-ghost use Rattle.sv39_entry.specs.declared.scheme.Scheme.TheVariants.{Sv39};
 
 use crate::hart::{Hart, has_user_satp};
 use crate::machine::Machine;
 use hart_tlb::NoEntry;
-use sv39_entry::{Access, Mode, Scheme, Va};
+use sv39_entry::{Access, Mode, Va};
 use table_walk::{Walk, translate_held};
 
 /// A table that satp may have.
@@ -65,8 +64,8 @@ impl Machine {
         requires hart { (x : Hart) × (slice_get self.old.harts.items hart ≡ Some x) }
         requires world { (w : World) × IsWorld self.old w }
         ensures serves { (w : World) (x : Hart) → IsWorld self.old w → slice_get self.old.harts.items hart ≡ Some x → is_ok result ≡ entry_serves self.old.policy (hart_of x) va.0 via }
-        ensures walk { IfOk result (λ z. (w : World) (is : IsIn self.old w) (x : Hart) → slice_get self.old.harts.items hart ≡ Some x → MayAsk x va.0 →
-            IsServed x (is.world).tables (is.world).kernel va.0 access mode z) }
+        ensures walk { IfOk result (λ z. (w : World) (is : IsIn self.old w) (x : Hart) → slice_get self.old.harts.items hart ≡ Some x → MayAsk self.old.kernel.scheme x va.0 →
+            IsServed self.old.kernel.scheme x (is.world).tables (is.world).kernel va.0 access mode z) }
         ensures world { StaysIn self.old self.new }
         ensures places { SamePlaces self.old self.new }
         ensures policy { self.new.policy ≡ self.old.policy }
@@ -92,8 +91,8 @@ impl Machine {
     ) -> Result<Walk, NoEntry>
         requires world { (w : World) × IsWorld self.now w }
         ensures serves { (w : World) (x : Hart) → IsWorld self.now w → slice_get self.now.harts.items hart ≡ Some x → is_ok result ≡ entry_serves self.now.policy (hart_of x) va.0 (Some entry) }
-        ensures walk { IfOk result (λ z. (w : World) (is : IsIn self.now w) (x : Hart) → slice_get self.now.harts.items hart ≡ Some x → MayAsk x va.0 →
-            IsServed x (is.world).tables (is.world).kernel va.0 access mode z) }
+        ensures walk { IfOk result (λ z. (w : World) (is : IsIn self.now w) (x : Hart) → slice_get self.now.harts.items hart ≡ Some x → MayAsk self.now.kernel.scheme x va.0 →
+            IsServed self.now.kernel.scheme x (is.world).tables (is.world).kernel va.0 access mode z) }
     {
         let Some(hart) = self.harts.get(hart) else {
             return Err(NoEntry);
@@ -106,7 +105,7 @@ impl Machine {
     fn walk(&mut self, table: Table, va: Va, access: Access, mode: Mode) -> Walk
         requires there { IsThere self.old table }
         requires world { (w : World) × IsWorld self.old w }
-        ensures walk { (w : World) (is : IsWorld self.old w) → result ≡ walk_answer Sv39 (tables_of is.tables is.kernel table) va.0 access mode }
+        ensures walk { (w : World) (is : IsWorld self.old w) → result ≡ walk_answer w.scheme (tables_of is.tables is.kernel table) va.0 access mode }
         ensures world { StaysIn self.old self.new }
         ensures places { SamePlaces self.old self.new }
         ensures policy { self.new.policy ≡ self.old.policy }
@@ -119,7 +118,7 @@ impl Machine {
                 translate_held(
                     frames,
                     &mut kernel.seat,
-                    Scheme::Sv39,
+                    kernel.scheme,
                     kernel.root,
                     va,
                     access,
@@ -152,7 +151,14 @@ impl Machine {
         match table {
             Table::OfKernel => {
                 let kernel = &mut self.kernel;
-                hart.fill(frames, &mut kernel.seat, kernel.root, asid, va)
+                hart.fill(
+                    frames,
+                    &mut kernel.seat,
+                    kernel.scheme,
+                    kernel.root,
+                    asid,
+                    va,
+                )
             }
             Table::OfProcess(slot) => {
                 let slots = &mut self.slots;
@@ -160,7 +166,8 @@ impl Machine {
                     unreachable!()
                 };
                 let space = &mut tenant.space;
-                hart.fill(frames, &mut space.seat, space.root, asid, va)
+                let scheme = space.layout.scheme();
+                hart.fill(frames, &mut space.seat, scheme, space.root, asid, va)
             }
         }
     }

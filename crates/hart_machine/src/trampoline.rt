@@ -10,7 +10,7 @@ ghost use Rattle.process_model.specs.declared.step.Step.TheVariants as step;
 use crate::hart::in_trampoline;
 use crate::machine::Machine;
 use process_model::{Brief, Refusal};
-use sv39_entry::{Access, FrameNo, Mode, PAGE_SIZE, TRAMPOLINE, Va};
+use sv39_entry::{Access, FrameNo, Mode, PAGE_SIZE, Va};
 use table_walk::Walk;
 
 impl Machine {
@@ -31,7 +31,8 @@ impl Machine {
         if !in_trampoline(phase) {
             return Brief::Refused(Refusal::Impossible(phase));
         }
-        let va = Va(TRAMPOLINE.0 + offset);
+        let trampoline = self.kernel.scheme.trampoline();
+        let va = Va(trampoline.0 + offset);
         let Ok(walk) = self.translated(hart, via, va, Access::Fetch, Mode::Supervisor) else {
             return Brief::Refused(Refusal::NoEntry);
         };

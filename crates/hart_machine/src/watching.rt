@@ -9,14 +9,14 @@ ghost use Rattle.frame_store.specs.Plain.{BankRule};
 ghost use Rattle.hart_machine.specs.Tenants.{body_in, IsTenant, view_of};
 ghost use Rattle.process_model.specs.PageMap.{get};
 ghost use Rattle.process_model.specs.Process.{grants_write, Page, Process};
-ghost use Rattle.sv39_entry.specs.Address.{trapframe_page};
+ghost use Rattle.sv39_entry.specs.Schemes.{trapframe_page};
 ghost use Rattle.table_walk.specs.Tables.{Tables};
 
 use crate::tenant::Tenant;
 use address_space::{SettledPage, walks_grant_what_is_resident};
 use cow_fork::PageList;
 use frame_store::PlainFrames;
-use sv39_entry::{Access, Mode, PAGE_SIZE, TRAPFRAME, Va, Vpn};
+use sv39_entry::{Access, Mode, PAGE_SIZE, Scheme, Va, Vpn};
 use table_walk::Walk;
 
 impl Tenant {
@@ -29,9 +29,9 @@ impl Tenant {
         ensures same { self.new ≡ self.old }
         ensures frames { frames.new ≡ frames.old }
     {
-        self.space
-            .next_settled(frames, first, page_up_to(end))
-            .is_some()
+        let scheme = self.space.layout.scheme();
+        let end = page_up_to(scheme, end);
+        self.space.next_settled(frames, first, end).is_some()
     }
 
     /// Whether an access is granted, alignment aside, and its page is resident for it.
@@ -79,7 +79,7 @@ impl Tenant {
     ) -> &'a [SettledPage]
         requires fits { Fits BankRule frames.old (view_of self.old) }
         requires ready { (t : Tables) × (p : Process) × IsTenant self.old t p }
-        ensures settled { (t : Tables) (p : Process) → IsSpace (body_in self.old) t p → AreSettled t p 0 trapframe_page result.now }
+        ensures settled { (t : Tables) (p : Process) → IsSpace (body_in self.old) t p → AreSettled t p 0 (trapframe_page p.scheme) result.now }
         ensures same { self.new ≡ self.old }
         ensures frames { frames.new ≡ frames.old }
     {
@@ -88,9 +88,9 @@ impl Tenant {
 
     /// Whether a settled page that may be written has no fork mark, so that a fork changes its leaf.
     pub(crate) fn has_unmarked(&self, settled: &[SettledPage]) -> bool
-        ensures some { result ≡ true → (t : Tables) (p : Process) → IsTenant self.now t p → AreSettled t p 0 trapframe_page settled.now →
+        ensures some { result ≡ true → (t : Tables) (p : Process) → IsTenant self.now t p → AreSettled t p 0 (trapframe_page p.scheme) settled.now →
             (n : ℕ) × (s : Page) × (get p.settled n ≡ Some s) × (grants_write p n ≡ true) × (s.fork_mark ≡ false) }
-        ensures none { result ≡ false → (t : Tables) (p : Process) → IsTenant self.now t p → AreSettled t p 0 trapframe_page settled.now →
+        ensures none { result ≡ false → (t : Tables) (p : Process) → IsTenant self.now t p → AreSettled t p 0 (trapframe_page p.scheme) settled.now →
             (n : ℕ) (s : Page) → get p.settled n ≡ Some s → grants_write p n ≡ true → s.fork_mark ≡ true }
     {
         'pages: for page in settled {
@@ -120,10 +120,10 @@ impl Tenant {
 }
 
 /// The page with a number; where that is the trapframe's or above it, the trapframe's. No page from there on is settled.
-fn page_up_to(number: u64) -> Vpn
-    ensures { result ≡ min number trapframe_page }
+fn page_up_to(scheme: Scheme, number: u64) -> Vpn
+    ensures { result ≡ min number (trapframe_page scheme) }
 {
-    let last = TRAPFRAME.page();
+    let last = scheme.trapframe().page();
     if number < last.number() {
         Va(number * PAGE_SIZE).page()
     } else {

@@ -12,6 +12,7 @@ use Rattle.process_model.specs.declared.call.Start.{Start}
 use Rattle.process_model.specs.declared.image.Image.{Image}
 use Rattle.process_model.specs.declared.step.Refusal.{Refusal}
 use Rattle.process_model.specs.declared.step.Refusal.TheVariants as refusal
+use Rattle.sv39_entry.specs.declared.scheme.Scheme.TheVariants.{Sv39}
 use Rattle.vouchers.specs.Entries.{Entry as Life, entry, Has, same_name}
 use Rattle.vouchers.specs.Fits.{HoldsAt, held_of}
 use Rattle.hart_calls.specs.declared.entry.Entry.{Entry}
@@ -89,8 +90,8 @@ pub record IsRostered (starts : List Start) (n : ℕ) (out ended : List Life) : 
 abbrev pub RefusesStart : Image → View → Refusal → Type 0
 RefusesStart image v refusal.NoSlot = Unit {0}
 RefusesStart image v refusal.SharersFull = Unit {0}
-RefusesStart image v (refusal.BadImage part) = image_loads image ≡ Err part
-RefusesStart image v refusal.NoFrame = (ls : List LoadSegment) × (image_loads image ≡ Ok ls) × (0 < v.tallies.zeros) × (v.tallies.short < start_need ls)
+RefusesStart image v (refusal.BadImage part) = image_loads Sv39 image ≡ Err part
+RefusesStart image v refusal.NoFrame = (ls : List LoadSegment) × (image_loads Sv39 image ≡ Ok ls) × (0 < v.tallies.zeros) × (v.tallies.short < start_need Sv39 ls)
 RefusesStart image v r = ⊥
 
 -- what a start begins with is the process of its image

@@ -14,6 +14,7 @@ use Rattle.process_model.specs.Images.{image_loads, LoadSegment}
 use Rattle.process_model.specs.declared.image.Image.{Image}
 use Rattle.process_model.specs.declared.step.Refusal.{Refusal}
 use Rattle.process_model.specs.declared.step.Refusal.TheVariants as refusal
+use Rattle.sv39_entry.specs.declared.scheme.Scheme.TheVariants.{Sv39}
 
 -- A seat that shared frame 0 with others holds what it held, and knows what it knew. Of frame 0 it may not be the sole holder any more.
 pub record Lends (v w : View) : Type 0 where
@@ -27,7 +28,7 @@ pub record Lends (v w : View) : Type 0 where
 -- read.
 abbrev pub IsRefusedStart : Bool → Image → View → View → Refusal → Type 0
 IsRefusedStart slot image v w refusal.NoSlot = (slot ≡ false) × (w.tallies.looks ≡ v.tallies.looks)
-IsRefusedStart slot image v w (refusal.BadImage part) = (slot ≡ true) × (image_loads image ≡ Err part) × (w.tallies.looks ≡ v.tallies.looks)
+IsRefusedStart slot image v w (refusal.BadImage part) = (slot ≡ true) × (image_loads Sv39 image ≡ Err part) × (w.tallies.looks ≡ v.tallies.looks)
 IsRefusedStart slot image v w refusal.SharersFull = (slot ≡ true) × (w.tallies.looks ≡ v.tallies.looks ++ 65535 ∷ [])
 IsRefusedStart slot image v w refusal.NoFrame = (slot ≡ true) × (w.tallies.looks ≡ v.tallies.looks)
 IsRefusedStart slot image v w r = ⊥
@@ -38,4 +39,4 @@ IsBegun table space opening = FitsIn table space.seat × ((t : Tables) × IsSpac
 
 -- the image is accepted, and it is its process
 abbrev pub IsProcessOf : Image → Process → Type 0
-IsProcessOf image p = (loads : List LoadSegment) × (image_loads image ≡ Ok loads) × (p ≡ process_of 0 loads)
+IsProcessOf image p = (loads : List LoadSegment) × (image_loads Sv39 image ≡ Ok loads) × (p ≡ process_of Sv39 0 loads)

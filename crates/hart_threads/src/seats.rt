@@ -19,7 +19,7 @@ use process_model::{Outcome, Refusal};
 use shared_frames::{SharedSeat, SharedSupply};
 use std::alloc::Global;
 use std::sync::Wait;
-use sv39_entry::FrameNo;
+use sv39_entry::{FrameNo, Scheme};
 
 /// A seat that holds nothing.
 fn bare_seat<R: Wait>(store: &mut SharedSupply<'_, R>, kernel: &mut SharedSeat) -> SharedSeat
@@ -72,9 +72,9 @@ fn built<R: Wait>(
     requires fits { FitsIn store.old seat }
     requires seat { HoldsTrampoline (view_of seat) }
     ensures built { IfOk result (λ r. IsBegun store.old r.0 r.1) }
-    ensures process { IfOk result (λ r. r.1.state ≡ process_of 0 image.now) }
+    ensures process { IfOk result (λ r. r.1.state ≡ process_of image.now.scheme 0 image.now.loads) }
     ensures bare { IfErr result (λ seat. IsBare (view_of seat)) }
-    ensures dry { IfErr result (λ seat. (0 < (view_of seat).tallies.zeros) × ((view_of seat).tallies.short < start_need image.now)) }
+    ensures dry { IfErr result (λ seat. (0 < (view_of seat).tallies.zeros) × ((view_of seat).tallies.short < start_need image.now.scheme image.now.loads)) }
     ensures store { store.new ≡ store.old }
 {
     match start(store, seat, image) {
@@ -107,9 +107,9 @@ pub(crate) fn unbegun<'a, R: Wait>(
     }
 }
 
-/// A process of an image, on a seat of its own. Without a slot it is refused, then for an image that is not accepted, then
-/// where frame 0 has as many sharers as can be counted, and then for want of frames; what is left is a seat that holds
-/// nothing.
+/// A process of an image, on a seat of its own; its addresses are translated by Sv39. Without a slot it is refused, then
+/// for an image that is not accepted, then where frame 0 has as many sharers as can be counted, and then for want of frames;
+/// what is left is a seat that holds nothing.
 pub(crate) fn started<R: Wait>(
     store: &mut SharedSupply<'_, R>,
     kernel: &mut SharedSeat,
@@ -131,7 +131,7 @@ pub(crate) fn started<R: Wait>(
     if !has_slot {
         return Err((Refusal::NoSlot, bare_seat(store, kernel)));
     }
-    let image = match Image::judged(image) {
+    let image = match Image::judged(Scheme::Sv39, image) {
         Ok(image) => image,
         Err(part) => return Err((Refusal::BadImage(part), bare_seat(store, kernel))),
     };

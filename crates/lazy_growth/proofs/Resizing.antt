@@ -23,7 +23,7 @@ use Rattle.process_model.specs.Process.{Process}
 use Rattle.process_model.specs.Regions.{is_guard_kind, is_shared_kind}
 use Rattle.process_model.specs.Released.{was_settled}
 use Rattle.process_model.specs.declared.step.Refusal.{Refusal}
-use Rattle.sv39_entry.specs.Address.{trapframe_page}
+use Rattle.sv39_entry.specs.Schemes.{trapframe_page}
 use Rattle.table_walk.specs.Tables.{Tables}
 
 -- no page goes where the run is empty
@@ -82,7 +82,7 @@ grows p delta size is up =
 -- the regions, where the pages above the new end are gone
 
 module _ (p : Process) (delta : ℤ) (size : ℕ) (is : IsNewSize p delta size) (order : HasOrder 0 p) where
-  pub resized_low : pages_for size ≤ trapframe_page
+  pub resized_low : pages_for size ≤ trapframe_page p.scheme
   resized_low = heap_low (sized p size) (sized_order 0 p (pos size) is.granted order)
 
   abbrev pub released : Process
@@ -90,6 +90,7 @@ module _ (p : Process) (delta : ℤ) (size : ℕ) (is : IsNewSize p delta size) 
 
   can_relay : CanRelay released (resized p size)
   can_relay = record {
+    scheme = refl;
     settled = refl;
     tabled = refl;
     order = resized_order 0 p (pos size) is.granted order;

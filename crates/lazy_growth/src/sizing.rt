@@ -1,6 +1,6 @@
 // The heap grows and shrinks.
 
-ghost use Rattle.std.specs.Prelude.{[], pos, ◌≡◌, ◌≤◌, ◌≤ℤ◌, IfErr, IfOk, Some};
+ghost use Rattle.std.specs.Prelude.{[], pos, ◌≡◌, ◌<◌, ◌≤◌, ◌≤ℤ◌, ◌^◌, IfErr, IfOk, Some};
 ghost use Rattle.address_space.specs.Agreement.{body_of, IsSpace};
 ghost use Rattle.address_space.specs.Ending.{Drops};
 ghost use Rattle.address_space.specs.Layouts.{LaysOut};
@@ -12,13 +12,13 @@ ghost use Rattle.process_model.specs.Bytes.{pages_for};
 ghost use Rattle.process_model.specs.Heap as model;
 ghost use Rattle.process_model.specs.Order.{HasOrder};
 ghost use Rattle.process_model.specs.Process.{Process};
-ghost use Rattle.sv39_entry.specs.Address.{trapframe_page};
+ghost use Rattle.sv39_entry.specs.Schemes.{trapframe_page};
 ghost use Rattle.table_walk.specs.Tables.{Tables};
 
 use crate::refused::SizeError;
 use address_space::{Layout, Space};
 use frame_store::{FrameAccess, FrameSeat};
-use sv39_entry::{PAGE_SIZE, TRAPFRAME, Va, Vpn};
+use sv39_entry::{PAGE_SIZE, Va, Vpn};
 
 /// Moves the end of the heap by so many bytes, and answers where it was. No frame is taken: a page gets its frame at the
 /// first access. The pages above the new end go, with their frames, and a page that returns later is zeros again.
@@ -73,17 +73,17 @@ fn size_asked(layout: &Layout, delta: i64) -> Result<u64, SizeError>
 
 /// The page up to which the heap may reach: the lowest mapping, or the trapframe where there is none.
 fn heap_limit(layout: &Layout) -> u64
-    ensures { (p : Process) → LaysOut layout.now p → result ≡ model.heap_limit p.mappings }
+    ensures { (p : Process) → LaysOut layout.now p → result ≡ model.heap_limit p.scheme p.mappings }
 {
     match layout.mappings().first() {
         Some(mapping) => mapping.first,
-        None => TRAPFRAME.page().number(),
+        None => layout.scheme().trapframe().page().number(),
     }
 }
 
 /// The first page above a heap of so many bytes.
 fn end_page(size: u64) -> Vpn
-    requires low { pages_for size ≤ trapframe_page }
+    requires low { pages_for size < 2 ^ 52 }
     ensures { result ≡ pages_for size }
 {
     Va(size.div_ceil(PAGE_SIZE) * PAGE_SIZE).page()
@@ -99,7 +99,7 @@ fn release_pages<S: FrameSeat, F: FrameAccess<Seat = S>>(
 )
     requires fits { Fits F.rule store.old space.old.seat }
     requires ready { (t : Tables) × (p : Process) × IsSpace (body_of S.view space.old) t p }
-    requires low { end ≤ trapframe_page }
+    requires low { end ≤ trapframe_page space.old.layout.scheme }
     ensures released { (t : Tables) (p : Process) →
         IsSpace (body_of S.view space.old) t p →
         (u : Tables) × IsSpace (body_of S.view space.new) u (model.without_pages p first end) × Drops t u first end }

@@ -10,7 +10,7 @@ use Rattle.process_model.specs.Order.{EachRegion, HasOrder, Row}
 use Rattle.process_model.specs.Process.{Process}
 use Rattle.process_model.specs.RegionRows.{row_up}
 use Rattle.process_model.specs.Regions.{end_of, Region}
-use Rattle.sv39_entry.specs.Address.{trapframe_page}
+use Rattle.sv39_entry.specs.Schemes.{trapframe_page}
 
 module _ (first end : ℕ) where
   pub around_passed : (rs : List Run) (i : ℕ) (d : Run) → i < length rs → (nat_le (region_of (get_or rs i d)).first first && nat_le end (end_of (region_of (get_or rs i d)))) ≡ false
@@ -37,10 +37,10 @@ row_ends : (low high : ℕ) (ms : List Region) → Row 1 low ms high → EachReg
 row_ends low high [] row = tt
 row_ends low high (m ∷ ms) row = (row_up 1 (end_of m) high ms row.2, row_ends (end_of m) high ms row.2)
 
-pub around_low : (p : Process) (first end : ℕ) (m : Region) → HasOrder 0 p → mapping_around p.mappings first end ≡ Some m → (end ≤ end_of m) × (end_of m ≤ trapframe_page)
+pub around_low : (p : Process) (first end : ℕ) (m : Region) → HasOrder 0 p → mapping_around p.mappings first end ≡ Some m → (end ≤ end_of m) × (end_of m ≤ trapframe_page p.scheme)
 around_low p first end m order around = (
   (around_holds first end p.mappings m around).1,
-  around_each (λ r. end_of r ≤ trapframe_page) first end p.mappings m (row_ends (pages_for p.size) trapframe_page p.mappings order.above) around,
+  around_each (λ r. end_of r ≤ trapframe_page p.scheme) first end p.mappings m (row_ends (pages_for p.size) (trapframe_page p.scheme) p.mappings order.above) around,
 )
 
 -- what is found in the regions of the code is found in those of the process

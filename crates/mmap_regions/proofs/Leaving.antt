@@ -127,6 +127,7 @@ module _ (p : Process) (address len : ℕ) (r : MappedRun) (is : IsAsked p addre
 
     can_relay : CanRelay (without_pages p r.first r.end) modelled
     can_relay = record {
+      scheme = refl;
       settled = refl;
       tabled = refl;
       order = unmapped_order 0 p r.mapping r.first r.end order is.around ascends;

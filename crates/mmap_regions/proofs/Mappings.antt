@@ -15,7 +15,7 @@ use Rattle.process_model.specs.Process.{Process}
 use Rattle.process_model.specs.Regions.{Region}
 use Rattle.process_model.specs.declared.step.Refusal.{Refusal}
 use Rattle.process_model.specs.declared.step.Refusal.TheVariants.{BadArgument, FileNotWritable, MappingsFull, NoRoom}
-use Rattle.sv39_entry.specs.Address.{trapframe_page}
+use Rattle.sv39_entry.specs.Schemes.{trapframe_page}
 use Rattle.table_walk.specs.Tables.{Tables}
 use Rattle.address_space.specs.Agreement.{Body, IsSpace}
 use Rattle.address_space.specs.Layouts.{LaysOut, Layout, region_of}
@@ -27,10 +27,10 @@ pub as_many : (p : Process) (l : Layout) (rs : List Run) → LaysOut l p → map
 as_many p l rs lays is = ap length (lays.mappings ∙ sym is) ∙ length-map rs region_of
 
 -- the place of a mapping lies below the trapframe
-pub place_below : (p : Process) (pages first : ℕ) → Some first ≡ mapping_place p pages → first + pages ≤ trapframe_page
+pub place_below : (p : Process) (pages first : ℕ) → Some first ≡ mapping_place p pages → first + pages ≤ trapframe_page p.scheme
 place_below p pages first is =
-    let outer = and_parts (nat_le (pages_for p.size) first && nat_le (first + pages) trapframe_page) (list_all (is_apart first pages) p.mappings) (place_fits p pages first (sym is)) in
-    leb-true (first + pages) trapframe_page (and_parts (nat_le (pages_for p.size) first) (nat_le (first + pages) trapframe_page) outer.0).1
+    let outer = and_parts (nat_le (pages_for p.size) first && nat_le (first + pages) (trapframe_page p.scheme)) (list_all (is_apart first pages) p.mappings) (place_fits p pages first (sym is)) in
+    leb-true (first + pages) (trapframe_page p.scheme) (and_parts (nat_le (pages_for p.size) first) (nat_le (first + pages) (trapframe_page p.scheme)) outer.0).1
 
 -- a space with a mapping of the code has the model's
 pub with_mapping : (x y : Body) (t : Tables) (p : Process) (run : Run) (r : Region) → region_of run ≡ r → HasRelaid x y (λ q. mapped_with q (region_of run))
@@ -73,6 +73,7 @@ module _ (files : List File) (p : Process) (len protection flags n : ℕ) where
     relays pages first long is order =
         let fits : fits_at p pages first ≡ true = place_fits p pages first (sym is) in
         record {
+          scheme = refl;
           settled = refl;
           tabled = refl;
           order = rw long (mapped_order 0 p files len protection flags n first good (rw long at fits) order);

@@ -14,7 +14,7 @@ use Rattle.process_model.specs.Places.{Fits, place_is, place_is_none}
 use Rattle.process_model.specs.Process.{Process}
 use Rattle.process_model.specs.RegionRows.{row_up}
 use Rattle.process_model.specs.Regions.{end_of, Region}
-use Rattle.sv39_entry.specs.Address.{trapframe_page}
+use Rattle.sv39_entry.specs.Schemes.{trapframe_page}
 
 -- lists of regions
 
@@ -61,20 +61,20 @@ row_before low high (suc j) (suc k) (x ∷ ms) a b row at to less = row_before (
 
 -- the mappings from number i on begin at a page or above it, and where a mapping of so many pages fits it ends there or below
 pub record Searched (p : Process) (pages i end : ℕ) : Type 0 where
-  pub below : end ≤ trapframe_page
+  pub below : end ≤ trapframe_page p.scheme
   pub above : pages_for p.size ≤ end
   pub past : (j : ℕ) (m : Region) → slice_get p.mappings j ≡ Some m → i ≤ j → end ≤ m.first
   pub before : (j : ℕ) (m : Region) → slice_get p.mappings j ≡ Some m → j < i → end_of m ≤ end
   pub most : (other : ℕ) → Fits p pages other → other + pages ≤ end
 
 module _ (p : Process) (order : HasOrder 0 p) (pages : ℕ) where
-  within : (j : ℕ) (m : Region) → slice_get p.mappings j ≡ Some m → (pages_for p.size ≤ m.first) × (end_of m ≤ trapframe_page)
-  within j m at = row_get (pages_for p.size) trapframe_page j p.mappings m order.above at
+  within : (j : ℕ) (m : Region) → slice_get p.mappings j ≡ Some m → (pages_for p.size ≤ m.first) × (end_of m ≤ trapframe_page p.scheme)
+  within j m at = row_get (pages_for p.size) (trapframe_page p.scheme) j p.mappings m order.above at
 
-  pub search_begins : (n : ℕ) → n ≡ length p.mappings → Searched p pages n trapframe_page
+  pub search_begins : (n : ℕ) → n ≡ length p.mappings → Searched p pages n (trapframe_page p.scheme)
   search_begins n is = record {
     below = omega arith;
-    above = row_up 1 (pages_for p.size) trapframe_page p.mappings order.above;
+    above = row_up 1 (pages_for p.size) (trapframe_page p.scheme) p.mappings order.above;
     past = λ j m at past. absurd (none_past p.mappings j m (omega (arith, past, is)) at);
     before = λ j m at less. (within j m at).1;
     most = λ other fits. fits.below;
@@ -82,7 +82,7 @@ module _ (p : Process) (order : HasOrder 0 p) (pages : ℕ) where
 
   module _ (i end : ℕ) (m : Region) (s : Searched p pages i end) (some : 0 < i) (at : slice_get p.mappings (i - 1) ≡ Some m) where
     lower : (j : ℕ) (x : Region) → slice_get p.mappings j ≡ Some x → j < i - 1 → end_of x ≤ m.first
-    lower j x there less = row_before (pages_for p.size) trapframe_page j (i - 1) p.mappings x m order.above there at less
+    lower j x there less = row_before (pages_for p.size) (trapframe_page p.scheme) j (i - 1) p.mappings x m order.above there at less
 
     its_end : end_of m ≤ end
     its_end = s.before (i - 1) m at (omega (arith, some))

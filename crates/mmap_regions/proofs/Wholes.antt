@@ -14,7 +14,7 @@ use Rattle.process_model.specs.PageRegions.{behind_heap}
 use Rattle.process_model.specs.Process.{Process}
 use Rattle.process_model.specs.RegionRows.{here, holds, not_held, passed}
 use Rattle.process_model.specs.Regions.{end_of, Region, region_at}
-use Rattle.sv39_entry.specs.Address.{trapframe_page}
+use Rattle.sv39_entry.specs.Schemes.{trapframe_page}
 
 -- lists, from the front
 
@@ -50,30 +50,19 @@ row_region low high (suc i) n (x ∷ ms) m row at from to =
     let behind = row_get (end_of x) high i ms m row.2 at in
     passed x ms n (not_held x n (inr (omega (arith, behind.0, from)))) ∙ row_region (end_of x) high i n ms m row.2 at from to
 
-row_long : (low high : ℕ) (ms : List Region) → Row 1 low ms high → low + length ms ≤ high
-row_long low high [] row = omega (arith, row)
-row_long low high (m ∷ ms) row =
-    let rest = row_long (end_of m) high ms row.2 in
-    let some = row.1 in
-    let from = row.0 in
-    omega (arith, rest, some, from)
-
 -- of a process
 
 module _ (p : Process) (order : HasOrder 0 p) where
-  pub mappings_few : length p.mappings ≤ trapframe_page
-  mappings_few = let long = row_long (pages_for p.size) trapframe_page p.mappings order.above in omega (arith, long)
-
   pub whole_run : (i : ℕ) (m : Region) → slice_get p.mappings i ≡ Some m → IsRunOf p (all_of m)
   whole_run i m at =
-      let within = row_get (pages_for p.size) trapframe_page i p.mappings m order.above at in
+      let within = row_get (pages_for p.size) (trapframe_page p.scheme) i p.mappings m order.above at in
       record {
         mapping = each_get IsMapping p.mappings i m order.mapped at;
         from = omega arith;
         order = omega arith;
         to = omega arith;
         low = within.1;
-        alone = λ n from to. behind_heap 0 p n order (omega (arith, within.0, from)) ∙ row_region (pages_for p.size) trapframe_page i n p.mappings m order.above at from to;
+        alone = λ n from to. behind_heap 0 p n order (omega (arith, within.0, from)) ∙ row_region (pages_for p.size) (trapframe_page p.scheme) i n p.mappings m order.above at from to;
       }
 
 -- the mappings before number i

@@ -8,7 +8,8 @@ use Rattle.process_model.specs.Process.{Process, regions}
 use Rattle.process_model.specs.Regions.{end_of, file, keeps_stores, Region, region_at, Source}
 use Rattle.process_model.specs.declared.step.Refusal.{Refusal}
 use Rattle.process_model.specs.declared.step.Refusal.TheVariants.{BadArgument, HoleInMapping}
-use Rattle.sv39_entry.specs.Address.{page_of, trapframe_page}
+use Rattle.sv39_entry.specs.Address.{page_of}
+use Rattle.sv39_entry.specs.Schemes.{trapframe_page}
 use Rattle.address_space.specs.Layouts.{region_of}
 use Rattle.mmap_regions.specs.declared.run.Run.{Run}
 
@@ -30,7 +31,7 @@ pub record IsRunOf (p : Process) (r : MappedRun) : Type 0 where
   pub from : r.mapping.first ≤ r.first
   pub order : r.first ≤ r.end
   pub to : r.end ≤ end_of r.mapping
-  pub low : end_of r.mapping ≤ trapframe_page
+  pub low : end_of r.mapping ≤ trapframe_page p.scheme
   pub alone : (n : ℕ) → r.first ≤ n → n < r.end → region_at (regions p) n ≡ Some r.mapping
 
 -- what writing the run back writes

@@ -1,13 +1,12 @@
 // Runs of pages of a mapping.
 
-ghost use Rattle.std.specs.Prelude.{◌≡◌, ◌≤◌, ◌++◌, false, map, option_map, option_to_list};
+ghost use Rattle.std.specs.Prelude.{◌≡◌, ◌<◌, ◌≤◌, ◌^◌, ◌++◌, false, map, option_map, option_to_list};
 ghost use Rattle.address_space.specs.Layouts.{LaysOut, region_of, source_of};
 ghost use Rattle.mmap_regions.specs.Runs.{all_of, asked_of, IsRunOf, run_asked, run_of, stored_file};
 ghost use Rattle.process_model.specs.Mappings as model;
 ghost use Rattle.process_model.specs.Order.{HasOrder, IsInReach};
 ghost use Rattle.process_model.specs.Process.{Process};
 ghost use Rattle.process_model.specs.Regions.{end_of};
-ghost use Rattle.sv39_entry.specs.Address.{trapframe_page};
 
 use address_space::{Layout, Region, RegionKind, Source};
 use process_model::Refusal;
@@ -24,7 +23,7 @@ pub(crate) struct Run {
 impl Run {
     /// All pages of a mapping.
     pub fn whole(mapping: Region) -> Run
-        requires low { end_of (region_of mapping) ≤ trapframe_page }
+        requires low { end_of (region_of mapping) < 2 ^ 52 }
         ensures { run_of result ≡ all_of (region_of mapping) }
     {
         let end = mapping.first + mapping.pages;

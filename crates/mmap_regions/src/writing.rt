@@ -26,7 +26,7 @@ pub(crate) fn count_run<S: FrameSeat, F: FrameAccess<Seat = S>>(
     requires fits { Fits F.rule store.old space.old.seat }
     requires ready { (t : Tables) × (p : Process) × IsSpace (body_of S.view space.old) t p × IsRunOf p (run_of run.now) }
     ensures count { (t : Tables) (p : Process) → IsSpace (body_of S.view space.old) t p → IsRunOf p (run_of run.now) → result ≡ length (moves_in p (run_of run.now)) }
-    ensures few { result ≤ run.now.end }
+    ensures few { run.now.first + result ≤ run.now.end }
     ensures root { space.new.root ≡ space.old.root }
     ensures trapframe { space.new.trapframe ≡ space.old.trapframe }
     ensures layout { space.new.layout ≡ space.old.layout }

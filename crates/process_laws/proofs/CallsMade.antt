@@ -28,11 +28,11 @@ module _ (w : World) (h s : ℕ) (p : Process) (on : IsOn w h s p) (quiet : is_u
       by true e = absurd (false≢true (sym calm ∙ ap tells_no_frame (step_reply w (step_of.Fork h) ∙ ap (λ (o : Outcome). o.reply) e)))
       by false e = λ r f. absurd (let no = sym f ∙ step_reply w (step_of.Fork h) ∙ ap (λ (o : Outcome). o.reply) e in cc)
 
-  pub exec_goes_as : (image : Image) (ls : List LoadSegment) → image_loads image ≡ Ok ls → tells_no_frame (step w (step_of.Exec h image)).reply ≡ false → IsMade (step w (step_of.Exec h image)).reply
-  exec_goes_as image ls loads calm = by (is_dry w (exec_need ls)) is
+  pub exec_goes_as : (image : Image) (ls : List LoadSegment) → image_loads w.scheme image ≡ Ok ls → tells_no_frame (step w (step_of.Exec h image)).reply ≡ false → IsMade (step w (step_of.Exec h image)).reply
+  exec_goes_as image ls loads calm = by (is_dry w (exec_need w.scheme ls)) is
     where
-      is : plain_step w (step_of.Exec h image) ≡ replaced_unless w s p ls (is_dry w (exec_need ls))
-      is = (call_runs w h s p true (λ hart s p. replaced w s p (image_loads image)) refl on quiet kernel).1 ∙ ap (replaced w s p) loads
+      is : plain_step w (step_of.Exec h image) ≡ replaced_unless w s p ls (is_dry w (exec_need w.scheme ls))
+      is = (call_runs w h s p true (λ hart s p. replaced w s p (image_loads w.scheme image)) refl on quiet kernel).1 ∙ ap (replaced w s p) loads
 
       by : (b : Bool) → plain_step w (step_of.Exec h image) ≡ replaced_unless w s p ls b → IsMade (step w (step_of.Exec h image)).reply
       by true e = absurd (false≢true (sym calm ∙ ap tells_no_frame (step_reply w (step_of.Exec h image) ∙ ap (λ (o : Outcome). o.reply) e)))
@@ -47,7 +47,7 @@ module _ (w : World) (h s : ℕ) (p : Process) (on : IsOn w h s p) (quiet : is_u
 pub fork_goes : (w : World) (h s t : ℕ) (p : Process) → IsOn w h s p → MayCall w h p → free_slot w ≡ Some t → tells_no_frame (step w (step_of.Fork h)).reply ≡ false → IsMade (step w (step_of.Fork h)).reply
 fork_goes w h s t p on k free calm = fork_goes_as w h s p on k.quiet k.in_kernel t free calm
 
-pub exec_goes : (w : World) (h s : ℕ) (p : Process) (image : Image) (ls : List LoadSegment) → IsOn w h s p → MayCall w h p → image_loads image ≡ Ok ls → tells_no_frame (step w (step_of.Exec h image)).reply ≡ false
+pub exec_goes : (w : World) (h s : ℕ) (p : Process) (image : Image) (ls : List LoadSegment) → IsOn w h s p → MayCall w h p → image_loads w.scheme image ≡ Ok ls → tells_no_frame (step w (step_of.Exec h image)).reply ≡ false
     → IsMade (step w (step_of.Exec h image)).reply
 exec_goes w h s p image ls on k loads calm = exec_goes_as w h s p on k.quiet k.in_kernel image ls loads calm
 

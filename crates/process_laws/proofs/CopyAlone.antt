@@ -80,7 +80,7 @@ module _ (w : World) (h s : ℕ) (p : Process) (on : IsOn w h s p) (kernel : IsI
   begun_is = ap (begun v) (no_wait q idle) ∙ step_begun w x q ∙ ap (λ (o : Outcome). begun o.world q) is
 
   pub dry : reached_in (around v s) kind (begun v (without_pending q)) at ≡ Err NoFrame
-  dry = ap (λ (a : Around). reached_in a kind (begun v (without_pending q)) at) around_is ∙ ap (λ (f : Progress). reached_in (around there s) kind f at) begun_is ∙ dry_by (copy_rule (regions q) kind at) halted
+  dry = ap (λ (a : Around). reached_in a kind (begun v (without_pending q)) at) around_is ∙ ap (λ (f : Progress). reached_in (around there s) kind f at) begun_is ∙ dry_by (copy_rule q.scheme (regions q) kind at) halted
 
   pub on_there : IsOn v h s q
   on_there =

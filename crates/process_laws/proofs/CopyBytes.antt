@@ -101,7 +101,7 @@ byte_read q a b f = read_page (get q.settled (page_of a)) a b f
 -- an address of the process is reached
 
 reaches_in : (x : Around) (access : Access) (g : Progress) (address : ℕ) → AllSized (g.process).settled → Reaches x.files (page_of address) g.process (reached_in x access g address)
-reaches_in x access g address sized = reached_reaches x access address g (copy_rule (regions g.process) access address) sized
+reaches_in x access g address sized = reached_reaches x access address g (copy_rule g.process.scheme (regions g.process) access address) sized
 
 -- how far a copy from a process came: its addresses so far are settled, and were read
 pub record CameIn (files : List File) (p : Process) (address at : ℕ) (c : Copied) : Type 0 where

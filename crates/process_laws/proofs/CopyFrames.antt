@@ -110,14 +110,14 @@ module _ (w : World) (s : ℕ) (p : Process) (holds : Holds New w) (lives : proc
           omega (arith, spends, same, before);
     })
 
-    reached_spent : (o : Option Rule) → copy_rule (regions g.process) kind address ≡ o → SpentIfOk (reached (around w s) kind address g o)
+    reached_spent : (o : Option Rule) → copy_rule g.process.scheme (regions g.process) kind address ≡ o → SpentIfOk (reached (around w s) kind address g o)
     reached_spent (Some r) e = stopped
     reached_spent None e =
         let goes = reached_goes New fresh_is_kept (around w s) w.counter g k.goes kind address None (λ _. e) in
         subst SpentIfOk (sym shift) (page_came _ refl (subst (GoesIfOk New w.counter) shift goes))
 
     reach_spent : SpentIfOk (reached_in (around w s) kind g address)
-    reach_spent = reached_spent (copy_rule (regions g.process) kind address) refl
+    reach_spent = reached_spent (copy_rule g.process.scheme (regions g.process) kind address) refl
 
   -- a byte that is put takes no frame
 

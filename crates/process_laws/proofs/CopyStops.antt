@@ -53,12 +53,12 @@ module _ (a : Around) (frames : ℕ) (kind : Access) (address : ℕ) (g : Progre
   unfolding resident_at
   comes_at = comes_page (is_resident g.process kind page)
 
-  comes_rule : (o : Option Rule) → copy_rule (regions g.process) kind address ≡ o → Comes frames g (reached (ample a) kind address g o) (reached (limited a frames) kind address g o)
+  comes_rule : (o : Option Rule) → copy_rule g.process.scheme (regions g.process) kind address ≡ o → Comes frames g (reached (ample a) kind address g o) (reached (limited a frames) kind address g o)
   comes_rule None e = comes_at
   comes_rule (Some r) e = denied (quiet_rule g.process kind address 1 r (byte_rule g.process kind address ∙ e))
 
   comes : Comes frames g (reached_in (ample a) kind g address) (reached_in (limited a frames) kind g address)
-  comes = comes_rule (copy_rule (regions g.process) kind address) refl
+  comes = comes_rule (copy_rule g.process.scheme (regions g.process) kind address) refl
 
 -- one address more, of a copy of either kind
 pub record Goes {X : Type 0} (kind : Access) (at : X → ℕ) (done : Copied → X → Progress → Copied) (next : Around → Copied → X → Copied) : Type 0 where

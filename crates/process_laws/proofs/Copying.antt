@@ -11,6 +11,7 @@ use Rattle.process_laws.proofs.Running.{has_it, process_runs, ran_on, step_reply
 use Rattle.process_laws.proofs.Users.{same_from}
 use Rattle.process_laws.specs.Headline.{Copies, StopsAfter}
 use Rattle.process_laws.specs.Words.{byte, copied, Forbids, IsGranted, IsIn, IsMade, IsOn, stopped_by, tells_no_frame}
+use Rattle.process_model.specs.ReachedPages.{made_settles}
 use Rattle.process_model.specs.Around.{Around, Progress, reached, resident_at, unless_dry, unless_resident}
 use Rattle.process_model.specs.Bytes.{numbers_from}
 use Rattle.process_model.specs.Calls.{told_in, told_out}
@@ -36,25 +37,29 @@ use Rattle.sv39_entry.specs.declared.rule.Rule.TheVariants.{Misaligned, NoFrame}
 
 -- a byte is always aligned, so its first rule is the copy's
 
-pub byte_rule : (p : Process) (kind : Access) (address : ℕ) → first_rule (regions p) kind address 1 ≡ copy_rule (regions p) kind address
+pub byte_rule : (p : Process) (kind : Access) (address : ℕ) → first_rule p.scheme (regions p) kind address 1 ≡ copy_rule p.scheme (regions p) kind address
 byte_rule p kind address =
     let whole : address % 1 ≡ 0 = omega arith in
-    ap (λ b. cond b (copy_rule (regions p) kind address) (Some Misaligned)) (eq-eqb (address % 1) 0 whole)
+    ap (λ b. cond b (copy_rule p.scheme (regions p) kind address) (Some Misaligned)) (eq-eqb (address % 1) 0 whole)
 
-byte_granted : (p : Process) (kind : Access) (address : ℕ) → copy_rule (regions p) kind address ≡ None → IsGranted p (byte kind address)
+byte_granted : (p : Process) (kind : Access) (address : ℕ) → copy_rule p.scheme (regions p) kind address ≡ None → IsGranted p (byte kind address)
 byte_granted p kind address e = granted_by p (byte kind address) (byte_rule p kind address ∙ e)
 
-byte_forbidden : (p : Process) (kind : Access) (address : ℕ) (rule : Rule) → copy_rule (regions p) kind address ≡ Some rule → Forbids p (byte kind address) rule
-byte_forbidden p kind address rule e = answered_is_first (regions p) kind address 1 rule (byte_rule p kind address ∙ e)
+byte_forbidden : (p : Process) (kind : Access) (address : ℕ) (rule : Rule) → copy_rule p.scheme (regions p) kind address ≡ Some rule → Forbids p (byte kind address) rule
+byte_forbidden p kind address rule e = answered_is_first p.scheme (regions p) kind address 1 rule (byte_rule p kind address ∙ e)
+
+-- the same rules hold of two processes
+abbrev pub AsRuled : Process → Process → Type 0
+AsRuled q p = (regions q ≡ regions p) × (q.scheme ≡ p.scheme)
 
 -- an address is reached, or why not
 
 data Stops (p : Process) (kind : Access) (at : ℕ) : Rule → Type 0 where
-  denied : {rule : Rule} → copy_rule (regions p) kind at ≡ Some rule → Stops p kind at rule
-  dry : copy_rule (regions p) kind at ≡ None → Stops p kind at NoFrame
+  denied : {rule : Rule} → copy_rule p.scheme (regions p) kind at ≡ Some rule → Stops p kind at rule
+  dry : copy_rule p.scheme (regions p) kind at ≡ None → Stops p kind at NoFrame
 
 data ReachesIt (p : Process) (kind : Access) (at : ℕ) : Result Progress Rule → Type 0 where
-  came : {g : Progress} → copy_rule (regions p) kind at ≡ None → regions g.process ≡ regions p → (g.process).pending ≡ p.pending → ReachesIt p kind at (Ok g)
+  came : {g : Progress} → copy_rule p.scheme (regions p) kind at ≡ None → AsRuled g.process p → (g.process).pending ≡ p.pending → ReachesIt p kind at (Ok g)
   stopped : {rule : Rule} → Stops p kind at rule → ReachesIt p kind at (Err rule)
 
 -- nor what waits for a service
@@ -66,32 +71,32 @@ idle_from : (files : List File) (fresh : ℕ) (shared : Bool) (p : Process) (acc
 idle_from files fresh shared p access page None = refl
 idle_from files fresh shared p access page (Some x) = idle_unless fresh shared p page x _
 
-module _ (a : Around) (p : Process) (g : Progress) (kind : Access) (at : ℕ) (same : regions g.process ≡ regions p) (idle : (g.process).pending ≡ p.pending) where
-  reach_dry : copy_rule (regions p) kind at ≡ None → (need : ℕ) (b : Bool) → ReachesIt p kind at (unless_dry a kind (page_of at) g need b)
+module _ (a : Around) (p : Process) (g : Progress) (kind : Access) (at : ℕ) (same : AsRuled g.process p) (idle : (g.process).pending ≡ p.pending) where
+  reach_dry : copy_rule p.scheme (regions p) kind at ≡ None → (need : ℕ) (b : Bool) → ReachesIt p kind at (unless_dry a kind (page_of at) g need b)
   reach_dry none need true = stopped (dry none)
-  reach_dry none need false = came none (same_from a.files g.fresh _ g.process kind (page_of at) _ ∙ same) (idle_from a.files g.fresh _ g.process kind (page_of at) _ ∙ idle)
+  reach_dry none need false = came none (same_from a.files g.fresh _ g.process kind (page_of at) _ ∙ same.0, (made_settles a.files g.fresh _ kind (page_of at) g.process).scheme ∙ same.1) (idle_from a.files g.fresh _ g.process kind (page_of at) _ ∙ idle)
 
-  reach_resident : copy_rule (regions p) kind at ≡ None → (b : Bool) → ReachesIt p kind at (unless_resident a kind (page_of at) g b)
+  reach_resident : copy_rule p.scheme (regions p) kind at ≡ None → (b : Bool) → ReachesIt p kind at (unless_resident a kind (page_of at) g b)
   reach_resident none true = came none same idle
   reach_resident none false = reach_dry none _ _
 
-  reach_page : copy_rule (regions p) kind at ≡ None → ReachesIt p kind at (resident_at a kind (page_of at) g)
+  reach_page : copy_rule p.scheme (regions p) kind at ≡ None → ReachesIt p kind at (resident_at a kind (page_of at) g)
   unfolding resident_at
   reach_page none = reach_resident none _
 
-  reach_rule : (o : Option Rule) → copy_rule (regions p) kind at ≡ o → ReachesIt p kind at (reached a kind at g o)
+  reach_rule : (o : Option Rule) → copy_rule p.scheme (regions p) kind at ≡ o → ReachesIt p kind at (reached a kind at g o)
   reach_rule None e = reach_page e
   reach_rule (Some r) e = stopped (denied e)
 
   reach : ReachesIt p kind at (reached_in a kind g at)
-  reach = reach_rule (copy_rule (regions g.process) kind at) (ap (λ rs. copy_rule rs kind at) (sym same))
+  reach = reach_rule (copy_rule g.process.scheme (regions g.process) kind at) (ap (λ rs. copy_rule p.scheme rs kind at) (sym same.0) ∙ ap (λ z. copy_rule z (regions g.process) kind at) (sym same.1))
 
 -- so far: n addresses were tried
 pub record SoFar (a : Around) (p : Process) (kind : Access) (address n : ℕ) (c : Copied) : Type 0 where
   pub idle : ((c.progress).process).pending ≡ p.pending
   pub halted : (rule : Rule) → c.stop ≡ Some rule → reached_in a kind c.progress (address + length c.bytes) ≡ Err rule
-  pub same : regions ((c.progress).process) ≡ regions p
-  granted : (i : ℕ) → i < length c.bytes → copy_rule (regions p) kind (address + i) ≡ None
+  pub same : AsRuled ((c.progress).process) p
+  granted : (i : ℕ) → i < length c.bytes → copy_rule p.scheme (regions p) kind (address + i) ≡ None
   goes_on : c.stop ≡ None → length c.bytes ≡ n
   stops : (rule : Rule) → c.stop ≡ Some rule → (length c.bytes < n) × Stops p kind (address + length c.bytes) rule
 
@@ -99,7 +104,7 @@ none_and_some : {A : Type 0} {o : Option A} {x : A} → o ≡ None → o ≡ Som
 none_and_some e f = cc
 
 module _ (a : Around) (p : Process) (address : ℕ) where
-  one_more : (kind : Access) (n : ℕ) (c : Copied) (b : ℕ) (g : Progress) → SoFar a p kind address n c → c.stop ≡ None → copy_rule (regions p) kind (address + n) ≡ None → regions g.process ≡ regions p → (g.process).pending ≡ p.pending
+  one_more : (kind : Access) (n : ℕ) (c : Copied) (b : ℕ) (g : Progress) → SoFar a p kind address n c → c.stop ≡ None → copy_rule p.scheme (regions p) kind (address + n) ≡ None → AsRuled g.process p → (g.process).pending ≡ p.pending
       → SoFar a p kind address (n + 1) (record { progress = g; bytes = c.bytes ++ b ∷ []; stop = None })
   one_more kind n c b g f e none same idle =
       let more : length (c.bytes ++ b ∷ []) ≡ length c.bytes + 1 = length_push c.bytes b in
@@ -108,7 +113,7 @@ module _ (a : Around) (p : Process) (address : ℕ) where
         same = same;
         granted = λ i l. elim (cases_lt i (length c.bytes)) [
           | inl lt ↦ f.granted i lt
-          | inr ge ↦ let is : i ≡ n = omega (arith, l, ge, more, long) in subst (λ k. copy_rule (regions p) kind (address + k) ≡ None) (sym is) none
+          | inr ge ↦ let is : i ≡ n = omega (arith, l, ge, more, long) in subst (λ k. copy_rule p.scheme (regions p) kind (address + k) ≡ None) (sym is) none
         ];
         goes_on = λ _. omega (arith, more, long);
         stops = λ rule is. absurd (none_some is);
@@ -165,10 +170,14 @@ module _ (a : Around) (p : Process) (address : ℕ) where
   byte_on_idle q at b None = refl
   byte_on_idle q at b (Some page) = refl
 
+  byte_on_alike : (q : Process) (at b : ℕ) (o : Option Page) → (with_byte_on q at b o).scheme ≡ q.scheme
+  byte_on_alike q at b None = refl
+  byte_on_alike q at b (Some page) = refl
+
   out_one : (n b : ℕ) (c : Copied) (r : Result Progress Rule) → SoFar a p access.Store address n c → c.stop ≡ None → reached_in a access.Store c.progress (address + n) ≡ r → ReachesIt p access.Store (address + n) r → SoFar a p access.Store address (n + 1) (one_out c (address + n) b r)
   out_one n b c r f e is (came {g} none same idle) =
       let o = get (g.process).settled (page_of (address + n)) in
-      one_more access.Store n c b (record g { process = with_byte g.process (address + n) b }) f e none (byte_on_same g.process (address + n) b o ∙ same) (byte_on_idle g.process (address + n) b o ∙ idle)
+      one_more access.Store n c b (record g { process = with_byte g.process (address + n) b }) f e none (byte_on_same g.process (address + n) b o ∙ same.0, byte_on_alike g.process (address + n) b o ∙ same.1) (byte_on_idle g.process (address + n) b o ∙ idle)
   out_one n b c r f e is (stopped {rule} g) = one_stops access.Store n c rule f e g is
 
   out_next : (n b : ℕ) (c : Copied) (o : Option Rule) → c.stop ≡ o → SoFar a p access.Store address n c → SoFar a p access.Store address (n + 1) (next_out a c (address + n, b) o)
@@ -186,7 +195,7 @@ not_begun : (a : Around) (g : Progress) (kind : Access) (address : ℕ) → SoFa
 not_begun a g kind address = record {
   idle = refl;
   halted = λ rule is. absurd (none_some is);
-  same = refl;
+  same = (refl, refl);
   granted = λ i l. absurd (omega (arith, l));
   goes_on = λ _. refl;
   stops = λ rule is. absurd (none_some is);

@@ -76,7 +76,7 @@ put_free v s p q r e copies own =
     let q_sum : sum_by own_frames (live (slice_set v.slots s (Some q))) + own_frames p ≡ sum_by own_frames (live v.slots) + own_frames q = sum_set own_frames v.slots s (Some p) (Some q) full in
     let r_sum : sum_by own_frames (live (slice_set v.slots s (Some r))) + own_frames p ≡ sum_by own_frames (live v.slots) + own_frames r = sum_set own_frames v.slots s (Some p) (Some r) full in
     let is : free (with_process v s q) + 0 ≡ free (with_process v s r) =
-    spent v.frames 0 (slice_set v.slots s (Some r)) (slice_set v.slots s (Some q)) (length-set v.slots s (Some q) ∙ sym (length-set v.slots s (Some r))) (omega (q_has, r_has, same, q_sum, r_sum, own, arith)) (none_less (free (with_process v s r))) in
+    spent v.scheme v.frames 0 (slice_set v.slots s (Some r)) (slice_set v.slots s (Some q)) (length-set v.slots s (Some q) ∙ sym (length-set v.slots s (Some r))) (omega (q_has, r_has, same, q_sum, r_sum, own, arith)) (none_less (free (with_process v s r))) in
     omega (arith, is)
 
 pub same_free : (v : World) (s : ℕ) (p q : Process) → process_in v s ≡ Some p → copies_of q ≡ copies_of p → own_frames q ≡ own_frames p → free (with_process v s q) ≡ free v
@@ -87,7 +87,7 @@ same_free v s p q e copies own =
     let before : different v.slots ≡ count (numbers (copies_of p ++ others)) = count_slots v.slots s (Some p) full in
     let same : count (numbers (copies_of q ++ others)) ≡ count (numbers (copies_of p ++ others)) = ap (λ ns. count (numbers (ns ++ others))) copies in
     let sums : sum_by own_frames (live (slice_set v.slots s (Some q))) + own_frames p ≡ sum_by own_frames (live v.slots) + own_frames q = sum_set own_frames v.slots s (Some p) (Some q) full in
-    let is : free (with_process v s q) + 0 ≡ free v = spent v.frames 0 v.slots (slice_set v.slots s (Some q)) (length-set v.slots s (Some q)) (omega (after, before, same, sums, own, arith)) (none_less (free v)) in
+    let is : free (with_process v s q) + 0 ≡ free v = spent v.scheme v.frames 0 v.slots (slice_set v.slots s (Some q)) (length-set v.slots s (Some q)) (omega (after, before, same, sums, own, arith)) (none_less (free v)) in
     omega (arith, is)
 
 pub more_count : (xs ys : List ℕ) → count (numbers ys) ≤ count (numbers (xs ++ ys))
@@ -97,7 +97,7 @@ more_count (x ∷ xs) ys = let h = more_count xs ys in let g = count_grows x (xs
 pub freed : (f k c s d t : ℕ) → d ≤ c → t ≤ s → f - k - c - s ≤ f - k - d - t
 freed f k c s d t h g = omega (arith, h, g)
 
-pub frees : (v : World) (s : ℕ) (p : Process) → process_in v s ≡ Some p → free v ≤ free_frames v.frames (slice_set v.slots s None)
+pub frees : (v : World) (s : ℕ) (p : Process) → process_in v s ≡ Some p → free v ≤ free_frames v.scheme v.frames (slice_set v.slots s None)
 frees v s p e =
     let full : slice_get v.slots s ≡ Some (Some p) = full_slot (slice_get v.slots s) p e in
     let gone : List (Option Process) = slice_set v.slots s None in
@@ -107,12 +107,12 @@ frees v s p e =
     let old : length (copies_in (live v.slots)) ≡ different v.slots = length_keys (numbers (all_copies v.slots)) in
     let now : length (copies_in (live gone)) ≡ different gone = length_keys (numbers (all_copies gone)) in
     let long : length gone ≡ length v.slots = length-set v.slots s None in
-    rw long (freed v.frames (kernel_frames v.frames (length v.slots)) (length (copies_in (live v.slots))) (sum_by own_frames (live v.slots)) (length (copies_in (live gone))) (sum_by own_frames (live gone))
+    rw long (freed v.frames (kernel_frames v.scheme v.frames (length v.slots)) (length (copies_in (live v.slots))) (sum_by own_frames (live v.slots)) (length (copies_in (live gone))) (sum_by own_frames (live gone))
     (omega (arith, before, fewer, old, now)) (omega (arith, sums)))
 
 -- no region has too few frames
-pub quiet_rule : (p : Process) (kind : Access) (address width : ℕ) (r : Rule) → first_rule (regions p) kind address width ≡ Some r → tells_no_frame (Ended r) ≡ false
-quiet_rule p kind address width rule.NoFrame e = absurd ((answered_is_first (regions p) kind address width rule.NoFrame e).denies)
+pub quiet_rule : (p : Process) (kind : Access) (address width : ℕ) (r : Rule) → first_rule p.scheme (regions p) kind address width ≡ Some r → tells_no_frame (Ended r) ≡ false
+quiet_rule p kind address width rule.NoFrame e = absurd ((answered_is_first p.scheme (regions p) kind address width rule.NoFrame e).denies)
 quiet_rule p kind address width rule.Misaligned e = refl
 quiet_rule p kind address width rule.BeyondMax e = refl
 quiet_rule p kind address width rule.KernelPage e = refl
@@ -144,16 +144,16 @@ module _ (w : World) (new : HasNewCopies w) where
 
   -- start
 
-  start_takes : (image : Image) (loads : Result (List LoadSegment) BadImage) (o : Option ℕ) → image_loads image ≡ loads → free_slot w ≡ o → Each (λ u. started u loads o)
+  start_takes : (image : Image) (loads : Result (List LoadSegment) BadImage) (o : Option ℕ) → image_loads w.scheme image ≡ loads → free_slot w ≡ o → Each (λ u. started u loads o)
   unfolding InEach
   start_takes image loads None e f = spends_refused refusal.NoSlot refl
   start_takes image (Err b) (Some s) e f = spends_refused (refusal.BadImage b) refl
   start_takes image (Ok ls) (Some s) e f =
-      (start_need ls, λ m. spends_need (at m) (start_need ls) (started_unless (at m) s ls) (is_dry (at m) (start_need ls)) refl refl refl (λ wet. start_spends (at m) s image ls (new_at m) f e wet))
+      (start_need w.scheme ls, λ m. spends_need (at m) (start_need w.scheme ls) (started_unless (at m) s ls) (is_dry (at m) (start_need w.scheme ls)) refl refl refl (λ wet. start_spends (at m) s image ls (new_at m) f e wet))
 
   pub starts : (image : Image) → (n : ℕ) × ((m : ℕ) → Spends (at m) (step (at m) (Start image)) n)
   unfolding InEach
-  starts image = step_spends (Start image) (start_takes image (image_loads image) (free_slot w) refl refl)
+  starts image = step_spends (Start image) (start_takes image (image_loads w.scheme image) (free_slot w) refl refl)
 
   -- fork
 
@@ -214,7 +214,7 @@ module _ (w : World) (new : HasNewCopies w) where
     unfolding InEach resident_at
     page_takes = resident_takes (is_resident p a.access page) refl
 
-    rule_takes : (o : Option Rule) → first_rule (regions p) a.access a.address a.width ≡ o → Each (λ u. serves_it u (reached (around u s) a.access a.address (begun u p) o))
+    rule_takes : (o : Option Rule) → first_rule p.scheme (regions p) a.access a.address a.width ≡ o → Each (λ u. serves_it u (reached (around u s) a.access a.address (begun u p) o))
     unfolding InEach
     rule_takes None e = page_takes
     rule_takes (Some r) e = (0, λ m. spends_none (at m) (ended (at m) h hart s p (Ended r)) (quiet_rule p a.access a.address a.width r e) (frees (at m) s p lives))
@@ -222,7 +222,7 @@ module _ (w : World) (new : HasNewCopies w) where
   serve_takes : (h : ℕ) (hart : Hart) (s : ℕ) (p : Process) (o : Option Pending) → process_in w s ≡ Some p → Each (λ u. served u h hart s p o)
   unfolding InEach
   serve_takes h hart s p None e = spends_refused (refusal.Impossible hart.phase) refl
-  serve_takes h hart s p (Some a) e = rule_takes h hart s p a e (first_rule (regions p) a.access a.address a.width) refl
+  serve_takes h hart s p (Some a) e = rule_takes h hart s p a e (first_rule p.scheme (regions p) a.access a.address a.width) refl
 
   pub serves : (h : ℕ) → (n : ℕ) × ((m : ℕ) → Spends (at m) (step (at m) (Serve h)) n)
   unfolding InEach

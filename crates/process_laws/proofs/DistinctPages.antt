@@ -1,6 +1,7 @@
 -- The pages of an accepted image rise, so no two are the same.
 use Rattle.std.proofs.Common.{◌≡◌, ℕ, zero, suc, ◌+◌, ◌≤◌, arith, append_assoc, List, [], ◌∷◌, ◌++◌}
 use Rattle.std.specs.Prelude.{Ok, flat_map}
+use Rattle.sv39_entry.specs.declared.scheme.Scheme.{Scheme}
 use Rattle.process_model.specs.Bytes.{pages_for}
 use Rattle.process_model.specs.Images.{LoadSegment, end_page, end_of_loads, image_loads}
 use Rattle.process_model.specs.Loading.{page_run, load_pages, image_pages}
@@ -27,5 +28,5 @@ row_rises : (low : ℕ) (ls : List LoadSegment) → InRow low ls → Rises low (
 row_rises low [] row = (omega arith, (omega arith, tt))
 row_rises low (l ∷ ls) row = rw append_assoc (run_rises low (page_of l.address) (end_page l) l.bytes (pages_for l.memory_size) _ row.0.above row.0.end (row_rises (end_page l) ls row.1))
 
-pub image_rises : (image : Image) (ls : List LoadSegment) → image_loads image ≡ Ok ls → Rises 0 (image_pages ls)
-image_rises image ls is = row_rises 0 ls (accepted_is_placed image ls is).row
+pub image_rises : (z : Scheme) (image : Image) (ls : List LoadSegment) → image_loads z image ≡ Ok ls → Rises 0 (image_pages ls)
+image_rises z image ls is = row_rises 0 ls (accepted_is_placed z image ls is).row

@@ -7,6 +7,7 @@ use Rattle.std.proofs.lemmas.Grind.{common_steps}
 use Rattle.std.specs.Prelude.{◌/◌, ◌^◌, unwrap_or, is_none, nat_abs, slice_get, slice_set, fold, zip, replicate, Result, Ok, Err}
 use Rattle.std.proofs.lemmas.Option.{same_Some}
 use Rattle.process_laws.specs.Apart.{EachProcess}
+use Rattle.sv39_entry.specs.declared.scheme.Scheme.{Scheme}
 use Rattle.process_model.specs.Bytes.{pages_for, is_width, low_bytes, write_bytes, numbers_from}
 use Rattle.process_model.specs.Files.{File}
 use Rattle.process_model.specs.Granted.{map_granted}
@@ -49,9 +50,9 @@ pub record IsKept (P : ℕ → Process → Type 0) : Type 0 where
   -- the counter rises
   pub later : (n m : ℕ) (p : Process) → n ≤ m → P n p → P m p
   -- an image's process is made
-  pub made : (n : ℕ) (image : Image) (ls : List LoadSegment) → image_loads image ≡ Ok ls → P (n + length (image_pages ls)) (process_of n ls)
+  pub made : (z : Scheme) (n : ℕ) (image : Image) (ls : List LoadSegment) → image_loads z image ≡ Ok ls → P (n + length (image_pages ls)) (process_of z n ls)
   -- a granted page is settled
-  pub settled : (n : ℕ) (files : List File) (p : Process) (access : Access) (address : ℕ) → copy_rule (regions p) access address ≡ None → get p.settled (page_of address) ≡ None
+  pub settled : (n : ℕ) (files : List File) (p : Process) (access : Access) (address : ℕ) → copy_rule p.scheme (regions p) access address ≡ None → get p.settled (page_of address) ≡ None
       → P n p → P (n + 1) (settled_anew files n p access (page_of address))
   -- a page is taken over for a store
   pub taken : (n : ℕ) (shared : Bool) (p : Process) (page : ℕ) (x : Page) → get p.settled page ≡ Some x → P n p → P (n + 1) (with_page p page (taken_over n shared (region_on p page) x))
@@ -96,8 +97,8 @@ granted_if : (b : Bool) (r : Option Rule) → cond b r (Some Misaligned) ≡ Non
 granted_if true r e = (refl, e)
 granted_if false r e = cc
 
-granted : (rs : List Region) (access : Access) (address width : ℕ) → first_rule rs access address width ≡ None → (is_aligned address width ≡ true) × (copy_rule rs access address ≡ None)
-granted rs access address width e = granted_if (is_aligned address width) (copy_rule rs access address) e
+granted : (z : Scheme) (rs : List Region) (access : Access) (address width : ℕ) → first_rule z rs access address width ≡ None → (is_aligned address width ≡ true) × (copy_rule z rs access address ≡ None)
+granted z rs access address width e = granted_if (is_aligned address width) (copy_rule z rs access address) e
 
 width_cases : (w : ℕ) → is_width w ≡ true → ((w ≡ 1) ⊎ (w ≡ 2)) ⊎ ((w ≡ 4) ⊎ (w ≡ 8))
 width_cases w e = grind (arith, nat_tests)
@@ -174,7 +175,7 @@ module _ (P : ℕ → Process → Type 0) where
       taken_kept page x true e = k.later n (n + 1) p (omega arith) f
       taken_kept page x false e = k.taken n shared p page x e f
 
-      resident_kept : (access : Access) (address : ℕ) (o : Option Page) → get p.settled (page_of address) ≡ o → copy_rule (regions p) access address ≡ None
+      resident_kept : (access : Access) (address : ℕ) (o : Option Page) → get p.settled (page_of address) ≡ o → copy_rule p.scheme (regions p) access address ≡ None
           → P (n + 1) (made_resident_from files n shared p access (page_of address) o)
       resident_kept access address None e granted = k.settled n files p access address granted e f
       resident_kept access address (Some x) e granted = taken_kept (page_of address) x _ e
@@ -223,20 +224,20 @@ module _ (P : ℕ → Process → Type 0) where
 
     -- pages of a process are made resident
     module _ (a : Around) (n : ℕ) (g : Progress) (h : Goes n g) where
-      dry_goes : (access : Access) (address need : ℕ) (dry : Bool) → copy_rule (regions g.process) access address ≡ None → GoesIfOk n (unless_dry a access (page_of address) g need dry)
+      dry_goes : (access : Access) (address need : ℕ) (dry : Bool) → copy_rule g.process.scheme (regions g.process) access address ≡ None → GoesIfOk n (unless_dry a access (page_of address) g need dry)
       dry_goes access address need true granted = stopped
       dry_goes access address need false granted = went (record { keeps = resident_kept g.fresh a.files _ g.process h.keeps access address _ refl granted; rises = let r = h.rises in omega (r, arith) })
 
-      unless_goes : (access : Access) (address : ℕ) (there : Bool) → copy_rule (regions g.process) access address ≡ None → GoesIfOk n (unless_resident a access (page_of address) g there)
+      unless_goes : (access : Access) (address : ℕ) (there : Bool) → copy_rule g.process.scheme (regions g.process) access address ≡ None → GoesIfOk n (unless_resident a access (page_of address) g there)
       unless_goes access address true granted = went h
       unless_goes access address false granted = dry_goes access address _ _ granted
 
-      at_goes : (access : Access) (address : ℕ) → copy_rule (regions g.process) access address ≡ None → GoesIfOk n (resident_at a access (page_of address) g)
+      at_goes : (access : Access) (address : ℕ) → copy_rule g.process.scheme (regions g.process) access address ≡ None → GoesIfOk n (resident_at a access (page_of address) g)
       unfolding resident_at
       at_goes access address granted = unless_goes access address _ granted
 
       -- what no rule denies is made resident
-      pub reached_goes : (access : Access) (address : ℕ) (r : Option Rule) → (r ≡ None → copy_rule (regions g.process) access address ≡ None) → GoesIfOk n (reached a access address g r)
+      pub reached_goes : (access : Access) (address : ℕ) (r : Option Rule) → (r ≡ None → copy_rule g.process.scheme (regions g.process) access address ≡ None) → GoesIfOk n (reached a access address g r)
       reached_goes access address (Some r) granted = stopped
       reached_goes access address None granted = at_goes access address (granted refl)
 
@@ -304,7 +305,7 @@ module _ (P : ℕ → Process → Type 0) where
       denied_kept None fits = if_settled_kept _ refl (fits refl)
 
       user_kept : is_width a.width ≡ true → P n (user_access p a).process
-      user_kept e = denied_kept _ (λ g. aligned_fits a.address a.width e (granted (regions p) a.access a.address a.width g).0)
+      user_kept e = denied_kept _ (λ g. aligned_fits a.address a.width e (granted p.scheme (regions p) a.access a.address a.width g).0)
 
     module _ (w : World) (h : Holds w) where
       told_holds : (number : ℕ) (hart : Hart) (s : ℕ) (x : Answer) (b : Bool) → P w.counter x.process → Holds (told_if w number hart s x b).world
@@ -351,26 +352,26 @@ module _ (P : ℕ → Process → Type 0) where
           on_hart_holds number (is_width width) _ _ _ (λ hart e. its_holds hart _ (λ s p f. told_holds number hart s _ _ (user_kept w.counter (record { access = access; address = address; width = width; value = value }) p f e)))
 
       -- processes that begin, and changes of regions
-      image_holds : (s : ℕ) (image : Image) (ls : List LoadSegment) → image_loads image ≡ Ok ls → Holds (with_image w s ls)
-      image_holds s image ls e = put_holds w _ s _ refl (omega arith) (k.made w.counter image ls e) h
+      image_holds : (s : ℕ) (image : Image) (ls : List LoadSegment) → image_loads w.scheme image ≡ Ok ls → Holds (with_image w s ls)
+      image_holds s image ls e = put_holds w _ s _ refl (omega arith) (k.made w.scheme w.counter image ls e) h
 
-      started_unless_holds : (s : ℕ) (image : Image) (ls : List LoadSegment) (b : Bool) → image_loads image ≡ Ok ls → Holds (started_unless w s ls b).world
+      started_unless_holds : (s : ℕ) (image : Image) (ls : List LoadSegment) (b : Bool) → image_loads w.scheme image ≡ Ok ls → Holds (started_unless w s ls b).world
       started_unless_holds s image ls true e = h
       started_unless_holds s image ls false e = image_holds s image ls e
 
-      started_as_holds : (s : ℕ) (image : Image) (r : Result (List LoadSegment) BadImage) → image_loads image ≡ r → Holds (started_as w s r).world
+      started_as_holds : (s : ℕ) (image : Image) (r : Result (List LoadSegment) BadImage) → image_loads w.scheme image ≡ r → Holds (started_as w s r).world
       started_as_holds s image (Err b) e = h
       started_as_holds s image (Ok ls) e = started_unless_holds s image ls _ e
 
-      started_holds : (image : Image) (o : Option ℕ) → Holds (started w (image_loads image) o).world
+      started_holds : (image : Image) (o : Option ℕ) → Holds (started w (image_loads w.scheme image) o).world
       started_holds image None = h
       started_holds image (Some s) = started_as_holds s image _ refl
 
-      executed_unless_holds : (s : ℕ) (p : Process) (image : Image) (ls : List LoadSegment) (b : Bool) → image_loads image ≡ Ok ls → Holds (replaced_unless w s p ls b).world
+      executed_unless_holds : (s : ℕ) (p : Process) (image : Image) (ls : List LoadSegment) (b : Bool) → image_loads w.scheme image ≡ Ok ls → Holds (replaced_unless w s p ls b).world
       executed_unless_holds s p image ls true e = h
       executed_unless_holds s p image ls false e = same_slots (with_image w s ls) _ refl refl (image_holds s image ls e)
 
-      executed_holds : (s : ℕ) (p : Process) (image : Image) (r : Result (List LoadSegment) BadImage) → image_loads image ≡ r → Holds (replaced w s p r).world
+      executed_holds : (s : ℕ) (p : Process) (image : Image) (r : Result (List LoadSegment) BadImage) → image_loads w.scheme image ≡ r → Holds (replaced w s p r).world
       executed_holds s p image (Err b) e = h
       executed_holds s p image (Ok ls) e = executed_unless_holds s p image ls _ e
 
@@ -413,7 +414,7 @@ module _ (P : ℕ → Process → Type 0) where
       served_holds : (number : ℕ) (hart : Hart) (s : ℕ) (p : Process) (o : Option Pending) → P w.counter p → Holds (served w number hart s p o).world
       served_holds number hart s p None f = h
       served_holds number hart s p (Some a) f =
-          served_or_ended_holds number hart s p a _ (reached_goes (around w s) w.counter (begun w p) (begun_goes p f) a.access a.address _ (λ e. (granted (regions p) a.access a.address a.width e).1))
+          served_or_ended_holds number hart s p a _ (reached_goes (around w s) w.counter (begun w p) (begun_goes p f) a.access a.address _ (λ e. (granted p.scheme (regions p) a.access a.address a.width e).1))
 
     -- what the step itself changes
     plain_holds : (w : World) → Holds w → (s : Step) → Holds (plain_step w s).world

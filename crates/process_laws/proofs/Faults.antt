@@ -51,15 +51,15 @@ module _ (p : Process) (kind : Access) (address width value : ℕ) where
   abbrev it : service.Asked
   it = asks kind address width value
 
-  denied_cause : (r : Rule) → first_rule (regions p) kind address width ≡ Some r → fault_cause kind r ≡ cause what
+  denied_cause : (r : Rule) → first_rule p.scheme (regions p) kind address width ≡ Some r → fault_cause kind r ≡ cause what
   denied_cause r e = by (is_aligned address width) refl
     where
       by : (b : Bool) → is_aligned address width ≡ b → fault_cause kind r ≡ cause what
       by true is =
           let fits : address % width ≡ 0 = eqb-true (address % width) 0 is in
-          other_cause kind r (λ same. (answered_is_first (regions p) kind address width rule.Misaligned (e ∙ ap Some same)).denies fits) ∙ ap (cause_if kind) (sym is)
+          other_cause kind r (λ same. (answered_is_first p.scheme (regions p) kind address width rule.Misaligned (e ∙ ap Some same)).denies fits) ∙ ap (cause_if kind) (sym is)
       by false is =
-          let same : rule.Misaligned ≡ r = same_Some rule.Misaligned r (sym (ap (λ b. cond b (copy_rule (regions p) kind address) (Some rule.Misaligned)) is) ∙ e) in
+          let same : rule.Misaligned ≡ r = same_Some rule.Misaligned r (sym (ap (λ b. cond b (copy_rule p.scheme (regions p) kind address) (Some rule.Misaligned)) is) ∙ e) in
           ap (fault_cause kind) (sym same) ∙ ap (cause_if kind) (sym is)
 
   granted_cause : IsGranted p what → page_fault_cause kind ≡ cause what
@@ -78,14 +78,14 @@ module _ (p : Process) (kind : Access) (address width value : ℕ) where
     absent g true is = absurd (not g is)
     absent g false is = refl
 
-    faults_unless : (o : Option Rule) → first_rule (regions p) kind address width ≡ o → unless_denied p it o ≡ faulted p it (cause what)
+    faults_unless : (o : Option Rule) → first_rule p.scheme (regions p) kind address width ≡ o → unless_denied p it o ≡ faulted p it (cause what)
     faults_unless (Some r) e = ap (faulted p it) (denied_cause r e)
     faults_unless None e =
         let g = granted_by p what e in
         faults_settled (get p.settled (page_of address)) (absent g (is_resident p kind (page_of address)) refl) ∙ ap (faulted p it) (granted_cause g)
 
     faults_user : user_access p it ≡ faulted p it (cause what)
-    faults_user = faults_unless (first_rule (regions p) kind address width) refl
+    faults_user = faults_unless (first_rule p.scheme (regions p) kind address width) refl
 
 -- what the world is then
 

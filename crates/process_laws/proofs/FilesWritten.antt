@@ -26,7 +26,8 @@ use Rattle.process_model.specs.Order.{IsInOrder, Row}
 use Rattle.process_model.specs.PageMap.{get}
 use Rattle.process_model.specs.Process.{Page, Process}
 use Rattle.process_model.specs.Regions.{end_of, file, image, is_shared_kind, keeps_stores, Region, RegionKind, guard, heap, private_mapping, segment, shared_mapping, Source, stack, zeros}
-use Rattle.sv39_entry.specs.Address.{page_of, trapframe_page}
+use Rattle.sv39_entry.specs.Address.{page_of}
+use Rattle.sv39_entry.specs.Schemes.{trapframe_page}
 
 -- behind the bytes that are written over nothing changes
 above_stays : (bs page : List ℕ) (o i : ℕ) → o + length page ≤ i → i < length bs → byte_at (written_over bs o page) i ≡ byte_at bs i
@@ -193,7 +194,7 @@ module _ (x : Step) (p : Process) (sized : AllSized p.settled) where
         (λ page from. sub page (omega (arith, start, some, from)) ∙ skipped m ms page (grind (arith, nat_tests, from))))
 
     pub end_written : ((page : ℕ) → goes_back x page ≡ true) → (files : List File) → Written x p files (all_written_back files p)
-    end_written all files = mappings_written all (pages_for p.size) trapframe_page p.mappings files (omega arith) order.above (λ page from. refl)
+    end_written all files = mappings_written all (pages_for p.size) (trapframe_page p.scheme) p.mappings files (omega arith) order.above (λ page from. refl)
 
     around_found : (low high first_page end page : ℕ) (ms : List Region) (m : Region) → first_page ≤ page → page < end → Row 1 low ms high → mapping_around ms first_page end ≡ Some m → (low ≤ page) × (Found ms page ≡ grant_in (Some m) page)
     around_found low high first_page end page [] m from to row e = absurd cc
@@ -215,5 +216,5 @@ module _ (x : Step) (p : Process) (sized : AllSized p.settled) where
 
     pub unmap_written : (m : Region) (from end : ℕ) → ((page : ℕ) → from ≤ page → page < end → goes_back x page ≡ true) → (files : List File) → mapping_around p.mappings from end ≡ Some m → Written x p files (written_back files p m from end)
     unmap_written m from end go files around = run_written m from end (λ page start stop.
-        let k = around_found (pages_for p.size) trapframe_page from end page p.mappings m start stop order.above around in
+        let k = around_found (pages_for p.size) (trapframe_page p.scheme) from end page p.mappings m start stop order.above around in
         past_heap p order page p.mappings k.0 ∙ k.1) go files

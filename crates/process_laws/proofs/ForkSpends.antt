@@ -28,7 +28,7 @@ module _ (slots : List (Option Process)) (s child : ℕ) (p : Process) (full : s
   fork_sum =
       let marks : sum_by own_frames (live (slice_set slots s (Some (marked p)))) + own_frames p ≡ sum_by own_frames (live slots) + own_frames p = sum_set own_frames slots s (Some p) (Some (marked p)) full in
       let births : sum_by own_frames (live forked_slots) + 0 ≡ sum_by own_frames (live (slice_set slots s (Some (marked p)))) + own_frames (child_of p) = sum_set own_frames (slice_set slots s (Some (marked p))) child None (Some (child_of p)) still_empty in
-      let tables : own_frames (child_of p) ≡ fork_need p = ap (λ n. 1 + n) (tables_of_numbers (keys p.settled)) in
+      let tables : own_frames (child_of p) ≡ fork_need p = ap (λ n. 1 + n) (tables_of_numbers p.scheme (keys p.settled)) in
       omega (marks, births, tables, arith)
 
   -- the child's copy numbers are the parent's
@@ -61,4 +61,4 @@ fork_spends w s child p is to wet =
     let empty : slice_get w.slots child ≡ Some None = empty_slot w.slots 0 child child to (omega arith) in
     let more : sum_by own_frames (live (forked_slots w.slots s child p full empty)) ≡ sum_by own_frames (live w.slots) + fork_need p = fork_sum w.slots s child p full empty in
     let as_many : different (forked_slots w.slots s child p full empty) ≡ different w.slots = fork_count w.slots s child p full empty in
-    spent w.frames (fork_need p) w.slots (forked_slots w.slots s child p full empty) (fork_long w.slots s child p full empty) (omega (more, as_many, arith)) wet
+    spent w.scheme w.frames (fork_need p) w.slots (forked_slots w.slots s child p full empty) (fork_long w.slots s child p full empty) (omega (more, as_many, arith)) wet

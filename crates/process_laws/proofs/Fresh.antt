@@ -1,5 +1,6 @@
 -- Copy numbers are given once: a property of a process that each kind of change keeps.
 use Rattle.std.proofs.Common.{◌≡◌, ℕ, Bool, true, false, cond, ◌+◌, ◌<◌, ◌≤◌, inl, inr, refl, sym, ap, subst, ◌∙◌, arith, List, [], ◌∷◌, Some, length}
+use Rattle.sv39_entry.specs.declared.scheme.Scheme.{Scheme}
 use Rattle.process_model.specs.PageMap.{PageMap, get, insert, only, from_list, with_values}
 use Rattle.process_model.specs.Process.{Process, Page}
 use Rattle.process_model.specs.Residence.{child_page, marked_page, parts_from}
@@ -82,9 +83,9 @@ row_of first n (e ∷ es) is =
       ];
     }
 
-made_fresh : (n : ℕ) (ls : List LoadSegment) → IsFresh (n + length (image_pages ls)) (process_of n ls).settled
+made_fresh : (z : Scheme) (n : ℕ) (ls : List LoadSegment) → IsFresh (n + length (image_pages ls)) (process_of z n ls).settled
 unfolding process_of
-made_fresh n ls = (row_of n (n + length (image_pages ls)) (image_pages ls) refl).fresh
+made_fresh z n ls = (row_of n (n + length (image_pages ls)) (image_pages ls) refl).fresh
 
 -- a page is made resident
 
@@ -96,7 +97,7 @@ taken_fresh n false p page x y is e f = rises n (n + 1) _ (omega arith) (insert_
 pub fresh_is_kept : IsKept (λ n p. IsFresh n p.settled)
 fresh_is_kept = record {
   later = λ n m p le f. rises n m p.settled le f;
-  made = λ n image ls e. made_fresh n ls;
+  made = λ z n image ls e. made_fresh z n ls;
   settled = λ n files p access address granted none f. insert_new n p.settled _ _ refl f;
   taken = λ n shared p page x e f. taken_fresh n (parts_from shared x) p page x _ refl e f;
   written = λ n p page x bytes e long f. insert_same n p.settled page x _ e refl f;

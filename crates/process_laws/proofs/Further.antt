@@ -172,7 +172,7 @@ module _ (may : ℕ → Bool) (a : Around) (p : Process) where
 
   next_in_far : (c : Copied) (at : ℕ) (o : Option Rule) → Far c → Far (next_in a c at o)
   next_in_far c at (Some r) f = f
-  next_in_far c at None f = one_in_far c at _ f (reached_further may a c.progress access.Load at (copy_rule (regions (c.progress).process) access.Load at) (λ e. absurd cc))
+  next_in_far c at None f = one_in_far c at _ f (reached_further may a c.progress access.Load at (copy_rule ((c.progress).process).scheme (regions (c.progress).process) access.Load at) (λ e. absurd cc))
 
   all_in_far : (ns : List ℕ) (c : Copied) → Far c → Far (fold (λ c at. next_in a c at c.stop) c ns)
   all_in_far [] c f = f
@@ -186,7 +186,7 @@ module _ (may : ℕ → Bool) (a : Around) (p : Process) where
 
   next_out_far : (c : Copied) (x : ℕ × ℕ) (o : Option Rule) → may (page_of x.0) ≡ true → Far c → Far (next_out a c x o)
   next_out_far c x (Some r) goes f = f
-  next_out_far c x None goes f = one_out_far c x.0 x.1 _ f (reached_further may a c.progress access.Store x.0 (copy_rule (regions (c.progress).process) access.Store x.0) (λ e. goes))
+  next_out_far c x None goes f = one_out_far c x.0 x.1 _ f (reached_further may a c.progress access.Store x.0 (copy_rule ((c.progress).process).scheme (regions (c.progress).process) access.Store x.0) (λ e. goes))
 
   all_out_far : (xs : List (ℕ × ℕ)) (c : Copied) → AllMay may xs → Far c → Far (fold (λ c x. next_out a c x c.stop) c xs)
   all_out_far [] c goes f = f

@@ -21,7 +21,9 @@ use Rattle.process_model.specs.RegionRows.{row_up}
 use Rattle.process_model.specs.Regions.{end_of, file, guard, heap, holds_page, image, Region, region_at, segment, stack, zeros}
 use Rattle.process_model.specs.World.{is_unserved_access}
 use Rattle.process_model.specs.declared.step.Refusal.TheVariants.{BadSize, NoRoom}
-use Rattle.sv39_entry.specs.Address.{page_of, trapframe_page}
+use Rattle.sv39_entry.specs.Address.{page_of}
+use Rattle.sv39_entry.specs.declared.scheme.Scheme.{Scheme}
+use Rattle.sv39_entry.specs.Schemes.{trapframe_page}
 
 -- ---- rows
 
@@ -40,9 +42,9 @@ none_below least low high page (r ∷ rs) row less =
     skipped r rs page out ∙ none_below least (end_of r) high page rs row.2 (omega (arith, start, less))
 
 -- nor below the first
-under_limit : (least low high limit page : ℕ) (rs : List Region) → Row least low rs high → limit ≤ heap_limit rs → page < limit → Found rs page ≡ None
-under_limit least low high limit page [] row le less = refl
-under_limit least low high limit page (r ∷ rs) row le less = none_below least r.first high page (r ∷ rs) (omega arith, row.1, row.2) (omega (arith, le, less))
+under_limit : (z : Scheme) (least low high limit page : ℕ) (rs : List Region) → Row least low rs high → limit ≤ heap_limit z rs → page < limit → Found rs page ≡ None
+under_limit z least low high limit page [] row le less = refl
+under_limit z least low high limit page (r ∷ rs) row le less = none_below least r.first high page (r ∷ rs) (omega arith, row.1, row.2) (omega (arith, le, less))
 
 -- in front there is nothing
 past_none : (front back : List Region) (page : ℕ) → Found front page ≡ None → Found (front ++ back) page ≡ Found back page
@@ -100,7 +102,7 @@ module _ (p : Process) (order : IsInOrder p) (page : ℕ) where
         let base = (size_granted p wanted none).0 in
         let start : page_of p.heap_base ≤ new = omega (arith, base) in
         let le : page_of p.heap_base ≤ page = omega (arith, start, above) in
-        past_parts (heap_of q ∷ p.mappings) le ∙ skipped (heap_of q) p.mappings page (above_heap (page_of p.heap_base) new page start above) ∙ none_below 1 old trapframe_page page p.mappings order.above t.1
+        past_parts (heap_of q ∷ p.mappings) le ∙ skipped (heap_of q) p.mappings page (above_heap (page_of p.heap_base) new page start above) ∙ none_below 1 old (trapframe_page p.scheme) page p.mappings order.above t.1
       where
         first_of : (a b : Bool) → (a || b) ≡ true → b ≡ false → a ≡ true
         first_of true b e f = refl
@@ -125,7 +127,7 @@ module _ (p : Process) (order : IsInOrder p) (page : ℕ) where
 
     -- the size is what was asked for
     pub resized_size : pos (nat_abs wanted) ≡ wanted
-    resized_size = whole wanted (none_true ((int_lt wanted (pos p.heap_base), BadSize) ∷ (nat_lt (heap_limit p.mappings) (pages_for (nat_abs wanted)), NoRoom) ∷ []) none).0
+    resized_size = whole wanted (none_true ((int_lt wanted (pos p.heap_base), BadSize) ∷ (nat_lt (heap_limit p.scheme p.mappings) (pages_for (nat_abs wanted)), NoRoom) ∷ []) none).0
       where
         whole : (z : ℤ) → int_lt z (pos p.heap_base) ≡ false → pos (nat_abs z) ≡ z
         whole (pos n) e = refl
@@ -142,7 +144,7 @@ module _ (p : Process) (order : IsInOrder p) (page : ℕ) where
         let t = between old new page (either (is_between new old page) (is_between old new page) e not) in
         let room = order.room in
         let start : page_of p.heap_base ≤ old = room in
-        inl (past_parts (heap_of p ∷ p.mappings) (omega (arith, start, t.0)) ∙ skipped (heap_of p) p.mappings page (above_heap (page_of p.heap_base) old page start t.0) ∙ under_limit 1 old trapframe_page new page p.mappings order.above (size_granted p wanted none).1 t.1)
+        inl (past_parts (heap_of p ∷ p.mappings) (omega (arith, start, t.0)) ∙ skipped (heap_of p) p.mappings page (above_heap (page_of p.heap_base) old page start t.0) ∙ under_limit p.scheme 1 old (trapframe_page p.scheme) new page p.mappings order.above (size_granted p wanted none).1 t.1)
     vacant_at false past e = inr (resized_given e ∙ ap (λ b. if b then Some heap_grant else None) past)
 
     pub resized_vacant : (is_between new old page || is_between old new page) ≡ true → (grant p page ≡ None) ⊎ (grant q page ≡ None)
@@ -171,16 +173,16 @@ module _ (p : Process) (order : IsInOrder p) (page : ℕ) where
 
   pub mapped_given : (r : Region) → fits_at p r.pages r.first ≡ true → holds_page r page ≡ true → grant (record p { mappings = with_mapping r p.mappings }) page ≡ grant_in (Some r) page
   mapped_given r fits inside =
-      let outer = and_parts (nat_le (pages_for p.size) r.first && nat_le (r.first + r.pages) trapframe_page) (list_all (is_apart r.first r.pages) p.mappings) fits in
-      let inner = and_parts (nat_le (pages_for p.size) r.first) (nat_le (r.first + r.pages) trapframe_page) outer.0 in
+      let outer = and_parts (nat_le (pages_for p.size) r.first && nat_le (r.first + r.pages) (trapframe_page p.scheme)) (list_all (is_apart r.first r.pages) p.mappings) fits in
+      let inner = and_parts (nat_le (pages_for p.size) r.first) (nat_le (r.first + r.pages) (trapframe_page p.scheme)) outer.0 in
       let start = leb-true (pages_for p.size) r.first inner.0 in
       let in_it = between r.first (end_of r) page inside in
       past_heap (with_mapping r p.mappings) (omega (arith, start, in_it.0)) ∙ with_there r p.mappings inside outer.1
 
   pub mapped_above : (r : Region) → fits_at p r.pages r.first ≡ true → holds_page r page ≡ true → nat_le (pages_for p.size) page ≡ true
   mapped_above r fits inside =
-      let outer = and_parts (nat_le (pages_for p.size) r.first && nat_le (r.first + r.pages) trapframe_page) (list_all (is_apart r.first r.pages) p.mappings) fits in
-      let inner = and_parts (nat_le (pages_for p.size) r.first) (nat_le (r.first + r.pages) trapframe_page) outer.0 in
+      let outer = and_parts (nat_le (pages_for p.size) r.first && nat_le (r.first + r.pages) (trapframe_page p.scheme)) (list_all (is_apart r.first r.pages) p.mappings) fits in
+      let inner = and_parts (nat_le (pages_for p.size) r.first) (nat_le (r.first + r.pages) (trapframe_page p.scheme)) outer.0 in
       let start = leb-true (pages_for p.size) r.first inner.0 in
       let in_it = between r.first (end_of r) page inside in
       le-leb (pages_for p.size) page (omega (arith, start, in_it.0))
@@ -194,8 +196,8 @@ module _ (p : Process) (order : IsInOrder p) (page : ℕ) where
   -- the pages were nobody's
   pub mapped_vacant : (r : Region) → fits_at p r.pages r.first ≡ true → holds_page r page ≡ true → grant p page ≡ None
   mapped_vacant r fits inside =
-      let outer = and_parts (nat_le (pages_for p.size) r.first && nat_le (r.first + r.pages) trapframe_page) (list_all (is_apart r.first r.pages) p.mappings) fits in
-      let inner = and_parts (nat_le (pages_for p.size) r.first) (nat_le (r.first + r.pages) trapframe_page) outer.0 in
+      let outer = and_parts (nat_le (pages_for p.size) r.first && nat_le (r.first + r.pages) (trapframe_page p.scheme)) (list_all (is_apart r.first r.pages) p.mappings) fits in
+      let inner = and_parts (nat_le (pages_for p.size) r.first) (nat_le (r.first + r.pages) (trapframe_page p.scheme)) outer.0 in
       let start = leb-true (pages_for p.size) r.first inner.0 in
       let in_it = between r.first (end_of r) page inside in
       past_heap p.mappings (omega (arith, start, in_it.0)) ∙ apart_none r p.mappings inside outer.1
@@ -261,14 +263,14 @@ module _ (p : Process) (order : IsInOrder p) (page : ℕ) where
 
     pub unmapped_given : (m : Region) → mapping_around p.mappings first end ≡ Some m → grant (record (without_pages p first end) { mappings = with_instead p.mappings m.first (front_of m first ++ back_of m end) }) page ≡ None
     unmapped_given m around =
-        let above = around_above (pages_for p.size) trapframe_page first end p.mappings m order.above around in
+        let above = around_above (pages_for p.size) (trapframe_page p.scheme) first end p.mappings m order.above around in
         let le = (around_in p.mappings m around).0 in
         let start = from in
-        past_heap (with_instead p.mappings m.first (front_of m first ++ back_of m end)) (omega (arith, above, le, start)) ∙ instead_none (pages_for p.size) trapframe_page p.mappings m order.above around
+        past_heap (with_instead p.mappings m.first (front_of m first ++ back_of m end)) (omega (arith, above, le, start)) ∙ instead_none (pages_for p.size) (trapframe_page p.scheme) p.mappings m order.above around
 
     pub unmapped_above : (m : Region) → mapping_around p.mappings first end ≡ Some m → nat_le (pages_for p.size) page ≡ true
     unmapped_above m around =
-        let above = around_above (pages_for p.size) trapframe_page first end p.mappings m order.above around in
+        let above = around_above (pages_for p.size) (trapframe_page p.scheme) first end p.mappings m order.above around in
         let le = (around_in p.mappings m around).0 in
         let start = from in
         le-leb (pages_for p.size) page (omega (arith, above, le, start))
@@ -309,9 +311,9 @@ module _ (page : ℕ) (heap : ℕ → Region) (none : (end : ℕ) → holds_page
         | false ↦ loads_at (end_page l) ls
       ]
 
-pub image_given : (fresh : ℕ) (ls : List LoadSegment) (page : ℕ) → grant (process_of fresh ls) page ≡ loads_grant 0 ls page
+pub image_given : (z : Scheme) (fresh : ℕ) (ls : List LoadSegment) (page : ℕ) → grant (process_of z fresh ls) page ≡ loads_grant 0 ls page
 unfolding process_of behind
-image_given fresh ls page =
+image_given z fresh ls page =
     let heap : ℕ → Region = λ end. record { first = page_of (4096 * (end + 2)); pages = pages_for (4096 * (end + 2)) - page_of (4096 * (end + 2)); reads = true; writes = true; executes = false; kind = heap; source = zeros } in
     ap (λ rs. Found rs page) (append_again (map segment_region ls) (guard_at (end_of_loads 0 ls) ∷ stack_at (end_of_loads 0 ls + 1) ∷ []) (heap (end_of_loads 0 ls) ∷ []))
     ∙ loads_at page heap (λ end. heap_none end page) 0 ls
@@ -333,19 +335,19 @@ listed_unmarked fresh (e ∷ es) page =
       )
     ]
 
-pub image_unmarked : (fresh : ℕ) (ls : List LoadSegment) (page : ℕ) → (has_fork_mark (process_of fresh ls) page ≡ false) × (has_stored_mark (process_of fresh ls) page ≡ false)
+pub image_unmarked : (z : Scheme) (fresh : ℕ) (ls : List LoadSegment) (page : ℕ) → (has_fork_mark (process_of z fresh ls) page ≡ false) × (has_stored_mark (process_of z fresh ls) page ≡ false)
 unfolding process_of
-image_unmarked fresh ls page = listed_unmarked fresh (image_pages ls) page
+image_unmarked z fresh ls page = listed_unmarked fresh (image_pages ls) page
 
-pub image_idle : (fresh : ℕ) (ls : List LoadSegment) → is_unserved_access (process_of fresh ls).pending ≡ false
+pub image_idle : (z : Scheme) (fresh : ℕ) (ls : List LoadSegment) → is_unserved_access (process_of z fresh ls).pending ≡ false
 unfolding process_of
-image_idle fresh ls = refl
+image_idle z fresh ls = refl
 
-pub image_sized : (fresh : ℕ) (ls : List LoadSegment) → (process_of fresh ls).size ≡ image_size (Ok ls)
+pub image_sized : (z : Scheme) (fresh : ℕ) (ls : List LoadSegment) → (process_of z fresh ls).size ≡ image_size (Ok ls)
 unfolding process_of
-image_sized fresh ls = refl
+image_sized z fresh ls = refl
 
 -- its heap begins at its size
-pub image_based : (fresh : ℕ) (ls : List LoadSegment) → (process_of fresh ls).heap_base ≡ (process_of fresh ls).size
+pub image_based : (z : Scheme) (fresh : ℕ) (ls : List LoadSegment) → (process_of z fresh ls).heap_base ≡ (process_of z fresh ls).size
 unfolding process_of
-image_based fresh ls = refl
+image_based z fresh ls = refl

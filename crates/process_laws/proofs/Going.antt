@@ -187,30 +187,30 @@ abbrev pub Starts : World → Image → ℕ → Reply → World → Type 0
 Starts w image s r v = (free_slot w ≡ Some s) × (p : Process) × (process_in v s ≡ Some p) × Begins (record { before = w; step = Start image; reply = r; after = v }) p
 
 module _ (w : World) (image : Image) where
-  put : (s : ℕ) (ls : List LoadSegment) → free_slot w ≡ Some s → Puts w s (Some (process_of w.counter ls)) (with_image w s ls)
-  put s ls free = set_puts w (with_image w s ls) s (Some (process_of w.counter ls)) (let room = free_there w.slots 0 s free in omega (arith, room)) refl
+  put : (s : ℕ) (ls : List LoadSegment) → free_slot w ≡ Some s → Puts w s (Some (process_of w.scheme w.counter ls)) (with_image w s ls)
+  put s ls free = set_puts w (with_image w s ls) s (Some (process_of w.scheme w.counter ls)) (let room = free_there w.slots 0 s free in omega (arith, room)) refl
 
   module _ (v : World) (r : Reply) (s : ℕ) (told : r ≡ Started s) where
-    begins : (ls : List LoadSegment) → image_loads image ≡ Ok ls → Begins (record { before = w; step = Start image; reply = r; after = v }) (process_of w.counter ls)
+    begins : (ls : List LoadSegment) → image_loads w.scheme image ≡ Ok ls → Begins (record { before = w; step = Start image; reply = r; after = v }) (process_of w.scheme w.counter ls)
     begins ls loads = record {
-      grants = λ page. image_given w.counter ls page ∙ ap (λ l. image_grant l page) (sym loads);
-      unmarked = image_unmarked w.counter ls;
-      quiet = image_idle w.counter ls;
-      size = ap pos (image_sized w.counter ls ∙ ap image_size (sym loads)) ∙ ap (λ x. size_after (Start image) x 0) (sym told);
-      base = image_based w.counter ls;
+      grants = λ page. image_given w.scheme w.counter ls page ∙ ap (λ l. image_grant l page) (sym loads);
+      unmarked = image_unmarked w.scheme w.counter ls;
+      quiet = image_idle w.scheme w.counter ls;
+      size = ap pos (image_sized w.scheme w.counter ls ∙ ap image_size (sym loads)) ∙ ap (λ x. size_after w.scheme (Start image) x 0) (sym told);
+      base = image_based w.scheme w.counter ls;
     }
 
-    unless : (t : ℕ) (ls : List LoadSegment) (b : Bool) → free_slot w ≡ Some t → image_loads image ≡ Ok ls → (started_unless w t ls b).reply ≡ Started s → ((n : ℕ) → process_in v n ≡ process_in (started_unless w t ls b).world n) → Starts w image s r v
+    unless : (t : ℕ) (ls : List LoadSegment) (b : Bool) → free_slot w ≡ Some t → image_loads w.scheme image ≡ Ok ls → (started_unless w t ls b).reply ≡ Started s → ((n : ℕ) → process_in v n ≡ process_in (started_unless w t ls b).world n) → Starts w image s r v
     unless t ls true free loads e there = absurd cc
     unless t ls false free loads e there =
         let same : t ≡ s = cc in
-        (free ∙ ap Some same, process_of w.counter ls, ap (process_in v) (sym same) ∙ there t ∙ (put t ls free).here, begins ls loads)
+        (free ∙ ap Some same, process_of w.scheme w.counter ls, ap (process_in v) (sym same) ∙ there t ∙ (put t ls free).here, begins ls loads)
 
-    judged : (t : ℕ) (l : Result (List LoadSegment) BadImage) → free_slot w ≡ Some t → image_loads image ≡ l → (started_as w t l).reply ≡ Started s → ((n : ℕ) → process_in v n ≡ process_in (started_as w t l).world n) → Starts w image s r v
+    judged : (t : ℕ) (l : Result (List LoadSegment) BadImage) → free_slot w ≡ Some t → image_loads w.scheme image ≡ l → (started_as w t l).reply ≡ Started s → ((n : ℕ) → process_in v n ≡ process_in (started_as w t l).world n) → Starts w image s r v
     judged t (Err b) free loads e there = absurd cc
     judged t (Ok ls) free loads e there = unless t ls _ free loads e there
 
-    in_slot : (o : Option ℕ) → free_slot w ≡ o → (started w (image_loads image) o).reply ≡ Started s → ((n : ℕ) → process_in v n ≡ process_in (started w (image_loads image) o).world n) → Starts w image s r v
+    in_slot : (o : Option ℕ) → free_slot w ≡ o → (started w (image_loads w.scheme image) o).reply ≡ Started s → ((n : ℕ) → process_in v n ≡ process_in (started w (image_loads w.scheme image) o).world n) → Starts w image s r v
     in_slot None free e there = absurd cc
     in_slot (Some t) free e there = judged t _ free refl e there
 
@@ -219,10 +219,10 @@ module _ (w : World) (image : Image) where
   start_brings s e = in_slot (step w (Start image)).world (step w (Start image)).reply s e (free_slot w) refl (sym (step_reply w (Start image)) ∙ e) (step_process w (Start image))
 
   -- it is made
-  pub start_goes : (s : ℕ) (ls : List LoadSegment) → free_slot w ≡ Some s → image_loads image ≡ Ok ls → tells_no_frame (step w (Start image)).reply ≡ false → IsMade (step w (Start image)).reply
-  start_goes s ls free loads quiet = made (is_dry w (start_need ls)) is
+  pub start_goes : (s : ℕ) (ls : List LoadSegment) → free_slot w ≡ Some s → image_loads w.scheme image ≡ Ok ls → tells_no_frame (step w (Start image)).reply ≡ false → IsMade (step w (Start image)).reply
+  start_goes s ls free loads quiet = made (is_dry w (start_need w.scheme ls)) is
     where
-      is : plain_step w (Start image) ≡ started_unless w s ls (is_dry w (start_need ls))
+      is : plain_step w (Start image) ≡ started_unless w s ls (is_dry w (start_need w.scheme ls))
       is = ap (λ r. started w r (free_slot w)) loads ∙ ap (started w (Ok ls)) free
 
       made : (b : Bool) → plain_step w (Start image) ≡ started_unless w s ls b → IsMade (step w (Start image)).reply

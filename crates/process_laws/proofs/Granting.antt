@@ -7,6 +7,8 @@ use Rattle.std.proofs.lemmas.Option.{same_Some}
 use Rattle.process_laws.specs.Words.{Asked, has_right, IsGranted}
 use Rattle.process_laws.proofs.EveryChange.{always_holds, IsKept}
 use Rattle.process_laws.proofs.InOrder.{order_is_kept}
+use Rattle.sv39_entry.specs.declared.scheme.Scheme.{Scheme}
+use Rattle.sv39_entry.specs.declared.scheme.Scheme.TheVariants.{Sv39, Sv48}
 use Rattle.process_model.specs.Bytes.{pages_for}
 use Rattle.process_model.specs.Files.{File}
 use Rattle.process_model.specs.Images.{LoadSegment, end_of_loads}
@@ -20,7 +22,8 @@ use Rattle.process_model.specs.Steps.{run}
 use Rattle.process_model.specs.World.{booted, process_in}
 use Rattle.process_model.specs.declared.config.Config.{Config}
 use Rattle.process_model.specs.declared.step.Step.{Step}
-use Rattle.sv39_entry.specs.Address.{page_of, trapframe_page}
+use Rattle.sv39_entry.specs.Address.{page_of}
+use Rattle.sv39_entry.specs.Schemes.{trapframe_page}
 use Rattle.sv39_entry.specs.declared.access.Access.{Access}
 use Rattle.sv39_entry.specs.declared.access.Access.TheVariants as access
 use Rattle.sv39_entry.specs.declared.rule.Rule.{Rule}
@@ -32,22 +35,22 @@ aligned_if : (b : Bool) (o : Option Rule) → cond b o (Some Misaligned) ≡ Non
 aligned_if true o e = (refl, e)
 aligned_if false o e = absurd cc
 
-right_there : (rs : List Region) (kind : Access) (address : ℕ) (r : Region) → region_at rs (page_of address) ≡ Some r → copy_rule rs kind address ≡ None → has_right r kind ≡ true
-right_there rs access.Fetch address r f e = grind (arith, common_steps)
-right_there rs access.Load address r f e = grind (arith, common_steps)
-right_there rs access.Store address r f e = grind (arith, common_steps)
+right_there : (z : Scheme) (rs : List Region) (kind : Access) (address : ℕ) (r : Region) → region_at rs (page_of address) ≡ Some r → copy_rule z rs kind address ≡ None → has_right r kind ≡ true
+right_there z rs access.Fetch address r f e = grind (arith, common_steps)
+right_there z rs access.Load address r f e = grind (arith, common_steps)
+right_there z rs access.Store address r f e = grind (arith, common_steps)
 
-region_if : (rs : List Region) (kind : Access) (address : ℕ) (o : Option Region) → region_at rs (page_of address) ≡ o → copy_rule rs kind address ≡ None → (r : Region) × (o ≡ Some r) × (has_right r kind ≡ true)
-region_if rs kind address None f e = grind (arith, common_steps)
-region_if rs kind address (Some r) f e = (r, refl, right_there rs kind address r f e)
+region_if : (z : Scheme) (rs : List Region) (kind : Access) (address : ℕ) (o : Option Region) → region_at rs (page_of address) ≡ o → copy_rule z rs kind address ≡ None → (r : Region) × (o ≡ Some r) × (has_right r kind ≡ true)
+region_if z rs kind address None f e = grind (arith, common_steps)
+region_if z rs kind address (Some r) f e = (r, refl, right_there z rs kind address r f e)
 
-region_there : (rs : List Region) (kind : Access) (address : ℕ) → copy_rule rs kind address ≡ None → (r : Region) × (region_at rs (page_of address) ≡ Some r) × (has_right r kind ≡ true)
-region_there rs kind address e = region_if rs kind address _ refl e
+region_there : (z : Scheme) (rs : List Region) (kind : Access) (address : ℕ) → copy_rule z rs kind address ≡ None → (r : Region) × (region_at rs (page_of address) ≡ Some r) × (has_right r kind ≡ true)
+region_there z rs kind address e = region_if z rs kind address _ refl e
 
-pub granted_by : (p : Process) (a : Asked) → first_rule (regions p) a.access a.address a.width ≡ None → IsGranted p a
+pub granted_by : (p : Process) (a : Asked) → first_rule p.scheme (regions p) a.access a.address a.width ≡ None → IsGranted p a
 granted_by p a e =
-    let t = aligned_if (is_aligned a.address a.width) (copy_rule (regions p) a.access a.address) e in
-    let r = region_there (regions p) a.access a.address t.1 in
+    let t = aligned_if (is_aligned a.address a.width) (copy_rule p.scheme (regions p) a.access a.address) e in
+    let r = region_there p.scheme (regions p) a.access a.address t.1 in
     record { region = r.0; has = r.1; right = r.2; aligned = eqb-true (a.address % a.width) 0 t.0 }
 
 -- guards grant nothing
@@ -67,9 +70,9 @@ segments_bare : (ls : List LoadSegment) → AllBare (map segment_region ls)
 segments_bare [] = tt
 segments_bare (l ∷ ls) = (λ e. absurd cc, segments_bare ls)
 
-made_bare : (n : ℕ) (ls : List LoadSegment) → AllBare (process_of n ls).parts × AllBare (process_of n ls).mappings
+made_bare : (z : Scheme) (n : ℕ) (ls : List LoadSegment) → AllBare (process_of z n ls).parts × AllBare (process_of z n ls).mappings
 unfolding process_of
-made_bare n ls = (each_append Bare (map segment_region ls) _ (segments_bare ls) (λ e. guard_bare (end_of_loads 0 ls), (λ e. absurd cc, tt)), tt)
+made_bare z n ls = (each_append Bare (map segment_region ls) _ (segments_bare ls) (λ e. guard_bare (end_of_loads 0 ls), (λ e. absurd cc, tt)), tt)
 
 no_guard : (b : Bool) → is_guard_kind (cond b shared_mapping private_mapping) ≡ true → ⊥
 no_guard true e = absurd cc
@@ -123,7 +126,7 @@ pub record AreBare (p : Process) : Type 0 where
 bare_is_kept : IsKept (λ n p. AreBare p)
 bare_is_kept = record {
   later = λ n m p le b. b;
-  made = λ n image ls e. let b = made_bare n ls in record { parts = b.0; mappings = b.1 };
+  made = λ z n image ls e. let b = made_bare z n ls in record { parts = b.0; mappings = b.1 };
   settled = λ n files p access address granted none b. record { parts = b.parts; mappings = b.mappings };
   taken = λ n shared p page x e b. record { parts = b.parts; mappings = b.mappings };
   written = λ n p page x bytes e long b. record { parts = b.parts; mappings = b.mappings };
@@ -172,15 +175,15 @@ always_sound c files xs s p e = record {
 heap_bare : (p : Process) → Bare (heap_of p)
 heap_bare p e = absurd cc
 
-below_trapframe : (p : Process) (page : ℕ) (r : Region) → IsInOrder p → region_at (regions p) page ≡ Some r → page < trapframe_page
+below_trapframe : (p : Process) (page : ℕ) (r : Region) → IsInOrder p → region_at (regions p) page ≡ Some r → page < trapframe_page p.scheme
 below_trapframe p page r o e =
     let room : page_of p.heap_base ≤ pages_for p.size = o.room in
-    let top : pages_for p.size ≤ trapframe_page = row_up 1 (pages_for p.size) trapframe_page p.mappings o.above in
+    let top : pages_for p.size ≤ trapframe_page p.scheme = row_up 1 (pages_for p.size) (trapframe_page p.scheme) p.mappings o.above in
     elim (at_append p.parts (heap_of p ∷ p.mappings) page r e) [
       | inl is ↦ let h : page < page_of p.heap_base = row_at 1 0 (page_of p.heap_base) page p.parts r o.parts is in omega arith
-      | inr is ↦ elim (holds_page (heap_of p) page) as (λ b. holds_page (heap_of p) page ≡ b → cond b (Some (heap_of p)) (region_at p.mappings page) ≡ Some r → page < trapframe_page) [
+      | inr is ↦ elim (holds_page (heap_of p) page) as (λ b. holds_page (heap_of p) page ≡ b → cond b (Some (heap_of p)) (region_at p.mappings page) ≡ Some r → page < trapframe_page p.scheme) [
         | true ↦ λ t same. let h : page < page_of p.heap_base + (pages_for p.size - page_of p.heap_base) = held_below (heap_of p) page t in omega arith
-        | false ↦ λ t same. row_at 1 (pages_for p.size) trapframe_page page p.mappings r o.above same
+        | false ↦ λ t same. row_at 1 (pages_for p.size) (trapframe_page p.scheme) page p.mappings r o.above same
       ] refl is
     ]
 
@@ -193,14 +196,23 @@ has_not_lacks r access.Fetch e = ap not e
 has_not_lacks r access.Load e = ap not e
 has_not_lacks r access.Store e = ap not e
 
-copy_granted : (rs : List Region) (access : Access) (address : ℕ) (r : Region) → page_of address < trapframe_page → region_at rs (page_of address) ≡ Some r → is_guard_kind r.kind ≡ false
-    → lacks_right access (Some r) ≡ false → copy_rule rs access address ≡ None
-copy_granted rs access address r below has guard right = grind (arith, common_steps)
+granted39 : (rs : List Region) (access : Access) (address : ℕ) (r : Region) → page_of address < trapframe_page Sv39 → region_at rs (page_of address) ≡ Some r → is_guard_kind r.kind ≡ false
+    → lacks_right access (Some r) ≡ false → copy_rule Sv39 rs access address ≡ None
+granted39 rs access address r below has guard right = grind (arith, common_steps)
 
-pub sound_grants : (p : Process) (a : Asked) → IsSound p → IsGranted p a → first_rule (regions p) a.access a.address a.width ≡ None
+granted48 : (rs : List Region) (access : Access) (address : ℕ) (r : Region) → page_of address < trapframe_page Sv48 → region_at rs (page_of address) ≡ Some r → is_guard_kind r.kind ≡ false
+    → lacks_right access (Some r) ≡ false → copy_rule Sv48 rs access address ≡ None
+granted48 rs access address r below has guard right = grind (arith, common_steps)
+
+copy_granted : (z : Scheme) (rs : List Region) (access : Access) (address : ℕ) (r : Region) → page_of address < trapframe_page z → region_at rs (page_of address) ≡ Some r → is_guard_kind r.kind ≡ false
+    → lacks_right access (Some r) ≡ false → copy_rule z rs access address ≡ None
+copy_granted Sv39 rs access address r below has guard right = granted39 rs access address r below has guard right
+copy_granted Sv48 rs access address r below has guard right = granted48 rs access address r below has guard right
+
+pub sound_grants : (p : Process) (a : Asked) → IsSound p → IsGranted p a → first_rule p.scheme (regions p) a.access a.address a.width ≡ None
 sound_grants p a sound g =
-    let below : page_of a.address < trapframe_page = below_trapframe p (page_of a.address) g.region sound.ordered g.has in
+    let below : page_of a.address < trapframe_page p.scheme = below_trapframe p (page_of a.address) g.region sound.ordered g.has in
     let bare : Bare g.region = each_at Bare (regions p) (page_of a.address) g.region (each_append Bare p.parts (heap_of p ∷ p.mappings) sound.bare.parts (heap_bare p, sound.bare.mappings)) g.has in
     let guard = not_guard (is_guard_kind g.region.kind) (has_right g.region a.access) (λ t. bare t a.access) g.right in
-    ap (λ b. cond b (copy_rule (regions p) a.access a.address) (Some Misaligned)) (eq-eqb (a.address % a.width) 0 g.aligned)
-    ∙ copy_granted (regions p) a.access a.address g.region below g.has guard (has_not_lacks g.region a.access g.right)
+    ap (λ b. cond b (copy_rule p.scheme (regions p) a.access a.address) (Some Misaligned)) (eq-eqb (a.address % a.width) 0 g.aligned)
+    ∙ copy_granted p.scheme (regions p) a.access a.address g.region below g.has guard (has_not_lacks g.region a.access g.right)

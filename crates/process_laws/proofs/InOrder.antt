@@ -3,6 +3,7 @@ use Rattle.std.proofs.Common.{◌≡◌, ℕ, zero, suc, true, ◌+◌, ◌*◌,
 use Rattle.std.specs.Prelude.{slice_get}
 use Rattle.std.proofs.lemmas.Option.{same_Some}
 use Rattle.process_laws.specs.Apart.{AreApart}
+use Rattle.sv39_entry.specs.declared.scheme.Scheme.{Scheme}
 use Rattle.process_model.specs.Bytes.{pages_for}
 use Rattle.process_model.specs.Granted.{map_granted, place_fits}
 use Rattle.process_model.specs.Images.{LoadSegment, end_page, end_of_loads}
@@ -12,7 +13,8 @@ use Rattle.process_model.specs.OrderKept.{mapped_order, regions_row, resized_ord
 use Rattle.process_model.specs.Process.{Process, regions}
 use Rattle.process_model.specs.RegionRows.{held, row_append}
 use Rattle.process_model.specs.Regions.{Region, end_of, guard_pages, holds_page, stack_pages}
-use Rattle.sv39_entry.specs.Address.{page_of, trapframe_page}
+use Rattle.sv39_entry.specs.Address.{page_of}
+use Rattle.sv39_entry.specs.Schemes.{trapframe_page}
 use Rattle.process_laws.proofs.EveryChange.{IsKept}
 use Rattle.process_laws.proofs.ImageOrder.{accepted_is_placed}
 
@@ -47,7 +49,7 @@ row_apart low high (r ∷ rs) row (suc i) zero page a b e g h k = absurd (not_la
 row_apart low high (r ∷ rs) row (suc i) (suc j) page a b e g h k = ap suc (row_apart (end_of r) high rs row.2 i j page a b e g h k)
 
 pub order_is_apart : (p : Process) → IsInOrder p → AreApart (regions p)
-order_is_apart p o = row_apart 0 trapframe_page (regions p) (regions_row 1 p o)
+order_is_apart p o = row_apart 0 (trapframe_page p.scheme) (regions p) (regions_row 1 p o)
 
 -- images
 
@@ -63,10 +65,10 @@ segments_row : (low : ℕ) (ls : List LoadSegment) → InRow low ls → Row 1 lo
 segments_row low [] row = omega arith
 segments_row low (l ∷ ls) row = (row.0.above, row.0.some, subst (λ n. Row 1 n (map segment_region ls) (end_of_loads (end_page l) ls)) (sym row.0.end) (segments_row (end_page l) ls row.1))
 
-made_order : (n : ℕ) (ls : List LoadSegment) → IsPlaced ls → IsInOrder (process_of n ls)
+made_order : (z : Scheme) (n : ℕ) (ls : List LoadSegment) → IsPlaced z ls → IsInOrder (process_of z n ls)
 unfolding process_of
-made_order n ls is =
-    let below : end_of_loads 0 ls + (guard_pages + stack_pages) ≤ trapframe_page = is.below in
+made_order z n ls is =
+    let below : end_of_loads 0 ls + (guard_pages + stack_pages) ≤ trapframe_page z = is.below in
     record {
       parts = row_append 1 0 (end_of_loads 0 ls) (page_of (4096 * (end_of_loads 0 ls + (guard_pages + stack_pages)))) (map segment_region ls) (guard_at (end_of_loads 0 ls) ∷ stack_at (end_of_loads 0 ls + guard_pages) ∷ []) (segments_row 0 ls is.row)
           (omega arith, omega arith, (omega arith, omega arith, omega arith));
@@ -80,7 +82,7 @@ made_order n ls is =
 pub order_is_kept : IsKept (λ n p. IsInOrder p)
 order_is_kept = record {
   later = λ n m p le o. o;
-  made = λ n image ls e. made_order n ls (accepted_is_placed image ls e);
+  made = λ z n image ls e. made_order z n ls (accepted_is_placed z image ls e);
   settled = λ n files p access address granted none o. same_order 1 p _ _ _ o;
   taken = λ n shared p page x e o. same_order 1 p _ _ _ o;
   written = λ n p page x bytes e long o. same_order 1 p _ _ _ o;

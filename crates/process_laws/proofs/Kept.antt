@@ -230,7 +230,7 @@ module _ (w : World) where
   out_keeps x s p c o lives = still x _ _ refl refl (set s p _ lives refl)
 
   plain_keeps : (x : Step) → Keeps w x (plain_step w x)
-  plain_keeps (step_of.Start image) = start_keeps _ (image_loads image) (free_slot w)
+  plain_keeps (step_of.Start image) = start_keeps _ (image_loads w.scheme image) (free_slot w)
   plain_keeps (step_of.Switch h slot) = on_hart_can w (Keeps w _) (quiet _) h _ _ _ (λ hart is can. moving _ _ _ h _ refl refl (switch_comes w h slot (may_switch hart.phase) can) (λ e. refl) (same refl))
   plain_keeps (step_of.Trap h) = on_hart_good w (Keeps w _) (quiet _) h true _ _ _ (λ hart is _. its_good w (Keeps w _) (quiet _) h hart _ is (λ t p on here. moving _ _ _ h _ refl refl (came_there w h hart _ is refl) (λ e. refl) (set t p _ here refl)))
   plain_keeps (step_of.Next h) = on_hart_good w (Keeps w _) (quiet _) h true _ _ _ (λ hart is _. moving _ _ _ h _ refl refl (came_there w h hart _ is (fenced_slot w.policy hart)) (λ e. refl) (same refl))
@@ -245,7 +245,7 @@ module _ (w : World) where
   plain_keeps (step_of.TrampolineFetch h offset via) = on_hart_good w (Keeps w _) (quiet _) h _ _ _ _ (λ hart is _. still _ _ _ refl refl (same refl))
   plain_keeps (step_of.Serve h) = on_hart_good w (Keeps w _) (quiet _) h true _ _ _ (λ hart is _. its_good w (Keeps w _) (quiet _) h hart _ is (λ t p on here. serve_keeps h hart t p p.pending here))
   plain_keeps (step_of.Fork h) = kernel_good w (Keeps w _) (quiet _) h true _ (λ hart t p on here. fork_keeps _ t p (free_slot w) here)
-  plain_keeps (step_of.Exec h image) = kernel_good w (Keeps w _) (quiet _) h true _ (λ hart t p on here. exec_keeps h image t p (image_loads image) here)
+  plain_keeps (step_of.Exec h image) = kernel_good w (Keeps w _) (quiet _) h true _ (λ hart t p on here. exec_keeps h image t p (image_loads w.scheme image) here)
   plain_keeps (step_of.Sbrk h delta) = kernel_good w (Keeps w _) (quiet _) h true _ (λ hart t p on here. size_keeps _ t p _ here)
   plain_keeps (step_of.Mmap h len protection flags n) = kernel_good w (Keeps w _) (quiet _) h true _ (λ hart t p on here. map_keeps _ t p _ here)
   plain_keeps (step_of.Munmap h address len) = kernel_good w (Keeps w _) (quiet _) h true _ (λ hart t p on here. unmap_keeps h address len t p _ here)

@@ -92,12 +92,12 @@ module _ (w : World) where
       let old : length (copies_in (live w.slots)) ≡ different w.slots = length_keys (numbers (all_copies w.slots)) in
       let new : length (copies_in (live now)) ≡ different now = length_keys (numbers (all_copies now)) in
       let long : length now ≡ length w.slots = length-set w.slots s (Some q) in
-      let room : free w ≤ free_frames w.frames now =
-      rw long (freed w.frames (kernel_frames w.frames (length w.slots)) (length (copies_in (live w.slots))) (sum_by own_frames (live w.slots)) (length (copies_in (live now))) (sum_by own_frames (live now))
+      let room : free w ≤ free_frames w.scheme w.frames now =
+      rw long (freed w.frames (kernel_frames w.scheme w.frames (length w.slots)) (length (copies_in (live w.slots))) (sum_by own_frames (live w.slots)) (length (copies_in (live now))) (sum_by own_frames (live now))
       (omega (arith, before, after, less, old, new)) (omega (arith, sums, own))) in
       omega (arith, room, is)
 
-  ends : (s : ℕ) (p : Process) (o : Outcome) → process_in w s ≡ Some p → free o.world ≡ free_frames w.frames (slice_set w.slots s None) → Keeps o
+  ends : (s : ℕ) (p : Process) (o : Outcome) → process_in w s ≡ Some p → free o.world ≡ free_frames w.scheme w.frames (slice_set w.slots s None) → Keeps o
   unfolding Keeps
   ends s p o e is = let room = frees w s p e in omega (arith, room, is)
 

@@ -138,19 +138,19 @@ module _ (w : World) (k : Sized w) (t : ℕ) (p : Process) (here : process_in w 
 
   serve_known : (h : ℕ) (hart : Hart) (o : Option Pending) → slot_on w h ≡ Some t → p.pending ≡ o → Known w (step.Serve h) (served w h hart t p o)
   serve_known h hart None on e = refused_known w k _ _
-  serve_known h hart (Some x) on e = served_known h hart x _ on e (reached_reaches (around w t) x.access x.address (begun w p) (first_rule (regions p) x.access x.address x.width) (k.pages t p here))
+  serve_known h hart (Some x) on e = served_known h hart x _ on e (reached_reaches (around w t) x.access x.address (begun w p) (first_rule p.scheme (regions p) x.access x.address x.width) (k.pages t p here))
 
   -- calls
 
-  image_known : (h : ℕ) (image : Image) (ls : List LoadSegment) (v : World) → slot_on w h ≡ Some t → image_loads image ≡ Ok ls → v.slots ≡ slice_set w.slots t (Some (process_of w.counter ls)) → Known w (step.Exec h image) (answers v reply.Done)
-  image_known h image ls v on e is = put_known _ _ _ _ is (image_sized w.counter ls)
-      (λ f. told_put w v h t _ (λ s a. image_byte (image_loads image) a) on f (λ a. byte_in-image w.counter ls a ∙ loads_byte_is ls a ∙ sym (ap (λ r. image_byte r a) e)))
+  image_known : (h : ℕ) (image : Image) (ls : List LoadSegment) (v : World) → slot_on w h ≡ Some t → image_loads w.scheme image ≡ Ok ls → v.slots ≡ slice_set w.slots t (Some (process_of w.scheme w.counter ls)) → Known w (step.Exec h image) (answers v reply.Done)
+  image_known h image ls v on e is = put_known _ _ _ _ is (image_sized w.scheme w.counter ls)
+      (λ f. told_put w v h t _ (λ s a. image_byte (image_loads w.scheme image) a) on f (λ a. byte_in-image w.scheme w.counter ls a ∙ loads_byte_is ls a ∙ sym (ap (λ r. image_byte r a) e)))
 
-  exec_unless : (h : ℕ) (image : Image) (ls : List LoadSegment) (b : Bool) → slot_on w h ≡ Some t → image_loads image ≡ Ok ls → Known w (step.Exec h image) (replaced_unless w t p ls b)
+  exec_unless : (h : ℕ) (image : Image) (ls : List LoadSegment) (b : Bool) → slot_on w h ≡ Some t → image_loads w.scheme image ≡ Ok ls → Known w (step.Exec h image) (replaced_unless w t p ls b)
   exec_unless h image ls true on e = refused_known w k _ _
   exec_unless h image ls false on e = image_known h image ls _ on e refl
 
-  exec_known : (h : ℕ) (image : Image) (r : Result (List LoadSegment) BadImage) → slot_on w h ≡ Some t → image_loads image ≡ r → Known w (step.Exec h image) (replaced w t p r)
+  exec_known : (h : ℕ) (image : Image) (r : Result (List LoadSegment) BadImage) → slot_on w h ≡ Some t → image_loads w.scheme image ≡ r → Known w (step.Exec h image) (replaced w t p r)
   exec_known h image (Err x) on e = refused_known w k _ _
   exec_known h image (Ok ls) on e = exec_unless h image ls _ on e
 
@@ -262,20 +262,20 @@ module _ (w : World) (k : Sized w) (t : ℕ) (p : Process) (here : process_in w 
 
 -- start
 
-start_unless : (w : World) → Sized w → (image : Image) (ls : List LoadSegment) (t : ℕ) (b : Bool) → image_loads image ≡ Ok ls → lowest_free 0 w.slots ≡ Some t → Known w (step.Start image) (started_unless w t ls b)
+start_unless : (w : World) → Sized w → (image : Image) (ls : List LoadSegment) (t : ℕ) (b : Bool) → image_loads w.scheme image ≡ Ok ls → lowest_free 0 w.slots ≡ Some t → Known w (step.Start image) (started_unless w t ls b)
 start_unless w k image ls t true e free = refused_known w k _ _
 start_unless w k image ls t false e free =
-    let f : Puts w t (Some (process_of w.counter ls)) (with_image w t ls) = set_puts w _ t _ (omega (arith, free_there w.slots 0 t free)) refl in
+    let f : Puts w t (Some (process_of w.scheme w.counter ls)) (with_image w t ls) = set_puts w _ t _ (omega (arith, free_there w.slots 0 t free)) refl in
     record {
-      sized = sized_process w _ t _ f (image_sized w.counter ls) k;
-      told = λ s a. held_put w _ t _ f s a ∙ ap (λ o. cond (t == s) o (held w s a)) (byte_in-image w.counter ls a ∙ loads_byte_is ls a ∙ sym (ap (λ r. image_byte r a) e));
+      sized = sized_process w _ t _ f (image_sized w.scheme w.counter ls) k;
+      told = λ s a. held_put w _ t _ f s a ∙ ap (λ o. cond (t == s) o (held w s a)) (byte_in-image w.scheme w.counter ls a ∙ loads_byte_is ls a ∙ sym (ap (λ r. image_byte r a) e));
     }
 
-start_as : (w : World) → Sized w → (image : Image) (r : Result (List LoadSegment) BadImage) (t : ℕ) → image_loads image ≡ r → lowest_free 0 w.slots ≡ Some t → Known w (step.Start image) (started_as w t r)
+start_as : (w : World) → Sized w → (image : Image) (r : Result (List LoadSegment) BadImage) (t : ℕ) → image_loads w.scheme image ≡ r → lowest_free 0 w.slots ≡ Some t → Known w (step.Start image) (started_as w t r)
 start_as w k image (Err x) t e free = refused_known w k _ _
 start_as w k image (Ok ls) t e free = start_unless w k image ls t _ e free
 
-start_known : (w : World) → Sized w → (image : Image) (o : Option ℕ) → lowest_free 0 w.slots ≡ o → Known w (step.Start image) (started w (image_loads image) o)
+start_known : (w : World) → Sized w → (image : Image) (o : Option ℕ) → lowest_free 0 w.slots ≡ o → Known w (step.Start image) (started w (image_loads w.scheme image) o)
 start_known w k image None free = refused_known w k _ _
 start_known w k image (Some t) free = start_as w k image _ t refl free
 

@@ -1,10 +1,10 @@
 -- The tables of pages are those of the set of pages, and no fewer for more pages.
-use Rattle.std.proofs.Common.{◌≡◌, ℕ, ◌≤◌, ◌/◌, ◌^◌, inl, inr, arith, List, ◌∷◌, map}
+use Rattle.std.proofs.Common.{◌≡◌, ℕ, ◌≤◌, ◌/◌, inl, inr, arith, refl, List, [], ◌∷◌, map}
+use Rattle.sv39_entry.specs.declared.scheme.Scheme.{Scheme}
 use Rattle.process_model.specs.PageMap.{NumberSet, insert, numbers, keys, count}
-use Rattle.process_model.specs.Frames.{tables_needed}
+use Rattle.process_model.specs.Frames.{tables_needed, tables_of_sizes, table_sizes}
 use Rattle.process_laws.proofs.SetSizes.{Within, within_map, numbers_have, numbers_have_only, insert_has, insert_has_only, count_same, count_grows}
-use Rattle.sv39_entry.specs.Address.{trampoline_page, trapframe_page}
-use Rattle.sv39_entry.specs.declared.scheme.Scheme.TheVariants.{Sv39}
+use Rattle.sv39_entry.specs.Schemes.{trampoline_page, trapframe_page}
 
 within_two : (a b : ℕ) (xs ys : List ℕ) → Within xs ys → Within (a ∷ b ∷ xs) (a ∷ b ∷ ys)
 within_two a b xs ys w q (inl e) = inl e
@@ -41,23 +41,31 @@ values_grow f a b c xs =
     let same : count (numbers (f c ∷ map f (a ∷ b ∷ xs))) ≡ values f a b (c ∷ xs) = count_same (map f (c ∷ a ∷ b ∷ xs)) (map f (a ∷ b ∷ c ∷ xs)) there back in
     omega (grown, same, arith)
 
-pub tables_same : (xs ys : List ℕ) → Within xs ys → Within ys xs → tables_needed Sv39 xs ≡ tables_needed Sv39 ys
-unfolding tables_needed
-tables_same xs ys v w =
-    let large = values_same (λ n. n / 2 ^ 18) trampoline_page trapframe_page xs ys v w in
-    let small = values_same (λ n. n / 2 ^ 9) trampoline_page trapframe_page xs ys v w in
-    rw (large, small)
+sizes_same : (sizes : List ℕ) (a b : ℕ) (xs ys : List ℕ) → Within xs ys → Within ys xs → tables_of_sizes sizes (a ∷ b ∷ xs) ≡ tables_of_sizes sizes (a ∷ b ∷ ys)
+sizes_same [] a b xs ys v w = refl
+sizes_same (size ∷ sizes) a b xs ys v w =
+    let here = values_same (λ n. n / size) a b xs ys v w in
+    let rest = sizes_same sizes a b xs ys v w in
+    omega (here, rest, arith)
 
-pub tables_grow : (page : ℕ) (xs : List ℕ) → tables_needed Sv39 xs ≤ tables_needed Sv39 (page ∷ xs)
+sizes_grow : (sizes : List ℕ) (a b page : ℕ) (xs : List ℕ) → tables_of_sizes sizes (a ∷ b ∷ xs) ≤ tables_of_sizes sizes (a ∷ b ∷ page ∷ xs)
+sizes_grow [] a b page xs = omega arith
+sizes_grow (size ∷ sizes) a b page xs =
+    let here = values_grow (λ n. n / size) a b page xs in
+    let rest = sizes_grow sizes a b page xs in
+    omega (here, rest, arith)
+
+pub tables_same : (z : Scheme) (xs ys : List ℕ) → Within xs ys → Within ys xs → tables_needed z xs ≡ tables_needed z ys
 unfolding tables_needed
-tables_grow page xs =
-    let large = values_grow (λ n. n / 2 ^ 18) trampoline_page trapframe_page page xs in
-    let small = values_grow (λ n. n / 2 ^ 9) trampoline_page trapframe_page page xs in
-    omega (large, small, arith)
+tables_same z xs ys v w = let all = sizes_same (table_sizes z) (trampoline_page z) (trapframe_page z) xs ys v w in omega (all, arith)
+
+pub tables_grow : (z : Scheme) (page : ℕ) (xs : List ℕ) → tables_needed z xs ≤ tables_needed z (page ∷ xs)
+unfolding tables_needed
+tables_grow z page xs = let all = sizes_grow (table_sizes z) (trampoline_page z) (trapframe_page z) page xs in omega (all, arith)
 
 -- the tables of the pages that went into a set
-pub tables_of_numbers : (xs : List ℕ) → tables_needed Sv39 (keys (numbers xs)) ≡ tables_needed Sv39 xs
-tables_of_numbers xs = tables_same (keys (numbers xs)) xs (numbers_have_only xs) (numbers_have xs)
+pub tables_of_numbers : (z : Scheme) (xs : List ℕ) → tables_needed z (keys (numbers xs)) ≡ tables_needed z xs
+tables_of_numbers z xs = tables_same z (keys (numbers xs)) xs (numbers_have_only xs) (numbers_have xs)
 
-pub tables_of_insert : (s : NumberSet) (page : ℕ) → tables_needed Sv39 (keys (insert s page tt)) ≡ tables_needed Sv39 (page ∷ keys s)
-tables_of_insert s page = tables_same (keys (insert s page tt)) (page ∷ keys s) (insert_has_only s page tt) (insert_has s page tt)
+pub tables_of_insert : (z : Scheme) (s : NumberSet) (page : ℕ) → tables_needed z (keys (insert s page tt)) ≡ tables_needed z (page ∷ keys s)
+tables_of_insert z s page = tables_same z (keys (insert s page tt)) (page ∷ keys s) (insert_has_only s page tt) (insert_has s page tt)

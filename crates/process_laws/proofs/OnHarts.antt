@@ -61,8 +61,8 @@ if_aligned true o r e = refl
 if_aligned false o r e = cc
 
 -- so does one that no rule denies
-granted_fits : (p : Process) (access : Access) (address w : ℕ) → is_width w ≡ true → first_rule (regions p) access address w ≡ None → address % 4096 + w ≤ 4096
-granted_fits p access address w e f = access_fits w address e (if_aligned (is_aligned address w) (copy_rule (regions p) access address) rule.Misaligned f)
+granted_fits : (p : Process) (access : Access) (address w : ℕ) → is_width w ≡ true → first_rule p.scheme (regions p) access address w ≡ None → address % 4096 + w ≤ 4096
+granted_fits p access address w e f = access_fits w address e (if_aligned (is_aligned address w) (copy_rule p.scheme (regions p) access address) rule.Misaligned f)
 
 -- facts of an outcome
 module _ (w : World) (Good : Outcome → Type 0) (quiet : (r : Refusal) → Good (refuses w r)) where

@@ -81,7 +81,7 @@ module _ (w : World) (h s : ℕ) (p : Process) (on : IsOn w h s p) (sound : IsSo
     exec_files t (Ok ls) = replace_files t ls _
 
     execs : Good exec (plain_step w exec)
-    execs = kernel_good w (Good exec) (as_it_was exec) h true _ (λ hart t q at here. subst (λ (z : Process). Good exec (replaced w t z (image_loads image))) (same_process w h s p on t q at here) (exec_files t (image_loads image)))
+    execs = kernel_good w (Good exec) (as_it_was exec) h true _ (λ hart t q at here. subst (λ (z : Process). Good exec (replaced w t z (image_loads w.scheme image))) (same_process w h s p on t q at here) (exec_files t (image_loads w.scheme image)))
 
   to_step : (x : Step) → Good x (plain_step w x) → Good x (step w x)
   to_step x = subst (Written x p w.files) (sym (step_files w x))

@@ -49,10 +49,12 @@ use Rattle.process_model.specs.declared.step.Reply.{Reply}
 use Rattle.process_model.specs.declared.step.Reply.TheVariants.{Done, Exited, Fault, OldSize, Ready, Refused}
 use Rattle.process_model.specs.declared.step.Step.{Step}
 use Rattle.process_model.specs.declared.step.Step.TheVariants as step_of
-use Rattle.sv39_entry.specs.Address.{page_of, trapframe_page}
+use Rattle.sv39_entry.specs.Address.{page_of}
 use Rattle.sv39_entry.specs.declared.access.Access.{Access}
 use Rattle.sv39_entry.specs.declared.access.Access.TheVariants as access
 use Rattle.sv39_entry.specs.declared.rule.Rule.{Rule}
+use Rattle.sv39_entry.specs.declared.scheme.Scheme.{Scheme}
+use Rattle.sv39_entry.specs.Schemes.{trapframe_page}
 use Rattle.process_laws.proofs.Children.{child_put}
 use Rattle.process_laws.proofs.Further.{answer_further, copied_in_far, copied_out_far, Further, FurtherIfOk, reached_further, still}
 
@@ -60,11 +62,11 @@ use Rattle.process_laws.proofs.Further.{answer_further, copied_in_far, copied_ou
 abbrev pub told_as : World → Step → Reply → Moment
 told_as w x r = record { before = w; step = x; reply = r; after = w }
 
-pub becomes_as : (m n : Moment) (h : ℕ) (p q : Process) → n.step ≡ m.step → n.reply ≡ m.reply → Becomes m h p q → Becomes n h p q
-becomes_as m n h p q step reply k =
+pub becomes_as : (m n : Moment) (h : ℕ) (p q : Process) → (n.before).scheme ≡ (m.before).scheme → n.step ≡ m.step → n.reply ≡ m.reply → Becomes m h p q → Becomes n h p q
+becomes_as m n h p q scheme step reply k =
     let told = subst (λ r. Becomes (record { before = m.before; step = m.step; reply = r; after = m.after }) h p q) (sym reply) k in
     let j = subst (λ x. Becomes (record { before = m.before; step = x; reply = n.reply; after = m.after }) h p q) (sym step) told in
-    record { waits = j.waits; stays = j.stays; remapped = j.remapped; vacant = j.vacant; below = j.below; forked = j.forked; unforked = j.unforked; base = j.base; stored = j.stored; cleared = j.cleared; size = j.size; old_size = j.old_size }
+    record { waits = j.waits; stays = j.stays; remapped = λ page inside. rw scheme (j.remapped page inside); vacant = j.vacant; below = j.below; forked = j.forked; unforked = j.unforked; base = j.base; stored = j.stored; cleared = j.cleared; size = rw scheme j.size; old_size = j.old_size }
 
 -- marks change no file
 
@@ -88,18 +90,18 @@ refused_unmoved (step_of.Mmap h len protection flags n) r page = refl
 refused_unmoved (step_of.Munmap h address len) r page = refl
 refused_unmoved _ r page = refl
 
-refused_size : (x : Step) (r : Refusal) (size : ℕ) → size_after x (Refused r) size ≡ pos size
-refused_size (step_of.Start image) r size = refl
-refused_size (step_of.Exec h image) r size = refl
-refused_size (step_of.Sbrk h delta) r size = refl
-refused_size _ r size = refl
+refused_size : (z : Scheme) (x : Step) (r : Refusal) (size : ℕ) → size_after z x (Refused r) size ≡ pos size
+refused_size z (step_of.Start image) r size = refl
+refused_size z (step_of.Exec h image) r size = refl
+refused_size z (step_of.Sbrk h delta) r size = refl
+refused_size z _ r size = refl
 
 module _ (w : World) (h s : ℕ) (p : Process) (on : IsOn w h s p) (x : Step) where
   abbrev Fate : Outcome → Type 0
   Fate o = Own w h s x p o
 
   -- no page is remapped
-  becomes : (r : Reply) (q : Process) → (IsMade r → is_unserved_access q.pending ≡ is_fault r) → ((page : ℕ) → is_remapped x r page ≡ false) → size_after x r p.size ≡ pos p.size → ((n : ℕ) → r ≢ OldSize n) → Further (is_stored_to p x) p q
+  becomes : (r : Reply) (q : Process) → (IsMade r → is_unserved_access q.pending ≡ is_fault r) → ((page : ℕ) → is_remapped x r page ≡ false) → size_after w.scheme x r p.size ≡ pos p.size → ((n : ℕ) → r ≢ OldSize n) → Further (is_stored_to p x) p q
       → Becomes (told_as w x r) h p q
   becomes r q waits none same calm f = record {
     waits = waits;
@@ -118,10 +120,10 @@ module _ (w : World) (h s : ℕ) (p : Process) (on : IsOn w h s p) (x : Step) wh
 
   -- no page is remapped, and the size stays
   abbrev Calm : Reply → Type 0
-  Calm r = ((page : ℕ) → is_remapped x r page ≡ false) × (size_after x r p.size ≡ pos p.size)
+  Calm r = ((page : ℕ) → is_remapped x r page ≡ false) × (size_after w.scheme x r p.size ≡ pos p.size)
 
   quiet : (r : Refusal) → Fate (refuses w r)
-  quiet r = Own.alive p on.lives refl (becomes (Refused r) p (λ made. absurd (made r refl)) (refused_unmoved x r) (refused_size x r p.size) (λ n e. absurd cc) (still (is_stored_to p x) p))
+  quiet r = Own.alive p on.lives refl (becomes (Refused r) p (λ made. absurd (made r refl)) (refused_unmoved x r) (refused_size w.scheme x r p.size) (λ n e. absurd cc) (still (is_stored_to p x) p))
 
   -- its slot has q then
   puts : (v : World) (r : Reply) (q : Process) → v.slots ≡ (with_process w s q).slots → is_end r ≡ false → Becomes (told_as w x r) h p q → Fate (answers v r)
@@ -159,7 +161,7 @@ module _ (w : World) (h s : ℕ) (p : Process) (on : IsOn w h s p) (x : Step) wh
 
   serve_fate : (hart : Hart) (o : Option Pending) → slice_get w.harts h ≡ Some hart → Calm Ready → ((a : Pending) → o ≡ Some a → is_store a.access ≡ true → is_stored_to p x (page_of a.address) ≡ true) → Fate (served w h hart s p o)
   serve_fate hart None there still goes = quiet _
-  serve_fate hart (Some a) there still goes = serve_or hart a _ there still (reached_further (is_stored_to p x) (around w s) (begun w p) a.access a.address (first_rule (regions p) a.access a.address a.width) (goes a refl))
+  serve_fate hart (Some a) there still goes = serve_or hart a _ there still (reached_further (is_stored_to p x) (around w s) (begun w p) a.access a.address (first_rule p.scheme (regions p) a.access a.address a.width) (goes a refl))
 
   -- copies
 
@@ -289,12 +291,12 @@ module _ (w : World) (h s : ℕ) (p : Process) (on : IsOn w h s p) where
     hole_fate m false around = puts w h s p on _ _ _ _ refl refl (record {
       waits = λ made. refl;
       stays = λ page out.
-          let k = unmapped_same p m (pages_for p.size) trapframe_page first end page (omega arith) out (sound.ordered).above around in
+          let k = unmapped_same p m (pages_for p.size) (trapframe_page p.scheme) first end page (omega arith) out (sound.ordered).above around in
           (k.grants, λ e. mark_at (λ z. z.stored_mark) (get (without_pages p first end).settled page) (get p.settled page) k.settled ∙ e);
       remapped = λ page inside. unmapped_given p sound.ordered page first end inside m around;
       vacant = λ page inside other. inr (unmapped_given p sound.ordered page first end inside m around);
       below = λ page inside. unmapped_above p sound.ordered page first end inside m around;
-      unforked = λ page out e. inl (mark_at (λ z. z.fork_mark) (get (without_pages p first end).settled page) (get p.settled page) (unmapped_same p m (pages_for p.size) trapframe_page first end page (omega arith) out (sound.ordered).above around).settled ∙ e);
+      unforked = λ page out e. inl (mark_at (λ z. z.fork_mark) (get (without_pages p first end).settled page) (get p.settled page) (unmapped_same p m (pages_for p.size) (trapframe_page p.scheme) first end page (omega arith) out (sound.ordered).above around).settled ∙ e);
       base = inl refl;
       forked = λ other page. released_mark (λ z. z.fork_mark) p first end page;
       stored = λ page e. inl (released_mark (λ z. z.stored_mark) p first end page e);
@@ -315,24 +317,24 @@ module _ (w : World) (h s : ℕ) (p : Process) (on : IsOn w h s p) where
     unfolding unmapped
     munmap_fate = if_fate _
 
-  exec_unless : (image : Image) (ls : List LoadSegment) (b : Bool) → image_loads image ≡ Ok ls → Own w h s (step_of.Exec h image) p (replaced_unless w s p ls b)
+  exec_unless : (image : Image) (ls : List LoadSegment) (b : Bool) → image_loads w.scheme image ≡ Ok ls → Own w h s (step_of.Exec h image) p (replaced_unless w s p ls b)
   exec_unless image ls true loads = quiet w h s p on _ _
-  exec_unless image ls false loads = puts w h s p on _ _ _ (process_of w.counter ls) refl refl (record {
-    waits = λ made. image_idle w.counter ls;
+  exec_unless image ls false loads = puts w h s p on _ _ _ (process_of w.scheme w.counter ls) refl refl (record {
+    waits = λ made. image_idle w.scheme w.counter ls;
     stays = λ page out. absurd cc;
-    remapped = λ page inside. image_given w.counter ls page ∙ ap (λ r. image_grant r page) (sym loads);
+    remapped = λ page inside. image_given w.scheme w.counter ls page ∙ ap (λ r. image_grant r page) (sym loads);
     vacant = λ page inside other. absurd (other image refl);
     below = λ page inside. refl;
     unforked = λ page out. absurd cc;
-    base = inr (image, refl, image_based w.counter ls);
-    forked = λ other page e. absurd (let no : true ≡ false = sym e ∙ (image_unmarked w.counter ls page).0 in cc);
-    stored = λ page e. absurd (let no : true ≡ false = sym e ∙ (image_unmarked w.counter ls page).1 in cc);
-    cleared = λ other e is. image_unmarked w.counter ls;
-    size = ap pos (image_sized w.counter ls ∙ ap image_size (sym loads));
+    base = inr (image, refl, image_based w.scheme w.counter ls);
+    forked = λ other page e. absurd (let no : true ≡ false = sym e ∙ (image_unmarked w.scheme w.counter ls page).0 in cc);
+    stored = λ page e. absurd (let no : true ≡ false = sym e ∙ (image_unmarked w.scheme w.counter ls page).1 in cc);
+    cleared = λ other e is. image_unmarked w.scheme w.counter ls;
+    size = ap pos (image_sized w.scheme w.counter ls ∙ ap image_size (sym loads));
     old_size = λ delta n e is. absurd cc;
   })
 
-  exec_fate : (image : Image) (r : Result (List LoadSegment) BadImage) → image_loads image ≡ r → Own w h s (step_of.Exec h image) p (replaced w s p r)
+  exec_fate : (image : Image) (r : Result (List LoadSegment) BadImage) → image_loads w.scheme image ≡ r → Own w h s (step_of.Exec h image) p (replaced w s p r)
   exec_fate image (Err e) loads = quiet w h s p on _ _
   exec_fate image (Ok ls) loads = exec_unless image ls _ loads
 
@@ -432,7 +434,7 @@ module _ (w : World) (h s : ℕ) (p : Process) (on : IsOn w h s p) where
   fork_own = call_own _ true _ (λ hart. fork_fate w h s p on (free_slot w) refl)
 
   exec_own : (image : Image) → FateOf (step_of.Exec h image)
-  exec_own image = call_own _ true _ (λ hart. exec_fate w h s p on image (image_loads image) refl)
+  exec_own image = call_own _ true _ (λ hart. exec_fate w h s p on image (image_loads w.scheme image) refl)
 
   sbrk_own : IsSound p → (delta : ℤ) → FateOf (step_of.Sbrk h delta)
   sbrk_own sound delta = call_own _ true _ (λ hart. sbrk_fate w h s p on sound delta)
@@ -472,7 +474,7 @@ module _ (w : World) (h s : ℕ) (p : Process) (on : IsOn w h s p) where
   own_plain sound (step_of.Exit k status) e = subst (λ n. FateOf (step_of.Exit n status)) (sym (same_Some k h e)) (exit_own status)
 
   as_step : (x : Step) → FateOf x → Own w h s x p (step w x)
-  as_step x (Own.alive q e lives k) = Own.alive q (step_process w x s ∙ e) (ap is_end (step_reply w x) ∙ lives) (becomes_as (told_as w x (plain_step w x).reply) (told_as w x (step w x).reply) h p q refl (step_reply w x) k)
+  as_step x (Own.alive q e lives k) = Own.alive q (step_process w x s ∙ e) (ap is_end (step_reply w x) ∙ lives) (becomes_as (told_as w x (plain_step w x).reply) (told_as w x (step w x).reply) h p q refl refl (step_reply w x) k)
   as_step x (Own.gone e is at written) = Own.gone (step_process w x s ∙ e) (ap is_end (step_reply w x) ∙ is) (step_at w x h None Idle at) (step_files w x ∙ written)
 
   pub owns : IsSound p → (x : Step) → maker x ≡ Some h → Own w h s x p (step w x)

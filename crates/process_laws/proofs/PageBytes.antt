@@ -11,6 +11,7 @@ use Rattle.std.proofs.lemmas.Option.{same_Some}
 use Rattle.std.proofs.lemmas.List.{length-append, length-take, length-drop, length-replicate, get_or_append_left, get_or-append_right, get_or-take, get_or-drop, length-take-le}
 use Rattle.sv39_entry.specs.Address.{page_of}
 use Rattle.sv39_entry.specs.declared.access.Access.{Access}
+use Rattle.sv39_entry.specs.declared.scheme.Scheme.{Scheme}
 use Rattle.process_model.specs.Bytes.{padded, write_bytes, pages_for}
 use Rattle.process_model.specs.PageMap.{PageMap, get, insert, only, each_value, from_list, empty}
 use Rattle.process_model.specs.Files.{File, bytes_of}
@@ -315,10 +316,10 @@ byte_in-listed fresh (e ∷ es) a =
     ∙ byte_cond (e.0 == page_of a) e.1 (contents (from_list (numbered (fresh + 1) es)) (page_of a)) (a % 4096)
     ∙ ap (cond (e.0 == page_of a) (Some (byte_at e.1 (a % 4096)))) (byte_in-listed (fresh + 1) es a)
 
-pub image_sized : (fresh : ℕ) (ls : List LoadSegment) → AllSized (process_of fresh ls).settled
+pub image_sized : (z : Scheme) (fresh : ℕ) (ls : List LoadSegment) → AllSized (process_of z fresh ls).settled
 unfolding process_of
-image_sized fresh ls = listed_sized fresh (image_pages ls) (image_long ls)
+image_sized z fresh ls = listed_sized fresh (image_pages ls) (image_long ls)
 
-pub byte_in-image : (fresh : ℕ) (ls : List LoadSegment) (a : ℕ) → byte_in (process_of fresh ls).settled a ≡ byte_in_pages (image_pages ls) a
+pub byte_in-image : (z : Scheme) (fresh : ℕ) (ls : List LoadSegment) (a : ℕ) → byte_in (process_of z fresh ls).settled a ≡ byte_in_pages (image_pages ls) a
 unfolding process_of
-byte_in-image fresh ls a = byte_in-listed fresh (image_pages ls) a
+byte_in-image z fresh ls a = byte_in-listed fresh (image_pages ls) a

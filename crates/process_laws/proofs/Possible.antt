@@ -75,7 +75,7 @@ access_goes w h s p kind address width value on in_user wide =
     let is : access_step w h kind address width value None ≡ told w h k.hart s (user_access p a) =
     hart_runs w h (is_width width) (λ hart. is_user hart.phase) (λ hart. entry_serves w.policy hart address None) (λ hart. with_its_process w hart (run hart)) k.hart k.there wide (ap is_user k.in_phase) refl
     ∙ process_runs w k.hart (run k.hart) s p (has_it w h s k.hart on.there k.there) on.lives in
-    same_made _ _ (ap (λ (o : Outcome). o.reply) is ∙ told_reply w h k.hart s (user_access p a) (is_fault (user_access p a).reply)) (denied_made p a (first_rule (regions p) kind address width))
+    same_made _ _ (ap (λ (o : Outcome). o.reply) is ∙ told_reply w h k.hart s (user_access p a) (is_fault (user_access p a).reply)) (denied_made p a (first_rule p.scheme (regions p) kind address width))
 
 plain_access : (w : World) (h s : ℕ) (p : Process) (a : Asked) (x : Step) → IsOn w h s p → IsIn w h User → Asks h None a x → is_width a.width ≡ true → IsMade (plain_step w x).reply
 plain_access w h s p a x on user (Asks.fetch {address}) wide = access_goes w h s p access.Fetch address 4 0 on user wide
@@ -100,7 +100,7 @@ service_made w h s p a on kernel =
     let fault : Pending = record { access = a.access; address = a.address; width = a.width; served = false } in
     let is : plain_step w (step.Serve h) ≡ served w h k.hart s q q.pending =
     hart_runs w h true (can_serve w) always (λ hart. with_its_process w hart (λ s p. served w h hart s p p.pending)) k.hart k.there refl can refl ∙ process_runs w k.hart (λ s p. served w h k.hart s p p.pending) s q runs on.lives in
-    same_made _ _ (step_reply w (step.Serve h) ∙ ap (λ (o : Outcome). o.reply) is) (served_made w h k.hart s q fault (reached (around w s) a.access a.address (begun w q) (first_rule (regions q) a.access a.address a.width)))
+    same_made _ _ (step_reply w (step.Serve h) ∙ ap (λ (o : Outcome). o.reply) is) (served_made w h k.hart s q fault (reached (around w s) a.access a.address (begun w q) (first_rule q.scheme (regions q) a.access a.address a.width)))
 
 -- ---- calls
 
@@ -159,7 +159,7 @@ module _ (w : World) (h s : ℕ) (p : Process) (on : IsOn w h s p) (quiet : is_u
 
   plain_possible : (x : Step) → Calls h x → IsPossible (plain_step w x).reply
   plain_possible x Calls.fork = call_possible true _ (λ hart. fork_possible (free_slot w))
-  plain_possible x (Calls.exec {image}) = call_possible true _ (λ hart. exec_possible (image_loads image))
+  plain_possible x (Calls.exec {image}) = call_possible true _ (λ hart. exec_possible (image_loads w.scheme image))
   plain_possible x (Calls.sbrk {delta}) = call_possible true _ (λ hart. (sbrk_calm w s p delta).possible)
   plain_possible x (Calls.mmap {len} {protection} {flags} {n}) = call_possible true _ (λ hart. (mmap_calm w s p w.files len protection flags n).possible)
   plain_possible x (Calls.munmap {address} {len}) = call_possible true _ (λ hart. (munmap_calm w s p w.files address len).possible)

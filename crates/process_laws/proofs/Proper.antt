@@ -11,7 +11,6 @@ use Rattle.process_laws.proofs.Kept.{none_on}
 use Rattle.process_laws.proofs.Possible.{stands}
 use Rattle.process_laws.specs.Moments.{slot_on}
 use Rattle.process_model.specs.declared.phase.Phase.TheVariants.{Idle, Kernel}
-use Rattle.sv39_entry.specs.Address.{trampoline_page}
 use Rattle.process_model.specs.Bytes.{is_width, pages_for}
 use Rattle.process_model.specs.Calls.{mapped_to}
 use Rattle.process_model.specs.Copies.{longest_copy}
@@ -29,6 +28,7 @@ use Rattle.process_model.specs.declared.step.Refusal.TheVariants.{BadArgument, F
 use Rattle.process_model.specs.declared.step.Reply.TheVariants.{Exited, InFrame, MappedAt, Done}
 use Rattle.process_model.specs.declared.step.Step.{Step}
 use Rattle.process_model.specs.declared.step.Step.TheVariants as step_of
+use Rattle.sv39_entry.specs.Schemes.{trampoline_page}
 
 not_true : (b : Bool) → not b ≡ true → b ≡ false
 not_true true e = absurd cc
@@ -142,7 +142,7 @@ module _ (w : World) where
   fetches h offset phase in_phase runs whole low e f =
       let k = stands w h phase in_phase in
       let fits : (offset % 4 == 0 && nat_lt offset 4096) ≡ true = rw (eq-eqb (offset % 4) 0 whole, lt-ltb offset 4096 low) refl in
-      let is = hart_runs w h (offset % 4 == 0 && nat_lt offset 4096) (λ hart. in_trampoline hart.phase) (λ hart. entry_serves w.policy hart (4096 * trampoline_page + offset) None) (λ hart. answers w (InFrame 0)) k.hart k.there fits (ap in_trampoline k.in_phase ∙ runs) refl in
+      let is = hart_runs w h (offset % 4 == 0 && nat_lt offset 4096) (λ hart. in_trampoline hart.phase) (λ hart. entry_serves w.policy hart (4096 * trampoline_page w.scheme + offset) None) (λ hart. answers w (InFrame 0)) k.hart k.there fits (ap in_trampoline k.in_phase ∙ runs) refl in
       let no = sym f ∙ step_reply w (step_of.TrampolineFetch h offset None) ∙ ap (λ (o : Outcome). o.reply) is in
       absurd cc
 

@@ -128,7 +128,7 @@ module _ (w : World) where
 
   plain_same : (x : Step) → Same (plain_step w x)
   unfolding Same
-  plain_same (step.Start image) = start_same (image_loads image) (free_slot w)
+  plain_same (step.Start image) = start_same (image_loads w.scheme image) (free_slot w)
   plain_same (step.Switch h slot) = on_hart_good w Same quiet h true _ _ _ (λ hart is _ e f. absurd cc)
   plain_same (step.Trap h) = on_hart_good w Same quiet h true _ _ _ (λ hart is _. its_good w Same quiet h hart _ is (λ t p on here e f. absurd cc))
   plain_same (step.Next h) = on_hart_good w Same quiet h true _ _ _ (λ hart is _ e f. absurd cc)
@@ -140,7 +140,7 @@ module _ (w : World) where
   plain_same (step.TrampolineFetch h offset via) = on_hart_good w Same quiet h _ _ _ _ (λ hart is _ e f. absurd cc)
   plain_same (step.Serve h) = on_hart_good w Same quiet h true _ _ _ (λ hart is _. its_good w Same quiet h hart _ is (λ t p on here. serve_same h hart t p p.pending))
   plain_same (step.Fork h) = kernel_good w Same quiet h true _ (λ hart t p on here. fork_same t p (free_slot w))
-  plain_same (step.Exec h image) = kernel_good w Same quiet h true _ (λ hart t p on here. exec_same t p (image_loads image))
+  plain_same (step.Exec h image) = kernel_good w Same quiet h true _ (λ hart t p on here. exec_same t p (image_loads w.scheme image))
   plain_same (step.Sbrk h delta) = kernel_good w Same quiet h true _ (λ hart t p on here. size_same t p _)
   plain_same (step.Mmap h len protection flags n) = kernel_good w Same quiet h true _ (λ hart t p on here. map_same t _)
   plain_same (step.Munmap h address len) = kernel_good w Same quiet h true _ (λ hart t p on here. unmap_same t _)

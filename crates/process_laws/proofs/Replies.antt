@@ -98,7 +98,7 @@ module _ (w : World) where
   out_suits h s address bytes c (Some r) = suits _ _ _ refl refl
 
   plain_suits : (x : Step) → Suits w x (plain_step w x)
-  plain_suits (step_of.Start image) = start_suits image (image_loads image) (free_slot w)
+  plain_suits (step_of.Start image) = start_suits image (image_loads w.scheme image) (free_slot w)
   plain_suits (step_of.Switch h slot) = on_hart_good w (Suits w _) (quiet _) h true _ _ _ (λ hart is _. suits _ _ _ refl refl)
   plain_suits (step_of.Trap h) = on_hart_good w (Suits w _) (quiet _) h true _ _ _ (λ hart is _. its_good w (Suits w _) (quiet _) h hart _ is (λ t p on here. suits _ _ _ refl refl))
   plain_suits (step_of.Next h) = on_hart_good w (Suits w _) (quiet _) h true _ _ _ (λ hart is _. suits _ _ _ refl refl)
@@ -113,7 +113,7 @@ module _ (w : World) where
   plain_suits (step_of.TrampolineFetch h offset via) = on_hart_good w (Suits w _) (quiet _) h _ _ _ _ (λ hart is _. suits _ _ _ refl refl)
   plain_suits (step_of.Serve h) = on_hart_good w (Suits w _) (quiet _) h true _ _ _ (λ hart is _. its_good w (Suits w _) (quiet _) h hart _ is (λ t p on here. serve_suits h hart t p p.pending))
   plain_suits (step_of.Fork h) = kernel_good w (Suits w _) (quiet _) h true _ (λ hart t p on here. fork_suits h t p (free_slot w))
-  plain_suits (step_of.Exec h image) = kernel_good w (Suits w _) (quiet _) h true _ (λ hart t p on here. exec_suits h image t p (image_loads image))
+  plain_suits (step_of.Exec h image) = kernel_good w (Suits w _) (quiet _) h true _ (λ hart t p on here. exec_suits h image t p (image_loads w.scheme image))
   plain_suits (step_of.Sbrk h delta) = kernel_good w (Suits w _) (quiet _) h true _ (λ hart t p on here. size_suits h t p delta _)
   plain_suits (step_of.Mmap h len protection flags n) = kernel_good w (Suits w _) (quiet _) h true _ (λ hart t p on here. map_suits h t len protection flags n _)
   plain_suits (step_of.Munmap h address len) = kernel_good w (Suits w _) (quiet _) h true _ (λ hart t p on here. unmap_suits h t address len _)
@@ -202,8 +202,8 @@ module _ (w : World) where
   unstarted None e made = made _ refl
   unstarted (Some s) e made = made _ refl
 
-  pub bad_start : (image : Image) (e : BadImage) → image_loads image ≡ Err e → IsMade (step w (step_of.Start image)).reply → ⊥
+  pub bad_start : (image : Image) (e : BadImage) → image_loads w.scheme image ≡ Err e → IsMade (step w (step_of.Start image)).reply → ⊥
   bad_start image e bad made = unstarted (free_slot w) e (subst (λ r. IsMade (started w r (free_slot w)).reply) bad (was_made w (step_of.Start image) made))
 
-  pub bad_exec : (h : ℕ) (image : Image) (e : BadImage) → image_loads image ≡ Err e → IsMade (step w (step_of.Exec h image)).reply → ⊥
+  pub bad_exec : (h : ℕ) (image : Image) (e : BadImage) → image_loads w.scheme image ≡ Err e → IsMade (step w (step_of.Exec h image)).reply → ⊥
   bad_exec h image e bad made = kernel_good w (λ o. IsMade o.reply → ⊥) (λ r made. made r refl) h true _ (λ hart t p on here. subst (λ r. IsMade (replaced w t p r).reply → ⊥) (sym bad) (λ made. made _ refl)) (was_made w (step_of.Exec h image) made)

@@ -18,7 +18,6 @@ use Rattle.process_laws.proofs.FreshCopies.{copies_below}
 use Rattle.process_laws.proofs.FreeFrames.{different, spent}
 use Rattle.sv39_entry.specs.declared.access.Access.{Access}
 use Rattle.sv39_entry.specs.declared.rule.Rule.{Rule}
-use Rattle.sv39_entry.specs.declared.scheme.Scheme.TheVariants.{Sv39}
 
 -- a number in the place of one that others have too
 changed_only : (n c : ℕ) (xs ys rs : List ℕ) → Within ((xs ++ n ∷ ys) ++ rs) (n ∷ ((xs ++ c ∷ ys) ++ rs))
@@ -67,9 +66,9 @@ module _ (w : World) (s : ℕ) (p : Process) (full : slice_get w.slots s ≡ Som
         let r : Process = settled_anew w.files w.counter p access page in
         let copies : count (numbers (copies_of r ++ others)) ≡ count (numbers (copies_of p ++ others)) + 1 =
         one_more (copies_of r) (longer_only w.counter (copies_of r) (copies_of p) others (put_only page x p.settled.entries none)) (longer_has w.counter (copies_of r) (copies_of p) others (put_has page x p.settled.entries none)) in
-        let grow : tables_of p ≤ tables_needed Sv39 (page ∷ keys p.tabled) = tables_grow page (keys p.tabled) in
-        let tables : tables_of r ≡ tables_needed Sv39 (page ∷ keys p.tabled) = tables_of_insert p.tabled page in
-        takes r 1 (tables_needed Sv39 (page ∷ keys p.tabled) - tables_of p) copies (omega (grow, tables, arith))
+        let grow : tables_of p ≤ tables_needed p.scheme (page ∷ keys p.tabled) = tables_grow p.scheme page (keys p.tabled) in
+        let tables : tables_of r ≡ tables_needed p.scheme (page ∷ keys p.tabled) = tables_of_insert p.scheme p.tabled page in
+        takes r 1 (tables_needed p.scheme (page ∷ keys p.tabled) - tables_of p) copies (omega (grow, tables, arith))
 
     -- a page in the place of another, with a new number where others have the old one
     taking : (page : ℕ) (x y : Page) (b : Bool) → get p.settled page ≡ Some x → y.copy ≡ cond b w.counter x.copy → (b ≡ true → others_have w s x.copy ≡ true) → Takes (with_page p page y) (part_need b)
@@ -107,5 +106,5 @@ service_spends w s page p access g new here absent done =
       | true ↦ λ _ done. absurd (cc)
       | false ↦ λ wet done.
           let is : free (with_progress w s g) ≡ free (record w { slots = slice_set w.slots s (Some r); counter = w.counter + 1 }) = sym (ap (free_of w s) done) in
-          rw is (spent w.frames need w.slots (slice_set w.slots s (Some r)) (length-set w.slots s (Some r)) t.grown (ap (is_dry w) (omega arith) ∙ wet))
+          rw is (spent w.scheme w.frames need w.slots (slice_set w.slots s (Some r)) (length-set w.slots s (Some r)) t.grown (ap (is_dry w) (omega arith) ∙ wet))
     ] refl (rw absent at done)

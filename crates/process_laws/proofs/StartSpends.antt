@@ -23,7 +23,6 @@ use Rattle.process_laws.proofs.FreeFrames.{different, spent}
 use Rattle.process_laws.proofs.DistinctPages.{Rises, image_rises}
 use Rattle.process_laws.proofs.ImageOrder.{accepted_is_placed}
 use Rattle.process_model.specs.declared.image.Image.{Image}
-use Rattle.sv39_entry.specs.declared.scheme.Scheme.TheVariants.{Sv39}
 
 -- the pages of an image as they are settled, with copy numbers from one on
 abbrev settled_from : ℕ → List (ℕ × List ℕ) → PageMap Page
@@ -73,20 +72,20 @@ count_image low fresh (e ∷ es) ns r below =
     count_image (e.0 + 1) (fresh + 1) es ns r.1 (λ q i. let low : q < fresh = below q i in omega (low, arith)) in
     omega (same, one, others, arith)
 
-pub start_spends : (w : World) (s : ℕ) (image : Image) (ls : List LoadSegment) → HasNewCopies w → free_slot w ≡ Some s → image_loads image ≡ Ok ls → is_dry w (start_need ls) ≡ false
-    → free (with_image w s ls) + start_need ls ≡ free w
+pub start_spends : (w : World) (s : ℕ) (image : Image) (ls : List LoadSegment) → HasNewCopies w → free_slot w ≡ Some s → image_loads w.scheme image ≡ Ok ls → is_dry w (start_need w.scheme ls) ≡ false
+    → free (with_image w s ls) + start_need w.scheme ls ≡ free w
 unfolding process_of
 start_spends w s image ls new to loaded wet =
     let empty : slice_get w.slots s ≡ Some None = empty_slot w.slots 0 s s to (omega arith) in
-    let p : Process = process_of w.counter ls in
+    let p : Process = process_of w.scheme w.counter ls in
     let after : List (Option Process) = slice_set w.slots s (Some p) in
     let put : different after ≡ count (numbers (copies_of p ++ all_copies (slice_set w.slots s None))) = count_set w.slots s None (Some p) empty in
     let alone : count (numbers (copies_of p ++ all_copies (slice_set w.slots s None))) ≡ count (numbers (copies_of p ++ all_copies w.slots)) =
     ap (λ (xs : List (Option Process)). count (numbers (copies_of p ++ all_copies xs))) (set_same w.slots s None empty) in
     let pages : count (numbers (copies_of p ++ all_copies w.slots)) ≡ different w.slots + length (image_pages ls) =
-    count_image 0 w.counter (image_pages ls) (all_copies w.slots) (image_rises image ls loaded) (copies_below w new) in
+    count_image 0 w.counter (image_pages ls) (all_copies w.slots) (image_rises w.scheme image ls loaded) (copies_below w new) in
     let sums : sum_by own_frames (live after) + 0 ≡ sum_by own_frames (live w.slots) + own_frames p = sum_set own_frames w.slots s None (Some p) empty in
-    let tables : own_frames p ≡ 1 + tables_needed Sv39 (page_numbers ls) = ap (λ n. 1 + n) (tables_of_numbers (page_numbers ls)) in
-    let need : exec_need ls ≡ length (page_numbers ls) + tables_needed Sv39 (page_numbers ls) = exec_need_is ls (accepted_is_placed image ls loaded) in
+    let tables : own_frames p ≡ 1 + tables_needed w.scheme (page_numbers ls) = ap (λ n. 1 + n) (tables_of_numbers w.scheme (page_numbers ls)) in
+    let need : exec_need w.scheme ls ≡ length (page_numbers ls) + tables_needed w.scheme (page_numbers ls) = exec_need_is w.scheme ls (accepted_is_placed w.scheme image ls loaded) in
     let long : length (page_numbers ls) ≡ length (image_pages ls) = length-map (image_pages ls) (λ e. e.0) in
-    spent w.frames (start_need ls) w.slots after (length-set w.slots s (Some p)) (omega (put, alone, pages, sums, tables, need, long, arith)) wet
+    spent w.scheme w.frames (start_need w.scheme ls) w.slots after (length-set w.slots s (Some p)) (omega (put, alone, pages, sums, tables, need, long, arith)) wet

@@ -65,7 +65,7 @@ module _ (w : World) (x : Step) where
   module _ (sized : Sized w) (sound : (s : ℕ) (p : Process) → process_in w s ≡ Some p → IsSound p) where
     answers_user : (h s : ℕ) (p : Process) (a : Asked) → AnswersUser m h s p a
     answers_user h s p a = record {
-      apart = λ lives rule g f. granted_is_denied_by_none (regions p) a.access a.address a.width rule (sound_grants p a (sound s p lives) g) f.denies;
+      apart = λ lives rule g f. granted_is_denied_by_none p.scheme (regions p) a.access a.address a.width rule (sound_grants p a (sound s p lives) g) f.denies;
       answered = λ t g resident. users.answers w sound h s p a t.via x t.on t.asks t.made g resident;
       faults = λ t not. faults w h s p a t.via x t.on t.asks t.made not;
       served = λ t g. subst (λ (y : Step). (((step w y).reply ≡ Ready) × ((q : Process) → process_in (step w y).world s ≡ Some q → IsResident q a)) ⊎ ((step w y).reply ≡ Ended NoFrame)) (sym t.serves)
@@ -83,7 +83,7 @@ module _ (w : World) (x : Step) where
         by : Own w h s x p (step w x) → Written x p w.files ((step w x).world).files → ChangesOwn m h s p
         by (Own.alive q e lives k) written = record {
           files = written;
-          lives = λ _. (q, e, becomes_as (told_as w x (step w x).reply) m h p q refl refl k);
+          lives = λ _. (q, e, becomes_as (told_as w x (step w x).reply) m h p q refl refl refl k);
           gone = λ is. absurd (let no : true ≡ false = sym is ∙ lives in cc);
           child = children;
         }
@@ -126,7 +126,7 @@ module _ (w : World) (x : Step) where
         slots = k.places;
       }
 
-  refuses_bad : (image : Image) (e : BadImage) (y : Step) → Loads image y → image_loads image ≡ Err e → IsMade (step w y).reply → ⊥
+  refuses_bad : (image : Image) (e : BadImage) (y : Step) → Loads image y → image_loads w.scheme image ≡ Err e → IsMade (step w y).reply → ⊥
   refuses_bad image e y Loads.start bad made = bad_start w image e bad made
   refuses_bad image e y (Loads.exec {h}) bad made = bad_exec w h image e bad made
 
@@ -205,7 +205,7 @@ module _ (w : World) (x : Step) where
     } where
       Replaces : Step → Image → Type 0
       Replaces y image = (n : ℕ) × IsDry (moment_of w y) n × ((frames : ℕ) → IsDry (elsewhere (moment_of w y) frames) n)
-          × ((step w y).reply ≡ Done → (u : World) (s : ℕ) → free_slot u ≡ Some s → IsDry (moment_of u (Start image)) (n + 1))
+          × ((step w y).reply ≡ Done → (u : World) (s : ℕ) → u.scheme ≡ w.scheme → free_slot u ≡ Some s → IsDry (moment_of u (Start image)) (n + 1))
 
   -- ---- bytes
 

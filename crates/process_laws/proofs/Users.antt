@@ -8,6 +8,7 @@ use Rattle.process_laws.proofs.OnHarts.{asks}
 use Rattle.process_laws.proofs.Running.{has_it, process_runs, ran_on, set_lives, step_process, step_reply, was_made}
 use Rattle.process_laws.proofs.Standing.{made_stands}
 use Rattle.process_laws.specs.Words.{Asked, Asks, Forbids, IsAnswer, IsResident, IsGranted, IsMade, IsOn, waiting}
+use Rattle.process_model.specs.ReachedPages.{made_settles}
 use Rattle.process_model.specs.Around.{is_shared_page, Progress, reached, resident_at, unless_dry, unless_resident}
 use Rattle.process_model.specs.Bytes.{is_width}
 use Rattle.process_model.specs.Files.{File}
@@ -85,7 +86,7 @@ same_from files fresh shared p access page (Some x) = same_unless fresh shared p
 
 -- the access of this process was granted, and its page stands
 pub record IsReady (p : Process) (a : Asked) : Type 0 where
-  pub granted : first_rule (regions p) a.access a.address a.width ≡ None
+  pub granted : first_rule p.scheme (regions p) a.access a.address a.width ≡ None
   pub resident : is_resident p a.access (page_of a.address) ≡ true
 
 -- a service makes the access ready, or finds too few frames; and if it made it ready, the page stands
@@ -97,13 +98,13 @@ module _ (w : World) (h s : ℕ) (p : Process) (hart : Hart) (a : Asked) (lives 
   abbrev page : ℕ
   page = page_of a.address
 
-  module _ (none : first_rule (regions p) a.access a.address a.width ≡ None) where
-    ok_serves : (g : Progress) → regions g.process ≡ regions p → is_resident g.process a.access page ≡ true → Serves w h s hart p a (Ok g)
-    ok_serves g same resident = record {
+  module _ (none : first_rule p.scheme (regions p) a.access a.address a.width ≡ None) where
+    ok_serves : (g : Progress) → regions g.process ≡ regions p → g.process.scheme ≡ p.scheme → is_resident g.process a.access page ≡ true → Serves w h s hart p a (Ok g)
+    ok_serves g same alike resident = record {
       says = inl refl;
       ready = λ q e there.
           let is : (with_served g (fault_of a)).process ≡ q = same_Some _ q (sym (set_lives w.slots s p ((with_served g (fault_of a)).process) lives) ∙ there) in
-          subst (λ (z : Process). IsReady z a) is (record { granted = ap (λ rs. first_rule rs a.access a.address a.width) same ∙ none; resident = resident });
+          subst (λ (z : Process). IsReady z a) is (record { granted = ap (λ rs. first_rule g.process.scheme rs a.access a.address a.width) same ∙ ap (λ z. first_rule z (regions p) a.access a.address a.width) alike ∙ none; resident = resident });
     }
 
     dry_serves : (need : ℕ) (b : Bool) → Serves w h s hart p a (unless_dry (around w s) a.access page (begun w p) need b)
@@ -111,27 +112,27 @@ module _ (w : World) (h s : ℕ) (p : Process) (hart : Hart) (a : Asked) (lives 
     dry_serves need false =
         let shared = is_shared_page (around w s) p page in
         ok_serves (record { process = made_resident w.files w.counter shared p a.access page; fresh = w.counter + 1; taken = 0 + need })
-        (same_from w.files w.counter shared p a.access page _) (made_stands w.files w.counter shared p a.access page)
+        (same_from w.files w.counter shared p a.access page _) (made_settles w.files w.counter shared a.access page p).scheme (made_stands w.files w.counter shared p a.access page)
 
     resident_serves : (b : Bool) → is_resident p a.access page ≡ b → Serves w h s hart p a (unless_resident (around w s) a.access page (begun w p) b)
-    resident_serves true e = ok_serves (begun w p) refl e
+    resident_serves true e = ok_serves (begun w p) refl refl e
     resident_serves false e = dry_serves _ _
 
     page_serves : Serves w h s hart p a (resident_at (around w s) a.access page (begun w p))
     unfolding resident_at
     page_serves = resident_serves _ refl
 
-  rule_serves : (o : Option Rule) → o ≡ None → first_rule (regions p) a.access a.address a.width ≡ o → Serves w h s hart p a (reached (around w s) a.access a.address (begun w p) o)
+  rule_serves : (o : Option Rule) → o ≡ None → first_rule p.scheme (regions p) a.access a.address a.width ≡ o → Serves w h s hart p a (reached (around w s) a.access a.address (begun w p) o)
   rule_serves None e is = page_serves is
   rule_serves (Some r) e is = absurd cc
 
-  rule_ends : (o : Option Rule) → first_rule (regions p) a.access a.address a.width ≡ o → (IsGranted p a → ⊥)
+  rule_ends : (o : Option Rule) → first_rule p.scheme (regions p) a.access a.address a.width ≡ o → (IsGranted p a → ⊥)
       → (rule : Rule) × ((served_or_ended w h hart s p (fault_of a) (reached (around w s) a.access a.address (begun w p) o)).reply ≡ Ended rule) × Forbids p a rule
   rule_ends None e not = absurd (not (granted_by p a e))
-  rule_ends (Some r) e not = (r, refl, answered_is_first (regions p) a.access a.address a.width r e)
+  rule_ends (Some r) e not = (r, refl, answered_is_first p.scheme (regions p) a.access a.address a.width r e)
 
   -- where it was made ready, it had been granted
-  rule_readies : (o : Option Rule) → first_rule (regions p) a.access a.address a.width ≡ o → (served_or_ended w h hart s p (fault_of a) (reached (around w s) a.access a.address (begun w p) o)).reply ≡ Ready
+  rule_readies : (o : Option Rule) → first_rule p.scheme (regions p) a.access a.address a.width ≡ o → (served_or_ended w h hart s p (fault_of a) (reached (around w s) a.access a.address (begun w p) o)).reply ≡ Ready
       → (q : Process) → process_in (served_or_ended w h hart s p (fault_of a) (reached (around w s) a.access a.address (begun w p) o)).world s ≡ Some q → IsReady q a
   rule_readies None e r q there = (page_serves e).ready q r there
   rule_readies (Some rule) e r q there = absurd cc

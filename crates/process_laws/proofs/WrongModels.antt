@@ -67,7 +67,7 @@ pub mapped_as_asked : (m : Moment) (h len protection flags n at page : ℕ) (p q
     → is_between (page_of at) (page_of at + pages_for len) page ≡ true → grant q page ≡ Some (mapping_grant protection flags n (page - page_of at))
 mapped_as_asked m h len protection flags n at page p q k step reply inside =
     k.remapped page (ap (λ x. is_remapped x m.reply page) step ∙ ap (λ r. is_remapped (Mmap h len protection flags n) r page) reply ∙ inside)
-    ∙ ap (λ x. grant_after x m.reply page) step ∙ ap (λ r. grant_after (Mmap h len protection flags n) r page) reply
+    ∙ ap (λ x. grant_after (m.before).scheme x m.reply page) step ∙ ap (λ r. grant_after (m.before).scheme (Mmap h len protection flags n) r page) reply
 
 -- a service that holds back the stores to come, as a fork does
 pub no_mark_by_service : (m : Moment) (h page : ℕ) (p q : Process) → Becomes m h p q → m.step ≡ Serve h → has_fork_mark p page ≡ false → has_fork_mark q page ≡ false
@@ -113,7 +113,7 @@ pub copy_of_another_kind : (m : Moment) (h address : ℕ) (bytes : _) (copied : 
 copy_of_another_kind m h address bytes copied k step is = false≢true (sym (ap (λ x. is_reply x m.reply) step ∙ ap (is_reply (CopyOut h address bytes)) is) ∙ k.replies)
 
 -- a start of a bad image
-pub bad_image_never_starts : (m : Moment) (image : Image) (e : BadImage) (s : ℕ) → MakesSteps m → m.step ≡ Start image → image_loads image ≡ Err e → m.reply ≢ Started s
+pub bad_image_never_starts : (m : Moment) (image : Image) (e : BadImage) (s : ℕ) → MakesSteps m → m.step ≡ Start image → image_loads (m.before).scheme image ≡ Err e → m.reply ≢ Started s
 bad_image_never_starts m image e s k step bad is = k.bad_image image e (subst (Loads image) (sym step) Loads.start) bad (λ r f. let no = sym is ∙ f in absurd cc)
 
 -- a call of the kernel on a hart that has no process

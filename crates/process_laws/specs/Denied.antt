@@ -1,7 +1,9 @@
 -- What each rule forbids by itself, whatever the others say.
 use Rattle.std.specs.Prelude.{◌≡◌, ◌≢◌, ◌⊎◌, ◌≤◌, ◌<◌, ◌%◌, ℕ, false, None, Some, List}
+use Rattle.sv39_entry.specs.declared.scheme.Scheme.{Scheme}
 use Rattle.process_model.specs.Regions.{Region, guard, region_at}
-use Rattle.sv39_entry.specs.Address.{page_of, maxva, trampoline_page, trapframe_page}
+use Rattle.sv39_entry.specs.Address.{page_of}
+use Rattle.sv39_entry.specs.Schemes.{maxva, trampoline_page, trapframe_page}
 use Rattle.sv39_entry.specs.RuleText.{rule_number}
 use Rattle.sv39_entry.specs.declared.access.Access.{Access}
 use Rattle.sv39_entry.specs.declared.access.Access.TheVariants.{Fetch, Load, Store}
@@ -9,18 +11,18 @@ use Rattle.sv39_entry.specs.declared.rule.Rule.{Rule}
 use Rattle.sv39_entry.specs.declared.rule.Rule.TheVariants.{Misaligned, BeyondMax, KernelPage, GuardPage, NoRegion, NoRead, NoWrite, NoExec, NoFrame}
 
 -- NoFrame forbids nothing that the regions grant
-abbrev pub Denies : List Region → Access → ℕ → ℕ → Rule → Type 0
-Denies regions access address width Misaligned = address % width ≢ 0
-Denies regions access address width BeyondMax = maxva ≤ address
-Denies regions access address width KernelPage = (page_of address ≡ trampoline_page) ⊎ (page_of address ≡ trapframe_page)
-Denies regions access address width GuardPage = (r : Region) × (region_at regions (page_of address) ≡ Some r) × (r.kind ≡ guard)
-Denies regions access address width NoRegion = region_at regions (page_of address) ≡ None
-Denies regions access address width NoRead = (access ≡ Load) × ((r : Region) × (region_at regions (page_of address) ≡ Some r) × (r.reads ≡ false))
-Denies regions access address width NoWrite = (access ≡ Store) × ((r : Region) × (region_at regions (page_of address) ≡ Some r) × (r.writes ≡ false))
-Denies regions access address width NoExec = (access ≡ Fetch) × ((r : Region) × (region_at regions (page_of address) ≡ Some r) × (r.executes ≡ false))
-Denies regions access address width NoFrame = ⊥
+abbrev pub Denies : Scheme → List Region → Access → ℕ → ℕ → Rule → Type 0
+Denies s regions access address width Misaligned = address % width ≢ 0
+Denies s regions access address width BeyondMax = maxva s ≤ address
+Denies s regions access address width KernelPage = (page_of address ≡ trampoline_page s) ⊎ (page_of address ≡ trapframe_page s)
+Denies s regions access address width GuardPage = (r : Region) × (region_at regions (page_of address) ≡ Some r) × (r.kind ≡ guard)
+Denies s regions access address width NoRegion = region_at regions (page_of address) ≡ None
+Denies s regions access address width NoRead = (access ≡ Load) × ((r : Region) × (region_at regions (page_of address) ≡ Some r) × (r.reads ≡ false))
+Denies s regions access address width NoWrite = (access ≡ Store) × ((r : Region) × (region_at regions (page_of address) ≡ Some r) × (r.writes ≡ false))
+Denies s regions access address width NoExec = (access ≡ Fetch) × ((r : Region) × (region_at regions (page_of address) ≡ Some r) × (r.executes ≡ false))
+Denies s regions access address width NoFrame = ⊥
 
 -- the rule denies the access, and none with a smaller number does
-pub record IsFirst (regions : List Region) (access : Access) (address width : ℕ) (rule : Rule) : Type 0 where
-  pub denies : Denies regions access address width rule
-  pub first : (other : Rule) → rule_number other < rule_number rule → Denies regions access address width other → ⊥
+pub record IsFirst (s : Scheme) (regions : List Region) (access : Access) (address width : ℕ) (rule : Rule) : Type 0 where
+  pub denies : Denies s regions access address width rule
+  pub first : (other : Rule) → rule_number other < rule_number rule → Denies s regions access address width other → ⊥

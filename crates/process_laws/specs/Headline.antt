@@ -1,4 +1,4 @@
--- THE HEADLINE: what a process of xv6 on Sv39 may rely on, whatever the harts do.
+-- THE HEADLINE: what a process of xv6 on Sv39 or Sv48 may rely on, whatever the harts do.
 --
 -- The harts have made any list of steps since boot, and now make one more. `past` has the moments before, the newest first. `m` is the
 -- moment now: the step, its reply, the world before it and the world after it. The reply of `m` is what the machine answered; worlds, and
@@ -81,7 +81,7 @@ pub record CountsFrames (m : Moment) : Type 0 where
   -- An exec that is done needs one less than a start of the same image in any world with a free slot, since the process keeps its trapframe;
   -- the frames of its old pages do not count as free
   pub replaces : (h : ℕ) (image : Image) → m.step ≡ Exec h image → (n : ℕ) × IsDry m n × ((frames : ℕ) → IsDry (elsewhere m frames) n)
-      × (m.reply ≡ Done → (u : World) (s : ℕ) → free_slot u ≡ Some s → IsDry (moment_of u (Start image)) (n + 1))
+      × (m.reply ≡ Done → (u : World) (s : ℕ) → u.scheme ≡ (m.before).scheme → free_slot u ≡ Some s → IsDry (moment_of u (Start image)) (n + 1))
   -- No other step says NoFrame or takes a frame
   pub no_other : takes_frames m.step ≡ false → ((h : ℕ) (image : Image) → m.step ≢ Exec h image) → (tells_no_frame m.reply ≡ false) × (free m.before ≤ free m.after)
 
@@ -119,7 +119,7 @@ pub record Becomes (m : Moment) (h : ℕ) (p q : Process) : Type 0 where
   pub stays : (page : ℕ) → is_remapped m.step m.reply page ≡ false → (grant q page ≡ grant p page) × (has_stored_mark p page ≡ true → has_stored_mark q page ≡ true)
   -- Such a page has what the call gives; only exec puts one grant in the place of another; sbrk leaves the pages below the heap as they are,
   -- mmap and munmap the heap too
-  pub remapped : (page : ℕ) → is_remapped m.step m.reply page ≡ true → grant q page ≡ grant_after m.step m.reply page
+  pub remapped : (page : ℕ) → is_remapped m.step m.reply page ≡ true → grant q page ≡ grant_after (m.before).scheme m.step m.reply page
   pub vacant : (page : ℕ) → is_remapped m.step m.reply page ≡ true → ((image : Image) → m.step ≢ Exec h image) → (grant p page ≡ None) ⊎ (grant q page ≡ None)
   pub below : (page : ℕ) → is_remapped m.step m.reply page ≡ true → may_remap p m.step page ≡ true
   -- Only a fork adds a fork mark, and only the service of a store and a copy to the page take it away; these alone add a stored mark. After
@@ -129,7 +129,7 @@ pub record Becomes (m : Moment) (h : ℕ) (p q : Process) : Type 0 where
   pub stored : (page : ℕ) → has_stored_mark q page ≡ true → (has_stored_mark p page ≡ true) ⊎ (is_stored_to p m.step page ≡ true)
   pub cleared : (image : Image) → m.step ≡ Exec h image → m.reply ≡ Done → (page : ℕ) → (has_fork_mark q page ≡ false) × (has_stored_mark q page ≡ false)
   -- The size is what sbrk or exec makes of it, else what it was; sbrk replies the old one. The heap's base stays but for exec
-  pub size : pos q.size ≡ size_after m.step m.reply p.size
+  pub size : pos q.size ≡ size_after (m.before).scheme m.step m.reply p.size
   pub base : (q.heap_base ≡ p.heap_base) ⊎ ((image : Image) × (m.step ≡ Exec h image) × (q.heap_base ≡ q.size))
   pub old_size : (delta : ℤ) (n : ℕ) → m.step ≡ Sbrk h delta → m.reply ≡ OldSize n → n ≡ p.size
 

@@ -113,8 +113,8 @@ forgotten w h old s a = if has_slot s (slot_on w h) then None else old s a
 -- put their bytes. A service and a copy settle pages. sbrk and munmap release pages; exec and an end release all. No other step changes a
 -- byte or removes one
 abbrev pub left_by : World → Step → Reply → Knowledge → ℕ → ℕ → Option ℕ
-left_by w (Start image) (Started t) old s a = if t == s then image_byte (image_loads image) a else old s a
-left_by w (Exec h image) Done old s a = if has_slot s (slot_on w h) then image_byte (image_loads image) a else old s a
+left_by w (Start image) (Started t) old s a = if t == s then image_byte (image_loads w.scheme image) a else old s a
+left_by w (Exec h image) Done old s a = if has_slot s (slot_on w h) then image_byte (image_loads w.scheme image) a else old s a
 left_by w (Fork h) (Forked t) old s a = if t == s then of_slot old (slot_on w h) a else old s a
 left_by w (Store h address width value via) Stored old s a =
     if has_slot s (slot_on w h) && is_among address width a then Some (byte_at (low_bytes value width) (a - address)) else old s a

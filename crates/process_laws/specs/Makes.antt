@@ -33,7 +33,7 @@ pub record MakesOwn (m : Moment) (h s : ℕ) (p : Process) : Type 0 where
   -- and if p waits for none, a fork if a slot is free, and an exec of a good image, unless they lack frames; a copy of at most 256 bytes; an
   -- exit. Any other call may be refused, but not as Impossible. While p waits no call is made
   pub fork : (t : ℕ) → MayCall m.before h p → m.step ≡ Fork h → free_slot m.before ≡ Some t → tells_no_frame m.reply ≡ false → IsMade m.reply
-  pub exec : (image : Image) (ls : List LoadSegment) → MayCall m.before h p → m.step ≡ Exec h image → image_loads image ≡ Ok ls → tells_no_frame m.reply ≡ false → IsMade m.reply
+  pub exec : (image : Image) (ls : List LoadSegment) → MayCall m.before h p → m.step ≡ Exec h image → image_loads (m.before).scheme image ≡ Ok ls → tells_no_frame m.reply ≡ false → IsMade m.reply
   pub copy : (n : ℕ) → MayCall m.before h p → CopiesBytes h n m.step → n ≤ longest_copy → IsMade m.reply
   pub exit : (status : ℤ) → MayCall m.before h p → m.step ≡ Exit h status → IsMade m.reply
   pub call : (phase : Phase) → MayCall m.before h p → Calls h m.step → m.reply ≢ Refused (Impossible phase)
@@ -56,9 +56,9 @@ pub record MakesSteps (m : Moment) : Type 0 where
   pub few : (h n : ℕ) → CopiesBytes h n m.step → IsMade m.reply → n ≤ longest_copy
   -- A good image starts in the lowest free slot, unless it lacks frames, with its pages, no mark, and an empty heap. A bad one neither starts nor
   -- takes the place of a process
-  pub start : (image : Image) (s : ℕ) (ls : List LoadSegment) → free_slot m.before ≡ Some s → image_loads image ≡ Ok ls → m.step ≡ Start image → tells_no_frame m.reply ≡ false → IsMade m.reply
+  pub start : (image : Image) (s : ℕ) (ls : List LoadSegment) → free_slot m.before ≡ Some s → image_loads (m.before).scheme image ≡ Ok ls → m.step ≡ Start image → tells_no_frame m.reply ≡ false → IsMade m.reply
   pub started : (image : Image) (s : ℕ) → m.step ≡ Start image → m.reply ≡ Started s → (free_slot m.before ≡ Some s) × (p : Process) × (process_in m.after s ≡ Some p) × Begins m p
-  pub bad_image : (image : Image) (e : BadImage) → Loads image m.step → image_loads image ≡ Err e → IsMade m.reply → ⊥
+  pub bad_image : (image : Image) (e : BadImage) → Loads image m.step → image_loads (m.before).scheme image ≡ Err e → IsMade m.reply → ⊥
   -- A process that is on no hart can be put on one that is idle or in the kernel, and nothing else can; any of these harts can be left idle
   pub switch : (h s : ℕ) (p : Process) → process_in m.before s ≡ Some p → ((k : ℕ) → slot_on m.before k ≢ Some s) → IsIn m.before h Idle ⊎ IsIn m.before h Kernel → m.step ≡ Switch h (Some s)
       → IsOn m.after h s p × IsIn m.after h Kernel

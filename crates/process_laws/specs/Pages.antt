@@ -13,6 +13,7 @@ use Rattle.process_model.specs.declared.step.Step.TheVariants.{CopyOut, Exec, Mm
 use Rattle.sv39_entry.specs.Address.{page_of}
 use Rattle.sv39_entry.specs.declared.access.Access.{Access}
 use Rattle.sv39_entry.specs.declared.access.Access.TheVariants.{Store}
+use Rattle.sv39_entry.specs.declared.scheme.Scheme.{Scheme}
 
 -- what a region gives to one page: rights, the region's kind, and the source of the page's initial bytes. Regions that are cut, moved or
 -- merged give the same if each page's grant is the same
@@ -115,12 +116,12 @@ abbrev pub image_grant : Result (List LoadSegment) BadImage → ℕ → Option G
 image_grant (Err e) page = None
 image_grant (Ok ls) page = loads_grant 0 ls page
 
-abbrev pub grant_after : Step → Reply → ℕ → Option Grant
-grant_after (Start i) r page = image_grant (image_loads i) page
-grant_after (Exec h i) r page = image_grant (image_loads i) page
-grant_after (Sbrk h delta) (OldSize n) page = if nat_lt page (pages_for (nat_abs (pos n +ℤ delta))) then Some heap_grant else None
-grant_after (Mmap h len protection flags n) (MappedAt at) page = Some (mapping_grant protection flags n (page - page_of at))
-grant_after _ r page = None
+abbrev pub grant_after : Scheme → Step → Reply → ℕ → Option Grant
+grant_after s (Start i) r page = image_grant (image_loads s i) page
+grant_after s (Exec h i) r page = image_grant (image_loads s i) page
+grant_after s (Sbrk h delta) (OldSize n) page = if nat_lt page (pages_for (nat_abs (pos n +ℤ delta))) then Some heap_grant else None
+grant_after s (Mmap h len protection flags n) (MappedAt at) page = Some (mapping_grant protection flags n (page - page_of at))
+grant_after s _ r page = None
 
 -- the size of a process after its step, as a whole number
 
@@ -129,11 +130,11 @@ abbrev pub image_size : Result (List LoadSegment) BadImage → ℕ
 image_size (Err e) = 0
 image_size (Ok ls) = 4096 * (end_of_loads 0 ls + 2)
 
-abbrev pub size_after : Step → Reply → ℕ → ℤ
-size_after (Start i) (Started s) size = pos (image_size (image_loads i))
-size_after (Exec h i) Done size = pos (image_size (image_loads i))
-size_after (Sbrk h delta) (OldSize n) size = pos size +ℤ delta
-size_after _ r size = pos size
+abbrev pub size_after : Scheme → Step → Reply → ℕ → ℤ
+size_after s (Start i) (Started t) size = pos (image_size (image_loads s i))
+size_after s (Exec h i) Done size = pos (image_size (image_loads s i))
+size_after s (Sbrk h delta) (OldSize n) size = pos size +ℤ delta
+size_after s _ r size = pos size
 
 -- the pages that a step makes ready for a store: the page of the store that is served, and those of a copy to the process
 

@@ -177,7 +177,7 @@ IsResident p a = is_ready_page p a.access (page_of a.address) ≡ true
 
 -- the rule is the first of eight that forbids the access (`Denied`)
 abbrev pub Forbids : Process → Asked → Rule → Type 0
-Forbids p a rule = IsFirst (regions p) a.access a.address a.width rule
+Forbids p a rule = IsFirst p.scheme (regions p) a.access a.address a.width rule
 
 -- p, with the access a pending and not yet served
 abbrev pub waiting : Process → Asked → Process
@@ -282,10 +282,10 @@ in_memory w n = record w { frames = n }
 
 -- a process that was started: each page has its image's grant, and no mark; it waits for nothing, and its heap is empty, above the stack
 pub record Begins (m : Moment) (p : Process) : Type 0 where
-  pub grants : (page : ℕ) → grant_of p page ≡ grant_after m.step m.reply page
+  pub grants : (page : ℕ) → grant_of p page ≡ grant_after (m.before).scheme m.step m.reply page
   pub unmarked : (page : ℕ) → (has_fork_mark p page ≡ false) × (has_stored_mark p page ≡ false)
   pub quiet : is_unserved_access p.pending ≡ false
-  pub size : pos p.size ≡ size_after m.step m.reply 0
+  pub size : pos p.size ≡ size_after (m.before).scheme m.step m.reply 0
   pub base : p.heap_base ≡ p.size
 
 -- the child of a fork, its bytes aside: `latest` says that they are its parent's

@@ -45,6 +45,6 @@ pub fn wrong_models_are_refused()
         → has_stored_mark q page ≡ false }
     ensures child { (m : Moment) (h s t : ℕ) (p c : Process) → ChangesOwn m h s p → m.step ≡ Fork h → m.reply ≡ Forked t → process_in m.after t ≡ Some c → regions c ≡ regions p }
     ensures kind { (m : Moment) (h address : ℕ) (bytes : _) (bytes_in : _) → MakesSteps m → m.step ≡ CopyOut h address bytes → m.reply ≢ CopiedIn bytes_in }
-    ensures bad_image { (m : Moment) (image : Image) (e : BadImage) (s : ℕ) → MakesSteps m → m.step ≡ Start image → image_loads image ≡ Err e → m.reply ≢ Started s }
+    ensures bad_image { (m : Moment) (image : Image) (e : BadImage) (s : ℕ) → MakesSteps m → m.step ≡ Start image → image_loads (m.before).scheme image ≡ Err e → m.reply ≢ Started s }
     ensures nobody { (m : Moment) (h address len : ℕ) → MakesSteps m → m.step ≡ Munmap h address len → slot_on m.before h ≡ None → m.reply ≢ Done }
 {}

@@ -2,6 +2,7 @@
 ghost use Rattle.std.specs.Prelude.{◌≡◌, ℕ, List, None, Some};
 ghost use Rattle.process_laws.specs.Apart.{AreApart, EachProcess};
 ghost use Rattle.process_laws.specs.Denied.{Denies, IsFirst};
+ghost use Rattle.sv39_entry.specs.declared.scheme.Scheme.{Scheme};
 ghost use Rattle.process_model.specs.Files.{File};
 ghost use Rattle.process_model.specs.Order.{IsInOrder};
 ghost use Rattle.process_model.specs.Process.{regions};
@@ -15,9 +16,9 @@ ghost use Rattle.sv39_entry.specs.declared.rule.Rule.{Rule};
 
 /// The rule of a denied access is the first that denies it, and a granted access is denied by none.
 pub fn first_rule_is_first()
-    ensures denied { (rs : List Region) (access : Access) (address width : ℕ) (rule : Rule) → first_rule rs access address width ≡ Some rule → IsFirst rs access address width rule }
-    ensures first { (rs : List Region) (access : Access) (address width : ℕ) (rule : Rule) → IsFirst rs access address width rule → first_rule rs access address width ≡ Some rule }
-    ensures granted { (rs : List Region) (access : Access) (address width : ℕ) (rule : Rule) → first_rule rs access address width ≡ None → Denies rs access address width rule → ⊥ }
+    ensures denied { (s : Scheme) (rs : List Region) (access : Access) (address width : ℕ) (rule : Rule) → first_rule s rs access address width ≡ Some rule → IsFirst s rs access address width rule }
+    ensures first { (s : Scheme) (rs : List Region) (access : Access) (address width : ℕ) (rule : Rule) → IsFirst s rs access address width rule → first_rule s rs access address width ≡ Some rule }
+    ensures granted { (s : Scheme) (rs : List Region) (access : Access) (address width : ℕ) (rule : Rule) → first_rule s rs access address width ≡ None → Denies s rs access address width rule → ⊥ }
 {}
 
 /// In every run the regions of a process stand in order, each can have leaves, and a mapping has the pages of its file that

@@ -16,7 +16,7 @@ use Rattle.process_model.specs.declared.step.Reply.TheVariants.{Done, Started, F
 
 -- the process of an image in a slot; its pages take copy numbers from the counter
 abbrev pub with_image : World → ℕ → List LoadSegment → World
-with_image w s ls = record (with_process w s (process_of w.counter ls)) { counter = w.counter + length (image_pages ls) }
+with_image w s ls = record (with_process w s (process_of w.scheme w.counter ls)) { counter = w.counter + length (image_pages ls) }
 
 -- start: refused by NoSlot, BadImage and NoFrame, in this order
 
@@ -26,7 +26,7 @@ started_unless w s ls false = answers (with_image w s ls) (Started s)
 
 abbrev pub started_as : World → ℕ → Result (List LoadSegment) BadImage → Outcome
 started_as w s (Err e) = refuses w (refusal.BadImage e)
-started_as w s (Ok ls) = started_unless w s ls (is_dry w (start_need ls))
+started_as w s (Ok ls) = started_unless w s ls (is_dry w (start_need w.scheme ls))
 
 abbrev pub started : World → Result (List LoadSegment) BadImage → Option ℕ → Outcome
 started w image None = refuses w refusal.NoSlot
@@ -41,7 +41,7 @@ replaced_unless w s p ls false = answers (record (with_image w s ls) { files = a
 
 abbrev pub replaced : World → ℕ → Process → Result (List LoadSegment) BadImage → Outcome
 replaced w s p (Err e) = refuses w (refusal.BadImage e)
-replaced w s p (Ok ls) = replaced_unless w s p ls (is_dry w (exec_need ls))
+replaced w s p (Ok ls) = replaced_unless w s p ls (is_dry w (exec_need w.scheme ls))
 
 -- fork: refused by NoSlot and NoFrame, in this order; no frame has more sharers than there are slots, so SharersFull does not come
 

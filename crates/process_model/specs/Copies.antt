@@ -25,7 +25,7 @@ copy_begun g = record { progress = g; bytes = []; stop = None }
 
 -- an address is made resident, or the rule that forbids it
 abbrev pub reached_in : Around → Access → Progress → ℕ → Result Progress Rule
-reached_in a access g address = reached a access address g (copy_rule (regions g.process) access address)
+reached_in a access g address = reached a access address g (copy_rule g.process.scheme (regions g.process) access address)
 
 -- one byte of a process
 

@@ -128,7 +128,7 @@ module _ (a : Around) (page : ℕ) where
   record Stands (h : Progress) (s : Page) : Type 0 where
     there : get h.process.settled page ≡ Some s
     whole : length s.bytes ≡ 4096
-    granted : (y : ℕ) → page_of y ≡ page → copy_rule (regions h.process) access.Store y ≡ None
+    granted : (y : ℕ) → page_of y ≡ page → copy_rule h.process.scheme (regions h.process) access.Store y ≡ None
     resident : is_resident h.process access.Store page ≡ true
 
   -- the process with bytes put into the page

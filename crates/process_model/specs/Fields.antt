@@ -4,6 +4,7 @@ use Rattle.std.specs.Str.{bytes_eq}
 use Rattle.std.specs.List.{list_any}
 use Rattle.process_model.specs.Lines.{pieces_of}
 use Rattle.process_model.specs.Numbers.{number_of, signed_of, hex_of}
+use Rattle.sv39_entry.specs.declared.scheme.Scheme.TheVariants.{Sv39, Sv48}
 use Rattle.process_model.specs.declared.config.Policy.TheVariants as policy
 use Rattle.process_model.specs.declared.image.Segment.{Segment}
 use Rattle.process_model.specs.declared.script.Cause.{Cause}
@@ -44,7 +45,7 @@ command_table =
     row (codes "file") word.File (kind.Number ∷ kind.Mode ∷ kind.Hex ∷ []) tail.Nothing
     ∷ row (codes "image") word.Image (kind.Segment ∷ []) (tail.More kind.Segment)
     ∷ row (codes "elf") word.Elf (kind.Hex ∷ []) tail.Nothing
-    ∷ row (codes "boot") word.Boot (kind.Number ∷ kind.Number ∷ kind.Number ∷ kind.Policy ∷ []) tail.Nothing
+    ∷ row (codes "boot") word.Boot (kind.Number ∷ kind.Number ∷ kind.Number ∷ kind.Policy ∷ []) (tail.Perhaps kind.Scheme)
     ∷ row (codes "start") word.Start one_number tail.Nothing
     ∷ row (codes "switch") word.Switch (kind.Number ∷ kind.Slot ∷ []) tail.Nothing
     ∷ row (codes "trap") word.Trap one_number tail.Nothing
@@ -103,6 +104,9 @@ mode_value field = if bytes_eq field (codes "rw") then Ok (value.Writable true) 
 abbrev pub policy_value : List ℕ → Result FieldValue Cause
 policy_value field = if bytes_eq field (codes "full") then Ok (value.Policy policy.Full) else (if bytes_eq field (codes "asid") then Ok (value.Policy policy.Asid) else Err cause.Field)
 
+abbrev pub scheme_value : List ℕ → Result FieldValue Cause
+scheme_value field = if bytes_eq field (codes "sv39") then Ok (value.Scheme Sv39) else (if bytes_eq field (codes "sv48") then Ok (value.Scheme Sv48) else Err cause.Field)
+
 -- @N
 abbrev pub entry_number : List ℕ → Option ℕ
 entry_number [] = None
@@ -140,6 +144,7 @@ value_of kind.Hex field = said_or cause.Field value.Hex (hex_of field)
 value_of kind.Slot field = slot_value (is_dash field) field
 value_of kind.Mode field = mode_value field
 value_of kind.Policy field = policy_value field
+value_of kind.Scheme field = scheme_value field
 value_of kind.Segment field = said_or cause.Field value.Segment (segment_in (pieces_of field))
 value_of kind.Entry field = said_or cause.Field (λ n. value.Optional (Some n)) (entry_number field)
 

@@ -1,5 +1,5 @@
 -- How many frames things take, and the accounts of a machine.
-use Rattle.std.specs.Prelude.{ℕ, Bool, true, false, ◌+◌, ◌-◌, ◌/◌, ◌^◌, ◌==◌, max, nat_le, nat_lt, ◌&&◌, Option, None, Some, List, [], ◌∷◌, ◌++◌, length, map, filter, filter_map, flat_map, sum_by, if◌then◌else◌}
+use Rattle.std.specs.Prelude.{ℕ, Bool, true, false, ◌+◌, ◌-◌, ◌/◌, ◌^◌, ◌==◌, max, nat_le, nat_lt, ◌&&◌, Option, None, Some, List, [], ◌∷◌, ◌++◌, length, map, filter, filter_map, flat_map, sum_by, if◌then◌else◌, ◌≡◌, refl}
 use Rattle.std.specs.List.{list_any}
 use Rattle.process_model.specs.PageMap.{get, keys, numbers, count}
 use Rattle.process_model.specs.Process.{Process, Page}
@@ -29,15 +29,28 @@ tables_of_sizes (size ∷ sizes) pages = count (numbers (map (λ n. n / size) pa
 unfoldable pub tables_needed : Scheme → List ℕ → ℕ
 tables_needed s pages = 1 + tables_of_sizes (table_sizes s) (trampoline_page s ∷ trapframe_page s ∷ pages)
 
+-- of one size the tables for a set of pages
+abbrev pub sized_tables : Scheme → List ℕ → ℕ → ℕ
+sized_tables s pages size = count (numbers (map (λ n. n / size) (trampoline_page s ∷ trapframe_page s ∷ pages)))
+
+pub two_sizes : (s : Scheme) (pages : List ℕ) → s ≡ Sv39 → tables_needed s pages ≡ 1 + (sized_tables s pages (2 ^ 18) + (sized_tables s pages (2 ^ 9) + 0))
+unfolding tables_needed
+two_sizes s pages is = rw is refl
+
+pub three_sizes : (s : Scheme) (pages : List ℕ) → s ≡ Sv48
+    → tables_needed s pages ≡ 1 + (sized_tables s pages (2 ^ 27) + (sized_tables s pages (2 ^ 18) + (sized_tables s pages (2 ^ 9) + 0)))
+unfolding tables_needed
+three_sizes s pages is = rw is refl
+
 -- tables stay until exec or the end, so they are those of all tabled pages
 abbrev pub tables_of : Process → ℕ
-tables_of p = tables_needed Sv39 (keys p.tabled)
+tables_of p = tables_needed p.scheme (keys p.tabled)
 
 -- what a step takes
 
 -- a page is settled: one frame for its bytes, and the tables that are missing
 abbrev pub settle_need : Process → ℕ → ℕ
-settle_need p page = 1 + (tables_needed Sv39 (page ∷ keys p.tabled) - tables_of p)
+settle_need p page = 1 + (tables_needed p.scheme (page ∷ keys p.tabled) - tables_of p)
 
 -- a page is taken over: one frame where it parts from another process, and none for a mark
 abbrev pub part_need : Bool → ℕ
@@ -57,7 +70,7 @@ resident_need shared p access page = resident_need_of shared p access page (get 
 
 -- the child's trapframe and its tables, and no page
 abbrev pub fork_need : Process → ℕ
-fork_need p = 1 + tables_needed Sv39 (keys p.settled)
+fork_need p = 1 + tables_needed p.scheme (keys p.settled)
 
 -- the pages of an image are a few runs, each from a first page up to, and without, an end: so its need is counted run by run, and no
 -- page is listed. It is the number of its pages and `tables_needed` by them (`exec_need_is`)
@@ -94,26 +107,31 @@ abbrev pub tables_in : Scheme → List PageRun → ℕ
 tables_in s rs = 1 + tables_by_sizes (table_sizes s) (rs ++ kernel_run s ∷ [])
 
 -- the pages of the image, guard and stack among them, and their tables
-abbrev pub exec_need : List LoadSegment → ℕ
-exec_need ls = let runs = image_runs ls in pages_in runs + tables_in Sv39 runs
+abbrev pub exec_need : Scheme → List LoadSegment → ℕ
+exec_need s ls = let runs = image_runs ls in pages_in runs + tables_in s runs
 
 -- and the trapframe
-abbrev pub start_need : List LoadSegment → ℕ
-start_need ls = 1 + exec_need ls
+abbrev pub start_need : Scheme → List LoadSegment → ℕ
+start_need s ls = 1 + exec_need s ls
 
 -- what boot takes: the trampoline page, five tables of the kernel, six where the direct map passes two megabytes, and one
 -- stack a slot (own choice: no device is mapped)
-abbrev pub kernel_frames : ℕ → ℕ → ℕ
-kernel_frames frames slots = (if nat_le frames 512 then 6 else 7) + slots
+-- Sv48 has two tables more, on the ways to the trampoline and to the direct map
+abbrev pub first_frames : Scheme → ℕ
+first_frames Sv39 = 6
+first_frames Sv48 = 8
 
-abbrev pub can_boot : ℕ → ℕ → ℕ → Bool
-can_boot harts frames slots =
-    nat_le 1 harts && nat_le harts 8 && nat_le 16 frames && nat_le frames 1024 && nat_le 1 slots && nat_le slots 64 && nat_le (kernel_frames frames slots) frames
+abbrev pub kernel_frames : Scheme → ℕ → ℕ → ℕ
+kernel_frames s frames slots = first_frames s + (if nat_le frames 512 then 0 else 1) + slots
+
+abbrev pub can_boot : Scheme → ℕ → ℕ → ℕ → Bool
+can_boot s harts frames slots =
+    nat_le 1 harts && nat_le harts 8 && nat_le 16 frames && nat_le frames 1024 && nat_le 1 slots && nat_le slots 64 && nat_le (kernel_frames s frames slots) frames
 
 -- frames that threads share
 abbrev pub can_share : ℕ → ℕ → Bool
 can_share frames slots =
-    nat_le 16 frames && nat_le frames 256 && nat_le 1 slots && nat_le slots 64 && nat_le (kernel_frames frames slots) frames
+    nat_le 16 frames && nat_le frames 256 && nat_le 1 slots && nat_le slots 64 && nat_le (kernel_frames Sv39 frames slots) frames
 
 -- accounts
 
@@ -138,9 +156,9 @@ is_shared_copy ps copy = nat_le 2 (length (filter (has_copy copy) ps))
 abbrev pub own_frames : Process → ℕ
 own_frames p = 1 + tables_of p
 
-abbrev pub free_frames : ℕ → List (Option Process) → ℕ
-free_frames frames slots =
-    frames - kernel_frames frames (length slots) - length (copies_in (live slots)) - sum_by own_frames (live slots)
+abbrev pub free_frames : Scheme → ℕ → List (Option Process) → ℕ
+free_frames s frames slots =
+    frames - kernel_frames s frames (length slots) - length (copies_in (live slots)) - sum_by own_frames (live slots)
 
 -- what names a frame of a process: the leaves of TRAMPOLINE and TRAPFRAME, the root and the pointers to its other tables, and the
 -- leaf of each settled page
@@ -151,12 +169,12 @@ references_of p = 2 + tables_of p + length p.settled.entries
 abbrev pub shared_frames : List Process → ℕ
 shared_frames ps = length (filter (is_shared_copy ps) (copies_in ps)) + (if nat_lt 0 (length ps) then 1 else 0)
 
-abbrev pub accounts : ℕ → List (Option Process) → Report
-accounts frames slots =
-    let free = free_frames frames slots in
+abbrev pub accounts : Scheme → ℕ → List (Option Process) → Report
+accounts s frames slots =
+    let free = free_frames s frames slots in
     record {
       free = free;
       held = frames - free;
       shared = shared_frames (live slots);
-      references = kernel_frames frames (length slots) + sum_by references_of (live slots);
+      references = kernel_frames s frames (length slots) + sum_by references_of (live slots);
     }

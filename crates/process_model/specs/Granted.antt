@@ -34,10 +34,10 @@ wanted_above (pos n) base e = ltb-false n base e
 wanted_above (negsuc n) base e = cc
 
 -- a size that is not refused is at the heap's base or above it, and its pages end at the lowest mapping or below it
-pub size_granted : (p : Process) (wanted : ℤ) → size_refusal p wanted ≡ None → (p.heap_base ≤ nat_abs wanted) × (pages_for (nat_abs wanted) ≤ heap_limit p.mappings)
+pub size_granted : (p : Process) (wanted : ℤ) → size_refusal p wanted ≡ None → (p.heap_base ≤ nat_abs wanted) × (pages_for (nat_abs wanted) ≤ heap_limit p.scheme p.mappings)
 size_granted p wanted e =
-    let tests = none_true ((int_lt wanted (pos p.heap_base), BadSize) ∷ (nat_lt (heap_limit p.mappings) (pages_for (nat_abs wanted)), NoRoom) ∷ []) e in
-    (wanted_above wanted p.heap_base tests.0, ltb-false (heap_limit p.mappings) (pages_for (nat_abs wanted)) tests.1.0)
+    let tests = none_true ((int_lt wanted (pos p.heap_base), BadSize) ∷ (nat_lt (heap_limit p.scheme p.mappings) (pages_for (nat_abs wanted)), NoRoom) ∷ []) e in
+    (wanted_above wanted p.heap_base tests.0, ltb-false (heap_limit p.scheme p.mappings) (pages_for (nat_abs wanted)) tests.1.0)
 
 -- ---- mmap
 

@@ -4,7 +4,8 @@ use Rattle.process_model.specs.Bytes.{pages_for, first_true}
 use Rattle.process_model.specs.PageMap.{only}
 use Rattle.process_model.specs.Regions.{Region}
 use Rattle.process_model.specs.Process.{Process}
-use Rattle.sv39_entry.specs.Address.{trapframe_page}
+use Rattle.sv39_entry.specs.Schemes.{trapframe_page}
+use Rattle.sv39_entry.specs.declared.scheme.Scheme.{Scheme}
 use Rattle.process_model.specs.declared.step.Refusal.{Refusal}
 use Rattle.process_model.specs.declared.step.Refusal.TheVariants.{BadSize, NoRoom}
 
@@ -13,9 +14,9 @@ abbrev pub without_pages : Process → ℕ → ℕ → Process
 without_pages p first end = record p { settled = only (λ page. nat_lt page first || nat_le end page) p.settled }
 
 -- the page that the heap may reach: the lowest mapping, which is the first of them, or the trapframe
-abbrev pub heap_limit : List Region → ℕ
-heap_limit [] = trapframe_page
-heap_limit (m ∷ ms) = m.first
+abbrev pub heap_limit : Scheme → List Region → ℕ
+heap_limit s [] = trapframe_page s
+heap_limit s (m ∷ ms) = m.first
 
 -- pages above the new size are released; a page that returns later is settled anew
 abbrev pub resized : Process → ℕ → Process
@@ -28,7 +29,7 @@ wanted_size p delta = pos p.size +ℤ delta
 abbrev pub size_refusal : Process → ℤ → Option Refusal
 size_refusal p wanted = first_true (
     (int_lt wanted (pos p.heap_base), BadSize)
-    ∷ (nat_lt (heap_limit p.mappings) (pages_for (nat_abs wanted)), NoRoom)
+    ∷ (nat_lt (heap_limit p.scheme p.mappings) (pages_for (nat_abs wanted)), NoRoom)
     ∷ [])
 
 abbrev pub resized_unless : Process → ℕ → Option Refusal → Result Process Refusal

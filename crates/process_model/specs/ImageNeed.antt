@@ -142,11 +142,11 @@ runs_rise z end (l ∷ ls) row room =
     let last = at.end in
     (at.above, omega (arith, some, last), runs_rise z (end_page l) ls row.1 room)
 
-pub exec_need_is : (ls : List LoadSegment) → IsPlaced ls → exec_need ls ≡ length (page_numbers ls) + tables_needed Sv39 (page_numbers ls)
+pub exec_need_is : (z : Scheme) (ls : List LoadSegment) → IsPlaced z ls → exec_need z ls ≡ length (page_numbers ls) + tables_needed z (page_numbers ls)
 unfolding tables_needed
-exec_need_is ls is =
-    let up : AreRising 0 (image_runs ls ++ kernel_run Sv39 ∷ []) = runs_rise Sv39 0 ls is.row is.below in
+exec_need_is z ls is =
+    let up : AreRising 0 (image_runs ls ++ kernel_run z ∷ []) = runs_rise z 0 ls is.row is.below in
     let same : page_numbers ls ≡ numbers_in (image_runs ls) = image_numbers 0 ls is.row in
     let pages = pages_counted (image_runs ls) in
-    let all = sizes_counted Sv39 (table_sizes Sv39) (all_some Sv39) (image_runs ls) up in
+    let all = sizes_counted z (table_sizes z) (all_some z) (image_runs ls) up in
     rw same (omega (arith, pages, all))

@@ -2,7 +2,9 @@
 use Rattle.std.specs.Prelude.{ℕ, Bool, true, false, not, ◌+◌, ◌*◌, ◌/◌, ◌%◌, ◌^◌, nat_le, nat_lt, ◌==◌, ◌&&◌, if◌then◌else◌, Option, None, Some, Result, Ok, Err, List, [], ◌∷◌, take, drop, length, map, fold, ◌++◌}
 use Rattle.process_model.specs.Bytes.{pages_for, number, numbers_from, first_true}
 use Rattle.process_model.specs.Regions.{guard_pages, stack_pages}
-use Rattle.sv39_entry.specs.Address.{page_of, trapframe_page}
+use Rattle.sv39_entry.specs.Address.{page_of}
+use Rattle.sv39_entry.specs.Schemes.{trapframe_page}
+use Rattle.sv39_entry.specs.declared.scheme.Scheme.{Scheme}
 use Rattle.process_model.specs.declared.image.BadImage.{BadImage}
 use Rattle.process_model.specs.declared.image.BadImage.TheVariants as part
 use Rattle.process_model.specs.declared.image.Image.{Image}
@@ -43,20 +45,20 @@ most_segments = 16
 
 -- the checks that a segment may fail, after the segments with pages before it; below the trapframe there has to be room for the
 -- guard and the stack
-abbrev pub load_checks : List LoadSegment → LoadSegment → List (Bool × BadImage)
-load_checks before l =
+abbrev pub load_checks : Scheme → List LoadSegment → LoadSegment → List (Bool × BadImage)
+load_checks s before l =
     (nat_lt l.memory_size l.file_size, part.Sizes)
     ∷ (nat_le (2 ^ 64) (l.address + l.memory_size), part.Wraps)
     ∷ (not (l.address % 4096 == 0), part.Align)
     ∷ (has_pages l && not l.inside, part.Contents)
-    ∷ (has_pages l && nat_lt trapframe_page (end_page l + (guard_pages + stack_pages)), part.TooHigh)
+    ∷ (has_pages l && nat_lt (trapframe_page s) (end_page l + (guard_pages + stack_pages)), part.TooHigh)
     ∷ (has_pages l && nat_lt (page_of l.address) (end_of_loads 0 before), part.Order)
     ∷ (has_pages l && nat_le most_segments (length before), part.TooMany)
     ∷ []
 
 -- the first that it fails
-abbrev pub load_fault : List LoadSegment → LoadSegment → Option BadImage
-load_fault before l = first_true (load_checks before l)
+abbrev pub load_fault : Scheme → List LoadSegment → LoadSegment → Option BadImage
+load_fault s before l = first_true (load_checks s before l)
 
 -- a segment without pages is passed over
 abbrev pub with_load : List LoadSegment → LoadSegment → List LoadSegment
@@ -66,15 +68,15 @@ abbrev pub unless_faulty : List LoadSegment → LoadSegment → Option BadImage 
 unless_faulty before l (Some e) = Err e
 unless_faulty before l None = Ok (with_load before l)
 
-abbrev pub judged : List LoadSegment → ProgramHeader → Result (List LoadSegment) BadImage
-judged before outside = Err part.ProgramHeader
-judged before passed_over = Ok before
-judged before (load l) = unless_faulty before l (load_fault before l)
+abbrev pub judged : Scheme → List LoadSegment → ProgramHeader → Result (List LoadSegment) BadImage
+judged s before outside = Err part.ProgramHeader
+judged s before passed_over = Ok before
+judged s before (load l) = unless_faulty before l (load_fault s before l)
 
 -- the headers in a row, up to the first fault
-abbrev pub next_judged : Result (List LoadSegment) BadImage → ProgramHeader → Result (List LoadSegment) BadImage
-next_judged (Ok before) h = judged before h
-next_judged (Err e) h = Err e
+abbrev pub next_judged : Scheme → Result (List LoadSegment) BadImage → ProgramHeader → Result (List LoadSegment) BadImage
+next_judged s (Ok before) h = judged s before h
+next_judged s (Err e) h = Err e
 
 -- there has to be a segment with pages
 abbrev pub at_least_one : Result (List LoadSegment) BadImage → Result (List LoadSegment) BadImage
@@ -82,8 +84,8 @@ at_least_one (Ok []) = Err part.NoLoad
 at_least_one (Ok (l ∷ ls)) = Ok (l ∷ ls)
 at_least_one (Err e) = Err e
 
-abbrev pub all_judged : List ProgramHeader → Result (List LoadSegment) BadImage
-all_judged hs = at_least_one (fold next_judged (Ok []) hs)
+abbrev pub all_judged : Scheme → List ProgramHeader → Result (List LoadSegment) BadImage
+all_judged s hs = at_least_one (fold (next_judged s) (Ok []) hs)
 
 -- the fields of an ELF file are little-endian
 
@@ -138,14 +140,14 @@ file_fault bytes = first_true (
     ∷ (not (field bytes 0 4 == elf_magic), part.Magic)
     ∷ [])
 
-abbrev pub loads_unless : List ℕ → Option BadImage → Result (List LoadSegment) BadImage
-loads_unless bytes (Some e) = Err e
-loads_unless bytes None = all_judged (headers_from bytes (field bytes 32 8) (field bytes 56 2))
+abbrev pub loads_unless : Scheme → List ℕ → Option BadImage → Result (List LoadSegment) BadImage
+loads_unless s bytes (Some e) = Err e
+loads_unless s bytes None = all_judged s (headers_from bytes (field bytes 32 8) (field bytes 56 2))
 
 -- the segments of an ELF file, or the first check that it fails: the table of program headers begins at the offset in the 8
 -- bytes at 32 of the file header, and has as many as the 2 bytes at 56 tell
-unfoldable pub elf_loads : List ℕ → Result (List LoadSegment) BadImage
-elf_loads bytes = loads_unless bytes (file_fault bytes)
+unfoldable pub elf_loads : Scheme → List ℕ → Result (List LoadSegment) BadImage
+elf_loads s bytes = loads_unless s bytes (file_fault bytes)
 
 abbrev pub load_of : Segment → ProgramHeader
 load_of s = load (record {
@@ -158,9 +160,9 @@ load_of s = load (record {
   bytes = s.bytes;
 })
 
-unfoldable pub segment_loads : List Segment → Result (List LoadSegment) BadImage
-segment_loads segments = all_judged (map load_of segments)
+unfoldable pub segment_loads : Scheme → List Segment → Result (List LoadSegment) BadImage
+segment_loads s segments = all_judged s (map load_of segments)
 
-abbrev pub image_loads : Image → Result (List LoadSegment) BadImage
-image_loads (Elf bytes) = elf_loads bytes.now
-image_loads (Segments segments) = segment_loads segments.now
+abbrev pub image_loads : Scheme → Image → Result (List LoadSegment) BadImage
+image_loads s (Elf bytes) = elf_loads s bytes.now
+image_loads s (Segments segments) = segment_loads s segments.now

@@ -6,6 +6,7 @@ use Rattle.process_model.specs.Regions.{Region, segment, guard, guard_pages, sta
 use Rattle.process_model.specs.Process.{Process, Page}
 use Rattle.process_model.specs.Images.{LoadSegment, end_of_loads}
 use Rattle.sv39_entry.specs.Address.{page_of}
+use Rattle.sv39_entry.specs.declared.scheme.Scheme.{Scheme}
 
 -- a segment may always be read
 abbrev pub segment_region : LoadSegment → Region
@@ -51,10 +52,11 @@ numbered fresh [] = []
 numbered fresh (e ∷ es) = (e.0, record { bytes = e.1; copy = fresh; fork_mark = false; stored_mark = false }) ∷ numbered (fresh + 1) es
 
 -- heap and stack meet at the top of the stack page, and the heap is empty
-unfoldable pub process_of : ℕ → List LoadSegment → Process
-process_of fresh ls =
+unfoldable pub process_of : Scheme → ℕ → List LoadSegment → Process
+process_of s fresh ls =
     let top = 4096 * (end_of_loads 0 ls + (guard_pages + stack_pages)) in
     record {
+      scheme = s;
       parts = parts_of ls;
       mappings = [];
       heap_base = top;

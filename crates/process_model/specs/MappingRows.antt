@@ -9,13 +9,14 @@ use Rattle.process_model.specs.Mappings.{back_of, front_of, is_apart, mapping_ar
 use Rattle.process_model.specs.Order.{EachRegion, IsInReach, IsMapping, Row}
 use Rattle.process_model.specs.RegionRows.{each_append, held, here, here_or_later, holds, in_first, none_in_first, not_held, own_rights, passed, row_append, row_outside, row_within, SameRights}
 use Rattle.process_model.specs.Regions.{Region, Source, end_of, file, image, region_at, zeros}
-use Rattle.sv39_entry.specs.Address.{trapframe_page}
+use Rattle.sv39_entry.specs.Schemes.{trapframe_page}
+use Rattle.sv39_entry.specs.declared.scheme.Scheme.{Scheme}
 
 -- ---- above the heap
 
-pub above_limit : (low at : ℕ) (ms : List Region) → at ≤ heap_limit ms → Row 1 low ms trapframe_page → Row 1 at ms trapframe_page
-above_limit low at [] le row = le
-above_limit low at (m ∷ ms) le row = (le, row.1, row.2)
+pub above_limit : (s : Scheme) (low at : ℕ) (ms : List Region) → at ≤ heap_limit s ms → Row 1 low ms (trapframe_page s) → Row 1 at ms (trapframe_page s)
+above_limit s low at [] le row = le
+above_limit s low at (m ∷ ms) le row = (le, row.1, row.2)
 
 -- ---- a mapping comes
 

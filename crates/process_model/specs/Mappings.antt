@@ -6,7 +6,8 @@ use Rattle.process_model.specs.Files.{File, is_writable, with_page_written}
 use Rattle.process_model.specs.Heap.{without_pages}
 use Rattle.process_model.specs.Regions.{Region, shared_mapping, private_mapping, Source, file, keeps_stores, end_of}
 use Rattle.process_model.specs.Process.{Process, Page}
-use Rattle.sv39_entry.specs.Address.{page_of, trapframe_page}
+use Rattle.sv39_entry.specs.Address.{page_of}
+use Rattle.sv39_entry.specs.Schemes.{trapframe_page}
 use Rattle.process_model.specs.declared.step.Refusal.{Refusal}
 use Rattle.process_model.specs.declared.step.Refusal.TheVariants.{NoRoom, BadArgument, FileNotWritable, MappingsFull, HoleInMapping}
 
@@ -17,7 +18,7 @@ is_apart first pages m = nat_le (first + pages) m.first || nat_le (end_of m) fir
 
 -- whether a mapping of so many pages may begin at a page: above the heap, below the trapframe, and apart from the others
 abbrev pub fits_at : Process → ℕ → ℕ → Bool
-fits_at p pages first = nat_le (pages_for p.size) first && nat_le (first + pages) trapframe_page && list_all (is_apart first pages) p.mappings
+fits_at p pages first = nat_le (pages_for p.size) first && nat_le (first + pages) (trapframe_page p.scheme) && list_all (is_apart first pages) p.mappings
 
 abbrev pub greatest : List ℕ → Option ℕ
 greatest [] = None
@@ -25,7 +26,7 @@ greatest (n ∷ ns) = Some (fold max n ns)
 
 -- where it would begin if it ended at the trapframe, or just below a mapping: the greatest page at which it fits is one of these
 abbrev pub places : Process → ℕ → List ℕ
-places p pages = map (λ end. end - pages) (trapframe_page ∷ map (λ m. m.first) p.mappings)
+places p pages = map (λ end. end - pages) (trapframe_page p.scheme ∷ map (λ m. m.first) p.mappings)
 
 -- the greatest page at which it fits (own choice)
 abbrev pub mapping_place : Process → ℕ → Option ℕ

@@ -6,7 +6,9 @@ use Rattle.process_model.specs.Mappings.{longest_mapping}
 use Rattle.process_model.specs.PageMap.{contains, get}
 use Rattle.process_model.specs.Process.{Page, Process}
 use Rattle.process_model.specs.Regions.{Region, Source, end_of, file, guard_pages, makes_leaf, stack_pages}
-use Rattle.sv39_entry.specs.Address.{page_of, trapframe_page}
+use Rattle.sv39_entry.specs.Address.{page_of}
+use Rattle.sv39_entry.specs.Schemes.{trapframe_page}
+use Rattle.sv39_entry.specs.declared.scheme.Scheme.{Scheme}
 
 -- segments
 
@@ -22,9 +24,9 @@ InRow low [] = Unit {0}
 InRow low (l ∷ ls) = StandsAt low l × InRow (end_page l) ls
 
 -- and below the trapframe there is room for the guard and the stack
-pub record IsPlaced (ls : List LoadSegment) : Type 0 where
+pub record IsPlaced (s : Scheme) (ls : List LoadSegment) : Type 0 where
   pub row : InRow 0 ls
-  pub below : end_of_loads 0 ls + (guard_pages + stack_pages) ≤ trapframe_page
+  pub below : end_of_loads 0 ls + (guard_pages + stack_pages) ≤ trapframe_page s
 
 -- regions
 
@@ -63,7 +65,7 @@ pub record IsMapping (m : Region) : Type 0 where
 pub record HasOrder (least : ℕ) (p : Process) : Type 0 where
   pub parts : Row least 0 p.parts (page_of p.heap_base)
   pub room : page_of p.heap_base ≤ pages_for p.size
-  pub above : Row 1 (pages_for p.size) p.mappings trapframe_page
+  pub above : Row 1 (pages_for p.size) p.mappings (trapframe_page p.scheme)
   pub leaves : EachRegion HasLeaves p.parts
   pub sources : EachRegion HasNoFile p.parts
   pub mapped : EachRegion IsMapping p.mappings

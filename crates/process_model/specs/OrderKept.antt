@@ -14,7 +14,8 @@ use Rattle.process_model.specs.PageMap.{NumberSet, PageMap}
 use Rattle.process_model.specs.Process.{Page, Pending, Process, heap_of, regions}
 use Rattle.process_model.specs.RegionRows.{each_append, each_as, each_at, row_append, row_least, row_lower}
 use Rattle.process_model.specs.Regions.{makes_leaf, Region, region_at}
-use Rattle.sv39_entry.specs.Address.{page_of, trapframe_page}
+use Rattle.sv39_entry.specs.Address.{page_of}
+use Rattle.sv39_entry.specs.Schemes.{trapframe_page}
 
 -- its pages do not matter
 pub same_order : (least : ℕ) (p : Process) (settled : PageMap Page) (tabled : NumberSet) (pending : Option Pending) → HasOrder least p
@@ -22,13 +23,13 @@ pub same_order : (least : ℕ) (p : Process) (settled : PageMap Page) (tabled : 
 same_order least p settled tabled pending order = record { parts = order.parts; room = order.room; above = order.above; leaves = order.leaves; sources = order.sources; mapped = order.mapped }
 
 -- all its regions stand in one row
-pub regions_row : (least : ℕ) (p : Process) → HasOrder least p → Row 0 0 (regions p) trapframe_page
+pub regions_row : (least : ℕ) (p : Process) → HasOrder least p → Row 0 0 (regions p) (trapframe_page p.scheme)
 regions_row least p order =
     let room : page_of p.heap_base ≤ pages_for p.size = order.room in
-    let mappings = row_least 1 (pages_for p.size) trapframe_page p.mappings order.above in
-    row_append 0 0 (page_of p.heap_base) trapframe_page p.parts (heap_of p ∷ p.mappings)
+    let mappings = row_least 1 (pages_for p.size) (trapframe_page p.scheme) p.mappings order.above in
+    row_append 0 0 (page_of p.heap_base) (trapframe_page p.scheme) p.parts (heap_of p ∷ p.mappings)
     (row_least least 0 (page_of p.heap_base) p.parts order.parts)
-    (omega arith, omega arith, row_lower 0 _ (pages_for p.size) trapframe_page p.mappings (omega (arith, room)) mappings)
+    (omega arith, omega arith, row_lower 0 _ (pages_for p.size) (trapframe_page p.scheme) p.mappings (omega (arith, room)) mappings)
 
 -- each of them can have leaves
 pub leafy_at : (p : Process) → HasOrder 0 p → (n : ℕ) (r : Region) → region_at (regions p) n ≡ Some r → makes_leaf r ≡ true
@@ -43,7 +44,7 @@ sized_order least p wanted none order =
     record {
       parts = order.parts;
       room = omega (arith, granted.0);
-      above = above_limit (pages_for p.size) (pages_for (nat_abs wanted)) p.mappings granted.1 order.above;
+      above = above_limit p.scheme (pages_for p.size) (pages_for (nat_abs wanted)) p.mappings granted.1 order.above;
       leaves = order.leaves;
       sources = order.sources;
       mapped = order.mapped;
@@ -59,13 +60,13 @@ resized_order least p wanted none order =
 pub with_mapping_order : (least : ℕ) (p : Process) (r : Region) → fits_at p r.pages r.first ≡ true → 1 ≤ r.pages → IsMapping r → HasOrder least p
     → HasOrder least (record p { mappings = with_mapping r p.mappings })
 with_mapping_order least p r fits some is order =
-    let outer = and_parts (nat_le (pages_for p.size) r.first && nat_le (r.first + r.pages) trapframe_page) (list_all (is_apart r.first r.pages) p.mappings) fits in
-    let inner = and_parts (nat_le (pages_for p.size) r.first) (nat_le (r.first + r.pages) trapframe_page) outer.0 in
+    let outer = and_parts (nat_le (pages_for p.size) r.first && nat_le (r.first + r.pages) (trapframe_page p.scheme)) (list_all (is_apart r.first r.pages) p.mappings) fits in
+    let inner = and_parts (nat_le (pages_for p.size) r.first) (nat_le (r.first + r.pages) (trapframe_page p.scheme)) outer.0 in
     record {
       parts = order.parts;
       room = order.room;
-      above = with_mapping_row (pages_for p.size) trapframe_page r p.mappings
-          (leb-true (pages_for p.size) r.first inner.0) some (leb-true (r.first + r.pages) trapframe_page inner.1) outer.1 order.above;
+      above = with_mapping_row (pages_for p.size) (trapframe_page p.scheme) r p.mappings
+          (leb-true (pages_for p.size) r.first inner.0) some (leb-true (r.first + r.pages) (trapframe_page p.scheme) inner.1) outer.1 order.above;
       leaves = order.leaves;
       sources = order.sources;
       mapped = with_each IsMapping r p.mappings is order.mapped;
@@ -85,7 +86,7 @@ pub unmapped_order : (least : ℕ) (p : Process) (m : Region) (first end : ℕ) 
 unmapped_order least p m first end order around le = record {
   parts = order.parts;
   room = order.room;
-  above = instead_row (pages_for p.size) trapframe_page first end p.mappings m le order.above around;
+  above = instead_row (pages_for p.size) (trapframe_page p.scheme) first end p.mappings m le order.above around;
   leaves = order.leaves;
   sources = order.sources;
   mapped = unmapped_each p.mappings m first end le around order.mapped;

@@ -12,7 +12,8 @@ use Rattle.process_model.specs.Order.{HasOrder}
 use Rattle.process_model.specs.Process.{Process, heap_of, regions}
 use Rattle.process_model.specs.RegionRows.{first_or_second, held, here, here_or_later, holds, in_first, none_in_first, not_held, own_rights, passed, row_outside, row_within, SameRights}
 use Rattle.process_model.specs.Regions.{Region, holds_page, region_at}
-use Rattle.sv39_entry.specs.Address.{page_of, trapframe_page}
+use Rattle.sv39_entry.specs.Address.{page_of}
+use Rattle.sv39_entry.specs.Schemes.{trapframe_page}
 
 -- ---- the mappings
 
@@ -27,8 +28,8 @@ behind_heap least p n order above =
 pub mapping_at : (least : ℕ) (p : Process) (first end n : ℕ) (m : Region) → HasOrder least p → mapping_around p.mappings first end ≡ Some m → first ≤ n → n < end
     → region_at (regions p) n ≡ Some m
 mapping_at least p first end n m order around from to =
-    let there = around_at (pages_for p.size) trapframe_page first end n p.mappings m order.above around from to in
-    behind_heap least p n order (row_within 1 (pages_for p.size) trapframe_page n p.mappings m order.above there).0 ∙ there
+    let there = around_at (pages_for p.size) (trapframe_page p.scheme) first end n p.mappings m order.above around from to in
+    behind_heap least p n order (row_within 1 (pages_for p.size) (trapframe_page p.scheme) n p.mappings m order.above there).0 ∙ there
 
 -- ---- the mappings become others
 
@@ -53,7 +54,7 @@ mapping_or_same p ms n x is = elim (first_or_second p.parts (heap_of p ∷ p.map
 pub region_with_mapping : (p : Process) (r : Region) (n : ℕ) (x : Region) → fits_at p r.pages r.first ≡ true → region_at (regions p) n ≡ Some x
     → region_at (regions (record p { mappings = with_mapping r p.mappings })) n ≡ Some x
 region_with_mapping p r n x fits is =
-    let apart = (and_parts (nat_le (pages_for p.size) r.first && nat_le (r.first + r.pages) trapframe_page) (list_all (is_apart r.first r.pages) p.mappings) fits).1 in
+    let apart = (and_parts (nat_le (pages_for p.size) r.first && nat_le (r.first + r.pages) (trapframe_page p.scheme)) (list_all (is_apart r.first r.pages) p.mappings) fits).1 in
     elim (mapping_or_same p (with_mapping r p.mappings) n x is) [
       | inl same ↦ same
       | inr mapping ↦ mapping.1 ∙ with_mapping_at r p.mappings n x apart mapping.0
@@ -67,7 +68,7 @@ region_left least p m first end n x order around le out is =
     elim (mapping_or_same p (with_instead p.mappings m.first (front_of m first ++ back_of m end)) n x is) [
       | inl same ↦ (x, same, own_rights x)
       | inr mapping ↦
-          let left = instead_at (pages_for p.size) trapframe_page first end n p.mappings m x le order.above around out mapping.0 in
+          let left = instead_at (pages_for p.size) (trapframe_page p.scheme) first end n p.mappings m x le order.above around out mapping.0 in
           (left.0, mapping.1 ∙ left.1, left.2)
     ]
 
@@ -98,9 +99,9 @@ region_resized least p wanted n x order none out is =
     not_grown : region_at p.mappings n ≡ Some x → holds_page (heap_of q) n ≡ false
     not_grown there =
         let granted = size_granted p wanted none in
-        let behind = (row_within 1 (pages_for p.size) trapframe_page n p.mappings x order.above there).0 in
-        let now = above_limit (pages_for p.size) (pages_for (nat_abs wanted)) p.mappings granted.1 order.above in
-        let above = (row_within 1 (pages_for (nat_abs wanted)) trapframe_page n p.mappings x now there).0 in
+        let behind = (row_within 1 (pages_for p.size) (trapframe_page p.scheme) n p.mappings x order.above there).0 in
+        let now = above_limit p.scheme (pages_for p.size) (pages_for (nat_abs wanted)) p.mappings granted.1 order.above in
+        let above = (row_within 1 (pages_for (nat_abs wanted)) (trapframe_page p.scheme) n p.mappings x now there).0 in
         let room = order.room in
         not_held (heap_of q) n (inr (omega (arith, above, room, behind)))
 

@@ -10,12 +10,12 @@ use Rattle.process_model.specs.MappingRows.{apart_sides}
 use Rattle.process_model.specs.Regions.{Region, end_of}
 use Rattle.process_model.specs.Process.{Process}
 use Rattle.process_model.specs.Mappings.{fits_at, is_apart, greatest, places, mapping_place}
-use Rattle.sv39_entry.specs.Address.{trapframe_page}
+use Rattle.sv39_entry.specs.Schemes.{trapframe_page}
 
 -- so many pages from a page on are above the heap, below the trapframe, and meet no mapping
 pub record Fits (p : Process) (pages first : ℕ) : Type 0 where
   pub above : pages_for p.size ≤ first
-  pub below : first + pages ≤ trapframe_page
+  pub below : first + pages ≤ trapframe_page p.scheme
   pub apart : (i : ℕ) (m : Region) → slice_get p.mappings i ≡ Some m → (first + pages ≤ m.first) ⊎ (end_of m ≤ first)
 
 le_of : (a b : ℕ) → nat_le a b ≡ true → a ≤ b
@@ -85,12 +85,12 @@ all_apart_to first pages (m ∷ ms) f = both (is_apart first pages m) _ (apart_t
 
 fits_of : (p : Process) (pages first : ℕ) → fits_at p pages first ≡ true → Fits p pages first
 fits_of p pages first fits =
-    let outer = and_parts (nat_le (pages_for p.size) first && nat_le (first + pages) trapframe_page) (list_all (is_apart first pages) p.mappings) fits in
-    let inner = and_parts (nat_le (pages_for p.size) first) (nat_le (first + pages) trapframe_page) outer.0 in
+    let outer = and_parts (nat_le (pages_for p.size) first && nat_le (first + pages) (trapframe_page p.scheme)) (list_all (is_apart first pages) p.mappings) fits in
+    let inner = and_parts (nat_le (pages_for p.size) first) (nat_le (first + pages) (trapframe_page p.scheme)) outer.0 in
     record { above = le_of _ _ inner.0; below = le_of _ _ inner.1; apart = λ i m e. all_apart_of first pages i m p.mappings outer.1 e }
 
 fits_to : (p : Process) (pages first : ℕ) → Fits p pages first → fits_at p pages first ≡ true
-fits_to p pages first f = both _ _ (both _ _ (le_to (pages_for p.size) first f.above) (le_to (first + pages) trapframe_page f.below)) (all_apart_to first pages p.mappings f.apart)
+fits_to p pages first f = both _ _ (both _ _ (le_to (pages_for p.size) first f.above) (le_to (first + pages) (trapframe_page p.scheme) f.below)) (all_apart_to first pages p.mappings f.apart)
 
 -- the least end from `low` on, of e and the mappings' starts
 abbrev nearer : ℕ → ℕ → ℕ → ℕ
@@ -145,22 +145,22 @@ nearest_member low e (m ∷ ms) = elim (nearest_member low (nearer low e m.first
 
 -- where the run ends when it is moved up as far as nothing is in its way
 abbrev end_above : Process → ℕ → ℕ → ℕ
-end_above p pages first = nearest (first + pages) trapframe_page p.mappings
+end_above p pages first = nearest (first + pages) (trapframe_page p.scheme) p.mappings
 
 end_low : (p : Process) (pages first : ℕ) → Fits p pages first → first + pages ≤ end_above p pages first
-end_low p pages first f = nearest_low (first + pages) trapframe_page p.mappings f.below
+end_low p pages first f = nearest_low (first + pages) (trapframe_page p.scheme) p.mappings f.below
 
 -- moved up, it still fits
 moved_up : (p : Process) (pages first r : ℕ) → r ≡ end_above p pages first → Fits p pages first → Fits p pages (r - pages)
 moved_up p pages first r is f =
     let low : first + pages ≤ end_above p pages first = end_low p pages first f in
-    let top : end_above p pages first ≤ trapframe_page = nearest_below (first + pages) trapframe_page p.mappings in
+    let top : end_above p pages first ≤ trapframe_page p.scheme = nearest_below (first + pages) (trapframe_page p.scheme) p.mappings in
     let above : pages_for p.size ≤ first = f.above in
     record {
       above = omega (is, low, above, arith);
       below = omega (is, low, top, arith);
       apart = λ i m e. elim (f.apart i m e) [
-        | inl l ↦ let near : end_above p pages first ≤ m.first = nearest_first (first + pages) trapframe_page i m p.mappings e l in inl (omega (is, low, near, arith))
+        | inl l ↦ let near : end_above p pages first ≤ m.first = nearest_first (first + pages) (trapframe_page p.scheme) i m p.mappings e l in inl (omega (is, low, near, arith))
         | inr l ↦ inr (omega (is, low, l, arith))
       ];
     }
@@ -168,7 +168,7 @@ moved_up p pages first r is f =
 -- where a run fits, one at or above it is among those that are tried
 tried : (p : Process) (pages first : ℕ) → Fits p pages first → Member (end_above p pages first - pages) (filter (fits_at p pages) (places p pages))
 tried p pages first f = member_filter (fits_at p pages) _ (places p pages)
-    (member_map (λ end. end - pages) _ (trapframe_page ∷ map (λ m. m.first) p.mappings) (nearest_member (first + pages) trapframe_page p.mappings))
+    (member_map (λ end. end - pages) _ (trapframe_page p.scheme ∷ map (λ m. m.first) p.mappings) (nearest_member (first + pages) (trapframe_page p.scheme) p.mappings))
     (fits_to p pages _ (moved_up p pages first (end_above p pages first) refl f))
 
 -- the place fits

@@ -6,6 +6,7 @@ use Rattle.process_model.specs.Regions.{Region, heap, zeros, region_at, lacks_ri
 use Rattle.sv39_entry.specs.Address.{page_of}
 use Rattle.sv39_entry.specs.declared.access.Access.{Access}
 use Rattle.sv39_entry.specs.declared.access.Access.TheVariants.{Store}
+use Rattle.sv39_entry.specs.declared.scheme.Scheme.{Scheme}
 
 -- a settled page, with its 4,096 bytes as this process sees them. The copy number tells which pages of two processes are still one
 -- in memory; the fork mark is on a page that a fork left so: a store must first make it the process's own (the xv6 book, "Page-fault
@@ -24,6 +25,8 @@ pub record Pending : Type 0 where
   pub served : Bool
 
 pub record Process : Type 0 where
+  -- by which its addresses are translated
+  pub scheme : Scheme
   -- segments, guard and stack, in ascending order
   pub parts : List Region
   -- in ascending order

@@ -10,16 +10,19 @@ use Rattle.process_model.specs.PageMap.{get}
 use Rattle.process_model.specs.Process.{Page, Process, heap_of, regions}
 use Rattle.process_model.specs.Regions.{Region, copy_rule, first_rule, keeps_stores}
 use Rattle.process_model.specs.Residence.{goes_through, is_resident, is_resident_page, leaves_mark, made_resident, made_resident_from, initial_page, region_on, settled_anew, taken_over, taken_over_unless, with_page}
-use Rattle.sv39_entry.specs.Address.{maxva, page_of}
+use Rattle.sv39_entry.specs.Address.{page_of}
+use Rattle.sv39_entry.specs.Schemes.{maxva, of_scheme}
 use Rattle.sv39_entry.specs.declared.access.Access.{Access}
 use Rattle.sv39_entry.specs.declared.access.Access.TheVariants.{Fetch, Load, Store}
 use Rattle.sv39_entry.specs.declared.rule.Rule.{Rule}
+use Rattle.sv39_entry.specs.declared.scheme.Scheme.{Scheme}
 use Rattle.sv39_entry.specs.declared.rule.Rule.TheVariants.{Misaligned}
 
 -- ---- what changes of a process where a page of it is made resident
 
 -- the page is settled and resident, and the rest is as it was (it may have come to the tabled pages too)
 pub record Settles (access : Access) (page : ℕ) (p q : Process) : Type 0 where
+  pub scheme : q.scheme ≡ p.scheme
   pub parts : q.parts ≡ p.parts
   pub mappings : q.mappings ≡ p.mappings
   pub heap_base : q.heap_base ≡ p.heap_base
@@ -57,6 +60,7 @@ taken_goes Store r fresh shared s = either s.stored_mark (keeps_stores r)
 -- a page is put that goes through
 put_settles : (access : Access) (page : ℕ) (p : Process) (s : Page) → goes_through access (region_on p page) s ≡ true → Settles access page p (with_page p page s)
 put_settles access page p s goes = record {
+  scheme = refl;
   parts = refl;
   mappings = refl;
   heap_base = refl;
@@ -75,6 +79,7 @@ anew_settles files fresh access page p =
     let s : Page = record { bytes = initial_page files p page; copy = fresh; fork_mark = false; stored_mark = leaves_mark access r } in
     let put = put_settles access page p s (new_goes access r s.bytes fresh) in
     record {
+      scheme = refl;
       parts = refl;
       mappings = refl;
       heap_base = refl;
@@ -90,6 +95,7 @@ anew_settles files fresh access page p =
 -- a page that is resident already
 there_settles : (access : Access) (page : ℕ) (p : Process) (s : Page) → get p.settled page ≡ Some s → goes_through access (region_on p page) s ≡ true → Settles access page p p
 there_settles access page p s there goes = record {
+  scheme = refl;
   parts = refl;
   mappings = refl;
   heap_base = refl;
@@ -175,36 +181,38 @@ module _ (access : Access) (page : ℕ) (s : Page) (bs : List ℕ) where
 
 -- ---- addresses of one page
 
-same_beyond : (x y : ℕ) → page_of x ≡ page_of y → nat_le maxva x ≡ nat_le maxva y
-same_beyond x y same = elim (cases_lt x maxva) [
-  | inl below ↦ lt-leb maxva x below ∙ sym (lt-leb maxva y (omega (arith, same, below)))
-  | inr above ↦ le-leb maxva x above ∙ sym (le-leb maxva y (omega (arith, same, above)))
-]
+same_beyond : (s : Scheme) (x y : ℕ) → page_of x ≡ page_of y → nat_le (maxva s) x ≡ nat_le (maxva s) y
+same_beyond s x y same =
+    let facts = of_scheme s in
+    elim (cases_lt x (maxva s)) [
+      | inl below ↦ lt-leb (maxva s) x below ∙ sym (lt-leb (maxva s) y (omega (arith, same, below, facts)))
+      | inr above ↦ le-leb (maxva s) x above ∙ sym (le-leb (maxva s) y (omega (arith, same, above, facts)))
+    ]
 
 -- the same rule denies them, or none
-pub same_rule : (rs : List Region) (access : Access) (x y : ℕ) → page_of x ≡ page_of y → copy_rule rs access x ≡ copy_rule rs access y
-same_rule rs access x y same = rw (same_beyond x y same, same) refl
+pub same_rule : (s : Scheme) (rs : List Region) (access : Access) (x y : ℕ) → page_of x ≡ page_of y → copy_rule s rs access x ≡ copy_rule s rs access y
+same_rule s rs access x y same = rw (same_beyond s x y same, same) refl
 
 -- a byte is never misaligned
-pub no_alignment : (rs : List Region) (access : Access) (address : ℕ) → first_rule rs access address 1 ≡ copy_rule rs access address
-no_alignment rs access address =
+pub no_alignment : (s : Scheme) (rs : List Region) (access : Access) (address : ℕ) → first_rule s rs access address 1 ≡ copy_rule s rs access address
+no_alignment s rs access address =
     let none : address % 1 ≡ 0 = omega arith in
-    ap (λ b. if b then copy_rule rs access address else Some Misaligned) (eq-eqb (address % 1) 0 none)
+    ap (λ b. if b then copy_rule s rs access address else Some Misaligned) (eq-eqb (address % 1) 0 none)
 
 module _ (a : Around) (access : Access) (g : Progress) where
   -- they are reached alike
   pub same_reached : (x y : ℕ) → page_of x ≡ page_of y → reached_in a access g x ≡ reached_in a access g y
-  same_reached x y same = ap (reached a access x g) (same_rule (regions g.process) access x y same) ∙ go (copy_rule (regions g.process) access y)
+  same_reached x y same = ap (reached a access x g) (same_rule g.process.scheme (regions g.process) access x y same) ∙ go (copy_rule g.process.scheme (regions g.process) access y)
     where
       go : (o : Option Rule) → reached a access x g o ≡ reached a access y g o
       go None = ap (λ page. resident_at a access page g) same
       go (Some r) = refl
 
   -- where an address is reached no rule denies it, and its page is made resident
-  pub reached_parts : (h : Progress) (x : ℕ) → reached_in a access g x ≡ Ok h → (copy_rule (regions g.process) access x ≡ None) × (resident_at a access (page_of x) g ≡ Ok h)
-  reached_parts h x is = go (copy_rule (regions g.process) access x) refl is
+  pub reached_parts : (h : Progress) (x : ℕ) → reached_in a access g x ≡ Ok h → (copy_rule g.process.scheme (regions g.process) access x ≡ None) × (resident_at a access (page_of x) g ≡ Ok h)
+  reached_parts h x is = go (copy_rule g.process.scheme (regions g.process) access x) refl is
     where
-      go : (o : Option Rule) → copy_rule (regions g.process) access x ≡ o → reached a access x g o ≡ Ok h → (o ≡ None) × (resident_at a access (page_of x) g ≡ Ok h)
+      go : (o : Option Rule) → copy_rule g.process.scheme (regions g.process) access x ≡ o → reached a access x g o ≡ Ok h → (o ≡ None) × (resident_at a access (page_of x) g ≡ Ok h)
       go None rule at = (refl, at)
       go (Some r) rule at = absurd (cc)
 
@@ -213,15 +221,16 @@ module _ (a : Around) (access : Access) (g : Progress) where
   reached_serves h x is = made_serves a access (page_of x) g h (reached_parts h x is).1
 
   -- no rule denies it and its page is resident: it is reached at once
-  pub reached_at_once : (x : ℕ) → copy_rule (regions g.process) access x ≡ None → resident_at a access (page_of x) g ≡ Ok g → reached_in a access g x ≡ Ok g
+  pub reached_at_once : (x : ℕ) → copy_rule g.process.scheme (regions g.process) access x ≡ None → resident_at a access (page_of x) g ≡ Ok g → reached_in a access g x ≡ Ok g
   reached_at_once x rule is = ap (reached a access x g) rule ∙ is
 
 -- what was reached is reached at once from then on, and so is every address of its page
 module _ (a : Around) (access : Access) (g h : Progress) (x y : ℕ) (is : reached_in a access g x ≡ Ok h) (same : page_of y ≡ page_of x) where
-  pub granted_again : copy_rule (regions h.process) access y ≡ None
+  pub granted_again : copy_rule h.process.scheme (regions h.process) access y ≡ None
   granted_again =
-      same_rule (regions h.process) access y x same
-      ∙ ap (λ rs. copy_rule rs access x) (reached_serves a access g h x is).regions
+      same_rule h.process.scheme (regions h.process) access y x same
+      ∙ ap (λ rs. copy_rule h.process.scheme rs access x) (reached_serves a access g h x is).regions
+      ∙ ap (λ s. copy_rule s (regions g.process) access x) (reached_serves a access g h x is).scheme
       ∙ (reached_parts a access g h x is).0
 
   pub reached_again : reached_in a access h y ≡ Ok h

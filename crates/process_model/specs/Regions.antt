@@ -1,11 +1,13 @@
 -- Regions of a process, and the first rule that denies an access.
 use Rattle.std.specs.Prelude.{ℕ, Bool, true, false, not, ◌+◌, ◌%◌, nat_le, nat_lt, ◌==◌, ◌||◌, ◌&&◌, Option, None, Some, is_none, List, [], ◌∷◌, if◌then◌else◌}
 use Rattle.process_model.specs.Bytes.{first_true}
-use Rattle.sv39_entry.specs.Address.{page_of, maxva, trampoline_page, trapframe_page}
+use Rattle.sv39_entry.specs.Address.{page_of}
+use Rattle.sv39_entry.specs.Schemes.{maxva, trampoline_page, trapframe_page}
 use Rattle.sv39_entry.specs.Causes.{misaligned_cause, page_fault_cause}
 use Rattle.sv39_entry.specs.declared.access.Access.{Access}
 use Rattle.sv39_entry.specs.declared.access.Access.TheVariants.{Fetch, Load, Store}
 use Rattle.sv39_entry.specs.declared.rule.Rule.{Rule}
+use Rattle.sv39_entry.specs.declared.scheme.Scheme.{Scheme}
 use Rattle.sv39_entry.specs.declared.rule.Rule.TheVariants.{Misaligned, BeyondMax, KernelPage, GuardPage, NoRegion, NoRead, NoWrite, NoExec}
 
 -- what a region is there for (the xv6 book, "Process address space"; mappings are those of the mmap lab)
@@ -88,27 +90,27 @@ right_rule Load = NoRead
 right_rule Store = NoWrite
 
 -- the rules that may deny a kernel copy at an address, in an order of our own
-abbrev pub copy_tests : List Region → Access → ℕ → List (Bool × Rule)
-copy_tests regions access address =
+abbrev pub copy_tests : Scheme → List Region → Access → ℕ → List (Bool × Rule)
+copy_tests s regions access address =
     let page = page_of address in
     let region = region_at regions page in
-    (nat_le maxva address, BeyondMax)
-    ∷ (page == trampoline_page || page == trapframe_page, KernelPage)
+    (nat_le (maxva s) address, BeyondMax)
+    ∷ (page == trampoline_page s || page == trapframe_page s, KernelPage)
     ∷ (is_guard region, GuardPage)
     ∷ (is_none region, NoRegion)
     ∷ (lacks_right access region, right_rule access)
     ∷ []
 
 -- the first of them; None where it is granted
-abbrev pub copy_rule : List Region → Access → ℕ → Option Rule
-copy_rule regions access address = first_true (copy_tests regions access address)
+abbrev pub copy_rule : Scheme → List Region → Access → ℕ → Option Rule
+copy_rule s regions access address = first_true (copy_tests s regions access address)
 
 abbrev pub is_aligned : ℕ → ℕ → Bool
 is_aligned address width = address % width == 0
 
 -- the first rule that denies an access of the user: alignment comes first, and then what denies a copy
-abbrev pub first_rule : List Region → Access → ℕ → ℕ → Option Rule
-first_rule regions access address width = if is_aligned address width then copy_rule regions access address else Some Misaligned
+abbrev pub first_rule : Scheme → List Region → Access → ℕ → ℕ → Option Rule
+first_rule s regions access address width = if is_aligned address width then copy_rule s regions access address else Some Misaligned
 
 -- the cause of the fault of a denied access: a misaligned one is told before any other fault (own choice)
 abbrev pub fault_cause : Access → Rule → ℕ

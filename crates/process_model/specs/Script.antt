@@ -7,6 +7,8 @@ pub use Rattle.process_model.specs.ReadLines.{◌>>=◌, test, row_named, in_lim
 use Rattle.process_model.specs.Files.{File}
 use Rattle.process_model.specs.Frames.{can_boot}
 use Rattle.process_model.specs.Copies.{longest_copy}
+use Rattle.sv39_entry.specs.declared.scheme.Scheme.{Scheme}
+use Rattle.sv39_entry.specs.declared.scheme.Scheme.TheVariants.{Sv39}
 use Rattle.process_model.specs.declared.config.Config.{Config}
 use Rattle.process_model.specs.declared.config.Policy.{Policy}
 use Rattle.process_model.specs.declared.config.Policy.TheVariants as policy
@@ -88,6 +90,10 @@ abbrev pub as_policy : Option FieldValue → Policy
 as_policy (Some (value.Policy p)) = p
 as_policy v = policy.Full
 
+abbrev pub as_scheme : Option FieldValue → Scheme
+as_scheme (Some (value.Scheme z)) = z
+as_scheme v = Sv39
+
 abbrev pub number_at : List FieldValue → ℕ → ℕ
 number_at vs k = as_number (slice_get vs k)
 
@@ -112,7 +118,7 @@ abbrev pub file_of_values : List FieldValue → FileText
 file_of_values vs = record { length = number_at vs 0; writable = as_writable (slice_get vs 1); bytes = bytes_at vs 2 }
 
 abbrev pub config_of : List FieldValue → Config
-config_of vs = record { harts = number_at vs 0; frames = number_at vs 1; slots = number_at vs 2; policy = as_policy (slice_get vs 3) }
+config_of vs = record { scheme = as_scheme (slice_get vs 4); harts = number_at vs 0; frames = number_at vs 1; slots = number_at vs 2; policy = as_policy (slice_get vs 3) }
 
 -- limits
 
@@ -141,7 +147,7 @@ abbrev pub item_of : Draft → Keyword → List FieldValue → Result Item Cause
 item_of s word.File vs = in_limits (fits_file (file_of_values vs)) (item.File (file_of_values vs))
 item_of s word.Image vs = Ok (item.Image (owned.Segments (segments_in vs)))
 item_of s word.Elf vs = Ok (item.Image (owned.Elf (bytes_at vs 0)))
-item_of s word.Boot vs = in_limits (can_boot (number_at vs 0) (number_at vs 1) (number_at vs 2)) (item.Boot (config_of vs))
+item_of s word.Boot vs = in_limits (can_boot (as_scheme (slice_get vs 4)) (number_at vs 0) (number_at vs 1) (number_at vs 2)) (item.Boot (config_of vs))
 item_of s word.Start vs = in_limits (has_image s (number_at vs 0)) (item.Command (command.Start (number_at vs 0)))
 item_of s word.Switch vs = Ok (one (step.Switch (number_at vs 0) (optional_at vs 1)))
 item_of s word.Trap vs = Ok (one (step.Trap (number_at vs 0)))

@@ -57,7 +57,7 @@ unless_denied p a None = if_settled p a (get p.settled (page_of a.address))
 
 -- denied, or not resident: a fault; else the answer
 abbrev pub user_access : Process → Asked → Answer
-user_access p a = unless_denied p a (first_rule (regions p) a.access a.address a.width)
+user_access p a = unless_denied p a (first_rule p.scheme (regions p) a.access a.address a.width)
 
 abbrev pub is_fault : Reply → Bool
 is_fault (Fault cause) = true
@@ -108,4 +108,4 @@ served_or_ended w h hart s p a (Ok g) = answers (with_progress w s (with_served 
 -- a denied access ends the process with its rule; a granted one is made resident, or ends the process by NoFrame
 abbrev pub served : World → ℕ → Hart → ℕ → Process → Option Pending → Outcome
 served w h hart s p None = refuses w (Impossible hart.phase)
-served w h hart s p (Some a) = served_or_ended w h hart s p a (reached (around w s) a.access a.address (begun w p) (first_rule (regions p) a.access a.address a.width))
+served w h hart s p (Some a) = served_or_ended w h hart s p a (reached (around w s) a.access a.address (begun w p) (first_rule p.scheme (regions p) a.access a.address a.width))

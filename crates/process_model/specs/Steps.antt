@@ -10,7 +10,8 @@ use Rattle.process_model.specs.Service.{access_step, around, begun, served, ende
 use Rattle.process_model.specs.Stale.{with_stale_slots}
 use Rattle.process_model.specs.Harts.{Hart, next_phase, is_user, may_switch, in_trampoline, phase_for, present_asid, with_key, entry_serves, fenced}
 use Rattle.process_model.specs.World.{World, Outcome, answers, with_process, with_hart, free_slot, can_run, can_go_on, can_serve, always, on_hart, with_its_process, kernel_call}
-use Rattle.sv39_entry.specs.Address.{page_of, trampoline_page}
+use Rattle.sv39_entry.specs.Address.{page_of}
+use Rattle.sv39_entry.specs.Schemes.{trampoline_page}
 use Rattle.sv39_entry.specs.declared.access.Access.TheVariants as access
 use Rattle.process_model.specs.declared.phase.Phase.TheVariants.{Enter0}
 use Rattle.process_model.specs.declared.step.Reply.{Reply}
@@ -33,7 +34,7 @@ advanced w h hart = answers (with_hart w h (record (fenced w.policy hart) { phas
 
 -- what the step itself answers and changes
 abbrev pub plain_step : World → Step → Outcome
-plain_step w (Start image) = started w (image_loads image) (free_slot w)
+plain_step w (Start image) = started w (image_loads w.scheme image) (free_slot w)
 plain_step w (Switch h slot) =
     on_hart w h true (λ hart. may_switch hart.phase && can_run w slot) always (λ hart. answers (with_hart w h (record hart { phase = phase_for slot; slot = slot })) Done)
 plain_step w (Trap h) =
@@ -46,11 +47,11 @@ plain_step w (Fetch h address via) = access_step w h access.Fetch address 4 0 vi
 plain_step w (Load h address width via) = access_step w h access.Load address width 0 via
 plain_step w (Store h address width value via) = access_step w h access.Store address width value via
 plain_step w (TrampolineFetch h offset via) =
-    on_hart w h (offset % 4 == 0 && nat_lt offset 4096) (λ hart. in_trampoline hart.phase) (λ hart. entry_serves w.policy hart (4096 * trampoline_page + offset) via)
+    on_hart w h (offset % 4 == 0 && nat_lt offset 4096) (λ hart. in_trampoline hart.phase) (λ hart. entry_serves w.policy hart (4096 * trampoline_page w.scheme + offset) via)
     (λ hart. answers w (InFrame 0))
 plain_step w (Serve h) = on_hart w h true (can_serve w) always (λ hart. with_its_process w hart (λ s p. served w h hart s p p.pending))
 plain_step w (Fork h) = kernel_call w h true (λ hart s p. forked w s p (free_slot w))
-plain_step w (Exec h image) = kernel_call w h true (λ hart s p. replaced w s p (image_loads image))
+plain_step w (Exec h image) = kernel_call w h true (λ hart s p. replaced w s p (image_loads w.scheme image))
 plain_step w (Sbrk h delta) = kernel_call w h true (λ hart s p. resized_to w s p (sbrk_result p delta))
 plain_step w (Mmap h len protection flags n) = kernel_call w h true (λ hart s p. mapped_to w s (mapped w.files p len protection flags n))
 plain_step w (Munmap h address len) = kernel_call w h true (λ hart s p. unmapped_to w s (unmapped w.files p address len))

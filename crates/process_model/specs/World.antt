@@ -6,6 +6,7 @@ use Rattle.process_model.specs.Files.{File}
 use Rattle.process_model.specs.Process.{Process, Pending}
 use Rattle.process_model.specs.Frames.{free_frames, accounts, live, has_copy}
 use Rattle.process_model.specs.Harts.{Hart, idle_hart, is_kernel, next_phase}
+use Rattle.sv39_entry.specs.declared.scheme.Scheme.{Scheme}
 use Rattle.process_model.specs.declared.config.Config.{Config}
 use Rattle.process_model.specs.declared.config.Policy.{Policy}
 use Rattle.process_model.specs.declared.phase.Phase.{Phase}
@@ -16,6 +17,7 @@ use Rattle.process_model.specs.declared.step.Reply.TheVariants.{Refused}
 use Rattle.process_model.specs.declared.step.Report.{Report}
 
 pub record World : Type 0 where
+  pub scheme : Scheme
   pub policy : Policy
   -- how many the memory has
   pub frames : ℕ
@@ -27,6 +29,7 @@ pub record World : Type 0 where
 
 abbrev pub booted : Config → List File → World
 booted c files = record {
+  scheme = c.scheme;
   policy = c.policy;
   frames = c.frames;
   slots = replicate c.slots None;
@@ -50,10 +53,10 @@ refuses w r = answers w (Refused r)
 -- parts of a world
 
 abbrev pub free : World → ℕ
-free w = free_frames w.frames w.slots
+free w = free_frames w.scheme w.frames w.slots
 
 abbrev pub report : World → Report
-report w = accounts w.frames w.slots
+report w = accounts w.scheme w.frames w.slots
 
 abbrev pub flat : Option (Option Process) → Option Process
 flat None = None

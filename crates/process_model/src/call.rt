@@ -4,7 +4,7 @@ use crate::config::kernel_frames;
 use crate::image::Image;
 use crate::sequence::{Bytes, Sequence};
 use crate::step::Refusal;
-use sv39_entry::Rule;
+use sv39_entry::{Rule, Scheme};
 
 /// A call of a process. An access to a page that has no frame, or that may not be stored to yet, is served inside the call.
 ///
@@ -125,6 +125,6 @@ impl Pool {
     {
         (16..=256).contains(&self.frames)
             && (1..=64).contains(&self.slots)
-            && kernel_frames(self.frames, self.slots) <= self.frames
+            && kernel_frames(Scheme::Sv39, self.frames, self.slots) <= self.frames
     }
 }

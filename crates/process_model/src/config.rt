@@ -3,6 +3,8 @@
 ghost use Rattle.std.specs.Prelude.{◌≡◌, ◌≤◌};
 ghost use Rattle.process_model.specs.Frames as model;
 
+use sv39_entry::Scheme;
+
 /// How the kernel keeps old translations out of the buffers.
 #[derive(Clone, Copy, PartialEq, Eq, Debug)]
 pub enum Policy {
@@ -22,6 +24,8 @@ pub struct Config {
     /// How many processes there may be.
     pub slots: usize,
     pub policy: Policy,
+    /// By which addresses are translated.
+    pub scheme: Scheme,
 }
 
 impl Config {
@@ -29,21 +33,25 @@ impl Config {
 
     /// Whether the sizes keep the limits, and there are frames enough for the kernel.
     pub fn is_bootable(&self) -> bool
-        ensures { result ≡ can_boot self.now.harts self.now.frames self.now.slots }
+        ensures { result ≡ can_boot self.now.scheme self.now.harts self.now.frames self.now.slots }
     {
         (1..=8).contains(&self.harts)
             && (16..=1024).contains(&self.frames)
             && (1..=64).contains(&self.slots)
-            && kernel_frames(self.frames, self.slots) <= self.frames
+            && kernel_frames(self.scheme, self.frames, self.slots) <= self.frames
     }
 }
 
 /// How many frames the kernel takes: the trampoline's, its page tables, of which there is one more where the frames fill
 /// more than two megabytes, and a stack for each slot.
-pub fn kernel_frames(frames: usize, slots: usize) -> usize
+pub fn kernel_frames(scheme: Scheme, frames: usize, slots: usize) -> usize
     requires few { slots ≤ 64 }
-    ensures { result ≡ model.kernel_frames frames slots }
+    ensures { result ≡ model.kernel_frames scheme frames slots }
 {
-    let fixed = if frames <= 512 { 6 } else { 7 };
-    fixed + slots
+    let first = match scheme {
+        Scheme::Sv39 => 6,
+        Scheme::Sv48 => 8,
+    };
+    let more = if frames <= 512 { 0 } else { 1 };
+    first + more + slots
 }

@@ -6,6 +6,7 @@ use crate::file::FileText;
 use crate::image::{OwnedImage, Segment};
 use crate::sequence::Bytes;
 use crate::step::Step;
+use sv39_entry::Scheme;
 
 /// What is wrong with a line of a script, in the order in which the causes are tried.
 #[derive(Clone, Copy, PartialEq, Eq, Debug)]
@@ -81,6 +82,8 @@ pub enum FieldKind {
     Mode,
     /// `full` or `asid`.
     Policy,
+    /// `sv39` or `sv48`.
+    Scheme,
     /// `VADDR:MEMSZ:FLAGS:HEX`.
     Segment,
     /// `@N`.
@@ -108,6 +111,7 @@ pub enum FieldValue {
     /// Whether a file may be written.
     Writable(bool),
     Policy(Policy),
+    Scheme(Scheme),
     Segment(Segment),
 }
 

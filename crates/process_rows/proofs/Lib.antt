@@ -9,6 +9,7 @@ pub mod Copied
 pub mod Programs
 pub mod Whole
 pub mod Tagged
+pub mod Tall
 pub mod Hostile
 pub mod Needs
 pub mod Faulty

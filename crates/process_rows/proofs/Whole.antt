@@ -96,7 +96,7 @@ unfolding number low_bytes digits item_line line_of elf_loads segment_loads proc
 steps_one_by_one = refl
 
 fifth_field_of_boot : IsRefused (
-    silent "boot 1 64 4 full sv48"
-    ∷ []) 1 cause.Count
+    silent "boot 1 64 4 full sv40"
+    ∷ []) 1 cause.Field
 unfolding number low_bytes digits item_line line_of elf_loads segment_loads process_of tables_needed on_hart with_its_process resident_at sbrk_result mapped unmapped copied_in copied_out step
 fifth_field_of_boot = refl

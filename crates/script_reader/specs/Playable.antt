@@ -18,7 +18,7 @@ IsDeclared files images (command.Show n offset count) = (n < length files) × (c
 IsDeclared files images c = Unit {0}
 
 abbrev pub CanBoot : Config → Type 0
-CanBoot c = IsTrue (can_boot c.harts c.frames c.slots)
+CanBoot c = IsTrue (can_boot c.scheme c.harts c.frames c.slots)
 
 abbrev pub FitsFile : FileText → Type 0
 FitsFile f = IsTrue (fits_file f)

@@ -6,7 +6,7 @@ ghost use Rattle.process_model.specs.declared.image.OwnedImage.TheVariants as ow
 ghost use Rattle.script_reader.specs.Alone.{item_alone};
 
 use crate::limits::in_limits;
-use crate::places::{index_at, policy_at, take_bytes, take_segments, writable_at};
+use crate::places::{index_at, policy_at, scheme_at, take_bytes, take_segments, writable_at};
 use process_model::{Cause, Config, FieldValue, FileText, Item, Keyword, OwnedImage};
 use std::alloc::{AllocError, Global};
 
@@ -49,6 +49,7 @@ pub fn boot(values: &[FieldValue]) -> Result<Item, Cause>
         frames: index_at(values, 1),
         slots: index_at(values, 2),
         policy: policy_at(values, 3),
+        scheme: scheme_at(values, 4),
     };
     in_limits(config.is_bootable(), Item::Boot(config))
 }

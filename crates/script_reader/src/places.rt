@@ -5,6 +5,7 @@ ghost use Rattle.process_model.specs.Script as words;
 
 use process_model::{Bytes, FieldValue, Policy, Segment, Sequence};
 use std::alloc::{AllocError, Global};
+use sv39_entry::Scheme;
 
 pub fn number_at(values: &[FieldValue], place: usize) -> u64
     ensures { result ≡ words.number_at values.now place }
@@ -56,6 +57,16 @@ pub fn policy_at(values: &[FieldValue], place: usize) -> Policy
     match values.get(place) {
         Some(FieldValue::Policy(policy)) => *policy,
         _ => Policy::Full,
+    }
+}
+
+/// Sv39 where no scheme is named.
+pub fn scheme_at(values: &[FieldValue], place: usize) -> Scheme
+    ensures { result ≡ words.as_scheme (slice_get values.now place) }
+{
+    match values.get(place) {
+        Some(FieldValue::Scheme(scheme)) => *scheme,
+        _ => Scheme::Sv39,
     }
 }
 

@@ -5,7 +5,7 @@ ghost use Rattle.std.specs.Option.{option_map};
 ghost use Rattle.process_model.specs.Fields.{command_table, row_among};
 ghost use Rattle.process_model.specs.ThreadScript.{thread_table};
 
-use process_model::FieldKind::{Entry, Hex, Mode, Number, Policy, Segment, Signed, Slot};
+use process_model::FieldKind::{Entry, Hex, Mode, Number, Policy, Scheme, Segment, Signed, Slot};
 use process_model::{FieldKind, Keyword, Tail};
 
 /// A word, as it is written, the kinds of the fields that must follow it, and what may follow these.
@@ -39,6 +39,7 @@ impl Row {
     {
         let none = Tail::Nothing;
         let entry = Tail::Perhaps(Entry);
+        let scheme = Tail::Perhaps(Scheme);
         let one: &'static [FieldKind] = &[Number];
         let two: &'static [FieldKind] = &[Number, Number];
         let three: &'static [FieldKind] = &[Number, Number, Number];
@@ -49,7 +50,7 @@ impl Row {
             make_row(b"file", Keyword::File, &[Number, Mode, Hex], none),
             make_row(b"image", Keyword::Image, &[Segment], Tail::More(Segment)),
             make_row(b"elf", Keyword::Elf, &[Hex], none),
-            make_row(b"boot", Keyword::Boot, sizes, none),
+            make_row(b"boot", Keyword::Boot, sizes, scheme),
             make_row(b"start", Keyword::Start, one, none),
             make_row(b"switch", Keyword::Switch, &[Number, Slot], none),
             make_row(b"trap", Keyword::Trap, one, none),

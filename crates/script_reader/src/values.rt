@@ -14,6 +14,7 @@ use crate::segments::read_segment;
 use crate::table::Row;
 use process_model::{Cause, FieldKind, FieldValue, Policy};
 use std::alloc::{AllocError, Global};
+use sv39_entry::Scheme;
 
 /// A number, or `-` for none.
 fn read_slot(field: &[u8]) -> Result<FieldValue, Cause>
@@ -44,6 +45,16 @@ fn read_policy(field: &[u8]) -> Result<FieldValue, Cause>
     match field {
         b"full" => Ok(FieldValue::Policy(Policy::Full)),
         b"asid" => Ok(FieldValue::Policy(Policy::Asid)),
+        _ => Err(Cause::Field),
+    }
+}
+
+fn read_scheme(field: &[u8]) -> Result<FieldValue, Cause>
+    ensures { result ≡ value_of FieldKind.Scheme field.now }
+{
+    match field {
+        b"sv39" => Ok(FieldValue::Scheme(Scheme::Sv39)),
+        b"sv48" => Ok(FieldValue::Scheme(Scheme::Sv48)),
         _ => Err(Cause::Field),
     }
 }
@@ -82,6 +93,7 @@ fn read_value(
         FieldKind::Slot => read_slot(field),
         FieldKind::Mode => read_mode(field),
         FieldKind::Policy => read_policy(field),
+        FieldKind::Scheme => read_scheme(field),
         FieldKind::Segment => read_segment(alloc, field)?
             .map(FieldValue::Segment)
             .ok_or(Cause::Field),

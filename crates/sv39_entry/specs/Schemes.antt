@@ -1,7 +1,9 @@
 -- The schemes of translation: Sv39 has tables of three levels, Sv48 of four (the standard, 4.4 and 4.5). A page number has nine bits a
 -- level; bits of an address above them equal the highest of them. Of the addresses a process has the lower half.
-use Rattle.std.specs.Prelude.{◌≡◌, ℕ, Bool, ◌+◌, ◌-◌, ◌*◌, ◌/◌, ◌%◌, ◌^◌, ◌<◌, ◌≤◌, ◌==◌, ◌||◌, refl}
+use Rattle.std.specs.Prelude.{◌≡◌, ℕ, Bool, ◌+◌, ◌-◌, ◌*◌, ◌/◌, ◌%◌, ◌^◌, ◌<◌, ◌≤◌, ◌==◌, ◌||◌, true, refl}
 use Rattle.std.proofs.Common.{arith}
+use Rattle.std.proofs.lemmas.Bool.{eq-eqb}
+use Rattle.sv39_entry.specs.Address.{has}
 use Rattle.sv39_entry.specs.declared.scheme.Scheme.{Scheme}
 use Rattle.sv39_entry.specs.declared.scheme.Scheme.TheVariants.{Sv39, Sv48}
 
@@ -19,7 +21,16 @@ page_limit Sv48 = 2 ^ 36
 abbrev pub low_page : Scheme → ℕ → ℕ
 low_page s page = page % page_limit s
 
--- bits 63 to 38, or 63 to 47, are all clear or all set
+-- the highest bit of the indices
+abbrev pub sign_bit : Scheme → ℕ
+sign_bit Sv39 = 38
+sign_bit Sv48 = 47
+
+-- the bits above it equal it
+abbrev pub IsCanonical : Scheme → ℕ → Type 0
+IsCanonical s a = (i : ℕ) → sign_bit s ≤ i → i < 64 → has a i ≡ has a (sign_bit s)
+
+-- the same, as a test: bits 63 to 38, or 63 to 47, are all clear or all set
 abbrev pub is_canonical : Scheme → ℕ → Bool
 is_canonical Sv39 a = a / 2 ^ 38 == 0 || a / 2 ^ 38 == 2 ^ 26 - 1
 is_canonical Sv48 a = a / 2 ^ 47 == 0 || a / 2 ^ 47 == 2 ^ 17 - 1
@@ -86,3 +97,8 @@ of_scheme Sv48 = record {
 pub low_is : (s : Scheme) (page : ℕ) → page < page_limit s → low_page s page ≡ page
 low_is Sv39 page low = omega (arith, low)
 low_is Sv48 page low = omega (arith, low)
+
+-- addresses up to the trampoline's page are canonical
+pub low_canonical : (s : Scheme) (a : ℕ) → a / 4096 ≤ trampoline_page s → is_canonical s a ≡ true
+low_canonical Sv39 a low = rw (eq-eqb (a / 2 ^ 38) 0 (omega (arith, low))) refl
+low_canonical Sv48 a low = rw (eq-eqb (a / 2 ^ 47) 0 (omega (arith, low))) refl

@@ -1,4 +1,4 @@
-//! Addresses, page table entries and rights of Sv39, as the standard has them (RISC-V Privileged Architecture 20211203,
+//! Addresses, page table entries and rights of Sv39 and Sv48, as the standard has them (RISC-V Privileged Architecture 20211203,
 //! chapter 4), and the addresses at which xv6 keeps things.
 #![tactic(auto)]
 
@@ -13,7 +13,7 @@ mod satp;
 mod scheme;
 
 pub use access::{Access, Mode};
-pub use address::{MAXVA, PAGE_SIZE, TRAMPOLINE, TRAPFRAME, Va, Vpn, kernel_stack};
+pub use address::{PAGE_SIZE, Va, Vpn};
 pub use entry::{Entry, Kind};
 pub use flags::EntryFlags;
 pub use frame::{FrameNo, KERNBASE};

@@ -1,6 +1,6 @@
 // How virtual addresses are translated: by tables of three levels or of four.
 
-ghost use Rattle.std.specs.Prelude.{◌≡◌, ◌+◌, ◌*◌, ◌<◌, ◌≤◌};
+ghost use Rattle.std.specs.Prelude.{◌≡◌, ◌+◌, ◌*◌, ◌<◌, ◌≤◌, ◌↔◌, IsTrue};
 ghost use Rattle.sv39_entry.specs.Schemes as words;
 
 use crate::address::{PAGE_SIZE, Va};
@@ -89,6 +89,13 @@ impl Scheme {
     /// Whether the bits above the indices equal the highest of them: else each access is a page fault (the standard, 4.4.1
     /// and 4.5.1).
     pub fn is_canonical(self, va: Va) -> bool
+        ensures test { result ≡ words.is_canonical self va.0 }
+        ensures bits { IsTrue result ↔ words.IsCanonical self va.0 }
+    {
+        self.has_equal_upper_bits(va)
+    }
+
+    fn has_equal_upper_bits(self, va: Va) -> bool
         ensures { result ≡ words.is_canonical self va.0 }
     {
         match self {

@@ -111,6 +111,29 @@ pub low_leaf : (s : Scheme) (page : ℕ) → page < page_limit s → walk_leaf s
 low_leaf Sv39 page low = omega (arith, low)
 low_leaf Sv48 page low = omega (arith, low)
 
+-- the table of a page is one of its level, by what the page's number is above that
+pub node_at : (s : Scheme) (n d : ℕ) → d ≤ top_level s → n < page_limit s → node s n d ≡ 512 ^ (above_root s + d) + n / 512 ^ suc (top_level s - d)
+node_at Sv39 n zero deep low = omega (arith, low)
+node_at Sv39 n (suc zero) deep low = omega (arith, low)
+node_at Sv39 n (suc (suc zero)) deep low = omega (arith, low)
+node_at Sv39 n (suc (suc (suc d))) deep low = absurd (omega (arith, deep))
+node_at Sv48 n zero deep low = omega (arith, low)
+node_at Sv48 n (suc zero) deep low = omega (arith, low)
+node_at Sv48 n (suc (suc zero)) deep low = omega (arith, low)
+node_at Sv48 n (suc (suc (suc zero))) deep low = omega (arith, low)
+node_at Sv48 n (suc (suc (suc (suc d)))) deep low = absurd (omega (arith, deep))
+
+pub in_level : (s : Scheme) (n d : ℕ) → d ≤ top_level s → n < page_limit s → n / 512 ^ suc (top_level s - d) < 512 ^ d
+in_level Sv39 n zero deep low = omega (arith, low)
+in_level Sv39 n (suc zero) deep low = omega (arith, low)
+in_level Sv39 n (suc (suc zero)) deep low = omega (arith, low)
+in_level Sv39 n (suc (suc (suc d))) deep low = absurd (omega (arith, deep))
+in_level Sv48 n zero deep low = omega (arith, low)
+in_level Sv48 n (suc zero) deep low = omega (arith, low)
+in_level Sv48 n (suc (suc zero)) deep low = omega (arith, low)
+in_level Sv48 n (suc (suc (suc zero))) deep low = omega (arith, low)
+in_level Sv48 n (suc (suc (suc (suc d)))) deep low = absurd (omega (arith, deep))
+
 -- the number of a page's leaf, from its last table on
 pub walk_leaf_step : (s : Scheme) (page : ℕ) → last_table s page * 512 + vpn page 0 ≡ walk_leaf s page
 walk_leaf_step s page =

@@ -1,5 +1,5 @@
-//! Three-level page tables: the walk of Sv39 (RISC-V Privileged Architecture 20211203, 4.3.2, "the standard"), and
-//! changes of tables.
+//! Page tables of three levels and of four: the walks of Sv39 and Sv48 (RISC-V Privileged Architecture 20211203, 4.3.2, 4.4
+//! and 4.5, "the standard"), and changes of tables.
 #![tactic(auto)]
 
 mod change;

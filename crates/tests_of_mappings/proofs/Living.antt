@@ -1,10 +1,9 @@
 -- What a story knows of the space that it is of.
-use Rattle.std.proofs.Common.{◌≡◌, ℕ, ◌<◌, ◌≤◌, ◌==◌, Bool, true, false, inl, inr, refl, arith, List, None, Option, Some, Result, Ok, Err}
+use Rattle.std.proofs.Common.{◌≡◌, ℕ, ◌*◌, ◌/◌, ◌<◌, ◌≤◌, ◌==◌, Bool, true, false, inl, inr, refl, arith, subst, List, None, Option, Some, Result, Ok, Err}
 use Rattle.std.specs.Prelude.{IfErr, IfOk}
 use Rattle.std.specs.Result.{is_err}
 use Rattle.process_model.specs.Bytes.{padded}
-use Rattle.std.proofs.lemmas.Bool.{cases_lt}
-use Rattle.std.proofs.lemmas.Bool.Decides.{nat_tests}
+use Rattle.std.proofs.lemmas.Bool.{cases_lt, eqb-false}
 use Rattle.frame_store.specs.View.{View}
 use Rattle.frame_store.specs.declared.refusal.NoFrame.{NoFrame}
 use Rattle.process_model.specs.Files.{File}
@@ -12,8 +11,9 @@ use Rattle.process_model.specs.Inserted.{inserted_here}
 use Rattle.process_model.specs.PageMap.{get}
 use Rattle.process_model.specs.Process.{Page, Process}
 use Rattle.process_model.specs.declared.step.Refusal.{Refusal}
-use Rattle.sv39_entry.specs.Address.{trapframe_page}
+use Rattle.sv39_entry.specs.Schemes.{trapframe_page}
 use Rattle.sv39_entry.specs.declared.frame.FrameNo.{FrameNo}
+use Rattle.sv39_entry.specs.declared.scheme.Scheme.{Scheme}
 use Rattle.table_walk.specs.Keys.{is_none}
 use Rattle.table_walk.specs.Tables.{Tables}
 use Rattle.address_space.specs.Agreement.{Body, body, IsSpace}
@@ -49,8 +49,12 @@ module _ (v w : View) (root root_after trapframe trapframe_after : FrameNo) (l m
       alive_still v w root root_after trapframe trapframe_after l m view root_is trapframe_is layout alive
 
 -- no page from the trapframe's on is settled
-high_vacant : (x : Body) (t : Tables) (p : Process) (n : ℕ) → IsSpace x t p → trapframe_page ≤ n → get p.settled n ≡ None
-high_vacant x t p n agrees high = is_none (get p.settled n) (λ s at. let low = agrees.stands.shows.low n s at in omega (arith, high, low))
+high_vacant : (x : Body) (t : Tables) (p : Process) (n : ℕ) → IsSpace x t p → trapframe_page (x.layout).scheme ≤ n → get p.settled n ≡ None
+high_vacant x t p n agrees high = is_none (get p.settled n) (λ s at. let low = rw (agrees.lays.scheme) at (agrees.stands.shows.low n s at) in omega (arith, high, low))
+
+-- the number of the trapframe's page, by the address at which it begins
+pub edge_at : (z y : Scheme) → y ≡ z → (page address : ℕ) → page ≡ address / 4096 → address ≡ 4096 * trapframe_page y → page ≡ trapframe_page z
+edge_at z y same page address is at = subst (λ s. page ≡ trapframe_page s) same (omega (arith, is, at))
 
 -- whether a page is the one that was found
 abbrev pub is_found : Option SettledPage → ℕ → Bool
@@ -58,15 +62,15 @@ is_found None n = false
 is_found (Some y) n = y.page == n
 
 -- where another page is the first settled one from a page on, or none is, that page has no frame
-pub vacant_unless : (x : Body) (t : Tables) (p : Process) (n : ℕ) (o : Option SettledPage) → IsSpace x t p → IsNextSettled t p n trapframe_page o
+pub vacant_unless : (x : Body) (t : Tables) (p : Process) (n : ℕ) (o : Option SettledPage) → IsSpace x t p → IsNextSettled t p n (trapframe_page (x.layout).scheme) o
     → is_found o n ≡ false → get p.settled n ≡ None
-vacant_unless x t p n None agrees next other = elim (cases_lt n trapframe_page) [
+vacant_unless x t p n None agrees next other = elim (cases_lt n (trapframe_page (x.layout).scheme)) [
   | inl low ↦ next n (omega arith) low
   | inr high ↦ high_vacant x t p n agrees high
 ]
 vacant_unless x t p n (Some y) agrees next other =
-    let from = next.0 in
-    let above : n < y.page = grind (arith, nat_tests, from, other) in
+    let apart = eqb-false y.page n other in
+    let above : n < y.page = omega (arith, next.0, apart) in
     next.2 n (omega arith) above
 
 -- a page gets a frame

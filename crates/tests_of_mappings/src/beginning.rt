@@ -2,7 +2,8 @@
 
 ghost use Rattle.std.specs.Prelude.{◌<◌};
 ghost use Rattle.address_space.specs.Parts.{AreParts};
-ghost use Rattle.sv39_entry.specs.Address.{trapframe_page};
+ghost use Rattle.sv39_entry.specs.Schemes.{trapframe_page};
+ghost use Rattle.sv39_entry.specs.declared.scheme.Scheme.TheVariants.{Sv39};
 
 use address_space::{Part, Region, RegionKind, Source};
 use bitflags::Flags;
@@ -10,8 +11,8 @@ use sv39_entry::Rights;
 
 /// A page of data. The heap is empty behind it.
 pub(crate) fn one_page<'a>(page: u64) -> [Part<'a>; 1]
-    requires low { page < trapframe_page }
-    ensures parts { AreParts result }
+    requires low { page < trapframe_page Sv39 }
+    ensures parts { AreParts Sv39 result }
 {
     let mut rights = Rights::READ;
     rights.insert(Rights::WRITE);

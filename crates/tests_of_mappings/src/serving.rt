@@ -13,7 +13,7 @@ use address_space::{Source, Space};
 use file_cabinet::Files;
 use frame_store::{FrameAccess, FrameSeat, FrameSupply};
 use process_model::Refusal;
-use sv39_entry::{Access, PAGE_SIZE, TRAPFRAME, Vpn};
+use sv39_entry::{Access, PAGE_SIZE, Vpn};
 
 /// Whether a page below TRAPFRAME has a frame.
 fn is_settled<S: FrameSeat, F: FrameAccess<Seat = S>>(
@@ -30,7 +30,8 @@ fn is_settled<S: FrameSeat, F: FrameAccess<Seat = S>>(
     ensures view { S.view space.new.seat ≡ S.view space.old.seat }
     ensures keeps { Keeps F.rule store.old space.old.seat store.new space.new.seat }
 {
-    match space.next_settled(store, page.number(), TRAPFRAME.page()) {
+    let end = space.layout.scheme().trapframe().page();
+    match space.next_settled(store, page.number(), end) {
         Some(found) => found.page == page,
         None => false,
     }

@@ -4,7 +4,8 @@ ghost use Rattle.std.specs.Prelude.{◌<◌, ◌≤◌, IfErr, IfOk};
 ghost use Rattle.address_space.specs.Agreement.{HoldsTrampoline};
 ghost use Rattle.address_space.specs.Steps.{IsBare};
 ghost use Rattle.frame_store.specs.Laws.{Fits, Keeps};
-ghost use Rattle.sv39_entry.specs.Address.{trapframe_page};
+ghost use Rattle.sv39_entry.specs.Schemes.{trapframe_page};
+ghost use Rattle.sv39_entry.specs.declared.scheme.Scheme.TheVariants.{Sv39};
 
 use crate::beginning::one_page;
 use crate::cabinets::{Change, changes, three_files};
@@ -17,6 +18,7 @@ use shared_frames::SharedFrames;
 use std::alloc::{AllocError, Global};
 use std::sync::Wait;
 use std::test::Fail;
+use sv39_entry::Scheme;
 use tests_of_files::Stubborn;
 
 /// What a process with one page does, over so many frames.
@@ -63,7 +65,7 @@ pub(crate) fn first_fault<R: Wait>(
 ) -> Result<Option<Outcome>, Fail>
     requires some { 0 < story.now.frames }
     requires few { story.now.frames ≤ 256 }
-    requires low { story.now.page < trapframe_page }
+    requires low { story.now.page < trapframe_page Sv39 }
 {
     for kind in [StoreKind::Plain, StoreKind::Shared] {
         let mut files = Stubborn {
@@ -90,7 +92,7 @@ fn told<R: Wait, C: Files>(
 ) -> Result<End, AllocError>
     requires some { 0 < story.now.frames }
     requires few { story.now.frames ≤ 256 }
-    requires low { story.now.page < trapframe_page }
+    requires low { story.now.page < trapframe_page Sv39 }
 {
     match kind {
         StoreKind::Plain => over_plain(alloc, story, files),
@@ -107,12 +109,12 @@ fn lived<S: FrameSeat, F: FrameSupply<Seat = S>, C: Files>(
 ) -> Result<(Wrong, S), (NoFrame, S)>
     requires fits { Fits F.rule store.old seat }
     requires opening { HoldsTrampoline (S.view seat) }
-    requires low { story.now.page < trapframe_page }
+    requires low { story.now.page < trapframe_page Sv39 }
     ensures bare { IfOk result (λ r. IsBare (S.view r.1)) }
     ensures keeps { IfOk result (λ r. Keeps F.rule store.old seat store.new r.1) }
     ensures keeps_refused { IfErr result (λ e. Keeps F.rule store.old seat store.new e.1) }
 {
-    let mut space = Space::build(store, seat, &one_page(story.page))?;
+    let mut space = Space::build(store, seat, Scheme::Sv39, &one_page(story.page))?;
     let wrong = first_wrong(&mut space, store, files, story.rows);
     Ok((wrong, space.destroy(store)))
 }
@@ -120,7 +122,7 @@ fn lived<S: FrameSeat, F: FrameSupply<Seat = S>, C: Files>(
 fn over_plain<C: Files>(alloc: Global, story: &Story, files: &mut C) -> Result<End, AllocError>
     requires some { 0 < story.now.frames }
     requires few { story.now.frames ≤ 256 }
-    requires low { story.now.page < trapframe_page }
+    requires low { story.now.page < trapframe_page Sv39 }
 {
     let (mut store, seat) = PlainFrames::new(alloc, story.frames)?;
     let wrong = match lived(&mut store, seat, story, files) {
@@ -139,7 +141,7 @@ fn over_shared<R: Wait, C: Files>(
 ) -> Result<End, AllocError>
     requires some { 0 < story.now.frames }
     requires few { story.now.frames ≤ 256 }
-    requires low { story.now.page < trapframe_page }
+    requires low { story.now.page < trapframe_page Sv39 }
 {
     let (frames, seat) = SharedFrames::new(alloc, story.frames)?;
     let mut supply = frames.supply(rt);

@@ -3,6 +3,7 @@ use Rattle.std.proofs.Common.{◌≡◌, ℕ, List, refl, ap, sym, subst, ◌∙
 use Rattle.frame_store.specs.Holds.{hold_of-empty, hold_of-with_hold_other, hold_of-with_hold_same}
 use Rattle.frame_store.specs.View.{Hold, View, empty_view, opening_view, sole_hold}
 use Rattle.sv39_entry.specs.declared.frame.FrameNo.{FrameNo}
+use Rattle.sv39_entry.specs.declared.scheme.Scheme.{Scheme}
 use Rattle.table_walk.specs.Tables.{Tables}
 use Rattle.address_space.specs.Agreement.{HoldsTrampoline}
 use Rattle.address_space.specs.Kernel.{IsKernelTable}
@@ -18,7 +19,6 @@ opens {size} v is = subst HoldsTrampoline (sym is) (record {
 })
 
 -- a walk leaves the table as it was
-pub built_still : (v w : View) (root after : FrameNo) (frames slots : ℕ) → w ≡ v → after ≡ root
-    → (stacks : List ℕ) × (t : Tables) × IsKernelTable v root.0 frames slots stacks t → (stacks : List ℕ) × (t : Tables) × IsKernelTable w after.0 frames slots stacks t
-built_still v w root after frames slots view same built =
-    (built.0, built.1, subst (λ u. IsKernelTable u after.0 frames slots built.0 built.1) (sym view) (subst (λ (r : FrameNo). IsKernelTable v r.0 frames slots built.0 built.1) (sym same) built.2))
+pub built_still : (z y : Scheme) (v w : View) (root after : FrameNo) (frames slots : ℕ) → w ≡ v → after ≡ root → y ≡ z
+    → (stacks : List ℕ) × (t : Tables) × IsKernelTable z v root.0 frames slots stacks t → (stacks : List ℕ) × (t : Tables) × IsKernelTable y w after.0 frames slots stacks t
+built_still z y v w root after frames slots view same scheme built = rw (view, same, scheme) built

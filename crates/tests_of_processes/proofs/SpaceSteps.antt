@@ -14,7 +14,8 @@ use Rattle.process_model.specs.Process.{Page, Process, heap_of}
 use Rattle.process_model.specs.RegionRows.{behind_all, holds, in_first, not_held, passed}
 use Rattle.process_model.specs.Regions.{Region, end_of, holds_page, region_at}
 use Rattle.process_model.specs.Residence.{with_page}
-use Rattle.sv39_entry.specs.Address.{trapframe_page}
+use Rattle.sv39_entry.specs.Schemes.{trapframe_page}
+use Rattle.sv39_entry.specs.declared.scheme.Scheme.{Scheme}
 use Rattle.sv39_entry.specs.declared.frame.FrameNo.{FrameNo}
 use Rattle.table_walk.specs.Tables.{Tables}
 use Rattle.address_space.specs.Agreement.{body, IsSpace}
@@ -195,9 +196,9 @@ standard_few k (suc (suc (suc (suc (suc i)))), less, is) = absurd (omega (arith,
 standard_ends : (n : ℕ) → 5 ≤ n → region_at standard_regions n ≡ None
 standard_ends n above = none_at standard_regions n (omega (arith, above), (omega (arith, above), (omega (arith, above), (omega (arith, above), tt))))
 
-module _ (ps : List Part) (is : regions_in ps ≡ standard_regions) (numbers : numbers_of ps ≡ 0 ∷ 1 ∷ 2 ∷ 3 ∷ 4 ∷ []) (n : ℕ) (above : 5 ≤ n) (low : n < trapframe_page) where
+module _ (z : Scheme) (ps : List Part) (is : regions_in ps ≡ standard_regions) (numbers : numbers_of ps ≡ 0 ∷ 1 ∷ 2 ∷ 3 ∷ 4 ∷ []) (n : ℕ) (above : 5 ≤ n) (low : n < trapframe_page z) where
   abbrev sized : Process
-  sized = record (process_of_parts 0 ps) { size = (n + 1) * 4096 }
+  sized = record (process_of_parts z 0 ps) { size = (n + 1) * 4096 }
 
   few : (k : ℕ) → Contains (numbers_of ps) k → k < 5
   few k h = standard_few k (subst (λ (ns : List ℕ). Contains ns k) numbers h)
@@ -208,10 +209,11 @@ module _ (ps : List Part) (is : regions_in ps ≡ standard_regions) (numbers : n
   base_is : last_page 0 (regions_in ps) ≡ 5
   base_is = ap (last_page 0) is
 
-  pub can_grow : HasOrder 0 (process_of_parts 0 ps) → CanRelay (process_of_parts 0 ps) sized
+  pub can_grow : HasOrder 0 (process_of_parts z 0 ps) → CanRelay (process_of_parts z 0 ps) sized
   can_grow order = record {
     settled = refl;
     tabled = refl;
+    scheme = refl;
     order = record {
       parts = order.parts;
       room = omega (arith, base_is, above);

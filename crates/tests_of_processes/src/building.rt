@@ -1,6 +1,6 @@
 // Frames that are counted, and a space that is built of them.
 
-ghost use Rattle.std.specs.Prelude.{◌≡◌, ◌<◌, ◌≤◌, false, true};
+ghost use Rattle.std.specs.Prelude.{◌≡◌, ◌+◌, ◌<◌, ◌≤◌, false, IsTrue, true};
 ghost use Rattle.address_space.specs.Layouts.{region_of};
 ghost use Rattle.address_space.specs.Parts.{AreParts};
 ghost use Rattle.process_model.specs.Order.{is_file};
@@ -9,7 +9,7 @@ ghost use Rattle.process_model.specs.Regions.{makes_leaf};
 use address_space::{Part, Region, RegionKind, Source, Space, frames_needed};
 use frame_store::PlainFrames;
 use std::alloc::{AllocError, Global};
-use sv39_entry::{Access, Rights, Rule, TRAPFRAME, Va};
+use sv39_entry::{Access, Rights, Rule, Scheme, Va};
 
 /// A run of pages that may be read.
 fn readable<'a>(first: u64, pages: u64, bytes: &'a [u8]) -> Part<'a>
@@ -29,42 +29,62 @@ fn readable<'a>(first: u64, pages: u64, bytes: &'a [u8]) -> Part<'a>
 }
 
 /// A run of pages, by its first page and how many they are.
-type Run = (u32, u32);
+type Run = (u64, u32);
 
-/// The frames that a process with two runs of pages takes; none where it cannot have them.
-fn needed(lower: Run, upper: Run) -> Option<usize> {
-    let (first, pages) = (u64::from(lower.0), u64::from(lower.1));
-    let (second, more) = (u64::from(upper.0), u64::from(upper.1));
-    if first + pages > second || second + more > TRAPFRAME.page().number() {
-        return None;
-    }
-    let parts = [readable(first, pages, &[]), readable(second, more, &[])];
-    Some(frames_needed(&parts))
+/// Whether a run of pages lies before a page.
+fn is_before(run: Run, end: u64) -> bool
+    ensures { IsTrue result → run.0 + run.1 ≤ end }
+{
+    let (first, pages) = (run.0, u64::from(run.1));
+    first <= end && pages <= end - first
 }
 
-/// Two runs of pages, and the frames that a process with them takes.
-type Row = (Run, Run, usize);
+/// The frames that a process with two runs of pages takes; none where it cannot have them.
+fn needed(scheme: Scheme, lower: Run, upper: Run) -> Option<usize> {
+    if !is_before(lower, upper.0) || !is_before(upper, scheme.trapframe().page().number()) {
+        return None;
+    }
+    let parts = [
+        readable(lower.0, u64::from(lower.1), &[]),
+        readable(upper.0, u64::from(upper.1), &[]),
+    ];
+    Some(frames_needed(scheme, &parts))
+}
 
-fn rows() -> [Row; 10] {
+/// A scheme, two runs of pages, and the frames that a process with them takes.
+type Row = (Scheme, Run, Run, Option<usize>);
+
+/// Beside the pages a process has a trapframe, the root and two tables on the way to the trapframe, or three under Sv48. A
+/// run takes a table for every 512 pages that it has a part of, one for every 2^18, and under Sv48 one for every 2^27, but
+/// for those that are counted already.
+fn rows() -> [Row; 17] {
+    let (three, four) = (Scheme::Sv39, Scheme::Sv48);
     [
-        ((0, 1), (1, 1), 8),
-        ((0, 1), (2, 3), 10),
-        ((0, 512), (512, 1), 520),
-        ((0, 0), (511, 2), 9),
-        ((5, 0), (7, 0), 4),
-        ((0, 262_145), (262_145, 1), 262_665),
-        ((0, 1), (262_144, 600), 610),
-        ((510, 1), (67_108_350, 512), 520),
-        ((0, 1), (67_108_860, 2), 9),
-        ((3, 1), (262_143, 2), 12),
+        (three, (0, 1), (1, 1), Some(8)),
+        (three, (0, 1), (2, 3), Some(10)),
+        (three, (0, 512), (512, 1), Some(520)),
+        (three, (0, 0), (511, 2), Some(9)),
+        (three, (5, 0), (7, 0), Some(4)),
+        (three, (0, 262_145), (262_145, 1), Some(262_665)),
+        (three, (0, 1), (262_144, 600), Some(610)),
+        (three, (510, 1), (67_108_350, 512), Some(520)),
+        (three, (0, 1), (67_108_860, 2), Some(9)),
+        (three, (3, 1), (262_143, 2), Some(12)),
+        (three, (0, 1), (134_217_728, 1), None),
+        (four, (0, 1), (1, 1), Some(10)),
+        (four, (5, 0), (7, 0), Some(5)),
+        (four, (3, 1), (262_143, 2), Some(14)),
+        (four, (0, 1), (134_217_728, 1), Some(13)),
+        (four, (134_217_727, 2), (34_359_737_854, 512), Some(526)),
+        (four, (0, 1), (34_359_738_366, 1), None),
     ]
 }
 
 /// The first row whose frames are counted otherwise.
 fn wrong_row() -> Option<Row> {
     for row in rows() {
-        let (lower, upper, count) = row;
-        if needed(lower, upper) != Some(count) {
+        let (scheme, lower, upper, count) = row;
+        if needed(scheme, lower, upper) != count {
             return Some(row);
         }
     }
@@ -78,7 +98,7 @@ fn counts_frames(rt: HostRuntime) {
 
 /// Two pages with bytes up to the middle of the second, and a page behind a gap.
 fn parts<'a>() -> [Part<'a>; 2]
-    ensures { AreParts result }
+    ensures { (s : Scheme) → AreParts s result }
 {
     [readable(0, 2, &[7; 5000]), readable(4, 1, &[])]
 }
@@ -87,12 +107,12 @@ fn parts<'a>() -> [Part<'a>; 2]
 /// frames that are free then.
 type Built = (Option<[Option<Rule>; 2]>, usize);
 
-fn built_over(alloc: Global, frames: usize) -> Result<Built, AllocError>
+fn built_over(alloc: Global, scheme: Scheme, frames: usize) -> Result<Built, AllocError>
     requires some { 0 < frames }
     requires few { frames ≤ 256 }
 {
     let (mut store, seat) = PlainFrames::new(alloc, frames)?;
-    let refused = match Space::build(&mut store, seat, &parts()) {
+    let refused = match Space::build(&mut store, seat, scheme, &parts()) {
         Ok(space) => Some([
             space.grant(Access::Load, Va(0x1ff8), 8).err(),
             space.grant(Access::Load, Va(0x2000), 8).err(),
@@ -102,11 +122,14 @@ fn built_over(alloc: Global, frames: usize) -> Result<Built, AllocError>
     Ok((refused, store.report().free))
 }
 
+/// Three pages, the trapframe, and five tables or seven, beside frame 0.
 #[test]
 fn builds_a_space(rt: HostRuntime) {
     let built = Some([None, Some(Rule::NoRegion)]);
-    assert_eq!(rt;
-        [built_over(rt.alloc(), 10), built_over(rt.alloc(), 9)],
-        [Ok((built, 0)), Ok((None, 8))]
-    );
+    let alloc = rt.alloc();
+    let (three, four) = (Scheme::Sv39, Scheme::Sv48);
+    assert_eq!(rt; built_over(alloc, three, 10), Ok((built, 0)));
+    assert_eq!(rt; built_over(alloc, three, 9), Ok((None, 8)));
+    assert_eq!(rt; built_over(alloc, four, 12), Ok((built, 0)));
+    assert_eq!(rt; built_over(alloc, four, 11), Ok((None, 10)));
 }

@@ -6,7 +6,7 @@ use exec_segments::{read_image, start};
 use frame_store::{PlainFrames, PlainSeat};
 use process_model::BadImage;
 use std::alloc::{AllocError, Global};
-use sv39_entry::{Access, Rule, Va};
+use sv39_entry::{Access, Rule, Scheme, Va};
 
 /// A file header, one program header, and the four bytes of its segment: text at 0 that has one page.
 const FILE: &[u8; 124] = b"\x7fELF\x02\x01\x01\0\0\0\0\0\0\0\0\0\x02\0\xf3\0\x01\0\0\0\
@@ -30,8 +30,8 @@ const FILE_SIZE: usize = 96;
 const MEMORY_SIZE: usize = 104;
 
 /// The check that a file fails.
-fn refusal(bytes: &[u8]) -> Option<BadImage> {
-    match read_image(bytes) {
+fn refusal(scheme: Scheme, bytes: &[u8]) -> Option<BadImage> {
+    match read_image(scheme, bytes) {
         Ok(_) => None,
         Err(part) => Some(part),
     }
@@ -45,12 +45,16 @@ fn put(bytes: &mut [u8], at: usize, number: u64) {
 }
 
 /// The check that the file fails with other numbers in two of its fields.
-fn with_numbers(alloc: Global, fields: [(usize, u64); 2]) -> Result<Option<BadImage>, AllocError> {
+fn with_numbers(
+    alloc: Global,
+    scheme: Scheme,
+    fields: [(usize, u64); 2],
+) -> Result<Option<BadImage>, AllocError> {
     let mut bytes = Vec::from_slice(alloc, FILE)?;
     for (at, number) in fields {
         put(&mut bytes, at, number);
     }
-    Ok(refusal(&bytes))
+    Ok(refusal(scheme, &bytes))
 }
 
 /// The first front of the file that fails another check.
@@ -62,7 +66,7 @@ fn wrong_front() -> Option<usize> {
             120..124 => Some(BadImage::Contents),
             _ => None,
         };
-        if refusal(&FILE[..count]) != told {
+        if refusal(Scheme::Sv39, &FILE[..count]) != told {
             return Some(count);
         }
     }
@@ -77,7 +81,11 @@ fn judges_each_front(rt: HostRuntime) {
 /// A field, by where it stands, with another number in it, and the check that the file fails then.
 type Row = ((usize, u64), Option<BadImage>);
 
-fn rows() -> [Row; 13] {
+fn rows(scheme: Scheme) -> [Row; 15] {
+    let high = match scheme {
+        Scheme::Sv39 => Some(BadImage::TooHigh),
+        Scheme::Sv48 => None,
+    };
     [
         ((0, 0x0001_0102_464c_457e), Some(BadImage::Magic)),
         ((TABLE, u64::MAX), Some(BadImage::ProgramHeader)),
@@ -89,17 +97,19 @@ fn rows() -> [Row; 13] {
         ((ADDRESS, 0x1001), Some(BadImage::Align)),
         ((OFFSET, u64::MAX), Some(BadImage::Contents)),
         ((FILE_SIZE, 5), Some(BadImage::Contents)),
-        ((ADDRESS, 0x3f_ffff_d000), Some(BadImage::TooHigh)),
         ((ADDRESS, 0x3f_ffff_b000), None),
+        ((ADDRESS, 0x3f_ffff_d000), high),
+        ((ADDRESS, 0x7fff_ffff_b000), high),
+        ((ADDRESS, 0x7fff_ffff_d000), Some(BadImage::TooHigh)),
         ((MEMORY_SIZE, u64::MAX), Some(BadImage::TooHigh)),
     ]
 }
 
 /// The first row that fails another check.
-fn wrong_row(alloc: Global) -> Result<Option<Row>, AllocError> {
-    for row in rows() {
+fn wrong_row(alloc: Global, scheme: Scheme) -> Result<Option<Row>, AllocError> {
+    for row in rows(scheme) {
         let (field, told) = row;
-        if with_numbers(alloc, [field, field])? != told {
+        if with_numbers(alloc, scheme, [field, field])? != told {
             return Ok(Some(row));
         }
     }
@@ -109,10 +119,12 @@ fn wrong_row(alloc: Global) -> Result<Option<Row>, AllocError> {
 #[test]
 fn judges_each_field(rt: HostRuntime) {
     let empty = [(FILE_SIZE, 0), (MEMORY_SIZE, 0)];
-    assert_eq!(rt;
-        (wrong_row(rt.alloc()), with_numbers(rt.alloc(), empty)),
-        (Ok(None), Ok(Some(BadImage::NoLoad)))
-    );
+    for scheme in [Scheme::Sv39, Scheme::Sv48] {
+        let alloc = rt.alloc();
+        assert_eq!(rt; wrong_row(alloc, scheme), Ok(None), "{scheme:?}");
+        let told = with_numbers(alloc, scheme, empty);
+        assert_eq!(rt; told, Ok(Some(BadImage::NoLoad)), "{scheme:?}");
+    }
 }
 
 /// The file with its program header twice, and the address of the second.
@@ -124,7 +136,7 @@ fn with_two_headers(alloc: Global, address: u64) -> Result<Option<BadImage>, All
     put(&mut bytes, OFFSET, 0xb0);
     put(&mut bytes, OFFSET + 56, 0xb0);
     put(&mut bytes, ADDRESS + 56, address);
-    Ok(refusal(&bytes))
+    Ok(refusal(Scheme::Sv39, &bytes))
 }
 
 #[test]
@@ -142,7 +154,7 @@ fn judges_headers_in_a_row(rt: HostRuntime) {
 fn with_length(alloc: Global, length: usize) -> Result<Option<BadImage>, AllocError> {
     let mut bytes = Vec::from_slice(alloc, FILE)?;
     bytes.resize(length, 0)?;
-    Ok(refusal(&bytes))
+    Ok(refusal(Scheme::Sv39, &bytes))
 }
 
 #[test]
@@ -170,7 +182,7 @@ fn refused(space: &Space<PlainSeat>) -> [Option<Rule>; 5] {
 
 /// The same of a process that is started; none where it could not be.
 fn refused_when_started(alloc: Global) -> Result<Option<[Option<Rule>; 5]>, AllocError> {
-    let Ok(image) = read_image(FILE) else {
+    let Ok(image) = read_image(Scheme::Sv39, FILE) else {
         return Ok(None);
     };
     let (mut store, seat) = PlainFrames::new(alloc, 64)?;

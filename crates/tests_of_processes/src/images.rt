@@ -7,7 +7,9 @@ use exec_segments::{Image, start};
 use frame_store::{PlainFrames, PlainSeat};
 use process_model::{BadImage, Bytes, Segment};
 use std::alloc::{AllocError, Global};
-use sv39_entry::{Access, Rule, Va};
+use sv39_entry::{Access, Rule, Scheme, Va};
+
+const SCHEMES: [Scheme; 2] = [Scheme::Sv39, Scheme::Sv48];
 
 /// A segment of so many bytes in memory, that begins with so many of its own.
 fn segment(
@@ -26,8 +28,8 @@ fn segment(
 }
 
 /// The check that an image of these segments fails.
-fn refusal(segments: &[Segment]) -> Option<BadImage> {
-    match Image::from_segments(segments) {
+fn refusal(scheme: Scheme, segments: &[Segment]) -> Option<BadImage> {
+    match Image::from_segments(scheme, segments) {
         Ok(_) => None,
         Err(part) => Some(part),
     }
@@ -37,18 +39,31 @@ fn refusal(segments: &[Segment]) -> Option<BadImage> {
 type Given = (u64, u64, usize);
 
 /// The check that an image of such segments fails.
-fn refusal_of(alloc: Global, given: &[Given]) -> Result<Option<BadImage>, AllocError> {
+fn refusal_of(
+    alloc: Global,
+    scheme: Scheme,
+    given: &[Given],
+) -> Result<Option<BadImage>, AllocError> {
     let mut segments = Vec::new(alloc);
     for (address, memory_size, bytes) in given {
         segments.push(segment(alloc, *address, *memory_size, *bytes)?)?;
     }
-    Ok(refusal(&segments))
+    Ok(refusal(scheme, &segments))
 }
 
 /// The only segment of an image, and the check that it fails.
 type Row = (u64, u64, usize, Option<BadImage>);
 
-fn rows() -> [Row; 12] {
+fn rows(scheme: Scheme) -> [Row; 13] {
+    // with two pages for guard and stack, a segment ends 0x2000 below the trapframe's page at the latest
+    let (last, other_last) = match scheme {
+        Scheme::Sv39 => (0x3f_ffff_b000, 0x7fff_ffff_b000),
+        Scheme::Sv48 => (0x7fff_ffff_b000, 0x3f_ffff_b000),
+    };
+    let other_told = match scheme {
+        Scheme::Sv39 => Some(BadImage::TooHigh),
+        Scheme::Sv48 => None,
+    };
     [
         (0x0, 0x1, 1, None),
         (0x0, 0x1, 2, Some(BadImage::Sizes)),
@@ -58,18 +73,19 @@ fn rows() -> [Row; 12] {
         (0x800, 0x0, 0, Some(BadImage::Align)),
         (0x1000, 0x0, 0, Some(BadImage::NoLoad)),
         (0x1000, 0x0, 1, Some(BadImage::Sizes)),
-        (0x3f_ffff_b000, 0x1000, 4, None),
-        (0x3f_ffff_b000, 0x1001, 4, Some(BadImage::TooHigh)),
-        (0x3f_ffff_c000, 0x1, 0, Some(BadImage::TooHigh)),
-        (0x40_0000_0000, 0x0, 0, Some(BadImage::NoLoad)),
+        (last, 0x1000, 4, None),
+        (last, 0x1001, 4, Some(BadImage::TooHigh)),
+        (last + 0x1000, 0x1, 0, Some(BadImage::TooHigh)),
+        (other_last, 0x1001, 4, other_told),
+        (last + 0x5000, 0x0, 0, Some(BadImage::NoLoad)),
     ]
 }
 
 /// The first row that fails another check.
-fn wrong_row(alloc: Global) -> Result<Option<Row>, AllocError> {
-    for row in rows() {
+fn wrong_row(alloc: Global, scheme: Scheme) -> Result<Option<Row>, AllocError> {
+    for row in rows(scheme) {
         let (address, memory_size, bytes, told) = row;
-        if refusal_of(alloc, &[(address, memory_size, bytes)])? != told {
+        if refusal_of(alloc, scheme, &[(address, memory_size, bytes)])? != told {
             return Ok(Some(row));
         }
     }
@@ -78,7 +94,9 @@ fn wrong_row(alloc: Global) -> Result<Option<Row>, AllocError> {
 
 #[test]
 fn judges_each_segment(rt: HostRuntime) {
-    assert_eq!(rt; wrong_row(rt.alloc()), Ok(None));
+    for scheme in SCHEMES {
+        assert_eq!(rt; wrong_row(rt.alloc(), scheme), Ok(None), "{scheme:?}");
+    }
 }
 
 #[test]
@@ -87,9 +105,9 @@ fn judges_segments_in_a_row(rt: HostRuntime) {
     let meeting = [(0x0, 0x1001, 0), (0x1000, 0x1, 0)];
     assert_eq!(rt;
         [
-            refusal_of(rt.alloc(), &in_order),
-            refusal_of(rt.alloc(), &meeting),
-            refusal_of(rt.alloc(), &[])
+            refusal_of(rt.alloc(), Scheme::Sv48, &in_order),
+            refusal_of(rt.alloc(), Scheme::Sv48, &meeting),
+            refusal_of(rt.alloc(), Scheme::Sv48, &[])
         ],
         [
             Ok(None),
@@ -108,7 +126,7 @@ fn wrong_number(alloc: Global) -> Result<Option<u64>, AllocError> {
             17 => Some(BadImage::TooMany),
             _ => None,
         };
-        if refusal(&segments) != told {
+        if refusal(Scheme::Sv39, &segments) != told {
             return Ok(Some(page));
         }
         segments.push(segment(alloc, 0x1000 * page, 0x1000, 1)?)?;
@@ -130,7 +148,11 @@ fn has_its_pages(space: &Space<PlainSeat>) -> bool {
 
 /// Whether a process with text at 0, data from 0x1000 to 0x2fff, guard and stack starts over so many frames, and how many are
 /// free then.
-fn started_over(alloc: Global, frames: usize) -> Result<Option<(bool, usize)>, AllocError>
+fn started_over(
+    alloc: Global,
+    scheme: Scheme,
+    frames: usize,
+) -> Result<Option<(bool, usize)>, AllocError>
     requires some { 0 < frames }
     requires few { frames ≤ 1024 }
 {
@@ -138,7 +160,7 @@ fn started_over(alloc: Global, frames: usize) -> Result<Option<(bool, usize)>, A
         segment(alloc, 0x0, 0x100, 4)?,
         segment(alloc, 0x1000, 0x2000, 16)?,
     ];
-    let Ok(image) = Image::from_segments(&segments) else {
+    let Ok(image) = Image::from_segments(scheme, &segments) else {
         return Ok(None);
     };
     let (mut store, seat) = PlainFrames::new(alloc, frames)?;
@@ -149,18 +171,20 @@ fn started_over(alloc: Global, frames: usize) -> Result<Option<(bool, usize)>, A
     Ok(Some((started, store.report().free)))
 }
 
+/// Beside frame 0 there are five pages, the trapframe, and five tables or seven.
 #[test]
-fn starts_with_eleven_frames(rt: HostRuntime) {
-    assert_eq!(rt;
-        [
-            started_over(rt.alloc(), 15),
-            started_over(rt.alloc(), 12),
-            started_over(rt.alloc(), 11)
-        ],
-        [
-            Ok(Some((true, 3))),
-            Ok(Some((true, 0))),
-            Ok(Some((false, 10)))
-        ]
-    );
+fn starts_with_its_frames(rt: HostRuntime) {
+    let (three, four) = (Scheme::Sv39, Scheme::Sv48);
+    let rows = [
+        (three, 15, true, 3),
+        (three, 12, true, 0),
+        (three, 11, false, 10),
+        (four, 15, true, 1),
+        (four, 14, true, 0),
+        (four, 13, false, 12),
+    ];
+    for (scheme, frames, starts, free) in rows {
+        let told = started_over(rt.alloc(), scheme, frames);
+        assert_eq!(rt; told, Ok(Some((starts, free))), "{scheme:?} {frames}");
+    }
 }

@@ -9,15 +9,27 @@ use frame_store::{FrameAccess, FrameSeat, FrameSupply, NoFrame, PlainFrames};
 use shared_frames::SharedFrames;
 use std::alloc::{AllocError, Global};
 use std::sync::Wait;
-use sv39_entry::{Access, Va, kernel_stack};
+use sv39_entry::{Access, Scheme, Va};
+
+const SCHEMES: [Scheme; 2] = [Scheme::Sv39, Scheme::Sv48];
+
 use table_walk::Walk;
 
 /// An access to an address, and what it leads to.
 type Row = (Access, u64, Walk);
 
-/// With 64 frames and four stacks.
-fn rows() -> [Row; 14] {
+/// With 64 frames and four stacks. The last address is no canonical one of Sv39; Sv48 tells it from that of frame 5.
+fn rows(scheme: Scheme) -> [Row; 14] {
     let (fetch, load, store) = (Access::Fetch, Access::Load, Access::Store);
+    let (trampoline, trapframe, guard, below) = match scheme {
+        Scheme::Sv39 => (0x3ffffff004, 0x3fffffe000, 0x3fffffc000, 0x3fffff5000),
+        Scheme::Sv48 => (
+            0x7ffffffff004,
+            0x7fffffffe000,
+            0x7fffffffc000,
+            0x7fffffff5000,
+        ),
+    };
     let mapped = |word, address| Walk::Leaf {
         word,
         level: 0,
@@ -32,10 +44,10 @@ fn rows() -> [Row; 14] {
         (load, 0x7ffffff8, Walk::PageFault(13)),
         (fetch, 0x80000000, mapped(0x2000004b, 0x80000000)),
         (store, 0x80000000, Walk::PageFault(15)),
-        (fetch, 0x3ffffff004, mapped(0x2000004b, 0x80000004)),
-        (load, 0x3fffffe000, Walk::PageFault(13)),
-        (load, 0x3fffffc000, Walk::PageFault(13)),
-        (load, 0x3fffff5000, Walk::PageFault(13)),
+        (fetch, trampoline, mapped(0x2000004b, 0x80000004)),
+        (load, trapframe, Walk::PageFault(13)),
+        (load, guard, Walk::PageFault(13)),
+        (load, below, Walk::PageFault(13)),
         (load, 0xffffffff80005008, Walk::PageFault(13)),
         (load, 0x8080005008, Walk::PageFault(13)),
     ]
@@ -45,6 +57,7 @@ fn rows() -> [Row; 14] {
 fn first_wrong<S: FrameSeat, F: FrameSupply<Seat = S>>(
     store: &mut F,
     seat: S,
+    scheme: Scheme,
     rows: &[Row; 14],
 ) -> Result<(Option<Row>, S), (NoFrame, S)>
     requires fits { Fits F.rule store.old seat }
@@ -52,7 +65,7 @@ fn first_wrong<S: FrameSeat, F: FrameSupply<Seat = S>>(
     ensures keeps { IfOk result (λ r. Keeps F.rule store.old seat store.new r.1) }
     ensures keeps_dry { IfErr result (λ e. Keeps F.rule store.old seat store.new e.1) }
 {
-    let mut kernel = KernelTable::build(store, seat, 64, 4)?;
+    let mut kernel = KernelTable::build(store, seat, scheme, 64, 4)?;
     for row in rows {
         let (access, address, outcome) = *row;
         if kernel.translate(store, Va(address), access) != outcome {
@@ -65,19 +78,19 @@ fn first_wrong<S: FrameSeat, F: FrameSupply<Seat = S>>(
 /// The first wrong row, if the table could be built, and the frames that are free beside it.
 type Checked = (Result<Option<Row>, NoFrame>, usize);
 
-fn over_plain(alloc: Global) -> Result<Checked, AllocError> {
+fn over_plain(alloc: Global, scheme: Scheme) -> Result<Checked, AllocError> {
     let (mut store, seat) = PlainFrames::new(alloc, 64)?;
-    let wrong = match first_wrong(&mut store, seat, &rows()) {
+    let wrong = match first_wrong(&mut store, seat, scheme, &rows(scheme)) {
         Ok((wrong, _)) => Ok(wrong),
         Err((refusal, _)) => Err(refusal),
     };
     Ok((wrong, store.report().free))
 }
 
-fn over_shared<R: Wait>(rt: &R, alloc: Global) -> Result<Checked, AllocError> {
+fn over_shared<R: Wait>(rt: &R, alloc: Global, scheme: Scheme) -> Result<Checked, AllocError> {
     let (frames, seat) = SharedFrames::new(alloc, 64)?;
     let mut supply = frames.supply(rt);
-    let (wrong, seat) = match first_wrong(&mut supply, seat, &rows()) {
+    let (wrong, seat) = match first_wrong(&mut supply, seat, scheme, &rows(scheme)) {
         Ok((wrong, seat)) => (Ok(wrong), seat),
         Err((refusal, seat)) => (Err(refusal), seat),
     };
@@ -86,21 +99,25 @@ fn over_shared<R: Wait>(rt: &R, alloc: Global) -> Result<Checked, AllocError> {
 
 #[test]
 fn maps_alike_over_both_stores(rt: HostRuntime) {
-    assert_eq!(rt;
-        [over_plain(rt.alloc()), over_shared(&rt, rt.alloc())],
-        [Ok((Ok(None), 54)); 2]
-    );
+    for (scheme, free) in [(Scheme::Sv39, 54), (Scheme::Sv48, 52)] {
+        let over_both = [
+            over_plain(rt.alloc(), scheme),
+            over_shared(&rt, rt.alloc(), scheme),
+        ];
+        assert_eq!(rt; over_both, [Ok((Ok(None), free)); 2]);
+    }
 }
 
 /// Whether the stack of each slot is mapped, and to another frame than the one before it.
-fn has_stacks(alloc: Global) -> Result<bool, AllocError> {
+fn has_stacks(alloc: Global, scheme: Scheme) -> Result<bool, AllocError> {
     let (mut store, seat) = PlainFrames::new(alloc, 64)?;
-    let Ok(mut kernel) = KernelTable::build(&mut store, seat, 64, 4) else {
+    let Ok(mut kernel) = KernelTable::build(&mut store, seat, scheme, 64, 4) else {
         return Ok(false);
     };
     let mut before = Some(0);
     for slot in 0..4 {
-        let walk = kernel.translate(&mut store, kernel_stack(slot), Access::Store);
+        let stack = scheme.kernel_stack(slot);
+        let walk = kernel.translate(&mut store, stack, Access::Store);
         let found = match walk {
             Walk::Leaf { address, .. } => Some(address),
             _ => None,
@@ -115,50 +132,62 @@ fn has_stacks(alloc: Global) -> Result<bool, AllocError> {
 
 #[test]
 fn finds_stacks(rt: HostRuntime) {
-    assert_eq!(rt;
-        (kernel_stack(0), kernel_stack(1), has_stacks(rt.alloc())),
-        (Va(0x3fffffd000), Va(0x3fffffb000), Ok(true))
-    );
+    for scheme in SCHEMES {
+        assert_eq!(rt; has_stacks(rt.alloc(), scheme), Ok(true));
+    }
 }
 
 /// How many frames are free beside the table; `None` where too few were.
-fn free_beside(alloc: Global, frames: u16, slots: u16) -> Result<Option<usize>, AllocError>
+fn free_beside(
+    alloc: Global,
+    scheme: Scheme,
+    frames: u16,
+    slots: u16,
+) -> Result<Option<usize>, AllocError>
     requires some_frames { 16 ≤ frames }
     requires few_frames { frames ≤ 1024 }
     requires some_slots { 1 ≤ slots }
     requires few_slots { slots ≤ 64 }
 {
     let (mut store, seat) = PlainFrames::new(alloc, usize::from(frames))?;
-    match KernelTable::build(&mut store, seat, frames, slots) {
+    match KernelTable::build(&mut store, seat, scheme, frames, slots) {
         Ok(_) => Ok(Some(store.report().free)),
         Err(_) => Ok(None),
     }
 }
 
-/// Frames and slots, and the frames that are free beside their table.
-type FreeRow = (u16, u16, Option<usize>);
+/// A scheme, frames and slots, and the frames that are free beside their table.
+type FreeRow = (Scheme, u16, u16, Option<usize>);
 
-fn free_rows() -> [FreeRow; 10] {
+fn free_rows() -> [FreeRow; 16] {
+    let (three, four) = (Scheme::Sv39, Scheme::Sv48);
     [
-        (64, 1, Some(57)),
-        (64, 4, Some(54)),
-        (64, 64, None),
-        (70, 64, Some(0)),
-        (512, 1, Some(505)),
-        (512, 4, Some(502)),
-        (512, 64, Some(442)),
-        (513, 1, Some(505)),
-        (513, 4, Some(502)),
-        (513, 64, Some(442)),
+        (three, 64, 1, Some(57)),
+        (three, 64, 4, Some(54)),
+        (three, 64, 64, None),
+        (three, 70, 64, Some(0)),
+        (three, 512, 1, Some(505)),
+        (three, 512, 4, Some(502)),
+        (three, 512, 64, Some(442)),
+        (three, 513, 1, Some(505)),
+        (three, 513, 4, Some(502)),
+        (three, 513, 64, Some(442)),
+        (four, 64, 1, Some(55)),
+        (four, 71, 64, None),
+        (four, 72, 64, Some(0)),
+        (four, 512, 4, Some(500)),
+        (four, 513, 4, Some(500)),
+        (four, 513, 64, Some(440)),
     ]
 }
 
 /// The first row that leaves another number of frames free.
 fn wrong_free(alloc: Global) -> Result<Option<FreeRow>, AllocError> {
     for row in free_rows() {
-        let (frames, slots, told) = row;
+        let (scheme, frames, slots, told) = row;
         // no row is changed by it: it shows the limits to the proof
-        if free_beside(alloc, frames.clamp(16, 1024), slots.clamp(1, 64))? != told {
+        let (frames, slots) = (frames.clamp(16, 1024), slots.clamp(1, 64));
+        if free_beside(alloc, scheme, frames, slots)? != told {
             return Ok(Some(row));
         }
     }
@@ -177,11 +206,11 @@ type Accounts = (usize, usize, usize);
 /// smaller table.
 fn built_after_refusal(alloc: Global) -> Result<Option<(NoFrame, Accounts, usize)>, AllocError> {
     let (mut store, seat) = PlainFrames::new(alloc, 16)?;
-    let Err((refusal, seat)) = KernelTable::build(&mut store, seat, 16, 11) else {
+    let Err((refusal, seat)) = KernelTable::build(&mut store, seat, Scheme::Sv39, 16, 11) else {
         return Ok(None);
     };
     let report = store.report();
-    match KernelTable::build(&mut store, seat, 16, 10) {
+    match KernelTable::build(&mut store, seat, Scheme::Sv39, 16, 10) {
         Ok(_) => Ok(Some((
             refusal,
             (report.free, report.held, report.references),

@@ -8,20 +8,27 @@ use file_cabinet::Cabinet;
 use hart_machine::{BootError, Machine};
 use process_model::{Bytes, Config, Image, Phase, Policy, Refusal, Reply, Segment, Step};
 use std::alloc::{AllocError, Global};
-use sv39_entry::{Va, Vpn};
+use sv39_entry::{Scheme, Va, Vpn};
 
 const POLICIES: [Policy; 2] = [Policy::Full, Policy::Asid];
+
+const SCHEMES: [Scheme; 2] = [Scheme::Sv39, Scheme::Sv48];
 
 /// How many harts, frames and slots a machine is to have, and why it is not booted with them.
 type Row = (usize, usize, usize, Option<BootError>);
 
-fn rows() -> [Row; 14] {
+/// The kernel has a frame for each slot, and six more, or eight under Sv48.
+fn rows(scheme: Scheme) -> [Row; 14] {
     let refused = Some(BootError::BadArgument);
+    let slots = match scheme {
+        Scheme::Sv39 => (10, 58),
+        Scheme::Sv48 => (8, 56),
+    };
     [
         (1, 64, 4, None),
         (8, 1024, 64, None),
-        (1, 16, 10, None),
-        (1, 64, 58, None),
+        (1, 16, slots.0, None),
+        (1, 64, slots.1, None),
         (1, 512, 64, None),
         (1, 513, 64, None),
         (0, 64, 4, refused),
@@ -30,20 +37,21 @@ fn rows() -> [Row; 14] {
         (1, 1025, 4, refused),
         (1, 64, 0, refused),
         (1, 64, 65, refused),
-        (1, 64, 59, refused),
-        (1, 16, 11, refused),
+        (1, 64, slots.1 + 1, refused),
+        (1, 16, slots.0 + 1, refused),
     ]
 }
 
 /// The first row that is booted or refused otherwise with this policy.
-fn wrong_row(alloc: Global, policy: Policy) -> Option<Row> {
-    for row in rows() {
+fn wrong_row(alloc: Global, policy: Policy, scheme: Scheme) -> Option<Row> {
+    for row in rows(scheme) {
         let (harts, frames, slots, refusal) = row;
         let config = Config {
             harts,
             frames,
             slots,
             policy,
+            scheme,
         };
         let Ok(files) = Cabinet::new(alloc, &[]) else {
             return Some(row);
@@ -57,13 +65,16 @@ fn wrong_row(alloc: Global, policy: Policy) -> Option<Row> {
 
 #[test]
 fn boots_within_limits(rt: HostRuntime) {
-    for policy in POLICIES {
-        assert_eq!(rt; wrong_row(rt.alloc(), policy), None);
+    for scheme in SCHEMES {
+        for policy in POLICIES {
+            let wrong = wrong_row(rt.alloc(), policy, scheme);
+            assert_eq!(rt; wrong, None, "{scheme:?} {policy:?}");
+        }
     }
 }
 
 /// A machine with two harts, so many frames and room for some processes.
-fn with_two_harts(alloc: Global, frames: usize, policy: Policy) -> Option<Machine>
+fn with_two_harts(alloc: Global, frames: usize, policy: Policy, scheme: Scheme) -> Option<Machine>
     ensures { IfSome result (λ m. (w : World) × IsIn m w) }
 {
     let files = Cabinet::new(alloc, &[]).ok()?;
@@ -72,6 +83,7 @@ fn with_two_harts(alloc: Global, frames: usize, policy: Policy) -> Option<Machin
         frames,
         slots: 4,
         policy,
+        scheme,
     };
     match Machine::boot(alloc, config, files) {
         Ok(machine) => Some(machine),
@@ -252,9 +264,9 @@ struct Outcome {
 }
 
 /// The steps and then an eviction on a machine of their own; none where memory is missing.
-fn played(alloc: Global, policy: Policy, at_once: bool) -> Option<Outcome> {
+fn played(alloc: Global, policy: Policy, scheme: Scheme, at_once: bool) -> Option<Outcome> {
     let segments = [page(alloc).ok()?];
-    let mut machine = with_two_harts(alloc, 64, policy)?;
+    let mut machine = with_two_harts(alloc, 64, policy, scheme)?;
     let steps = steps(Image::Segments(&segments));
     let replies = told(alloc, &mut machine, &steps, at_once)?;
     let (there, nowhere) = (buffered(&machine, 0), buffered(&machine, 9));
@@ -269,12 +281,14 @@ fn played(alloc: Global, policy: Policy, at_once: bool) -> Option<Outcome> {
 #[test]
 fn steps_on_two_harts(rt: HostRuntime) {
     let page = Va(0x1008).page();
-    for (policy, at_once) in [
-        (Policy::Full, true),
-        (Policy::Full, false),
-        (Policy::Asid, true),
+    for (policy, scheme, at_once) in [
+        (Policy::Full, Scheme::Sv39, true),
+        (Policy::Full, Scheme::Sv39, false),
+        (Policy::Asid, Scheme::Sv39, true),
+        (Policy::Full, Scheme::Sv48, true),
+        (Policy::Asid, Scheme::Sv48, false),
     ] {
-        let outcome = played(rt.alloc(), policy, at_once);
+        let outcome = played(rt.alloc(), policy, scheme, at_once);
         let Outcome {
             replies,
             buffers,
@@ -292,9 +306,9 @@ fn steps_on_two_harts(rt: HostRuntime) {
 }
 
 /// The replies to the first steps, in one run.
-fn first_replies(alloc: Global) -> Option<String> {
+fn first_replies(alloc: Global, scheme: Scheme) -> Option<String> {
     let segments = [page(alloc).ok()?];
-    let mut machine = with_two_harts(alloc, 64, Policy::Full)?;
+    let mut machine = with_two_harts(alloc, 64, Policy::Full, scheme)?;
     told_at_once(
         alloc,
         &mut machine,
@@ -304,8 +318,10 @@ fn first_replies(alloc: Global) -> Option<String> {
 
 #[test]
 fn runs_eight_steps_at_once(rt: HostRuntime) {
-    let told = first_replies(rt.alloc()).expect(&rt, "memory is ample");
-    assert_eq!(rt; told.as_str(), FIRST_REPLIES);
+    for scheme in SCHEMES {
+        let told = first_replies(rt.alloc(), scheme).expect(&rt, "memory is ample");
+        assert_eq!(rt; told.as_str(), FIRST_REPLIES, "{scheme:?}");
+    }
 }
 
 /// A process comes on a hart and into user mode, its page is filled into the buffer, and it goes into the kernel and back.
@@ -331,9 +347,9 @@ fn there_and_back(image: Image<'_>) -> [Step<'_>; 13] {
 }
 
 /// How many entries the buffer has then.
-fn entries_left(alloc: Global, policy: Policy) -> Option<usize> {
+fn entries_left(alloc: Global, policy: Policy, scheme: Scheme) -> Option<usize> {
     let segments = [page(alloc).ok()?];
-    let mut machine = with_two_harts(alloc, 64, policy)?;
+    let mut machine = with_two_harts(alloc, 64, policy, scheme)?;
     let steps = there_and_back(Image::Segments(&segments));
     told_at_once(alloc, &mut machine, &steps)?;
     let (entries, _) = buffered(&machine, 0)?;
@@ -343,8 +359,10 @@ fn entries_left(alloc: Global, policy: Policy) -> Option<usize> {
 /// The fences of everything take the entry. With address-space identifiers no page of the process has changed, and it stays.
 #[test]
 fn keeps_entries_by_identifiers(rt: HostRuntime) {
-    assert_eq!(rt; entries_left(rt.alloc(), Policy::Full), Some(0));
-    assert_eq!(rt; entries_left(rt.alloc(), Policy::Asid), Some(1));
+    for scheme in SCHEMES {
+        let left = POLICIES.map(|policy| entries_left(rt.alloc(), policy, scheme));
+        assert_eq!(rt; left, [Some(0), Some(1)], "{scheme:?}");
+    }
 }
 
 /// So many steps of an idle hart to the next phase.
@@ -374,7 +392,7 @@ fn idle_replies(alloc: Global, machine: &mut Machine, steps: &[Step<'_>]) -> Opt
 
 /// The same of so many steps of an idle hart.
 fn replies_when_idle(alloc: Global, count: usize) -> Option<usize> {
-    let mut machine = with_two_harts(alloc, 64, Policy::Full)?;
+    let mut machine = with_two_harts(alloc, 64, Policy::Full, Scheme::Sv48)?;
     match idle_steps(alloc, count) {
         Ok(steps) => idle_replies(alloc, &mut machine, &steps),
         Err(_) => None,
@@ -405,9 +423,9 @@ fn after_start(machine: &mut Machine, image: Image<'_>) -> Accounts
 
 /// The accounts of a machine of so many frames when it is booted, and after each of two starts of an image of one page;
 /// none where memory is missing.
-fn accounts_with(alloc: Global, frames: usize) -> Option<[Accounts; 3]> {
+fn accounts_with(alloc: Global, scheme: Scheme, frames: usize) -> Option<[Accounts; 3]> {
     let segments = [page(alloc).ok()?];
-    let mut machine = with_two_harts(alloc, frames, Policy::Full)?;
+    let mut machine = with_two_harts(alloc, frames, Policy::Full, scheme)?;
     let booted = accounts(&machine);
     let first = after_start(&mut machine, Image::Segments(&segments));
     let second = after_start(&mut machine, Image::Segments(&segments));
@@ -419,16 +437,34 @@ fn accounts_with(alloc: Global, frames: usize) -> Option<[Accounts; 3]> {
 /// addresses. A process has 9: the pages of its segment, its guard and its stack, the trapframe, and five tables, which
 /// are the root, two on the way to these pages, and two on the way to the trapframe and the trampoline. With frame 0,
 /// which is shared then, these are 10 references. Of 19 frames none is left for the second process, and of 18 the first
-/// finds 8 free and is refused.
+/// finds 8 free and is refused. Under Sv48 each of these ways has one table more: the kernel has 12 frames and a process
+/// 11.
 #[test]
 fn accounts_are_counted_by_hand(rt: HostRuntime) {
+    let (three, four) = (Scheme::Sv39, Scheme::Sv48);
     let rows = [
-        (64, [(54, 10, 0, 10), (45, 19, 1, 20), (36, 28, 1, 30)]),
-        (19, [(9, 10, 0, 10), (0, 19, 1, 20), (0, 19, 1, 20)]),
-        (18, [(8, 10, 0, 10), (8, 10, 0, 10), (8, 10, 0, 10)]),
+        (
+            three,
+            64,
+            [(54, 10, 0, 10), (45, 19, 1, 20), (36, 28, 1, 30)],
+        ),
+        (three, 19, [(9, 10, 0, 10), (0, 19, 1, 20), (0, 19, 1, 20)]),
+        (three, 18, [(8, 10, 0, 10), (8, 10, 0, 10), (8, 10, 0, 10)]),
+        (
+            four,
+            64,
+            [(52, 12, 0, 12), (41, 23, 1, 24), (30, 34, 1, 36)],
+        ),
+        (four, 23, [(11, 12, 0, 12), (0, 23, 1, 24), (0, 23, 1, 24)]),
+        (
+            four,
+            22,
+            [(10, 12, 0, 12), (10, 12, 0, 12), (10, 12, 0, 12)],
+        ),
     ];
     for row in rows {
-        let (frames, counted) = row;
-        assert_eq!(rt; accounts_with(rt.alloc(), frames), Some(counted));
+        let (scheme, frames, counted) = row;
+        let told = accounts_with(rt.alloc(), scheme, frames);
+        assert_eq!(rt; told, Some(counted), "{scheme:?} {frames}");
     }
 }

@@ -1,11 +1,11 @@
 // The first rule on the pages of a process with text, data, guard and stack.
 
 ghost use Rattle.std.specs.Prelude.{◌≡◌, ◌+◌, ◌≤◌, All};
-ghost use Rattle.sv39_entry.specs.Address.{trapframe_page};
+ghost use Rattle.sv39_entry.specs.Schemes.{trapframe_page};
 
 use address_space::{Layout, Part, Region, RegionKind, Source};
 use bitflags::Flags;
-use sv39_entry::{Access, Rights, Rule, Va};
+use sv39_entry::{Access, Rights, Rule, Scheme, Va};
 
 /// An access to an address by so many bytes, and the rule that denies it.
 type Row = (Access, u64, u64, Option<Rule>);
@@ -26,7 +26,7 @@ fn part<'a>(first: u64, pages: u64, rights: Rights, kind: RegionKind) -> Part<'a
 
 /// Text, data, guard and stack.
 fn parts<'a>() -> [Part<'a>; 4]
-    ensures { All (λ p. p.region.first + p.region.pages ≤ trapframe_page) result }
+    ensures { (s : Scheme) → All (λ p. p.region.first + p.region.pages ≤ trapframe_page s) result }
 {
     let (mut code, mut data) = (Rights::READ, Rights::READ);
     code.insert(Rights::EXECUTE);
@@ -39,7 +39,7 @@ fn parts<'a>() -> [Part<'a>; 4]
     ]
 }
 
-fn rows() -> [Row; 14] {
+fn rows() -> [Row; 9] {
     [
         (Access::Fetch, 0x0, 4, None),
         (Access::Store, 0xff8, 8, Some(Rule::NoWrite)),
@@ -50,21 +50,40 @@ fn rows() -> [Row; 14] {
         (Access::Load, 0x5000, 1, Some(Rule::GuardPage)),
         (Access::Store, 0x6000, 4, None),
         (Access::Load, 0x7000, 1, Some(Rule::NoRegion)),
-        (Access::Load, 0x3fffffe000, 1, Some(Rule::KernelPage)),
-        (Access::Fetch, 0x3ffffff000, 4, Some(Rule::KernelPage)),
-        (Access::Load, 0x4000000000, 8, Some(Rule::BeyondMax)),
-        (Access::Load, 0x4000000001, 8, Some(Rule::Misaligned)),
-        (Access::Load, u64::MAX, 1, Some(Rule::BeyondMax)),
     ]
 }
 
+/// The trampoline's and the trapframe's page, and addresses past the end of a process.
+fn rows_at_the_end(scheme: Scheme) -> [Row; 7] {
+    let (kernel, beyond) = (Some(Rule::KernelPage), Some(Rule::BeyondMax));
+    match scheme {
+        Scheme::Sv39 => [
+            (Access::Load, 0x3fffffdfff, 1, Some(Rule::NoRegion)),
+            (Access::Load, 0x3fffffe000, 1, kernel),
+            (Access::Fetch, 0x3ffffff000, 4, kernel),
+            (Access::Load, 0x4000000000, 8, beyond),
+            (Access::Load, 0x4000000001, 8, Some(Rule::Misaligned)),
+            (Access::Load, 0x7fffffffe000, 1, beyond),
+            (Access::Load, u64::MAX, 1, beyond),
+        ],
+        Scheme::Sv48 => [
+            (Access::Load, 0x3fffffe000, 1, Some(Rule::NoRegion)),
+            (Access::Load, 0x4000000000, 8, Some(Rule::NoRegion)),
+            (Access::Load, 0x7fffffffe000, 1, kernel),
+            (Access::Fetch, 0x7ffffffff000, 4, kernel),
+            (Access::Load, 0x800000000000, 8, beyond),
+            (Access::Load, 0x800000000001, 8, Some(Rule::Misaligned)),
+            (Access::Load, u64::MAX, 1, beyond),
+        ],
+    }
+}
+
 /// The first row whose access is denied by another rule, or by none.
-fn wrong_row() -> Option<Row> {
-    let layout = Layout::new(&parts());
-    for row in rows() {
-        let (access, address, width, rule) = row;
+fn wrong_row(layout: &Layout, rows: &[Row]) -> Option<Row> {
+    for row in rows {
+        let (access, address, width, rule) = *row;
         if layout.grant(access, Va(address), width.max(1)).err() != rule {
-            return Some(row);
+            return Some(*row);
         }
     }
     None
@@ -72,5 +91,9 @@ fn wrong_row() -> Option<Row> {
 
 #[test]
 fn tells_the_first_rule(rt: HostRuntime) {
-    assert_eq!(rt; wrong_row(), None);
+    for scheme in [Scheme::Sv39, Scheme::Sv48] {
+        let layout = Layout::new(scheme, &parts());
+        assert_eq!(rt; wrong_row(&layout, &rows()), None);
+        assert_eq!(rt; wrong_row(&layout, &rows_at_the_end(scheme)), None);
+    }
 }

@@ -1,6 +1,6 @@
 // A space that lives over both stores: it is built, a far page of its heap is settled, and it ends.
 
-ghost use Rattle.std.specs.Prelude.{[], ◌∷◌, ◌≡◌, ◌%◌, ◌<◌, ◌≤◌, false, IfErr, IfOk};
+ghost use Rattle.std.specs.Prelude.{[], ◌∷◌, ◌≡◌, ◌%◌, ◌^◌, ◌<◌, ◌≤◌, false, IfErr, IfOk};
 ghost use Rattle.address_space.specs.Agreement.{body_of, IsSpace, HoldsTrampoline};
 ghost use Rattle.address_space.specs.Parts.{AreParts, numbers_of, regions_in};
 ghost use Rattle.address_space.specs.Steps.{IsBare};
@@ -8,7 +8,8 @@ ghost use Rattle.tests_of_processes.specs.Lives.{IsWritable, Lives, standard_reg
 ghost use Rattle.frame_store.specs.Laws.{Fits, Keeps};
 ghost use Rattle.process_model.specs.Process.{Page, Process};
 ghost use Rattle.process_model.specs.Residence.{with_page};
-ghost use Rattle.sv39_entry.specs.Address.{page_of, trapframe_page};
+ghost use Rattle.sv39_entry.specs.Address.{page_of};
+ghost use Rattle.sv39_entry.specs.Schemes.{trapframe_page};
 ghost use Rattle.table_walk.specs.Tables.{Tables};
 
 use address_space::{Part, Region, RegionKind, Source, Space};
@@ -17,7 +18,7 @@ use frame_store::{FrameAccess, FrameSeat, FrameSupply, NoFrame, PlainFrames};
 use shared_frames::SharedFrames;
 use std::alloc::{AllocError, Global};
 use std::sync::Wait;
-use sv39_entry::{PAGE_SIZE, Rights, Va, Vpn};
+use sv39_entry::{PAGE_SIZE, Rights, Scheme, Va, Vpn};
 
 /// What is written to the first page of the data before and after the far page is asked for, and to the far page.
 const NEAR: u64 = 0x0123_4567_89ab_cdef;
@@ -63,7 +64,7 @@ fn part<'a>(
 fn standard_parts<'a>() -> [Part<'a>; 4]
     ensures regions { regions_in result ≡ standard_regions }
     ensures numbers { numbers_of result ≡ 0 ∷ 1 ∷ 2 ∷ 3 ∷ 4 ∷ [] }
-    ensures parts { AreParts result }
+    ensures parts { (s : Scheme) → AreParts s result }
 {
     let (mut code, mut data) = (Rights::READ, Rights::READ);
     code.insert(Rights::EXECUTE);
@@ -82,17 +83,19 @@ fn standard_parts<'a>() -> [Part<'a>; 4]
 fn roomy<S: FrameSeat, F: FrameSupply<Seat = S>>(
     store: &mut F,
     seat: S,
+    scheme: Scheme,
     page: u64,
 ) -> Result<Space<S>, (NoFrame, S)>
     requires fits { Fits F.rule store.old seat }
     requires opening { HoldsTrampoline (S.view seat) }
     requires in_heap { 5 ≤ page }
-    requires low { page < trapframe_page }
+    requires low { page < trapframe_page scheme }
     ensures lives { IfOk result (λ s. Lives (S.view s.seat) s.root.0 s.trapframe.0 s.layout page false) }
+    ensures scheme { IfOk result (λ s. s.layout.scheme ≡ scheme) }
     ensures keeps { IfOk result (λ s. Keeps F.rule store.old seat store.new s.seat) }
     ensures keeps_refused { IfErr result (λ e. Keeps F.rule store.old seat store.new e.1) }
 {
-    let mut space = Space::build(store, seat, &standard_parts())?;
+    let mut space = Space::build(store, seat, scheme, &standard_parts())?;
     space.set_size((page + 1) * PAGE_SIZE);
     Ok(space)
 }
@@ -122,6 +125,7 @@ fn kept<S: FrameSeat, F: FrameAccess<Seat = S>>(
     requires aligned { va.0 % 8 ≡ 0 }
     ensures agrees { (t : Tables) (p : Process) → IsSpace (body_of S.view space.old) t p → IsWritable p (page_of va.0) →
         (s : Page) × (s.fork_mark ≡ false) × IsSpace (body_of S.view space.new) t (with_page p (page_of va.0) s) }
+    ensures layout { space.new.layout ≡ space.old.layout }
     ensures keeps { Keeps F.rule store.old space.old.seat store.new space.new.seat }
 {
     space.write(store, va, 8, value);
@@ -140,6 +144,7 @@ fn try_settle<S: FrameSeat, F: FrameSupply<Seat = S>>(
     requires fits { Fits F.rule store.old space.old.seat }
     requires lives { Lives (S.view space.old.seat) space.old.root.0 space.old.trapframe.0 space.old.layout page false }
     ensures lives { Lives (S.view space.new.seat) space.new.root.0 space.new.trapframe.0 space.new.layout page result }
+    ensures layout { space.new.layout ≡ space.old.layout }
     ensures keeps { Keeps F.rule store.old space.old.seat store.new space.new.seat }
 {
     space.settle(store, page, &[]).is_ok()
@@ -152,9 +157,10 @@ fn try_far<S: FrameSeat, F: FrameSupply<Seat = S>>(
     page: u64,
 ) -> Reads
     requires fits { Fits F.rule store.old space.old.seat }
-    requires low { page < trapframe_page }
+    requires low { page < 2 ^ 36 }
     requires lives { Lives (S.view space.old.seat) space.old.root.0 space.old.trapframe.0 space.old.layout page false }
     ensures agrees { (t : Tables) × (p : Process) × IsSpace (body_of S.view space.new) t p }
+    ensures layout { space.new.layout ≡ space.old.layout }
     ensures keeps { Keeps F.rule store.old space.old.seat store.new space.new.seat }
 {
     let (near, far) = (Va(PAGE_SIZE), Va(page * PAGE_SIZE));
@@ -184,17 +190,18 @@ fn try_far<S: FrameSeat, F: FrameSupply<Seat = S>>(
 fn settled_far<S: FrameSeat, F: FrameSupply<Seat = S>>(
     store: &mut F,
     seat: S,
+    scheme: Scheme,
     page: u64,
 ) -> Result<(Reads, S), (NoFrame, S)>
     requires fits { Fits F.rule store.old seat }
     requires opening { HoldsTrampoline (S.view seat) }
     requires in_heap { 5 ≤ page }
-    requires low { page < trapframe_page }
+    requires low { page < trapframe_page scheme }
     ensures bare { IfOk result (λ r. IsBare (S.view r.1)) }
     ensures keeps { IfOk result (λ r. Keeps F.rule store.old seat store.new r.1) }
     ensures keeps_refused { IfErr result (λ e. Keeps F.rule store.old seat store.new e.1) }
 {
-    let mut space = roomy(store, seat, page)?;
+    let mut space = roomy(store, seat, scheme, page)?;
     let reads = try_far(&mut space, store, page);
     let far = Va(page * PAGE_SIZE);
     let behind = Va((page + 1) * PAGE_SIZE);
@@ -202,14 +209,19 @@ fn settled_far<S: FrameSeat, F: FrameSupply<Seat = S>>(
     Ok((reads, space.destroy(store)))
 }
 
-fn over_plain(alloc: Global, frames: usize, page: u64) -> Result<Outcome, AllocError>
+fn over_plain(
+    alloc: Global,
+    scheme: Scheme,
+    frames: usize,
+    page: u64,
+) -> Result<Outcome, AllocError>
     requires some { 0 < frames }
     requires few { frames ≤ 256 }
     requires in_heap { 5 ≤ page }
-    requires low { page < trapframe_page }
+    requires low { page < trapframe_page scheme }
 {
     let (mut store, seat) = PlainFrames::new(alloc, frames)?;
-    let reads = match settled_far(&mut store, seat, page) {
+    let reads = match settled_far(&mut store, seat, scheme, page) {
         Ok((reads, _)) => Some(reads),
         Err(_) => None,
     };
@@ -219,17 +231,18 @@ fn over_plain(alloc: Global, frames: usize, page: u64) -> Result<Outcome, AllocE
 fn over_shared<R: Wait>(
     rt: &R,
     alloc: Global,
+    scheme: Scheme,
     frames: usize,
     page: u64,
 ) -> Result<Outcome, AllocError>
     requires some { 0 < frames }
     requires few { frames ≤ 256 }
     requires in_heap { 5 ≤ page }
-    requires low { page < trapframe_page }
+    requires low { page < trapframe_page scheme }
 {
     let (frames, seat) = SharedFrames::new(alloc, frames)?;
     let mut supply = frames.supply(rt);
-    let (reads, seat) = match settled_far(&mut supply, seat, page) {
+    let (reads, seat) = match settled_far(&mut supply, seat, scheme, page) {
         Ok((reads, seat)) => (Some(reads), seat),
         Err((_, seat)) => (None, seat),
     };
@@ -254,44 +267,54 @@ const REFUSED: Reads = Reads {
 fn over_both<R: Wait>(
     rt: &R,
     alloc: Global,
+    scheme: Scheme,
     frames: usize,
     page: u64,
 ) -> Result<[Outcome; 2], AllocError>
     requires some { 0 < frames }
     requires few { frames ≤ 256 }
     requires in_heap { 5 ≤ page }
-    requires low { page < trapframe_page }
+    requires low { page < trapframe_page scheme }
 {
-    let plain = over_plain(alloc, frames, page)?;
-    let shared = over_shared(rt, alloc, frames, page)?;
+    let plain = over_plain(alloc, scheme, frames, page)?;
+    let shared = over_shared(rt, alloc, scheme, frames, page)?;
     Ok([plain, shared])
 }
 
-/// How many frames there are, the far page, what is read, and the frames that are free in the end.
-type Row = (usize, u64, Option<Reads>, usize);
+/// A scheme, how many frames there are, the far page, what is read, and the frames that are free in the end.
+type Row = (Scheme, usize, u64, Option<Reads>, usize);
 
 /// Beside frame 0 the space has eleven frames: five tables, the trapframe's and those of its five pages. The far pages need one
-/// to three more, with their tables.
-fn rows() -> [Row; 7] {
+/// to three more, with their tables. Under Sv48 it has seven tables, and a page from 2^39 on, far behind the last page of Sv39,
+/// needs three of its own.
+fn rows() -> [Row; 13] {
     let (refused, settled) = (Some(REFUSED), Some(SETTLED));
+    let (three, four) = (Scheme::Sv39, Scheme::Sv48);
     [
-        (11, 0x5, None, 10),
-        (12, 0x5, refused, 12),
-        (13, 0x5, settled, 13),
-        (13, 0x200, refused, 13),
-        (14, 0x200, settled, 14),
-        (14, 0x40000, refused, 14),
-        (15, 0x40000, settled, 15),
+        (three, 11, 0x5, None, 10),
+        (three, 12, 0x5, refused, 12),
+        (three, 13, 0x5, settled, 13),
+        (three, 13, 0x200, refused, 13),
+        (three, 14, 0x200, settled, 14),
+        (three, 14, 0x40000, refused, 14),
+        (three, 15, 0x40000, settled, 15),
+        (four, 13, 0x5, None, 12),
+        (four, 15, 0x5, settled, 15),
+        (four, 16, 0x4000000, refused, 16),
+        (four, 17, 0x4000000, settled, 17),
+        (four, 17, 0x8000000, refused, 17),
+        (four, 18, 0x8000000, settled, 18),
     ]
 }
 
 /// The first row of which another comes, over one store or the other.
 fn wrong_row<R: Wait>(rt: &R, alloc: Global) -> Result<Option<Row>, AllocError> {
     for row in rows() {
-        let (frames, page, reads, free) = row;
+        let (scheme, frames, page, reads, free) = row;
         // no row is changed by it: it shows the limits to the proof
-        let (frames, page) = (frames.clamp(1, 256), page.clamp(0x5, 0x40000));
-        if over_both(rt, alloc, frames, page)? != [(reads, free); 2] {
+        let last = scheme.trapframe().page().number() - 1;
+        let (frames, page) = (frames.clamp(1, 256), page.clamp(0x5, last));
+        if over_both(rt, alloc, scheme, frames, page)? != [(reads, free); 2] {
             return Ok(Some(row));
         }
     }
@@ -332,7 +355,7 @@ fn mapping(first: u64, pages: u64) -> Region {
 /// is whole. None where it could not be built.
 fn mapped(alloc: Global) -> Result<Option<[Firsts; 4]>, AllocError> {
     let (mut store, seat) = PlainFrames::new(alloc, 64)?;
-    let Ok(mut space) = Space::build(&mut store, seat, &standard_parts()) else {
+    let Ok(mut space) = Space::build(&mut store, seat, Scheme::Sv39, &standard_parts()) else {
         return Ok(None);
     };
     space.add_mapping(mapping(100, 4));

@@ -10,7 +10,7 @@ use address_space::{Layout, Region, Space};
 use frame_store::{FrameAccess, FrameSeat};
 use process_model::Report;
 use std::alloc::{AllocError, Global};
-use sv39_entry::{FrameNo, TRAPFRAME};
+use sv39_entry::FrameNo;
 
 /// A settled page: its number, its frame, and whether it has the fork mark, and D.
 type Settled = (u64, FrameNo, bool, bool);
@@ -76,10 +76,11 @@ fn see_pages<S: FrameSeat, F: FrameAccess<Seat = S>>(
     ensures alive { IsAlive (body_of S.view space.new) }
     ensures keeps { Keeps F.rule store.old space.old.seat store.new space.new.seat }
 {
+    let end = space.layout.scheme().trapframe().page();
     let mut bytes = [0; 4096];
     let mut from = 0;
     'pages: for _ in 0..256 {
-        let Some(found) = space.next_settled(store, from, TRAPFRAME.page()) else {
+        let Some(found) = space.next_settled(store, from, end) else {
             return Ok(());
         };
         space.page_bytes(store, found.page, &mut bytes);

@@ -8,6 +8,7 @@ use shared_frames::SharedFrames;
 use std::alloc::Global;
 use std::sync::Wait;
 use std::test::Fail;
+use sv39_entry::Scheme;
 
 #[derive(Clone, Copy, PartialEq, Eq, Debug)]
 pub(crate) enum StoreKind {
@@ -26,7 +27,10 @@ pub(crate) fn first_fault<R: Wait>(
     story: &Story,
 ) -> Result<Option<Outcome>, Fail> {
     let segments = standard_segments(alloc)?;
-    let images = [Image::from_segments(&segments)?, read_image(SMALL)?];
+    let images = [
+        Image::from_segments(Scheme::Sv39, &segments)?,
+        read_image(Scheme::Sv39, SMALL)?,
+    ];
     for kind in [StoreKind::Plain, StoreKind::Shared] {
         let (told, free) = match kind {
             StoreKind::Plain => over_plain(alloc, &images, story)?,

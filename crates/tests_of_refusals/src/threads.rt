@@ -21,7 +21,7 @@ use std::alloc::Global;
 use std::sync::Wait;
 use std::test::Fail;
 use std::thread::{Threads, map_vec};
-use sv39_entry::{Access, Mode, Va};
+use sv39_entry::{Access, Mode, Scheme, Va};
 
 /// A process on a thread: where it stores numbers, and which, from the first up to, and without, the last.
 #[derive(Drop)]
@@ -200,7 +200,7 @@ fn join_all<R: Threads + Wait + Sync>(
 /// What the totals are when all processes have ended, if each number was kept.
 fn totals_after<R: Threads + Wait + Sync>(rt: &R, alloc: Global) -> Result<Option<Totals>, Fail> {
     let segments = standard_segments(alloc)?;
-    let image = Image::from_segments(&segments)?;
+    let image = Image::from_segments(Scheme::Sv39, &segments)?;
     let (frames, mut seat) = SharedFrames::new(alloc, 256)?;
     let parent = begun(&mut frames.supply(rt), &mut seat, &image, 0, 0)?;
     let jobs = jobs(rt, alloc, &frames, parent)?;

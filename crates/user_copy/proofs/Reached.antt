@@ -15,10 +15,12 @@ use Rattle.process_model.specs.Process.{Page, Process, regions}
 use Rattle.process_model.specs.ReachedPages.{made_settles, no_alignment}
 use Rattle.process_model.specs.Regions.{copy_rule, copy_tests, keeps_stores, Region, region_at}
 use Rattle.process_model.specs.Residence.{is_resident, is_resident_page, made_resident, region_on}
-use Rattle.sv39_entry.specs.Address.{maxva, page_of}
+use Rattle.sv39_entry.specs.Address.{page_of}
+use Rattle.sv39_entry.specs.Schemes.{maxva}
 use Rattle.sv39_entry.specs.declared.access.Access.{Access}
 use Rattle.sv39_entry.specs.declared.access.Access.TheVariants as access
 use Rattle.sv39_entry.specs.declared.rule.Rule.{Rule}
+use Rattle.sv39_entry.specs.declared.scheme.Scheme.{Scheme}
 use Rattle.table_walk.specs.Tables.{Tables}
 use Rattle.user_copy.specs.Reaching.{body_at, Place, Reaches, StillStands, Words}
 use Rattle.user_copy.specs.declared.short.Stop.{Stop}
@@ -29,25 +31,25 @@ same_body : {S : Type 0} (view : S → View) (x y : Space S) → view x.seat ≡
 same_body view x y seat root trapframe layout = λ i. record { view = seat i; root = (root i).0; trapframe = (trapframe i).0; layout = layout i }
 
 -- an address that no rule denies is low
-low : (rs : List Region) (access : Access) (address : ℕ) → copy_rule rs access address ≡ None → address < maxva
-low rs access address none = let tests = none_true (copy_tests rs access address) none in leb-false maxva address tests.0
+low : (z : Scheme) (rs : List Region) (access : Access) (address : ℕ) → copy_rule z rs access address ≡ None → address < maxva z
+low z rs access address none = let tests = none_true (copy_tests z rs access address) none in leb-false (maxva z) address tests.0
 
 module _ {Seat Frames Cabinet : Type 0} (l : Words Seat Frames Cabinet) (a b : Place Seat Frames Cabinet) (access : Access) (address : ℕ) where
   module _ (e : Reaches l a b access address (Ok tt)) (t : Tables) (p : Process) (space : IsSpace (body_at l a) t p) where
     -- no rule denies an address that was reached
-    allowed : copy_rule (regions p) access address ≡ None
-    allowed = by (copy_rule (regions p) access address) (e.ended t p space)
+    allowed : copy_rule p.scheme (regions p) access address ≡ None
+    allowed = by (copy_rule p.scheme (regions p) access address) (e.ended t p space)
       where
         by : (o : Option Rule) → IsEnd o served.Ready → o ≡ None
         by None is = refl
         by (Some rule) is = absurd (cc)
 
     can : CanReside (body_at l a) t p access (page_of address)
-    can = can_reside (body_at l a) t p access address 1 space (no_alignment (regions p) access address ∙ allowed)
+    can = can_reside (body_at l a) t p access address 1 space (no_alignment p.scheme (regions p) access address ∙ allowed)
 
     -- so it is low
-    pub reached_low : address < maxva
-    reached_low = low (regions p) access address allowed
+    pub reached_low : address < maxva a.space.layout.scheme
+    reached_low = subst (λ z. address < maxva z) space.lays.scheme (low p.scheme (regions p) access address allowed)
 
     -- and its page may be read
     pub may_load : (u : Tables) × (q : Process) × (s : Page) × CanRead (body_at l b) u q (page_of address) s

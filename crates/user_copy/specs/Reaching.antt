@@ -60,18 +60,18 @@ service (Err (Unpromised e)) = served.Unserved e
 -- the page of an address was made resident for an access, or a rule denies it, or too few frames were free, or a page of a file was not
 -- promised; alignment does not matter
 pub record Reaches {Seat Frames Cabinet : Type 0} (l : Words Seat Frames Cabinet) (a b : Place Seat Frames Cabinet) (access : Access) (address : ℕ) (r : Result (Unit {0}) Stop) : Type 0 where
-  pub ended : (t : Tables) (p : Process) → IsSpace (body_at l a) t p → IsEnd (copy_rule (regions p) access address) (service r)
+  pub ended : (t : Tables) (p : Process) → IsSpace (body_at l a) t p → IsEnd (copy_rule p.scheme (regions p) access address) (service r)
   pub ready : service r ≡ served.Ready → HasReside (body_at l a) (body_at l b) (l.files a.files) access (page_of address) (λ f c. l.alone → c ≡ l.count a.store f)
   pub dry : service r ≡ served.Ended NoFrame → RunsShort (body_at l a) (body_at l b) access (page_of address)
   pub whole : (rule : Rule) → service r ≡ served.Ended rule → (t : Tables) (p : Process) → IsSpace (body_at l a) t p → IsSpace (body_at l b) t p
   pub unpromised : (e : Refusal) → service r ≡ served.Unserved e → (x : PromiseError) × l.can_refuse a.files 1 x × (e ≡ refusal_of x)
   pub of_file : (e : Refusal) → service r ≡ served.Unserved e → (t : Tables) (p : Process) → IsSpace (body_at l a) t p
-      → 0 < length (served_moves (l.files a.files) p (page_of address) (copy_rule (regions p) access address))
+      → 0 < length (served_moves (l.files a.files) p (page_of address) (copy_rule p.scheme (regions p) access address))
   pub view_stays : DoesNothing (service r) → l.view b.space.seat ≡ l.view a.space.seat
   pub store_stays : DoesNothing (service r) → b.store ≡ a.store
   pub files_stay : (e : Refusal) → service r ≡ served.Unserved e → l.becomes a.files [] b.files
   pub moves : ((e : Refusal) → service r ≢ served.Unserved e) → (t : Tables) (p : Process) → IsSpace (body_at l a) t p
-      → l.becomes a.files (served_moves (l.files a.files) p (page_of address) (copy_rule (regions p) access address)) b.files
+      → l.becomes a.files (served_moves (l.files a.files) p (page_of address) (copy_rule p.scheme (regions p) access address)) b.files
   pub enough : l.alone → WhenReside (body_at l a) access (page_of address) (l.count a.store) (λ need. service r ≡ served.Ready → need ≤ l.free a.store)
   pub short : l.alone → WhenReside (body_at l a) access (page_of address) (l.count a.store) (λ need. service r ≡ served.Ended NoFrame → l.free a.store < need)
   pub free : l.alone → WhenReside (body_at l a) access (page_of address) (l.count a.store) (λ need. l.free b.store ≡ l.free a.store - (if is_ready (service r) then need else 0))

@@ -5,7 +5,7 @@ ghost use Rattle.address_space.specs.Agreement.{body_of, IsSpace};
 ghost use Rattle.frame_store.specs.Laws.{Fits, Keeps};
 ghost use Rattle.process_model.specs.Copies.{longest_copy};
 ghost use Rattle.process_model.specs.Process.{Process};
-ghost use Rattle.sv39_entry.specs.Address.{maxva};
+ghost use Rattle.sv39_entry.specs.Schemes.{maxva};
 ghost use Rattle.sv39_entry.specs.declared.access.Access.TheVariants.{Load, Store};
 ghost use Rattle.table_walk.specs.Tables.{Tables};
 ghost use Rattle.user_copy.specs.Reaching.{place, Reaches, service, StillStands, words};
@@ -100,7 +100,7 @@ fn read_page<S: FrameSeat, F: FrameSupply<Seat = S>, C: Files>(
     ensures stopped { IfErr result (λ short. CopiesIn (words S.view F.rule F.alone F.free F.count C.files C.becomes C.can_refuse) (some_run va.0 n) (place space.old store.old files.old) (place space.new store.new files.new) bytes.items short.bytes.items (Some short.rule)) }
     ensures done { IfErr result (λ short. short.done ≡ length short.bytes.items) }
     ensures more { IfOk result (λ all. length all.items ≡ length bytes.items + n) }
-    ensures low { IfOk result (λ _. 0 < n → va.0 < maxva) }
+    ensures low { IfOk result (λ _. 0 < n → va.0 < maxva space.old.layout.scheme) }
     ensures space { StillStands (body_of S.view space.old) (body_of S.view space.new) }
     ensures keeps { Keeps F.rule store.old space.old.seat store.new space.new.seat }
 {
@@ -135,7 +135,7 @@ fn write_page<S: FrameSeat, F: FrameSupply<Seat = S>, C: Files>(
     ensures copied { IfOk result (λ _. CopiesOut (words S.view F.rule F.alone F.free F.count C.files C.becomes C.can_refuse) (some_bytes va.0 bytes.now) (place space.old store.old files.old) (place space.new store.new files.new) done (done + length bytes.now) None) }
     ensures stopped { IfErr result (λ short. CopiesOut (words S.view F.rule F.alone F.free F.count C.files C.becomes C.can_refuse) (some_bytes va.0 bytes.now) (place space.old store.old files.old) (place space.new store.new files.new) done short.done (Some short.rule)) }
     ensures none { IfErr result (λ short. short.bytes.items ≡ []) }
-    ensures low { IfOk result (λ _. 0 < length bytes.now → va.0 < maxva) }
+    ensures low { IfOk result (λ _. 0 < length bytes.now → va.0 < maxva space.old.layout.scheme) }
     ensures space { StillStands (body_of S.view space.old) (body_of S.view space.new) }
     ensures keeps { Keeps F.rule store.old space.old.seat store.new space.new.seat }
 {

@@ -10,7 +10,7 @@ use Rattle.address_space.proofs.build.fill_part.Given as goal
 abbrev pub invariant-pages : goal.invariant-pages
 invariant-pages g l = record {
   rest : l.rest ≡ drop (4096 * (l.number - l.fn.part.region.first)) l.fn.part.bytes.now;
-  filled : (trapframe : ℕ) (t : Tables) (p : Process) → CanFill (g.F.Seat.FrameSeat.view l.fn.seat) l.fn.root.0 trapframe t p l.fn.part
+  filled : (trapframe : ℕ) (t : Tables) (p : Process) → p.scheme ≡ l.fn.scheme → CanFill (g.F.Seat.FrameSeat.view l.fn.seat) l.fn.root.0 trapframe t p l.fn.part
       → (u : Tables) × Fills (g.F.Seat.FrameSeat.view l.fn.seat) (g.F.Seat.FrameSeat.view l.seat) l.fn.root.0 trapframe u p
       (page_run l.fn.part.region.first l.fn.part.bytes.now (l.number - l.fn.part.region.first));
   keeps : Keeps g.F.FrameAccess.rule l.fn.store l.fn.seat l.store l.seat;

@@ -7,8 +7,8 @@ use Rattle.address_space.proofs.build.fill_parts.Given as goal
 -- the pages of the parts before this one are there
 abbrev pub invariant-parts : goal.invariant-parts
 invariant-parts g l = record {
-  filled : (trapframe : ℕ) (t : Tables) → StandsAlone (g.F.Seat.FrameSeat.view l.fn.seat) l.fn.root.0 trapframe t (bare_process l.fn.parts)
-      → (u : Tables) × Fills (g.F.Seat.FrameSeat.view l.fn.seat) (g.F.Seat.FrameSeat.view l.seat) l.fn.root.0 trapframe u (bare_process l.fn.parts)
+  filled : (trapframe : ℕ) (t : Tables) → StandsAlone (g.F.Seat.FrameSeat.view l.fn.seat) l.fn.root.0 trapframe t (bare_process l.fn.scheme l.fn.parts)
+      → (u : Tables) × Fills (g.F.Seat.FrameSeat.view l.fn.seat) (g.F.Seat.FrameSeat.view l.seat) l.fn.root.0 trapframe u (bare_process l.fn.scheme l.fn.parts)
       (pages_of (take l.part-index l.fn.parts));
   keeps : Keeps g.F.FrameAccess.rule l.fn.store l.fn.seat l.store l.seat;
   free : g.F.FrameAccess.alone → g.F.FrameAccess.free l.store ≡ g.F.FrameAccess.free l.fn.store;

@@ -3,13 +3,14 @@ use Rattle.frame_store.specs.Laws.{fits_after}
 use Rattle.table_walk.specs.Changed.{IsNextLeafBefore}
 use Rattle.address_space.proofs.DroppedPages.{first_is_mapped, goes_first}
 use Rattle.address_space.proofs.ending.drop_first.Goals as goal
-use Rattle.sv39_entry.specs.declared.scheme.Scheme.TheVariants.{Sv39}
+use Rattle.sv39_entry.specs.Schemes.{of_scheme}
 
 pub returns-in_err-page-clause-dropped : goal.returns-in_err-page-clause-dropped
 returns-in_err-page-clause-dropped g c t h may =
     let high = c.in_err-page.ensures in
     let low = c.requires.low in
-    rw c.from_residual.ensures (λ n from less. absurd (high (omega (arith, low, from, less))), refl)
+    let facts = of_scheme c.args.scheme in
+    rw c.from_residual.ensures (λ n from less. absurd (high (omega (arith, low, from, less, facts))), refl)
 
 pub drop_leaf-requires-clause-ready : goal.drop_leaf-requires-clause-ready
 drop_leaf-requires-clause-ready g c = let r = c.requires.ready in (r.0, r.1, r.2 c.in_ok-page.page)
@@ -31,8 +32,8 @@ pub returns-in_err-page-2-clause-dropped : goal.returns-in_err-page-2-clause-dro
 returns-in_err-page-2-clause-dropped g c t h may =
     let from = (c.in_ok-page.ensures).1 in
     let same = (c.if-drop_leaf.ensures.dropped t h (may c.in_ok-page.page)).1 in
-    let none : IsNextLeafBefore Sv39 t c.args.first c.args.end None = rw from at (c.in_err-page-2.ensures.leaf t (rw same h)) in
-    rw c.from_residual-in_err-page-2.ensures (first_is_mapped t c.args.first c.args.end None none c.requires.low, c.next_leaf_before.ensures.view ∙ same)
+    let none : IsNextLeafBefore c.args.scheme t c.args.first c.args.end None = rw from at (c.in_err-page-2.ensures.leaf t (rw same h)) in
+    rw c.from_residual-in_err-page-2.ensures (first_is_mapped c.args.scheme t c.args.first c.args.end None none, c.next_leaf_before.ensures.view ∙ same)
 
 pub returns-in_err-page-2-clause-keeps : goal.returns-in_err-page-2-clause-keeps
 returns-in_err-page-2-clause-keeps g c others r = c.next_leaf_before.ensures.keeps others (c.drop_leaf.ensures.keeps others r)
@@ -54,8 +55,8 @@ unreachable-requires g c =
     let from = (c.in_ok-page.ensures).1 in
     let same = (c.if-drop_leaf.ensures.dropped r.0 r.1 (r.2 c.in_ok-page.page)).1 in
     let still = c.next_leaf_before.ensures.view ∙ same in
-    let next : IsNextLeafBefore Sv39 r.0 c.args.first c.args.end (Some (c.in_ok-page-2.page, c.in_ok-page-2.field-0-1)) = rw from at (c.in_ok-page-2.ensures.leaf r.0 (rw same r.1)) in
-    let found = first_is_mapped r.0 c.args.first c.args.end (Some (c.in_ok-page-2.page, c.in_ok-page-2.field-0-1)) next c.requires.low in
+    let next : IsNextLeafBefore c.args.scheme r.0 c.args.first c.args.end (Some (c.in_ok-page-2.page, c.in_ok-page-2.field-0-1)) = rw from at (c.in_ok-page-2.ensures.leaf r.0 (rw same r.1)) in
+    let found = first_is_mapped c.args.scheme r.0 c.args.first c.args.end (Some (c.in_ok-page-2.page, c.in_ok-page-2.field-0-1)) next in
     let none = (c.if-not-drop_leaf.ensures.dropped r.0 (rw still r.1) (rw still (r.2 c.in_ok-page-2.page))).0 found.1 in
     let there = found.2 in
     cc
@@ -65,8 +66,8 @@ returns-clause-dropped g c t h may =
     let from = (c.in_ok-page.ensures).1 in
     let same = (c.if-drop_leaf.ensures.dropped t h (may c.in_ok-page.page)).1 in
     let still = c.next_leaf_before.ensures.view ∙ same in
-    let next : IsNextLeafBefore Sv39 t c.args.first c.args.end (Some (c.in_ok-page-2.page, c.in_ok-page-2.field-0-1)) = rw from at (c.in_ok-page-2.ensures.leaf t (rw same h)) in
-    let found = first_is_mapped t c.args.first c.args.end (Some (c.in_ok-page-2.page, c.in_ok-page-2.field-0-1)) next c.requires.low in
+    let next : IsNextLeafBefore c.args.scheme t c.args.first c.args.end (Some (c.in_ok-page-2.page, c.in_ok-page-2.field-0-1)) = rw from at (c.in_ok-page-2.ensures.leaf t (rw same h)) in
+    let found = first_is_mapped c.args.scheme t c.args.first c.args.end (Some (c.in_ok-page-2.page, c.in_ok-page-2.field-0-1)) next in
     let gone = rw still at (c.if-not-drop_leaf.ensures.dropped t (rw still h) (rw still (may c.in_ok-page-2.page))) in
     rw c.number.ensures.value (c.in_ok-page-2.field-0-1, found, gone.2)
 

@@ -4,7 +4,6 @@ use Rattle.address_space.proofs.DroppedPages.{has_leaf}
 use Rattle.address_space.proofs.ending.drop_leaf.Goals as goal
 use Rattle.table_walk.specs.Nodes.{low_leaf}
 use Rattle.table_walk.specs.Tables.{leaf_node, walk_leaf}
-use Rattle.sv39_entry.specs.declared.scheme.Scheme.TheVariants.{Sv39}
 
 pub release-requires-clause-held : goal.release-requires-clause-held
 release-requires-clause-held g c =
@@ -12,7 +11,7 @@ release-requires-clause-held g c =
     let high = c.if-end-number.false in
     let number = c.number.ensures.value in
     let before : c.args.page < c.args.end = omega (arith, high, number) in
-    let same : walk_leaf Sv39 c.args.page ≡ leaf_node c.args.page = low_leaf Sv39 c.args.page (omega (arith, before, c.requires.low)) in
+    let same : walk_leaf c.args.scheme c.args.page ≡ leaf_node c.args.page = low_leaf c.args.scheme c.args.page (omega (arith, before, c.requires.low)) in
     let leaf = sym (rw same at (c.in-Some.ensures.leaf r.0 r.1)) in
     let d = r.2 before (has_leaf r.0 _ _ leaf) in
     let names = frame_named c.in-Some.leaf _ _ c.in-Some-from_ppn.frame c.ppn.ensures.value c.from_ppn.ensures c.in-Some-from_ppn.is in
@@ -24,7 +23,7 @@ release-requires-clause-anchored g c =
     let high = c.if-end-number.false in
     let number = c.number.ensures.value in
     let before : c.args.page < c.args.end = omega (arith, high, number) in
-    let same : walk_leaf Sv39 c.args.page ≡ leaf_node c.args.page = low_leaf Sv39 c.args.page (omega (arith, before, c.requires.low)) in
+    let same : walk_leaf c.args.scheme c.args.page ≡ leaf_node c.args.page = low_leaf c.args.scheme c.args.page (omega (arith, before, c.requires.low)) in
     let leaf = sym (rw same at (c.in-Some.ensures.leaf r.0 r.1)) in
     let d = r.2 before (has_leaf r.0 _ _ leaf) in
     let names = frame_named c.in-Some.leaf _ _ c.in-Some-from_ppn.frame c.ppn.ensures.value c.from_ppn.ensures c.in-Some-from_ppn.is in
@@ -35,7 +34,7 @@ returns-clause-dropped g c t h may =
     let high = c.if-end-number.false in
     let number = c.number.ensures.value in
     let before : c.args.page < c.args.end = omega (arith, high, number) in
-    let same : walk_leaf Sv39 c.args.page ≡ leaf_node c.args.page = low_leaf Sv39 c.args.page (omega (arith, before, c.requires.low)) in
+    let same : walk_leaf c.args.scheme c.args.page ≡ leaf_node c.args.page = low_leaf c.args.scheme c.args.page (omega (arith, before, c.requires.low)) in
     let leaf = sym (rw same at (c.in-Some.ensures.leaf t h)) in
     let some = has_leaf t _ _ leaf in
     let d = may before some in

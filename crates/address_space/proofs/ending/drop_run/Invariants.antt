@@ -1,4 +1,4 @@
-use Rattle.std.proofs.Common.{◌≤◌, ◌-◌, ℕ, max}
+use Rattle.std.proofs.Common.{◌≤◌, ◌-◌, ℕ, max, ◌≡◌}
 use Rattle.address_space.specs.Agreement.{nothing, Stands}
 use Rattle.address_space.specs.Ending.{DropsRun}
 use Rattle.frame_store.specs.Laws.{Keeps}
@@ -11,7 +11,7 @@ abbrev pub invariant-pages : goal.invariant-pages
 invariant-pages g l = record {
   after : l.fn.first ≤ l.from;
   within : l.from ≤ max l.fn.first l.fn.end;
-  dropped : (trapframe : ℕ) (t : Tables) (p : Process) → Stands (g.F.Seat.FrameSeat.view l.fn.seat) l.fn.root.0 trapframe nothing t p
+  dropped : (trapframe : ℕ) (t : Tables) (p : Process) → p.scheme ≡ l.fn.scheme → Stands (g.F.Seat.FrameSeat.view l.fn.seat) l.fn.root.0 trapframe nothing t p
       → (u : Tables) × DropsRun (g.F.Seat.FrameSeat.view l.fn.seat) (g.F.Seat.FrameSeat.view l.seat) l.fn.root.0 trapframe t u p l.fn.first l.from;
   keeps : Keeps g.F.FrameAccess.rule l.fn.store l.fn.seat l.store l.seat;
   free : g.F.FrameAccess.alone → g.F.FrameAccess.free l.fn.store ≤ g.F.FrameAccess.free l.store;

@@ -8,4 +8,4 @@ pub returns-clause-page : goal.returns-clause-page
 returns-clause-page g c t h =
     let from = (c.in_ok-page.ensures).1 in
     let next = rw from at c.next_leaf_before.ensures.leaf t (rw c.in_default.ensures.view h) in
-    first_is_mapped t c.args.first c.args.end _ next c.requires.low
+    first_is_mapped c.args.scheme t c.args.first c.args.end _ next

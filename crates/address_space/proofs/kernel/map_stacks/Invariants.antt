@@ -8,8 +8,8 @@ use Rattle.address_space.proofs.kernel.map_stacks.Given as goal
 -- so many stacks are mapped
 abbrev pub invariant-loop-slot : goal.invariant-loop-slot
 invariant-loop-slot g l = record {
-  mapped : (t : Tables) → MapsKernel (g.F.Seat.FrameSeat.view l.fn.seat) l.fn.root.0 0 [] t
-      → (stacks : List ℕ) × (u : Tables) × MapsKernel (g.F.Seat.FrameSeat.view l.seat) l.fn.root.0 0 stacks u × (length stacks ≡ l.slot);
+  mapped : (t : Tables) → MapsKernel l.fn.scheme (g.F.Seat.FrameSeat.view l.fn.seat) l.fn.root.0 0 [] t
+      → (stacks : List ℕ) × (u : Tables) × MapsKernel l.fn.scheme (g.F.Seat.FrameSeat.view l.seat) l.fn.root.0 0 stacks u × (length stacks ≡ l.slot);
   spends : Spends (g.F.Seat.FrameSeat.view l.fn.seat) (g.F.Seat.FrameSeat.view l.seat) l.slot;
   keeps : Keeps g.F.FrameAccess.rule l.fn.store l.fn.seat l.store l.seat;
   free : g.F.FrameAccess.alone → g.F.FrameAccess.free l.store ≡ g.F.FrameAccess.free l.fn.store;

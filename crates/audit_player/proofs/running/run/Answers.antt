@@ -1,4 +1,4 @@
-use Rattle.std.proofs.Common.{◌≡◌, ◌+◌, ◌≤◌, true, [], length, drop, map, refl, subst, arith, rules}
+use Rattle.std.proofs.Common.{◌≡◌, ◌+◌, ◌≤◌, true, [], length, drop, map, refl, subst, arith, rules, ◌∙◌, Bool, false, not, sym}
 use Rattle.std.specs.Io.KnownBytes.{Appends}
 use Rattle.process_model.specs.Script.{file_of}
 use Rattle.process_model.specs.Text.{text_of}
@@ -44,6 +44,11 @@ returns-then-not-write_all-clause-plays g c =
     let more = page_more old mid c.lines.machine c.put_line.new.machine images commands c.lines.number _ c.lines.page.items c.put_line.new.text.items c.push_reserved.new.self.items whole c.get.ensures (omega (arith, c.lines-test.true, c.len-number-end.ensures)) c.put_line.ensures.told c.push_reserved.ensures.items c.lines.invariant.text in
     cut old mid new c.put_line.new.machine images (drop (c.lines.number + 1) commands) c.push_reserved.new.self.items whole more (subst (WroteSome mid new) c.as_slice.ensures.value c.write_all.ensures.part)
 
+-- what was written whole is not broken
+unbroken : (r b : Bool) → r ≡ true → r ≡ not b → b ≡ false
+unbroken r true whole is = absurd (let both : true ≡ false = sym whole ∙ is in cc)
+unbroken r false whole is = refl
+
 pub lines-preserved : goal.lines-preserved
 lines-preserved g c =
     let old = g.W.Sink.contents c.args.writer.now in
@@ -55,7 +60,7 @@ lines-preserved g c =
     let more = page_more old mid c.lines.machine c.put_line.new.machine images commands c.lines.number _ c.lines.page.items c.put_line.new.text.items c.push_reserved.new.self.items whole c.get.ensures (omega (arith, c.lines-test.true, c.len-number-end.ensures)) c.put_line.ensures.told c.push_reserved.ensures.items c.lines.invariant.text in
     let written : c.write_all.result ≡ true = search rules in
     record {
-      fine = search rules;
+      fine = λ ok. unbroken _ _ written (c.write_all.ensures.io (c.lines.invariant.fine ok));
       low = omega (arith, c.clear.ensures.len);
       room = omega (arith, c.lines.invariant.room, c.put_line.ensures.capacity, c.push_reserved.ensures.capacity, c.clear.ensures.capacity);
       text = turned old mid new c.put_line.new.machine images (drop (c.lines.number + 1) commands) c.push_reserved.new.self.items whole more c.clear.new.self.items (subst (Appends mid new) c.as_slice.ensures.value (c.write_all.ensures.whole written)) c.clear.ensures.items;

@@ -1,14 +1,16 @@
-use Rattle.std.proofs.Common.{◌≡◌, ℕ, ◌<◌, ap, ◌∙◌, arith, List, [], ◌∷◌, ◌++◌, length, map}
+use Rattle.std.proofs.Common.{◌≡◌, ℕ, ◌<◌, ap, ◌∙◌, arith, List, [], ◌∷◌, ◌++◌, length, map, subst, sym}
 use Rattle.std.proofs.lemmas.List.{length-map, map-append}
 use Rattle.frame_store.specs.Laws.{fits_after}
 use Rattle.frame_store.specs.View.{IsHeld, View}
 use Rattle.process_model.specs.Process.{Process}
 use Rattle.sv39_entry.specs.declared.frame.FrameNo.{FrameNo}
 use Rattle.table_walk.specs.Tables.{Tables}
+use Rattle.table_walk.specs.Mapped.{tables_of_scheme}
 use Rattle.address_space.specs.Agreement.{body_of}
+use Rattle.address_space.specs.Layouts.{LaysOut}
 use Rattle.cow_fork.specs.Children.{CopiesTree}
 use Rattle.cow_fork.specs.Forks.{CanDivide, HasChild}
-use Rattle.cow_fork.specs.Listing.{CanList, ListsTables}
+use Rattle.cow_fork.specs.Listing.{CanList, ListsTables, IsLed, IsEdged}
 use Rattle.cow_fork.proofs.Building.{can_copy, can_list, claimed_once, claimed_other, claimed_sole, claimed_spends, claims_sole, divide_anchored, has_child, room_for_own, settled_below, tables_edged, tables_led}
 use Rattle.cow_fork.proofs.forking.build_child.Given as given
 use Rattle.cow_fork.proofs.forking.build_child.Goals as goal
@@ -87,24 +89,29 @@ pub list_tables-requires-clause-ready : goal.list_tables-requires-clause-ready
 list_tables-requires-clause-ready g c =
     let r = c.requires.ready in
     let at = (goal.at.list_tables-requires-clause-ready g c).After-copy_tree-root in
-    let copied = tree g at r.0 r.1 r.2 r.3 in (
+    let copied = tree g at r.0 r.1 r.2 r.3 in
+    let lays : LaysOut _ r.2 = rw c.copy_tree-root.ensures.layout r.3.space.lays in
+    let same = lays.scheme ∙ sym c.scheme-scheme.ensures in (
       copied.0,
-      copied.1.tables,
-      tables_led _ _ r.1 copied.0 r.2 _ _ copied.1 r.3.space.stands.shows.low,
+      tables_of_scheme same copied.1.tables,
+      subst (λ z. IsLed z copied.0) same (tables_led _ _ r.1 copied.0 r.2 _ _ copied.1 r.3.space.stands.shows.low),
       rw (longer g at) (listing g at r.0 r.1 r.2 r.3 (within_now g at)),
-      tables_edged _ _ r.1 copied.0 r.2 _ _ copied.1 r.3.space.stands.shows.low c.end-end.result (c.end-end.ensures.low r.2 (rw c.copy_tree-root.ensures.layout r.3.space.lays) r.3.space.sound.order)
-          (settled_below r.1 r.2 r.3.space c.end-end.result (c.end-end.ensures.end r.2 (rw c.copy_tree-root.ensures.layout r.3.space.lays) r.3.space.sound.order)),
+      subst (λ z. IsEdged z copied.0 c.end-end.result) same
+          (tables_edged _ _ r.1 copied.0 r.2 _ _ copied.1 r.3.space.stands.shows.low c.end-end.result (c.end-end.ensures.low r.2 lays r.3.space.sound.order)
+          (settled_below r.1 r.2 r.3.space c.end-end.result (c.end-end.ensures.end r.2 lays r.3.space.sound.order))),
     )
 
 pub returns-clause-built : goal.returns-clause-built
 returns-clause-built g c v t p can =
     let at = (goal.at.returns-clause-built g c).After-copy_tree-root in
     let copied = tree g at v t p can in
-    let led = tables_led _ _ t copied.0 p _ _ copied.1 can.space.stands.shows.low in
-    let edged =
-    tables_edged _ _ t copied.0 p _ _ copied.1 can.space.stands.shows.low c.end-end.result (c.end-end.ensures.low p (rw c.copy_tree-root.ensures.layout can.space.lays) can.space.sound.order)
-    (settled_below t p can.space c.end-end.result (c.end-end.ensures.end p (rw c.copy_tree-root.ensures.layout can.space.lays) can.space.sound.order)) in
-    let listed = c.list_tables.ensures.listed copied.0 copied.1.tables led (rw (longer g at) (listing g at v t p can (within_now g at))) edged in
+    let lays : LaysOut _ p = rw c.copy_tree-root.ensures.layout can.space.lays in
+    let same = lays.scheme ∙ sym c.scheme-scheme.ensures in
+    let led = subst (λ z. IsLed z copied.0) same (tables_led _ _ t copied.0 p _ _ copied.1 can.space.stands.shows.low) in
+    let edged = subst (λ z. IsEdged z copied.0 c.end-end.result) same
+    (tables_edged _ _ t copied.0 p _ _ copied.1 can.space.stands.shows.low c.end-end.result (c.end-end.ensures.low p lays can.space.sound.order)
+    (settled_below t p can.space c.end-end.result (c.end-end.ensures.end p lays can.space.sound.order))) in
+    let listed = c.list_tables.ensures.listed copied.0 (tables_of_scheme same copied.1.tables) led (rw (longer g at) (listing g at v t p can (within_now g at))) edged in
     (copied.0, rw c.list_tables.ensures.view (built g at v t p can _ (rw (longer g at) at listed)))
 
 pub returns-clause-keeps : goal.returns-clause-keeps

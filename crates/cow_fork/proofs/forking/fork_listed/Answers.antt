@@ -1,8 +1,8 @@
-use Rattle.std.proofs.Common.{ap, inl, inr, Err, refl, subst, arith}
+use Rattle.std.proofs.Common.{ap, inl, inr, Err, refl, subst, arith, sym, ◌∙◌}
 use Rattle.address_space.specs.Agreement.{body_of}
 use Rattle.frame_store.specs.Laws.{fits_after}
 use Rattle.cow_fork.specs.Forks.{Forks}
-use Rattle.cow_fork.proofs.Refusals.{all_held, can_divide, dry_whole, either_refusal, few_pages, going_once, runs_dry, same_error, space_anchored, whole_again}
+use Rattle.cow_fork.proofs.Refusals.{all_held, can_divide, dry_whole, either_refusal, few_pages, going_once, runs_dry, same_error, space_anchored, whole_again, takes_counted}
 use Rattle.cow_fork.proofs.Walking.{body_between}
 use Rattle.cow_fork.proofs.forking.fork_listed.Goals as goal
 
@@ -49,11 +49,14 @@ returns-in-Err-clause-whole g c t p space =
 
 pub returns-in-Err-clause-dry : goal.returns-in-Err-clause-dry
 returns-in-Err-clause-dry g c is t p space =
-    runs_dry _ _ _ _ _ refl (c.in-Err.ensures.dry (same_error _ _ is)) space.credits (c.fork_need-need.ensures.need t p space.stands.shows.low (c.requires.settled t p space))
+    runs_dry _ _ _ _ _ refl (c.in-Err.ensures.dry (same_error _ _ is)) space.credits (c.fork_need-need.ensures.need t p (space.lays.scheme ∙ sym c.scheme-scheme.ensures) space.stands.shows.low (c.requires.settled t p space))
+
+pub returns-in-Err-clause-full : goal.returns-in-Err-clause-full
+returns-in-Err-clause-full g c is = takes_counted _ _ _ (c.in-Err.ensures.back (same_error _ _ is)).tallies
 
 pub returns-in-Err-clause-short : goal.returns-in-Err-clause-short
 returns-in-Err-clause-short g c alone t p space =
-    let need = c.fork_need-need.ensures.need t p space.stands.shows.low (c.requires.settled t p space) in
+    let need = c.fork_need-need.ensures.need t p (space.lays.scheme ∙ sym c.scheme-scheme.ensures) space.stands.shows.low (c.requires.settled t p space) in
     let s = c.in-Err.ensures.short alone in
     (λ is. let less = s.0 (same_error _ _ is) in omega (arith, less, need), λ less. same_error _ _ (s.1 (omega (arith, less, need))))
 
@@ -82,27 +85,27 @@ divide-requires-clause-ready g c =
       r.0,
       r.1,
       can_divide g.S.FrameSeat.view c.prepare.new.space c.args.space.now _ r.0 r.1 _ _ _ r.2 (c.requires.settled r.0 r.1 r.2)
-          refl p.root p.trapframe p.layout (c.fork_need-need.ensures.need r.0 r.1 r.2.stands.shows.low (c.requires.settled r.0 r.1 r.2)) c.in_default.ensures.prepared,
+          refl p.root p.trapframe p.layout (c.fork_need-need.ensures.need r.0 r.1 (r.2.lays.scheme ∙ sym c.scheme-scheme.ensures) r.2.stands.shows.low (c.requires.settled r.0 r.1 r.2)) c.in_default.ensures.prepared,
     )
 
 pub returns-clause-forked : goal.returns-clause-forked
 returns-clause-forked g c t p space =
     let e = c.prepare.ensures in
     let can = can_divide g.S.FrameSeat.view c.prepare.new.space c.args.space.now _ t p _ _ _ space (c.requires.settled t p space)
-    refl e.root e.trapframe e.layout (c.fork_need-need.ensures.need t p space.stands.shows.low (c.requires.settled t p space)) c.in_default.ensures.prepared in
+    refl e.root e.trapframe e.layout (c.fork_need-need.ensures.need t p (space.lays.scheme ∙ sym c.scheme-scheme.ensures) space.stands.shows.low (c.requires.settled t p space)) c.in_default.ensures.prepared in
     let all = c.divide.ensures.divided _ t p can in
     let before = body_between _ _ c.prepare.new.space c.args.space.now refl e.root e.trapframe e.layout in
     (all.0, all.1, subst (λ b. Forks b (body_of g.S.FrameSeat.view c.divide.new.space) (body_of g.S.FrameSeat.view c.divide.result) t all.0 all.1 p) before all.2)
 
 pub returns-clause-short : goal.returns-clause-short
 returns-clause-short g c alone t p space =
-    let need = c.fork_need-need.ensures.need t p space.stands.shows.low (c.requires.settled t p space) in
+    let need = c.fork_need-need.ensures.need t p (space.lays.scheme ∙ sym c.scheme-scheme.ensures) space.stands.shows.low (c.requires.settled t p space) in
     let s = c.in_default.ensures.short alone in
     (λ is. absurd (cc), λ less. absurd (let bad = s.1 (omega (arith, less, need)) in cc))
 
 pub returns-clause-free : goal.returns-clause-free
 returns-clause-free g c alone t p space other =
-    let need = c.fork_need-need.ensures.need t p space.stands.shows.low (c.requires.settled t p space) in
+    let need = c.fork_need-need.ensures.need t p (space.lays.scheme ∙ sym c.scheme-scheme.ensures) space.stands.shows.low (c.requires.settled t p space) in
     let first = c.in_default.ensures.free alone (λ is. absurd (cc)) in
     let last = c.divide.ensures.free alone in
     omega (arith, need, first, last)

@@ -1,12 +1,23 @@
-use Rattle.std.proofs.Common.{arith}
-use Rattle.process_model.specs.Frames.{tables_needed}
+use Rattle.std.proofs.Common.{arith, ◌∙◌}
+use Rattle.process_model.specs.PageMap.{keys}
+use Rattle.process_model.specs.Frames.{three_sizes, two_sizes}
 use Rattle.cow_fork.proofs.need.fork_need.Goals as goal
 
-pub returns : goal.returns
-unfolding tables_needed
-returns c = record {
-  need = λ t p low are.
-      let upper = c.table_count-upper.ensures.count t p low are in
-      let lower = c.table_count-lower.ensures.count t p low are in
-      omega (arith, upper, lower);
+pub returns-in-Sv39 : goal.returns-in-Sv39
+returns-in-Sv39 c = record {
+  need = λ t p same low are.
+      let upper = c.table_count-upper.ensures.count t p same low are in
+      let lower = c.table_count-lower.ensures.count t p same low are in
+      let tables = two_sizes p.scheme (keys p.settled) (same ∙ c.in-Sv39.is) in
+      omega (arith, upper, lower, tables);
+}
+
+pub returns-in-Sv48 : goal.returns-in-Sv48
+returns-in-Sv48 c = record {
+  need = λ t p same low are.
+      let upper = c.table_count-upper.ensures.count t p same low are in
+      let lower = c.table_count-lower.ensures.count t p same low are in
+      let most = c.table_count.ensures.count t p same low are in
+      let tables = three_sizes p.scheme (keys p.settled) (same ∙ c.in-Sv48.is) in
+      omega (arith, upper, lower, most, tables);
 }

@@ -1,14 +1,14 @@
-use Rattle.std.proofs.Common.{◌≡◌, ◌+◌, ◌-◌, ◌<◌, ap, refl, subst, ◌∙◌, arith, [], ◌∷◌, ◌++◌, length, List}
+use Rattle.std.proofs.Common.{◌≡◌, ◌+◌, ◌-◌, ◌<◌, ap, refl, subst, ◌∙◌, arith, [], ◌∷◌, ◌++◌, length, List, sym}
 use Rattle.std.proofs.lemmas.List.{append_assoc, append-nil, length-map, map-append}
 use Rattle.address_space.specs.Settled.{AreSettled}
 use Rattle.address_space.specs.declared.settled.SettledPage.{SettledPage}
 use Rattle.frame_store.specs.Laws.{fits_after}
 use Rattle.address_space.specs.Standing.{standing}
-use Rattle.sv39_entry.specs.Address.{trapframe_page}
 use Rattle.cow_fork.specs.Sharing.{frames_of}
 use Rattle.cow_fork.proofs.Going.{going_few, going_more, going_none}
-use Rattle.cow_fork.proofs.Walking.{same_body}
+use Rattle.cow_fork.proofs.Walking.{same_body, edge_at}
 use Rattle.cow_fork.proofs.pages.list_settled.Goals as goal
+use Rattle.sv39_entry.specs.Schemes.{trapframe_page}
 
 pub pages-init : goal.pages-init
 pages-init g c = record {
@@ -46,8 +46,10 @@ pages-smaller g c =
     let r = c.requires.ready in
     let i = c.pages.invariant in
     let body = same_body g.S.FrameSeat.view c.pages.space c.args.space.now i.view i.root i.trapframe i.layout in
-    let next = rw (c.in-Some.is, c.page.ensures.number) at c.next_settled.ensures.page r.0 r.1 (standing (rw body r.2)) in
-    let less : trapframe_page - (c.number-from.result + 1) < trapframe_page - c.pages.from = omega (arith, c.number-from.ensures.value, next.0, next.1) in
+    let next = rw (c.in-Some.is, edge_at (r.2.lays.scheme ∙ sym c.scheme-scheme.ensures) _ _ c.page-end.ensures.number c.trapframe.ensures) at c.next_settled.ensures.page r.0 r.1 (standing (rw body r.2)) in
+    let edge = ap trapframe_page r.2.lays.scheme in
+    let less : trapframe_page c.args.space.now.layout.scheme - (c.number-from.result + 1) < trapframe_page c.args.space.now.layout.scheme - c.pages.from =
+    omega (arith, c.number-from.ensures.value, next.0, next.1, edge) in
     less
 
 pub pages-preserved : goal.pages-preserved
@@ -56,10 +58,10 @@ pages-preserved g c =
     let i = c.pages.invariant in
     let n = c.next_settled.ensures in
     let body = same_body g.S.FrameSeat.view c.pages.space c.args.space.now i.view i.root i.trapframe i.layout in
-    let near_next = rw (c.in-Some.is, c.page.ensures.number) at n.page r.0 r.1 (standing (rw body r.2)) in
+    let near_next = rw (c.in-Some.is, edge_at (r.2.lays.scheme ∙ sym c.scheme-scheme.ensures) _ _ c.page-end.ensures.number c.trapframe.ensures) at n.page r.0 r.1 (standing (rw body r.2)) in
     let items = c.push.ensures.items in
     record {
-      near = omega (arith, c.number-from.ensures.value, near_next.1);
+      near = omega (arith, c.number-from.ensures.value, near_next.1, ap trapframe_page r.2.lays.scheme);
       root = n.root ∙ i.root;
       trapframe = n.trapframe ∙ i.trapframe;
       layout = n.layout ∙ i.layout;
@@ -67,12 +69,12 @@ pages-preserved g c =
       same = n.same ∙ i.same;
       keeps = λ others s. n.keeps others (i.keeps others s);
       going = λ t p space.
-          let next = rw (c.in-Some.is, c.page.ensures.number) at n.page t p (standing (rw body space)) in
+          let next = rw (c.in-Some.is, edge_at (space.lays.scheme ∙ sym c.scheme-scheme.ensures) _ _ c.page-end.ensures.number c.trapframe.ensures) at n.page t p (standing (rw body space)) in
           let longer : frames_of c.push.new.self.items ≡ frames_of c.pages.pages.items ++ (c.in-Some.found.frame).0 ∷ [] =
           ap frames_of items ∙ map-append (λ (x : SettledPage). (x.frame).0) c.pages.pages.items (c.in-Some.found ∷ []) in
           rw (c.number-from.ensures.value, longer) (going_more _ t p space c.pages.from (0 ∷ frames_of c.pages.pages.items) (i.going t p space) c.in-Some.found next);
       settled = λ t p space more rest.
-          let next = rw (c.in-Some.is, c.page.ensures.number) at n.page t p (standing (rw body space)) in
+          let next = rw (c.in-Some.is, edge_at (space.lays.scheme ∙ sym c.scheme-scheme.ensures) _ _ c.page-end.ensures.number c.trapframe.ensures) at n.page t p (standing (rw body space)) in
           let longer : c.push.new.self.items ++ more ≡ c.pages.pages.items ++ c.in-Some.found ∷ more =
           ap (λ (l : List SettledPage). l ++ more) items ∙ append_assoc c.pages.pages.items (c.in-Some.found ∷ []) more in
           rw longer (i.settled t p space (c.in-Some.found ∷ more) (next, rw c.number-from.ensures.value at rest));
@@ -82,8 +84,8 @@ pub returns-clause-settled : goal.returns-clause-settled
 returns-clause-settled g c t p space =
     let i = c.pages.invariant in
     let body = same_body g.S.FrameSeat.view c.pages.space c.args.space.now i.view i.root i.trapframe i.layout in
-    let none = rw (c.in_default.is, c.page.ensures.number) at c.next_settled.ensures.page t p (standing (rw body space)) in
-    subst (AreSettled t p 0 trapframe_page) (append-nil c.pages.pages.items) (i.settled t p space [] none)
+    let none = rw (c.in_default.is, edge_at (space.lays.scheme ∙ sym c.scheme-scheme.ensures) _ _ c.page-end.ensures.number c.trapframe.ensures) at c.next_settled.ensures.page t p (standing (rw body space)) in
+    subst (AreSettled t p 0 (trapframe_page p.scheme)) (append-nil c.pages.pages.items) (i.settled t p space [] none)
 
 pub returns-clause-keeps : goal.returns-clause-keeps
 returns-clause-keeps g c others r = c.next_settled.ensures.keeps others (c.pages.invariant.keeps others r)

@@ -4,15 +4,15 @@ use Rattle.address_space.specs.Settled.{AreSettled}
 use Rattle.address_space.specs.declared.settled.SettledPage.{SettledPage}
 use Rattle.frame_store.specs.Laws.{Keeps}
 use Rattle.process_model.specs.Process.{Process}
-use Rattle.sv39_entry.specs.Address.{trapframe_page}
 use Rattle.table_walk.specs.Tables.{Tables}
 use Rattle.cow_fork.specs.Sharing.{AreGoing, frames_of}
 use Rattle.cow_fork.proofs.pages.list_settled.Given as goal
+use Rattle.sv39_entry.specs.Schemes.{trapframe_page}
 
 -- the settled pages below this one are listed
 abbrev pub invariant-pages : goal.invariant-pages
 invariant-pages g l = record {
-  near : l.from ≤ trapframe_page;
+  near : l.from ≤ trapframe_page l.fn.space.layout.scheme;
   root : l.space.root ≡ l.fn.space.root;
   trapframe : l.space.trapframe ≡ l.fn.space.trapframe;
   layout : l.space.layout ≡ l.fn.space.layout;
@@ -21,8 +21,8 @@ invariant-pages g l = record {
   keeps : Keeps g.F.FrameAccess.rule l.fn.store l.fn.space.seat l.store l.space.seat;
   going : (t : Tables) (p : Process) → IsSpace (body_of g.S.FrameSeat.view l.fn.space) t p → AreGoing t p l.from (0 ∷ frames_of l.pages.items);
   settled : (t : Tables) (p : Process) → IsSpace (body_of g.S.FrameSeat.view l.fn.space) t p → (more : List SettledPage)
-      → AreSettled t p l.from trapframe_page more → AreSettled t p 0 trapframe_page (l.pages.items ++ more);
+      → AreSettled t p l.from (trapframe_page p.scheme) more → AreSettled t p 0 (trapframe_page p.scheme) (l.pages.items ++ more);
 }
 
 abbrev pub decreases-pages : goal.decreases-pages
-decreases-pages g l = trapframe_page - l.from
+decreases-pages g l = trapframe_page l.fn.space.layout.scheme - l.from

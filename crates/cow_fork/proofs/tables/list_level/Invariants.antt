@@ -1,6 +1,7 @@
-use Rattle.std.proofs.Common.{◌≡◌, ◌≤◌, ◌+◌, ◌-◌, ◌^◌, ℕ, List, map, suc}
+use Rattle.std.proofs.Common.{◌≡◌, ◌≤◌, ◌+◌, ◌-◌, ◌^◌, ℕ, List, map}
 use Rattle.frame_store.specs.Laws.{Keeps}
 use Rattle.table_walk.specs.Tables.{Tables}
+use Rattle.table_walk.specs.Nodes.{above_root}
 use Rattle.cow_fork.specs.Listing.{IsEdged, IsListing}
 use Rattle.cow_fork.proofs.tables.list_level.Given as goal
 
@@ -11,8 +12,8 @@ invariant-tables g l = record {
   view : g.S.FrameSeat.view l.seat ≡ g.S.FrameSeat.view l.fn.seat;
   same : l.store ≡ l.fn.store;
   keeps : Keeps g.F.FrameAccess.rule l.fn.store l.fn.seat l.store l.seat;
-  listed : (t : Tables) (L : List ℕ) → IsListing (g.S.FrameSeat.view l.fn.seat) l.fn.root.0 t (512 ^ suc l.depth) L (map (λ f. f.0) l.fn.frames.items) → IsEdged t l.end
-      → IsListing (g.S.FrameSeat.view l.fn.seat) l.fn.root.0 t (512 ^ suc l.depth + l.table) L (map (λ f. f.0) l.frames.items);
+  listed : (t : Tables) (L : List ℕ) → IsListing l.fn.scheme (g.S.FrameSeat.view l.fn.seat) l.fn.root.0 t (512 ^ (above_root l.fn.scheme + l.depth)) L (map (λ f. f.0) l.fn.frames.items) → IsEdged l.fn.scheme t l.end
+      → IsListing l.fn.scheme (g.S.FrameSeat.view l.fn.seat) l.fn.root.0 t (512 ^ (above_root l.fn.scheme + l.depth) + l.table) L (map (λ f. f.0) l.frames.items);
 }
 
 abbrev pub decreases-tables : goal.decreases-tables

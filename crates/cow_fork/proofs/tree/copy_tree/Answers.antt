@@ -1,4 +1,4 @@
-use Rattle.std.proofs.Common.{◌≡◌, ◌||◌, Some, None, [], refl, ap, sym, ◌∙◌, arith}
+use Rattle.std.proofs.Common.{◌≡◌, ◌||◌, Some, None, [], refl, ap, sym, ◌∙◌, arith, subst}
 use Rattle.frame_store.specs.Laws.{fits_after}
 use Rattle.process_model.specs.PageMap as pages
 use Rattle.process_model.specs.OrderKept.{leafy_at}
@@ -6,21 +6,21 @@ use Rattle.process_model.specs.Process.{regions}
 use Rattle.process_model.specs.Regions.{region_at}
 use Rattle.process_model.specs.ValueSets.{none_in}
 use Rattle.table_walk.specs.Tables.{leaf_node, with_leaf}
-use Rattle.table_walk.specs.Mapped.{maps_low}
+use Rattle.table_walk.specs.Mapped.{maps_low, maps_for, tables_of_scheme}
 use Rattle.address_space.specs.Layouts.{LaysOut, region_of}
 use Rattle.address_space.specs.ProcessLeaves.{page_backed}
-use Rattle.cow_fork.proofs.Copying.{child_leaf, child_unwritable, copies_all, copies_more, done_low, enough, mark_had, mark_new, next_left, none_left, open_first, page_known, page_low, still_anchored}
-use Rattle.cow_fork.proofs.NeededTables.{tables_up, three_needed}
+use Rattle.cow_fork.proofs.Copying.{child_leaf, child_unwritable, copies_all, copies_more, done_low, enough, mark_had, mark_new, next_left, none_left, open_first, page_known, page_low, still_anchored, missing_of_scheme}
+use Rattle.cow_fork.proofs.NeededTables.{tables_up, first_needed}
 use Rattle.cow_fork.proofs.tree.copy_tree.Goals as goal
 use Rattle.cow_fork.proofs.tree.copy_tree.Goals.{else-page, then-page}
-use Rattle.sv39_entry.specs.declared.scheme.Scheme.TheVariants.{Sv39}
+use Rattle.cow_fork.specs.Children.{CanOpen}
 
 pub open_tables-root-requires-clause-ready : goal.open_tables-root-requires-clause-ready
 open_tables-root-requires-clause-ready g c =
     let r = c.requires.ready in
-    let up = tables_up Sv39 [] (pages.keys r.1.settled) (λ n h. absurd (none_in n h)) in
-    let three = three_needed in
-    open_first _ _ r.0 r.1 _ _ (omega (arith, up, three)) r.2
+    let up = tables_up (r.1).scheme [] (pages.keys r.1.settled) (λ n h. absurd (none_in n h)) in
+    let first = first_needed (r.1).scheme in
+    subst (λ z. CanOpen z (g.S.FrameSeat.view c.args.space.now.seat) c.args.trapframe.0) (r.2.lays.scheme ∙ sym c.scheme-scheme.ensures) (open_first _ _ r.0 r.1 _ _ (omega (arith, up, first)) r.2)
 
 pub pages-init : goal.pages-init
 pages-init g c =
@@ -31,7 +31,7 @@ pages-init g c =
       layout = refl;
       keeps = e.keeps;
       free = e.free;
-      copied = λ t p can. (e.opened.0, 0, [], e.opened.1 t p, can.settled);
+      copied = λ t p can. (e.opened.0, 0, [], e.opened.1 t p (can.lays.scheme ∙ sym c.scheme-scheme.ensures), can.settled);
     }
 
 pub unreachable-requires : goal.unreachable-requires
@@ -69,8 +69,9 @@ map-requires-clause-tables g c =
     let next = (next_left r.0 r.1 k.1 c.pages.page-index c.args.settled.now k.4 a c.pages-test.true c.page-item.is).0 in
     let low = done_low _ _ _ r.0 k.0 r.1 _ _ k.1 k.2 _ r.2 k.3 in
     let small = page_low _ _ _ r.0 k.0 r.1 _ _ k.1 k.2 _ r.2 k.3 a next in
-    let law = c.missing_is_growth.ensures.missing Sv39 k.0 k.2 a.page k.3.tabled low small in
-    (k.0, k.3.tables, enough _ _ _ r.0 k.0 r.1 _ _ k.1 k.2 _ r.2 k.3 a next law)
+    let law = c.missing_is_growth.ensures.missing (r.1).scheme k.0 k.2 a.page k.3.tabled low small in
+    let same = r.2.lays.scheme ∙ sym c.scheme-scheme.ensures in
+    (k.0, tables_of_scheme same k.3.tables, missing_of_scheme k.0 a.page _ same (enough _ _ _ r.0 k.0 r.1 _ _ k.1 k.2 _ r.2 k.3 a next law))
 
 pub map-requires-clause-backed : goal.map-requires-clause-backed
 map-requires-clause-backed g c =
@@ -108,13 +109,14 @@ pages-preserved g c =
           let next = both.0 in
           let low = done_low _ _ _ t k.0 p _ _ k.1 k.2 _ can k.3 in
           let small = page_low _ _ _ t k.0 p _ _ k.1 k.2 _ can k.3 a next in
-          let law = c.missing_is_growth.ensures.missing Sv39 k.0 k.2 a.page k.3.tabled low small in
+          let law = c.missing_is_growth.ensures.missing p.scheme k.0 k.2 a.page k.3.tabled low small in
           let lays : LaysOut c.pages.space.layout p = rw i.layout can.lays in
           let at : region_at (regions p) a.page ≡ Some r = sym (rw (c.in-Some.is, c.number.ensures.value) at c.region_at.ensures p lays) in
           let mark_was = mark_is ∙ ap (λ b. b || r.writes) (next.3).fork_mark in
           let made = child_leaf p a.page (next.3).page r c.leaf-leaf.result (a.frame).0 c.if-page.mark c.is_dirty_from_start.result at mark_was c.is_dirty_from_start.ensures c.leaf-leaf.ensures.leaf in
-          let n = maps_low Sv39 _ _ _ _ a.page _ _ small (m.tables k.0 k.3.tables) in
-          let tabled = c.missing_is_growth.ensures.grown Sv39 k.0 n.0 k.2 a.page k.3.tabled n.1 in (
+          let same = can.lays.scheme ∙ sym c.scheme-scheme.ensures in
+          let n = maps_low p.scheme _ _ _ _ a.page _ _ small (maps_for p.scheme c.scheme-scheme.result _ _ _ _ _ _ same (m.tables k.0 (tables_of_scheme same k.3.tables))) in
+          let tabled = c.missing_is_growth.ensures.grown p.scheme k.0 n.0 k.2 a.page k.3.tabled n.1 in (
             with_leaf n.0 (leaf_node a.page) c.leaf-leaf.result,
             _,
             _,

@@ -7,6 +7,6 @@ use Rattle.exec_segments.proofs.begin.parts_of.Given as goal
 -- the segments so far have their parts
 abbrev pub invariant-loads : goal.invariant-loads
 invariant-loads l = record {
-  parts : ArePartsOf l.parts.items (map load_of (take l.load-index l.fn.loads));
-  last : l.end ≡ end_of_loads 0 (map load_of (take l.load-index l.fn.loads));
+  parts : ArePartsOf l.parts.items (map load_of (take l.load-index l.loads));
+  last : l.end ≡ end_of_loads 0 (map load_of (take l.load-index l.loads));
 }

@@ -1,16 +1,15 @@
-use Rattle.std.proofs.Common.{◌≡◌, ◌-◌, ap, sym, subst, ◌∙◌, arith, map, rules}
+use Rattle.std.proofs.Common.{◌≡◌, ◌-◌, ap, sym, subst, ◌∙◌, inl, arith}
 use Rattle.address_space.specs.Agreement.{Body, body_of, IsSpace, nothing}
 use Rattle.address_space.specs.Beside.{space_still, standing_still}
-use Rattle.address_space.specs.Parts.{build_need, process_of_parts, tree_need}
+use Rattle.address_space.specs.Parts.{AreParts, build_need, process_of_parts, tree_need}
 use Rattle.address_space.specs.Standing.{IsStanding}
 use Rattle.std.proofs.lemmas.Result.{err_from_is_err_and}
 use Rattle.exec_segments.proofs.Reserved.{credits_reserved, never_no_frame, refused, runs_dry, same_body, takes_reserved, went_well}
-use Rattle.exec_segments.specs.Loads.{load_of}
+use Rattle.exec_segments.specs.Loads.{JudgedLoads}
 use Rattle.frame_store.specs.Holds.{hold_of-frames}
 use Rattle.frame_store.specs.Laws.{fits_after}
 use Rattle.frame_store.specs.View.{hold_of, View, with_credits}
 use Rattle.process_model.specs.Frames.{exec_need, start_need}
-use Rattle.process_model.specs.Loading.{process_of}
 use Rattle.process_model.specs.Mappings.{all_written_back}
 use Rattle.process_model.specs.Process.{Process}
 use Rattle.sv39_entry.specs.declared.frame.FrameNo.{FrameNo}
@@ -21,16 +20,17 @@ use Rattle.exec_segments.proofs.replacing.exec.Goals.{After-frames_needed-need, 
 
 -- what the image needs beside the trapframe's frame
 
-needs : (g : given.Over) (c : After-frames_needed-need g) → c.frames_needed-need.result - 1 ≡ exec_need c.args.image.now
+needs : (g : given.Over) (c : After-frames_needed-need g) → c.frames_needed-need.result - 1 ≡ exec_need c.args.image.now.scheme c.args.image.now.loads
 needs g c =
-    let loads : map load_of c.as_slice.result.now ≡ c.args.image.now = search rules in
-    let all : c.frames_needed-need.result ≡ start_need c.args.image.now = c.frames_needed-need.ensures ∙ ap build_need c.as_slice-2.ensures.value ∙ c.parts_of-parts.ensures.need ∙ ap start_need loads in
+    let same = ap (λ (i : JudgedLoads). i.scheme) c.image.view_is in
+    let all : c.frames_needed-need.result ≡ start_need c.args.image.now.scheme c.args.image.now.loads =
+    c.frames_needed-need.ensures ∙ ap (build_need c.image.inside.scheme) c.as_slice.ensures.value ∙ ap (λ z. build_need z c.parts_of-parts.result.items) same ∙ c.parts_of-parts.ensures.need in
     omega (arith, all)
 
 -- which is what its tree takes
-tree : (g : given.Over) (c : After-frames_needed-need g) → c.frames_needed-need.result - 1 ≡ tree_need c.parts_of-parts.result.items
+tree : (g : given.Over) (c : After-frames_needed-need g) → c.frames_needed-need.result - 1 ≡ tree_need c.image.inside.scheme c.parts_of-parts.result.items
 tree g c =
-    let all : c.frames_needed-need.result ≡ build_need c.parts_of-parts.result.items = c.frames_needed-need.ensures ∙ ap build_need c.as_slice-2.ensures.value in
+    let all : c.frames_needed-need.result ≡ build_need c.image.inside.scheme c.parts_of-parts.result.items = c.frames_needed-need.ensures ∙ ap (build_need c.image.inside.scheme) c.as_slice.ensures.value in
     omega (arith, all)
 
 -- the space after the pages of files were promised
@@ -45,6 +45,17 @@ returns-in_err-promise_write_back-clause-promised g c =
     let told = err_from_is_err_and c.from_residual.result c.from_residual.ensures.1 in
     rw told.1 (λ none t p space. absurd (never_no_frame _ (sym told.2 ∙ none)))
 
+pub returns-in_err-promise_write_back-clause-refused : goal.returns-in_err-promise_write_back-clause-refused
+returns-in_err-promise_write_back-clause-refused g c =
+    let told = err_from_is_err_and c.from_residual.result c.from_residual.ensures.1 in
+    rw told.1 (λ t p space. inl (c.in_err-promise_write_back.field-0.0, c.in_err-promise_write_back.ensures.refused t p space, told.2))
+
+pub returns-in_err-promise_write_back-clause-whole : goal.returns-in_err-promise_write_back-clause-whole
+returns-in_err-promise_write_back-clause-whole g c =
+    let told = err_from_is_err_and c.from_residual.result c.from_residual.ensures.1 in
+    let body = still g (goal.at.returns-in_err-promise_write_back-clause-whole g c).After-promise_write_back in
+    rw told.1 (λ t p space. subst (λ (x : Body). IsSpace x t p) (sym body) space)
+
 pub reserve-requires : goal.reserve-requires
 reserve-requires g c = record { fits = fits_after g.F.FrameAccess.rule c.promise_write_back.ensures.keeps c.requires.fits }
 
@@ -53,7 +64,7 @@ returns-then-is_err-clause-dry g c _ =
     let v = g.S.FrameSeat.view in
     let r = c.requires.ready in
     let dry = (refused c.reserve.result _ (sym c.is_err.ensures.value ∙ c.if-is_err.true) c.reserve.ensures.err).1 in
-    runs_dry (v c.args.space.now.seat) (v c.promise_write_back.new.space.seat) (v c.reserve.new.seat) (c.frames_needed-need.result - 1) (exec_need c.args.image.now) c.promise_write_back.ensures.view
+    runs_dry (v c.args.space.now.seat) (v c.promise_write_back.new.space.seat) (v c.reserve.new.seat) (c.frames_needed-need.result - 1) (exec_need c.args.image.now.scheme c.args.image.now.loads) c.promise_write_back.ensures.view
     (needs g (goal.at.returns-then-is_err-clause-dry g c).After-frames_needed-need) r.2.credits dry
 
 pub returns-then-is_err-clause-whole : goal.returns-then-is_err-clause-whole
@@ -92,6 +103,16 @@ pub rebuild-requires-clause-fits : goal.rebuild-requires-clause-fits
 rebuild-requires-clause-fits g c = fits_after g.F.FrameAccess.rule c.write_back.ensures.keeps
     (fits_after g.F.FrameAccess.rule c.reserve.ensures.keeps (fits_after g.F.FrameAccess.rule c.promise_write_back.ensures.keeps c.requires.fits))
 
+-- the space was written back, and is of the scheme of the image
+
+by_scheme : (g : given.Over) (c : After-write_back g) → c.args.image.now.scheme ≡ c.write_back.new.space.layout.scheme
+by_scheme g c = c.requires.scheme ∙ sym (ap (λ l. l.scheme) (c.write_back.ensures.layout ∙ c.promise_write_back.ensures.layout))
+
+pub rebuild-requires-clause-parts : goal.rebuild-requires-clause-parts
+rebuild-requires-clause-parts g c =
+    let at = goal.at.rebuild-requires-clause-parts g c in
+    subst (AreParts c.write_back.new.space.layout.scheme) (sym c.as_slice-2.ensures.value) (subst (λ z. AreParts z c.parts_of-parts.result.items) (by_scheme g at.After-write_back) c.parts_of-parts.ensures.parts)
+
 after : (g : given.Over) (c : After-write_back g) → body_of g.S.FrameSeat.view c.write_back.new.space ≡ record (body_of g.S.FrameSeat.view c.promise_write_back.new.space) { view = g.S.FrameSeat.view c.reserve.new.seat }
 after g c =
     let e = c.write_back.ensures in
@@ -102,22 +123,24 @@ rebuild-requires-clause-ready g c =
     let r = c.requires.ready in
     let at = goal.at.rebuild-requires-clause-ready g c in
     let body = after g at.After-write_back in
-    (r.0, r.1, (subst (λ (z : Body). IsStanding z r.0 r.1 nothing) (sym body) (stands g at.After-write_back-arg-3-1 r.0 r.1 r.2)).stands)
+    let standing = subst (λ (z : Body). IsStanding z r.0 r.1 nothing) (sym body) (stands g at.After-write_back-arg-3-1 r.0 r.1 r.2) in
+    (r.0, r.1, (standing.lays.scheme, standing.stands))
 
 pub rebuild-requires-clause-credits : goal.rebuild-requires-clause-credits
 rebuild-requires-clause-credits g c =
     let v = g.S.FrameSeat.view in
     let at = goal.at.rebuild-requires-clause-credits g c in
     let e = c.promise_write_back.ensures in
+    let same = ap (λ (i : JudgedLoads). i.scheme) c.image.view_is ∙ by_scheme g at.After-write_back in
     credits_reserved (v c.args.space.now.seat) (v c.promise_write_back.new.space.seat) (v c.reserve.new.seat) _ _ e.view (tree g at.After-frames_needed-need) (v c.write_back.new.space.seat)
     c.requires.ready.2.credits (reserved g at.After-write_back-arg-3-1) c.write_back.ensures.view
-    ∙ ap tree_need (sym c.as_slice-3.ensures.value)
+    ∙ ap (λ z. tree_need z c.parts_of-parts.result.items) same ∙ ap (tree_need c.write_back.new.space.layout.scheme) (sym c.as_slice-2.ensures.value)
 
 pub returns-clause-replaced : goal.returns-clause-replaced
 returns-clause-replaced g c =
-    let loads : map load_of c.as_slice.result.now ≡ c.args.image.now = search rules in
+    let same = by_scheme g (goal.at.returns-clause-replaced g c).After-write_back in
     let built = c.rebuild.ensures.built in
-    (built.0, (λ fresh. subst (IsSpace (body_of g.S.FrameSeat.view c.rebuild.new.self) built.0) (ap (process_of_parts fresh) c.as_slice-3.ensures.value ∙ c.parts_of-parts.ensures.process fresh ∙ ap (process_of fresh) loads) (built.1 fresh)), built.2)
+    (built.0, (λ fresh. subst (IsSpace (body_of g.S.FrameSeat.view c.rebuild.new.self) built.0) (ap (λ z. process_of_parts z fresh c.as_slice-2.result.now) (sym same) ∙ ap (process_of_parts c.args.image.now.scheme fresh) c.as_slice-2.ensures.value ∙ c.parts_of-parts.ensures.process fresh) (built.1 fresh)), built.2)
 
 pub returns-clause-moves : goal.returns-clause-moves
 returns-clause-moves g c t p space =
@@ -134,7 +157,8 @@ returns-clause-takes g c =
     let at = goal.at.returns-clause-takes g c in
     let e = c.promise_write_back.ensures in
     let need = needs g at.After-frames_needed-need in
-    let all = ap tree_need c.as_slice-3.ensures.value ∙ sym (tree g at.After-frames_needed-need) ∙ need in
+    let same = ap (λ (i : JudgedLoads). i.scheme) c.image.view_is ∙ by_scheme g at.After-write_back in
+    let all = ap (λ z. tree_need z c.as_slice-2.result.now) (sym same) ∙ ap (tree_need c.image.inside.scheme) c.as_slice-2.ensures.value ∙ sym (tree g at.After-frames_needed-need) ∙ need in
     takes_reserved (v c.args.space.now.seat) (v c.promise_write_back.new.space.seat) (v c.reserve.new.seat) _ _ e.view need (v c.write_back.new.space.seat) (v c.rebuild.new.self.seat) _
     (reserved g at.After-write_back-arg-3-1) c.write_back.ensures.view all c.rebuild.ensures.takes
 

@@ -9,6 +9,7 @@ use Rattle.fault_rules.proofs.StillResident.{page_low, same_body, still_moves, s
 use Rattle.frame_store.specs.Laws.{fits_after}
 use Rattle.address_space.specs.Standing.{standing}
 use Rattle.process_model.specs.PageMap.{get}
+use Rattle.sv39_entry.specs.Schemes.{trapframe_page}
 use Rattle.sv39_entry.specs.contracts.access.Access.{the_type}
 use Rattle.sv39_entry.specs.declared.access.Access.{Access}
 use Rattle.sv39_entry.specs.declared.access.Access.TheVariants.{Store}
@@ -19,7 +20,8 @@ settled_page-requires-clause-ready g c = let r = c.requires.ready in (r.0, r.1, 
 
 pub settled_page-requires-clause-low : goal.settled_page-requires-clause-low
 settled_page-requires-clause-low g c =
-    let r = c.requires.ready in page_low _ r.0 r.1 c.args.access c.args.page r.2
+    let r = c.requires.ready in
+    subst (λ z. c.args.page < trapframe_page z) r.2.agrees.lays.scheme (page_low _ r.0 r.1 c.args.access c.args.page r.2)
 
 -- ---- a page without a frame
 

@@ -22,7 +22,7 @@ returns-in-Err-clause-ended g c t p space =
 pub returns-in-Err-clause-dry : goal.returns-in-Err-clause-dry
 returns-in-Err-clause-dry g c short t p can =
     let is = denied_by _ c.in-Err.rule (sym (c.grant.ensures t p can.agrees) ∙ c.in-Err.is) in
-    absurd (denied_otherwise (regions p) c.args.access c.args.va.0 c.args.width (is ∙ ap Some (ap rule_in short)))
+    absurd (denied_otherwise p.scheme (regions p) c.args.access c.args.va.0 c.args.width (is ∙ ap Some (ap rule_in short)))
 
 pub returns-in-Err-clause-moves : goal.returns-in-Err-clause-moves
 returns-in-Err-clause-moves g c told t p space =
@@ -32,20 +32,20 @@ returns-in-Err-clause-moves g c told t p space =
 pub returns-in-Err-clause-short : goal.returns-in-Err-clause-short
 returns-in-Err-clause-short g c alone t p shared can told short =
     let is = denied_by _ c.in-Err.rule (sym (c.grant.ensures t p can.agrees) ∙ c.in-Err.is) in
-    absurd (denied_otherwise (regions p) c.args.access c.args.va.0 c.args.width (is ∙ ap Some (ap rule_in short)))
+    absurd (denied_otherwise p.scheme (regions p) c.args.access c.args.va.0 c.args.width (is ∙ ap Some (ap rule_in short)))
 
 -- ---- no rule denies it
 
 pub make_resident-requires-clause-ready : goal.make_resident-requires-clause-ready
 make_resident-requires-clause-ready g c =
     let r = c.requires.ready in
-    let none = denied_by_none (first_rule (regions r.1) c.args.access c.args.va.0 c.args.width) (λ rule is. c.in_default.not-Err rule (c.grant.ensures r.0 r.1 r.2 ∙ is)) in
+    let none = denied_by_none (first_rule r.1.scheme (regions r.1) c.args.access c.args.va.0 c.args.width) (λ rule is. c.in_default.not-Err rule (c.grant.ensures r.0 r.1 r.2 ∙ is)) in
     let can = can_reside _ r.0 r.1 c.args.access c.args.va.0 c.args.width r.2 none in
     (r.0, r.1, subst (λ n. CanReside (body_of g.S.FrameSeat.view c.args.space.now) r.0 r.1 c.args.access n) (sym c.page.ensures.number) can)
 
 pub returns-in-Ok-clause-ended : goal.returns-in-Ok-clause-ended
 returns-in-Ok-clause-ended g c t p space =
-    let none = denied_by_none (first_rule (regions p) c.args.access c.args.va.0 c.args.width) (λ rule is. c.in_default.not-Err rule (c.grant.ensures t p space ∙ is)) in
+    let none = denied_by_none (first_rule p.scheme (regions p) c.args.access c.args.va.0 c.args.width) (λ rule is. c.in_default.not-Err rule (c.grant.ensures t p space ∙ is)) in
     subst (λ o. IsEnd o Ready) (sym none) (λ rule is. absurd (cc))
 
 pub returns-in-Ok-clause-ready : goal.returns-in-Ok-clause-ready
@@ -55,7 +55,7 @@ returns-in-Ok-clause-ready g c is =
 
 pub returns-in-Ok-clause-moves : goal.returns-in-Ok-clause-moves
 returns-in-Ok-clause-moves g c told t p space =
-    let none = denied_by_none (first_rule (regions p) c.args.access c.args.va.0 c.args.width) (λ rule is. c.in_default.not-Err rule (c.grant.ensures t p space ∙ is)) in
+    let none = denied_by_none (first_rule p.scheme (regions p) c.args.access c.args.va.0 c.args.width) (λ rule is. c.in_default.not-Err rule (c.grant.ensures t p space ∙ is)) in
     let files = g.C.Files.files c.args.files.now in
     let becomes = λ (ms : List PageMove). g.C.Files.becomes c.args.files.now ms c.make_resident.new.files in
     let can = subst (λ n. CanReside (body_of g.S.FrameSeat.view c.args.space.now) t p c.args.access n) (sym c.page.ensures.number) (can_reside _ t p c.args.access c.args.va.0 c.args.width space none) in
@@ -74,7 +74,7 @@ returns-in-Ok-clause-free g c alone =
 
 pub returns-in-Err-NoFrame-clause-ended : goal.returns-in-Err-NoFrame-clause-ended
 returns-in-Err-NoFrame-clause-ended g c t p space =
-    let none = denied_by_none (first_rule (regions p) c.args.access c.args.va.0 c.args.width) (λ rule is. c.in_default.not-Err rule (c.grant.ensures t p space ∙ is)) in
+    let none = denied_by_none (first_rule p.scheme (regions p) c.args.access c.args.va.0 c.args.width) (λ rule is. c.in_default.not-Err rule (c.grant.ensures t p space ∙ is)) in
     subst (λ o. IsEnd o (Ended NoFrame)) (sym none) (λ rule is. sym (ap rule_in is))
 
 pub returns-in-Err-NoFrame-clause-dry : goal.returns-in-Err-NoFrame-clause-dry
@@ -84,7 +84,7 @@ returns-in-Err-NoFrame-clause-dry g c is =
 
 pub returns-in-Err-NoFrame-clause-moves : goal.returns-in-Err-NoFrame-clause-moves
 returns-in-Err-NoFrame-clause-moves g c told t p space =
-    let none = denied_by_none (first_rule (regions p) c.args.access c.args.va.0 c.args.width) (λ rule is. c.in_default.not-Err rule (c.grant.ensures t p space ∙ is)) in
+    let none = denied_by_none (first_rule p.scheme (regions p) c.args.access c.args.va.0 c.args.width) (λ rule is. c.in_default.not-Err rule (c.grant.ensures t p space ∙ is)) in
     let files = g.C.Files.files c.args.files.now in
     let becomes = λ (ms : List PageMove). g.C.Files.becomes c.args.files.now ms c.make_resident.new.files in
     let can = subst (λ n. CanReside (body_of g.S.FrameSeat.view c.args.space.now) t p c.args.access n) (sym c.page.ensures.number) (can_reside _ t p c.args.access c.args.va.0 c.args.width space none) in
@@ -103,7 +103,7 @@ returns-in-Err-NoFrame-clause-free g c alone =
 
 pub returns-in-Err-Unpromised-clause-ended : goal.returns-in-Err-Unpromised-clause-ended
 returns-in-Err-Unpromised-clause-ended g c t p space =
-    let none = denied_by_none (first_rule (regions p) c.args.access c.args.va.0 c.args.width) (λ rule is. c.in_default.not-Err rule (c.grant.ensures t p space ∙ is)) in
+    let none = denied_by_none (first_rule p.scheme (regions p) c.args.access c.args.va.0 c.args.width) (λ rule is. c.in_default.not-Err rule (c.grant.ensures t p space ∙ is)) in
     subst (λ o. IsEnd o (Unserved c.into.result)) (sym none) (λ rule is. absurd (cc))
 
 pub returns-in-Err-Unpromised-clause-unpromised : goal.returns-in-Err-Unpromised-clause-unpromised
@@ -112,7 +112,7 @@ returns-in-Err-Unpromised-clause-unpromised g c e is =
 
 pub returns-in-Err-Unpromised-clause-of_file : goal.returns-in-Err-Unpromised-clause-of_file
 returns-in-Err-Unpromised-clause-of_file g c e is t p space =
-    let none = denied_by_none (first_rule (regions p) c.args.access c.args.va.0 c.args.width) (λ rule is. c.in_default.not-Err rule (c.grant.ensures t p space ∙ is)) in
+    let none = denied_by_none (first_rule p.scheme (regions p) c.args.access c.args.va.0 c.args.width) (λ rule is. c.in_default.not-Err rule (c.grant.ensures t p space ∙ is)) in
     let files = g.C.Files.files c.args.files.now in
     let can = subst (λ n. CanReside (body_of g.S.FrameSeat.view c.args.space.now) t p c.args.access n) (sym c.page.ensures.number) (can_reside _ t p c.args.access c.args.va.0 c.args.width space none) in
     let some = c.in-Err-Unpromised.ensures.of_file c.in-Err-Unpromised.error (ap Err c.in-Err-Unpromised.field-0-is) t p can in

@@ -9,7 +9,7 @@ use Rattle.frame_store.specs.Laws.{fits_after, keeps_both}
 use Rattle.frame_store.specs.View.{View}
 use Rattle.std.specs.Prelude.{option_to_list}
 use Rattle.process_model.specs.Frames.{resident_need}
-use Rattle.hart_calls.proofs.Accessed.{access_reads_file, as_told, bad_width, ended_served, ended_why, ends_denied, ends_dry_by, granted, is_access_call, made_at_once, made_later, not_granted, q, ready_none, ready_served}
+use Rattle.hart_calls.proofs.Accessed.{access_reads_file, as_told, bad_width, ended_served, ended_why, ends_denied, ends_dry_by, granted, is_access_call, made_at_once, made_later, not_granted, q, ready_none, ready_served, some_width}
 use Rattle.hart_calls.proofs.Bodies.{still_space}
 use Rattle.process_model.specs.Bytes.{is_width}
 use Rattle.process_model.specs.Residence.{made_resident}
@@ -99,6 +99,9 @@ returns-in-Unserved-clause-came g c = λ k is t p space.
 
 pub serve-requires-clause-fits : goal.serve-requires-clause-fits
 serve-requires-clause-fits g c = fits_after g.F.FrameAccess.rule c.translate-walk.ensures.keeps c.requires.fits
+
+pub serve-requires-clause-width : goal.serve-requires-clause-width
+serve-requires-clause-width g c = some_width c.args.asked.width (let e = c.is_width.ensures in let f = c.if-not-is_width.false in cc)
 
 pub serve-requires-clause-ready : goal.serve-requires-clause-ready
 serve-requires-clause-ready g c =

@@ -1,5 +1,4 @@
 use Rattle.sv39_entry.specs.Address.{page_of}
-use Rattle.sv39_entry.specs.declared.scheme.Scheme.TheVariants.{Sv39}
 use Rattle.hart_machine.specs.Walked.{entry_for}
 use Rattle.hart_machine.proofs.Walks.{outcome_is}
 use Rattle.hart_machine.proofs.filled.filled.Goals as goal
@@ -9,7 +8,7 @@ returns-clause-entries g c t h there local =
     let v = g.F.Seat.FrameSeat.view c.args.seat.now in
     let a = c.args.va.0 in
     let laws = c.walks_of_tables.ensures in
-    let expected = outcome_is v c.args.root.0 t (λ page leaf level found zero. (laws.leaves Sv39 _ _ page leaf level t h).1 (zero, found))
-    (λ page leaf level maps. ((laws.leaves Sv39 _ _ page leaf level t h).0 maps).1) (λ page. laws.inside Sv39 _ _ page t h) there a c.args.asid
-    (λ w found global. let is = (laws.global Sv39 _ _ _ w t h found).0 global in let none = local (page_of a) w found in cc) in
-    c.fill.ensures.fills.adds (entry_for t c.args.asid a) (rw (c.new.ensures.root, c.new.ensures.asid) expected)
+    let expected = outcome_is c.args.scheme v c.args.root.0 t (λ page leaf level found zero. (laws.leaves c.args.scheme _ _ page leaf level t h).1 (zero, found))
+    (λ page leaf level maps. ((laws.leaves c.args.scheme _ _ page leaf level t h).0 maps).1) (λ page. laws.inside c.args.scheme _ _ page t h) there a c.args.asid
+    (λ w found global. let is = (laws.global c.args.scheme _ _ _ w t h found).0 global in let none = local (page_of a) w found in cc) in
+    c.fill.ensures.fills.adds (entry_for c.args.scheme t c.args.asid a) (rw (c.new.ensures.root, c.new.ensures.asid) expected)

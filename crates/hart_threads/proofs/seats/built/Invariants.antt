@@ -3,4 +3,4 @@ use Rattle.process_model.specs.Loading.{process_of}
 use Rattle.hart_threads.proofs.seats.built.Given as goal
 
 abbrev pub ghost-begun : goal.ghost-begun
-ghost-begun g a = process_of 0 a.from.now
+ghost-begun g a = process_of a.from.now.scheme 0 a.from.now.loads

@@ -1,4 +1,4 @@
-use Rattle.std.proofs.Common.{◌≡◌, ◌≤◌, ◌≤ℤ◌, pos, ap, sym, subst, ◌∙◌, w64, Err, Ok, Some}
+use Rattle.std.proofs.Common.{◌≡◌, ◌≤◌, ◌≤ℤ◌, pos, ap, sym, subst, ◌∙◌, w64, Err, Ok, Some, arith}
 use Rattle.std.proofs.lemmas.Int.{to_z-of_z}
 use Rattle.std.proofs.lemmas.Result.{err_from_is_err_and}
 use Rattle.address_space.specs.Layouts.{LaysOut}
@@ -8,7 +8,7 @@ use Rattle.lazy_growth.specs.Sizes.{IsNewSize, answer_of, refusal_of, size_befor
 use Rattle.process_model.specs.Bytes.{pages_for}
 use Rattle.process_model.specs.Heap.{size_refusal, wanted_size}
 use Rattle.process_model.specs.Process.{Process}
-use Rattle.sv39_entry.specs.Address.{trapframe_page}
+use Rattle.sv39_entry.specs.Schemes.{trapframe_page, of_scheme}
 use Rattle.lazy_growth.proofs.sizing.sbrk.Given.{Over}
 use Rattle.lazy_growth.proofs.sizing.sbrk.Goals as goal
 use Rattle.lazy_growth.proofs.sizing.sbrk.Goals.{After-set_size, In_ok-size}
@@ -27,18 +27,20 @@ returns-in_err-size-clause-answer g c t p space =
 pub end_page-requires : goal.end_page-requires
 end_page-requires g c =
     let r = c.requires.ready in
-    record { low = resized_low r.1 c.args.delta c.in_ok-size.size (is_new_size g (goal.at.end_page-requires g c).In_ok-size r.1 r.2.lays) r.2.sound.order }
+    let low = resized_low r.1 c.args.delta c.in_ok-size.size (is_new_size g (goal.at.end_page-requires g c).In_ok-size r.1 r.2.lays) r.2.sound.order in
+    record { low = omega (arith, low, of_scheme r.1.scheme) }
 
 pub end_page-requires-2 : goal.end_page-requires-2
 end_page-requires-2 g c =
     let r = c.requires.ready in
-    record { low = subst (λ n. pages_for n ≤ trapframe_page) (r.2.lays.size ∙ sym c.size-before.ensures) (heap_low r.1 r.2.sound.order) }
+    let low = subst (λ n. pages_for n ≤ trapframe_page r.1.scheme) (r.2.lays.size ∙ sym c.size-before.ensures) (heap_low r.1 r.2.sound.order) in
+    record { low = omega (arith, low, of_scheme r.1.scheme) }
 
 pub release_pages-requires-clause-low : goal.release_pages-requires-clause-low
 release_pages-requires-clause-low g c =
     let r = c.requires.ready in
-    let low = subst (λ n. pages_for n ≤ trapframe_page) (r.2.lays.size ∙ sym c.size-before.ensures) (heap_low r.1 r.2.sound.order) in
-    rw c.end_page-2.ensures low
+    let low = subst (λ n. pages_for n ≤ trapframe_page r.1.scheme) (r.2.lays.size ∙ sym c.size-before.ensures) (heap_low r.1 r.2.sound.order) in
+    subst (λ z. c.end_page-2.result ≤ trapframe_page z) r.2.lays.scheme (rw c.end_page-2.ensures low)
 
 pub returns-clause-answer : goal.returns-clause-answer
 returns-clause-answer g c t p space =

@@ -5,6 +5,7 @@ use Rattle.process_model.specs.declared.step.Refusal.TheVariants.{BadArgument, F
 use Rattle.address_space.specs.Agreement.{body_of, IsSpace}
 use Rattle.address_space.specs.Layouts.{LaysOut}
 use Rattle.address_space.specs.Steps.{CanRelay, mapped_with}
+use Rattle.sv39_entry.specs.Schemes.{of_scheme}
 use Rattle.table_walk.specs.Tables.{Tables}
 use Rattle.process_model.specs.Released.{pages_for_is}
 use Rattle.mmap_regions.specs.Mapped.{address_of_mapped}
@@ -83,7 +84,7 @@ pub overflow_mul-result : goal.overflow_mul-result
 overflow_mul-result g c =
     let r = c.requires.ready in
     let low = place_below r.1 _ _ (c.in-Some.ensures r.1 r.2.lays r.2.sound.order) in
-    omega (arith, low)
+    omega (arith, low, of_scheme r.1.scheme)
 
 pub returns-clause-answer : goal.returns-clause-answer
 returns-clause-answer g c t p agrees =

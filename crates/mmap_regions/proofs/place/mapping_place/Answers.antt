@@ -3,12 +3,18 @@ use Rattle.std.proofs.lemmas.List.{length-map}
 use Rattle.address_space.specs.Layouts.{region_of}
 use Rattle.process_model.specs.Released.{pages_for_is}
 use Rattle.process_model.specs.Bytes.{pages_for}
+use Rattle.sv39_entry.specs.Schemes.{of_scheme, trapframe_page}
 use Rattle.mmap_regions.proofs.Places.{blank, Searched, mapping_at, lowest_found, none_found, search_begins, search_finds, search_goes_on}
 use Rattle.mmap_regions.proofs.place.mapping_place.Goals as goal
 
 pub mappings-init : goal.mappings-init
 mappings-init c p lays order =
-    rw (c.number-end.ensures.value, c.page.ensures.number)
+    let at = c.trapframe.ensures in
+    let page = c.page.ensures.number in
+    let number = c.number-end.ensures.value in
+    let top = ap trapframe_page (lays.scheme ∙ sym c.scheme-scheme.ensures) in
+    let end : c.number-end.result ≡ trapframe_page p.scheme = omega (arith, at, page, number, top) in
+    rw end
     (search_begins p order c.args.pages _ (sym (ap length (lays.mappings ∙ sym c.mappings-mappings.ensures) ∙ length-map c.mappings-mappings.result.now region_of)))
 
 pub overflow_add-mapping : goal.overflow_add-mapping
@@ -19,7 +25,7 @@ overflow_add-mapping c =
     let at = mapping_at r.0 c.mappings-mappings.result.now c.args.layout.now (c.mappings.i - 1) blank c.mappings-mappings.ensures r.1 (omega (arith, last, some)) in
     let end = (c.mappings.invariant r.0 r.1 r.2).before (c.mappings.i - 1) _ at (omega (arith, some)) in
     let below = (c.mappings.invariant r.0 r.1 r.2).below in
-    omega (arith, end, below)
+    omega (arith, end, below, of_scheme r.0.scheme)
 
 pub overflow_add-mapping-in-mappings : goal.overflow_add-mapping-in-mappings
 overflow_add-mapping-in-mappings c =
@@ -30,7 +36,7 @@ overflow_add-mapping-in-mappings c =
     let end = (c.mappings.invariant r.0 r.1 r.2).before (c.mappings.i - 1) _ at (omega (arith, some)) in
     let below = (c.mappings.invariant r.0 r.1 r.2).below in
     let few = c.requires.few in
-    omega (arith, end, below, few)
+    omega (arith, end, below, few, of_scheme r.0.scheme)
 
 pub returns-then-mapping-pages : goal.returns-then-mapping-pages
 returns-then-mapping-pages c p lays order =

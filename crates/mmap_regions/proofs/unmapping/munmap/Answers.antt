@@ -11,6 +11,7 @@ use Rattle.mmap_regions.specs.Runs.{run_of}
 use Rattle.mmap_regions.specs.Unmapped.{moves_asked}
 use Rattle.process_model.specs.Mappings.{unmapped_from}
 use Rattle.process_model.specs.PageMoves.{run_is_written}
+use Rattle.sv39_entry.specs.Schemes.{trapframe_page}
 use Rattle.mmap_regions.proofs.unmapping.munmap.Goals as goal
 
 pub returns-in_err-run-clause-refused : goal.returns-in_err-run-clause-refused
@@ -78,7 +79,9 @@ drop_pages-requires-clause-low g c =
     let run = run_of_mapping r.1 c.args.address c.args.length (run_of c.in_ok-run.run') is r.2.sound.order in
     let to = run.to in
     let low = run.low in
-    omega (arith, to, low)
+    let order = run.order in
+    let same = ap trapframe_page (r.2.lays.scheme ∙ sym (ap (λ l. l.scheme) (c.write_run.ensures.layout ∙ c.count_run-pages.ensures.layout))) in
+    omega (arith, order, to, low, same)
 
 pub left-requires-clause-run : goal.left-requires-clause-run
 left-requires-clause-run g c =

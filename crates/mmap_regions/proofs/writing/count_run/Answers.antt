@@ -19,7 +19,7 @@ pages-init g c =
     record {
       after = omega (arith, from);
       within = omega (arith, from, order);
-      few = omega arith;
+      few = omega (arith, from);
       root = refl;
       trapframe = refl;
       layout = refl;

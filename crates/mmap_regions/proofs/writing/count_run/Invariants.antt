@@ -1,4 +1,4 @@
-use Rattle.std.proofs.Common.{◌≡◌, ◌≤◌, ◌-◌, length}
+use Rattle.std.proofs.Common.{◌≡◌, ◌≤◌, ◌+◌, ◌-◌, length}
 use Rattle.address_space.specs.Agreement.{body_of, IsSpace}
 use Rattle.address_space.specs.Layouts.{region_of}
 use Rattle.frame_store.specs.Laws.{Keeps}
@@ -13,7 +13,7 @@ abbrev pub invariant-pages : goal.invariant-pages
 invariant-pages g l = record {
   after : l.run.first ≤ l.from;
   within : l.from ≤ l.run.end;
-  few : l.count ≤ l.from;
+  few : l.run.first + l.count ≤ l.from;
   root : l.space.root ≡ l.fn.space.root;
   trapframe : l.space.trapframe ≡ l.fn.space.trapframe;
   layout : l.space.layout ≡ l.fn.space.layout;

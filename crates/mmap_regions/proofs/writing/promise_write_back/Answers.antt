@@ -1,13 +1,14 @@
-use Rattle.std.proofs.Common.{◌*◌, ◌≤◌, ap, sym, subst, ◌∙◌, length, arith}
+use Rattle.std.proofs.Common.{◌+◌, ◌≤◌, ap, subst, ◌∙◌, length, arith}
 use Rattle.std.proofs.lemmas.List.{length-append}
 use Rattle.std.proofs.lemmas.Result.{IfErr-weaker, IfOk-weaker}
 use Rattle.address_space.specs.Agreement.{body_of, IsSpace}
 use Rattle.frame_store.specs.Laws.{fits_after}
-use Rattle.mmap_regions.proofs.Places.{blank, mapping_at}
+use Rattle.mmap_regions.proofs.Places.{blank, mapping_at, row_before}
 use Rattle.mmap_regions.proofs.Walking.{same_body}
-use Rattle.mmap_regions.proofs.Wholes.{all_before, as_many, mappings_few, moves_before, one_further, still_within, whole_run}
+use Rattle.mmap_regions.proofs.Wholes.{all_before, as_many, moves_before, one_further, still_within, whole_run}
 use Rattle.mmap_regions.specs.Runs.{IsRunOf, moves_in, run_of}
-use Rattle.sv39_entry.specs.Address.{trapframe_page}
+use Rattle.process_model.specs.Bytes.{pages_for}
+use Rattle.sv39_entry.specs.Schemes.{of_scheme, trapframe_page}
 use Rattle.mmap_regions.proofs.writing.promise_write_back.Goals as goal
 
 pub bounds-mappings-i : goal.bounds-mappings-i
@@ -20,7 +21,8 @@ whole-run-requires g c =
     let is = c.mappings.ensures ∙ ap (λ l. l.mappings) c.runs.invariant.layout in
     let within = still_within c.args.space.now.layout c.mappings.result.now c.mappings-i-end.result.now is c.mappings-i-end.ensures c.runs.i c.runs-test.true in
     let at = mapping_at r.1 c.mappings.result.now c.args.space.now.layout c.runs.i blank is r.2.lays within in
-    record { low = (whole_run r.1 r.2.sound.order c.runs.i _ at).low }
+    let low = (whole_run r.1 r.2.sound.order c.runs.i _ at).low in
+    record { low = omega (arith, low, of_scheme r.1.scheme) }
 
 pub count_run-pages-requires-clause-fits : goal.count_run-pages-requires-clause-fits
 count_run-pages-requires-clause-fits g c = fits_after g.F.FrameAccess.rule c.runs.invariant.keeps c.requires.fits
@@ -39,34 +41,32 @@ pub overflow_add-pages : goal.overflow_add-pages
 overflow_add-pages g c =
     let r = c.requires.ready in
     let i = c.runs.invariant in
-    let many = as_many r.1 c.args.space.now.layout c.mappings-i-end.result.now c.mappings-i-end.ensures r.2.lays in
-    let few = mappings_few r.1 r.2.sound.order in
     let is = c.mappings.ensures ∙ ap (λ l. l.mappings) i.layout in
     let within = still_within c.args.space.now.layout c.mappings.result.now c.mappings-i-end.result.now is c.mappings-i-end.ensures c.runs.i c.runs-test.true in
     let at = mapping_at r.1 c.mappings.result.now c.args.space.now.layout c.runs.i blank is r.2.lays within in
     let low = (whole_run r.1 r.2.sound.order c.runs.i _ at).low in
-    let end : c.whole-run.result.end ≤ trapframe_page = subst (λ e. e ≤ trapframe_page) (sym (ap (λ x. x.end) c.whole-run.ensures)) low in
+    let first = ap (λ x. x.first) c.whole-run.ensures in
+    let end = ap (λ x. x.end) c.whole-run.ensures in
     let one = c.count_run-pages.ensures.few in
-    let so_far = i.few in
-    let less = c.runs-test.true in
-    let product : c.runs.i * trapframe_page ≤ trapframe_page * trapframe_page = omega (arith, many, few, less) in
-    omega (arith, end, one, so_far, product)
+    let so_far = i.few r.0 r.1 r.2 _ at in
+    omega (arith, first, end, low, one, so_far, of_scheme r.1.scheme)
 
 pub runs-preserved : goal.runs-preserved
 runs-preserved g c =
-    let r = c.requires.ready in
     let i = c.runs.invariant in
     let n = c.count_run-pages.ensures in
     let body = same_body g.S.FrameSeat.view c.runs.space c.args.space.now i.view i.root i.trapframe i.layout in
     let is = c.mappings.ensures ∙ ap (λ l. l.mappings) i.layout in
     let within = still_within c.args.space.now.layout c.mappings.result.now c.mappings-i-end.result.now is c.mappings-i-end.ensures c.runs.i c.runs-test.true in
-    let there = mapping_at r.1 c.mappings.result.now c.args.space.now.layout c.runs.i blank is r.2.lays within in
-    let low = (whole_run r.1 r.2.sound.order c.runs.i _ there).low in
-    let end : c.whole-run.result.end ≤ trapframe_page = subst (λ e. e ≤ trapframe_page) (sym (ap (λ x. x.end) c.whole-run.ensures)) low in
+    let first = ap (λ x. x.first) c.whole-run.ensures in
+    let end = ap (λ x. x.end) c.whole-run.ensures in
     let one = n.few in
-    let so_far = i.few in
     record {
-      few = omega (arith, end, one, so_far);
+      few = λ t p space m there.
+          let at = mapping_at p c.mappings.result.now c.args.space.now.layout c.runs.i blank is space.lays within in
+          let behind = row_before (pages_for p.size) (trapframe_page p.scheme) c.runs.i (c.runs.i + 1) p.mappings _ m space.sound.order.above at there (omega arith) in
+          let so_far = i.few t p space _ at in
+          omega (arith, first, end, one, so_far, behind);
       root = n.root ∙ i.root;
       trapframe = n.trapframe ∙ i.trapframe;
       layout = n.layout ∙ i.layout;

@@ -8,6 +8,7 @@ use Rattle.mmap_regions.proofs.Places.{blank, mapping_at}
 use Rattle.mmap_regions.proofs.Walking.{same_body}
 use Rattle.mmap_regions.proofs.Wholes.{all_before, as_many, moves_before, one_further, one_of_all, still_within, whole_run}
 use Rattle.process_model.specs.PageMoves.{all_is_written, files_after}
+use Rattle.sv39_entry.specs.Schemes.{of_scheme}
 use Rattle.mmap_regions.proofs.writing.write_back.Goals as goal
 
 pub runs-init : goal.runs-init
@@ -32,7 +33,8 @@ whole-run-requires g c =
     let is = c.mappings.ensures ∙ ap (λ l. l.mappings) c.runs.invariant.layout in
     let within = still_within c.args.space.now.layout c.mappings.result.now c.mappings-i-end.result.now is c.mappings-i-end.ensures c.runs.i c.runs-test.true in
     let at = mapping_at r.1 c.mappings.result.now c.args.space.now.layout c.runs.i blank is r.2.lays within in
-    record { low = (whole_run r.1 r.2.sound.order c.runs.i _ at).low }
+    let low = (whole_run r.1 r.2.sound.order c.runs.i _ at).low in
+    record { low = omega (arith, low, of_scheme r.1.scheme) }
 
 pub write_run-requires-clause-fits : goal.write_run-requires-clause-fits
 write_run-requires-clause-fits g c = fits_after g.F.FrameAccess.rule c.runs.invariant.keeps c.requires.fits

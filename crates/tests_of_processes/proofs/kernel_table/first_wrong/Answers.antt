@@ -18,7 +18,7 @@ pub loop-row-preserved : goal.loop-row-preserved
 loop-row-preserved g c =
     let walk = c.translate.ensures in
     record {
-      built = built_still _ _ _ _ 64 4 walk.view walk.root c.loop-row.invariant.built;
+      built = built_still _ _ _ _ _ _ 64 4 walk.view walk.root walk.scheme c.loop-row.invariant.built;
       keeps = λ others r. walk.keeps others (c.loop-row.invariant.keeps others r);
     }
 

@@ -21,6 +21,6 @@ pub loop-slot-preserved : goal.loop-slot-preserved
 loop-slot-preserved c =
     let walk = c.translate-walk.ensures in
     record {
-      built = built_still _ _ _ _ 64 4 walk.view walk.root c.loop-slot.invariant.built;
+      built = built_still _ _ _ _ _ _ 64 4 walk.view walk.root walk.scheme c.loop-slot.invariant.built;
       rule = walk.keeps [] c.loop-slot.invariant.rule;
     }

@@ -6,6 +6,6 @@ use Rattle.tests_of_processes.proofs.kernel_table.has_stacks.Given as goal
 
 abbrev pub invariant-loop-slot : goal.invariant-loop-slot
 invariant-loop-slot l = record {
-  built : (stacks : List ℕ) × (t : Tables) × IsKernelTable l.kernel.seat l.kernel.root.0 64 4 stacks t;
+  built : (stacks : List ℕ) × (t : Tables) × IsKernelTable l.kernel.scheme l.kernel.seat l.kernel.root.0 64 4 stacks t;
   rule : BankRule l.store (l.kernel.seat ∷ []);
 }

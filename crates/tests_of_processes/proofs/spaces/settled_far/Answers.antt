@@ -1,5 +1,7 @@
+use Rattle.std.proofs.Common.{arith}
 use Rattle.frame_store.specs.Laws.{fits_after}
 use Rattle.process_model.specs.Heap.{without_pages}
+use Rattle.sv39_entry.specs.Schemes.{of_scheme}
 use Rattle.tests_of_processes.proofs.spaces.settled_far.Goals as goal
 
 pub try_far-reads-requires-clause-fits : goal.try_far-reads-requires-clause-fits
@@ -23,3 +25,19 @@ destroy-requires-clause-ready g c =
 pub returns-clause-keeps : goal.returns-clause-keeps
 returns-clause-keeps g c others r =
     c.destroy.ensures.keeps others (c.drop_pages.ensures.keeps others (c.try_far-reads.ensures.keeps others (c.in_ok-space.ensures.keeps others r)))
+
+pub try_far-reads-requires-clause-low : goal.try_far-reads-requires-clause-low
+try_far-reads-requires-clause-low g c = omega (arith, c.requires.low, of_scheme c.args.scheme)
+
+pub overflow_mul-far : goal.overflow_mul-far
+overflow_mul-far g c = omega (arith, c.requires.low, of_scheme c.args.scheme)
+
+pub overflow_add-behind : goal.overflow_add-behind
+overflow_add-behind g c = omega (arith, c.requires.low, of_scheme c.args.scheme)
+
+pub overflow_mul-behind : goal.overflow_mul-behind
+overflow_mul-behind g c = omega (arith, c.requires.low, of_scheme c.args.scheme)
+
+pub drop_pages-requires-clause-low : goal.drop_pages-requires-clause-low
+drop_pages-requires-clause-low g c =
+    rw (c.try_far-reads.ensures.layout, c.in_ok-space.ensures.scheme, c.page-2.ensures.number) (omega (arith, c.requires.low))

@@ -1,6 +1,7 @@
 use Rattle.std.proofs.Common.{arith}
 use Rattle.std.proofs.lemmas.Result.{err_from_is_err_and}
 use Rattle.frame_store.specs.Laws.{fits_after}
+use Rattle.sv39_entry.specs.Schemes.{of_scheme}
 use Rattle.user_copy.specs.Nears.{is_near}
 use Rattle.user_copy.proofs.Nearby.{all_in, both_in, if_err, if_ok, stops_here_in}
 use Rattle.user_copy.proofs.copying.copy_in.Goals as goal
@@ -20,6 +21,16 @@ returns-in_err-bytes-clause-stopped g c =
 
 pub returns-then-here-n-clause-copied : goal.returns-then-here-n-clause-copied
 returns-then-here-n-clause-copied g c = all_in _ c.args.va.0 c.args.n _ c.in_page-here.ensures _ _ _ c.if-here-n.true (rw c.new.ensures at c.in_ok-bytes.ensures.copied)
+
+-- what is behind the first page is not past the highest address, since that page is low
+pub overflow_add-next : goal.overflow_add-next
+overflow_add-next g c =
+    let at = c.in_page-here.ensures in
+    let near = is_near c.args.va.0 c.args.n in
+    let few = near.few in
+    let some = near.some (omega (arith, at, few, c.if-here-n.false)) in
+    let low = c.in_ok-bytes.ensures.low (omega (arith, at, some)) in
+    omega (arith, at, few, c.requires.few, low, of_scheme c.args.space.now.layout.scheme)
 
 pub read_page-requires-2-clause-fits : goal.read_page-requires-2-clause-fits
 read_page-requires-2-clause-fits g c = fits_after g.F.FrameAccess.rule c.read_page.ensures.keeps c.requires.fits

@@ -1,7 +1,8 @@
 use Rattle.std.proofs.Common.{◌≡◌, ◌+◌, ◌≤◌, arith, length}
 use Rattle.std.proofs.lemmas.Result.{err_from_is_err_and}
 use Rattle.frame_store.specs.Laws.{fits_after}
-use Rattle.user_copy.proofs.Chains.{is_none}
+use Rattle.sv39_entry.specs.Schemes.{of_scheme}
+use Rattle.user_copy.proofs.Chains.{is_none, is_some}
 use Rattle.user_copy.specs.Nears.{is_near}
 use Rattle.user_copy.proofs.Nearby.{all_out, both_out, if_err, if_ok, stops_here_out}
 use Rattle.user_copy.proofs.copying.copy_out.Goals as goal
@@ -23,6 +24,17 @@ returns-then-is_empty-clause-copied g c =
     let few : c.in_page-here.result ≤ length c.args.bytes.now = rw c.in_page-here.ensures (is_near c.args.va.0 (length c.args.bytes.now)).few in
     let all : 0 + length c.split_at.result.0.now ≡ length c.args.bytes.now = omega (arith, none, few, c.split_at.ensures.front_len, c.split_at.ensures.back_len) in
     all_out _ c.args.va.0 c.args.bytes.now _ c.in_page-here.ensures _ _ _ (rw c.split_at.ensures.back at none) (rw (all, c.split_at.ensures.front) at c.in_ok-write_page.ensures.copied)
+
+-- what is behind the first page is not past the highest address, since that page is low
+pub overflow_add-next : goal.overflow_add-next
+overflow_add-next g c =
+    let at = c.in_page-here.ensures in
+    let near = is_near c.args.va.0 (length c.args.bytes.now) in
+    let few = near.few in
+    let behind = is_some _ _ c.is_empty.ensures c.if-is_empty.false in
+    let some = near.some (omega (arith, behind, c.split_at.ensures.back_len)) in
+    let low = c.in_ok-write_page.ensures.low (omega (arith, at, some, c.split_at.ensures.front_len)) in
+    omega (arith, at, few, c.requires.few, low, of_scheme c.args.space.now.layout.scheme)
 
 pub write_page-requires-2-clause-fits : goal.write_page-requires-2-clause-fits
 write_page-requires-2-clause-fits g c = fits_after g.F.FrameAccess.rule c.write_page.ensures.keeps c.requires.fits

@@ -6,16 +6,16 @@ pub returns-clause-reaches : goal.returns-clause-reaches
 returns-clause-reaches g c =
     let e = rw (← c.told.ensures) at c.serve.ensures in
     record {
-      ended = λ t p space. rw (← no_alignment (regions p) c.args.access c.args.va.0) (e.ended t p space);
+      ended = λ t p space. rw (← no_alignment p.scheme (regions p) c.args.access c.args.va.0) (e.ended t p space);
       ready = e.ready;
       dry = e.dry;
       whole = e.whole;
       unpromised = e.unpromised;
-      of_file = λ told is t p space. rw (← no_alignment (regions p) c.args.access c.args.va.0) (e.of_file told is t p space);
+      of_file = λ told is t p space. rw (← no_alignment p.scheme (regions p) c.args.access c.args.va.0) (e.of_file told is t p space);
       view_stays = e.view_stays;
       store_stays = e.store_stays;
       files_stay = e.files_stay;
-      moves = λ done t p space. rw (← no_alignment (regions p) c.args.access c.args.va.0) (e.moves done t p space);
+      moves = λ done t p space. rw (← no_alignment p.scheme (regions p) c.args.access c.args.va.0) (e.moves done t p space);
       enough = e.enough;
       short = e.short;
       free = e.free;

@@ -12,7 +12,7 @@ new_root-root-requires-clause-bare g c f other = same_references _ _ _ c.in_defa
 pub map_stacks-requires-clause-ready : goal.map_stacks-requires-clause-ready
 map_stacks-requires-clause-ready g c =
     let root = c.new_root-root.ensures in
-    let had = reserved _ _ _ c.args.frames c.args.slots c.in_default.ensures.ok c.need.ensures (omega (arith, c.requires.some_frames)) c.requires.opening.credits in
+    let had = reserved c.args.scheme _ _ _ c.args.frames c.args.slots c.in_default.ensures.ok c.need.ensures (omega (arith, c.requires.some_frames)) c.requires.opening.credits in
     let spent = root.spends.credits in
     (root.mapped.0, root.mapped.1, omega (arith, had, spent))
 
@@ -20,7 +20,7 @@ pub map_frames-requires-clause-ready : goal.map_frames-requires-clause-ready
 map_frames-requires-clause-ready g c =
     let root = c.new_root-root.ensures in
     let stacks = c.map_stacks.ensures.mapped root.mapped.0 root.mapped.1 in
-    let had = reserved _ _ _ c.args.frames c.args.slots c.in_default.ensures.ok c.need.ensures (omega (arith, c.requires.some_frames)) c.requires.opening.credits in
+    let had = reserved c.args.scheme _ _ _ c.args.frames c.args.slots c.in_default.ensures.ok c.need.ensures (omega (arith, c.requires.some_frames)) c.requires.opening.credits in
     let spent = root.spends.credits in
     let more = c.map_stacks.ensures.spends.credits in
     (stacks.0, stacks.1, stacks.2, omega (arith, had, spent, more))
@@ -30,7 +30,7 @@ returns-clause-built g c =
     let root = c.new_root-root.ensures in
     let stacks = c.map_stacks.ensures.mapped root.mapped.0 root.mapped.1 in
     let frames = c.map_frames.ensures.mapped stacks.0 stacks.1 stacks.2 in
-    let had = reserved _ _ _ c.args.frames c.args.slots c.in_default.ensures.ok c.need.ensures (omega (arith, c.requires.some_frames)) c.requires.opening.credits in
+    let had = reserved c.args.scheme _ _ _ c.args.frames c.args.slots c.in_default.ensures.ok c.need.ensures (omega (arith, c.requires.some_frames)) c.requires.opening.credits in
     let spent = root.spends.credits in
     let more = c.map_stacks.ensures.spends.credits in
     let last = c.map_frames.ensures.spends.credits in (

@@ -1,9 +1,10 @@
-use Rattle.std.proofs.Common.{◌≡◌, [], ap, map, sym, ◌∙◌}
+use Rattle.std.proofs.Common.{◌≡◌, [], ap, map, sym, ◌∙◌, subst, ◌<◌, ◌≤◌, arith}
 use Rattle.address_space.specs.Layouts.{Layout, region_of}
 use Rattle.process_model.specs.Bytes.{pages_for}
 use Rattle.process_model.specs.Released.{pages_for_is}
 use Rattle.address_space.proofs.RegionEnds.{below_heap, below_mappings, heap_low, no_regions}
 use Rattle.address_space.proofs.layout.Layout.end.Goals as goal
+use Rattle.sv39_entry.specs.Schemes.{trapframe_page}
 
 pub returns-then-is_empty-clause-low : goal.returns-then-is_empty-clause-low
 returns-then-is_empty-clause-low c p l order =
@@ -20,4 +21,12 @@ returns-then-is_empty-clause-end c p l order n r is =
     rw end (below_heap p order (list ∙ none) n r is)
 
 pub returns-else-is_empty-clause-end : goal.returns-else-is_empty-clause-end
-returns-else-is_empty-clause-end c p l order n r is = rw (c.number.ensures.value, c.page.ensures.number) (below_mappings p order n r is)
+returns-else-is_empty-clause-end c p l order n r is =
+    let same : p.scheme ≡ c.self.inside.scheme = l.scheme ∙ sym (ap (λ (v : Layout). v.scheme) c.self.view_is) in
+    let place : n < trapframe_page c.self.inside.scheme = subst (λ z. n < trapframe_page z) same (below_mappings p order n r is) in
+    omega (arith, place, c.number.ensures.value, c.page.ensures.number, c.trapframe.ensures)
+
+pub returns-else-is_empty-clause-low : goal.returns-else-is_empty-clause-low
+returns-else-is_empty-clause-low c p l order =
+    let same : p.scheme ≡ c.self.inside.scheme = l.scheme ∙ sym (ap (λ (v : Layout). v.scheme) c.self.view_is) in
+    subst (λ z. c.number.result ≤ trapframe_page z) (sym same) (omega (arith, c.number.ensures.value, c.page.ensures.number, c.trapframe.ensures))

@@ -13,4 +13,5 @@ returns-clause-agrees g c t p agrees can =
       mappings = ap (with_mapping (region_of c.args.mapping)) lays.mappings ∙ sym set.mappings;
       heap_base = lays.heap_base ∙ sym set.heap_base;
       size = lays.size ∙ sym set.size;
+      scheme = lays.scheme ∙ sym set.scheme;
     }

@@ -10,12 +10,12 @@ comes g c = filled_comes _ _ _ _ (claimed_comes _ _ _ c.claim-trapframe.ensures.
 pub claim-trapframe-requires-clause-credit : goal.claim-trapframe-requires-clause-credit
 claim-trapframe-requires-clause-credit g c =
     let reserved = rw c.in_default.is at c.reserve.ensures.ok in
-    may_claim c.args.parts.now _ _ _ c.requires.seat reserved c.frames_needed.ensures
+    may_claim c.args.scheme c.args.parts.now _ _ _ c.requires.seat reserved c.frames_needed.ensures
 
 pub claim-trapframe-requires-clause-anchored : goal.claim-trapframe-requires-clause-anchored
 claim-trapframe-requires-clause-anchored g c =
     let reserved = rw c.in_default.is at c.reserve.ensures.ok in
-    zero_held c.args.parts.now _ _ _ c.requires.seat reserved c.frames_needed.ensures
+    zero_held c.args.scheme c.args.parts.now _ _ _ c.requires.seat reserved c.frames_needed.ensures
 
 pub fill_frame-requires-clause-sole : goal.fill_frame-requires-clause-sole
 fill_frame-requires-clause-sole g c = (claimed_comes _ _ _ c.claim-trapframe.ensures.fresh c.claim-trapframe.ensures.view).sole
@@ -23,14 +23,14 @@ fill_frame-requires-clause-sole g c = (claimed_comes _ _ _ c.claim-trapframe.ens
 pub build_reserved-requires-clause-seat : goal.build_reserved-requires-clause-seat
 build_reserved-requires-clause-seat g c =
     let reserved = rw c.in_default.is at c.reserve.ensures.ok in
-    holds_trapframe c.args.parts.now _ _ _ c.requires.seat reserved c.frames_needed.ensures _ _ (comes g (goal.at.build_reserved-requires-clause-seat g c).After-fill_frame)
+    holds_trapframe c.args.scheme c.args.parts.now _ _ _ c.requires.seat reserved c.frames_needed.ensures _ _ (comes g (goal.at.build_reserved-requires-clause-seat g c).After-fill_frame)
 
 pub build_reserved-requires-clause-credits : goal.build_reserved-requires-clause-credits
 build_reserved-requires-clause-credits g c =
     let reserved = rw c.in_default.is at c.reserve.ensures.ok in
-    credits_then c.args.parts.now _ _ _ c.requires.seat reserved c.frames_needed.ensures _ _ (comes g (goal.at.build_reserved-requires-clause-credits g c).After-fill_frame)
+    credits_then c.args.scheme c.args.parts.now _ _ _ c.requires.seat reserved c.frames_needed.ensures _ _ (comes g (goal.at.build_reserved-requires-clause-credits g c).After-fill_frame)
 
 pub returns-clause-takes : goal.returns-clause-takes
 returns-clause-takes g c =
     let reserved = rw c.in_default.is at c.reserve.ensures.ok in
-    takes_all c.args.parts.now _ _ _ c.requires.seat reserved c.frames_needed.ensures _ _ (comes g (goal.at.returns-clause-takes g c).After-fill_frame) _ c.build_reserved.ensures.takes
+    takes_all c.args.scheme c.args.parts.now _ _ _ c.requires.seat reserved c.frames_needed.ensures _ _ (comes g (goal.at.returns-clause-takes g c).After-fill_frame) _ c.build_reserved.ensures.takes

@@ -6,6 +6,7 @@ use Rattle.process_model.specs.OrderKept.{leafy_at}
 use Rattle.process_model.specs.Process.{Page, Process, regions}
 use Rattle.process_model.specs.Regions.{region_at}
 use Rattle.table_walk.specs.Tables.{Tables, walk_leaf, leaf_node}
+use Rattle.table_walk.specs.Mapped.{tables_of_scheme}
 use Rattle.address_space.specs.Agreement.{body_of, is_dirty_page, Body}
 use Rattle.address_space.specs.Layouts.{region_of}
 use Rattle.address_space.specs.ProcessLeaves.{page_backed}
@@ -14,11 +15,10 @@ use Rattle.address_space.proofs.OwningCounts.{exact_kept, exact_parted, exact_re
 use Rattle.address_space.proofs.space.Space.own.Given as given
 use Rattle.address_space.proofs.space.Space.own.Goals as goal
 use Rattle.address_space.proofs.space.Space.own.Goals.{After-from_residual, After-look-sole, In-Some-frame_of}
-use Rattle.address_space.proofs.LowLeaves.{settled_number}
-use Rattle.sv39_entry.specs.declared.scheme.Scheme.TheVariants.{Sv39}
+use Rattle.address_space.proofs.LowLeaves.{settled_number, number_of_scheme, last_of_scheme}
 
 -- the number of the page's leaf
-number_is : {x : Body} {t : Tables} {p : Process} {page : ℕ} {s : Page} {f : ℕ} → CanOwn x t p page s f → walk_leaf Sv39 page ≡ leaf_node page
+number_is : {x : Body} {t : Tables} {p : Process} {page : ℕ} {s : Page} {f : ℕ} → CanOwn x t p page s f → walk_leaf p.scheme page ≡ leaf_node page
 number_is {x} {t} {p} {page} {s} can = settled_number _ _ t p page s can.agrees.stands.shows can.settled
 
 -- what was found
@@ -26,7 +26,7 @@ number_is {x} {t} {p} {page} {s} can = settled_number _ _ t p page s can.agrees.
 frame_is : (g : given.Over) (c : In-Some-frame_of g) (t : Tables) (p : Process) (s : Page) (f : ℕ)
     → CanOwn (body_of g.S.FrameSeat.view c.args.self.now) t p c.args.page s f
     → c.in-Some-frame_of.shared.0 ≡ f
-frame_is g c t p s f can = own_frame can c.frame_of.result _ (rw (number_is can) at (c.frame_of.ensures.frame t can.agrees.stands.tables)) c.in-Some-frame_of.is
+frame_is g c t p s f can = own_frame can c.frame_of.result _ (rw (number_of_scheme c.args.page (can.agrees.lays.scheme ∙ sym c.scheme-scheme.ensures) (number_is can)) at (c.frame_of.ensures.frame t (tables_of_scheme (can.agrees.lays.scheme ∙ sym c.scheme-scheme.ensures) can.agrees.stands.tables))) c.in-Some-frame_of.is
 
 region_is : (g : given.Over) (c : In-Some-frame_of g) (t : Tables) (p : Process) (s : Page) (f : ℕ)
     → CanOwn (body_of g.S.FrameSeat.view c.args.self.now) t p c.args.page s f
@@ -38,7 +38,7 @@ dirty_is : (g : given.Over) (c : In-Some-frame_of g) (t : Tables) (p : Process) 
     → CanOwn (body_of g.S.FrameSeat.view c.args.self.now) t p c.args.page s f
     → (c.in-Some-frame_of.dirty && (region_of c.in-Some.region).writes) ≡ is_dirty_page (region_of c.in-Some.region) s
 dirty_is g c t p s f can =
-    own_stays_dirty can c.frame_of.result _ (rw (number_is can) at (c.frame_of.ensures.frame t can.agrees.stands.tables)) c.in-Some-frame_of.is
+    own_stays_dirty can c.frame_of.result _ (rw (number_of_scheme c.args.page (can.agrees.lays.scheme ∙ sym c.scheme-scheme.ensures) (number_is can)) at (c.frame_of.ensures.frame t (tables_of_scheme (can.agrees.lays.scheme ∙ sym c.scheme-scheme.ensures) can.agrees.stands.tables))) c.in-Some-frame_of.is
     (region_of c.in-Some.region) (region_is g c t p s f can)
 
 pub leaf-requires : goal.leaf-requires
@@ -61,7 +61,7 @@ unreachable-requires g c =
 pub unreachable-requires-in_default-frame_of : goal.unreachable-requires-in_default-frame_of
 unreachable-requires-in_default-frame_of g c =
     let can = c.requires.ready.4 in
-    let some = own_some can c.frame_of.result (rw (number_is can) at (c.frame_of.ensures.frame c.requires.ready.0 can.agrees.stands.tables)) in
+    let some = own_some can c.frame_of.result (rw (number_of_scheme c.args.page (can.agrees.lays.scheme ∙ sym c.scheme-scheme.ensures) (number_is can)) at (c.frame_of.ensures.frame c.requires.ready.0 (tables_of_scheme (can.agrees.lays.scheme ∙ sym c.scheme-scheme.ensures) can.agrees.stands.tables))) in
     cc (some, c.in_default-frame_of.is)
 
 pub look-sole-requires-clause-fits : goal.look-sole-requires-clause-fits
@@ -84,7 +84,8 @@ protect-requires-clause-mapped g c =
     let r = c.requires.ready in
     let at = (goal.at.protect-requires-clause-mapped g c).In-Some-frame_of in
     let look = look_at _ _ _ _ _ _ c.frame_of.ensures.view c.look-sole.ensures.view (frame_is g at r.0 r.1 r.2 r.3 r.4) in
-    (r.0, (own_stands r.4 _ _ look _ (region_is g at r.0 r.1 r.2 r.3 r.4)).tables, rw (number_is r.4, r.4.on.1) refl)
+    let same = r.4.agrees.lays.scheme ∙ sym c.scheme-scheme.ensures in
+    (r.0, tables_of_scheme same (own_stands r.4 _ _ look _ (region_is g at r.0 r.1 r.2 r.3 r.4)).tables, rw (number_of_scheme c.args.page same (number_is r.4), r.4.on.1) refl)
 
 pub protect-requires-clause-backed : goal.protect-requires-clause-backed
 protect-requires-clause-backed g c =
@@ -102,12 +103,13 @@ returns-then-sole-clause-owned g c t p s f can =
     let at = (goal.at.returns-then-sole-clause-owned g c).In-Some-frame_of in
     let is = frame_is g at t p s f can in
     let look = look_at _ _ _ _ _ _ c.frame_of.ensures.view c.look-sole.ensures.view is in
-    let stands = own_stands can _ _ look _ (region_is g at t p s f can) in (
+    let stands = own_stands can _ _ look _ (region_is g at t p s f can) in
+    let same = can.agrees.lays.scheme ∙ sym c.scheme-scheme.ensures in (
       _,
       f,
       c.look-sole.result,
-      own_kept can _ _ look _ (region_is g at t p s f can) c.if-sole.true _ _ (rw (is, dirty_is g at t p s f can) at c.leaf.ensures.leaf) (rw (number_is can) at (c.protect.ensures.tables t stands.tables)).0
-          (λ x table. c.protect.ensures.word t x stands.tables table),
+      own_kept can _ _ look _ (region_is g at t p s f can) c.if-sole.true _ _ (rw (is, dirty_is g at t p s f can) at c.leaf.ensures.leaf) (tables_of_scheme (sym same) (rw (number_of_scheme c.args.page same (number_is can)) at (c.protect.ensures.tables t (tables_of_scheme same stands.tables))).0)
+          (λ x table. c.protect.ensures.word t x (tables_of_scheme same stands.tables) (last_of_scheme t c.args.page same table)),
       λ alone. counted g (goal.at.returns-then-sole-clause-owned g c).After-look-sole alone f is,
     )
 
@@ -177,6 +179,7 @@ separate-requires-clause-ready g c =
       r.0,
       r.1,
       r.2,
+      r.4.agrees.lays.scheme ∙ sym c.scheme-scheme.ensures,
       rw is (own_part r.4 _ _ look _ (region_is g at.In-Some-frame_of r.0 r.1 r.2 r.3 r.4) c.if-sole.false _ c.in_ok-reserve.ensures.ok _ (dirty_is g at.In-Some-frame_of r.0 r.1 r.2 r.3 r.4)),
     )
 
@@ -187,7 +190,7 @@ returns-clause-owned g c t p s f can =
     let look = look_at _ _ _ _ _ _ c.frame_of.ensures.view c.look-sole.ensures.view is in
     let region = region_is g at.In-Some-frame_of t p s f can in
     let ready = own_part can _ _ look _ region c.if-sole.false _ c.in_ok-reserve.ensures.ok _ (dirty_is g at.In-Some-frame_of t p s f can) in
-    let parts = c.separate.ensures.separated c.args.self.now.trapframe.0 t p s (rw is ready) in (
+    let parts = c.separate.ensures.separated c.args.self.now.trapframe.0 t p s (can.agrees.lays.scheme ∙ sym c.scheme-scheme.ensures) (rw is ready) in (
       parts.0,
       parts.1,
       c.look-sole.result,
@@ -215,3 +218,8 @@ returns-clause-free g c alone t p s f can =
 pub returns-clause-keeps : goal.returns-clause-keeps
 returns-clause-keeps g c = λ others r.
     c.separate.ensures.keeps others (c.reserve.ensures.keeps others (c.look-sole.ensures.keeps others (c.frame_of.ensures.keeps others r)))
+
+pub frame_of-requires-clause-held : goal.frame_of-requires-clause-held
+frame_of-requires-clause-held g c =
+    let agrees = c.requires.ready.4.agrees in
+    (c.requires.ready.0, tables_of_scheme (agrees.lays.scheme ∙ sym c.scheme-scheme.ensures) agrees.stands.tables)

@@ -14,4 +14,5 @@ returns-clause-agrees g c t p agrees can =
       mappings = ap (λ xs. with_instead xs c.args.first (option_to_list (option_map region_of c.args.rest))) lays.mappings ∙ sym set.mappings;
       heap_base = lays.heap_base ∙ sym set.heap_base;
       size = lays.size ∙ sym set.size;
+      scheme = lays.scheme ∙ sym set.scheme;
     }

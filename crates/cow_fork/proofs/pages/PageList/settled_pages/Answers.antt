@@ -1,15 +1,15 @@
 use Rattle.std.proofs.Common.{List, subst, sym}
 use Rattle.address_space.specs.Settled.{AreSettled}
 use Rattle.address_space.specs.declared.settled.SettledPage.{SettledPage}
-use Rattle.sv39_entry.specs.Address.{trapframe_page}
 use Rattle.cow_fork.proofs.pages.PageList.settled_pages.Goals as goal
+use Rattle.sv39_entry.specs.Schemes.{trapframe_page}
 
 pub returns : goal.returns
 returns g c =
     let e = c.list_settled.ensures in
     let listed = sym c.as_slice.ensures.value in
     record {
-      settled = λ t p space. subst (λ (l : List SettledPage). AreSettled t p 0 trapframe_page l) listed (e.settled t p space);
+      settled = λ t p space. subst (λ (l : List SettledPage). AreSettled t p 0 (trapframe_page p.scheme) l) listed (e.settled t p space);
       root = e.root;
       trapframe = e.trapframe;
       layout = e.layout;

@@ -42,6 +42,9 @@ close-requires-clause-store g c = (fits_still _ _ _ c.self.inside.parts.space.va
 pub close-requires-clause-fits : goal.close-requires-clause-fits
 close-requires-clause-fits g c = (fits_still _ _ _ c.self.inside.parts.space.value.seat c.make_there-came.new.space.value.seat c.requires.store c.make_there-came.ensures.keeps c.self.invariant.0).1
 
+pub cut-requires-clause-cause : goal.cut-requires-clause-cause
+cut-requires-clause-cause g c = rw c.cause_of.ensures (is_cause c.in-Cut.refusal)
+
 pub cut-requires-clause-full : goal.cut-requires-clause-full
 cut-requires-clause-full g c =
     let p = c.self.invariant.1 in

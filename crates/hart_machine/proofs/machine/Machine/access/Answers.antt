@@ -2,7 +2,6 @@ use Rattle.std.proofs.Common.{◌∙◌, ℕ, ap, inl, refl, sym}
 use Rattle.std.specs.Prelude.{is_ok}
 use Rattle.process_model.specs.Briefs.{of_brief}
 use Rattle.sv39_entry.specs.declared.access.Mode.TheVariants.{User}
-use Rattle.sv39_entry.specs.declared.scheme.Scheme.TheVariants.{Sv39}
 use Rattle.table_walk.specs.Leaves.{walk_answer}
 use Rattle.table_walk.specs.Tables.{Tables}
 use Rattle.hart_machine.proofs.BriefReplies.{no_fault}
@@ -69,8 +68,9 @@ answered-reply-requires-clause-ready c =
       after.0,
       u.0,
       u.1,
-      user_served ((r.1).world).tables ((r.1).world).kernel has.hart s a.va.0 a.access User c.in-Ok.walk (in_user m r.0 (r.1).world c.args.hart a.access a.va.0 a.width a.value c.args.via c.in-Some.phase has well user) on (c.in-Ok.ensures.walk r.0 r.1 has.hart has.there (inl (in_user m r.0 (r.1).world c.args.hart a.access a.va.0 a.width a.value c.args.via c.in-Some.phase has well user)))
-          ∙ ap (λ (ts : ℕ → Tables). walk_answer Sv39 (ts s) a.va.0 a.access User) (sym after.1),
+      user_served m.kernel.scheme ((r.1).world).tables ((r.1).world).kernel has.hart s a.va.0 a.access User c.in-Ok.walk (in_user m r.0 (r.1).world c.args.hart a.access a.va.0 a.width a.value c.args.via c.in-Some.phase has well user) on (c.in-Ok.ensures.walk r.0 r.1 has.hart has.there (inl (in_user m r.0 (r.1).world c.args.hart a.access a.va.0 a.width a.value c.args.via c.in-Some.phase has well user)))
+          ∙ ap (λ k. walk_answer k (((r.1).world).tables s) a.va.0 a.access User) ((r.1).world).scheme
+          ∙ ap (λ (ts : ℕ → Tables). walk_answer (r.0).scheme (ts s) a.va.0 a.access User) (sym after.1),
     )
 
 pub index_mut-requires : goal.index_mut-requires
@@ -94,8 +94,9 @@ returns-in-Fault-clause-made c w buffered =
     let q = process_at m w is s t.0 t.1 in
     let after = c.translated.ensures.world w is in
     let walked =
-    user_served is.tables is.kernel has.hart s a.va.0 a.access User c.in-Ok.walk runs on (c.in-Ok.ensures.walk w buffered has.hart has.there (inl runs))
-    ∙ ap (λ (ts : ℕ → Tables). walk_answer Sv39 (ts s) a.va.0 a.access User) (sym after.1) in
+    user_served m.kernel.scheme is.tables is.kernel has.hart s a.va.0 a.access User c.in-Ok.walk runs on (c.in-Ok.ensures.walk w buffered has.hart has.there (inl runs))
+    ∙ ap (λ k. walk_answer k (is.tables s) a.va.0 a.access User) is.scheme
+    ∙ ap (λ (ts : ℕ → Tables). walk_answer w.scheme (ts s) a.va.0 a.access User) (sym after.1) in
     faults_access m w is c.args.hart a.access a.va.0 a.width a.value c.args.via c.in-Some.phase has well user s on
     (sym (c.translated.ensures.serves w has.hart is has.there) ∙ ap is_ok c.in-Ok.is) q.0 q.1 c.answered-reply.new.self (c.answered-reply.ensures.harts ∙ c.translated.ensures.harts) (of_brief c.answered-reply.result)
     (c.answered-reply.ensures.made w after.0 q.0 q.1 walked) c.in-Fault.field-0 (ap of_brief c.in-Fault.is) c.index_mut.result.now c.index_mut.ensures.value
@@ -120,8 +121,9 @@ returns-in_default-reply-clause-made c w buffered =
     let q = process_at m w is s t.0 t.1 in
     let after = c.translated.ensures.world w is in
     let walked =
-    user_served is.tables is.kernel has.hart s a.va.0 a.access User c.in-Ok.walk runs on (c.in-Ok.ensures.walk w buffered has.hart has.there (inl runs))
-    ∙ ap (λ (ts : ℕ → Tables). walk_answer Sv39 (ts s) a.va.0 a.access User) (sym after.1) in
+    user_served m.kernel.scheme is.tables is.kernel has.hart s a.va.0 a.access User c.in-Ok.walk runs on (c.in-Ok.ensures.walk w buffered has.hart has.there (inl runs))
+    ∙ ap (λ k. walk_answer k (is.tables s) a.va.0 a.access User) is.scheme
+    ∙ ap (λ (ts : ℕ → Tables). walk_answer w.scheme (ts s) a.va.0 a.access User) (sym after.1) in
     answers_access m w is c.args.hart a.access a.va.0 a.width a.value c.args.via c.in-Some.phase has well user s on
     (sym (c.translated.ensures.serves w has.hart is has.there) ∙ ap is_ok c.in-Ok.is) q.0 q.1 c.answered-reply.new.self (c.answered-reply.ensures.harts ∙ c.translated.ensures.harts) (of_brief c.answered-reply.result)
     (c.answered-reply.ensures.made w after.0 q.0 q.1 walked) (no_fault c.answered-reply.result c.in_default-reply.not-Fault)

@@ -31,7 +31,7 @@ returns-clause-walk c = if_ok c.use_entry.result _ _ c.use_entry.ensures.ok
     let same = same_hart c.args.self.now.harts.items c.args.hart x c.in-Some.hart.now (c.in-Some.ensures.lookup.1 ∙ rw c.deref.ensures.value refl) at in
     let a = c.args.va.0 in
     let m = c.args.self.now in
-    answer_is a c.args.access c.args.mode z (is.world).tables (is.world).kernel x m.policy m.slots.items (λ asid. is.clean asid c.args.hart x at) ((is.world).idle c.args.hart x at) (λ s on. (is.world).hosted c.args.hart s x at on) ask
+    answer_is m.kernel.scheme a c.args.access c.args.mode z (is.world).tables (is.world).kernel x m.policy m.slots.items (λ asid. is.clean asid c.args.hart x at) ((is.world).idle c.args.hart x at) (λ s on. (is.world).hosted c.args.hart s x at on) ask
     c.args.entry c.asid-asid.result (c.asid-asid.ensures ∙ ap (λ (y : Hart). present_asid m.policy (hart_of y)) same)
     (λ e there. (is.buffers c.args.hart x e at (entry_there x c.args.entry e there), (is.world).local c.args.hart x e at (entry_there x c.args.entry e there)))
     (ap (λ (y : Hart). is_match a c.asid-asid.result (slice_get y.buffer c.args.entry)) (sym same) ∙ c.use_entry.ensures.there.0 ok)

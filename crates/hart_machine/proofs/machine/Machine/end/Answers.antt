@@ -68,7 +68,7 @@ returns-clause-ended c w waits reply is k =
     let read = c.index_mut.ensures.value ∙ get_or_from_slice_get m.harts.items c.args.hart k.hart _ k.there in
     let e = c.end_seat.ensures in
     let others = seats_of (slice_set m.slots.items c.args.slot None) in
-    ends m w is c.args.hart c.args.slot waits k c.in-Some.tenant there c.end_seat.new.self e.policy e.size (ap (λ (v : Vec (Option Tenant)). v.items) e.slots ∙ ap (slice_set m.slots.items c.args.slot) c.take-2.ensures.after) (e.harts ∙ ap (with_item m.harts c.args.hart) (c.take.ensures ∙ ap idled read))
+    ends m w is c.args.hart c.args.slot waits k c.in-Some.tenant there c.end_seat.new.self e.policy e.scheme e.size (ap (λ (v : Vec (Option Tenant)). v.items) e.slots ∙ ap (slice_set m.slots.items c.args.slot) c.take-2.ensures.after) (e.harts ∙ ap (with_item m.harts c.args.hart) (c.take.ensures ∙ ap idled read))
     (e.files ∙ c.end-seat.ensures.written (is.tables c.args.slot) k.process (tenant_is m w is c.args.slot c.in-Some.tenant k.process there k.in_slot))
     (e.rule others (seat_left m.frames c.end-seat.new.frames m.kernel.seat m.slots.items c.args.slot c.in-Some.tenant c.end-seat.result there c.end-seat.ensures.keeps is.rule))
     e.kernel reply

@@ -7,6 +7,7 @@ use Rattle.hart_machine.proofs.FillWorlds.{fills, keeps_of_kernel, keeps_of_proc
 use Rattle.hart_machine.proofs.HartSteps.{process_at, slot_low}
 use Rattle.hart_machine.proofs.PresentTables.{not_empty, slot_within, tenant_is}
 use Rattle.hart_machine.proofs.machine.Machine.keep.Goals as goal
+use Rattle.table_walk.specs.Mapped.{tables_of_scheme}
 
 pub returns-in-OfKernel-clause-made : goal.returns-in-OfKernel-clause-made
 returns-in-OfKernel-clause-made c w is =
@@ -54,7 +55,7 @@ fill-requires-in-OfProcess-clause-held c =
     let v = c.requires.world in
     let at = tenant_is m c.args.table c.in-OfProcess.slot c.in-OfProcess.is (table_there m v.0 v.1 c.args.hart r.0 r.1 c.args.table r.2) _ c.index_mut.ensures.value c.in-Some.tenant c.in-Some.is in
     let p = process_at m v.0 v.1 c.in-OfProcess.slot c.in-Some.tenant at in
-    ((v.1).tables c.in-OfProcess.slot, (p.2).agrees.stands.tables)
+    ((v.1).tables c.in-OfProcess.slot, tables_of_scheme ((p.2).agrees.lays.scheme ∙ sym c.scheme-scheme.ensures) (p.2).agrees.stands.tables)
 
 pub returns-in-Some-clause-made : goal.returns-in-Some-clause-made
 returns-in-Some-clause-made c w is =
@@ -65,7 +66,7 @@ returns-in-Some-clause-made c w is =
     let s = c.in-OfProcess.slot in
     let z = c.in-Some.tenant in
     let at = tenant_is m c.args.table s c.in-OfProcess.is (table_there m w is c.args.hart r.0 r.1 c.args.table r.2) _ c.index_mut.ensures.value z c.in-Some.is in
-    let kept = keeps_of_process m w is c.asid-asid.result c.args.va.0 x.result.now f.new.self c.args.table s c.in-OfProcess.is z at f.ensures.kept in
+    let kept = keeps_of_process m w is c.asid-asid.result c.args.va.0 x.result.now f.new.self c.args.table s c.in-OfProcess.is z at c.scheme-scheme.result c.scheme-scheme.ensures f.ensures.kept in
     rw (f.ensures.same, f.ensures.view)
     (fills _ w (put_back m w is s z at) c.args.hart c.args.va.0 r.0 r.1 c.args.table r.2 x.result.now x.ensures.value f.ensures.few c.asid-asid.result c.asid-asid.ensures f.new.self kept f.result f.ensures.number)
 
@@ -78,7 +79,7 @@ returns-in-Some-clause-buffers c w is =
     let s = c.in-OfProcess.slot in
     let z = c.in-Some.tenant in
     let at = tenant_is m c.args.table s c.in-OfProcess.is (table_there m w is c.args.hart r.0 r.1 c.args.table r.2) _ c.index_mut.ensures.value z c.in-Some.is in
-    let kept = keeps_of_process m w is c.asid-asid.result c.args.va.0 x.result.now f.new.self c.args.table s c.in-OfProcess.is z at f.ensures.kept in
+    let kept = keeps_of_process m w is c.asid-asid.result c.args.va.0 x.result.now f.new.self c.args.table s c.in-OfProcess.is z at c.scheme-scheme.result c.scheme-scheme.ensures f.ensures.kept in
     filled_are m c.args.hart x.result.now f.new.self x.ensures.value is.tables is.kernel r.0 r.1 c.args.table r.2 c.args.va.0 c.asid-asid.result c.asid-asid.ensures kept f.result
 
 pub asid-asid-requires : goal.asid-asid-requires

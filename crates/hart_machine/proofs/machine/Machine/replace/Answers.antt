@@ -1,4 +1,4 @@
-use Rattle.std.proofs.Common.{◌≡◌, ◌∙◌, ◌<◌, true, false, Some, ap, refl, subst, sym}
+use Rattle.std.proofs.Common.{◌≡◌, ◌∙◌, ◌<◌, true, false, Some, ap, refl, subst, sym, ◌≤◌}
 use Rattle.std.specs.Prelude.{Err, Ok}
 use Rattle.std.proofs.lemmas.Option.{get_or_from_slice_get, slice_get_within}
 use Rattle.std.proofs.lemmas.Result.{err_from_is_err_and}
@@ -7,14 +7,17 @@ use Rattle.process_model.specs.Steps.{plain_step}
 use Rattle.process_model.specs.World.{refuses}
 use Rattle.process_model.specs.declared.step.Refusal.TheVariants as refusal
 use Rattle.process_model.specs.declared.step.Step.TheVariants as step
+use Rattle.process_model.specs.Frames.{exec_need}
 use Rattle.hart_machine.proofs.AccessingWorlds.{seat_fits, slot_has}
-use Rattle.hart_machine.proofs.Executes.{bad_image, exec_dry, exec_sets, executes, no_image}
+use Rattle.hart_machine.proofs.Executes.{bad_image, exec_dry, exec_sets, executes, no_image, judged_is}
 use Rattle.hart_machine.proofs.HartSteps.{process_at, refused}
 use Rattle.hart_machine.proofs.KeptLeaves.{slot_keeps_by}
 use Rattle.hart_machine.proofs.KeptTables.{one_below, same_places, same_tables}
 use Rattle.hart_machine.proofs.MarkedCalls.{exec_changes}
 use Rattle.hart_machine.proofs.SlotMarks.{refused_as, set_marks}
 use Rattle.hart_machine.proofs.machine.Machine.replace.Goals as goal
+use Rattle.hart_machine.specs.Tenants.{IsTenant}
+use Rattle.exec_segments.specs.Loads.{loads_in}
 
 pub returns-in_err-slot-clause-made : goal.returns-in_err-slot-clause-made
 returns-in_err-slot-clause-made c w is =
@@ -23,7 +26,7 @@ returns-in_err-slot-clause-made c w is =
 
 pub returns-in-Err-clause-made : goal.returns-in-Err-clause-made
 returns-in-Err-clause-made c w is =
-    no_image c.args.self.now w is c.args.hart c.in_ok-slot.slot (c.in_ok-slot.ensures.there w is) c.args.image c.in-Err.part (sym c.judged.ensures ∙ c.in-Err.is)
+    no_image c.args.self.now w is c.args.hart c.in_ok-slot.slot (c.in_ok-slot.ensures.there w is) c.args.image c.in-Err.part (judged_is c.args.self.now w is c.args.image (sym (c.judged.ensures.loads) ∙ ap loads_in c.in-Err.is))
 
 pub index_mut-requires : goal.index_mut-requires
 index_mut-requires c =
@@ -66,7 +69,7 @@ returns-in_err-slot-clause-tables c w is = same_places c.args.self.now c.args.se
 
 pub returns-in-Err-clause-changed : goal.returns-in-Err-clause-changed
 returns-in-Err-clause-changed c w is =
-    refused_as w (plain_step w (step.Exec c.args.hart c.args.image)) (refusal.BadImage c.in-Err.part) (bad_image c.args.self.now w is c.args.hart c.in_ok-slot.slot (c.in_ok-slot.ensures.there w is) c.args.image c.in-Err.part (sym c.judged.ensures ∙ c.in-Err.is))
+    refused_as w (plain_step w (step.Exec c.args.hart c.args.image)) (refusal.BadImage c.in-Err.part) (bad_image c.args.self.now w is c.args.hart c.in_ok-slot.slot (c.in_ok-slot.ensures.there w is) c.args.image c.in-Err.part (judged_is c.args.self.now w is c.args.image (sym (c.judged.ensures.loads) ∙ ap loads_in c.in-Err.is)))
 
 pub returns-in-Err-clause-tables : goal.returns-in-Err-clause-tables
 returns-in-Err-clause-tables c w is = same_places c.args.self.now c.args.self.now _ _ (refl, refl)
@@ -81,8 +84,8 @@ returns-in_err-exec-clause-made c w is =
     let y = c.exec in
     let e = c.in_err-exec.ensures in
     let told = err_from_is_err_and c.from_residual-in_err-exec.result c.from_residual-in_err-exec.ensures.1 in
-    rw (told.1, told.2) (executes m w is c.args.hart s caller c.args.image c.in-Ok.image (sym c.judged.ensures ∙ c.in-Ok.is) x y.new.self there y.new.frames y.new.files (Err c.in_err-exec.field-0.0)
-    tt tt e.dry e.whole e.files_stay y.ensures.keeps)
+    rw (told.1, told.2) (executes m w is c.args.hart s caller c.args.image c.in-Ok.image.loads (judged_is c.args.self.now w is c.args.image (sym (c.judged.ensures.loads) ∙ ap loads_in c.in-Ok.is)) x y.new.self there y.new.frames y.new.files (Err c.in_err-exec.field-0.0)
+    tt tt (e.dry.0, subst (λ k. m.frames.free < exec_need k c.in-Ok.image.loads) (c.in-Ok.ensures.scheme ∙ is.scheme) e.dry.1) e.whole e.files_stay y.ensures.keeps)
 
 pub returns-in_err-exec-clause-changed : goal.returns-in_err-exec-clause-changed
 returns-in_err-exec-clause-changed c w is =
@@ -93,7 +96,7 @@ returns-in_err-exec-clause-changed c w is =
     let there = slot_has m.slots.items s caller.tenant x _ c.in-Some.is c.index_mut.ensures.value caller.place in
     let y = c.exec in
     let told = err_from_is_err_and c.from_residual-in_err-exec.result c.from_residual-in_err-exec.ensures.1 in
-    rw told.1 (refused_as w (plain_step w (step.Exec c.args.hart c.args.image)) refusal.NoFrame (exec_dry m w is c.args.hart s caller c.args.image c.in-Ok.image (sym c.judged.ensures ∙ c.in-Ok.is) x y.new.self there y.new.frames y.new.files c.in_err-exec.ensures.dry.1))
+    rw told.1 (refused_as w (plain_step w (step.Exec c.args.hart c.args.image)) refusal.NoFrame (exec_dry m w is c.args.hart s caller c.args.image c.in-Ok.image.loads (judged_is c.args.self.now w is c.args.image (sym (c.judged.ensures.loads) ∙ ap loads_in c.in-Ok.is)) x y.new.self there y.new.frames y.new.files (subst (λ k. m.frames.free < exec_need k c.in-Ok.image.loads) (c.in-Ok.ensures.scheme ∙ is.scheme) c.in_err-exec.ensures.dry.1)))
 
 pub returns-in_err-exec-clause-tables : goal.returns-in_err-exec-clause-tables
 returns-in_err-exec-clause-tables c w is =
@@ -113,8 +116,8 @@ returns-clause-made c w is =
     let there = slot_has m.slots.items s caller.tenant x _ c.in-Some.is c.index_mut.ensures.value caller.place in
     let y = c.exec in
     let e = c.in_ok-exec.ensures in
-    executes m w is c.args.hart s caller c.args.image c.in-Ok.image (sym c.judged.ensures ∙ c.in-Ok.is) x y.new.self there y.new.frames y.new.files (Ok c.in_ok-exec.field-0)
-    e.executed e.enough tt tt tt y.ensures.keeps
+    executes m w is c.args.hart s caller c.args.image c.in-Ok.image.loads (judged_is c.args.self.now w is c.args.image (sym (c.judged.ensures.loads) ∙ ap loads_in c.in-Ok.is)) x y.new.self there y.new.frames y.new.files (Ok c.in_ok-exec.field-0)
+    e.executed (subst (λ k. exec_need k c.in-Ok.image.loads ≤ m.frames.free) (c.in-Ok.ensures.scheme ∙ is.scheme) e.enough) tt tt tt y.ensures.keeps
 
 pub returns-clause-changed : goal.returns-clause-changed
 returns-clause-changed c w is =
@@ -126,9 +129,9 @@ returns-clause-changed c w is =
     let y = c.exec in
     let e = c.in_ok-exec.ensures in
     let q = process_at m w is s x there in
-    set_marks w (plain_step w (step.Exec c.args.hart c.args.image)) s q.0 (process_of w.counter c.in-Ok.image) true q.1
-    (exec_sets m w is c.args.hart s caller c.args.image c.in-Ok.image (sym c.judged.ensures ∙ c.in-Ok.is) x y.new.self there y.new.frames y.new.files q.0 q.1 e.enough)
-    (sym (exec_changes q.0 w.counter c.in-Ok.image (λ n a at. is.counted s n q.0 a q.1 at)))
+    set_marks w (plain_step w (step.Exec c.args.hart c.args.image)) s q.0 (process_of w.scheme w.counter c.in-Ok.image.loads) true q.1
+    (exec_sets m w is c.args.hart s caller c.args.image c.in-Ok.image.loads (judged_is c.args.self.now w is c.args.image (sym (c.judged.ensures.loads) ∙ ap loads_in c.in-Ok.is)) x y.new.self there y.new.frames y.new.files q.0 q.1 (subst (λ k. exec_need k c.in-Ok.image.loads ≤ m.frames.free) (c.in-Ok.ensures.scheme ∙ is.scheme) e.enough))
+    (sym (exec_changes w.scheme q.0 w.counter c.in-Ok.image.loads (λ n a at. is.counted s n q.0 a q.1 at)))
 
 pub returns-clause-tables : goal.returns-clause-tables
 returns-clause-tables c w is =
@@ -141,6 +144,15 @@ returns-clause-tables c w is =
     let e = c.in_ok-exec.ensures in
     let q = process_at m w is s x there in
     let has = e.executed (is.tables s) q.0 q.2 in
-    slot_keeps_by m _ w.slots _ s x y.new.self q.0 (process_of w.counter c.in-Ok.image) (is.tables s) has.tables q.2 (has.tenant w.counter) there q.1 refl
-    (exec_sets m w is c.args.hart s caller c.args.image c.in-Ok.image (sym c.judged.ensures ∙ c.in-Ok.is) x y.new.self there y.new.frames y.new.files q.0 q.1 e.enough) refl
-    (λ unchanged. absurd (let both : true ≡ false = sym (exec_changes q.0 w.counter c.in-Ok.image (λ n a at. is.counted s n q.0 a q.1 at)) ∙ unchanged in cc))
+    slot_keeps_by m _ w.slots _ s x y.new.self q.0 (process_of w.scheme w.counter c.in-Ok.image.loads) (is.tables s) has.tables q.2 (subst (λ k. IsTenant y.new.self has.tables (process_of k w.counter c.in-Ok.image.loads)) (is.schemes s q.0 q.1) (has.tenant w.counter)) there q.1 refl
+    (exec_sets m w is c.args.hart s caller c.args.image c.in-Ok.image.loads (judged_is c.args.self.now w is c.args.image (sym (c.judged.ensures.loads) ∙ ap loads_in c.in-Ok.is)) x y.new.self there y.new.frames y.new.files q.0 q.1 (subst (λ k. exec_need k c.in-Ok.image.loads ≤ m.frames.free) (c.in-Ok.ensures.scheme ∙ is.scheme) e.enough)) refl
+    (λ unchanged. absurd (let both : true ≡ false = sym (exec_changes w.scheme q.0 w.counter c.in-Ok.image.loads (λ n a at. is.counted s n q.0 a q.1 at)) ∙ unchanged in cc))
+
+pub exec-requires-clause-scheme : goal.exec-requires-clause-scheme
+exec-requires-clause-scheme c =
+    let m = c.args.self.now in
+    let r = c.requires.world in
+    let caller = c.in_ok-slot.ensures.there r.0 r.1 in
+    let there = slot_has m.slots.items c.in_ok-slot.slot caller.tenant c.in-Some.tenant _ c.in-Some.is c.index_mut.ensures.value caller.place in
+    let found = process_at m r.0 r.1 c.in_ok-slot.slot c.in-Some.tenant there in
+    c.in-Ok.ensures.scheme ∙ (r.1).scheme ∙ sym ((r.1).schemes c.in_ok-slot.slot found.0 found.1) ∙ (found.2).agrees.lays.scheme

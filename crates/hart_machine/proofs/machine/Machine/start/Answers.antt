@@ -10,7 +10,7 @@ use Rattle.process_model.specs.Steps.{plain_step}
 use Rattle.process_model.specs.declared.step.Refusal.TheVariants.{BadImage, NoFrame, NoSlot}
 use Rattle.process_model.specs.declared.step.Step.TheVariants as step
 use Rattle.std.specs.Vec.{with_item}
-use Rattle.address_space.specs.Agreement.{HoldsTrampoline}
+use Rattle.address_space.specs.Agreement.{HoldsTrampoline, IsSpace}
 use Rattle.frame_store.specs.View.{View}
 use Rattle.process_model.specs.Frames.{start_need}
 use Rattle.hart_machine.specs.Worlds.{seats_of}
@@ -24,6 +24,9 @@ use Rattle.hart_machine.proofs.HartSteps.{refused}
 use Rattle.hart_machine.proofs.KeptTables.{others_born, same_places, same_slots}
 use Rattle.hart_machine.proofs.SlotMarks.{born_marks, refused_as}
 use Rattle.hart_machine.proofs.machine.Machine.start.Goals as goal
+use Rattle.hart_machine.proofs.Executes.{judged_is}
+use Rattle.hart_machine.specs.Tenants.{body_in}
+use Rattle.exec_segments.specs.Loads.{loads_in}
 
 pub start-requires-clause-fits : goal.start-requires-clause-fits
 start-requires-clause-fits c =
@@ -62,12 +65,12 @@ returns-in-Ok-start-clause-made c w is =
     let others = seats_of m.slots.items in
     let y : Tenant = record { space = ok.space; pending = None } in
     let n : Machine = record { policy = o.new.self.policy; frames = c.start.new.store; kernel = o.new.self.kernel; slots = with_item o.new.self.slots s (Some y); harts = o.new.self.harts; files = o.new.self.files; pages = o.new.self.pages } in
-    makes_started w s c.args.image c.in-Ok.image (sym (c.free_slot.ensures w is) ∙ c.in-Some.is) (sym c.judged.ensures ∙ c.in-Ok.is)
-    m n is o.ensures.size o.ensures.harts o.ensures.files o.ensures.policy (open_kernel m o.new.self o.ensures.opener w.frames (length w.slots) is.stacks is.kernel is.of_kernel)
+    makes_started w s c.args.image c.in-Ok.image.loads (sym (c.free_slot.ensures w is) ∙ c.in-Some.is) (judged_is c.args.self.now w is c.args.image (sym (c.judged.ensures.loads) ∙ ap loads_in c.in-Ok.is))
+    m n is o.ensures.size o.ensures.harts o.ensures.files o.ensures.policy (ap (λ k. k.scheme) o.ensures.opener) (open_kernel m o.new.self o.ensures.opener w.frames (length w.slots) is.stacks is.kernel is.of_kernel)
     y ok.ensures.started.0 (rw o.ensures.slots refl)
-    (ok.ensures.started.1 w.counter) ok.ensures.started.2 refl
+    (subst (λ k. IsSpace (body_in y) ok.ensures.started.0 (process_of k w.counter c.in-Ok.image.loads)) (c.in-Ok.ensures.scheme ∙ is.scheme) (ok.ensures.started.1 w.counter)) ok.ensures.started.2 refl
     (second_steps o.new.self.frames c.start.new.store o.new.self.kernel.seat o.result ok.space.seat others ok.ensures.keeps (o.ensures.rule others is.rule))
-    (subst (λ k. start_need c.in-Ok.image ≤ k) o.ensures.free ((ok.ensures.exact tt).0 refl))
+    (subst (λ k. start_need k c.in-Ok.image.loads ≤ m.frames.free) (c.in-Ok.ensures.scheme ∙ is.scheme) (subst (λ n. start_need c.in-Ok.image.scheme c.in-Ok.image.loads ≤ n) o.ensures.free ((ok.ensures.exact tt).0 refl)))
 
 pub returns-in-Err-start-clause-made : goal.returns-in-Err-start-clause-made
 returns-in-Err-start-clause-made c w is =
@@ -78,22 +81,22 @@ returns-in-Err-start-clause-made c w is =
     let others = seats_of m.slots.items in
     let n = c.close_seat.new.self in
     let opened = open_kernel m o.new.self o.ensures.opener w.frames (length w.slots) is.stacks is.kernel is.of_kernel in
-    rw c.quiet-in-Err-start.ensures (makes_refused w s c.args.image c.in-Ok.image (sym (c.free_slot.ensures w is) ∙ c.in-Some.is) (sym c.judged.ensures ∙ c.in-Ok.is)
-    m n is (c.close_seat.ensures.size ∙ o.ensures.size) (c.close_seat.ensures.harts ∙ o.ensures.harts) (c.close_seat.ensures.files ∙ o.ensures.files) (c.close_seat.ensures.policy ∙ o.ensures.policy)
+    rw c.quiet-in-Err-start.ensures (makes_refused w s c.args.image c.in-Ok.image.loads (sym (c.free_slot.ensures w is) ∙ c.in-Some.is) (judged_is c.args.self.now w is c.args.image (sym (c.judged.ensures.loads) ∙ ap loads_in c.in-Ok.is))
+    m n is (c.close_seat.ensures.size ∙ o.ensures.size) (c.close_seat.ensures.harts ∙ o.ensures.harts) (c.close_seat.ensures.files ∙ o.ensures.files) (c.close_seat.ensures.policy ∙ o.ensures.policy) (c.close_seat.ensures.scheme ∙ ap (λ k. k.scheme) o.ensures.opener)
     (c.close_seat.ensures.kernel w.frames (length w.slots) is.stacks is.kernel opened)
     (c.close_seat.ensures.slots ∙ o.ensures.slots)
     (c.close_seat.ensures.rule others (second_steps o.new.self.frames c.start.new.store o.new.self.kernel.seat o.result e.seat others e.ensures.keeps_refused (o.ensures.rule others is.rule)))
-    (λ le. let ok = (e.ensures.exact tt).1 (subst (λ k. start_need c.in-Ok.image ≤ k) (sym o.ensures.free) le) in cc))
+    (λ le. let ok = (e.ensures.exact tt).1 (subst (λ n. start_need c.in-Ok.image.scheme c.in-Ok.image.loads ≤ n) (sym o.ensures.free) (subst (λ k. start_need k c.in-Ok.image.loads ≤ m.frames.free) (sym (c.in-Ok.ensures.scheme ∙ is.scheme)) le)) in cc))
 
 pub returns-in_default-clause-made : goal.returns-in_default-clause-made
 returns-in_default-clause-made c w is =
     let none = sym (c.free_slot.ensures w is) ∙ c.in_default.is in
-    rw c.quiet.ensures (refused c.args.self.now w is NoSlot _ (ap (started w (image_loads c.args.image)) none))
+    rw c.quiet.ensures (refused c.args.self.now w is NoSlot _ (ap (started w (image_loads w.scheme c.args.image)) none))
 
 pub returns-in_default-clause-changed : goal.returns-in_default-clause-changed
 returns-in_default-clause-changed c w is =
     let none = sym (c.free_slot.ensures w is) ∙ c.in_default.is in
-    rw c.quiet.ensures (refused_as w (plain_step w (step.Start c.args.image)) NoSlot (ap (started w (image_loads c.args.image)) none))
+    rw c.quiet.ensures (refused_as w (plain_step w (step.Start c.args.image)) NoSlot (ap (started w (image_loads w.scheme c.args.image)) none))
 
 pub returns-in_default-clause-tables : goal.returns-in_default-clause-tables
 returns-in_default-clause-tables c w is = same_places c.args.self.now c.args.self.now _ _ (refl, refl)
@@ -101,14 +104,14 @@ returns-in_default-clause-tables c w is = same_places c.args.self.now c.args.sel
 pub returns-in-Err-clause-made : goal.returns-in-Err-clause-made
 returns-in-Err-clause-made c w is =
     let to = sym (c.free_slot.ensures w is) ∙ c.in-Some.is in
-    let bad = sym c.judged.ensures ∙ c.in-Err.is in
-    rw c.quiet-in-Err.ensures (refused c.args.self.now w is (BadImage c.in-Err.part) _ (ap (started w (image_loads c.args.image)) to ∙ ap (started_as w c.in-Some.slot) bad))
+    let bad = judged_is c.args.self.now w is c.args.image (sym (c.judged.ensures.loads) ∙ ap loads_in c.in-Err.is) in
+    rw c.quiet-in-Err.ensures (refused c.args.self.now w is (BadImage c.in-Err.part) _ (ap (started w (image_loads w.scheme c.args.image)) to ∙ ap (started_as w c.in-Some.slot) bad))
 
 pub returns-in-Err-clause-changed : goal.returns-in-Err-clause-changed
 returns-in-Err-clause-changed c w is =
     let to = sym (c.free_slot.ensures w is) ∙ c.in-Some.is in
-    let bad = sym c.judged.ensures ∙ c.in-Err.is in
-    rw c.quiet-in-Err.ensures (refused_as w (plain_step w (step.Start c.args.image)) (BadImage c.in-Err.part) (ap (started w (image_loads c.args.image)) to ∙ ap (started_as w c.in-Some.slot) bad))
+    let bad = judged_is c.args.self.now w is c.args.image (sym (c.judged.ensures.loads) ∙ ap loads_in c.in-Err.is) in
+    rw c.quiet-in-Err.ensures (refused_as w (plain_step w (step.Start c.args.image)) (BadImage c.in-Err.part) (ap (started w (image_loads w.scheme c.args.image)) to ∙ ap (started_as w c.in-Some.slot) bad))
 
 pub returns-in-Err-clause-tables : goal.returns-in-Err-clause-tables
 returns-in-Err-clause-tables c w is = same_places c.args.self.now c.args.self.now _ _ (refl, refl)
@@ -119,8 +122,8 @@ returns-in-Ok-start-clause-changed c w is =
     let s = c.in-Some.slot in
     let o = c.open_seat-seat in
     let to = sym (c.free_slot.ensures w is) ∙ c.in-Some.is in
-    born_marks w (plain_step w (step.Start c.args.image)) s (process_of w.counter c.in-Ok.image) (free_is_empty w s to)
-    (start_sets w s c.args.image c.in-Ok.image to (sym c.judged.ensures ∙ c.in-Ok.is) m is (subst (λ k. start_need c.in-Ok.image ≤ k) o.ensures.free ((c.in-Ok-start.ensures.exact tt).0 refl)))
+    born_marks w (plain_step w (step.Start c.args.image)) s (process_of w.scheme w.counter c.in-Ok.image.loads) (free_is_empty w s to)
+    (start_sets w s c.args.image c.in-Ok.image.loads to (judged_is c.args.self.now w is c.args.image (sym (c.judged.ensures.loads) ∙ ap loads_in c.in-Ok.is)) m is (subst (λ k. start_need k c.in-Ok.image.loads ≤ m.frames.free) (c.in-Ok.ensures.scheme ∙ is.scheme) (subst (λ n. start_need c.in-Ok.image.scheme c.in-Ok.image.loads ≤ n) o.ensures.free ((c.in-Ok-start.ensures.exact tt).0 refl))))
 
 pub returns-in-Ok-start-clause-tables : goal.returns-in-Ok-start-clause-tables
 returns-in-Ok-start-clause-tables c w is =
@@ -143,8 +146,8 @@ returns-in-Err-start-clause-changed c w is =
     let o = c.open_seat-seat in
     let e = c.in-Err-start in
     let to = sym (c.free_slot.ensures w is) ∙ c.in-Some.is in
-    rw c.quiet-in-Err-start.ensures (refused_as w (plain_step w (step.Start c.args.image)) NoFrame (start_dry w s c.args.image c.in-Ok.image to (sym c.judged.ensures ∙ c.in-Ok.is) m is
-    (λ le. let ok = (e.ensures.exact tt).1 (subst (λ k. start_need c.in-Ok.image ≤ k) (sym o.ensures.free) le) in cc)))
+    rw c.quiet-in-Err-start.ensures (refused_as w (plain_step w (step.Start c.args.image)) NoFrame (start_dry w s c.args.image c.in-Ok.image.loads to (judged_is c.args.self.now w is c.args.image (sym (c.judged.ensures.loads) ∙ ap loads_in c.in-Ok.is)) m is
+    (λ le. let ok = (e.ensures.exact tt).1 (subst (λ n. start_need c.in-Ok.image.scheme c.in-Ok.image.loads ≤ n) (sym o.ensures.free) (subst (λ k. start_need k c.in-Ok.image.loads ≤ m.frames.free) (sym (c.in-Ok.ensures.scheme ∙ is.scheme)) le)) in cc)))
 
 pub returns-in-Err-start-clause-tables : goal.returns-in-Err-start-clause-tables
 returns-in-Err-start-clause-tables c w is =

@@ -8,7 +8,6 @@ use Rattle.hart_machine.specs.declared.tables.Table.{Table}
 use Rattle.hart_machine.proofs.FillWorlds.{table_there}
 use Rattle.hart_machine.proofs.PresentTables.{present_served}
 use Rattle.hart_machine.proofs.machine.Machine.translated.Goals as goal
-use Rattle.sv39_entry.specs.declared.scheme.Scheme.TheVariants.{Sv39}
 
 pub returns-in-Some-clause-serves : goal.returns-in-Some-clause-serves
 returns-in-Some-clause-serves c w x is at = c.by_entry.ensures.serves w x is at ∙ ap (entry_serves c.args.self.now.policy (hart_of x) c.args.va.0) (sym c.in-Some.is)
@@ -23,8 +22,9 @@ pub returns-clause-walk : goal.returns-clause-walk
 returns-clause-walk c w buffered x at ask =
     let is = buffered.world in
     let present = same_Some _ _ (sym c.in-Some-table_of.is ∙ c.table_of.ensures ∙ ap (option_map present_table) at) in
-    present_served is.tables is.kernel x (λ none. is.idle c.args.hart x at none) c.args.va.0 c.args.access c.args.mode c.walk.result
-    (c.walk.ensures.walk w is ∙ ap (λ (t : Table). walk_answer Sv39 (tables_of is.tables is.kernel t) c.args.va.0 c.args.access c.args.mode) present)
+    present_served c.args.self.now.kernel.scheme is.tables is.kernel x (λ none. is.idle c.args.hart x at none) c.args.va.0 c.args.access c.args.mode c.walk.result
+    (c.walk.ensures.walk w is ∙ ap (λ (t : Table). walk_answer w.scheme (tables_of is.tables is.kernel t) c.args.va.0 c.args.access c.args.mode) present
+    ∙ ap (λ k. walk_answer k (tables_of is.tables is.kernel (present_table x)) c.args.va.0 c.args.access c.args.mode) (sym is.scheme))
 
 pub returns-in-Some-clause-world : goal.returns-in-Some-clause-world
 returns-in-Some-clause-world c w is = (is, refl)

@@ -15,6 +15,7 @@ use Rattle.hart_machine.proofs.KeptTables.{same_places}
 use Rattle.hart_machine.proofs.Mapping.{unmap_refused, unmap_sets, unmaps}
 use Rattle.hart_machine.proofs.SlotMarks.{refused_as, set_marks}
 use Rattle.hart_machine.proofs.machine.Machine.unmap.Goals as goal
+use Rattle.hart_machine.proofs.KeptSchemes.{unmapped_scheme}
 
 pub returns-in_err-slot-clause-made : goal.returns-in_err-slot-clause-made
 returns-in_err-slot-clause-made c w is =
@@ -132,4 +133,4 @@ returns-clause-tables c w is =
     let has = e.unmapped (is.tables s) q.0 q.2 in
     slot_keeps_by m _ w.slots _ s x y.new.self q.0 (without_pending has.what.process) (is.tables s) has.tables q.2 has.tenant there q.1 refl
     (unmap_sets m w is c.args.hart s caller x y.new.self there c.args.address c.args.length y.new.frames y.new.files q.0 q.1 has.what has.is) refl
-    (λ unchanged. dropped_none x y.new.self (is.tables s) has.tables q.0 (without_pending has.what.process) q.2 has.tenant unchanged _ _ has.drops)
+    (λ unchanged. dropped_none x y.new.self (is.tables s) has.tables q.0 (without_pending has.what.process) q.2 has.tenant unchanged (unmapped_scheme _ q.0 _ _ has.what has.is) _ _ has.drops)

@@ -9,12 +9,12 @@ use Rattle.hart_machine.proofs.HartSteps.{process_at}
 use Rattle.hart_machine.proofs.Leaves.{kernel_there}
 use Rattle.hart_machine.proofs.PresentTables.{not_empty, slot_within, tenant_is}
 use Rattle.hart_machine.proofs.machine.Machine.walk.Goals as goal
-use Rattle.sv39_entry.specs.declared.scheme.Scheme.TheVariants.{Sv39}
 
 pub returns-in-OfKernel-clause-walk : goal.returns-in-OfKernel-clause-walk
 returns-in-OfKernel-clause-walk c w is =
-    c.translate_held.ensures.outcome is.kernel is.of_kernel.maps.tables (kernel_there _ _ _ _ _ _ is.of_kernel)
-    ∙ ap (λ (t : Table). walk_answer Sv39 (tables_of is.tables is.kernel t) c.args.va.0 c.args.access c.args.mode) (sym c.in-OfKernel.is)
+    c.translate_held.ensures.outcome is.kernel is.of_kernel.maps.tables (kernel_there _ _ _ _ _ _ _ is.of_kernel)
+    ∙ ap (λ k. walk_answer k is.kernel c.args.va.0 c.args.access c.args.mode) is.scheme
+    ∙ ap (λ (t : Table). walk_answer w.scheme (tables_of is.tables is.kernel t) c.args.va.0 c.args.access c.args.mode) (sym c.in-OfKernel.is)
 
 pub returns-in-OfKernel-clause-world : goal.returns-in-OfKernel-clause-world
 returns-in-OfKernel-clause-world c = rw (c.translate_held.ensures.same, c.translate_held.ensures.view) (λ w is. (is, refl))
@@ -46,7 +46,8 @@ returns-in-Some-clause-walk c w is =
     let at = tenant_is m c.args.table c.in-OfProcess.slot c.in-OfProcess.is c.requires.there _ c.index_mut.ensures.value c.in-Some.tenant c.in-Some.is in
     let p = process_at m w is c.in-OfProcess.slot c.in-Some.tenant at in
     c.translate.ensures.walk (is.tables c.in-OfProcess.slot) p.0 (p.2).agrees
-    ∙ ap (λ (t : Table). walk_answer Sv39 (tables_of is.tables is.kernel t) c.args.va.0 c.args.access c.args.mode) (sym c.in-OfProcess.is)
+    ∙ ap (λ k. walk_answer k (is.tables c.in-OfProcess.slot) c.args.va.0 c.args.access c.args.mode) (is.schemes c.in-OfProcess.slot p.0 p.1)
+    ∙ ap (λ (t : Table). walk_answer w.scheme (tables_of is.tables is.kernel t) c.args.va.0 c.args.access c.args.mode) (sym c.in-OfProcess.is)
 
 pub returns-in-Some-clause-world : goal.returns-in-Some-clause-world
 returns-in-Some-clause-world c w is =

@@ -1,8 +1,9 @@
-use Rattle.std.proofs.Common.{◌∙◌, refl}
+use Rattle.std.proofs.Common.{◌∙◌, refl, subst, sym}
 use Rattle.std.proofs.lemmas.Result.{err_from_is_err_and}
 use Rattle.process_model.specs.Loading.{process_of}
 use Rattle.hart_machine.proofs.Executes.{for_frames}
 use Rattle.hart_machine.proofs.tenant.Tenant.exec.Goals as goal
+use Rattle.address_space.specs.Agreement.{IsSpace, body_of}
 
 pub returns-in_err-exec-clause-dry : goal.returns-in_err-exec-clause-dry
 returns-in_err-exec-clause-dry c =
@@ -29,7 +30,7 @@ returns-clause-executed c = λ t p tenant.
     record {
       tables = e.replaced.0;
       tenant = λ fresh. record {
-        agrees = e.replaced.1 fresh;
+        agrees = subst (λ k. IsSpace (body_of (λ v. v) c.exec.new.space) e.replaced.0 (process_of k fresh c.args.image.now.loads)) (c.requires.scheme ∙ sym tenant.agrees.lays.scheme) (e.replaced.1 fresh);
         framed = rw c.exec.ensures.trapframe tenant.framed;
         pending = refl;
         wide = tt;

@@ -3,10 +3,10 @@ use Rattle.std.specs.Prelude.{Err}
 use Rattle.std.proofs.lemmas.Result.{err_from_is_err_and}
 use Rattle.cow_fork.specs.Forks.{refusal_of}
 use Rattle.frame_store.specs.View.{references}
-use Rattle.sv39_entry.specs.Address.{trapframe_page}
 use Rattle.table_walk.specs.Tables.{leaf_node}
 use Rattle.hart_machine.proofs.ForkedTenants.{second_inside, which}
 use Rattle.hart_machine.proofs.tenant.Tenant.fork.Goals as goal
+use Rattle.sv39_entry.specs.Schemes.{trapframe_page}
 
 pub returns-in_err-space-clause-dry : goal.returns-in_err-space-clause-dry
 returns-in_err-space-clause-dry c =
@@ -33,7 +33,7 @@ returns-clause-forked c = λ t p tenant.
     let z = c.in_ok-space.space in
     let stands = f.2.child.stands in
     let leaf = stands.shows.on_trapframe in
-    let one : references z.seat z.trapframe.0 ≡ 1 = stands.owns.named z.trapframe.0 (leaf_node trapframe_page) (inr (leaf.0, leaf.1, leaf.2.names)) in
+    let one : references z.seat z.trapframe.0 ≡ 1 = stands.owns.named z.trapframe.0 (leaf_node (trapframe_page p.scheme)) (inr (leaf.0, leaf.1, leaf.2.names)) in
     record {
       after = f.0;
       of_child = f.1;

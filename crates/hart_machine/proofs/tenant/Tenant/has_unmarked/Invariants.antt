@@ -1,15 +1,15 @@
 use Rattle.std.proofs.Common.{ℕ, drop}
 use Rattle.address_space.specs.Settled.{AreSettled}
 use Rattle.process_model.specs.Process.{Process}
-use Rattle.sv39_entry.specs.Address.{trapframe_page}
 use Rattle.table_walk.specs.Tables.{Tables}
 use Rattle.hart_machine.specs.Tenants.{IsTenant}
 use Rattle.hart_machine.proofs.Watched.{AreMarkedBelow}
 use Rattle.hart_machine.proofs.tenant.Tenant.has_unmarked.Given as goal
+use Rattle.sv39_entry.specs.Schemes.{trapframe_page}
 
 -- no page before this one is one that is looked for
 abbrev pub invariant-pages : goal.invariant-pages
 invariant-pages l = record {
-  marked : (t : Tables) (p : Process) → IsTenant l.self t p → AreSettled t p 0 trapframe_page l.settled
-      → (first : ℕ) × AreMarkedBelow p first × AreSettled t p first trapframe_page (drop l.page-index l.settled);
+  marked : (t : Tables) (p : Process) → IsTenant l.self t p → AreSettled t p 0 (trapframe_page p.scheme) l.settled
+      → (first : ℕ) × AreMarkedBelow p first × AreSettled t p first (trapframe_page p.scheme) (drop l.page-index l.settled);
 }

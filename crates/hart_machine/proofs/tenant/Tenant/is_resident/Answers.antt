@@ -1,7 +1,6 @@
 use Rattle.std.proofs.Common.{◌≡◌, true, ap, refl, sym, ◌∙◌}
 use Rattle.address_space.specs.Accesses.{gives_leaf}
 use Rattle.sv39_entry.specs.declared.access.Mode.TheVariants.{User}
-use Rattle.sv39_entry.specs.declared.scheme.Scheme.TheVariants.{Sv39}
 use Rattle.table_walk.specs.Leaves.{walk_answer}
 use Rattle.hart_machine.specs.Tenants.{body_in}
 use Rattle.hart_machine.proofs.Watched.{no_leaf, same_tenant}
@@ -12,7 +11,7 @@ returns-in-Leaf-clause-granted c = λ t p tenant.
     let x = c.args.self.now in
     let is = c.translate.ensures.walk t p tenant.agrees in
     let law = c.walks_grant_what_is_resident.ensures (body_in x) t p c.args.access c.args.va.0 tenant.agrees in
-    let leaf : gives_leaf (walk_answer Sv39 t c.args.va.0 c.args.access User) ≡ true = ap gives_leaf (sym is ∙ c.in-Leaf.is) in
+    let leaf : gives_leaf (walk_answer p.scheme t c.args.va.0 c.args.access User) ≡ true = ap gives_leaf (sym is ∙ c.in-Leaf.is) in
     (λ e. law.0 leaf, λ granted. refl)
 
 pub returns-in_default : goal.returns-in_default

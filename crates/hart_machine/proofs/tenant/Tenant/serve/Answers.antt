@@ -97,3 +97,7 @@ returns-in-Ready-clause-keeps c others r = let n = c.is_resident-resident.ensure
 
 pub returns-in-Ended-clause-keeps : goal.returns-in-Ended-clause-keeps
 returns-in-Ended-clause-keeps c others r = let n = c.is_resident-resident.ensures in c.serve.ensures.keeps others (rw (n.frames, n.same) r)
+
+-- the files are in memory, and promise all that is asked
+pub unreachable-requires-in-Unserved : goal.unreachable-requires-in-Unserved
+unreachable-requires-in-Unserved c = (c.in-Unserved.ensures.unpromised _ refl).1

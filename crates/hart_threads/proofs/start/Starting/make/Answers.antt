@@ -3,6 +3,7 @@ use Rattle.std.proofs.Common.{refl, sym, subst}
 use Rattle.std.proofs.lemmas.Bool.{ltb-true}
 use Rattle.address_space.specs.declared.space.Space.{Space}
 use Rattle.atomic_table.specs.Seated.{TableId}
+use Rattle.hart_threads.proofs.Lending.{fits_at}
 use Rattle.hart_threads.specs.Makes.{IsWhy}
 use Rattle.hart_threads.specs.Slots.{FindsSlot}
 use Rattle.hart_threads.specs.Starts.{IsBegun}
@@ -36,3 +37,9 @@ returns-in-Err-new-clause-made g c =
       finds = subst (λ (o : Outcome). FindsSlot c.args.slots c.args.taken o) (sym e.outcome) (ltb-true c.args.taken c.args.slots c.in-Ok.ensures.begins.0);
       why = subst (λ (o : Outcome). IsWhy c.args.start (view_of c.unbegun.result.seat) o) (sym e.outcome) (c.in-Ok.opening.state, c.in-Ok.ensures.process);
     }
+
+pub returns-in-Ok-new-clause-fits : goal.returns-in-Ok-new-clause-fits
+returns-in-Ok-new-clause-fits g c = fits_at _ _ c.started.new.kernel (sym c.supply-store.ensures) c.started.ensures.fits
+
+pub returns-in-Err-new-clause-fits : goal.returns-in-Err-new-clause-fits
+returns-in-Err-new-clause-fits g c = fits_at _ _ c.started.new.kernel (sym c.supply-store.ensures) c.started.ensures.fits

@@ -1,6 +1,0 @@
-use Rattle.std.proofs.Common.{arith}
-use Rattle.sv39_entry.proofs.Canonical.{canonical}
-use Rattle.sv39_entry.proofs.address.Va.is_canonical.Goals as goal
-
-pub returns-clause-bits : goal.returns-clause-bits
-returns-clause-bits c = rw c.has_equal_upper_bits.ensures (canonical c.args.self.0 (omega arith))
