@@ -24,6 +24,7 @@ use table_walk::{HeldWords, Walk, map, new_table, one_outcome, translate, walks_
 pub struct KernelTable<S: FrameSeat> {
     pub seat: S,
     pub root: FrameNo,
+    /// The scheme by which the table is walked; a machine's processes have it too.
     pub scheme: Scheme,
 }
 

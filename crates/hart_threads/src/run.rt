@@ -217,7 +217,7 @@ fn run_in<'a, B: Plan + Send + Sync, R: Threads + Wait + Sync, G: Gate + Sync>(
 }
 
 /// Starts processes in order, each of an image and with a list of calls, and runs them with so many harts on threads: hart 0
-/// is this thread, and a thread that cannot be started is left out. A hart takes a process from the run queue, makes up to
+/// is this thread, and a thread that cannot be started is left out. Processes have page tables of Sv39. A hart takes a process from the run queue, makes up to
 /// `quantum` calls and puts it back. `slots` is the number of places for processes.
 ///
 /// Each process that was started, and each child that a journal names, comes back once, as it ended, and nobody else: its

@@ -85,7 +85,7 @@ module _ (w : World) (s : ℕ) (p : Process) (holds : Holds New w) (lives : proc
     there = with_progress w s g
 
     there_new : HasNewCopies there
-    there_new = are_new there (put_holds New fresh_is_kept w there s g.process refl k.goes.rises k.goes.keeps holds)
+    there_new = are_new there (put_holds New (fresh_is_kept w.scheme) w there s g.process refl k.goes.rises k.goes.keeps holds)
 
     there_lives : process_in there s ≡ Some g.process
     there_lives = set_lives w.slots s p g.process lives
@@ -113,7 +113,7 @@ module _ (w : World) (s : ℕ) (p : Process) (holds : Holds New w) (lives : proc
     reached_spent : (o : Option Rule) → copy_rule g.process.scheme (regions g.process) kind address ≡ o → SpentIfOk (reached (around w s) kind address g o)
     reached_spent (Some r) e = stopped
     reached_spent None e =
-        let goes = reached_goes New fresh_is_kept (around w s) w.counter g k.goes kind address None (λ _. e) in
+        let goes = reached_goes New (fresh_is_kept w.scheme) (around w s) w.counter g k.goes kind address None (λ _. e) in
         subst SpentIfOk (sym shift) (page_came _ refl (subst (GoesIfOk New w.counter) shift goes))
 
     reach_spent : SpentIfOk (reached_in (around w s) kind g address)
@@ -129,7 +129,7 @@ module _ (w : World) (s : ℕ) (p : Process) (holds : Holds New w) (lives : proc
       let same : free (with_process w s q) ≡ free (with_process w s g.process) = put_free w s p q g.process lives (put.after ∙ sym put.before) refl in
       let before = k.spent in
       record {
-        goes = byte_on_goes New fresh_is_kept (around w s) w.counter g k.goes address b (Some x) e;
+        goes = byte_on_goes New (fresh_is_kept w.scheme) (around w s) w.counter g k.goes address b (Some x) e;
         spent = omega (arith, same, before);
       }
 
@@ -162,7 +162,7 @@ module _ (w : World) (s : ℕ) (p : Process) (holds : Holds New w) (lives : proc
   pub not_begun : Spent (begun w (without_pending p))
   not_begun =
       let same : free (with_process w s (without_pending p)) ≡ free w = same_free w s p (without_pending p) lives refl refl in
-      record { goes = record { keeps = fresh_is_kept.awaiting w.counter p None (holds.each s p lives); rises = omega arith }; spent = omega (arith, same) }
+      record { goes = record { keeps = (fresh_is_kept w.scheme).awaiting w.counter p None (holds.each s p lives); rises = omega arith }; spent = omega (arith, same) }
 
 -- ---- both kinds, in memories of every size
 

@@ -7,6 +7,7 @@ use Rattle.std.proofs.lemmas.Grind.{common_steps}
 use Rattle.std.specs.Prelude.{◌/◌, ◌^◌, unwrap_or, is_none, nat_abs, slice_get, slice_set, fold, zip, replicate, Result, Ok, Err}
 use Rattle.std.proofs.lemmas.Option.{same_Some}
 use Rattle.process_laws.specs.Apart.{EachProcess}
+use Rattle.process_laws.proofs.StepReplies.{step_suits}
 use Rattle.sv39_entry.specs.declared.scheme.Scheme.{Scheme}
 use Rattle.process_model.specs.Bytes.{pages_for, is_width, low_bytes, write_bytes, numbers_from}
 use Rattle.process_model.specs.Files.{File}
@@ -45,12 +46,12 @@ use Rattle.process_model.specs.declared.step.Reply.TheVariants.{Ended, Exited}
 use Rattle.process_model.specs.declared.step.Step.{Step}
 use Rattle.process_model.specs.declared.step.Step.TheVariants.{Start, Switch, Trap, Next, Fill, Evict, Fetch, Load as load_step, Store, TrampolineFetch, Serve, Fork, Exec, Sbrk, Mmap, Munmap, CopyIn, CopyOut, Exit}
 
--- every kind of change keeps the property, where n is the counter
-pub record IsKept (P : ℕ → Process → Type 0) : Type 0 where
+-- every kind of change keeps the property, where n is the counter, and images are read by one scheme
+pub record IsKept (scheme : Scheme) (P : ℕ → Process → Type 0) : Type 0 where
   -- the counter rises
   pub later : (n m : ℕ) (p : Process) → n ≤ m → P n p → P m p
   -- an image's process is made
-  pub made : (z : Scheme) (n : ℕ) (image : Image) (ls : List LoadSegment) → image_loads z image ≡ Ok ls → P (n + length (image_pages ls)) (process_of z n ls)
+  pub made : (z : Scheme) → z ≡ scheme → (n : ℕ) (image : Image) (ls : List LoadSegment) → image_loads z image ≡ Ok ls → P (n + length (image_pages ls)) (process_of z n ls)
   -- a granted page is settled
   pub settled : (n : ℕ) (files : List File) (p : Process) (access : Access) (address : ℕ) → copy_rule p.scheme (regions p) access address ≡ None → get p.settled (page_of address) ≡ None
       → P n p → P (n + 1) (settled_anew files n p access (page_of address))
@@ -143,7 +144,7 @@ module _ (P : ℕ → Process → Type 0) where
     stopped : {r : Rule} → GoesIfOk n (Err r)
     went : {g : Progress} → Goes n g → GoesIfOk n (Ok g)
 
-  module _ (k : IsKept P) where
+  module _ {scheme : Scheme} (k : IsKept scheme P) where
     -- the processes are as they were
     same_slots : (w v : World) → v.slots ≡ w.slots → v.counter ≡ w.counter → Holds w → Holds v
     same_slots w v slots counter h = record { each = λ s p e. subst (λ (n : ℕ). P n p) (sym counter) (h.each s p (ap (λ xs. flat (slice_get xs s)) (sym slots) ∙ e)) }
@@ -307,7 +308,7 @@ module _ (P : ℕ → Process → Type 0) where
       user_kept : is_width a.width ≡ true → P n (user_access p a).process
       user_kept e = denied_kept _ (λ g. aligned_fits a.address a.width e (granted p.scheme (regions p) a.access a.address a.width g).0)
 
-    module _ (w : World) (h : Holds w) where
+    module _ (w : World) (same : w.scheme ≡ scheme) (h : Holds w) where
       told_holds : (number : ℕ) (hart : Hart) (s : ℕ) (x : Answer) (b : Bool) → P w.counter x.process → Holds (told_if w number hart s x b).world
       told_holds number hart s x true f = put_holds w _ s x.process refl (omega arith) f h
       told_holds number hart s x false f = with_holds w s x.process f h
@@ -353,7 +354,7 @@ module _ (P : ℕ → Process → Type 0) where
 
       -- processes that begin, and changes of regions
       image_holds : (s : ℕ) (image : Image) (ls : List LoadSegment) → image_loads w.scheme image ≡ Ok ls → Holds (with_image w s ls)
-      image_holds s image ls e = put_holds w _ s _ refl (omega arith) (k.made w.scheme w.counter image ls e) h
+      image_holds s image ls e = put_holds w _ s _ refl (omega arith) (k.made w.scheme same w.counter image ls e) h
 
       started_unless_holds : (s : ℕ) (image : Image) (ls : List LoadSegment) (b : Bool) → image_loads w.scheme image ≡ Ok ls → Holds (started_unless w s ls b).world
       started_unless_holds s image ls true e = h
@@ -417,39 +418,42 @@ module _ (P : ℕ → Process → Type 0) where
           served_or_ended_holds number hart s p a _ (reached_goes (around w s) w.counter (begun w p) (begun_goes p f) a.access a.address _ (λ e. (granted p.scheme (regions p) a.access a.address a.width e).1))
 
     -- what the step itself changes
-    plain_holds : (w : World) → Holds w → (s : Step) → Holds (plain_step w s).world
-    plain_holds w h (Start image) = started_holds w h image _
-    plain_holds w h (Switch n slot) = on_hart_holds w h n _ _ _ _ (λ hart e. same_slots w _ refl refl h)
-    plain_holds w h (Trap n) = on_hart_holds w h n _ _ _ _ (λ hart e. its_holds w h hart _ (λ s p f. same_slots (with_process w s (without_pending p)) _ refl refl (settles_holds w h s p f)))
-    plain_holds w h (Next n) = on_hart_holds w h n _ _ _ _ (λ hart e. same_slots w _ refl refl h)
-    plain_holds w h (Fill n address) = on_hart_holds w h n _ _ _ _ (λ hart e. same_slots w _ refl refl h)
-    plain_holds w h (Evict n entry) = on_hart_holds w h n _ _ _ _ (λ hart e. same_slots w _ refl refl h)
-    plain_holds w h (Fetch n address via) = access_holds w h n access.Fetch address 4 0 via
-    plain_holds w h (load_step n address width via) = access_holds w h n access.Load address width 0 via
-    plain_holds w h (Store n address width value via) = access_holds w h n access.Store address width value via
-    plain_holds w h (TrampolineFetch n offset via) = on_hart_holds w h n _ _ _ _ (λ hart e. h)
-    plain_holds w h (Serve n) = on_hart_holds w h n _ _ _ _ (λ hart e. its_holds w h hart _ (λ s p f. served_holds w h n hart s p p.pending f))
-    plain_holds w h (Fork n) = kernel_holds w h n _ _ (λ hart s p f. forked_holds w h s p f _)
-    plain_holds w h (Exec n image) = kernel_holds w h n _ _ (λ hart s p f. executed_holds w h s p image _ refl)
-    plain_holds w h (Sbrk n delta) = kernel_holds w h n _ _ (λ hart s p f. resized_holds w h s p f delta _ refl)
-    plain_holds w h (Mmap n len protection flags file) = kernel_holds w h n _ _ (λ hart s p f. mapped_holds w h s p f len protection flags file _ refl)
-    plain_holds w h (Munmap n address len) = kernel_holds w h n _ _ (λ hart s p f. unmapped_holds w h s p f address len _ refl)
-    plain_holds w h (CopyIn n address count) = kernel_holds w h n _ _ (λ hart s p f. progress_holds w h s _ (copied_in_goes (around w s) w.counter (begun w (without_pending p)) address count (begun_goes w h (without_pending p) (k.awaiting w.counter p None f))))
-    plain_holds w h (CopyOut n address bytes) = kernel_holds w h n _ _ (λ hart s p f. progress_holds w h s _ (copied_out_goes (around w s) w.counter (begun w (without_pending p)) address bytes.now (begun_goes w h (without_pending p) (k.awaiting w.counter p None f))))
-    plain_holds w h (Exit n status) = kernel_holds w h n _ _ (λ hart s p f. ended_holds w h n hart s p (Exited status))
+    plain_holds : (w : World) → w.scheme ≡ scheme → Holds w → (s : Step) → Holds (plain_step w s).world
+    plain_holds w same h (Start image) = started_holds w same h image _
+    plain_holds w same h (Switch n slot) = on_hart_holds w same h n _ _ _ _ (λ hart e. same_slots w _ refl refl h)
+    plain_holds w same h (Trap n) = on_hart_holds w same h n _ _ _ _ (λ hart e. its_holds w same h hart _ (λ s p f. same_slots (with_process w s (without_pending p)) _ refl refl (settles_holds w same h s p f)))
+    plain_holds w same h (Next n) = on_hart_holds w same h n _ _ _ _ (λ hart e. same_slots w _ refl refl h)
+    plain_holds w same h (Fill n address) = on_hart_holds w same h n _ _ _ _ (λ hart e. same_slots w _ refl refl h)
+    plain_holds w same h (Evict n entry) = on_hart_holds w same h n _ _ _ _ (λ hart e. same_slots w _ refl refl h)
+    plain_holds w same h (Fetch n address via) = access_holds w same h n access.Fetch address 4 0 via
+    plain_holds w same h (load_step n address width via) = access_holds w same h n access.Load address width 0 via
+    plain_holds w same h (Store n address width value via) = access_holds w same h n access.Store address width value via
+    plain_holds w same h (TrampolineFetch n offset via) = on_hart_holds w same h n _ _ _ _ (λ hart e. h)
+    plain_holds w same h (Serve n) = on_hart_holds w same h n _ _ _ _ (λ hart e. its_holds w same h hart _ (λ s p f. served_holds w same h n hart s p p.pending f))
+    plain_holds w same h (Fork n) = kernel_holds w same h n _ _ (λ hart s p f. forked_holds w same h s p f _)
+    plain_holds w same h (Exec n image) = kernel_holds w same h n _ _ (λ hart s p f. executed_holds w same h s p image _ refl)
+    plain_holds w same h (Sbrk n delta) = kernel_holds w same h n _ _ (λ hart s p f. resized_holds w same h s p f delta _ refl)
+    plain_holds w same h (Mmap n len protection flags file) = kernel_holds w same h n _ _ (λ hart s p f. mapped_holds w same h s p f len protection flags file _ refl)
+    plain_holds w same h (Munmap n address len) = kernel_holds w same h n _ _ (λ hart s p f. unmapped_holds w same h s p f address len _ refl)
+    plain_holds w same h (CopyIn n address count) = kernel_holds w same h n _ _ (λ hart s p f. progress_holds w same h s _ (copied_in_goes (around w s) w.counter (begun w (without_pending p)) address count (begun_goes w same h (without_pending p) (k.awaiting w.counter p None f))))
+    plain_holds w same h (CopyOut n address bytes) = kernel_holds w same h n _ _ (λ hart s p f. progress_holds w same h s _ (copied_out_goes (around w s) w.counter (begun w (without_pending p)) address bytes.now (begun_goes w same h (without_pending p) (k.awaiting w.counter p None f))))
+    plain_holds w same h (Exit n status) = kernel_holds w same h n _ _ (λ hart s p f. ended_holds w same h n hart s p (Exited status))
 
     marks_hold : (policy : Policy) (w : World) (o : Outcome) → Holds o.world → Holds (with_stale_slots policy w o).world
     marks_hold Full w o h = h
     marks_hold Asid w o h = same_slots o.world _ refl refl h
 
-    pub step_holds : (w : World) (s : Step) → Holds w → Holds (step w s).world
+    step_holds : (w : World) (s : Step) → w.scheme ≡ scheme → Holds w → Holds (step w s).world
     unfolding step
-    step_holds w s h = marks_hold w.policy w (plain_step w s) (plain_holds w h s)
+    step_holds w s same h = marks_hold w.policy w (plain_step w s) (plain_holds w same h s)
 
-    run_holds : (w : World) (steps : List Step) → Holds w → Holds (run w steps).world
-    run_holds w [] h = h
-    run_holds w (s ∷ ss) h = run_holds (step w s).world ss (step_holds w s h)
+    pub run_holds : (w : World) (steps : List Step) → w.scheme ≡ scheme → Holds w → Holds (run w steps).world
+    run_holds w [] same h = h
+    run_holds w (s ∷ ss) same h = run_holds (step w s).world ss ((step_suits w s).scheme ∙ same) (step_holds w s same h)
 
-    -- in every run from boot each process has the property
-    pub always_holds : (c : Config) (files : List File) (steps : List Step) → Holds (run (booted c files) steps).world
-    always_holds c files steps = run_holds (booted c files) steps (record { each = λ s p e. absurd (none_in_empty c.slots s p e) })
+  -- in every run from boot each process has the property
+  booted_holds : (c : Config) (files : List File) → Holds (booted c files)
+  booted_holds c files = record { each = λ s p e. absurd (none_in_empty c.slots s p e) }
+
+  pub always_holds : (c : Config) (files : List File) (steps : List Step) → IsKept c.scheme P → Holds (run (booted c files) steps).world
+  always_holds c files steps k = run_holds k (booted c files) steps refl (booted_holds c files)

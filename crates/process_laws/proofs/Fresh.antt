@@ -94,10 +94,10 @@ taken_fresh : (n : ℕ) (parts : Bool) (p : Process) (page : ℕ) (x y : Page) �
 taken_fresh n true p page x y is e f = insert_new n p.settled page y is f
 taken_fresh n false p page x y is e f = rises n (n + 1) _ (omega arith) (insert_same n p.settled page x y e is f)
 
-pub fresh_is_kept : IsKept (λ n p. IsFresh n p.settled)
-fresh_is_kept = record {
+pub fresh_is_kept : (scheme : Scheme) → IsKept scheme (λ n p. IsFresh n p.settled)
+fresh_is_kept scheme = record {
   later = λ n m p le f. rises n m p.settled le f;
-  made = λ z n image ls e. made_fresh z n ls;
+  made = λ z same n image ls e. made_fresh z n ls;
   settled = λ n files p access address granted none f. insert_new n p.settled _ _ refl f;
   taken = λ n shared p page x e f. taken_fresh n (parts_from shared x) p page x _ refl e f;
   written = λ n p page x bytes e long f. insert_same n p.settled page x _ e refl f;

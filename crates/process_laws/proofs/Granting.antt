@@ -123,10 +123,10 @@ pub record AreBare (p : Process) : Type 0 where
   parts : AllBare p.parts
   mappings : AllBare p.mappings
 
-bare_is_kept : IsKept (λ n p. AreBare p)
-bare_is_kept = record {
+bare_is_kept : (scheme : Scheme) → IsKept scheme (λ n p. AreBare p)
+bare_is_kept scheme = record {
   later = λ n m p le b. b;
-  made = λ z n image ls e. let b = made_bare z n ls in record { parts = b.0; mappings = b.1 };
+  made = λ z same n image ls e. let b = made_bare z n ls in record { parts = b.0; mappings = b.1 };
   settled = λ n files p access address granted none b. record { parts = b.parts; mappings = b.mappings };
   taken = λ n shared p page x e b. record { parts = b.parts; mappings = b.mappings };
   written = λ n p page x bytes e long b. record { parts = b.parts; mappings = b.mappings };
@@ -168,8 +168,8 @@ pub record IsSound (p : Process) : Type 0 where
 
 pub always_sound : (c : Config) (files : List File) (xs : List Step) (s : ℕ) (p : Process) → process_in (run (booted c files) xs).world s ≡ Some p → IsSound p
 always_sound c files xs s p e = record {
-  ordered = (always_holds (λ n p. IsInOrder p) order_is_kept c files xs).each s p e;
-  bare = (always_holds (λ n p. AreBare p) bare_is_kept c files xs).each s p e;
+  ordered = (always_holds (λ n p. IsInOrder p) c files xs (order_is_kept c.scheme)).each s p e;
+  bare = (always_holds (λ n p. AreBare p) c files xs (bare_is_kept c.scheme)).each s p e;
 }
 
 heap_bare : (p : Process) → Bare (heap_of p)

@@ -79,10 +79,10 @@ made_order z n ls is =
       mapped = tt;
     }
 
-pub order_is_kept : IsKept (λ n p. IsInOrder p)
-order_is_kept = record {
+pub order_is_kept : (scheme : Scheme) → IsKept scheme (λ n p. IsInOrder p)
+order_is_kept scheme = record {
   later = λ n m p le o. o;
-  made = λ z n image ls e. made_order z n ls (accepted_is_placed z image ls e);
+  made = λ z same n image ls e. made_order z n ls (accepted_is_placed z image ls e);
   settled = λ n files p access address granted none o. same_order 1 p _ _ _ o;
   taken = λ n shared p page x e o. same_order 1 p _ _ _ o;
   written = λ n p page x bytes e long o. same_order 1 p _ _ _ o;

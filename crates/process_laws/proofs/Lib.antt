@@ -16,6 +16,7 @@ pub mod CopyStops
 pub mod CopyFrames
 pub mod Refused
 pub mod Replies
+pub mod StepReplies
 pub mod Untold
 pub mod Possible
 pub mod Going
@@ -40,6 +41,7 @@ pub mod ScriptLines
 pub mod Execs
 pub mod LookUps
 pub mod EveryChange
+pub mod SameScheme
 pub mod Fresh
 pub mod ImageOrder
 pub mod InOrder

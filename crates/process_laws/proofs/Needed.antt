@@ -1,10 +1,12 @@
--- The tables of pages are those of the set of pages, and no fewer for more pages.
-use Rattle.std.proofs.Common.{◌≡◌, ℕ, ◌≤◌, ◌/◌, inl, inr, arith, refl, List, [], ◌∷◌, map}
+-- The tables of pages are those of the set of pages, and no fewer for more pages; one page more needs one of each level below the root's
+-- at most.
+use Rattle.std.proofs.Common.{◌≡◌, ℕ, ◌+◌, ◌≤◌, ◌/◌, inl, inr, arith, refl, List, [], ◌∷◌, length, map}
 use Rattle.sv39_entry.specs.declared.scheme.Scheme.{Scheme}
 use Rattle.process_model.specs.PageMap.{NumberSet, insert, numbers, keys, count}
 use Rattle.process_model.specs.Frames.{tables_needed, tables_of_sizes, table_sizes}
-use Rattle.process_laws.proofs.SetSizes.{Within, within_map, numbers_have, numbers_have_only, insert_has, insert_has_only, count_same, count_grows}
-use Rattle.sv39_entry.specs.Schemes.{trampoline_page, trapframe_page}
+use Rattle.process_laws.proofs.SetSizes.{Within, within_map, numbers_have, numbers_have_only, insert_has, insert_has_only, count_same, count_grows, count_next}
+use Rattle.sv39_entry.specs.Schemes.{top_level, trampoline_page, trapframe_page}
+use Rattle.sv39_entry.specs.declared.scheme.Scheme.TheVariants.{Sv39, Sv48}
 
 within_two : (a b : ℕ) (xs ys : List ℕ) → Within xs ys → Within (a ∷ b ∷ xs) (a ∷ b ∷ ys)
 within_two a b xs ys w q (inl e) = inl e
@@ -69,3 +71,31 @@ tables_of_numbers z xs = tables_same z (keys (numbers xs)) xs (numbers_have_only
 
 pub tables_of_insert : (z : Scheme) (s : NumberSet) (page : ℕ) → tables_needed z (keys (insert s page tt)) ≡ tables_needed z (page ∷ keys s)
 tables_of_insert z s page = tables_same z (keys (insert s page tt)) (page ∷ keys s) (insert_has_only s page tt) (insert_has s page tt)
+
+-- one page more
+
+values_next : (f : ℕ → ℕ) (a b c : ℕ) (xs : List ℕ) → values f a b (c ∷ xs) ≤ 1 + values f a b xs
+values_next f a b c xs =
+    let there = within_map f (c ∷ a ∷ b ∷ xs) (a ∷ b ∷ c ∷ xs) (to_third a b c xs) in
+    let back = within_map f (a ∷ b ∷ c ∷ xs) (c ∷ a ∷ b ∷ xs) (from_third a b c xs) in
+    let grown : count (numbers (f c ∷ map f (a ∷ b ∷ xs))) ≤ 1 + values f a b xs = count_next (f c) (map f (a ∷ b ∷ xs)) in
+    let same : count (numbers (f c ∷ map f (a ∷ b ∷ xs))) ≡ values f a b (c ∷ xs) = count_same (map f (c ∷ a ∷ b ∷ xs)) (map f (a ∷ b ∷ c ∷ xs)) there back in
+    omega (grown, same, arith)
+
+sizes_next : (sizes : List ℕ) (a b page : ℕ) (xs : List ℕ) → tables_of_sizes sizes (a ∷ b ∷ page ∷ xs) ≤ length sizes + tables_of_sizes sizes (a ∷ b ∷ xs)
+sizes_next [] a b page xs = omega arith
+sizes_next (size ∷ sizes) a b page xs =
+    let here = values_next (λ n. n / size) a b page xs in
+    let rest = sizes_next sizes a b page xs in
+    omega (here, rest, arith)
+
+sizes_few : (z : Scheme) → length (table_sizes z) ≡ top_level z
+sizes_few Sv39 = refl
+sizes_few Sv48 = refl
+
+pub tables_next : (z : Scheme) (page : ℕ) (xs : List ℕ) → tables_needed z (page ∷ xs) ≤ top_level z + tables_needed z xs
+unfolding tables_needed
+tables_next z page xs =
+    let all = sizes_next (table_sizes z) (trampoline_page z) (trapframe_page z) page xs in
+    let few = sizes_few z in
+    omega (all, few, arith)

@@ -138,5 +138,9 @@ count_new x xs new = count_cons x xs ∙ elim (is_some (find nat_cmp x (numbers 
 pub count_grows : (x : ℕ) (xs : List ℕ) → count (numbers xs) ≤ count (numbers (x ∷ xs))
 count_grows x xs = rw (count_cons x xs) (elim (is_some (find nat_cmp x (numbers xs).entries)) as (λ b. count (numbers xs) ≤ cond b (count (numbers xs)) (count (numbers xs) + 1)) [ true ↦ omega arith | false ↦ omega arith ])
 
+-- by one at most
+pub count_next : (x : ℕ) (xs : List ℕ) → count (numbers (x ∷ xs)) ≤ 1 + count (numbers xs)
+count_next x xs = rw (count_cons x xs) (elim (is_some (find nat_cmp x (numbers xs).entries)) as (λ b. cond b (count (numbers xs)) (count (numbers xs) + 1) ≤ 1 + count (numbers xs)) [ true ↦ omega arith | false ↦ omega arith ])
+
 pub length_keys : (s : NumberSet) → length (keys s) ≡ count s
 length_keys s = length-map s.entries (λ e. e.0)

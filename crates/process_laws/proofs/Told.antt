@@ -27,8 +27,10 @@ use Rattle.process_laws.proofs.OwnSteps.{becomes_as, Own, owns, told_as}
 use Rattle.process_laws.proofs.Proper.{access_wide, call_quiet, copy_few, exit_tells, fetch_tells, fetches, map_tells, next_quiet, step_in_phase, switch_off, switch_was}
 use Rattle.process_laws.proofs.Possible.{access_made, calls_possible, copy_in_made, copy_out_made}
 use Rattle.process_laws.proofs.Refused.{refused_same}
-use Rattle.process_laws.proofs.Replies.{bad_exec, bad_start, served_waits, serves_it, step_hosted, step_suits}
+use Rattle.process_laws.proofs.Replies.{bad_exec, bad_start, served_waits, serves_it, step_hosted}
 use Rattle.process_laws.proofs.Running.{step_reply}
+use Rattle.process_laws.proofs.SameScheme.{always_scheme}
+use Rattle.process_laws.proofs.StepReplies.{step_suits}
 use Rattle.process_laws.proofs.Untold.{untold}
 use Rattle.process_laws.proofs.Users.{ends}
 use Rattle.process_laws.proofs.Users as users
@@ -112,8 +114,8 @@ module _ (w : World) (x : Step) where
             (out_front_world w h s p on address bytes front (out_ran w h s address bytes p on (made_as (CopyOut h address bytes) is)));
       }
 
-  leaves_others : OneEach w → LeavesOthers m
-  leaves_others one =
+  leaves_others : OneEach w → ((s : ℕ) (q : Process) → process_in m.after s ≡ Some q → q.scheme ≡ (m.after).scheme) → LeavesOthers m
+  leaves_others one schemes =
       let k = step_keeps w x in
       record {
         kept = λ s q apart lives. kept_by s q w x apart lives;
@@ -124,6 +126,8 @@ module _ (w : World) (x : Step) where
         files = k.files;
         memory = (step_suits w x).memory;
         slots = k.places;
+        scheme = (step_suits w x).scheme;
+        schemes = schemes;
       }
 
   refuses_bad : (image : Image) (e : BadImage) (y : Step) → Loads image y → image_loads w.scheme image ≡ Err e → IsMade (step w y).reply → ⊥
@@ -230,6 +234,9 @@ module _ (w : World) (x : Step) where
 
 -- ---- all steps of a run
 
+abbrev SameSchemes : World → Type 0
+SameSchemes w = (s : ℕ) (q : Process) → process_in w s ≡ Some q → q.scheme ≡ w.scheme
+
 one_more_moment : (xs : List Step) (x : Step) (w : World) (past : List Moment) → moments_from past w (xs ++ x ∷ []) ≡ moment_of (run w xs).world x ∷ moments_from past w xs
 one_more_moment [] x w past = refl
 one_more_moment (y ∷ ys) x w past = one_more_moment ys x (step w y).world (moment_of w y ∷ past)
@@ -246,10 +253,10 @@ module _ (c : Config) (files : List File) where
       let w = world_after done in
       record {
         users = answers_user w x (latest_held c files done).sized (always_sound c files done);
-        copies = copies_for_kernel w x (always_holds New fresh_is_kept c files done);
-        frames = counts_frames w x (always_holds New fresh_is_kept c files done);
+        copies = copies_for_kernel w x (always_holds New c files done (fresh_is_kept c.scheme));
+        frames = counts_frames w x (always_holds New c files done (fresh_is_kept c.scheme));
         bytes = reads_latest w x (past_of done) (latest_held c files done);
-        others = leaves_others w x (always_one c files done);
+        others = leaves_others w x (always_one c files done) (subst SameSchemes (run_one_more done (booted c files) x) (always_scheme c files (done ++ x ∷ [])).processes);
         own = own_steps w x (latest_held c files done).sized (always_sound c files done);
         made_own = makes_own w x;
         made = makes_steps w x;

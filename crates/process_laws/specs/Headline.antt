@@ -65,7 +65,7 @@ pub record CopiesForKernel (m : Moment) (h address k : ℕ) (p : Process) : Type
   pub to_front : (bytes front : Bor (List ℕ)) → m.step ≡ CopyOut h address bytes → front.now ≡ take k bytes.now → m.after ≡ (moment_of m.before (CopyOut h address front)).after
 
 -- (c) A reply says NoFrame exactly when fewer frames are free than the step needs, n; and n is the same however many frames the memory has
--- (`elsewhere`). Which n that is, the page leaves to the model: a start of nine pages in the first two megabytes needs 17
+-- (`elsewhere`). Which n that is, the page leaves to the model: a start of nine pages in the first two megabytes needs 17, under Sv48 19
 abbrev pub IsDry : Moment → ℕ → Type 0
 IsDry m n = tells_no_frame m.reply ≡ nat_lt (free m.before) n
 
@@ -109,6 +109,9 @@ pub record LeavesOthers (m : Moment) : Type 0 where
   pub files : writes_back m.step m.reply ≡ false → (m.after).files ≡ (m.before).files
   pub memory : (m.after).frames ≡ (m.before).frames
   pub slots : length (m.after).slots ≡ length (m.before).slots
+  -- The scheme of translation stays, and each process has it
+  pub scheme : (m.after).scheme ≡ (m.before).scheme
+  pub schemes : (s : ℕ) (q : Process) → process_in m.after s ≡ Some q → q.scheme ≡ (m.after).scheme
 
 -- (f) By its own step on hart h a process p becomes q
 pub record Becomes (m : Moment) (h : ℕ) (p q : Process) : Type 0 where

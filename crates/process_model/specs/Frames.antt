@@ -115,8 +115,7 @@ abbrev pub start_need : Scheme → List LoadSegment → ℕ
 start_need s ls = 1 + exec_need s ls
 
 -- what boot takes: the trampoline page, five tables of the kernel, six where the direct map passes two megabytes, and one
--- stack a slot (own choice: no device is mapped)
--- Sv48 has two tables more, on the ways to the trampoline and to the direct map
+-- stack a slot (own choice: no device is mapped). Sv48 has two tables more, on the ways to the trampoline and to the direct map
 abbrev pub first_frames : Scheme → ℕ
 first_frames Sv39 = 6
 first_frames Sv48 = 8
@@ -128,7 +127,7 @@ abbrev pub can_boot : Scheme → ℕ → ℕ → ℕ → Bool
 can_boot s harts frames slots =
     nat_le 1 harts && nat_le harts 8 && nat_le 16 frames && nat_le frames 1024 && nat_le 1 slots && nat_le slots 64 && nat_le (kernel_frames s frames slots) frames
 
--- frames that threads share
+-- frames that threads share; processes on threads have Sv39
 abbrev pub can_share : ℕ → ℕ → Bool
 can_share frames slots =
     nat_le 16 frames && nat_le frames 256 && nat_le 1 slots && nat_le slots 64 && nat_le (kernel_frames Sv39 frames slots) frames

@@ -25,7 +25,7 @@ pub record Pending : Type 0 where
   pub served : Bool
 
 pub record Process : Type 0 where
-  -- by which its addresses are translated
+  -- the scheme by which its addresses are translated: the world's
   pub scheme : Scheme
   -- segments, guard and stack, in ascending order
   pub parts : List Region

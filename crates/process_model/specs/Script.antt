@@ -90,6 +90,7 @@ abbrev pub as_policy : Option FieldValue → Policy
 as_policy (Some (value.Policy p)) = p
 as_policy v = policy.Full
 
+-- Sv39 where no scheme is named
 abbrev pub as_scheme : Option FieldValue → Scheme
 as_scheme (Some (value.Scheme z)) = z
 as_scheme v = Sv39

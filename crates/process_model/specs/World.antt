@@ -17,6 +17,7 @@ use Rattle.process_model.specs.declared.step.Reply.TheVariants.{Refused}
 use Rattle.process_model.specs.declared.step.Report.{Report}
 
 pub record World : Type 0 where
+  -- the scheme by which addresses are translated, of all processes and of the kernel
   pub scheme : Scheme
   pub policy : Policy
   -- how many the memory has

@@ -24,7 +24,7 @@ pub struct Config {
     /// How many processes there may be.
     pub slots: usize,
     pub policy: Policy,
-    /// By which addresses are translated.
+    /// The scheme by which addresses are translated.
     pub scheme: Scheme,
 }
 
@@ -42,8 +42,8 @@ impl Config {
     }
 }
 
-/// How many frames the kernel takes: the trampoline's, its page tables, of which there is one more where the frames fill
-/// more than two megabytes, and a stack for each slot.
+/// How many frames the kernel takes: the trampoline's, its page tables, and a stack for each slot. There are five tables under
+/// Sv39 and seven under Sv48, and one more where the frames fill more than two megabytes.
 pub fn kernel_frames(scheme: Scheme, frames: usize, slots: usize) -> usize
     requires few { slots ≤ 64 }
     ensures { result ≡ model.kernel_frames scheme frames slots }

@@ -79,7 +79,7 @@ impl Vpn {
     }
 
     /// VPN[level] of each address of the page: which entry a table of that level has for it (the standard, 4.4.1).
-    /// Levels above the highest have 0.
+    /// Above level 5, where a page number has no bit left, it is 0.
     pub fn index(self, level: u32) -> usize
         ensures value { result ≡ words.vpn self level }
         ensures small { result < 512 }

@@ -27,7 +27,7 @@ impl Model for Satp {
 }
 
 impl Satp {
-    /// A scheme, with the root table in a frame, for an address space number.
+    /// The register's value for a scheme, an address-space identifier and the frame of a root table.
     pub fn new(scheme: Scheme, asid: u16, root: FrameNo) -> Satp
         ensures word { result ≡ words.satp_word (mode_of scheme) asid root.0 }
         ensures mode { words.mode result ≡ mode_of scheme }

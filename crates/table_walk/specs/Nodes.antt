@@ -140,7 +140,7 @@ walk_leaf_step s page =
     let last : 0 ≡ top_level s - top_level s = omega arith in
     ap (λ (level : ℕ). last_table s page * 512 + vpn page level) last
 
--- a root's table is one of its level
+-- so many levels below a root the numbers of leaves begin
 pub root_power : (s : Scheme) → root_node s * 512 ^ suc (top_level s) ≡ first_leaf
 root_power Sv39 = omega arith
 root_power Sv48 = omega arith

@@ -404,6 +404,63 @@ fn runs_thousands_of_steps(rt: HostRuntime) {
     assert_eq!(rt; replies_when_idle(rt.alloc(), 5000), Some(5000));
 }
 
+/// A process comes into user mode and back into the kernel, and its heap grows past 2^39; a load on a page there faults and is
+/// served.
+fn far_steps(image: Image<'_>) -> [Step<'_>; 16] {
+    [
+        Step::Start(image),
+        switch(0, 0),
+        Step::Sbrk {
+            hart: 0,
+            delta: 1 << 39,
+        },
+        next(0),
+        next(0),
+        next(0),
+        load(0, 1 << 39, 1),
+        next(0),
+        next(0),
+        next(0),
+        Step::Serve { hart: 0 },
+        next(0),
+        next(0),
+        next(0),
+        load(0, 1 << 39, 1),
+        Step::Trap { hart: 0 },
+    ]
+}
+
+const FAR_REPLIES: &str =
+    "[Started(0), Done, OldSize(16384), Done, Done, Done, Fault(13), Done, Done, Done, Ready, Done, Done, Done, Value(0), Done]";
+
+/// The replies to them where too few frames are free for the page: the process ends, and the hart is idle.
+const ENDED_REPLIES: &str =
+    "[Started(0), Done, OldSize(16384), Done, Done, Done, Fault(13), Done, Done, Done, Ended(NoFrame), \
+    Refused(Impossible(Idle)), Refused(Impossible(Idle)), Refused(Impossible(Idle)), Refused(Impossible(Idle)), \
+    Refused(Impossible(Idle))]";
+
+/// The replies on a machine of Sv48 with so many frames.
+fn far_replies(alloc: Global, frames: usize) -> Option<String> {
+    let segments = [page(alloc).ok()?];
+    let mut machine = with_two_harts(alloc, frames, Policy::Full, Scheme::Sv48)?;
+    told_at_once(alloc, &mut machine, &far_steps(Image::Segments(&segments)))
+}
+
+/// The kernel takes 12 frames and the process 11. The page needs one, and three more for its tables: with none to three of
+/// them free it gets none.
+#[test]
+fn far_page_needs_four_frames(rt: HostRuntime) {
+    for frames in 23..=27 {
+        let told = far_replies(rt.alloc(), frames).expect(&rt, "memory is ample");
+        let wanted = if frames < 27 {
+            ENDED_REPLIES
+        } else {
+            FAR_REPLIES
+        };
+        assert_eq!(rt; told.as_str(), wanted, "{frames} frames");
+    }
+}
+
 /// How many frames are free, held and shared, and how many references there are.
 type Accounts = (usize, usize, usize, usize);
 

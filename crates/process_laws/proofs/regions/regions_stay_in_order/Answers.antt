@@ -5,4 +5,4 @@ use Rattle.process_laws.proofs.regions.regions_stay_in_order.Goals as goal
 use Rattle.process_model.specs.Order.{IsInOrder}
 
 pub returns : goal.returns
-returns c config files steps = λ s p e. (always_holds (λ n p. IsInOrder p) order_is_kept config files steps).each s p e
+returns c config files steps = λ s p e. (always_holds (λ n p. IsInOrder p) config files steps (order_is_kept config.scheme)).each s p e

@@ -1,4 +1,4 @@
-use Rattle.std.proofs.Common.{ℕ, sym, ◌∙◌, arith, ap}
+use Rattle.std.proofs.Common.{◌≡◌, ℕ, sym, ◌∙◌, arith, ap}
 use Rattle.std.specs.Prelude.{min}
 use Rattle.address_space.specs.Standing.{standing}
 use Rattle.hart_machine.proofs.Watched.{none_settled, some_settled}
