@@ -21,11 +21,13 @@ fn writes_words(rt: HostRuntime) {
     }
     let asid = Satp::from_word(0x8012300000080003).asid();
     assert_eq!(rt; asid, 0x123);
-    for (scheme, word) in [
-        (Scheme::Sv39, 0x8000700000080003),
-        (Scheme::Sv48, 0x9000700000080003),
+    for (scheme, asid, word) in [
+        (Scheme::Sv39, 0, 0x8000000000080003),
+        (Scheme::Sv39, 7, 0x8000700000080003),
+        (Scheme::Sv48, 0, 0x9000000000080003),
+        (Scheme::Sv48, 7, 0x9000700000080003),
     ] {
-        assert_eq!(rt; Satp::new(scheme, 7, FrameNo(3)).to_word(), word);
+        assert_eq!(rt; Satp::new(scheme, asid, FrameNo(3)).to_word(), word);
     }
 }
 

@@ -65,13 +65,13 @@ module _ (v w : View) (root root_after trapframe trapframe_after : FrameNo) (l m
 
   -- a space of which a fault was served
   pub alive_served : (files : List File) (access : Access) (address width : ℕ) (IsCount : ℕ → ℕ → Type 0) (r : Served)
-      → ((t : Tables) (p : Process) → IsSpace (body v root.0 trapframe.0 l) t p → IsEnd (first_rule (regions p) access address width) r)
+      → ((t : Tables) (p : Process) → IsSpace (body v root.0 trapframe.0 l) t p → IsEnd (first_rule p.scheme (regions p) access address width) r)
       → (r ≡ Ready → HasReside (body v root.0 trapframe.0 l) (body w root_after.0 trapframe_after.0 m) files access (page_of address) IsCount)
       → ((rule : Rule) → r ≡ Ended rule → (t : Tables) (p : Process) → IsSpace (body v root.0 trapframe.0 l) t p → IsSpace (body w root_after.0 trapframe_after.0 m) t p)
       → (DoesNothing r → w ≡ v) → root_after ≡ root → trapframe_after ≡ trapframe → m ≡ l
       → IsAlive (body v root.0 trapframe.0 l) → IsAlive (body w root_after.0 trapframe_after.0 m)
   alive_served files access address width IsCount Ready ended ready whole view root_is trapframe_is layout alive =
-      let none = granted (first_rule (regions alive.1) access address width) (ended alive.0 alive.1 alive.2) in
+      let none = granted (first_rule (alive.1).scheme (regions alive.1) access address width) (ended alive.0 alive.1 alive.2) in
       let made = ready refl alive.0 alive.1 (can_reside _ alive.0 alive.1 access address width alive.2 none) in
       (made.0, _, made.2.agrees 0)
   alive_served files access address width IsCount (Ended rule) ended ready whole view root_is trapframe_is layout alive =

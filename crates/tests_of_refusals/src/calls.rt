@@ -7,12 +7,12 @@ ghost use Rattle.tests_of_refusals.specs.Family.{IsAlive};
 use crate::deed::{Answer, Deed};
 use crate::given::OneFile;
 use address_space::Space;
-use exec_segments::{Image, exec};
+use exec_segments::exec;
 use fault_rules::serve;
 use frame_store::{FrameSeat, FrameSupply};
 use lazy_growth::sbrk;
 use mmap_regions::{mmap, munmap};
-use process_model::Refusal;
+use process_model::{Image, Refusal};
 use sv39_entry::Va;
 use user_copy::{Short, copy_in, copy_out};
 
@@ -32,7 +32,7 @@ pub(crate) fn call<S: FrameSeat, F: FrameSupply<Seat = S>>(
     match deed {
         Deed::Fork => Answer::Refused(Refusal::NoSlot),
         Deed::Exec(number) => match images.get(number) {
-            Some(image) => done(exec(space, store, image, files)),
+            Some(image) => executed(space, store, files, *image),
             None => Answer::Refused(Refusal::BadArgument),
         },
         Deed::Grow(delta) => match sbrk(space, store, delta) {
@@ -56,6 +56,24 @@ pub(crate) fn call<S: FrameSeat, F: FrameSupply<Seat = S>>(
             Ok(()) => Answer::Done,
             Err(short) => stopped(&short),
         },
+    }
+}
+
+/// What comes of an exec of an image, which is judged by the scheme of the process.
+fn executed<S: FrameSeat, F: FrameSupply<Seat = S>>(
+    space: &mut Space<S>,
+    store: &mut F,
+    files: &mut OneFile,
+    image: Image,
+) -> Answer
+    requires fits { Fits F.rule store.old space.old.seat }
+    requires alive { IsAlive (body_of S.view space.old) }
+    ensures alive { IsAlive (body_of S.view space.new) }
+    ensures keeps { Keeps F.rule store.old space.old.seat store.new space.new.seat }
+{
+    match exec_segments::Image::judged(space.layout.scheme(), image) {
+        Ok(image) => done(exec(space, store, &image, files)),
+        Err(part) => Answer::Refused(Refusal::BadImage(part)),
     }
 }
 

@@ -10,9 +10,8 @@ use crate::given::OneFile;
 use crate::seen::seen;
 use address_space::Space;
 use cow_fork::fork;
-use exec_segments::Image;
 use frame_store::{FrameAccess, FrameSeat, FrameSupply};
-use process_model::Refusal;
+use process_model::{Image, Refusal};
 use std::alloc::{AllocError, Global};
 
 /// The first row of which something else came: its number, what came, and whether all was as before.

@@ -76,10 +76,10 @@ fn see_pages<S: FrameSeat, F: FrameAccess<Seat = S>>(
     ensures alive { IsAlive (body_of S.view space.new) }
     ensures keeps { Keeps F.rule store.old space.old.seat store.new space.new.seat }
 {
-    let end = space.layout.scheme().trapframe().page();
     let mut bytes = [0; 4096];
     let mut from = 0;
     'pages: for _ in 0..256 {
+        let end = space.layout.scheme().trapframe().page();
         let Some(found) = space.next_settled(store, from, end) else {
             return Ok(());
         };

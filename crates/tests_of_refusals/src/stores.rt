@@ -2,13 +2,12 @@
 
 use crate::given::{SMALL, one_file, standard_segments};
 use crate::stories::{FRAMES, Story, Told, told_over};
-use exec_segments::{Image, read_image};
 use frame_store::PlainFrames;
+use process_model::Image;
 use shared_frames::SharedFrames;
 use std::alloc::Global;
 use std::sync::Wait;
 use std::test::Fail;
-use sv39_entry::Scheme;
 
 #[derive(Clone, Copy, PartialEq, Eq, Debug)]
 pub(crate) enum StoreKind {
@@ -27,10 +26,7 @@ pub(crate) fn first_fault<R: Wait>(
     story: &Story,
 ) -> Result<Option<Outcome>, Fail> {
     let segments = standard_segments(alloc)?;
-    let images = [
-        Image::from_segments(Scheme::Sv39, &segments)?,
-        read_image(Scheme::Sv39, SMALL)?,
-    ];
+    let images = [Image::Segments(&segments), Image::Elf(SMALL)];
     for kind in [StoreKind::Plain, StoreKind::Shared] {
         let (told, free) = match kind {
             StoreKind::Plain => over_plain(alloc, &images, story)?,

@@ -9,10 +9,11 @@ use crate::beginning::{begun, reserved_all};
 use crate::deed::Row;
 use crate::family::{Wrong, ended, first_wrong};
 use crate::given::OneFile;
-use exec_segments::Image;
 use frame_store::{FrameAccess, FrameSeat, FrameSupply};
+use process_model::Image;
 use std::alloc::Global;
 use std::test::Fail;
+use sv39_entry::Scheme;
 
 /// How many frames a store of a story has. Beside frame 0, the second seat reserves all but those that are left to the process.
 pub(crate) const FRAMES: usize = 64;
@@ -51,7 +52,8 @@ pub(crate) fn told_over<S: FrameSeat + Drop, F: FrameSupply<Seat = S> + Accounts
         return Err(Fail::from("no image"));
     };
     let reserved = (FRAMES - 1).saturating_sub(story.left);
-    let mut space = begun(store, &mut keeper, image, reserved, story.sharers)?;
+    let image = exec_segments::Image::judged(Scheme::Sv39, *image)?;
+    let mut space = begun(store, &mut keeper, &image, reserved, story.sharers)?;
     let mut child = None;
     let wrong = first_wrong(
         alloc, &mut space, &mut child, store, files, images, story.rows,

@@ -1,8 +1,5 @@
-use Rattle.tests_of_refusals.proofs.Living.{alive_as, alive_copied, alive_replaced, alive_resized, alive_served, alive_unmapped}
+use Rattle.tests_of_refusals.proofs.Living.{alive_as, alive_copied, alive_resized, alive_served, alive_unmapped}
 use Rattle.tests_of_refusals.proofs.calls.call.Goals as goal
-
-pub returns-in-Some-clause-alive : goal.returns-in-Some-clause-alive
-returns-in-Some-clause-alive g c = alive_replaced _ _ _ _ c.exec.result c.exec.ensures.replaced c.exec.ensures.whole c.requires.alive
 
 pub returns-in-Ok-clause-alive : goal.returns-in-Ok-clause-alive
 returns-in-Ok-clause-alive g c =
