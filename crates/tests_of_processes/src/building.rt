@@ -58,25 +58,25 @@ type Row = (Scheme, Run, Run, Option<usize>);
 /// run takes a table for every 512 pages that it has a part of, one for every 2^18, and under Sv48 one for every 2^27, but
 /// for those that are counted already.
 fn rows() -> [Row; 17] {
-    let (three, four) = (Scheme::Sv39, Scheme::Sv48);
+    let (sv39, sv48) = (Scheme::Sv39, Scheme::Sv48);
     [
-        (three, (0, 1), (1, 1), Some(8)),
-        (three, (0, 1), (2, 3), Some(10)),
-        (three, (0, 512), (512, 1), Some(520)),
-        (three, (0, 0), (511, 2), Some(9)),
-        (three, (5, 0), (7, 0), Some(4)),
-        (three, (0, 262_145), (262_145, 1), Some(262_665)),
-        (three, (0, 1), (262_144, 600), Some(610)),
-        (three, (510, 1), (67_108_350, 512), Some(520)),
-        (three, (0, 1), (67_108_860, 2), Some(9)),
-        (three, (3, 1), (262_143, 2), Some(12)),
-        (three, (0, 1), (134_217_728, 1), None),
-        (four, (0, 1), (1, 1), Some(10)),
-        (four, (5, 0), (7, 0), Some(5)),
-        (four, (3, 1), (262_143, 2), Some(14)),
-        (four, (0, 1), (134_217_728, 1), Some(13)),
-        (four, (134_217_727, 2), (34_359_737_854, 512), Some(526)),
-        (four, (0, 1), (34_359_738_366, 1), None),
+        (sv39, (0, 1), (1, 1), Some(8)),
+        (sv39, (0, 1), (2, 3), Some(10)),
+        (sv39, (0, 512), (512, 1), Some(520)),
+        (sv39, (0, 0), (511, 2), Some(9)),
+        (sv39, (5, 0), (7, 0), Some(4)),
+        (sv39, (0, 262_145), (262_145, 1), Some(262_665)),
+        (sv39, (0, 1), (262_144, 600), Some(610)),
+        (sv39, (510, 1), (67_108_350, 512), Some(520)),
+        (sv39, (0, 1), (67_108_860, 2), Some(9)),
+        (sv39, (3, 1), (262_143, 2), Some(12)),
+        (sv39, (0, 1), (134_217_728, 1), None),
+        (sv48, (0, 1), (1, 1), Some(10)),
+        (sv48, (5, 0), (7, 0), Some(5)),
+        (sv48, (3, 1), (262_143, 2), Some(14)),
+        (sv48, (0, 1), (134_217_728, 1), Some(13)),
+        (sv48, (134_217_727, 2), (34_359_737_854, 512), Some(526)),
+        (sv48, (0, 1), (34_359_738_366, 1), None),
     ]
 }
 
@@ -127,9 +127,9 @@ fn built_over(alloc: Global, scheme: Scheme, frames: usize) -> Result<Built, All
 fn builds_a_space(rt: HostRuntime) {
     let built = Some([None, Some(Rule::NoRegion)]);
     let alloc = rt.alloc();
-    let (three, four) = (Scheme::Sv39, Scheme::Sv48);
-    assert_eq!(rt; built_over(alloc, three, 10), Ok((built, 0)));
-    assert_eq!(rt; built_over(alloc, three, 9), Ok((None, 8)));
-    assert_eq!(rt; built_over(alloc, four, 12), Ok((built, 0)));
-    assert_eq!(rt; built_over(alloc, four, 11), Ok((None, 10)));
+    let (sv39, sv48) = (Scheme::Sv39, Scheme::Sv48);
+    assert_eq!(rt; built_over(alloc, sv39, 10), Ok((built, 0)));
+    assert_eq!(rt; built_over(alloc, sv39, 9), Ok((None, 8)));
+    assert_eq!(rt; built_over(alloc, sv48, 12), Ok((built, 0)));
+    assert_eq!(rt; built_over(alloc, sv48, 11), Ok((None, 10)));
 }

@@ -1,5 +1,6 @@
 // A small file, edits of it, and the check that each fails.
 
+use crate::SCHEMES;
 use address_space::Space;
 use byteorder::{ByteOrder, LittleEndian};
 use exec_segments::{read_image, start};
@@ -119,7 +120,7 @@ fn wrong_row(alloc: Global, scheme: Scheme) -> Result<Option<Row>, AllocError> {
 #[test]
 fn judges_each_field(rt: HostRuntime) {
     let empty = [(FILE_SIZE, 0), (MEMORY_SIZE, 0)];
-    for scheme in [Scheme::Sv39, Scheme::Sv48] {
+    for scheme in SCHEMES {
         let alloc = rt.alloc();
         assert_eq!(rt; wrong_row(alloc, scheme), Ok(None), "{scheme:?}");
         let told = with_numbers(alloc, scheme, empty);

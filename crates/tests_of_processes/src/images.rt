@@ -2,14 +2,13 @@
 
 ghost use Rattle.std.specs.Prelude.{◌<◌, ◌≤◌};
 
+use crate::SCHEMES;
 use address_space::Space;
 use exec_segments::{Image, start};
 use frame_store::{PlainFrames, PlainSeat};
 use process_model::{BadImage, Bytes, Segment};
 use std::alloc::{AllocError, Global};
 use sv39_entry::{Access, Rule, Scheme, Va};
-
-const SCHEMES: [Scheme; 2] = [Scheme::Sv39, Scheme::Sv48];
 
 /// A segment of so many bytes in memory, that begins with so many of its own.
 fn segment(
@@ -174,14 +173,14 @@ fn started_over(
 /// Beside frame 0 there are five pages, the trapframe, and five tables or seven.
 #[test]
 fn starts_with_its_frames(rt: HostRuntime) {
-    let (three, four) = (Scheme::Sv39, Scheme::Sv48);
+    let (sv39, sv48) = (Scheme::Sv39, Scheme::Sv48);
     let rows = [
-        (three, 15, true, 3),
-        (three, 12, true, 0),
-        (three, 11, false, 10),
-        (four, 15, true, 1),
-        (four, 14, true, 0),
-        (four, 13, false, 12),
+        (sv39, 15, true, 3),
+        (sv39, 12, true, 0),
+        (sv39, 11, false, 10),
+        (sv48, 15, true, 1),
+        (sv48, 14, true, 0),
+        (sv48, 13, false, 12),
     ];
     for (scheme, frames, starts, free) in rows {
         let told = started_over(rt.alloc(), scheme, frames);

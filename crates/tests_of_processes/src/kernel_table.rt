@@ -4,15 +4,13 @@ ghost use Rattle.std.specs.Prelude.{◌≤◌, IfErr, IfOk};
 ghost use Rattle.address_space.specs.Agreement.{HoldsTrampoline};
 ghost use Rattle.frame_store.specs.Laws.{Fits, Keeps};
 
+use crate::SCHEMES;
 use address_space::KernelTable;
 use frame_store::{FrameAccess, FrameSeat, FrameSupply, NoFrame, PlainFrames};
 use shared_frames::SharedFrames;
 use std::alloc::{AllocError, Global};
 use std::sync::Wait;
 use sv39_entry::{Access, Scheme, Va};
-
-const SCHEMES: [Scheme; 2] = [Scheme::Sv39, Scheme::Sv48];
-
 use table_walk::Walk;
 
 /// An access to an address, and what it leads to.
@@ -160,24 +158,24 @@ fn free_beside(
 type FreeRow = (Scheme, u16, u16, Option<usize>);
 
 fn free_rows() -> [FreeRow; 16] {
-    let (three, four) = (Scheme::Sv39, Scheme::Sv48);
+    let (sv39, sv48) = (Scheme::Sv39, Scheme::Sv48);
     [
-        (three, 64, 1, Some(57)),
-        (three, 64, 4, Some(54)),
-        (three, 64, 64, None),
-        (three, 70, 64, Some(0)),
-        (three, 512, 1, Some(505)),
-        (three, 512, 4, Some(502)),
-        (three, 512, 64, Some(442)),
-        (three, 513, 1, Some(505)),
-        (three, 513, 4, Some(502)),
-        (three, 513, 64, Some(442)),
-        (four, 64, 1, Some(55)),
-        (four, 71, 64, None),
-        (four, 72, 64, Some(0)),
-        (four, 512, 4, Some(500)),
-        (four, 513, 4, Some(500)),
-        (four, 513, 64, Some(440)),
+        (sv39, 64, 1, Some(57)),
+        (sv39, 64, 4, Some(54)),
+        (sv39, 64, 64, None),
+        (sv39, 70, 64, Some(0)),
+        (sv39, 512, 1, Some(505)),
+        (sv39, 512, 4, Some(502)),
+        (sv39, 512, 64, Some(442)),
+        (sv39, 513, 1, Some(505)),
+        (sv39, 513, 4, Some(502)),
+        (sv39, 513, 64, Some(442)),
+        (sv48, 64, 1, Some(55)),
+        (sv48, 71, 64, None),
+        (sv48, 72, 64, Some(0)),
+        (sv48, 512, 4, Some(500)),
+        (sv48, 513, 4, Some(500)),
+        (sv48, 513, 64, Some(440)),
     ]
 }
 

@@ -15,3 +15,10 @@ mod machines;
 mod rules;
 #[cfg(test)]
 mod spaces;
+
+#[cfg(test)]
+use sv39_entry::Scheme;
+
+/// Both schemes of translation.
+#[cfg(test)]
+pub(crate) const SCHEMES: [Scheme; 2] = [Scheme::Sv39, Scheme::Sv48];

@@ -4,6 +4,7 @@ ghost use Rattle.std.specs.Prelude.{IfSome};
 ghost use Rattle.hart_machine.specs.Serves.{IsIn};
 ghost use Rattle.process_model.specs.World.{World};
 
+use crate::SCHEMES;
 use file_cabinet::Cabinet;
 use hart_machine::{BootError, Machine};
 use process_model::{Bytes, Config, Image, Phase, Policy, Refusal, Reply, Segment, Step};
@@ -11,8 +12,6 @@ use std::alloc::{AllocError, Global};
 use sv39_entry::{Scheme, Va, Vpn};
 
 const POLICIES: [Policy; 2] = [Policy::Full, Policy::Asid];
-
-const SCHEMES: [Scheme; 2] = [Scheme::Sv39, Scheme::Sv48];
 
 /// How many harts, frames and slots a machine is to have, and why it is not booted with them.
 type Row = (usize, usize, usize, Option<BootError>);
@@ -498,23 +497,23 @@ fn accounts_with(alloc: Global, scheme: Scheme, frames: usize) -> Option<[Accoun
 /// 11.
 #[test]
 fn accounts_are_counted_by_hand(rt: HostRuntime) {
-    let (three, four) = (Scheme::Sv39, Scheme::Sv48);
+    let (sv39, sv48) = (Scheme::Sv39, Scheme::Sv48);
     let rows = [
         (
-            three,
+            sv39,
             64,
             [(54, 10, 0, 10), (45, 19, 1, 20), (36, 28, 1, 30)],
         ),
-        (three, 19, [(9, 10, 0, 10), (0, 19, 1, 20), (0, 19, 1, 20)]),
-        (three, 18, [(8, 10, 0, 10), (8, 10, 0, 10), (8, 10, 0, 10)]),
+        (sv39, 19, [(9, 10, 0, 10), (0, 19, 1, 20), (0, 19, 1, 20)]),
+        (sv39, 18, [(8, 10, 0, 10), (8, 10, 0, 10), (8, 10, 0, 10)]),
         (
-            four,
+            sv48,
             64,
             [(52, 12, 0, 12), (41, 23, 1, 24), (30, 34, 1, 36)],
         ),
-        (four, 23, [(11, 12, 0, 12), (0, 23, 1, 24), (0, 23, 1, 24)]),
+        (sv48, 23, [(11, 12, 0, 12), (0, 23, 1, 24), (0, 23, 1, 24)]),
         (
-            four,
+            sv48,
             22,
             [(10, 12, 0, 12), (10, 12, 0, 12), (10, 12, 0, 12)],
         ),

@@ -3,6 +3,7 @@
 ghost use Rattle.std.specs.Prelude.{◌≡◌, ◌+◌, ◌≤◌, All};
 ghost use Rattle.sv39_entry.specs.Schemes.{trapframe_page};
 
+use crate::SCHEMES;
 use address_space::{Layout, Part, Region, RegionKind, Source};
 use bitflags::Flags;
 use sv39_entry::{Access, Rights, Rule, Scheme, Va};
@@ -91,7 +92,7 @@ fn wrong_row(layout: &Layout, rows: &[Row]) -> Option<Row> {
 
 #[test]
 fn tells_the_first_rule(rt: HostRuntime) {
-    for scheme in [Scheme::Sv39, Scheme::Sv48] {
+    for scheme in SCHEMES {
         let layout = Layout::new(scheme, &parts());
         assert_eq!(rt; wrong_row(&layout, &rows()), None);
         assert_eq!(rt; wrong_row(&layout, &rows_at_the_end(scheme)), None);

@@ -289,21 +289,21 @@ type Row = (Scheme, usize, u64, Option<Reads>, usize);
 /// needs three of its own.
 fn rows() -> [Row; 13] {
     let (refused, settled) = (Some(REFUSED), Some(SETTLED));
-    let (three, four) = (Scheme::Sv39, Scheme::Sv48);
+    let (sv39, sv48) = (Scheme::Sv39, Scheme::Sv48);
     [
-        (three, 11, 0x5, None, 10),
-        (three, 12, 0x5, refused, 12),
-        (three, 13, 0x5, settled, 13),
-        (three, 13, 0x200, refused, 13),
-        (three, 14, 0x200, settled, 14),
-        (three, 14, 0x40000, refused, 14),
-        (three, 15, 0x40000, settled, 15),
-        (four, 13, 0x5, None, 12),
-        (four, 15, 0x5, settled, 15),
-        (four, 16, 0x4000000, refused, 16),
-        (four, 17, 0x4000000, settled, 17),
-        (four, 17, 0x8000000, refused, 17),
-        (four, 18, 0x8000000, settled, 18),
+        (sv39, 11, 0x5, None, 10),
+        (sv39, 12, 0x5, refused, 12),
+        (sv39, 13, 0x5, settled, 13),
+        (sv39, 13, 0x200, refused, 13),
+        (sv39, 14, 0x200, settled, 14),
+        (sv39, 14, 0x40000, refused, 14),
+        (sv39, 15, 0x40000, settled, 15),
+        (sv48, 13, 0x5, None, 12),
+        (sv48, 15, 0x5, settled, 15),
+        (sv48, 16, 0x4000000, refused, 16),
+        (sv48, 17, 0x4000000, settled, 17),
+        (sv48, 17, 0x8000000, refused, 17),
+        (sv48, 18, 0x8000000, settled, 18),
     ]
 }
 
