@@ -1,8 +1,8 @@
-/* Runs a program, and tells on standard error how long it took in microseconds and its greatest resident set in KiB:
+/* Runs a program, and prints its wall time in microseconds and its peak resident set in KiB to standard error:
  * resident PROGRAM [WORD..]
  *
- * The kernel carries the greatest resident set over exec, so a program that is started by a large one seems to be as large;
- * this one is small.
+ * The operating system keeps the peak resident set over exec, so a program that a large one starts seems to be as large. This
+ * one is small.
  */
 #include <stdio.h>
 #include <sys/resource.h>

@@ -1,10 +1,10 @@
-"""A second model of the machine: what the program should say to a script.
+"""A second model of the machine: what the program must print for a script.
 
 The model was written from a description of the machine alone, without a look at the code or at the definitions that
 the code is proved against. It has no page tables and no frames: a process is its runs of pages and, for each settled
 page, its bytes, a copy number, a fork mark and a stored mark. Frames are counted by the tables that a set of pages needs
 and by the copy numbers that are different.
-`answer(bytes)` is the program's standard output, standard error and status.
+`answer(bytes)` returns the standard output, standard error and status that the program must give for a script.
 """
 import collections
 import re
@@ -32,14 +32,14 @@ PHASES = ("idle", "user", *NEXT)
 
 
 class Refused(Exception):
-    """A call that is refused; its text is the reply."""
+    """A refused step; its text is the reply."""
 
     def __init__(self, name, part=None):
         super().__init__(f"refused {REFUSALS[name]} {name}" + (f" {part}" if part else ""))
 
 
 def demand(good, name, part=None):
-    """Refuses a call where `good` is false."""
+    """Refuses the step unless `good`."""
     if not good:
         raise Refused(name, part)
 
@@ -50,7 +50,7 @@ def up(size):
 
 
 class Scheme:
-    """What the two translation schemes have of their own: the end of the addresses and the levels of tables."""
+    """A translation scheme: where its addresses end, and the levels of its page tables."""
 
     def __init__(self, name, bits, shifts, kernel_tables):
         self.name, self.shifts, self.kernel_tables = name, shifts, kernel_tables
@@ -58,12 +58,12 @@ class Scheme:
         self.trampoline, self.trapframe = self.maxva - PAGE, self.maxva - 2 * PAGE
 
     def tables(self, pages):
-        """The tables that these pages need, the trampoline's and the trapframe's among them."""
+        """The number of page tables that these pages need, with those for trampoline and trapframe, and the root."""
         pages = {*pages, self.trampoline // PAGE, self.trapframe // PAGE}
         return 1 + sum(len({page >> shift for page in pages}) for shift in self.shifts)
 
     def kernel_frames(self, frames, slots):
-        """The frames that boot takes: the trampoline's page, a stack for each slot, the kernel's tables."""
+        """The number of frames that boot takes: the trampoline's, a stack for each slot, the kernel's page tables."""
         return 1 + slots + self.kernel_tables + (frames > 512)
 
 
@@ -71,7 +71,7 @@ SCHEMES = {"sv39": Scheme("sv39", 38, (18, 9), 5), "sv48": Scheme("sv48", 47, (2
 
 
 def elf_segments(data):
-    """The LOAD headers of ELF bytes, each checked for its place before the next is looked at."""
+    """The LOAD headers of ELF bytes; each must lie in the bytes, which is checked before the next is read."""
     demand(len(data) <= 1048576, "BadImage", "TooLong")
     demand(len(data) >= 64, "BadImage", "Header")
     demand(data[:4] == b"\x7fELF", "BadImage", "Magic")
@@ -85,7 +85,7 @@ def elf_segments(data):
 
 
 def read_image(image, scheme):
-    """The segments of an image that have pages, or BadImage with the first part that is wrong."""
+    """The segments of an image that have pages; refused with BadImage by the first check that fails."""
     taken, end = [], 0
     segments = elf_segments(image) if isinstance(image, bytes) else ((0, len(s.bytes), s) for s in image)
     for off, filesz, (vaddr, memsz, flags, data) in segments:
@@ -129,11 +129,11 @@ class Process:
         return child
 
     def mapping(self, page):
-        """The mapping that holds the page, or None."""
+        """The mapping that has the page, or None."""
         return next((m for m in self.maps if m.first <= page < m.first + m.count), None)
 
     def run(self, page):
-        """Kind and rights of the run that holds the page; None where there is none."""
+        """Kind and rights of the region that has the page; the kind is None if there is none."""
         for first, last, kind, rights in self.runs:
             if first <= page < last:
                 return kind, rights
@@ -143,7 +143,7 @@ class Process:
         return ("mapping", mapping.rights) if mapping else (None, "")
 
     def keeps_stores(self, page):
-        """Whether the page is one of a shared writable mapping."""
+        """Whether the page is in a writable shared mapping."""
         mapping = self.mapping(page)
         return bool(mapping) and mapping.shared and "w" in mapping.rights
 
@@ -178,7 +178,7 @@ class Hart:
 
 
 class Machine:
-    """The machine: each step answers its reply or raises Refused."""
+    """The machine. Each step returns its reply, or raises Refused."""
 
     def __init__(self, harts, frames, slots, policy, scheme, files, images):
         self.harts, self.slots = [Hart() for _ in range(harts)], [None] * slots
@@ -188,38 +188,38 @@ class Machine:
         self.marked, self.numbers = set(), 0
 
     def fresh(self):
-        """A copy number that was never given."""
+        """A copy number that was not given before."""
         self.numbers += 1
         return self.numbers
 
     def live(self):
-        """The processes that live."""
+        """The processes that are in slots."""
         return [process for process in self.slots if process]
 
     def free(self):
-        """The frames that are free."""
+        """The number of free frames."""
         numbers = {held.number for process in self.live() for held in process.settled.values()}
         tables = sum(1 + self.scheme.tables(process.tabled) for process in self.live())
         return self.frames - self.kernel - len(numbers) - tables
 
     def audit(self):
-        """The report over all frames."""
+        """The answer to `audit`."""
         copies = collections.Counter(held.number for process in self.live() for held in process.settled.values())
         shared = sum(count > 1 for count in copies.values()) + bool(self.live())
         references = self.kernel + sum(2 + self.scheme.tables(p.tabled) + len(p.settled) for p in self.live())
         return f"free {self.free()} held {self.frames - self.free()} shared {shared} references {references}"
 
     def show(self, file, offset, count):
-        """Some bytes of a file."""
+        """The answer to `show`."""
         data = self.files[file][1]
         return f"file {len(data)} {data[offset:offset + count].hex() or '-'}"
 
     def mark(self, slot):
-        """Marks the slot for all harts."""
+        """Marks the slot on every hart."""
         self.marked |= {(hart, slot) for hart in range(len(self.harts))}
 
     def hart(self, number, phases, unserved=False):
-        """The hart, where a step of these phases is possible there; `unserved`: with an unserved access too."""
+        """The hart; refused unless it is in one of these phases, and (without `unserved`) no fault waits for service."""
         demand(number < len(self.harts), "BadArgument")
         hart = self.harts[number]
         waits = hart.phase == "kernel" and self.slots[hart.slot].pending is not None
@@ -227,12 +227,12 @@ class Machine:
         return hart
 
     def lowest_free(self):
-        """The lowest free slot, or NoSlot."""
+        """The lowest free slot; refused with NoSlot if there is none."""
         demand(None in self.slots, "NoSlot")
         return self.slots.index(None)
 
     def built(self, image, more):
-        """A new process of an image, where its frames and `more` are free."""
+        """A new process of an image; refused with NoFrame unless its frames and `more` are free."""
         segments = read_image(self.images[image], self.scheme)
         count = 2 + sum(up(s.vaddr + s.memsz) - s.vaddr // PAGE for s in segments)
         demand(count <= self.free(), "NoFrame")
@@ -241,14 +241,14 @@ class Machine:
         return process
 
     def start(self, image):
-        """A process of the image in the lowest free slot."""
+        """Starts a process of the image in the lowest free slot."""
         slot = self.lowest_free()
         self.slots[slot] = self.built(image, 1)
         self.mark(slot)
         return f"slot {slot}"
 
     def switch(self, number, slot):
-        """Another process comes on the hart, or none."""
+        """Schedules another process on the hart, or none."""
         hart = self.hart(number, ("idle", "kernel"), unserved=True)
         if slot is not None:
             on_harts = [other.slot for other in self.harts]
@@ -257,12 +257,12 @@ class Machine:
         return "ok"
 
     def trap(self, number):
-        """The process enters the kernel by itself."""
+        """The process traps voluntarily."""
         self.hart(number, ("user",)).phase = "enter0"
         return "ok"
 
     def next(self, number):
-        """One instruction of the trampoline: a fence or a write of satp."""
+        """Executes one instruction of kernel entry or the return: a fence or a write of satp."""
         hart = self.hart(number, NEXT)
         if self.policy == "full" and hart.phase not in ("enter1", "leave1"):
             hart.keys = []
@@ -273,28 +273,28 @@ class Machine:
         return "ok"
 
     def key(self, hart, va):
-        """The key that a fill of this address has now."""
+        """The key, page and ASID, of an entry that is filled for this address now."""
         return va // PAGE, hart.slot + 1 if self.policy == "asid" and hart.phase in USER_TABLE else 0
 
     def fill(self, number, va):
-        """Adds an entry to the buffer, last."""
+        """Adds an entry to the buffer, as the newest."""
         hart = self.hart(number, PHASES, unserved=True)
         hart.keys = [*hart.keys, self.key(hart, va)][-BUFFER:]
         return f"entry {len(hart.keys) - 1}"
 
     def evict(self, number, entry):
-        """Takes one entry out of the buffer."""
+        """Removes one entry from the buffer."""
         hart = self.hart(number, PHASES, unserved=True)
         demand(entry < len(hart.keys), "NoEntry")
         del hart.keys[entry]
         return "ok"
 
     def named(self, hart, va, entry):
-        """Refuses a named entry that isn't there or is of another page or ASID."""
+        """Refuses a named entry that does not exist, or is for another page or ASID."""
         demand(entry is None or (entry < len(hart.keys) and hart.keys[entry] == self.key(hart, va)), "NoEntry")
 
     def access(self, number, access, va, width, value, entry):
-        """An access of the process in user mode."""
+        """A user access."""
         hart = self.hart(number, ("user",))
         self.named(hart, va, entry)
         process = self.slots[hart.slot]
@@ -314,14 +314,14 @@ class Machine:
         process.settled[va // PAGE] = held._replace(bytes=held.bytes[:at] + data + held.bytes[at + len(data):])
 
     def tramp(self, number, offset, entry):
-        """A fetch of the trampoline by the kernel."""
+        """A fetch in the trampoline page, in kernel entry or the return."""
         demand(number < len(self.harts) and offset % 4 == 0 and offset < PAGE, "BadArgument")
         hart = self.hart(number, ("enter0", "enter1", "enter2", "leave1", "leave2"))
         self.named(hart, self.scheme.trampoline, entry)
         return "frame 0"
 
     def initial(self, process, page):
-        """The first bytes of a page that is settled now."""
+        """The bytes that a page has when it is settled."""
         mapping = process.mapping(page)
         if not mapping:
             return bytes(PAGE)
@@ -329,7 +329,7 @@ class Machine:
         return bytes(self.files[mapping.file][1][at:at + PAGE]).ljust(PAGE, b"\0")
 
     def make_resident(self, slot, access, page):
-        """Makes a granted access resident; False where too few frames are free for it."""
+        """Makes a page resident for a granted access; False if too few frames are free."""
         process, writes = self.slots[slot], access == "store"
         held, need = process.settled.get(page), 0
         if held is None:
@@ -350,7 +350,7 @@ class Machine:
         return True
 
     def serve(self, number):
-        """Service of the pending access."""
+        """Serves the fault of the pending access."""
         hart = self.hart(number, ("kernel",), unserved=True)
         process = self.slots[hart.slot]
         demand(process.pending, "Impossible", hart.phase)
@@ -365,7 +365,7 @@ class Machine:
         return f"ended {RULES.index(rule) + 1} {rule}"
 
     def end(self, hart):
-        """The process of the hart is gone, its mappings written back."""
+        """Ends the process of the hart: writes back its mappings, and empties slot and hart."""
         process = self.slots[hart.slot]
         for mapping in process.maps:
             self.write_back(process, mapping, mapping.first, mapping.count)
@@ -381,7 +381,7 @@ class Machine:
                 data[at:end] = held.bytes[:end - at]
 
     def release(self, slot, first, last):
-        """Takes the settled pages of a range away."""
+        """Releases the settled pages of a range."""
         process = self.slots[slot]
         gone = [page for page in process.settled if first <= page < last]
         for page in gone:
@@ -390,7 +390,7 @@ class Machine:
             self.mark(slot)
 
     def fork(self, number):
-        """A child in the lowest free slot, all writable pages with a fork mark in both."""
+        """Starts a child in the lowest free slot. Each settled page whose region grants writing gets the fork mark in both."""
         hart = self.hart(number, ("kernel",))
         slot, parent = self.lowest_free(), self.slots[hart.slot]
         demand(1 + self.scheme.tables(parent.settled) <= self.free(), "NoFrame")
@@ -403,7 +403,7 @@ class Machine:
         return f"slot {slot}"
 
     def exec(self, number, image):
-        """The image's process in place of the old one."""
+        """Replaces the process by one of the image."""
         hart = self.hart(number, ("kernel",))
         process = self.built(image, 0)
         slot = hart.slot
@@ -413,7 +413,7 @@ class Machine:
         return "ok"
 
     def sbrk(self, number, delta):
-        """A new size of the heap."""
+        """Grows or shrinks the heap."""
         hart = self.hart(number, ("kernel",))
         process = self.slots[hart.slot]
         old, size = process.size, process.size + delta
@@ -424,7 +424,7 @@ class Machine:
         return f"old {old:#x}"
 
     def mmap(self, number, length, prot, flags, file):
-        """A new mapping at the greatest address that has room."""
+        """Maps a file at the greatest address that has room."""
         process = self.slots[self.hart(number, ("kernel",)).slot]
         demand(1 <= length <= 1048576 and 1 <= prot <= 7 and flags in (1, 2) and file < len(self.files), "BadArgument")
         demand(flags == 2 or not prot & 2 or self.files[file][0], "FileNotWritable")
@@ -440,7 +440,7 @@ class Machine:
         return f"at {(end - count) * PAGE:#x}"
 
     def munmap(self, number, va, length):
-        """The front, the back or the whole of a mapping goes."""
+        """Unmaps the front, the back or the whole of a mapping."""
         hart = self.hart(number, ("kernel",))
         process, first, count = self.slots[hart.slot], va // PAGE, up(length)
         m = process.mapping(first)
@@ -457,7 +457,7 @@ class Machine:
         return "ok"
 
     def copied(self, slot, access, va, count):
-        """Makes the bytes of a copy resident, page by page; answers how many, and the rule that stopped it."""
+        """Makes the pages of a copy resident, one by one. Returns how many bytes it copies, and the rule that stops it."""
         process, done = self.slots[slot], 0
         while done < count:
             rule = process.denied(self.scheme, access, va + done, 1)
@@ -476,7 +476,7 @@ class Machine:
             va, count = va + part, count - part
 
     def copyin(self, number, va, count):
-        """The kernel copies bytes of the process."""
+        """The kernel copies bytes from the process."""
         slot = self.hart(number, ("kernel",)).slot
         done, rule = self.copied(slot, "load", va, count)
         settled = self.slots[slot].settled
@@ -493,12 +493,12 @@ class Machine:
         return f"short {RULES.index(rule) + 1} {rule} done {done}" if rule else f"copied {done}"
 
     def exit(self, number, status):
-        """The process ends."""
+        """Ends the process by exit."""
         self.end(self.hart(number, ("kernel",)))
         return f"exited {status}"
 
     def short(self, command, number, *slot):
-        """The short forms: several steps, up to the first that is refused."""
+        """Makes the steps of `on`, `enter`, `leave` or `fix`, up to the first that is refused."""
         if command in ("on", "enter"):
             self.switch(number, *slot) if command == "on" else self.trap(number)
         for _ in range(3):
@@ -511,7 +511,7 @@ class Machine:
         return reply
 
     def play(self, command, fields):
-        """The reply of one line."""
+        """The answer to one line."""
         try:
             if command == "fetch":
                 return self.access(fields[0], command, fields[1], 4, None, fields[2])
@@ -542,11 +542,11 @@ FIELDS = {
 
 
 class Fault(Exception):
-    """A line that can't be read; its text is the cause."""
+    """A refused line; its text is the cause."""
 
 
 def need(good, cause):
-    """Raises the cause where `good` is false."""
+    """Raises the cause unless `good`."""
     if not good:
         raise Fault(cause)
 
@@ -562,7 +562,7 @@ def read_number(text, cause="Number"):
 
 
 def read_signed(text):
-    """A number that may have a sign."""
+    """A number that may begin with `-`."""
     value = -read_number(text[1:]) if text[:1] == "-" else read_number(text)
     need(-WORD // 2 <= value < WORD // 2, "Number")
     return value
@@ -584,7 +584,7 @@ def read_segment(text):
 
 
 class Script:
-    """A script that is read line by line: what was declared, the boot, the steps."""
+    """A script, read line by line: what was declared, the boot, the steps."""
 
     def __init__(self):
         self.files, self.images, self.boot, self.steps = [], [], None, []
@@ -613,7 +613,7 @@ class Script:
         return value
 
     def line(self, text):
-        """Reads one line; its command and values, or None where it is skipped."""
+        """Reads one line. Returns its command and values; None if it is skipped."""
         words = re.split(r"[ \t]+", text.strip(" \t"))
         if words[0] == "" or words[0][0] == "#":
             return None
@@ -636,7 +636,7 @@ class Script:
         return command, values
 
     def take(self, command, values):
-        """Judges what a whole line declares, and keeps it."""
+        """Checks what a line declares, and keeps it."""
         if command == "file":
             need(values[0] <= 65536 and len(values[2]) <= values[0], "Limits")
             need(len(self.files) < 16, "TooMany")
@@ -660,7 +660,7 @@ class Script:
 
 
 def read_script(data):
-    """The script of these bytes; a Fault has the line and the cause."""
+    """Reads the script of these bytes; raises Fault, with line and cause, if it is refused."""
     script, lines = Script(), data.split(b"\n")
     lines = lines[:-1] if lines[-1] == b"" else lines
     if len(data) > 16777216:
@@ -679,7 +679,7 @@ def read_script(data):
 
 
 def answer(data):
-    """What the program should say to a script: standard output, standard error, status."""
+    """What the program must give for a script: standard output, standard error, status."""
     try:
         script = read_script(data)
     except Fault as fault:

@@ -1,6 +1,6 @@
-/* A stand-in for the C library's allocation, to be loaded before it (LD_PRELOAD). The REFUSE-th request for memory is
- * refused, counted from 1 over all threads; none where REFUSE is not set. At the end the number of requests is written to
- * the file descriptor REQUESTS, where it is set. */
+/* A stand-in for the C library's allocation, to be loaded before it (LD_PRELOAD). It refuses the REFUSE-th request for
+ * memory, counted from 1 over all threads; none if REFUSE is not set. At the end it writes the number of requests to the
+ * file descriptor REQUESTS, if that is set. */
 #define _GNU_SOURCE
 #include <dlfcn.h>
 #include <errno.h>
@@ -24,7 +24,7 @@ __attribute__((destructor)) static void end(void) {
         dprintf(atoi(number), "%lu\n", atomic_load(&requests));
 }
 
-/* A program that may have threads ends so, and no destructor runs. */
+/* A program that may have threads ends by this call, which runs no destructor. */
 void _exit(int status) {
     end();
     syscall(SYS_exit_group, status);
@@ -38,7 +38,7 @@ static int refuses(void) {
     return 1;
 }
 
-/* The C library's own function, looked up at the first call: each thread that looks finds the same. */
+/* The C library's own function, looked up at the first call. Threads that look at the same time find the same function. */
 #define NEXT(next, name)                                                                                              \
     do {                                                                                                              \
         if (!atomic_load(&next))                                                                                      \

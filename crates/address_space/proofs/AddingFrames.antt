@@ -1,4 +1,6 @@
--- Frames of a space when a page gets one: a frame is claimed and filled, and then a leaf names it.
+-- Lemmas on the frames of a space when a page gets one: a frame is claimed and filled (`Comes`); then a leaf is written over
+-- it, with the tables that were missing. After both, the seat (an owner's capability at a frame store) owns the named frames
+-- (`leaf_owns`).
 use Rattle.std.proofs.Common.{◌≡◌, ℕ, ◌+◌, ◌<◌, ◌⊎◌, None, Some, true, refl, ap, sym, subst, ◌∙◌, inl, inr, arith}
 use Rattle.std.proofs.lemmas.Bool.{cases_eq}
 use Rattle.std.proofs.lemmas.Option.{same_Some}
@@ -11,12 +13,12 @@ use Rattle.sv39_entry.specs.Frame.{ppn_of}
 use Rattle.sv39_entry.specs.Word.{ppn}
 use Rattle.table_walk.specs.Tables.{ChangesTables, HasTables, Tables, IsGrown, leaf_node, with_leaf}
 use Rattle.table_walk.specs.Keys.{insert_other, insert_same}
-use Rattle.table_walk.specs.Same.{same_tables}
+use Rattle.table_walk.specs.SameFrames.{same_tables}
 use Rattle.sv39_entry.specs.Schemes.{top_level}
 use Rattle.sv39_entry.specs.declared.scheme.Scheme.{Scheme}
-use Rattle.address_space.specs.Agreement.{Names, nothing, one_of, Owns}
-use Rattle.address_space.specs.Steps.{Spends}
-use Rattle.address_space.proofs.Owned.{claimed_here, claimed_other, no_table, one_else, one_frame, one_here, recounted_owns, same_references, same_sole, spare_comes, unnamed}
+use Rattle.address_space.specs.Agreement.{NamesFrame, no_extra, one_extra, OwnsFrames}
+use Rattle.address_space.specs.Steps.{SpendsCredits}
+use Rattle.address_space.proofs.Owned.{claimed_here, claimed_other, no_table, one_else, one_ppn, one_here, recounted_owns, same_references, same_sole, spare_comes, unnamed}
 
 -- a frame comes to a seat that did not hold it, and nothing else changes
 pub record Comes (v w : View) (f : ℕ) : Type 0 where
@@ -24,7 +26,7 @@ pub record Comes (v w : View) (f : ℕ) : Type 0 where
   pub one : references w f ≡ 1
   pub sole : IsSole w f
   pub others : (g : ℕ) → (g ≡ f → ⊥) → hold_of w g ≡ hold_of v g
-  pub spends : Spends v w 1
+  pub spends : SpendsCredits v w 1
 
 -- it is claimed, and filled
 pub claimed_comes : (v w : View) (f : ℕ) → references v f ≡ 0 → w ≡ claimed f v → Comes v w f
@@ -66,15 +68,15 @@ module _ (v w : View) (f : ℕ) (c : Comes v w f) where
   come_held g held = subst (λ (h : Hold). 0 < h.references) (sym (c.others g (not_held_before g held))) held
 
   -- it has no name
-  pub come_unnamed : (t : Tables) → Owns v t nothing → (k : ℕ) → Names t f k → ⊥
-  come_unnamed t o = unnamed v t nothing o f c.fresh
+  pub come_unnamed : (t : Tables) → OwnsFrames v t no_extra → (k : ℕ) → NamesFrame t f k → ⊥
+  come_unnamed t o = unnamed v t no_extra o f c.fresh
 
-  pub come_owns : (t : Tables) → Owns v t nothing → Owns w t (one_of f)
-  come_owns t o = recounted_owns v w t nothing (one_of f) (spare_comes v w t f c.fresh c.one c.others (come_unnamed t o)) o
+  pub come_owns : (t : Tables) → OwnsFrames v t no_extra → OwnsFrames w t (one_extra f)
+  come_owns t o = recounted_owns v w t no_extra (one_extra f) (spare_comes v w t f c.fresh c.one c.others (come_unnamed t o)) o
 
 -- a leaf is put over a frame that had no name and one reference more, and tables that were missing are there
-module _ {z : Scheme} (v w : View) (t u : Tables) (n root page x f : ℕ) (before after : ℕ → ℕ) (o : Owns v t before) (free : (k : ℕ) → Names t f k → ⊥)
-    (moves : (g : ℕ) → before g ≡ after g + one_of f g) (h : HasTables z v root t) (grown : IsGrown z t u page (top_level z))
+module _ {z : Scheme} (v w : View) (t u : Tables) (n root page x f : ℕ) (before after : ℕ → ℕ) (o : OwnsFrames v t before) (free : (k : ℕ) → NamesFrame t f k → ⊥)
+    (moves : (g : ℕ) → before g ≡ after g + one_extra f g) (h : HasTables z v root t) (grown : IsGrown z t u page (top_level z))
     (changes : ChangesTables v w t u n) (has_tables : HasTables z w root (with_leaf u (leaf_node page) x)) (names : ppn x ≡ ppn_of f)
     (unmapped : get t.leaves (leaf_node page) ≡ None) (sole : has x 2 ≡ true → IsSole v f) where
   f_count : references v f ≡ 1 + after f
@@ -83,8 +85,8 @@ module _ {z : Scheme} (v w : View) (t u : Tables) (n root page x f : ℕ) (befor
   other_count : (g : ℕ) → (g ≡ f → ⊥) → before g ≡ after g
   other_count g apart = let none = one_else f g apart in let m = moves g in omega (arith, none, m)
 
-  f_apart : (g k : ℕ) → Names t g k → g ≡ f → ⊥
-  f_apart g k names_g same = free k (subst (λ y. Names t y k) same names_g)
+  f_apart : (g k : ℕ) → NamesFrame t g k → g ≡ f → ⊥
+  f_apart g k names_g same = free k (subst (λ y. NamesFrame t y k) same names_g)
 
   -- the frame is no table, and no other leaf's
   f_no_table : (k : ℕ) → get u.tables k ≡ Some f → ⊥
@@ -108,7 +110,7 @@ module _ {z : Scheme} (v w : View) (t u : Tables) (n root page x f : ℕ) (befor
 
   -- whatever has a name is an old table, a new table, an old leaf or the new leaf
   data Origin (g k : ℕ) : Type 0 where
-    old : Names t g k → Origin g k
+    old : NamesFrame t g k → Origin g k
     new_table : get t.tables k ≡ None → get u.tables k ≡ Some g → Origin g k
     new_leaf : k ≡ leaf_node page → g ≡ f → Origin g k
 
@@ -117,11 +119,11 @@ module _ {z : Scheme} (v w : View) (t u : Tables) (n root page x f : ℕ) (befor
   leaf_origin g k y leaf names_g = elim (cases_eq k (leaf_node page)) [
     | inl here ↦
         let same : y ≡ x = same_Some y x (sym leaf ∙ insert_same u.leaves (leaf_node page) x k here) in
-        inl (here, same, one_frame g f (sym names_g ∙ ap ppn same ∙ names))
+        inl (here, same, one_ppn g f (sym names_g ∙ ap ppn same ∙ names))
     | inr apart ↦ inr (ap (λ leaves. get leaves k) (sym grown.leaves) ∙ sym (insert_other u.leaves (leaf_node page) x k apart) ∙ leaf)
   ]
 
-  origin : (g k : ℕ) → Names (with_leaf u (leaf_node page) x) g k → Origin g k
+  origin : (g k : ℕ) → NamesFrame (with_leaf u (leaf_node page) x) g k → Origin g k
   origin g k (inl table) = elim (grown.new k g table) [
     | inl is ↦ old (inl is)
     | inr is ↦ new_table is.0 table
@@ -132,7 +134,7 @@ module _ {z : Scheme} (v w : View) (t u : Tables) (n root page x f : ℕ) (befor
   ]
 
   -- an old name stays
-  stays : (g k : ℕ) → Names t g k → Names (with_leaf u (leaf_node page) x) g k
+  stays : (g k : ℕ) → NamesFrame t g k → NamesFrame (with_leaf u (leaf_node page) x) g k
   stays g k (inl table) = inl (grown.kept k g table)
   stays g k (inr (y, leaf, names_g)) = elim (cases_eq k (leaf_node page)) [
     | inl here ↦ absurd (let there = rw (here, unmapped) at leaf in cc)
@@ -140,25 +142,25 @@ module _ {z : Scheme} (v w : View) (t u : Tables) (n root page x f : ℕ) (befor
   ]
 
   -- a new table was no frame of the seat
-  new_unnamed : (g j k : ℕ) → get t.tables k ≡ None → get u.tables k ≡ Some g → Names t g j → ⊥
+  new_unnamed : (g j k : ℕ) → get t.tables k ≡ None → get u.tables k ≡ Some g → NamesFrame t g j → ⊥
   new_unnamed g j k none there names_g = unnamed v t before o g (changes.new k g there none).0 j names_g
 
   -- a frame that is held and has no name, and gets none, stays as it is
-  pub still_unnamed : (g : ℕ) → (g ≡ f → ⊥) → IsHeld v g → ((k : ℕ) → Names t g k → ⊥) → (k : ℕ) → Names (with_leaf u (leaf_node page) x) g k → ⊥
+  pub still_unnamed : (g : ℕ) → (g ≡ f → ⊥) → IsHeld v g → ((k : ℕ) → NamesFrame t g k → ⊥) → (k : ℕ) → NamesFrame (with_leaf u (leaf_node page) x) g k → ⊥
   still_unnamed g apart held none k names_g = elim (origin g k names_g) [
     | old was ↦ none k was
     | new_table fresh there ↦ let zero = (changes.new k g there fresh).0 in omega (arith, zero, held)
     | new_leaf here same ↦ apart same
   ]
 
-  pub still_held : (g : ℕ) → (g ≡ f → ⊥) → IsHeld v g → ((k : ℕ) → Names t g k → ⊥) → hold_of w g ≡ hold_of v g
+  pub still_held : (g : ℕ) → (g ≡ f → ⊥) → IsHeld v g → ((k : ℕ) → NamesFrame t g k → ⊥) → hold_of w g ≡ hold_of v g
   still_held g apart held none = changes.apart g (λ k table. still_unnamed g apart held none k (inl table))
 
   -- references of what had a name before
-  was_count : (g k : ℕ) → Names t g k → references v g ≡ 1 + after g
+  was_count : (g k : ℕ) → NamesFrame t g k → references v g ≡ 1 + after g
   was_count g k names_g = let was = o.named g k names_g in let same = other_count g (f_apart g k names_g) in omega (arith, was, same)
 
-  old_count : (g k : ℕ) → Names t g k → references w g ≡ 1 + after g
+  old_count : (g k : ℕ) → NamesFrame t g k → references w g ≡ 1 + after g
   old_count g k (inl table) = changes.old k g table ∙ was_count g k (inl table)
   old_count g k (inr (y, leaf, names_g)) = same_references v w g (leaf_same k y g leaf names_g) ∙ was_count g k (inr (y, leaf, names_g))
 
@@ -186,15 +188,15 @@ module _ {z : Scheme} (v w : View) (t u : Tables) (n root page x f : ℕ) (befor
   once_from g j k (new_leaf here same) (new_table none there) = absurd (f_no_table k (there ∙ ap Some same))
   once_from g j k (new_leaf here same) (new_leaf also too) = here ∙ sym also
 
-  pub leaf_owns : Owns w (with_leaf u (leaf_node page) x) after
+  pub leaf_owns : OwnsFrames w (with_leaf u (leaf_node page) x) after
   leaf_owns = record {
     once = λ g j k first second. once_from g j k (origin g j first) (origin g k second);
     named = λ g k names_g. from_origin g k (origin g k names_g);
     bare = λ g none.
-        let here : Names (with_leaf u (leaf_node page) x) f (leaf_node page) = inr (x, insert_same u.leaves (leaf_node page) x (leaf_node page) refl, names) in
+        let here : NamesFrame (with_leaf u (leaf_node page) x) f (leaf_node page) = inr (x, insert_same u.leaves (leaf_node page) x (leaf_node page) refl, names) in
         same_references v w g (changes.apart g (λ k table. none k (inl table)))
         ∙ o.bare g (λ k names_g. none k (stays g k names_g))
-        ∙ other_count g (λ is. none (leaf_node page) (subst (λ y. Names (with_leaf u (leaf_node page) x) y (leaf_node page)) (sym is) here));
+        ∙ other_count g (λ is. none (leaf_node page) (subst (λ y. NamesFrame (with_leaf u (leaf_node page) x) y (leaf_node page)) (sym is) here));
     writable = λ g k y leaf names_g writes. elim (leaf_origin g k y leaf names_g) [
       | inl is ↦ subst (IsSole w) (sym is.2) (same_sole v w f f_same (sole (ap (λ y. has y 2) (sym is.1) ∙ writes)))
       | inr is ↦ same_sole v w g (leaf_same k y g is names_g) (o.writable g k y is names_g writes)

@@ -1,4 +1,5 @@
--- A space gets a page: its frame is claimed and filled, the tables that were missing are made, and a leaf names the frame.
+-- Lemma `adds`, for the call `add_page`: once a frame is claimed and filled, the missing tables are made and a leaf names
+-- the frame, the process with this page settled (in memory) is in memory, as `AddsPage` says.
 use Rattle.std.proofs.Common.{◌≡◌, ℕ, ◌<◌, None, Some, List, ◌∷◌, not, ◌&&◌, false, refl, ap, sym, ◌∙◌, inl, inr, arith}
 use Rattle.std.proofs.lemmas.Bool.{cases_eq}
 use Rattle.std.proofs.lemmas.Option.{same_Some}
@@ -12,15 +13,16 @@ use Rattle.process_model.specs.Process.{Page, Process}
 use Rattle.process_model.specs.Regions.{Region, is_shared_kind}
 use Rattle.sv39_entry.specs.Frame.{ppn_of}
 use Rattle.sv39_entry.specs.Word.{ppn}
-use Rattle.table_walk.specs.Counted.{AreTablesOf, same_members}
+use Rattle.table_walk.specs.TableCounts.{AreTablesOf, same_members}
 use Rattle.table_walk.specs.Tables.{ChangesTables, HasTables, Tables, IsGrown, leaf_node, missing, with_leaf}
 use Rattle.table_walk.specs.Keys.{insert_other, insert_same, is_none}
 use Rattle.sv39_entry.specs.Schemes.{top_level, trampoline_page, trapframe_page, of_scheme}
-use Rattle.address_space.specs.Agreement.{IsLeafNumber, IsPageLeaf, nothing, one_of, OthersKeep, Shows}
-use Rattle.address_space.specs.Steps.{Adds, CanAdd, settled_with}
+use Rattle.address_space.specs.Agreement.{IsLeafNumber, IsPageLeaf, no_extra, one_extra, KeepsOtherLeaves, ShowsPages}
+use Rattle.address_space.specs.Steps.{AddsPage, CanAdd, settled_with}
 use Rattle.address_space.proofs.AddingFrames.{Comes, come_owns, come_tables, come_unnamed, f_same, leaf_owns, leaf_same, not_held_before}
-use Rattle.address_space.proofs.Owned.{named_held, one_page, same_bytes, same_sole}
-use Rattle.process_model.specs.Inserted.{all_keys, inserted_here, inserted_other, key_in, key_out}
+use Rattle.address_space.proofs.Owned.{named_held, same_bytes, same_sole}
+use Rattle.process_model.specs.Insertion.{all_keys, inserted_here, inserted_other, key_in, key_out}
+use Rattle.table_walk.specs.Nodes.{one_page}
 
 module _ (v : View) (root trapframe : ℕ) (t : Tables) (p : Process) (page : ℕ) (region : Region) (can : CanAdd v root trapframe t p page region) where
   -- the page's leaf is no other one
@@ -49,23 +51,23 @@ module _ (v : View) (root trapframe : ℕ) (t : Tables) (p : Process) (page : �
 
   module _ (r w : View) (u : Tables) (x f : ℕ) (bytes : List ℕ) (c : Comes v r f) (has : HasBytes r f (padded 4096 bytes)) (made : IsPageLeaf x f region false (not (is_shared_kind region.kind) && region.writes))
       (grown : IsGrown p.scheme t u page (top_level p.scheme)) (tables : HasTables p.scheme w root (with_leaf u (leaf_node page) x)) (changes : ChangesTables r w t u (missing p.scheme t page)) where
-    keeps : OthersKeep t (with_leaf u (leaf_node page) x) page
+    keeps : KeepsOtherLeaves t (with_leaf u (leaf_node page) x) page
     keeps k apart = insert_other u.leaves (leaf_node page) x k apart ∙ ap (λ leaves. get leaves k) grown.leaves
 
     here : get (with_leaf u (leaf_node page) x).leaves (leaf_node page) ≡ Some x
     here = insert_same u.leaves (leaf_node page) x (leaf_node page) refl
 
     filled_same : hold_of w f ≡ hold_of r f
-    filled_same = f_same r w t u (missing p.scheme t page) root page x f (one_of f) nothing (come_owns v r f c t can.stands.owns) (come_unnamed v r f c t can.stands.owns) (λ g. omega arith) (come_tables v r f c root t can.stands.tables) grown changes tables made.names unmapped (λ writes. c.sole)
+    filled_same = f_same r w t u (missing p.scheme t page) root page x f (one_extra f) no_extra (come_owns v r f c t can.stands.owns) (come_unnamed v r f c t can.stands.owns) (λ g. omega arith) (come_tables v r f c root t can.stands.tables) grown changes tables made.names unmapped (λ writes. c.sole)
 
     old_same : (m y g : ℕ) → get t.leaves m ≡ Some y → ppn y ≡ ppn_of g → hold_of w g ≡ hold_of v g
     old_same m y g leaf names =
-        let held : IsHeld v g = named_held v t nothing can.stands.owns g m (inr (y, leaf, names)) in
-        leaf_same r w t u (missing p.scheme t page) root page x f (one_of f) nothing (come_owns v r f c t can.stands.owns) (come_unnamed v r f c t can.stands.owns) (λ g. omega arith) (come_tables v r f c root t can.stands.tables) grown changes tables made.names unmapped (λ writes. c.sole) m y g leaf names
+        let held : IsHeld v g = named_held v t no_extra can.stands.owns g m (inr (y, leaf, names)) in
+        leaf_same r w t u (missing p.scheme t page) root page x f (one_extra f) no_extra (come_owns v r f c t can.stands.owns) (come_unnamed v r f c t can.stands.owns) (λ g. omega arith) (come_tables v r f c root t can.stands.tables) grown changes tables made.names unmapped (λ writes. c.sole) m y g leaf names
         ∙ c.others g (not_held_before v r f c g held)
 
     module _ (fresh : ℕ) where
-      added_shows : Shows w trapframe (with_leaf u (leaf_node page) x) (settled_with fresh bytes p page)
+      added_shows : ShowsPages w trapframe (with_leaf u (leaf_node page) x) (settled_with fresh bytes p page)
       added_shows =
           let s = can.stands.shows in
           let new : Page = record { bytes = padded 4096 bytes; copy = fresh; fork_mark = false; stored_mark = false } in
@@ -111,11 +113,11 @@ module _ (v : View) (root trapframe : ℕ) (t : Tables) (p : Process) (page : �
             ];
           }
 
-    pub adds : AreTablesOf p.scheme u (page ∷ pages.keys p.tabled) → Adds v w root trapframe t (with_leaf u (leaf_node page) x) p page bytes f
+    pub adds : AreTablesOf p.scheme u (page ∷ pages.keys p.tabled) → AddsPage v w root trapframe t (with_leaf u (leaf_node page) x) p page bytes f
     adds tabled = record {
       stands = λ fresh. record {
         tables = tables;
-        owns = leaf_owns r w t u (missing p.scheme t page) root page x f (one_of f) nothing (come_owns v r f c t can.stands.owns) (come_unnamed v r f c t can.stands.owns) (λ g. omega arith) (come_tables v r f c root t can.stands.tables) grown changes tables made.names unmapped (λ writes. c.sole);
+        owns = leaf_owns r w t u (missing p.scheme t page) root page x f (one_extra f) no_extra (come_owns v r f c t can.stands.owns) (come_unnamed v r f c t can.stands.owns) (λ g. omega arith) (come_tables v r f c root t can.stands.tables) grown changes tables made.names unmapped (λ writes. c.sole);
         shows = added_shows fresh;
         tabled = same_members p.scheme u (page ∷ pages.keys p.tabled) (pages.keys (pages.insert p.tabled page tt)) (key_in page tt p.tabled) (key_out page tt p.tabled) tabled;
         tabled_low = all_keys (λ n. n < (trapframe_page p.scheme)) p.tabled page tt can.low can.stands.tabled_low;

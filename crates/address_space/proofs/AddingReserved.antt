@@ -1,4 +1,6 @@
--- Frames for a page are reserved together, and then the page is added.
+-- Lemmas for `Space::settle`, which reserves the frames for a page and its missing tables together. If that is refused, the
+-- space is as it was and the seat's tallies (counts of claims and reads) say why (`RunsDry`); else the page can be added
+-- (`can_add`), and then it is settled (in memory) as `Settles` says.
 use Rattle.std.proofs.Common.{◌≡◌, ℕ, ◌+◌, ◌-◌, ◌<◌, ◌≤◌, Option, Some, List, ◌∷◌, append-nil, Result, Ok, Err, IsOk, IsErr, IfErr, is_ok, if◌then◌else◌, true, false, ap, sym, ◌∙◌, arith, [], subst}
 use Rattle.std.specs.Prelude.{All}
 use Rattle.frame_store.specs.Holds.{hold_of-frames}
@@ -6,15 +8,15 @@ use Rattle.frame_store.specs.Laws.{IsDry}
 use Rattle.frame_store.specs.Tallies.{spent_is, spent_taken}
 use Rattle.frame_store.specs.View.{spent, View, hold_of, with_credits}
 use Rattle.process_model.specs.Frames.{settle_need, tables_needed}
-use Rattle.process_model.specs.OrderKept.{leafy_at}
+use Rattle.process_model.specs.OrderLaws.{leafy_at}
 use Rattle.process_model.specs.PageMap as pages
 use Rattle.process_model.specs.Process.{Process, regions}
 use Rattle.process_model.specs.Regions.{Region, region_at}
-use Rattle.table_walk.specs.Counted.{AreTablesOf}
+use Rattle.table_walk.specs.TableCounts.{AreTablesOf}
 use Rattle.table_walk.specs.Tables.{HasTables, Tables, missing}
-use Rattle.address_space.specs.Agreement.{body, IsSpace, nothing}
+use Rattle.address_space.specs.Agreement.{body, IsSpace, no_extra}
 use Rattle.address_space.specs.Layouts.{Layout}
-use Rattle.address_space.specs.Steps.{Adds, CanAdd, CanSettle, RunsDry, Settles}
+use Rattle.address_space.specs.Steps.{AddsPage, CanAdd, CanSettle, RunsDry, Settles}
 use Rattle.address_space.proofs.Owned.{same_references, same_stands}
 use Rattle.address_space.proofs.Sound.{low_at, sound_more}
 use Rattle.sv39_entry.specs.Schemes.{page_limit, of_scheme}
@@ -65,7 +67,7 @@ module _ (v u w : View) (n : ℕ) (is : u ≡ v) (dry : IsDry n u w) where
   agrees_still root trapframe l t p a = record {
     sound = a.sound;
     lays = a.lays;
-    stands = same_stands v w root trapframe nothing t p (hold_of-frames w v (dry.frames ∙ ap (λ (x : View). x.frames) is)) a.stands;
+    stands = same_stands v w root trapframe no_extra t p (hold_of-frames w v (dry.frames ∙ ap (λ (x : View). x.frames) is)) a.stands;
     credits = dry.credits ∙ ap (λ (x : View). x.credits) is ∙ a.credits;
   }
 
@@ -85,7 +87,7 @@ module _ (v : View) (root trapframe : ℕ) (l : Layout) (t : Tables) (p : Proces
     can_add o r at some =
         let in_region = sym at ∙ some in
         record {
-          stands = same_stands v w root trapframe nothing t p reserved_same can.agrees.stands;
+          stands = same_stands v w root trapframe no_extra t p reserved_same can.agrees.stands;
           unsettled = can.unsettled;
           in_region = in_region;
           leafy = leafy_at p can.agrees.sound.order page r in_region;
@@ -93,7 +95,7 @@ module _ (v : View) (root trapframe : ℕ) (l : Layout) (t : Tables) (p : Proces
         }
 
     pub settles : (x : View) (s : Tables) (bytes : List ℕ) (f : ℕ) → n ≡ 1 + missing p.scheme t page → settle_need p page ≡ 1 + missing p.scheme t page
-        → Adds w x root trapframe t s p page bytes f → Settles v (body x root trapframe l) t s p page bytes f
+        → AddsPage w x root trapframe t s p page bytes f → Settles v (body x root trapframe l) t s p page bytes f
     settles x s bytes f enough need a = record {
       agrees = λ fresh. record {
         sound = sound_more fresh bytes p page can.agrees.sound;

@@ -1,9 +1,10 @@
--- The process that the parts make is sound.
+-- Lemma `sound_whole`: the process that parts (regions with their first bytes) make is sound: its regions are in order, and
+-- each settled page (one in memory) is among those whose page tables it has.
 use Rattle.std.proofs.Common.{◌≡◌, ℕ, suc, ◌+◌, ◌*◌, ◌/◌, ◌≤◌, inl, inr, ap, sym, ◌∙◌, subst, arith, List, [], ◌∷◌, Some}
 use Rattle.std.specs.Prelude.{All, true, false, is_some}
 use Rattle.std.proofs.lemmas.Bool.{cases_eq}
-use Rattle.process_model.specs.Inserted.{inserted_here, inserted_other}
-use Rattle.process_model.specs.Loading.{numbered}
+use Rattle.process_model.specs.Insertion.{inserted_here, inserted_other}
+use Rattle.process_model.specs.ImageProcess.{numbered}
 use Rattle.process_model.specs.Order.{EachRegion, HasLeaves, HasNoFile, is_file, IsSound, Row}
 use Rattle.process_model.specs.PageMap as pages
 use Rattle.process_model.specs.PageMap.{from_list, numbers}

@@ -1,10 +1,12 @@
--- Pages that are settled one after another: what the process has then, and how many frames they take.
+-- Lemmas on pages that are settled (brought into memory) one after another: how a run of pages and its bytes split; that
+-- regions, scheme and other pages stay; and how many page tables they need: in any order as many, and with one page more no
+-- fewer.
 use Rattle.std.proofs.Common.{◌≡◌, ℕ, zero, suc, true, false, cond, ◌+◌, ◌-◌, ◌*◌, ◌/◌, ◌<◌, ◌≤◌, inl, inr, refl, ap, sym, subst, ◌∙◌, arith, List, [], ◌∷◌, ◌++◌, map, length, min, take, drop, replicate}
 use Rattle.std.specs.Prelude.{Contains}
 use Rattle.std.proofs.lemmas.List.{drop-drop, drop_min, length-take, take_all, take_min}
 use Rattle.process_model.specs.Bytes.{numbers_from, padded}
 use Rattle.process_model.specs.Frames.{tables_needed, tables_of, table_sizes, tables_of_sizes}
-use Rattle.process_model.specs.Loading.{page_run}
+use Rattle.process_model.specs.ImageProcess.{page_run}
 use Rattle.process_model.specs.PageMap as pages
 use Rattle.process_model.specs.PageMap.{contains, count}
 use Rattle.process_model.specs.Process.{Page, Process, regions}
@@ -12,7 +14,7 @@ use Rattle.sv39_entry.specs.Schemes.{trampoline_page, trapframe_page}
 use Rattle.sv39_entry.specs.declared.scheme.Scheme.{Scheme}
 use Rattle.address_space.specs.Parts.{with_settled, with_pages}
 use Rattle.process_model.specs.ValueSets.{count_next, none_in, same_count, values}
-use Rattle.process_model.specs.Inserted.{behind, behind_more, first_or, in_front, inserted_other, key_in, key_out}
+use Rattle.process_model.specs.Insertion.{behind, behind_more, first_or, in_front, inserted_other, key_in, key_out}
 
 abbrev pub Pages : Type 0
 Pages = List (ℕ × List ℕ)

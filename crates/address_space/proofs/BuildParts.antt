@@ -1,4 +1,6 @@
--- One part more stands.
+-- Lemmas on a build part by part (a part is a region with its first bytes): once the pages of the first parts are filled,
+-- the next part can be filled (`can_fill`) and the credits (reserved frames) suffice for it; after it one part more is
+-- filled (`part_fills`).
 use Rattle.std.proofs.Common.{◌≡◌, ℕ, zero, suc, true, false, ◌+◌, ◌<◌, ◌≤◌, Some, inl, inr, refl, ap, sym, subst, ◌∙◌, arith, List, [], ◌∷◌, ◌++◌, length, map, get_or, take, drop}
 use Rattle.std.specs.Prelude.{Contains}
 use Rattle.std.proofs.lemmas.Bool.Decides.{nat_tests}
@@ -15,7 +17,7 @@ use Rattle.process_model.specs.Process.{Process, heap_of}
 use Rattle.process_model.specs.Regions.{Region, end_of, holds_page, region_at}
 use Rattle.table_walk.specs.Tables.{Tables}
 use Rattle.address_space.specs.Layouts.{last_page}
-use Rattle.address_space.specs.Parts.{AreParts, bare_process, CanFill, Fills, IsAscending, numbers_of, pages_need, pages_of, part_pages, region_in, regions_in, StandsAlone, with_pages}
+use Rattle.address_space.specs.Parts.{AreParts, bare_process, CanFill, FillsPages, IsAscending, numbers_of, pages_need, pages_of, part_pages, region_in, regions_in, StandsAlone, with_pages}
 use Rattle.address_space.specs.declared.part.Part.{Part}
 use Rattle.address_space.proofs.BuildPages.{Pages, in_run, other_stays, same_regions, tables_up_to, with_both, same_scheme}
 use Rattle.address_space.proofs.Found.{first_found, first_passed, in_front}
@@ -35,8 +37,8 @@ need_both xs ys p =
     let second = tables_up_to ys (with_pages p xs) in
     omega (arith, sizes, tables, first, second)
 
-pub fills_both : (v w x : View) (root trapframe : ℕ) (u y : Tables) (p : Process) (xs ys : Pages) → Fills v w root trapframe u p xs
-    → Fills w x root trapframe y (with_pages p xs) ys → Fills v x root trapframe y p (xs ++ ys)
+pub fills_both : (v w x : View) (root trapframe : ℕ) (u y : Tables) (p : Process) (xs ys : Pages) → FillsPages v w root trapframe u p xs
+    → FillsPages w x root trapframe y (with_pages p xs) ys → FillsPages v x root trapframe y p (xs ++ ys)
 fills_both v w x root trapframe u y p xs ys first second =
     let need = need_both xs ys p in
     record {
@@ -96,14 +98,14 @@ in_part (p ∷ ps) end (suc i) page d up less from below =
 -- ---- one part more
 
 module _ (z : Scheme) (v : View) (root trapframe : ℕ) (ps : List Part) (are : AreParts z ps) where
-  pub fills_bare : (t : Tables) → StandsAlone v root trapframe t (bare_process z ps) → Fills v v root trapframe t (bare_process z ps) []
+  pub fills_bare : (t : Tables) → StandsAlone v root trapframe t (bare_process z ps) → FillsPages v v root trapframe t (bare_process z ps) []
   fills_bare t stands = record {
     after = stands;
     saved = refl;
     spends = record { credits = omega arith; tallies = spent_is v.tallies v.tallies 0 _ (omega arith) (spent_none v.tallies) };
   }
 
-  module _ (i : ℕ) (d : Part) (less : i < length ps) (w : View) (u : Tables) (fills : Fills v w root trapframe u (bare_process z ps) (pages_of (take i ps))) where
+  module _ (i : ℕ) (d : Part) (less : i < length ps) (w : View) (u : Tables) (fills : FillsPages v w root trapframe u (bare_process z ps) (pages_of (take i ps))) where
     abbrev part : Part
     part = get_or ps i d
 
@@ -138,5 +140,5 @@ module _ (z : Scheme) (v : View) (root trapframe : ℕ) (ps : List Part) (are : 
         let spent = fills.spends.credits in
         omega (arith, enough, here, all, spent)
 
-    pub part_fills : (x : View) (y : Tables) → Fills w x root trapframe y before (part_pages part) → Fills v x root trapframe y (bare_process z ps) (pages_of (take (i + 1) ps))
+    pub part_fills : (x : View) (y : Tables) → FillsPages w x root trapframe y before (part_pages part) → FillsPages v x root trapframe y (bare_process z ps) (pages_of (take (i + 1) ps))
     part_fills x y more = rw (pages_more ps i d less) (fills_both v w x root trapframe u y (bare_process z ps) (pages_of (take i ps)) (part_pages part) fills more)

@@ -1,4 +1,6 @@
--- The process that the parts make: pages that are settled one after another, and all of them at once with other copy numbers.
+-- Lemmas: settling (bringing into memory) the parts' pages one after another makes the process that `process_of_parts` makes
+-- of them at once, but for copy numbers (which copy of a page it is). In memory these do not matter (`stands_like`). Also
+-- how many page tables the process has, with all these pages and with none.
 use Rattle.std.proofs.Common.{◌≡◌, ℕ, zero, suc, Bool, false, ◌+◌, ◌<◌, ◌≤◌, inl, inr, refl, ap, sym, subst, ◌∙◌, arith, List, [], ◌∷◌, ◌++◌, map, Option, Some, None}
 use Rattle.std.specs.Prelude.{All, Contains, option_map}
 use Rattle.std.proofs.lemmas.Bool.{cases_eq}
@@ -11,19 +13,19 @@ use Rattle.std.specs.Ordering.{nat_cmp}
 use Rattle.frame_bytes.specs.Contents.{HasBytes}
 use Rattle.frame_store.specs.View.{View}
 use Rattle.process_model.specs.Frames.{tables_needed, tables_of}
-use Rattle.process_model.specs.Loading.{numbered, page_run}
+use Rattle.process_model.specs.ImageProcess.{numbered, page_run}
 use Rattle.process_model.specs.PageMap as pages
 use Rattle.process_model.specs.PageMap.{NumberSet, from_list, numbers, with_numbers}
 use Rattle.process_model.specs.Process.{Page, Process, regions}
 use Rattle.process_model.specs.Regions.{end_of, region_at}
-use Rattle.table_walk.specs.Counted.{AreTablesOf}
+use Rattle.table_walk.specs.TableCounts.{AreTablesOf}
 use Rattle.table_walk.specs.Tables.{Tables, HasTables, leaf_node}
-use Rattle.address_space.specs.Agreement.{is_dirty_page, IsPageLeaf, Shows, Stands, HasKernelLeaf, code_rights, data_rights}
+use Rattle.address_space.specs.Agreement.{is_dirty_page, IsPageLeaf, ShowsPages, IsInMemory, HasKernelLeaf, code_rights, data_rights}
 use Rattle.address_space.specs.Parts.{bare_process, IsAscending, numbers_of, pages_of, part_pages, process_of_parts, region_in, with_settled, with_pages}
 use Rattle.address_space.specs.declared.part.Part.{Part}
 use Rattle.address_space.proofs.BuildPages.{Pages, other_stays, page_numbers, same_regions, same_tables_needed, same_scheme}
 use Rattle.process_model.specs.ValueSets.{none_in}
-use Rattle.process_model.specs.Inserted.{behind_more, first_or, inserted_here, inserted_other, key_in, key_out}
+use Rattle.process_model.specs.Insertion.{behind_more, first_or, inserted_here, inserted_other, key_in, key_out}
 use Rattle.sv39_entry.specs.Schemes.{trapframe_page, top_level, trampoline_page}
 use Rattle.sv39_entry.specs.declared.scheme.Scheme.{Scheme}
 use Rattle.sv39_entry.specs.declared.scheme.Scheme.TheVariants.{Sv39, Sv48}
@@ -67,7 +69,7 @@ module _ (p q : Process) (like : IsLike p q) where
   found_back : (n : ℕ) (s : Page) → pages.get p.settled n ≡ Some s → Found (pages.get q.settled n) s
   found_back n s at = found_like (pages.get q.settled n) s (sym (like.shows n) ∙ ap shown at)
 
-  shows_like : (v : View) (trapframe : ℕ) (t : Tables) → Shows v trapframe t p → Shows v trapframe t q
+  shows_like : (v : View) (trapframe : ℕ) (t : Tables) → ShowsPages v trapframe t p → ShowsPages v trapframe t q
   shows_like v trapframe t s = record {
     on_trampoline = subst (λ z. HasKernelLeaf t (trampoline_page z) 0 code_rights) like.scheme s.on_trampoline;
     on_trapframe = subst (λ z. HasKernelLeaf t (trapframe_page z) trapframe data_rights) like.scheme s.on_trapframe;
@@ -93,7 +95,7 @@ module _ (p q : Process) (like : IsLike p q) where
     low = λ n page at. let there = found_there n page at in subst (λ z. n < trapframe_page z) like.scheme (s.low n there.page there.found);
   }
 
-  pub stands_like : (v : View) (root trapframe : ℕ) (extra : ℕ → ℕ) (t : Tables) → Stands v root trapframe extra t p → Stands v root trapframe extra t q
+  pub stands_like : (v : View) (root trapframe : ℕ) (extra : ℕ → ℕ) (t : Tables) → IsInMemory v root trapframe extra t p → IsInMemory v root trapframe extra t q
   stands_like v root trapframe extra t s = record {
     tables = subst (λ z. HasTables z v root t) like.scheme s.tables;
     owns = s.owns;

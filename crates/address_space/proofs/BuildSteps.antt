@@ -1,4 +1,5 @@
--- One page more of a part stands, and one part more.
+-- Lemmas on a build page by page within one part (a region with its first bytes): the next page can be added (`can_add`),
+-- the credits (reserved frames) suffice, and after it one page more of the part is filled (`next_fills`).
 use Rattle.std.proofs.Common.{◌≡◌, ℕ, ◌+◌, ◌-◌, ◌*◌, ◌<◌, ◌≤◌, inl, inr, refl, ap, sym, subst, ◌∙◌, arith, List, [], ◌∷◌, drop}
 use Rattle.std.specs.Prelude.{All, Contains}
 use Rattle.std.proofs.lemmas.Bool.{cases_eq}
@@ -8,7 +9,7 @@ use Rattle.frame_store.specs.View.{View, IsSole}
 use Rattle.process_model.specs.Bytes.{padded}
 use Rattle.process_model.specs.Frames.{tables_needed, tables_of}
 use Rattle.process_model.specs.ImageNeed.{run_length, run_numbers}
-use Rattle.process_model.specs.Loading.{page_run}
+use Rattle.process_model.specs.ImageProcess.{page_run}
 use Rattle.process_model.specs.PageMap as pages
 use Rattle.process_model.specs.Process.{Process}
 use Rattle.process_model.specs.Regions.{region_at}
@@ -16,26 +17,26 @@ use Rattle.sv39_entry.specs.Address.{page_of}
 use Rattle.sv39_entry.specs.Word.{ppn}
 use Rattle.sv39_entry.specs.Schemes.{page_limit, of_scheme, trapframe_page}
 use Rattle.sv39_entry.specs.declared.scheme.Scheme.{Scheme}
-use Rattle.table_walk.specs.Counted.{AreTablesOf}
+use Rattle.table_walk.specs.TableCounts.{AreTablesOf}
 use Rattle.table_walk.specs.Tables.{Tables, leaf_node, missing}
-use Rattle.address_space.specs.Parts.{CanFill, Fills, OwnsAlone, pages_need, part_pages, region_in, with_settled, with_pages}
-use Rattle.address_space.specs.Steps.{Adds, CanAdd, settled_with}
+use Rattle.address_space.specs.Parts.{CanFill, FillsPages, OwnsAlone, pages_need, part_pages, region_in, with_settled, with_pages}
+use Rattle.address_space.specs.Steps.{AddsPage, CanAdd, settled_with}
 use Rattle.address_space.specs.declared.part.Part.{Part}
 use Rattle.address_space.proofs.BuildPages.{Pages, in_run, other_stays, page_numbers, run_next, run_split, same_regions, tables_next, tables_up_to, with_both, same_scheme}
-use Rattle.address_space.proofs.Owned.{one_frame}
+use Rattle.address_space.proofs.Owned.{one_ppn}
 
 -- how many tables are missing on the way to a page
 abbrev pub CountsMissing : Scheme → Type 0
 CountsMissing z = (t : Tables) (pages : List ℕ) (page : ℕ) → AreTablesOf z t pages → All (λ n. n < page_limit z) pages → page < page_limit z → missing z t page ≡ tables_needed z (page ∷ pages) - tables_needed z pages
 
 -- no other seat has a frame of the page that was added
-added_alone : (v w : View) (root trapframe : ℕ) (t u : Tables) (p : Process) (page : ℕ) (bytes : List ℕ) (f : ℕ) → Adds v w root trapframe t u p page bytes f
+added_alone : (v w : View) (root trapframe : ℕ) (t u : Tables) (p : Process) (page : ℕ) (bytes : List ℕ) (f : ℕ) → AddsPage v w root trapframe t u p page bytes f
     → ((g : ℕ) → IsSole v g → IsSole w g) → OwnsAlone v t → OwnsAlone w u
 added_alone v w root trapframe t u p page bytes f adds soles alone g j (inl table) other = (((adds.stands 0).tables).own j g table).1
 added_alone v w root trapframe t u p page bytes f adds soles alone g j (inr (y, leaf, names)) other = elim (cases_eq j (leaf_node page)) [
   | inl here ↦
       let same : y ≡ adds.on.0 = same_Some y adds.on.0 (sym (rw here at leaf) ∙ adds.on.1) in
-      let frame : g ≡ f = one_frame g f (sym names ∙ ap ppn same ∙ adds.on.2) in
+      let frame : g ≡ f = one_ppn g f (sym names ∙ ap ppn same ∙ adds.on.2) in
       rw frame adds.sole
   | inr apart ↦ soles g (alone g j (inr (y, sym (adds.others j apart) ∙ leaf, names)) other)
 ]
@@ -48,14 +49,14 @@ module _ (v : View) (root trapframe : ℕ) (t : Tables) (p : Process) (part : Pa
   abbrev run : ℕ → Pages
   run k = page_run part.region.first part.bytes.now k
 
-  pub fills_none : Fills v v root trapframe t p []
+  pub fills_none : FillsPages v v root trapframe t p []
   fills_none = record {
     after = can.before;
     saved = refl;
     spends = record { credits = omega arith; tallies = spent_is v.tallies v.tallies 0 _ (omega arith) (spent_none v.tallies) };
   }
 
-  module _ (k : ℕ) (less : k < part.region.pages) (w : View) (u : Tables) (fills : Fills v w root trapframe u p (run k)) (page : ℕ) (at : page ≡ part.region.first + k) where
+  module _ (k : ℕ) (less : k < part.region.pages) (w : View) (u : Tables) (fills : FillsPages v w root trapframe u p (run k)) (page : ℕ) (at : page ≡ part.region.first + k) where
     abbrev before : Process
     before = with_pages p (run k)
 
@@ -121,8 +122,8 @@ module _ (v : View) (root trapframe : ℕ) (t : Tables) (p : Process) (part : Pa
           let need = need_is in
           omega (arith, all, missing_now, up, grew, last, spent, need, less, enough)
 
-      pub next_fills : (x : View) (y : Tables) (bytes : List ℕ) (f : ℕ) → padded 4096 bytes ≡ padded 4096 (drop (4096 * k) part.bytes.now) → Adds w x root trapframe u y before page bytes f
-          → ((g : ℕ) → IsSole w g → IsSole x g) → Fills v x root trapframe y p (run (k + 1))
+      pub next_fills : (x : View) (y : Tables) (bytes : List ℕ) (f : ℕ) → padded 4096 bytes ≡ padded 4096 (drop (4096 * k) part.bytes.now) → AddsPage w x root trapframe u y before page bytes f
+          → ((g : ℕ) → IsSole w g → IsSole x g) → FillsPages v x root trapframe y p (run (k + 1))
       next_fills x y bytes f same adds soles =
           let process : settled_with 0 bytes before page ≡ with_pages p (run (k + 1)) =
           ap (λ n. with_settled before (n, padded 4096 bytes)) at ∙ ap (λ bs. with_settled before (part.region.first + k, bs)) same ∙ sym after_is in

@@ -1,4 +1,6 @@
--- The first tables of a space, with the two pages of the kernel.
+-- Lemmas for `open_tables`, the first tables of a space: an empty root, then TRAMPOLINE's leaf over frame 0, then
+-- TRAPFRAME's leaf. What the seat (an owner's capability at a frame store) owns after each, the result (`opens`), and the
+-- credits (reserved frames) spent.
 use Rattle.std.proofs.Common.{◌≡◌, ◌+◌, ℕ, true, false, ◌-◌, ◌≤◌, ◌⊎◌, Some, None, inl, inr, refl, ap, sym, ◌∙◌, arith, [], ◌∷◌}
 use Rattle.std.proofs.lemmas.Bool.{cases_eq}
 use Rattle.std.proofs.lemmas.Option.{same_Some}
@@ -13,17 +15,17 @@ use Rattle.process_model.specs.PageMap as pages
 use Rattle.process_model.specs.Process.{Page, Process}
 use Rattle.sv39_entry.specs.Address.{has}
 use Rattle.sv39_entry.specs.Word.{IsLeafOf, ppn}
-use Rattle.table_walk.specs.Counted.{AreTablesOf}
+use Rattle.table_walk.specs.TableCounts.{AreTablesOf}
 use Rattle.table_walk.specs.Tables.{bare_root, blank_hold, ChangesTables, HasTables, Tables, IsGrown, leaf_node, missing, with_leaf, root_node}
 use Rattle.table_walk.specs.Keys.{insert_other, insert_same, is_none}
 use Rattle.sv39_entry.specs.Schemes.{top_level, trampoline_page, trapframe_page, of_scheme}
 use Rattle.sv39_entry.specs.declared.scheme.Scheme.{Scheme}
 use Rattle.sv39_entry.specs.declared.scheme.Scheme.TheVariants.{Sv39, Sv48}
-use Rattle.address_space.specs.Agreement.{HasKernelLeaf, Names, nothing, one_of, Owns, Shows, Stands, code_rights, data_rights}
-use Rattle.address_space.specs.Parts.{CanOpen, Opens, OwnsAlone}
-use Rattle.address_space.specs.Steps.{Spends}
+use Rattle.address_space.specs.Agreement.{HasKernelLeaf, NamesFrame, no_extra, one_extra, OwnsFrames, ShowsPages, IsInMemory, code_rights, data_rights}
+use Rattle.address_space.specs.Parts.{CanOpen, OpensSpace, OwnsAlone}
+use Rattle.address_space.specs.Steps.{SpendsCredits}
 use Rattle.address_space.proofs.AddingFrames.{f_same, leaf_owns, still_held, still_unnamed}
-use Rattle.address_space.proofs.Owned.{apart_by, both_of, claimed_other, one_else, one_frame, one_here, same_references, same_sole}
+use Rattle.address_space.proofs.Owned.{apart_by, both_of, claimed_other, one_else, one_ppn, one_here, same_references, same_sole}
 
 -- ---- the root
 
@@ -36,7 +38,7 @@ bare_table z root k f at = elim (cases_eq k (root_node z)) [
 bare_leaf : (z : Scheme) (root k y : ℕ) → get (bare_root z root).leaves k ≡ Some y → ⊥
 bare_leaf z root k y at = let none = sym (get-empty {X = ℕ} nat_cmp k) ∙ at in cc
 
-bare_name : (z : Scheme) (root f k : ℕ) → Names (bare_root z root) f k → (k ≡ root_node z) × (f ≡ root)
+bare_name : (z : Scheme) (root f k : ℕ) → NamesFrame (bare_root z root) f k → (k ≡ root_node z) × (f ≡ root)
 bare_name z root f k (inl table) = bare_table z root k f table
 bare_name z root f k (inr (y, leaf, names)) = absurd (bare_leaf z root k y leaf)
 
@@ -74,10 +76,10 @@ module _ (z : Scheme) (v w : View) (root trapframe : ℕ) (can : CanOpen z v tra
     ]
   ]
 
-  pub zero_unnamed : (k : ℕ) → Names (bare_root z root) 0 k → ⊥
+  pub zero_unnamed : (k : ℕ) → NamesFrame (bare_root z root) 0 k → ⊥
   zero_unnamed k names = not_zero (bare_name z root 0 k names).1
 
-  pub trapframe_unnamed : (k : ℕ) → Names (bare_root z root) trapframe k → ⊥
+  pub trapframe_unnamed : (k : ℕ) → NamesFrame (bare_root z root) trapframe k → ⊥
   trapframe_unnamed k names = not_trapframe (bare_name z root trapframe k names).1
 
   pub trapframe_as_was : hold_of w trapframe ≡ hold_of v trapframe
@@ -86,7 +88,7 @@ module _ (z : Scheme) (v w : View) (root trapframe : ℕ) (can : CanOpen z v tra
   pub trapframe_yet : IsHeld w trapframe
   trapframe_yet = let one = can.holds.saved in let same = same_references v w trapframe trapframe_as_was in omega (arith, one, same)
 
-  pub root_owns : Owns w (bare_root z root) (both_of trapframe 0)
+  pub root_owns : OwnsFrames w (bare_root z root) (both_of trapframe 0)
   root_owns = record {
     once = λ f j k first second. (bare_name z root f j first).0 ∙ sym (bare_name z root f k second).0;
     named = λ f k names.
@@ -101,7 +103,7 @@ module _ (z : Scheme) (v w : View) (root trapframe : ℕ) (can : CanOpen z v tra
     writable = λ f n y leaf names writes. absurd (bare_leaf z root n y leaf);
   }
 
-  pub root_spends : Spends v w 1
+  pub root_spends : SpendsCredits v w 1
   root_spends = record {
     credits = ap (λ (u : View). u.credits) is;
     tallies = ap (λ (u : View). u.tallies) is;
@@ -111,13 +113,13 @@ module _ (z : Scheme) (v w : View) (root trapframe : ℕ) (can : CanOpen z v tra
 
 pub record HasTrampoline (z : Scheme) (w : View) (root trapframe : ℕ) (t : Tables) : Type 0 where
   pub tables : HasTables z w root t
-  pub owns : Owns w t (one_of trapframe)
-  pub free : (k : ℕ) → Names t trapframe k → ⊥
+  pub owns : OwnsFrames w t (one_extra trapframe)
+  pub free : (k : ℕ) → NamesFrame t trapframe k → ⊥
   pub leaf : HasKernelLeaf t (trampoline_page z) 0 code_rights
   pub only : (k y : ℕ) → get t.leaves k ≡ Some y → k ≡ leaf_node (trampoline_page z)
   pub tabled : AreTablesOf z t []
 
-module _ (z : Scheme) (v w : View) (root trapframe x n : ℕ) (u : Tables) (o : Owns v (bare_root z root) (both_of trapframe 0)) (zero_free : (k : ℕ) → Names (bare_root z root) 0 k → ⊥)
+module _ (z : Scheme) (v w : View) (root trapframe x n : ℕ) (u : Tables) (o : OwnsFrames v (bare_root z root) (both_of trapframe 0)) (zero_free : (k : ℕ) → NamesFrame (bare_root z root) 0 k → ⊥)
     (bare : HasTables z v root (bare_root z root)) (grown : IsGrown z (bare_root z root) u (trampoline_page z) (top_level z))
     (tables : HasTables z w root (with_leaf u (leaf_node (trampoline_page z)) x)) (changes : ChangesTables v w (bare_root z root) u n)
     (made : IsLeafOf x 0 code_rights false false true) where
@@ -137,15 +139,15 @@ module _ (z : Scheme) (v w : View) (root trapframe x n : ℕ) (u : Tables) (o : 
   not_written writes = absurd (let both = sym made.write ∙ writes in cc)
 
   -- the trapframe's frame waits
-  module _ (apart : trapframe ≡ 0 → ⊥) (held : IsHeld v trapframe) (free : (k : ℕ) → Names (bare_root z root) trapframe k → ⊥) where
+  module _ (apart : trapframe ≡ 0 → ⊥) (held : IsHeld v trapframe) (free : (k : ℕ) → NamesFrame (bare_root z root) trapframe k → ⊥) where
     pub trampoline_saved : hold_of w trapframe ≡ hold_of v trapframe
-    trampoline_saved = still_held v w (bare_root z root) u n root (trampoline_page z) x 0 (both_of trapframe 0) (one_of trapframe) o zero_free (λ g. refl) bare grown changes tables made.names no_leaf not_written trapframe apart held free
+    trampoline_saved = still_held v w (bare_root z root) u n root (trampoline_page z) x 0 (both_of trapframe 0) (one_extra trapframe) o zero_free (λ g. refl) bare grown changes tables made.names no_leaf not_written trapframe apart held free
 
     pub has_trampoline : AreTablesOf z u [] → HasTrampoline z w root trapframe after
     has_trampoline are = record {
       tables = tables;
-      owns = leaf_owns v w (bare_root z root) u n root (trampoline_page z) x 0 (both_of trapframe 0) (one_of trapframe) o zero_free (λ g. refl) bare grown changes tables made.names no_leaf not_written;
-      free = still_unnamed v w (bare_root z root) u n root (trampoline_page z) x 0 (both_of trapframe 0) (one_of trapframe) o zero_free (λ g. refl) bare grown changes tables made.names no_leaf not_written trapframe apart held free;
+      owns = leaf_owns v w (bare_root z root) u n root (trampoline_page z) x 0 (both_of trapframe 0) (one_extra trapframe) o zero_free (λ g. refl) bare grown changes tables made.names no_leaf not_written;
+      free = still_unnamed v w (bare_root z root) u n root (trampoline_page z) x 0 (both_of trapframe 0) (one_extra trapframe) o zero_free (λ g. refl) bare grown changes tables made.names no_leaf not_written trapframe apart held free;
       leaf = (x, insert_same u.leaves (leaf_node (trampoline_page z)) x (leaf_node (trampoline_page z)) refl, made);
       only = one_leaf;
       tabled = are;
@@ -181,10 +183,10 @@ module _ (z : Scheme) (v w : View) (root x f n : ℕ) (t u : Tables) (before : H
   here = insert_same u.leaves (leaf_node (trapframe_page z)) x (leaf_node (trapframe_page z)) refl
 
   pub frame_same : hold_of w f ≡ hold_of v f
-  frame_same = f_same v w t u n root (trapframe_page z) x f (one_of f) nothing before.owns before.free (λ g. omega arith) before.tables grown changes tables made.names unmapped (λ _. sole)
+  frame_same = f_same v w t u n root (trapframe_page z) x f (one_extra f) no_extra before.owns before.free (λ g. omega arith) before.tables grown changes tables made.names unmapped (λ _. sole)
 
-  pub opens_owns : Owns w last nothing
-  opens_owns = leaf_owns v w t u n root (trapframe_page z) x f (one_of f) nothing before.owns before.free (λ g. omega arith) before.tables grown changes tables made.names unmapped (λ _. sole)
+  pub opens_owns : OwnsFrames w last no_extra
+  opens_owns = leaf_owns v w t u n root (trapframe_page z) x f (one_extra f) no_extra before.owns before.free (λ g. omega arith) before.tables grown changes tables made.names unmapped (λ _. sole)
 
   two_leaves : (k y : ℕ) → get last.leaves k ≡ Some y → ((k ≡ leaf_node (trampoline_page z)) × (get t.leaves k ≡ Some y)) ⊎ ((k ≡ leaf_node (trapframe_page z)) × (y ≡ x))
   two_leaves k y leaf = elim (cases_eq k (leaf_node (trapframe_page z))) [
@@ -198,15 +200,15 @@ module _ (z : Scheme) (v w : View) (root x f n : ℕ) (t u : Tables) (before : H
     | inl old ↦
         let first = before.leaf in
         let same : y ≡ first.0 = same_Some y first.0 (sym (rw old.0 at old.1) ∙ first.1) in
-        absurd (other (one_frame g 0 (sym names ∙ ap ppn same ∙ first.2.names)))
-    | inr new ↦ rw (one_frame g f (sym names ∙ ap ppn new.1 ∙ made.names)) (same_sole v w f frame_same sole)
+        absurd (other (one_ppn g 0 (sym names ∙ ap ppn same ∙ first.2.names)))
+    | inr new ↦ rw (one_ppn g f (sym names ∙ ap ppn new.1 ∙ made.names)) (same_sole v w f frame_same sole)
   ]
 
   module _ (p : Process) (schemed : p.scheme ≡ z) (settled : p.settled ≡ pages.empty Page) (tabled : p.tabled ≡ pages.empty (Unit {0})) where
     none_settled : (k : ℕ) (s : Page) → pages.get p.settled k ≡ Some s → ⊥
     none_settled k s found = let none = rw settled at found in cc
 
-    opens_shows : Shows w f last p
+    opens_shows : ShowsPages w f last p
     opens_shows = record {
       on_trampoline = rw schemed (before.leaf.0, keeps (leaf_node (trampoline_page z)) (λ same. kernel_apart z (sym same)) ∙ before.leaf.1, before.leaf.2);
       on_trapframe = rw schemed (x, here, made);
@@ -215,7 +217,7 @@ module _ (z : Scheme) (v w : View) (root x f n : ℕ) (t u : Tables) (before : H
       low = λ k s found. absurd (none_settled k s found);
     }
 
-    opens_stands : Stands w root f nothing last p
+    opens_stands : IsInMemory w root f no_extra last p
     opens_stands = record {
       tables = rw schemed tables;
       owns = opens_owns;
@@ -224,11 +226,11 @@ module _ (z : Scheme) (v w : View) (root x f n : ℕ) (t u : Tables) (before : H
       tabled_low = rw tabled (λ i d less. absurd (omega (arith, less)));
     }
 
-  pub opens : (o : View) → hold_of v f ≡ hold_of o f → Spends o w (1 + top_level z) → Opens z o w root f last
+  pub opens : (o : View) → hold_of v f ≡ hold_of o f → SpendsCredits o w (1 + top_level z) → OpensSpace z o w root f last
   opens o saved spends = record { stands = opens_stands; alone = opens_alone; saved = frame_same ∙ saved; spends = spends }
 
 -- ---- what it takes: the root, and the tables below it
-pub open_spends : (z : Scheme) (o a v w : View) (t u t2 u2 : Tables) (m n : ℕ) → Spends o a 1 → m ≡ top_level z → ChangesTables a v t u m → n ≡ 0 → ChangesTables v w t2 u2 n → Spends o w (1 + top_level z)
+pub open_spends : (z : Scheme) (o a v w : View) (t u t2 u2 : Tables) (m n : ℕ) → SpendsCredits o a 1 → m ≡ top_level z → ChangesTables a v t u m → n ≡ 0 → ChangesTables v w t2 u2 n → SpendsCredits o w (1 + top_level z)
 open_spends z o a v w t u t2 u2 m n first two second none last = record {
   credits = omega (arith, first.credits, two, second.credits, none, last.credits);
   tallies = spent_is o.tallies w.tallies (1 + m + n) (1 + top_level z) (omega (arith, two, none))
@@ -236,7 +238,7 @@ open_spends z o a v w t u t2 u2 m n first two second none last = record {
 }
 
 -- the credits that each of the two takes are there
-pub first_enough : (z : Scheme) (o v : View) (root page : ℕ) → page ≡ (trampoline_page z) → missing z (bare_root z root) (trampoline_page z) ≡ top_level z → Spends o v 1 → 1 + top_level z ≤ o.credits → missing z (bare_root z root) page ≤ v.credits
+pub first_enough : (z : Scheme) (o v : View) (root page : ℕ) → page ≡ (trampoline_page z) → missing z (bare_root z root) (trampoline_page z) ≡ top_level z → SpendsCredits o v 1 → 1 + top_level z ≤ o.credits → missing z (bare_root z root) page ≤ v.credits
 first_enough z o v root page is two spent enough =
     let same = ap (missing z (bare_root z root)) is in
     omega (arith, same, two, spent.credits, enough)

@@ -1,4 +1,6 @@
--- Pages of a run that go one after another.
+-- Lemmas for `drop_run`, by which the pages of a range are dropped in ascending order: none at first, one more
+-- (`dropped_next`), and all once no leaf is left (`dropped_all`). The process without these pages is in memory, and the
+-- space is that process (`agrees_dropped`).
 use Rattle.std.proofs.Common.{◌≡◌, ℕ, ◌+◌, ◌*◌, ◌^◌, ◌<◌, ◌≤◌, ◌⊎◌, max, Option, None, Some, refl, ap, sym, ◌∙◌, inl, inr, arith, subst}
 use Rattle.std.specs.Prelude.{IsSome}
 use Rattle.std.proofs.lemmas.Bool.{cases_eq, cases_lt}
@@ -8,27 +10,27 @@ use Rattle.process_model.specs.Heap.{without_pages}
 use Rattle.process_model.specs.PageMap as pages
 use Rattle.process_model.specs.PageMap.{PageMap}
 use Rattle.process_model.specs.Process.{Page, Process}
-use Rattle.process_model.specs.Released.{still_settled, was_settled}
+use Rattle.process_model.specs.ReleaseLaws.{still_settled, was_settled}
 use Rattle.sv39_entry.specs.Schemes.{top_level, trampoline_page, trapframe_page, of_scheme}
 use Rattle.sv39_entry.specs.declared.scheme.Scheme.{Scheme}
-use Rattle.table_walk.specs.Changed.{IsNextLeafBefore, places}
+use Rattle.table_walk.specs.TableChanges.{IsNextLeafBefore, places}
 use Rattle.table_walk.specs.Tables.{Tables, leaf_node, without_leaf, root_node, HasTables}
 use Rattle.table_walk.specs.Keys.{remove_same, remove_other}
-use Rattle.table_walk.specs.Places.{IsBare}
-use Rattle.table_walk.specs.Nodes.{root_power}
-use Rattle.address_space.specs.Agreement.{body, IsSpace, IsLeafNumber, IsOn, nothing, Shows, Stands}
-use Rattle.address_space.specs.Ending.{AreUnmapped, CanDrop, Drops, DropsLeaf, DropsRun, IsFirstMapped, MayDrop}
+use Rattle.table_walk.specs.Places.{HasNoLeaves}
+use Rattle.table_walk.specs.Nodes.{root_power, one_page}
+use Rattle.address_space.specs.Agreement.{body, IsSpace, IsLeafNumber, IsFrameOfPage, no_extra, ShowsPages, IsInMemory}
+use Rattle.address_space.specs.SpaceTeardown.{AreUnmapped, CanDrop, Drops, DropsLeaf, DropsRun, IsFirstMapped, MayDrop}
 use Rattle.address_space.specs.Layouts.{Layout}
 use Rattle.address_space.proofs.Sound.{sound_fewer}
 use Rattle.address_space.proofs.DroppedLeaf.{left, takes_none, takes_then}
-use Rattle.address_space.proofs.Owned.{one_page, same_bytes}
+use Rattle.address_space.proofs.Owned.{same_bytes}
 
 -- places below the root, and pages
 
 leaf_place : (z : Scheme) (n : ℕ) → leaf_node n ≡ root_node z * places (top_level z) + n
 leaf_place z n = omega (arith, root_power z)
 
-unmapped_to : (z : Scheme) (t : Tables) (first end : ℕ) → IsBare t (root_node z) (places (top_level z)) first end → AreUnmapped t first end
+unmapped_to : (z : Scheme) (t : Tables) (first end : ℕ) → HasNoLeaves t (root_node z) (places (top_level z)) first end → AreUnmapped t first end
 unmapped_to z t first end bare n from less = ap (get t.leaves) (leaf_place z n) ∙ bare n from less
 
 pub first_is_mapped : (z : Scheme) (t : Tables) (first end : ℕ) (o : Option (ℕ × ℕ)) → IsNextLeafBefore z t first end o → IsFirstMapped t first end o
@@ -52,7 +54,7 @@ module _ (v : View) (root trapframe : ℕ) (u : Tables) (p : Process) (old new :
     ]
   ]
 
-  stands_fewer : Stands v root trapframe nothing u (record p { settled = old }) → Stands v root trapframe nothing u (record p { settled = new })
+  stands_fewer : IsInMemory v root trapframe no_extra u (record p { settled = old }) → IsInMemory v root trapframe no_extra u (record p { settled = new })
   stands_fewer a = record {
     tables = a.tables;
     owns = a.owns;
@@ -105,7 +107,7 @@ module _ (first from end : ℕ) (within : from ≤ max first end) where
     }
 
     stands_longer : (v : View) (root trapframe : ℕ) (p : Process)
-        → Stands v root trapframe nothing u (without_pages p first from) → Stands v root trapframe nothing u (without_pages p first end)
+        → IsInMemory v root trapframe no_extra u (without_pages p first from) → IsInMemory v root trapframe no_extra u (without_pages p first end)
     stands_longer v root trapframe p =
         stands_fewer v root trapframe u p (without_pages p first from).settled (without_pages p first end).settled
         (λ n s at. let was = was_settled p first end n s at in still_settled p first from n s was.0 (short_run n was.1))
@@ -166,7 +168,7 @@ module _ (first page : ℕ) (from : first ≤ page) where
       ]
     ]
 
-    shows_more : Shows v trapframe u (without_pages p first page) → Shows w trapframe (without_leaf u (leaf_node page)) (without_pages p first (page + 1))
+    shows_more : ShowsPages v trapframe u (without_pages p first page) → ShowsPages w trapframe (without_leaf u (leaf_node page)) (without_pages p first (page + 1))
     shows_more s = record {
       on_trampoline =
           let t = s.on_trampoline in
@@ -193,7 +195,7 @@ module _ (first page : ℕ) (from : first ≤ page) where
       low = λ n page_there at. s.low n page_there (before_that n page_there at).0;
     }
 
-    stands_more : Stands v root trapframe nothing u (without_pages p first page) → Stands w root trapframe nothing (without_leaf u (leaf_node page)) (without_pages p first (page + 1))
+    stands_more : IsInMemory v root trapframe no_extra u (without_pages p first page) → IsInMemory w root trapframe no_extra (without_leaf u (leaf_node page)) (without_pages p first (page + 1))
     stands_more a = record {
       tables = d.tables;
       owns = d.owns;
@@ -203,7 +205,7 @@ module _ (first page : ℕ) (from : first ≤ page) where
     }
 
     -- the trapframe's frame is named still
-    saved_more : Shows v trapframe u (without_pages p first page) → hold_of w trapframe ≡ hold_of v trapframe
+    saved_more : ShowsPages v trapframe u (without_pages p first page) → hold_of w trapframe ≡ hold_of v trapframe
     saved_more s =
         let t = s.on_trapframe in
         d.others (leaf_node (trapframe_page p.scheme)) t.0 trapframe (kept (trapframe_page p.scheme) t.0 (λ same. omega (arith, same, low)) t.1) t.2.names
@@ -223,16 +225,16 @@ goes_first t first end before some =
     let leaf = some_leaf (get t.leaves (leaf_node first)) some in
     (leaf.0, (omega arith, before, leaf.1, λ n from less. absurd (omega (arith, from, less))))
 
-may_drop : (v : View) (root trapframe : ℕ) (u : Tables) (q : Process) → Stands v root trapframe nothing u q → (page : ℕ) → page < trapframe_page q.scheme
+may_drop : (v : View) (root trapframe : ℕ) (u : Tables) (q : Process) → IsInMemory v root trapframe no_extra u q → (page : ℕ) → page < trapframe_page q.scheme
     → IsSome (get u.leaves (leaf_node page)) → CanDrop q.scheme v root u page
 may_drop v root trapframe u q s page low some =
     let leaf = some_leaf (get u.leaves (leaf_node page)) some in
     let of_trampoline : leaf_node page ≡ leaf_node (trampoline_page q.scheme) → ⊥ = λ same. omega (arith, low, one_page page (trampoline_page q.scheme) same, of_scheme q.scheme) in
     let of_trapframe : leaf_node page ≡ leaf_node (trapframe_page q.scheme) → ⊥ = λ same. omega (arith, low, one_page page (trapframe_page q.scheme) same) in
-    let on : (f : ℕ) × IsOn u page f × (f < 2 ^ 16) =
-    elim (s.shows.only (leaf_node page) leaf.0 leaf.1) as (λ _. (f : ℕ) × IsOn u page f × (f < 2 ^ 16)) [
+    let on : (f : ℕ) × IsFrameOfPage u page f × (f < 2 ^ 16) =
+    elim (s.shows.only (leaf_node page) leaf.0 leaf.1) as (λ _. (f : ℕ) × IsFrameOfPage u page f × (f < 2 ^ 16)) [
       | inl same ↦ absurd (of_trampoline same)
-      | inr rest ↦ elim rest as (λ _. (f : ℕ) × IsOn u page f × (f < 2 ^ 16)) [
+      | inr rest ↦ elim rest as (λ _. (f : ℕ) × IsFrameOfPage u page f × (f < 2 ^ 16)) [
         | inl same ↦ absurd (of_trapframe same)
         | inr there ↦
             let shown = s.shows.settled there.0 there.1 there.3 in
@@ -255,7 +257,7 @@ drops_none t first = record { tables = refl; gone = λ n from before. absurd (om
 
 -- before the first page
 stands_first : (v : View) (root trapframe : ℕ) (t : Tables) (p : Process) (first : ℕ)
-    → Stands v root trapframe nothing t p → Stands v root trapframe nothing t (without_pages p first first)
+    → IsInMemory v root trapframe no_extra t p → IsInMemory v root trapframe no_extra t (without_pages p first first)
 stands_first v root trapframe t p first =
     stands_fewer v root trapframe t p p.settled (without_pages p first first).settled
     (λ n s at. (was_settled p first first n s at).0)
@@ -266,7 +268,7 @@ abbrev pub HasDropped : View → View → ℕ → ℕ → Tables → Process →
 HasDropped v w root trapframe t p first end = (u : Tables) × DropsRun v w root trapframe t u p first end
 
 module _ (v : View) (root trapframe : ℕ) (t : Tables) (p : Process) where
-  pub dropped_none : (first : ℕ) → Stands v root trapframe nothing t p → HasDropped v v root trapframe t p first first
+  pub dropped_none : (first : ℕ) → IsInMemory v root trapframe no_extra t p → HasDropped v v root trapframe t p first first
   dropped_none first s = (
     t,
     record {

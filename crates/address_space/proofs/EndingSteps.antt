@@ -1,5 +1,6 @@
--- A space that ends, once its pages are gone: TRAPFRAME's leaf goes, then TRAMPOLINE's, and then the tables; and at the very end the
--- frames of these two pages.
+-- Lemmas on the end of a space whose pages are gone: TRAPFRAME's leaf is removed, then TRAMPOLINE's, and then the tables are
+-- released (`strips`); at last the frames of these two pages are released, and the seat (an owner's capability at a frame
+-- store) holds none (`is_bare`).
 use Rattle.std.proofs.Common.{◌≡◌, ℕ, ◌<◌, ◌⊎◌, None, Some, refl, ap, sym, ◌∙◌, inl, inr, arith, subst}
 use Rattle.std.specs.Prelude.{[]}
 use Rattle.std.proofs.lemmas.Bool.{cases_eq}
@@ -16,27 +17,28 @@ use Rattle.sv39_entry.specs.Schemes.{trampoline_page, trapframe_page, of_scheme}
 use Rattle.sv39_entry.specs.declared.scheme.Scheme.{Scheme}
 use Rattle.table_walk.specs.Tables.{ChangesTables, HasTables, Tables, leaf_node, without_leaf}
 use Rattle.table_walk.specs.Keys.{is_none, remove_other}
-use Rattle.table_walk.specs.Released.{AreLast, SameTallies}
-use Rattle.address_space.specs.Agreement.{Body, HoldsTrapframe, Names, nothing, one_of, Owns, Stands}
-use Rattle.address_space.specs.Ending.{IsEmptied, Strips}
-use Rattle.address_space.specs.Standing.{IsStanding}
-use Rattle.address_space.specs.Steps.{IsBare, Takes}
-use Rattle.address_space.proofs.DroppedLeaf.{changes_take, leaf_goes, left, no_name, released_credits, released_takes, takes_none, takes_then, unmapped}
-use Rattle.process_model.specs.Released.{was_settled}
-use Rattle.address_space.proofs.Owned.{both_of, no_table, one_else, one_here, one_page, released_here, released_other, same_references, same_sole}
+use Rattle.table_walk.specs.TableRelease.{AreLast, SameTallies}
+use Rattle.address_space.specs.Agreement.{Body, HoldsTrapframe, NamesFrame, no_extra, one_extra, OwnsFrames, IsInMemory}
+use Rattle.address_space.specs.SpaceTeardown.{IsEmptied, IsStripped}
+use Rattle.address_space.specs.SpacesInCalls.{IsSpaceInCall}
+use Rattle.address_space.specs.Steps.{IsBare, TakesFrames}
+use Rattle.address_space.proofs.DroppedLeaf.{changes_take, leaf_goes, left, released_credits, released_takes, takes_none, takes_then, unmapped}
+use Rattle.process_model.specs.ReleaseLaws.{was_settled}
+use Rattle.address_space.proofs.Owned.{both_of, no_table, one_else, one_here, released_here, released_other, same_references, same_sole}
+use Rattle.table_walk.specs.Nodes.{one_page}
 
 -- what is known by the scheme of a process is known by that which code has
 pub emptied_of_scheme : {x y : Scheme} {v : View} {root trapframe : ℕ} {t : Tables} → x ≡ y → IsEmptied x v root trapframe t → IsEmptied y v root trapframe t
 emptied_of_scheme {x} {y} {v} {root} {trapframe} {t} same emptied = subst (λ z. IsEmptied z v root trapframe t) same emptied
 
 -- each settled page is one of a region
-pub below : {x : Body} (t : Tables) (p : Process) → IsStanding x t p nothing → (end : ℕ) → ((n : ℕ) (r : Region) → region_at (regions p) n ≡ Some r → n < end)
+pub below : {x : Body} (t : Tables) (p : Process) → IsSpaceInCall x t p no_extra → (end : ℕ) → ((n : ℕ) (r : Region) → region_at (regions p) n ≡ Some r → n < end)
     → (n : ℕ) (s : Page) → pages.get p.settled n ≡ Some s → n < end
 below t p space end no_region n s is = let shown = space.stands.shows.settled n s is in no_region n shown.region shown.in_region
 
 -- no page is settled
 module _ (v : View) (root trapframe : ℕ) (u : Tables) (p : Process) (end : ℕ) (all : (n : ℕ) (s : Page) → pages.get p.settled n ≡ Some s → n < end)
-    (a : Stands v root trapframe nothing u (without_pages p 0 end)) where
+    (a : IsInMemory v root trapframe no_extra u (without_pages p 0 end)) where
   two_left : (k w : ℕ) → get u.leaves k ≡ Some w → (k ≡ leaf_node (trampoline_page p.scheme)) ⊎ (k ≡ leaf_node (trapframe_page p.scheme))
   two_left k w leaf = elim (a.shows.only k w leaf) as (λ _. (k ≡ leaf_node (trampoline_page p.scheme)) ⊎ (k ≡ leaf_node (trapframe_page p.scheme))) [
     | inl trampoline ↦ inl trampoline
@@ -80,17 +82,14 @@ module _ {z : Scheme} (v w m : View) (root trapframe : ℕ) (t : Tables) (a : Is
 
   module _ (c : ChangesTables v w t t 0) (has : HasTables z w root (without_leaf t (leaf_node (trapframe_page z))))
       (d : ChangesTables w m (without_leaf t (leaf_node (trapframe_page z))) (without_leaf t (leaf_node (trapframe_page z))) 0) where
-    one_waits : Owns w first (one_of trapframe)
+    one_waits : OwnsFrames w first (one_extra trapframe)
     one_waits = let on = a.on_trapframe in unmapped v w root t (leaf_node (trapframe_page z)) on.0 trapframe a.tables a.owns on.1 on.2.names c
-
-    saved_unnamed : (k : ℕ) → Names first trapframe k → ⊥
-    saved_unnamed = let on = a.on_trapframe in no_name v root t (leaf_node (trapframe_page z)) on.0 trapframe a.tables nothing a.owns on.1 on.2.names
 
     last : (x : ℕ) × (get first.leaves (leaf_node (trampoline_page z)) ≡ Some x) × (ppn x ≡ ppn_of 0)
     last = let on = a.on_trampoline in (on.0, remove_other t.leaves (leaf_node (trapframe_page z)) (leaf_node (trampoline_page z)) leaves_apart ∙ on.1, on.2.names)
 
-    two_wait : Owns m second (both_of trapframe 0)
-    two_wait = leaf_goes w root first (leaf_node (trampoline_page z)) last.0 0 has (one_of trapframe) one_waits last.1 last.2 m d (both_of trapframe 0) (λ g. refl)
+    two_wait : OwnsFrames m second (both_of trapframe 0)
+    two_wait = leaf_goes w root first (leaf_node (trampoline_page z)) last.0 0 has (one_extra trapframe) one_waits last.1 last.2 m d (both_of trapframe 0) (λ g. refl)
 
     none_left : (n : ℕ) → get second.leaves n ≡ None
     none_left n = is_none _ (λ x leaf.
@@ -103,12 +102,12 @@ module _ {z : Scheme} (v w m : View) (root trapframe : ℕ) (t : Tables) (a : Is
 
     -- the two frames are no tables
     zero_no_table : (k : ℕ) → get t.tables k ≡ Some 0 → ⊥
-    zero_no_table = let on = a.on_trampoline in no_table v t root nothing a.tables a.owns (leaf_node (trampoline_page z)) on.0 0 on.1 on.2.names
+    zero_no_table = let on = a.on_trampoline in no_table v t root no_extra a.tables a.owns (leaf_node (trampoline_page z)) on.0 0 on.1 on.2.names
 
     saved_no_table : (k : ℕ) → get t.tables k ≡ Some trapframe → ⊥
-    saved_no_table = let on = a.on_trapframe in no_table v t root nothing a.tables a.owns (leaf_node (trapframe_page z)) on.0 trapframe on.1 on.2.names
+    saved_no_table = let on = a.on_trapframe in no_table v t root no_extra a.tables a.owns (leaf_node (trapframe_page z)) on.0 trapframe on.1 on.2.names
 
-    no_names : (f : ℕ) → ((k : ℕ) → get t.tables k ≡ Some f → ⊥) → (k : ℕ) → Names second f k → ⊥
+    no_names : (f : ℕ) → ((k : ℕ) → get t.tables k ≡ Some f → ⊥) → (k : ℕ) → NamesFrame second f k → ⊥
     no_names f none k (inl table) = none k table
     no_names f none k (inr leaf) = let gone = none_left k in let there = leaf.1 in cc
 
@@ -163,7 +162,7 @@ module _ {z : Scheme} (v w m : View) (root trapframe : ℕ) (t : Tables) (a : Is
             omega (arith, count, zero, saved, same)
       ]
 
-      pub strips : Strips v e trapframe
+      pub strips : IsStripped v e trapframe
       strips =
           let unmapped_first = changes_take v w t t c in
           let both = takes_then v w m unmapped_first (changes_take w m _ _ d) in
@@ -222,7 +221,7 @@ module _ (v w : View) (trapframe : ℕ) (h : HoldsTrapframe v trapframe) (is : w
           ∙ ap (λ (u : View). u.credits) is ∙ released_credits trapframe v h.saved ∙ none;
     }
 
-    pub takes_last : (u : View) → Takes u v 0 [] → Takes u x 0 []
+    pub takes_last : (u : View) → TakesFrames u v 0 [] → TakesFrames u x 0 []
     takes_last u takes =
         let first = takes_then u v w takes (rw is (released_takes trapframe v h.saved)) in
         takes_then u w x first (rw end (released_takes 0 w code_once))

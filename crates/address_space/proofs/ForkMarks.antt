@@ -1,12 +1,13 @@
--- A page gets the fork mark: its leaf is turned to the frame that it names, and may not be written any more.
+-- Lemmas for `mark_forked`: a settled page (one in memory) gets the fork mark, its leaf over the frame that it has but
+-- without W (`fork_turned`); if its region grants no writing, nothing changes (`fork_kept`).
 use Rattle.std.proofs.Common.{◌≡◌, ℕ, Some, Bool, true, false, not, ◌&&◌, ◌||◌, refl, ap, sym, subst, ◌∙◌, inl, inr}
 use Rattle.std.proofs.lemmas.Bool.{cases_eq}
 use Rattle.std.proofs.lemmas.Option.{same_Some}
 use Rattle.std.specs.FinMap.{get}
 use Rattle.std.specs.Prelude.{IsSome}
 use Rattle.frame_store.specs.View.{AllKnown, View, with_word}
-use Rattle.process_model.specs.Inserted.{put_back}
-use Rattle.process_model.specs.OrderKept.{leafy_at}
+use Rattle.process_model.specs.Insertion.{put_back}
+use Rattle.process_model.specs.OrderLaws.{leafy_at}
 use Rattle.process_model.specs.PageMap as pages
 use Rattle.process_model.specs.Process.{Page, Process, regions}
 use Rattle.process_model.specs.Regions.{is_shared_kind, lacks_right, makes_leaf, Region, region_at}
@@ -14,16 +15,16 @@ use Rattle.process_model.specs.Residence.{marked_page, with_page}
 use Rattle.sv39_entry.specs.Address.{has, vpn}
 use Rattle.sv39_entry.specs.Word.{ppn}
 use Rattle.sv39_entry.specs.declared.access.Access.TheVariants.{Store}
-use Rattle.table_walk.specs.Backed.{IsBacked}
+use Rattle.table_walk.specs.LeafBacking.{IsBacked}
 use Rattle.table_walk.specs.Tables.{HasTables, Tables, last_table, leaf_node, with_leaf}
 use Rattle.table_walk.specs.Keys.{insert_other, insert_same}
-use Rattle.address_space.specs.Agreement.{body, is_dirty_page, IsOn, IsPageLeaf}
+use Rattle.address_space.specs.Agreement.{body, is_dirty_page, IsFrameOfPage, IsPageLeaf}
 use Rattle.address_space.specs.ProcessLeaves.{bytes_known, page_backed}
-use Rattle.address_space.specs.Settled.{IsSettledPage}
-use Rattle.address_space.specs.Standing.{IsStanding, MarksForked}
+use Rattle.address_space.specs.SettledLists.{IsSettledPage}
+use Rattle.address_space.specs.SpacesInCalls.{IsSpaceInCall, MarksForked}
 use Rattle.address_space.specs.Layouts.{Layout}
-use Rattle.address_space.specs.declared.settled.SettledPage.{SettledPage}
-use Rattle.address_space.proofs.Owned.{no_table, one_frame}
+use Rattle.address_space.specs.declared.settled_pages.SettledPage.{SettledPage}
+use Rattle.address_space.proofs.Owned.{no_table, one_ppn}
 use Rattle.address_space.proofs.Owning.{owns_same, turned_other, turned_references, turned_stands, turned_words}
 use Rattle.address_space.proofs.Sound.{sound_page}
 use Rattle.address_space.proofs.Writing.{HasPage, lays_with, page_here}
@@ -45,7 +46,7 @@ never : (w : Bool) → (w && false) ≡ true → ⊥
 never false e = cc
 never true e = cc
 
-module _ {v : View} {root trapframe : ℕ} {l : Layout} {t : Tables} {p : Process} {extra : ℕ → ℕ} (a : SettledPage) (can : IsStanding (body v root trapframe l) t p extra)
+module _ {v : View} {root trapframe : ℕ} {l : Layout} {t : Tables} {p : Process} {extra : ℕ → ℕ} (a : SettledPage) (can : IsSpaceInCall (body v root trapframe l) t p extra)
     (is : IsSettledPage t p a) where
   abbrev page : ℕ
   page = a.page
@@ -66,7 +67,7 @@ module _ {v : View} {root trapframe : ℕ} {l : Layout} {t : Tables} {p : Proces
   pub fork_backed : (leaf : ℕ) (r : Region) (dirty : Bool) → IsPageLeaf leaf (a.frame).0 r true dirty → IsBacked v leaf
   fork_backed leaf r dirty made =
       let here = found.1 in
-      let same : found.0 ≡ (a.frame).0 = one_frame found.0 (a.frame).0 (sym here.made.names ∙ ap ppn (same_Some here.leaf is.on.0 (sym here.mapped ∙ is.on.1)) ∙ is.on.2) in
+      let same : found.0 ≡ (a.frame).0 = one_ppn found.0 (a.frame).0 (sym here.made.names ∙ ap ppn (same_Some here.leaf is.on.0 (sym here.mapped ∙ is.on.1)) ∙ is.on.2) in
       page_backed v leaf (a.frame).0 r true dirty made (subst (AllKnown v) same (bytes_known v found.0 s.bytes here.bytes)) (λ writes. absurd (never r.writes writes))
 
   module _ (r : Region) (in_region : region_at (regions p) page ≡ Some r) where
@@ -85,7 +86,7 @@ module _ {v : View} {root trapframe : ℕ} {l : Layout} {t : Tables} {p : Proces
 
       pub fork_kept : MarksForked (body v root trapframe l) (body v root trapframe l) t t p extra page s
       fork_kept = record {
-        forking = subst (λ q. IsStanding (body v root trapframe l) t q extra) (sym same_process) can;
+        forking = subst (λ q. IsSpaceInCall (body v root trapframe l) t q extra) (sym same_process) can;
         turns = record {
           on = λ n f on. on;
           tables = refl;
@@ -111,7 +112,7 @@ module _ {v : View} {root trapframe : ℕ} {l : Layout} {t : Tables} {p : Proces
       is_marked = ap (λ b. s.fork_mark || b) (ap (λ o. not (lacks_right Store o)) in_region ∙ ap not lacks) ∙ or_true s.fork_mark
 
       same_frame : (a.frame).0 ≡ found.0
-      same_frame = one_frame (a.frame).0 found.0 (sym is.on.2 ∙ ap ppn (same_Some is.on.0 here.leaf (sym is.on.1 ∙ here.mapped)) ∙ here.made.names)
+      same_frame = one_ppn (a.frame).0 found.0 (sym is.on.2 ∙ ap ppn (same_Some is.on.0 here.leaf (sym is.on.1 ∙ here.mapped)) ∙ here.made.names)
 
       dirty_is : (a.dirty && r.writes) ≡ is_dirty_page r marked
       dirty_is =
@@ -128,7 +129,7 @@ module _ {v : View} {root trapframe : ℕ} {l : Layout} {t : Tables} {p : Proces
       not_written : has leaf 2 ≡ true → ⊥
       not_written writes = never r.writes (sym made.write ∙ writes)
 
-      on_before : (n f : ℕ) → IsOn (with_leaf t (leaf_node page) leaf) n f → IsOn t n f
+      on_before : (n f : ℕ) → IsFrameOfPage (with_leaf t (leaf_node page) leaf) n f → IsFrameOfPage t n f
       on_before n f on = elim (cases_eq (leaf_node n) (leaf_node page)) [
         | inl same ↦ (
           here.leaf,

@@ -1,4 +1,5 @@
--- The region of a page in lists that are put together.
+-- Lemmas on the region of a page (`region_at`): in a list, in two lists one after the other, and in a process, among its
+-- parts, its heap or its mappings; and for a search of a list of regions from the front.
 use Rattle.std.proofs.Common.{◌≡◌, ℕ, zero, suc, ◌<◌, ◌≤◌, length, get_or, arith, true, false, List, [], ◌∷◌, ◌++◌, map, drop, refl, ap, sym, ◌∙◌, inl, inr, Option, Some, None}
 use Rattle.std.proofs.lemmas.Bool.{cases_Bool}
 use Rattle.address_space.specs.Layouts.{region_of}

@@ -1,4 +1,6 @@
--- What the kernel's seat holds, as frames are claimed and tables are added.
+-- Lemmas on what the kernel's seat (an owner's capability at a frame store) holds, `HoldsKernel`: after an empty root is
+-- made, after a frame is claimed for a stack, after tables are added. Also lemmas that sum up the credits (reserved frames)
+-- spent.
 use Rattle.std.proofs.Common.{◌≡◌, ℕ, ◌+◌, ◌^◌, ◌<◌, ◌⊎◌, List, [], ◌∷◌, ◌++◌, length, Option, None, Some, inl, inr, refl, ap, sym, subst, ◌∙◌, arith}
 use Rattle.std.specs.FinMap.{FinMap, empty, get, get-empty}
 use Rattle.std.specs.Ordering.{nat_cmp}
@@ -9,31 +11,31 @@ use Rattle.frame_store.specs.Tallies.{spent_none, spent_on}
 use Rattle.frame_store.specs.View.{Hold, View, claimed, hold_of, IsHeld, references, sole_hold, with_credits, with_hold}
 use Rattle.table_walk.specs.Tables.{bare_root, blank_hold, ChangesTables, HasTables, Tables, root_node}
 use Rattle.table_walk.specs.Keys.{insert_other, insert_same}
-use Rattle.table_walk.specs.Same.{same_tables}
+use Rattle.table_walk.specs.SameFrames.{same_tables}
 use Rattle.address_space.specs.Kernel.{HoldsKernel}
-use Rattle.address_space.specs.Steps.{Spends}
+use Rattle.address_space.specs.Steps.{SpendsCredits}
 use Rattle.address_space.proofs.KernelPages.{get_before, get_last}
 use Rattle.sv39_entry.specs.declared.scheme.Scheme.{Scheme}
 
 -- ---- credits that are spent
 
-pub spends_none : (v : View) → Spends v v 0
+pub spends_none : (v : View) → SpendsCredits v v 0
 spends_none v = record { credits = omega arith; tallies = spent_none v.tallies }
 
-pub spends_on : (u v w : View) (m n : ℕ) → Spends u v m → Spends v w n → Spends u w (m + n)
+pub spends_on : (u v w : View) (m n : ℕ) → SpendsCredits u v m → SpendsCredits v w n → SpendsCredits u w (m + n)
 spends_on u v w m n first second =
     let one = first.credits in
     let two = second.credits in
     record { credits = omega (arith, one, two); tallies = spent_on u.tallies v.tallies w.tallies m n first.tallies second.tallies }
 
-pub spends_claim : (f : ℕ) (v w : View) → w ≡ claimed f v → Spends v w 1
-spends_claim f v w is = subst (λ u. Spends v u 1) (sym is) (record { credits = refl; tallies = refl })
+pub spends_claim : (f : ℕ) (v w : View) → w ≡ claimed f v → SpendsCredits v w 1
+spends_claim f v w is = subst (λ u. SpendsCredits v u 1) (sym is) (record { credits = refl; tallies = refl })
 
-pub spends_tables : (v w : View) (t u : Tables) (n : ℕ) → ChangesTables v w t u n → Spends v w n
+pub spends_tables : (v w : View) (t u : Tables) (n : ℕ) → ChangesTables v w t u n → SpendsCredits v w n
 spends_tables v w t u n changes = record { credits = changes.credits; tallies = changes.tallies }
 
-pub spends_is : (v w : View) (m n : ℕ) → m ≡ n → Spends v w m → Spends v w n
-spends_is v w m n is spends = subst (Spends v w) is spends
+pub spends_is : (v w : View) (m n : ℕ) → m ≡ n → SpendsCredits v w m → SpendsCredits v w n
+spends_is v w m n is spends = subst (SpendsCredits v w) is spends
 
 -- ---- what is held
 
@@ -181,5 +183,5 @@ module _ (z : Scheme) (root : ℕ) (v w : View) (is : w ≡ with_hold root blank
     table_no_code = λ k f at zero. root_no_code (sym (the_root k f at) ∙ zero);
   }
 
-  pub spends_root : Spends v w 1
-  spends_root = subst (λ u. Spends v u 1) (sym is) (record { credits = refl; tallies = refl })
+  pub spends_root : SpendsCredits v w 1
+  spends_root = subst (λ u. SpendsCredits v u 1) (sym is) (record { credits = refl; tallies = refl })

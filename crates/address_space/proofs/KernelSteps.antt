@@ -1,4 +1,5 @@
--- What is mapped for the kernel, step by step.
+-- Lemmas for the steps of `KernelTable::build`: a root that maps the trampoline, one more stack, one more frame. After each,
+-- what is mapped (`MapsKernel`), how many tables were missing, and the credits (reserved frames) spent.
 use Rattle.std.proofs.Common.{◌≡◌, ℕ, ◌+◌, ◌*◌, ◌/◌, ◌^◌, ◌<◌, true, false, List, [], ◌∷◌, ◌++◌, length, Option, None, Some, inl, inr, refl, ap, sym, subst, ◌∙◌, arith}
 use Rattle.std.specs.FinMap.{get, get-empty}
 use Rattle.std.specs.Ordering.{nat_cmp}
@@ -11,7 +12,7 @@ use Rattle.sv39_entry.specs.Schemes.{top_level, of_scheme, page_limit, trampolin
 use Rattle.sv39_entry.specs.declared.scheme.Scheme.{Scheme}
 use Rattle.address_space.specs.Agreement.{code_rights, data_rights}
 use Rattle.address_space.specs.Kernel.{direct_tables, first_direct, frame_rights, kernel_leaf, kernel_page, MapsKernel, stack_page}
-use Rattle.address_space.specs.Steps.{Spends}
+use Rattle.address_space.specs.Steps.{SpendsCredits}
 use Rattle.address_space.proofs.KernelFrames.{holds_root, more_stacks, more_tables, spends_claim, spends_on, spends_root, spends_tables, once_still, tables_stay, not_claimed}
 use Rattle.address_space.proofs.KernelPages.{frame_other, get_last, nothing_else, on_frame, on_slot, on_trampoline, stack_other}
 use Rattle.address_space.proofs.KernelTables.{frame_missing, frame_numbers, stack_missing, stack_numbers, trampoline_missing, trampoline_numbers}
@@ -57,8 +58,8 @@ module _ (z : Scheme) (root page leaf : ℕ) (v m w : View) (made : m ≡ with_h
     holds = more_tables m w [] (bare_root z root) mapped.0 _ (holds_root z root v m made fresh once none) mapped.3 mapped.1.kept;
   }
 
-  pub root_spends : Spends v w (1 + top_level z)
-  root_spends = spends_on v m w 1 (top_level z) (spends_root z root v m made fresh once none) (subst (Spends m w) (root_missing z root page page_is) (spends_tables m w _ _ _ mapped.3))
+  pub root_spends : SpendsCredits v w (1 + top_level z)
+  root_spends = spends_on v m w 1 (top_level z) (spends_root z root v m made fresh once none) (subst (SpendsCredits m w) (root_missing z root page page_is) (spends_tables m w _ _ _ mapped.3))
 
 -- ---- a stack
 
@@ -90,8 +91,8 @@ module _ (z : Scheme) (root f page : ℕ) (v c : View) (stacks : List ℕ) (t : 
       holds = more_tables c w (stacks ++ f ∷ []) t mapped.0 _ (more_stacks f v c is fresh stacks t.tables small maps.holds) mapped.3 mapped.1.kept;
     }
 
-    pub stack_spends : Spends v w 1
-    stack_spends = spends_on v c w 1 0 (spends_claim f v c is) (subst (Spends c w) stack_none_missing (spends_tables c w _ _ _ mapped.3))
+    pub stack_spends : SpendsCredits v w 1
+    stack_spends = spends_on v c w 1 0 (spends_claim f v c is) (subst (SpendsCredits c w) stack_none_missing (spends_tables c w _ _ _ mapped.3))
 
 -- ---- a frame of the memory
 
@@ -114,7 +115,7 @@ module _ (z : Scheme) (root i page : ℕ) (v : View) (stacks : List ℕ) (t : Ta
       holds = more_tables v w stacks t mapped.0 _ maps.holds mapped.3 mapped.1.kept;
     }
 
-    pub frame_spends : (u : View) → Spends u v (direct_tables z i) → Spends u w (direct_tables z (i + 1))
+    pub frame_spends : (u : View) → SpendsCredits u v (direct_tables z i) → SpendsCredits u w (direct_tables z (i + 1))
     frame_spends u spent =
         let sum : direct_tables z i + missing z t page ≡ direct_tables z (i + 1) = omega (arith, frame_is_missing) in
-        subst (Spends u w) sum (spends_on u v w (direct_tables z i) (missing z t page) spent (spends_tables v w _ _ _ mapped.3))
+        subst (SpendsCredits u w) sum (spends_on u v w (direct_tables z i) (missing z t page) spent (spends_tables v w _ _ _ mapped.3))

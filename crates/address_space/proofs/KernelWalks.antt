@@ -1,4 +1,6 @@
--- What the kernel's accesses lead to.
+-- Lemma `kernel_walks`: an access in supervisor mode, translated by the kernel's table in the frames that its seat (an
+-- owner's capability at a frame store) holds, has the outcome `kernel_walk`. Before it, lemmas on the words of its leaves
+-- and on addresses.
 use Rattle.std.proofs.Common.{◌≡◌, ℕ, ◌+◌, ◌-◌, ◌*◌, ◌/◌, ◌%◌, ◌^◌, ◌<◌, true, false, List, Option, None, Some, inl, inr, refl, ap, sym, ◌∙◌, arith, ◌⊎◌}
 use Rattle.std.specs.FinMap.{get}
 use Rattle.std.specs.Prelude.{◌↔◌, ◌==◌, is_some}
@@ -15,7 +17,7 @@ use Rattle.sv39_entry.specs.declared.access.Mode.TheVariants.{Supervisor}
 use Rattle.sv39_entry.specs.declared.scheme.Scheme.TheVariants.{Sv39, Sv48}
 use Rattle.sv39_entry.specs.Schemes.{is_canonical, low_canonical, low_page, page_limit, trampoline_page}
 use Rattle.sv39_entry.specs.declared.scheme.Scheme.{Scheme}
-use Rattle.table_walk.specs.Held.{held_memory}
+use Rattle.table_walk.specs.HeldMemory.{held_memory}
 use Rattle.table_walk.specs.Tables.{Tables, walk_leaf}
 use Rattle.table_walk.specs.Memory.{Extent, has_byte, physical_address}
 use Rattle.table_walk.specs.Walk.{Finds, FindsLeaf, LeavesMemory, Maps, Translates}

@@ -1,4 +1,5 @@
--- What a call on tables says of the leaf that a walk of a page finds, it says of the page's own: pages of a process are low.
+-- Lemmas: for a page up to TRAMPOLINE, as every settled page (one in memory) is, the leaf that a walk finds has the page's
+-- own number (`leaf_node`). Also lemmas that move facts from one of two equal schemes to the other.
 use Rattle.std.proofs.Common.{◌≡◌, ℕ, ◌≤◌, Some, arith, subst, sym, ◌<◌}
 use Rattle.std.specs.FinMap.{get}
 use Rattle.frame_store.specs.View.{View}
@@ -6,7 +7,7 @@ use Rattle.process_model.specs.PageMap as pages
 use Rattle.process_model.specs.Process.{Page, Process}
 use Rattle.table_walk.specs.Nodes.{low_leaf}
 use Rattle.table_walk.specs.Tables.{leaf_node, Tables, walk_leaf, last_table}
-use Rattle.address_space.specs.Agreement.{Shows}
+use Rattle.address_space.specs.Agreement.{ShowsPages}
 use Rattle.sv39_entry.specs.Schemes.{trampoline_page, of_scheme, trapframe_page}
 use Rattle.sv39_entry.specs.declared.scheme.Scheme.{Scheme}
 
@@ -15,11 +16,12 @@ pub up_number : (z : Scheme) (page : ℕ) → page ≤ trampoline_page z → wal
 up_number z page low = low_leaf z page (omega (arith, low, of_scheme z))
 
 -- and of a settled page
-pub settled_number : (v : View) (trapframe : ℕ) (t : Tables) (p : Process) (page : ℕ) (s : Page) → Shows v trapframe t p → pages.get p.settled page ≡ Some s
+pub settled_number : (v : View) (trapframe : ℕ) (t : Tables) (p : Process) (page : ℕ) (s : Page) → ShowsPages v trapframe t p → pages.get p.settled page ≡ Some s
     → walk_leaf p.scheme page ≡ leaf_node page
 settled_number v trapframe t p page s shows settled = let low = shows.low page s settled in up_number p.scheme page (omega (arith, low, of_scheme p.scheme))
 
--- what is known by the scheme of a process is known by that which code has: the number of a page's leaf, and the table that it is in
+-- what is known by the scheme of a process is known by that which code has: the number of a page's leaf, and the table that
+-- it is in
 pub number_of_scheme : {x y : Scheme} (page : ℕ) {n : ℕ} → x ≡ y → walk_leaf x page ≡ n → walk_leaf y page ≡ n
 number_of_scheme {x} {y} page {n} same number = subst (λ z. walk_leaf z page ≡ n) same number
 

@@ -1,4 +1,5 @@
--- A list of mappings in which one is added, changed or taken out, by its place.
+-- Lemmas on a list of mappings in the code: one added in its place by address, one replaced, one removed. The result is the
+-- model's list (`with_mapping`, `with_instead`), and the place found lies within the list.
 use Rattle.std.proofs.Common.{◌≡◌, ℕ, suc, Bool, true, false, not, ◌+◌, ◌<◌, ◌≤◌, ap, ◌∙◌, refl, arith, List, [], ◌∷◌, ◌++◌, length, map, cond, slice_set, append-nil}
 use Rattle.std.proofs.lemmas.Bool.Decides.{nat_tests}
 use Rattle.std.proofs.lemmas.List.{drop_all, take_all}

@@ -1,10 +1,12 @@
--- A page gets the stored mark: its leaf is turned to the frame that it names, with D set.
+-- Lemmas for `mark_stored`: a page that may be written gets a leaf with D over the frame that it has, of which the seat (an
+-- owner's capability at a frame store) is the sole holder. The page then has the stored mark (D) if its stores are written
+-- back (`marks`).
 use Rattle.std.proofs.Common.{◌≡◌, ℕ, Option, Some, Bool, true, false, not, ◌&&◌, ◌||◌, refl, ap, sym, subst, ◌∙◌}
 use Rattle.std.proofs.lemmas.Option.{same_Some}
 use Rattle.std.specs.FinMap.{get}
 use Rattle.std.specs.Prelude.{option_and_then, option_map}
 use Rattle.frame_store.specs.View.{AllKnown, IsSole, View, with_word}
-use Rattle.process_model.specs.OrderKept.{leafy_at}
+use Rattle.process_model.specs.OrderLaws.{leafy_at}
 use Rattle.process_model.specs.Process.{Page, Process, regions}
 use Rattle.process_model.specs.Regions.{is_shared_kind, keeps_stores, makes_leaf, Region, region_at}
 use Rattle.process_model.specs.Residence.{marked_stored, region_on}
@@ -14,10 +16,10 @@ use Rattle.sv39_entry.specs.Word.{has_flag, ppn}
 use Rattle.sv39_entry.specs.declared.frame.FrameNo.{FrameNo}
 use Rattle.table_walk.specs.Tables.{HasTables, Tables, last_table, leaf_node, with_leaf}
 use Rattle.table_walk.specs.Keys.{insert_other, insert_same}
-use Rattle.address_space.specs.Agreement.{body, is_dirty_page, IsPageLeaf, nothing}
+use Rattle.address_space.specs.Agreement.{body, is_dirty_page, IsPageLeaf, no_extra}
 use Rattle.address_space.specs.Layouts.{Layout}
 use Rattle.address_space.specs.ProcessLeaves.{bytes_known}
-use Rattle.address_space.specs.Steps.{CanWrite, Marks}
+use Rattle.address_space.specs.Steps.{CanWrite, MarksStored}
 use Rattle.address_space.proofs.Owned.{no_table}
 use Rattle.address_space.proofs.Owning.{owns_same, turned_stands, turned_words}
 use Rattle.address_space.proofs.Sound.{sound_page}
@@ -31,7 +33,7 @@ all_dirty true b = refl
 
 module _ {v : View} {root trapframe : ℕ} {l : Layout} {t : Tables} {p : Process} {page : ℕ} {s : Page} (can : CanWrite (body v root trapframe l) t p page s) where
   pub found : (f : ℕ) × HasPage v t p page s f
-  found = page_here v root trapframe nothing t p page s can.read.agrees.stands can.read.settled
+  found = page_here v root trapframe no_extra t p page s can.read.agrees.stands can.read.settled
 
   pub mark_some : (o : Option (FrameNo × Bool)) → o ≡ option_and_then (λ w. option_map (λ f. (f, has_flag w 128)) (frame_at (ppn w))) (get t.leaves (leaf_node page))
       → o ≡ Some (record { 0 = found.0 }, is_dirty_page found.1.region s)
@@ -79,18 +81,18 @@ module _ {v : View} {root trapframe : ℕ} {l : Layout} {t : Tables} {p : Proces
       here : HasPage v t p page s found.0
       here = found.1
 
-      pub marks : Marks v (body w root trapframe l) t (with_leaf t (leaf_node page) leaf) p page s
+      pub marks : MarksStored v (body w root trapframe l) t (with_leaf t (leaf_node page) leaf) p page s
       marks =
           let space = can.read.agrees in
-          let changes = turned_words v w root trapframe nothing t p page s r found.0 leaf space.stands can.read.settled in_region tables word in
+          let changes = turned_words v w root trapframe no_extra t p page s r found.0 leaf space.stands can.read.settled in_region tables word in
           record {
             agrees = record {
               sound = sound_page p page s marked can.read.settled space.sound;
               lays = lays_with l p page marked space.lays;
-              stands = turned_stands v w root trapframe nothing t p page s r found.0 leaf space.stands can.read.settled in_region tables word marked shown nothing
-                  (no_table v t root nothing space.stands.tables space.stands.owns (leaf_node page) here.leaf found.0 here.mapped here.made.names) here.bytes
+              stands = turned_stands v w root trapframe no_extra t p page s r found.0 leaf space.stands can.read.settled in_region tables word marked shown no_extra
+                  (no_table v t root no_extra space.stands.tables space.stands.owns (leaf_node page) here.leaf found.0 here.mapped here.made.names) here.bytes
                   (owns_same v root t space.stands.tables page here.leaf leaf found.0 found.0 here.mapped here.made.names shown.names refl
-                  (λ _. mark_sole) nothing space.stands.owns);
+                  (λ _. mark_sole) no_extra space.stands.owns);
               credits = ap (λ (x : View). x.credits) changes.1.1 ∙ space.credits;
             };
             on = λ f on. (

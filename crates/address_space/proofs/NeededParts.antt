@@ -1,4 +1,6 @@
--- Parts one after another: their pages, and where the next one begins.
+-- Lemmas for `frames_needed`, which counts part by part (a part is a region with its first bytes): the pages of one part
+-- more and where it begins; the tables of one size so far (`CountsTables`), at the end with those of TRAMPOLINE and
+-- TRAPFRAME; the pages so far (`CountsPages`).
 use Rattle.std.proofs.Common.{◌≡◌, ℕ, zero, suc, ◌+◌, ◌<◌, ◌≤◌, refl, ap, sym, ◌∙◌, arith, List, [], ◌∷◌, ◌++◌, map, length, get_or, take, ◌-◌, ◌/◌, max, Fits, w64}
 use Rattle.std.proofs.lemmas.List.{append-nil, length-append, map-append, take_all, take_more}
 use Rattle.std.proofs.lemmas.List.Concat.{flat_map-cons}

@@ -1,4 +1,6 @@
--- Frames that tables name, and references beside them.
+-- Lemmas on the frames that page tables name (`OwnsFrames`): the seat (an owner's capability at a frame store) holds them,
+-- and a claim or a release changes one frame alone. `Recounts`: references come or go beside those of the space, and the
+-- process stays in memory.
 use Rattle.std.proofs.Common.{◌≡◌, ℕ, ◌+◌, Some, refl, ap, sym, subst, ◌∙◌, inl, inr, arith, cond, ◌-◌, Bool, if◌then◌else◌}
 use Rattle.std.proofs.lemmas.Bool.{cases_eq, eq-eqb, ne_eqb}
 use Rattle.std.specs.FinMap.{get}
@@ -10,17 +12,13 @@ use Rattle.sv39_entry.specs.Frame.{ppn_of}
 use Rattle.sv39_entry.specs.Word.{ppn}
 use Rattle.sv39_entry.specs.declared.scheme.Scheme.{Scheme}
 use Rattle.table_walk.specs.Tables.{HasTables, Tables, leaf_node}
-use Rattle.address_space.specs.Agreement.{Names, nothing, one_of, Owns, Shows, Stands}
+use Rattle.address_space.specs.Agreement.{NamesFrame, no_extra, one_extra, OwnsFrames, ShowsPages, IsInMemory}
 
 -- numbers
 
 -- frames with one page number are one
-pub one_frame : (f g : ℕ) → ppn_of f ≡ ppn_of g → f ≡ g
-one_frame f g same = omega (arith, same)
-
--- and pages with one leaf
-pub one_page : (m n : ℕ) → leaf_node m ≡ leaf_node n → m ≡ n
-one_page m n same = omega (arith, same)
+pub one_ppn : (f g : ℕ) → ppn_of f ≡ ppn_of g → f ≡ g
+one_ppn f g same = omega (arith, same)
 
 -- holds
 
@@ -62,24 +60,24 @@ released_other f g v one apart = ap (λ w. hold_of w g) (released_once f v one) 
 
 -- references beside those of a space
 
-pub one_here : (f g : ℕ) → g ≡ f → one_of f g ≡ 1
+pub one_here : (f g : ℕ) → g ≡ f → one_extra f g ≡ 1
 one_here f g same = ap (λ (b : Bool). if b then 1 else 0) (eq-eqb g f same)
 
-pub one_else : (f g : ℕ) → (g ≡ f → ⊥) → one_of f g ≡ 0
+pub one_else : (f g : ℕ) → (g ≡ f → ⊥) → one_extra f g ≡ 0
 one_else f g apart = ap (λ (b : Bool). if b then 1 else 0) (ne_eqb g f apart)
 
 -- of two frames
 abbrev pub both_of : ℕ → ℕ → ℕ → ℕ
-both_of f g x = one_of f x + one_of g x
+both_of f g x = one_extra f x + one_extra g x
 
 -- what is owned
 
 module _ (v : View) (t : Tables) where
-  pub named_held : (extra : ℕ → ℕ) → Owns v t extra → (f k : ℕ) → Names t f k → IsHeld v f
+  pub named_held : (extra : ℕ → ℕ) → OwnsFrames v t extra → (f k : ℕ) → NamesFrame t f k → IsHeld v f
   named_held extra o f k names = omega (arith, o.named f k names)
 
   -- the frame of a leaf is no table
-  pub no_table : {z : Scheme} (root : ℕ) (extra : ℕ → ℕ) → HasTables z v root t → Owns v t extra → (n w f : ℕ) → get t.leaves n ≡ Some w → ppn w ≡ ppn_of f
+  pub no_table : {z : Scheme} (root : ℕ) (extra : ℕ → ℕ) → HasTables z v root t → OwnsFrames v t extra → (n w f : ℕ) → get t.leaves n ≡ Some w → ppn w ≡ ppn_of f
       → (k : ℕ) → get t.tables k ≡ Some f → ⊥
   no_table root extra h o n w f leaf names k table =
       let same = o.once f k n (inl table) (inr (w, leaf, names)) in
@@ -88,21 +86,21 @@ module _ (v : View) (t : Tables) where
       omega (arith, same, low, high)
 
   -- a frame that is not held has no name
-  pub unnamed : (extra : ℕ → ℕ) → Owns v t extra → (f : ℕ) → references v f ≡ 0 → (k : ℕ) → Names t f k → ⊥
+  pub unnamed : (extra : ℕ → ℕ) → OwnsFrames v t extra → (f : ℕ) → references v f ≡ 0 → (k : ℕ) → NamesFrame t f k → ⊥
   unnamed extra o f none k names = let one = o.named f k names in omega (arith, one, none)
 
 -- The frames that tables name are to the seat what they were, and references that came or went are beside those of the space.
 pub record Recounts (v w : View) (t : Tables) (before after : ℕ → ℕ) : Type 0 where
   pub counts : (f : ℕ) → references w f + before f ≡ references v f + after f
-  pub soles : (f k : ℕ) → Names t f k → IsSole v f → IsSole w f
-  pub words : (f k : ℕ) → Names t f k → (hold_of w f).words ≡ (hold_of v f).words
+  pub soles : (f k : ℕ) → NamesFrame t f k → IsSole v f → IsSole w f
+  pub words : (f k : ℕ) → NamesFrame t f k → (hold_of w f).words ≡ (hold_of v f).words
 
 module _ (v w : View) (t : Tables) where
   -- one frame changes, which has no name
-  pub beside : (before after : ℕ → ℕ) (g : ℕ) → ((f : ℕ) → (f ≡ g → ⊥) → (hold_of w f ≡ hold_of v f) × (after f ≡ before f)) → ((k : ℕ) → Names t g k → ⊥)
+  pub beside : (before after : ℕ → ℕ) (g : ℕ) → ((f : ℕ) → (f ≡ g → ⊥) → (hold_of w f ≡ hold_of v f) × (after f ≡ before f)) → ((k : ℕ) → NamesFrame t g k → ⊥)
       → references w g + before g ≡ references v g + after g → Recounts v w t before after
   beside before after g others free here =
-      let apart = λ (f k : ℕ) (names : Names t f k) (same : f ≡ g). free k (subst (λ x. Names t x k) same names) in
+      let apart = λ (f k : ℕ) (names : NamesFrame t f k) (same : f ≡ g). free k (subst (λ x. NamesFrame t x k) same names) in
       record {
         counts = λ f. elim (cases_eq f g) [
           | inl same ↦ rw same here
@@ -116,18 +114,18 @@ module _ (v w : View) (t : Tables) where
       }
 
   -- a frame is held that was not, and one goes
-  pub spare_comes : (g : ℕ) → references v g ≡ 0 → references w g ≡ 1 → ((f : ℕ) → (f ≡ g → ⊥) → hold_of w f ≡ hold_of v f) → ((k : ℕ) → Names t g k → ⊥)
-      → Recounts v w t nothing (one_of g)
+  pub spare_comes : (g : ℕ) → references v g ≡ 0 → references w g ≡ 1 → ((f : ℕ) → (f ≡ g → ⊥) → hold_of w f ≡ hold_of v f) → ((k : ℕ) → NamesFrame t g k → ⊥)
+      → Recounts v w t no_extra (one_extra g)
   spare_comes g none one others free =
-      beside nothing (one_of g) g (λ f ne. (others f ne, one_else g f ne)) free (let here = one_here g g refl in omega (arith, none, one, here))
+      beside no_extra (one_extra g) g (λ f ne. (others f ne, one_else g f ne)) free (let here = one_here g g refl in omega (arith, none, one, here))
 
-  pub spare_goes : (g : ℕ) → references v g ≡ 1 → references w g ≡ 0 → ((f : ℕ) → (f ≡ g → ⊥) → hold_of w f ≡ hold_of v f) → ((k : ℕ) → Names t g k → ⊥)
-      → Recounts v w t (one_of g) nothing
+  pub spare_goes : (g : ℕ) → references v g ≡ 1 → references w g ≡ 0 → ((f : ℕ) → (f ≡ g → ⊥) → hold_of w f ≡ hold_of v f) → ((k : ℕ) → NamesFrame t g k → ⊥)
+      → Recounts v w t (one_extra g) no_extra
   spare_goes g one none others free =
-      beside (one_of g) nothing g (λ f ne. (others f ne, sym (one_else g f ne))) free (let here = one_here g g refl in omega (arith, none, one, here))
+      beside (one_extra g) no_extra g (λ f ne. (others f ne, sym (one_else g f ne))) free (let here = one_here g g refl in omega (arith, none, one, here))
 
   module _ (before after : ℕ → ℕ) (r : Recounts v w t before after) where
-    pub recounted_owns : Owns v t before → Owns w t after
+    pub recounted_owns : OwnsFrames v t before → OwnsFrames w t after
     recounted_owns o = record {
       once = o.once;
       named = λ f k names. let was = o.named f k names in let is = r.counts f in omega (arith, was, is);
@@ -135,7 +133,7 @@ module _ (v w : View) (t : Tables) where
       writable = λ f n x leaf names writes. r.soles f n (inr (x, leaf, names)) (o.writable f n x leaf names writes);
     }
 
-    recounted_tables : {z : Scheme} (root : ℕ) → Owns v t before → HasTables z v root t → HasTables z w root t
+    recounted_tables : {z : Scheme} (root : ℕ) → OwnsFrames v t before → HasTables z v root t → HasTables z w root t
     recounted_tables root o has = record {
       known = record {
         rooted = has.known.rooted;
@@ -148,7 +146,7 @@ module _ (v w : View) (t : Tables) where
       own = λ k f at. (named_held w t after (recounted_owns o) f k (inl at), r.soles f k (inl at) (has.own k f at).1);
     }
 
-    recounted_shows : (trapframe : ℕ) (p : Process) → Shows v trapframe t p → Shows w trapframe t p
+    recounted_shows : (trapframe : ℕ) (p : Process) → ShowsPages v trapframe t p → ShowsPages w trapframe t p
     recounted_shows trapframe p s = record {
       on_trampoline = s.on_trampoline;
       on_trapframe = s.on_trapframe;
@@ -171,7 +169,7 @@ module _ (v w : View) (t : Tables) where
       low = s.low;
     }
 
-    pub recounted_stands : (root trapframe : ℕ) (p : Process) → Stands v root trapframe before t p → Stands w root trapframe after t p
+    pub recounted_stands : (root trapframe : ℕ) (p : Process) → IsInMemory v root trapframe before t p → IsInMemory w root trapframe after t p
     recounted_stands root trapframe p s = record {
       tables = recounted_tables root s.owns s.tables;
       owns = recounted_owns s.owns;
@@ -180,7 +178,7 @@ module _ (v w : View) (t : Tables) where
       tabled_low = s.tabled_low;
     }
 
-  pub same_owns : (extra : ℕ → ℕ) → ((f : ℕ) → references w f ≡ references v f) → ((f : ℕ) → IsSole v f → IsSole w f) → Owns v t extra → Owns w t extra
+  pub same_owns : (extra : ℕ → ℕ) → ((f : ℕ) → references w f ≡ references v f) → ((f : ℕ) → IsSole v f → IsSole w f) → OwnsFrames v t extra → OwnsFrames w t extra
   same_owns extra counts soles o = record {
     once = o.once;
     named = λ f k names. counts f ∙ o.named f k names;
@@ -190,7 +188,7 @@ module _ (v w : View) (t : Tables) where
 
 -- all holds are the same
 pub same_stands : (v w : View) (root trapframe : ℕ) (extra : ℕ → ℕ) (t : Tables) (p : Process) → ((f : ℕ) → hold_of w f ≡ hold_of v f)
-    → Stands v root trapframe extra t p → Stands w root trapframe extra t p
+    → IsInMemory v root trapframe extra t p → IsInMemory w root trapframe extra t p
 same_stands v w root trapframe extra t p same s =
     let recounts : Recounts v w t extra extra = record {
       counts = λ f. ap (λ (h : Hold). h.references + extra f) (same f);
@@ -200,7 +198,7 @@ same_stands v w root trapframe extra t p same s =
     recounted_stands v w t extra extra recounts root trapframe p s
 
 -- frame 0 is held
-pub anchored : (v : View) (root trapframe : ℕ) (extra : ℕ → ℕ) (t : Tables) (p : Process) → Stands v root trapframe extra t p → IsHeld v 0
+pub anchored : (v : View) (root trapframe : ℕ) (extra : ℕ → ℕ) (t : Tables) (p : Process) → IsInMemory v root trapframe extra t p → IsHeld v 0
 anchored v root trapframe extra t p s =
     let leaf = s.shows.on_trampoline in
     named_held v t extra s.owns 0 _ (inr (leaf.0, leaf.1, leaf.2.names))

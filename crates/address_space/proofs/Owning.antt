@@ -1,4 +1,5 @@
--- The leaf of a page is turned to a frame that the seat has alone: the one that it names, or one that has no name yet.
+-- Lemmas on a page's leaf that is rewritten, over the frame that it named or over one without a name: what the seat (an
+-- owner's capability at a frame store) owns then, and the process with the changed page is in memory (`turned_stands`).
 use Rattle.std.proofs.Common.{◌≡◌, ℕ, ◌+◌, Some, true, refl, ap, sym, subst, ◌∙◌, inl, inr, arith}
 use Rattle.std.proofs.lemmas.Bool.{cases_eq}
 use Rattle.std.proofs.lemmas.Option.{same_Some}
@@ -17,8 +18,8 @@ use Rattle.table_walk.specs.Keys.{insert_other, insert_same}
 use Rattle.table_walk.specs.Nodes.{above}
 use Rattle.sv39_entry.specs.Schemes.{top_level}
 use Rattle.sv39_entry.specs.declared.scheme.Scheme.{Scheme}
-use Rattle.address_space.specs.Agreement.{is_dirty_page, IsPageLeaf, Names, one_of, Owns, Stands}
-use Rattle.address_space.proofs.Owned.{no_table, one_else, one_frame, one_here, same_bytes, same_owns}
+use Rattle.address_space.specs.Agreement.{is_dirty_page, IsPageLeaf, NamesFrame, one_extra, OwnsFrames, IsInMemory}
+use Rattle.address_space.proofs.Owned.{no_table, one_else, one_ppn, one_here, same_bytes, same_owns}
 use Rattle.address_space.proofs.Writing.{page_stands, words_other, words_references, words_sole}
 use Rattle.address_space.proofs.LowLeaves.{settled_number}
 
@@ -30,27 +31,27 @@ module _ {z : Scheme} (v : View) (root : ℕ) (t : Tables) (h : HasTables z v ro
   not_table : (x k : ℕ) → k ≡ leaf_node page → get t.tables k ≡ Some x → ⊥
   not_table x k at table = let low = (h.known.below k x table).1 in omega (arith, low, at)
 
-  stays : (x k : ℕ) → (k ≡ leaf_node page → ⊥) → Names t x k → Names (with_leaf t (leaf_node page) leaf) x k
+  stays : (x k : ℕ) → (k ≡ leaf_node page → ⊥) → NamesFrame t x k → NamesFrame (with_leaf t (leaf_node page) leaf) x k
   stays x k ne (inl table) = inl table
   stays x k ne (inr y) = inr (y.0, insert_other t.leaves (leaf_node page) leaf k ne ∙ y.1, y.2)
 
-  stayed : (x k : ℕ) → (k ≡ leaf_node page → ⊥) → Names (with_leaf t (leaf_node page) leaf) x k → Names t x k
+  stayed : (x k : ℕ) → (k ≡ leaf_node page → ⊥) → NamesFrame (with_leaf t (leaf_node page) leaf) x k → NamesFrame t x k
   stayed x k ne (inl table) = inl table
   stayed x k ne (inr y) = inr (y.0, sym (insert_other t.leaves (leaf_node page) leaf k ne) ∙ y.1, y.2)
 
-  named_here : (x k : ℕ) → k ≡ leaf_node page → Names (with_leaf t (leaf_node page) leaf) x k → x ≡ g
+  named_here : (x k : ℕ) → k ≡ leaf_node page → NamesFrame (with_leaf t (leaf_node page) leaf) x k → x ≡ g
   named_here x k at (inl table) = absurd (not_table x k at table)
   named_here x k at (inr y) =
-      one_frame x g (sym y.2 ∙ ap ppn (same_Some y.0 leaf (sym y.1 ∙ insert_same t.leaves (leaf_node page) leaf k at)) ∙ names)
+      one_ppn x g (sym y.2 ∙ ap ppn (same_Some y.0 leaf (sym y.1 ∙ insert_same t.leaves (leaf_node page) leaf k at)) ∙ names)
 
-  was_here : (x k : ℕ) → k ≡ leaf_node page → Names t x k → x ≡ f
+  was_here : (x k : ℕ) → k ≡ leaf_node page → NamesFrame t x k → x ≡ f
   was_here x k at (inl table) = absurd (not_table x k at table)
-  was_here x k at (inr y) = one_frame x f (sym y.2 ∙ ap ppn (same_Some y.0 old (sym y.1 ∙ ap (get t.leaves) at ∙ was)) ∙ names_old)
+  was_here x k at (inr y) = one_ppn x f (sym y.2 ∙ ap ppn (same_Some y.0 old (sym y.1 ∙ ap (get t.leaves) at ∙ was)) ∙ names_old)
 
-  here : (k : ℕ) → k ≡ leaf_node page → Names (with_leaf t (leaf_node page) leaf) g k
+  here : (k : ℕ) → k ≡ leaf_node page → NamesFrame (with_leaf t (leaf_node page) leaf) g k
   here k at = inr (leaf, insert_same t.leaves (leaf_node page) leaf k at, names)
 
-  before : (k : ℕ) → k ≡ leaf_node page → Names t f k
+  before : (k : ℕ) → k ≡ leaf_node page → NamesFrame t f k
   before k at = inr (old, ap (get t.leaves) at ∙ was, names_old)
 
   written : (x k y : ℕ) → (k ≡ leaf_node page → IsSole v x) → ((ne : k ≡ leaf_node page → ⊥) → get t.leaves k ≡ Some y → IsSole v x)
@@ -62,15 +63,15 @@ module _ {z : Scheme} (v : View) (root : ℕ) (t : Tables) (h : HasTables z v ro
 
   -- the frame stays
   module _ (same : g ≡ f) where
-    on : (x k : ℕ) → Names t x k → Names (with_leaf t (leaf_node page) leaf) x k
+    on : (x k : ℕ) → NamesFrame t x k → NamesFrame (with_leaf t (leaf_node page) leaf) x k
     on x k name = elim (cases_eq k (leaf_node page)) [
-      | inl at ↦ subst (λ y. Names (with_leaf t (leaf_node page) leaf) y k) (same ∙ sym (was_here x k at name)) (here k at)
+      | inl at ↦ subst (λ y. NamesFrame (with_leaf t (leaf_node page) leaf) y k) (same ∙ sym (was_here x k at name)) (here k at)
       | inr ne ↦ stays x k ne name
     ]
 
-    back : (x k : ℕ) → Names (with_leaf t (leaf_node page) leaf) x k → Names t x k
+    back : (x k : ℕ) → NamesFrame (with_leaf t (leaf_node page) leaf) x k → NamesFrame t x k
     back x k name = elim (cases_eq k (leaf_node page)) [
-      | inl at ↦ subst (λ y. Names t y k) (sym (named_here x k at name ∙ same)) (before k at)
+      | inl at ↦ subst (λ y. NamesFrame t y k) (sym (named_here x k at name ∙ same)) (before k at)
       | inr ne ↦ stayed x k ne name
     ]
 
@@ -78,7 +79,7 @@ module _ {z : Scheme} (v : View) (root : ℕ) (t : Tables) (h : HasTables z v ro
     leaf_is k y is at writes = ap (λ z. has z 2) (same_Some leaf y (sym (insert_same t.leaves (leaf_node page) leaf k is) ∙ at)) ∙ writes
 
     -- the seat has it alone where it may be written by the new leaf
-    pub owns_same : (has leaf 2 ≡ true → IsSole v g) → (extra : ℕ → ℕ) → Owns v t extra → Owns v (with_leaf t (leaf_node page) leaf) extra
+    pub owns_same : (has leaf 2 ≡ true → IsSole v g) → (extra : ℕ → ℕ) → OwnsFrames v t extra → OwnsFrames v (with_leaf t (leaf_node page) leaf) extra
     owns_same sole extra o = record {
       once = λ x j k a b. o.once x j k (back x j a) (back x k b);
       named = λ x k name. o.named x k (back x k name);
@@ -88,12 +89,12 @@ module _ {z : Scheme} (v : View) (root : ℕ) (t : Tables) (h : HasTables z v ro
     }
 
   -- a frame without a name takes the place of the one that was named
-  module _ (extra after : ℕ → ℕ) (o : Owns v t extra) (free : (k : ℕ) → Names t g k → ⊥) (moves : (x : ℕ) → after x + one_of g x ≡ extra x + one_of f x) where
-    was_named : Names t f (leaf_node page)
+  module _ (extra after : ℕ → ℕ) (o : OwnsFrames v t extra) (free : (k : ℕ) → NamesFrame t g k → ⊥) (moves : (x : ℕ) → after x + one_extra g x ≡ extra x + one_extra f x) where
+    was_named : NamesFrame t f (leaf_node page)
     was_named = before (leaf_node page) refl
 
     differ : g ≡ f → ⊥
-    differ same = free (leaf_node page) (subst (λ y. Names t y (leaf_node page)) (sym same) was_named)
+    differ same = free (leaf_node page) (subst (λ y. NamesFrame t y (leaf_node page)) (sym same) was_named)
 
     other_moves : (x : ℕ) → (x ≡ g → ⊥) → (x ≡ f → ⊥) → after x ≡ extra x
     other_moves x here there =
@@ -102,17 +103,17 @@ module _ {z : Scheme} (v : View) (root : ℕ) (t : Tables) (h : HasTables z v ro
         let m = moves x in
         omega (arith, a, b, m)
 
-    free_named : (x k : ℕ) → Names t x k → x ≡ g → ⊥
-    free_named x k name same = free k (subst (λ y. Names t y k) same name)
+    free_named : (x k : ℕ) → NamesFrame t x k → x ≡ g → ⊥
+    free_named x k name same = free k (subst (λ y. NamesFrame t y k) same name)
 
-    once : (x j k : ℕ) → Names (with_leaf t (leaf_node page) leaf) x j → Names (with_leaf t (leaf_node page) leaf) x k → j ≡ k
+    once : (x j k : ℕ) → NamesFrame (with_leaf t (leaf_node page) leaf) x j → NamesFrame (with_leaf t (leaf_node page) leaf) x k → j ≡ k
     once x j k a b = elim (cases_eq j (leaf_node page)) [
       | inl first ↦ elim (cases_eq k (leaf_node page)) [
         | inl second ↦ first ∙ sym second
-        | inr ne ↦ absurd (free k (subst (λ y. Names t y k) (named_here x j first a) (stayed x k ne b)))
+        | inr ne ↦ absurd (free k (subst (λ y. NamesFrame t y k) (named_here x j first a) (stayed x k ne b)))
       ]
       | inr apart ↦ elim (cases_eq k (leaf_node page)) [
-        | inl second ↦ absurd (free j (subst (λ y. Names t y j) (named_here x k second b) (stayed x j apart a)))
+        | inl second ↦ absurd (free j (subst (λ y. NamesFrame t y j) (named_here x k second b) (stayed x j apart a)))
         | inr ne ↦ o.once x j k (stayed x j apart a) (stayed x k ne b)
       ]
     ]
@@ -125,19 +126,19 @@ module _ {z : Scheme} (v : View) (root : ℕ) (t : Tables) (h : HasTables z v ro
         let m = moves g in
         omega (arith, was, one, none, m)
 
-    stayed_count : (x k : ℕ) → (k ≡ leaf_node page → ⊥) → Names t x k → references v x ≡ 1 + after x
+    stayed_count : (x k : ℕ) → (k ≡ leaf_node page → ⊥) → NamesFrame t x k → references v x ≡ 1 + after x
     stayed_count x k ne name =
-        let same = other_moves x (free_named x k name) (λ is. ne (o.once f k (leaf_node page) (subst (λ y. Names t y k) is name) was_named)) in
+        let same = other_moves x (free_named x k name) (λ is. ne (o.once f k (leaf_node page) (subst (λ y. NamesFrame t y k) is name) was_named)) in
         let was = o.named x k name in
         omega (arith, same, was)
 
-    named : (x k : ℕ) → Names (with_leaf t (leaf_node page) leaf) x k → references v x ≡ 1 + after x
+    named : (x k : ℕ) → NamesFrame (with_leaf t (leaf_node page) leaf) x k → references v x ≡ 1 + after x
     named x k name = elim (cases_eq k (leaf_node page)) [
       | inl at ↦ rw (named_here x k at name) here_count
       | inr ne ↦ stayed_count x k ne (stayed x k ne name)
     ]
 
-    pub nameless : (k : ℕ) → Names (with_leaf t (leaf_node page) leaf) f k → ⊥
+    pub nameless : (k : ℕ) → NamesFrame (with_leaf t (leaf_node page) leaf) f k → ⊥
     nameless k name = elim (cases_eq k (leaf_node page)) [
       | inl at ↦ differ (sym (named_here f k at name))
       | inr ne ↦ ne (o.once f k (leaf_node page) (stayed f k ne name) was_named)
@@ -151,11 +152,11 @@ module _ {z : Scheme} (v : View) (root : ℕ) (t : Tables) (h : HasTables z v ro
         let m = moves f in
         omega (arith, was, one, none, m)
 
-    bare : (x : ℕ) → ((k : ℕ) → Names (with_leaf t (leaf_node page) leaf) x k → ⊥) → references v x ≡ after x
+    bare : (x : ℕ) → ((k : ℕ) → NamesFrame (with_leaf t (leaf_node page) leaf) x k → ⊥) → references v x ≡ after x
     bare x none = elim (cases_eq x f) [
       | inl same ↦ rw same left_count
       | inr ne ↦
-          let other : x ≡ g → ⊥ = λ is. none (leaf_node page) (subst (λ y. Names (with_leaf t (leaf_node page) leaf) y (leaf_node page)) (sym is) (here (leaf_node page) refl)) in
+          let other : x ≡ g → ⊥ = λ is. none (leaf_node page) (subst (λ y. NamesFrame (with_leaf t (leaf_node page) leaf) y (leaf_node page)) (sym is) (here (leaf_node page) refl)) in
           let same = other_moves x other ne in
           let was = o.bare x (λ k name. elim (cases_eq k (leaf_node page)) [
             | inl at ↦ ne (was_here x k at name)
@@ -164,7 +165,7 @@ module _ {z : Scheme} (v : View) (root : ℕ) (t : Tables) (h : HasTables z v ro
           omega (arith, same, was)
     ]
 
-    pub owns_other : IsSole v g → Owns v (with_leaf t (leaf_node page) leaf) after
+    pub owns_other : IsSole v g → OwnsFrames v (with_leaf t (leaf_node page) leaf) after
     owns_other sole = record {
       once = once;
       named = named;
@@ -176,7 +177,7 @@ module _ {z : Scheme} (v : View) (root : ℕ) (t : Tables) (h : HasTables z v ro
 -- the leaf is put in the place of the one that was there
 
 module _ (v w : View) (root trapframe : ℕ) (extra : ℕ → ℕ) (t : Tables) (p : Process) (page : ℕ) (s : Page) (r : Region) (g leaf : ℕ)
-    (stands : Stands v root trapframe extra t p) (settled : pages.get p.settled page ≡ Some s) (in_region : region_at (regions p) page ≡ Some r)
+    (stands : IsInMemory v root trapframe extra t p) (settled : pages.get p.settled page ≡ Some s) (in_region : region_at (regions p) page ≡ Some r)
     (tables : HasTables p.scheme w root (with_leaf t (leaf_node page) leaf))
     (word : (x : ℕ) → get t.tables (last_table p.scheme page) ≡ Some x → w ≡ with_word x (vpn page 0) leaf v) where
   table : (x : ℕ) × (get t.tables (last_table p.scheme page) ≡ Some x)
@@ -202,7 +203,7 @@ module _ (v w : View) (root trapframe : ℕ) (extra : ℕ → ℕ) (t : Tables) 
 
   -- another page in the place of the settled one
   pub turned_stands : (n : Page) → IsPageLeaf leaf g r n.fork_mark (is_dirty_page r n) → (after : ℕ → ℕ) → ((k : ℕ) → get t.tables k ≡ Some g → ⊥) → HasBytes v g n.bytes
-      → Owns v (with_leaf t (leaf_node page) leaf) after → Stands w root trapframe after (with_leaf t (leaf_node page) leaf) (with_page p page n)
+      → OwnsFrames v (with_leaf t (leaf_node page) leaf) after → IsInMemory w root trapframe after (with_leaf t (leaf_node page) leaf) (with_page p page n)
   turned_stands n made after apart bytes owns =
       page_stands v w trapframe t (with_leaf t (leaf_node page) leaf) p page n leaf g r
       (stands.shows.low page s settled) (λ k ne. insert_other t.leaves (leaf_node page) leaf k ne)

@@ -1,4 +1,6 @@
--- A count is read, and by it a page becomes the process's own: in place, or on another frame.
+-- Lemmas for `Space::own` (copy-on-write): a reference count is read. At 1 the page keeps its frame (`own_kept`), else it
+-- moves to another one (`own_parted`), or the reservation of that one is refused (`refused_dry`). Also whether this fits the
+-- number of free frames, and how many are free then.
 use Rattle.std.proofs.Common.{◌≡◌, ℕ, ◌+◌, ◌-◌, ◌≤◌, ◌==◌, not, ◌&&◌, ◌||◌, cond, if◌then◌else◌, Option, Some, Bool, true, false, refl, ap, sym, subst, ◌∙◌, inl, inr, arith, ◌∷◌, [], ◌≢◌}
 use Rattle.std.proofs.lemmas.Bool.{cases_eq, eq-eqb, ne_eqb}
 use Rattle.std.proofs.lemmas.Option.{same_Some}
@@ -10,8 +12,8 @@ use Rattle.frame_store.specs.Laws.{IsDry}
 use Rattle.frame_store.specs.Tallies.{spent_none}
 use Rattle.frame_store.specs.View as views
 use Rattle.frame_store.specs.View.{AllKnown, counted, Hold, View, hold_of, IsSole, looked, references, with_credits, with_word}
-use Rattle.process_model.specs.Frames.{part_need}
-use Rattle.process_model.specs.OrderKept.{leafy_at}
+use Rattle.process_model.specs.Frames.{take_over_need}
+use Rattle.process_model.specs.OrderLaws.{leafy_at}
 use Rattle.process_model.specs.Process.{Page, Process, regions}
 use Rattle.process_model.specs.Regions.{is_shared_kind, makes_leaf, Region, region_at}
 use Rattle.process_model.specs.Residence.{unmarked, with_page}
@@ -21,11 +23,11 @@ use Rattle.sv39_entry.specs.Word.{has_flag, ppn}
 use Rattle.sv39_entry.specs.declared.frame.FrameNo.{FrameNo}
 use Rattle.table_walk.specs.Tables.{HasTables, Tables, last_table, leaf_node, with_leaf}
 use Rattle.table_walk.specs.Keys.{insert_other, insert_same}
-use Rattle.address_space.specs.Agreement.{body, IsSpace, is_dirty_page, IsPageLeaf, nothing, Stands}
+use Rattle.address_space.specs.Agreement.{body, IsSpace, is_dirty_page, IsPageLeaf, no_extra, IsInMemory}
 use Rattle.address_space.specs.Layouts.{Layout}
 use Rattle.address_space.specs.ProcessLeaves.{bytes_known}
-use Rattle.address_space.specs.Separating.{CanSeparate, Separates}
-use Rattle.address_space.specs.Steps.{CanOwn, Owned, Spends, Takes, RunsDry}
+use Rattle.address_space.specs.CopyOnWrite.{CanSeparate, Separates}
+use Rattle.address_space.specs.Steps.{CanOwn, HasOwnPage, SpendsCredits, TakesFrames, RunsDry}
 use Rattle.address_space.proofs.Sound.{sound_page}
 use Rattle.address_space.proofs.Owned.{no_table, Recounts, recounted_stands}
 use Rattle.address_space.proofs.Owning.{owns_same, turned_sole, turned_stands, turned_words}
@@ -34,27 +36,27 @@ use Rattle.address_space.proofs.Writing.{HasPage, lays_with, page_found}
 
 -- how many frames a page takes by its count
 
-need_none : (n : ℕ) → n ≡ 1 → part_need (not (n == 1)) ≡ 0
-need_none n is = ap (λ b. part_need (not b)) (eq-eqb n 1 is)
+need_none : (n : ℕ) → n ≡ 1 → take_over_need (not (n == 1)) ≡ 0
+need_none n is = ap (λ b. take_over_need (not b)) (eq-eqb n 1 is)
 
-need_one : (n : ℕ) → (n ≡ 1 → ⊥) → part_need (not (n == 1)) ≡ 1
-need_one n ne = ap (λ b. part_need (not b)) (ne_eqb n 1 ne)
+need_one : (n : ℕ) → (n ≡ 1 → ⊥) → take_over_need (not (n == 1)) ≡ 1
+need_one n ne = ap (λ b. take_over_need (not b)) (ne_eqb n 1 ne)
 
 -- the page keeps its frame
 
-pub exact_kept : (n free : ℕ) → n ≡ 1 → (true ≡ true → part_need (not (n == 1)) ≤ free) × (part_need (not (n == 1)) ≤ free → true ≡ true)
+pub exact_kept : (n free : ℕ) → n ≡ 1 → (true ≡ true → take_over_need (not (n == 1)) ≤ free) × (take_over_need (not (n == 1)) ≤ free → true ≡ true)
 exact_kept n free one = let none = need_none n one in (λ _. omega (arith, none), λ _. refl)
 
-pub free_kept : (n free after : ℕ) → n ≡ 1 → after ≡ free → after ≡ free - part_need (not (n == 1))
+pub free_kept : (n free after : ℕ) → n ≡ 1 → after ≡ free → after ≡ free - take_over_need (not (n == 1))
 free_kept n free after one same = let none = need_none n one in omega (arith, none, same)
 
 -- it gets another one
 
-pub exact_parted : (n free : ℕ) → (n ≡ 1 → ⊥) → 1 ≤ free → (true ≡ true → part_need (not (n == 1)) ≤ free) × (part_need (not (n == 1)) ≤ free → true ≡ true)
+pub exact_parted : (n free : ℕ) → (n ≡ 1 → ⊥) → 1 ≤ free → (true ≡ true → take_over_need (not (n == 1)) ≤ free) × (take_over_need (not (n == 1)) ≤ free → true ≡ true)
 exact_parted n free ne enough = let one = need_one n ne in (λ _. omega (arith, one, enough), λ _. refl)
 
 pub free_parted : (n m free reserved after : ℕ) → (n ≡ 1 → ⊥) → m ≡ n → reserved ≡ free - 1 → after ≡ reserved + cond (m == 1) 1 0
-    → after ≡ free - part_need (not (n == 1))
+    → after ≡ free - take_over_need (not (n == 1))
 free_parted n m free reserved after ne same less is =
     let one = need_one n ne in
     let none : ◌≡◌ {A = ℕ} (cond (m == 1) 1 0) 0 = ap (λ b. cond b 1 0) (ne_eqb m 1 (λ e. ne (sym same ∙ e))) in
@@ -63,7 +65,7 @@ free_parted n m free reserved after ne same less is =
 -- there is none
 
 pub exact_refused : (b : Bool) (n free : ℕ) → b ≡ false → (n ≡ 1 → ⊥) → (1 ≤ free → ⊥)
-    → (b ≡ true → part_need (not (n == 1)) ≤ free) × (part_need (not (n == 1)) ≤ free → b ≡ true)
+    → (b ≡ true → take_over_need (not (n == 1)) ≤ free) × (take_over_need (not (n == 1)) ≤ free → b ≡ true)
 exact_refused b n free denied ne few =
     let one = need_one n ne in
     (λ given. absurd (let both = sym denied ∙ given in cc), λ enough. absurd (few (omega (arith, one, enough))))
@@ -127,7 +129,7 @@ module _ (v w : View) (like : IsLike v w) where
   like_bytes : (f : ℕ) (bytes : _) → HasBytes v f bytes → HasBytes w f bytes
   like_bytes f bytes has = record { length = has.length; small = has.small; words = λ i low. ap (λ m. get m i) (like.words f) ∙ has.words i low }
 
-  like_stands : (root trapframe : ℕ) (extra : ℕ → ℕ) (t : Tables) (p : Process) → Stands v root trapframe extra t p → Stands w root trapframe extra t p
+  like_stands : (root trapframe : ℕ) (extra : ℕ → ℕ) (t : Tables) (p : Process) → IsInMemory v root trapframe extra t p → IsInMemory w root trapframe extra t p
   like_stands root trapframe extra t p s =
       let recounts : Recounts v w t extra extra = record {
         counts = λ f. ap (λ n. n + extra f) (like.counts f);
@@ -152,12 +154,12 @@ reserved_tallies v a b c first reserve = record {
   tallies = ap (λ (x : View). x.tallies) reserve ∙ first.tallies;
 }
 
-takes_after : (v b w : View) (n c : ℕ) → HasLooked v b c → Spends b w n → Takes v w n (c ∷ [])
+takes_after : (v b w : View) (n c : ℕ) → HasLooked v b c → SpendsCredits b w n → TakesFrames v w n (c ∷ [])
 takes_after v b w n c first spends = record {
   tallies = spends.tallies ∙ ap (views.spent n) first.tallies;
 }
 
-nothing_spent : (v : View) → Spends v v 0
+nothing_spent : (v : View) → SpendsCredits v v 0
 nothing_spent v = record { credits = omega arith; tallies = spent_none v.tallies }
 
 -- the frame that is looked at
@@ -170,7 +172,7 @@ pub refused_agrees : (v a w : View) (f c root trapframe : ℕ) (l : Layout) (t :
 refused_agrees v a w f c root trapframe l t p look dry agrees = record {
   sound = agrees.sound;
   lays = agrees.lays;
-  stands = like_stands v w (like_both v a w (subst (IsLike v) (sym look) (looked_like f c v)) (like_frames a w dry.frames)) root trapframe nothing t p agrees.stands;
+  stands = like_stands v w (like_both v a w (subst (IsLike v) (sym look) (looked_like f c v)) (like_frames a w dry.frames)) root trapframe no_extra t p agrees.stands;
   credits = dry.credits ∙ ap (λ (x : View). x.credits) look ∙ agrees.credits;
 }
 
@@ -237,8 +239,8 @@ module _ {v : View} {root trapframe : ℕ} {l : Layout} {t : Tables} {p : Proces
     own_leafy : makes_leaf r ≡ true
     own_leafy = leafy_at p can.agrees.sound.order page r in_region
 
-    pub own_stands : Stands a root trapframe nothing t p
-    own_stands = like_stands v a like root trapframe nothing t p can.agrees.stands
+    pub own_stands : IsInMemory a root trapframe no_extra t p
+    own_stands = like_stands v a like root trapframe no_extra t p can.agrees.stands
 
     pub own_known : AllKnown a f
     own_known = bytes_known a f s.bytes (like_bytes v a like f s.bytes here.bytes)
@@ -253,19 +255,19 @@ module _ {v : View} {root trapframe : ℕ} {l : Layout} {t : Tables} {p : Proces
       sole = own_sole one
 
       bare : (k : ℕ) → get t.tables k ≡ Some f → ⊥
-      bare = no_table a t root nothing own_stands.tables own_stands.owns (leaf_node page) can.on.0 f can.on.1 can.on.2
+      bare = no_table a t root no_extra own_stands.tables own_stands.owns (leaf_node page) can.on.0 f can.on.1 can.on.2
 
-      kept : (fresh : ℕ) (shared : Bool) → Stands w root trapframe nothing (with_leaf t (leaf_node page) leaf) (with_page p page (unmarked fresh shared s))
-      kept fresh shared = turned_stands a w root trapframe nothing t p page s r f leaf own_stands can.settled in_region tables word (unmarked fresh shared s) made nothing bare
+      kept : (fresh : ℕ) (shared : Bool) → IsInMemory w root trapframe no_extra (with_leaf t (leaf_node page) leaf) (with_page p page (unmarked fresh shared s))
+      kept fresh shared = turned_stands a w root trapframe no_extra t p page s r f leaf own_stands can.settled in_region tables word (unmarked fresh shared s) made no_extra bare
           (like_bytes v a like f s.bytes here.bytes)
-          (owns_same a root t own_stands.tables page can.on.0 leaf f f can.on.1 can.on.2 made.names refl (λ _. sole) nothing own_stands.owns)
+          (owns_same a root t own_stands.tables page can.on.0 leaf f f can.on.1 can.on.2 made.names refl (λ _. sole) no_extra own_stands.owns)
 
-      spent : Spends a w 0
+      spent : SpendsCredits a w 0
       spent =
-          let changes = turned_words a w root trapframe nothing t p page s r f leaf own_stands can.settled in_region tables word in
+          let changes = turned_words a w root trapframe no_extra t p page s r f leaf own_stands can.settled in_region tables word in
           words_spend changes.0 0 a a w changes.1 (nothing_spent a)
 
-      pub own_kept : Owned v (body w root trapframe l) t (with_leaf t (leaf_node page) leaf) p page s f f c
+      pub own_kept : HasOwnPage v (body w root trapframe l) t (with_leaf t (leaf_node page) leaf) p page s f f c
       own_kept = record {
         agrees = λ fresh. record {
           sound = sound_page p page s _ can.settled can.agrees.sound;
@@ -276,9 +278,9 @@ module _ {v : View} {root trapframe : ℕ} {l : Layout} {t : Tables} {p : Proces
         on = (leaf, insert_same t.leaves (leaf_node page) leaf (leaf_node page) refl, made.names);
         same = λ _. refl;
         fresh = λ apart. absurd (apart one);
-        sole = turned_sole a w root trapframe nothing t p page s r f leaf own_stands can.settled in_region tables word f sole;
+        sole = turned_sole a w root trapframe no_extra t p page s r f leaf own_stands can.settled in_region tables word f sole;
         others = λ k ne. insert_other t.leaves (leaf_node page) leaf k ne;
-        takes = subst (λ n. Takes v w n (c ∷ [])) (sym (need_none c one)) (takes_after v a w 0 c (looked_tallies f c v a look) spent);
+        takes = subst (λ n. TakesFrames v w n (c ∷ [])) (sym (need_none c one)) (takes_after v a w 0 c (looked_tallies f c v a look) spent);
       }
 
     -- others have it too
@@ -294,7 +296,7 @@ module _ {v : View} {root trapframe : ℕ} {l : Layout} {t : Tables} {p : Proces
 
       pub own_part : (dirty : Bool) → (dirty && r.writes) ≡ is_dirty_page r s → CanSeparate b root trapframe t p page s r f dirty
       own_part dirty kept = record {
-        stands = like_stands v b reserved root trapframe nothing t p can.agrees.stands;
+        stands = like_stands v b reserved root trapframe no_extra t p can.agrees.stands;
         settled = can.settled;
         in_region = in_region;
         leafy = own_leafy;
@@ -302,7 +304,7 @@ module _ {v : View} {root trapframe : ℕ} {l : Layout} {t : Tables} {p : Proces
         kept = kept;
       }
 
-      pub own_parted : (w : View) (u : Tables) (g : ℕ) → Separates b w root trapframe t u p page s g → Owned v (body w root trapframe l) t u p page s f g c
+      pub own_parted : (w : View) (u : Tables) (g : ℕ) → Separates b w root trapframe t u p page s g → HasOwnPage v (body w root trapframe l) t u p page s f g c
       own_parted w u g parts = record {
         agrees = λ fresh. record {
           sound = sound_page p page s _ can.settled can.agrees.sound;
@@ -315,6 +317,6 @@ module _ {v : View} {root trapframe : ℕ} {l : Layout} {t : Tables} {p : Proces
         fresh = λ apart. sym (reserved.counts g) ∙ parts.fresh;
         sole = parts.sole;
         others = parts.others;
-        takes = subst (λ n. Takes v w n (c ∷ [])) (sym (need_one c ne))
+        takes = subst (λ n. TakesFrames v w n (c ∷ [])) (sym (need_one c ne))
             (takes_after v b w 1 c (reserved_tallies v a b c (looked_tallies f c v a look) reserve) parts.spends);
       }

@@ -1,4 +1,5 @@
--- From a page on no region of a process has any.
+-- Lemmas: if the regions of a process are in order, every page of a region lies below TRAPFRAME, and without mappings below
+-- the end of the heap.
 use Rattle.std.proofs.Common.{◌≡◌, ℕ, ◌<◌, ◌≤◌, ◌==◌, inl, inr, true, refl, sym, subst, ◌∙◌, arith, List, [], ◌∷◌, length, map, Some}
 use Rattle.std.proofs.lemmas.Bool.{false≢true}
 use Rattle.std.proofs.lemmas.Bool.Decides.{eqb_tells}

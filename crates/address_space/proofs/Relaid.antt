@@ -1,4 +1,5 @@
--- A process that has other regions, over the leaves that are there.
+-- Lemma `relaid`: a space that is a process is also another one with other regions, over the same leaves, if
+-- `CanReplaceLayout` holds of the two.
 use Rattle.std.proofs.Common.{◌≡◌, ℕ, ◌&&◌, ◌<◌, inl, inr, ap, subst, sym, ◌∙◌, Some}
 use Rattle.std.specs.Prelude.{◌||◌, not, All}
 use Rattle.frame_store.specs.View.{View}
@@ -6,15 +7,15 @@ use Rattle.process_model.specs.PageMap as pages
 use Rattle.process_model.specs.PageMap.{NumberSet, PageMap}
 use Rattle.process_model.specs.Process.{Page, Process}
 use Rattle.process_model.specs.Regions.{is_guard_kind, is_shared_kind, Region}
-use Rattle.table_walk.specs.Counted.{AreTablesOf}
+use Rattle.table_walk.specs.TableCounts.{AreTablesOf}
 use Rattle.table_walk.specs.Tables.{Tables, leaf_node}
-use Rattle.address_space.specs.Agreement.{body, is_dirty_page, IsLeafNumber, IsPageLeaf, IsShown, IsSpace, Shows}
+use Rattle.address_space.specs.Agreement.{body, is_dirty_page, IsLeafNumber, IsPageLeaf, IsShown, IsSpace, ShowsPages}
 use Rattle.address_space.specs.Layouts.{LaysOut, Layout}
-use Rattle.address_space.specs.Steps.{CanRelay, LeafLike}
+use Rattle.address_space.specs.Steps.{CanReplaceLayout, HasSameLeafRights}
 use Rattle.sv39_entry.specs.Schemes.{trapframe_page, trampoline_page}
 use Rattle.sv39_entry.specs.declared.scheme.Scheme.{Scheme}
 
-module _ (r x : Region) (like : LeafLike r x) where
+module _ (r x : Region) (like : HasSameLeafRights r x) where
   same_dirty : (s : Page) → is_dirty_page r s ≡ is_dirty_page x s
   same_dirty s = ap (λ b. (s.stored_mark || not b) && r.writes) (sym like.shared) ∙ ap (λ b. (s.stored_mark || not (is_shared_kind x.kind)) && b) (sym like.writes)
 
@@ -33,7 +34,7 @@ module _ (r x : Region) (like : LeafLike r x) where
     unused = made.unused;
   }
 
-module _ (v : View) (root trapframe : ℕ) (l m : Layout) (t : Tables) (p q : Process) (space : IsSpace (body v root trapframe l) t p) (can : CanRelay p q) where
+module _ (v : View) (root trapframe : ℕ) (l m : Layout) (t : Tables) (p q : Process) (space : IsSpace (body v root trapframe l) t p) (can : CanReplaceLayout p q) where
   was : (n : ℕ) (s : Page) → pages.get q.settled n ≡ Some s → pages.get p.settled n ≡ Some s
   was n s at = ap (λ (x : PageMap Page). pages.get x n) (sym can.settled) ∙ at
 
@@ -55,7 +56,7 @@ module _ (v : View) (root trapframe : ℕ) (l m : Layout) (t : Tables) (p q : Pr
   number_kept k (inr (inl is)) = inr (inl (is ∙ ap (λ (z : Scheme). leaf_node (trapframe_page z)) (sym can.scheme)))
   number_kept k (inr (inr (n, s, is, at))) = inr (inr (n, s, is, ap (λ (x : PageMap Page). pages.get x n) can.settled ∙ at))
 
-  shows_relaid : Shows v trapframe t q
+  shows_relaid : ShowsPages v trapframe t q
   shows_relaid =
       let shows = space.stands.shows in
       record {

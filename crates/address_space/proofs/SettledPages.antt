@@ -1,4 +1,6 @@
--- The first leaf of a run is the first settled page's.
+-- Lemmas on settled pages (those in memory) and their leaves: a page below TRAPFRAME has a leaf if and only if it is
+-- settled; the leaf gives its frame and marks (`page_is`); the first leaf of a range is that of its first settled page
+-- (`next_is`).
 use Rattle.std.proofs.Common.{◌≡◌, ℕ, Bool, ◌+◌, ◌<◌, ◌≤◌, min, Option, None, Some, refl, ap, sym, subst, ◌∙◌, inl, inr, arith}
 use Rattle.std.specs.Prelude.{IsSome}
 use Rattle.std.proofs.lemmas.Bool.{cases_lt}
@@ -15,17 +17,17 @@ use Rattle.sv39_entry.specs.Word.{has_flag, ppn}
 use Rattle.sv39_entry.specs.declared.frame.FrameNo.{FrameNo}
 use Rattle.sv39_entry.specs.Schemes.{trampoline_page, trapframe_page, of_scheme}
 use Rattle.table_walk.specs.Tables.{Tables, leaf_node}
-use Rattle.address_space.specs.Agreement.{body, nothing}
-use Rattle.address_space.specs.Ending.{AreUnmapped, IsFirstMapped}
+use Rattle.address_space.specs.Agreement.{body, no_extra}
+use Rattle.address_space.specs.SpaceTeardown.{AreUnmapped, IsFirstMapped}
 use Rattle.address_space.specs.Layouts.{Layout}
 use Rattle.address_space.specs.ProcessLeaves.{frame_is}
-use Rattle.address_space.specs.Settled.{AreUnsettled, IsNextSettled, IsSettledPage}
-use Rattle.address_space.specs.Standing.{IsStanding}
-use Rattle.address_space.specs.declared.settled.SettledPage.{SettledPage}
-use Rattle.address_space.proofs.Owned.{one_page}
+use Rattle.address_space.specs.SettledLists.{AreUnsettled, IsNextSettled, IsSettledPage}
+use Rattle.address_space.specs.SpacesInCalls.{IsSpaceInCall}
+use Rattle.address_space.specs.declared.settled_pages.SettledPage.{SettledPage}
 use Rattle.address_space.proofs.Writing.{HasPage, page_here}
+use Rattle.table_walk.specs.Nodes.{one_page}
 
-module _ (v : View) (root trapframe : ℕ) (l : Layout) (t : Tables) (p : Process) (space : IsStanding (body v root trapframe l) t p nothing) where
+module _ (v : View) (root trapframe : ℕ) (l : Layout) (t : Tables) (p : Process) (space : IsSpaceInCall (body v root trapframe l) t p no_extra) where
   none_settled : (first end n : ℕ) (o : Option Page) → AreUnmapped t first end → first ≤ n → n < end → pages.get p.settled n ≡ o → o ≡ None
   none_settled first end n None bare from less at = refl
   none_settled first end n (Some s) bare from less at =

@@ -1,10 +1,11 @@
--- What the order of a process's regions gives of each of them, and what keeps a process sound.
+-- Lemmas: every page of a region lies below TRAPFRAME; and a process stays sound (its regions are in order, and it has the
+-- page tables of each settled page) with fewer settled pages (those in memory), with a changed one, and with one more.
 use Rattle.std.proofs.Common.{◌≡◌, ℕ, ◌<◌, inl, inr, ap, sym, ◌∙◌, List, Some}
 use Rattle.std.proofs.lemmas.Bool.{cases_eq}
 use Rattle.std.specs.Prelude.{is_some}
-use Rattle.process_model.specs.Inserted.{inserted_here, inserted_other}
+use Rattle.process_model.specs.Insertion.{inserted_here, inserted_other}
 use Rattle.process_model.specs.Order.{HasOrder, IsSound}
-use Rattle.process_model.specs.OrderKept.{regions_row, same_order}
+use Rattle.process_model.specs.OrderLaws.{regions_row, same_order}
 use Rattle.process_model.specs.PageMap as pages
 use Rattle.process_model.specs.PageMap.{PageMap}
 use Rattle.process_model.specs.Process.{Page, Process, regions}

@@ -1,4 +1,6 @@
--- What the walk of a user's access comes to in a space that agrees with its process.
+-- Lemma `walked_by_user`: in a process in memory, the walk of a user access either ends at the leaf of a settled page (one
+-- in memory), and then no rule denies the access and it completes; or it is a page fault, in the model too. Before it,
+-- lemmas on addresses, rights of leaves, and the rule of a page that has a region.
 use Rattle.std.proofs.Common.{◌≡◌, ℕ, ◌-◌, ◌/◌, ◌^◌, ◌<◌, ◌==◌, ◌&&◌, ◌||◌, Bool, not, true, false, Option, None, Some, refl, ap, sym, ◌∙◌, inl, inr, ◌⊎◌, arith, nat_le, List, [], ◌∷◌, cond, ◌≤◌}
 use Rattle.std.proofs.lemmas.Bool.{cases_Bool, eqb-true, lt-leb, ne_eqb, or_cases}
 use Rattle.std.proofs.lemmas.Option.{same_Some}
@@ -9,8 +11,8 @@ use Rattle.process_model.specs.PageMap as pages
 use Rattle.process_model.specs.Process.{Page, Process, regions}
 use Rattle.process_model.specs.Bytes.{first_true}
 use Rattle.process_model.specs.Regions.{Region, copy_rule, copy_tests, fault_cause, is_guard_kind, is_shared_kind, lacks_right, region_at, right_rule}
-use Rattle.process_model.specs.Residence.{goes_through, region_on}
-use Rattle.process_model.specs.Service.{Answer, Asked, faulted, if_resident, if_settled, unless_denied}
+use Rattle.process_model.specs.Residence.{can_complete, region_on}
+use Rattle.process_model.specs.Service.{Answer, AccessRequest, faulted, if_resident, if_settled, unless_denied}
 use Rattle.sv39_entry.specs.Address.{has, page_of}
 use Rattle.sv39_entry.specs.Causes.{page_fault_cause}
 use Rattle.sv39_entry.specs.Word.{permits}
@@ -26,11 +28,12 @@ use Rattle.table_walk.specs.Tables.{Tables, leaf_node, walk_leaf}
 use Rattle.table_walk.specs.Memory.{physical_address}
 use Rattle.table_walk.specs.declared.walk.Walk.TheVariants as walk
 use Rattle.table_walk.specs.Nodes.{low_leaf}
-use Rattle.address_space.specs.Agreement.{HasKernelLeaf, is_dirty_page, IsPageLeaf, IsShown, Shows}
+use Rattle.address_space.specs.Agreement.{HasKernelLeaf, is_dirty_page, IsPageLeaf, IsShown, ShowsPages}
 
 -- addresses
 
--- of two pages with one leaf number, of which one is up to the trampoline's and the other that of a canonical address, both are one
+-- of two pages with one leaf number, of which one is up to the trampoline's and the other that of a canonical address, both
+-- are one
 same_page : (z : Scheme) (n a : ℕ) → n ≤ trampoline_page z → is_canonical z a ≡ true → walk_leaf z (page_of a) ≡ leaf_node n → page_of a ≡ n
 same_page Sv39 n a low canonical same = elim (or_cases (a / 2 ^ 38 == 0) (a / 2 ^ 38 == 2 ^ 26 - 1) canonical) [
   | inl lower ↦ (let zero = eqb-true (a / 2 ^ 38) 0 lower in omega (arith, same, low, zero))
@@ -93,7 +96,7 @@ copy_faults z rs access a r is = first_faults access (copy_tests z rs access a) 
 
 -- what is answered
 
-module _ (p : Process) (x : Asked) where
+module _ (p : Process) (x : AccessRequest) where
   abbrev rule_now : Option Rule
   rule_now = copy_rule p.scheme (regions p) x.access x.address
 
@@ -113,7 +116,7 @@ module _ (p : Process) (x : Asked) where
   unsettled : pages.get p.settled (page_of x.address) ≡ None → unless_denied p x rule_now ≡ failed
   unsettled none = by_rest (ap (if_settled p x) none)
 
-  marked : (s : Page) → pages.get p.settled (page_of x.address) ≡ Some s → goes_through x.access (region_on p (page_of x.address)) s ≡ false → unless_denied p x rule_now ≡ failed
+  marked : (s : Page) → pages.get p.settled (page_of x.address) ≡ Some s → can_complete x.access (region_on p (page_of x.address)) s ≡ false → unless_denied p x rule_now ≡ failed
   marked s is stops = by_rest (ap (if_settled p x) is ∙ ap (if_resident p x s) stops)
 
 -- the rule of a page that has a region
@@ -157,7 +160,7 @@ stop_store false mark stored shared is = inl refl
 abbrev passes : Region → Access → Option Rule
 passes r access = cond (is_guard_kind r.kind) (Some rule.GuardPage) (cond (lacks_right access (Some r)) (Some (right_rule access)) None)
 
-let_through : (r : Region) (s : Page) (access : Access) → lets access r s ≡ true → (passes r access ≡ None) × (goes_through access (Some r) s ≡ true)
+let_through : (r : Region) (s : Page) (access : Access) → lets access r s ≡ true → (passes r access ≡ None) × (can_complete access (Some r) s ≡ true)
 let_through r s Fetch is = let two = pass (is_guard_kind r.kind) r.executes is in (rw (two.0, two.1) refl, refl)
 let_through r s Load is = let two = pass (is_guard_kind r.kind) r.reads is in (rw (two.0, two.1) refl, refl)
 let_through r s Store is =
@@ -165,7 +168,7 @@ let_through r s Store is =
     let more = pass_store r.writes s.fork_mark s.stored_mark (is_shared_kind r.kind) two.1 in
     (rw (two.0, more.0) refl, more.1)
 
-held_back : (r : Region) (s : Page) (access : Access) → lets access r s ≡ false → ((x : Rule) × (passes r access ≡ Some x)) ⊎ (goes_through access (Some r) s ≡ false)
+held_back : (r : Region) (s : Page) (access : Access) → lets access r s ≡ false → ((x : Rule) × (passes r access ≡ Some x)) ⊎ (can_complete access (Some r) s ≡ false)
 held_back r s Fetch is = elim (stop (is_guard_kind r.kind) r.executes is) [ inl guard ↦ inl (rule.GuardPage, rw guard refl) | inr two ↦ inl (rule.NoExec, rw (two.0, two.1) refl) ]
 held_back r s Load is = elim (stop (is_guard_kind r.kind) r.reads is) [ inl guard ↦ inl (rule.GuardPage, rw guard refl) | inr two ↦ inl (rule.NoRead, rw (two.0, two.1) refl) ]
 held_back r s Store is = elim (stop (is_guard_kind r.kind) ((r.writes && not s.fork_mark) && is_dirty_page r s) is) [
@@ -179,7 +182,7 @@ held_back r s Store is = elim (stop (is_guard_kind r.kind) ((r.writes && not s.f
 not_for_user : (w : ℕ) (access : Access) → has w 4 ≡ false → permits User access w ≡ false
 not_for_user w access none = rw none refl
 
-module _ (v : View) (trapframe : ℕ) (t : Tables) (p : Process) (shows : Shows v trapframe t p) (x : Asked) where
+module _ (v : View) (trapframe : ℕ) (t : Tables) (p : Process) (shows : ShowsPages v trapframe t p) (x : AccessRequest) where
   abbrev a : ℕ
   a = x.address
 
@@ -190,7 +193,7 @@ module _ (v : View) (trapframe : ℕ) (t : Tables) (p : Process) (shows : Shows 
   fails = (walk_answer p.scheme t a access User ≡ walk.PageFault (page_fault_cause access)) × (unless_denied p x (copy_rule p.scheme (regions p) access a) ≡ faulted p x (page_fault_cause access))
 
   abbrev goes : Type 0
-  goes = (s : Page) × (shown : IsShown v t p (page_of a) s) × (pages.get p.settled (page_of a) ≡ Some s) × (copy_rule p.scheme (regions p) access a ≡ None) × (goes_through access (region_on p (page_of a)) s ≡ true)
+  goes = (s : Page) × (shown : IsShown v t p (page_of a) s) × (pages.get p.settled (page_of a) ≡ Some s) × (copy_rule p.scheme (regions p) access a ≡ None) × (can_complete access (region_on p (page_of a)) s ≡ true)
       × (walk_answer p.scheme t a access User ≡ walk.Leaf shown.leaf 0 (physical_address shown.leaf 0 a))
 
   by_settled : (s : Page) → pages.get p.settled (page_of a) ≡ Some s → goes ⊎ fails
@@ -201,7 +204,7 @@ module _ (v : View) (trapframe : ℕ) (t : Tables) (p : Process) (shows : Shows 
       let leaf : leaf_at p.scheme t a ≡ Some (page_leaf shown.leaf) = rw (low_canonical p.scheme a (omega (arith, low, of_scheme p.scheme)), number, shown.mapped) refl in
       let answers : walk_answer p.scheme t a access User ≡ answer (Some (page_leaf shown.leaf)) a access User = ap (λ o. answer o a access User) leaf in
       let right = permits_is shown.leaf shown.frame shown.region s access shown.made in
-      let through_is : (b : Bool) → goes_through access (Some shown.region) s ≡ b → goes_through access (region_on p (page_of a)) s ≡ b = λ b goes. ap (λ r. goes_through access r s) shown.in_region ∙ goes in
+      let through_is : (b : Bool) → can_complete access (Some shown.region) s ≡ b → can_complete access (region_on p (page_of a)) s ≡ b = λ b goes. ap (λ r. can_complete access r s) shown.in_region ∙ goes in
       let rule_is : copy_rule p.scheme (regions p) access a ≡ passes shown.region access = rule_of_region p.scheme (regions p) access a low shown.region shown.in_region in
       elim (cases_Bool (lets access shown.region s)) [
         | inl lets_it ↦

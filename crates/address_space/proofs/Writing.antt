@@ -1,4 +1,6 @@
--- A page of a process whose frame or bytes change, while the seat's references stay.
+-- Lemmas on a settled page (one in memory) whose frame or bytes change while the references of the seat (an owner's
+-- capability at a frame store) stay: the frame of the page (`HasPage`), the process with the changed page in memory
+-- (`page_stands`), and a write to a page whose frame the seat alone holds (`page_written`).
 use Rattle.std.proofs.Common.{◌≡◌, ℕ, ◌<◌, ◌%◌, ◌&&◌, not, Bool, List, Option, Some, IsTrue, true, false, refl, ap, sym, subst, ◌∙◌, inl, inr, arith, []}
 use Rattle.std.specs.Prelude.{option_and_then, option_map}
 use Rattle.std.proofs.lemmas.Bool.{cases_eq, ne_eqb}
@@ -23,16 +25,17 @@ use Rattle.sv39_entry.specs.Frame.{frame_at, ppn_of}
 use Rattle.sv39_entry.specs.Word.{has_flag, ppn}
 use Rattle.sv39_entry.specs.declared.frame.FrameNo.{FrameNo}
 use Rattle.sv39_entry.specs.Schemes.{trampoline_page, trapframe_page, of_scheme}
-use Rattle.table_walk.specs.Counted.{AreTablesOf}
+use Rattle.table_walk.specs.TableCounts.{AreTablesOf}
 use Rattle.table_walk.specs.Tables.{HasTables, Tables, leaf_node}
-use Rattle.table_walk.specs.Same.{same_tables}
-use Rattle.address_space.specs.Agreement.{body, IsSpace, is_dirty_page, IsPageLeaf, IsLeafNumber, IsOn, IsShown, Names, nothing, OthersKeep, Owns, Shows, Stands}
+use Rattle.table_walk.specs.SameFrames.{same_tables}
+use Rattle.address_space.specs.Agreement.{body, IsSpace, is_dirty_page, IsPageLeaf, IsLeafNumber, IsFrameOfPage, IsShown, NamesFrame, no_extra, KeepsOtherLeaves, OwnsFrames, ShowsPages, IsInMemory}
 use Rattle.address_space.specs.Layouts.{Layout, LaysOut}
 use Rattle.address_space.specs.ProcessLeaves.{frame_is}
-use Rattle.address_space.specs.Standing.{IsAt}
-use Rattle.address_space.specs.Steps.{CanRead, CanWrite, Takes}
+use Rattle.address_space.specs.SpacesInCalls.{HasSettledPage}
+use Rattle.address_space.specs.Steps.{CanRead, CanWrite, TakesFrames}
 use Rattle.address_space.proofs.Sound.{sound_page}
-use Rattle.address_space.proofs.Owned.{named_held, no_table, one_frame, one_page, same_bytes, same_owns}
+use Rattle.address_space.proofs.Owned.{named_held, no_table, one_ppn, same_bytes, same_owns}
+use Rattle.table_walk.specs.Nodes.{one_page}
 
 -- words of one frame
 
@@ -68,7 +71,7 @@ pub record HasPage (v : View) (t : Tables) (p : Process) (page : ℕ) (s : Page)
   pub held : IsHeld v f
   pub low : page < (trapframe_page p.scheme)
 
-pub page_here : (v : View) (root trapframe : ℕ) (extra : ℕ → ℕ) (t : Tables) (p : Process) (page : ℕ) (s : Page) → Stands v root trapframe extra t p
+pub page_here : (v : View) (root trapframe : ℕ) (extra : ℕ → ℕ) (t : Tables) (p : Process) (page : ℕ) (s : Page) → IsInMemory v root trapframe extra t p
     → pages.get p.settled page ≡ Some s → (f : ℕ) × HasPage v t p page s f
 page_here v root trapframe extra t p page s stands settled =
     let shown = stands.shows.settled page s settled in (
@@ -97,11 +100,11 @@ module _ (v : View) (t : Tables) (p : Process) (page : ℕ) (s : Page) (f : ℕ)
   page_on x found = subst (HasPage v t p page s) (ap (λ (x : FrameNo × Bool). (x.0).0) (same_Some _ x (sym page_found ∙ found))) here
 
 -- the frame of the leaf is the page's
-pub on_page : (v : View) (root trapframe : ℕ) (l : Layout) (t : Tables) (p : Process) (page : ℕ) (s : Page) (f : ℕ) → IsAt (body v root trapframe l) t p page s
-    → IsOn t page f → HasPage v t p page s f
+pub on_page : (v : View) (root trapframe : ℕ) (l : Layout) (t : Tables) (p : Process) (page : ℕ) (s : Page) (f : ℕ) → HasSettledPage (body v root trapframe l) t p page s
+    → IsFrameOfPage t page f → HasPage v t p page s f
 on_page v root trapframe l t p page s f can on =
-    let here = page_here v root trapframe nothing t p page s can.standing.stands can.settled in
-    let same : here.0 ≡ f = one_frame here.0 f (sym here.1.made.names ∙ ap ppn (same_Some here.1.leaf on.0 (sym here.1.mapped ∙ on.1)) ∙ on.2) in
+    let here = page_here v root trapframe no_extra t p page s can.standing.stands can.settled in
+    let same : here.0 ≡ f = one_ppn here.0 f (sym here.1.made.names ∙ ap ppn (same_Some here.1.leaf on.0 (sym here.1.mapped ∙ on.1)) ∙ on.2) in
     subst (HasPage v t p page s) same here.1
 
 -- pages of a process after one was put
@@ -120,7 +123,7 @@ put_other m k q x apart = find-put nat_cmp nat_cmp_total q k x m.entries ∙ rw 
 
 -- One page has this leaf over this frame; the frames of the other leaves have the holds that they had.
 module _ (v w : View) (trapframe : ℕ) (t u : Tables) (p : Process) (page : ℕ) (s : Page) (leaf g : ℕ) (region : Region)
-    (low : page < (trapframe_page p.scheme)) (others : OthersKeep t u page) (mapped : get u.leaves (leaf_node page) ≡ Some leaf)
+    (low : page < (trapframe_page p.scheme)) (others : KeepsOtherLeaves t u page) (mapped : get u.leaves (leaf_node page) ≡ Some leaf)
     (made : IsPageLeaf leaf g region s.fork_mark (is_dirty_page region s)) (in_region : region_at (regions p) page ≡ Some region) (bytes : HasBytes w g s.bytes)
     (apart : (k x f : ℕ) → (k ≡ leaf_node page → ⊥) → get t.leaves k ≡ Some x → ppn x ≡ ppn_of f → hold_of w f ≡ hold_of v f) where
   away : (n : ℕ) → (n ≡ page → ⊥) → leaf_node n ≡ leaf_node page → ⊥
@@ -152,7 +155,7 @@ module _ (v w : View) (trapframe : ℕ) (t u : Tables) (p : Process) (page : ℕ
   number_kept k ne (inr (inr x)) =
       inr (inr (x.0, x.1, x.2, put_other p.settled page x.0 s (λ same. ne (x.2 ∙ ap leaf_node same)) ∙ x.3))
 
-  page_shows : Shows v trapframe t p → Shows w trapframe u (with_page p page s)
+  page_shows : ShowsPages v trapframe t p → ShowsPages w trapframe u (with_page p page s)
   page_shows shows = record {
     on_trampoline =
         let is = shows.on_trampoline in
@@ -174,8 +177,8 @@ module _ (v w : View) (trapframe : ℕ) (t u : Tables) (p : Process) (page : ℕ
     ];
   }
 
-  pub page_stands : (root : ℕ) (before after : ℕ → ℕ) → Stands v root trapframe before t p → HasTables p.scheme w root u → Owns w u after
-      → AreTablesOf p.scheme u (pages.keys p.tabled) → Stands w root trapframe after u (with_page p page s)
+  pub page_stands : (root : ℕ) (before after : ℕ → ℕ) → IsInMemory v root trapframe before t p → HasTables p.scheme w root u → OwnsFrames w u after
+      → AreTablesOf p.scheme u (pages.keys p.tabled) → IsInMemory w root trapframe after u (with_page p page s)
   page_stands root before after stands tables owns tabled = record {
     tables = tables;
     owns = owns;
@@ -205,15 +208,15 @@ page_written v w root trapframe l t p page s f bytes can here changes has =
     let stands = can.agrees.stands in
     let named = inr (here.leaf, here.mapped, here.made.names) in
     let apart = λ (k x g : ℕ) (ne : k ≡ leaf_node page → ⊥) (at : get t.leaves k ≡ Some x) (names : ppn x ≡ ppn_of g) (same : g ≡ f).
-    ne (stands.owns.once g k (leaf_node page) (inr (x, at, names)) (subst (λ y. Names t y (leaf_node page)) (sym same) named)) in
-    let no = no_table v t root nothing stands.tables stands.owns (leaf_node page) here.leaf f here.mapped here.made.names in
+    ne (stands.owns.once g k (leaf_node page) (inr (x, at, names)) (subst (λ y. NamesFrame t y (leaf_node page)) (sym same) named)) in
+    let no = no_table v t root no_extra stands.tables stands.owns (leaf_node page) here.leaf f here.mapped here.made.names in
     record {
       sound = sound_page p page s _ can.settled can.agrees.sound;
       lays = lays_with l p page _ can.agrees.lays;
       stands = page_stands v w trapframe t t p page (record s { bytes = bytes }) here.leaf f here.region here.low (λ k ne. refl) here.mapped here.made here.in_region has
-          (λ k x g ne at names. words_other f v w changes g (apart k x g ne at names)) root nothing nothing stands
+          (λ k x g ne at names. words_other f v w changes g (apart k x g ne at names)) root no_extra no_extra stands
           (same_tables v w root t (λ k g at. words_other f v w changes g (λ same. no k (at ∙ ap Some same))) stands.tables)
-          (same_owns v w t nothing (words_references f v w changes) (words_sole f v w changes) stands.owns)
+          (same_owns v w t no_extra (words_references f v w changes) (words_sole f v w changes) stands.owns)
           stands.tabled;
       credits = ap (λ (x : View). x.credits) changes.1 ∙ can.agrees.credits;
     }
@@ -240,7 +243,7 @@ offset_aligned address width is aligned = elim (cases_eq width 1) [
 ]
 
 -- a change of words reads and takes nothing
-pub words_take : (f : ℕ) (v w : View) → ChangesWords f v w → Takes v w 0 []
+pub words_take : (f : ℕ) (v w : View) → ChangesWords f v w → TakesFrames v w 0 []
 words_take f v w changes = record {
   tallies = ap (λ (x : View). x.tallies) changes.1 ∙ taken_none v.tallies;
 }

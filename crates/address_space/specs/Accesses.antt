@@ -1,4 +1,6 @@
--- What the user asks of memory, as the model has it, and what its walk gives.
+-- Definitions about user accesses: a request in the model's form (`request_of`); the outcome of its walk (`IsWalkOf`), and
+-- whether that is a leaf (`gives_leaf`); and `IsGranted`: the regions grant the access, alignment aside, and its page is
+-- resident (in memory and ready for it).
 use Rattle.std.specs.Prelude.{◌≡◌, ℕ, Bool, true, false, None}
 use Rattle.process_model.specs.Process.{Process, regions}
 use Rattle.process_model.specs.Regions.{copy_rule}
@@ -12,20 +14,21 @@ use Rattle.table_walk.specs.Leaves.{walk_answer}
 use Rattle.table_walk.specs.Tables.{Tables}
 use Rattle.table_walk.specs.declared.walk.Walk.{Walk}
 use Rattle.table_walk.specs.declared.walk.Walk.TheVariants as walk
-use Rattle.address_space.specs.declared.user.Asked.{Asked}
+use Rattle.address_space.specs.declared.user_access.AccessRequest.{AccessRequest}
 
-abbrev pub asked_of : Asked → service.Asked
-asked_of x = record { access = x.access; address = x.va.0; width = x.width; value = x.value }
+-- the model's access request that a request of the code is
+abbrev pub request_of : AccessRequest → service.AccessRequest
+request_of x = record { access = x.access; address = x.va.0; width = x.width; value = x.value }
 
--- what an access of the user is translated to by these tables
-abbrev pub IsWalkOf : Scheme → Tables → Asked → Walk → Type 0
+-- z is the outcome of translating the access of request x in user mode by the tables t
+abbrev pub IsWalkOf : Scheme → Tables → AccessRequest → Walk → Type 0
 IsWalkOf s t x z = z ≡ walk_answer s t x.va.0 x.access User
 
 -- no rule of the process's regions denies the access, alignment aside, and its page is resident for it
 abbrev pub IsGranted : Process → Access → ℕ → Type 0
 IsGranted p access address = (copy_rule p.scheme (regions p) access address ≡ None) × (is_resident p access (page_of address) ≡ true)
 
--- whether the walk of an access comes to a leaf that permits it
+-- whether the outcome of a walk is a leaf, and so one that permits the access
 abbrev pub gives_leaf : Walk → Bool
 gives_leaf (walk.Leaf word level address) = true
 gives_leaf _ = false

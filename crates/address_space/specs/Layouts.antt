@@ -1,4 +1,6 @@
--- The regions of a process, as code has them.
+-- Record `Layout`, the regions of a space as contracts see them, and `LaysOut`: they are those of a process of the model.
+-- Functions from the code's region types to the model's (`region_of`, `source_of`, ..); codings of the model's types by
+-- numbers; filler; the result of a check (`granted_unless`); and the page after the last region of a list.
 use Rattle.std.specs.Prelude.{◌≡◌, ℕ, zero, suc, Bool, List, [], ◌∷◌, Option, None, Some, Result, Ok, Err, refl}
 use Rattle.std.specs.Coded.{Coded, code_by, coded×, coded_ℕ, coded_bool, coded_list}
 use Rattle.process_model.specs.Regions.{Region, RegionKind, end_of, Source, segment, guard, stack, heap, shared_mapping, private_mapping, zeros, image, file}
@@ -26,11 +28,11 @@ source_of from.Zeros = zeros
 source_of from.Image = image
 source_of (from.File n offset) = file n offset
 
--- what stands in a place that no region has
+-- filler for an unused place of a fixed-size list
 abbrev pub no_region : Run
 no_region = record { first = 0; pages = 0; rights = record { 0 = 1 }; kind = kind.Segment; source = from.Zeros }
 
--- a run of pages, as the model has it
+-- the model's region that a region of the code is
 abbrev pub region_of : Run → Region
 region_of r = record {
   first = r.first;
@@ -42,7 +44,7 @@ region_of r = record {
   source = source_of r.source;
 }
 
--- the model's data by numbers
+-- the model's data, coded by numbers
 
 abbrev pub kind_number : RegionKind → ℕ
 kind_number segment = 0
@@ -111,7 +113,7 @@ scheme_back Sv48 = refl
 abbrev pub scheme_code : Coded Scheme
 scheme_code = code_by ℕ coded_ℕ scheme_number scheme_at scheme_back
 
--- the scheme and the regions of a process but its heap, and where that begins and ends
+-- the scheme and the regions of a process, with the heap by the addresses at which it begins and ends
 pub record Layout : Type 0 where
   pub scheme : Scheme
   pub parts : List Region
@@ -126,7 +128,7 @@ layout_code = code_by (Scheme × (List Region × (List Region × (ℕ × ℕ))))
     (λ p. record { scheme = p.0; parts = p.1.0; mappings = p.1.1.0; heap_base = p.1.1.1.0; size = p.1.1.1.1 })
     (λ _. refl)
 
--- a process of the model has these regions
+-- the process p of the model has this scheme and these regions
 pub record LaysOut (l : Layout) (p : Process) : Type 0 where
   pub scheme : p.scheme ≡ l.scheme
   pub parts : p.parts ≡ l.parts
@@ -134,11 +136,12 @@ pub record LaysOut (l : Layout) (p : Process) : Type 0 where
   pub heap_base : p.heap_base ≡ l.heap_base
   pub size : p.size ≡ l.size
 
+-- the result of asking for an access: the rule that denies it as an error, if there is one
 abbrev pub granted_unless : Option Rule → Result (Unit {0}) Rule
 granted_unless None = Ok tt
 granted_unless (Some r) = Err r
 
--- the page after the last region; regions are in ascending order
+-- the page after the last region of a list, `end` if the list is empty
 abbrev pub last_page : ℕ → List Region → ℕ
 last_page end [] = end
 last_page end (r ∷ rs) = last_page (end_of r) rs

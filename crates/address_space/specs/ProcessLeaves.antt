@@ -1,4 +1,6 @@
--- The leaves of a process: their frames are there, and none has G.
+-- Laws of the leaves of a process in memory: each names a frame with a number below 2^16, and none has G. Laws of when a
+-- page's leaf may be written to a table (`page_backed`): the seat (an owner's capability at a frame store) knows every word
+-- of the leaf's frame, and is its sole holder if the leaf has W.
 use Rattle.std.proofs.Common.{◌≡◌, ℕ, ◌-◌, ◌+◌, ◌^◌, ◌<◌, ◌&&◌, nat_le, nat_lt, not, Bool, List, true, false, Some, refl, ap, sym, subst, ◌∙◌, inl, inr, arith}
 use Rattle.std.proofs.lemmas.Option.{same_Some}
 use Rattle.std.specs.Prelude.{is_some}
@@ -12,12 +14,12 @@ use Rattle.sv39_entry.specs.Frame.{frame_at, ppn_of}
 use Rattle.sv39_entry.specs.Word.{ppn}
 use Rattle.sv39_entry.specs.declared.frame.FrameNo.{FrameNo}
 use Rattle.sv39_entry.specs.Schemes.{trampoline_page, trapframe_page}
-use Rattle.table_walk.specs.Backed.{IsBacked}
+use Rattle.table_walk.specs.LeafBacking.{IsBacked}
 use Rattle.table_walk.specs.Leaves.{LeavesAreLocal, LeavesAreThere}
 use Rattle.table_walk.specs.Tables.{Tables, leaf_node, walk_leaf}
-use Rattle.address_space.specs.Agreement.{HasKernelLeaf, IsPageLeaf, IsShown, Shows}
+use Rattle.address_space.specs.Agreement.{HasKernelLeaf, IsPageLeaf, IsShown, ShowsPages}
 
--- a number of 16 bits is that of a frame
+-- each number below 2^16 is that of a frame
 pub frame_is : (f : ℕ) → f < 2 ^ 16 → frame_at (ppn_of f) ≡ Some (record { 0 = f })
 frame_is f small =
     let low : nat_le 524288 (524288 + f) ≡ true = grind arith in
@@ -25,7 +27,8 @@ frame_is f small =
     let back : 524288 + f - 524288 ≡ f = omega arith in
     rw (low, high, back) refl
 
--- the leaf of a page may be written over a frame whose words are known, and that the seat has alone if the leaf has W
+-- a page's leaf may be written to a table (`IsBacked`) if every word of its frame is known, and the seat is the frame's sole
+-- holder if the leaf has W
 
 pub bytes_known : (v : View) (f : ℕ) (bytes : List ℕ) → HasBytes v f bytes → AllKnown v f
 bytes_known v f bytes has i low = has.words i low ∙ ap (λ o. Some (or_zero o)) (sym (has.words i low))
@@ -39,14 +42,14 @@ page_backed v w f r mark dirty made known sole =
       sole = λ user writes g at. subst (IsSole v) (named g at) (sole (sym made.write ∙ writes));
     }
 
--- the frame of a leaf is there, and it has no G
+-- the leaf names a frame, and has no G
 abbrev pub IsUsable : ℕ → Type 0
 IsUsable w = (is_some (frame_at (ppn w)) ≡ true) × (has w 5 ≡ false)
 
 pub usable : (w f : ℕ) → f < 2 ^ 16 → ppn w ≡ ppn_of f → has w 5 ≡ false → IsUsable w
 usable w f small names local = (ap is_some (ap frame_at names ∙ frame_is f small), local)
 
-module _ (v : View) (trapframe : ℕ) (t : Tables) (p : Process) (shows : Shows v trapframe t p) (small : trapframe < 2 ^ 16) where
+module _ (v : View) (trapframe : ℕ) (t : Tables) (p : Process) (shows : ShowsPages v trapframe t p) (small : trapframe < 2 ^ 16) where
   of_kernel : (page f rights k w : ℕ) → f < 2 ^ 16 → HasKernelLeaf t page f rights → k ≡ leaf_node page → get t.leaves k ≡ Some w → IsUsable w
   of_kernel page f rights k w low leaf same found =
       let is : leaf.0 ≡ w = same_Some leaf.0 w (sym leaf.1 ∙ ap (get t.leaves) (sym same) ∙ found) in

@@ -1,4 +1,6 @@
--- Two spaces have the same leaves where their pages are on the same frames, with the same marks, in the same regions.
+-- A law (`leaves_stay`): two spaces have the same leaves if they have one scheme, one trapframe, the same regions and the
+-- same settled pages (those in memory), each page on one frame and with the same marks in both. For it, `same_word`: two
+-- leaves with the same page number and flags are equal.
 use Rattle.std.proofs.Common.{◌≡◌, ℕ, ◌/◌, ◌%◌, ◌^◌, ◌==◌, ◌||◌, Bool, true, false, not, Option, None, Some, refl, ap, sym, subst, ◌∙◌, inl, inr, arith, if◌then◌else◌}
 use Rattle.std.proofs.lemmas.Bool.{cases_eq, eqb-true, eq-eqb}
 use Rattle.std.proofs.lemmas.Option.{same_Some}
@@ -12,11 +14,11 @@ use Rattle.sv39_entry.specs.declared.entry.Kind.{Kind}
 use Rattle.sv39_entry.specs.declared.entry.Kind.TheVariants.{Invalid, Leaf}
 use Rattle.sv39_entry.specs.Schemes.{trampoline_page, trapframe_page}
 use Rattle.table_walk.specs.Tables.{leaf_node, Tables}
-use Rattle.address_space.specs.Agreement.{Body, code_rights, data_rights, HasKernelLeaf, is_dirty_page, IsOn, IsPageLeaf, IsSpace}
+use Rattle.address_space.specs.Agreement.{Body, code_rights, data_rights, HasKernelLeaf, is_dirty_page, IsFrameOfPage, IsPageLeaf, IsSpace}
 
 -- words of leaves
 
--- the frame and the flags of two words are the same
+-- two words have the same page number and the same flags
 pub record HaveSame (w v : ℕ) : Type 0 where
   pub names : ppn w ≡ ppn v
   pub at1 : has w 1 ≡ has v 1
@@ -57,7 +59,7 @@ is_valid : (w : ℕ) → kind_of w ≡ Leaf → has w 0 ≡ true
 unfolding kind_of
 is_valid w kind = valid (has w 0) _ _ (subst (λ (b : Bool). (if b then flags_kind w else Invalid) ≡ Leaf) (upper _ (flags_kind w) kind) kind)
 
--- a leaf is its frame and its flags
+-- two leaves with the same page number and the same flags are equal
 pub same_word : (w v : ℕ) → kind_of w ≡ Leaf → kind_of v ≡ Leaf → HaveSame w v → w ≡ v
 same_word w v kind also same =
     let w_low = is_upper w kind in
@@ -104,13 +106,13 @@ page_same w v f g r mark dirty names a b = record {
   at9 = a.unused ∙ sym b.unused;
 }
 
--- a page was settled before, with the same marks, on the frame that it is on
+-- page n, which is z, was settled before, with the same marks and on the frame that it is on
 pub record WasAlike (t u : Tables) (p : Process) (n : ℕ) (z : Page) : Type 0 where
   pub before : Page
   pub settled : pages.get p.settled n ≡ Some before
   pub fork_mark : z.fork_mark ≡ before.fork_mark
   pub stored_mark : z.stored_mark ≡ before.stored_mark
-  pub on : (f : ℕ) → IsOn u n f → IsOn t n f
+  pub on : (f : ℕ) → IsFrameOfPage u n f → IsFrameOfPage t n f
 
 module _ (x y : Body) (t u : Tables) (p q : Process) (a : IsSpace x t p) (b : IsSpace y u q) (trapframe : y.trapframe ≡ x.trapframe) (same_scheme : q.scheme ≡ p.scheme) (same_regions : regions q ≡ regions p)
     (still : (n : ℕ) (s : Page) → pages.get p.settled n ≡ Some s → (z : Page) × (pages.get q.settled n ≡ Some z)) (was : (n : ℕ) (z : Page) → pages.get q.settled n ≡ Some z → WasAlike t u p n z) where
@@ -150,7 +152,7 @@ module _ (x y : Body) (t u : Tables) (p q : Process) (a : IsSpace x t p) (b : Is
   at_number : (k j : ℕ) → k ≡ j → get u.leaves j ≡ get t.leaves j → get u.leaves k ≡ get t.leaves k
   at_number k j same kept = ap (get u.leaves) same ∙ kept ∙ sym (ap (get t.leaves) same)
 
-  -- every leaf is as it was
+  -- the leaves of u are those of t
   pub leaves_stay : (k : ℕ) → get u.leaves k ≡ get t.leaves k
   leaves_stay k = go (get t.leaves k) refl (get u.leaves k) refl where
     go : (o : Option ℕ) → get t.leaves k ≡ o → (r : Option ℕ) → get u.leaves k ≡ r → get u.leaves k ≡ get t.leaves k

@@ -1,9 +1,12 @@
--- What the calls of a space ask for, and what they do.
+-- Conditions and effects of the calls of `Space`, as predicates: settling a page (bringing it into memory), taking one over
+-- (copy-on-write), reads and writes, the stored mark (D), the end of a space, a change of its regions. Also counts of frames
+-- and credits (reserved frames): credits spent (`SpendsCredits`), frames claimed and reference counts read (`TakesFrames`),
+-- a call that claimed none for want of free frames (`RunsDry`), and how many taking over needs.
 use Rattle.std.specs.Prelude.{◌≡◌, ◌≢◌, ℕ, true, false, not, ◌==◌, ◌+◌, ◌-◌, ◌%◌, ◌<◌, None, Option, Some, List, [], option_to_list}
 use Rattle.std.specs.Prelude.{◌∷◌, ◌++◌}
 use Rattle.frame_store.specs.View.{hold_of, spent, taken, View, IsSole, references}
 use Rattle.process_model.specs.Bytes.{low_bytes, padded}
-use Rattle.process_model.specs.Frames.{part_need, settle_need}
+use Rattle.process_model.specs.Frames.{take_over_need, settle_need}
 use Rattle.process_model.specs.Mappings.{with_instead, with_mapping}
 use Rattle.process_model.specs.Order.{HasOrder}
 use Rattle.process_model.specs.PageMap as pages
@@ -13,19 +16,20 @@ use Rattle.process_model.specs.Residence.{marked_stored, region_on, stored, unma
 use Rattle.sv39_entry.specs.Address.{page_of}
 use Rattle.sv39_entry.specs.Schemes.{trapframe_page}
 use Rattle.table_walk.specs.Tables.{Tables, missing}
-use Rattle.address_space.specs.Agreement.{Body, IsSpace, IsOn, nothing, OthersKeep, Stands}
-use Rattle.address_space.specs.Standing.{IsAt, standing}
+use Rattle.address_space.specs.Agreement.{Body, IsSpace, IsFrameOfPage, no_extra, KeepsOtherLeaves, IsInMemory}
+use Rattle.address_space.specs.SpacesInCalls.{HasSettledPage, space_in_call}
 
--- so many credits became frames, and no count was read
-pub record Spends (v w : View) (n : ℕ) : Type 0 where
+-- n credits became claimed frames, and no other tally changed
+pub record SpendsCredits (v w : View) (n : ℕ) : Type 0 where
   pub credits : w.credits ≡ v.credits - n
   pub tallies : w.tallies ≡ spent n v.tallies
 
--- so many free frames were taken, and these counts were read
-pub record Takes (v w : View) (n : ℕ) (counts : List ℕ) : Type 0 where
+-- n frames were claimed and exactly these reference counts were read; the other tallies are as before
+pub record TakesFrames (v w : View) (n : ℕ) (counts : List ℕ) : Type 0 where
   pub tallies : w.tallies ≡ taken n counts v.tallies
 
--- no frame was taken: the free number was read as 0 while fewer than n credits were reserved, after these counts were read
+-- a call that needs n frames claimed none: the free count was read as 0 while fewer than n credits were reserved; exactly
+-- these reference counts were read
 pub record RunsDry (v w : View) (n : ℕ) (counts : List ℕ) : Type 0 where
   pub claims : w.tallies.claims ≡ v.tallies.claims
   pub zeros : v.tallies.zeros < w.tallies.zeros
@@ -34,57 +38,60 @@ pub record RunsDry (v w : View) (n : ℕ) (counts : List ℕ) : Type 0 where
 
 -- a page is settled
 
--- a page of a region that has no frame yet
+-- the process p is in memory, and `page` is unsettled, below TRAPFRAME, and in region r, which can have leaves
 pub record CanAdd (v : View) (root trapframe : ℕ) (t : Tables) (p : Process) (page : ℕ) (r : Region) : Type 0 where
-  pub stands : Stands v root trapframe nothing t p
+  pub stands : IsInMemory v root trapframe no_extra t p
   pub unsettled : pages.get p.settled page ≡ None
   pub in_region : region_at (regions p) page ≡ Some r
   pub leafy : makes_leaf r ≡ true
   pub low : page < (trapframe_page p.scheme)
 
--- the process with one more page, of these bytes with zeros behind them
+-- the process with one more settled page: these bytes and zeros after them, copy number `fresh`, no mark
 abbrev pub settled_with : ℕ → List ℕ → Process → ℕ → Process
 settled_with fresh bytes p page = record p {
   settled = pages.insert p.settled page (record { bytes = padded 4096 bytes; copy = fresh; fork_mark = false; stored_mark = false });
   tabled = pages.insert p.tabled page tt;
 }
 
--- the page stands on a frame that was not held before
-pub record Adds (v w : View) (root trapframe : ℕ) (t u : Tables) (p : Process) (page : ℕ) (bytes : List ℕ) (f : ℕ) : Type 0 where
-  pub stands : (fresh : ℕ) → Stands w root trapframe nothing u (settled_with fresh bytes p page)
-  pub on : IsOn u page f
+-- the page is settled on frame f, which the seat did not hold before and is sole holder of; every other page keeps its leaf,
+-- and a credit was spent for the frame and for each missing table
+pub record AddsPage (v w : View) (root trapframe : ℕ) (t u : Tables) (p : Process) (page : ℕ) (bytes : List ℕ) (f : ℕ) : Type 0 where
+  pub stands : (fresh : ℕ) → IsInMemory w root trapframe no_extra u (settled_with fresh bytes p page)
+  pub on : IsFrameOfPage u page f
   pub fresh : references v f ≡ 0
   pub sole : IsSole w f
-  pub others : OthersKeep t u page
+  pub others : KeepsOtherLeaves t u page
   pub saved : hold_of w trapframe ≡ hold_of v trapframe
-  pub spends : Spends v w (1 + missing p.scheme t page)
+  pub spends : SpendsCredits v w (1 + missing p.scheme t page)
 
--- any page of a region that is not settled yet
+-- the space x is the process p, and `page` is unsettled, in one of its regions
 pub record CanSettle (x : Body) (t : Tables) (p : Process) (page : ℕ) : Type 0 where
   pub agrees : IsSpace x t p
   pub unsettled : pages.get p.settled page ≡ None
   pub region : Region
   pub in_region : region_at (regions p) page ≡ Some region
 
+-- the space is the process with the page settled on frame f, which the seat did not hold before and is sole holder of; every
+-- other page keeps its leaf, and `settle_need` frames were claimed
 pub record Settles (v : View) (x : Body) (t u : Tables) (p : Process) (page : ℕ) (bytes : List ℕ) (f : ℕ) : Type 0 where
   pub agrees : (fresh : ℕ) → IsSpace x u (settled_with fresh bytes p page)
-  pub on : IsOn u page f
+  pub on : IsFrameOfPage u page f
   pub fresh : references v f ≡ 0
   pub sole : IsSole x.view f
-  pub others : OthersKeep t u page
-  pub takes : Takes v x.view (settle_need p page) []
+  pub others : KeepsOtherLeaves t u page
+  pub takes : TakesFrames v x.view (settle_need p page) []
 
--- what `settle` does where it is not refused
+-- what `settle` does if it is not refused, for each process that the space is
 abbrev pub HasSettled : Body → Body → ℕ → List ℕ → Type 0
 HasSettled x y page bytes = (t : Tables) (p : Process) → CanSettle x t p page → (u : Tables) × (f : ℕ) × Settles x.view y t u p page bytes f
 
--- a page is made the process's own
+-- a page with the fork mark is taken over
 
--- how many frames it takes, by the count of the one that it has
+-- how many frames taking over takes, by the reference count of the page's frame: none at 1, else one
 abbrev pub own_need : ℕ → ℕ
-own_need count = part_need (not (count == 1))
+own_need count = take_over_need (not (count == 1))
 
--- a settled page with a fork mark
+-- the space x is the process p, and its page s is settled, on frame f, with the fork mark, in a region that grants writing
 pub record CanOwn (x : Body) (t : Tables) (p : Process) (page : ℕ) (s : Page) (f : ℕ) : Type 0 where
   pub agrees : IsSpace x t p
   pub settled : pages.get p.settled page ≡ Some s
@@ -92,37 +99,40 @@ pub record CanOwn (x : Body) (t : Tables) (p : Process) (page : ℕ) (s : Page) 
   pub region : Region
   pub in_region : region_at (regions p) page ≡ Some region
   pub writes : region.writes ≡ true
-  pub on : IsOn t page f
+  pub on : IsFrameOfPage t page f
 
--- where the count that was read was 1 the page keeps its frame; else it stands on another one, with the same bytes
-pub record Owned (v : View) (x : Body) (t u : Tables) (p : Process) (page : ℕ) (s : Page) (f g c : ℕ) : Type 0 where
+-- the page has no fork mark, and is on a frame g that the seat is sole holder of: frame f if the count c that was read is 1,
+-- else a newly claimed frame with the same bytes. Every other page keeps its leaf
+pub record HasOwnPage (v : View) (x : Body) (t u : Tables) (p : Process) (page : ℕ) (s : Page) (f g c : ℕ) : Type 0 where
   pub agrees : (fresh : ℕ) → IsSpace x u (with_page p page (unmarked fresh (not (c == 1)) s))
-  pub on : IsOn u page g
+  pub on : IsFrameOfPage u page g
   pub same : c ≡ 1 → g ≡ f
   pub fresh : c ≢ 1 → references v g ≡ 0
   pub sole : IsSole x.view g
-  pub others : OthersKeep t u page
-  pub takes : Takes v x.view (own_need c) (c ∷ [])
+  pub others : KeepsOtherLeaves t u page
+  pub takes : TakesFrames v x.view (own_need c) (c ∷ [])
 
--- of each frame that the page may be on
-abbrev pub WhenOwned : Body → ℕ → (ℕ → Type 0) → Type 0
-WhenOwned x page P = (t : Tables) (p : Process) (s : Page) (f : ℕ) → CanOwn x t p page s f → P f
+-- P holds of the frame of the page, if the page can be taken over
+abbrev pub WhenOwnable : Body → ℕ → (ℕ → Type 0) → Type 0
+WhenOwnable x page P = (t : Tables) (p : Process) (s : Page) (f : ℕ) → CanOwn x t p page s f → P f
 
--- what `own` does where it is not refused; the count that it reads is told
+-- what `own` does if it is not refused, for each process that the space is; IsCount holds of the page's frame and the count
+-- that was read
 abbrev pub HasOwned : Body → Body → ℕ → (ℕ → ℕ → Type 0) → Type 0
 HasOwned x y page IsCount = (t : Tables) (p : Process) (s : Page) (f : ℕ) → CanOwn x t p page s f
-    → (u : Tables) × (g c : ℕ) × Owned x.view y t u p page s f g c × IsCount f c
+    → (u : Tables) × (g c : ℕ) × HasOwnPage x.view y t u p page s f g c × IsCount f c
 
 -- a page is read and written
 
+-- the space x is the process p, and its page s is settled
 pub record CanRead (x : Body) (t : Tables) (p : Process) (page : ℕ) (s : Page) : Type 0 where
   pub agrees : IsSpace x t p
   pub settled : pages.get p.settled page ≡ Some s
 
-pub at_page : {x : Body} {t : Tables} {p : Process} {page : ℕ} {s : Page} → CanRead x t p page s → IsAt x t p page s
-at_page can = record { standing = standing can.agrees; settled = can.settled }
+pub at_page : {x : Body} {t : Tables} {p : Process} {page : ℕ} {s : Page} → CanRead x t p page s → HasSettledPage x t p page s
+at_page can = record { standing = space_in_call can.agrees; settled = can.settled }
 
--- no other process has the page, and its region grants writing
+-- the page is settled, without fork mark, and in a region that grants writing
 pub record CanWrite (x : Body) (t : Tables) (p : Process) (page : ℕ) (s : Page) : Type 0 where
   pub read : CanRead x t p page s
   pub unmarked : s.fork_mark ≡ false
@@ -130,66 +140,70 @@ pub record CanWrite (x : Body) (t : Tables) (p : Process) (page : ℕ) (s : Page
   pub in_region : region_at (regions p) page ≡ Some region
   pub writes : region.writes ≡ true
 
--- the process after a value was stored to a page of it
+-- the process after a store to its settled page s: the `width` lowest bytes of a value, at an address of the page
 abbrev pub stored_at : Process → Page → ℕ → ℕ → ℕ → Process
 stored_at p s address width value = with_page p (page_of address) (stored s (address % 4096) (low_bytes value width))
 
--- a value was stored to a page, where that is on a frame that is told
+-- what a store to a settled page does, for each process that the space is, if OnFrame holds of its tables: if the page is on
+-- the frame that the caller has
 abbrev pub HasStored : Body → Body → ℕ → ℕ → ℕ → (Tables → Type 0) → Type 0
 HasStored x y address width value OnFrame = (t : Tables) (p : Process) (s : Page) → CanWrite x t p (page_of address) s → OnFrame t
     → IsSpace y t (stored_at p s address width value)
 
--- a page gets the stored mark, where stores go back to a file
+-- a page gets the stored mark, if its stores are written back to a file
 
-pub record Marks (v : View) (x : Body) (t u : Tables) (p : Process) (page : ℕ) (s : Page) : Type 0 where
+-- the page has the stored mark if its stores are written back to a file; it keeps its frame, and every other page its leaf
+pub record MarksStored (v : View) (x : Body) (t u : Tables) (p : Process) (page : ℕ) (s : Page) : Type 0 where
   pub agrees : IsSpace x u (with_page p page (marked_stored (region_on p page) s))
   -- on the frame that it had
-  pub on : (f : ℕ) → IsOn t page f → IsOn u page f
-  pub others : OthersKeep t u page
-  pub takes : Takes v x.view 0 []
+  pub on : (f : ℕ) → IsFrameOfPage t page f → IsFrameOfPage u page f
+  pub others : KeepsOtherLeaves t u page
+  pub takes : TakesFrames v x.view 0 []
 
 -- a space ends
 
--- the seat holds nothing
+-- the seat holds no frame and has no credits
 pub record IsBare (v : View) : Type 0 where
   pub none : (f : ℕ) → references v f ≡ 0
   pub credits : v.credits ≡ 0
 
 -- regions change
 
--- leaves of the one region are as those of the other
-pub record LeafLike (r s : Region) : Type 0 where
+-- pages of region s have the leaves that they would have in region r: the rights are the same, and both are guards or none
+-- is, both shared mappings or none
+pub record HasSameLeafRights (r s : Region) : Type 0 where
   pub reads : s.reads ≡ r.reads
   pub writes : s.writes ≡ r.writes
   pub executes : s.executes ≡ r.executes
   pub guard : is_guard_kind s.kind ≡ is_guard_kind r.kind
   pub shared : is_shared_kind s.kind ≡ is_shared_kind r.kind
 
--- each settled page of the one process is in a region of the other that makes the leaf that it has
+-- each settled page of p that has a region has one in q too, with the same leaves
 abbrev pub KeepsLeaves : Process → Process → Type 0
 KeepsLeaves p q = (n : ℕ) (s : Page) (r : Region) → pages.get p.settled n ≡ Some s → region_at (regions p) n ≡ Some r
-    → (x : Region) × (region_at (regions q) n ≡ Some x) × LeafLike r x
+    → (x : Region) × (region_at (regions q) n ≡ Some x) × HasSameLeafRights r x
 
--- the heap ends elsewhere
+-- the process with this size
 abbrev pub sized : Process → ℕ → Process
 sized p size = record p { size = size }
 
--- a mapping comes
+-- the process with one more mapping, in its place by address
 abbrev pub mapped_with : Process → Region → Process
 mapped_with p r = record p { mappings = with_mapping r p.mappings }
 
--- what is left of the mapping that begins at a page stands in its place
+-- the process with `rest`, or nothing, in place of the mapping that begins at page `first`
 abbrev pub left_with : Process → ℕ → Option Region → Process
 left_with p first rest = record p { mappings = with_instead p.mappings first (option_to_list rest) }
 
--- regions in place of those of a process: other runs of pages, under the same settled pages
-pub record CanRelay (p q : Process) : Type 0 where
+-- q may replace p in a space: it has the same pages and scheme, its regions are in order, and each settled page is in a
+-- region that makes the leaf that it has
+pub record CanReplaceLayout (p q : Process) : Type 0 where
   pub settled : q.settled ≡ p.settled
   pub tabled : q.tabled ≡ p.tabled
   pub scheme : q.scheme ≡ p.scheme
   pub order : HasOrder 0 q
   pub leaves : KeepsLeaves p q
 
--- the regions of a process became others
-abbrev pub HasRelaid : Body → Body → (Process → Process) → Type 0
-HasRelaid x y other = (t : Tables) (p : Process) → IsSpace x t p → CanRelay p (other p) → IsSpace y t (other p)
+-- if the regions of `other p` may replace those of p, the space that was p is `other p`
+abbrev pub HasReplacedLayout : Body → Body → (Process → Process) → Type 0
+HasReplacedLayout x y other = (t : Tables) (p : Process) → IsSpace x t p → CanReplaceLayout p (other p) → IsSpace y t (other p)

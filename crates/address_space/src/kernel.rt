@@ -1,10 +1,12 @@
-// The page table of the kernel.
+// Struct `KernelTable`, the kernel's page table (the xv6 book, "Kernel address space"). `build` maps each frame at its own
+// address, the trampoline, and a stack for each slot (place in the process table); `translate` walks the table for an access
+// of the kernel. Also `leaf_for_kernel`, the leaf by which the table maps a frame.
 
 ghost use Rattle.std.specs.Prelude.{[], ◌≡◌, ◌+◌, ◌-◌, ◌<◌, ◌≤◌, ◌↔◌, true, false, if◌then◌else◌, IfErr, IfOk, is_ok, IsOk, length, List, ℕ};
-ghost use Rattle.address_space.specs.Agreement.{HoldsTrampoline, code_rights};
-ghost use Rattle.address_space.specs.Kernel.{direct_tables, frame_rights, IsKernelTable, kernel_walk, MapsKernel, stack_page};
-ghost use Rattle.address_space.specs.Steps.{Spends};
-ghost use Rattle.frame_store.specs.Laws.{Fits, IsDry, Keeps};
+ghost use Rattle.address_space.specs.Agreement.{HoldsTrampoline};
+ghost use Rattle.address_space.specs.Kernel.{direct_tables, frame_rights, IsKernelTable, kernel_walk, MapsKernel};
+ghost use Rattle.address_space.specs.Steps.{SpendsCredits};
+ghost use Rattle.frame_store.specs.Laws.{IsSeatOf, IsDry, KeepsSeats};
 ghost use Rattle.frame_store.specs.View.{references, spent};
 ghost use Rattle.process_model.specs.Frames as model;
 ghost use Rattle.sv39_entry.specs.Word.{IsLeafOf, kind_of, leaf_word};
@@ -18,19 +20,26 @@ use process_model::kernel_frames;
 use sv39_entry::{Access, Entry, FrameNo, Mode, Rights, Scheme, Va};
 use table_walk::{HeldWords, Walk, map, new_table, one_outcome, translate, walks_of_tables};
 
-/// The page table of the kernel (the xv6 book, "Kernel address space"), without devices: each frame of the memory at its
-/// own address, the trampoline, and a stack for each slot. It never changes, and it owns its seat.
+/// The kernel's page table (the xv6 book, "Kernel address space"), without devices: each frame of the memory at its own
+/// address, the trampoline, and a stack for each slot. It does not change once it is built. It owns its seat.
 #[derive(Drop)]
 pub struct KernelTable<S: FrameSeat> {
     pub seat: S,
+    /// The frame of the root page table.
     pub root: FrameNo,
     /// The scheme by which the table is walked; a machine's processes have it too.
     pub scheme: Scheme,
 }
 
 impl<S: FrameSeat> KernelTable<S> {
-    /// The table of a memory of so many frames, with so many stacks, by a seat that holds frame 0 once. All that it takes is
-    /// reserved at once, before anything is built; where too few frames are free, the seat comes back.
+    /// Builds the table of a memory of `frames` frames, 16 to 1,024, with a stack for each of `slots` slots, 1 to 64. The
+    /// seat must hold frame 0 once, no other frame, and no credits. All frames that the table takes are reserved before
+    /// anything is built: `kernel_frames` - 1, since frame 0 is held.
+    ///
+    /// # Errors
+    /// `NoFrame`, with the seat, whose frames and credits are unchanged. If nobody else changes the store (`alone`):
+    /// exactly when fewer frames are free than the table takes. Over shared frames: only after the free count was read as 0
+    /// with fewer than these reserved.
     pub fn build<F: FrameSupply<Seat = S>>(
         store: &mut F,
         seat: S,
@@ -38,7 +47,7 @@ impl<S: FrameSeat> KernelTable<S> {
         frames: u16,
         slots: u16,
     ) -> Result<KernelTable<S>, (NoFrame, S)>
-        requires fits { Fits F.rule store.old seat }
+        requires fits { IsSeatOf F.rule store.old seat }
         requires opening { HoldsTrampoline (S.view seat) }
         requires some_frames { 16 ≤ frames }
         requires few_frames { frames ≤ 1024 }
@@ -50,8 +59,8 @@ impl<S: FrameSeat> KernelTable<S> {
         ensures dry { IfErr result (λ e. IsDry (model.kernel_frames scheme frames slots - 1) (S.view seat) (S.view e.1)) }
         ensures exact { F.alone → IsOk result ↔ (model.kernel_frames scheme frames slots - 1 ≤ F.free store.old) }
         ensures free { F.alone → F.free store.new ≡ F.free store.old - (if is_ok result then model.kernel_frames scheme frames slots - 1 else 0) }
-        ensures keeps { IfOk result (λ k. Keeps F.rule store.old seat store.new k.seat) }
-        ensures keeps_dry { IfErr result (λ e. Keeps F.rule store.old seat store.new e.1) }
+        ensures keeps { IfOk result (λ k. KeepsSeats F.rule store.old seat store.new k.seat) }
+        ensures keeps_dry { IfErr result (λ e. KeepsSeats F.rule store.old seat store.new e.1) }
     {
         let mut seat = seat;
         if let Err(refusal) = store.reserve(&mut seat, need(scheme, frames, slots)) {
@@ -63,21 +72,22 @@ impl<S: FrameSeat> KernelTable<S> {
         Ok(KernelTable { seat, root, scheme })
     }
 
-    /// What the kernel's access to an address leads to.
+    /// Translates an access of the kernel, in supervisor mode: `Leaf`, at level 0, if the page is mapped with the right that
+    /// the access needs, else `PageFault` with the access's page-fault cause. Never `AccessFault`.
     pub fn translate<F: FrameAccess<Seat = S>>(
         &mut self,
         store: &mut F,
         va: Va,
         access: Access,
     ) -> Walk
-        requires fits { Fits F.rule store.old self.old.seat }
+        requires fits { IsSeatOf F.rule store.old self.old.seat }
         requires built { (frames slots : ℕ) × (stacks : List ℕ) × (t : Tables) × IsKernelTable self.old.scheme (S.view self.old.seat) self.old.root.0 frames slots stacks t }
         ensures walk { (frames slots : ℕ) (stacks : List ℕ) (t : Tables) → IsKernelTable self.old.scheme (S.view self.old.seat) self.old.root.0 frames slots stacks t → result ≡ kernel_walk self.old.scheme frames stacks va.0 access }
         ensures view { S.view self.new.seat ≡ S.view self.old.seat }
         ensures root { self.new.root ≡ self.old.root }
         ensures scheme { self.new.scheme ≡ self.old.scheme }
         ensures same { store.new ≡ store.old }
-        ensures keeps { Keeps F.rule store.old self.old.seat store.new self.new.seat }
+        ensures keeps { KeepsSeats F.rule store.old self.old.seat store.new self.new.seat }
     {
         walks_of_tables();
         one_outcome();
@@ -96,7 +106,7 @@ impl<S: FrameSeat> KernelTable<S> {
     }
 }
 
-/// How many free frames the table takes: all that the kernel takes, but frame 0, which is there.
+/// Returns how many frames the table takes: all frames of the kernel but frame 0, which its seat holds already.
 fn need(scheme: Scheme, frames: u16, slots: u16) -> usize
     requires few { slots ≤ 64 }
     ensures { result ≡ model.kernel_frames scheme frames slots - 1 }
@@ -104,7 +114,8 @@ fn need(scheme: Scheme, frames: u16, slots: u16) -> usize
     kernel_frames(scheme, usize::from(frames), usize::from(slots)) - 1
 }
 
-/// The leaf of a frame, for the kernel alone. Frame 0 has the trampoline's code, which nothing may write.
+/// Returns the leaf by which the kernel's table maps a frame: U and G clear, A set. Frame 0, which has the trampoline's
+/// code, may be read and executed, any other frame read and written (with D set).
 pub fn leaf_for_kernel(frame: FrameNo) -> Entry
     ensures made { IsLeafOf result frame.0 (frame_rights frame.0) false false true }
     ensures word { result ≡ leaf_word frame.0 (frame_rights frame.0) false false true }
@@ -119,15 +130,15 @@ pub fn leaf_for_kernel(frame: FrameNo) -> Entry
     Entry::leaf(frame, rights, false, false, true)
 }
 
-/// A root that maps the trampoline, of a credit for each level.
+/// Makes a root table that maps the trampoline, by one credit for each level.
 fn new_root<F: FrameSupply>(store: &mut F, seat: &mut F::Seat, scheme: Scheme) -> FrameNo
-    requires fits { Fits F.rule store.old seat.old }
+    requires fits { IsSeatOf F.rule store.old seat.old }
     requires once { references (F.Seat.view seat.old) 0 ≡ 1 }
     requires bare { (f : ℕ) → (f ≡ 0 → ⊥) → references (F.Seat.view seat.old) f ≡ 0 }
     requires credits { 1 + top_level scheme ≤ (F.Seat.view seat.old).credits }
     ensures mapped { (t : Tables) × MapsKernel scheme (F.Seat.view seat.new) result.0 0 [] t }
-    ensures spends { Spends (F.Seat.view seat.old) (F.Seat.view seat.new) (1 + top_level scheme) }
-    ensures keeps { Keeps F.rule store.old seat.old store.new seat.new }
+    ensures spends { SpendsCredits (F.Seat.view seat.old) (F.Seat.view seat.new) (1 + top_level scheme) }
+    ensures keeps { KeepsSeats F.rule store.old seat.old store.new seat.new }
     ensures free { F.alone → F.free store.new ≡ F.free store.old }
 {
     let root = new_table(store, seat);
@@ -142,7 +153,7 @@ fn new_root<F: FrameSupply>(store: &mut F, seat: &mut F::Seat, scheme: Scheme) -
     root
 }
 
-/// Gives each slot a stack, of a credit.
+/// Maps a new stack for each slot, by one credit each.
 fn map_stacks<F: FrameSupply>(
     store: &mut F,
     seat: &mut F::Seat,
@@ -150,12 +161,12 @@ fn map_stacks<F: FrameSupply>(
     root: FrameNo,
     slots: u16,
 )
-    requires fits { Fits F.rule store.old seat.old }
+    requires fits { IsSeatOf F.rule store.old seat.old }
     requires few { slots ≤ 64 }
     requires ready { (t : Tables) × MapsKernel scheme (F.Seat.view seat.old) root.0 0 [] t × (slots ≤ (F.Seat.view seat.old).credits) }
     ensures mapped { (t : Tables) → MapsKernel scheme (F.Seat.view seat.old) root.0 0 [] t → (stacks : List ℕ) × (u : Tables) × MapsKernel scheme (F.Seat.view seat.new) root.0 0 stacks u × (length stacks ≡ slots) }
-    ensures spends { Spends (F.Seat.view seat.old) (F.Seat.view seat.new) slots }
-    ensures keeps { Keeps F.rule store.old seat.old store.new seat.new }
+    ensures spends { SpendsCredits (F.Seat.view seat.old) (F.Seat.view seat.new) slots }
+    ensures keeps { KeepsSeats F.rule store.old seat.old store.new seat.new }
     ensures free { F.alone → F.free store.new ≡ F.free store.old }
 {
     for slot in 0..slots {
@@ -171,7 +182,7 @@ fn map_stacks<F: FrameSupply>(
     }
 }
 
-/// Maps each frame at its own address. The tables that this takes are made of credits.
+/// Maps each frame at its own address, by a credit for each table that this adds.
 fn map_frames<F: FrameSupply>(
     store: &mut F,
     seat: &mut F::Seat,
@@ -179,12 +190,12 @@ fn map_frames<F: FrameSupply>(
     root: FrameNo,
     frames: u16,
 )
-    requires fits { Fits F.rule store.old seat.old }
+    requires fits { IsSeatOf F.rule store.old seat.old }
     requires few { frames ≤ 1024 }
     requires ready { (stacks : List ℕ) × (t : Tables) × MapsKernel scheme (F.Seat.view seat.old) root.0 0 stacks t × (direct_tables scheme frames ≤ (F.Seat.view seat.old).credits) }
     ensures mapped { (stacks : List ℕ) (t : Tables) → MapsKernel scheme (F.Seat.view seat.old) root.0 0 stacks t → (u : Tables) × MapsKernel scheme (F.Seat.view seat.new) root.0 frames stacks u }
-    ensures spends { Spends (F.Seat.view seat.old) (F.Seat.view seat.new) (direct_tables scheme frames) }
-    ensures keeps { Keeps F.rule store.old seat.old store.new seat.new }
+    ensures spends { SpendsCredits (F.Seat.view seat.old) (F.Seat.view seat.new) (direct_tables scheme frames) }
+    ensures keeps { KeepsSeats F.rule store.old seat.old store.new seat.new }
     ensures free { F.alone → F.free store.new ≡ F.free store.old }
 {
     for number in 0..frames {

@@ -1,4 +1,7 @@
-// The regions of a process.
+// Struct `Layout`: the scheme (Sv39 or Sv48) and the regions of a process: parts (segments, guard, stack), the heap by its
+// two ends, and mappings. Calls make, copy and change it, and return the region of a page, the heap as a region, and the end
+// of all regions. `grant` and `copy_rule` return the first rule (reason) that denies a user access or a kernel copy (copyin,
+// copyout).
 
 ghost use Rattle.std.specs.Prelude.{[], ◌≡◌, ◌+◌, ◌*◌, ◌<◌, ◌≤◌, All, length, map, nat_le, not, option_map, option_to_list, ◌==◌, ℕ, Some};
 ghost use Rattle.std.specs.List.{prefix_len};
@@ -18,7 +21,8 @@ use bitflags::Flags;
 use std::marker::Model;
 use sv39_entry::{Access, PAGE_SIZE, Rights, Rule, Scheme, Va};
 
-/// The scheme of translation; segments, guard and stack, mappings, and where the heap begins and ends.
+/// The scheme of translation and the regions of a process: its parts (segments, guard and stack), at most 18; its mappings,
+/// at most 16; and the addresses at which the heap begins and ends.
 #[derive(Drop)]
 pub struct Layout {
     scheme: Scheme,
@@ -40,8 +44,8 @@ impl Model for Layout {
 }
 
 impl Layout {
-    /// The regions of a process that begins: its parts, in ascending order, with an empty heap at the end of the last of
-    /// them.
+    /// Returns the layout of a process that starts: these parts in this order, no mapping, and an empty heap at the end of
+    /// the last part (at address 0 if there are no parts). There are at most 18 parts, and each ends at TRAPFRAME or below.
     pub fn new(scheme: Scheme, parts: &[Part]) -> Layout
         requires few { length parts.now ≤ 18 }
         requires low { All (λ p. p.region.first + p.region.pages ≤ trapframe_page scheme) parts.now }
@@ -66,7 +70,7 @@ impl Layout {
         }
     }
 
-    /// Ends the heap at another address.
+    /// Sets the size in bytes, the address at which the heap ends.
     pub(crate) fn set_size(&mut self, size: u64)
         ensures scheme { self.new.scheme ≡ self.old.scheme }
         ensures parts { self.new.parts ≡ self.old.parts }
@@ -77,7 +81,7 @@ impl Layout {
         self.size = size;
     }
 
-    /// Adds a mapping, in its place by address. There has to be room for one more.
+    /// Adds a mapping, in its place by address, to fewer than 16.
     pub(crate) fn add_mapping(&mut self, mapping: Region)
         requires few { length self.old.mappings < most_mappings }
         ensures scheme { self.new.scheme ≡ self.old.scheme }
@@ -90,7 +94,8 @@ impl Layout {
         self.mappings.insert(place, mapping);
     }
 
-    /// Puts what is left of a mapping in the place of the one that begins at a page; where nothing is left, that one goes.
+    /// Puts `rest` in place of the mapping whose first page is `first`, or removes that mapping if `rest` is `None`. Without
+    /// such a mapping nothing changes.
     pub(crate) fn replace_mapping(&mut self, first: u64, rest: Option<Region>)
         ensures scheme { self.new.scheme ≡ self.old.scheme }
         ensures parts { self.new.parts ≡ self.old.parts }
@@ -109,35 +114,35 @@ impl Layout {
         self.mappings[place] = region;
     }
 
-    /// The mappings, in ascending order.
+    /// Returns the mappings as a slice. In the layout of a space that is a process they are in ascending order of address.
     pub fn mappings(&self) -> &[Region]
         ensures { map region_of result.now ≡ self.now.mappings }
     {
         self.mappings.as_slice()
     }
 
-    /// The scheme of translation of the process.
+    /// Returns the process's scheme of translation.
     pub fn scheme(&self) -> Scheme
         ensures { result ≡ self.now.scheme }
     {
         self.scheme
     }
 
-    /// Where the heap ends, in bytes.
+    /// Returns the size in bytes: the address at which the heap ends.
     pub fn size(&self) -> u64
         ensures { result ≡ self.now.size }
     {
         self.size
     }
 
-    /// Where the heap begins, in bytes.
+    /// Returns the address at which the heap begins.
     pub fn heap_base(&self) -> u64
         ensures { result ≡ self.now.heap_base }
     {
         self.heap_base
     }
 
-    /// The same regions once more, for a child.
+    /// Returns an equal layout, for a child.
     pub fn copied(&self) -> Layout
         ensures { result ≡ self.now }
     {
@@ -150,7 +155,7 @@ impl Layout {
         }
     }
 
-    /// The region that holds a page.
+    /// Returns the region that holds the page with this number, a part, the heap or a mapping; `None` if none does.
     pub fn region_at(&self, page: u64) -> Option<Region>
         ensures { (p : Process) → LaysOut self.now p → option_map region_of result ≡ model.region_at (regions p) page }
     {
@@ -164,7 +169,8 @@ impl Layout {
         find_region(&self.mappings, page)
     }
 
-    /// The pages from the heap base up to the size rounded up.
+    /// Returns the heap as a region: the pages from the heap base up to the size rounded up. It may be read and written, and
+    /// begins as zeros.
     pub fn heap(&self) -> Region
         ensures { (p : Process) → LaysOut self.now p → region_of result ≡ heap_of p }
     {
@@ -180,7 +186,8 @@ impl Layout {
         }
     }
 
-    /// The number of a page from which on no region has any: where the heap ends, or TRAPFRAME's where there are mappings.
+    /// Returns a page number that is above every page of every region, if the regions are in order, and at most
+    /// TRAPFRAME's: the heap's end, rounded up to whole pages, if there is no mapping, else TRAPFRAME's.
     pub fn end(&self) -> u64
         ensures low { (p : Process) → LaysOut self.now p → HasOrder 0 p → result ≤ trapframe_page p.scheme }
         ensures end { (p : Process) → LaysOut self.now p → HasOrder 0 p → (n : ℕ) (r : model.Region) → model.region_at (regions p) n ≡ Some r → n < result }
@@ -192,7 +199,9 @@ impl Layout {
         }
     }
 
-    /// The first rule that denies a kernel copy at an address.
+    /// Returns the first rule that denies a kernel copy (copyin, copyout) this access at `va`, `None` if none does:
+    /// `BeyondMax`, `KernelPage`, `GuardPage`, `NoRegion`, or `NoExec`, `NoRead` or `NoWrite`, by the access. Alignment
+    /// does not matter.
     pub fn copy_rule(&self, access: Access, va: Va) -> Option<Rule>
         ensures { (p : Process) → LaysOut self.now p → result ≡ model.copy_rule p.scheme (regions p) access va.0 }
     {
@@ -216,7 +225,11 @@ impl Layout {
         None
     }
 
-    /// Whether the user may make an access, or the first rule that denies it. `width` is in bytes.
+    /// Checks by the regions whether the user may make an access of `width` bytes, which is not 0, at `va`.
+    ///
+    /// # Errors
+    /// Exactly when a rule of the regions denies the access: the first such rule. It is `Misaligned` if `va` is no multiple
+    /// of `width`, else the rule that `copy_rule` returns.
     pub fn grant(&self, access: Access, va: Va, width: u64) -> Result<(), Rule>
         requires { 0 < width }
         ensures { (p : Process) → LaysOut self.now p → result ≡ granted_unless (model.first_rule p.scheme (regions p) access va.0 width) }
@@ -231,7 +244,7 @@ impl Layout {
     }
 }
 
-/// A list of regions once more.
+/// Returns an equal list of regions.
 fn copied<const CAP: usize>(list: &ArrayVec<Region, CAP>) -> ArrayVec<Region, CAP>
     ensures { result.items ≡ list.now.items }
 {
@@ -242,21 +255,21 @@ fn copied<const CAP: usize>(list: &ArrayVec<Region, CAP>) -> ArrayVec<Region, CA
     copy
 }
 
-/// How many regions, from the first one on, begin at a page or below it.
+/// Returns how many regions at the front of the list begin at page `first` or below.
 fn count_up_to(regions: &[Region], first: u64) -> usize
     ensures { result ≡ prefix_len (λ (r : Run). nat_le r.first first) regions.now }
 {
     regions.iter().take_while(|r| r.first <= first).count()
 }
 
-/// How many regions, from the first one on, begin at another page.
+/// Returns how many regions at the front of the list do not begin at page `first`.
 fn count_others(regions: &[Region], first: u64) -> usize
     ensures { result ≡ prefix_len (λ (r : Run). not (r.first == first)) regions.now }
 {
     regions.iter().take_while(|r| r.first != first).count()
 }
 
-/// The first of some regions that holds a page.
+/// Returns the first of these regions that holds a page, `None` if none does.
 fn find_region(regions: &[Region], page: u64) -> Option<Region>
     ensures { option_map region_of result ≡ model.region_at (map region_of regions.now) page }
 {
@@ -268,7 +281,7 @@ fn find_region(regions: &[Region], page: u64) -> Option<Region>
     None
 }
 
-/// The rule of the right that is missing.
+/// Returns the rule for lack of the right that an access needs.
 fn right_rule(access: Access) -> Rule
     ensures { result ≡ model.right_rule access }
 {

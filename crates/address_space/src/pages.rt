@@ -1,19 +1,19 @@
-// Pages that get frames.
+// `Space::settle`, which settles a page (brings it into memory): claims a frame, fills it with given bytes and maps it. For
+// the crate also `add_page`, which does this by frames reserved before, and `frame_of`, which returns the frame that a
+// page's leaf names.
 
 ghost use Rattle.std.specs.FinMap.{get};
-ghost use Rattle.std.specs.Prelude.{[], ◌≡◌, ◌+◌, ◌-◌, ◌^◌, ◌<◌, ◌≤◌, ◌↔◌, ◌==◌, false, if◌then◌else◌, IfErr, IfOk, is_ok, IsOk, length, not, option_and_then, option_map, Some, true, ℕ};
-ghost use Rattle.address_space.specs.Agreement.{body_of, IsSpace, IsPageLeaf, IsOn};
+ghost use Rattle.std.specs.Prelude.{[], ◌≡◌, ◌+◌, ◌-◌, ◌^◌, ◌<◌, ◌≤◌, ◌↔◌, ◌==◌, false, if◌then◌else◌, IfErr, IfOk, is_ok, IsOk, length, option_and_then, option_map, Some, ℕ};
+ghost use Rattle.address_space.specs.Agreement.{body_of, IsSpace};
 ghost use Rattle.address_space.specs.Layouts.{region_of};
-ghost use Rattle.address_space.specs.Steps.{Adds, CanAdd, CanSettle, HasSettled, RunsDry};
-ghost use Rattle.frame_store.specs.Laws.{Fits, Keeps};
-ghost use Rattle.frame_store.specs.View.{IsHeld, IsSole};
+ghost use Rattle.address_space.specs.Steps.{AddsPage, CanAdd, CanSettle, HasSettled, RunsDry};
+ghost use Rattle.frame_store.specs.Laws.{IsSeatOf, KeepsSeats};
+ghost use Rattle.frame_store.specs.View.{IsSole};
 ghost use Rattle.process_model.specs.Frames.{settle_need};
 ghost use Rattle.process_model.specs.Process.{Process};
 ghost use Rattle.process_model.specs.Regions as model;
-ghost use Rattle.process_model.specs.Regions.{makes_leaf};
 ghost use Rattle.sv39_entry.specs.Frame.{frame_at};
 ghost use Rattle.sv39_entry.specs.Word as word;
-ghost use Rattle.sv39_entry.specs.declared.entry.Kind.TheVariants.{Leaf};
 ghost use Rattle.table_walk.specs.Tables.{HasTables, Tables, missing, walk_leaf};
 
 use crate::region::Region;
@@ -23,7 +23,8 @@ use frame_store::{FrameAccess, FrameSeat, FrameSupply, NoFrame};
 use sv39_entry::{EntryFlags, FrameNo, Scheme, Vpn};
 use table_walk::{leaf_of, map, missing_is_growth, missing_tables};
 
-/// The frame that the leaf of a page names, and whether the leaf is dirty.
+/// Returns the frame that a page's leaf names, and whether the leaf has D; `None` if the page has no leaf, or one that names
+/// no frame.
 pub(crate) fn frame_of<F: FrameAccess>(
     store: &mut F,
     seat: &mut F::Seat,
@@ -31,21 +32,21 @@ pub(crate) fn frame_of<F: FrameAccess>(
     root: FrameNo,
     page: Vpn,
 ) -> Option<(FrameNo, bool)>
-    requires fits { Fits F.rule store.old seat.old }
+    requires fits { IsSeatOf F.rule store.old seat.old }
     requires held { (t : Tables) × HasTables scheme (F.Seat.view seat.old) root.0 t }
     ensures frame { (t : Tables) → HasTables scheme (F.Seat.view seat.old) root.0 t →
         result ≡ option_and_then (λ w. option_map (λ f. (f, word.has_flag w 128)) (frame_at (word.ppn w))) (get t.leaves (walk_leaf scheme page)) }
     ensures view { F.Seat.view seat.new ≡ F.Seat.view seat.old }
     ensures same { store.new ≡ store.old }
-    ensures keeps { Keeps F.rule store.old seat.old store.new seat.new }
+    ensures keeps { KeepsSeats F.rule store.old seat.old store.new seat.new }
 {
     let leaf = leaf_of(store, seat, scheme, root, page)?;
     let frame = FrameNo::from_ppn(leaf.ppn())?;
     Some((frame, leaf.has(EntryFlags::DIRTY)))
 }
 
-/// Gives a page a frame with these bytes, and zeros behind them. The frame and the tables that are missing are made of
-/// credits. The frame's words are there before the leaf that names it.
+/// Settles a page on a newly claimed frame with these bytes, at most 4,096, and zeros after them. Takes a credit for the
+/// frame and one for each missing table. The frame is filled before a leaf names it.
 pub(crate) fn add_page<F: FrameSupply>(
     store: &mut F,
     seat: &mut F::Seat,
@@ -55,13 +56,13 @@ pub(crate) fn add_page<F: FrameSupply>(
     region: &Region,
     bytes: &[u8],
 )
-    requires fits { Fits F.rule store.old seat.old }
+    requires fits { IsSeatOf F.rule store.old seat.old }
     requires ready { (trapframe : ℕ) × (t : Tables) × (p : Process) × (p.scheme ≡ scheme) × CanAdd (F.Seat.view seat.old) root.0 trapframe t p page (region_of region.now) × (1 + missing scheme t page ≤ (F.Seat.view seat.old).credits) }
     requires inside { length bytes.now ≤ 4096 }
     ensures added { (trapframe : ℕ) (t : Tables) (p : Process) → p.scheme ≡ scheme → CanAdd (F.Seat.view seat.old) root.0 trapframe t p page (region_of region.now) →
-        (u : Tables) × (f : ℕ) × Adds (F.Seat.view seat.old) (F.Seat.view seat.new) root.0 trapframe t u p page bytes.now f }
+        (u : Tables) × (f : ℕ) × AddsPage (F.Seat.view seat.old) (F.Seat.view seat.new) root.0 trapframe t u p page bytes.now f }
     ensures soles { (f : ℕ) → IsSole (F.Seat.view seat.old) f → IsSole (F.Seat.view seat.new) f }
-    ensures keeps { Keeps F.rule store.old seat.old store.new seat.new }
+    ensures keeps { KeepsSeats F.rule store.old seat.old store.new seat.new }
     ensures free { F.alone → F.free store.new ≡ F.free store.old }
 {
     let frame = store.claim(seat);
@@ -79,15 +80,21 @@ pub(crate) fn add_page<F: FrameSupply>(
 }
 
 impl<S: FrameSeat> Space<S> {
-    /// Gives a page of a region a frame with these bytes, and zeros behind them. The frame and the tables that are
-    /// missing are reserved together.
+    /// Settles `page` on a newly claimed frame, with these bytes, at most 4,096, and zeros after them. The page must be
+    /// unsettled and in a region. It gets no fork mark and no stored mark. The frame and the missing page tables are
+    /// reserved together. Makes no fence: the caller must.
+    ///
+    /// # Errors
+    /// `NoFrame`: the space is the process that it was, by the same tables, and no frame was claimed. If nobody else
+    /// changes the store (`alone`): exactly when fewer frames are free than the page and its missing tables take. Over
+    /// shared frames: only after the free count was read as 0 with fewer than these reserved.
     pub fn settle<F: FrameSupply<Seat = S>>(
         &mut self,
         store: &mut F,
         page: Vpn,
         bytes: &[u8],
     ) -> Result<(), NoFrame>
-        requires fits { Fits F.rule store.old self.old.seat }
+        requires fits { IsSeatOf F.rule store.old self.old.seat }
         requires ready { (t : Tables) × (p : Process) × CanSettle (body_of S.view self.old) t p page }
         requires inside { length bytes.now ≤ 4096 }
         ensures settled { IfOk result (λ _. HasSettled (body_of S.view self.old) (body_of S.view self.new) page bytes.now) }
@@ -106,14 +113,14 @@ impl<S: FrameSeat> Space<S> {
         ensures root { self.new.root ≡ self.old.root }
         ensures trapframe { self.new.trapframe ≡ self.old.trapframe }
         ensures layout { self.new.layout ≡ self.old.layout }
-        ensures keeps { Keeps F.rule store.old self.old.seat store.new self.new.seat }
+        ensures keeps { KeepsSeats F.rule store.old self.old.seat store.new self.new.seat }
     {
         let scheme = self.layout.scheme();
         let Some(region) = self.layout.region_at(page.number()) else {
             unreachable!()
         };
         let missing = missing_tables(store, &mut self.seat, scheme, self.root, page);
-        // by its law these are the tables that the page needs beside those of others
+        // by this law as many tables as `tables_needed` grows by with the page
         missing_is_growth();
         store.reserve(&mut self.seat, 1 + missing)?;
         add_page(

@@ -1,4 +1,6 @@
-// Runs of pages with what they grant.
+// Enum `RegionKind`, enum `Source` (where the first bytes of a page come from: zeros, image or file), and struct `Region`: a
+// run of pages with the rights that it grants, its kind and its source. Calls: whether it holds a page, the leaf of its page
+// for a given frame, whether its leaves have D from the start, whether it lacks a right.
 
 ghost use Rattle.std.specs.Prelude.{◌≡◌, ◌&&◌, not, Some, true};
 ghost use Rattle.address_space.specs.Agreement.{IsPageLeaf};
@@ -11,7 +13,8 @@ ghost use Rattle.sv39_entry.specs.declared.entry.Kind.TheVariants.{Leaf};
 use bitflags::Flags;
 use sv39_entry::{Access, Entry, FrameNo, Rights};
 
-/// What a region is there for (the xv6 book, "Process address space"; mappings are those of the mmap lab).
+/// The kind of a region: a segment of the image, the guard page below the stack, the stack or the heap (the xv6 book,
+/// "Process address space"), or a mapping of a file, shared or private (MIT 6.1810, mmap lab).
 #[derive(Clone, Copy, PartialEq, Eq, Debug)]
 pub enum RegionKind {
     Segment,
@@ -22,17 +25,18 @@ pub enum RegionKind {
     PrivateMapping,
 }
 
-/// Where the bytes come from that a page has when it gets its frame.
+/// The source of the bytes that a page of a region has when it is settled.
 #[derive(Clone, Copy, PartialEq, Eq, Debug)]
 pub enum Source {
     Zeros,
-    /// The image that the process was started with.
+    /// The image of the process's start or exec.
     Image,
-    /// A file, by its number, and the offset of the region's first byte in it.
+    /// The file with this number; `offset`, in bytes, is that of the region's first byte.
     File { file: u64, offset: u64 },
 }
 
-/// A run of pages, by the number of its first page, with what it grants to the user.
+/// A run of `pages` pages, the first with the number `first` (its address divided by 4,096), with the rights that it grants
+/// to the user, its kind, and the source of its pages' first bytes.
 #[derive(Clone, Copy, PartialEq, Eq, Debug)]
 pub struct Region {
     pub first: u64,
@@ -42,7 +46,7 @@ pub struct Region {
     pub source: Source,
 }
 
-/// What stands in a place that no region has.
+/// Filler for an unused place of a fixed-size list.
 impl Default for Region {
     ghost use Rattle.address_space.specs.Layouts.{no_region};
 
@@ -60,15 +64,17 @@ impl Default for Region {
 }
 
 impl Region {
-    /// Whether a page is one of the run.
+    /// Returns whether the page with this number is in the region.
     pub fn holds_page(&self, page: u64) -> bool
         ensures { result ≡ model.holds_page (region_of self.now) page }
     {
         self.first <= page && page - self.first < self.pages
     }
 
-    /// The leaf of a page over a frame: with a fork mark it may not be written, and it is dirty where that is said and the
-    /// region grants writing. The guard's is the kernel's alone.
+    /// Returns the leaf that maps a page of the region to `frame`, with A set and G clear. With `mark` it has the fork mark
+    /// (RSW bit 8) and lacks W; it has D if `dirty` and the region grants writing. The guard's leaf has R and lacks U: it
+    /// is the kernel's alone. The region's rights must fit a leaf: a guard grants nothing, any other region grants reading,
+    /// or execution without writing.
     pub fn leaf(&self, frame: FrameNo, mark: bool, dirty: bool) -> Entry
         requires leafy { makes_leaf (region_of self.now) ≡ true }
         ensures leaf { IsPageLeaf result frame.0 (region_of self.now) mark (dirty && (region_of self.now).writes) }
@@ -80,14 +86,16 @@ impl Region {
         Entry::leaf(frame, self.rights, true, mark, dirty)
     }
 
-    /// Whether the leaf of a new page is dirty: where stores go back to a file it is so only from the first one on.
+    /// Returns whether a page's leaf gets D when the page is settled, if the region grants writing: true exactly when the
+    /// region is no shared mapping. In a shared mapping D is the stored mark.
     pub fn is_dirty_from_start(&self) -> bool
         ensures { result ≡ not (model.is_shared_kind (region_of self.now).kind) }
     {
         self.kind != RegionKind::SharedMapping
     }
 
-    /// Whether the right is missing that an access needs.
+    /// Returns whether the region lacks the right that the access needs: execution for a fetch, reading for a load, writing
+    /// for a store.
     pub fn lacks_right(&self, access: Access) -> bool
         ensures { result ≡ model.lacks_right access (Some (region_of self.now)) }
     {

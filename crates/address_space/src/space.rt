@@ -1,11 +1,13 @@
-// A process in memory.
+// Struct `Space`, the address space of a process in memory: its seat (an owner's capability at a frame store), the frames of
+// its root table and trapframe, and its layout (the regions). Calls: `grant` checks an access by the regions; reads and
+// writes of settled pages (in memory), by width or whole; and changes of the layout: the size, mappings.
 
 ghost use Rattle.std.specs.Prelude.{[], ◌≡◌, ◌%◌, ◌<◌, ℕ, IsTrue, length, option_map};
-ghost use Rattle.address_space.specs.Agreement.{body_of, IsSpace, IsOn};
+ghost use Rattle.address_space.specs.Agreement.{body_of, IsSpace, IsFrameOfPage};
 ghost use Rattle.address_space.specs.Layouts.{granted_unless, region_of};
-ghost use Rattle.address_space.specs.Standing.{IsAt};
-ghost use Rattle.address_space.specs.Steps.{CanRead, CanWrite, HasRelaid, HasStored, left_with, mapped_with, sized, stored_at, Takes};
-ghost use Rattle.frame_store.specs.Laws.{Fits, Keeps};
+ghost use Rattle.address_space.specs.SpacesInCalls.{HasSettledPage};
+ghost use Rattle.address_space.specs.Steps.{CanRead, CanWrite, HasReplacedLayout, HasStored, left_with, mapped_with, sized, stored_at, TakesFrames};
+ghost use Rattle.frame_store.specs.Laws.{IsSeatOf, KeepsSeats};
 ghost use Rattle.process_model.specs.Bytes.{is_width};
 ghost use Rattle.process_model.specs.Mappings.{most_mappings};
 ghost use Rattle.process_model.specs.Process.{Page, Process, regions};
@@ -21,19 +23,25 @@ use frame_bytes::{load_bytes, read_frame, store_bytes};
 use frame_store::{FrameAccess, FrameSeat};
 use sv39_entry::{Access, FrameNo, Rule, Va, Vpn};
 
-/// The address space of a process. It owns its seat, and a call takes any store whose seats are of that type.
+/// A process's address space: the seat by which it holds its frames, its page table, its trapframe's frame and its regions.
+/// It owns its seat; a call takes any store that has seats of that type.
 #[derive(Drop)]
 pub struct Space<S: FrameSeat> {
     pub seat: S,
-    /// The root of the page tables.
+    /// The frame of the root page table.
     pub root: FrameNo,
-    /// The frame of the trapframe's page.
+    /// The frame that TRAPFRAME maps.
     pub trapframe: FrameNo,
     pub layout: Layout,
 }
 
 impl<S: FrameSeat> Space<S> {
-    /// Whether the user may make an access, or the first rule that denies it. `width` is in bytes.
+    /// Checks by the regions whether the user may make an access of `width` bytes, which is not 0, at `va`. The page need
+    /// not be resident; no page table is read.
+    ///
+    /// # Errors
+    /// Exactly when a rule of the regions denies the access: the first such rule. It is `Misaligned` if `va` is no multiple
+    /// of `width`, else the rule that `Layout::copy_rule` returns.
     pub fn grant(&self, access: Access, va: Va, width: u64) -> Result<(), Rule>
         requires { 0 < width }
         ensures { (t : Tables) (p : Process) → IsSpace (body_of S.view self.now) t p →
@@ -42,9 +50,10 @@ impl<S: FrameSeat> Space<S> {
         self.layout.grant(access, va, width)
     }
 
-    /// The number in `width` bytes of a settled page, the lowest byte first.
+    /// Returns the `width` bytes at `va` as a little-endian number without sign. The page must be settled; `width` is 1, 2,
+    /// 4 or 8, and `va` a multiple of it. Rights are not checked.
     pub fn read<F: FrameAccess<Seat = S>>(&mut self, store: &mut F, va: Va, width: u64) -> u64
-        requires fits { Fits F.rule store.old self.old.seat }
+        requires fits { IsSeatOf F.rule store.old self.old.seat }
         requires ready { (t : Tables) × (p : Process) × (s : Page) × CanRead (body_of S.view self.old) t p (page_of va.0) s }
         requires width { IsTrue (is_width width) }
         requires aligned { va.0 % width ≡ 0 }
@@ -54,13 +63,14 @@ impl<S: FrameSeat> Space<S> {
         ensures layout { self.new.layout ≡ self.old.layout }
         ensures view { S.view self.new.seat ≡ S.view self.old.seat }
         ensures same { store.new ≡ store.old }
-        ensures keeps { Keeps F.rule store.old self.old.seat store.new self.new.seat }
+        ensures keeps { KeepsSeats F.rule store.old self.old.seat store.new self.new.seat }
     {
         let frame = self.page_frame(store, va.page());
         self.read_at(store, frame, va, width)
     }
 
-    /// The same, where the page's frame is known from a translation.
+    /// Returns the `width` bytes at `va`, as `read` does, from `frame`: the frame of the page, which the caller has from a
+    /// translation. The page must be settled; `width` is 1, 2, 4 or 8, and `va` a multiple of it. Rights are not checked.
     pub fn read_at<F: FrameAccess<Seat = S>>(
         &mut self,
         store: &mut F,
@@ -68,17 +78,17 @@ impl<S: FrameSeat> Space<S> {
         va: Va,
         width: u64,
     ) -> u64
-        requires fits { Fits F.rule store.old self.old.seat }
-        requires ready { (t : Tables) × (p : Process) × (s : Page) × CanRead (body_of S.view self.old) t p (page_of va.0) s × IsOn t (page_of va.0) frame.0 }
+        requires fits { IsSeatOf F.rule store.old self.old.seat }
+        requires ready { (t : Tables) × (p : Process) × (s : Page) × CanRead (body_of S.view self.old) t p (page_of va.0) s × IsFrameOfPage t (page_of va.0) frame.0 }
         requires width { IsTrue (is_width width) }
         requires aligned { va.0 % width ≡ 0 }
-        ensures value { (t : Tables) (p : Process) (s : Page) → CanRead (body_of S.view self.old) t p (page_of va.0) s → IsOn t (page_of va.0) frame.0 → result ≡ loaded s (va.0 % 4096) width }
+        ensures value { (t : Tables) (p : Process) (s : Page) → CanRead (body_of S.view self.old) t p (page_of va.0) s → IsFrameOfPage t (page_of va.0) frame.0 → result ≡ loaded s (va.0 % 4096) width }
         ensures root { self.new.root ≡ self.old.root }
         ensures trapframe { self.new.trapframe ≡ self.old.trapframe }
         ensures layout { self.new.layout ≡ self.old.layout }
         ensures view { S.view self.new.seat ≡ S.view self.old.seat }
         ensures same { store.new ≡ store.old }
-        ensures keeps { Keeps F.rule store.old self.old.seat store.new self.new.seat }
+        ensures keeps { KeepsSeats F.rule store.old self.old.seat store.new self.new.seat }
     {
         load_bytes(
             store,
@@ -89,30 +99,31 @@ impl<S: FrameSeat> Space<S> {
         )
     }
 
-    /// The 4,096 bytes of a settled page, into an array. The seat may have credits.
+    /// Copies the 4,096 bytes of `page`, which must be settled, into `bytes`. The seat may have credits.
     pub fn page_bytes<F: FrameAccess<Seat = S>>(
         &mut self,
         store: &mut F,
         page: Vpn,
         bytes: &mut [u8; 4096],
     )
-        requires fits { Fits F.rule store.old self.old.seat }
-        requires ready { (t : Tables) × (p : Process) × (s : Page) × IsAt (body_of S.view self.old) t p page s }
-        ensures bytes { (t : Tables) (p : Process) (s : Page) → IsAt (body_of S.view self.old) t p page s → bytes.new ≡ s.bytes }
+        requires fits { IsSeatOf F.rule store.old self.old.seat }
+        requires ready { (t : Tables) × (p : Process) × (s : Page) × HasSettledPage (body_of S.view self.old) t p page s }
+        ensures bytes { (t : Tables) (p : Process) (s : Page) → HasSettledPage (body_of S.view self.old) t p page s → bytes.new ≡ s.bytes }
         ensures root { self.new.root ≡ self.old.root }
         ensures trapframe { self.new.trapframe ≡ self.old.trapframe }
         ensures layout { self.new.layout ≡ self.old.layout }
         ensures view { S.view self.new.seat ≡ S.view self.old.seat }
         ensures same { store.new ≡ store.old }
-        ensures keeps { Keeps F.rule store.old self.old.seat store.new self.new.seat }
+        ensures keeps { KeepsSeats F.rule store.old self.old.seat store.new self.new.seat }
     {
         let frame = self.page_frame(store, page);
         read_frame(store, &mut self.seat, frame, bytes);
     }
 
-    /// Puts the `width` lowest bytes of a value into a settled page that the process has alone.
+    /// Stores the `width` lowest bytes of `value`, the lowest first, at `va`. The page must be settled, without fork mark,
+    /// and in a region that grants writing; `width` is 1, 2, 4 or 8, and `va` a multiple of it. Sets no mark.
     pub fn write<F: FrameAccess<Seat = S>>(&mut self, store: &mut F, va: Va, width: u64, value: u64)
-        requires fits { Fits F.rule store.old self.old.seat }
+        requires fits { IsSeatOf F.rule store.old self.old.seat }
         requires ready { (t : Tables) × (p : Process) × (s : Page) × CanWrite (body_of S.view self.old) t p (page_of va.0) s }
         requires width { IsTrue (is_width width) }
         requires aligned { va.0 % width ≡ 0 }
@@ -121,8 +132,8 @@ impl<S: FrameSeat> Space<S> {
         ensures root { self.new.root ≡ self.old.root }
         ensures trapframe { self.new.trapframe ≡ self.old.trapframe }
         ensures layout { self.new.layout ≡ self.old.layout }
-        ensures tallies { Takes (S.view self.old.seat) (S.view self.new.seat) 0 [] }
-        ensures keeps { Keeps F.rule store.old self.old.seat store.new self.new.seat }
+        ensures tallies { TakesFrames (S.view self.old.seat) (S.view self.new.seat) 0 [] }
+        ensures keeps { KeepsSeats F.rule store.old self.old.seat store.new self.new.seat }
         ensures free { F.alone → F.free store.new ≡ F.free store.old }
         ensures counts { F.alone → (f : ℕ) → F.count store.new f ≡ F.count store.old f }
     {
@@ -130,7 +141,9 @@ impl<S: FrameSeat> Space<S> {
         self.write_at(store, frame, va, width, value);
     }
 
-    /// The same, where the page's frame is known from a translation.
+    /// Stores the `width` lowest bytes of `value` at `va`, as `write` does, to `frame`: the frame of the page, which the
+    /// caller has from a translation. The page must be settled, without fork mark, and in a region that grants writing;
+    /// `width` is 1, 2, 4 or 8, and `va` a multiple of it. Sets no mark.
     pub fn write_at<F: FrameAccess<Seat = S>>(
         &mut self,
         store: &mut F,
@@ -139,16 +152,16 @@ impl<S: FrameSeat> Space<S> {
         width: u64,
         value: u64,
     )
-        requires fits { Fits F.rule store.old self.old.seat }
-        requires ready { (t : Tables) × (p : Process) × (s : Page) × CanWrite (body_of S.view self.old) t p (page_of va.0) s × IsOn t (page_of va.0) frame.0 }
+        requires fits { IsSeatOf F.rule store.old self.old.seat }
+        requires ready { (t : Tables) × (p : Process) × (s : Page) × CanWrite (body_of S.view self.old) t p (page_of va.0) s × IsFrameOfPage t (page_of va.0) frame.0 }
         requires width { IsTrue (is_width width) }
         requires aligned { va.0 % width ≡ 0 }
-        ensures agrees { HasStored (body_of S.view self.old) (body_of S.view self.new) va.0 width value (λ t. IsOn t (page_of va.0) frame.0) }
+        ensures agrees { HasStored (body_of S.view self.old) (body_of S.view self.new) va.0 width value (λ t. IsFrameOfPage t (page_of va.0) frame.0) }
         ensures root { self.new.root ≡ self.old.root }
         ensures trapframe { self.new.trapframe ≡ self.old.trapframe }
         ensures layout { self.new.layout ≡ self.old.layout }
-        ensures tallies { Takes (S.view self.old.seat) (S.view self.new.seat) 0 [] }
-        ensures keeps { Keeps F.rule store.old self.old.seat store.new self.new.seat }
+        ensures tallies { TakesFrames (S.view self.old.seat) (S.view self.new.seat) 0 [] }
+        ensures keeps { KeepsSeats F.rule store.old self.old.seat store.new self.new.seat }
         ensures free { F.alone → F.free store.new ≡ F.free store.old }
         ensures counts { F.alone → (f : ℕ) → F.count store.new f ≡ F.count store.old f }
     {
@@ -162,9 +175,11 @@ impl<S: FrameSeat> Space<S> {
         );
     }
 
-    /// Ends the heap at another address. No page gets a frame by it, and none loses one.
+    /// Sets the size in bytes, the address at which the heap ends. Settles and releases no page. The space is then the
+    /// process with this size, if its regions are in order and each settled page still has a region that makes the leaf that
+    /// it has (`CanReplaceLayout`).
     pub fn set_size(&mut self, size: u64)
-        ensures agrees { HasRelaid (body_of S.view self.old) (body_of S.view self.new) (λ p. sized p size) }
+        ensures agrees { HasReplacedLayout (body_of S.view self.old) (body_of S.view self.new) (λ p. sized p size) }
         ensures seat { self.new.seat ≡ self.old.seat }
         ensures root { self.new.root ≡ self.old.root }
         ensures trapframe { self.new.trapframe ≡ self.old.trapframe }
@@ -172,10 +187,12 @@ impl<S: FrameSeat> Space<S> {
         self.layout.set_size(size);
     }
 
-    /// Adds a mapping. No page gets a frame by it.
+    /// Adds a mapping, in its place by address. The space has fewer than 16 mappings before. Settles no page. The space is
+    /// then the process with this mapping, if its regions are in order and each settled page still has a region that makes
+    /// the leaf that it has (`CanReplaceLayout`).
     pub fn add_mapping(&mut self, mapping: Region)
         requires few { length (self.old.layout).mappings < most_mappings }
-        ensures agrees { HasRelaid (body_of S.view self.old) (body_of S.view self.new) (λ p. mapped_with p (region_of mapping)) }
+        ensures agrees { HasReplacedLayout (body_of S.view self.old) (body_of S.view self.new) (λ p. mapped_with p (region_of mapping)) }
         ensures seat { self.new.seat ≡ self.old.seat }
         ensures root { self.new.root ≡ self.old.root }
         ensures trapframe { self.new.trapframe ≡ self.old.trapframe }
@@ -183,10 +200,12 @@ impl<S: FrameSeat> Space<S> {
         self.layout.add_mapping(mapping);
     }
 
-    /// Puts what is left of a mapping in the place of the one that begins at a page; where nothing is left, that one goes. No
-    /// page that is left loses its frame by it.
+    /// Puts `rest` in place of the mapping whose first page is `first`, or removes that mapping if `rest` is `None`. Without
+    /// such a mapping nothing changes. Settles and releases no page. The space is then the process with these mappings, if
+    /// its regions are in order and each settled page still has a region that makes the leaf that it has
+    /// (`CanReplaceLayout`).
     pub fn replace_mapping(&mut self, first: u64, rest: Option<Region>)
-        ensures agrees { HasRelaid (body_of S.view self.old) (body_of S.view self.new) (λ p. left_with p first (option_map region_of rest)) }
+        ensures agrees { HasReplacedLayout (body_of S.view self.old) (body_of S.view self.new) (λ p. left_with p first (option_map region_of rest)) }
         ensures seat { self.new.seat ≡ self.old.seat }
         ensures root { self.new.root ≡ self.old.root }
         ensures trapframe { self.new.trapframe ≡ self.old.trapframe }
@@ -194,21 +213,21 @@ impl<S: FrameSeat> Space<S> {
         self.layout.replace_mapping(first, rest);
     }
 
-    /// The frame of a settled page.
+    /// Returns the frame of a settled page, from its leaf. The seat may have credits.
     pub(crate) fn page_frame<F: FrameAccess<Seat = S>>(
         &mut self,
         store: &mut F,
         page: Vpn,
     ) -> FrameNo
-        requires fits { Fits F.rule store.old self.old.seat }
-        requires ready { (t : Tables) × (p : Process) × (s : Page) × IsAt (body_of S.view self.old) t p page s }
-        ensures frame { (t : Tables) (p : Process) (s : Page) → IsAt (body_of S.view self.old) t p page s → IsOn t page result.0 }
+        requires fits { IsSeatOf F.rule store.old self.old.seat }
+        requires ready { (t : Tables) × (p : Process) × (s : Page) × HasSettledPage (body_of S.view self.old) t p page s }
+        ensures frame { (t : Tables) (p : Process) (s : Page) → HasSettledPage (body_of S.view self.old) t p page s → IsFrameOfPage t page result.0 }
         ensures root { self.new.root ≡ self.old.root }
         ensures trapframe { self.new.trapframe ≡ self.old.trapframe }
         ensures layout { self.new.layout ≡ self.old.layout }
         ensures view { S.view self.new.seat ≡ S.view self.old.seat }
         ensures same { store.new ≡ store.old }
-        ensures keeps { Keeps F.rule store.old self.old.seat store.new self.new.seat }
+        ensures keeps { KeepsSeats F.rule store.old self.old.seat store.new self.new.seat }
     {
         let scheme = self.layout.scheme();
         let Some((frame, _)) = frame_of(store, &mut self.seat, scheme, self.root, page) else {

@@ -1,22 +1,24 @@
--- What is free when a pool is closed, and what is told of it.
+-- Lemmas for the end of a run on threads: after the pool of frames is closed, the free count is as `LeavesFree` says
+-- (`closed`, `pool_closed`), the user frames are all but the kernel's, and the sorted ends are a text of the file
+-- (`is_text`).
 use Rattle.std.proofs.Common.{◌≡◌, ℕ, ◌+◌, ◌-◌, List, sym, ap, subst, ◌∙◌, arith}
 use Rattle.std.specs.List.Sorted.{IsPermutation}
 use Rattle.atomic_table.specs.Seated.{TableId}
 use Rattle.frame_store.specs.View.{View, opening_view, references}
 use Rattle.hart_calls.specs.declared.finished.Finished.{Finished}
-use Rattle.hart_threads.specs.Rostered.{ComesBack}
+use Rattle.hart_threads.specs.RosterState.{ComesBack}
 use Rattle.hart_threads.specs.Slots.{AreSlotted}
 use Rattle.hart_threads.specs.Starts.{Lends}
 use Rattle.process_model.specs.ThreadScript.{ThreadScript}
 use Rattle.process_model.specs.declared.call.Call.{Call}
 use Rattle.process_model.specs.declared.call.Pool.{Pool}
 use Rattle.process_model.specs.declared.call.Start.{Start}
-use Rattle.shared_frames.specs.Fits.{FitsIn, view_of}
+use Rattle.shared_frames.specs.SeatsOfTable.{FitsIn, view_of}
 use Rattle.shared_frames.specs.Totals.{AreTotals, held_frames}
 use Rattle.shared_frames.specs.declared.seat.SharedSeat.{SharedSeat}
 use Rattle.audit_player.proofs.Holdings.{sizes_agree, still_kernel}
 use Rattle.audit_player.specs.KernelFrames.{HoldsOnce}
-use Rattle.audit_player.specs.PlayedThreads.{IsTextOf, LeavesFree, kernel_of, user_frames}
+use Rattle.audit_player.specs.ThreadRunResult.{IsTextOf, LeavesFree, kernel_of, user_frames}
 use Rattle.audit_player.specs.ThreadLists.{AreListsOf, AreStartsOf}
 use Rattle.audit_player.specs.ThreadText.{AreInOrder, threads_text}
 

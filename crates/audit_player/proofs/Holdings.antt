@@ -1,10 +1,12 @@
--- Frames that the kernel takes, one after the other.
+-- Lemmas: the kernel's seat (its capability at the frame store) takes its frames one by one: it begins with frame 0 and
+-- credits (reserved frames), holds one frame more for each credit claimed (`HoldsOnce`), and after lending frame 0 holds as
+-- many.
 use Rattle.std.proofs.Common.{◌≡◌, inl, inr, ℕ, zero, suc, ◌+◌, ◌-◌, ◌*◌, ◌<◌, ◌≤◌, refl, sym, ap, subst, ◌∙◌, arith}
 use Rattle.std.proofs.lemmas.Bool.Decides.{eqb_tells}
 use Rattle.frame_store.specs.Laws.{IsDry}
 use Rattle.frame_store.specs.View.{View, Hold, references, claimed, sole_hold, opening_view, empty_view, spent}
 use Rattle.frame_store.specs.Holds.{hold_of-with_hold_same, hold_of-with_hold_other, hold_of-frames, hold_of-empty}
-use Rattle.shared_frames.specs.Fits.{FitsIn, IsWithin, view_of}
+use Rattle.shared_frames.specs.SeatsOfTable.{FitsIn, IsWithin, view_of}
 use Rattle.shared_frames.specs.declared.seat.SharedSeat.{SharedSeat}
 use Rattle.atomic_table.specs.Seated.{TableId}
 use Rattle.shared_frames.specs.Rule.{one_at_zero}

@@ -1,15 +1,16 @@
--- An image that is lent makes the process that it says, and bytes that are lent are copied, wherever they stand.
+-- Lemmas: start and exec depend only on what their image loads, and CopyOut on its bytes' values, so a line that names a
+-- borrowed image or bytes has the model's answer; a line whose steps' reply was appended has the model's text.
 use Rattle.std.proofs.Common.{◌≡◌, ℕ, ◌<◌, ◌++◌, true, Bor, List, length, get_or, Option, Result, sym, ap, subst, ◌∙◌}
 use Rattle.std.proofs.lemmas.Option.{slice_get-get_or}
 use Rattle.std.specs.Prelude.{nat_le}
-use Rattle.process_model.specs.Calls.{replaced, started, told_out}
+use Rattle.process_model.specs.Calls.{replaced, started, copy_out_outcome}
 use Rattle.process_model.specs.Copies.{copied_out, longest_copy}
 use Rattle.process_model.specs.Images.{LoadSegment, image_loads}
 use Rattle.process_model.specs.Process.{without_pending}
-use Rattle.process_model.specs.Service.{around, begun}
+use Rattle.process_model.specs.Service.{environment_of, initial_progress}
 use Rattle.process_model.specs.Stale.{with_stale_slots}
 use Rattle.process_model.specs.Steps.{step}
-use Rattle.process_model.specs.Text.{lent, or_no_image, image_at, played, told}
+use Rattle.process_model.specs.Text.{lent, or_no_image, image_at, line_result, line_result_of}
 use Rattle.process_model.specs.Words.{reply_text}
 use Rattle.process_model.specs.World.{Outcome, World, free_slot, kernel_call}
 use Rattle.process_model.specs.declared.image.BadImage.{BadImage}
@@ -20,7 +21,7 @@ use Rattle.process_model.specs.declared.step.Reply.{Reply}
 use Rattle.process_model.specs.declared.step.Step.{Step}
 use Rattle.process_model.specs.declared.step.Step.TheVariants.{CopyOut, Exec, Start}
 use Rattle.hart_machine.specs.declared.machine.Machine.{Machine}
-use Rattle.audit_player.specs.Told.{Follows, Tells}
+use Rattle.audit_player.specs.LineOutcomes.{GivesOutcome, AppendsLine}
 use Rattle.sv39_entry.specs.declared.scheme.Scheme.{Scheme}
 
 -- start and exec read nothing of an image but what is to be loaded
@@ -38,7 +39,7 @@ pub copies : (w : World) (h address : ℕ) (a b : Bor (List ℕ)) → a.now ≡ 
 unfolding step
 copies w h address a b e =
     ap (λ (bytes : List ℕ). with_stale_slots w.policy w (kernel_call w h (nat_le (length bytes) longest_copy)
-    (λ hart s p. told_out w s (copied_out (around w s) (begun w (without_pending p)) address bytes)))) e
+    (λ hart s p. copy_out_outcome w s (copied_out (environment_of w s) (initial_progress w (without_pending p)) address bytes)))) e
 
 -- the image that a line names
 pub named : (images : List OwnedImage) (n : ℕ) (i : OwnedImage) → n < length images → i ≡ get_or images n i → lent i ≡ image_at images n
@@ -46,25 +47,25 @@ named images n i lt is = ap lent is ∙ ap (λ (o : Option OwnedImage). lent (or
 
 -- so its line answers what the step with it does
 pub line_told : (m : Machine) (r : Reply) (images : List OwnedImage) (w : World) (step_of : Image → Step) (n : ℕ) (i : OwnedImage) (before after : List ℕ) → n < length images → i ≡ get_or images n i
-    → Follows m r (step w (step_of (lent i))) → after ≡ before ++ reply_text r → Tells m before after (told (step w (step_of (image_at images n))))
+    → GivesOutcome m r (step w (step_of (lent i))) → after ≡ before ++ reply_text r → AppendsLine m before after (line_result_of (step w (step_of (image_at images n))))
 line_told m r images w step_of n i before after lt is made put =
-    let there : Follows m r (step w (step_of (image_at images n))) = subst (λ (x : Image). Follows m r (step w (step_of x))) (named images n i lt is) made in
+    let there : GivesOutcome m r (step w (step_of (image_at images n))) = subst (λ (x : Image). GivesOutcome m r (step w (step_of x))) (named images n i lt is) made in
     (put ∙ ap (λ (x : Reply). before ++ reply_text x) there.0, there.1)
 
 -- and the line of bytes what the step with them does
 pub bytes_told : (m : Machine) (r : Reply) (w : World) (h address : ℕ) (given bytes before after : List ℕ) → given ≡ bytes
-    → Follows m r (step w (CopyOut h address (record { ref_ptr = (0, 0); now = given }))) → after ≡ before ++ reply_text r
-    → Tells m before after (told (step w (CopyOut h address (record { ref_ptr = (0, 0); now = bytes }))))
+    → GivesOutcome m r (step w (CopyOut h address (record { ref_ptr = (0, 0); now = given }))) → after ≡ before ++ reply_text r
+    → AppendsLine m before after (line_result_of (step w (CopyOut h address (record { ref_ptr = (0, 0); now = bytes }))))
 bytes_told m r w h address given bytes before after is made put =
-    let there : Follows m r (step w (CopyOut h address (record { ref_ptr = (0, 0); now = bytes }))) =
-    subst (λ (b : List ℕ). Follows m r (step w (CopyOut h address (record { ref_ptr = (0, 0); now = b })))) is made in
+    let there : GivesOutcome m r (step w (CopyOut h address (record { ref_ptr = (0, 0); now = bytes }))) =
+    subst (λ (b : List ℕ). GivesOutcome m r (step w (CopyOut h address (record { ref_ptr = (0, 0); now = b })))) is made in
     (put ∙ ap (λ (x : Reply). before ++ reply_text x) there.0, there.1)
 
 -- steps of which the reply was put are told
-pub told_by : (m : Machine) (r : Reply) (o : Outcome) (before after : List ℕ) → Follows m r o → after ≡ before ++ reply_text r → Tells m before after (told o)
+pub told_by : (m : Machine) (r : Reply) (o : Outcome) (before after : List ℕ) → GivesOutcome m r o → after ≡ before ++ reply_text r → AppendsLine m before after (line_result_of o)
 told_by m r o before after follows put = (put ∙ ap (λ (x : Reply). before ++ reply_text x) follows.0, follows.1)
 
 -- a line of steps answers what they reply
-pub steps_told : (m : Machine) (r : Reply) (images : List OwnedImage) (w : World) (o : Outcome) (c d : Command) (before after : List ℕ) → c ≡ d → played images w d ≡ told o → Follows m r o
-    → after ≡ before ++ reply_text r → Tells m before after (played images w c)
-steps_told m r images w o c d before after is plays follows put = subst (Tells m before after) (sym (ap (played images w) is ∙ plays)) (told_by m r o before after follows put)
+pub steps_told : (m : Machine) (r : Reply) (images : List OwnedImage) (w : World) (o : Outcome) (c d : Command) (before after : List ℕ) → c ≡ d → line_result images w d ≡ line_result_of o → GivesOutcome m r o
+    → after ≡ before ++ reply_text r → AppendsLine m before after (line_result images w c)
+steps_told m r images w o c d before after is plays follows put = subst (AppendsLine m before after) (sym (ap (line_result images w) is ∙ plays)) (told_by m r o before after follows put)

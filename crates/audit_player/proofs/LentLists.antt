@@ -1,11 +1,12 @@
--- Lists and starts that are lent.
+-- Lemmas: the lists of calls and the starts that are borrowed from a file for threads are those that it declares, and forks
+-- and starts in them name lists below 64; list by list and line by line.
 use Rattle.std.proofs.Common.{◌≡◌, ◌⊎◌, inl, inr, ℕ, zero, suc, ◌+◌, ◌<◌, ◌==◌, Bool, true, false, List, [], ◌∷◌, ◌++◌, Option, None, Some, length, get_or, take, refl, sym, ap, subst, ◌∙◌, arith}
 use Rattle.std.specs.Prelude.{All, ◌||◌}
 use Rattle.std.specs.List.{list_any}
 use Rattle.std.proofs.lemmas.Bool.Decides.{eqb_tells}
 use Rattle.std.proofs.lemmas.List.{take_more}
 use Rattle.std.proofs.lemmas.List.Elements.{All-get_or, All-head, All-tail, All-weaker}
-use Rattle.hart_calls.specs.Track.{IsThere}
+use Rattle.hart_calls.specs.Track.{NamesList}
 use Rattle.process_model.specs.ThreadScript.{calls_of, most_lists}
 use Rattle.process_model.specs.declared.call.Call.{Call}
 use Rattle.process_model.specs.declared.call.Call.TheVariants as call
@@ -32,7 +33,7 @@ has_below (l ∷ ls) k few h = elim (eqb_tells l.number k) as (λ _. k < most_li
   | inr t ↦ has_below ls k (All-tail (λ (m : CallList). m.number < most_lists) l ls few) (sym (ap (λ (b : Bool). b || list_any (λ (m : CallList). m.number == k) ls) t.0) ∙ h)
 ]
 
-call_there : (lists : List CallList) (c : Call) → AreFew lists → IsDeclaredCall lists c → IsThere most_lists c
+call_there : (lists : List CallList) (c : Call) → AreFew lists → IsDeclaredCall lists c → NamesList most_lists c
 call_there lists (call.Fork k) few h = has_below lists k few h
 call_there lists (call.Fetch address) few h = tt
 call_there lists (call.Load address width) few h = tt
@@ -46,7 +47,7 @@ call_there lists (call.CopyOut address bytes) few h = tt
 call_there lists (call.Exit status) few h = tt
 
 -- a call that borrows nothing
-pub one_there : (images : List OwnedImage) (line : ListedCall) (c : Call) → line ≡ listed.One c → (lists : List CallList) × IsDeclaredLine images lists line × AreFew lists → IsThere most_lists c
+pub one_there : (images : List OwnedImage) (line : ListedCall) (c : Call) → line ≡ listed.One c → (lists : List CallList) × IsDeclaredLine images lists line × AreFew lists → NamesList most_lists c
 one_there images line c is (lists, declared, few) = call_there lists c few (subst (IsDeclaredLine images lists) is declared)
 
 abbrev or_no_calls : Option (List ListedCall) → List ListedCall
@@ -76,9 +77,6 @@ one_of images line c is = subst (λ (l : ListedCall). IsCallOf images l c) (sym 
 
 pub lent_of : (images : List OwnedImage) (n : ℕ) (o : OwnedImage) (i : Image) → n < length images → o ≡ get_or images n o → ((scheme : Scheme) → image_loads scheme i ≡ image_loads scheme (lent o)) → (scheme : Scheme) → image_loads scheme i ≡ image_loads scheme (image_at images n)
 lent_of images n o i lt is loads scheme = loads scheme ∙ ap (image_loads scheme) (named images n o lt is)
-
-pub exec_of : (images : List OwnedImage) (line : ListedCall) (n : ℕ) (o : OwnedImage) (i : Image) → line ≡ listed.Exec n → n < length images → o ≡ get_or images n o → ((scheme : Scheme) → image_loads scheme i ≡ image_loads scheme (lent o)) → IsCallOf images line (call.Exec i)
-exec_of images line n o i line_is lt is loads = subst (λ (l : ListedCall). IsCallOf images l (call.Exec i)) (sym line_is) (lent_of images n o i lt is loads)
 
 calls_push : (images : List OwnedImage) (ls : List ListedCall) (cs : List Call) (l : ListedCall) (c : Call) → AreCallsOf images ls cs → IsCallOf images l c → AreCallsOf images (ls ++ l ∷ []) (cs ++ c ∷ [])
 calls_push images [] [] l c are is = (is, tt)
@@ -122,12 +120,3 @@ below (suc a) (suc b) l = up (below a b (omega arith))
     up : (a < b) ⊎ (a ≡ b) → (suc a < suc b) ⊎ (suc a ≡ suc b)
     up (inl x) = inl (omega arith)
     up (inr x) = inr (ap suc x)
-
-pub lists_more : (images : List OwnedImage) (declared : List CallList) (n : ℕ) (xs ys : List (List Call)) (y : List Call) → length xs ≡ n → ys ≡ xs ++ y ∷ [] → AreBelow images declared n xs → AreCallsOf images (lines_of declared n) y → AreBelow images declared (n + 1) ys
-lists_more images declared n xs ys y count put are is k lt = subst (λ (zs : List (List Call)). AreCallsOf images (lines_of declared k) (list_at zs k)) (sym put) (which (below k n lt))
-  where
-    which : (k < n) ⊎ (k ≡ n) → AreCallsOf images (lines_of declared k) (list_at (xs ++ y ∷ []) k)
-    which (inl less) = subst (AreCallsOf images (lines_of declared k)) (sym (at_before xs y k (omega (arith, less, count)))) (are k less)
-    which (inr same) =
-        let last : list_at (xs ++ y ∷ []) k ≡ y = ap (list_at (xs ++ y ∷ [])) (same ∙ sym count) ∙ at_last xs y in
-        subst (AreCallsOf images (lines_of declared k)) (sym last) (subst (λ (m : ℕ). AreCallsOf images (lines_of declared m) y) (sym same) is)

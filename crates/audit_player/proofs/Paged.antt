@@ -1,4 +1,5 @@
--- Pages that are written.
+-- Lemmas on text written by pages: pieces appended one after another make the whole text (`IsPutting`, `putting_more`), a
+-- failed write leaves a prefix (`putting_fails`), the last page is written at the end; the parts of a process's line.
 use Rattle.std.proofs.Common.{◌≡◌, ℕ, List, [], ◌∷◌, ◌++◌, ◌+◌, ◌-◌, ◌<◌, length, take, drop, get_or, Bool, true, false, refl, Option, sym, ap, subst, ◌∙◌, append_assoc}
 use Rattle.std.specs.Io.KnownBytes.{Appends}
 use Rattle.std.specs.Prelude.{codes}
@@ -10,8 +11,8 @@ use Rattle.process_model.specs.declared.call.Outcome.{Outcome}
 use Rattle.audit_player.specs.ThreadText.{ended_line, ended_lines}
 use Rattle.hart_calls.specs.declared.finished.Finished.{Finished}
 use Rattle.audit_player.proofs.Parts.{appends_more, appends_nothing, wrote_all}
-use Rattle.audit_player.specs.Pages.{Puts, Turns}
-use Rattle.audit_player.specs.Taken.{WroteUpTo, WroteSome}
+use Rattle.audit_player.specs.Pages.{AppendsPiece, Turns}
+use Rattle.audit_player.specs.InputOutput.{WroteUpTo, WroteSome}
 
 -- a page that was written whole, or as far as it went, is empty
 pub page_written : (b : Bool) (old new : Option (List ℕ)) (page empty : List ℕ) → empty ≡ [] → (b ≡ true → Appends old new page) → WroteSome old new page → Turns b old new page empty
@@ -22,14 +23,14 @@ page_written false old new page empty none whole (left, (part, parts, wrote)) =
 
 -- of a text this is still to be put
 abbrev pub IsPutting : Option (List ℕ) → Option (List ℕ) → List ℕ → List ℕ → List ℕ → List ℕ → Type 0
-IsPutting old new page now todo whole = (done : List ℕ) × (Puts true old new page now done × (done ++ todo ≡ whole))
+IsPutting old new page now todo whole = (done : List ℕ) × (AppendsPiece true old new page now done × (done ++ todo ≡ whole))
 
 pub putting_begins : (known : Option (List ℕ)) (page whole : List ℕ) → IsPutting known known page page whole whole
 putting_begins known page whole = ([], (λ start text w. subst (λ (t : List ℕ). WroteUpTo start known t page) (sym (append-nil text)) w, refl))
 
 module _ (old mid new : Option (List ℕ)) (page now after piece todo rest whole : List ℕ) (putting : IsPutting old mid page now todo whole) (is : todo ≡ piece ++ rest) where
   -- a piece more
-  pub putting_more : Puts true mid new now after piece → IsPutting old new page after rest whole
+  pub putting_more : AppendsPiece true mid new now after piece → IsPutting old new page after rest whole
   putting_more puts = (
     putting.0 ++ piece,
     (
@@ -39,7 +40,7 @@ module _ (old mid new : Option (List ℕ)) (page now after piece todo rest whole
   )
 
   -- a write failed
-  pub putting_fails : (last : List ℕ) → Puts false mid new now after piece → Puts false old new page last whole
+  pub putting_fails : (last : List ℕ) → AppendsPiece false mid new now after piece → AppendsPiece false old new page last whole
   putting_fails last puts = λ start text w.
       let some : WroteSome start new ((text ++ putting.0) ++ piece) = puts start (text ++ putting.0) (putting.1.0 start text w) in (
         some.0 ++ rest,
@@ -52,11 +53,11 @@ module _ (old mid new : Option (List ℕ)) (page now after piece todo rest whole
       )
 
 -- and where nothing is to be put any more, the whole is
-pub putting_ends : (old new : Option (List ℕ)) (page now todo whole : List ℕ) → todo ≡ [] → IsPutting old new page now todo whole → Puts true old new page now whole
-putting_ends old new page now todo whole none (done, (puts, all)) = subst (Puts true old new page now) (sym (append-nil done) ∙ ap (λ (l : List ℕ). done ++ l) (sym none) ∙ all) puts
+pub putting_ends : (old new : Option (List ℕ)) (page now todo whole : List ℕ) → todo ≡ [] → IsPutting old new page now todo whole → AppendsPiece true old new page now whole
+putting_ends old new page now todo whole none (done, (puts, all)) = subst (AppendsPiece true old new page now) (sym (append-nil done) ∙ ap (λ (l : List ℕ). done ++ l) (sym none) ∙ all) puts
 
 -- the last piece, put or not
-pub putting_last : (b : Bool) (old mid new : Option (List ℕ)) (page now after piece whole : List ℕ) → IsPutting old mid page now piece whole → Puts b mid new now after piece → Puts b old new page after whole
+pub putting_last : (b : Bool) (old mid new : Option (List ℕ)) (page now after piece whole : List ℕ) → IsPutting old mid page now piece whole → AppendsPiece b mid new now after piece → AppendsPiece b old new page after whole
 putting_last true old mid new page now after piece whole putting puts = putting_ends old new page after [] whole refl (putting_more old mid new page now after piece piece [] whole putting (sym (append-nil piece)) puts)
 putting_last false old mid new page now after piece whole putting puts = putting_fails old mid new page now after piece piece [] whole putting (sym (append-nil piece)) after puts
 
@@ -75,27 +76,27 @@ pub behind_first : (name : List ℕ) → take (length name - 1) (drop 1 name) �
 behind_first name = ap (λ (n : ℕ). take n (drop 1 name)) (sym (length-drop 1 name)) ∙ take-length (drop 1 name)
 
 -- the same numbers are put in the same way
-pub dotted_same : (b : Bool) (old new : Option (List ℕ)) (page after name other : List ℕ) → name ≡ other → Puts b old new page after (dotted_text name) → Puts b old new page after (dotted_text other)
-dotted_same b old new page after name other same puts = subst (λ (l : List ℕ). Puts b old new page after (dotted_text l)) same puts
+pub dotted_same : (b : Bool) (old new : Option (List ℕ)) (page after name other : List ℕ) → name ≡ other → AppendsPiece b old new page after (dotted_text name) → AppendsPiece b old new page after (dotted_text other)
+dotted_same b old new page after name other same puts = subst (λ (l : List ℕ). AppendsPiece b old new page after (dotted_text l)) same puts
 
-pub name_same : (b : Bool) (old new : Option (List ℕ)) (page after name other : List ℕ) → name ≡ other → Puts b old new page after (name_text name) → Puts b old new page after (name_text other)
-name_same b old new page after name other same puts = subst (λ (l : List ℕ). Puts b old new page after (name_text l)) same puts
+pub name_same : (b : Bool) (old new : Option (List ℕ)) (page after name other : List ℕ) → name ≡ other → AppendsPiece b old new page after (name_text name) → AppendsPiece b old new page after (name_text other)
+name_same b old new page after name other same puts = subst (λ (l : List ℕ). AppendsPiece b old new page after (name_text l)) same puts
 
 -- and so many calls
-pub calls_same : (b : Bool) (old new : Option (List ℕ)) (page after : List ℕ) (n m : ℕ) (o : Outcome) → n ≡ m → Puts b old new page after (line_text (end_text n o)) → Puts b old new page after (line_text (end_text m o))
-calls_same b old new page after n m o same puts = subst (λ (k : ℕ). Puts b old new page after (line_text (end_text k o))) same puts
+pub calls_same : (b : Bool) (old new : Option (List ℕ)) (page after : List ℕ) (n m : ℕ) (o : Outcome) → n ≡ m → AppendsPiece b old new page after (line_text (end_text n o)) → AppendsPiece b old new page after (line_text (end_text m o))
+calls_same b old new page after n m o same puts = subst (λ (k : ℕ). AppendsPiece b old new page after (line_text (end_text k o))) same puts
 
 -- of nothing nothing is left
 nothing_left : (old : Option (List ℕ)) → WroteUpTo old old [] []
 nothing_left old = ([], refl, appends_nothing old)
 
 -- a text that began on an empty page
-pub broken_put : (old new : Option (List ℕ)) (page after text : List ℕ) → page ≡ [] → Puts false old new page after text → WroteSome old new text
+pub broken_put : (old new : Option (List ℕ)) (page after text : List ℕ) → page ≡ [] → AppendsPiece false old new page after text → WroteSome old new text
 broken_put old new page after text empty puts = puts old [] (subst (WroteUpTo old old []) (sym empty) (nothing_left old))
 
-pub whole_put : (old mid new : Option (List ℕ)) (page after text : List ℕ) → page ≡ [] → Puts true old mid page after text → Turns true mid new after [] → Appends old new text
+pub whole_put : (old mid new : Option (List ℕ)) (page after text : List ℕ) → page ≡ [] → AppendsPiece true old mid page after text → Turns true mid new after [] → Appends old new text
 whole_put old mid new page after text empty puts turns = wrote_all old new text [] refl (turns old text (puts old [] (subst (WroteUpTo old old []) (sym empty) (nothing_left old))))
 
-pub part_put : (b : Bool) (old mid new : Option (List ℕ)) (page after text : List ℕ) → page ≡ [] → Puts true old mid page after text → Turns b mid new after [] → WroteSome old new text
+pub part_put : (b : Bool) (old mid new : Option (List ℕ)) (page after text : List ℕ) → page ≡ [] → AppendsPiece true old mid page after text → Turns b mid new after [] → WroteSome old new text
 part_put true old mid new page after text empty puts turns = ([], turns old text (puts old [] (subst (WroteUpTo old old []) (sym empty) (nothing_left old))))
 part_put false old mid new page after text empty puts turns = turns old text (puts old [] (subst (WroteUpTo old old []) (sym empty) (nothing_left old)))

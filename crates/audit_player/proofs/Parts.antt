@@ -1,12 +1,14 @@
--- One part after the other.
+-- Lemmas on bytes read and written in parts: two appended parts are one, the rest after each write is the text's rest, all
+-- is written if nothing is left, two consumed parts are one, and each piece read brings a script nearer its end or its
+-- limit.
 use Rattle.std.proofs.Common.{◌≡◌, ◌≤◌, ℕ, zero, suc, refl, List, [], ◌++◌, ◌+◌, ◌-◌, ◌<◌, false, length, length-append, arith, take, drop, Option, None, Some, sym, ap, subst, ◌∙◌, append_assoc}
 use Rattle.std.specs.Io.KnownBytes.{Appends, Consumes}
 use Rattle.std.proofs.lemmas.List.{append-nil, length-take-le, take-append-drop}
 use Rattle.std.specs.Prelude.{nat_lt}
 use Rattle.std.proofs.lemmas.Bool.{ltb-false}
 use Rattle.process_model.specs.Script.{longest_script}
-use Rattle.script_reader.specs.Reading.{HasRead, Reading}
-use Rattle.audit_player.specs.Taken.{WroteUpTo}
+use Rattle.script_reader.specs.Reading.{HasRead, PieceReader}
+use Rattle.audit_player.specs.InputOutput.{WroteUpTo}
 
 -- nothing is a beginning of every text
 pub appends_nothing : (known : Option (List ℕ)) → Appends known known []
@@ -34,7 +36,7 @@ wrote_all old new text rest e w =
     subst (Appends old new) whole w.2
 
 -- each piece brings a script nearer to its end
-pub nearer : (bytes piece : List ℕ) (r s : Reading) → HasRead bytes r → HasRead (bytes ++ piece) s → 0 < length piece → nat_lt longest_script r.length ≡ false → longest_script + 1 - s.length < longest_script + 1 - r.length
+pub nearer : (bytes piece : List ℕ) (r s : PieceReader) → HasRead bytes r → HasRead (bytes ++ piece) s → 0 < length piece → nat_lt longest_script r.length ≡ false → longest_script + 1 - s.length < longest_script + 1 - r.length
 nearer bytes piece r s h k some short = omega (arith, h.long, k.long, length-append bytes piece, some, ltb-false longest_script r.length short)
 
 pub consumed_more : (old mid new : Option (List ℕ)) (a b : List ℕ) → Consumes old mid a → Consumes mid new b → Consumes old new (a ++ b)

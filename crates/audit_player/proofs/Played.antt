@@ -1,4 +1,5 @@
--- What was read decides what is played.
+-- Lemmas for `play`: the bytes read (all, or a prefix that is too long) determine the script, so what holds of them holds of
+-- the reader's bytes (`played`); a failed read writes nothing (`read_failed`), nor does a refused script (`refused`).
 use Rattle.std.proofs.Common.{◌≡◌, ℕ, ◌<◌, false, List, [], ◌++◌, length, length-append, Option, None, Some, Result, Err, inl, inr, refl, sym, ap, subst, ◌∙◌, arith}
 use Rattle.std.specs.Prelude.{nat_le}
 use Rattle.process_model.specs.declared.script.Cause.TheVariants as cause
@@ -6,13 +7,13 @@ use Rattle.process_model.specs.Script.{Script, script_of, longest_script}
 use Rattle.audit_player.proofs.Parts.{appends_nothing}
 use Rattle.audit_player.specs.declared.fault.PlayError.{PlayError}
 use Rattle.audit_player.specs.declared.fault.PlayError.TheVariants as error
-use Rattle.audit_player.specs.Played.{Plays, PlaysScript, text_or_none, told}
+use Rattle.audit_player.specs.PlayResult.{Plays, PlaysScript, text_or_none, play_error_of}
 use Rattle.std.specs.Io.KnownBytes.{Keeps}
 use Rattle.process_model.specs.declared.script.Cause.{Cause}
-use Rattle.script_reader.specs.Gives.{Refuses}
+use Rattle.script_reader.specs.ReadResults.{GivesError}
 use Rattle.script_reader.specs.declared.fault.ScriptError.{ScriptError}
 use Rattle.script_reader.specs.declared.fault.ScriptError.TheVariants as script
-use Rattle.audit_player.specs.Taken.{IsInput}
+use Rattle.audit_player.specs.InputOutput.{IsInput}
 
 pub not_within : (n : ℕ) → longest_script < n → nat_le n longest_script ≡ false
 not_within n lt = grind arith
@@ -42,10 +43,10 @@ pub keeps_same : (known : Option (List ℕ)) → Keeps known known
 keeps_same None = tt
 keeps_same (Some xs) = refl
 
-told_of : (known : Option (List ℕ)) (e : ScriptError) (read : Result Script (ℕ × Cause)) → Refuses e read → PlaysScript known known (Err (told e)) read
+told_of : (known : Option (List ℕ)) (e : ScriptError) (read : Result Script (ℕ × Cause)) → GivesError e read → PlaysScript known known (Err (play_error_of e)) read
 told_of known script.Memory read h = keeps_same known
 told_of known (script.Line n c) read h = (h, keeps_same known)
 
 -- a script that is refused is told, and nothing is written
-pub refused : (read known : Option (List ℕ)) (bytes : List ℕ) (e : ScriptError) → IsInput longest_script read bytes → Refuses e (script_of bytes) → Plays read known known (Err (told e))
-refused read known bytes e input h = played read known known bytes (Err (told e)) input (told_of known e (script_of bytes) h)
+pub refused : (read known : Option (List ℕ)) (bytes : List ℕ) (e : ScriptError) → IsInput longest_script read bytes → GivesError e (script_of bytes) → Plays read known known (Err (play_error_of e))
+refused read known bytes e input h = played read known known bytes (Err (play_error_of e)) input (told_of known e (script_of bytes) h)

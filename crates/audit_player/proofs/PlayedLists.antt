@@ -1,16 +1,18 @@
--- What was read of a file for threads decides what is played.
+-- Lemmas for `play_threads`: the bytes read (all, or a prefix that is too long) determine the file for threads, so what
+-- holds of them holds of the reader's bytes (`played_lists`); a failed read writes nothing (`lists_unread`), nor does a
+-- refused file.
 use Rattle.std.proofs.Common.{◌≡◌, ℕ, ◌<◌, List, [], length, Option, None, Some, Result, Ok, Err, inl, inr, refl, sym, ap, subst, ◌∙◌}
 use Rattle.process_model.specs.Script.{longest_script}
 use Rattle.process_model.specs.ThreadScript.{ThreadScript, thread_script_of}
 use Rattle.process_model.specs.declared.script.Cause.{Cause}
 use Rattle.process_model.specs.declared.script.Cause.TheVariants as cause
-use Rattle.script_reader.specs.Gives.{Refuses}
+use Rattle.script_reader.specs.ReadResults.{GivesError}
 use Rattle.script_reader.specs.declared.fault.ScriptError.{ScriptError}
 use Rattle.script_reader.specs.declared.fault.ScriptError.TheVariants as script
 use Rattle.audit_player.proofs.Played.{keeps_same, longer, not_within}
-use Rattle.audit_player.specs.Played.{told}
-use Rattle.audit_player.specs.PlayedThreads.{BreaksOff, PlaysLists, PlaysThreads}
-use Rattle.audit_player.specs.Taken.{IsInput}
+use Rattle.audit_player.specs.PlayResult.{play_error_of}
+use Rattle.audit_player.specs.ThreadRunResult.{BreaksOff, PlaysLists, PlaysThreads}
+use Rattle.audit_player.specs.InputOutput.{IsInput}
 use Rattle.audit_player.specs.declared.fault.PlayError.{PlayError}
 use Rattle.audit_player.specs.declared.fault.PlayError.TheVariants as error
 
@@ -36,10 +38,10 @@ pub lists_unread : (read known : Option (List ℕ)) → PlaysThreads read known 
 lists_unread None known = ([], unwritten known (thread_script_of []))
 lists_unread (Some bytes) known = unwritten known (thread_script_of bytes)
 
-told_of : (known : Option (List ℕ)) (e : ScriptError) (read : Result ThreadScript (ℕ × Cause)) → Refuses e read → PlaysLists known known (Err (told e)) read
+told_of : (known : Option (List ℕ)) (e : ScriptError) (read : Result ThreadScript (ℕ × Cause)) → GivesError e read → PlaysLists known known (Err (play_error_of e)) read
 told_of known script.Memory read h = keeps_same known
 told_of known (script.Line n c) read h = (h, keeps_same known)
 
 -- a file that is refused is told, and nothing is written
-pub lists_refused : (read known : Option (List ℕ)) (bytes : List ℕ) (e : ScriptError) → IsInput longest_script read bytes → Refuses e (thread_script_of bytes) → PlaysThreads read known known (Err (told e))
-lists_refused read known bytes e input h = played_lists read known known bytes (Err (told e)) input (told_of known e (thread_script_of bytes) h)
+pub lists_refused : (read known : Option (List ℕ)) (bytes : List ℕ) (e : ScriptError) → IsInput longest_script read bytes → GivesError e (thread_script_of bytes) → PlaysThreads read known known (Err (play_error_of e))
+lists_refused read known bytes e input h = played_lists read known known bytes (Err (play_error_of e)) input (told_of known e (thread_script_of bytes) h)

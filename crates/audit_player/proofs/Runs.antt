@@ -1,25 +1,27 @@
--- Several steps, one after the other.
+-- Lemmas on a series of steps made one by one, as the model's `series_of`: a step that is not refused leads to the rest
+-- (`goes_on`), a refused one ends the series with its refusal (`stops`), and after the last the reply is the given one
+-- (`ends`).
 use Rattle.std.proofs.Common.{◌≡◌, ℕ, zero, suc, ◌+◌, ◌<◌, arith, true, false, List, ◌∷◌, length, drop, get_or, refl, sym, ap, subst, ◌∙◌}
 use Rattle.std.proofs.lemmas.List.{at_drop_more, at_drop_all}
 use Rattle.std.specs.Prelude.{◌≤◌}
-use Rattle.process_model.specs.Briefs.{of_brief, same_brief}
+use Rattle.process_model.specs.ScalarReplies.{reply_of_scalar, same_scalar}
 use Rattle.process_model.specs.Steps.{step}
 use Rattle.process_model.specs.Text.{is_refused, series_of, three_next}
 use Rattle.process_model.specs.World.{World, Outcome}
-use Rattle.process_model.specs.declared.brief.Brief.{Brief}
-use Rattle.process_model.specs.declared.brief.Brief.TheVariants as brief
+use Rattle.process_model.specs.declared.scalar_reply.ScalarReply.{ScalarReply}
+use Rattle.process_model.specs.declared.scalar_reply.ScalarReply.TheVariants as scalar
 use Rattle.process_model.specs.declared.step.Refusal.{Refusal}
 use Rattle.process_model.specs.declared.step.Reply.{Reply}
 use Rattle.process_model.specs.declared.step.Reply.TheVariants as reply
 use Rattle.process_model.specs.declared.step.Step.{Step}
 use Rattle.process_model.specs.declared.step.Step.TheVariants.{Next}
-use Rattle.hart_machine.specs.Serves.{IsIn}
-use Rattle.audit_player.specs.Told.{Follows}
+use Rattle.hart_machine.specs.BufferEntries.{IsInWorld}
+use Rattle.audit_player.specs.LineOutcomes.{GivesOutcome}
 use Rattle.hart_machine.specs.declared.machine.Machine.{Machine}
 
 -- what is left of a series comes to this outcome
 abbrev pub Leads : Machine → List Step → Reply → Outcome → Type 0
-Leads m rest last o = (v : World) × (IsIn m v × (series_of v rest last ≡ o))
+Leads m rest last o = (v : World) × (IsInWorld m v × (series_of v rest last ≡ o))
 
 pub not_refused : (r : Reply) → ((x : Refusal) → r ≡ reply.Refused x → ⊥) → is_refused r ≡ false
 not_refused reply.Done h = refl
@@ -43,35 +45,35 @@ not_refused (reply.Exited status) h = refl
 not_refused (reply.Refused x) h = absurd (h x refl)
 
 -- a reply without room for bytes that is no refusal is none with it
-pub no_refusal : (b : Brief) → ((x : Refusal) → b ≡ brief.Refused x → ⊥) → (x : Refusal) → of_brief b ≡ reply.Refused x → ⊥
-no_refusal b apart x e = apart x (same_brief b (brief.Refused x) e)
+pub no_refusal : (b : ScalarReply) → ((x : Refusal) → b ≡ scalar.Refused x → ⊥) → (x : Refusal) → reply_of_scalar b ≡ reply.Refused x → ⊥
+no_refusal b apart x e = apart x (same_scalar b (scalar.Refused x) e)
 
-module _ (m n : Machine) (ss : List Step) (i : ℕ) (s : Step) (r last : Reply) (o : Outcome) (is : s ≡ get_or ss i s) (lt : i < length ss) (made : (v : World) → IsIn m v → Follows n r (step v s)) where
+module _ (m n : Machine) (ss : List Step) (i : ℕ) (s : Step) (r last : Reply) (o : Outcome) (is : s ≡ get_or ss i s) (lt : i < length ss) (made : (v : World) → IsInWorld m v → GivesOutcome n r (step v s)) where
   this_first : drop i ss ≡ s ∷ drop (i + 1) ss
   this_first = at_drop_more (λ (rest : List Step). rest) ss i s lt ∙ ap (λ (x : Step). x ∷ drop (i + 1) ss) (sym is)
 
   -- a step that is not refused is one of them
   pub goes_on : ((x : Refusal) → r ≡ reply.Refused x → ⊥) → Leads m (drop i ss) last o → Leads n (drop (i + 1) ss) last o
   goes_on other (v, (h, e)) =
-      let does : Follows n r (step v s) = made v h in
+      let does : GivesOutcome n r (step v s) = made v h in
       let next : is_refused (step v s).reply ≡ false = ap is_refused (sym does.0) ∙ not_refused r other in
       let from : series_of v (s ∷ drop (i + 1) ss) last ≡ o = ap (λ (rest : List Step). series_of v rest last) (sym this_first) ∙ e in
       ((step v s).world, (does.1, rw next at from))
 
   -- one that is refused is the last
-  pub stops : (x : Refusal) → r ≡ reply.Refused x → Leads m (drop i ss) last o → Follows n r o
+  pub stops : (x : Refusal) → r ≡ reply.Refused x → Leads m (drop i ss) last o → GivesOutcome n r o
   stops x refused (v, (h, e)) =
-      let does : Follows n r (step v s) = made v h in
+      let does : GivesOutcome n r (step v s) = made v h in
       let refuses : is_refused (step v s).reply ≡ true = ap is_refused (sym does.0 ∙ refused) in
       let from : series_of v (s ∷ drop (i + 1) ss) last ≡ o = ap (λ (rest : List Step). series_of v rest last) (sym this_first) ∙ e in
       let whole : step v s ≡ o = rw refuses at from in
-      subst (Follows n r) whole does
+      subst (GivesOutcome n r) whole does
 
 -- and where none is left, all were made
-pub ends : (m : Machine) (ss : List Step) (i : ℕ) (last : Reply) (o : Outcome) → length ss ≤ i → Leads m (drop i ss) last o → Follows m last o
+pub ends : (m : Machine) (ss : List Step) (i : ℕ) (last : Reply) (o : Outcome) → length ss ≤ i → Leads m (drop i ss) last o → GivesOutcome m last o
 ends m ss i last o past (v, (h, e)) =
-    let done : Follows m last (record { reply = last; world = v }) = (refl, h) in
-    subst (Follows m last) (sym (at_drop_all (λ (rest : List Step). series_of v rest last) ss i past) ∙ e) done
+    let done : GivesOutcome m last (record { reply = last; world = v }) = (refl, h) in
+    subst (GivesOutcome m last) (sym (at_drop_all (λ (rest : List Step). series_of v rest last) ss i past) ∙ e) done
 
 -- each of three instructions of the trampoline is one
 pub is_next : (h i : ℕ) → i < 3 → Next h ≡ get_or (three_next h) i (Next h)

@@ -1,34 +1,36 @@
--- The text of a run, line by line.
+-- Lemmas on the text of a script, line by line: what the sink (writer) took, the page has and the lines left will answer is
+-- the model's whole text (`IsWriting`, `line_more`, `page_more`), to the end (`ended`), or a prefix after a failed write
+-- (`cut`).
 use Rattle.std.proofs.Common.{◌≡◌, ℕ, ◌+◌, ◌<◌, ◌≤◌, List, [], ◌∷◌, ◌++◌, length, drop, get_or, Option, sym, ap, subst, ◌∙◌, append_assoc}
 use Rattle.std.specs.Prelude.{All}
 use Rattle.std.specs.Io.KnownBytes.{Appends}
 use Rattle.std.proofs.lemmas.List.{append-nil, at_drop_more, at_drop_all}
-use Rattle.process_model.specs.Text.{line_text, commands_text, played}
+use Rattle.process_model.specs.Text.{line_text, commands_text, line_result}
 use Rattle.process_model.specs.World.{World}
 use Rattle.process_model.specs.declared.file.FileText.{FileText}
 use Rattle.process_model.specs.declared.image.OwnedImage.{OwnedImage}
 use Rattle.process_model.specs.declared.script.Command.{Command}
-use Rattle.hart_machine.specs.Serves.{IsIn}
+use Rattle.hart_machine.specs.BufferEntries.{IsInWorld}
 use Rattle.hart_machine.specs.declared.machine.Machine.{Machine}
 use Rattle.script_reader.specs.Playable.{IsDeclared}
 use Rattle.audit_player.proofs.Parts.{appends_more}
-use Rattle.audit_player.specs.Taken.{WroteSome}
-use Rattle.audit_player.specs.Told.{Tells}
+use Rattle.audit_player.specs.InputOutput.{WroteSome}
+use Rattle.audit_player.specs.LineOutcomes.{AppendsLine}
 
 -- what is written so far, and what the lines that are left say, is the whole
 abbrev pub IsWritten : Machine → List OwnedImage → List Command → List ℕ → List ℕ → Type 0
-IsWritten m images rest text whole = (w : World) × (IsIn m w × (text ++ commands_text images w rest ≡ whole))
+IsWritten m images rest text whole = (w : World) × (IsInWorld m w × (text ++ commands_text images w rest ≡ whole))
 
 -- one line more
 pub line_more : (m n : Machine) (images : List OwnedImage) (cs : List Command) (i : ℕ) (c : Command) (text told after whole : List ℕ) → c ≡ get_or cs i c → i < length cs
-    → ((w : World) → IsIn m w → Tells n text told (played images w c)) → after ≡ told ++ 10 ∷ [] → IsWritten m images (drop i cs) text whole → IsWritten n images (drop (i + 1) cs) after whole
+    → ((w : World) → IsInWorld m w → AppendsLine n text told (line_result images w c)) → after ≡ told ++ 10 ∷ [] → IsWritten m images (drop i cs) text whole → IsWritten n images (drop (i + 1) cs) after whole
 line_more m n images cs i c text told after whole is lt tells more (w, (h, e)) =
-    let says : Tells n text told (played images w c) = tells w h in
+    let says : AppendsLine n text told (line_result images w c) = tells w h in
     let first : drop i cs ≡ c ∷ drop (i + 1) cs = at_drop_more (λ (rest : List Command). rest) cs i c lt ∙ ap (λ (x : Command). x ∷ drop (i + 1) cs) (sym is) in
-    let rest : List ℕ = commands_text images (played images w c).world (drop (i + 1) cs) in
+    let rest : List ℕ = commands_text images (line_result images w c).world (drop (i + 1) cs) in
     let line : text ++ commands_text images w (c ∷ drop (i + 1) cs) ≡ whole = ap (λ (l : List Command). text ++ commands_text images w l) (sym first) ∙ e in
-    let so_far : after ≡ text ++ line_text (played images w c).text = more ∙ ap (λ (t : List ℕ). t ++ 10 ∷ []) says.0 ∙ append_assoc text (played images w c).text (10 ∷ []) in
-    ((played images w c).world, (says.1, ap (λ (t : List ℕ). t ++ rest) so_far ∙ append_assoc text (line_text (played images w c).text) rest ∙ line))
+    let so_far : after ≡ text ++ line_text (line_result images w c).text = more ∙ ap (λ (t : List ℕ). t ++ 10 ∷ []) says.0 ∙ append_assoc text (line_result images w c).text (10 ∷ []) in
+    ((line_result images w c).world, (says.1, ap (λ (t : List ℕ). t ++ rest) so_far ∙ append_assoc text (line_text (line_result images w c).text) rest ∙ line))
 
 -- what a line names was declared
 pub declared : (fs : List FileText) (is images : List OwnedImage) (cs commands : List Command) (i : ℕ) (c : Command) → images ≡ is → commands ≡ cs → c ≡ get_or commands i c → i < length commands
@@ -72,9 +74,9 @@ ended old mid new m images cs i page whole past (front, (took, (w, (is, all)))) 
 
 -- one line more on the page
 pub page_more : (old new : Option (List ℕ)) (m n : Machine) (images : List OwnedImage) (cs : List Command) (i : ℕ) (c : Command) (page told after whole : List ℕ) → c ≡ get_or cs i c → i < length cs
-    → ((w : World) → IsIn m w → Tells n page told (played images w c)) → after ≡ told ++ 10 ∷ [] → IsWriting old new m images (drop i cs) page whole → IsWriting old new n images (drop (i + 1) cs) after whole
+    → ((w : World) → IsInWorld m w → AppendsLine n page told (line_result images w c)) → after ≡ told ++ 10 ∷ [] → IsWriting old new m images (drop i cs) page whole → IsWriting old new n images (drop (i + 1) cs) after whole
 page_more old new m n images cs i c page told after whole is lt tells more (front, (took, written)) =
-    let says : (w : World) → IsIn m w → Tells n (front ++ page) (front ++ told) (played images w c) =
-    λ w h. let line = tells w h in (ap (λ (l : List ℕ). front ++ l) line.0 ∙ sym (append_assoc front page (played images w c).text), line.1) in
+    let says : (w : World) → IsInWorld m w → AppendsLine n (front ++ page) (front ++ told) (line_result images w c) =
+    λ w h. let line = tells w h in (ap (λ (l : List ℕ). front ++ l) line.0 ∙ sym (append_assoc front page (line_result images w c).text), line.1) in
     let ended : front ++ after ≡ (front ++ told) ++ 10 ∷ [] = ap (λ (l : List ℕ). front ++ l) more ∙ sym (append_assoc front told (10 ∷ [])) in
     (front, (took, line_more m n images cs i c (front ++ page) (front ++ told) (front ++ after) whole is lt says ended written))

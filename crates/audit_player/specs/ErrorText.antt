@@ -1,4 +1,5 @@
--- The number and the name of what keeps a script from being played.
+-- `error_text`: the text of a `PlayError` (why a file was not played to its end): its number and name and, if the file has a
+-- fault, the line's number and the cause.
 use Rattle.std.specs.Prelude.{ℕ, List, ◌++◌, codes}
 use Rattle.std.specs.Fmt.{decimal}
 use Rattle.process_model.specs.Words.{cause_text}

@@ -1,9 +1,9 @@
 pub mod ErrorText
 pub mod KernelFrames
 pub mod Pages
-pub mod Played
-pub mod PlayedThreads
-pub mod Taken
+pub mod PlayResult
+pub mod ThreadRunResult
+pub mod InputOutput
 pub mod ThreadLists
 pub mod ThreadText
-pub mod Told
+pub mod LineOutcomes

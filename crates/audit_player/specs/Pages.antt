@@ -1,14 +1,17 @@
--- Text that goes to a writer page by page.
+-- Relations for text that is collected on a page and written to a sink (writer) when full: a call appends a piece
+-- (`AppendsPiece`), or nothing (`Turns`); sink and page have the text so far or, after a failed write, the sink has a
+-- prefix.
 use Rattle.std.specs.Prelude.{ℕ, List, ◌++◌, Bool, true, false, Option}
-use Rattle.audit_player.specs.Taken.{WroteUpTo, WroteSome}
+use Rattle.audit_player.specs.InputOutput.{WroteUpTo, WroteSome}
 
--- A writer's bytes and a page, before and after: the text that they held together they hold with a piece behind it; where a
--- write failed, a beginning of that was written
-abbrev pub Puts : Bool → Option (List ℕ) → Option (List ℕ) → List ℕ → List ℕ → List ℕ → Type 0
-Puts true old new page after piece = (start : Option (List ℕ)) (text : List ℕ) → WroteUpTo start old text page → WroteUpTo start new (text ++ piece) after
-Puts false old new page after piece = (start : Option (List ℕ)) (text : List ℕ) → WroteUpTo start old text page → WroteSome start new (text ++ piece)
+-- A sink's bytes and a page, before and after a call that appends a piece, for any text of which the sink had all but what
+-- was on the page. If the call returned true, the sink has all of the text and the piece but what is on the page; if
+-- false, a prefix of these.
+abbrev pub AppendsPiece : Bool → Option (List ℕ) → Option (List ℕ) → List ℕ → List ℕ → List ℕ → Type 0
+AppendsPiece true old new page after piece = (start : Option (List ℕ)) (text : List ℕ) → WroteUpTo start old text page → WroteUpTo start new (text ++ piece) after
+AppendsPiece false old new page after piece = (start : Option (List ℕ)) (text : List ℕ) → WroteUpTo start old text page → WroteSome start new (text ++ piece)
 
--- the same with nothing behind it
+-- `AppendsPiece` for a call that appends nothing
 abbrev pub Turns : Bool → Option (List ℕ) → Option (List ℕ) → List ℕ → List ℕ → Type 0
 Turns true old new page after = (start : Option (List ℕ)) (text : List ℕ) → WroteUpTo start old text page → WroteUpTo start new text after
 Turns false old new page after = (start : Option (List ℕ)) (text : List ℕ) → WroteUpTo start old text page → WroteSome start new text

@@ -1,4 +1,5 @@
--- The lists and the starts of a file for threads, as processes have them.
+-- Predicates: the lists of calls and the starts of a run on threads are those that a file for threads declares
+-- (`AreListsOf`, `AreStartsOf`; one call: `IsCallOf`, one start: `IsStartOf`); list numbers are below 64 (`AreFew`).
 use Rattle.std.specs.Prelude.{◌≡◌, ℕ, ◌<◌, List, [], ◌∷◌, All, Option, None, Some}
 use Rattle.hart_calls.specs.Replay.{list_at}
 use Rattle.process_model.specs.Images.{image_loads}
@@ -14,11 +15,12 @@ use Rattle.process_model.specs.declared.call.Start.{Start}
 use Rattle.process_model.specs.declared.image.OwnedImage.{OwnedImage}
 use Rattle.sv39_entry.specs.declared.scheme.Scheme.{Scheme}
 
--- each has a number that a list may have
+-- each list has a number below `most_lists`
 abbrev pub AreFew : List CallList → Type 0
 AreFew lists = All (λ (l : CallList). l.number < most_lists) lists
 
--- a call as a line declares it: it borrows the image that the line names, or the bytes that it has
+-- d is the call that a line declares; its image loads, under each scheme, as the one that the line names,
+-- and its bytes are the line's
 abbrev pub IsCallOf : List OwnedImage → ListedCall → Call → Type 0
 IsCallOf images (listed.One c) d = d ≡ c
 IsCallOf images (listed.Exec n) (call.Exec image) = (scheme : Scheme) → image_loads scheme image ≡ image_loads scheme (image_at images n)
@@ -30,7 +32,7 @@ AreCallsOf images [] [] = Unit {0}
 AreCallsOf images (l ∷ ls) (c ∷ cs) = IsCallOf images l c × AreCallsOf images ls cs
 AreCallsOf images ls cs = ⊥
 
--- the lines of the list of a number, none where there is no such list
+-- the lines of a list (`calls_of`); none if there is no such list
 abbrev pub or_no_lines : Option (List ListedCall) → List ListedCall
 or_no_lines None = []
 or_no_lines (Some lines) = lines
@@ -38,11 +40,12 @@ or_no_lines (Some lines) = lines
 abbrev pub lines_of : List CallList → ℕ → List ListedCall
 lines_of lists k = or_no_lines (calls_of lists k)
 
--- the lists of a file, by their numbers
+-- list k of a run has the calls that the file's list k declares, for each number k that a list may have
 abbrev pub AreListsOf : List OwnedImage → List CallList → List (List Call) → Type 0
 AreListsOf images declared lists = (k : ℕ) → k < most_lists → AreCallsOf images (lines_of declared k) (list_at lists k)
 
--- a start as a line declares it
+-- s is the start that a line declares: its list is that of the line, and its image loads, under each scheme, as
+-- the one that the line names
 abbrev pub IsStartOf : List OwnedImage → ListedStart → Start → Type 0
 IsStartOf images d s = (s.list ≡ d.list) × ((scheme : Scheme) → image_loads scheme s.image ≡ image_loads scheme (image_at images d.image))
 

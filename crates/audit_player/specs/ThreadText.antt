@@ -1,4 +1,5 @@
--- The text of what processes on threads came to, a line for each.
+-- The text of a run on threads (`threads_text`): a line for each ended process (`ended_line`: name, number of calls,
+-- outcome), and last the number of free user frames; processes sorted by name (`AreInOrder`).
 use Rattle.std.specs.Prelude.{ℕ, List, [], ◌∷◌, ◌++◌, length}
 use Rattle.std.specs.List.Sorted.{IsSortedByKey}
 use Rattle.std.specs.Cmp.Lexicographic.{slice_cmp}
@@ -14,10 +15,10 @@ abbrev pub ended_lines : List Finished → List ℕ
 ended_lines [] = []
 ended_lines (f ∷ fs) = ended_line f ++ ended_lines fs
 
--- and last how many user frames are free, of how many
+-- the lines of the processes, and last how many of the user frames are free
 abbrev pub threads_text : List Finished → ℕ → ℕ → List ℕ
 threads_text ended free frames = ended_lines ended ++ line_text (free_text free frames)
 
--- in the order of their names, number by number
+-- sorted by their names, which are compared number by number
 abbrev pub AreInOrder : List Finished → Type 0
 AreInOrder = IsSortedByKey (λ (f : Finished). f.name.items) (slice_cmp nat_cmp)

@@ -1,9 +1,10 @@
-// What the lines after `boot` answer that make no step.
+// Answers of the two lines after `boot` that make no step: `put_shown` appends that of `show` (length and bytes of a file);
+// `audit` returns the counts of frames that the line `audit` answers.
 
 ghost use Rattle.std.specs.Prelude.{◌≡◌, ◌≤◌, ◌+◌, ◌++◌, codes, slice_get, vec_len, vec_capacity};
 ghost use Rattle.std.specs.Prelude.{length as list_length};
 ghost use Rattle.std.specs.Fmt.{decimal};
-ghost use Rattle.hart_machine.specs.Serves.{IsIn};
+ghost use Rattle.hart_machine.specs.BufferEntries.{IsInWorld};
 ghost use Rattle.process_model.specs.Copies.{longest_copy};
 ghost use Rattle.process_model.specs.Files.{bytes_of};
 ghost use Rattle.process_model.specs.Text.{show_text};
@@ -14,7 +15,7 @@ use file_cabinet::Cabinet;
 use hart_machine::Machine;
 use process_model::{LONGEST_TEXT, Report, put, put_bytes, put_decimal};
 
-/// Puts the length of a file, and the bytes of it that are shown.
+/// Appends the length of a file, and the bytes of it that are shown.
 fn put_file(text: &mut Vec<u8>, length: usize, shown: &[u8])
     requires few { list_length shown.now ≤ 256 }
     requires room { vec_len text.old + LONGEST_TEXT ≤ vec_capacity text.old }
@@ -28,7 +29,9 @@ fn put_file(text: &mut Vec<u8>, length: usize, shown: &[u8])
     put_bytes(text, shown);
 }
 
-/// Puts the length of a file and its bytes from an offset on, at most `count`. A file that is not there has no bytes.
+/// Appends the answer of `show`: the length of the file with index `file`, in bytes, and its bytes from `offset` on, at most
+/// `count`. A file that does not exist has no bytes. `count` must be at most 256, and `text` must have room for
+/// `LONGEST_TEXT` bytes more.
 pub fn put_shown(text: &mut Vec<u8>, files: &Cabinet, file: usize, offset: u64, count: usize)
     requires short { count ≤ longest_copy }
     requires room { vec_len text.old + LONGEST_TEXT ≤ vec_capacity text.old }
@@ -41,9 +44,9 @@ pub fn put_shown(text: &mut Vec<u8>, files: &Cabinet, file: usize, offset: u64, 
     put_file(text, bytes.len(), &rest[..rest.len().min(count)]);
 }
 
-/// The accounts of a machine's frames.
+/// Returns the counts of a machine's frames that the line `audit` answers: free, held and shared frames, and references.
 pub fn audit(machine: &Machine) -> Report
-    ensures { (w : World) → IsIn machine.now w → result ≡ report w }
+    ensures { (w : World) → IsInWorld machine.now w → result ≡ report w }
 {
     machine.report()
 }

@@ -1,8 +1,10 @@
-// What the lines after `boot` do.
+// `put_line`: plays one line after `boot` of a script: makes its steps on the machine (one; several for `on`, `enter`,
+// `leave`, `fix`; none for `show`, `audit`) and appends its answer to a text. Helpers for each kind of line; `lend` borrows
+// an image.
 
 ghost use Rattle.std.specs.Prelude.{◌≡◌, ◌∷◌, ◌≤◌, ◌+◌, List, true, vec_len, vec_capacity};
-ghost use Rattle.hart_machine.specs.Serves.{IsIn};
-ghost use Rattle.process_model.specs.Briefs.{is_brief, of_brief};
+ghost use Rattle.hart_machine.specs.BufferEntries.{IsInWorld};
+ghost use Rattle.process_model.specs.ScalarReplies.{is_scalar, reply_of_scalar};
 ghost use Rattle.process_model.specs.Images.{image_loads};
 ghost use Rattle.sv39_entry.specs.declared.scheme.Scheme.{Scheme};
 ghost use Rattle.process_model.specs.Steps as model;
@@ -11,18 +13,19 @@ ghost use Rattle.process_model.specs.World.{World};
 ghost use Rattle.process_model.specs.declared.file.FileText.{FileText};
 ghost use Rattle.process_model.specs.declared.step.Reply.TheVariants.{Done};
 ghost use Rattle.process_model.specs.declared.step.Step.TheVariants as steps;
-ghost use Rattle.script_reader.specs.Packing.{shown};
+ghost use Rattle.script_reader.specs.PackedLines.{shown};
 ghost use Rattle.script_reader.specs.Playable.{IsDeclared};
-ghost use Rattle.audit_player.specs.Told.{Follows, Tells};
+ghost use Rattle.audit_player.specs.LineOutcomes.{GivesOutcome, AppendsLine};
 
 use crate::answer::{audit, put_shown};
 use hart_machine::Machine;
 use process_model::{
-    Brief, Command, Image, LONGEST_TEXT, OwnedImage, Step, put_brief, put_reply, put_report,
+    Command, Image, LONGEST_TEXT, OwnedImage, ScalarReply, Step, put_reply, put_report,
+    put_scalar_reply,
 };
-use script_reader::Shown;
+use script_reader::CommandView;
 
-/// An image of a script, as a step borrows it.
+/// Borrows an image of a script for a step or a call. It loads as the script's image does.
 pub(crate) fn lend(image: &OwnedImage) -> Image<'_>
     ensures loads { (scheme : Scheme) → image_loads scheme result ≡ image_loads scheme (words.lent image.now) }
 {
@@ -33,130 +36,131 @@ pub(crate) fn lend(image: &OwnedImage) -> Image<'_>
 }
 
 /// Starts a process of an image.
-fn start(machine: &mut Machine, image: &OwnedImage) -> Brief
-    requires world { (w : World) × IsIn machine.old w }
-    ensures made { (w : World) → IsIn machine.old w → Follows machine.new (of_brief result) (model.step w (steps.Start (words.lent image.now))) }
+fn start(machine: &mut Machine, image: &OwnedImage) -> ScalarReply
+    requires world { (w : World) × IsInWorld machine.old w }
+    ensures made { (w : World) → IsInWorld machine.old w → GivesOutcome machine.new (reply_of_scalar result) (model.step w (steps.Start (words.lent image.now))) }
 {
-    machine.step_briefly(Step::Start(lend(image)))
+    machine.step_scalar(Step::Start(lend(image)))
 }
 
-/// Puts the process of an image in the place of the one on a hart.
-fn exec(machine: &mut Machine, hart: usize, image: &OwnedImage) -> Brief
-    requires world { (w : World) × IsIn machine.old w }
-    ensures made { (w : World) → IsIn machine.old w → Follows machine.new (of_brief result) (model.step w (steps.Exec hart (words.lent image.now))) }
+/// Replaces the process on a hart by one of an image.
+fn exec(machine: &mut Machine, hart: usize, image: &OwnedImage) -> ScalarReply
+    requires world { (w : World) × IsInWorld machine.old w }
+    ensures made { (w : World) → IsInWorld machine.old w → GivesOutcome machine.new (reply_of_scalar result) (model.step w (steps.Exec hart (words.lent image.now))) }
 {
     let image = lend(image);
-    machine.step_briefly(Step::Exec { hart, image })
+    machine.step_scalar(Step::Exec { hart, image })
 }
 
-/// Copies bytes to the process on a hart.
-fn copy_out(machine: &mut Machine, hart: usize, address: u64, bytes: &[u8]) -> Brief
-    requires world { (w : World) × IsIn machine.old w }
-    ensures made { (w : World) → IsIn machine.old w → Follows machine.new (of_brief result) (model.step w (steps.CopyOut hart address (record { ref_ptr = (0, 0); now = bytes.now }))) }
+/// Copies bytes to the process on a hart, as the kernel (`copyout`).
+fn copy_out(machine: &mut Machine, hart: usize, address: u64, bytes: &[u8]) -> ScalarReply
+    requires world { (w : World) × IsInWorld machine.old w }
+    ensures made { (w : World) → IsInWorld machine.old w → GivesOutcome machine.new (reply_of_scalar result) (model.step w (steps.CopyOut hart address (record { ref_ptr = (0, 0); now = bytes.now }))) }
 {
-    machine.step_briefly(Step::CopyOut {
+    machine.step_scalar(Step::CopyOut {
         hart,
         address,
         bytes,
     })
 }
 
-/// Makes three instructions of the trampoline: through the return to the user, or after a fault through the entry into the
-/// kernel. The reply is that of the first which is refused, and none is made after it; else the one given.
-fn three_next(machine: &mut Machine, hart: usize, reply: Brief) -> Brief
-    requires world { (w : World) × IsIn machine.old w }
-    ensures made { (w : World) → IsIn machine.old w → Follows machine.new (of_brief result) (words.series_of w (words.three_next hart) (of_brief reply)) }
+/// Makes three instructions of the trampoline: the return to user mode or, after a fault or a trap, kernel entry. The first
+/// that is refused is the last that is tried, and its refusal is the reply; if none is, the reply is `reply`.
+fn three_next(machine: &mut Machine, hart: usize, reply: ScalarReply) -> ScalarReply
+    requires world { (w : World) × IsInWorld machine.old w }
+    ensures made { (w : World) → IsInWorld machine.old w → GivesOutcome machine.new (reply_of_scalar result) (words.series_of w (words.three_next hart) (reply_of_scalar reply)) }
 {
     'instructions: for _ in 0..3usize {
-        let said = machine.step_briefly(Step::Next { hart });
-        if let Brief::Refused(_) = said {
+        let said = machine.step_scalar(Step::Next { hart });
+        if let ScalarReply::Refused(_) = said {
             return said;
         }
     }
     reply
 }
 
-/// Makes a step, and after it these three where it was not refused. It is made part of those who say which step.
+/// Makes a step, then three instructions of the trampoline. The first of the four that is refused is the last that is tried,
+/// and its refusal is the reply; if none is, the reply is `Done`. Inlined, since the callers know which step it is.
 #[inline(always)]
-fn go_through(machine: &mut Machine, hart: usize, step: Step<'_>) -> Brief
-    requires world { (w : World) × IsIn machine.old w }
-    requires brief { is_brief step ≡ true }
-    ensures made { (w : World) → IsIn machine.old w → Follows machine.new (of_brief result) (words.series_of w (step.entry ∷ words.three_next hart) Done) }
+fn go_through(machine: &mut Machine, hart: usize, step: Step<'_>) -> ScalarReply
+    requires world { (w : World) × IsInWorld machine.old w }
+    requires scalar { is_scalar step ≡ true }
+    ensures made { (w : World) → IsInWorld machine.old w → GivesOutcome machine.new (reply_of_scalar result) (words.series_of w (step.entry ∷ words.three_next hart) Done) }
 {
-    let first = machine.step_briefly(step);
-    if let Brief::Refused(_) = first {
+    let first = machine.step_scalar(step);
+    if let ScalarReply::Refused(_) = first {
         return first;
     }
-    three_next(machine, hart, Brief::Done)
+    three_next(machine, hart, ScalarReply::Done)
 }
 
-/// Puts a process on a hart, and goes through the return to the user.
-fn put_on(machine: &mut Machine, hart: usize, slot: usize) -> Brief
-    requires world { (w : World) × IsIn machine.old w }
-    ensures made { (w : World) → IsIn machine.old w → Follows machine.new (of_brief result) (words.series_of w (words.on_steps hart slot) Done) }
+/// Schedules the process of a slot on a hart, and returns to user mode (`on`).
+fn put_on(machine: &mut Machine, hart: usize, slot: usize) -> ScalarReply
+    requires world { (w : World) × IsInWorld machine.old w }
+    ensures made { (w : World) → IsInWorld machine.old w → GivesOutcome machine.new (reply_of_scalar result) (words.series_of w (words.on_steps hart slot) Done) }
 {
     let slot = Some(slot);
     go_through(machine, hart, Step::Switch { hart, slot })
 }
 
-/// Goes through the entry into the kernel.
-fn enter(machine: &mut Machine, hart: usize) -> Brief
-    requires world { (w : World) × IsIn machine.old w }
-    ensures made { (w : World) → IsIn machine.old w → Follows machine.new (of_brief result) (words.series_of w (words.enter_steps hart) Done) }
+/// Traps, and enters the kernel (`enter`).
+fn enter(machine: &mut Machine, hart: usize) -> ScalarReply
+    requires world { (w : World) × IsInWorld machine.old w }
+    ensures made { (w : World) → IsInWorld machine.old w → GivesOutcome machine.new (reply_of_scalar result) (words.series_of w (words.enter_steps hart) Done) }
 {
     go_through(machine, hart, Step::Trap { hart })
 }
 
-/// Goes into the kernel after a fault, is served, and returns to the user where the access will now answer.
-fn fix(machine: &mut Machine, hart: usize) -> Brief
-    requires world { (w : World) × IsIn machine.old w }
-    ensures made { (w : World) → IsIn machine.old w → Follows machine.new (of_brief result) (words.fixed w hart) }
+/// Enters the kernel after a fault, serves the fault and, if the reply is `Ready`, returns to user mode (`fix`).
+fn fix(machine: &mut Machine, hart: usize) -> ScalarReply
+    requires world { (w : World) × IsInWorld machine.old w }
+    ensures made { (w : World) → IsInWorld machine.old w → GivesOutcome machine.new (reply_of_scalar result) (words.fixed w hart) }
 {
-    let entered = three_next(machine, hart, Brief::Done);
-    if let Brief::Refused(_) = entered {
+    let entered = three_next(machine, hart, ScalarReply::Done);
+    if let ScalarReply::Refused(_) = entered {
         return entered;
     }
-    let served = machine.step_briefly(Step::Serve { hart });
-    if let Brief::Ready = served {
+    let served = machine.step_scalar(Step::Serve { hart });
+    if let ScalarReply::Ready = served {
         return three_next(machine, hart, served);
     }
     served
 }
 
-/// Makes a step, and puts its whole reply. It stands apart, so that a line whose reply carries no bytes makes no room for
-/// them.
+/// Makes a step, and appends its reply, which may have bytes. Not inlined, so that other lines need no
+/// room for a reply with bytes.
 #[inline(never)]
 fn put_whole(machine: &mut Machine, step: Step<'_>, text: &mut Vec<u8>)
-    requires world { (w : World) × IsIn machine.old w }
+    requires world { (w : World) × IsInWorld machine.old w }
     requires room { vec_len text.old + LONGEST_TEXT ≤ vec_capacity text.old }
-    ensures told { (w : World) → IsIn machine.old w → Tells machine.new text.old.items text.new.items (words.told (model.step w step.entry)) }
+    ensures line_text { (w : World) → IsInWorld machine.old w → AppendsLine machine.new text.old.items text.new.items (words.line_result_of (model.step w step.entry)) }
     ensures len { vec_len text.new ≤ vec_len text.old + LONGEST_TEXT }
     ensures capacity { vec_capacity text.old ≤ vec_capacity text.new }
 {
     put_reply(text, &machine.step(step));
 }
 
-/// Makes a step that is no copy from a process, and puts its reply. It stands apart, so that a load or a store makes no room
+/// Makes a step that is no `copyin`, and appends its reply. Not inlined, so that a load or a store needs no room
 /// for what other steps need.
 #[inline(never)]
 fn put_other(machine: &mut Machine, step: Step<'_>, text: &mut Vec<u8>)
-    requires brief { is_brief step ≡ true }
-    requires world { (w : World) × IsIn machine.old w }
+    requires scalar { is_scalar step ≡ true }
+    requires world { (w : World) × IsInWorld machine.old w }
     requires room { vec_len text.old + LONGEST_TEXT ≤ vec_capacity text.old }
-    ensures told { (w : World) → IsIn machine.old w → Tells machine.new text.old.items text.new.items (words.told (model.step w step.entry)) }
+    ensures line_text { (w : World) → IsInWorld machine.old w → AppendsLine machine.new text.old.items text.new.items (words.line_result_of (model.step w step.entry)) }
     ensures len { vec_len text.new ≤ vec_len text.old + LONGEST_TEXT }
     ensures capacity { vec_capacity text.old ≤ vec_capacity text.new }
 {
-    put_brief(text, machine.step_briefly(step));
+    put_scalar_reply(text, machine.step_scalar(step));
 }
 
-/// Makes a step, and puts its reply. Loads and stores, of which most scripts have most, are named, so that no other step is
-/// made part of this.
+/// Makes a step, and appends its reply. Loads and stores, most lines of most scripts, have cases of their own, so that no
+/// other step is inlined here.
 #[inline(always)]
 fn put_step(machine: &mut Machine, step: Step<'_>, text: &mut Vec<u8>)
-    requires world { (w : World) × IsIn machine.old w }
+    requires world { (w : World) × IsInWorld machine.old w }
     requires room { vec_len text.old + LONGEST_TEXT ≤ vec_capacity text.old }
-    ensures told { (w : World) → IsIn machine.old w → Tells machine.new text.old.items text.new.items (words.told (model.step w step.entry)) }
+    ensures line_text { (w : World) → IsInWorld machine.old w → AppendsLine machine.new text.old.items text.new.items (words.line_result_of (model.step w step.entry)) }
     ensures len { vec_len text.new ≤ vec_len text.old + LONGEST_TEXT }
     ensures capacity { vec_capacity text.old ≤ vec_capacity text.new }
 {
@@ -167,13 +171,13 @@ fn put_step(machine: &mut Machine, step: Step<'_>, text: &mut Vec<u8>)
             width,
             via,
         } => {
-            let reply = machine.step_briefly(Step::Load {
+            let reply = machine.step_scalar(Step::Load {
                 hart,
                 address,
                 width,
                 via,
             });
-            put_brief(text, reply);
+            put_scalar_reply(text, reply);
         }
         Step::Store {
             hart,
@@ -182,37 +186,43 @@ fn put_step(machine: &mut Machine, step: Step<'_>, text: &mut Vec<u8>)
             value,
             via,
         } => {
-            let reply = machine.step_briefly(Step::Store {
+            let reply = machine.step_scalar(Step::Store {
                 hart,
                 address,
                 width,
                 value,
                 via,
             });
-            put_brief(text, reply);
+            put_scalar_reply(text, reply);
         }
         Step::CopyIn { .. } => put_whole(machine, step, text),
         _ => put_other(machine, step, text),
     }
 }
 
-/// Does what a line after `boot` says, and puts what it answers.
+/// Plays a line after `boot`: makes its steps, and appends its answer without a line end.
 fn put_answer(machine: &mut Machine, images: &[OwnedImage], command: &Command, text: &mut Vec<u8>)
-    requires world { (w : World) × IsIn machine.old w }
+    requires world { (w : World) × IsInWorld machine.old w }
     requires declared { (files : List FileText) × IsDeclared files images.now command.now }
     requires room { vec_len text.old + LONGEST_TEXT ≤ vec_capacity text.old }
-    ensures told { (w : World) → IsIn machine.old w → Tells machine.new text.old.items text.new.items (words.played images.now w command.now) }
+    ensures line_text { (w : World) → IsInWorld machine.old w → AppendsLine machine.new text.old.items text.new.items (words.line_result images.now w command.now) }
     ensures len { vec_len text.new ≤ vec_len text.old + LONGEST_TEXT }
     ensures capacity { vec_capacity text.old ≤ vec_capacity text.new }
 {
     match command {
         Command::One(step) => put_step(machine, *step, text),
-        Command::Start { image } => put_brief(text, start(machine, &images[*image])),
-        Command::Exec { hart, image } => put_brief(text, exec(machine, *hart, &images[*image])),
-        Command::On { hart, slot } => put_brief(text, put_on(machine, *hart, *slot)),
-        Command::Enter { hart } => put_brief(text, enter(machine, *hart)),
-        Command::Leave { hart } => put_brief(text, three_next(machine, *hart, Brief::Done)),
-        Command::Fix { hart } => put_brief(text, fix(machine, *hart)),
+        Command::Start { image } => put_scalar_reply(text, start(machine, &images[*image])),
+        Command::Exec { hart, image } => put_scalar_reply(
+            text,
+            exec(machine, *hart, &images[*image]),
+        ),
+        Command::On { hart, slot } => put_scalar_reply(text, put_on(machine, *hart, *slot)),
+        Command::Enter { hart } => put_scalar_reply(text, enter(machine, *hart)),
+        Command::Leave { hart } => put_scalar_reply(
+            text,
+            three_next(machine, *hart, ScalarReply::Done),
+        ),
+        Command::Fix { hart } => put_scalar_reply(text, fix(machine, *hart)),
         Command::Show {
             file,
             offset,
@@ -223,22 +233,28 @@ fn put_answer(machine: &mut Machine, images: &[OwnedImage], command: &Command, t
             hart,
             address,
             bytes,
-        } => put_brief(text, copy_out(machine, *hart, *address, bytes.as_slice())),
+        } => put_scalar_reply(text, copy_out(machine, *hart, *address, bytes.as_slice())),
     }
 }
 
-/// Does what a line after `boot` says, as a list of them shows it, and puts what it answers.
-pub fn put_line(machine: &mut Machine, images: &[OwnedImage], line: Shown<'_>, text: &mut Vec<u8>)
-    requires world { (w : World) × IsIn machine.old w }
+/// Plays a line after `boot`, as `Commands` shows it: makes its steps, and appends its answer without a line end. The text
+/// must have room for `LONGEST_TEXT` bytes more, and the image that the line names must be declared.
+pub fn put_line(
+    machine: &mut Machine,
+    images: &[OwnedImage],
+    line: CommandView<'_>,
+    text: &mut Vec<u8>,
+)
+    requires world { (w : World) × IsInWorld machine.old w }
     requires declared { (files : List FileText) × IsDeclared files images.now (shown line) }
     requires room { vec_len text.old + LONGEST_TEXT ≤ vec_capacity text.old }
-    ensures told { (w : World) → IsIn machine.old w → Tells machine.new text.old.items text.new.items (words.played images.now w (shown line.entry)) }
+    ensures line_text { (w : World) → IsInWorld machine.old w → AppendsLine machine.new text.old.items text.new.items (words.line_result images.now w (shown line.entry)) }
     ensures len { vec_len text.new ≤ vec_len text.old + LONGEST_TEXT }
     ensures capacity { vec_capacity text.old ≤ vec_capacity text.new }
 {
     match line {
-        Shown::Step(step) => put_step(machine, step, text),
-        Shown::Made(command) => put_answer(machine, images, &command, text),
-        Shown::Kept(command) => put_answer(machine, images, command, text),
+        CommandView::Step(step) => put_step(machine, step, text),
+        CommandView::Made(command) => put_answer(machine, images, &command, text),
+        CommandView::Kept(command) => put_answer(machine, images, command, text),
     }
 }

@@ -1,15 +1,16 @@
-// Why a script could not be played.
+// `PlayError` (enum): why a script, or a file for threads, was not played to its end: host memory refused, a fault in a
+// line, or a failed reader or writer; and the line that is printed for it (`Display`).
 
 use process_model::Cause;
 use std::error::Error;
 use std::fmt;
 
-/// Why a script was not played to its end.
+/// Why a script, or a file for threads, was not played to its end.
 #[derive(Clone, Copy, PartialEq, Eq, Debug)]
 pub enum PlayError {
     /// Host memory was refused.
     Memory,
-    /// The first line at fault, from 1, and its cause; line 0 is the script as a whole.
+    /// The first line with a fault, counted from 1, and its cause; line 0 is the text as a whole.
     Script(u64, Cause),
     /// The reader or the writer failed.
     Io,

@@ -1,24 +1,26 @@
-//! Scripts of steps: read whole, played, and answered line by line. Files for threads: read, played on harts that are
-//! threads, and answered process by process.
+//! The players: `play` reads a script, makes its steps on a machine, and writes an answer for each line from `boot` on;
+//! `play_threads` reads a file for threads, runs its lists of calls on harts that are threads, and writes a line for each
+//! process. `Source`, `Sink`: the reader and the writer; `PlayError`: why a file was not played to its end. `run_pool` runs
+//! parsed lists and starts (`lend_lists`, `lend_starts`) without a text; `audit`: counts of frames.
 #![tactic(auto)]
 
 mod answer;
 mod commands;
 mod fault;
 mod kernel;
-mod moving;
 mod page;
-mod playing;
-mod running;
+mod player;
+mod run_script;
 mod sink;
 mod source;
 mod thread_lists;
 mod thread_text;
 mod threads;
+mod transfer;
 
 pub use answer::audit;
 pub use fault::PlayError;
-pub use playing::play;
+pub use player::play;
 pub use sink::{Sink, Writer};
 pub use source::{Reader, Source};
 pub use thread_lists::{lend_lists, lend_starts};

@@ -1,27 +1,30 @@
-// Text that waits until there is enough of it to be written.
+// `TextPage` (struct): a page on which the text of a run on threads is collected; it is written to a sink (writer) when it
+// has 64 KiB (`PAGE`). Its calls append bytes, numbers, a process's end or the free frames, and write what is left
+// (`finish`).
 
 ghost use Rattle.std.specs.Prelude.{◌≡◌, ◌<◌, ◌≤◌, ◌++◌, [], codes, false, not, length, IfOk, vec_len, vec_capacity};
 ghost use Rattle.std.specs.Fmt.{decimal};
 ghost use Rattle.process_model.specs.Text.{line_text};
 ghost use Rattle.process_model.specs.Threads.{end_text, free_text};
-ghost use Rattle.audit_player.specs.Pages.{Puts, Turns};
+ghost use Rattle.audit_player.specs.Pages.{AppendsPiece, Turns};
 
-use crate::moving::write_all;
 use crate::sink::Sink;
+use crate::transfer::write_all;
 use process_model::{LONGEST_END, Outcome, put, put_decimal, put_end, put_free};
 use std::alloc::{AllocError, Global};
 use std::marker::Model;
 
-/// How many bytes of text come together before they are written.
+/// A page is written once it has this many bytes: 64 KiB.
 pub const PAGE: usize = 65536;
 
-/// A page of text. Each call says whether what had to be written was.
+/// A page of text. Each call appends to it and writes it if it is full; after a write that failed, a
+/// prefix of the text is written.
 #[derive(Drop)]
-pub struct Page {
+pub struct TextPage {
     bytes: Vec<u8>,
 }
 
-impl Model for Page {
+impl Model for TextPage {
     ghost use Rattle.std.specs.Prelude.{ℕ, List, ◌<◌, ◌≤◌, vec_len, vec_capacity};
 
     ghost Value = { List ℕ };
@@ -31,37 +34,40 @@ impl Model for Page {
     ghost invariant = { λ p. (vec_len p.bytes < 65536) × (65697 ≤ vec_capacity p.bytes) };
 }
 
-impl Page {
-    /// An empty page, with all the room that it takes.
-    pub fn new(alloc: Global) -> Result<Page, AllocError>
+impl TextPage {
+    /// Returns an empty page, which never needs more memory.
+    ///
+    /// # Errors
+    /// `AllocError`: host memory was refused.
+    pub fn new(alloc: Global) -> Result<TextPage, AllocError>
         ensures { IfOk result (λ page. page ≡ []) }
     {
         let bytes = Vec::with_capacity(alloc, PAGE + LONGEST_END + 1)?;
-        Ok(Page { bytes })
+        Ok(TextPage { bytes })
     }
 
-    /// Puts words.
+    /// Appends `words`, at most `LONGEST_END` bytes. Returns false if a write failed.
     pub fn put<W: Sink>(&mut self, writer: &mut W, words: &[u8]) -> bool
         requires short { length words.now ≤ LONGEST_END }
-        ensures puts { Puts result (W.contents writer.old) (W.contents writer.new) self.old self.new words.now }
+        ensures puts { AppendsPiece result (W.contents writer.old) (W.contents writer.new) self.old self.new words.now }
         ensures io { W.broken writer.old ≡ false → result ≡ not (W.broken writer.new) }
     {
         put(&mut self.bytes, words);
         turn(writer, &mut self.bytes)
     }
 
-    /// Puts a number in decimal digits.
+    /// Appends a number in decimal digits. Returns false if a write failed.
     pub fn put_number<W: Sink>(&mut self, writer: &mut W, number: u64) -> bool
-        ensures puts { Puts result (W.contents writer.old) (W.contents writer.new) self.old self.new (decimal number) }
+        ensures puts { AppendsPiece result (W.contents writer.old) (W.contents writer.new) self.old self.new (decimal number) }
         ensures io { W.broken writer.old ≡ false → result ≡ not (W.broken writer.new) }
     {
         put_decimal(&mut self.bytes, number);
         turn(writer, &mut self.bytes)
     }
 
-    /// Puts a number in decimal digits, with a dot in front.
+    /// Appends a dot and a number in decimal digits. Returns false if a write failed.
     pub fn put_dotted<W: Sink>(&mut self, writer: &mut W, number: u64) -> bool
-        ensures puts { Puts result (W.contents writer.old) (W.contents writer.new) self.old self.new (codes "." ++ decimal number) }
+        ensures puts { AppendsPiece result (W.contents writer.old) (W.contents writer.new) self.old self.new (codes "." ++ decimal number) }
         ensures io { W.broken writer.old ≡ false → result ≡ not (W.broken writer.new) }
     {
         put(&mut self.bytes, b".");
@@ -69,9 +75,9 @@ impl Page {
         turn(writer, &mut self.bytes)
     }
 
-    /// Puts how a process ended, and ends the line.
+    /// Appends how a process ended, with the number of its calls, and a line end. Returns false if a write failed.
     pub fn put_end<W: Sink>(&mut self, writer: &mut W, calls: u64, outcome: Outcome) -> bool
-        ensures puts { Puts result (W.contents writer.old) (W.contents writer.new) self.old self.new (line_text (end_text calls outcome)) }
+        ensures puts { AppendsPiece result (W.contents writer.old) (W.contents writer.new) self.old self.new (line_text (end_text calls outcome)) }
         ensures io { W.broken writer.old ≡ false → result ≡ not (W.broken writer.new) }
     {
         put_end(&mut self.bytes, calls, outcome);
@@ -79,9 +85,9 @@ impl Page {
         turn(writer, &mut self.bytes)
     }
 
-    /// Puts how many user frames are free, of how many, and ends the line.
+    /// Appends that `free` of `frames` user frames are free, and a line end. Returns false if a write failed.
     pub fn put_free<W: Sink>(&mut self, writer: &mut W, free: u64, frames: u64) -> bool
-        ensures puts { Puts result (W.contents writer.old) (W.contents writer.new) self.old self.new (line_text (free_text free frames)) }
+        ensures puts { AppendsPiece result (W.contents writer.old) (W.contents writer.new) self.old self.new (line_text (free_text free frames)) }
         ensures io { W.broken writer.old ≡ false → result ≡ not (W.broken writer.new) }
     {
         put_free(&mut self.bytes, free, frames);
@@ -89,17 +95,17 @@ impl Page {
         turn(writer, &mut self.bytes)
     }
 
-    /// Writes what is left.
+    /// Writes what is left on the page. Returns false if a write failed.
     pub fn finish<W: Sink>(self, writer: &mut W) -> bool
         ensures turns { Turns result (W.contents writer.old) (W.contents writer.new) self [] }
         ensures io { W.broken writer.old ≡ false → result ≡ not (W.broken writer.new) }
     {
-        let Page { bytes } = self;
+        let TextPage { bytes } = self;
         write_all(writer, bytes.as_slice())
     }
 }
 
-/// Writes a page that is full, and empties it.
+/// Writes and empties a page that is full. Returns false if a write failed.
 fn turn<W: Sink>(writer: &mut W, page: &mut Vec<u8>) -> bool
     ensures turns { Turns result (W.contents writer.old) (W.contents writer.new) page.old.items page.new.items }
     ensures io { W.broken writer.old ≡ false → result ≡ not (W.broken writer.new) }

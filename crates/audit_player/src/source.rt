@@ -1,22 +1,25 @@
-// Where bytes come from.
+// `Source` (trait): a reader that remembers whether a read has failed, with its remaining bytes for contracts, if they are
+// known; `Reader` (struct): makes a source of any reader of std.
 
 ghost use Rattle.std.specs.Prelude.{◌≡◌, ◌≤◌, ◌<◌, false, ◌||◌, ℕ, Bool, List, Option, length, take, IfSome, MatchOption, is_none};
 ghost use Rattle.std.specs.Io.KnownBytes.{Consumes, IsAtEnd, Keeps};
 
 use std::io::Read;
 
-/// A reader that says whether it has failed.
+/// A reader that remembers whether a read has failed.
 pub trait Source {
-    /// The bytes that reads give from here on, where they are known.
+    /// The bytes that are still to be read, if they are known.
     ghost remaining: { Self → Option (List ℕ) };
 
     /// Whether a read has failed.
     ghost broken: { Self → Bool };
 
+    /// Returns whether a read has failed.
     fn failed(&self) -> bool
         ensures { result ≡ broken self.now };
 
-    /// Reads bytes to the front of `buffer`: none only at the end. Nothing where the read failed.
+    /// Reads bytes to the start of `buffer` and returns their number: 0 only at the end, or if `buffer` has no room. `None`:
+    /// the read failed, no byte is taken from the source, and `failed` returns true from then on.
     fn read(&mut self, buffer: &mut [u8]) -> Option<usize>
         ensures failed { broken self.new ≡ (broken self.old || is_none result) }
         ensures bound { IfSome result (λ n. n ≤ length buffer.new) }
@@ -24,7 +27,7 @@ pub trait Source {
         ensures end { IfSome result (λ n. n ≡ 0 → 0 < length buffer.new → IsAtEnd (remaining self.new)) };
 }
 
-/// A reader of std, over memory or a file, and whether it has failed.
+/// A reader of std, over memory or a file, and whether a read has failed.
 #[derive(Drop)]
 pub struct Reader<R> {
     inner: R,
@@ -32,6 +35,7 @@ pub struct Reader<R> {
 }
 
 impl<R: Read> Reader<R> {
+    /// Makes a source of a reader; no read has failed.
     pub fn new(inner: R) -> Reader<R>
         ensures { result ≡ record { inner = inner; failed = false } }
     {

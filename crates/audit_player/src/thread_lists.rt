@@ -1,7 +1,8 @@
-// Lists of calls and starts, as a file for threads has them, lent to processes.
+// `lend_lists`, `lend_starts`: make the 64 lists of calls and the starts of a run on threads from a parsed file for threads,
+// whose images and bytes they borrow.
 
 ghost use Rattle.std.specs.Prelude.{◌≡◌, ◌<◌, All, IfOk, List, length};
-ghost use Rattle.hart_calls.specs.Track.{AreThere, IsThere};
+ghost use Rattle.hart_calls.specs.Track.{NameLists, NamesList};
 ghost use Rattle.process_model.specs.ThreadScript.{most_lists};
 ghost use Rattle.process_model.specs.declared.call.CallList.{CallList};
 ghost use Rattle.script_reader.specs.ThreadsPlayable.{IsDeclaredLine, IsThreadPlayable};
@@ -12,13 +13,13 @@ use process_model::{Call, ListedCall, OwnedImage, Sequence, Start};
 use script_reader::ThreadScript;
 use std::alloc::{AllocError, Global};
 
-/// How many lists there may be: their numbers are below it.
+/// The number of lists of a run; the numbers of lists are below it.
 const MOST_LISTS: usize = 64;
 
-/// A call of a file, as a process makes it.
+/// The call that a line declares, with the image or the bytes borrowed.
 fn lend_call<'a>(images: &'a [OwnedImage], call: &'a ListedCall) -> Call<'a>
     requires declared { (lists : List CallList) × IsDeclaredLine images.now lists call.now × AreFew lists }
-    ensures there { IsThere most_lists result }
+    ensures there { NamesList most_lists result }
     ensures is { IsCallOf images.now call.now result }
 {
     match call {
@@ -33,14 +34,14 @@ fn lend_call<'a>(images: &'a [OwnedImage], call: &'a ListedCall) -> Call<'a>
     }
 }
 
-/// The calls of a list.
+/// The calls that the lines of a list declare.
 fn lend_list<'a>(
     alloc: Global,
     images: &'a [OwnedImage],
     calls: &'a [ListedCall],
 ) -> Result<Sequence<Call<'a>>, AllocError>
     requires declared { (lists : List CallList) × All (IsDeclaredLine images.now lists) calls.now × AreFew lists }
-    ensures there { IfOk result (λ list. All (IsThere most_lists) list) }
+    ensures there { IfOk result (λ list. All (NamesList most_lists) list) }
     ensures are { IfOk result (λ list. AreCallsOf images.now calls.now list) }
 {
     let mut list = Vec::with_capacity(alloc, calls.len())?;
@@ -50,7 +51,7 @@ fn lend_list<'a>(
     Ok(Sequence::from_vec(list))
 }
 
-/// The calls of the list of a number, none where there is no such list.
+/// The lines of the list of this number; none if the file has no such list.
 fn calls_of(script: &ThreadScript, number: usize) -> &[ListedCall]
     requires playable { IsThreadPlayable script.now }
     ensures declared { All (IsDeclaredLine script.now.images script.now.lists) result.now }
@@ -62,14 +63,18 @@ fn calls_of(script: &ThreadScript, number: usize) -> &[ListedCall]
     }
 }
 
-/// All lists by their numbers. A number that no line gives to a list has a list of no calls.
+/// Returns 64 lists of calls; the index is the list's number. A number that no list of the file has gets a list of no calls.
+/// Each fork in them names a list below 64. The file must be playable, as one that `ThreadScript::read` returns is.
+///
+/// # Errors
+/// `AllocError`: host memory was refused.
 pub fn lend_lists<'a>(
     alloc: Global,
     script: &'a ThreadScript,
 ) -> Result<Vec<Sequence<Call<'a>>>, AllocError>
     requires playable { IsThreadPlayable script.now }
     ensures all { IfOk result (λ lists. length lists.items ≡ most_lists) }
-    ensures there { IfOk result (λ lists. AreThere lists.items) }
+    ensures there { IfOk result (λ lists. NameLists lists.items) }
     ensures are { IfOk result (λ lists. AreListsOf script.now.images script.now.lists lists.items) }
 {
     let images = script.images();
@@ -80,7 +85,11 @@ pub fn lend_lists<'a>(
     Ok(lists)
 }
 
-/// The processes to start.
+/// Returns the processes to start, in the order of the file: for each its image and the number of its list, below 64. The
+/// file must be playable, as one that `ThreadScript::read` returns is.
+///
+/// # Errors
+/// `AllocError`: host memory was refused.
 pub fn lend_starts<'a>(
     alloc: Global,
     script: &'a ThreadScript,

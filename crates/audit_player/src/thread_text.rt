@@ -1,20 +1,21 @@
-// The text of what processes on threads came to.
+// `sort_by_name` sorts ended processes by name; `write_text` writes the text of a run on threads: a line for each process
+// with its name, number of calls and outcome, and last the number of free user frames.
 
 ghost use Rattle.std.specs.Prelude.{◌≡◌, [], false, true, not};
 ghost use Rattle.std.specs.Io.KnownBytes.{Appends};
 ghost use Rattle.process_model.specs.Threads.{dotted_text, name_text};
-ghost use Rattle.audit_player.specs.Pages.{Puts};
-ghost use Rattle.audit_player.specs.Taken.{WroteSome};
+ghost use Rattle.audit_player.specs.Pages.{AppendsPiece};
+ghost use Rattle.audit_player.specs.InputOutput.{WroteSome};
 ghost use Rattle.std.specs.List.Sorted.{IsPermutation};
 ghost use Rattle.audit_player.specs.ThreadText.{AreInOrder, ended_line, ended_lines, threads_text};
 
-use crate::page::Page;
+use crate::page::TextPage;
 use crate::sink::Sink;
 use hart_calls::Finished;
 
-/// Puts the numbers of a name but the first, each behind a dot.
-fn put_dotted<W: Sink>(writer: &mut W, page: &mut Page, numbers: &[u64]) -> bool
-    ensures puts { Puts result (W.contents writer.old) (W.contents writer.new) page.old page.new (dotted_text numbers.now) }
+/// Appends the numbers of a name after the first, a dot before each. Returns false if a write failed.
+fn put_dotted<W: Sink>(writer: &mut W, page: &mut TextPage, numbers: &[u64]) -> bool
+    ensures puts { AppendsPiece result (W.contents writer.old) (W.contents writer.new) page.old page.new (dotted_text numbers.now) }
     ensures io { W.broken writer.old ≡ false → result ≡ not (W.broken writer.new) }
 {
     'numbers: for number in numbers {
@@ -25,9 +26,9 @@ fn put_dotted<W: Sink>(writer: &mut W, page: &mut Page, numbers: &[u64]) -> bool
     true
 }
 
-/// Puts a name.
-fn put_name<W: Sink>(writer: &mut W, page: &mut Page, name: &[u64]) -> bool
-    ensures puts { Puts result (W.contents writer.old) (W.contents writer.new) page.old page.new (name_text name.now) }
+/// Appends the name of a process. Returns false if a write failed.
+fn put_name<W: Sink>(writer: &mut W, page: &mut TextPage, name: &[u64]) -> bool
+    ensures puts { AppendsPiece result (W.contents writer.old) (W.contents writer.new) page.old page.new (name_text name.now) }
     ensures io { W.broken writer.old ≡ false → result ≡ not (W.broken writer.new) }
 {
     let [first, others @ ..] = name else {
@@ -39,9 +40,9 @@ fn put_name<W: Sink>(writer: &mut W, page: &mut Page, name: &[u64]) -> bool
     put_dotted(writer, page, others)
 }
 
-/// Puts the line of a process.
-fn put_process<W: Sink>(writer: &mut W, page: &mut Page, finished: &Finished<'_>) -> bool
-    ensures puts { Puts result (W.contents writer.old) (W.contents writer.new) page.old page.new (ended_line finished.now) }
+/// Appends the line of a process. Returns false if a write failed.
+fn put_process<W: Sink>(writer: &mut W, page: &mut TextPage, finished: &Finished<'_>) -> bool
+    ensures puts { AppendsPiece result (W.contents writer.old) (W.contents writer.new) page.old page.new (ended_line finished.now) }
     ensures io { W.broken writer.old ≡ false → result ≡ not (W.broken writer.new) }
 {
     if !page.put(writer, b"process ") {
@@ -53,9 +54,9 @@ fn put_process<W: Sink>(writer: &mut W, page: &mut Page, finished: &Finished<'_>
     page.put_end(writer, finished.journal.len() as u64, finished.outcome)
 }
 
-/// Puts the lines of all processes.
-fn put_processes<W: Sink>(writer: &mut W, page: &mut Page, all: &[Finished<'_>]) -> bool
-    ensures puts { Puts result (W.contents writer.old) (W.contents writer.new) page.old page.new (ended_lines all.now) }
+/// Appends the lines of all processes. Returns false if a write failed.
+fn put_processes<W: Sink>(writer: &mut W, page: &mut TextPage, all: &[Finished<'_>]) -> bool
+    ensures puts { AppendsPiece result (W.contents writer.old) (W.contents writer.new) page.old page.new (ended_lines all.now) }
     ensures io { W.broken writer.old ≡ false → result ≡ not (W.broken writer.new) }
 {
     'processes: for finished in all {
@@ -66,15 +67,16 @@ fn put_processes<W: Sink>(writer: &mut W, page: &mut Page, all: &[Finished<'_>])
     true
 }
 
-/// Puts the lines of all processes, and last how many user frames are free, of how many.
+/// Appends the lines of all processes, and last that `free` of `frames` user frames are free. Returns
+/// false if a write failed.
 fn put_all<W: Sink>(
     writer: &mut W,
-    page: &mut Page,
+    page: &mut TextPage,
     all: &[Finished<'_>],
     free: u64,
     frames: u64,
 ) -> bool
-    ensures puts { Puts result (W.contents writer.old) (W.contents writer.new) page.old page.new (threads_text all.now free frames) }
+    ensures puts { AppendsPiece result (W.contents writer.old) (W.contents writer.new) page.old page.new (threads_text all.now free frames) }
     ensures io { W.broken writer.old ≡ false → result ≡ not (W.broken writer.new) }
 {
     if !put_processes(writer, page, all) {
@@ -83,10 +85,11 @@ fn put_all<W: Sink>(
     page.put_free(writer, free, frames)
 }
 
-/// Writes the text of those who ended, in this order, and of the user frames.
+/// Writes the lines of all finished processes, in this order, and last that `free` of `frames` user frames are free. `page`
+/// must be empty. Returns false if a write failed; a prefix of the text is then written.
 pub fn write_text<W: Sink>(
     writer: &mut W,
-    mut page: Page,
+    mut page: TextPage,
     all: &[Finished<'_>],
     free: u64,
     frames: u64,
@@ -102,7 +105,7 @@ pub fn write_text<W: Sink>(
     page.finish(writer)
 }
 
-/// Puts those who ended in the order of their names, number by number.
+/// Sorts finished processes by their names, which are compared number by number.
 pub fn sort_by_name(all: &mut Vec<Finished<'_>>)
     ensures same { IsPermutation all.old.items all.new.items }
     ensures order { AreInOrder all.new.items }

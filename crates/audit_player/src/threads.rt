@@ -1,22 +1,23 @@
-// From a file for threads to the text of what its processes came to.
+// `play_threads` reads a file for threads, runs its processes on harts that are threads, and writes how each of them ended;
+// `play_threads_with` adds hooks around each call; `run_pool` only runs parsed lists and starts, and returns the ends.
 
 ghost use Rattle.std.specs.Prelude.{◌≡◌, ◌↔◌, ◌||◌, ◌≤◌, ◌<◌, All, false, length, IfOk, IsTrue, IsErrOf};
-ghost use Rattle.hart_calls.specs.Track.{AreThere};
-ghost use Rattle.hart_threads.specs.Rostered.{ComesBack};
+ghost use Rattle.hart_calls.specs.Track.{NameLists};
+ghost use Rattle.hart_threads.specs.RosterState.{ComesBack};
 ghost use Rattle.hart_threads.specs.Slots.{AreSlotted};
 ghost use Rattle.process_model.specs.ThreadScript.{most_lists};
 ghost use Rattle.script_reader.specs.ThreadsPlayable.{IsThreadPlayable};
-ghost use Rattle.audit_player.specs.PlayedThreads.{LeavesFree, PlaysLists, PlaysThreads};
+ghost use Rattle.audit_player.specs.ThreadRunResult.{LeavesFree, PlaysLists, PlaysThreads};
 
 use crate::fault::PlayError;
 use crate::kernel::take_kernel_frames;
-use crate::moving::{ReadError, read_bytes};
-use crate::page::Page;
-use crate::playing::told;
+use crate::page::TextPage;
+use crate::player::play_error_of;
 use crate::sink::Sink;
 use crate::source::Source;
 use crate::thread_lists::{lend_lists, lend_starts};
 use crate::thread_text::{sort_by_name, write_text};
+use crate::transfer::{ReadError, read_bytes};
 use file_cabinet::Cabinet;
 use file_shelf::Shelf;
 use hart_calls::Finished;
@@ -29,11 +30,18 @@ use std::sync::{Mutex, Wait};
 use std::thread::Threads;
 use sv39_entry::Scheme;
 
-/// How many calls a hart makes of a process before it takes the next one.
+/// The most calls of a process that a hart makes before it takes the next process.
 const QUANTUM: usize = 8;
 
-/// Runs lists of calls over the pool and the files of a script, on so many harts, each of them a thread. Answers the
-/// processes as they ended, and how many frames are free then. Where memory is refused nothing was started.
+/// Runs processes over the frames, slots and files of a parsed file for threads, on `harts` harts, 1 to 8, each of them a
+/// thread; `gate` is called before and after each call of a process. There must be 64 lists, and each start and each fork
+/// must name one of them (`lend_lists`, `lend_starts`).
+///
+/// Returns the processes as they ended, one for each start and for each child (`ComesBack`), and how many frames have
+/// reference count 0 then: all user frames, if the count of frame 0, the trampoline's, is 1.
+///
+/// # Errors
+/// `AllocError`: host memory was refused.
 pub fn run_pool<'a, T: Threads + Wait + Sync, G: Gate + Sync>(
     rt: &T,
     alloc: Global,
@@ -45,7 +53,7 @@ pub fn run_pool<'a, T: Threads + Wait + Sync, G: Gate + Sync>(
 ) -> Result<(Vec<Finished<'a>>, usize), AllocError>
     requires playable { IsThreadPlayable script.now }
     requires all { length lists.now ≡ most_lists }
-    requires there { AreThere lists.now }
+    requires there { NameLists lists.now }
     requires starts { All (λ start. start.list < most_lists) starts.now }
     requires some { 1 ≤ harts }
     requires few { harts ≤ 8 }
@@ -65,9 +73,11 @@ pub fn run_pool<'a, T: Threads + Wait + Sync, G: Gate + Sync>(
     Ok((ended, totals.free))
 }
 
-/// Plays the lists of a file on so many harts, each of them a thread, and writes what its processes came to.
+/// Plays a parsed file for threads on `harts` harts, 1 to 8, each of them a thread, and writes how its processes ended.
 ///
-/// Want of memory comes before anything is written.
+/// # Errors
+/// `Memory`: host memory was refused; nothing is written. `Io`: exactly when the writer fails in this call, if
+/// it had not failed before.
 fn run_threads<T: Threads + Wait + Sync, W: Sink, G: Gate + Sync>(
     rt: &T,
     alloc: Global,
@@ -82,7 +92,7 @@ fn run_threads<T: Threads + Wait + Sync, W: Sink, G: Gate + Sync>(
     ensures plays { PlaysLists (W.contents writer.old) (W.contents writer.new) result (Ok script.now) }
     ensures io { W.broken writer.old ≡ false → (IsErrOf result PlayError.Io ↔ IsTrue (W.broken writer.new)) }
 {
-    let Ok(page) = Page::new(alloc) else {
+    let Ok(page) = TextPage::new(alloc) else {
         return Err(PlayError::Memory);
     };
     let Ok(lists) = lend_lists(alloc, script) else {
@@ -112,12 +122,15 @@ fn run_threads<T: Threads + Wait + Sync, W: Sink, G: Gate + Sync>(
     }
 }
 
-/// Reads a file for threads, plays its lists of calls on so many harts, each of them a thread, and writes what each process
-/// came to, a line for each start and each child, sorted by their names, and last how many user frames are free.
+/// Reads a file for threads, runs its processes on `harts` harts, 1 to 8, each of them a thread, and writes how each process
+/// ended: a line for each start and each child, sorted by their names, and last how many user frames are free. A process for
+/// whose calls the host has no memory ends by `21 Memory`, which its line says. Clause `plays` speaks of known bytes
+/// (`Source::remaining`, `Sink::contents`).
 ///
-/// A file that is refused, and want of memory, come before anything is written; a process for whose calls there is no memory
-/// ends by that, and is told. `Io` comes just where the reader or the writer failed, and what was written is then a
-/// beginning of the text.
+/// # Errors
+/// `Script(n, cause)`: the file's first fault, in line `n`, counted from 1, or 0 for the file as a whole; nothing is
+/// written. `Memory`: host memory was refused; nothing is written. `Io`: exactly when the reader or the writer fails in this
+/// call, if neither had failed before; nothing is written, or a prefix of a text of the file.
 pub fn play_threads<T: Threads + Wait + Sync, R: Source, W: Sink>(
     rt: &T,
     alloc: Global,
@@ -134,7 +147,13 @@ pub fn play_threads<T: Threads + Wait + Sync, R: Source, W: Sink>(
     play_threads_with(rt, alloc, reader, writer, harts, &OpenGate)
 }
 
-/// `play_threads` under a gate, which is called before and after each call of a process, on the thread of its hart.
+/// `play_threads`, with hooks: `gate` is called before and after each call of a process, on the thread of
+/// its hart, with no lock held.
+///
+/// # Errors
+/// `Script(n, cause)`: the file's first fault, in line `n`, counted from 1, or 0 for the file as a whole; nothing is
+/// written. `Memory`: host memory was refused; nothing is written. `Io`: exactly when the reader or the writer fails in this
+/// call, if neither had failed before; nothing is written, or a prefix of a text of the file.
 pub fn play_threads_with<T: Threads + Wait + Sync, R: Source, W: Sink, G: Gate + Sync>(
     rt: &T,
     alloc: Global,
@@ -156,7 +175,7 @@ pub fn play_threads_with<T: Threads + Wait + Sync, R: Source, W: Sink, G: Gate +
     };
     let script = match ThreadScript::read(alloc, bytes.as_slice()) {
         Ok(script) => script,
-        Err(error) => return Err(told(error)),
+        Err(error) => return Err(play_error_of(error)),
     };
     run_threads(rt, alloc, &script, writer, harts, gate)
 }

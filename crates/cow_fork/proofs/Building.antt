@@ -1,4 +1,5 @@
--- The child's tables beside the parent's: what the seat has of each frame, and which frames the child has.
+-- Lemmas for building the child in a fork: its trapframe is claimed and cleared; its tables can be copied (`can_copy`), have
+-- no leaf between the regions and TRAPFRAME, and can be listed (`can_list`); then the child is complete (`has_child`).
 use Rattle.std.proofs.Common.{◌≡◌, ◌⊎◌, ℕ, ◌+◌, ◌-◌, ◌<◌, ◌≤◌, refl, ap, sym, subst, ◌∙◌, inl, inr, Option, None, Some, List, [], ◌∷◌, ◌++◌, length, arith}
 use Rattle.std.specs.Prelude.{Contains, is_some}
 use Rattle.std.specs.FinMap.{get}
@@ -8,7 +9,7 @@ use Rattle.frame_store.specs.Holds.{hold_of-frames, hold_of-with_hold_other, hol
 use Rattle.frame_store.specs.Tallies.{spent_on}
 use Rattle.frame_store.specs.View.{AllKnown, claimed, Hold, hold_of, IsHeld, IsSole, or_zero, references, sole_hold, spent, View}
 use Rattle.process_model.specs.Frames.{fork_need, tables_needed}
-use Rattle.process_model.specs.Inserted.{first_or}
+use Rattle.process_model.specs.Insertion.{first_or}
 use Rattle.process_model.specs.PageMap as pages
 use Rattle.process_model.specs.Process.{Page, Process, regions}
 use Rattle.process_model.specs.Regions.{Region, region_at}
@@ -16,22 +17,23 @@ use Rattle.sv39_entry.specs.Frame.{ppn_of}
 use Rattle.sv39_entry.specs.Word.{ppn}
 use Rattle.sv39_entry.specs.Schemes.{trampoline_page, trapframe_page, page_limit, of_scheme}
 use Rattle.table_walk.specs.Tables.{leaf_node, Tables}
-use Rattle.address_space.specs.Agreement.{Body, body, IsOn, IsSpace, Names}
+use Rattle.address_space.specs.Agreement.{Body, body, IsFrameOfPage, IsSpace, NamesFrame}
 use Rattle.address_space.specs.Layouts.{Layout}
 use Rattle.address_space.specs.ProcessLeaves.{bytes_known}
-use Rattle.address_space.specs.declared.settled.SettledPage.{SettledPage}
+use Rattle.address_space.specs.declared.settled_pages.SettledPage.{SettledPage}
 use Rattle.cow_fork.specs.Children.{CanCopy, CopiesTree, HasChildLeaf}
 use Rattle.cow_fork.specs.Forks.{CanDivide, HasChild}
-use Rattle.cow_fork.specs.Listing.{CanList, IsEdged, IsLed, ListsTables}
-use Rattle.cow_fork.specs.Lists.{times}
-use Rattle.cow_fork.specs.Parting.{IsUnnamed}
-use Rattle.cow_fork.specs.Sharing.{AreGoing, HasMore, IsGoing}
+use Rattle.cow_fork.specs.TableList.{CanList, IsEdged, IsLed, ListsTables}
+use Rattle.cow_fork.specs.Occurrences.{times}
+use Rattle.cow_fork.specs.SplitSpaces.{IsUnnamed}
+use Rattle.cow_fork.specs.ForkReferences.{AreToShare, HasMore, IsToShare}
 use Rattle.cow_fork.proofs.Counting.{found_in}
-use Rattle.cow_fork.proofs.Going.{going_held, one_page, times_last_other, times_last_same}
+use Rattle.cow_fork.proofs.Going.{going_held, times_last_other, times_last_same}
 use Rattle.cow_fork.proofs.Parted.{one_leaf, one_named}
 use Rattle.cow_fork.proofs.Pigeons.{few}
 use Rattle.cow_fork.proofs.Releasing.{times_other, times_same}
 use Rattle.cow_fork.proofs.Taking.{held_still}
+use Rattle.table_walk.specs.Nodes.{one_page}
 
 -- ---- the child's trapframe is claimed and cleared
 
@@ -85,7 +87,7 @@ module _ (v : View) (x : Body) (t : Tables) (p : Process) (list : List SettledPa
     apart same = let held = divide_anchored in let is = ap (references x.view) same in omega (arith, free, is, held)
 
     -- a settled page is on a frame that has its bytes
-    known : (n : ℕ) (s : Page) → pages.get p.settled n ≡ Some s → (f : ℕ) → IsOn t n f → IsHeld b f × AllKnown b f
+    known : (n : ℕ) (s : Page) → pages.get p.settled n ≡ Some s → (f : ℕ) → IsFrameOfPage t n f → IsHeld b f × AllKnown b f
     known n s at f on =
         let shown = can.space.stands.shows.settled n s at in
         let same : shown.frame ≡ f = one_named shown.frame f (sym shown.made.names ∙ ap ppn (one_leaf t (leaf_node n) shown.leaf on.0 shown.mapped on.1) ∙ on.2) in
@@ -205,7 +207,7 @@ module _ (v w : View) (t u : Tables) (p : Process) (root own : ℕ) (tree : Copi
 -- ---- all together
 
 module _ (v a b c : View) (root saved : ℕ) (l : Layout) (t u : Tables) (p : Process) (croot own : ℕ) (L : List ℕ)
-    (space : IsSpace (body v root saved l) t p) (more : HasMore v a L) (going : AreGoing t p (trapframe_page p.scheme) L)
+    (space : IsSpace (body v root saved l) t p) (more : HasMore v a L) (going : AreToShare t p (trapframe_page p.scheme) L)
     (free : references a own ≡ 0) (here : references b own ≡ 1) (sole : IsSole b own) (others : (f : ℕ) → (f ≡ own → ⊥) → hold_of b f ≡ hold_of a f)
     (tree : CopiesTree b c t u p croot own) where
   count_before : (f : ℕ) → references a f ≡ references v f + times f L
@@ -291,7 +293,7 @@ module _ (v a b c : View) (root saved : ℕ) (l : Layout) (t u : Tables) (p : Pr
     ]
 
     -- what is listed of the parent's frames goes
-    still_going : (f : ℕ) → 0 < times f M → IsHeld v f → IsGoing t p (trapframe_page p.scheme) f
+    still_going : (f : ℕ) → 0 < times f M → IsHeld v f → IsToShare t p (trapframe_page p.scheme) f
     still_going f some held = elim (listed f) [
       | inl table ↦ absurd (held_no_table f held table.0 table.1)
       | inr other ↦ (let same_times = other.1 in let is = other_listed f (not_own f held) in elim (going f) [
@@ -300,19 +302,19 @@ module _ (v a b c : View) (root saved : ℕ) (l : Layout) (t u : Tables) (p : Pr
       ])
     ]
 
-    on_frame : (n : ℕ) (s : Page) (f : ℕ) (k : HasChildLeaf t u p n s) → IsOn t n f → f ≡ k.frame
+    on_frame : (n : ℕ) (s : Page) (f : ℕ) (k : HasChildLeaf t u p n s) → IsFrameOfPage t n f → f ≡ k.frame
     on_frame n s f k on = one_named f k.frame (sym on.2 ∙ ap ppn (one_leaf t (leaf_node n) on.0 k.on.0 on.1 k.on.1) ∙ k.on.2)
 
     abbrev IsForChild : ℕ → Type 0
-    IsForChild f = ((times f M ≡ 1) × ((k : ℕ) × Names u f k)) ⊎ ((times f M ≡ 0) × IsUnnamed u f)
+    IsForChild f = ((times f M ≡ 1) × ((k : ℕ) × NamesFrame u f k)) ⊎ ((times f M ≡ 0) × IsUnnamed u f)
 
-    goes_named : (f : ℕ) → IsGoing t p (trapframe_page p.scheme) f → (k : ℕ) × Names u f k
+    goes_named : (f : ℕ) → IsToShare t p (trapframe_page p.scheme) f → (k : ℕ) × NamesFrame u f k
     goes_named f (inl code) = (leaf_node (trampoline_page p.scheme), inr (tree.on_trampoline.0, tree.on_trampoline.1, tree.on_trampoline.2.names ∙ ap ppn_of (sym code)))
     goes_named f (inr page) =
         let k = tree.settled page.0 page.1 page.3 in
         (leaf_node page.0, inr (k.leaf, k.mapped, k.made.names ∙ ap ppn_of (sym (on_frame page.0 page.1 f k page.4))))
 
-    goes_unnamed : (f : ℕ) → (f ≡ own → ⊥) → ((k : ℕ) → get u.tables k ≡ Some f → ⊥) → (IsGoing t p (trapframe_page p.scheme) f → ⊥) → IsUnnamed u f
+    goes_unnamed : (f : ℕ) → (f ≡ own → ⊥) → ((k : ℕ) → get u.tables k ≡ Some f → ⊥) → (IsToShare t p (trapframe_page p.scheme) f → ⊥) → IsUnnamed u f
     goes_unnamed f apart no_table stays k (inl at) = no_table k at
     goes_unnamed f apart no_table stays k (inr leaf) = elim (tree.only k leaf.0 leaf.1) [
       | inl same ↦ (
@@ -327,7 +329,7 @@ module _ (v a b c : View) (root saved : ℕ) (l : Layout) (t u : Tables) (p : Pr
             let is = one_leaf u k leaf.0 c_leaf.leaf leaf.1 (ap (get u.leaves) page.2 ∙ c_leaf.mapped) in
             let at : f ≡ c_leaf.frame = one_named f c_leaf.frame (sym leaf.2 ∙ ap ppn is ∙ c_leaf.made.names) in
             let low = space.stands.shows.low page.0 page.1 page.3 in
-            stays (inr (page.0, page.1, low, page.3, subst (IsOn t page.0) (sym at) c_leaf.on)))
+            stays (inr (page.0, page.1, low, page.3, subst (IsFrameOfPage t page.0) (sym at) c_leaf.on)))
       ]
     ]
 

@@ -1,4 +1,5 @@
--- The child's tables, one settled page after another.
+-- Lemmas for `copy_tree`: the child's leaves have the fork mark (the next store takes the page over) and no W as the model
+-- says; the child's tables after one more settled page (one in memory; `copies_more`), and after all (`copies_all`).
 use Rattle.std.proofs.Common.{◌≡◌, ℕ, ◌+◌, ◌-◌, ◌<◌, ◌≤◌, Bool, true, false, not, ◌&&◌, ◌||◌, Some, inl, inr, refl, ap, sym, subst, ◌∙◌, arith, List, ◌∷◌, drop, length, slice_index_or}
 use Rattle.std.proofs.lemmas.Bool.{cases_eq, cases_lt}
 use Rattle.std.proofs.lemmas.List.{at_drop_all, at_drop_more}
@@ -9,21 +10,21 @@ use Rattle.std.specs.Prelude.{All, Contains}
 use Rattle.frame_store.specs.Tallies.{spent_is}
 use Rattle.frame_store.specs.View.{AllKnown, Hold, IsHeld, or_zero, View}
 use Rattle.process_model.specs.Frames.{tables_needed}
-use Rattle.process_model.specs.Inserted.{behind, first_or, in_front}
+use Rattle.process_model.specs.Insertion.{behind, first_or, in_front}
 use Rattle.process_model.specs.PageMap as pages
 use Rattle.process_model.specs.Process.{grants_write, Page, Process, regions}
 use Rattle.process_model.specs.Regions.{is_shared_kind, lacks_right, Region, region_at}
 use Rattle.process_model.specs.Residence.{child_page}
 use Rattle.sv39_entry.specs.declared.access.Access.TheVariants.{Store}
-use Rattle.table_walk.specs.Counted.{AreTablesOf, same_members}
+use Rattle.table_walk.specs.TableCounts.{AreTablesOf, same_members}
 use Rattle.table_walk.specs.Keys.{insert_other, insert_same}
 use Rattle.table_walk.specs.Tables.{ChangesTables, HasTables, IsGrown, leaf_node, missing, Tables, with_leaf}
 use Rattle.sv39_entry.specs.Schemes.{top_level, trampoline_page, trapframe_page, page_limit, of_scheme}
 use Rattle.sv39_entry.specs.declared.scheme.Scheme.{Scheme}
 use Rattle.address_space.specs.Agreement.{is_dirty_page, IsPageLeaf}
 use Rattle.address_space.specs.Layouts.{Layout}
-use Rattle.address_space.specs.Settled.{AreSettled, AreUnsettled, IsNextSettled}
-use Rattle.address_space.specs.declared.settled.SettledPage.{SettledPage}
+use Rattle.address_space.specs.SettledLists.{AreSettled, AreUnsettled, IsNextSettled}
+use Rattle.address_space.specs.declared.settled_pages.SettledPage.{SettledPage}
 use Rattle.cow_fork.specs.Children.{CanCopy, CanOpen, CopiesPages, CopiesTree, HasChildLeaf}
 use Rattle.cow_fork.proofs.Counting.{found_in, in_keys}
 use Rattle.cow_fork.proofs.NeededTables.{AreAmong, tables_same, tables_up}

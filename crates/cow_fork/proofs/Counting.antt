@@ -1,4 +1,5 @@
--- Tables that the settled pages need, counted one after another.
+-- Lemmas for `fork_need`: counting the page tables of one size along the list of settled pages (those in memory) gives as
+-- many as the model's set of pages needs, with those of TRAMPOLINE and TRAPFRAME.
 use Rattle.std.proofs.Common.{◌≡◌, ℕ, true, false, ◌+◌, ◌-◌, ◌*◌, ◌/◌, ◌<◌, ◌≤◌, inl, inr, refl, ap, sym, subst, ◌∙◌, arith, List, [], ◌∷◌, map, max, Option, Some, None}
 use Rattle.std.proofs.lemmas.Bool.{cases_eq, cases_lt, eq-eqb, ne_eqb}
 use Rattle.std.proofs.lemmas.Nat.{le-div}
@@ -7,14 +8,14 @@ use Rattle.std.specs.Cmp.{unsigned_tied}
 use Rattle.std.specs.FinMap.Entries.{find}
 use Rattle.std.specs.Ordering.{nat_cmp}
 use Rattle.std.specs.Prelude.{Contains, is_some}
-use Rattle.process_model.specs.Inserted.{behind, first_or, in_front, same_finds}
+use Rattle.process_model.specs.Insertion.{behind, first_or, in_front, same_finds}
 use Rattle.process_model.specs.PageMap.{contains, count, get, keys, numbers, PageMap}
 use Rattle.process_model.specs.Process.{Page, Process}
 use Rattle.process_model.specs.ValueSets.{AreCounted, div_up, has_value, none_counted, none_in, one_more, two_more, value_of, values}
 use Rattle.sv39_entry.specs.Schemes.{trampoline_page, trapframe_page}
 use Rattle.table_walk.specs.Tables.{Tables}
-use Rattle.address_space.specs.Settled.{IsNextSettled}
-use Rattle.address_space.specs.declared.settled.SettledPage.{SettledPage}
+use Rattle.address_space.specs.SettledLists.{IsNextSettled}
+use Rattle.address_space.specs.declared.settled_pages.SettledPage.{SettledPage}
 
 -- ---- the keys of a map are what is found in it
 

@@ -1,4 +1,6 @@
--- The references of the child's frames go to a seat of its own.
+-- Lemmas for the end of a fork: the parent's seat (an owner's capability at a frame store) can be split, both seats hold
+-- frame 0 if they hold any, the child's tables are those of its pages, and parent and child are forked as `Forks` says
+-- (`divides`).
 use Rattle.std.proofs.Common.{◌≡◌, ◌⊎◌, ℕ, ◌+◌, ◌-◌, ◌<◌, ◌≤◌, cond, true, false, IsTrue, refl, ap, sym, subst, ◌∙◌, inl, inr, Some, List, [], ◌∷◌, arith}
 use Rattle.std.specs.Prelude.{All, Contains, is_some}
 use Rattle.std.proofs.lemmas.List.Elements.{All-contains_itself}
@@ -9,27 +11,26 @@ use Rattle.frame_store.specs.Laws.{IsAnchored}
 use Rattle.frame_store.specs.View.{CanSplit, empty_view, Hold, hold_of, IsHeld, not_held, references, split_off, View}
 use Rattle.process_model.specs.EachValue.{each_there, found_each}
 use Rattle.process_model.specs.Process.{Page, Process}
-use Rattle.process_model.specs.Inserted.{behind_more, first_or, inserted_here, inserted_other, key_in, key_out}
+use Rattle.process_model.specs.Insertion.{behind_more, first_or, inserted_here, inserted_other, key_in, key_out}
 use Rattle.process_model.specs.PageMap as pages
 use Rattle.process_model.specs.PageMap.{numbers}
 use Rattle.process_model.specs.Residence.{child_of, child_page, marked, marked_page}
 use Rattle.process_model.specs.ValueSets.{none_in}
 use Rattle.sv39_entry.specs.Word.{ppn}
 use Rattle.sv39_entry.specs.Schemes.{trampoline_page, trapframe_page, of_scheme}
-use Rattle.table_walk.specs.Counted.{AreTablesOf, same_members}
-use Rattle.table_walk.specs.Nodes.{leaf_number}
-use Rattle.table_walk.specs.Same.{same_tables}
+use Rattle.table_walk.specs.TableCounts.{AreTablesOf, same_members}
+use Rattle.table_walk.specs.Nodes.{leaf_number, one_page}
+use Rattle.table_walk.specs.SameFrames.{same_tables}
 use Rattle.table_walk.specs.Tables.{HasTables, leaf_node, Tables}
-use Rattle.address_space.specs.Agreement.{body, IsOn, IsSpace, Names}
-use Rattle.address_space.specs.Standing.{IsStanding, TurnsLeaves}
+use Rattle.address_space.specs.Agreement.{body, IsFrameOfPage, IsSpace, NamesFrame}
+use Rattle.address_space.specs.SpacesInCalls.{IsSpaceInCall, RewritesLeaves}
 use Rattle.address_space.specs.Layouts.{Layout}
 use Rattle.cow_fork.specs.Children.{HasChildLeaf}
 use Rattle.cow_fork.specs.Forks.{Forks, HasChild}
-use Rattle.cow_fork.specs.Lists.{times}
-use Rattle.cow_fork.specs.Parting.{AreForChild, IsParted, IsUnnamed}
-use Rattle.cow_fork.specs.Sharing.{IsGoing}
+use Rattle.cow_fork.specs.Occurrences.{times}
+use Rattle.cow_fork.specs.SplitSpaces.{AreForChild, IsSplit, IsUnnamed}
+use Rattle.cow_fork.specs.ForkReferences.{IsToShare}
 use Rattle.cow_fork.proofs.Counting.{found_in, in_keys}
-use Rattle.cow_fork.proofs.Going.{one_page}
 use Rattle.cow_fork.proofs.Parted.{child_after, one_leaf, one_named, parent_after}
 use Rattle.cow_fork.proofs.Splitting.{can_split, gone_to, left_of, split_credits, split_goes, split_stays, split_tallies}
 
@@ -57,7 +58,7 @@ module _ (v : View) (u : Tables) (L : List ℕ) (for_child : AreForChild u (λ f
   once : (f : ℕ) → times f L ≤ 1
   once f = elim (for_child f) [ inl his ↦ (let one = his.0 in omega (arith, one)) | inr not_his ↦ (let none = not_his.0 in omega (arith, none)) ]
 
-  named_times : (f k : ℕ) → Names u f k → times f L ≡ 1
+  named_times : (f k : ℕ) → NamesFrame u f k → times f L ≡ 1
   named_times f k names = elim (for_child f) [ inl his ↦ his.0 | inr not_his ↦ absurd (not_his.1 k names) ]
 
   unnamed_times : (f : ℕ) → IsUnnamed u f → times f L ≡ 0
@@ -72,7 +73,7 @@ module _ (v : View) (u : Tables) (L : List ℕ) (for_child : AreForChild u (λ f
   stays : (f : ℕ) → times f L ≡ 0 → (hold_of stays_with f ≡ hold_of v f) × (hold_of goes_with f ≡ not_held)
   stays f none = let is = split_stays L v (empty_view v.size) f none in (is.0, is.1 ∙ hold_of-empty v.size f)
 
-  pub parted : IsParted v stays_with goes_with u
+  pub parted : IsSplit v stays_with goes_with u
   parted = record {
     kept = λ f none. (stays f (unnamed_times f none)).0;
     none = λ f none. ap (λ (h : Hold). h.references) (stays f (unnamed_times f none)).1;
@@ -129,7 +130,7 @@ module _ (p : Process) (low : (n : ℕ) (s : Page) → pages.get p.settled n ≡
 
 module _ (v w x : View) (root saved : ℕ) (l : Layout) (t r u : Tables) (p : Process) (croot own : ℕ) (L : List ℕ)
     (space : IsSpace (body v root saved l) t p) (child : HasChild v w t u p croot own L)
-    (marks : IsStanding (body x root saved l) r (marked p) (λ f. times f L)) (turns : TurnsLeaves (body w root saved l) (body x root saved l) t r) where
+    (marks : IsSpaceInCall (body x root saved l) r (marked p) (λ f. times f L)) (turns : RewritesLeaves (body w root saved l) (body x root saved l) t r) where
   counts : (f : ℕ) → references x f ≡ references v f + times f L
   counts f = let was = child.counts f in let is = turns.count f in omega (arith, was, is)
 
@@ -143,7 +144,7 @@ module _ (v w x : View) (root saved : ℕ) (l : Layout) (t r u : Tables) (p : Pr
   listed_held : (f : ℕ) → 0 < times f L → IsHeld x f
   listed_held f some = let sum = counts f in omega (arith, sum, some)
 
-  named_once : (f k : ℕ) → Names u f k → times f L ≡ 1
+  named_once : (f k : ℕ) → NamesFrame u f k → times f L ≡ 1
   named_once f k names = elim (child.for_child f) [ inl his ↦ his.0 | inr not_his ↦ absurd (not_his.1 k names) ]
 
   code_once : times 0 L ≡ 1
@@ -152,19 +153,19 @@ module _ (v w x : View) (root saved : ℕ) (l : Layout) (t r u : Tables) (p : Pr
   own_once : times own L ≡ 1
   own_once = named_once own (leaf_node (trapframe_page p.scheme)) (inr (child.on_trapframe.0, child.on_trapframe.1, child.on_trapframe.2.names))
 
-  code_named : Names t 0 (leaf_node (trampoline_page p.scheme))
+  code_named : NamesFrame t 0 (leaf_node (trampoline_page p.scheme))
   code_named = let leaf = space.stands.shows.on_trampoline in inr (leaf.0, leaf.1, leaf.2.names)
 
   code_twice : 1 < references x 0
   code_twice = let one = space.stands.owns.named 0 _ code_named in let sum = counts 0 in let again = code_once in omega (arith, one, sum, again)
 
   -- the leaf that names a frame that goes
-  leaf_of_going : (f : ℕ) → IsGoing t p (trapframe_page p.scheme) f → (n : ℕ) × (Names t f (leaf_node n)) × ((n ≡ (trampoline_page p.scheme)) ⊎ (n < (trapframe_page p.scheme)))
-  leaf_of_going f (inl code) = ((trampoline_page p.scheme), subst (λ g. Names t g (leaf_node (trampoline_page p.scheme))) (sym code) code_named, inl refl)
+  leaf_of_going : (f : ℕ) → IsToShare t p (trapframe_page p.scheme) f → (n : ℕ) × (NamesFrame t f (leaf_node n)) × ((n ≡ (trampoline_page p.scheme)) ⊎ (n < (trapframe_page p.scheme)))
+  leaf_of_going f (inl code) = ((trampoline_page p.scheme), subst (λ g. NamesFrame t g (leaf_node (trampoline_page p.scheme))) (sym code) code_named, inl refl)
   leaf_of_going f (inr page) = (page.0, inr (page.4.0, page.4.1, page.4.2), inr (space.stands.shows.low page.0 page.1 page.3))
 
   -- the child does not name a frame that the parent has for itself
-  not_shared : (f k : ℕ) → Names t f k → ((n : ℕ) → (n ≡ (trampoline_page p.scheme)) ⊎ (n < (trapframe_page p.scheme)) → k ≡ leaf_node n → ⊥) → IsUnnamed u f
+  not_shared : (f k : ℕ) → NamesFrame t f k → ((n : ℕ) → (n ≡ (trampoline_page p.scheme)) ⊎ (n < (trapframe_page p.scheme)) → k ≡ leaf_node n → ⊥) → IsUnnamed u f
   not_shared f k names off j named =
       let held : IsHeld v f = let one = space.stands.owns.named f k names in omega (arith, one) in
       let once = named_once f j named in
@@ -185,13 +186,13 @@ module _ (v w x : View) (root saved : ℕ) (l : Layout) (t r u : Tables) (p : Pr
       ])
 
   -- the parent's leaf of a page names the frame that it named
-  still_on : (n f : ℕ) (s : Page) → pages.get p.settled n ≡ Some s → IsOn t n f → IsOn r n f
+  still_on : (n f : ℕ) (s : Page) → pages.get p.settled n ≡ Some s → IsFrameOfPage t n f → IsFrameOfPage r n f
   still_on n f s there on =
       let shown = marks.stands.shows.settled n (marked_page p n s) (each_there (marked_page p) p.settled n s there) in
-      let now : IsOn r n shown.frame = (shown.leaf, shown.mapped, shown.made.names) in
+      let now : IsFrameOfPage r n shown.frame = (shown.leaf, shown.mapped, shown.made.names) in
       let was = turns.on n shown.frame now in
       let same : shown.frame ≡ f = one_named shown.frame f (sym was.2 ∙ ap ppn (one_leaf t (leaf_node n) was.0 on.0 was.1 on.1) ∙ on.2) in
-      subst (IsOn r n) same now
+      subst (IsFrameOfPage r n) same now
 
   leaf_now : (n : ℕ) (s : Page) → pages.get p.settled n ≡ Some s → HasChildLeaf r u p n s
   leaf_now n s there = let c = child.settled n s there in record {
@@ -207,11 +208,11 @@ module _ (v w x : View) (root saved : ℕ) (l : Layout) (t r u : Tables) (p : Pr
   child_tables : HasTables p.scheme x croot u
   child_tables = same_tables w x croot u (λ k f at. new_same f (child.fresh k f at)) child.tables
 
-  child_on : (n f : ℕ) (s : Page) → pages.get p.settled n ≡ Some s → IsOn u n f → IsOn t n f
+  child_on : (n f : ℕ) (s : Page) → pages.get p.settled n ≡ Some s → IsFrameOfPage u n f → IsFrameOfPage t n f
   child_on n f s there on =
       let c = child.settled n s there in
       let same : c.frame ≡ f = one_named c.frame f (sym c.made.names ∙ ap ppn (one_leaf u (leaf_node n) c.leaf on.0 c.mapped on.1) ∙ on.2) in
-      subst (IsOn t n) same c.on
+      subst (IsFrameOfPage t n) same c.on
 
   none_left : x.credits ≡ 0
   none_left = turns.credits ∙ child.credits

@@ -1,4 +1,5 @@
--- The tables below a root are listed, level by level.
+-- Lemmas for `list_tables`: the first page from a number on that has a leaf; the numbers of the tables of a level; one more
+-- table listed, a level done, and at the end all tables, each once (`all_listed`); and that the list has room.
 use Rattle.std.proofs.Common.{◌≡◌, ℕ, zero, suc, ◌+◌, ◌-◌, ◌*◌, ◌/◌, ◌^◌, ◌<◌, ◌≤◌, inl, inr, refl, ap, sym, ◌∙◌, arith, length, List, [], ◌∷◌, ◌++◌, map, Some, None}
 use Rattle.std.specs.FinMap.{get}
 use Rattle.std.specs.Prelude.{◌==◌, if◌then◌else◌}
@@ -10,14 +11,14 @@ use Rattle.std.proofs.Math.Nat.{le-div_iff_mul-le}
 use Rattle.frame_store.specs.View.{IsHeld, View}
 use Rattle.process_model.specs.ValueSets.{div_up}
 use Rattle.sv39_entry.specs.declared.frame.FrameNo.{FrameNo}
-use Rattle.table_walk.specs.Changed.{IsNextLeafBefore, places}
+use Rattle.table_walk.specs.TableChanges.{IsNextLeafBefore, places}
 use Rattle.table_walk.specs.Nodes.{above, above_root, low_leaf, node_below, node_from, not_root, power_next, power_some, power_up, root_power, in_level, node_at}
 use Rattle.table_walk.specs.Tables.{HasTables, leaf_node, node, Tables, root_node}
 use Rattle.sv39_entry.specs.Schemes.{of_scheme, page_limit, top_level, trampoline_page, trapframe_page}
 use Rattle.sv39_entry.specs.declared.scheme.Scheme.{Scheme}
 use Rattle.sv39_entry.specs.declared.scheme.Scheme.TheVariants.{Sv39, Sv48}
-use Rattle.cow_fork.specs.Lists.{times}
-use Rattle.cow_fork.specs.Listing.{CanList, IsEdged, IsFirstPage, IsLed, IsListing, ListsTables}
+use Rattle.cow_fork.specs.Occurrences.{times}
+use Rattle.cow_fork.specs.TableList.{CanList, IsEdged, IsFirstPage, IsLed, IsListing, ListsTables}
 use Rattle.cow_fork.proofs.Pigeons.{few}
 
 -- ---- the first page that has a leaf

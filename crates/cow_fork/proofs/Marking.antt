@@ -1,4 +1,5 @@
--- The parent's settled pages get the fork mark, one after another.
+-- Lemmas for `mark_pages`: while the parent's settled pages (those in memory) get the fork mark (the next store takes the
+-- page over) one after another, the space remains a process, marked so far; at the end all are marked (`marking_all`).
 use Rattle.std.proofs.Common.{◌≡◌, ℕ, Bool, true, ◌||◌, ◌+◌, ◌<◌, ◌≤◌, Option, None, Some, List, ◌∷◌, drop, length, slice_index_or, refl, ap, sym, subst, ◌∙◌, inl, inr, arith}
 use Rattle.std.specs.FinMap as finite
 use Rattle.std.specs.Prelude.{option_map}
@@ -6,8 +7,8 @@ use Rattle.std.proofs.lemmas.Bool.{cases_eq, cases_lt}
 use Rattle.std.proofs.lemmas.List.{at_drop_all, at_drop_more}
 use Rattle.std.proofs.lemmas.Option.{same_Some}
 use Rattle.process_model.specs.EachValue.{each_answer}
-use Rattle.process_model.specs.Inserted.{inserted_here, inserted_other, same_finds}
-use Rattle.process_model.specs.OrderKept.{same_order}
+use Rattle.process_model.specs.Insertion.{inserted_here, inserted_other, same_finds}
+use Rattle.process_model.specs.OrderLaws.{same_order}
 use Rattle.process_model.specs.PageMap.{get, insert, PageMap, with_values}
 use Rattle.process_model.specs.Process as of_model
 use Rattle.process_model.specs.Process.{grants_write, Page, Process}
@@ -15,14 +16,14 @@ use Rattle.process_model.specs.Residence.{marked, marked_page}
 use Rattle.sv39_entry.specs.Word.{ppn}
 use Rattle.sv39_entry.specs.Schemes.{trapframe_page}
 use Rattle.table_walk.specs.Tables.{Tables}
-use Rattle.address_space.specs.Agreement.{Body, IsOn}
-use Rattle.address_space.specs.Standing.{HasMarkedForked, IsStanding, TurnsLeaves}
-use Rattle.address_space.specs.Settled.{AreSettled, AreUnsettled, IsSettledPage}
-use Rattle.address_space.specs.declared.settled.SettledPage.{SettledPage}
+use Rattle.address_space.specs.Agreement.{Body, IsFrameOfPage}
+use Rattle.address_space.specs.SpacesInCalls.{HasMarkedForked, IsSpaceInCall, RewritesLeaves}
+use Rattle.address_space.specs.SettledLists.{AreSettled, AreUnsettled, IsSettledPage}
+use Rattle.address_space.specs.declared.settled_pages.SettledPage.{SettledPage}
 
 -- a process that stands while a fork is under way does so whatever it has pending
-forking_pending : (x : Body) (t : Tables) (p : Process) (extra : ℕ → ℕ) (o : Option of_model.Pending) → IsStanding x t p extra
-    → IsStanding x t (record p { pending = o }) extra
+forking_pending : (x : Body) (t : Tables) (p : Process) (extra : ℕ → ℕ) (o : Option of_model.Pending) → IsSpaceInCall x t p extra
+    → IsSpaceInCall x t (record p { pending = o }) extra
 forking_pending x t p extra o a = record {
   sound = record { order = same_order 0 p p.settled p.tabled o a.sound.order; tabled = a.sound.tabled };
   lays = record { parts = a.lays.parts; mappings = a.lays.mappings; heap_base = a.lays.heap_base; size = a.lays.size; scheme = a.lays.scheme };
@@ -51,10 +52,10 @@ forking_pending x t p extra o a = record {
 
 -- leaves that were turned, none and twice
 
-turns_none : (x : Body) (t : Tables) → TurnsLeaves x x t t
+turns_none : (x : Body) (t : Tables) → RewritesLeaves x x t t
 turns_none x t = record { on = λ n f on. on; tables = refl; same = λ f apart. refl; count = λ f. refl; credits = refl; tallies = refl; size = refl }
 
-turns_on : (x y z : Body) (t u w : Tables) → TurnsLeaves x y t u → TurnsLeaves y z u w → TurnsLeaves x z t w
+turns_on : (x y z : Body) (t u w : Tables) → RewritesLeaves x y t u → RewritesLeaves y z u w → RewritesLeaves x z t w
 turns_on x y z t u w a b = record {
   on = λ n f on. a.on n f (b.on n f on);
   tables = b.tables ∙ a.tables;
@@ -75,8 +76,8 @@ pub record IsMarking (x y : Body) (t : Tables) (p : Process) (extra : ℕ → �
   pub tables : Tables
   pub bound : ℕ
   pub done : PageMap Page
-  pub forking : IsStanding y tables (record p { settled = done }) extra
-  pub turns : TurnsLeaves x y t tables
+  pub forking : IsSpaceInCall y tables (record p { settled = done }) extra
+  pub turns : RewritesLeaves x y t tables
   pub marks : AreMarkedBelow p bound done
   pub left : AreSettled t p bound (trapframe_page p.scheme) rest
 
@@ -137,7 +138,7 @@ module _ (p : Process) (bound : ℕ) (done : PageMap Page) (marks : AreMarkedBel
     ]
 
 module _ (x : Body) (t : Tables) (p : Process) (extra : ℕ → ℕ) (settled : List SettledPage) where
-  pub marking_none : IsStanding x t p extra → AreSettled t p 0 (trapframe_page p.scheme) settled → IsMarking x x t p extra settled
+  pub marking_none : IsSpaceInCall x t p extra → AreSettled t p 0 (trapframe_page p.scheme) settled → IsMarking x x t p extra settled
   marking_none can are = record {
     tables = t;
     bound = 0;
@@ -160,7 +161,7 @@ module _ (x : Body) (t : Tables) (p : Process) (extra : ℕ → ℕ) (settled : 
       page_there = m.marks.above a.page left.0.0 ∙ left.0.3.settled
 
       -- it is on the frame that it was on, since no turned leaf names another
-      on_yet : IsOn m.tables a.page (a.frame).0
+      on_yet : IsFrameOfPage m.tables a.page (a.frame).0
       on_yet =
           let shown = m.forking.stands.shows.settled a.page left.0.3.page page_there in
           let was = m.turns.on a.page shown.frame (shown.leaf, shown.mapped, shown.made.names) in
@@ -178,7 +179,7 @@ module _ (x : Body) (t : Tables) (p : Process) (extra : ℕ → ℕ) (settled : 
         dirty = left.0.3.dirty;
       }
 
-      pub marking_ready : (t : Tables) × (p : Process) × (extra : ℕ → ℕ) × IsStanding y t p extra × IsSettledPage t p a
+      pub marking_ready : (t : Tables) × (p : Process) × (extra : ℕ → ℕ) × IsSpaceInCall y t p extra × IsSettledPage t p a
       marking_ready = (m.tables, record p { settled = m.done }, extra, m.forking, settled_yet)
 
       pub marking_next : (z : Body) → HasMarkedForked y z a → IsMarking x z t p extra (drop (i + 1) settled)
@@ -207,12 +208,12 @@ module _ (x : Body) (t : Tables) (p : Process) (extra : ℕ → ℕ) (settled : 
         left = left.1;
       }
 
-    pub marking_all : IsStanding x t p extra → length settled ≤ i → (w : Tables) × IsStanding y w (marked p) extra × TurnsLeaves x y t w
+    pub marking_all : IsSpaceInCall x t p extra → length settled ≤ i → (w : Tables) × IsSpaceInCall y w (marked p) extra × RewritesLeaves x y t w
     marking_all can past =
         let none : AreUnsettled p m.bound (trapframe_page p.scheme) = subst (AreSettled t p m.bound (trapframe_page p.scheme)) (at_drop_all (λ l. l) settled i past) m.left in
         let same = marks_all p m.bound m.done m.marks none can.stands.shows.low in (
           m.tables,
           forking_pending y m.tables (record p { settled = with_values (marked_page p) p.settled }) extra None
-              (subst (λ d. IsStanding y m.tables (record p { settled = d }) extra) same m.forking),
+              (subst (λ d. IsSpaceInCall y m.tables (record p { settled = d }) extra) same m.forking),
           m.turns,
         )

@@ -1,10 +1,11 @@
--- More pages need no fewer tables.
+-- Lemmas on `tables_needed`: more pages need no fewer page tables, the same pages need as many, and no pages need the root
+-- and the tables on the way to TRAMPOLINE, which TRAPFRAME shares.
 use Rattle.std.proofs.Common.{◌≡◌, ℕ, ◌+◌, ◌/◌, ◌≤◌, cond, inl, inr, refl, ap, ◌∙◌, arith, List, [], ◌∷◌, ◌++◌}
 use Rattle.std.proofs.lemmas.Bool.{cases_Bool}
 use Rattle.std.proofs.lemmas.List.Elements.{Contains-append_cases, Contains-append_left}
 use Rattle.std.specs.Prelude.{Contains}
 use Rattle.process_model.specs.Frames.{table_sizes, tables_needed, tables_of_sizes}
-use Rattle.process_model.specs.Inserted.{behind_more}
+use Rattle.process_model.specs.Insertion.{behind_more}
 use Rattle.process_model.specs.PageMap.{contains, count}
 use Rattle.process_model.specs.ValueSets.{count_next, same_count, values}
 use Rattle.sv39_entry.specs.Schemes.{trampoline_page, trapframe_page, top_level}

@@ -1,4 +1,5 @@
--- Tables that are made of credits, and the first of the child's.
+-- Lemmas for `open_tables`: page tables made of credits (reserved frames; `Makes`), and the child's first tables: the root,
+-- and those on the way to TRAMPOLINE and TRAPFRAME (`opens`).
 use Rattle.std.proofs.Common.{◌≡◌, ◌⊎◌, ℕ, ◌+◌, ◌-◌, ◌≤◌, false, true, if◌then◌else◌, Some, inl, inr, refl, ap, sym, subst, ◌∙◌, arith, [], ◌∷◌}
 use Rattle.std.proofs.lemmas.Bool.{cases_eq, ne_eqb}
 use Rattle.std.proofs.lemmas.Option.{same_Some}
@@ -12,7 +13,7 @@ use Rattle.process_model.specs.Frames.{tables_needed}
 use Rattle.process_model.specs.Process.{Process}
 use Rattle.process_model.specs.ValueSets.{none_in}
 use Rattle.sv39_entry.specs.Word.{IsLeafOf}
-use Rattle.table_walk.specs.Counted.{AreTablesOf}
+use Rattle.table_walk.specs.TableCounts.{AreTablesOf}
 use Rattle.table_walk.specs.Keys.{insert_other, insert_same}
 use Rattle.table_walk.specs.Tables.{bare_root, blank_hold, ChangesTables, HasTables, IsGrown, leaf_node, missing, Tables, with_leaf, root_node}
 use Rattle.sv39_entry.specs.Schemes.{top_level, trampoline_page, trapframe_page, of_scheme}

@@ -1,4 +1,5 @@
--- Parent and child stand on seats of their own, once the references of the child's frames went to one.
+-- Lemmas: after the parent's seat (an owner's capability at a frame store) was split, parent and child each are a process in
+-- memory by their own seats (`parent_after`, `child_after`).
 use Rattle.std.proofs.Common.{◌≡◌, ◌⊎◌, ℕ, ◌<◌, Bool, true, false, IsTrue, not, ◌&&◌, ◌||◌, None, Some, List, refl, ap, sym, subst, ◌∙◌, inl, inr, arith}
 use Rattle.std.specs.Prelude.{All}
 use Rattle.std.specs.FinMap as finite
@@ -6,7 +7,7 @@ use Rattle.std.proofs.lemmas.Option.{same_Some}
 use Rattle.frame_bytes.specs.Contents.{HasBytes}
 use Rattle.frame_store.specs.View.{Hold, hold_of, IsSole, references, View}
 use Rattle.process_model.specs.EachValue.{each_there, found_each}
-use Rattle.process_model.specs.OrderKept.{same_order}
+use Rattle.process_model.specs.OrderLaws.{same_order}
 use Rattle.process_model.specs.PageMap as pages
 use Rattle.process_model.specs.Process.{grants_write, Page, Process, regions}
 use Rattle.process_model.specs.Regions.{lacks_right, Region, region_at}
@@ -16,14 +17,14 @@ use Rattle.sv39_entry.specs.Frame.{ppn_of}
 use Rattle.sv39_entry.specs.Word.{ppn}
 use Rattle.sv39_entry.specs.declared.access.Access.TheVariants.{Store}
 use Rattle.sv39_entry.specs.Schemes.{trampoline_page, trapframe_page, of_scheme}
-use Rattle.table_walk.specs.Counted.{AreTablesOf}
-use Rattle.table_walk.specs.Same.{same_tables}
+use Rattle.table_walk.specs.TableCounts.{AreTablesOf}
+use Rattle.table_walk.specs.SameFrames.{same_tables}
 use Rattle.table_walk.specs.Tables.{HasTables, leaf_node, Tables}
-use Rattle.address_space.specs.Agreement.{body, code_rights, data_rights, HasKernelLeaf, IsLeafNumber, IsOn, IsShown, IsSpace, Names, nothing, Owns, Shows}
-use Rattle.address_space.specs.Standing.{IsStanding}
+use Rattle.address_space.specs.Agreement.{body, code_rights, data_rights, HasKernelLeaf, IsLeafNumber, IsFrameOfPage, IsShown, IsSpace, NamesFrame, no_extra, OwnsFrames, ShowsPages}
+use Rattle.address_space.specs.SpacesInCalls.{IsSpaceInCall}
 use Rattle.address_space.specs.Layouts.{Layout}
 use Rattle.cow_fork.specs.Children.{HasChildLeaf}
-use Rattle.cow_fork.specs.Parting.{AreForChild, IsParted, IsUnnamed}
+use Rattle.cow_fork.specs.SplitSpaces.{AreForChild, IsSplit, IsUnnamed}
 
 -- bytes are words that are known
 same_bytes : (v w : View) (f : ℕ) (bytes : List ℕ) → (hold_of w f).words ≡ (hold_of v f).words → HasBytes v f bytes → HasBytes w f bytes
@@ -52,11 +53,11 @@ pub one_named : (f g : ℕ) → ppn_of f ≡ ppn_of g → f ≡ g
 one_named f g same = omega (arith, same)
 
 module _ (v a b : View) (root saved : ℕ) (l : Layout) (t u : Tables) (p : Process) (extra : ℕ → ℕ)
-    (parent : IsStanding (body v root saved l) t (marked p) extra) (for_child : AreForChild u extra) (parts : IsParted v a b u) (none : v.credits ≡ 0) where
-  abbrev owns : Owns v t extra
+    (parent : IsSpaceInCall (body v root saved l) t (marked p) extra) (for_child : AreForChild u extra) (parts : IsSplit v a b u) (none : v.credits ≡ 0) where
+  abbrev owns : OwnsFrames v t extra
   owns = parent.stands.owns
 
-  abbrev shows : Shows v saved t (marked p)
+  abbrev shows : ShowsPages v saved t (marked p)
   shows = parent.stands.shows
 
   module _ (table_apart : (k f : ℕ) → finite.get t.tables k ≡ Some f → IsUnnamed u f) (saved_apart : IsUnnamed u saved) where
@@ -84,7 +85,7 @@ module _ (v a b : View) (root saved : ℕ) (l : Layout) (t u : Tables) (p : Proc
       ]
     ]
 
-    owns_after : Owns a t nothing
+    owns_after : OwnsFrames a t no_extra
     owns_after = record {
       once = owns.once;
       named = λ f k names. let was = owns.named f k names in elim (for_child f) [
@@ -99,7 +100,7 @@ module _ (v a b : View) (root saved : ℕ) (l : Layout) (t u : Tables) (p : Proc
     }
 
     -- what was known of a page's frame still is
-    words_stay : (f k : ℕ) → Names t f k → (hold_of a f).words ≡ (hold_of v f).words
+    words_stay : (f k : ℕ) → NamesFrame t f k → (hold_of a f).words ≡ (hold_of v f).words
     words_stay f k names = let was = owns.named f k names in elim (for_child f) [
       | inl his ↦ (let one = his.0 in parts.known f his.1.0 his.1.1 (omega (arith, was, one)))
       | inr not_his ↦ ap (λ (h : Hold). h.words) (parts.kept f not_his.1)
@@ -141,7 +142,7 @@ module _ (v a b : View) (root saved : ℕ) (l : Layout) (t u : Tables) (p : Proc
       (own_once : references v own ≡ 1) (own_sole : IsSole v own) (own_unnamed : IsUnnamed t own) (own_apart : (k : ℕ) → finite.get u.tables k ≡ Some own → ⊥) where
     -- what the leaf of a number is for
     abbrev IsLeafFor : ℕ → ℕ → Type 0
-    IsLeafFor k f = ((k ≡ leaf_node (trampoline_page p.scheme)) × (f ≡ 0)) ⊎ (((k ≡ leaf_node (trapframe_page p.scheme)) × (f ≡ own)) ⊎ ((n : ℕ) × (s : Page) × (k ≡ leaf_node n) × (pages.get p.settled n ≡ Some s) × IsOn t n f))
+    IsLeafFor k f = ((k ≡ leaf_node (trampoline_page p.scheme)) × (f ≡ 0)) ⊎ (((k ≡ leaf_node (trapframe_page p.scheme)) × (f ≡ own)) ⊎ ((n : ℕ) × (s : Page) × (k ≡ leaf_node n) × (pages.get p.settled n ≡ Some s) × IsFrameOfPage t n f))
 
     leaf_for : (k x f : ℕ) → finite.get u.leaves k ≡ Some x → ppn x ≡ ppn_of f → IsLeafFor k f
     leaf_for k x f at names = elim (only k x at) [
@@ -152,45 +153,45 @@ module _ (v a b : View) (root saved : ℕ) (l : Layout) (t u : Tables) (p : Proc
             let c = settled page.0 page.1 page.3 in
             let is = one_leaf u k x c.leaf at (ap (finite.get u.leaves) page.2 ∙ c.mapped) in
             let here : c.frame ≡ f = one_named c.frame f (sym c.made.names ∙ sym (ap ppn is) ∙ names) in
-            inr (inr (page.0, page.1, page.2, page.3, subst (IsOn t page.0) here c.on)))
+            inr (inr (page.0, page.1, page.2, page.3, subst (IsFrameOfPage t page.0) here c.on)))
       ]
     ]
 
-    on_names : (n f : ℕ) → IsOn t n f → Names t f (leaf_node n)
+    on_names : (n f : ℕ) → IsFrameOfPage t n f → NamesFrame t f (leaf_node n)
     on_names n f on = inr (on.0, on.1, on.2)
 
-    code_named : Names t 0 (leaf_node (trampoline_page p.scheme))
+    code_named : NamesFrame t 0 (leaf_node (trampoline_page p.scheme))
     code_named = let leaf = shows.on_trampoline in inr (leaf.0, leaf.1, leaf.2.names)
 
     low : (n : ℕ) (s : Page) → pages.get p.settled n ≡ Some s → n < (trapframe_page p.scheme)
     low n s there = shows.low n (marked_page p n s) (each_there (marked_page p) p.settled n s there)
 
     -- a page's frame is not the trampoline's
-    not_code : (n f : ℕ) (s : Page) → pages.get p.settled n ≡ Some s → IsOn t n f → f ≡ 0 → ⊥
+    not_code : (n f : ℕ) (s : Page) → pages.get p.settled n ≡ Some s → IsFrameOfPage t n f → f ≡ 0 → ⊥
     not_code n f s there on nought =
-        let same = owns.once 0 (leaf_node n) (leaf_node (trampoline_page p.scheme)) (subst (λ g. Names t g (leaf_node n)) nought (on_names n f on)) code_named in
+        let same = owns.once 0 (leaf_node n) (leaf_node (trampoline_page p.scheme)) (subst (λ g. NamesFrame t g (leaf_node n)) nought (on_names n f on)) code_named in
         let small = low n s there in
         omega (arith, same, small, of_scheme p.scheme)
 
     leaves_once : (f j k : ℕ) → IsLeafFor j f → IsLeafFor k f → j ≡ k
     leaves_once f j k (inl code) (inl also) = code.0 ∙ sym also.0
-    leaves_once f j k (inl code) (inr (inl saved_)) = absurd (own_unnamed (leaf_node (trampoline_page p.scheme)) (subst (λ g. Names t g (leaf_node (trampoline_page p.scheme))) (sym code.1 ∙ saved_.1) code_named))
+    leaves_once f j k (inl code) (inr (inl saved_)) = absurd (own_unnamed (leaf_node (trampoline_page p.scheme)) (subst (λ g. NamesFrame t g (leaf_node (trampoline_page p.scheme))) (sym code.1 ∙ saved_.1) code_named))
     leaves_once f j k (inl code) (inr (inr page)) = absurd (not_code page.0 f page.1 page.3 page.4 code.1)
-    leaves_once f j k (inr (inl saved_)) (inl code) = absurd (own_unnamed (leaf_node (trampoline_page p.scheme)) (subst (λ g. Names t g (leaf_node (trampoline_page p.scheme))) (sym code.1 ∙ saved_.1) code_named))
+    leaves_once f j k (inr (inl saved_)) (inl code) = absurd (own_unnamed (leaf_node (trampoline_page p.scheme)) (subst (λ g. NamesFrame t g (leaf_node (trampoline_page p.scheme))) (sym code.1 ∙ saved_.1) code_named))
     leaves_once f j k (inr (inl saved_)) (inr (inl also)) = saved_.0 ∙ sym also.0
-    leaves_once f j k (inr (inl saved_)) (inr (inr page)) = absurd (own_unnamed (leaf_node page.0) (subst (λ g. Names t g (leaf_node page.0)) saved_.1 (on_names page.0 f page.4)))
+    leaves_once f j k (inr (inl saved_)) (inr (inr page)) = absurd (own_unnamed (leaf_node page.0) (subst (λ g. NamesFrame t g (leaf_node page.0)) saved_.1 (on_names page.0 f page.4)))
     leaves_once f j k (inr (inr page)) (inl code) = absurd (not_code page.0 f page.1 page.3 page.4 code.1)
-    leaves_once f j k (inr (inr page)) (inr (inl saved_)) = absurd (own_unnamed (leaf_node page.0) (subst (λ g. Names t g (leaf_node page.0)) saved_.1 (on_names page.0 f page.4)))
+    leaves_once f j k (inr (inr page)) (inr (inl saved_)) = absurd (own_unnamed (leaf_node page.0) (subst (λ g. NamesFrame t g (leaf_node page.0)) saved_.1 (on_names page.0 f page.4)))
     leaves_once f j k (inr (inr page)) (inr (inr also)) =
         page.2 ∙ owns.once f (leaf_node page.0) (leaf_node also.0) (on_names page.0 f page.4) (on_names also.0 f also.4) ∙ sym also.2
 
     -- no leaf names a table
     table_alone : (f j k : ℕ) → finite.get u.tables j ≡ Some f → IsLeafFor k f → ⊥
-    table_alone f j k at (inl code) = (fresh j f at).1 (leaf_node (trampoline_page p.scheme)) (subst (λ g. Names t g (leaf_node (trampoline_page p.scheme))) (sym code.1) code_named)
+    table_alone f j k at (inl code) = (fresh j f at).1 (leaf_node (trampoline_page p.scheme)) (subst (λ g. NamesFrame t g (leaf_node (trampoline_page p.scheme))) (sym code.1) code_named)
     table_alone f j k at (inr (inl saved_)) = own_apart j (at ∙ ap (λ g. Some g) saved_.1)
     table_alone f j k at (inr (inr page)) = (fresh j f at).1 (leaf_node page.0) (on_names page.0 f page.4)
 
-    once : (f j k : ℕ) → Names u f j → Names u f k → j ≡ k
+    once : (f j k : ℕ) → NamesFrame u f j → NamesFrame u f k → j ≡ k
     once f j k (inl at) (inl also) = tree.known.apart j k f at also
     once f j k (inl at) (inr leaf) = absurd (table_alone f j k at (leaf_for k leaf.0 f leaf.1 leaf.2))
     once f j k (inr leaf) (inl at) = absurd (table_alone f k j at (leaf_for j leaf.0 f leaf.1 leaf.2))

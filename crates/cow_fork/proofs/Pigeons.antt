@@ -1,9 +1,9 @@
--- A list of different numbers below a bound is no longer than the bound.
+-- A lemma (`few`): a list of distinct numbers below a bound is no longer than the bound.
 use Rattle.std.proofs.Common.{◌≡◌, ℕ, zero, suc, ◌+◌, ◌<◌, ◌≤◌, refl, List, [], ◌∷◌, length, arith}
 use Rattle.std.specs.Prelude.{◌==◌, if◌then◌else◌, nat_lt}
 use Rattle.std.proofs.lemmas.Bool.{eq-eqb}
 use Rattle.std.proofs.lemmas.Bool.Decides.{nat_tests}
-use Rattle.cow_fork.specs.Lists.{times}
+use Rattle.cow_fork.specs.Occurrences.{times}
 
 -- how many of the list are below a bound
 abbrev below : ℕ → List ℕ → ℕ

@@ -1,4 +1,7 @@
--- A fork that is refused, and one that may begin.
+-- Lemmas for a refused fork: if references and credits (reserved frames) are what they were, so is the process; what a
+-- refused reservation or a full count says (`runs_dry`, `takes_counted`). And what lets one begin: the seat (an owner's
+-- capability at a frame store) holds the frames to be shared, and after the reservation the child can be made
+-- (`can_divide`).
 use Rattle.std.proofs.Common.{◌≡◌, ◌⊎◌, ℕ, ◌<◌, ◌≤◌, ap, refl, sym, subst, ◌∙◌, inl, inr, arith, Result, Ok, Err, List, [], ◌∷◌, length, ◌++◌, ◌+◌}
 use Rattle.std.proofs.lemmas.List.{append-nil, length-map}
 use Rattle.frame_store.specs.Laws.{IsAnchored, IsDry}
@@ -7,18 +10,18 @@ use Rattle.frame_store.specs.Holds.{hold_of-frames}
 use Rattle.process_model.specs.Frames.{fork_need}
 use Rattle.process_model.specs.Process.{Process}
 use Rattle.table_walk.specs.Tables.{Tables}
-use Rattle.address_space.specs.Agreement.{Body, body, body_of, IsSpace, nothing}
+use Rattle.address_space.specs.Agreement.{Body, body, body_of, IsSpace, no_extra}
 use Rattle.address_space.specs.Layouts.{Layout}
-use Rattle.address_space.specs.Settled.{AreSettled}
-use Rattle.address_space.specs.Steps.{RunsDry, Takes}
-use Rattle.address_space.specs.declared.settled.SettledPage.{SettledPage}
+use Rattle.address_space.specs.SettledLists.{AreSettled}
+use Rattle.address_space.specs.Steps.{RunsDry, TakesFrames}
+use Rattle.address_space.specs.declared.settled_pages.SettledPage.{SettledPage}
 use Rattle.address_space.specs.declared.space.Space.{Space}
 use Rattle.cow_fork.specs.Forks.{CanDivide, Prepares}
-use Rattle.cow_fork.specs.Lists.{times}
-use Rattle.cow_fork.specs.Sharing.{AreGoing, frames_of}
-use Rattle.cow_fork.specs.declared.forking.ForkError.{ForkError}
-use Rattle.cow_fork.specs.declared.forking.ForkError.TheVariants.{NoFrame, SharersFull}
-use Rattle.address_space.specs.Beside.{stands_beside}
+use Rattle.cow_fork.specs.Occurrences.{times}
+use Rattle.cow_fork.specs.ForkReferences.{AreToShare, frames_of}
+use Rattle.cow_fork.specs.declared.fork_process.ForkError.{ForkError}
+use Rattle.cow_fork.specs.declared.fork_process.ForkError.TheVariants.{NoFrame, SharersFull}
+use Rattle.address_space.specs.SeatExtras.{stands_beside}
 use Rattle.cow_fork.proofs.Going.{going_few, going_held, going_settled}
 use Rattle.cow_fork.proofs.Walking.{body_between}
 use Rattle.sv39_entry.specs.Schemes.{trapframe_page}
@@ -46,7 +49,7 @@ pub whole_again : (v w : View) → ((f : ℕ) → hold_of w f ≡ hold_of v f) �
 whole_again v w holds credits root saved l t p space = record {
   sound = space.sound;
   lays = space.lays;
-  stands = stands_beside v w nothing (λ f. let is = ap (λ (h : Hold). h.references) (holds f) in omega (arith, is))
+  stands = stands_beside v w no_extra (λ f. let is = ap (λ (h : Hold). h.references) (holds f) in omega (arith, is))
       (λ f _. (ap (λ (h : Hold). h.words) (holds f), ap (λ (h : Hold). h.sole) (holds f))) root saved t p space.stands;
   credits = credits ∙ space.credits;
 }
@@ -69,7 +72,7 @@ module _ (x : Body) (t : Tables) (p : Process) (space : IsSpace x t p) where
   space_anchored f _ = going_held x t p space (trapframe_page p.scheme) 0 (inl refl)
 
   module _ (list : List SettledPage) (settled : AreSettled t p 0 (trapframe_page p.scheme) list) where
-    going : AreGoing t p (trapframe_page p.scheme) (0 ∷ frames_of list)
+    going : AreToShare t p (trapframe_page p.scheme) (0 ∷ frames_of list)
     going = going_settled x t p space list settled
 
     pub going_once : (f : ℕ) → times f (0 ∷ frames_of list) ≤ 1
@@ -92,14 +95,14 @@ pub can_divide : {S : Type 0} (view : S → View) (x y : Space S) (v : View) (t 
 can_divide view x y v t p need list L space settled viewed root trapframe layout needs ready = record {
   space = subst (λ b. IsSpace b t p) (sym (body_between v (view y.seat) x y viewed root trapframe layout)) space;
   more = ready.more;
-  going = subst (AreGoing t p (trapframe_page p.scheme)) (sym ready.all) (going_settled (body_of view y) t p space list settled);
+  going = subst (AreToShare t p (trapframe_page p.scheme)) (sym ready.all) (going_settled (body_of view y) t p space list settled);
   settled = settled;
   credits = ready.credits ∙ needs;
   tallies = ready.tallies;
 }
 
 -- counts were read, and nothing else was taken
-pub takes_counted : (v w : View) (counts : List ℕ) → w.tallies ≡ counted counts v.tallies → Takes v w 0 counts
+pub takes_counted : (v w : View) (counts : List ℕ) → w.tallies ≡ counted counts v.tallies → TakesFrames v w 0 counts
 takes_counted v w counts is =
     let none : (v.tallies).claims ≡ (v.tallies).claims + 0 = omega arith in
     record { tallies = is ∙ ap (λ k. record v.tallies { claims = k; looks = (v.tallies).looks ++ counts }) none }

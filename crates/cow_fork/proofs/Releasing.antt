@@ -1,4 +1,5 @@
--- References that were taken are let go, one after another.
+-- Lemmas for `release_all`: dropping one more reference of a list, and all of them: the holds are then what they were before
+-- these references were taken, and credits (reserved frames), tallies and size stay.
 use Rattle.std.proofs.Common.{◌≡◌, ℕ, ◌+◌, ◌-◌, ◌<◌, ◌≤◌, get_or, cond, refl, ap, sym, subst, ◌∙◌, inl, inr, List, [], ◌∷◌, drop, length, map, arith}
 use Rattle.std.proofs.lemmas.Bool.{cases_eq, eq-eqb, ne_eqb}
 use Rattle.std.proofs.lemmas.List.{at_drop_all, at_drop_more}
@@ -6,8 +7,8 @@ use Rattle.frame_store.specs.Holds.{hold_of-with_hold_other, hold_of-with_hold_s
 use Rattle.frame_store.specs.Laws.{IsAnchored}
 use Rattle.frame_store.specs.View.{Hold, hold_of, IsHeld, references, released, View, with_hold, without_hold}
 use Rattle.sv39_entry.specs.declared.frame.FrameNo.{FrameNo}
-use Rattle.cow_fork.specs.Lists.{times}
-use Rattle.cow_fork.specs.Sharing.{HasMore, with_more}
+use Rattle.cow_fork.specs.Occurrences.{times}
+use Rattle.cow_fork.specs.ForkReferences.{HasMore, with_more}
 
 pub times_same : (f : ℕ) (L : List ℕ) → times f (f ∷ L) ≡ 1 + times f L
 times_same f L = rw (eq-eqb f f refl) (omega arith)

@@ -1,11 +1,12 @@
--- Credits that are reserved before references are taken, and given back.
+-- Lemmas for the stage `prepare` of a fork: credits (reserved frames) that are reserved before references are taken
+-- (`prepared`), and given back if a count is full (`back_again`).
 use Rattle.std.proofs.Common.{◌≡◌, ℕ, ◌<◌, ap, refl, sym, subst, ◌∙◌, arith, List, [], ◌∷◌}
 use Rattle.frame_store.specs.Holds.{hold_of-frames}
 use Rattle.frame_store.specs.Laws.{IsAnchored}
 use Rattle.frame_store.specs.View.{counted, Hold, hold_of, IsHeld, View, with_credits, without_credits}
-use Rattle.cow_fork.specs.Forks.{IsBack, Prepares}
-use Rattle.cow_fork.specs.Lists.{times}
-use Rattle.cow_fork.specs.Sharing.{HasMore, with_more}
+use Rattle.cow_fork.specs.Forks.{IsGivenBack, Prepares}
+use Rattle.cow_fork.specs.Occurrences.{times}
+use Rattle.cow_fork.specs.ForkReferences.{HasMore, with_more}
 
 module _ (v w : View) (need : ℕ) (is : w ≡ with_credits need v) where
   same : (f : ℕ) → hold_of w f ≡ hold_of v f
@@ -32,7 +33,7 @@ module _ (v w : View) (need : ℕ) (is : w ≡ with_credits need v) where
     tallies = tallies ∙ ap (λ (k : View). k.tallies) is;
   }
 
-  pub back_again : (x y : View) → ((f : ℕ) → hold_of x f ≡ hold_of w f) → x.credits ≡ w.credits → x.tallies ≡ counted (65535 ∷ []) w.tallies → y ≡ without_credits need x → IsBack v y
+  pub back_again : (x y : View) → ((f : ℕ) → hold_of x f ≡ hold_of w f) → x.credits ≡ w.credits → x.tallies ≡ counted (65535 ∷ []) w.tallies → y ≡ without_credits need x → IsGivenBack v y
   back_again x y holds credits tallies gives = record {
     holds = λ f. ap (λ (k : View). hold_of k f) gives ∙ hold_of-frames (without_credits need x) x refl f ∙ holds f ∙ same f;
     credits = let last = ap (λ (k : View). k.credits) gives in let first = ap (λ (k : View). k.credits) is in omega (arith, last, first, credits);

@@ -1,4 +1,4 @@
--- What is told of a result.
+-- A lemma (`err_told`): a statement that holds in any case holds of a result that is an error.
 use Rattle.std.proofs.Common.{Result, Ok, Err}
 use Rattle.std.specs.Prelude.{IfErr}
 

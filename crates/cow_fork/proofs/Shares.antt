@@ -1,8 +1,9 @@
--- The frames that are left to share, from a place in the list of settled pages on.
+-- Lemmas for the loop of `share_frames`: the frames shared so far and those left make the whole list, frame 0 and the frames
+-- of the settled pages (those in memory); and the list of frames has room for one more.
 use Rattle.std.proofs.Common.{◌≡◌, ℕ, ◌+◌, ◌<◌, ap, sym, ◌∙◌, List, [], ◌∷◌, ◌++◌, drop, length, slice_index_or, arith}
 use Rattle.std.proofs.lemmas.List.{append_assoc, at_drop_more, length-append, length-map}
-use Rattle.address_space.specs.declared.settled.SettledPage.{SettledPage}
-use Rattle.cow_fork.specs.Sharing.{frames_of}
+use Rattle.address_space.specs.declared.settled_pages.SettledPage.{SettledPage}
+use Rattle.cow_fork.specs.ForkReferences.{frames_of}
 
 module _ (settled : List SettledPage) (i : ℕ) where
   -- what was taken, and what is left

@@ -1,10 +1,12 @@
--- One reference of each listed frame goes to a seat of its own: what either seat then has.
+-- Lemmas on `split_off`: what each of the two seats (an owner's capability at a frame store) has of a frame that is listed
+-- once, or not at all, after one reference to each listed frame went to the second; credits and tallies; and when it can be
+-- done (`can_split`).
 use Rattle.std.proofs.Common.{◌≡◌, ℕ, ◌+◌, ◌-◌, ◌<◌, ◌≤◌, cond, true, false, refl, ap, sym, subst, ◌∙◌, inl, inr, List, [], ◌∷◌, arith}
 use Rattle.std.specs.Prelude.{◌==◌}
 use Rattle.std.proofs.lemmas.Bool.{cases_eq}
 use Rattle.frame_store.specs.Holds.{hold_of-with_hold_other, hold_of-with_hold_same, hold_of-without_hold_other, hold_of-without_hold_same}
 use Rattle.frame_store.specs.View.{CanSplit, Hold, hold_of, IsHeld, moved_from, moved_to, not_held, references, split_off, View, with_hold, without_hold}
-use Rattle.cow_fork.specs.Lists.{times}
+use Rattle.cow_fork.specs.Occurrences.{times}
 use Rattle.cow_fork.proofs.Releasing.{times_other, times_same}
 
 -- what is left of a hold, and what goes

@@ -1,11 +1,12 @@
--- References are taken, one after another.
+-- Lemmas for `share_frames`: the seat (an owner's capability at a frame store) with one more reference taken (`more_next`),
+-- and its counts; a refused one takes none (`looked_more`).
 use Rattle.std.proofs.Common.{◌≡◌, ℕ, ◌+◌, ◌<◌, ◌≤◌, refl, ap, sym, subst, ◌∙◌, inl, inr, List, [], ◌∷◌, ◌++◌, arith}
 use Rattle.std.proofs.lemmas.Bool.{cases_eq}
 use Rattle.frame_store.specs.Holds.{hold_of-frames, hold_of-with_hold_other, hold_of-with_hold_same}
 use Rattle.frame_store.specs.Laws.{CountBecomes, IsAnchored}
 use Rattle.frame_store.specs.View.{Hold, hold_of, IsHeld, read_full, references, shared, View}
-use Rattle.cow_fork.specs.Lists.{times}
-use Rattle.cow_fork.specs.Sharing.{HasMore, with_more}
+use Rattle.cow_fork.specs.Occurrences.{times}
+use Rattle.cow_fork.specs.ForkReferences.{HasMore, with_more}
 use Rattle.cow_fork.proofs.Going.{times_last_other, times_last_same}
 use Rattle.cow_fork.proofs.Releasing.{times_same}
 

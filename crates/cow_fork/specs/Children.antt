@@ -1,4 +1,6 @@
--- The child's page tables, beside the parent's on the parent's seat.
+-- The child's page tables while a fork builds them on the parent's seat (an owner's capability at a frame store): when it
+-- can begin (`CanOpen`, `CanCopy`), the leaf of a settled page, one in memory (`HasChildLeaf`), and tables, leaves and
+-- credits (reserved frames) after some of these pages (`CopiesPages`) and after all (`CopiesTree`).
 use Rattle.std.specs.Prelude.{◌≡◌, ◌≢◌, ℕ, ◌-◌, ◌<◌, ◌≤◌, Contains, List, Some, ◌+◌}
 use Rattle.std.specs.FinMap.{get}
 use Rattle.frame_store.specs.View.{AllKnown, hold_of, IsHeld, references, spent, View}
@@ -10,32 +12,35 @@ use Rattle.process_model.specs.Regions.{Region, region_at}
 use Rattle.process_model.specs.Residence.{child_page}
 use Rattle.sv39_entry.specs.Schemes.{trampoline_page, trapframe_page, top_level}
 use Rattle.sv39_entry.specs.declared.scheme.Scheme.{Scheme}
-use Rattle.table_walk.specs.Counted.{AreTablesOf}
+use Rattle.table_walk.specs.TableCounts.{AreTablesOf}
 use Rattle.table_walk.specs.Tables.{HasTables, leaf_node, Tables}
-use Rattle.address_space.specs.Agreement.{code_rights, data_rights, HasKernelLeaf, is_dirty_page, IsLeafNumber, IsOn, IsPageLeaf}
+use Rattle.address_space.specs.Agreement.{code_rights, data_rights, HasKernelLeaf, is_dirty_page, IsLeafNumber, IsFrameOfPage, IsPageLeaf}
 use Rattle.address_space.specs.Layouts.{Layout, LaysOut}
-use Rattle.address_space.specs.Settled.{AreSettled}
-use Rattle.address_space.specs.declared.settled.SettledPage.{SettledPage}
+use Rattle.address_space.specs.SettledLists.{AreSettled}
+use Rattle.address_space.specs.declared.settled_pages.SettledPage.{SettledPage}
 
--- the leaf of a page in the child: on the parent's frame, not writable, with the fork mark where the region grants writing, and not dirty
--- where stores go back to a file
+-- page n of the child has a leaf in u, on the frame that it has in the parent's t. W is clear; the fork mark is set if the
+-- page had it or its region grants writing; D is set exactly when the region grants writing and is no shared mapping
 pub record HasChildLeaf (t u : Tables) (p : Process) (n : ℕ) (s : Page) : Type 0 where
   pub region : Region
   pub frame : ℕ
   pub leaf : ℕ
   pub in_region : region_at (regions p) n ≡ Some region
-  pub on : IsOn t n frame
+  pub on : IsFrameOfPage t n frame
   pub mapped : get u.leaves (leaf_node n) ≡ Some leaf
   pub made : IsPageLeaf leaf frame region (child_page p n s).fork_mark (is_dirty_page region (child_page p n s))
 
--- the two pages of the kernel are mapped by a credit for each level, the second over a frame of the child's own
+-- tables for the kernel's two pages can be made: the seat holds frame 0 and another frame, for the trapframe, and has at
+-- least one credit for each level
 pub record CanOpen (z : Scheme) (v : View) (trapframe : ℕ) : Type 0 where
   pub anchored : IsHeld v 0
   pub saved : IsHeld v trapframe
   pub apart : trapframe ≢ 0
   pub credits : 1 + top_level z ≤ v.credits
 
--- the credits are there for the tables of all settled pages, and each page is on a frame that is held, with its bytes
+-- the child's tables can be made: the seat holds frame 0 and another frame, for the trapframe, and has the credits for the
+-- tables of all settled pages; these are listed, lie below TRAPFRAME, and each is on a frame that the seat holds and of which
+-- it knows each word
 pub record CanCopy (v : View) (l : Layout) (t : Tables) (p : Process) (trapframe : ℕ) (list : List SettledPage) : Type 0 where
   pub anchored : IsHeld v 0
   pub saved : IsHeld v trapframe
@@ -44,12 +49,13 @@ pub record CanCopy (v : View) (l : Layout) (t : Tables) (p : Process) (trapframe
   pub lays : LaysOut l p
   pub settled : AreSettled t p 0 (trapframe_page p.scheme) list
   pub low : (n : ℕ) (s : Page) → pages.get p.settled n ≡ Some s → n < (trapframe_page p.scheme)
-  pub known : (n : ℕ) (s : Page) → pages.get p.settled n ≡ Some s → (f : ℕ) → IsOn t n f → IsHeld v f × AllKnown v f
+  pub known : (n : ℕ) (s : Page) → pages.get p.settled n ≡ Some s → (f : ℕ) → IsFrameOfPage t n f → IsHeld v f × AllKnown v f
   pub credits : tables_needed p.scheme (pages.keys p.settled) ≤ v.credits
 
--- The child's tables, made of credits, as far as some pages were gone through, which are told as a list too: leaves for those below a
--- bound, and those of TRAMPOLINE and of TRAPFRAME, over a frame of the child's own. Of each frame that is no table of theirs the seat
--- has what it had.
+-- The child's tables u, made of credits while the seat's view went from v to w, have leaves for the settled pages below a
+-- bound, for TRAMPOLINE and, on the child's own frame, for TRAPFRAME. `done` has each of these settled pages, and only
+-- settled pages; the tables are those for `done`. Each table is a frame of which the seat had no reference before and has one
+-- after; of every other frame it has what it had.
 pub record CopiesPages (v w : View) (t u : Tables) (p : Process) (root trapframe bound : ℕ) (done : List ℕ) : Type 0 where
   pub tables : HasTables p.scheme w root u
   pub on_trampoline : HasKernelLeaf u (trampoline_page p.scheme) 0 code_rights
@@ -64,7 +70,7 @@ pub record CopiesPages (v w : View) (t u : Tables) (p : Process) (root trapframe
   pub credits : w.credits ≡ v.credits - tables_needed p.scheme done
   pub tallies : w.tallies ≡ spent (tables_needed p.scheme done) v.tallies
 
--- all pages were gone through
+-- `CopiesPages` for all settled pages: the child's tables are complete
 pub record CopiesTree (v w : View) (t u : Tables) (p : Process) (root trapframe : ℕ) : Type 0 where
   pub tables : HasTables p.scheme w root u
   pub on_trampoline : HasKernelLeaf u (trampoline_page p.scheme) 0 code_rights

@@ -1,6 +1,6 @@
 pub mod Children
 pub mod Forks
-pub mod Listing
-pub mod Lists
-pub mod Parting
-pub mod Sharing
+pub mod TableList
+pub mod Occurrences
+pub mod SplitSpaces
+pub mod ForkReferences

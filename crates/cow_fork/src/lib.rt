@@ -1,13 +1,14 @@
-//! Fork by copy-on-write (the MIT 6.1810 lab on copy-on-write): the child takes a trapframe and its own tables, and no frame of
-//! data.
+//! Fork by copy-on-write (MIT 6.1810, copy-on-write lab): the child takes frames for its trapframe and its page tables, and
+//! none for data. The calls `fork` and, for a caller that has the list of settled pages (those in memory), `fork_listed`;
+//! the enum `ForkError`, why a fork is refused; and the struct `PageList`, which collects these pages.
 #![tactic(auto)]
 
-mod forking;
+mod fork_process;
 mod need;
 mod pages;
-mod sharing;
+mod share;
 mod tables;
 mod tree;
 
-pub use forking::{ForkError, fork, fork_listed};
+pub use fork_process::{ForkError, fork, fork_listed};
 pub use pages::PageList;

@@ -1,7 +1,8 @@
-// How many frames a fork takes.
+// How many frames a fork takes (`fork_need`), counted from the list of settled pages (those in memory): the trapframe and,
+// for each size of table, the page tables (`table_count`).
 
 ghost use Rattle.std.specs.Prelude.{◌≡◌, ◌+◌, ◌/◌, ◌<◌, ◌≤◌, ◌∷◌, ℕ, length, map, Some};
-ghost use Rattle.address_space.specs.Settled.{AreSettled};
+ghost use Rattle.address_space.specs.SettledLists.{AreSettled};
 ghost use Rattle.process_model.specs.Frames as model;
 ghost use Rattle.process_model.specs.PageMap.{count, get, keys, numbers};
 ghost use Rattle.process_model.specs.Process.{Page, Process};
@@ -11,17 +12,17 @@ ghost use Rattle.table_walk.specs.Tables.{Tables};
 use address_space::SettledPage;
 use sv39_entry::Scheme;
 
-/// How many frames a fork takes: the child's trapframe, and the tables that the listed settled pages need.
+/// The number of frames that a fork takes: the child's trapframe, and the page tables for the listed settled pages.
 pub(crate) fn fork_need(scheme: Scheme, settled: &[SettledPage]) -> usize
     requires few { length settled.now < 1024 }
     ensures need { (t : Tables) (p : Process) → p.scheme ≡ scheme → ((n : ℕ) (s : Page) → get p.settled n ≡ Some s → n < trapframe_page p.scheme) →
         AreSettled t p 0 (trapframe_page p.scheme) settled.now → result ≡ model.fork_need p }
 {
-    // A table of level 2 is for 2^27 pages, one of level 1 for 2^18, and one of level 0 for 2^9 (RISC-V Privileged Architecture
+    // A table of level 2 maps 2^27 pages, one of level 1 maps 2^18, and one of level 0 maps 2^9 (RISC-V Privileged Architecture
     // 20211203, 4.4.1 and 4.5.1).
     let upper = table_count(scheme, settled, 1 << 18);
     let lower = table_count(scheme, settled, 1 << 9);
-    // The trapframe and the root come on top.
+    // 2: the trapframe and the root.
     let frames = 2 + upper + lower;
     match scheme {
         Scheme::Sv39 => frames,
@@ -29,7 +30,7 @@ pub(crate) fn fork_need(scheme: Scheme, settled: &[SettledPage]) -> usize
     }
 }
 
-/// How many tables of so many pages each the settled pages need with TRAMPOLINE and TRAPFRAME.
+/// The number of page tables, each for `pages` pages, that the settled pages, TRAMPOLINE and TRAPFRAME need.
 fn table_count(scheme: Scheme, settled: &[SettledPage], pages: u64) -> usize
     requires few { length settled.now < 1024 }
     requires some { 0 < pages }

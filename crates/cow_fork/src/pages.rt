@@ -1,9 +1,10 @@
-// The settled pages of a process, as a list.
+// `PageList`, a struct: a list with room for 1,024 pages, used again and again. `settled_pages` collects in it the settled
+// pages (those in memory) of a process, in ascending order.
 
 ghost use Rattle.std.specs.Prelude.{[], ◌≡◌};
 ghost use Rattle.address_space.specs.Agreement.{body_of, IsSpace};
-ghost use Rattle.address_space.specs.Settled.{AreSettled};
-ghost use Rattle.frame_store.specs.Laws.{Fits, Keeps};
+ghost use Rattle.address_space.specs.SettledLists.{AreSettled};
+ghost use Rattle.frame_store.specs.Laws.{IsSeatOf, KeepsSeats};
 ghost use Rattle.process_model.specs.Process.{Process};
 ghost use Rattle.sv39_entry.specs.Schemes.{trapframe_page};
 ghost use Rattle.table_walk.specs.Tables.{Tables};
@@ -13,7 +14,8 @@ use arrayvec::ArrayVec;
 use frame_store::{FrameAccess, FrameSeat};
 use std::marker::Model;
 
-/// Room for the settled pages of one process after another. Contracts see nothing of what is there.
+/// A list of settled pages (those in memory) that each call of `settled_pages` fills anew, for one process after another.
+/// Contracts do not see what is in it.
 #[derive(Drop)]
 pub struct PageList {
     pages: ArrayVec<SettledPage, 1024>,
@@ -26,20 +28,22 @@ impl Model for PageList {
 }
 
 impl PageList {
-    /// Room for as many pages as a store has frames.
+    /// An empty list with room for 1,024 pages: a store has at most as many frames.
     pub fn new() -> PageList {
         PageList {
             pages: ArrayVec::new(),
         }
     }
 
-    /// The settled pages of a process in ascending order.
+    /// Collects in this list the settled pages (those in memory) of the process in `space`, and returns them as a slice:
+    /// all of them, each once, in ascending order, with frame, fork mark, and whether the leaf has D. Only reads: the
+    /// store, the space, and the view of its seat (references, credits, known words) stay.
     pub fn settled_pages<S: FrameSeat, F: FrameAccess<Seat = S>>(
         &mut self,
         space: &mut Space<S>,
         store: &mut F,
     ) -> &[SettledPage]
-        requires fits { Fits F.rule store.old space.old.seat }
+        requires fits { IsSeatOf F.rule store.old space.old.seat }
         requires ready { (t : Tables) × (p : Process) × IsSpace (body_of S.view space.old) t p }
         ensures settled { (t : Tables) (p : Process) → IsSpace (body_of S.view space.old) t p → AreSettled t p 0 (trapframe_page p.scheme) result.now }
         ensures root { space.new.root ≡ space.old.root }
@@ -47,7 +51,7 @@ impl PageList {
         ensures layout { space.new.layout ≡ space.old.layout }
         ensures view { S.view space.new.seat ≡ S.view space.old.seat }
         ensures same { store.new ≡ store.old }
-        ensures keeps { Keeps F.rule store.old space.old.seat store.new space.new.seat }
+        ensures keeps { KeepsSeats F.rule store.old space.old.seat store.new space.new.seat }
     {
         self.pages.clear();
         list_settled(space, store, &mut self.pages);
@@ -55,14 +59,14 @@ impl PageList {
     }
 }
 
-/// Lists the settled pages in ascending order. They are found by the leaves that are there; a store has at most 1,024 frames,
-/// of which one is the trampoline's.
+/// Adds the settled pages to an empty list in ascending order, found by their leaves. There are fewer than 1,024 of them: a
+/// store has at most 1,024 frames, and one is the trampoline's.
 fn list_settled<S: FrameSeat, F: FrameAccess<Seat = S>>(
     space: &mut Space<S>,
     store: &mut F,
     pages: &mut ArrayVec<SettledPage, 1024>,
 )
-    requires fits { Fits F.rule store.old space.old.seat }
+    requires fits { IsSeatOf F.rule store.old space.old.seat }
     requires ready { (t : Tables) × (p : Process) × IsSpace (body_of S.view space.old) t p }
     requires empty { pages.old.items ≡ [] }
     ensures settled { (t : Tables) (p : Process) → IsSpace (body_of S.view space.old) t p → AreSettled t p 0 (trapframe_page p.scheme) pages.new.items }
@@ -71,7 +75,7 @@ fn list_settled<S: FrameSeat, F: FrameAccess<Seat = S>>(
     ensures layout { space.new.layout ≡ space.old.layout }
     ensures view { S.view space.new.seat ≡ S.view space.old.seat }
     ensures same { store.new ≡ store.old }
-    ensures keeps { Keeps F.rule store.old space.old.seat store.new space.new.seat }
+    ensures keeps { KeepsSeats F.rule store.old space.old.seat store.new space.new.seat }
 {
     let scheme = space.layout.scheme();
     let end = scheme.trapframe().page();

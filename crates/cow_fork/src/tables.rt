@@ -1,10 +1,11 @@
-// The frames of the tables below a root.
+// `list_tables`: lists the frames of all page tables below a root, level by level. A fork lists the child's, to give them to
+// the child's seat (an owner's capability at a frame store).
 
 ghost use Rattle.std.specs.Prelude.{◌≡◌, ◌≤◌, ◌+◌, ◌-◌, ◌^◌, List, map, ℕ, suc};
-ghost use Rattle.cow_fork.specs.Listing.{CanList, IsEdged, IsFirstPage, IsLed, IsListing, ListsTables};
-ghost use Rattle.frame_store.specs.Laws.{Fits, Keeps};
+ghost use Rattle.cow_fork.specs.TableList.{CanList, IsEdged, IsFirstPage, IsLed, IsListing, ListsTables};
+ghost use Rattle.frame_store.specs.Laws.{IsSeatOf, KeepsSeats};
 ghost use Rattle.sv39_entry.specs.Schemes.{page_limit, top_level, trapframe_page};
-ghost use Rattle.table_walk.specs.Changed.{places};
+ghost use Rattle.table_walk.specs.TableChanges.{places};
 ghost use Rattle.table_walk.specs.Nodes.{above_root};
 ghost use Rattle.table_walk.specs.Tables.{HasTables, Tables};
 
@@ -13,8 +14,9 @@ use frame_store::{FrameAccess, FrameSeat};
 use sv39_entry::{FrameNo, Scheme, Vpn};
 use table_walk::{next_leaf_before, table_at};
 
-/// Lists the tables below a root, each of which is on the way to a leaf: level by level, and in each level by the leaves.
-/// Those before TRAPFRAME's stand before an end, which is given by the number of a page.
+/// Adds the frame of each page table below `root`, the root's too, to `frames`: level by level, and in each level by the
+/// leaves. Each table has to be on the way to a leaf. No page from number `end` up to, but without,
+/// TRAPFRAME may have a leaf, and none above TRAMPOLINE.
 pub(crate) fn list_tables<S: FrameSeat, F: FrameAccess<Seat = S>>(
     store: &mut F,
     seat: &mut S,
@@ -23,16 +25,16 @@ pub(crate) fn list_tables<S: FrameSeat, F: FrameAccess<Seat = S>>(
     end: u64,
     frames: &mut ArrayVec<FrameNo, 1024>,
 )
-    requires fits { Fits F.rule store.old seat.old }
+    requires fits { IsSeatOf F.rule store.old seat.old }
     requires ready { (t : Tables) × HasTables scheme (S.view seat.old) root.0 t × IsLed scheme t × CanList t (map (λ f. f.0) frames.old.items) × IsEdged scheme t end }
     ensures listed { (t : Tables) → HasTables scheme (S.view seat.old) root.0 t → IsLed scheme t → CanList t (map (λ f. f.0) frames.old.items) → IsEdged scheme t end →
         ListsTables t (map (λ f. f.0) frames.old.items) (map (λ f. f.0) frames.new.items) }
     ensures view { S.view seat.new ≡ S.view seat.old }
     ensures same { store.new ≡ store.old }
-    ensures keeps { Keeps F.rule store.old seat.old store.new seat.new }
+    ensures keeps { KeepsSeats F.rule store.old seat.old store.new seat.new }
 {
-    // A table has so many pages as its level has places: 2^9 at level 0, and 2^9 times as many at each level above it (RISC-V
-    // Privileged Architecture 20211203, 4.4.1 and 4.5.1).
+    // A table of level 0 maps 2^9 pages, and one of each level above maps 2^9 times as many (RISC-V Privileged Architecture
+    // 20211203, 4.4.1 and 4.5.1).
     let levels = scheme.top_level() + 1;
     'levels: for depth in 0..levels {
         let pages = 1 << (9 * (levels - depth));
@@ -40,8 +42,8 @@ pub(crate) fn list_tables<S: FrameSeat, F: FrameAccess<Seat = S>>(
     }
 }
 
-/// Lists the tables that are so many levels below the root, each for so many pages. Once a leaf is found, the search goes
-/// on at the next table.
+/// Adds the frames of the tables `depth` levels below the root, each for `pages` pages. After a page with a leaf is found, the
+/// search continues at the first page of the next table.
 fn list_level<S: FrameSeat, F: FrameAccess<Seat = S>>(
     store: &mut F,
     seat: &mut S,
@@ -52,7 +54,7 @@ fn list_level<S: FrameSeat, F: FrameAccess<Seat = S>>(
     pages: u64,
     frames: &mut ArrayVec<FrameNo, 1024>,
 )
-    requires fits { Fits F.rule store.old seat.old }
+    requires fits { IsSeatOf F.rule store.old seat.old }
     requires deep { depth ≤ top_level scheme }
     requires size { pages ≡ places (top_level scheme - depth) }
     requires ready { (t : Tables) × (L : List ℕ) × IsListing scheme (S.view seat.old) root.0 t (512 ^ (above_root scheme + depth)) L (map (λ f. f.0) frames.old.items) × IsEdged scheme t end }
@@ -60,7 +62,7 @@ fn list_level<S: FrameSeat, F: FrameAccess<Seat = S>>(
         IsListing scheme (S.view seat.old) root.0 t (512 ^ (above_root scheme + suc depth)) L (map (λ f. f.0) frames.new.items) }
     ensures view { S.view seat.new ≡ S.view seat.old }
     ensures same { store.new ≡ store.old }
-    ensures keeps { Keeps F.rule store.old seat.old store.new seat.new }
+    ensures keeps { KeepsSeats F.rule store.old seat.old store.new seat.new }
 {
     let mut table = 0;
     'tables: while let Some(page) = first_page(store, seat, scheme, root, table * pages, end) {
@@ -72,8 +74,8 @@ fn list_level<S: FrameSeat, F: FrameAccess<Seat = S>>(
     }
 }
 
-/// The first page from one number on that has a leaf. Between an end and TRAPFRAME's page there is none, nor behind
-/// TRAMPOLINE's, so nothing is looked for.
+/// The first page from number `from` on that has a leaf; `None` if there is none. Does not search the pages from `end` up to
+/// TRAPFRAME and those above TRAMPOLINE: they have no leaf.
 fn first_page<S: FrameSeat, F: FrameAccess<Seat = S>>(
     store: &mut F,
     seat: &mut S,
@@ -82,14 +84,14 @@ fn first_page<S: FrameSeat, F: FrameAccess<Seat = S>>(
     from: u64,
     end: u64,
 ) -> Option<Vpn>
-    requires fits { Fits F.rule store.old seat.old }
+    requires fits { IsSeatOf F.rule store.old seat.old }
     requires held { (t : Tables) × HasTables scheme (S.view seat.old) root.0 t }
     requires low { from ≤ page_limit scheme }
     requires edge { end ≤ trapframe_page scheme }
     ensures page { (t : Tables) → HasTables scheme (S.view seat.old) root.0 t → IsEdged scheme t end → IsFirstPage scheme t from result }
     ensures view { S.view seat.new ≡ S.view seat.old }
     ensures same { store.new ≡ store.old }
-    ensures keeps { Keeps F.rule store.old seat.old store.new seat.new }
+    ensures keeps { KeepsSeats F.rule store.old seat.old store.new seat.new }
 {
     let first = Vpn::new(from)?;
     if let Some(found) = next_leaf_before(store, seat, scheme, root, first, end) {

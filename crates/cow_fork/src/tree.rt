@@ -1,11 +1,12 @@
-// The page tables of the child, and those of the parent once the child has its own.
+// Page tables in a fork: `copy_tree` builds the child's from the list of settled pages (those in memory), on the parent's
+// frames; `mark_pages` sets the fork mark (the next store takes the page over) in the parent's leaves.
 
 ghost use Rattle.std.specs.Prelude.{[], ◌≡◌, ℕ};
 ghost use Rattle.address_space.specs.Agreement.{body_of};
-ghost use Rattle.address_space.specs.Standing.{IsStanding, TurnsLeaves};
-ghost use Rattle.address_space.specs.Settled.{AreSettled};
+ghost use Rattle.address_space.specs.SpacesInCalls.{IsSpaceInCall, RewritesLeaves};
+ghost use Rattle.address_space.specs.SettledLists.{AreSettled};
 ghost use Rattle.cow_fork.specs.Children.{CanCopy, CanOpen, CopiesPages, CopiesTree};
-ghost use Rattle.frame_store.specs.Laws.{Fits, Keeps};
+ghost use Rattle.frame_store.specs.Laws.{IsSeatOf, KeepsSeats};
 ghost use Rattle.process_model.specs.Process.{Process};
 ghost use Rattle.process_model.specs.Residence.{marked};
 ghost use Rattle.sv39_entry.specs.Schemes.{trapframe_page};
@@ -16,25 +17,26 @@ use frame_store::{FrameAccess, FrameSeat, FrameSupply};
 use sv39_entry::{Access, FrameNo, Scheme};
 use table_walk::{map, missing_is_growth, new_table};
 
-/// The child's page tables, made of credits of the parent's seat: each settled page has a leaf over the frame that it has in
-/// the parent, with the fork mark where its region grants writing. Answers the root.
+/// Builds the child's page tables with credits of the parent's seat and returns the frame of their root. Each settled page
+/// has a leaf on the parent's frame, with the fork mark if the page had it or its region grants writing; `trapframe` is at
+/// TRAPFRAME.
 pub(crate) fn copy_tree<S: FrameSeat, F: FrameSupply<Seat = S>>(
     space: &mut Space<S>,
     store: &mut F,
     trapframe: FrameNo,
     settled: &[SettledPage],
 ) -> FrameNo
-    requires fits { Fits F.rule store.old space.old.seat }
+    requires fits { IsSeatOf F.rule store.old space.old.seat }
     requires ready { (t : Tables) × (p : Process) × CanCopy (S.view space.old.seat) space.old.layout t p trapframe.0 settled.now }
     ensures copied { (t : Tables) (p : Process) → CanCopy (S.view space.old.seat) space.old.layout t p trapframe.0 settled.now →
         (u : Tables) × CopiesTree (S.view space.old.seat) (S.view space.new.seat) t u p result.0 trapframe.0 }
     ensures root { space.new.root ≡ space.old.root }
     ensures trapframe { space.new.trapframe ≡ space.old.trapframe }
     ensures layout { space.new.layout ≡ space.old.layout }
-    ensures keeps { Keeps F.rule store.old space.old.seat store.new space.new.seat }
+    ensures keeps { KeepsSeats F.rule store.old space.old.seat store.new space.new.seat }
     ensures free { F.alone → F.free store.new ≡ F.free store.old }
 {
-    // by its law these are the tables that the pages need beside those of others
+    // a law for the proof: the tables that mapping a page adds are those by which its need exceeds that of the pages before it
     missing_is_growth();
     let scheme = space.layout.scheme();
     let root = open_tables(store, &mut space.seat, scheme, trapframe);
@@ -49,17 +51,18 @@ pub(crate) fn copy_tree<S: FrameSeat, F: FrameSupply<Seat = S>>(
     root
 }
 
-/// Tables with the two pages of the kernel, of a credit for each level. Answers the root.
+/// Makes page tables, with one credit for each level, that map frame 0 at TRAMPOLINE and `trapframe` at TRAPFRAME, for the
+/// kernel alone. Returns the frame of their root.
 fn open_tables<S: FrameSeat, F: FrameSupply<Seat = S>>(
     store: &mut F,
     seat: &mut S,
     scheme: Scheme,
     trapframe: FrameNo,
 ) -> FrameNo
-    requires fits { Fits F.rule store.old seat.old }
+    requires fits { IsSeatOf F.rule store.old seat.old }
     requires ready { CanOpen scheme (S.view seat.old) trapframe.0 }
     ensures opened { (u : Tables) × ((t : Tables) (p : Process) → p.scheme ≡ scheme → CopiesPages (S.view seat.old) (S.view seat.new) t u p result.0 trapframe.0 0 []) }
-    ensures keeps { Keeps F.rule store.old seat.old store.new seat.new }
+    ensures keeps { KeepsSeats F.rule store.old seat.old store.new seat.new }
     ensures free { F.alone → F.free store.new ≡ F.free store.old }
 {
     missing_is_growth();
@@ -71,20 +74,21 @@ fn open_tables<S: FrameSeat, F: FrameSupply<Seat = S>>(
     root
 }
 
-/// Puts the fork mark on the parent's pages whose regions grant writing. A page that an earlier fork shared has it.
+/// Sets the fork mark on the parent's settled pages whose region grants writing. Pages that have it from an earlier fork are
+/// skipped.
 pub(crate) fn mark_pages<S: FrameSeat, F: FrameAccess<Seat = S>>(
     space: &mut Space<S>,
     store: &mut F,
     settled: &[SettledPage],
 )
-    requires fits { Fits F.rule store.old space.old.seat }
-    requires ready { (t : Tables) × (p : Process) × (extra : ℕ → ℕ) × IsStanding (body_of S.view space.old) t p extra × AreSettled t p 0 (trapframe_page p.scheme) settled.now }
-    ensures marked { (t : Tables) (p : Process) (extra : ℕ → ℕ) → IsStanding (body_of S.view space.old) t p extra → AreSettled t p 0 (trapframe_page p.scheme) settled.now →
-        (w : Tables) × IsStanding (body_of S.view space.new) w (marked p) extra × TurnsLeaves (body_of S.view space.old) (body_of S.view space.new) t w }
+    requires fits { IsSeatOf F.rule store.old space.old.seat }
+    requires ready { (t : Tables) × (p : Process) × (extra : ℕ → ℕ) × IsSpaceInCall (body_of S.view space.old) t p extra × AreSettled t p 0 (trapframe_page p.scheme) settled.now }
+    ensures marked { (t : Tables) (p : Process) (extra : ℕ → ℕ) → IsSpaceInCall (body_of S.view space.old) t p extra → AreSettled t p 0 (trapframe_page p.scheme) settled.now →
+        (w : Tables) × IsSpaceInCall (body_of S.view space.new) w (marked p) extra × RewritesLeaves (body_of S.view space.old) (body_of S.view space.new) t w }
     ensures root { space.new.root ≡ space.old.root }
     ensures trapframe { space.new.trapframe ≡ space.old.trapframe }
     ensures layout { space.new.layout ≡ space.old.layout }
-    ensures keeps { Keeps F.rule store.old space.old.seat store.new space.new.seat }
+    ensures keeps { KeepsSeats F.rule store.old space.old.seat store.new space.new.seat }
     ensures free { F.alone → F.free store.new ≡ F.free store.old }
 {
     'pages: for page in settled {

@@ -1,4 +1,6 @@
--- The parts of a process that an image makes.
+-- Lemmas for `parts_of`: the parts that an image makes (its segments, guard and stack) are parts of a process, of the
+-- model's process, and need the frames that the model counts (`start_need`); and for its loop: parts so far, and room for
+-- the next ones.
 use Rattle.std.proofs.Common.{◌≡◌, ℕ, zero, suc, ◌+◌, ◌*◌, ◌/◌, ◌<◌, ◌≤◌, ◌^◌, true, false, length, get_or, take, List, [], ◌∷◌, ◌++◌, map, None, Result, Ok, Err, refl, ap, sym, subst, ◌∙◌, arith}
 use Rattle.std.specs.Prelude.{flat_map, IfOk}
 use Rattle.std.proofs.lemmas.Grind.{flat_map-append}
@@ -9,7 +11,7 @@ use Rattle.process_model.specs.Frames.{start_need, tables_needed}
 use Rattle.process_model.specs.ImageNeed.{exec_need_is}
 use Rattle.process_model.specs.Order.{InRow, is_file, IsPlaced}
 use Rattle.process_model.specs.Images.{LoadSegment, end_of_loads, end_page}
-use Rattle.process_model.specs.Loading.{guard_at, image_pages, load_pages, numbered, page_run, parts_of, process_of, segment_region, stack_at}
+use Rattle.process_model.specs.ImageProcess.{guard_at, image_pages, load_pages, numbered, page_run, parts_of, process_of, segment_region, stack_at}
 use Rattle.process_model.specs.PageMap.{from_list, numbers}
 use Rattle.process_model.specs.Process.{Process}
 use Rattle.process_model.specs.Regions.{Region, end_of, guard_pages, makes_leaf, stack_pages}

@@ -1,4 +1,5 @@
--- The program headers of a file, by their indices.
+-- Lemmas for ELF program headers: in a list made from the numbers 0 to n - 1, which element has index i, and its length; and
+-- the flags of a segment (bits 0 and 1) as remainders.
 use Rattle.std.proofs.Common.{◌≡◌, ℕ, zero, suc, ◌+◌, ◌*◌, ◌/◌, ◌%◌, ◌<◌, not, length, map, refl, ap, ◌∙◌, Some, arith}
 use Rattle.std.specs.Prelude.{bit_and, slice_get, ◌==◌}
 use Rattle.std.proofs.lemmas.Nat.Bits.{and_pow, bit_at-suc, bit_at_lowest}

@@ -1,5 +1,7 @@
--- Segments judged one after another.
-use Rattle.std.proofs.Common.{◌≡◌, ℕ, zero, suc, ◌+◌, ◌<◌, ◌≤◌, Bool, true, false, not, ◌&&◌, length, List, [], ◌∷◌, ◌++◌, map, drop, fold, refl, ap, sym, ◌∙◌, Some, None, if◌then◌else◌, Result, Ok, Err, arith}
+-- Lemmas on checking segments one after another: the loops of `read_image` and `from_segments` follow the model header by
+-- header; a segment that fails a check ends it; one that passes, if it has pages, is kept behind those before it, in order
+-- (`AreJudged`).
+use Rattle.std.proofs.Common.{◌≡◌, ℕ, zero, suc, ◌+◌, ◌<◌, ◌≤◌, Bool, true, false, not, ◌&&◌, length, List, [], ◌∷◌, ◌++◌, drop, fold, refl, ap, sym, ◌∙◌, Some, None, if◌then◌else◌, Result, Ok, Err, arith}
 use Rattle.std.specs.Prelude.{nat_le, slice_get, ◌==◌}
 use Rattle.std.proofs.lemmas.Bool.{ltb-false}
 use Rattle.std.proofs.lemmas.List.{length-append}
@@ -9,8 +11,7 @@ use Rattle.process_model.specs.Images as model
 use Rattle.process_model.specs.Images.{LoadSegment, ProgramHeader, end_of_loads, end_page, has_pages, judged, load, load_checks, load_fault, next_judged, unless_faulty}
 use Rattle.process_model.specs.declared.image.BadImage.{BadImage}
 use Rattle.process_model.specs.declared.image.BadImage.TheVariants as part
-use Rattle.exec_segments.specs.Loads.{AreInOrder, AreJudged, IsLoad, load_of, taken}
-use Rattle.exec_segments.specs.declared.load.Load.{Load}
+use Rattle.exec_segments.specs.Loads.{AreInOrder, AreJudged, IsLoad, loads_after}
 use Rattle.sv39_entry.specs.declared.scheme.Scheme.{Scheme}
 
 abbrev pub judge : Scheme → Result (List LoadSegment) BadImage → List ProgramHeader → Result (List LoadSegment) BadImage
@@ -43,12 +44,12 @@ forward z headers i h before r at all one =
 
 -- after one more was judged
 module _ (z : Scheme) (headers : List ProgramHeader) (i : ℕ) (h : ProgramHeader) (before after : List LoadSegment) (r : Result (Unit {0}) BadImage) (at : slice_get headers i ≡ Some h)
-    (all : judge z (Ok []) headers ≡ judge z (Ok before) (drop i headers)) (one : judged z before h ≡ taken r after) where
+    (all : judge z (Ok []) headers ≡ judge z (Ok before) (drop i headers)) (one : judged z before h ≡ loads_after r after) where
   pub stopped : (e : BadImage) → r ≡ Err e → judge z (Ok []) headers ≡ Err e
-  stopped e is = forward z headers i h before (Err e) at all (one ∙ ap (λ x. taken x after) is) ∙ fault_stays z e (drop (i + 1) headers)
+  stopped e is = forward z headers i h before (Err e) at all (one ∙ ap (λ x. loads_after x after) is) ∙ fault_stays z e (drop (i + 1) headers)
 
   pub went_on : (u : Unit {0}) → r ≡ Ok u → judge z (Ok []) headers ≡ judge z (Ok after) (drop (i + 1) headers)
-  went_on u is = forward z headers i h before (Ok after) at all (one ∙ ap (λ x. taken x after) is)
+  went_on u is = forward z headers i h before (Ok after) at all (one ∙ ap (λ x. loads_after x after) is)
 
 pub all_through : (z : Scheme) (headers : List ProgramHeader) (i : ℕ) (before : List LoadSegment) → length headers ≤ i → judge z (Ok []) headers ≡ judge z (Ok before) (drop i headers) → judge z (Ok []) headers ≡ Ok before
 all_through z headers i before end all = all ∙ none_left z headers i (Ok before) end
@@ -121,12 +122,3 @@ module _ (z : Scheme) (before : List LoadSegment) (l : LoadSegment) where
       in_order = in_order_behind z 0 before l are.in_order (is_load z before l none some fits);
       last = last_behind 0 before l;
     }
-
--- whether there is one
-pub no_loads : (loads : List Load) → length loads ≡ 0 → model.at_least_one (Ok (map load_of loads)) ≡ Err part.NoLoad
-no_loads [] none = refl
-no_loads (l ∷ loads) none = absurd (omega arith)
-
-pub some_loads : (loads : List Load) → (length loads == 0) ≡ false → model.at_least_one (Ok (map load_of loads)) ≡ Ok (map load_of loads)
-some_loads [] some = absurd (cc)
-some_loads (l ∷ loads) some = refl

@@ -1,5 +1,5 @@
 pub mod Begins
-pub mod Files
+pub mod ElfChecks
 pub mod Headers
 pub mod Judged
 pub mod LittleNumbers

@@ -1,4 +1,4 @@
--- Little-endian numbers as the reader of bytes tells them, and as the model has them.
+-- A lemma (`field_is`): the little-endian number of n bytes that the byte reader finds at an offset is the model's.
 use Rattle.std.proofs.Common.{◌≡◌, ℕ, zero, suc, ◌+◌, ◌*◌, ◌-◌, List, [], ◌∷◌, drop, length, take, slice_index, refl, ap, ◌∙◌, arith}
 use Rattle.std.proofs.lemmas.List.{length-drop, take_all}
 use Rattle.process_model.specs.Bytes.{number}

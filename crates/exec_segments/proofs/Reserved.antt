@@ -1,10 +1,10 @@
--- What a process takes that stands in the place of another, and credits that are reserved for it.
+-- Lemmas for `exec`'s credits (reserved frames), reserved before the old process is released: what is then taken of them
+-- (`takes_reserved`), and a refused reservation (`runs_dry`). Also what a result says, by whether it is an error; and that a
+-- refused promise of the files is never reported as `NoFrame`.
 use Rattle.std.proofs.Common.{◌≡◌, ℕ, true, false, ap, sym, ◌∙◌, arith, [], Result, Ok, Err}
 use Rattle.std.specs.Prelude.{IfErr, IfOk, is_err}
 use Rattle.std.proofs.lemmas.List.{append-nil}
-use Rattle.address_space.specs.Agreement.{body_of}
-use Rattle.address_space.specs.Steps.{RunsDry, Takes}
-use Rattle.address_space.specs.declared.space.Space.{Space}
+use Rattle.address_space.specs.Steps.{RunsDry, TakesFrames}
 use Rattle.file_cabinet.specs.Promises.{refusal_of}
 use Rattle.file_cabinet.specs.declared.promise.PromiseError.{PromiseError}
 use Rattle.file_cabinet.specs.declared.promise.PromiseError.TheVariants as error
@@ -23,9 +23,6 @@ went_well (Ok x) P is told = (x, told)
 went_well (Err e) P is told = absurd (cc)
 
 -- a space that is as it was
-pub same_body : {S : Type 0} (view : S → View) (x y : Space S) → view x.seat ≡ view y.seat → x.root ≡ y.root → x.trapframe ≡ y.trapframe → x.layout ≡ y.layout → body_of view x ≡ body_of view y
-same_body view x y seat root trapframe layout = λ i. record { view = seat i; root = (root i).0; trapframe = (trapframe i).0; layout = layout i }
-
 module _ (u v w : View) (n need : ℕ) (is : v ≡ u) (same : n ≡ need) where
   -- too few frames were free
   pub runs_dry : u.credits ≡ 0 → IsDry n v w → RunsDry u w need []
@@ -41,7 +38,7 @@ module _ (u v w : View) (n need : ℕ) (is : v ≡ u) (same : n ≡ need) where
       }
 
   -- they were reserved, and were taken by steps from there
-  pub takes_reserved : (x y : View) (m : ℕ) → w ≡ with_credits n v → x ≡ w → m ≡ need → Takes x y m [] → Takes u y need []
+  pub takes_reserved : (x y : View) (m : ℕ) → w ≡ with_credits n v → x ≡ w → m ≡ need → TakesFrames x y m [] → TakesFrames u y need []
   takes_reserved x y m reserved there all takes =
       let before : x.tallies ≡ u.tallies = ap (λ (k : View). k.tallies) (there ∙ reserved ∙ ap (with_credits n) is) in
       record { tallies = takes.tallies ∙ ap (taken m []) before ∙ ap (λ k. taken k [] u.tallies) all }

@@ -1,3 +1,3 @@
 pub mod Loads
 pub mod Headers
-pub mod Replaced
+pub mod ExecRefusals

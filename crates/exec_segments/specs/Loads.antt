@@ -1,4 +1,7 @@
--- The segments of an accepted image.
+-- Segments of a program image. The model's segment for one of the code or of a list (`load_of`, `segment_load`), and its
+-- code as a tuple (`load_code`). Predicates of segments that passed exec's checks: in order, apart, low enough (`IsLoad`,
+-- `AreInOrder`, `AreJudged`, `AreLoads`). Results of the checks (`loads_after`, `loads_in`). A region of zeros, for guard
+-- and stack.
 use Rattle.std.specs.Prelude.{◌≡◌, ℕ, Bool, true, ◌+◌, ◌%◌, ◌<◌, ◌≤◌, List, [], ◌∷◌, length, refl, Result, Ok, Err}
 use Rattle.std.specs.Coded.{Coded, code_by, coded×, coded_ℕ, coded_bool, coded_list}
 use Rattle.process_model.specs.Images.{LoadSegment, end_of_loads, end_page}
@@ -12,7 +15,7 @@ use Rattle.address_space.specs.Layouts.{region_kind}
 use Rattle.address_space.specs.declared.region.RegionKind.{RegionKind}
 use Rattle.exec_segments.specs.declared.load.Load.{Load}
 
--- a segment as the model has it
+-- the model's segment for one of the code
 abbrev pub load_of : Load → LoadSegment
 load_of l = record {
   address = l.address;
@@ -31,7 +34,8 @@ load_code = code_by (ℕ × (ℕ × (ℕ × (Bool × (Bool × (Bool × List ℕ)
     (λ p. record { address = p.0; memory_size = p.1.0; file_size = p.1.1.0; writes = p.1.1.1.0; executes = p.1.1.1.1.0; inside = p.1.1.1.1.1.0; bytes = p.1.1.1.1.1.1 })
     (λ _. refl)
 
--- a segment with pages, after the page where the one before it ends
+-- a segment has pages, no more bytes in the image than in memory, and starts at a multiple of 4,096, on page `end` or later;
+-- guard and stack fit between its end and the trapframe
 pub record IsLoad (z : Scheme) (end : ℕ) (l : LoadSegment) : Type 0 where
   pub some : 0 < l.memory_size
   pub sizes : length l.bytes ≤ l.memory_size
@@ -39,39 +43,40 @@ pub record IsLoad (z : Scheme) (end : ℕ) (l : LoadSegment) : Type 0 where
   pub high : end_page l + (guard_pages + stack_pages) ≤ trapframe_page z
   pub in_order : end ≤ page_of l.address
 
--- segments in ascending order, and apart
+-- each segment is an `IsLoad`, the first after page `end`, each other after the page where the one before it ends: they
+-- ascend, and are apart
 abbrev pub AreInOrder : Scheme → ℕ → List LoadSegment → Type 0
 AreInOrder z end [] = Unit {0}
 AreInOrder z end (l ∷ ls) = IsLoad z end l × AreInOrder z (end_page l) ls
 
--- segments that were judged, of which the last ends before a page
+-- at most 16 segments passed their checks so far, and page `end` follows the last of them (0 if there is none)
 pub record AreJudged (z : Scheme) (ls : List LoadSegment) (end : ℕ) : Type 0 where
   pub few : length ls ≤ 16
   pub in_order : AreInOrder z 0 ls
   pub last : end_of_loads 0 ls ≡ end
 
--- the segments after one more was judged, or its fault
-abbrev pub taken : {E : Type 0} → Result (Unit {0}) E → List LoadSegment → Result (List LoadSegment) E
-taken (Ok _) after = Ok after
-taken (Err e) after = Err e
+-- the result of checking one more segment: the segments after it, or the check that it fails
+abbrev pub loads_after : {E : Type 0} → Result (Unit {0}) E → List LoadSegment → Result (List LoadSegment) E
+loads_after (Ok _) after = Ok after
+loads_after (Err e) after = Err e
 
--- an accepted image has a segment with pages, and at most 16
+-- the segments of an accepted image: 1 to 16, in order
 pub record AreLoads (z : Scheme) (ls : List LoadSegment) : Type 0 where
   pub some : 1 ≤ length ls
   pub few : length ls ≤ 16
   pub in_order : AreInOrder z 0 ls
 
--- segments that were judged, and the scheme by which their process is to be translated
+-- segments that passed their checks, and the scheme of the address space for which they were checked
 pub record JudgedLoads : Type 0 where
   pub scheme : Scheme
   pub loads : List LoadSegment
 
--- the segments of an image, or why there is none
+-- the segments of an image, or why it is not accepted
 abbrev pub loads_in : {E : Type 0} → Result JudgedLoads E → Result (List LoadSegment) E
 loads_in (Ok i) = Ok i.loads
 loads_in (Err e) = Err e
 
--- a segment of a list, to be judged
+-- the segment of a list, as the checks see it: all its bytes lie inside the image
 abbrev pub segment_load : Segment → LoadSegment
 segment_load s = record {
   address = s.address;
@@ -83,7 +88,7 @@ segment_load s = record {
   bytes = s.bytes;
 }
 
--- a region of zeros
+-- a region of `pages` pages of zeros, with these rights
 abbrev pub zeros_region : ℕ → ℕ → RegionKind → ℕ → Region
 zeros_region first pages kind rights = record {
   first = first;

@@ -1,15 +1,17 @@
-//! Images of programs: which are accepted, and the process that one makes.
+//! Process start and `exec` (the xv6 book, "Code: exec"). `read_image` and `Image` check a program image, an ELF file or a
+//! list of segments; `start` and `exec` make the address space of its process: the segments, a guard page, a stack page, and
+//! an empty heap.
 #![tactic(auto)]
 
-mod begin;
 mod elf;
+mod exec_image;
 mod fields;
 mod image;
-mod judging;
+mod image_builder;
 mod load;
-mod replacing;
+mod start_process;
 
-pub use begin::start;
 pub use elf::read_image;
+pub use exec_image::exec;
 pub use image::Image;
-pub use replacing::exec;
+pub use start_process::start;

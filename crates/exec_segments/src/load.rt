@@ -1,4 +1,5 @@
-// Segments, and the checks that each has to pass.
+// `Load`, a struct: one segment to load as an image states it (address, sizes, rights, bytes); `Load::fault`, the checks
+// that exec makes of it, in order; and how many pages guard and stack have.
 
 ghost use Rattle.std.specs.Prelude.{◌≡◌, ◌<◌, ◌≤◌, ◌+◌, ◌^◌, length, List};
 ghost use Rattle.exec_segments.specs.Loads.{load_of, segment_load};
@@ -8,28 +9,29 @@ ghost use Rattle.process_model.specs.Images.{LoadSegment};
 use process_model::{BadImage, Segment};
 use sv39_entry::{PAGE_SIZE, Scheme};
 
-/// How many pages the guard has that stands behind the last segment (the xv6 book, "Code: exec").
+/// Number of pages of the guard, which follows the last segment (the xv6 book, "Code: exec").
 pub(crate) const GUARD_PAGES: u64 = 1;
 
-/// And the stack behind it.
+/// Number of pages of the stack, which follows the guard.
 pub(crate) const STACK_PAGES: u64 = 1;
 
-/// A segment to load, as an image tells it.
+/// A segment to load, as the image describes it.
 #[derive(Clone, Copy)]
 pub(crate) struct Load<'a> {
     pub(crate) address: u64,
+    /// Its size in memory, in bytes.
     pub(crate) memory_size: u64,
-    /// How many bytes the image says that it has for the segment.
+    /// Its size in the file, in bytes, as the image states it.
     pub(crate) file_size: u64,
     pub(crate) writes: bool,
     pub(crate) executes: bool,
-    /// Whether they all lie inside the image.
+    /// Whether its `file_size` bytes all lie inside the image.
     pub(crate) is_inside: bool,
-    /// Those that do.
+    /// Those of its `file_size` bytes that lie inside the image.
     pub(crate) bytes: &'a [u8],
 }
 
-/// What stands in a place without a segment.
+/// Filler for an unused place of a fixed-size list.
 impl Default for Load<'_> {
     ghost use Rattle.std.specs.Prelude.{◌≡◌, ℕ, false, []};
 
@@ -49,7 +51,7 @@ impl Default for Load<'_> {
 }
 
 impl<'a> Load<'a> {
-    /// A segment of a list, which has all its bytes.
+    /// A segment of a list: all its bytes lie inside the image, and their number is its size in the file.
     pub(crate) fn of(segment: &'a Segment) -> Load<'a>
         ensures load { load_of result ≡ segment_load segment.now }
         ensures fits { length result.bytes.now ≤ result.file_size }
@@ -66,7 +68,7 @@ impl<'a> Load<'a> {
         }
     }
 
-    /// The page after its last one.
+    /// The number of the page after its last one.
     pub(crate) fn end_page(&self) -> u64
         requires { self.now.address + self.now.memory_size < 2 ^ 64 }
         ensures { result ≡ model.end_page (load_of self.now) }
@@ -74,8 +76,11 @@ impl<'a> Load<'a> {
         (self.address + self.memory_size).div_ceil(PAGE_SIZE)
     }
 
-    /// The first check that it fails in an address space of a scheme, after so many segments with pages before it, and the
-    /// page where the last of these ends.
+    /// The first check that it fails in an address space of `scheme`, or `None`. Before it there are `count` segments with
+    /// pages, and page `end` follows the last of them. In order: `Sizes` (fewer bytes in memory than in the file), `Wraps`
+    /// (it ends at 2^64 or above), `Align` (it does not start at a multiple of 4,096). If it has bytes in memory, then:
+    /// `Contents` (its bytes do not all lie inside the image), `TooHigh` (fewer than two pages are left between its end and
+    /// the trapframe), `Order` (it starts below page `end`), `TooMany` (`count` is 16 or more).
     pub(crate) fn fault(&self, scheme: Scheme, end: u64, count: usize) -> Option<BadImage>
         ensures { (before : List LoadSegment) → length before ≡ count → model.end_of_loads 0 before ≡ end →
             result ≡ model.load_fault scheme before (load_of self.now) }

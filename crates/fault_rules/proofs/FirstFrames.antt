@@ -1,19 +1,20 @@
--- A page gets its first frame, with the stored mark or without it.
+-- Lemmas for `settle_as`: a page that `Space::settle` settled (brought into memory) is as `SettlesAs` says without stored
+-- mark (D), and once `mark_stored` has set that mark, as it says with the mark.
 use Rattle.std.proofs.Common.{◌≡◌, ℕ, true, false, refl, add-zero, ap, sym, subst, ◌∙◌, List, [], Some}
 use Rattle.std.proofs.lemmas.Bool.{and_parts}
 use Rattle.std.proofs.lemmas.Option.{same_Some}
 use Rattle.address_space.specs.Agreement.{Body, IsSpace}
-use Rattle.address_space.specs.Steps.{CanSettle, CanWrite, Marks, settled_with, Settles}
+use Rattle.address_space.specs.Steps.{CanSettle, CanWrite, MarksStored, settled_with, Settles}
 use Rattle.frame_store.specs.Tallies.{taken_on}
 use Rattle.frame_store.specs.View.{taken}
 use Rattle.process_model.specs.Bytes.{padded}
-use Rattle.process_model.specs.Inserted.{inserted_here, put_again}
+use Rattle.process_model.specs.Insertion.{inserted_here, put_again}
 use Rattle.process_model.specs.PageMap.{insert}
 use Rattle.process_model.specs.Process.{Page, Process}
 use Rattle.process_model.specs.Regions.{is_shared_kind, keeps_stores, Region}
 use Rattle.process_model.specs.Residence.{marked_stored, region_on}
 use Rattle.table_walk.specs.Tables.{Tables}
-use Rattle.fault_rules.specs.Settling.{settled_as, SettlesAs}
+use Rattle.fault_rules.specs.SettlePage.{settled_as, SettlesAs}
 use Rattle.fault_rules.proofs.Pages.{page_sole, recopied}
 
 module _ {x y : Body} {t u : Tables} {p : Process} {page f : ℕ} {bytes : List ℕ} (can : CanSettle x t p page) (settles : Settles x.view y t u p page bytes f) where
@@ -50,7 +51,7 @@ module _ {x y : Body} {t u : Tables} {p : Process} {page f : ℕ} {bytes : List 
       writes = writes;
     }
 
-    pub settles_marked : (z : Body) (w : Tables) → Marks y.view z u w before page (anew 0) → SettlesAs x.view z t w p page bytes true f
+    pub settles_marked : (z : Body) (w : Tables) → MarksStored y.view z u w before page (anew 0) → SettlesAs x.view z t w p page bytes true f
     settles_marked z w marks =
         let on = marks.on f settles.on in
         let its : Page = marked_stored (region_on p page) (anew 0) in

@@ -1,13 +1,15 @@
--- A page without a frame is made resident.
+-- Lemmas for `make_resident` of a page without a frame: it can be settled (brought into memory), no reference count is read,
+-- the frames that it needs, the page of a file that is read; and settled with its initial bytes it is made resident
+-- (`first_resides`).
 use Rattle.std.proofs.Common.{◌≡◌, ℕ, Bool, false, true, ◌-◌, ◌*◌, refl, ap, sym, subst, ◌∙◌, List, [], Option, None, Some}
 use Rattle.std.specs.Prelude.{is_some, option_to_list}
 use Rattle.address_space.specs.Agreement.{Body, IsSpace}
 use Rattle.address_space.specs.Layouts.{region_of}
 use Rattle.address_space.specs.declared.region.Region.{Region as Run}
 use Rattle.address_space.specs.declared.region.Source.TheVariants as from
-use Rattle.address_space.specs.Steps.{CanSettle, RunsDry, Takes}
-use Rattle.fault_rules.specs.Resides.{CanReside, gets_frame, is_counted, is_shared_by, IsPlaced, moves_for, moves_from, reside_moves, Resides}
-use Rattle.fault_rules.specs.Settling.{settled_as, SettlesAs}
+use Rattle.address_space.specs.Steps.{CanSettle, RunsDry, TakesFrames}
+use Rattle.fault_rules.specs.MadeResident.{CanMakeResident, gets_frame, is_counted, is_shared_by, IsOnItsFrame, moves_for, moves_from, resident_reads, MakesResident}
+use Rattle.fault_rules.specs.SettlePage.{settled_as, SettlesAs}
 use Rattle.fault_rules.proofs.Sources.{no_file_moves}
 use Rattle.frame_store.specs.View.{View}
 use Rattle.process_model.specs.Bytes.{padded}
@@ -33,7 +35,7 @@ keeps_of_mark access.Fetch o is = absurd (cc)
 keeps_of_mark access.Load o is = absurd (cc)
 keeps_of_mark access.Store o is = is
 
-module _ {x : Body} {t : Tables} {p : Process} {a : Access} {page : ℕ} (can : CanReside x t p a page) (unsettled : get p.settled page ≡ None) where
+module _ {x : Body} {t : Tables} {p : Process} {a : Access} {page : ℕ} (can : CanMakeResident x t p a page) (unsettled : get p.settled page ≡ None) where
   pub can_settle : CanSettle x t p page
   can_settle = record { agrees = can.agrees; unsettled = unsettled; region = can.region; in_region = can.in_region }
 
@@ -47,13 +49,13 @@ module _ {x : Body} {t : Tables} {p : Process} {a : Access} {page : ℕ} (can : 
       → (count : Option ℕ) × (is_some count ≡ is_counted a (get p.settled page)) × RunsDry v w (resident_need (is_shared_by count) p a page) (option_to_list count)
   first_short v w dry = (None, counts_none, subst (λ n. RunsDry v w n []) (sym (first_need false)) dry)
 
-  pub first_moves : (files : List File) (r : Region) (n : ℕ) → r ≡ can.region → n ≡ page → moves_from files r.source (4096 * (n - r.first)) ≡ reside_moves files p page
+  pub first_moves : (files : List File) (r : Region) (n : ℕ) → r ≡ can.region → n ≡ page → moves_from files r.source (4096 * (n - r.first)) ≡ resident_reads files p page
   first_moves files r n is same =
       ap (λ m. moves_from files r.source (4096 * (m - r.first))) same
       ∙ ap (λ (x : Region). moves_from files x.source (4096 * (page - x.first))) is
       ∙ sym (ap (λ o. moves_for files (region_on p page) o page) unsettled ∙ ap (λ o. moves_for files o None page) can.in_region)
 
-  pub first_moves_none : (files : List File) (r : Run) → region_of r ≡ can.region → ((n offset : ℕ) → r.source ≡ from.File n offset → ⊥) → [] ≡ reside_moves files p page
+  pub first_moves_none : (files : List File) (r : Run) → region_of r ≡ can.region → ((n offset : ℕ) → r.source ≡ from.File n offset → ⊥) → [] ≡ resident_reads files p page
   first_moves_none files r is none = sym (no_file_moves files r.source (4096 * (page - r.first)) none) ∙ first_moves files (region_of r) page is refl
 
   abbrev anew : ℕ → List ℕ → Bool → Process
@@ -73,11 +75,11 @@ module _ {x : Body} {t : Tables} {p : Process} {a : Access} {page : ℕ} (can : 
         ∙ ap (λ o. anew fresh (region_page files o page) (leaves_mark a o)) (sym can.in_region)
         ∙ sym (ap (made_resident_from files fresh shared p a page) unsettled)
 
-    pub first_resides : Resides x.view y t u p files a page None
+    pub first_resides : MakesResident x.view y t u p files a page None
     first_resides = record {
       agrees = λ fresh. subst (IsSpace y u) (made_is fresh false) (settles.agrees fresh);
-      placed = subst (λ o. IsPlaced x.view y.view t u page (gets_frame false a o)) (sym unsettled) (f, settles.on, settles.fresh, settles.sole);
+      placed = subst (λ o. IsOnItsFrame x.view y.view t u page (gets_frame false a o)) (sym unsettled) (f, settles.on, settles.fresh, settles.sole);
       others = settles.others;
       counted = counts_none;
-      takes = subst (λ n. Takes x.view y.view n []) (sym (first_need false)) settles.takes;
+      takes = subst (λ n. TakesFrames x.view y.view n []) (sym (first_need false)) settles.takes;
     }

@@ -1,30 +1,23 @@
--- A settled page of a space: which copy number it has does not matter, and on a page that may be written the seat is sole.
-use Rattle.std.proofs.Common.{◌≡◌, ℕ, not, ◌&&◌, true, false, inl, inr, ap, sym, ◌∙◌, arith, Some}
+-- Lemmas on a settled page (one in memory) of a space: if it has no fork mark and its region grants writing, the seat (an
+-- owner's capability at a frame store) is the sole holder of its frame (`page_sole`); and the space is also the process with
+-- another copy number of the page (which copy of it this is), `recopied`.
+use Rattle.std.proofs.Common.{◌≡◌, ℕ, not, ◌&&◌, true, false, inl, inr, ap, sym, ◌∙◌, Some}
 use Rattle.std.proofs.lemmas.Bool.{cases_eq}
 use Rattle.std.proofs.lemmas.Option.{same_Some}
-use Rattle.address_space.specs.Agreement.{Body, IsLeafNumber, IsOn, IsShown, IsSpace}
+use Rattle.address_space.specs.Agreement.{Body, IsLeafNumber, IsFrameOfPage, IsShown, IsSpace}
 use Rattle.frame_store.specs.View.{IsSole}
-use Rattle.process_model.specs.Inserted.{inserted_here, inserted_other}
-use Rattle.process_model.specs.OrderKept.{same_order}
+use Rattle.process_model.specs.Insertion.{inserted_here, inserted_other}
+use Rattle.process_model.specs.OrderLaws.{same_order}
 use Rattle.process_model.specs.PageMap.{get}
 use Rattle.process_model.specs.Process.{Page, Process, regions}
 use Rattle.process_model.specs.Regions.{region_at}
 use Rattle.process_model.specs.Residence.{with_page}
 use Rattle.sv39_entry.specs.Address.{has}
-use Rattle.sv39_entry.specs.Frame.{ppn_of}
-use Rattle.sv39_entry.specs.Word.{ppn}
 use Rattle.table_walk.specs.Tables.{Tables}
-
--- a page is on one frame
-pub one_frame : (t : Tables) (n f g : ℕ) → IsOn t n f → IsOn t n g → f ≡ g
-one_frame t n f g on at =
-    let same : on.0 ≡ at.0 = same_Some on.0 at.0 (sym on.1 ∙ at.1) in
-    let ppns : ppn_of f ≡ ppn_of g = sym on.2 ∙ ap ppn same ∙ at.2 in
-    omega (arith, ppns)
 
 -- of the frame of a page that may be written the seat is the sole holder
 pub page_sole : (x : Body) (t : Tables) (p : Process) (n : ℕ) (s : Page) (f : ℕ) → IsSpace x t p → get p.settled n ≡ Some s → s.fork_mark ≡ false
-    → ((r : _) → region_at (regions p) n ≡ Some r → r.writes ≡ true) → IsOn t n f → IsSole x.view f
+    → ((r : _) → region_at (regions p) n ≡ Some r → r.writes ≡ true) → IsFrameOfPage t n f → IsSole x.view f
 page_sole x t p n s f space settled unmarked writes on =
     let shown = space.stands.shows.settled n s settled in
     let leaf : shown.leaf ≡ on.0 = same_Some shown.leaf on.0 (sym shown.mapped ∙ on.1) in

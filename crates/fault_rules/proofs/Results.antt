@@ -1,7 +1,8 @@
--- What is told of a result, told otherwise.
+-- Lemmas on results and numbers: a clause about a result is weakened; what an error says of the frames needed, free and
+-- taken; and a relation is carried over to equal things.
 use Rattle.std.proofs.lemmas.Bool.{cases_lt}
-use Rattle.fault_rules.specs.Resides.{taken_of}
-use Rattle.fault_rules.specs.declared.residence.Unresident.{Unresident}
+use Rattle.fault_rules.specs.MadeResident.{taken_of}
+use Rattle.fault_rules.specs.declared.residence.ResidenceError.{ResidenceError}
 use Rattle.std.proofs.Common.{◌≡◌, ℕ, false, true, inl, inr, subst, ◌<◌, ◌≤◌, ◌-◌, ◌↔◌, Result, Ok, Err}
 use Rattle.std.specs.Prelude.{if◌then◌else◌, IfErr, IfOk, is_ok, IsErr, IsOk}
 
@@ -31,7 +32,7 @@ too_few need free few = elim (cases_lt free need) [
   | inr enough ↦ absurd (let wrong = few enough in cc)
 ]
 
-pub none_gone : (r : Result (Unit {0}) Unresident) (need a b : ℕ) → IsErr r → a ≡ b - 0 → a ≡ b - taken_of r need
+pub none_gone : (r : Result (Unit {0}) ResidenceError) (need a b : ℕ) → IsErr r → a ≡ b - 0 → a ≡ b - taken_of r need
 none_gone (Ok x) need a b err is = absurd (cc)
 none_gone (Err e) need a b err is = is
 

@@ -1,4 +1,5 @@
--- What a space grants, and what the service of a fault tells.
+-- Lemmas: an error of `grant` is the rule that denies the access, and without an error no rule denies it; and functions that
+-- return the rule or the refusal of an outcome of `serve`.
 use Rattle.std.proofs.Common.{◌≡◌, refl, Option, None, Some, Err}
 use Rattle.address_space.specs.Layouts.{granted_unless}
 use Rattle.fault_rules.specs.declared.service.Served.{Served}

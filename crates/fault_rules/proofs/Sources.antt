@@ -1,4 +1,5 @@
--- Where the bytes come from that a page begins with.
+-- Lemmas on the bytes with which a page begins: a source that is no file has zeros and reads no page; a whole page is not
+-- padded; and a page of a process lies in its region, whose bytes of a file are in reach (`HoldsPage`).
 use Rattle.std.proofs.Common.{◌≡◌, ℕ, true, false, ◌-◌, ◌<◌, ◌≤◌, inl, inr, refl, ap, sym, subst, ◌∙◌, arith, List, [], ◌∷◌, Option, Some, length, option_map, replicate, take}
 use Rattle.std.proofs.lemmas.Grind.{common_steps}
 use Rattle.std.proofs.lemmas.List.{append-nil, take_all}
@@ -7,7 +8,7 @@ use Rattle.address_space.specs.Layouts.{region_of, source_of}
 use Rattle.address_space.specs.declared.region.Region.{Region as Run}
 use Rattle.address_space.specs.declared.region.Source.{Source as From}
 use Rattle.address_space.specs.declared.region.Source.TheVariants as from
-use Rattle.fault_rules.specs.Resides.{moves_from}
+use Rattle.fault_rules.specs.MadeResident.{moves_from}
 use Rattle.process_model.specs.Bytes.{padded}
 use Rattle.process_model.specs.Files.{File}
 use Rattle.process_model.specs.Order.{HasNoFile, HasOrder, IsInReach, is_file, IsMapping}

@@ -1,11 +1,12 @@
--- The page of an access that no rule denies can be made resident.
+-- Laws: if no rule of the regions denies an access, its page can be made resident (in memory and ready for it),
+-- `can_reside`; and the rule that denies an access is never NoFrame, `denied_otherwise`.
 use Rattle.std.proofs.Common.{◌≡◌, ℕ, Bool, true, false, refl, subst, List, [], ◌∷◌, Option, None, Some}
 use Rattle.std.specs.Prelude.{if◌then◌else◌}
 use Rattle.std.proofs.lemmas.Option.{same_Some}
 use Rattle.address_space.specs.Agreement.{Body, IsSpace}
-use Rattle.fault_rules.specs.Resides.{CanReside}
+use Rattle.fault_rules.specs.MadeResident.{CanMakeResident}
 use Rattle.process_model.specs.Bytes.{first_true}
-use Rattle.process_model.specs.Granted.{none_true}
+use Rattle.process_model.specs.GrantLaws.{none_true}
 use Rattle.process_model.specs.Process.{Process, regions}
 use Rattle.process_model.specs.Regions.{copy_rule, copy_tests, first_rule, is_aligned, lacks_right, Region, region_at, right_rule}
 use Rattle.sv39_entry.specs.Address.{page_of}
@@ -20,16 +21,16 @@ aligned_copy : (b : Bool) (o : Option Rule) → (if b then o else Some rule.Misa
 aligned_copy true o is = is
 aligned_copy false o is = absurd (cc)
 
-pub can_reside : (x : Body) (t : Tables) (p : Process) (a : Access) (address width : ℕ) → IsSpace x t p → first_rule p.scheme (regions p) a address width ≡ None → CanReside x t p a (page_of address)
+pub can_reside : (x : Body) (t : Tables) (p : Process) (a : Access) (address width : ℕ) → IsSpace x t p → first_rule p.scheme (regions p) a address width ≡ None → CanMakeResident x t p a (page_of address)
 can_reside x t p a address width space none =
     let tests = none_true (copy_tests p.scheme (regions p) a address) (aligned_copy (is_aligned address width) (copy_rule p.scheme (regions p) a address) none) in
     go (region_at (regions p) (page_of address)) refl tests.1.1.1.1.0
   where
-    go : (o : Option Region) → region_at (regions p) (page_of address) ≡ o → lacks_right a (region_at (regions p) (page_of address)) ≡ false → CanReside x t p a (page_of address)
+    go : (o : Option Region) → region_at (regions p) (page_of address) ≡ o → lacks_right a (region_at (regions p) (page_of address)) ≡ false → CanMakeResident x t p a (page_of address)
     go None is right = absurd (let lacks = subst (λ o. lacks_right a o ≡ false) is right in cc)
     go (Some r) is right = record { agrees = space; region = r; in_region = is; right = subst (λ o. lacks_right a o ≡ false) is right }
 
--- want of frames is told by no rule of the regions
+-- `first_rule` never denies an access by NoFrame
 
 abbrev NeverTells : Rule → List (Bool × Rule) → Type 0
 NeverTells r [] = Unit {0}

@@ -1,5 +1,5 @@
 pub mod Allowed
-pub mod Resides
+pub mod MadeResident
 pub mod Serves
-pub mod Settling
-pub mod Taking
+pub mod SettlePage
+pub mod TakeOver

@@ -1,11 +1,13 @@
-//! The service of faults (the xv6 book, "Page-fault exceptions"): by the rules of a process's regions it ends the process, or
-//! makes the page resident, so that the access answers when it is tried again.
+//! The service of page faults (the xv6 book, "Page-fault exceptions"). `serve` returns the rule (reason for denial) by which
+//! the process is to end (enum `Served`), or has `make_resident` make the page resident (in memory and ready for the
+//! access), lazily or by copy-on-write, so that the access is answered when it is made again. Enum `ResidenceError` has the
+//! errors of `make_resident`.
 #![tactic(auto)]
 
 mod residence;
 mod service;
-mod settling;
-mod taking;
+mod settle;
+mod take_over;
 
-pub use residence::{Unresident, make_resident};
+pub use residence::{ResidenceError, make_resident};
 pub use service::{Served, serve};

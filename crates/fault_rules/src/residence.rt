@@ -1,12 +1,14 @@
-// A page is made resident for an access.
+// `make_resident`: makes a page resident for an access (in memory and ready for it). An unsettled page (not in memory) gets
+// its first frame, with zeros or bytes of its file; a settled page is taken over for a store (copy-on-write). Enum
+// `ResidenceError`: too few frames, or the files refused the promise (reservation) of a page read.
 
-ghost use Rattle.std.specs.Prelude.{[], ◌≡◌, ◌≢◌, ◌-◌, ◌<◌, ◌≤◌, ◌↔◌, Err, if◌then◌else◌, IfErr, IfOk, is_ok, false, IsOk, length, List, None, Some};
+ghost use Rattle.std.specs.Prelude.{[], ◌≡◌, ◌≢◌, ◌-◌, ◌<◌, ◌≤◌, ◌↔◌, Err, if◌then◌else◌, IfOk, false, IsOk, length, None, Some};
 ghost use Rattle.address_space.specs.Agreement.{body_of, IsSpace};
 ghost use Rattle.address_space.specs.Layouts.{region_of};
-ghost use Rattle.fault_rules.specs.Resides.{CanReside, HasReside, IsShort, reside_moves, RunsShort, taken_of, WhenReside};
-ghost use Rattle.fault_rules.specs.declared.residence.Unresident.TheVariants.{Unpromised};
+ghost use Rattle.fault_rules.specs.MadeResident.{CanMakeResident, HasMadeResident, IsNoFrameError, resident_reads, LacksFrames, taken_of, WhenMadeResident};
+ghost use Rattle.fault_rules.specs.declared.residence.ResidenceError.TheVariants.{Unpromised};
 ghost use Rattle.file_cabinet.specs.declared.promise.PromiseError.{PromiseError};
-ghost use Rattle.frame_store.specs.Laws.{Fits, Keeps};
+ghost use Rattle.frame_store.specs.Laws.{IsSeatOf, KeepsSeats};
 ghost use Rattle.process_model.specs.Files.{File};
 ghost use Rattle.process_model.specs.PageMap.{get};
 ghost use Rattle.process_model.specs.Process.{Process};
@@ -15,8 +17,8 @@ ghost use Rattle.process_model.specs.Residence.{leaves_mark};
 ghost use Rattle.sv39_entry.specs.declared.access.Access.TheVariants.{Store};
 ghost use Rattle.table_walk.specs.Tables.{Tables};
 
-use crate::settling::{initial_bytes, settle_as};
-use crate::taking::take_over;
+use crate::settle::{initial_bytes, settle_as};
+use crate::take_over::take_over;
 use address_space::{Region, RegionKind, Source, Space};
 use file_cabinet::{Files, PromiseError};
 use frame_store::{FrameSeat, FrameSupply, NoFrame};
@@ -24,63 +26,73 @@ use sv39_entry::{Access, Vpn};
 
 /// Why a page is not made resident.
 #[derive(Clone, Copy, PartialEq, Eq, Debug)]
-pub enum Unresident {
-    /// Too few frames are free.
+pub enum ResidenceError {
+    /// Too few frames could be reserved for the page, and for the page tables that it misses. No frame was claimed.
     NoFrame,
-    /// The page of the file was not promised.
+    /// `files` refused to promise a read of the file's page with which this page begins: `Memory` (the host is out of
+    /// memory) or `JournalFull` (the history of page I/O has no room).
     Unpromised(PromiseError),
 }
 
-impl From<NoFrame> for Unresident {
+impl From<NoFrame> for ResidenceError {
     ghost use Rattle.std.specs.Prelude.{◌≡◌};
-    ghost use Rattle.fault_rules.specs.declared.residence.Unresident.TheVariants as unresident;
+    ghost use Rattle.fault_rules.specs.declared.residence.ResidenceError.TheVariants as residence_error;
 
-    ghost from_gives = { λ none error. error ≡ unresident.NoFrame };
+    ghost from_gives = { λ none error. error ≡ residence_error.NoFrame };
 
-    fn from(_: NoFrame) -> Unresident {
-        Unresident::NoFrame
+    fn from(_: NoFrame) -> ResidenceError {
+        ResidenceError::NoFrame
     }
 }
 
-impl From<PromiseError> for Unresident {
+impl From<PromiseError> for ResidenceError {
     ghost use Rattle.std.specs.Prelude.{◌≡◌};
-    ghost use Rattle.fault_rules.specs.declared.residence.Unresident.TheVariants as unresident;
+    ghost use Rattle.fault_rules.specs.declared.residence.ResidenceError.TheVariants as residence_error;
 
-    ghost from_gives = { λ refused error. error ≡ unresident.Unpromised refused };
+    ghost from_gives = { λ refused error. error ≡ residence_error.Unpromised refused };
 
-    fn from(error: PromiseError) -> Unresident {
-        Unresident::Unpromised(error)
+    fn from(error: PromiseError) -> ResidenceError {
+        ResidenceError::Unpromised(error)
     }
 }
 
-/// Makes a page resident for an access that its region grants: a page without a frame gets one, with its initial bytes; a
-/// page that is to be stored to becomes the process's own where a fork shared it, and gets the stored mark where stores go
-/// back to a file. So one fault is enough. The promise for a page of a file comes before any frame is taken.
+/// Makes `page` resident for `access`, all at once, so that one fault is enough. The page must be in a region that grants
+/// the access. An unsettled page is settled with its initial bytes: zeros, or what its file has there. For a store, a
+/// settled page with the fork mark is taken over: it loses the mark, and gets a frame of its own if its frame's reference
+/// count is read as other than 1. For a store to a writable shared mapping, the page gets the stored mark. A page of a file
+/// is promised before any frame is taken. Makes no fence: the caller must.
+///
+/// # Errors
+/// `NoFrame`: the space is the process that it was, and no frame was claimed; the bytes of an unsettled page of a file have
+/// been read. If nobody else changes the store (`alone`): only if fewer frames are free than the page needs, and success
+/// only if not. Over shared frames: only after the free count was read as 0 with fewer than these reserved. `Unpromised`:
+/// `files` refused to promise one page read, and the page is an unsettled one of a file. The layout, the seat's view, the
+/// store and the files are then unchanged.
 pub fn make_resident<S: FrameSeat, F: FrameSupply<Seat = S>, C: Files>(
     space: &mut Space<S>,
     store: &mut F,
     files: &mut C,
     page: Vpn,
     access: Access,
-) -> Result<(), Unresident>
-    requires fits { Fits F.rule store.old space.old.seat }
-    requires ready { (t : Tables) × (p : Process) × CanReside (body_of S.view space.old) t p access page }
-    ensures resident { IfOk result (λ _. HasReside (body_of S.view space.old) (body_of S.view space.new) (C.files files.old) access page (λ f c. F.alone → c ≡ F.count store.old f)) }
-    ensures dry { IsShort result → RunsShort (body_of S.view space.old) (body_of S.view space.new) access page }
-    ensures whole { IsShort result → (t : Tables) (p : Process) → IsSpace (body_of S.view space.old) t p → IsSpace (body_of S.view space.new) t p }
+) -> Result<(), ResidenceError>
+    requires fits { IsSeatOf F.rule store.old space.old.seat }
+    requires ready { (t : Tables) × (p : Process) × CanMakeResident (body_of S.view space.old) t p access page }
+    ensures resident { IfOk result (λ _. HasMadeResident (body_of S.view space.old) (body_of S.view space.new) (C.files files.old) access page (λ f c. F.alone → c ≡ F.count store.old f)) }
+    ensures dry { IsNoFrameError result → LacksFrames (body_of S.view space.old) (body_of S.view space.new) access page }
+    ensures whole { IsNoFrameError result → (t : Tables) (p : Process) → IsSpace (body_of S.view space.old) t p → IsSpace (body_of S.view space.new) t p }
     ensures unpromised { (e : PromiseError) → result ≡ Err (Unpromised e) → C.can_refuse files.old 1 e }
-    ensures of_file { (e : PromiseError) → result ≡ Err (Unpromised e) → (t : Tables) (p : Process) → CanReside (body_of S.view space.old) t p access page → 0 < length (reside_moves (C.files files.old) p page) }
+    ensures of_file { (e : PromiseError) → result ≡ Err (Unpromised e) → (t : Tables) (p : Process) → CanMakeResident (body_of S.view space.old) t p access page → 0 < length (resident_reads (C.files files.old) p page) }
     ensures view_stays { (e : PromiseError) → result ≡ Err (Unpromised e) → S.view space.new.seat ≡ S.view space.old.seat }
     ensures store_stays { (e : PromiseError) → result ≡ Err (Unpromised e) → store.new ≡ store.old }
     ensures files_stay { (e : PromiseError) → result ≡ Err (Unpromised e) → C.becomes files.old [] files.new }
-    ensures moves { ((e : PromiseError) → result ≢ Err (Unpromised e)) → (t : Tables) (p : Process) → CanReside (body_of S.view space.old) t p access page → C.becomes files.old (reside_moves (C.files files.old) p page) files.new }
-    ensures enough { F.alone → WhenReside (body_of S.view space.old) access page (F.count store.old) (λ need. IsOk result → need ≤ F.free store.old) }
-    ensures short { F.alone → WhenReside (body_of S.view space.old) access page (F.count store.old) (λ need. IsShort result → F.free store.old < need) }
-    ensures free { F.alone → WhenReside (body_of S.view space.old) access page (F.count store.old) (λ need. F.free store.new ≡ F.free store.old - taken_of result need) }
+    ensures moves { ((e : PromiseError) → result ≢ Err (Unpromised e)) → (t : Tables) (p : Process) → CanMakeResident (body_of S.view space.old) t p access page → C.becomes files.old (resident_reads (C.files files.old) p page) files.new }
+    ensures enough { F.alone → WhenMadeResident (body_of S.view space.old) access page (F.count store.old) (λ need. IsOk result → need ≤ F.free store.old) }
+    ensures short { F.alone → WhenMadeResident (body_of S.view space.old) access page (F.count store.old) (λ need. IsNoFrameError result → F.free store.old < need) }
+    ensures free { F.alone → WhenMadeResident (body_of S.view space.old) access page (F.count store.old) (λ need. F.free store.new ≡ F.free store.old - taken_of result need) }
     ensures root { space.new.root ≡ space.old.root }
     ensures trapframe { space.new.trapframe ≡ space.old.trapframe }
     ensures layout { space.new.layout ≡ space.old.layout }
-    ensures keeps { Keeps F.rule store.old space.old.seat store.new space.new.seat }
+    ensures keeps { KeepsSeats F.rule store.old space.old.seat store.new space.new.seat }
 {
     let Some(settled) = space.settled_page(store, page) else {
         return settle_initial(space, store, files, page, access);
@@ -91,34 +103,34 @@ pub fn make_resident<S: FrameSeat, F: FrameSupply<Seat = S>, C: Files>(
     Ok(())
 }
 
-/// Gives a page its first frame, with the bytes that its region has for it, and the stored mark where it is to be stored to
-/// and stores go back to a file.
+/// `make_resident` for an unsettled page: gives it its first frame, with the initial bytes that its region has for it, and
+/// with the stored mark if the access is a store and stores are written back to a file.
 fn settle_initial<S: FrameSeat, F: FrameSupply<Seat = S>, C: Files>(
     space: &mut Space<S>,
     store: &mut F,
     files: &mut C,
     page: Vpn,
     access: Access,
-) -> Result<(), Unresident>
-    requires fits { Fits F.rule store.old space.old.seat }
-    requires ready { (t : Tables) × (p : Process) × CanReside (body_of S.view space.old) t p access page }
+) -> Result<(), ResidenceError>
+    requires fits { IsSeatOf F.rule store.old space.old.seat }
+    requires ready { (t : Tables) × (p : Process) × CanMakeResident (body_of S.view space.old) t p access page }
     requires unsettled { (t : Tables) (p : Process) → IsSpace (body_of S.view space.old) t p → get p.settled page ≡ None }
-    ensures resident { IfOk result (λ _. HasReside (body_of S.view space.old) (body_of S.view space.new) (C.files files.old) access page (λ f c. F.alone → c ≡ F.count store.old f)) }
-    ensures dry { IsShort result → RunsShort (body_of S.view space.old) (body_of S.view space.new) access page }
-    ensures whole { IsShort result → (t : Tables) (p : Process) → IsSpace (body_of S.view space.old) t p → IsSpace (body_of S.view space.new) t p }
+    ensures resident { IfOk result (λ _. HasMadeResident (body_of S.view space.old) (body_of S.view space.new) (C.files files.old) access page (λ f c. F.alone → c ≡ F.count store.old f)) }
+    ensures dry { IsNoFrameError result → LacksFrames (body_of S.view space.old) (body_of S.view space.new) access page }
+    ensures whole { IsNoFrameError result → (t : Tables) (p : Process) → IsSpace (body_of S.view space.old) t p → IsSpace (body_of S.view space.new) t p }
     ensures unpromised { (e : PromiseError) → result ≡ Err (Unpromised e) → C.can_refuse files.old 1 e }
-    ensures of_file { (e : PromiseError) → result ≡ Err (Unpromised e) → (t : Tables) (p : Process) → CanReside (body_of S.view space.old) t p access page → 0 < length (reside_moves (C.files files.old) p page) }
+    ensures of_file { (e : PromiseError) → result ≡ Err (Unpromised e) → (t : Tables) (p : Process) → CanMakeResident (body_of S.view space.old) t p access page → 0 < length (resident_reads (C.files files.old) p page) }
     ensures view_stays { (e : PromiseError) → result ≡ Err (Unpromised e) → S.view space.new.seat ≡ S.view space.old.seat }
     ensures store_stays { (e : PromiseError) → result ≡ Err (Unpromised e) → store.new ≡ store.old }
     ensures files_stay { (e : PromiseError) → result ≡ Err (Unpromised e) → C.becomes files.old [] files.new }
-    ensures moves { ((e : PromiseError) → result ≢ Err (Unpromised e)) → (t : Tables) (p : Process) → CanReside (body_of S.view space.old) t p access page → C.becomes files.old (reside_moves (C.files files.old) p page) files.new }
-    ensures enough { F.alone → WhenReside (body_of S.view space.old) access page (F.count store.old) (λ need. IsOk result → need ≤ F.free store.old) }
-    ensures short { F.alone → WhenReside (body_of S.view space.old) access page (F.count store.old) (λ need. IsShort result → F.free store.old < need) }
-    ensures free { F.alone → WhenReside (body_of S.view space.old) access page (F.count store.old) (λ need. F.free store.new ≡ F.free store.old - taken_of result need) }
+    ensures moves { ((e : PromiseError) → result ≢ Err (Unpromised e)) → (t : Tables) (p : Process) → CanMakeResident (body_of S.view space.old) t p access page → C.becomes files.old (resident_reads (C.files files.old) p page) files.new }
+    ensures enough { F.alone → WhenMadeResident (body_of S.view space.old) access page (F.count store.old) (λ need. IsOk result → need ≤ F.free store.old) }
+    ensures short { F.alone → WhenMadeResident (body_of S.view space.old) access page (F.count store.old) (λ need. IsNoFrameError result → F.free store.old < need) }
+    ensures free { F.alone → WhenMadeResident (body_of S.view space.old) access page (F.count store.old) (λ need. F.free store.new ≡ F.free store.old - taken_of result need) }
     ensures root { space.new.root ≡ space.old.root }
     ensures trapframe { space.new.trapframe ≡ space.old.trapframe }
     ensures layout { space.new.layout ≡ space.old.layout }
-    ensures keeps { Keeps F.rule store.old space.old.seat store.new space.new.seat }
+    ensures keeps { KeepsSeats F.rule store.old space.old.seat store.new space.new.seat }
 {
     let Some(region) = space.layout.region_at(page.number()) else {
         unreachable!()
@@ -130,33 +142,33 @@ fn settle_initial<S: FrameSeat, F: FrameSupply<Seat = S>, C: Files>(
     Ok(())
 }
 
-/// The same of a page of a file, by way of an array.
+/// `settle_initial` for a page of a file, whose bytes are read into an array first.
 fn settle_from_file<S: FrameSeat, F: FrameSupply<Seat = S>, C: Files>(
     space: &mut Space<S>,
     store: &mut F,
     files: &mut C,
     page: Vpn,
     access: Access,
-) -> Result<(), Unresident>
-    requires fits { Fits F.rule store.old space.old.seat }
-    requires ready { (t : Tables) × (p : Process) × CanReside (body_of S.view space.old) t p access page }
+) -> Result<(), ResidenceError>
+    requires fits { IsSeatOf F.rule store.old space.old.seat }
+    requires ready { (t : Tables) × (p : Process) × CanMakeResident (body_of S.view space.old) t p access page }
     requires unsettled { (t : Tables) (p : Process) → IsSpace (body_of S.view space.old) t p → get p.settled page ≡ None }
-    ensures resident { IfOk result (λ _. HasReside (body_of S.view space.old) (body_of S.view space.new) (C.files files.old) access page (λ f c. F.alone → c ≡ F.count store.old f)) }
-    ensures dry { IsShort result → RunsShort (body_of S.view space.old) (body_of S.view space.new) access page }
-    ensures whole { IsShort result → (t : Tables) (p : Process) → IsSpace (body_of S.view space.old) t p → IsSpace (body_of S.view space.new) t p }
+    ensures resident { IfOk result (λ _. HasMadeResident (body_of S.view space.old) (body_of S.view space.new) (C.files files.old) access page (λ f c. F.alone → c ≡ F.count store.old f)) }
+    ensures dry { IsNoFrameError result → LacksFrames (body_of S.view space.old) (body_of S.view space.new) access page }
+    ensures whole { IsNoFrameError result → (t : Tables) (p : Process) → IsSpace (body_of S.view space.old) t p → IsSpace (body_of S.view space.new) t p }
     ensures unpromised { (e : PromiseError) → result ≡ Err (Unpromised e) → C.can_refuse files.old 1 e }
-    ensures of_file { (e : PromiseError) → result ≡ Err (Unpromised e) → (t : Tables) (p : Process) → CanReside (body_of S.view space.old) t p access page → 0 < length (reside_moves (C.files files.old) p page) }
+    ensures of_file { (e : PromiseError) → result ≡ Err (Unpromised e) → (t : Tables) (p : Process) → CanMakeResident (body_of S.view space.old) t p access page → 0 < length (resident_reads (C.files files.old) p page) }
     ensures view_stays { (e : PromiseError) → result ≡ Err (Unpromised e) → S.view space.new.seat ≡ S.view space.old.seat }
     ensures store_stays { (e : PromiseError) → result ≡ Err (Unpromised e) → store.new ≡ store.old }
     ensures files_stay { (e : PromiseError) → result ≡ Err (Unpromised e) → C.becomes files.old [] files.new }
-    ensures moves { ((e : PromiseError) → result ≢ Err (Unpromised e)) → (t : Tables) (p : Process) → CanReside (body_of S.view space.old) t p access page → C.becomes files.old (reside_moves (C.files files.old) p page) files.new }
-    ensures enough { F.alone → WhenReside (body_of S.view space.old) access page (F.count store.old) (λ need. IsOk result → need ≤ F.free store.old) }
-    ensures short { F.alone → WhenReside (body_of S.view space.old) access page (F.count store.old) (λ need. IsShort result → F.free store.old < need) }
-    ensures free { F.alone → WhenReside (body_of S.view space.old) access page (F.count store.old) (λ need. F.free store.new ≡ F.free store.old - taken_of result need) }
+    ensures moves { ((e : PromiseError) → result ≢ Err (Unpromised e)) → (t : Tables) (p : Process) → CanMakeResident (body_of S.view space.old) t p access page → C.becomes files.old (resident_reads (C.files files.old) p page) files.new }
+    ensures enough { F.alone → WhenMadeResident (body_of S.view space.old) access page (F.count store.old) (λ need. IsOk result → need ≤ F.free store.old) }
+    ensures short { F.alone → WhenMadeResident (body_of S.view space.old) access page (F.count store.old) (λ need. IsNoFrameError result → F.free store.old < need) }
+    ensures free { F.alone → WhenMadeResident (body_of S.view space.old) access page (F.count store.old) (λ need. F.free store.new ≡ F.free store.old - taken_of result need) }
     ensures root { space.new.root ≡ space.old.root }
     ensures trapframe { space.new.trapframe ≡ space.old.trapframe }
     ensures layout { space.new.layout ≡ space.old.layout }
-    ensures keeps { Keeps F.rule store.old space.old.seat store.new space.new.seat }
+    ensures keeps { KeepsSeats F.rule store.old space.old.seat store.new space.new.seat }
 {
     let Some(region) = space.layout.region_at(page.number()) else {
         unreachable!()
@@ -167,7 +179,8 @@ fn settle_from_file<S: FrameSeat, F: FrameSupply<Seat = S>, C: Files>(
     Ok(())
 }
 
-/// Whether a page of a region gets the stored mark with its first frame, for an access that the region grants.
+/// Whether an unsettled page of the region gets the stored mark for an access that the region grants: for a store to a
+/// shared mapping.
 fn is_to_mark(region: &Region, access: Access) -> bool
     requires right { lacks_right access (Some (region_of region.now)) ≡ false }
     ensures { result ≡ leaves_mark access (Some (region_of region.now)) }

@@ -1,4 +1,5 @@
--- The bytes of a page that is read from a file, and of a file to which a page is written.
+-- Lemmas about lists of bytes: a page that is read from a file is the bytes from the offset on, then zeros (`page_read`);
+-- and a file to which a page was written has it over the bytes from the offset on, up to its length (`page_written`).
 use Rattle.std.proofs.Common.{◌≡◌, ℕ, ◌+◌, ◌-◌, inl, inr, List, [], ◌++◌, length, take, drop, replicate, ap, sym, ◌∙◌, arith, min}
 use Rattle.std.proofs.Math.ListN.{drop_of_length-le}
 use Rattle.std.proofs.Math.Seq.{drop-nil, take-append-add}

@@ -1,16 +1,18 @@
-// The files of one thread.
+// `Cabinet`, a struct: the files of a single thread, in host memory, with `new`, `bytes` and the calls of the trait
+// `Files` (promise, read and write a page, length, writable). A promise, so that these page reads and writes cannot fail,
+// is never refused.
 
 ghost use Rattle.std.specs.Prelude.{◌≡◌, ◌≤◌, All, IfOk, IsTrue, length, map, option_copied, option_map, slice_get};
 ghost use Rattle.process_model.specs.Script.{file_of, fits_file, most_files};
 
 use crate::files::Files;
-use crate::held::HeldFile;
+use crate::held_file::HeldFile;
 use crate::promise::PromiseError;
 use process_model::FileText;
 use std::alloc::{AllocError, Global};
 use std::marker::Model;
 
-/// Files in the memory of the host, which contracts see as the model's files. All memory is taken at the start.
+/// Files in host memory, numbered from 0. Contracts see the model's files. Only `new` takes host memory.
 #[derive(Drop)]
 pub struct Cabinet {
     held: Vec<HeldFile>,
@@ -26,7 +28,12 @@ impl Model for Cabinet {
 }
 
 impl Cabinet {
-    /// The files as they are declared, in the order of their numbers.
+    /// Makes the declared files, in the order of their numbers: each has the bytes that were declared, then zeros up to its
+    /// length. There are at most 16, each with a length of at most 65,536 bytes and no more declared bytes than that length
+    /// (`fits_file`).
+    ///
+    /// # Errors
+    /// `AllocError`: the host is out of memory.
     pub fn new(alloc: Global, files: &[FileText]) -> Result<Cabinet, AllocError>
         requires few { length files.now ≤ most_files }
         requires fit { All (λ f. IsTrue (fits_file f)) files.now }
@@ -39,7 +46,7 @@ impl Cabinet {
         Ok(Cabinet { held })
     }
 
-    /// All bytes of a file, or None where there is no such file.
+    /// Returns all bytes of a file, or `None` if there is no file with this number.
     pub fn bytes(&self, file: usize) -> Option<&[u8]>
         ensures { option_copied result ≡ option_map (λ f. f.bytes) (slice_get self.now file) }
     {
@@ -56,7 +63,7 @@ impl Cabinet {
 impl Files for Cabinet {
     ghost use Rattle.std.specs.Prelude.{◌≡◌, ◌^◌, refl};
     ghost use Rattle.process_model.specs.PageMoves.{files_after};
-    ghost use Rattle.file_cabinet.specs.Kept.{goes_on, never_refused};
+    ghost use Rattle.file_cabinet.specs.FileLaws.{goes_on, never_refused};
 
     ghost files = { λ cabinet. cabinet };
 
@@ -74,7 +81,7 @@ impl Files for Cabinet {
 
     ghost comes_to = { λ _ _ _ becomes. becomes };
 
-    /// It is never refused.
+    /// Never refused: page reads and writes of a cabinet take no memory.
     fn promise(&mut self, _pages: usize) -> Result<(), PromiseError> {
         Ok(())
     }

@@ -1,4 +1,6 @@
-// What may be done with files.
+// The trait `Files`: files of a fixed length that are read and written in pages of 4,096 bytes. `promise` comes first, so
+// that the promised reads and writes cannot fail (`read_page`, `write_page`); only a promise may be refused. Also the
+// length of a file, whether it may be written, and the laws of all files.
 
 ghost use Rattle.std.specs.Prelude.{◌≡◌, ◌+◌, ◌<◌, ◌≤◌, ◌∷◌, ◌++◌, [], ℕ, IfErr, IfOk, length, List, option_map, slice_get};
 ghost use Rattle.file_cabinet.specs.declared.promise.PromiseError.{PromiseError};
@@ -7,57 +9,63 @@ ghost use Rattle.process_model.specs.PageMoves.{files_after, page_read, page_wri
 
 use crate::promise::PromiseError;
 
-/// Files of a fixed length, which are read and written page by page. They are named by their numbers, from 0. Each page
-/// that is read or written has been promised before.
+/// Files of a fixed length, numbered from 0, that are read and written in pages of 4,096 bytes, from any offset. A caller
+/// first asks for a promise of as many page reads and writes as it will make; within this promise they cannot fail.
 pub trait Files {
-    /// The files, as the model has them.
+    /// The files, as the model has them: their bytes, and whether each may be written.
     ghost files: { Self → List File };
 
-    /// So many pages, at least, may be read or written before the next promise.
+    /// How many pages may at least be read or written before the next promise.
     ghost room: { Self → ℕ };
 
-    /// The first becomes the second by just these reads and writes.
+    /// The first state becomes the second by exactly these page reads and writes, in their order.
     ghost becomes: { Self → List PageMove → Self → Type 0 };
 
-    /// A promise of so many pages may be refused thus.
+    /// In this state a promise of this many pages may be refused with this error.
     ghost can_refuse: { Self → ℕ → PromiseError → Type 0 };
 
-    /// Promises that so many pages, at least, may be read or written from now on, whatever was promised before.
+    /// Promises that at least `pages` pages can be read or written after this call, none of which can fail; earlier
+    /// promises need not add to it. The files stay, also if it is refused.
+    ///
+    /// # Errors
+    /// A `PromiseError` that `can_refuse` allows in this state for `pages`; never if `pages` is 0.
     fn promise(&mut self, pages: usize) -> Result<(), PromiseError>
         ensures promised { IfOk result (λ _. pages ≤ room self.new) }
         ensures refused { IfErr result (λ e. can_refuse self.old pages e) }
         ensures same { becomes self.old [] self.new };
 
-    /// Reads 4,096 bytes of a file from an offset on: zeros past its end, or where there is no such file.
+    /// Reads 4,096 bytes of a file, from byte `offset` on, into `bytes`: zeros past the file's end, and zeros if there is no
+    /// such file. Needs a promised page, and uses up at most one.
     fn read_page(&mut self, file: usize, offset: usize, bytes: &mut [u8; 4096])
         requires promised { 0 < room self.old }
         ensures bytes { bytes.new ≡ file_page (files self.old) file offset }
         ensures rest { room self.old ≤ 1 + room self.new }
         ensures moves { becomes self.old (page_read file offset (file_page (files self.old) file offset) ∷ []) self.new };
 
-    /// Writes 4,096 bytes to a file from an offset on, up to its length.
+    /// Writes 4,096 bytes to a file, from byte `offset` on and up to its length; none if there is no such file. Whether the
+    /// file may be written is not asked. Needs a promised page, and uses up at most one.
     fn write_page(&mut self, file: usize, offset: usize, bytes: &[u8; 4096])
         requires promised { 0 < room self.old }
         ensures rest { room self.old ≤ 1 + room self.new }
         ensures moves { becomes self.old (page_write file offset bytes.now ∷ []) self.new };
 
-    /// How long a file is, in bytes, or None where there is no such file.
+    /// Returns the length of a file in bytes, or `None` if there is no such file.
     fn length(&self, file: usize) -> Option<usize>
         ensures { result ≡ option_map (λ f. length f.bytes) (slice_get (files self.now) file) };
 
-    /// Whether there is such a file and it may be written.
+    /// Returns whether there is such a file and it may be written.
     fn writable(&self, file: usize) -> bool
         ensures { result ≡ is_writable (slice_get (files self.now) file) };
 
-    /// Files that nobody reads or writes stay as they are.
+    /// Law: a state becomes itself by an empty list of reads and writes.
     ghost stays: { (x : Self) → becomes x [] x };
 
-    /// Only a promise of a page or more may be refused.
+    /// Law: only a promise of one page or more may be refused.
     ghost asks: { (x : Self) (pages : ℕ) (e : PromiseError) → can_refuse x pages e → 0 < pages };
 
-    /// What is done twice is done one after the other.
+    /// Law: reads and writes in sequence are one list, the second appended to the first.
     ghost goes_on: { (x y z : Self) (ms ns : List PageMove) → becomes x ms y → becomes y ns z → becomes x (ms ++ ns) z };
 
-    /// What the reads and writes leave in the files.
+    /// Law: the files afterwards are those before, with the writes applied in order (`files_after`).
     ghost comes_to: { (x y : Self) (ms : List PageMove) → becomes x ms y → files y ≡ files_after (files x) ms };
 }

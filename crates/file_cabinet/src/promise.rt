@@ -1,13 +1,14 @@
-// Why pages were not promised.
+// `PromiseError`, an enum: why a promise of page reads and writes (so that they cannot fail) was refused: `Memory` or
+// `JournalFull`. It converts to the `Refusal` of the same name.
 
 use process_model::Refusal;
 
-/// Why pages of files may not be read or written.
+/// The error of `Files::promise`. A kernel call that needs these pages is refused with the refusal of this name.
 #[derive(Clone, Copy, PartialEq, Eq, Debug)]
 pub enum PromiseError {
-    /// The host has no memory for them.
+    /// The host is out of memory.
     Memory,
-    /// The history of what was read and written has no room for them.
+    /// The history that the files keep of their page reads and writes has no room for this many more entries.
     JournalFull,
 }
 

@@ -1,4 +1,5 @@
--- A history with one entry more.
+-- Lemma: one more entry keeps the invariant of a shelf (`one_more`): if the entry is right and there is room, the longer
+-- history is within its bound and replays, and the files are those that it leaves.
 use Rattle.std.proofs.Common.{◌≡◌, ◌<◌, ◌≤◌, List, [], ◌∷◌, ◌++◌, length, sym, subst, ap, ◌∙◌, arith}
 use Rattle.std.proofs.lemmas.List.{length-append}
 use Rattle.file_shelf.specs.Histories.{HistoryReplays, IsRightUse, most_uses}

@@ -1,17 +1,20 @@
-// What a history is made of.
+// `PageUse`, a struct: an entry of a shelf's history (its page reads and writes, in order): the file's number, the
+// offset, the 4,096 bytes, and whether they were written or read.
 
 ghost use Rattle.std.specs.Prelude.{◌≡◌};
 
 use std::marker::Model;
 
-/// A page's worth of a file, from an offset on, that was read or written, which contracts see as the model's move.
+/// 4,096 bytes of a file, from an offset on, that were read or written. Contracts see the model's `PageMove`.
 #[derive(Drop)]
 pub struct PageUse {
+    /// The number of the file.
     pub file: usize,
-    /// In bytes.
+    /// Where in the file the page begins, in bytes.
     pub offset: usize,
-    /// What was read, zeros past the file's end, or what was written.
+    /// The bytes that were read, zeros past the file's end; or the bytes that the write was given.
     pub bytes: [u8; 4096],
+    /// Whether the page was written; if not, it was read.
     pub writes: bool,
 }
 
@@ -25,7 +28,7 @@ impl Model for PageUse {
 }
 
 impl PageUse {
-    /// The same once more.
+    /// Returns a copy of the entry.
     pub fn copied(&self) -> PageUse
         ensures { result ≡ self.now }
     {

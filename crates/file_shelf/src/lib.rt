@@ -1,7 +1,9 @@
-//! Files that processes on threads share, with the history of what was read from them and written to them.
+//! Files that processes on threads share, with a history of the pages read from them and written to them: the struct
+//! `Shelf`, the struct `PageUse` (an entry of the history), and `MOST_USES` (the most entries).
 //!
-//! A shelf is a cabinet that keeps an entry for each page read or written. Its type says that the history replays from the
-//! files that it began with, so whoever takes it from under a lock knows that.
+//! A `Shelf` is a cabinet that adds an entry to its history for each page read or written. Its type invariant says that the
+//! history replays from the files that the shelf began with (`specs/Histories.antt`), so each thread that takes the shelf
+//! from under a lock can rely on that.
 #![tactic(auto)]
 
 mod history;

@@ -1,7 +1,9 @@
-// Files with their history.
+// `Shelf`, a struct: files (a `Cabinet`) with the history of their page reads and writes, for threads to share; it has
+// `new`, `cabinet`, `history` and the calls of the trait `Files` (promise, read and write a page, length, writable). A
+// promise, so that page reads and writes cannot fail, may be refused. `MOST_USES`: the most entries of a history.
 
 ghost use Rattle.std.specs.Prelude.{[], ◌≡◌};
-ghost use Rattle.file_shelf.specs.Shelved.{Shelved};
+ghost use Rattle.file_shelf.specs.ShelfStates.{ShelfState};
 
 use crate::history::PageUse;
 use file_cabinet::{Cabinet, Files, PromiseError};
@@ -9,10 +11,12 @@ use std::alloc::Global;
 use std::marker::Model;
 use std::snapshot::Snapshot;
 
-/// How many entries a history has, at most.
+/// The most entries that a shelf's history can have, one for each page read or written.
 pub const MOST_USES: usize = 65536;
 
-/// A cabinet with the history of its pages, and for contracts alone what its files held at first.
+/// A cabinet with the history of its page reads and writes and, for contracts alone, the files that it began with. Type
+/// invariant: the history has at most 65,536 entries and replays from those files, and the files are those that its writes
+/// leave.
 #[derive(Drop)]
 pub struct Shelf {
     cabinet: Cabinet,
@@ -23,10 +27,10 @@ pub struct Shelf {
 impl Model for Shelf {
     ghost use Rattle.std.specs.Prelude.{◌≡◌, ◌≤◌, ◌-◌, min, length, vec_capacity};
     ghost use Rattle.file_shelf.specs.Histories.{most_uses, HistoryReplays};
-    ghost use Rattle.file_shelf.specs.Shelved.{Shelved};
+    ghost use Rattle.file_shelf.specs.ShelfStates.{ShelfState};
     ghost use Rattle.process_model.specs.PageMoves.{files_after};
 
-    ghost Value = { Shelved };
+    ghost Value = { ShelfState };
 
     ghost view = { λ s. record { first = s.first.value; files = s.cabinet; history = s.history.items; room = min (vec_capacity s.history) most_uses - length s.history.items } };
 
@@ -34,7 +38,7 @@ impl Model for Shelf {
 }
 
 impl Shelf {
-    /// Files of which nothing was read or written yet. No memory is taken.
+    /// Makes a shelf of these files, with an empty history. Takes no host memory.
     pub fn new(alloc: Global, cabinet: Cabinet) -> Shelf
         ensures first { result.first ≡ cabinet }
         ensures files { result.files ≡ cabinet }
@@ -48,14 +52,14 @@ impl Shelf {
         }
     }
 
-    /// The files as they are now.
+    /// Returns the files, with all writes so far.
     pub fn cabinet(&self) -> &Cabinet
         ensures { result.now ≡ (self.now).files }
     {
         &self.cabinet
     }
 
-    /// What was read and written, in order.
+    /// Returns the pages read and written so far, in order.
     pub fn history(&self) -> &[PageUse]
         ensures { result.now ≡ (self.now).history }
     {
@@ -64,13 +68,13 @@ impl Shelf {
 }
 
 impl Files for Shelf {
-    ghost use Rattle.file_shelf.specs.Shelved.{asks, Becomes, CanRefuse, comes_to, goes_on, stays};
+    ghost use Rattle.file_shelf.specs.ShelfStates.{asks, HasMoves, CanRefuse, comes_to, goes_on, stays};
 
     ghost files = { λ s. s.files };
 
     ghost room = { λ s. s.room };
 
-    ghost becomes = { Becomes };
+    ghost becomes = { HasMoves };
 
     ghost can_refuse = { CanRefuse };
 
@@ -82,7 +86,12 @@ impl Files for Shelf {
 
     ghost comes_to = { comes_to };
 
-    /// Takes the memory for so many entries more.
+    /// Promises that at least `pages` pages can be read or written after this call: makes room, in host memory, for as
+    /// many more history entries.
+    ///
+    /// # Errors
+    /// `JournalFull`: exactly when the history would have more than 65,536 entries. `Memory`: the host is out of memory,
+    /// and the history would not have more.
     fn promise(&mut self, pages: usize) -> Result<(), PromiseError> {
         if pages > MOST_USES - self.history.len() {
             return Err(PromiseError::JournalFull);

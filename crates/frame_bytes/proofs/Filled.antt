@@ -1,4 +1,5 @@
--- A frame whose words are those of some bytes has the bytes, with zeros behind them.
+-- Lemma: if a seat knows the 512 words of a frame as those of at most 4,096 bytes, padded with zeros, it knows that the
+-- frame has these bytes and then zeros (`HasBytes` of `padded`).
 use Rattle.std.proofs.Common.{◌≡◌, ℕ, ◌*◌, ◌^◌, ◌<◌, ◌≤◌, List, length, drop, slice_index, Some, ap, sym, ◌∙◌}
 use Rattle.frame_store.specs.View.{View, known_word}
 use Rattle.process_model.specs.Bytes.{number, padded}

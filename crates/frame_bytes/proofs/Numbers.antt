@@ -1,4 +1,6 @@
--- Numbers of bytes by parts.
+-- Lemmas about `number`, the little-endian number of some bytes: of no bytes, by its first byte and the rest, as the sum
+-- of two parts, its bound, and its parts: bytes from the middle, one byte of a word, and an aligned access within its
+-- word.
 use Rattle.std.proofs.Common.{◌≡◌, ℕ, zero, suc, ◌+◌, ◌-◌, ◌*◌, ◌/◌, ◌%◌, ◌^◌, ◌<◌, List, [], ◌∷◌, drop, slice_index, refl, ap, ◌∙◌, arith}
 use Rattle.std.specs.Prelude.{IsTrue}
 use Rattle.std.proofs.lemmas.Nat.{shr_high, mod_low, pow-add}

@@ -1,4 +1,6 @@
--- The words of a frame after bytes were put into one of them.
+-- Lemmas: if bytes are stored within one word of a frame whose bytes the seat knows, it knows the frame's bytes with
+-- these written over them (`HasBytes` of `write_bytes`): for a part of a word (`bytes_stored`) and for a whole word
+-- (`word_stored`).
 use Rattle.std.proofs.Common.{◌≡◌, ℕ, ◌+◌, ◌-◌, ◌*◌, ◌/◌, ◌%◌, ◌^◌, ◌<◌, ◌≤◌, inl, inr, List, length, drop, slice_index, Some, refl, ap, sym, ◌∙◌, arith}
 use Rattle.std.proofs.lemmas.Bool.{cases_lt, cases_eq}
 use Rattle.std.proofs.lemmas.List.{ext_get_or}
@@ -9,7 +11,7 @@ use Rattle.process_model.specs.Bytes.{number, write_bytes}
 use Rattle.frame_bytes.specs.Contents.{HasBytes}
 use Rattle.frame_bytes.proofs.Numbers.{byte_of_word}
 use Rattle.frame_bytes.proofs.Writes.{at_before, at_inside, at_after, length-write_bytes, number_same, from_le_is, to_le}
-use Rattle.frame_bytes.specs.Changed.{stored_here, stored_apart}
+use Rattle.frame_bytes.specs.StoredWords.{stored_here, stored_apart}
 
 module _ (bytes : List ℕ) (whole : length bytes ≡ 4096) (small : (k : ℕ) → slice_index bytes k < 2 ^ 8) (o : ℕ) (part old : List ℕ)
     (inside : o + length part ≤ 4096) (within : o % 8 + length part ≤ 8)

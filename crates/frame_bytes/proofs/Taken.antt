@@ -1,4 +1,5 @@
--- Bytes that are read from the words of a frame.
+-- Lemmas: bytes that are copied out of loaded words of a frame are the page's bytes there: one byte, a part of a word, a
+-- part that extends what was read before, and a whole run of bytes (`run_read`).
 use Rattle.std.proofs.Common.{◌≡◌, ℕ, ◌+◌, ◌-◌, ◌*◌, ◌/◌, ◌%◌, ◌^◌, ◌<◌, ◌≤◌, inl, inr, List, length, take, drop, slice_index, Some, ap, sym, ◌∙◌, arith, length-drop}
 use Rattle.std.proofs.lemmas.Bool.{cases_lt}
 use Rattle.std.proofs.lemmas.Grind.{common_steps}

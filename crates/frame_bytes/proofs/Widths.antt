@@ -1,4 +1,5 @@
--- The four widths.
+-- Lemmas about the widths of an access, 1, 2, 4 and 8: what holds of each of the four holds of every width (`by_width`);
+-- an access at a multiple of its width lies in one word of eight bytes; a width is at most 8.
 use Rattle.std.proofs.Common.{◌≡◌, ℕ, ◌+◌, ◌%◌, ◌≤◌, false, inl, inr, sym, subst, arith}
 use Rattle.std.specs.Prelude.{IsTrue}
 use Rattle.std.proofs.lemmas.Bool.Decides.{eqb_tells}

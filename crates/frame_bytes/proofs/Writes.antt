@@ -1,4 +1,6 @@
--- What a list of bytes has after a write, and the word there.
+-- Lemmas about lists of bytes: each byte and the length after a write (`write_bytes`), of the low bytes of a number
+-- (`low_bytes`) and of padded bytes; equal bytes make equal numbers; words of eight bytes as std makes and takes them
+-- (`from_le_bytes`, `to_le_bytes`) are the model's; two adjacent writes in sequence are one write.
 use Rattle.std.proofs.Common.{◌≡◌, ℕ, zero, suc, ◌+◌, ◌-◌, ◌*◌, ◌/◌, ◌%◌, ◌^◌, ◌<◌, ◌≤◌, inl, inr, List, [], ◌∷◌, ◌++◌, length, take, drop, slice_index, refl, ap, sym, ◌∙◌, arith, replicate, length-append, length-drop}
 use Rattle.std.proofs.lemmas.Nat.{shr-shr}
 use Rattle.std.proofs.lemmas.Bool.{cases_lt}

@@ -1,18 +1,20 @@
-// A page of 4,096 bytes in the 512 words of a frame. The lowest byte of a word comes first, as loads and stores of RV64
-// have it.
+// Functions on the 4,096 bytes of a frame of any frame store: `load_bytes` and `store_bytes` (a number of 1, 2, 4 or 8
+// bytes), `fill_frame` (some bytes, then zeros), `copy_frame` and `read_frame`. The bytes lie in the frame's 512 words in
+// little-endian order, as loads and stores of RV64 have it. Crate-internal: `store_in_word` and `overwrite`.
 
 ghost use Rattle.std.specs.Int.{from_le_bytes, w64};
 ghost use Rattle.std.specs.Prelude.{◌≡◌, ◌≢◌, ◌+◌, ◌*◌, ◌/◌, ◌%◌, ◌^◌, ◌<◌, ◌≤◌, ℕ, drop, IsTrue, length, List};
 ghost use Rattle.frame_bytes.specs.Contents.{ChangesWords, HasBytes, HasWords};
-ghost use Rattle.frame_store.specs.Laws.{Fits, Keeps};
+ghost use Rattle.frame_store.specs.Laws.{IsSeatOf, KeepsSeats};
 ghost use Rattle.frame_store.specs.View.{IsHeld, IsSole};
 ghost use Rattle.process_model.specs.Bytes.{is_width, low_bytes, number, padded, write_bytes};
 
 use frame_store::{FrameAccess, FrameSeat};
 use sv39_entry::FrameNo;
 
-/// The little-endian number in 1, 2, 4 or 8 bytes of a frame, `width` of them from `offset` on, which is a multiple of
-/// the width. So the bytes lie in one word.
+/// Returns the little-endian number in `width` bytes of a held frame, from byte `offset` on. `width` is 1, 2, 4 or 8, and
+/// `offset` a multiple of it below 4,096; so the bytes lie in one word. The seat must know the frame's bytes. Store and
+/// view stay.
 pub fn load_bytes<F: FrameAccess>(
     store: &mut F,
     seat: &mut F::Seat,
@@ -20,7 +22,7 @@ pub fn load_bytes<F: FrameAccess>(
     offset: usize,
     width: usize,
 ) -> u64
-    requires fits { Fits F.rule store.old seat.old }
+    requires fits { IsSeatOf F.rule store.old seat.old }
     requires held { IsHeld (F.Seat.view seat.old) frame.0 }
     requires known { (bytes : List ℕ) × HasBytes (F.Seat.view seat.old) frame.0 bytes }
     requires width { IsTrue (is_width width) }
@@ -29,13 +31,13 @@ pub fn load_bytes<F: FrameAccess>(
     ensures number { (bytes : List ℕ) → HasBytes (F.Seat.view seat.old) frame.0 bytes → result ≡ number (drop offset bytes) width }
     ensures view { F.Seat.view seat.new ≡ F.Seat.view seat.old }
     ensures same { store.new ≡ store.old }
-    ensures keeps { Keeps F.rule store.old seat.old store.new seat.new }
+    ensures keeps { KeepsSeats F.rule store.old seat.old store.new seat.new }
 {
     let word = store.load(seat, frame, offset / 8);
     low_bytes_of(word >> (8 * (offset % 8)), width)
 }
 
-/// The lowest bytes of a word.
+/// Returns the `width` lowest bytes of a word, as a number.
 fn low_bytes_of(word: u64, width: usize) -> u64
     requires { IsTrue (is_width width) }
     ensures { result ≡ word % 2 ^ (8 * width) }
@@ -47,8 +49,9 @@ fn low_bytes_of(word: u64, width: usize) -> u64
     }
 }
 
-/// Puts the `width` lowest bytes of a value, 1, 2, 4 or 8, into a frame from `offset` on, which is a multiple of the
-/// width. What else the value has is dropped, and the bytes beside them stay.
+/// Stores the `width` lowest bytes of `value` into a frame, from byte `offset` on; the other bytes of the frame stay.
+/// `width` is 1, 2, 4 or 8, and `offset` a multiple of it below 4,096. The seat must be the sole holder of the frame and
+/// know its bytes; then it knows the new ones.
 pub fn store_bytes<F: FrameAccess>(
     store: &mut F,
     seat: &mut F::Seat,
@@ -57,7 +60,7 @@ pub fn store_bytes<F: FrameAccess>(
     width: usize,
     value: u64,
 )
-    requires fits { Fits F.rule store.old seat.old }
+    requires fits { IsSeatOf F.rule store.old seat.old }
     requires held { IsHeld (F.Seat.view seat.old) frame.0 }
     requires sole { IsSole (F.Seat.view seat.old) frame.0 }
     requires known { (bytes : List ℕ) × HasBytes (F.Seat.view seat.old) frame.0 bytes }
@@ -67,7 +70,7 @@ pub fn store_bytes<F: FrameAccess>(
     ensures bytes { (bytes : List ℕ) → HasBytes (F.Seat.view seat.old) frame.0 bytes →
         HasBytes (F.Seat.view seat.new) frame.0 (write_bytes bytes offset (low_bytes value width)) }
     ensures others { ChangesWords frame.0 (F.Seat.view seat.old) (F.Seat.view seat.new) }
-    ensures keeps { Keeps F.rule store.old seat.old store.new seat.new }
+    ensures keeps { KeepsSeats F.rule store.old seat.old store.new seat.new }
     ensures free { F.alone → F.free store.new ≡ F.free store.old }
     ensures counts { F.alone → (f : ℕ) → F.count store.new f ≡ F.count store.old f }
 {
@@ -75,7 +78,7 @@ pub fn store_bytes<F: FrameAccess>(
     store_in_word(store, seat, frame, offset, &value[..width]);
 }
 
-/// Puts bytes into a frame from `offset` on, all of them into one word.
+/// Stores bytes into a frame from byte `offset` on; all of them lie in one word. The other bytes of the frame stay.
 pub(crate) fn store_in_word<F: FrameAccess>(
     store: &mut F,
     seat: &mut F::Seat,
@@ -83,7 +86,7 @@ pub(crate) fn store_in_word<F: FrameAccess>(
     offset: usize,
     part: &[u8],
 )
-    requires fits { Fits F.rule store.old seat.old }
+    requires fits { IsSeatOf F.rule store.old seat.old }
     requires held { IsHeld (F.Seat.view seat.old) frame.0 }
     requires sole { IsSole (F.Seat.view seat.old) frame.0 }
     requires known { (bytes : List ℕ) × HasBytes (F.Seat.view seat.old) frame.0 bytes }
@@ -92,7 +95,7 @@ pub(crate) fn store_in_word<F: FrameAccess>(
     ensures bytes { (bytes : List ℕ) → HasBytes (F.Seat.view seat.old) frame.0 bytes →
         HasBytes (F.Seat.view seat.new) frame.0 (write_bytes bytes offset part.now) }
     ensures others { ChangesWords frame.0 (F.Seat.view seat.old) (F.Seat.view seat.new) }
-    ensures keeps { Keeps F.rule store.old seat.old store.new seat.new }
+    ensures keeps { KeepsSeats F.rule store.old seat.old store.new seat.new }
     ensures free { F.alone → F.free store.new ≡ F.free store.old }
     ensures counts { F.alone → (f : ℕ) → F.count store.new f ≡ F.count store.old f }
 {
@@ -106,7 +109,7 @@ pub(crate) fn store_in_word<F: FrameAccess>(
     store.store(seat, frame, index, u64::from_le_bytes(word));
 }
 
-/// Puts bytes at an index. Eight of them go as one word.
+/// Overwrites the bytes from index `at` on with `part`. Eight bytes are copied as one word.
 pub(crate) fn overwrite(bytes: &mut [u8], at: usize, part: &[u8])
     requires { at + length part.now ≤ length bytes.old }
     ensures { bytes.new ≡ write_bytes bytes.old at part.now }
@@ -118,14 +121,15 @@ pub(crate) fn overwrite(bytes: &mut [u8], at: usize, part: &[u8])
     bytes[at..at + part.len()].copy_from_slice(part);
 }
 
-/// Fills a frame with at most 4,096 bytes, and with zeros behind them. What it had before need not be known.
+/// Copies at most 4,096 bytes to the start of a frame and zeroes the rest. The seat must be the sole holder of the frame,
+/// and need not know its bytes; then it knows them.
 pub fn fill_frame<F: FrameAccess>(store: &mut F, seat: &mut F::Seat, frame: FrameNo, bytes: &[u8])
-    requires fits { Fits F.rule store.old seat.old }
+    requires fits { IsSeatOf F.rule store.old seat.old }
     requires sole { IsSole (F.Seat.view seat.old) frame.0 }
     requires inside { length bytes.now ≤ 4096 }
     ensures bytes { HasBytes (F.Seat.view seat.new) frame.0 (padded 4096 bytes.now) }
     ensures others { ChangesWords frame.0 (F.Seat.view seat.old) (F.Seat.view seat.new) }
-    ensures keeps { Keeps F.rule store.old seat.old store.new seat.new }
+    ensures keeps { KeepsSeats F.rule store.old seat.old store.new seat.new }
     ensures free { F.alone → F.free store.new ≡ F.free store.old }
     ensures counts { F.alone → (f : ℕ) → F.count store.new f ≡ F.count store.old f }
 {
@@ -134,29 +138,29 @@ pub fn fill_frame<F: FrameAccess>(store: &mut F, seat: &mut F::Seat, frame: Fram
     zero_words(store, seat, frame, filled);
 }
 
-/// Fills the first words of a frame with the bytes that make whole words.
+/// Stores the bytes that make whole words to the start of a frame.
 fn fill_words<F: FrameAccess>(store: &mut F, seat: &mut F::Seat, frame: FrameNo, bytes: &[u8])
-    requires fits { Fits F.rule store.old seat.old }
+    requires fits { IsSeatOf F.rule store.old seat.old }
     requires sole { IsSole (F.Seat.view seat.old) frame.0 }
     requires inside { length bytes.now ≤ 4096 }
     ensures words { HasWords (F.Seat.view seat.new) frame.0 bytes.now (length bytes.now / 8) }
     ensures others { ChangesWords frame.0 (F.Seat.view seat.old) (F.Seat.view seat.new) }
-    ensures keeps { Keeps F.rule store.old seat.old store.new seat.new }
+    ensures keeps { KeepsSeats F.rule store.old seat.old store.new seat.new }
     ensures free { F.alone → F.free store.new ≡ F.free store.old }
     ensures counts { F.alone → (f : ℕ) → F.count store.new f ≡ F.count store.old f }
 {
     store.fill(seat, frame, bytes);
 }
 
-/// Puts the bytes behind the last whole word, if there are any, into a word of their own, with zeros behind them. Answers
-/// how many words then have bytes.
+/// Stores the bytes after the last whole word, if there are any, as one word, padded with zeros. Returns how many words then
+/// have bytes.
 fn fill_part<F: FrameAccess>(
     store: &mut F,
     seat: &mut F::Seat,
     frame: FrameNo,
     bytes: &[u8],
 ) -> usize
-    requires fits { Fits F.rule store.old seat.old }
+    requires fits { IsSeatOf F.rule store.old seat.old }
     requires sole { IsSole (F.Seat.view seat.old) frame.0 }
     requires inside { length bytes.now ≤ 4096 }
     ensures words { HasWords (F.Seat.view seat.old) frame.0 bytes.now (length bytes.now / 8) →
@@ -164,7 +168,7 @@ fn fill_part<F: FrameAccess>(
     ensures all { length bytes.now ≤ 8 * result }
     ensures few { result ≤ 512 }
     ensures others { ChangesWords frame.0 (F.Seat.view seat.old) (F.Seat.view seat.new) }
-    ensures keeps { Keeps F.rule store.old seat.old store.new seat.new }
+    ensures keeps { KeepsSeats F.rule store.old seat.old store.new seat.new }
     ensures free { F.alone → F.free store.new ≡ F.free store.old }
     ensures counts { F.alone → (f : ℕ) → F.count store.new f ≡ F.count store.old f }
 {
@@ -176,22 +180,22 @@ fn fill_part<F: FrameAccess>(
     whole + 1
 }
 
-/// Makes each word of a frame 0 from an index on.
+/// Zeroes the words of a frame from index `first` on.
 fn zero_words<F: FrameAccess>(store: &mut F, seat: &mut F::Seat, frame: FrameNo, first: usize)
-    requires fits { Fits F.rule store.old seat.old }
+    requires fits { IsSeatOf F.rule store.old seat.old }
     requires sole { IsSole (F.Seat.view seat.old) frame.0 }
     requires few { first ≤ 512 }
     ensures words { (bytes : List ℕ) → length bytes ≤ 8 * first → HasWords (F.Seat.view seat.old) frame.0 bytes first →
         HasWords (F.Seat.view seat.new) frame.0 bytes 512 }
     ensures others { ChangesWords frame.0 (F.Seat.view seat.old) (F.Seat.view seat.new) }
-    ensures keeps { Keeps F.rule store.old seat.old store.new seat.new }
+    ensures keeps { KeepsSeats F.rule store.old seat.old store.new seat.new }
     ensures free { F.alone → F.free store.new ≡ F.free store.old }
     ensures counts { F.alone → (f : ℕ) → F.count store.new f ≡ F.count store.old f }
 {
     store.clear(seat, frame, first);
 }
 
-/// The word of eight bytes.
+/// Returns the little-endian word of eight bytes.
 fn whole_word(bytes: &[u8]) -> u64
     requires { length bytes.now ≡ 8 }
     ensures { result ≡ from_le_bytes w64 bytes.now }
@@ -201,7 +205,7 @@ fn whole_word(bytes: &[u8]) -> u64
     u64::from_le_bytes(word)
 }
 
-/// The word of fewer than eight bytes, with zeros behind them.
+/// Returns the little-endian word of fewer than eight bytes, padded with zeros.
 fn last_word(bytes: &[u8]) -> u64
     requires { length bytes.now < 8 }
     ensures { result ≡ number bytes.now 8 }
@@ -211,9 +215,10 @@ fn last_word(bytes: &[u8]) -> u64
     u64::from_le_bytes(word)
 }
 
-/// Copies the 4,096 bytes of a frame into another one.
+/// Copies the 4,096 bytes of the held frame `from`, which the seat must know, to another frame `to`, of which the seat
+/// must be the sole holder. Then the seat knows the bytes of `to`.
 pub fn copy_frame<F: FrameAccess>(store: &mut F, seat: &mut F::Seat, from: FrameNo, to: FrameNo)
-    requires fits { Fits F.rule store.old seat.old }
+    requires fits { IsSeatOf F.rule store.old seat.old }
     requires held { IsHeld (F.Seat.view seat.old) from.0 }
     requires known { (bytes : List ℕ) × HasBytes (F.Seat.view seat.old) from.0 bytes }
     requires sole { IsSole (F.Seat.view seat.old) to.0 }
@@ -221,27 +226,27 @@ pub fn copy_frame<F: FrameAccess>(store: &mut F, seat: &mut F::Seat, from: Frame
     ensures bytes { (bytes : List ℕ) → HasBytes (F.Seat.view seat.old) from.0 bytes →
         HasBytes (F.Seat.view seat.new) to.0 bytes }
     ensures others { ChangesWords to.0 (F.Seat.view seat.old) (F.Seat.view seat.new) }
-    ensures keeps { Keeps F.rule store.old seat.old store.new seat.new }
+    ensures keeps { KeepsSeats F.rule store.old seat.old store.new seat.new }
     ensures free { F.alone → F.free store.new ≡ F.free store.old }
     ensures counts { F.alone → (f : ℕ) → F.count store.new f ≡ F.count store.old f }
 {
     store.copy(seat, from, to);
 }
 
-/// The 4,096 bytes of a frame, into an array, word by word.
+/// Reads the 4,096 bytes of a held frame, which the seat must know, into `bytes`. Store and view stay.
 pub fn read_frame<F: FrameAccess>(
     store: &mut F,
     seat: &mut F::Seat,
     frame: FrameNo,
     bytes: &mut [u8; 4096],
 )
-    requires fits { Fits F.rule store.old seat.old }
+    requires fits { IsSeatOf F.rule store.old seat.old }
     requires held { IsHeld (F.Seat.view seat.old) frame.0 }
     requires known { (page : List ℕ) × HasBytes (F.Seat.view seat.old) frame.0 page }
     ensures bytes { (page : List ℕ) → HasBytes (F.Seat.view seat.old) frame.0 page → bytes.new ≡ page }
     ensures view { F.Seat.view seat.new ≡ F.Seat.view seat.old }
     ensures same { store.new ≡ store.old }
-    ensures keeps { Keeps F.rule store.old seat.old store.new seat.new }
+    ensures keeps { KeepsSeats F.rule store.old seat.old store.new seat.new }
 {
     for place in 0..512 {
         let word = store.load(seat, frame, place).to_le_bytes();

@@ -1,8 +1,9 @@
-// Runs of bytes within a page, wherever they begin and however long they are. Each word is loaded once.
+// `read_run` and `write_run`: functions that read and write a run of bytes within one frame of any frame store, from any
+// offset and of any length up to the frame's end, one word at a time.
 
 ghost use Rattle.std.specs.Prelude.{◌≡◌, ◌+◌, ◌≤◌, ℕ, drop, length, List, take};
 ghost use Rattle.frame_bytes.specs.Contents.{ChangesWords, HasBytes};
-ghost use Rattle.frame_store.specs.Laws.{Fits, Keeps};
+ghost use Rattle.frame_store.specs.Laws.{IsSeatOf, KeepsSeats};
 ghost use Rattle.frame_store.specs.View.{IsHeld, IsSole};
 ghost use Rattle.process_model.specs.Bytes.{write_bytes};
 
@@ -10,7 +11,8 @@ use crate::contents::{overwrite, store_in_word};
 use frame_store::{FrameAccess, FrameSeat};
 use sv39_entry::FrameNo;
 
-/// The bytes of a frame from `offset` on, as many as the slice has.
+/// Reads the bytes of a held frame from byte `offset` on and fills `bytes` with them. The run must end inside the frame,
+/// and the seat must know the frame's bytes. Store and view stay.
 pub fn read_run<F: FrameAccess>(
     store: &mut F,
     seat: &mut F::Seat,
@@ -18,7 +20,7 @@ pub fn read_run<F: FrameAccess>(
     offset: usize,
     bytes: &mut [u8],
 )
-    requires fits { Fits F.rule store.old seat.old }
+    requires fits { IsSeatOf F.rule store.old seat.old }
     requires held { IsHeld (F.Seat.view seat.old) frame.0 }
     requires known { (page : List ℕ) × HasBytes (F.Seat.view seat.old) frame.0 page }
     requires inside { offset + length bytes.old ≤ 4096 }
@@ -26,7 +28,7 @@ pub fn read_run<F: FrameAccess>(
         bytes.new ≡ take (length bytes.old) (drop offset page) }
     ensures view { F.Seat.view seat.new ≡ F.Seat.view seat.old }
     ensures same { store.new ≡ store.old }
-    ensures keeps { Keeps F.rule store.old seat.old store.new seat.new }
+    ensures keeps { KeepsSeats F.rule store.old seat.old store.new seat.new }
 {
     let mut done = 0;
     'words: while done < bytes.len() {
@@ -39,7 +41,8 @@ pub fn read_run<F: FrameAccess>(
     }
 }
 
-/// Puts bytes into a frame from `offset` on. The bytes beside them stay.
+/// Writes `bytes` into a frame from byte `offset` on; the other bytes of the frame stay. The run must end inside the
+/// frame, and the seat must be the sole holder of the frame and know its bytes; then it knows the new ones.
 pub fn write_run<F: FrameAccess>(
     store: &mut F,
     seat: &mut F::Seat,
@@ -47,7 +50,7 @@ pub fn write_run<F: FrameAccess>(
     offset: usize,
     bytes: &[u8],
 )
-    requires fits { Fits F.rule store.old seat.old }
+    requires fits { IsSeatOf F.rule store.old seat.old }
     requires held { IsHeld (F.Seat.view seat.old) frame.0 }
     requires sole { IsSole (F.Seat.view seat.old) frame.0 }
     requires known { (page : List ℕ) × HasBytes (F.Seat.view seat.old) frame.0 page }
@@ -55,7 +58,7 @@ pub fn write_run<F: FrameAccess>(
     ensures bytes { (page : List ℕ) → HasBytes (F.Seat.view seat.old) frame.0 page →
         HasBytes (F.Seat.view seat.new) frame.0 (write_bytes page offset bytes.now) }
     ensures others { ChangesWords frame.0 (F.Seat.view seat.old) (F.Seat.view seat.new) }
-    ensures keeps { Keeps F.rule store.old seat.old store.new seat.new }
+    ensures keeps { KeepsSeats F.rule store.old seat.old store.new seat.new }
     ensures free { F.alone → F.free store.new ≡ F.free store.old }
     ensures counts { F.alone → (f : ℕ) → F.count store.new f ≡ F.count store.old f }
 {

@@ -1,10 +1,11 @@
--- A frame is claimed, and filled word by word.
+-- Lemmas for `filled_frame`: of a frame that was just claimed the seat is the sole holder and knows no word; each store
+-- adds one word to those it knows; after the reservation, the claim and all stores its view is `filled`.
 use Rattle.std.proofs.Common.{◌≡◌, ℕ, zero, suc, ◌+◌, ◌-◌, ◌<◌, ◌==◌, cond, List, [], ◌∷◌, take, length, slice_index, Some, inl, inr, refl, ap, sym, subst, ◌∙◌, arith}
 use Rattle.std.specs.Prelude.{slice_get, IsTrue}
 use Rattle.std.proofs.lemmas.Bool.Decides.{eqb_tells}
 use Rattle.std.specs.FinMap as map
 use Rattle.frame_store.specs.View.{spent, View, Hold, hold_of, IsSole, sole_hold, with_hold, with_word, with_credits, claimed}
-use Rattle.frame_clients.specs.Filled.{words_by_index, get-words_by_index, page_hold, filled}
+use Rattle.frame_clients.specs.FilledFrames.{words_by_index, get-words_by_index, page_hold, filled}
 use Rattle.frame_store.specs.Holds.{get-insert_at, hold_of-with_hold_same, same_answers, with_hold-with_hold, with_hold_back}
 
 -- what a longer front of the words has at each index

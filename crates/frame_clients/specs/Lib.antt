@@ -1,2 +1,2 @@
-pub mod Filled
+pub mod FilledFrames
 pub mod Places

@@ -1,8 +1,10 @@
--- A pool, as contracts see it: how many frames are free beside all credits, and in each place the view of its seat, or nothing.
+-- `Holdings`, a record: a `Pool` as contracts see it, with its free count (frames of count 0 less all credits, the
+-- reserved frames) and, for each place, the view of its seat (what it holds and knows) or None. Predicates: a place has a
+-- seat (`IsSeated`) or is empty (`IsEmpty`), and the invariant of a pool (`PoolRule`).
 use Rattle.std.specs.Prelude.{◌≡◌, ℕ, List, Option, None, Some, refl, slice_get}
 use Rattle.std.specs.Coded.{Coded, code_by, coded×, coded_ℕ, coded_list, coded_option}
 use Rattle.frame_store.specs.View.{View, view_code, IsHeld, empty_view}
-use Rattle.frame_store.specs.Plain.{Bank, BankRule}
+use Rattle.frame_store.specs.Plain.{PlainState, PlainStateRule}
 use Rattle.frame_store.specs.Seats.{present}
 
 pub record Holdings : Type 0 where
@@ -17,19 +19,19 @@ view_or_empty (Some (Some v)) = v
 view_or_empty (Some None) = empty_view 0
 view_or_empty None = empty_view 0
 
--- the view of the seat in a place
+-- the view of the seat in place i, or an empty view if there is none
 abbrev pub view_at : List (Option View) → ℕ → View
 view_at places i = view_or_empty (slice_get places i)
 
--- the place has a seat
+-- place i exists and has a seat
 abbrev pub IsSeated : List (Option View) → ℕ → Type 0
 IsSeated places i = slice_get places i ≡ Some (Some (view_at places i))
 
--- the place is there, and has none
+-- place i exists and is empty
 abbrev pub IsEmpty : List (Option View) → ℕ → Type 0
 IsEmpty places i = slice_get places i ≡ Some None
 
--- what holds of a store and the places: the rule of the store over the seats that are there, each of which holds frame 0
-pub record PoolRule (bank : Bank) (places : List (Option View)) : Type 0 where
-  pub rule : BankRule bank (present places)
+-- the invariant of a pool: the store's invariant holds of the seats that are there, and each of them holds frame 0
+pub record PoolRule (bank : PlainState) (places : List (Option View)) : Type 0 where
+  pub rule : PlainStateRule bank (present places)
   pub anchored : (i : ℕ) (v : View) → slice_get places i ≡ Some (Some v) → IsHeld v 0

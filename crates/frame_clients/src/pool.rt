@@ -1,8 +1,10 @@
-// One store, and many places for seats on it.
+// `Pool`, an example struct: owns one `PlainFrames` store and a list of places, each empty or with a seat (an owner's
+// capability at the store). Calls: `new`, `open` (a seat in an empty place), `fill` (a new frame, with words), `read`
+// (one word), and `close` (joins a seat to that of another place).
 
 ghost use Rattle.std.specs.Prelude.{◌≡◌, ◌≢◌, ◌-◌, ◌<◌, ◌≤◌, ◌↔◌, ◌∷◌, if◌then◌else◌, IfErr, IfOk, is_ok, IsOk, IsSome, None, replicate, slice_set, Some};
-ghost use Rattle.frame_clients.specs.Filled.{filled};
-ghost use Rattle.frame_store.specs.Opened.{opened, opener};
+ghost use Rattle.frame_clients.specs.FilledFrames.{filled};
+ghost use Rattle.frame_store.specs.SeatOpening.{opened, opener};
 ghost use Rattle.frame_clients.specs.Places.{IsEmpty, IsSeated, view_at};
 ghost use Rattle.frame_store.specs.Laws.{IsDry};
 ghost use Rattle.frame_store.specs.View.{IsHeld, joined, known_word, opening_view, read_full, references};
@@ -13,8 +15,8 @@ use std::alloc::{AllocError, Global};
 use std::marker::Model;
 use sv39_entry::FrameNo;
 
-/// Plain frames with places for seats on them. Contracts see how many frames are free beside all credits, and the view of
-/// the seat in each place that has one.
+/// A `PlainFrames` store with places for seats at it. Contracts see its free count (frames of count 0 less all credits) and,
+/// for each place that has a seat, the view of the seat.
 #[derive(Drop)]
 pub struct Pool {
     store: PlainFrames,
@@ -34,7 +36,11 @@ impl Model for Pool {
 }
 
 impl Pool {
-    /// So many frames and places. The opening seat is in place 0, and the others are empty.
+    /// Makes a pool of `frames` frames, 1 to 1,024, and `places` places, at least 1. Place 0 has the first seat, the sole
+    /// holder of frame 0; the other places are empty, and the other frames are free.
+    ///
+    /// # Errors
+    /// `AllocError`: the host is out of memory.
     pub fn new(alloc: Global, frames: usize, places: usize) -> Result<Pool, AllocError>
         requires some { 0 < frames }
         requires few { frames ≤ 1024 }
@@ -51,7 +57,13 @@ impl Pool {
         Ok(Pool { store, seats })
     }
 
-    /// Opens a seat in an empty place. It gets its reference of frame 0 from the seat in the place `from`, which shares it.
+    /// Opens a seat in the empty place `place`, with one reference to frame 0 and the words that the seat in the place
+    /// `from` knows there. There must be a seat in `from`; it shares frame 0 for this, and is then not known to be its
+    /// sole holder. The free count stays.
+    ///
+    /// # Errors
+    /// `SharersFull`: the count of frame 0 was read as 65,535. Only the tallies of the seat in `from` change: they record
+    /// this count.
     pub fn open(&mut self, from: usize, place: usize) -> Result<(), SharersFull>
         requires seated { IsSeated self.old.seats from }
         requires empty { IsEmpty self.old.seats place }
@@ -71,7 +83,13 @@ impl Pool {
         Ok(())
     }
 
-    /// Takes a free frame for the seat in a place, and fills it with the words.
+    /// Allocates a free frame for the seat in `place`, where there must be one, stores the 512 words in it, and returns
+    /// its number. The seat is then the frame's sole holder and knows all its words. Other places stay, and the free
+    /// count falls by 1.
+    ///
+    /// # Errors
+    /// `NoFrame`: exactly when no frame is free. The references, known words and credits of the seat are then unchanged,
+    /// and its tallies record that the free count was read as 0 (`IsDry`); the free count is unchanged.
     pub fn fill(&mut self, place: usize, words: &[u64; 512]) -> Result<FrameNo, NoFrame>
         requires seated { IsSeated self.old.seats place }
         ensures ok { IfOk result (λ f. self.new.seats
@@ -89,7 +107,8 @@ impl Pool {
         filled_frame(&mut self.store, seat, words)
     }
 
-    /// The word at an index of a frame that the seat in a place holds, where that seat knows it.
+    /// Returns the word at `index`, below 512, of a frame that the seat in `place` holds. That seat must know this word. The
+    /// pool is unchanged.
     pub fn read(&mut self, place: usize, frame: FrameNo, index: usize) -> u64
         requires seated { IsSeated self.old.seats place }
         requires held { IsHeld (view_at self.old.seats place) frame.0 }
@@ -105,7 +124,9 @@ impl Pool {
         read_word(&mut self.store, seat, frame, index)
     }
 
-    /// Ends the seat in a place: what it held and knew, the seat in the place `into` holds and knows too.
+    /// Ends the seat in `place`, which is then empty: its references, known words and credits are added to those of the
+    /// seat in `into`, another place, and its tallies are dropped. There must be a seat in each of the two. The free
+    /// count stays.
     pub fn close(&mut self, place: usize, into: usize)
         requires seated { IsSeated self.old.seats place }
         requires into_seated { IsSeated self.old.seats into }

@@ -1,4 +1,7 @@
--- Each step of plain frames keeps their rule.
+-- Lemmas: the invariant of plain frames (`PlainRule`: words, counts and the views of all seats agree) holds of a new
+-- store and is kept as one seat stores a word or a run of words, looks at a count, shares, claims or releases a frame, or
+-- changes only its credits (reserved frames) or tallies. Also: a held frame lies in the store, and a word that a seat
+-- knows is the word there.
 use Rattle.std.proofs.Common.{◌≡◌, ◌⊎◌, ℕ, ◌+◌, ◌-◌, ◌*◌, ◌<◌, ◌≤◌, ◌==◌, true, cond, refl, ap, sym, subst, ◌∙◌, Some, List, [], ◌∷◌, inl, inr, length, slice_index, arith, lit<}
 use Rattle.std.specs.Prelude.{slice_set, count_by, IsTrue, replicate}
 use Rattle.std.proofs.lemmas.List.Folds.{sum_by-replicate}
@@ -13,7 +16,7 @@ use Rattle.std.specs.Ordering.{nat_cmp}
 use Rattle.std.specs.FinMap as map
 use Rattle.frame_store.specs.View.{spent, View, Hold, hold_of, with_hold, without_hold, not_held, references, IsSole, IsHeld, known_word, put_many, with_many, with_word, claimed, shared, looked, released, empty_view, opening_view}
 use Rattle.frame_store.specs.Plain.{total_references, total_credits, FrameAgrees, Agrees, AllAgree, AllSay, PlainRule, is_zero, not_held_agrees}
-use Rattle.frame_store.specs.Many.{put_inside, put_outside}
+use Rattle.frame_store.specs.StoredRuns.{put_inside, put_outside}
 use Rattle.frame_store.specs.Holds.{hold_of-with_hold_same, hold_of-with_hold_other, hold_of-without_hold_same, hold_of-without_hold_other, hold_of-frames, hold_of-empty}
 
 -- an index is among n from the first on, or it is not

@@ -1,9 +1,11 @@
--- Where frames have words that are not 0, as words are written.
+-- Lemmas: the bounds that `Memory` keeps for each frame (`Runs`: all words outside them are 0) are right after words of
+-- one frame and its bounds have changed (`runs_by`), after it was cleared from an index on, and after it was filled; and
+-- if a search finds only zeros between the bounds, all words of its range are 0 (`zeros_by`).
 use Rattle.std.proofs.Common.{◌≡◌, ◌≢◌, ℕ, ◌+◌, ◌-◌, ◌*◌, ◌<◌, ◌≤◌, inl, inr, List, length, slice_index, arith, refl, ◌∙◌}
 use Rattle.std.specs.Prelude.{slice_set, min, max}
 use Rattle.std.proofs.lemmas.Bool.{cases_eq, cases_lt}
 use Rattle.std.proofs.lemmas.List.{get_or-set_same, get_or-set_other, length-set}
-use Rattle.frame_store.specs.Blank.{PutsMany, Runs, ZerosIn}
+use Rattle.frame_store.specs.ZeroWords.{PutsMany, Runs, ZerosIn}
 
 -- one frame's words and indices change
 pub runs_by : (words lows highs words' lows' highs' : List ℕ) (f : ℕ) → Runs words lows highs → length words' ≡ length words → length lows' ≡ length lows → length highs' ≡ length highs
@@ -35,31 +37,6 @@ module _ (words lows highs : List ℕ) (f : ℕ) (r : Runs words lows highs) (ro
 
   pub in_highs : f < length highs
   in_highs = omega (arith, r.same, in_lows)
-
-  -- words from one index on and before another are 0
-  pub runs_low : (first end : ℕ) → first ≤ slice_index lows f → end ≤ 512 → ZerosIn words f first end → Runs words (slice_set lows f (max (slice_index lows f) end)) highs
-  runs_low first end front small zeros =
-      let low : ℕ = slice_index lows f in
-      let here : slice_index (slice_set lows f (max low end)) f ≡ max low end = get_or-set_same lows f (max low end) 0 in_lows in
-      runs_by words lows highs words (slice_set lows f (max low end)) highs f r refl (length-set lows f _) refl (λ g i ne lt. refl)
-      (λ g ne. get_or-set_other lows f g _ 0 ne) (λ g ne. refl)
-      (let most = r.small f in omega (arith, here, most, small))
-      (λ i from lt. elim (cases_lt i low) as (λ _. slice_index words (512 * f + i) ≡ 0) [
-        | inl less ↦ r.before f i from less
-        | inr more ↦ zeros i (omega (arith, front, more)) (omega (arith, more, here, lt))
-      ])
-      (r.behind f)
-
-  pub runs_high : (first end : ℕ) → slice_index highs f ≤ end → ZerosIn words f first end → Runs words lows (slice_set highs f (min (slice_index highs f) first))
-  runs_high first end back zeros =
-      let high : ℕ = slice_index highs f in
-      let here : slice_index (slice_set highs f (min high first)) f ≡ min high first = get_or-set_same highs f (min high first) 0 in_highs in
-      runs_by words lows highs words lows (slice_set highs f (min high first)) f r refl refl (length-set highs f _) (λ g i ne lt. refl)
-      (λ g ne. refl) (λ g ne. get_or-set_other highs f g _ 0 ne) (r.small f) (r.before f)
-      (λ i from lt. elim (cases_lt i high) as (λ _. slice_index words (512 * f + i) ≡ 0) [
-        | inl less ↦ zeros i (omega (arith, from, here, less)) (omega (arith, less, back))
-        | inr more ↦ r.behind f i more lt
-      ])
 
   -- the words that are 0 where none is from one index on that is below another
   pub zeros_by : (first last from to at : ℕ) → from ≡ max first (slice_index lows f) → to ≡ min last (slice_index highs f) → last ≤ 512 → at ≤ last

@@ -1,10 +1,12 @@
--- Frame 0 is shared, and the new reference goes to a new seat.
+-- Lemmas for `opened_seat`: if frame 0 is shared and the new reference split off, the split is allowed, the two views are
+-- `opener` and `opened`, and each of the two seats holds frame 0 if it holds any frame; a refused share leaves frame 0
+-- held.
 use Rattle.std.proofs.Common.{◌≡◌, ℕ, ◌+◌, ◌-◌, ◌<◌, ◌==◌, false, cond, [], ◌∷◌, ap, refl, sym, subst, ◌∙◌, arith}
 use Rattle.std.proofs.lemmas.Bool.{ne_eqb}
 use Rattle.frame_store.specs.View.{View, Hold, hold_of, IsHeld, read_full, with_hold, without_hold, shared, split_off, empty_view, references, CanSplit}
 use Rattle.frame_store.specs.Holds.{hold_of-with_hold_same, hold_of-empty, hold_of-frames, with_hold-with_hold}
 use Rattle.frame_store.specs.Laws.{IsAnchored}
-use Rattle.frame_store.specs.Opened.{opener, opened, opener_held, opened_held}
+use Rattle.frame_store.specs.SeatOpening.{opener, opened, opener_held, opened_held}
 
 -- one more reference
 abbrev one_more : Hold → Hold

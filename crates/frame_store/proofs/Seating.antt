@@ -1,11 +1,13 @@
--- Splitting a seat and joining two keep the rule of plain frames.
+-- Lemmas: the invariant of plain frames (`PlainRule`) is kept as one reference moves from one seat to another
+-- (`rule-move`), as a seat is split in two (`rule-split`), and as two seats are joined (`rule-join`); in general, as the
+-- views of two seats change at one frame and no count changes (`step_two`).
 use Rattle.std.proofs.Common.{◌≡◌, ℕ, ◌+◌, ◌-◌, ◌*◌, ◌<◌, ◌≤◌, Bool, true, false, cond, refl, ap, sym, subst, ◌∙◌, Option, None, Some, List, [], ◌∷◌, ◌⊎◌, inl, inr, slice_index, arith}
 use Rattle.std.specs.Prelude.{IsTrue, ◌||◌}
 use Rattle.std.proofs.lemmas.Bool.Decides.{eqb_tells}
 use Rattle.std.specs.FinMap as map
 use Rattle.frame_store.specs.View.{View, Hold, hold_of, with_hold, without_hold, not_held, references, IsHeld, added, either, joined, moved_from, moved_to, split_off, CanSplit}
 use Rattle.frame_store.specs.Plain.{total_references, FrameAgrees, not_held_agrees, PlainRule}
-use Rattle.frame_store.specs.Joins.{get-union, hold_of-joined}
+use Rattle.frame_store.specs.ViewJoin.{get-union, hold_of-joined}
 use Rattle.frame_store.proofs.PlainSteps.{Changes, changed, own, removed, same_outside}
 
 module _ (words counts : List ℕ) (free : ℕ) where

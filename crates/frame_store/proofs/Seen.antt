@@ -1,7 +1,8 @@
--- What a search of a frame's words tells a seat.
+-- Lemmas: if a result of a search is right of the words in memory (`IsNextIn`, `IsNextBusy`), it is right as far as any
+-- seat knows these words (`IsNextWord`, `IsNextBusyWord`), since a known word is the word there.
 use Rattle.std.proofs.Common.{◌≡◌, ℕ, ◌+◌, ◌*◌, inl, inr, List, ◌∷◌, slice_index, sym, subst, ◌∙◌, ◌⊎◌, Option, None, Some}
-use Rattle.frame_store.specs.Blank.{IdleIn, IsNextBusy, IsNextIn, NamesBlank, ZerosIn}
-use Rattle.frame_store.specs.Next.{AreIdle, AreZeros, IsNextBusyWord, IsNextWord, NamesZeros}
+use Rattle.frame_store.specs.ZeroWords.{IdleIn, IsNextBusy, IsNextIn, NamesBlank, ZerosIn}
+use Rattle.frame_store.specs.NextWord.{AreIdle, AreZeros, IsNextBusyWord, IsNextWord, NamesZeros}
 use Rattle.frame_store.specs.Plain.{PlainRule}
 use Rattle.frame_store.specs.View.{View}
 use Rattle.frame_store.proofs.PlainSteps.{known_there}

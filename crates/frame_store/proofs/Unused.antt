@@ -1,4 +1,6 @@
--- The list of unused frames as counts change.
+-- Lemmas: the list of unused frames (`ListsUnused`: each frame of count 0 exactly once) is right at first, with all
+-- frames but frame 0, and stays right as its last frame is taken, as a frame is appended whose count becomes 0, and as a
+-- count stays above 0. While a frame has a count above 0, the list has fewer than 1,024 frames.
 use Rattle.std.proofs.Common.{◌≡◌, ◌≢◌, ℕ, ◌+◌, ◌*◌, ◌<◌, ◌≤◌, cond, refl, ap, sym, subst, ◌∙◌, List, [], ◌∷◌, ◌++◌, ◌⊎◌, inl, inr, length, slice_index, arith}
 use Rattle.std.specs.Prelude.{slice_set, count_by, replicate}
 use Rattle.std.proofs.lemmas.Bool.{cases_lt, ne_eqb, eq-eqb}
@@ -82,17 +84,6 @@ pub record ListsFrom (us : List ℕ) (frame : ℕ) : Type 0 where
 
 pub none_listed : ListsFrom [] 1
 none_listed = record { long = refl; each = λ i lt. absurd (omega arith) }
-
-pub one_listed : (us : List ℕ) (frame : ℕ) → ListsFrom us frame → ListsFrom (us ++ frame ∷ []) (frame + 1)
-one_listed us frame l =
-    let long : length (us ++ frame ∷ []) ≡ length us + 1 = length-append us (frame ∷ []) in
-    record {
-      long = omega (arith, long, l.long);
-      each = λ i low. elim (at_end us frame i low) as (λ _. slice_index (us ++ frame ∷ []) i ≡ i + 1) [
-        | inl k ↦ get_or_append_left us (frame ∷ []) 0 i k ∙ l.each i k
-        | inr k ↦ rw k (get_or-append_seam us frame [] 0 ∙ sym l.long)
-      ];
-    }
 
 -- all but frame 0
 pub all_listed : (us : List ℕ) (frames : ℕ) → 0 < frames → frames ≤ 1024 → ListsFrom us frames → ListsUnused us (slice_set (replicate frames 0) 0 1)

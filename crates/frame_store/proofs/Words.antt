@@ -1,4 +1,5 @@
--- Words of a part of all words that are written, and put back.
+-- Lemmas about lists of words: the length and the items of a part (`take` of a `drop`); a list in which a part was
+-- overwritten (`put_back`): its length, its words inside the part and outside it; every word of a list of zeros is 0.
 use Rattle.std.proofs.Common.{◌≡◌, ℕ, zero, suc, ◌+◌, ◌<◌, ◌≤◌, inl, inr, ◌++◌, List, length, take, drop, slice_index, ap, refl, replicate, ◌∙◌, arith, length-drop}
 use Rattle.std.proofs.lemmas.Bool.{cases_lt}
 use Rattle.std.proofs.lemmas.Grind.{common_steps}

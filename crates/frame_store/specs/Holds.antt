@@ -1,5 +1,7 @@
--- What a view has of a frame after a step: at the frame that changed, and at every other. These carry all reasoning of the crates
--- above.
+-- Laws of views (what a seat, an owner's capability at a frame store, holds and knows): what a view says of each frame
+-- after the hold of one frame was set (`with_hold`) or removed (`without_hold`), and in an empty or opening view; of two
+-- sets the later counts, and to set what is there changes nothing; lookups in maps of numbers; a release or a split keeps
+-- the number of frames (`size`).
 use Rattle.std.proofs.Common.{◌≡◌, ℕ, ◌-◌, ◌<◌, ◌==◌, List, [], ◌∷◌, Bool, true, false, cond, refl, ap, sym, ◌∙◌, Option, None, Some, IsTrue, inl, inr, subst, arith, lit<}
 use Rattle.std.proofs.lemmas.Bool.{ne_eqb, eq-eqb}
 use Rattle.std.proofs.lemmas.Bool.Decides.{eqb_tells}
@@ -26,7 +28,7 @@ module _ (f : ℕ) (v : View) where
   unfolding hold_of
   hold_of-without_hold_other g apart = ap or_not_held (map.get-remove nat_cmp_total v.frames f g ∙ ap (λ b. cond b None (map.get v.frames g)) (unsigned_tied g f ∙ ne_eqb g f apart))
 
--- the tallies that are no frame
+-- a view's holds depend on its frames alone, not on credits or tallies
 pub hold_of-frames : (v w : View) → v.frames ≡ w.frames → (g : ℕ) → hold_of v g ≡ hold_of w g
 unfolding hold_of
 hold_of-frames v w e g = ap (λ m. or_not_held (map.get m g)) e
@@ -38,11 +40,11 @@ hold_of-empty size g = ap or_not_held (map.get-empty {X = Hold} nat_cmp g)
 pub opening_holds : {size : ℕ} (v : View) → v ≡ opening_view size → IsHeld v 0
 opening_holds {size} v e = subst (λ (k : Hold). 0 < k.references) (sym (ap (λ w. hold_of w 0) e ∙ hold_of-with_hold_same 0 record { references = 1; sole = true; words = map.empty } (empty_view size))) (lit< tt)
 
--- what a map of numbers answers after an insertion
+-- what a lookup in a map of numbers gives after an insertion
 pub get-insert_at : {X : Type 0} (m : map.FinMap nat_cmp X) (k : ℕ) (x : X) (q : ℕ) → map.get (map.insert m k x) q ≡ cond (q == k) (Some x) (map.get m q)
 get-insert_at m k x q = map.get-insert nat_cmp_total m k x q ∙ ap (λ b. cond b (Some x) (map.get m q)) (unsigned_tied q k)
 
--- two maps of numbers that answer alike are equal
+-- two maps of numbers are equal if every lookup gives the same result in both
 pub same_answers : {X : Type 0} (m n : map.FinMap nat_cmp X) → ((q : ℕ) → map.get m q ≡ map.get n q) → m ≡ n
 same_answers m n is = map.same_map nat_cmp_total map.nat_cmp-IsAntisymmetric m n is
 
@@ -50,7 +52,7 @@ either_way : {A : Type 0} (b : Bool) (x y z : A) → cond b x (cond b y z) ≡ c
 either_way true x y z = refl
 either_way false x y z = refl
 
--- the later hold of a frame stands
+-- of two updates of one frame the later one counts
 pub with_hold-with_hold : (f : ℕ) (h k : Hold) (v : View) → with_hold f h (with_hold f k v) ≡ with_hold f h v
 with_hold-with_hold f h k v =
     ap (λ m. record v { frames = m }) (same_answers _ _ (λ q.
@@ -73,7 +75,7 @@ sole_there : (o : Option Hold) → IsTrue (or_not_held o).sole → o ≡ Some (o
 sole_there None sole = absurd (cc)
 sole_there (Some k) sole = refl
 
--- the hold that a view has, put back, changes nothing
+-- to set a held frame's hold to what it is changes nothing
 pub with_hold_back : (f : ℕ) (h : Hold) (v : View) → hold_of v f ≡ h → 0 < h.references → with_hold f h v ≡ v
 unfolding hold_of
 with_hold_back f h v e lt = put_back f h v (held_there _ h e lt)
@@ -82,7 +84,7 @@ pub with_sole_hold_back : (f : ℕ) (v : View) → IsSole v f → with_hold f (h
 unfolding hold_of
 with_sole_hold_back f v sole = put_back f (hold_of v f) v (sole_there _ sole)
 
--- no step on a frame changes how many frames the store has
+-- no release and no move of references changes how many frames the store has
 
 pub size-released : (f : ℕ) (v : View) → (released f v).size ≡ v.size
 size-released f v = elim (references v f == 1) as (λ b. (cond b (without_hold f v) (with_hold f (record (hold_of v f) { references = references v f - 1 }) v)).size ≡ v.size) [ true ↦ refl | false ↦ refl ]

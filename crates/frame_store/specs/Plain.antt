@@ -1,5 +1,7 @@
--- The rule of plain frames: counts are the references of all views, what a view knows is so, a sole frame is one view's alone, and
--- the frames of count 0 are the free number with all credits.
+-- `PlainFrames` as contracts see it: its state (`PlainState`), first state and report; its invariant with the views of
+-- all seats (`PlainRule`: counts are sums of references, what each view, the state of a seat, says is true, and the
+-- frames of count 0 are the free and the reserved ones); the list of unused frames (`ListsUnused`). Laws: seats may be in
+-- any order, held frames exist, an empty seat may be added, calls keep the number of frames.
 use Rattle.std.proofs.Common.{sym, subst, ap, ◌∙◌, arith, inl, inr}
 use Rattle.std.proofs.lemmas.Bool.{cases_lt}
 use Rattle.std.proofs.lemmas.List.{get_or_past}
@@ -8,29 +10,34 @@ use Rattle.process_model.specs.declared.step.Report.{Report}
 use Rattle.std.specs.FinMap as finite
 use Rattle.std.specs.Ordering.{nat_cmp}
 use Rattle.frame_store.specs.Holds.{hold_of-empty}
-use Rattle.frame_store.specs.Laws.{Keeps}
+use Rattle.frame_store.specs.Laws.{KeepsSeats}
 use Rattle.frame_store.specs.View.{View, Hold, empty_view, hold_of, IsHeld, references, not_held}
 
+-- the references of all views to frame f
 abbrev pub total_references : ℕ → List View → ℕ
 total_references f [] = 0
 total_references f (v ∷ vs) = references v f + total_references f vs
 
+-- the credits of all views
 abbrev pub total_credits : List View → ℕ
 total_credits [] = 0
 total_credits (v ∷ vs) = v.credits + total_credits vs
 
--- what plain frames are: all words in a row, 512 a frame, the counts, and how many frames of count 0 there are beside all credits
-pub record Bank : Type 0 where
+-- plain frames as contracts see them: all words in a list, 512 for each frame; the reference count of each frame; and the
+-- free count, the frames of count 0 less the credits of all seats
+pub record PlainState : Type 0 where
   pub words : List ℕ
   pub counts : List ℕ
   pub free : ℕ
 
--- what a seat has of one frame is so
+-- what a seat's hold h says of frame f is true of the words and counts: a word that it knows is the word there; a sole
+-- holder has a reference, and all that are counted; a seat without a reference knows nothing
 pub record FrameAgrees (words counts : List ℕ) (f : ℕ) (h : Hold) : Type 0 where
   pub known : (i w : ℕ) → finite.get h.words i ≡ Some w → (i < 512) × (slice_index words (512 * f + i) ≡ w)
   pub sole : IsTrue h.sole → (0 < h.references) × (h.references ≡ slice_index counts f)
   pub bare : h.references ≡ 0 → h ≡ not_held
 
+-- all that a view says of frames is true
 abbrev pub Agrees : List ℕ → List ℕ → View → Type 0
 Agrees words counts v = (f : ℕ) → FrameAgrees words counts f (hold_of v f)
 
@@ -38,7 +45,7 @@ abbrev pub AllAgree : List ℕ → List ℕ → List View → Type 0
 AllAgree words counts [] = Unit {0}
 AllAgree words counts (v ∷ vs) = Agrees words counts v × AllAgree words counts vs
 
--- each view says how many frames there are
+-- each view has the size n
 abbrev pub AllSay : ℕ → List View → Type 0
 AllSay n [] = Unit {0}
 AllSay n (v ∷ vs) = (v.size ≡ n) × AllSay n vs
@@ -49,6 +56,8 @@ is_zero c = c == 0
 abbrev pub is_shared : ℕ → Bool
 is_shared c = nat_lt 1 c
 
+-- the invariant: at most 1,024 frames, 512 words for each; each count is the sum of all references; the frames of count 0
+-- are as many as the free count and all credits together; each view has the right size, and what it says of frames is true
 pub record PlainRule (words counts : List ℕ) (free : ℕ) (views : List View) : Type 0 where
   pub few : length counts ≤ 1024
   pub sized : length words ≡ 512 * length counts
@@ -57,7 +66,7 @@ pub record PlainRule (words counts : List ℕ) (free : ℕ) (views : List View) 
   pub sizes : AllSay (length counts) views
   pub agrees : AllAgree words counts views
 
--- the list has each frame of count 0 once
+-- of at most 1,024 frames, the list has each one of count 0 exactly once
 pub record ListsUnused (unused counts : List ℕ) : Type 0 where
   pub few : length counts ≤ 1024
   pub inside : (i : ℕ) → i < length unused → slice_index unused i < length counts
@@ -65,11 +74,11 @@ pub record ListsUnused (unused counts : List ℕ) : Type 0 where
   pub once : (i j : ℕ) → i < j → j < length unused → slice_index unused i ≢ slice_index unused j
   pub all : length unused ≡ count_by is_zero counts
 
--- so many frames of zeros, of which frame 0 has one reference
-abbrev pub opening_bank : ℕ → Bank
-opening_bank frames = record { words = replicate (512 * frames) 0; counts = slice_set (replicate frames 0) 0 1; free = frames - 1 }
+-- `frames` frames whose words are 0; frame 0 has one reference and the others are free
+abbrev pub initial_plain_state : ℕ → PlainState
+initial_plain_state frames = record { words = replicate (512 * frames) 0; counts = slice_set (replicate frames 0) 0 1; free = frames - 1 }
 
--- free frames, held ones, those of two references or more, and all references
+-- the report of these counts: how many frames have count 0, count 1 or more, and count 2 or more, and the sum of the counts
 abbrev pub report_of : List ℕ → Report
 report_of counts = record {
   free = count_by is_zero counts;
@@ -78,10 +87,10 @@ report_of counts = record {
   references = sum counts;
 }
 
-abbrev pub BankRule : Bank → List View → Type 0
-BankRule b views = PlainRule b.words b.counts b.free views
+abbrev pub PlainStateRule : PlainState → List View → Type 0
+PlainStateRule b views = PlainRule b.words b.counts b.free views
 
--- the order of the views doesn't matter: one may come to the front, and go back
+-- the order of the views does not matter: one may be moved to the front of the list, and from there to any place
 total_references-move : (f : ℕ) (xs : List View) (a : View) (ys : List View) → total_references f (xs ++ a ∷ ys) ≡ references a f + total_references f (xs ++ ys)
 total_references-move f [] a ys = refl
 total_references-move f (x ∷ xs) a ys = omega (arith, total_references-move f xs a ys)
@@ -127,7 +136,7 @@ module _ (words counts : List ℕ) (free : ℕ) (xs : List View) (a : View) (ys 
     agrees = all_agree-back words counts xs a ys r.agrees;
   }
 
--- a frame that is held is one of those that there are, and has a count
+-- a held frame has a count, and a number below the number of frames
 
 count_there : (counts : List ℕ) (f : ℕ) → 0 < slice_index counts f → f < length counts
 count_there counts f some = elim (cases_lt f (length counts)) as (λ _. f < length counts) [
@@ -135,12 +144,12 @@ count_there counts f some = elim (cases_lt f (length counts)) as (λ _. f < leng
   | inr past ↦ absurd (let none = get_or_past counts f 0 past in omega (arith, some, none))
 ]
 
-pub held_within : (b : Bank) (v : View) (vs : List View) → BankRule b (v ∷ vs) → (v.size ≤ 1024) × ((f : ℕ) → IsHeld v f → f < v.size)
+pub held_within : (b : PlainState) (v : View) (vs : List View) → PlainStateRule b (v ∷ vs) → (v.size ≤ 1024) × ((f : ℕ) → IsHeld v f → f < v.size)
 held_within b v vs r =
     let says = r.sizes.0 in
     (omega (arith, says, r.few), λ f held. let total = r.counted f in let inside = count_there b.counts f (omega (arith, held, total)) in omega (arith, says, inside))
 
--- an empty seat may stand beside the others
+-- the invariant also holds with one more seat, which has nothing
 
 pub not_held_agrees : (words counts : List ℕ) (f : ℕ) → FrameAgrees words counts f not_held
 not_held_agrees words counts f = record {
@@ -159,6 +168,6 @@ rule-empty words counts free v vs r = record {
   agrees = (r.agrees.0, ((λ f. subst (λ k. FrameAgrees words counts f k) (sym (hold_of-empty v.size f)) (not_held_agrees words counts f)), r.agrees.1));
 }
 
--- a call that keeps all seats keeps how many frames there are
-pub kept_size : (b c : Bank) (v w : View) (vs : List View) → Keeps BankRule b v c w → BankRule b (v ∷ vs) → w.size ≡ v.size
+-- a call that keeps all seats does not change how many frames there are
+pub kept_size : (b c : PlainState) (v w : View) (vs : List View) → KeepsSeats PlainStateRule b v c w → PlainStateRule b (v ∷ vs) → w.size ≡ v.size
 kept_size b c v w vs keeps rule = let after = keeps (empty_view v.size ∷ vs) (rule-empty b.words b.counts b.free v vs rule) in after.sizes.0 ∙ sym after.sizes.1.0

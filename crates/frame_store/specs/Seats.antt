@@ -1,40 +1,30 @@
--- A holder of one store and many seats: the seat that steps comes to the front, and goes back.
-use Rattle.std.proofs.Common.{◌≡◌, ℕ, zero, suc, ◌<◌, List, [], ◌∷◌, ◌++◌, Option, None, Some, length, get_or, take, drop, map, refl, ap, sym, subst, ◌∙◌, arith}
+-- Laws for an owner of one frame store and a list of places, each empty or with a seat (an owner's capability). If a
+-- store's seats may be in any order (`ComesFront`, `GoesBack`), its invariant for all seats that are `present` is kept as
+-- the seat of one place makes a call (`place_step`), is split into an empty place (`place_split`), or joins that of
+-- another place (`place_join`). Also laws of writes to a list.
+use Rattle.std.proofs.Common.{◌≡◌, ℕ, zero, suc, ◌<◌, List, [], ◌∷◌, ◌++◌, Option, None, Some, length, take, drop, map, refl, ap, sym, subst, ◌∙◌, arith}
 use Rattle.std.specs.Prelude.{slice_get, slice_set}
-use Rattle.std.proofs.lemmas.List.{set_split, set-get_or, set-set, map-append}
+use Rattle.std.proofs.lemmas.List.{set_split, set-set, map-append}
 use Rattle.std.proofs.lemmas.Option.{same_Some, slice_get_within}
 
--- the seats but for the one at i
-abbrev pub others_than : {Seat : Type 0} → ℕ → List Seat → List Seat
-others_than i seats = take i seats ++ drop (suc i) seats
+-- An owner of one store and a list of places, each with a seat or empty: the store's invariant holds of the seats that are
+-- there.
 
-module _ {Seat : Type 0} (holds : List Seat → Type 0) (seats : List Seat) (i : ℕ) (lt : i < length seats) where
-  pub seat_out : ((xs : List Seat) (a : Seat) (ys : List Seat) → holds (xs ++ a ∷ ys) → holds (a ∷ xs ++ ys))
-      → (s : Seat) → s ≡ get_or seats i s → holds seats → holds (s ∷ others_than i seats)
-  seat_out front s is h =
-      let e : seats ≡ take i seats ++ get_or seats i s ∷ drop (suc i) seats = sym (set-get_or seats i s) ∙ set_split seats i (get_or seats i s) lt in
-      subst (λ a. holds (a ∷ others_than i seats)) (sym is) (front _ _ _ (subst holds e h))
-
-  pub seat_in : ((xs : List Seat) (a : Seat) (ys : List Seat) → holds (a ∷ xs ++ ys) → holds (xs ++ a ∷ ys))
-      → (s : Seat) → holds (s ∷ others_than i seats) → holds (slice_set seats i s)
-  seat_in back s h = subst holds (sym (set_split seats i s lt)) (back _ _ _ h)
-
--- A holder of one store and many places, each with a seat or empty: the rule of the store holds of the seats that are there.
-
--- the seats that are there, in order
+-- the seats of the places that have one, in order
 abbrev pub present : {Seat : Type 0} → List (Option Seat) → List Seat
 present [] = []
 present (None ∷ places) = present places
 present (Some s ∷ places) = s ∷ present places
 
--- the order of the seats does not matter: the two laws of a store, at one state of it
+-- the two laws of a store at one of its states, by which the order of the seats does not matter: a seat may be moved to the
+-- front of the list, and from the front to any place in it
 abbrev pub ComesFront : {Seat : Type 0} → (List Seat → Type 0) → Type 0
 ComesFront {Seat} holds = (xs : List Seat) (a : Seat) (ys : List Seat) → holds (xs ++ a ∷ ys) → holds (a ∷ xs ++ ys)
 
 abbrev pub GoesBack : {Seat : Type 0} → (List Seat → Type 0) → Type 0
 GoesBack {Seat} holds = (xs : List Seat) (a : Seat) (ys : List Seat) → holds (a ∷ xs ++ ys) → holds (xs ++ a ∷ ys)
 
--- the same where one more seat stands in front of all
+-- these two laws, with one more seat k before all others
 module _ {Seat : Type 0} (holds : List Seat → Type 0) (k : Seat) (front : ComesFront holds) (back : GoesBack holds) where
   pub comes_front-behind : ComesFront (λ seats. holds (k ∷ seats))
   comes_front-behind xs a ys h = back (k ∷ []) a (xs ++ ys) (front (k ∷ xs) a ys h)
@@ -42,7 +32,7 @@ module _ {Seat : Type 0} (holds : List Seat → Type 0) (k : Seat) (front : Come
   pub goes_back-behind : GoesBack (λ seats. holds (k ∷ seats))
   goes_back-behind xs a ys h = back (k ∷ xs) a ys (front (k ∷ []) a (xs ++ ys) h)
 
--- the same of larger things, each with a seat of its own
+-- these two laws for a list of owners, each with a seat
 module _ {Seat Owner : Type 0} (holds : List Seat → Type 0) (seat_of : Owner → Seat) where
   pub comes_front-map : ComesFront holds → ComesFront (λ owners. holds (map seat_of owners))
   comes_front-map front xs a ys h =
@@ -52,7 +42,7 @@ module _ {Seat Owner : Type 0} (holds : List Seat → Type 0) (seat_of : Owner �
   goes_back-map back xs a ys h =
       subst holds (sym (map-append seat_of xs (a ∷ ys))) (back (map seat_of xs) (seat_of a) (map seat_of ys) (subst (λ seats. holds (seat_of a ∷ seats)) (map-append seat_of xs ys) h))
 
--- what is read at a place after a write
+-- what is read at a place after a write to it, and after a write to another place
 pub place_set_same : {A : Type 0} (places : List A) (i : ℕ) (a : A) → i < length places → slice_get (slice_set places i a) i ≡ Some a
 place_set_same [] i a lt = absurd (omega arith)
 place_set_same (x ∷ places) zero a lt = refl
@@ -65,13 +55,13 @@ place_set_other (x ∷ places) zero (suc j) a apart = refl
 place_set_other (x ∷ places) (suc i) zero a apart = refl
 place_set_other (x ∷ places) (suc i) (suc j) a apart = place_set_other places i j a (λ e. apart (ap suc e))
 
--- to write what is there changes nothing
+-- to write to a place what it has changes nothing
 pub place_set_back : {A : Type 0} (places : List A) (i : ℕ) (a : A) → slice_get places i ≡ Some a → slice_set places i a ≡ places
 place_set_back [] i a is = refl
 place_set_back (x ∷ places) zero a is = ap (λ y. y ∷ places) (sym (same_Some x a is))
 place_set_back (x ∷ places) (suc i) a is = ap (λ ys. x ∷ ys) (place_set_back places i a is)
 
--- a place with a seat is not an empty one
+-- a place with a seat is not an empty place
 pub places_apart : {Seat : Type 0} (places : List (Option Seat)) (i j : ℕ) (s : Seat) → slice_get places i ≡ Some (Some s) → slice_get places j ≡ Some None → j ≡ i → ⊥
 places_apart places i j s is empty e = let both : ◌≡◌ {A = Option (Option _)} (Some (Some s)) (Some None) = sym is ∙ ap (slice_get places) (sym e) ∙ empty in absurd (cc)
 
@@ -80,43 +70,43 @@ present-append [] after = refl
 present-append (None ∷ before) after = present-append before after
 present-append (Some s ∷ before) after = ap (λ seats. s ∷ seats) (present-append before after)
 
--- the seats before a place, what stands in it, and the seats after it
+-- the seats after a write to place i: those before it, the one written if there is one, and those after it
 present-set : {Seat : Type 0} (places : List (Option Seat)) (i : ℕ) (o : Option Seat) → i < length places
     → present (slice_set places i o) ≡ present (take i places) ++ present (o ∷ drop (suc i) places)
 present-set places i o lt = ap present (set_split places i o lt) ∙ present-append (take i places) (o ∷ drop (suc i) places)
 
 module _ {Seat : Type 0} (holds : List Seat → Type 0) (places : List (Option Seat)) (i : ℕ) where
-  -- the seat of a place comes to the front, and leaves the place empty
+  -- the seat of place i is moved to the front of the list, and the place is empty then
   pub place_out : ComesFront holds → (s : Seat) → slice_get places i ≡ Some (Some s) → holds (present places) → holds (s ∷ present (slice_set places i None))
   place_out front s is h =
       let lt : i < length places = slice_get_within places i (Some s) is in
       let whole : present places ≡ present (take i places) ++ s ∷ present (drop (suc i) places) = ap present (sym (place_set_back places i (Some s) is)) ∙ present-set places i (Some s) lt in
       subst (λ seats. holds (s ∷ seats)) (sym (present-set places i None lt)) (front _ _ _ (subst holds whole h))
 
-  -- the seat at the front goes to an empty place
+  -- the seat at the front of the list is moved to the empty place i
   pub place_in : GoesBack holds → (s : Seat) → slice_get places i ≡ Some None → holds (s ∷ present places) → holds (present (slice_set places i (Some s)))
   place_in back s is h =
       let lt : i < length places = slice_get_within places i None is in
       let whole : present places ≡ present (take i places) ++ present (drop (suc i) places) = ap present (sym (place_set_back places i None is)) ∙ present-set places i None lt in
       subst holds (sym (present-set places i (Some s) lt)) (back _ _ _ (subst (λ seats. holds (s ∷ seats)) whole h))
 
--- the seats of two places come to the front
+-- the seats of places i and j are moved to the front of the list
 module _ {Seat : Type 0} (holds : List Seat → Type 0) (front : ComesFront holds) (back : GoesBack holds) (places : List (Option Seat)) (i j : ℕ) where
   pub places_out : (s t : Seat) → slice_get places i ≡ Some (Some s) → slice_get places j ≡ Some (Some t) → (j ≡ i → ⊥)
       → holds (present places) → holds (t ∷ s ∷ present (slice_set (slice_set places i None) j None))
   places_out s t is also apart h =
       front (s ∷ []) t _ (place_out (λ seats. holds (s ∷ seats)) (slice_set places i None) j (comes_front-behind holds s front back) t (place_set_other places i j None apart ∙ also) (place_out holds places i front s is h))
 
--- A step of the store: `holds` becomes `after`.
+-- A call of the store: `holds` is its invariant before the call, `after` its invariant afterwards.
 module _ {Seat : Type 0} (holds after : List Seat → Type 0) (front : ComesFront holds) (back : GoesBack after) (places : List (Option Seat)) (i : ℕ) where
-  -- the seat of a place steps, in place
+  -- the seat of place i makes a call, and stays in its place
   pub place_step : (s t : Seat) → slice_get places i ≡ Some (Some s) → ((others : List Seat) → holds (s ∷ others) → after (t ∷ others))
       → holds (present places) → after (present (slice_set places i (Some t)))
   place_step s t is step h =
       subst (λ ps. after (present ps)) (set-set places i None (Some t))
       (place_in after (slice_set places i None) i back t (place_set_same places i None (slice_get_within places i (Some s) is)) (step _ (place_out holds places i front s is h)))
 
-  -- the seat of a place steps, and a new one goes to the empty place j
+  -- the seat of place i makes a call that returns a new seat, for the empty place j
   pub place_split : ComesFront after → (j : ℕ) (s t u : Seat) → slice_get places i ≡ Some (Some s) → slice_get places j ≡ Some None
       → ((others : List Seat) → holds (s ∷ others) → after (t ∷ u ∷ others))
       → holds (present places) → after (present (slice_set (slice_set places i (Some t)) j (Some u)))
@@ -126,7 +116,7 @@ module _ {Seat : Type 0} (holds after : List Seat → Type 0) (front : ComesFron
       (place_in (λ seats. after (u ∷ seats)) (slice_set places i None) i (goes_back-behind after u onward back) t (place_set_same places i None (slice_get_within places i (Some s) is))
       (onward (t ∷ []) u _ (step _ (place_out holds places i front s is h)))))
 
-  -- the seat of a place leaves it and ends, and the one of the place j takes it in
+  -- the seat of place i ends, joined to the seat of place j, and place i is empty then
   pub place_join : GoesBack holds → (j : ℕ) (s t u : Seat) → slice_get places i ≡ Some (Some s) → slice_get places j ≡ Some (Some t) → (j ≡ i → ⊥)
       → ((others : List Seat) → holds (t ∷ s ∷ others) → after (u ∷ others))
       → holds (present places) → after (present (slice_set (slice_set places i None) j (Some u)))

@@ -1,4 +1,5 @@
--- Tallies one after another.
+-- Laws of `Tallies` (what a seat, an owner's capability at a frame store, has claimed and read since it was made): the
+-- claims of calls in sequence add up (`spent`), and so do claims with the reference counts that were read (`taken`).
 use Rattle.std.proofs.Common.{◌≡◌, ℕ, ◌+◌, List, [], ◌++◌, ap, sym, subst, ◌∙◌, arith, append_assoc}
 use Rattle.std.proofs.lemmas.List.{append-nil}
 use Rattle.frame_store.specs.View.{Tallies, spent, taken}

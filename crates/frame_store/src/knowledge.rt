@@ -1,4 +1,5 @@
-// What a seat knows, as a value of no bytes that contracts alone read.
+// `Knowledge`, a struct that takes no bytes at run time and carries a seat's view (ghost state: what an owner's seat at a
+// frame store holds and knows) for contracts; and `knowing`, which makes one with a view that the caller's proof chooses.
 
 ghost use Rattle.std.specs.Borrow.{ftrue};
 ghost use Rattle.std.specs.Prelude.{◌≡◌};
@@ -6,7 +7,7 @@ ghost use Rattle.frame_store.specs.View.{View, view_code};
 
 use std::marker::{Model, PhantomData};
 
-/// A view, and nothing at run time.
+/// Holds a view for contracts to read. It takes no bytes at run time.
 #[derive(Drop)]
 pub struct Knowledge {
     of: PhantomData<()>,
@@ -17,7 +18,8 @@ impl Model for Knowledge {
     ghost also_owns = { λ _. ftrue };
 }
 
-/// The caller's proof picks the view, from what it passes.
+/// Returns a `Knowledge` with the view `next`, which the caller's proof chooses. `from` has the values that the choice
+/// depends on; the code does not read it.
 pub fn knowing<T>(from: &T) -> Knowledge
     ghost next: { View }
     ensures { result.view ≡ next }

@@ -1,9 +1,12 @@
-//! Frames of physical memory, with counts and credits: what each crate above asks of a store of them, and the store of
-//! one thread.
+//! Physical memory as frames of 4,096 bytes with reference counts: the traits by which every crate above uses frames
+//! (`FrameSeat`, `FrameAccess`, `FrameSupply`), their two errors, the frame store of a single thread (`PlainFrames`), and
+//! `opened_seat`, which makes a seat for another owner. In xv6: `kalloc.c`, with the reference counts of the
+//! copy-on-write lab (MIT 6.1810).
 //!
-//! A process holds its frames through a *seat*. What a seat knows, its *view*, is data that contracts alone read; each
-//! call says how it changes the view of its own seat, and keeps the rule that ties the views of all seats to the store.
-//! So the crates above are proved once, from their own seat's view, over any store.
+//! An owner, such as a process, uses its frames through a *seat*. What the seat knows, its *view* (`specs/View.antt`), is
+//! ghost state that contracts alone read. Each call says how it changes the view of its own seat, and keeps the store's
+//! invariant (`rule`), which ties the views of all seats to the store. So the crates above are proved once, from their own
+//! seat's view, for any store.
 #![tactic(auto)]
 
 mod access;

@@ -1,8 +1,10 @@
-// The words of frames, and where each frame has words that are not 0.
+// `Memory`, a crate-internal struct: the 512 words of each frame of `PlainFrames`, and for each frame two bounds between
+// which its nonzero words lie, so that searches skip zeros. Functions: read a word, search for the next nonzero word
+// (`next`) or for one that names no frame of zeros (`next_busy`), store, clear, fill and copy.
 
 ghost use Rattle.std.specs.Int.{from_le_bytes, w64};
 ghost use Rattle.std.specs.Prelude.{◌≡◌, ◌+◌, ◌-◌, ◌*◌, ◌/◌, ◌<◌, ◌≤◌, ◌≢◌, false, IfOk, length, drop, replicate, slice_index, slice_set, take, true};
-ghost use Rattle.frame_store.specs.Blank.{IsIdle, IsNextBusy, IsNextIn, NamesBlank, PutsMany, ZerosIn};
+ghost use Rattle.frame_store.specs.ZeroWords.{IsIdle, IsNextBusy, IsNextIn, NamesBlank, PutsMany, ZerosIn};
 
 use crate::bytes::put_words;
 use crate::zeros::zeros_in_front;
@@ -10,12 +12,12 @@ use std::alloc::{AllocError, Global};
 use std::marker::Model;
 use sv39_entry::{Entry, FrameNo};
 
-/// How many words a frame has.
+/// Words per frame.
 const WORDS: usize = 512;
 
-/// The words of all frames, frame by frame; contracts see the list. For each frame, two indices bound its words that are not 0:
-/// a store moves them apart, and a search that reads zeros moves them together. So once a search has found a frame to be all
-/// zeros, no search reads its words until another word is stored.
+/// The words of all frames, frame by frame; contracts see this list. For each frame, two indices bound its nonzero words: a
+/// store moves them apart, and a search that reads zeros moves them together. So once a search has found a whole frame to be
+/// zeros, no search reads its words until the frame is written again.
 #[derive(Drop)]
 pub(crate) struct Memory {
     words: Vec<u64>,
@@ -27,7 +29,7 @@ pub(crate) struct Memory {
 
 impl Model for Memory {
     ghost use Rattle.std.specs.Prelude.{List, ℕ};
-    ghost use Rattle.frame_store.specs.Blank.{Runs};
+    ghost use Rattle.frame_store.specs.ZeroWords.{Runs};
 
     ghost Value = { List ℕ };
 
@@ -37,7 +39,10 @@ impl Model for Memory {
 }
 
 impl Memory {
-    /// `frames` frames of zeros.
+    /// Returns `frames` frames, at most 1,024, whose words are all 0.
+    ///
+    /// # Errors
+    /// `AllocError`: the host is out of memory.
     pub(crate) fn new(alloc: Global, frames: usize) -> Result<Memory, AllocError>
         requires few { frames ≤ 1024 }
         ensures zeros { IfOk result (λ m. m ≡ replicate (512 * frames) 0) }
@@ -48,7 +53,7 @@ impl Memory {
         Ok(Memory { words, lows, highs })
     }
 
-    /// The word at an index of a frame.
+    /// Returns the word at `index` of a frame.
     pub(crate) fn word(&self, frame: FrameNo, index: usize) -> u64
         requires room { 512 * frame.0 + 512 ≤ length self.now }
         requires in_page { index < 512 }
@@ -57,7 +62,8 @@ impl Memory {
         self.words[WORDS * frame.0 as usize + index]
     }
 
-    /// The first word of a frame that is not 0, at or after `first` and before `last`, and its index.
+    /// Returns the index and value of the first word of a frame that is not 0, from index `first` on and before `last`;
+    /// `None` if there is none. The words stay; the bounds may tighten.
     pub(crate) fn next(&mut self, frame: FrameNo, first: usize, last: usize) -> Option<(usize, u64)>
         requires room { 512 * frame.0 + 512 ≤ length self.old }
         requires low { first ≤ last }
@@ -80,7 +86,8 @@ impl Memory {
         Some((at, self.words[base + at]))
     }
 
-    /// Moves an index of a frame whose words from `first` on and before `end` were found to be 0.
+    /// Tightens a bound of a frame, if possible, by its words from index `first` on and before `end`, which are 0. The words
+    /// stay.
     fn learn(&mut self, frame: FrameNo, first: usize, end: usize)
         requires room { 512 * frame.0 + 512 ≤ length self.old }
         requires low { first ≤ end }
@@ -99,8 +106,8 @@ impl Memory {
         self.highs[at] = self.highs[at].min(first as u16);
     }
 
-    /// The first word of a frame, at or after `first` and before `last`, that is not 0 and names no frame known to be all zeros,
-    /// and its index.
+    /// Returns the index and value of the first word of a frame, from index `first` on and before `last`, that is not 0 and
+    /// names no frame known to be all zeros; `None` if there is none.
     pub(crate) fn next_busy(
         &self,
         frame: FrameNo,
@@ -123,7 +130,7 @@ impl Memory {
         None
     }
 
-    /// Whether a word is 0 or names a frame known to be all zeros.
+    /// Returns whether a word is 0 or names a frame known to be all zeros.
     fn is_idle(&self, word: u64) -> bool
         ensures idle { result ≡ true → IsIdle self.now word }
         ensures busy { result ≡ false → word ≢ 0 }
@@ -131,7 +138,7 @@ impl Memory {
         word == 0 || self.names_blank(word)
     }
 
-    /// Whether a word names a frame known to be all zeros, by the page number that it has as a page table entry.
+    /// Returns whether a word, as a page table entry, has the page number of a frame known to be all zeros.
     fn names_blank(&self, word: u64) -> bool
         ensures { result ≡ true → NamesBlank self.now word }
     {
@@ -141,7 +148,7 @@ impl Memory {
         }
     }
 
-    /// Whether a frame is known to be all zeros.
+    /// Returns whether the bounds show that a frame is all zeros.
     fn is_blank(&self, frame: FrameNo) -> bool
         ensures { result ≡ true → ZerosIn self.now frame.0 0 512 }
     {
@@ -149,7 +156,7 @@ impl Memory {
         at < self.lows.len() && self.highs[at] <= self.lows[at]
     }
 
-    /// Puts a word at an index of a frame.
+    /// Stores a word at `index` of a frame.
     pub(crate) fn put(&mut self, frame: FrameNo, index: usize, value: u64)
         requires room { 512 * frame.0 + 512 ≤ length self.old }
         requires in_page { index < 512 }
@@ -164,7 +171,7 @@ impl Memory {
         self.highs[frame.0 as usize] = self.highs[frame.0 as usize].max(place + 1);
     }
 
-    /// Makes the words of a frame 0 from an index on.
+    /// Zeroes the words of a frame from index `first` on.
     pub(crate) fn clear(&mut self, frame: FrameNo, first: usize)
         requires room { 512 * frame.0 + 512 ≤ length self.old }
         requires in_page { first ≤ 512 }
@@ -179,7 +186,7 @@ impl Memory {
         self.lows[frame.0 as usize] = WORDS as u16;
     }
 
-    /// Fills the first words of a frame, each with eight bytes, the lowest first. Bytes after the last whole word are left out.
+    /// Stores bytes, as little-endian words, to the start of a frame. Bytes after the last whole word are left out.
     pub(crate) fn fill(&mut self, frame: FrameNo, bytes: &[u8])
         requires room { 512 * frame.0 + 512 ≤ length self.old }
         requires in_page { length bytes.now ≤ 4096 }
@@ -191,7 +198,7 @@ impl Memory {
         self.highs[frame.0 as usize] = self.highs[frame.0 as usize].max((bytes.len() / 8) as u16);
     }
 
-    /// Copies all words of a frame into another one.
+    /// Copies all words of the frame `from` to the frame `to`.
     pub(crate) fn copy(&mut self, from: FrameNo, to: FrameNo)
         requires from { 512 * from.0 + 512 ≤ length self.old }
         requires to { 512 * to.0 + 512 ≤ length self.old }

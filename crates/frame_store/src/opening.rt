@@ -1,8 +1,9 @@
-// Seats opened, over any store.
+// `opened_seat`, a function over any frame store: makes a seat (an owner's capability at the store) for another owner,
+// with one reference to frame 0, by a share and a split of the caller's seat; it may fail with `SharersFull`.
 
 ghost use Rattle.std.specs.Prelude.{◌≡◌, ◌+◌, ◌<◌, ◌↔◌, ◌∷◌, ℕ, if◌then◌else◌, IfErr, IfOk, is_ok, IsOk, List};
-ghost use Rattle.frame_store.specs.Opened.{opened, opener};
-ghost use Rattle.frame_store.specs.Laws.{CountBecomes, Fits, Keeps};
+ghost use Rattle.frame_store.specs.SeatOpening.{opened, opener};
+ghost use Rattle.frame_store.specs.Laws.{CountBecomes, IsSeatOf, KeepsSeats};
 ghost use Rattle.frame_store.specs.View.{IsHeld, read_full};
 
 use crate::access::{FrameAccess, FrameSeat};
@@ -10,12 +11,20 @@ use crate::refusal::SharersFull;
 use crate::supply::FrameSupply;
 use sv39_entry::FrameNo;
 
-/// A new seat that holds frame 0, and nothing else: it may claim frames of its own at once.
+/// Returns a new seat for another owner. It has one reference to frame 0, knows the words that `seat` knows there, and
+/// has nothing else; so it may reserve and claim frames at once. `seat` must hold frame 0; it keeps its references, and
+/// its flag as sole holder of frame 0 is cleared. If nobody else changes the store (`alone`), the count of frame 0 rises
+/// by 1 and the free count stays.
+///
+/// # Errors
+/// `SharersFull`: the count of frame 0 was read as 65,535, which the tallies of `seat` record; nothing else of its view
+/// changes. If nobody else changes the store (`alone`): exactly when that count is not below 65,535, and then no count
+/// changes.
 pub fn opened_seat<F: FrameSupply>(
     store: &mut F,
     seat: &mut F::Seat,
 ) -> Result<F::Seat, SharersFull>
-    requires fits { Fits F.rule store.old seat.old }
+    requires fits { IsSeatOf F.rule store.old seat.old }
     requires anchored { IsHeld (F.Seat.view seat.old) 0 }
     ensures opener { IfOk result (λ _. F.Seat.view seat.new ≡ opener (F.Seat.view seat.old)) }
     ensures opened { IfOk result (λ s. F.Seat.view s ≡ opened (F.Seat.view seat.old)) }
@@ -24,7 +33,7 @@ pub fn opened_seat<F: FrameSupply>(
     ensures exact { F.alone → IsOk result ↔ (F.count store.old 0 < 65535) }
     ensures keeps { IfOk result (λ s. (others : List F.Seat) →
         F.rule store.old (seat.old ∷ others) → F.rule store.new (seat.new ∷ s ∷ others)) }
-    ensures keeps_full { IfErr result (λ _. Keeps F.rule store.old seat.old store.new seat.new) }
+    ensures keeps_full { IfErr result (λ _. KeepsSeats F.rule store.old seat.old store.new seat.new) }
     ensures free { F.alone → F.free store.new ≡ F.free store.old }
     ensures counts { F.alone → CountBecomes (F.count store.old) (F.count store.new) 0
         (F.count store.old 0 + (if is_ok result then 1 else 0)) }

@@ -1,7 +1,9 @@
-// Frames of one thread.
+// Two structs. `PlainFrames`: the frame store of a single thread (words, reference counts, free count, list of unused
+// frames), with `new`, `report` (how many frames are free, held, shared) and the calls of `FrameAccess` and
+// `FrameSupply`. `PlainSeat`: a seat (an owner's capability) at it.
 
 ghost use Rattle.std.specs.Prelude.{◌≡◌, ◌<◌, ◌≤◌, ◌∷◌, [], count_by, IfOk, length, slice_index, sum};
-ghost use Rattle.frame_store.specs.Plain.{BankRule, held_within, is_shared, is_zero, opening_bank, report_of, to_back, to_front};
+ghost use Rattle.frame_store.specs.Plain.{PlainStateRule, held_within, is_shared, is_zero, initial_plain_state, report_of, to_back, to_front};
 ghost use Rattle.frame_store.specs.View.{opening_view};
 
 use crate::access::{FrameAccess, FrameSeat};
@@ -15,31 +17,32 @@ use std::alloc::{AllocError, Global};
 use std::marker::Model;
 use sv39_entry::FrameNo;
 
-/// As many references as a frame can have.
+/// The most references that a frame can have.
 const MOST_REFERENCES: u16 = u16::MAX;
 
-/// The frames of a machine of one thread, which contracts see as their words, their counts and the free number: how many
-/// frames of count 0 there are beside all credits.
+/// The frame store of a machine with a single thread, of at most 1,024 frames. Contracts see the frames' words, their
+/// reference counts, and the free count: the frames of count 0 less the credits of all seats.
 #[derive(Drop)]
 pub struct PlainFrames {
     words: Memory,
     counts: Vec<u16>,
     free: usize,
-    /// The frames of count 0.
+    /// The frames of count 0, each once, reserved ones included.
     unused: ArrayVec<u16, 1024>,
 }
 
 impl Model for PlainFrames {
-    ghost use Rattle.frame_store.specs.Plain.{Bank, ListsUnused};
+    ghost use Rattle.frame_store.specs.Plain.{PlainState, ListsUnused};
 
-    ghost Value = { Bank };
+    ghost Value = { PlainState };
 
     ghost view = { λ s. record { words = s.words; counts = s.counts.items; free = s.free } };
 
     ghost invariant = { λ s. ListsUnused s.unused.items s.counts.items };
 }
 
-/// A seat at plain frames. It takes no memory for what it knows.
+/// A seat at `PlainFrames`: one owner's capability, with its references to frames and its credits. Its view is ghost
+/// state, so it takes no bytes at run time.
 #[derive(Drop)]
 pub struct PlainSeat {
     known: Knowledge,
@@ -60,13 +63,17 @@ impl FrameSeat for PlainSeat {
 }
 
 impl PlainFrames {
-    /// So many frames, all of whose words are 0, and a seat that is the sole holder of frame 0. All else is free.
+    /// Makes `frames` frames, 1 to 1,024, whose words are all 0, and returns them with the first seat: the sole holder of
+    /// frame 0, with one reference, which knows no word. The other frames are free.
+    ///
+    /// # Errors
+    /// `AllocError`: the host is out of memory.
     pub fn new(alloc: Global, frames: usize) -> Result<(PlainFrames, PlainSeat), AllocError>
         requires some { 0 < frames }
         requires few { frames ≤ 1024 }
         ensures seat { IfOk result (λ r. r.1 ≡ opening_view frames) }
-        ensures store { IfOk result (λ r. r.0 ≡ opening_bank frames) }
-        ensures rule { IfOk result (λ r. BankRule r.0 (r.1 ∷ [])) }
+        ensures store { IfOk result (λ r. r.0 ≡ initial_plain_state frames) }
+        ensures rule { IfOk result (λ r. PlainStateRule r.0 (r.1 ∷ [])) }
     {
         let words = Memory::new(alloc, frames)?;
         let mut counts = Vec::from_elem(alloc, 0, frames)?;
@@ -87,7 +94,8 @@ impl PlainFrames {
         Ok((store, seat))
     }
 
-    /// The accounts of the frames.
+    /// Returns how many frames have count 0 (`free`, reserved ones included), count 1 or more (`held`) and count 2 or more
+    /// (`shared`), and the sum of all counts (`references`).
     pub fn report(&self) -> Report
         ensures { result ≡ report_of self.now.counts }
     {
@@ -102,21 +110,21 @@ impl PlainFrames {
     }
 }
 
-/// How many frames have count 0.
+/// Returns how many frames have count 0.
 fn unreferenced(counts: &[u16]) -> usize
     ensures { result ≡ count_by is_zero counts.now }
 {
     counts.iter().filter(|count| **count == 0).count()
 }
 
-/// How many frames have count 2 or more.
+/// Returns how many frames have count 2 or more.
 fn shared(counts: &[u16]) -> usize
     ensures { result ≡ count_by is_shared counts.now }
 {
     counts.iter().filter(|count| **count > 1).count()
 }
 
-/// The sum of all counts.
+/// Returns the sum of all counts.
 fn total(counts: &[u16]) -> usize
     requires few { length counts.now ≤ 1024 }
     ensures { result ≡ sum counts.now }
@@ -131,7 +139,7 @@ fn total(counts: &[u16]) -> usize
 impl FrameAccess for PlainFrames {
     type Seat = PlainSeat;
 
-    ghost rule = { BankRule };
+    ghost rule = { PlainStateRule };
 
     ghost alone = { Unit {0} };
 

@@ -1,11 +1,12 @@
-// Words that are 0.
+// `zeros_in_front`, a crate-internal function: returns how many words at the start of a slice are 0, which is the index
+// of its first nonzero word, if there is one. Tests eight words at a time.
 
 ghost use Rattle.std.specs.Prelude.{◌≡◌, ◌≢◌, ◌↔◌, ◌<◌, ◌≤◌, ℕ, length, slice_index, true};
 
-/// How many words are looked at together.
+/// Words per group that is tested at once.
 const GROUP: usize = 8;
 
-/// The first index of a word that is not 0, or how many words there are. Words of 0 are passed over by groups.
+/// Returns the index of the first word that is not 0, or the number of words if all are 0.
 pub(crate) fn zeros_in_front(words: &[u64]) -> usize
     ensures within { result ≤ length words.now }
     ensures zeros { (i : ℕ) → i < result → slice_index words.now i ≡ 0 }
@@ -24,7 +25,7 @@ pub(crate) fn zeros_in_front(words: &[u64]) -> usize
     at
 }
 
-/// Whether each word of a group is 0.
+/// Returns whether all eight words of a group are 0.
 fn are_zeros(group: &[u64]) -> bool
     requires { length group.now ≡ 8 }
     ensures { (result ≡ true) ↔ ((i : ℕ) → i < 8 → slice_index group.now i ≡ 0) }

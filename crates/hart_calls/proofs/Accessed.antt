@@ -1,4 +1,6 @@
--- An access that is made at once, or is served first, is what the model tells of it.
+-- Lemmas: a user access made at once, made after the service of its fault, or ended by a rule has the model's reply,
+-- process, page reads and shortage (what it needed and did not get); when it is granted, the most frames that its page can
+-- need, and that a width other than 1, 2, 4 or 8 is refused.
 use Rattle.std.proofs.Common.{◌≡◌, ◌⊎◌, ap₂, ℕ, zero, suc, ◌+◌, ◌<◌, ◌≤◌, ◌%◌, ◌==◌, Bool, true, false, ◌&&◌, Option, None, Some, Result, Ok, Err, List, [], ◌++◌, length, refl, ap, sym, subst, ◌∙◌, arith, inl, inr}
 use Rattle.std.specs.Prelude.{◌↔◌, if◌then◌else◌, is_some, option_to_list}
 use Rattle.std.proofs.lemmas.Bool.{and_parts, eq-eqb}
@@ -7,27 +9,27 @@ use Rattle.address_space.specs.Accesses.{IsGranted}
 use Rattle.address_space.specs.Agreement.{Body, IsSpace}
 use Rattle.address_space.specs.Steps.{RunsDry}
 use Rattle.fault_rules.specs.Allowed.{denied_otherwise}
-use Rattle.fault_rules.specs.Resides.{is_counted, is_shared_by, moves_for}
+use Rattle.fault_rules.specs.MadeResident.{is_counted, is_shared_by, moves_for}
 use Rattle.fault_rules.specs.Serves.{IsEnd, served_moves}
 use Rattle.fault_rules.specs.declared.service.Served.TheVariants as served
 use Rattle.frame_store.specs.View.{View}
-use Rattle.hart_calls.specs.Asks.{IsAccess, IsAccessCall}
-use Rattle.hart_calls.specs.Comes.{address_of, at_stop, by_reply, Comes, IsPlain}
-use Rattle.hart_calls.specs.Lacks.{AccessDry, TellsLack}
-use Rattle.hart_calls.specs.Tells.{access_if, access_reads, accessed, reads_of, refuses, rule_for, served_access, service, Told, told, writes_of}
+use Rattle.hart_calls.specs.CallKinds.{IsAccess, IsAccessCall}
+use Rattle.hart_calls.specs.CallResults.{address_of, at_stop, by_reply, IsModelResult, IsPlain}
+use Rattle.hart_calls.specs.ShortageReports.{AccessDry, ReportsShortage}
+use Rattle.hart_calls.specs.CallOutcomes.{access_if, access_reads, accessed, reads_of, refused_call, rule_for, served_access, service_result, CallOutcome, call_outcome, writes_of}
 use Rattle.hart_calls.proofs.Alike.{made_alike}
-use Rattle.hart_calls.specs.Wants.{begun, frames_at, MayLack, MayTake, nothing, round, Want}
-use Rattle.process_model.specs.Around.{is_shared_by as shared_by, is_shared_page, need_at, Progress, reached, resident_at, unless_dry, unless_resident}
+use Rattle.hart_calls.specs.Shortages.{initial_progress, frames_at, CanBeShort, CanTakeFrames, nothing, call_environment, Shortage}
+use Rattle.process_model.specs.Environment.{is_shared_by as shared_by, is_shared_page, need_at, Progress, resident_at_address, resident_at, unless_dry, unless_resident}
 use Rattle.process_model.specs.Bytes.{is_width}
 use Rattle.process_model.specs.Files.{File}
-use Rattle.process_model.specs.Frames.{part_need, resident_need, resident_need_of, unless_through}
+use Rattle.process_model.specs.Frames.{take_over_need, resident_need, resident_need_of, unless_through}
 use Rattle.process_model.specs.PageMap.{get}
 use Rattle.process_model.specs.PageMoves.{PageMove}
 use Rattle.process_model.specs.Process.{Page, Process, regions}
-use Rattle.process_model.specs.ReachedPages.{made_settles, resident_again}
+use Rattle.process_model.specs.ResidenceLaws.{made_settles, resident_again}
 use Rattle.process_model.specs.Regions.{copy_rule, first_rule, Region}
-use Rattle.process_model.specs.Residence.{access_answer, goes_through, is_resident, is_resident_page, made_resident, parts_from, region_on}
-use Rattle.process_model.specs.Service.{Asked, if_resident, if_settled, unless_denied, user_access}
+use Rattle.process_model.specs.Residence.{access_answer, can_complete, is_resident, is_resident_page, made_resident, parts_from, region_on}
+use Rattle.process_model.specs.Service.{AccessRequest, if_resident, if_settled, unless_denied, user_access}
 use Rattle.process_model.specs.declared.call.Call.{Call}
 use Rattle.process_model.specs.declared.call.Call.TheVariants as call
 use Rattle.process_model.specs.declared.step.Refusal.{Refusal}
@@ -44,38 +46,38 @@ use Rattle.table_walk.specs.Tables.{Tables}
 
 -- what a call that is an access says
 
-record OfAccess (c : Call) (a : Asked) : Type 0 where
-  tells : (files : List File) (want : Want) (p : Process) → told files want 0 p c ≡ accessed files want p a
-  reads : (files : List File) (want : Want) (p : Process) → reads_of files want p c ≡ access_reads files p a (is_width a.width)
-  writes : (files : List File) (want : Want) (p : Process) → writes_of files want p c ≡ []
+record OfAccess (c : Call) (a : AccessRequest) : Type 0 where
+  tells : (files : List File) (shortage : Shortage) (p : Process) → call_outcome files shortage 0 p c ≡ accessed files shortage p a
+  reads : (files : List File) (shortage : Shortage) (p : Process) → reads_of files shortage p c ≡ access_reads files p a (is_width a.width)
+  writes : (files : List File) (shortage : Shortage) (p : Process) → writes_of files shortage p c ≡ []
   address : address_of c ≡ a.address
-  lacks : (files : List File) (p : Process) → MayTake files p a.access (page_of a.address) → MayLack files p c (frames_at (page_of a.address))
-  dry : (files : List File) (p : Process) (v w : View) → AccessDry v w p a.access (page_of a.address) → TellsLack v w files p c (frames_at (page_of a.address))
-  calm : (files : List File) (p : Process) (v w : View) → TellsLack v w files p c nothing
+  lacks : (files : List File) (p : Process) → CanTakeFrames files p a.access (page_of a.address) → CanBeShort files p c (frames_at (page_of a.address))
+  dry : (files : List File) (p : Process) (v w : View) → AccessDry v w p a.access (page_of a.address) → ReportsShortage v w files p c (frames_at (page_of a.address))
+  calm : (files : List File) (p : Process) (v w : View) → ReportsShortage v w files p c nothing
 
-of_access : (c : Call) (a : Asked) → IsAccess c a → OfAccess c a
-of_access (call.Fetch address) a is = subst (λ (z : Asked). OfAccess (call.Fetch address) z) (sym is) record {
-  tells = λ files want p. refl;
-  reads = λ files want p. refl;
-  writes = λ files want p. refl;
+of_access : (c : Call) (a : AccessRequest) → IsAccess c a → OfAccess c a
+of_access (call.Fetch address) a is = subst (λ (z : AccessRequest). OfAccess (call.Fetch address) z) (sym is) record {
+  tells = λ files shortage p. refl;
+  reads = λ files shortage p. refl;
+  writes = λ files shortage p. refl;
   address = refl;
   lacks = λ files p may. (refl, may);
   dry = λ files p v w d. d;
   calm = λ files p v w. tt;
 }
-of_access (call.Load address width) a is = subst (λ (z : Asked). OfAccess (call.Load address width) z) (sym is) record {
-  tells = λ files want p. refl;
-  reads = λ files want p. refl;
-  writes = λ files want p. refl;
+of_access (call.Load address width) a is = subst (λ (z : AccessRequest). OfAccess (call.Load address width) z) (sym is) record {
+  tells = λ files shortage p. refl;
+  reads = λ files shortage p. refl;
+  writes = λ files shortage p. refl;
   address = refl;
   lacks = λ files p may. (refl, may);
   dry = λ files p v w d. d;
   calm = λ files p v w. tt;
 }
-of_access (call.Store address width value) a is = subst (λ (z : Asked). OfAccess (call.Store address width value) z) (sym is) record {
-  tells = λ files want p. refl;
-  reads = λ files want p. refl;
-  writes = λ files want p. refl;
+of_access (call.Store address width value) a is = subst (λ (z : AccessRequest). OfAccess (call.Store address width value) z) (sym is) record {
+  tells = λ files shortage p. refl;
+  reads = λ files shortage p. refl;
+  writes = λ files shortage p. refl;
   address = refl;
   lacks = λ files p may. (refl, may);
   dry = λ files p v w d. d;
@@ -92,7 +94,7 @@ of_access (call.Fork list) a is = absurd is
 
 -- a page that is resident is settled
 
-resident_there : (kind : Access) (r : Option Region) (o : Option Page) → is_resident_page kind r o ≡ true → (s : Page) × (o ≡ Some s) × (goes_through kind r s ≡ true)
+resident_there : (kind : Access) (r : Option Region) (o : Option Page) → is_resident_page kind r o ≡ true → (s : Page) × (o ≡ Some s) × (can_complete kind r s ≡ true)
 resident_there kind r None is = absurd (cc)
 resident_there kind r (Some s) is = (s, refl, is)
 
@@ -102,7 +104,7 @@ answers_so access.Load s offset width value address = refl
 answers_so access.Store s offset width value address = refl
 
 -- an access that no rule denies, and whose page is resident, wants nothing
-settled_answers : (p : Process) (a : Asked) (address : ℕ) (o : Option Rule) → o ≡ None → is_resident p a.access (page_of a.address) ≡ true → by_reply address (unless_denied p a o).reply ≡ nothing
+settled_answers : (p : Process) (a : AccessRequest) (address : ℕ) (o : Option Rule) → o ≡ None → is_resident p a.access (page_of a.address) ≡ true → by_reply address (unless_denied p a o).reply ≡ nothing
 settled_answers p a address (Some r) none resident = absurd (cc)
 settled_answers p a address None none resident =
     let there = resident_there a.access (region_on p (page_of a.address)) (get p.settled (page_of a.address)) resident in
@@ -115,7 +117,7 @@ plain_so access.Fetch s offset width value = tt
 plain_so access.Load s offset width value = tt
 plain_so access.Store s offset width value = tt
 
-settled_plain : (p : Process) (a : Asked) (o : Option Rule) → o ≡ None → is_resident p a.access (page_of a.address) ≡ true → IsPlain (unless_denied p a o).reply
+settled_plain : (p : Process) (a : AccessRequest) (o : Option Rule) → o ≡ None → is_resident p a.access (page_of a.address) ≡ true → IsPlain (unless_denied p a o).reply
 settled_plain p a (Some r) none resident = absurd (cc)
 settled_plain p a None none resident =
     let there = resident_there a.access (region_on p (page_of a.address)) (get p.settled (page_of a.address)) resident in
@@ -142,41 +144,41 @@ otherwise rule.NoWrite address not = refl
 otherwise rule.NoExec address not = refl
 otherwise rule.NoFrame address not = absurd (not refl)
 
-module _ (files : List File) (p : Process) (a : Asked) where
+module _ (files : List File) (p : Process) (a : AccessRequest) where
   abbrev page : ℕ
   page = page_of a.address
 
-  abbrev want : Want
-  want = frames_at page
+  abbrev shortage : Shortage
+  shortage = frames_at page
 
   abbrev pub q : Process
-  q = made_resident files 0 (is_shared_page (round files nothing) p page) p a.access page
+  q = made_resident files 0 (is_shared_page (call_environment files nothing) p page) p a.access page
 
   -- ---- how the model serves it
 
-  at_once : rule_for p a ≡ None → is_resident p a.access page ≡ true → service files nothing p a ≡ Ok (begun p)
-  at_once none resident = ap (λ (o : Option Rule). reached (round files nothing) a.access a.address (begun p) o) none ∙ resident_again (round files nothing) a.access page (begun p) resident
+  at_once : rule_for p a ≡ None → is_resident p a.access page ≡ true → service_result files nothing p a ≡ Ok (initial_progress p)
+  at_once none resident = ap (λ (o : Option Rule). resident_at_address (call_environment files nothing) a.access a.address (initial_progress p) o) none ∙ resident_again (call_environment files nothing) a.access page (initial_progress p) resident
 
-  serves : rule_for p a ≡ None → is_resident p a.access page ≡ false → service files nothing p a ≡ Ok (record { process = q; fresh = 0 + 1; taken = 0 + need_at (round files nothing) a.access page p })
+  serves : rule_for p a ≡ None → is_resident p a.access page ≡ false → service_result files nothing p a ≡ Ok (record { process = q; fresh = 0 + 1; taken = 0 + need_at (call_environment files nothing) a.access page p })
   unfolding resident_at
-  serves none not = ap (λ (o : Option Rule). reached (round files nothing) a.access a.address (begun p) o) none ∙ ap (λ (b : Bool). unless_resident (round files nothing) a.access page (begun p) b) not
+  serves none not = ap (λ (o : Option Rule). resident_at_address (call_environment files nothing) a.access a.address (initial_progress p) o) none ∙ ap (λ (b : Bool). unless_resident (call_environment files nothing) a.access page (initial_progress p) b) not
 
-  runs_dry : rule_for p a ≡ None → is_resident p a.access page ≡ false → service files want p a ≡ Err rule.NoFrame
+  runs_dry : rule_for p a ≡ None → is_resident p a.access page ≡ false → service_result files shortage p a ≡ Err rule.NoFrame
   unfolding resident_at
   runs_dry none not =
-      let need = need_at (round files want) a.access page p in
-      ap (λ (o : Option Rule). reached (round files want) a.access a.address (begun p) o) none
-      ∙ ap (λ (b : Bool). unless_resident (round files want) a.access page (begun p) b) not
-      ∙ ap (λ (b : Bool). unless_dry (round files want) a.access page (begun p) need b) (eq-eqb page page refl)
+      let need = need_at (call_environment files shortage) a.access page p in
+      ap (λ (o : Option Rule). resident_at_address (call_environment files shortage) a.access a.address (initial_progress p) o) none
+      ∙ ap (λ (b : Bool). unless_resident (call_environment files shortage) a.access page (initial_progress p) b) not
+      ∙ ap (λ (b : Bool). unless_dry (call_environment files shortage) a.access page (initial_progress p) need b) (eq-eqb page page refl)
 
-  denied : (w : Want) (r : Rule) → rule_for p a ≡ Some r → service files w p a ≡ Err r
-  denied w r is = ap (λ (o : Option Rule). reached (round files w) a.access a.address (begun p) o) is
+  denied : (w : Shortage) (r : Rule) → rule_for p a ≡ Some r → service_result files w p a ≡ Err r
+  denied w r is = ap (λ (o : Option Rule). resident_at_address (call_environment files w) a.access a.address (initial_progress p) o) is
 
   -- ---- what it may take at most
 
-  most_parts : (shared : Bool) (s : Page) → part_need (parts_from shared s) ≤ part_need (parts_from true s)
+  most_parts : (shared : Bool) (s : Page) → take_over_need (parts_from shared s) ≤ take_over_need (parts_from true s)
   most_parts true s = omega arith
-  most_parts false s = elim s.fork_mark as (λ b. part_need (b && false) ≤ part_need (b && true)) [ true ↦ omega arith | false ↦ omega arith ]
+  most_parts false s = elim s.fork_mark as (λ b. take_over_need (b && false) ≤ take_over_need (b && true)) [ true ↦ omega arith | false ↦ omega arith ]
 
   most_through : (shared b : Bool) (s : Page) → unless_through (parts_from shared s) b ≤ unless_through (parts_from true s) b
   most_through shared true s = omega arith
@@ -184,13 +186,13 @@ module _ (files : List File) (p : Process) (a : Asked) where
 
   most_of : (shared : Bool) (o : Option Page) → resident_need_of shared p a.access page o ≤ resident_need_of true p a.access page o
   most_of shared None = omega arith
-  most_of shared (Some s) = most_through shared (goes_through a.access (region_on p page) s) s
+  most_of shared (Some s) = most_through shared (can_complete a.access (region_on p page) s) s
 
-  most_at : (shared : Bool) (o : Option Page) → get p.settled page ≡ o → resident_need_of shared p a.access page o ≤ need_at (round files nothing) a.access page p
+  most_at : (shared : Bool) (o : Option Page) → get p.settled page ≡ o → resident_need_of shared p a.access page o ≤ need_at (call_environment files nothing) a.access page p
   most_at shared None there = subst (λ (z : Option Page). resident_need_of shared p a.access page None ≤ resident_need_of (shared_by (λ copy. true) z) p a.access page z) (sym there) (omega arith)
   most_at shared (Some s) there = subst (λ (z : Option Page). resident_need_of shared p a.access page (Some s) ≤ resident_need_of (shared_by (λ copy. true) z) p a.access page z) (sym there) (most_of shared (Some s))
 
-  pub most : (shared : Bool) → resident_need shared p a.access page ≤ need_at (round files nothing) a.access page p
+  pub most : (shared : Bool) → resident_need shared p a.access page ≤ need_at (call_environment files nothing) a.access page p
   most shared = most_at shared (get p.settled page) refl
 
   -- ---- how it is found out
@@ -228,60 +230,60 @@ module _ (files : List File) (p : Process) (a : Asked) where
 
   -- the process is in memory as the model tells, whatever count was read
   pub as_told : (y : Body) (u : Tables) (shared : Bool) → IsSpace y u (made_resident files 0 shared p a.access page) → IsSpace y u q
-  as_told y u shared space = made_alike y u files 0 shared (is_shared_page (round files nothing) p page) p a.access page space
+  as_told y u shared space = made_alike y u files 0 shared (is_shared_page (call_environment files nothing) p page) p a.access page space
 
   -- a width that there is not
-  pub bad_width : (c : Call) → IsAccess c a → is_width a.width ≡ false → (x y : Body) (Became : List PageMove → Type 0) (Refused : List PageMove → ℕ → Refusal → Type 0) (Kept : ℕ → Type 0) → ((u : Tables) × IsSpace y u p) → Became [] → Comes x y files Became Refused Kept p c nothing (reply.Refused refusal.BadArgument)
-  bad_width c is narrow x y Became Refused Kept space moves =
+  pub bad_width : (c : Call) → IsAccess c a → is_width a.width ≡ false → (x y : Body) (Became : List PageMove → Type 0) (Refused : List PageMove → ℕ → Refusal → Type 0) (Promised : ℕ → Type 0) → ((u : Tables) × IsSpace y u p) → Became [] → IsModelResult x y files Became Refused Promised p c nothing (reply.Refused refusal.BadArgument)
+  bad_width c is narrow x y Became Refused Promised space moves =
       let of = of_access c a is in
-      let tells : told files nothing 0 p c ≡ refuses files p refusal.BadArgument = of.tells files nothing p ∙ ap (λ (b : Bool). access_if files nothing p a b) narrow in
+      let tells : call_outcome files nothing 0 p c ≡ refused_call files p refusal.BadArgument = of.tells files nothing p ∙ ap (λ (b : Bool). access_if files nothing p a b) narrow in
       let none : reads_of files nothing p c ++ writes_of files nothing p c ≡ [] =
       ap (λ (ms : List PageMove). ms ++ writes_of files nothing p c) (of.reads files nothing p ∙ ap (λ (b : Bool). access_reads files p a b) narrow) ∙ of.writes files nothing p in
       record {
         possible = tt;
-        reply = sym (ap (λ (z : Told). z.reply) tells);
-        space = (space.0, subst (λ (z : Process). IsSpace y space.0 z) (sym (ap (λ (z : Told). z.process) tells)) space.1);
+        reply = sym (ap (λ (z : CallOutcome). z.reply) tells);
+        space = (space.0, subst (λ (z : Process). IsSpace y space.0 z) (sym (ap (λ (z : CallOutcome). z.process) tells)) space.1);
         moves = subst Became (sym none) moves;
         lack = of.calm files p x.view y.view;
-        asked = tt;
+        request = tt;
       }
 
-  module _ (c : Call) (is : IsAccess c a) (wide : is_width a.width ≡ true) (x y : Body) (Became : List PageMove → Type 0) (Refused : List PageMove → ℕ → Refusal → Type 0) (Kept : ℕ → Type 0) where
+  module _ (c : Call) (is : IsAccess c a) (wide : is_width a.width ≡ true) (x y : Body) (Became : List PageMove → Type 0) (Refused : List PageMove → ℕ → Refusal → Type 0) (Promised : ℕ → Type 0) where
     abbrev of : OfAccess c a
     of = of_access c a is
 
-    tells_by : (w : Want) (r : Result Progress Rule) → service files w p a ≡ r → told files w 0 p c ≡ served_access files p a r
+    tells_by : (w : Shortage) (r : Result Progress Rule) → service_result files w p a ≡ r → call_outcome files w 0 p c ≡ served_access files p a r
     tells_by w r by = of.tells files w p ∙ ap (λ (b : Bool). access_if files w p a b) wide ∙ ap (λ (z : Result Progress Rule). served_access files p a z) by
 
-    reads_by : (w : Want) → reads_of files w p c ++ writes_of files w p c ≡ served_moves files p page (rule_for p a)
+    reads_by : (w : Shortage) → reads_of files w p c ++ writes_of files w p c ≡ served_moves files p page (rule_for p a)
     reads_by w =
         ap (λ (ms : List PageMove). ms ++ writes_of files w p c) (of.reads files w p ∙ ap (λ (b : Bool). access_reads files p a b) wide)
         ∙ ap (λ (ms : List PageMove). served_moves files p page (rule_for p a) ++ ms) (of.writes files w p)
         ∙ append-nil (served_moves files p page (rule_for p a))
 
     -- it goes on, by the process that its page is resident for
-    goes_on : (g : Progress) → service files nothing p a ≡ Ok g → rule_for g.process a ≡ None → is_resident g.process a.access page ≡ true → (r : Reply) → r ≡ (user_access g.process a).reply
-        → ((u : Tables) × IsSpace y u (user_access g.process a).process) → Became (served_moves files p page (rule_for p a)) → IsPlain r × Comes x y files Became Refused Kept p c (by_reply (address_of c) r) r
+    goes_on : (g : Progress) → service_result files nothing p a ≡ Ok g → rule_for g.process a ≡ None → is_resident g.process a.access page ≡ true → (r : Reply) → r ≡ (user_access g.process a).reply
+        → ((u : Tables) × IsSpace y u (user_access g.process a).process) → Became (served_moves files p page (rule_for p a)) → IsPlain r × IsModelResult x y files Became Refused Promised p c (by_reply (address_of c) r) r
     goes_on g by none resident r told_r space moves =
         let calm : by_reply (address_of c) r ≡ nothing = ap (by_reply (address_of c)) told_r ∙ settled_answers g.process a (address_of c) (rule_for g.process a) none resident in
         let tells = tells_by nothing (Ok g) by in (
           subst IsPlain (sym told_r) (settled_plain g.process a (rule_for g.process a) none resident),
-          subst (λ (w : Want). Comes x y files Became Refused Kept p c w r) (sym calm) record {
+          subst (λ (w : Shortage). IsModelResult x y files Became Refused Promised p c w r) (sym calm) record {
             possible = tt;
-            reply = told_r ∙ sym (ap (λ (z : Told). z.reply) tells);
-            space = (space.0, subst (λ (z : Process). IsSpace y space.0 z) (sym (ap (λ (z : Told). z.process) tells)) space.1);
+            reply = told_r ∙ sym (ap (λ (z : CallOutcome). z.reply) tells);
+            space = (space.0, subst (λ (z : Process). IsSpace y space.0 z) (sym (ap (λ (z : CallOutcome). z.process) tells)) space.1);
             moves = subst Became (sym (reads_by nothing)) moves;
             lack = of.calm files p x.view y.view;
-            asked = tt;
+            request = tt;
           },
         )
 
     -- made at once
     pub made_at_once : rule_for p a ≡ None → is_resident p a.access page ≡ true → (r : Reply) → r ≡ (user_access p a).reply → ((u : Tables) × IsSpace y u (user_access p a).process) → Became []
-        → IsPlain r × Comes x y files Became Refused Kept p c (by_reply (address_of c) r) r
+        → IsPlain r × IsModelResult x y files Became Refused Promised p c (by_reply (address_of c) r) r
     made_at_once none resident r told_r space moves =
         let there = resident_there a.access (region_on p page) (get p.settled page) resident in
-        goes_on (begun p) (at_once none resident) none resident r told_r space (subst Became (sym (ap (served_moves files p page) none ∙ reads_none there.0 there.1)) moves)
+        goes_on (initial_progress p) (at_once none resident) none resident r told_r space (subst Became (sym (ap (served_moves files p page) none ∙ reads_none there.0 there.1)) moves)
       where
         reads_none : (s : Page) → get p.settled page ≡ Some s → served_moves files p page None ≡ []
         reads_none s at = ap (λ (o : Option Page). moves_for files (region_on p page) o page) at ∙ no_moves (region_on p page)
@@ -292,57 +294,57 @@ module _ (files : List File) (p : Process) (a : Asked) where
 
     -- made after its page was made resident
     pub made_later : rule_for p a ≡ None → is_resident p a.access page ≡ false → (r : Reply) → r ≡ (user_access q a).reply → ((u : Tables) × IsSpace y u (user_access q a).process) → Became (served_moves files p page (rule_for p a))
-        → IsPlain r × Comes x y files Became Refused Kept p c (by_reply (address_of c) r) r
+        → IsPlain r × IsModelResult x y files Became Refused Promised p c (by_reply (address_of c) r) r
     made_later none not r told_r space moves =
-        let change = made_settles files 0 (is_shared_page (round files nothing) p page) a.access page p in
-        goes_on (record { process = q; fresh = 0 + 1; taken = 0 + need_at (round files nothing) a.access page p }) (serves none not)
+        let change = made_settles files 0 (is_shared_page (call_environment files nothing) p page) a.access page p in
+        goes_on (record { process = q; fresh = 0 + 1; taken = 0 + need_at (call_environment files nothing) a.access page p }) (serves none not)
         (ap₂ (λ (z : Scheme) (rs : List Region). first_rule z rs a.access a.address a.width) change.scheme change.regions ∙ none) change.resident r told_r space moves
 
     -- it ends the process by a rule of its regions
-    pub ends_denied : (r : Rule) → rule_for p a ≡ Some r → ((u : Tables) × IsSpace y u p) → Became (served_moves files p page (rule_for p a)) → Comes x y files Became Refused Kept p c (at_stop r (address_of c)) (reply.Ended r)
+    pub ends_denied : (r : Rule) → rule_for p a ≡ Some r → ((u : Tables) × IsSpace y u p) → Became (served_moves files p page (rule_for p a)) → IsModelResult x y files Became Refused Promised p c (at_stop r (address_of c)) (reply.Ended r)
     ends_denied r by space moves =
         let not : (r ≡ rule.NoFrame → ⊥) = λ same. denied_otherwise p.scheme (regions p) a.access a.address a.width (by ∙ ap Some same) in
         let tells = tells_by nothing (Err r) (denied nothing r by) in
-        subst (λ (w : Want). Comes x y files Became Refused Kept p c w (reply.Ended r)) (sym (otherwise r (address_of c) not)) record {
+        subst (λ (w : Shortage). IsModelResult x y files Became Refused Promised p c w (reply.Ended r)) (sym (otherwise r (address_of c) not)) record {
           possible = tt;
-          reply = sym (ap (λ (z : Told). z.reply) tells);
-          space = (space.0, subst (λ (z : Process). IsSpace y space.0 z) (sym (ap (λ (z : Told). z.process) tells)) space.1);
+          reply = sym (ap (λ (z : CallOutcome). z.reply) tells);
+          space = (space.0, subst (λ (z : Process). IsSpace y space.0 z) (sym (ap (λ (z : CallOutcome). z.process) tells)) space.1);
           moves = subst Became (sym (reads_by nothing)) moves;
           lack = of.calm files p x.view y.view;
-          asked = tt;
+          request = tt;
         }
 
     -- it ends the process for want of frames
     ends_dry : rule_for p a ≡ None → is_resident p a.access page ≡ false → (count : Option ℕ) → is_some count ≡ is_counted a.access (get p.settled page) → RunsDry x.view y.view (resident_need (is_shared_by count) p a.access page) (option_to_list count) → ((u : Tables) × IsSpace y u p) → Became (served_moves files p page (rule_for p a))
-        → Comes x y files Became Refused Kept p c (at_stop rule.NoFrame (address_of c)) (reply.Ended rule.NoFrame)
+        → IsModelResult x y files Became Refused Promised p c (at_stop rule.NoFrame (address_of c)) (reply.Ended rule.NoFrame)
     ends_dry none not count was_counted dry space moves =
-        let at : at_stop rule.NoFrame (address_of c) ≡ want = ap (λ (z : ℕ). frames_at (page_of z)) of.address in
-        let tells = tells_by want (Err rule.NoFrame) (runs_dry none not) in
+        let at : at_stop rule.NoFrame (address_of c) ≡ shortage = ap (λ (z : ℕ). frames_at (page_of z)) of.address in
+        let tells = tells_by shortage (Err rule.NoFrame) (runs_dry none not) in
         let short = dry.short in
         let at_most = most (is_shared_by count) in
         let claims = dry.claims in
-        subst (λ (w : Want). Comes x y files Became Refused Kept p c w (reply.Ended rule.NoFrame)) (sym at) record {
+        subst (λ (w : Shortage). IsModelResult x y files Became Refused Promised p c w (reply.Ended rule.NoFrame)) (sym at) record {
           possible = of.lacks files p (omega (arith, short, at_most));
-          reply = sym (ap (λ (z : Told). z.reply) tells);
-          space = (space.0, subst (λ (z : Process). IsSpace y space.0 z) (sym (ap (λ (z : Told). z.process) tells)) space.1);
-          moves = subst Became (sym (reads_by want)) moves;
+          reply = sym (ap (λ (z : CallOutcome). z.reply) tells);
+          space = (space.0, subst (λ (z : Process). IsSpace y space.0 z) (sym (ap (λ (z : CallOutcome). z.process) tells)) space.1);
+          moves = subst Became (sym (reads_by shortage)) moves;
           lack = of.dry files p x.view y.view (count, was_counted, record { zeros = dry.zeros; short = dry.short; claims = omega (arith, claims); looks = dry.looks });
-          asked = tt;
+          request = tt;
         }
 
     -- it ends the process for want of frames, by that rule
     pub ends_dry_by : (r : Rule) → r ≡ rule.NoFrame → rule_for p a ≡ None → is_resident p a.access page ≡ false → (count : Option ℕ) → is_some count ≡ is_counted a.access (get p.settled page) → RunsDry x.view y.view (resident_need (is_shared_by count) p a.access page) (option_to_list count) → ((u : Tables) × IsSpace y u p) → Became (served_moves files p page (rule_for p a))
-        → Comes x y files Became Refused Kept p c (at_stop r (address_of c)) (reply.Ended r)
-    ends_dry_by r by none not count was_counted dry space moves = subst (λ (k : Rule). Comes x y files Became Refused Kept p c (at_stop k (address_of c)) (reply.Ended k)) (sym by) (ends_dry none not count was_counted dry space moves)
+        → IsModelResult x y files Became Refused Promised p c (at_stop r (address_of c)) (reply.Ended r)
+    ends_dry_by r by none not count was_counted dry space moves = subst (λ (k : Rule). IsModelResult x y files Became Refused Promised p c (at_stop k (address_of c)) (reply.Ended k)) (sym by) (ends_dry none not count was_counted dry space moves)
 
 -- a page of a file that its service would read is one that the call reads
-pub access_reads_file : (files : List File) (p : Process) (c : Call) (a : Asked) → IsAccess c a → is_width a.width ≡ true → 0 < length (served_moves files p (page_of a.address) (rule_for p a)) → 0 < length (reads_of files nothing p c)
+pub access_reads_file : (files : List File) (p : Process) (c : Call) (a : AccessRequest) → IsAccess c a → is_width a.width ≡ true → 0 < length (served_moves files p (page_of a.address) (rule_for p a)) → 0 < length (reads_of files nothing p c)
 access_reads_file files p c a is wide some =
     let of = of_access c a is in
     subst (λ (ms : List PageMove). 0 < length ms) (sym (of.reads files nothing p ∙ ap (λ (b : Bool). access_reads files p a b) wide)) some
 
 -- what is asked of memory is an access
-pub is_access_call : (c : Call) (a : Asked) → IsAccess c a → IsAccessCall c
+pub is_access_call : (c : Call) (a : AccessRequest) → IsAccess c a → IsAccessCall c
 is_access_call (call.Fetch address) a is = tt
 is_access_call (call.Load address width) a is = tt
 is_access_call (call.Store address width value) a is = tt

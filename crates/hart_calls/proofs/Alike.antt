@@ -1,14 +1,16 @@
--- Copy numbers mean nothing to a space: it is a process with another copy number of a page too.
+-- Lemmas: copy numbers (each identifies one copy of a page in memory) mean nothing to a space: it agrees with the process if
+-- a page has another copy number too (`another_copy`), and so whether or not another process has a page that is made
+-- resident (`made_alike`).
 use Rattle.std.proofs.Common.{◌≡◌, ℕ, Bool, true, false, Option, None, Some, List, refl, ap, sym, subst, ◌∙◌, inl, inr}
 use Rattle.std.proofs.lemmas.Bool.{cases_eq}
 use Rattle.std.proofs.lemmas.Option.{same_Some}
 use Rattle.address_space.specs.Agreement.{Body, IsShown, IsSpace}
 use Rattle.process_model.specs.Files.{File}
-use Rattle.process_model.specs.Inserted.{inserted_here, inserted_other}
-use Rattle.process_model.specs.OrderKept.{same_order}
+use Rattle.process_model.specs.Insertion.{inserted_here, inserted_other}
+use Rattle.process_model.specs.OrderLaws.{same_order}
 use Rattle.process_model.specs.PageMap.{get}
 use Rattle.process_model.specs.Process.{Page, Process}
-use Rattle.process_model.specs.Residence.{goes_through, made_resident, made_resident_from, region_on, taken_over, taken_over_unless, with_page}
+use Rattle.process_model.specs.Residence.{can_complete, made_resident, made_resident_from, region_on, taken_over, taken_over_unless, with_page}
 use Rattle.sv39_entry.specs.declared.access.Access.{Access}
 use Rattle.table_walk.specs.Tables.{Tables}
 
@@ -87,7 +89,7 @@ module _ (x : Body) (t : Tables) (files : List File) (fresh : ℕ) (c d : Bool) 
 
   from_alike : (o : Option Page) → IsSpace x t (made_resident_from files fresh c p access page o) → IsSpace x t (made_resident_from files fresh d p access page o)
   from_alike None space = space
-  from_alike (Some s) space = taken_alike s (goes_through access (region_on p page) s) space
+  from_alike (Some s) space = taken_alike s (can_complete access (region_on p page) s) space
 
   pub made_alike : IsSpace x t (made_resident files fresh c p access page) → IsSpace x t (made_resident files fresh d p access page)
   made_alike space = from_alike (get p.settled page) space

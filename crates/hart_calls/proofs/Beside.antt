@@ -1,4 +1,5 @@
--- A seat that holds nothing, beside the seat of a process.
+-- Lemmas for an empty seat (an owner's capability at a frame store) split off a process's seat: both are at the one table, a
+-- process's seat holds frame 0, and a space whose seat has an equal view is the process that it was.
 use Rattle.std.proofs.Common.{◌≡◌, ℕ, List, [], ◌∷◌, ap, sym, subst, ◌∙◌, arith}
 use Rattle.atomic_table.specs.Seated.{TableId}
 use Rattle.address_space.specs.Agreement.{body_of, IsSpace}
@@ -8,7 +9,7 @@ use Rattle.frame_store.specs.Holds.{hold_of-empty}
 use Rattle.frame_store.specs.Laws.{IsAnchored}
 use Rattle.frame_store.specs.View.{Hold, IsHeld, empty_view, references}
 use Rattle.process_model.specs.Process.{Process}
-use Rattle.shared_frames.specs.Fits.{AllFit, FitsIn, view_of}
+use Rattle.shared_frames.specs.SeatsOfTable.{AllFit, FitsIn, view_of}
 use Rattle.shared_frames.specs.declared.seat.SharedSeat.{SharedSeat}
 use Rattle.table_walk.specs.Tables.{Tables}
 

@@ -1,4 +1,5 @@
--- A space of which nothing that contracts see has changed.
+-- Lemmas: two spaces with equal views of their seats (what a seat, an owner's capability at a frame store, holds and knows),
+-- roots, trapframes and layouts (the regions) have one body (`same_body`) and agree with the same processes (`still_space`).
 use Rattle.std.proofs.Common.{◌≡◌, sym, subst}
 use Rattle.address_space.specs.Agreement.{Body, body_of, IsSpace}
 use Rattle.address_space.specs.declared.space.Space.{Space}

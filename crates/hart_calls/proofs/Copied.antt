@@ -1,26 +1,28 @@
--- A copy, run by run, is what the model tells of it, over any store and any files.
+-- Lemmas for one page of a kernel copy, over any store and any files: how far the copy has come agrees with the model
+-- (`Under`); the page is then reached (`Reached`), or stopped by a rule or for lack of frames (`Stopped`), or not promised
+-- by the files, with nothing changed. A resident page takes no frame.
 use Rattle.std.proofs.Common.{◌≡◌, ℕ, ◌+◌, ◌<◌, Bool, true, false, Option, None, Some, Result, Ok, Err, List, [], ◌++◌, append_assoc, refl, ap, sym, subst, ◌∙◌, arith}
 use Rattle.std.proofs.lemmas.List.{append-nil}
 use Rattle.std.specs.Prelude.{is_some, option_to_list}
 use Rattle.address_space.specs.Agreement.{Body, IsSpace}
 use Rattle.fault_rules.specs.Allowed.{can_reside, denied_otherwise}
-use Rattle.fault_rules.specs.Resides.{CanReside, is_counted, is_shared_by}
+use Rattle.fault_rules.specs.MadeResident.{CanMakeResident, is_counted, is_shared_by}
 use Rattle.fault_rules.specs.Serves.{IsEnd, served_moves}
 use Rattle.fault_rules.specs.declared.service.Served.{Served}
 use Rattle.fault_rules.specs.declared.service.Served.TheVariants as served
 use Rattle.frame_store.specs.View.{Tallies}
-use Rattle.hart_calls.specs.Lacks.{WasDry}
-use Rattle.hart_calls.specs.Wants.{is_dry_at, round, Want}
+use Rattle.hart_calls.specs.ShortageReports.{WasDry}
+use Rattle.hart_calls.specs.Shortages.{is_dry_at, call_environment, Shortage}
 use Rattle.hart_calls.proofs.Alike.{made_alike}
 use Rattle.hart_calls.proofs.Filing.{served_reads}
-use Rattle.process_model.specs.Around.{Around, is_shared_page, need_at, Progress, reached, resident_at, unless_dry, unless_resident}
+use Rattle.process_model.specs.Environment.{Environment, is_shared_page, need_at, Progress, resident_at_address, resident_at, unless_dry, unless_resident}
 use Rattle.process_model.specs.Copies.{reached_in}
 use Rattle.process_model.specs.Files.{File}
 use Rattle.process_model.specs.Frames.{resident_need, resident_need_of, unless_through}
 use Rattle.process_model.specs.PageMap.{get}
 use Rattle.process_model.specs.PageMoves.{files_after, PageMove}
 use Rattle.process_model.specs.Process.{Page, Process, regions}
-use Rattle.process_model.specs.ReachedPages.{no_alignment, reached_at_once, resident_again}
+use Rattle.process_model.specs.ResidenceLaws.{no_alignment, reached_at_once, resident_again}
 use Rattle.process_model.specs.Regions.{copy_rule}
 use Rattle.process_model.specs.Residence.{is_resident, is_resident_page, made_resident, made_resident_from, parts_from, region_on, taken_over_unless}
 use Rattle.process_model.specs.declared.step.Refusal.{Refusal}
@@ -29,7 +31,7 @@ use Rattle.sv39_entry.specs.declared.access.Access.{Access}
 use Rattle.sv39_entry.specs.declared.rule.Rule.{Rule}
 use Rattle.sv39_entry.specs.declared.rule.Rule.TheVariants as rule
 use Rattle.table_walk.specs.Tables.{Tables}
-use Rattle.user_copy.specs.Reaching.{body_at, Place, Reaches, Words}
+use Rattle.user_copy.specs.ReachedPage.{body_at, Place, Reaches, StoreModel}
 use Rattle.user_copy.specs.declared.short.Stop.TheVariants.{Denied, Unpromised}
 
 -- a resident page is left as it is, and takes nothing
@@ -49,14 +51,14 @@ module _ (files : List File) (fresh : ℕ) (c : Bool) (p : Process) (kind : Acce
   pub resident_takes : is_resident p kind page ≡ true → resident_need c p kind page ≡ 0
   resident_takes is = none_from (get p.settled page) is
 
-module _ {Seat Frames Cabinet : Type 0} (l : Words Seat Frames Cabinet)
+module _ {Seat Frames Cabinet : Type 0} (l : StoreModel Seat Frames Cabinet)
     (goes : (x y z : Cabinet) (ms ns : List PageMove) → l.becomes x ms y → l.becomes y ns z → l.becomes x (ms ++ ns) z) (comes : (x y : Cabinet) (ms : List PageMove) → l.becomes x ms y → l.files y ≡ files_after (l.files x) ms)
-    (start : Place Seat Frames Cabinet) (w : Want) where
+    (start : Place Seat Frames Cabinet) (w : Shortage) where
   abbrev pub files : List File
   files = l.files start.files
 
-  abbrev pub around : Around
-  around = round files w
+  abbrev pub around : Environment
+  around = call_environment files w
 
   abbrev tallies : Place Seat Frames Cabinet → Tallies
   tallies a = (l.view a.space.seat).tallies
@@ -94,7 +96,7 @@ module _ {Seat Frames Cabinet : Type 0} (l : Words Seat Frames Cabinet)
       pub counted : is_some count ≡ is_counted kind (get g.process.settled page)
       pub under : Under b j (ms ++ reads) (met + resident_need (is_shared_by count) g.process kind page) (counts ++ option_to_list count)
 
-    can_be : rule_here ≡ None → CanReside (body_at l a) u.tables g.process kind page
+    can_be : rule_here ≡ None → CanMakeResident (body_at l a) u.tables g.process kind page
     can_be none = can_reside (body_at l a) u.tables g.process kind address 1 u.space (no_alignment g.process.scheme (regions g.process) kind address ∙ none)
 
     moved_by : l.becomes a.files (served_moves (l.files a.files) g.process page rule_here) b.files → l.becomes start.files (ms ++ reads) b.files
@@ -124,7 +126,7 @@ module _ {Seat Frames Cabinet : Type 0} (l : Words Seat Frames Cabinet)
           )
           go false not = (
             _,
-            ap (reached around kind address g) none ∙ ap (unless_resident around kind page g) not ∙ ap (unless_dry around kind page g (need_at around kind page g.process)) calm,
+            ap (resident_at_address around kind address g) none ∙ ap (unless_resident around kind page g) not ∙ ap (unless_dry around kind page g (need_at around kind page g.process)) calm,
             λ t c space. made_alike (body_at l b) t files g.fresh c (is_shared_page around g.process page) g.process kind page (space g.fresh),
           )
 
@@ -176,7 +178,7 @@ module _ {Seat Frames Cabinet : Type 0} (l : Words Seat Frames Cabinet)
       stops_as : (o : Option Rule) → rule_here ≡ o → IsEnd o (served.Ended r) → (reached_in around kind g address ≡ Err r) × (r ≡ rule.NoFrame → DryHere)
       unfolding resident_at
       stops_as (Some x) is end = (
-        ap (reached around kind address g) is ∙ ap (λ (y : Rule). let z : Result Progress Rule = Err y in z) (sym (same_end r x end)),
+        ap (resident_at_address around kind address g) is ∙ ap (λ (y : Rule). let z : Result Progress Rule = Err y in z) (sym (same_end r x end)),
         λ none. absurd (denied_otherwise g.process.scheme (regions g.process) kind address 1 (no_alignment g.process.scheme (regions g.process) kind address ∙ is ∙ ap Some (sym (same_end r x end) ∙ none))),
       )
       stops_as None is end =
@@ -188,7 +190,7 @@ module _ {Seat Frames Cabinet : Type 0} (l : Words Seat Frames Cabinet)
           let zeros = d.2.zeros in
           let zeros_before = u.zeros in
           let not : is_resident g.process kind page ≡ false = out (is_resident g.process kind page) refl (is_shared_by d.0) short in (
-            ap (reached around kind address g) is ∙ ap (unless_resident around kind page g) not ∙ ap (unless_dry around kind page g (need_at around kind page g.process)) (suits none) ∙ ap (λ (y : Rule). let z : Result Progress Rule = Err y in z) (sym none),
+            ap (resident_at_address around kind address g) is ∙ ap (unless_resident around kind page g) not ∙ ap (unless_dry around kind page g (need_at around kind page g.process)) (suits none) ∙ ap (λ (y : Rule). let z : Result Progress Rule = Err y in z) (sym none),
             λ _. (d.0, d.1, record { zeros = omega (arith, zeros, zeros_before); short = short; claims = omega (arith, claims, before); looks = looks_on counts a u.looks (option_to_list d.0) b d.2.looks }),
           )
         where

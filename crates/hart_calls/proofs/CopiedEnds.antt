@@ -1,21 +1,23 @@
--- How a copy ends that comes to at most two pages, over any store and any files.
+-- Lemmas for the end of a kernel copy of at most two pages, over any store and any files: it agrees with the model whether
+-- whole (`Whole`), stopped by a rule (`Short`) or by a refused promise (`Left`: the files would not reserve a page's
+-- reading), at its first page or its second.
 use Rattle.std.proofs.Common.{◌≡◌, ◌⊎◌, ℕ, ◌+◌, ◌<◌, ◌%◌, ◌==◌, Bool, true, false, Option, None, Some, Err, List, [], ◌∷◌, ◌++◌, length, refl, ap, ap₂, sym, subst, ◌∙◌, arith, inl, inr}
 use Rattle.std.specs.Prelude.{if◌then◌else◌, is_some, option_to_list}
 use Rattle.std.proofs.lemmas.Bool.{eq-eqb, le-ltb, lt-ltb, ne_eqb}
 use Rattle.std.proofs.lemmas.List.{append-nil}
 use Rattle.address_space.specs.Agreement.{IsSpace}
-use Rattle.fault_rules.specs.Resides.{is_counted, is_shared_by, moves_for}
+use Rattle.fault_rules.specs.MadeResident.{is_counted, is_shared_by, moves_for}
 use Rattle.fault_rules.specs.Serves.{served_moves}
 use Rattle.file_cabinet.specs.Promises.{refusal_of}
 use Rattle.file_cabinet.specs.declared.promise.PromiseError.{PromiseError}
 use Rattle.file_cabinet.specs.declared.promise.PromiseError.TheVariants as error
-use Rattle.hart_calls.specs.Comes.{at_stop, Refuses}
-use Rattle.hart_calls.specs.Lacks.{CopyDry, WasDry}
-use Rattle.hart_calls.specs.Tells.{reads_below}
-use Rattle.hart_calls.specs.Wants.{begun, is_dry_at, IsUnpromised, nothing, round, Want}
+use Rattle.hart_calls.specs.CallResults.{at_stop, RefusesPromise}
+use Rattle.hart_calls.specs.ShortageReports.{CopyDry, WasDry}
+use Rattle.hart_calls.specs.CallOutcomes.{reads_below}
+use Rattle.hart_calls.specs.Shortages.{initial_progress, is_dry_at, IsUnpromised, nothing, call_environment, Shortage}
 use Rattle.hart_calls.proofs.Copied.{left_moves, left_space, stops, Under}
 use Rattle.hart_calls.proofs.CopiedSteps.{Ran}
-use Rattle.process_model.specs.Around.{Progress}
+use Rattle.process_model.specs.Environment.{Progress}
 use Rattle.process_model.specs.Copies.{Copied, reached_in}
 use Rattle.process_model.specs.CopyRuns.{so_far}
 use Rattle.process_model.specs.Files.{File}
@@ -31,7 +33,7 @@ use Rattle.sv39_entry.specs.declared.rule.Rule.{Rule}
 use Rattle.sv39_entry.specs.declared.rule.Rule.TheVariants as rule
 use Rattle.sv39_entry.specs.declared.scheme.Scheme.{Scheme}
 use Rattle.table_walk.specs.Tables.{Tables}
-use Rattle.user_copy.specs.Reaching.{body_at, Place, Reaches, Words}
+use Rattle.user_copy.specs.ReachedPage.{body_at, Place, Reaches, StoreModel}
 use Rattle.user_copy.specs.declared.short.Stop.TheVariants.{Denied, Unpromised}
 
 -- ---- what a stop tells of frames
@@ -54,7 +56,7 @@ dry_there r address page same is = ap (λ (k : Rule). is_dry_at (at_stop k addre
 pub calm_elsewhere : (r : Rule) (address page : ℕ) → (page_of address ≡ page → ⊥) → is_dry_at (at_stop r address) page ≡ false
 calm_elsewhere r address page apart = elim (stop_cases r address) [
   | inl is ↦ ap (λ (k : Rule). is_dry_at (at_stop k address) page) is ∙ ne_eqb page (page_of address) (λ same. apart (sym same))
-  | inr none ↦ ap (λ (w : Want). is_dry_at w page) none
+  | inr none ↦ ap (λ (w : Shortage). is_dry_at w page) none
 ]
 
 -- a promise is refused for want of memory or of room in a journal
@@ -72,9 +74,9 @@ module _ (files : List File) (p q : Process) (page : ℕ) (scheme : q.scheme ≡
   reads_alike : (kind : Access) (address : ℕ) → served_moves files q page (copy_rule q.scheme (regions q) kind address) ≡ served_moves files p page (copy_rule p.scheme (regions p) kind address)
   reads_alike kind address = served_alike (copy_rule q.scheme (regions q) kind address) ∙ ap₂ (λ (z : Scheme) (rs : List Region). served_moves files p page (copy_rule z rs kind address)) scheme same
 
-module _ {Seat Frames Cabinet : Type 0} (l : Words Seat Frames Cabinet)
+module _ {Seat Frames Cabinet : Type 0} (l : StoreModel Seat Frames Cabinet)
     (goes : (x y z : Cabinet) (ms ns : List PageMove) → l.becomes x ms y → l.becomes y ns z → l.becomes x (ms ++ ns) z) (comes : (x y : Cabinet) (ms : List PageMove) → l.becomes x ms y → l.files y ≡ files_after (l.files x) ms)
-    (start : Place Seat Frames Cabinet) (p : Process) (tables : Tables) (space : IsSpace (body_at l start) tables p) (stays : l.becomes start.files [] start.files) (kind : Access) (address n : ℕ) (model : Want → Copied) (front : ℕ → Copied) where
+    (start : Place Seat Frames Cabinet) (p : Process) (tables : Tables) (space : IsSpace (body_at l start) tables p) (stays : l.becomes start.files [] start.files) (kind : Access) (address n : ℕ) (model : Shortage → Copied) (front : ℕ → Copied) where
   abbrev present : List File
   present = l.files start.files
 
@@ -108,15 +110,15 @@ module _ {Seat Frames Cabinet : Type 0} (l : Words Seat Frames Cabinet)
     pub less : done < n
     pub unpromised : IsUnpromised r
     pub of_file : 0 < length (served_moves present progress.process (page_of (address + done)) (copy_rule progress.process.scheme (regions progress.process) kind (address + done)))
-    pub told : Refuses l.becomes l.can_refuse start.files (reads_below present p kind (address + done) starts) 1 r
+    pub told : RefusesPromise l.becomes l.can_refuse start.files (reads_below present p kind (address + done) starts) 1 r
 
-  pub begun_under : (w : Want) → Under l goes comes start w start (begun p) [] 0 []
+  pub begun_under : (w : Shortage) → Under l goes comes start w start (initial_progress p) [] 0 []
   begun_under w = record { tables = tables; space = space; moves = stays; same = refl; zeros = refl; claims = omega arith; looks = sym (append-nil (l.view start.space.seat).tallies.looks) }
 
   -- ---- it copies nothing
 
-  pub none_whole : model nothing ≡ so_far (begun p) [] None → Whole [] start []
-  none_whole is = record { progress = begun p; is = is; after = (tables, space); moves = stays }
+  pub none_whole : model nothing ≡ so_far (initial_progress p) [] None → Whole [] start []
+  none_whole is = record { progress = initial_progress p; is = is; after = (tables, space); moves = stays }
 
   -- ---- its first page stops it
 
@@ -130,16 +132,16 @@ module _ {Seat Frames Cabinet : Type 0} (l : Words Seat Frames Cabinet)
         (before count : Option ℕ) × (is_some before ≡ (if same then false else is_counted kind (get p.settled (page_of address)))) × (is_some count ≡ is_counted kind (get p.settled page))
         × WasDry (l.view start.space.seat) (l.view b.space.seat) (resident_need (is_shared_by count) p kind page) (if same then 0 else resident_need (is_shared_by before) p kind (page_of address)) (option_to_list before ++ option_to_list count)
 
-    abbrev pub first_want : Rule → Want
+    abbrev pub first_want : Rule → Shortage
     first_want r = at_stop r (address + 0)
 
     pub first_short : (r : Rule) → reads_below present p kind (address + 0 + 1) rest ≡ [] → Reaches l start b kind address (Err (Denied r))
-        → (reached_in (round present (first_want r)) kind (begun p) address ≡ Err r → model (first_want r) ≡ so_far (begun p) [] (Some r)) → Short (address ∷ rest) b [] r
+        → (reached_in (call_environment present (first_want r)) kind (initial_progress p) address ≡ Err r → model (first_want r) ≡ so_far (initial_progress p) [] (Some r)) → Short (address ∷ rest) b [] r
     first_short r none e halts =
         let here : page_of (address + 0) ≡ page_of address = omega arith in
-        let s = stops l goes comes start (first_want r) start (begun p) [] 0 [] (begun_under (first_want r)) b kind address r e (dry_there r (address + 0) (page_of address) here) in
+        let s = stops l goes comes start (first_want r) start (initial_progress p) [] 0 [] (begun_under (first_want r)) b kind address r e (dry_there r (address + 0) (page_of address) here) in
         record {
-          progress = begun p;
+          progress = initial_progress p;
           is = halts s.is;
           after = (s.tables, s.space);
           moves = subst (λ (ms : List PageMove). l.becomes start.files ms b.files) (sym (first_reads (address + 0 + 1) (omega arith) none)) s.moves;
@@ -153,17 +155,17 @@ module _ {Seat Frames Cabinet : Type 0} (l : Words Seat Frames Cabinet)
             subst (λ (page : ℕ). DryBy page (page_of address == page)) (sym here)
             (subst (λ (same : Bool). DryBy (page_of address) same) (sym (eq-eqb (page_of address) (page_of address) refl)) (None, count, refl, counted, dry))
 
-    pub first_left : (x : Refusal) → reads_below present p kind (address + 0) (address ∷ rest) ≡ [] → 0 < n → front 0 ≡ so_far (begun p) [] None → Reaches l start b kind address (Err (Unpromised x)) → Left (address ∷ rest) b 0 x
+    pub first_left : (x : Refusal) → reads_below present p kind (address + 0) (address ∷ rest) ≡ [] → 0 < n → front 0 ≡ so_far (initial_progress p) [] None → Reaches l start b kind address (Err (Unpromised x)) → Left (address ∷ rest) b 0 x
     unfolding begun_under
     first_left x none some is e =
         let u = begun_under nothing in
         let un = e.unpromised x refl in
         record {
-          progress = begun p;
+          progress = initial_progress p;
           bytes = [];
           is = is;
-          after = (tables, left_space l goes comes start nothing start (begun p) [] 0 [] u b kind address x e);
-          moves = subst (λ (ms : List PageMove). l.becomes start.files ms b.files) (sym none) (left_moves l goes comes start nothing start (begun p) [] 0 [] u b kind address x e);
+          after = (tables, left_space l goes comes start nothing start (initial_progress p) [] 0 [] u b kind address x e);
+          moves = subst (λ (ms : List PageMove). l.becomes start.files ms b.files) (sym none) (left_moves l goes comes start nothing start (initial_progress p) [] 0 [] u b kind address x e);
           less = some;
           unpromised = subst IsUnpromised (sym un.2) (unpromised_by un.0);
           of_file = subst (λ (at : ℕ). 0 < length (reads_at at)) (let here : address ≡ address + 0 = omega arith in here) (e.of_file x refl tables p space);
@@ -172,7 +174,7 @@ module _ {Seat Frames Cabinet : Type 0} (l : Words Seat Frames Cabinet)
 
   -- ---- it copies a first run
 
-  module _ (here : ℕ) (some : 0 < here) (w : Want) (d : Place Seat Frames Cabinet) (j : Progress) (bytes : List ℕ) (long : length bytes ≡ here) (ran : Ran l goes comes start w (begun p) [] 0 [] kind address d j) where
+  module _ (here : ℕ) (some : 0 < here) (w : Shortage) (d : Place Seat Frames Cabinet) (j : Progress) (bytes : List ℕ) (long : length bytes ≡ here) (ran : Ran l goes comes start w (initial_progress p) [] 0 [] kind address d j) where
     pub one_whole : model nothing ≡ so_far j bytes None → Whole (address ∷ []) d bytes
     one_whole is = record {
       progress = j;
@@ -226,16 +228,16 @@ module _ {Seat Frames Cabinet : Type 0} (l : Words Seat Frames Cabinet)
         moves = subst (λ (ms : List PageMove). l.becomes start.files ms c.files) (sym (both_reads (address + length all + 1) (omega (arith, more)))) last.under.moves;
       }
 
-      module _ (r : Rule) (at : w ≡ at_stop r next) (b : Place Seat Frames Cabinet) (e : Reaches l d b kind next (Err (Denied r))) (halts : reached_in (round present w) kind j next ≡ Err r → model w ≡ so_far j bytes (Some r)) where
+      module _ (r : Rule) (at : w ≡ at_stop r next) (b : Place Seat Frames Cabinet) (e : Reaches l d b kind next (Err (Denied r))) (halts : reached_in (call_environment present w) kind j next ≡ Err r → model w ≡ so_far j bytes (Some r)) where
         same_next : address + length bytes ≡ next
         same_next = omega (arith, long)
 
         pub next_short : Short (address ∷ next ∷ []) b bytes r
         next_short =
-            let s = stops l goes comes start w d j _ _ _ ran.under b kind next r e (λ is. ap (λ (z : Want). is_dry_at z (page_of next)) at ∙ dry_there r next (page_of next) refl is) in
+            let s = stops l goes comes start w d j _ _ _ ran.under b kind next r e (λ is. ap (λ (z : Shortage). is_dry_at z (page_of next)) at ∙ dry_there r next (page_of next) refl is) in
             record {
               progress = j;
-              is = subst (λ (x : Want). model x ≡ so_far j bytes (Some r)) (at ∙ ap (at_stop r) (sym same_next)) (halts s.is);
+              is = subst (λ (x : Shortage). model x ≡ so_far j bytes (Some r)) (at ∙ ap (at_stop r) (sym same_next)) (halts s.is);
               after = (s.tables, s.space);
               moves = subst (λ (ms : List PageMove). l.becomes start.files ms b.files) (sym (both_reads (address + length bytes + 1) (omega (arith, long)))) s.moves;
               dry = λ is. dry_by (s.dry is);

@@ -1,13 +1,14 @@
--- A copy from a process is what the model tells of it, over any store and any files.
+-- Lemma: a copy of at most 256 bytes from a process (CopyIn), over any store and any files, ends as the model's copy does
+-- (`ends_in`): whole, stopped by a rule, or stopped by a refused promise (reservation of file reads).
 use Rattle.std.proofs.Common.{◌≡◌, ℕ, zero, suc, ◌+◌, ◌-◌, ◌<◌, ◌≤◌, ◌%◌, Bool, false, Option, None, Some, Ok, Err, List, [], ◌∷◌, ◌++◌, length, map, refl, ap, ap₂, sym, subst, ◌∙◌, arith}
 use Rattle.std.specs.Prelude.{if◌then◌else◌}
 use Rattle.std.proofs.lemmas.Bool.{le-ltb}
 use Rattle.std.proofs.lemmas.List.{length-append}
 use Rattle.address_space.specs.Agreement.{IsSpace}
 use Rattle.fault_rules.specs.Serves.{served_moves}
-use Rattle.hart_calls.specs.Comes.{at_stop}
-use Rattle.hart_calls.specs.Tells.{reads_below}
-use Rattle.hart_calls.specs.Wants.{begun, is_dry_at, nothing, round, Want}
+use Rattle.hart_calls.specs.CallResults.{at_stop}
+use Rattle.hart_calls.specs.CallOutcomes.{reads_below}
+use Rattle.hart_calls.specs.Shortages.{initial_progress, is_dry_at, nothing, call_environment, Shortage}
 use Rattle.hart_calls.proofs.Copied.{Under}
 use Rattle.hart_calls.proofs.CopiedEnds.{begun_under, both_whole, calm_elsewhere, first_left, first_short, Left, next_left, next_short, none_whole, one_whole, Short, Whole}
 use Rattle.hart_calls.proofs.CopiedSteps.{ran_in, RanIn}
@@ -23,23 +24,23 @@ use Rattle.sv39_entry.specs.Address.{page_of}
 use Rattle.sv39_entry.specs.declared.access.Access.TheVariants.{Load}
 use Rattle.sv39_entry.specs.declared.rule.Rule.{Rule}
 use Rattle.table_walk.specs.Tables.{Tables}
-use Rattle.user_copy.specs.Reaching.{body_at, Place, Reaches, Words}
+use Rattle.user_copy.specs.ReachedPage.{body_at, Place, Reaches, StoreModel}
 use Rattle.user_copy.specs.Runs.{CopiesIn, IsRead, near, runs, some_run}
-use Rattle.user_copy.specs.Nears.{is_near}
+use Rattle.user_copy.specs.FirstPageBytes.{is_near}
 use Rattle.user_copy.specs.declared.short.Stop.{Stop}
 use Rattle.user_copy.specs.declared.short.Stop.TheVariants.{Denied, Unpromised}
 
-module _ {Seat Frames Cabinet : Type 0} (l : Words Seat Frames Cabinet)
+module _ {Seat Frames Cabinet : Type 0} (l : StoreModel Seat Frames Cabinet)
     (goes : (x y z : Cabinet) (ms ns : List PageMove) → l.becomes x ms y → l.becomes y ns z → l.becomes x (ms ++ ns) z) (comes : (x y : Cabinet) (ms : List PageMove) → l.becomes x ms y → l.files y ≡ files_after (l.files x) ms)
     (start : Place Seat Frames Cabinet) (p : Process) (tables : Tables) (space : IsSpace (body_at l start) tables p) (stays : l.becomes start.files [] start.files) (address n : ℕ) where
   abbrev present : List File
   present = l.files start.files
 
-  abbrev pub model_in : Want → Copied
-  model_in w = copied_in (round present w) (begun p) address n
+  abbrev pub model_in : Shortage → Copied
+  model_in w = copied_in (call_environment present w) (initial_progress p) address n
 
   abbrev pub front_in : ℕ → Copied
-  front_in done = copied_in (round present nothing) (begun p) address done
+  front_in done = copied_in (call_environment present nothing) (initial_progress p) address done
 
   abbrev pub EndsIn : List ℕ → Place Seat Frames Cabinet → List ℕ → Option Stop → Type 0
   EndsIn starts c bytes None = Whole l goes comes start p tables space stays Load address n model_in front_in starts c bytes
@@ -50,7 +51,7 @@ module _ {Seat Frames Cabinet : Type 0} (l : Words Seat Frames Cabinet)
   told starts b c bs bytes s stop at same is ends =
       subst (λ (x : Place Seat Frames Cabinet). EndsIn starts x bytes stop) (sym at) (subst (λ (xs : List ℕ). EndsIn starts b xs stop) (sym same) (subst (λ (o : Option Stop). EndsIn starts b bs o) (sym is) ends))
 
-  front_is : (h : ℕ) → front_in h ≡ more_in (round present nothing) (copy_begun (begun p)) (numbers_from address h)
+  front_is : (h : ℕ) → front_in h ≡ more_in (call_environment present nothing) (copy_begun (initial_progress p)) (numbers_from address h)
   unfolding copied_in
   front_is h = refl
 
@@ -62,8 +63,8 @@ module _ {Seat Frames Cabinet : Type 0} (l : Words Seat Frames Cabinet)
     some : 0 < n → 0 < h
     few : m ≤ 256
 
-  splits : (w : Want) (h m : ℕ) → n ≡ h + m → model_in w ≡ more_in (round present w) (more_in (round present w) (copy_begun (begun p)) (numbers_from address h)) (numbers_from (address + h) m)
-  splits w h m whole = ap (copied_in (round present w) (begun p) address) whole ∙ copied_in_split (round present w) (begun p) address h m
+  splits : (w : Shortage) (h m : ℕ) → n ≡ h + m → model_in w ≡ more_in (call_environment present w) (more_in (call_environment present w) (copy_begun (initial_progress p)) (numbers_from address h)) (numbers_from (address + h) m)
+  splits w h m whole = ap (copied_in (call_environment present w) (initial_progress p) address) whole ∙ copied_in_split (call_environment present w) (initial_progress p) address h m
 
   abbrev starts_in : ℕ → ℕ → List ℕ
   starts_in h m = map (λ (r : ℕ × ℕ). r.0) (some_run address h ++ some_run (address + h) m)
@@ -80,24 +81,24 @@ module _ {Seat Frames Cabinet : Type 0} (l : Words Seat Frames Cabinet)
     all_none m =
         ap₂ (λ (z : Bool) (ms : List PageMove). (if z then served_moves present p (page_of address) (copy_rule p.scheme (regions p) Load address) else []) ++ ms) (le-ltb address (address + 0) (omega arith)) (later_none (address + 0) m (omega arith))
 
-    first_halts : (m : ℕ) → Split (suc h) m → (r : Rule) (w : Want) → reached_in (round present w) Load (begun p) address ≡ Err r → model_in w ≡ so_far (begun p) [] (Some r)
+    first_halts : (m : ℕ) → Split (suc h) m → (r : Rule) (w : Shortage) → reached_in (call_environment present w) Load (initial_progress p) address ≡ Err r → model_in w ≡ so_far (initial_progress p) [] (Some r)
     first_halts m split r w is =
         splits w (suc h) m split.whole
-        ∙ ap (λ (c : Copied). more_in (round present w) c (numbers_from next m)) (run_in_stops (round present w) (begun p) [] address r (suc h) (omega arith) is)
-        ∙ stopped_in (round present w) r (begun p) [] (numbers_from next m)
+        ∙ ap (λ (c : Copied). more_in (call_environment present w) c (numbers_from next m)) (run_in_stops (call_environment present w) (initial_progress p) [] address r (suc h) (omega arith) is)
+        ∙ stopped_in (call_environment present w) r (initial_progress p) [] (numbers_from next m)
 
     -- it comes to the first page, and goes on
 
     module _ (b d : Place Seat Frames Cabinet) (got : List ℕ) (e : Reaches l start b Load address (Ok tt)) (read : IsRead l b d address (suc h) got) where
-      under_way : (w : Want) → Under l goes comes start w start (begun p) [] 0 []
+      under_way : (w : Shortage) → Under l goes comes start w start (initial_progress p) [] 0 []
       under_way w = begun_under l goes comes start p tables space stays Load address n model_in front_in w
 
-      module _ (m : ℕ) (split : Split (suc h) m) (w : Want) (calm : is_dry_at w (page_of address) ≡ false) where
-        first : RanIn l goes comes start w start b d (begun p) [] 0 [] (under_way w) address calm (suc h) [] got
-        first = ran_in l goes comes start w start b d (begun p) [] 0 [] (under_way w) address calm (suc h) [] got (omega arith) split.inside e read
+      module _ (m : ℕ) (split : Split (suc h) m) (w : Shortage) (calm : is_dry_at w (page_of address) ≡ false) where
+        first : RanIn l goes comes start w start b d (initial_progress p) [] 0 [] (under_way w) address calm (suc h) [] got
+        first = ran_in l goes comes start w start b d (initial_progress p) [] 0 [] (under_way w) address calm (suc h) [] got (omega arith) split.inside e read
 
-        goes_on : model_in w ≡ more_in (round present w) (so_far first.progress got None) (numbers_from next m)
-        goes_on = splits w (suc h) m split.whole ∙ ap (λ (c : Copied). more_in (round present w) c (numbers_from next m)) first.is
+        goes_on : model_in w ≡ more_in (call_environment present w) (so_far first.progress got None) (numbers_from next m)
+        goes_on = splits w (suc h) m split.whole ∙ ap (λ (c : Copied). more_in (call_environment present w) c (numbers_from next m)) first.is
 
       second : (m : ℕ) → Split (suc h) m → (c : Place Seat Frames Cabinet) (bytes : List ℕ) (stop : Option Stop) → CopiesIn l (some_run next m) d c ([] ++ got) bytes stop → EndsIn (starts_in (suc h) m) c bytes stop
       second zero split c bytes stop (at, same, is) =
@@ -111,7 +112,7 @@ module _ {Seat Frames Cabinet : Type 0} (l : Words Seat Frames Cabinet)
           let one = first (suc m) split w calm in
           told _ z c got bytes (Some (Denied r)) stop at same is
           (next_short l goes comes start p tables space stays Load address n model_in front_in (suc h) (omega arith) w d one.progress got one.long one.ran end r refl z f
-          (λ stops. goes_on (suc m) split w calm ∙ run_in_stops (round present w) one.progress got next r (suc m) (omega arith) stops))
+          (λ stops. goes_on (suc m) split w calm ∙ run_in_stops (call_environment present w) one.progress got next r (suc m) (omega arith) stops))
       second (suc m) split c bytes stop (z, Err (Unpromised x), f, (at, same, is)) =
           let end = split.behind (omega arith) in
           let whole = split.whole in

@@ -1,13 +1,14 @@
--- A copy to a process is what the model tells of it, over any store and any files.
+-- Lemma: a copy of at most 256 bytes to a process (CopyOut), over any store and any files, ends as the model's copy does
+-- (`ends_out`): whole, stopped by a rule, or stopped by a refused promise (reservation of file reads).
 use Rattle.std.proofs.Common.{◌≡◌, ℕ, ◌+◌, ◌<◌, ◌≤◌, ◌%◌, Bool, false, Option, None, Some, Ok, Err, List, [], ◌∷◌, ◌++◌, length, map, take, drop, refl, ap, ap₂, sym, subst, ◌∙◌, arith}
 use Rattle.std.specs.Prelude.{if◌then◌else◌, zip}
 use Rattle.std.proofs.lemmas.Bool.{le-ltb}
 use Rattle.std.proofs.lemmas.List.{length-append, length-drop, length-take-le, take-append-drop}
 use Rattle.address_space.specs.Agreement.{IsSpace}
 use Rattle.fault_rules.specs.Serves.{served_moves}
-use Rattle.hart_calls.specs.Comes.{at_stop}
-use Rattle.hart_calls.specs.Tells.{reads_below}
-use Rattle.hart_calls.specs.Wants.{begun, is_dry_at, nothing, round, Want}
+use Rattle.hart_calls.specs.CallResults.{at_stop}
+use Rattle.hart_calls.specs.CallOutcomes.{reads_below}
+use Rattle.hart_calls.specs.Shortages.{initial_progress, is_dry_at, nothing, call_environment, Shortage}
 use Rattle.hart_calls.proofs.Copied.{Under}
 use Rattle.hart_calls.proofs.CopiedEnds.{begun_under, both_whole, calm_elsewhere, first_left, first_short, Left, next_left, next_short, none_whole, one_whole, Short, Whole}
 use Rattle.hart_calls.proofs.CopiedSteps.{ran_out, RanOut}
@@ -23,13 +24,13 @@ use Rattle.sv39_entry.specs.Address.{page_of}
 use Rattle.sv39_entry.specs.declared.access.Access.TheVariants.{Store}
 use Rattle.sv39_entry.specs.declared.rule.Rule.{Rule}
 use Rattle.table_walk.specs.Tables.{Tables}
-use Rattle.user_copy.specs.Reaching.{body_at, Place, Reaches, Words}
+use Rattle.user_copy.specs.ReachedPage.{body_at, Place, Reaches, StoreModel}
 use Rattle.user_copy.specs.Runs.{CopiesOut, near, Puts, runs_of, some_bytes}
-use Rattle.user_copy.specs.Nears.{is_near}
+use Rattle.user_copy.specs.FirstPageBytes.{is_near}
 use Rattle.user_copy.specs.declared.short.Stop.{Stop}
 use Rattle.user_copy.specs.declared.short.Stop.TheVariants.{Denied, Unpromised}
 
-module _ {Seat Frames Cabinet : Type 0} (l : Words Seat Frames Cabinet)
+module _ {Seat Frames Cabinet : Type 0} (l : StoreModel Seat Frames Cabinet)
     (goes : (x y z : Cabinet) (ms ns : List PageMove) → l.becomes x ms y → l.becomes y ns z → l.becomes x (ms ++ ns) z) (comes : (x y : Cabinet) (ms : List PageMove) → l.becomes x ms y → l.files y ≡ files_after (l.files x) ms)
     (start : Place Seat Frames Cabinet) (p : Process) (tables : Tables) (space : IsSpace (body_at l start) tables p) (stays : l.becomes start.files [] start.files) (address : ℕ) (given : List ℕ) where
   abbrev present : List File
@@ -38,11 +39,11 @@ module _ {Seat Frames Cabinet : Type 0} (l : Words Seat Frames Cabinet)
   abbrev n : ℕ
   n = length given
 
-  abbrev pub model_out : Want → Copied
-  model_out w = copied_out (round present w) (begun p) address given
+  abbrev pub model_out : Shortage → Copied
+  model_out w = copied_out (call_environment present w) (initial_progress p) address given
 
   abbrev pub front_out : ℕ → Copied
-  front_out done = copied_out (round present nothing) (begun p) address (take done given)
+  front_out done = copied_out (call_environment present nothing) (initial_progress p) address (take done given)
 
   abbrev Known : (List ℕ → Type 0) → ℕ → Type 0
   Known End count = (sent : List ℕ) × (length sent ≡ count) × End sent
@@ -56,7 +57,7 @@ module _ {Seat Frames Cabinet : Type 0} (l : Words Seat Frames Cabinet)
   told starts b c k count s stop at same is ends =
       subst (λ (x : Place Seat Frames Cabinet). EndsOut starts x count stop) (sym at) (subst (λ (i : ℕ). EndsOut starts b i stop) (sym same) (subst (λ (o : Option Stop). EndsOut starts b k o) (sym is) ends))
 
-  front_of : (front : List ℕ) → copied_out (round present nothing) (begun p) address front ≡ more_out (round present nothing) (copy_begun (begun p)) (zip (numbers_from address (length front)) front)
+  front_of : (front : List ℕ) → copied_out (call_environment present nothing) (initial_progress p) address front ≡ more_out (call_environment present nothing) (copy_begun (initial_progress p)) (zip (numbers_from address (length front)) front)
   unfolding copied_out
   front_of front = refl
 
@@ -84,11 +85,11 @@ module _ {Seat Frames Cabinet : Type 0} (l : Words Seat Frames Cabinet)
         let long = split.long in
         omega (arith, all, both, long)
 
-    splits : (w : Want) (front back : List ℕ) → Split h front back
-        → model_out w ≡ more_out (round present w) (more_out (round present w) (copy_begun (begun p)) (zip (numbers_from address (length front)) front)) (zip (numbers_from next (length back)) back)
+    splits : (w : Shortage) (front back : List ℕ) → Split h front back
+        → model_out w ≡ more_out (call_environment present w) (more_out (call_environment present w) (copy_begun (initial_progress p)) (zip (numbers_from address (length front)) front)) (zip (numbers_from next (length back)) back)
     splits w front back split =
-        ap (copied_out (round present w) (begun p) address) split.whole ∙ copied_out_split (round present w) (begun p) address front back
-        ∙ ap (λ (k : ℕ). more_out (round present w) (more_out (round present w) (copy_begun (begun p)) (zip (numbers_from address (length front)) front)) (zip (numbers_from (address + k) (length back)) back)) split.long
+        ap (copied_out (call_environment present w) (initial_progress p) address) split.whole ∙ copied_out_split (call_environment present w) (initial_progress p) address front back
+        ∙ ap (λ (k : ℕ). more_out (call_environment present w) (more_out (call_environment present w) (copy_begun (initial_progress p)) (zip (numbers_from address (length front)) front)) (zip (numbers_from (address + k) (length back)) back)) split.long
 
     later_none : (limit : ℕ) (back : List ℕ) → limit ≤ next → reads_below present p Store limit (map (λ (r : ℕ × List ℕ). r.0) (some_bytes next back)) ≡ []
     later_none limit [] below = refl
@@ -102,11 +103,11 @@ module _ {Seat Frames Cabinet : Type 0} (l : Words Seat Frames Cabinet)
       abbrev front : List ℕ
       front = f ∷ fs
 
-      first_halts : (back : List ℕ) → Split h front back → (r : Rule) (w : Want) → reached_in (round present w) Store (begun p) address ≡ Err r → model_out w ≡ so_far (begun p) [] (Some r)
+      first_halts : (back : List ℕ) → Split h front back → (r : Rule) (w : Shortage) → reached_in (call_environment present w) Store (initial_progress p) address ≡ Err r → model_out w ≡ so_far (initial_progress p) [] (Some r)
       first_halts back split r w is =
           splits w front back split
-          ∙ ap (λ (c : Copied). more_out (round present w) c (zip (numbers_from next (length back)) back)) (run_out_stops (round present w) (begun p) [] address r front (omega arith) is)
-          ∙ stopped_out (round present w) r (begun p) [] (zip (numbers_from next (length back)) back)
+          ∙ ap (λ (c : Copied). more_out (call_environment present w) c (zip (numbers_from next (length back)) back)) (run_out_stops (call_environment present w) (initial_progress p) [] address r front (omega arith) is)
+          ∙ stopped_out (call_environment present w) r (initial_progress p) [] (zip (numbers_from next (length back)) back)
 
       some_here : (back : List ℕ) → Split h front back → 0 < h
       some_here back split = let long = split.long in omega (arith, long)
@@ -114,18 +115,18 @@ module _ {Seat Frames Cabinet : Type 0} (l : Words Seat Frames Cabinet)
       -- it comes to the first page, and goes on
 
       module _ (b d : Place Seat Frames Cabinet) (e : Reaches l start b Store address (Ok tt)) (put : Puts l b d address front) where
-        under_way : (w : Want) → Under l goes comes start w start (begun p) [] 0 []
+        under_way : (w : Shortage) → Under l goes comes start w start (initial_progress p) [] 0 []
         under_way w = begun_under l goes comes start p tables space stays Store address n model_out front_out w
 
-        module _ (back : List ℕ) (split : Split h front back) (w : Want) (calm : is_dry_at w (page_of address) ≡ false) where
-          first : RanOut l goes comes start w start b d (begun p) [] 0 [] (under_way w) address calm [] front
+        module _ (back : List ℕ) (split : Split h front back) (w : Shortage) (calm : is_dry_at w (page_of address) ≡ false) where
+          first : RanOut l goes comes start w start b d (initial_progress p) [] 0 [] (under_way w) address calm [] front
           first =
               let inside = split.inside in
               let long = split.long in
-              ran_out l goes comes start w start b d (begun p) [] 0 [] (under_way w) address calm [] front (omega arith) (omega (arith, inside, long)) e put
+              ran_out l goes comes start w start b d (initial_progress p) [] 0 [] (under_way w) address calm [] front (omega arith) (omega (arith, inside, long)) e put
 
-          goes_on : model_out w ≡ more_out (round present w) (so_far first.progress front None) (zip (numbers_from next (length back)) back)
-          goes_on = splits w front back split ∙ ap (λ (c : Copied). more_out (round present w) c (zip (numbers_from next (length back)) back)) first.is
+          goes_on : model_out w ≡ more_out (call_environment present w) (so_far first.progress front None) (zip (numbers_from next (length back)) back)
+          goes_on = splits w front back split ∙ ap (λ (c : Copied). more_out (call_environment present w) c (zip (numbers_from next (length back)) back)) first.is
 
         second : (back : List ℕ) → Split h front back → (c : Place Seat Frames Cabinet) (count : ℕ) (stop : Option Stop) → CopiesOut l (some_bytes next back) d c (0 + length front) count stop → EndsOut (starts_out front back) c count stop
         second [] split c count stop (at, same, is) =
@@ -142,7 +143,7 @@ module _ {Seat Frames Cabinet : Type 0} (l : Words Seat Frames Cabinet)
               front,
               omega arith,
               next_short l goes comes start p tables space stays Store address n model_out front_out h some w d one.progress front split.long one.ran end r refl z g
-                  (λ stops. goes_on (x ∷ back) split w calm ∙ run_out_stops (round present w) one.progress front next r (x ∷ back) (omega arith) stops),
+                  (λ stops. goes_on (x ∷ back) split w calm ∙ run_out_stops (call_environment present w) one.progress front next r (x ∷ back) (omega arith) stops),
             )
         second (x ∷ back) split c count stop (z, Err (Unpromised e), g, (at, same, is)) =
             let end = split.behind (omega arith) in
@@ -151,7 +152,7 @@ module _ {Seat Frames Cabinet : Type 0} (l : Words Seat Frames Cabinet)
             let one = first (x ∷ back) split nothing refl in
             told _ z c h count (Some (Unpromised e)) stop at (omega (arith, same, long)) is
             (next_left l goes comes start p tables space stays Store address n model_out front_out h (some_here (x ∷ back) split) nothing d one.progress front split.long one.ran end z e (omega (arith, whole))
-            (ap (copied_out (round present nothing) (begun p) address) split.taken ∙ front_of front ∙ one.is) g)
+            (ap (copied_out (call_environment present nothing) (initial_progress p) address) split.taken ∙ front_of front ∙ one.is) g)
         second (x ∷ back) split c count stop (z, Ok tt, g, (y, again, (at, same, is))) =
             let end = split.behind (omega arith) in
             let few = split.few in

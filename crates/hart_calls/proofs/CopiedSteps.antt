@@ -1,36 +1,37 @@
--- Each run of a copy, over any store and any files: what the model tells of it, and where it leaves the space.
+-- Lemmas for one run of a kernel copy (its bytes in one page) that is not stopped, over any store and any files: bytes
+-- copied and process are the model's, for CopyIn (`ran_in`) and CopyOut (`ran_out`), and other pages are unchanged (`Ran`).
 use Rattle.std.proofs.Common.{◌≡◌, ℕ, ◌+◌, ◌<◌, ◌≤◌, ◌%◌, Bool, true, false, not, ◌||◌, None, Some, Ok, List, ◌++◌, length, drop, refl, ap, sym, subst, ◌∙◌, arith}
 use Rattle.std.specs.Prelude.{is_some, Option, option_to_list, zip}
 use Rattle.std.proofs.lemmas.Bool.{and_parts}
 use Rattle.std.proofs.lemmas.List.{append-nil, length-drop, length-take-le}
 use Rattle.address_space.specs.Steps.{CanWrite}
 use Rattle.fault_rules.specs.Allowed.{can_reside}
-use Rattle.fault_rules.specs.Resides.{is_counted, is_shared_by}
+use Rattle.fault_rules.specs.MadeResident.{is_counted, is_shared_by}
 use Rattle.fault_rules.specs.Serves.{served_moves}
 use Rattle.frame_store.specs.View.{Tallies, View}
-use Rattle.hart_calls.specs.Wants.{is_dry_at, Want}
+use Rattle.hart_calls.specs.Shortages.{is_dry_at, Shortage}
 use Rattle.hart_calls.proofs.Bodies.{still_space}
 use Rattle.hart_calls.proofs.Copied.{around, reaches, Under}
-use Rattle.process_model.specs.Around.{Progress}
+use Rattle.process_model.specs.Environment.{Progress}
 use Rattle.process_model.specs.Bytes.{numbers_from}
 use Rattle.process_model.specs.CopyRuns.{more_in, more_out, run_in, run_out, so_far}
 use Rattle.process_model.specs.Frames.{resident_need}
-use Rattle.process_model.specs.Inserted.{inserted_other}
+use Rattle.process_model.specs.Insertion.{inserted_other}
 use Rattle.process_model.specs.PageMap.{get}
 use Rattle.process_model.specs.PageMoves.{files_after, PageMove}
 use Rattle.process_model.specs.Process.{Page, regions}
-use Rattle.process_model.specs.ReachedPages.{granted_again, no_alignment, reached_serves}
+use Rattle.process_model.specs.ResidenceLaws.{granted_again, no_alignment, reached_serves}
 use Rattle.process_model.specs.Regions.{copy_rule, keeps_stores}
 use Rattle.process_model.specs.Residence.{is_resident, is_resident_page, region_on, stored, with_page}
 use Rattle.sv39_entry.specs.Address.{page_of}
 use Rattle.sv39_entry.specs.declared.access.Access.{Access}
 use Rattle.sv39_entry.specs.declared.access.Access.TheVariants.{Load, Store}
-use Rattle.user_copy.specs.Reaching.{body_at, Place, Reaches, Words}
+use Rattle.user_copy.specs.ReachedPage.{body_at, Place, Reaches, StoreModel}
 use Rattle.user_copy.specs.Runs.{IsRead, Puts}
 
-module _ {Seat Frames Cabinet : Type 0} (l : Words Seat Frames Cabinet)
+module _ {Seat Frames Cabinet : Type 0} (l : StoreModel Seat Frames Cabinet)
     (goes : (x y z : Cabinet) (ms ns : List PageMove) → l.becomes x ms y → l.becomes y ns z → l.becomes x (ms ++ ns) z) (comes : (x y : Cabinet) (ms : List PageMove) → l.becomes x ms y → l.files y ≡ files_after (l.files x) ms)
-    (start : Place Seat Frames Cabinet) (w : Want) where
+    (start : Place Seat Frames Cabinet) (w : Shortage) where
   -- the page of the run was come to, and the other pages are as they were
   pub record Ran (g : Progress) (ms : List PageMove) (met : ℕ) (counts : List ℕ) (kind : Access) (address : ℕ) (d : Place Seat Frames Cabinet) (j : Progress) : Type 0 where
     pub same_scheme : j.process.scheme ≡ g.process.scheme

@@ -1,20 +1,22 @@
--- Processes that end with no entry more, and the files of those that end.
+-- Lemmas: a process that ends without a journal entry more (outcome Memory or JournalFull) ends as `IsOver` says, and leaves
+-- the files as `KeepsFilesByOutcome` says; without a shelf (files and their history), JournalFull ends it only if its
+-- journal is full (`unfiled_by`).
 use Rattle.std.proofs.Common.{◌≡◌, ◌<◌, arith, ℕ, List, [], length, refl, sym, subst, ◌∙◌, ap, inl, inr}
 use Rattle.std.proofs.lemmas.List.{append-nil}
 use Rattle.file_cabinet.specs.Promises.{refusal_of}
 use Rattle.file_cabinet.specs.declared.promise.PromiseError.{PromiseError}
 use Rattle.file_cabinet.specs.declared.promise.PromiseError.TheVariants as error
-use Rattle.file_shelf.specs.Shelved.{Becomes, CanRefuse, Shelved}
+use Rattle.file_shelf.specs.ShelfStates.{HasMoves, CanRefuse, ShelfState}
 use Rattle.frame_store.specs.View.{View}
-use Rattle.hart_calls.specs.Closed.{cause_of, IsCause}
-use Rattle.hart_calls.specs.Asks.{IsAccessCall}
-use Rattle.hart_calls.specs.Tells.{reads_of}
-use Rattle.hart_calls.specs.Wants.{nothing}
+use Rattle.hart_calls.specs.ProcessEnd.{cause_of, IsCause}
+use Rattle.hart_calls.specs.CallKinds.{IsAccessCall}
+use Rattle.hart_calls.specs.CallOutcomes.{reads_of}
+use Rattle.hart_calls.specs.Shortages.{nothing}
 use Rattle.hart_calls.proofs.Full.{no_moves}
 use Rattle.hart_calls.proofs.Staying.{reads_few}
 use Rattle.hart_calls.specs.Track.{next_of, Track}
-use Rattle.hart_calls.specs.Turned.{Filed, Unfiled}
-use Rattle.hart_calls.specs.Turns.{FiledOver, FullOver, IsOver, Last, NeedsFiles}
+use Rattle.hart_calls.specs.TurnResults.{HasFilesAfter, IsFullWithoutShelf}
+use Rattle.hart_calls.specs.TurnCases.{KeepsFilesByOutcome, IsFullByOutcome, IsOver, IsLastEntry, NeedsFiles}
 use Rattle.hart_calls.specs.declared.turn.Turn.{Turn}
 use Rattle.hart_calls.specs.declared.turn.Turn.TheVariants as turn
 use Rattle.process_model.specs.PageMoves.{all_moves, PageMove}
@@ -24,7 +26,7 @@ use Rattle.process_model.specs.declared.call.Outcome.TheVariants as outcome
 use Rattle.process_model.specs.declared.step.Refusal.{Refusal}
 use Rattle.process_model.specs.declared.step.Refusal.TheVariants as refusal
 
-pub cut_last : (t : Track) (f : Finished) (o : Outcome) → IsCause o → f.journal.items ≡ t.journal → Last t f o
+pub cut_last : (t : Track) (f : Finished) (o : Outcome) → IsCause o → f.journal.items ≡ t.journal → IsLastEntry t f o
 cut_last t f (outcome.Exited n) cause same = absurd cause
 cut_last t f (outcome.Ended r) cause same = absurd cause
 cut_last t f (outcome.Refused r) cause same = absurd cause
@@ -33,7 +35,7 @@ cut_last t f outcome.JournalFull cause same = same
 
 -- what its seat knows is of no account then
 
-seated_last : (t : Track) (seat : View) (room : ℕ) (f : Finished) (o : Outcome) → IsCause o → Last (record t { seat = seat; room = room }) f o → Last t f o
+seated_last : (t : Track) (seat : View) (room : ℕ) (f : Finished) (o : Outcome) → IsCause o → IsLastEntry (record t { seat = seat; room = room }) f o → IsLastEntry t f o
 seated_last t seat room f (outcome.Exited n) cause l = absurd cause
 seated_last t seat room f (outcome.Ended r) cause l = absurd cause
 seated_last t seat room f (outcome.Refused r) cause l = absurd cause
@@ -68,7 +70,7 @@ is_cause refusal.Memory = tt
 is_cause refusal.JournalFull = tt
 
 -- files that nobody read or wrote refuse what they refused before
-pub could_still : (a g : Shelved) (n : ℕ) (x : PromiseError) → Becomes a [] g → CanRefuse g n x → CanRefuse a n x
+pub could_still : (a g : ShelfState) (n : ℕ) (x : PromiseError) → HasMoves a [] g → CanRefuse g n x → CanRefuse a n x
 could_still a g n x became could = go x could
   where
     same : length g.history ≡ length a.history
@@ -78,16 +80,16 @@ could_still a g n x became could = go x could
     go error.Memory can = (can.0, omega (arith, can.1, same))
     go error.JournalFull can = (can.0, omega (arith, can.1, same))
 
-error_files : (t : Track) (f : Finished) (a b : Shelved) (x : PromiseError) → IsAccessCall (next_of t) → 0 < length (reads_of a.files nothing t.state (next_of t)) → CanRefuse a 1 x → Becomes a [] b → FiledOver t f (cause_of (refusal_of x)) a b
+error_files : (t : Track) (f : Finished) (a b : ShelfState) (x : PromiseError) → IsAccessCall (next_of t) → 0 < length (reads_of a.files nothing t.state (next_of t)) → CanRefuse a 1 x → HasMoves a [] b → KeepsFilesByOutcome t f (cause_of (refusal_of x)) a b
 error_files t f a b error.Memory access some could moved = record { reads = []; by = inl refl; becomes = moved; files = moved.files }
 error_files t f a b error.JournalFull access some could moved = (record { reads = []; by = inl refl; becomes = moved; files = moved.files }, inr (inl (access, some, could)))
 
-pub cut_files : (t : Track) (f : Finished) (a b : Shelved) (r : Refusal) (x : PromiseError) → CanRefuse a 1 x → 0 < length (reads_of a.files nothing t.state (next_of t)) → r ≡ refusal_of x → Becomes a [] b → IsAccessCall (next_of t) → f.outcome ≡ cause_of r → FiledOver t f f.outcome a b
-cut_files t f a b r x could some by moved access is = subst (λ (o : Outcome). FiledOver t f o a b) (sym (is ∙ ap cause_of by)) (error_files t f a b x access some could moved)
+pub cut_files : (t : Track) (f : Finished) (a b : ShelfState) (r : Refusal) (x : PromiseError) → CanRefuse a 1 x → 0 < length (reads_of a.files nothing t.state (next_of t)) → r ≡ refusal_of x → HasMoves a [] b → IsAccessCall (next_of t) → f.outcome ≡ cause_of r → KeepsFilesByOutcome t f f.outcome a b
+cut_files t f a b r x could some by moved access is = subst (λ (o : Outcome). KeepsFilesByOutcome t f o a b) (sym (is ∙ ap cause_of by)) (error_files t f a b x access some could moved)
 
 -- ---- without files
 
-full_by : (t : Track) (f : Finished) (o : Outcome) (a b : Shelved) → FiledOver t f o a b → a.history ≡ [] → all_moves t.state ≡ [] → FullOver t o
+full_by : (t : Track) (f : Finished) (o : Outcome) (a b : ShelfState) → KeepsFilesByOutcome t f o a b → a.history ≡ [] → all_moves t.state ≡ [] → IsFullByOutcome t o
 full_by t f (outcome.Exited n) a b filed empty none = tt
 full_by t f (outcome.Ended r) a b filed empty none = tt
 full_by t f (outcome.Refused r) a b filed empty none = tt
@@ -97,13 +99,13 @@ full_by t f outcome.JournalFull a b (same, inr (inl (access, some, could))) empt
     let long = ap (λ (ms : List PageMove). length ms) empty in
     let over = could.1 in
     absurd (omega (arith, over, long))
-full_by t f outcome.JournalFull a b (same, inr (inr (want, may, ends, lack, could))) empty none =
+full_by t f outcome.JournalFull a b (same, inr (inr (shortage, may, ends, lack, could))) empty none =
     let long = ap (λ (ms : List PageMove). length ms) empty in
     let moves = ap (λ (ms : List PageMove). length ms) none in
-    let few = reads_few a.files want t.state (next_of t) in
+    let few = reads_few a.files shortage t.state (next_of t) in
     let over = could.1 in
     absurd (omega (arith, few, over, long, moves))
 
-pub unfiled_by : {B : Type 0} (t : Track) (x : Turn B) (a b : Shelved) → Filed t x a b → a.history ≡ [] → (NeedsFiles t → ⊥) → Unfiled t x
-unfiled_by t (turn.Goes u c) a b filed empty none = tt
+pub unfiled_by : {B : Type 0} (t : Track) (x : Turn B) (a b : ShelfState) → HasFilesAfter t x a b → a.history ≡ [] → (NeedsFiles t → ⊥) → IsFullWithoutShelf t x
+unfiled_by t (turn.Continues u c) a b filed empty none = tt
 unfiled_by t (turn.Over f) a b filed empty none = full_by t f f.outcome a b filed empty (no_moves t.state t.state.mappings refl (λ h. none (inr h)))

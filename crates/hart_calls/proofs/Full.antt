@@ -1,17 +1,18 @@
--- The files' history has room for no more only where a process has a mapping: no page of another region comes from a file.
+-- Lemmas: only a process that has a mapping reads pages of files in an access (`read_maps`) or writes them back at its end
+-- (`written_maps`); so if the files refuse for lack of room in their history, it has a mapping (`full_of`, `full_for`).
 use Rattle.std.proofs.Common.{◌≡◌, ◌<◌, ℕ, Bool, true, false, Option, None, Some, List, [], ◌∷◌, ◌++◌, length, refl, ap, sym, subst, arith, inr}
 use Rattle.std.specs.Prelude.{flat_map}
-use Rattle.fault_rules.specs.Resides.{moves_for, moves_from}
+use Rattle.fault_rules.specs.MadeResident.{moves_for, moves_from}
 use Rattle.fault_rules.specs.Serves.{served_moves}
 use Rattle.file_cabinet.specs.declared.promise.PromiseError.{PromiseError}
 use Rattle.file_cabinet.specs.declared.promise.PromiseError.TheVariants as error
-use Rattle.file_shelf.specs.Shelved.{asks, CanRefuse, Shelved}
-use Rattle.hart_calls.specs.Asks.{IsAccessCall}
-use Rattle.hart_calls.specs.Closed.{cause_of, outcome_of}
-use Rattle.hart_calls.specs.Tells.{access_reads, asked, reads_of, rule_for}
-use Rattle.hart_calls.specs.Turns.{HasMapping, IsFull}
-use Rattle.hart_calls.specs.Wants.{nothing}
-use Rattle.hart_calls.specs.declared.entry.Entry.{Entry}
+use Rattle.file_shelf.specs.ShelfStates.{asks, CanRefuse, ShelfState}
+use Rattle.hart_calls.specs.CallKinds.{IsAccessCall}
+use Rattle.hart_calls.specs.ProcessEnd.{cause_of, outcome_of}
+use Rattle.hart_calls.specs.CallOutcomes.{access_reads, request, reads_of, rule_for}
+use Rattle.hart_calls.specs.TurnCases.{HasMapping, LacksJournalRoom}
+use Rattle.hart_calls.specs.Shortages.{nothing}
+use Rattle.hart_calls.specs.declared.journal_entry.JournalEntry.{JournalEntry}
 use Rattle.process_model.specs.Bytes.{is_width}
 use Rattle.process_model.specs.Files.{File}
 use Rattle.process_model.specs.Order.{EachRegion, HasNoFile, HasOrder, is_file}
@@ -19,7 +20,7 @@ use Rattle.process_model.specs.PageMap.{get}
 use Rattle.process_model.specs.PageMoves.{all_moves, mapping_moves, PageMove}
 use Rattle.process_model.specs.Process.{heap_of, Page, Process, regions}
 use Rattle.process_model.specs.Regions.{file, holds_page, image, Region, region_at, Source, zeros}
-use Rattle.process_model.specs.Service.{Asked}
+use Rattle.process_model.specs.Service.{AccessRequest}
 use Rattle.process_model.specs.declared.call.Call.{Call}
 use Rattle.process_model.specs.declared.call.Call.TheVariants as call
 use Rattle.process_model.specs.declared.step.Refusal.{Refusal}
@@ -42,7 +43,7 @@ written_maps p some = go p.mappings refl
     go [] is = let none = ap (λ (ms : List PageMove). length ms) (no_moves p [] is (λ h. h)) in absurd (omega (arith, some, none))
     go (m ∷ ms) is = subst HasMapping (sym is) tt
 
-pub full_of : (p : Process) (journal : List Entry) (e : PromiseError) (s : Shelved) → CanRefuse s (length (all_moves p)) e → IsFull p.mappings journal (outcome_of e)
+pub full_of : (p : Process) (journal : List JournalEntry) (e : PromiseError) (s : ShelfState) → CanRefuse s (length (all_moves p)) e → LacksJournalRoom p.mappings journal (outcome_of e)
 full_of p journal error.Memory s could = tt
 full_of p journal error.JournalFull s could = inr (written_maps p (asks s (length (all_moves p)) error.JournalFull could))
 
@@ -84,15 +85,15 @@ module _ (p : Process) (order : HasOrder 0 p) (files : List File) where
           absurd (omega (arith, some, long))
       go (m ∷ ms) is = subst HasMapping (sym is) tt
 
-  accessed_maps : (a : Asked) (wide : Bool) → 0 < length (access_reads files p a wide) → HasMapping p.mappings
+  accessed_maps : (a : AccessRequest) (wide : Bool) → 0 < length (access_reads files p a wide) → HasMapping p.mappings
   accessed_maps a true some = served_maps (page_of a.address) (rule_for p a) some
   accessed_maps a false some = absurd (omega (arith, some))
 
   -- a process that reads a page of a file has a mapping
   pub read_maps : (c : Call) → IsAccessCall c → 0 < length (reads_of files nothing p c) → HasMapping p.mappings
-  read_maps (call.Fetch address) access some = accessed_maps (asked Fetch address 4 0) (is_width 4) some
-  read_maps (call.Load address width) access some = accessed_maps (asked Load address width 0) (is_width width) some
-  read_maps (call.Store address width value) access some = accessed_maps (asked Store address width value) (is_width width) some
+  read_maps (call.Fetch address) access some = accessed_maps (request Fetch address 4 0) (is_width 4) some
+  read_maps (call.Load address width) access some = accessed_maps (request Load address width 0) (is_width width) some
+  read_maps (call.Store address width value) access some = accessed_maps (request Store address width value) (is_width width) some
   read_maps (call.Exec i) access some = absurd access
   read_maps (call.Sbrk delta) access some = absurd access
   read_maps (call.Mmap len protection flags f) access some = absurd access
@@ -103,7 +104,7 @@ module _ (p : Process) (order : HasOrder 0 p) (files : List File) where
   read_maps (call.Fork list) access some = absurd access
 
 -- whatever it was refused for
-pub full_for : (p : Process) (journal : List Entry) (r : Refusal) → HasMapping p.mappings → IsFull p.mappings journal (cause_of r)
+pub full_for : (p : Process) (journal : List JournalEntry) (r : Refusal) → HasMapping p.mappings → LacksJournalRoom p.mappings journal (cause_of r)
 full_for p journal refusal.NoFrame maps = tt
 full_for p journal refusal.NoSlot maps = tt
 full_for p journal refusal.SharersFull maps = tt

@@ -1,17 +1,19 @@
--- Journals that are one entry longer, and what their entries say.
+-- Lemmas on journals (a process's calls with their replies): with one more entry a journal replays one step further; the
+-- number of children named affects forks alone; plain replies name no child and end nothing; which page moves are reads;
+-- evidence of a shortage outlasts the release of frames; counts of forks.
 use Rattle.std.proofs.Common.{◌≡◌, ℕ, suc, ◌+◌, ◌≤◌, List, [], ◌∷◌, ◌++◌, length, refl, ap, subst, ◌∙◌, arith, drop}
 use Rattle.std.proofs.lemmas.List.{append-nil}
-use Rattle.address_space.specs.Steps.{Takes}
+use Rattle.address_space.specs.Steps.{TakesFrames}
 use Rattle.frame_store.specs.View.{Tallies, View}
-use Rattle.hart_calls.specs.Asks.{IsStaying, reads}
-use Rattle.hart_calls.specs.Comes.{at_stop, IsPlain}
-use Rattle.hart_calls.specs.Lacks.{TellsLack, WasDry}
-use Rattle.hart_calls.specs.Replay.{call_at, forked, forks, Leads, Replays}
-use Rattle.hart_calls.specs.Tells.{reads_of, told, writes_of}
-use Rattle.hart_calls.specs.Turns.{BySlot, GoesOn}
-use Rattle.hart_calls.specs.Wants.{frames_at, nothing, Want}
-use Rattle.hart_calls.specs.declared.entry.Entry.{Entry}
-use Rattle.hart_calls.specs.declared.slot.Slot.{Slot}
+use Rattle.hart_calls.specs.CallKinds.{IsPlainCall, moves_read}
+use Rattle.hart_calls.specs.CallResults.{at_stop, IsPlain}
+use Rattle.hart_calls.specs.ShortageReports.{ReportsShortage, WasDry}
+use Rattle.hart_calls.specs.Replay.{call_at, forked, forks, IsReplayStep, Replays}
+use Rattle.hart_calls.specs.CallOutcomes.{reads_of, call_outcome, writes_of}
+use Rattle.hart_calls.specs.TurnCases.{BySlot, LeavesRunning}
+use Rattle.hart_calls.specs.Shortages.{frames_at, nothing, Shortage}
+use Rattle.hart_calls.specs.declared.journal_entry.JournalEntry.{JournalEntry}
+use Rattle.hart_calls.specs.declared.fork_slot.ForkSlot.{ForkSlot}
 use Rattle.process_model.specs.Files.{File}
 use Rattle.process_model.specs.PageMoves.{PageMove}
 use Rattle.process_model.specs.Process.{Process}
@@ -23,13 +25,13 @@ use Rattle.sv39_entry.specs.Address.{page_of}
 use Rattle.sv39_entry.specs.declared.rule.Rule.{Rule}
 use Rattle.sv39_entry.specs.declared.rule.Rule.TheVariants as rule
 
-pub replays_longer : (p : Process) (n k : ℕ) (calls : List Call) (es : List Entry) (e : Entry) (q r : Process) → Replays p n k calls es q → e.call ≡ call_at calls (k + length es)
-    → (files : List File) × Leads files (n + forks es) q e r → Replays p n k calls (es ++ e ∷ []) r
+pub replays_longer : (p : Process) (n k : ℕ) (calls : List Call) (es : List JournalEntry) (e : JournalEntry) (q r : Process) → Replays p n k calls es q → e.call ≡ call_at calls (k + length es)
+    → (files : List File) × IsReplayStep files (n + forks es) q e r → Replays p n k calls (es ++ e ∷ []) r
 replays_longer p n k calls [] e q r replays next (files, leads) =
     let none : n + 0 ≡ n = omega arith in
     let here : k + 0 ≡ k = omega arith in (
       subst (λ (m : ℕ). e.call ≡ call_at calls m) here next,
-      (files, r, subst (λ (z : Process). Leads files n z e r) replays (subst (λ (m : ℕ). Leads files m q e r) none leads), refl),
+      (files, r, subst (λ (z : Process). IsReplayStep files n z e r) replays (subst (λ (m : ℕ). IsReplayStep files m q e r) none leads), refl),
     )
 replays_longer p n k calls (x ∷ es) e q r (first, (fs, s, one, rest)) next (files, leads) =
     let many : n + (forked x.reply + forks es) ≡ n + forked x.reply + forks es = omega arith in
@@ -40,31 +42,31 @@ replays_longer p n k calls (x ∷ es) e q r (first, (fs, s, one, rest)) next (fi
         s,
         one,
         replays_longer s (n + forked x.reply) (suc k) calls es e q r rest (subst (λ (m : ℕ). e.call ≡ call_at calls m) there next)
-            (files, subst (λ (m : ℕ). Leads files m q e r) many leads),
+            (files, subst (λ (m : ℕ). IsReplayStep files m q e r) many leads),
       ),
     )
 
 -- from the beginning
-pub one_longer : (p : Process) (calls : List Call) (es : List Entry) (e : Entry) (q r : Process) → Replays p 0 0 calls es q → e.call ≡ call_at calls (length es)
-    → (files : List File) × Leads files (forks es) q e r → Replays p 0 0 calls (es ++ e ∷ []) r
+pub one_longer : (p : Process) (calls : List Call) (es : List JournalEntry) (e : JournalEntry) (q r : Process) → Replays p 0 0 calls es q → e.call ≡ call_at calls (length es)
+    → (files : List File) × IsReplayStep files (forks es) q e r → Replays p 0 0 calls (es ++ e ∷ []) r
 one_longer p calls es e q r replays next (files, leads) =
     let here : length es ≡ 0 + length es = omega arith in
     let many : forks es ≡ 0 + forks es = omega arith in
-    replays_longer p 0 0 calls es e q r replays (subst (λ (m : ℕ). e.call ≡ call_at calls m) here next) (files, subst (λ (m : ℕ). Leads files m q e r) many leads)
+    replays_longer p 0 0 calls es e q r replays (subst (λ (m : ℕ). e.call ≡ call_at calls m) here next) (files, subst (λ (m : ℕ). IsReplayStep files m q e r) many leads)
 
 -- how many children were named is of account to a fork alone
-pub same_told : (files : List File) (want : Want) (n : ℕ) (p : Process) (c : Call) → IsStaying c → told files want n p c ≡ told files want 0 p c
-same_told files want n p (call.Fetch address) stays = refl
-same_told files want n p (call.Load address width) stays = refl
-same_told files want n p (call.Store address width value) stays = refl
-same_told files want n p (call.Exec im) stays = refl
-same_told files want n p (call.Sbrk delta) stays = refl
-same_told files want n p (call.Mmap len protection flags f) stays = refl
-same_told files want n p (call.Munmap address len) stays = refl
-same_told files want n p (call.CopyIn address count) stays = refl
-same_told files want n p (call.CopyOut address bytes) stays = refl
-same_told files want n p (call.Exit status) stays = absurd stays
-same_told files want n p (call.Fork list) stays = absurd stays
+pub same_told : (files : List File) (shortage : Shortage) (n : ℕ) (p : Process) (c : Call) → IsPlainCall c → call_outcome files shortage n p c ≡ call_outcome files shortage 0 p c
+same_told files shortage n p (call.Fetch address) stays = refl
+same_told files shortage n p (call.Load address width) stays = refl
+same_told files shortage n p (call.Store address width value) stays = refl
+same_told files shortage n p (call.Exec im) stays = refl
+same_told files shortage n p (call.Sbrk delta) stays = refl
+same_told files shortage n p (call.Mmap len protection flags f) stays = refl
+same_told files shortage n p (call.Munmap address len) stays = refl
+same_told files shortage n p (call.CopyIn address count) stays = refl
+same_told files shortage n p (call.CopyOut address bytes) stays = refl
+same_told files shortage n p (call.Exit status) stays = absurd stays
+same_told files shortage n p (call.Fork list) stays = absurd stays
 
 -- a plain answer names no child, and ends nothing
 
@@ -89,7 +91,7 @@ plain_forks (reply.ShortOut r n) is = refl
 plain_forks (reply.Exited n) is = refl
 plain_forks (reply.Refused r) is = refl
 
-pub plain_goes : (r : Reply) → IsPlain r → GoesOn r
+pub plain_goes : (r : Reply) → IsPlain r → LeavesRunning r
 plain_goes reply.Done is = tt
 plain_goes (reply.Started n) is = tt
 plain_goes (reply.Forked n) is = tt
@@ -110,7 +112,7 @@ plain_goes (reply.ShortOut r n) is = tt
 plain_goes (reply.Exited n) is = is
 plain_goes (reply.Refused r) is = tt
 
-pub no_slot : (s : Slot) (c : Call) (r : Reply) → IsStaying c → BySlot s c r
+pub no_slot : (s : ForkSlot) (c : Call) (r : Reply) → IsPlainCall c → BySlot s c r
 no_slot s (call.Fetch address) r stays = tt
 no_slot s (call.Load address width) r stays = tt
 no_slot s (call.Store address width value) r stays = tt
@@ -129,25 +131,25 @@ behind : {A : Type 0} (xs ys : List A) → drop (length xs) (xs ++ ys) ≡ ys
 behind [] ys = refl
 behind (x ∷ xs) ys = behind xs ys
 
-pub only_reads : (files : List File) (want : Want) (p : Process) (c : Call) → reads c (reads_of files want p c ++ writes_of files want p c) ≡ reads_of files want p c
-only_reads files want p (call.Fetch address) = append-nil _
-only_reads files want p (call.Load address width) = append-nil _
-only_reads files want p (call.Store address width value) = append-nil _
-only_reads files want p (call.Exec im) = refl
-only_reads files want p (call.Sbrk delta) = refl
-only_reads files want p (call.Mmap len protection flags f) = refl
-only_reads files want p (call.Munmap address len) = refl
-only_reads files want p (call.CopyIn address count) = append-nil _
-only_reads files want p (call.CopyOut address bytes) = append-nil _
-only_reads files want p (call.Exit status) = refl
-only_reads files want p (call.Fork list) = refl
+pub only_reads : (files : List File) (shortage : Shortage) (p : Process) (c : Call) → moves_read c (reads_of files shortage p c ++ writes_of files shortage p c) ≡ reads_of files shortage p c
+only_reads files shortage p (call.Fetch address) = append-nil _
+only_reads files shortage p (call.Load address width) = append-nil _
+only_reads files shortage p (call.Store address width value) = append-nil _
+only_reads files shortage p (call.Exec im) = refl
+only_reads files shortage p (call.Sbrk delta) = refl
+only_reads files shortage p (call.Mmap len protection flags f) = refl
+only_reads files shortage p (call.Munmap address len) = refl
+only_reads files shortage p (call.CopyIn address count) = append-nil _
+only_reads files shortage p (call.CopyOut address bytes) = append-nil _
+only_reads files shortage p (call.Exit status) = refl
+only_reads files shortage p (call.Fork list) = refl
 
-pub read_since : (files : List File) (want : Want) (p : Process) (c : Call) (before after : List PageMove) → after ≡ before ++ (reads_of files want p c ++ writes_of files want p c)
-    → reads c (drop (length before) after) ≡ reads_of files want p c
-read_since files want p c before after is = ap (λ (ms : List PageMove). reads c (drop (length before) ms)) is ∙ ap (reads c) (behind before _) ∙ only_reads files want p c
+pub read_since : (files : List File) (shortage : Shortage) (p : Process) (c : Call) (before after : List PageMove) → after ≡ before ++ (reads_of files shortage p c ++ writes_of files shortage p c)
+    → moves_read c (drop (length before) after) ≡ reads_of files shortage p c
+read_since files shortage p c before after is = ap (λ (ms : List PageMove). moves_read c (drop (length before) ms)) is ∙ ap (moves_read c) (behind before _) ∙ only_reads files shortage p c
 
 -- the tallies of frames that were let go are as they were
-module _ (v w z : View) (takes : Takes w z 0 []) where
+module _ (v w z : View) (takes : TakesFrames w z 0 []) where
   was_later : (need met : ℕ) (counts : List ℕ) → WasDry v w need met counts → WasDry v z need met counts
   was_later need met counts dry =
       let zeros = ap (λ (t : Tallies). t.zeros) takes.tallies in
@@ -159,7 +161,7 @@ module _ (v w z : View) (takes : Takes w z 0 []) where
       record { zeros = omega (arith, zeros, was_zeros); short = omega (arith, short, was_short); claims = omega (arith, claims, was_claims); looks = ap (λ (t : Tallies). t.looks) takes.tallies ∙ append-nil w.tallies.looks ∙ dry.looks }
 
   module _ (files : List File) (p : Process) where
-    later_frames : (c : Call) (page : ℕ) → TellsLack v w files p c (frames_at page) → TellsLack v z files p c (frames_at page)
+    later_frames : (c : Call) (page : ℕ) → ReportsShortage v w files p c (frames_at page) → ReportsShortage v z files p c (frames_at page)
     later_frames (call.Fetch address) page (count, counted, dry) = (count, counted, was_later _ _ _ dry)
     later_frames (call.Load address width) page (count, counted, dry) = (count, counted, was_later _ _ _ dry)
     later_frames (call.Store address width value) page (count, counted, dry) = (count, counted, was_later _ _ _ dry)
@@ -172,7 +174,7 @@ module _ (v w z : View) (takes : Takes w z 0 []) where
     later_frames (call.Exit status) page dry = tt
     later_frames (call.Fork list) page dry = tt
 
-    later_nothing : (c : Call) → TellsLack v z files p c nothing
+    later_nothing : (c : Call) → ReportsShortage v z files p c nothing
     later_nothing (call.Fetch address) = tt
     later_nothing (call.Load address width) = tt
     later_nothing (call.Store address width value) = tt
@@ -185,7 +187,7 @@ module _ (v w z : View) (takes : Takes w z 0 []) where
     later_nothing (call.Exit status) = tt
     later_nothing (call.Fork list) = tt
 
-    pub later_stop : (c : Call) (r : Rule) (address : ℕ) → TellsLack v w files p c (at_stop r address) → TellsLack v z files p c (at_stop r address)
+    pub later_stop : (c : Call) (r : Rule) (address : ℕ) → ReportsShortage v w files p c (at_stop r address) → ReportsShortage v z files p c (at_stop r address)
     later_stop c rule.Misaligned address dry = later_nothing c
     later_stop c rule.BeyondMax address dry = later_nothing c
     later_stop c rule.KernelPage address dry = later_nothing c
@@ -219,10 +221,10 @@ forked_few (reply.ShortOut r n) = omega arith
 forked_few (reply.Exited n) = omega arith
 forked_few (reply.Refused r) = omega arith
 
-pub forks_few : (es : List Entry) → forks es ≤ length es
+pub forks_few : (es : List JournalEntry) → forks es ≤ length es
 forks_few [] = omega arith
 forks_few (e ∷ es) = let rest = forks_few es in let one = forked_few e.reply in omega (arith, rest, one)
 
-pub forks_more : (es : List Entry) (e : Entry) → forks (es ++ e ∷ []) ≡ forks es + forked e.reply
+pub forks_more : (es : List JournalEntry) (e : JournalEntry) → forks (es ++ e ∷ []) ≡ forks es + forked e.reply
 forks_more [] e = omega arith
 forks_more (x ∷ es) e = let rest = forks_more es e in omega (arith, rest)

@@ -4,7 +4,7 @@ pub mod Answered
 pub mod Beside
 pub mod Bodies
 pub mod Copied
-pub mod CopiedComes
+pub mod CopiedResults
 pub mod CopiedEnds
 pub mod CopiedIn
 pub mod CopiedOut

@@ -1,28 +1,30 @@
--- Processes that fork, and those that exit.
+-- Lemmas for exit and fork: an exited process ends as `IsOver` and `KeepsFilesByOutcome` say; a process that forked, or
+-- whose fork was refused, continues as `ContinuesTurn` says with the files unchanged (`KeepsFilesOn`); `cow_fork`'s errors
+-- as refusals, with their evidence.
 use Rattle.std.proofs.lemmas.List.{length-append}
 use Rattle.std.proofs.Common.{◌≡◌, ◌⊎◌, ◌<◌, ◌≤◌, ℕ, ℤ, List, [], ◌∷◌, ◌++◌, length, refl, ap, sym, subst, ◌∙◌, arith, Option, None, Some, inl, inr}
-use Rattle.address_space.specs.Steps.{IsBare, RunsDry, Takes}
+use Rattle.address_space.specs.Steps.{IsBare, RunsDry, TakesFrames}
 use Rattle.cow_fork.specs.Forks.{refusal_of}
-use Rattle.cow_fork.specs.declared.forking.ForkError.{ForkError}
-use Rattle.cow_fork.specs.declared.forking.ForkError.TheVariants as fork
+use Rattle.cow_fork.specs.declared.fork_process.ForkError.{ForkError}
+use Rattle.cow_fork.specs.declared.fork_process.ForkError.TheVariants as fork
 use Rattle.file_cabinet.specs.declared.promise.PromiseError.{PromiseError}
 use Rattle.file_cabinet.specs.declared.promise.PromiseError.TheVariants as error
-use Rattle.file_shelf.specs.Shelved.{Becomes, CanRefuse, Shelved, stays}
+use Rattle.file_shelf.specs.ShelfStates.{HasMoves, CanRefuse, ShelfState, stays}
 use Rattle.frame_store.specs.View.{Tallies, View}
-use Rattle.hart_calls.specs.Closed.{Closes, IsClosed, outcome_of}
-use Rattle.hart_calls.specs.Lacks.{TellsLack}
-use Rattle.hart_calls.specs.Replay.{call_at, forked, forks, Leads, Replays}
-use Rattle.hart_calls.specs.Tells.{file_of, reads_of, told, writes_of}
-use Rattle.hart_calls.specs.Track.{Adds, calls_of, IsChild, next_of, Track}
-use Rattle.hart_calls.specs.Turns.{BySlot, FiledEnd, FiledOn, FiledOver, ForkAnswer, Goes, GoesOn, HasNoEnd, IsFull, IsOver, Last, most_entries, Unwritten}
+use Rattle.hart_calls.specs.ProcessEnd.{Closes, IsClosed, outcome_of}
+use Rattle.hart_calls.specs.ShortageReports.{ReportsShortage}
+use Rattle.hart_calls.specs.Replay.{call_at, forked, forks, IsReplayStep, Replays}
+use Rattle.hart_calls.specs.CallOutcomes.{file_of, reads_of, call_outcome, writes_of}
+use Rattle.hart_calls.specs.Track.{AppendsEntry, calls_of, IsChild, next_of, Track}
+use Rattle.hart_calls.specs.TurnCases.{BySlot, KeepsFilesAtEnd, KeepsFilesOn, KeepsFilesByOutcome, ForkAnswer, ContinuesTurn, LeavesRunning, HasNoEnd, LacksJournalRoom, IsOver, IsLastEntry, most_entries, Unwritten}
 use Rattle.hart_calls.proofs.Full.{full_of}
-use Rattle.hart_calls.specs.Comes.{Refuses}
-use Rattle.hart_calls.specs.Wants.{frames_at, IsForkRefusal, MayLack, nothing, refused, Want, WasAsked}
-use Rattle.hart_calls.specs.declared.entry.Entry.{Entry}
+use Rattle.hart_calls.specs.CallResults.{RefusesPromise}
+use Rattle.hart_calls.specs.Shortages.{frames_at, IsForkRefusal, CanBeShort, nothing, refused, Shortage, WasAsked}
+use Rattle.hart_calls.specs.declared.journal_entry.JournalEntry.{JournalEntry}
 use Rattle.hart_calls.specs.declared.finished.Finished.{Finished}
 use Rattle.process_model.specs.declared.call.Outcome.{Outcome}
 use Rattle.process_model.specs.declared.call.Outcome.TheVariants as outcome
-use Rattle.hart_calls.specs.declared.slot.Slot.{Slot}
+use Rattle.hart_calls.specs.declared.fork_slot.ForkSlot.{ForkSlot}
 use Rattle.hart_calls.proofs.Journals.{one_longer}
 use Rattle.process_model.specs.Files.{File}
 use Rattle.process_model.specs.Frames.{fork_need}
@@ -35,29 +37,29 @@ use Rattle.process_model.specs.declared.step.Refusal.{Refusal}
 use Rattle.process_model.specs.declared.step.Refusal.TheVariants as refusal
 use Rattle.process_model.specs.declared.step.Reply.{Reply}
 use Rattle.process_model.specs.declared.step.Reply.TheVariants as reply
-use Rattle.shared_frames.specs.Fits.{view_of}
+use Rattle.shared_frames.specs.SeatsOfTable.{view_of}
 
 -- ---- exit
 
-module _ (t : Track) (status : ℤ) (e : Entry) (called : e.call ≡ call.Exit status) (answer : e.reply ≡ reply.Exited status) (pages : e.pages.items ≡ []) (none : e.file ≡ None) (next : next_of t ≡ call.Exit status)
-    (replays : Replays t.opening 0 0 (calls_of t) t.journal t.state) (room : length t.journal < most_entries) (f : Finished) (name : f.name.items ≡ t.name) (bare : IsBare (view_of f.seat)) (a d : Shelved) (closes : Closes t.state t.journal e (outcome.Exited status) f a d) where
-  abbrev leads : Leads a.files (forks t.journal) t.state e t.state
+module _ (t : Track) (status : ℤ) (e : JournalEntry) (called : e.call ≡ call.Exit status) (answer : e.reply ≡ reply.Exited status) (pages : e.pages.items ≡ []) (none : e.file ≡ None) (next : next_of t ≡ call.Exit status)
+    (replays : Replays t.opening 0 0 (calls_of t) t.journal t.state) (room : length t.journal < most_entries) (f : Finished) (name : f.name.items ≡ t.name) (bare : IsBare (view_of f.seat)) (a d : ShelfState) (closes : Closes t.state t.journal e (outcome.Exited status) f a d) where
+  abbrev leads : IsReplayStep a.files (forks t.journal) t.state e t.state
   leads = record {
-    want = nothing;
+    shortage = nothing;
     possible = tt;
-    reply = answer ∙ ap (λ (k : Call). (told a.files nothing (forks t.journal) t.state k).reply) (sym called);
-    process = ap (λ (k : Call). (told a.files nothing (forks t.journal) t.state k).process) (sym called);
+    reply = answer ∙ ap (λ (k : Call). (call_outcome a.files nothing (forks t.journal) t.state k).reply) (sym called);
+    process = ap (λ (k : Call). (call_outcome a.files nothing (forks t.journal) t.state k).process) (sym called);
     pages = pages ∙ ap (λ (k : Call). reads_of a.files nothing t.state k) (sym called);
     file = none ∙ ap (λ (k : Call). file_of a.files k) (sym called);
   }
 
-  calm : TellsLack t.seat (view_of f.seat) a.files t.state e.call nothing
-  calm = subst (λ (k : Call). TellsLack t.seat (view_of f.seat) a.files t.state k nothing) (sym called) tt
+  calm : ReportsShortage t.seat (view_of f.seat) a.files t.state e.call nothing
+  calm = subst (λ (k : Call). ReportsShortage t.seat (view_of f.seat) a.files t.state k nothing) (sym called) tt
 
   next_is : e.call ≡ call_at (calls_of t) (length t.journal)
   next_is = called ∙ sym next
 
-  broken_last : (z : PromiseError) → f.journal.items ≡ t.journal → Last t f (outcome_of z)
+  broken_last : (z : PromiseError) → f.journal.items ≡ t.journal → IsLastEntry t f (outcome_of z)
   broken_last error.Memory same = same
   broken_last error.JournalFull same = same
 
@@ -66,10 +68,10 @@ module _ (t : Track) (status : ℤ) (e : Entry) (called : e.call ≡ call.Exit s
     name = name;
     bare = bare;
     state = t.state;
-    replays = subst (λ (es : List Entry). Replays t.opening 0 0 (calls_of t) es t.state) (sym closed.journal) (one_longer t.opening (calls_of t) t.journal e t.state t.state replays next_is (a.files, leads));
-    full = subst (IsFull t.state.mappings f.journal.items) (sym closed.outcome) tt;
-    few = let long = ap (λ (es : List Entry). length es) closed.journal in let both = length-append t.journal (e ∷ []) in omega (arith, long, both, room);
-    last = subst (λ (o : Outcome). Last t f o) (sym closed.outcome) record {
+    replays = subst (λ (es : List JournalEntry). Replays t.opening 0 0 (calls_of t) es t.state) (sym closed.journal) (one_longer t.opening (calls_of t) t.journal e t.state t.state replays next_is (a.files, leads));
+    full = subst (LacksJournalRoom t.state.mappings f.journal.items) (sym closed.outcome) tt;
+    few = let long = ap (λ (es : List JournalEntry). length es) closed.journal in let both = length-append t.journal (e ∷ []) in omega (arith, long, both, room);
+    last = subst (λ (o : Outcome). IsLastEntry t f o) (sym closed.outcome) record {
       entry = e;
       files = a.files;
       after = t.state;
@@ -84,146 +86,146 @@ module _ (t : Track) (status : ℤ) (e : Entry) (called : e.call ≡ call.Exit s
     name = name;
     bare = bare;
     state = t.state;
-    replays = subst (λ (es : List Entry). Replays t.opening 0 0 (calls_of t) es t.state) (sym broken.journal) replays;
-    full = subst (IsFull t.state.mappings f.journal.items) (sym broken.outcome) (full_of t.state f.journal.items broken.error a broken.could);
-    few = let long = ap (λ (es : List Entry). length es) broken.journal in omega (arith, long, room);
-    last = subst (λ (o : Outcome). Last t f o) (sym broken.outcome) (broken_last broken.error broken.journal);
+    replays = subst (λ (es : List JournalEntry). Replays t.opening 0 0 (calls_of t) es t.state) (sym broken.journal) replays;
+    full = subst (LacksJournalRoom t.state.mappings f.journal.items) (sym broken.outcome) (full_of t.state f.journal.items broken.error a broken.could);
+    few = let long = ap (λ (es : List JournalEntry). length es) broken.journal in omega (arith, long, room);
+    last = subst (λ (o : Outcome). IsLastEntry t f o) (sym broken.outcome) (broken_last broken.error broken.journal);
   }
 
   pub exit_over : IsOver t f
   exit_over = over_by closes
 
-  exit_end : IsClosed t.state t.journal e (outcome.Exited status) f a d → FiledEnd t f a d
+  exit_end : IsClosed t.state t.journal e (outcome.Exited status) f a d → KeepsFilesAtEnd t f a d
   exit_end closed = record {
     entry = e;
     after = t.state;
     adds = closed.journal;
     leads = leads;
-    files = closed.files ∙ ap (λ (k : Call). (told a.files nothing (forks t.journal) t.state k).files) (sym called);
-    becomes = subst (λ (ms : List PageMove). Becomes a (ms ++ all_moves t.state) d) (sym pages) closed.moves;
+    files = closed.files ∙ ap (λ (k : Call). (call_outcome a.files nothing (forks t.journal) t.state k).files) (sym called);
+    becomes = subst (λ (ms : List PageMove). HasMoves a (ms ++ all_moves t.state) d) (sym pages) closed.moves;
   }
 
-  exit_unwritten : Becomes a [] d → Unwritten t.state (next_of t) a d
+  exit_unwritten : HasMoves a [] d → Unwritten t.state (next_of t) a d
   exit_unwritten moved = record { reads = []; by = inl refl; becomes = moved; files = moved.files }
 
-  exit_broken : (z : PromiseError) → CanRefuse a (length (all_moves t.state)) z → Becomes a [] d → FiledOver t f (outcome_of z) a d
+  exit_broken : (z : PromiseError) → CanRefuse a (length (all_moves t.state)) z → HasMoves a [] d → KeepsFilesByOutcome t f (outcome_of z) a d
   exit_broken error.Memory could moved = exit_unwritten moved
   exit_broken error.JournalFull could moved = (exit_unwritten moved, inr (inr (subst (λ (k : Call). HasNoEnd t f k a) (sym next) (nothing, tt, tt, tt, (omega (arith, could.0), omega (arith, could.1))))))
 
-  exit_by : Closes t.state t.journal e (outcome.Exited status) f a d → FiledOver t f f.outcome a d
-  exit_by (inl closed) = subst (λ (o : Outcome). FiledOver t f o a d) (sym closed.outcome) (exit_end closed)
-  exit_by (inr broken) = subst (λ (o : Outcome). FiledOver t f o a d) (sym broken.outcome) (exit_broken broken.error broken.could broken.moves)
+  exit_by : Closes t.state t.journal e (outcome.Exited status) f a d → KeepsFilesByOutcome t f f.outcome a d
+  exit_by (inl closed) = subst (λ (o : Outcome). KeepsFilesByOutcome t f o a d) (sym closed.outcome) (exit_end closed)
+  exit_by (inr broken) = subst (λ (o : Outcome). KeepsFilesByOutcome t f o a d) (sym broken.outcome) (exit_broken broken.error broken.could broken.moves)
 
-  pub exit_filed : FiledOver t f f.outcome a d
+  pub exit_filed : KeepsFilesByOutcome t f f.outcome a d
   exit_filed = exit_by closes
 
 -- ---- fork
 
 -- it asks nothing of files
 
-fork_lacks : (files other : List File) (p : Process) (k : ℕ) (w : Want) → MayLack files p (call.Fork k) w → MayLack other p (call.Fork k) w
+fork_lacks : (files other : List File) (p : Process) (k : ℕ) (w : Shortage) → CanBeShort files p (call.Fork k) w → CanBeShort other p (call.Fork k) w
 fork_lacks files other p k nothing may = tt
 fork_lacks files other p k (frames_at n) may = may
 fork_lacks files other p k (refused done r) may = may
 
-fork_asks : (Refused : ℕ → Refusal → Type 0) (Kept : ℕ → Type 0) (p : Process) (k : ℕ) (w : Want) → WasAsked Refused Kept p (call.Fork k) w
-fork_asks Refused Kept p k nothing = tt
-fork_asks Refused Kept p k (frames_at n) = tt
-fork_asks Refused Kept p k (refused done r) = tt
+fork_asks : (Refused : ℕ → Refusal → Type 0) (Promised : ℕ → Type 0) (p : Process) (k : ℕ) (w : Shortage) → WasAsked Refused Promised p (call.Fork k) w
+fork_asks Refused Promised p k nothing = tt
+fork_asks Refused Promised p k (frames_at n) = tt
+fork_asks Refused Promised p k (refused done r) = tt
 
-fork_same : (files other : List File) (n : ℕ) (p : Process) (k : ℕ) (w : Want) → (told files w n p (call.Fork k)).reply ≡ (told other w n p (call.Fork k)).reply
+fork_same : (files other : List File) (n : ℕ) (p : Process) (k : ℕ) (w : Shortage) → (call_outcome files w n p (call.Fork k)).reply ≡ (call_outcome other w n p (call.Fork k)).reply
 fork_same files other n p k nothing = refl
 fork_same files other n p k (frames_at m) = refl
 fork_same files other n p k (refused done r) = refl
 
-fork_process : (files other : List File) (n : ℕ) (p : Process) (k : ℕ) (w : Want) → (told files w n p (call.Fork k)).process ≡ (told other w n p (call.Fork k)).process
+fork_process : (files other : List File) (n : ℕ) (p : Process) (k : ℕ) (w : Shortage) → (call_outcome files w n p (call.Fork k)).process ≡ (call_outcome other w n p (call.Fork k)).process
 fork_process files other n p k nothing = refl
 fork_process files other n p k (frames_at m) = refl
 fork_process files other n p k (refused done r) = refl
 
-fork_files : (files : List File) (n : ℕ) (p : Process) (k : ℕ) (w : Want) → files ≡ (told files w n p (call.Fork k)).files
+fork_files : (files : List File) (n : ℕ) (p : Process) (k : ℕ) (w : Shortage) → files ≡ (call_outcome files w n p (call.Fork k)).files
 fork_files files n p k nothing = refl
 fork_files files n p k (frames_at m) = refl
 fork_files files n p k (refused done r) = refl
 
-module _ (t u : Track) (c : Option Track) (s : Slot) (k : ℕ) (next : next_of t ≡ call.Fork k) (g : Goes t u c s) (a : Shelved) where
+module _ (t u : Track) (c : Option Track) (s : ForkSlot) (k : ℕ) (next : next_of t ≡ call.Fork k) (g : ContinuesTurn t u c s) (a : ShelfState) where
   is_fork : g.entry.call ≡ call.Fork k
   is_fork = g.adds.next ∙ next
 
-  pub fork_filed : FiledOn t u a a
+  pub fork_filed : KeepsFilesOn t u a a
   fork_filed =
       let n = forks t.journal in
-      let w = g.leads.want in
+      let w = g.leads.shortage in
       let e = g.entry in
       let back : call.Fork k ≡ e.call = sym is_fork in
       record {
         entry = e;
         adds = g.adds.journal;
         leads = record {
-          want = w;
-          possible = subst (λ (z : Call). MayLack a.files t.state z w) back (fork_lacks g.files a.files t.state k w (subst (λ (z : Call). MayLack g.files t.state z w) is_fork g.leads.possible));
-          reply = g.leads.reply ∙ ap (λ (z : Call). (told g.files w n t.state z).reply) is_fork ∙ fork_same g.files a.files n t.state k w ∙ ap (λ (z : Call). (told a.files w n t.state z).reply) back;
-          process = g.leads.process ∙ ap (λ (z : Call). (told g.files w n t.state z).process) is_fork ∙ fork_process g.files a.files n t.state k w ∙ ap (λ (z : Call). (told a.files w n t.state z).process) back;
+          shortage = w;
+          possible = subst (λ (z : Call). CanBeShort a.files t.state z w) back (fork_lacks g.files a.files t.state k w (subst (λ (z : Call). CanBeShort g.files t.state z w) is_fork g.leads.possible));
+          reply = g.leads.reply ∙ ap (λ (z : Call). (call_outcome g.files w n t.state z).reply) is_fork ∙ fork_same g.files a.files n t.state k w ∙ ap (λ (z : Call). (call_outcome a.files w n t.state z).reply) back;
+          process = g.leads.process ∙ ap (λ (z : Call). (call_outcome g.files w n t.state z).process) is_fork ∙ fork_process g.files a.files n t.state k w ∙ ap (λ (z : Call). (call_outcome a.files w n t.state z).process) back;
           pages = g.leads.pages ∙ ap (λ (z : Call). reads_of g.files w t.state z) is_fork ∙ ap (λ (z : Call). reads_of a.files w t.state z) back;
           file = g.leads.file ∙ ap (λ (z : Call). file_of g.files z) is_fork ∙ ap (λ (z : Call). file_of a.files z) back;
         };
-        files = fork_files a.files n t.state k w ∙ ap (λ (z : Call). (told a.files w n t.state z).files) back;
-        becomes = subst (λ (ms : List PageMove). Becomes a ms a)
+        files = fork_files a.files n t.state k w ∙ ap (λ (z : Call). (call_outcome a.files w n t.state z).files) back;
+        becomes = subst (λ (ms : List PageMove). HasMoves a ms a)
             (sym (ap (λ (ms : List PageMove). ms ++ writes_of a.files w t.state e.call) (g.leads.pages ∙ ap (λ (z : Call). reads_of g.files w t.state z) is_fork) ∙ ap (λ (z : Call). writes_of a.files w t.state z) is_fork))
             (stays a);
-        asked = subst (λ (z : Call). WasAsked (Refuses Becomes CanRefuse a e.pages.items) (λ n. n ≤ a.room) t.state z w) back (fork_asks (Refuses Becomes CanRefuse a e.pages.items) (λ n. n ≤ a.room) t.state k w);
+        request = subst (λ (z : Call). WasAsked (RefusesPromise HasMoves CanRefuse a e.pages.items) (λ n. n ≤ a.room) t.state z w) back (fork_asks (RefusesPromise HasMoves CanRefuse a e.pages.items) (λ n. n ≤ a.room) t.state k w);
       }
 
 -- what the journal gets of it
 
-pub record IsForkOf (e : Entry) (k : ℕ) (r : Reply) : Type 0 where
+pub record IsForkOf (e : JournalEntry) (k : ℕ) (r : Reply) : Type 0 where
   pub call : e.call ≡ call.Fork k
   pub answer : e.reply ≡ r
   pub pages : e.pages.items ≡ []
   pub file : e.file ≡ None
 
-module _ (n : ℕ) (p : Process) (e : Entry) (k : ℕ) (w : Want) (r : Reply) (is : IsForkOf e k r) where
-  abbrev pub fork_leads : MayLack [] p (call.Fork k) w → r ≡ (told [] w n p (call.Fork k)).reply → (q : Process) → q ≡ (told [] w n p (call.Fork k)).process → Leads [] n p e q
+module _ (n : ℕ) (p : Process) (e : JournalEntry) (k : ℕ) (w : Shortage) (r : Reply) (is : IsForkOf e k r) where
+  abbrev pub fork_leads : CanBeShort [] p (call.Fork k) w → r ≡ (call_outcome [] w n p (call.Fork k)).reply → (q : Process) → q ≡ (call_outcome [] w n p (call.Fork k)).process → IsReplayStep [] n p e q
   fork_leads may answer q state =
       let back : call.Fork k ≡ e.call = sym is.call in
       record {
-        want = w;
-        possible = subst (λ (z : Call). MayLack [] p z w) back may;
-        reply = is.answer ∙ answer ∙ ap (λ (z : Call). (told [] w n p z).reply) back;
-        process = state ∙ ap (λ (z : Call). (told [] w n p z).process) back;
+        shortage = w;
+        possible = subst (λ (z : Call). CanBeShort [] p z w) back may;
+        reply = is.answer ∙ answer ∙ ap (λ (z : Call). (call_outcome [] w n p z).reply) back;
+        process = state ∙ ap (λ (z : Call). (call_outcome [] w n p z).process) back;
         pages = is.pages ∙ ap (λ (z : Call). reads_of [] w p z) back;
         file = is.file ∙ ap (λ (z : Call). file_of [] z) back;
       }
 
 -- a child begins
-pub fork_goes : (t u c : Track) (e : Entry) (k : ℕ) (s : Slot) → IsForkOf e k (reply.Forked (forks t.journal)) → Adds t u e → u.state ≡ marked t.state → IsChild t c k → ForkAnswer s (reply.Forked (forks t.journal)) → Goes t u (Some c) s
+pub fork_goes : (t u c : Track) (e : JournalEntry) (k : ℕ) (s : ForkSlot) → IsForkOf e k (reply.Forked (forks t.journal)) → AppendsEntry t u e → u.state ≡ marked t.state → IsChild t c k → ForkAnswer s (reply.Forked (forks t.journal)) → ContinuesTurn t u (Some c) s
 fork_goes t u c e k s is adds state child by_slot = record {
   entry = e;
   files = [];
   adds = adds;
   leads = fork_leads (forks t.journal) t.state e k nothing (reply.Forked (forks t.journal)) is tt refl u.state state;
-  on = subst GoesOn (sym is.answer) tt;
+  on = subst LeavesRunning (sym is.answer) tt;
   child = (ap forked is.answer, (k, is.call, child));
   slot = subst (λ (z : Call). BySlot s z e.reply) (sym is.call) (subst (ForkAnswer s) (sym is.answer) by_slot);
-  lack = subst (λ (z : Call). TellsLack t.seat u.seat [] t.state z nothing) (sym is.call) tt;
+  lack = subst (λ (z : Call). ReportsShortage t.seat u.seat [] t.state z nothing) (sym is.call) tt;
 }
 
 -- or it is refused
-pub fork_stays : (t u : Track) (e : Entry) (k : ℕ) (s : Slot) (r : Refusal) → IsForkOf e k (reply.Refused r) → IsForkRefusal r → Adds t u e → u.state ≡ t.state → ForkAnswer s (reply.Refused r)
-    → TellsLack t.seat u.seat [] t.state (call.Fork k) (refused 0 r) → Goes t u None s
+pub fork_stays : (t u : Track) (e : JournalEntry) (k : ℕ) (s : ForkSlot) (r : Refusal) → IsForkOf e k (reply.Refused r) → IsForkRefusal r → AppendsEntry t u e → u.state ≡ t.state → ForkAnswer s (reply.Refused r)
+    → ReportsShortage t.seat u.seat [] t.state (call.Fork k) (refused 0 r) → ContinuesTurn t u None s
 fork_stays t u e k s r is may adds state by_slot dry = record {
   entry = e;
   files = [];
   adds = adds;
   leads = fork_leads (forks t.journal) t.state e k (refused 0 r) (reply.Refused r) is may refl u.state state;
-  on = subst GoesOn (sym is.answer) tt;
+  on = subst LeavesRunning (sym is.answer) tt;
   child = ap forked is.answer;
   slot = subst (λ (z : Call). BySlot s z e.reply) (sym is.call) (subst (ForkAnswer s) (sym is.answer) by_slot);
-  lack = subst (λ (z : Call). TellsLack t.seat u.seat [] t.state z (refused 0 r)) (sym is.call) dry;
+  lack = subst (λ (z : Call). ReportsShortage t.seat u.seat [] t.state z (refused 0 r)) (sym is.call) dry;
 }
 
 -- a slot was wanted, or memory
-pub fork_calm : (t u : Track) (k : ℕ) (r : Refusal) → IsForkRefusal r → (r ≡ refusal.NoFrame → ⊥) → (r ≡ refusal.SharersFull → ⊥) → TellsLack t.seat u.seat [] t.state (call.Fork k) (refused 0 r)
+pub fork_calm : (t u : Track) (k : ℕ) (r : Refusal) → IsForkRefusal r → (r ≡ refusal.NoFrame → ⊥) → (r ≡ refusal.SharersFull → ⊥) → ReportsShortage t.seat u.seat [] t.state (call.Fork k) (refused 0 r)
 fork_calm t u k refusal.NoFrame may not other = absurd (not refl)
 fork_calm t u k refusal.NoSlot may not other = tt
 fork_calm t u k refusal.SharersFull may not other = absurd (other refl)
@@ -249,7 +251,7 @@ pub fork_by_slot : (x : ForkError) → (forked (reply.Refused (refusal_of x)) �
 fork_by_slot fork.NoFrame = inr (inl refl)
 fork_by_slot fork.SharersFull = inr (inr refl)
 
-pub fork_lack : (v w : View) (p : Process) (k : ℕ) (x : ForkError) → (x ≡ fork.NoFrame → RunsDry v w (fork_need p) []) → (x ≡ fork.SharersFull → Takes v w 0 (65535 ∷ [])) → TellsLack v w [] p (call.Fork k) (refused 0 (refusal_of x))
+pub fork_lack : (v w : View) (p : Process) (k : ℕ) (x : ForkError) → (x ≡ fork.NoFrame → RunsDry v w (fork_need p) []) → (x ≡ fork.SharersFull → TakesFrames v w 0 (65535 ∷ [])) → ReportsShortage v w [] p (call.Fork k) (refused 0 (refusal_of x))
 fork_lack v w p k fork.NoFrame dry full =
     let d = dry refl in
     let claims = d.claims in

@@ -1,8 +1,10 @@
--- A journal, replayed from the process that it began with.
+-- `Replays`: a journal (a process's calls with their replies) leads in the model from one process to another: each entry has
+-- the list's next call and is a step of the model (`IsReplayStep`: reply, process, pages read, mmap's file). Also call k of
+-- a list (`call_at`), list k (`list_at`), and how many children a journal names (`forks`).
 use Rattle.std.specs.Prelude.{◌≡◌, ℕ, pos, suc, ◌+◌, List, [], ◌∷◌, Option, None, Some, slice_get}
-use Rattle.hart_calls.specs.Tells.{file_of, reads_of, told}
-use Rattle.hart_calls.specs.Wants.{MayLack, Want}
-use Rattle.hart_calls.specs.declared.entry.Entry.{Entry}
+use Rattle.hart_calls.specs.CallOutcomes.{file_of, reads_of, call_outcome}
+use Rattle.hart_calls.specs.Shortages.{CanBeShort, Shortage}
+use Rattle.hart_calls.specs.declared.journal_entry.JournalEntry.{JournalEntry}
 use Rattle.process_model.specs.Files.{File}
 use Rattle.process_model.specs.Process.{Process}
 use Rattle.process_model.specs.declared.call.Call.{Call}
@@ -10,7 +12,7 @@ use Rattle.process_model.specs.declared.call.Call.TheVariants as call
 use Rattle.process_model.specs.declared.step.Reply.{Reply}
 use Rattle.process_model.specs.declared.step.Reply.TheVariants as reply
 
--- the call of a number in a list; behind the last there is exit 0
+-- call k of a list, `exit 0` after the last
 
 abbrev pub or_exit : Option Call → Call
 or_exit None = call.Exit (pos 0)
@@ -19,7 +21,7 @@ or_exit (Some c) = c
 abbrev pub call_at : List Call → ℕ → Call
 call_at calls k = or_exit (slice_get calls k)
 
--- the calls of a list of this number
+-- list k, empty if there is none
 abbrev pub or_none : Option (List Call) → List Call
 or_none None = []
 or_none (Some calls) = calls
@@ -27,27 +29,29 @@ or_none (Some calls) = calls
 abbrev pub list_at : List (List Call) → ℕ → List Call
 list_at lists k = or_none (slice_get lists k)
 
--- how many children a journal names
+-- how many children a reply names, and a journal
 
 abbrev pub forked : Reply → ℕ
 forked (reply.Forked n) = 1
 forked r = 0
 
-abbrev pub forks : List Entry → ℕ
+abbrev pub forks : List JournalEntry → ℕ
 forks [] = 0
 forks (e ∷ es) = forked e.reply + forks es
 
--- From a process of which so many children were named before, an entry leads to another one: by what the model tells for some files, of
--- which the entry has each page that was read, and what an mmap asks. Without frames, a slot or memory it may be refused.
-pub record Leads (files : List File) (n : ℕ) (p : Process) (e : Entry) (q : Process) : Type 0 where
-  pub want : Want
-  pub possible : MayLack files p e.call want
-  pub reply : e.reply ≡ (told files want n p e.call).reply
-  pub process : q ≡ (told files want n p e.call).process
-  pub pages : e.pages.items ≡ reads_of files want p e.call
+-- Entry e leads from process p, of which n children were named before, to process q: for these files and some shortage that
+-- is possible, reply and process are the model's. The entry has the pages that the call reads from the files, and for an
+-- mmap whether its file may be written.
+pub record IsReplayStep (files : List File) (n : ℕ) (p : Process) (e : JournalEntry) (q : Process) : Type 0 where
+  pub shortage : Shortage
+  pub possible : CanBeShort files p e.call shortage
+  pub reply : e.reply ≡ (call_outcome files shortage n p e.call).reply
+  pub process : q ≡ (call_outcome files shortage n p e.call).process
+  pub pages : e.pages.items ≡ reads_of files shortage p e.call
   pub file : e.file ≡ file_of files e.call
 
--- from a process, with n children named and k calls made before, to another one: each entry is the list's next call
-abbrev pub Replays : Process → ℕ → ℕ → List Call → List Entry → Process → Type 0
+-- the journal leads from process p, with n children named and k calls made before, to process q: each entry has the list's
+-- next call and is a replay step for some files
+abbrev pub Replays : Process → ℕ → ℕ → List Call → List JournalEntry → Process → Type 0
 Replays p n k calls [] q = q ≡ p
-Replays p n k calls (e ∷ es) q = (e.call ≡ call_at calls k) × ((files : List File) × (r : Process) × Leads files n p e r × Replays r (n + forked e.reply) (suc k) calls es q)
+Replays p n k calls (e ∷ es) q = (e.call ≡ call_at calls k) × ((files : List File) × (r : Process) × IsReplayStep files n p e r × Replays r (n + forked e.reply) (suc k) calls es q)

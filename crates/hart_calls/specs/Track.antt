@@ -1,8 +1,10 @@
--- A process on its way, as contracts see it.
+-- `Track` (record): an unfinished process as contracts see it: name, lists, first and present process, journal (its calls
+-- with their replies), view of its seat. Its next call and next child's name; forks name lists that exist (`NameLists`);
+-- relations: one entry more (`AppendsEntry`), the next child (`IsChild`), unchanged (`SameTrack`).
 use Rattle.std.specs.Prelude.{◌≡◌, ℕ, ◌<◌, ◌∷◌, [], ◌++◌, All, List, length}
 use Rattle.frame_store.specs.View.{View}
 use Rattle.hart_calls.specs.Replay.{call_at, forks, list_at}
-use Rattle.hart_calls.specs.declared.entry.Entry.{Entry}
+use Rattle.hart_calls.specs.declared.journal_entry.JournalEntry.{JournalEntry}
 use Rattle.process_model.specs.Process.{Process}
 use Rattle.process_model.specs.Residence.{child_of}
 use Rattle.process_model.specs.declared.call.Call.{Call}
@@ -11,18 +13,19 @@ use Rattle.process_model.specs.declared.call.Call.TheVariants as call
 pub record Track : Type 0 where
   pub name : List ℕ
   pub lists : List (List Call)
-  -- the number of the list that it follows
+  -- the number of its list in `lists`
   pub list : ℕ
   -- the process that it began with
   pub opening : Process
-  -- the process that it is
+  -- the process that it is: the journal leads to it
   pub state : Process
-  pub journal : List Entry
-  -- what its seat knows
+  pub journal : List JournalEntry
+  -- the view of its seat
   pub seat : View
-  -- how many entries the journal has room for
+  -- how many entries more the journal has memory for
   pub room : ℕ
 
+-- its list
 abbrev pub calls_of : Track → List Call
 calls_of t = list_at t.lists t.list
 
@@ -34,17 +37,17 @@ next_of t = call_at (calls_of t) (length t.journal)
 abbrev pub child_name : Track → List ℕ
 child_name t = t.name ++ forks t.journal ∷ []
 
--- the lists that calls name are there
+-- each fork names a list that exists
 
-abbrev pub IsThere : ℕ → Call → Type 0
-IsThere n (call.Fork list) = list < n
-IsThere n c = Unit {0}
+abbrev pub NamesList : ℕ → Call → Type 0
+NamesList n (call.Fork list) = list < n
+NamesList n c = Unit {0}
 
-abbrev pub AreThere : List (List Call) → Type 0
-AreThere lists = All (λ calls. All (IsThere (length lists)) calls) lists
+abbrev pub NameLists : List (List Call) → Type 0
+NameLists lists = All (λ calls. All (NamesList (length lists)) calls) lists
 
--- the opening and the list stay, and the journal has one entry more, with the list's next call
-pub record Adds (t u : Track) (e : Entry) : Type 0 where
+-- u is t with entry e more in its journal, for the list's next call: name, lists and opening process are unchanged
+pub record AppendsEntry (t u : Track) (e : JournalEntry) : Type 0 where
   pub name : u.name ≡ t.name
   pub lists : u.lists ≡ t.lists
   pub list : u.list ≡ t.list
@@ -52,7 +55,7 @@ pub record Adds (t u : Track) (e : Entry) : Type 0 where
   pub journal : u.journal ≡ t.journal ++ e ∷ []
   pub next : e.call ≡ next_of t
 
--- a child that begins as its parent was
+-- c is the next child of t and has list k. It begins as `child_of` the process that t is, with an empty journal
 pub record IsChild (t c : Track) (k : ℕ) : Type 0 where
   pub name : c.name ≡ child_name t
   pub lists : c.lists ≡ t.lists
@@ -61,6 +64,7 @@ pub record IsChild (t c : Track) (k : ℕ) : Type 0 where
   pub state : c.state ≡ child_of t.state
   pub journal : c.journal ≡ []
 
+-- u is t, but for the memory of its journal
 pub record SameTrack (t u : Track) : Type 0 where
   pub name : u.name ≡ t.name
   pub lists : u.lists ≡ t.lists

@@ -1,22 +1,25 @@
-// Copies by the kernel.
+// `copy_from`, `copy_to`: the calls CopyIn and CopyOut (copyin and copyout of xv6) in a process's space: the limit of 256
+// bytes, the copy of `user_copy`, and its end as a `CallResult`: whole, stopped by a rule, or stopped by the files.
 ghost use Rattle.std.specs.Prelude.{◌≤◌};
 ghost use Rattle.address_space.specs.Agreement.{body_of, IsSpace};
-ghost use Rattle.frame_store.specs.Laws.{Fits, Keeps};
-ghost use Rattle.hart_calls.specs.Comes.{ComesTo, Refuses};
+ghost use Rattle.frame_store.specs.Laws.{IsSeatOf, KeepsSeats};
+ghost use Rattle.hart_calls.specs.CallResults.{GivesCallResult, RefusesPromise};
 ghost use Rattle.process_model.specs.Process.{Process};
 ghost use Rattle.process_model.specs.declared.call.Call.TheVariants as call;
 ghost use Rattle.table_walk.specs.Tables.{Tables};
 
-use crate::came::Came;
-use crate::kept_reply::KeptReply;
+use crate::call_result::CallResult;
+use crate::journal_reply::JournalReply;
 use address_space::Space;
 use file_cabinet::Files;
 use frame_store::{FrameSeat, FrameSupply};
-use process_model::{Brief, LONGEST_COPY, Refusal, Reply};
+use process_model::{LONGEST_COPY, Refusal, Reply, ScalarReply};
 use sv39_entry::Va;
 use user_copy::{Stop, copy_in, copy_out};
 
-/// Copies bytes from the process.
+/// Copies `count` bytes of the process, from `va` on, into the reply; more than 256 are refused with `BadArgument`. The copy
+/// stops at the first address that a rule denies or that lacks frames. If the files refuse to promise a page it is
+/// `Stopped`.
 #[inline(never)]
 pub(crate) fn copy_from<S: FrameSeat, F: FrameSupply<Seat = S>, C: Files>(
     space: &mut Space<S>,
@@ -25,27 +28,30 @@ pub(crate) fn copy_from<S: FrameSeat, F: FrameSupply<Seat = S>, C: Files>(
     va: Va,
     count: usize,
     room: Box<Reply>,
-) -> Came
-    requires fits { Fits F.FrameAccess.rule store.old space.old.seat }
+) -> CallResult
+    requires fits { IsSeatOf F.FrameAccess.rule store.old space.old.seat }
     requires ready { (t : Tables) × (p : Process) × IsSpace (body_of S.view space.old) t p }
-    ensures came { ComesTo (body_of S.view space.old) (body_of S.view space.new) (C.files files.old) (λ moves. C.becomes files.old moves files.new) (Refuses C.becomes C.can_refuse files.old) (λ n. n ≤ C.room files.new) (call.CopyIn va.0 count) result }
-    ensures keeps { Keeps F.FrameAccess.rule store.old space.old.seat store.new space.new.seat }
+    ensures call_result { GivesCallResult (body_of S.view space.old) (body_of S.view space.new) (C.files files.old) (λ moves. C.becomes files.old moves files.new) (RefusesPromise C.becomes C.can_refuse files.old) (λ n. n ≤ C.room files.new) (call.CopyIn va.0 count) result }
+    ensures keeps { KeepsSeats F.FrameAccess.rule store.old space.old.seat store.new space.new.seat }
 {
     if count > LONGEST_COPY {
-        return Came::Answered(KeptReply::short(Brief::Refused(Refusal::BadArgument)));
+        return CallResult::Answered(JournalReply::short(ScalarReply::Refused(
+            Refusal::BadArgument,
+        )));
     }
     match copy_in(space, store, files, va, count) {
-        Ok(bytes) => Came::Answered(KeptReply::long(room, Reply::CopiedIn(bytes))),
+        Ok(bytes) => CallResult::Answered(JournalReply::long(room, Reply::CopiedIn(bytes))),
         Err(short) => match short.rule {
             Stop::Denied(rule) => {
-                Came::Answered(KeptReply::long(room, Reply::ShortIn(rule, short.bytes)))
+                CallResult::Answered(JournalReply::long(room, Reply::ShortIn(rule, short.bytes)))
             },
-            Stop::Unpromised(refusal) => Came::Stopped(refusal, short.done),
+            Stop::Unpromised(refusal) => CallResult::Stopped(refusal, short.done),
         },
     }
 }
 
-/// Copies bytes to the process.
+/// Copies `bytes` to the process, from `va` on; more than 256 are refused with `BadArgument`. The copy stops as in
+/// `copy_from`.
 #[inline(never)]
 pub(crate) fn copy_to<S: FrameSeat, F: FrameSupply<Seat = S>, C: Files>(
     space: &mut Space<S>,
@@ -53,22 +59,24 @@ pub(crate) fn copy_to<S: FrameSeat, F: FrameSupply<Seat = S>, C: Files>(
     files: &mut C,
     va: Va,
     bytes: &[u8],
-) -> Came
-    requires fits { Fits F.FrameAccess.rule store.old space.old.seat }
+) -> CallResult
+    requires fits { IsSeatOf F.FrameAccess.rule store.old space.old.seat }
     requires ready { (t : Tables) × (p : Process) × IsSpace (body_of S.view space.old) t p }
-    ensures came { ComesTo (body_of S.view space.old) (body_of S.view space.new) (C.files files.old) (λ moves. C.becomes files.old moves files.new) (Refuses C.becomes C.can_refuse files.old) (λ n. n ≤ C.room files.new) (call.CopyOut va.0 bytes.entry) result }
-    ensures keeps { Keeps F.FrameAccess.rule store.old space.old.seat store.new space.new.seat }
+    ensures call_result { GivesCallResult (body_of S.view space.old) (body_of S.view space.new) (C.files files.old) (λ moves. C.becomes files.old moves files.new) (RefusesPromise C.becomes C.can_refuse files.old) (λ n. n ≤ C.room files.new) (call.CopyOut va.0 bytes.entry) result }
+    ensures keeps { KeepsSeats F.FrameAccess.rule store.old space.old.seat store.new space.new.seat }
 {
     if bytes.len() > LONGEST_COPY {
-        return Came::Answered(KeptReply::short(Brief::Refused(Refusal::BadArgument)));
+        return CallResult::Answered(JournalReply::short(ScalarReply::Refused(
+            Refusal::BadArgument,
+        )));
     }
     match copy_out(space, store, files, va, bytes) {
-        Ok(()) => Came::Answered(KeptReply::short(Brief::CopiedOut(bytes.len()))),
+        Ok(()) => CallResult::Answered(JournalReply::short(ScalarReply::CopiedOut(bytes.len()))),
         Err(short) => match short.rule {
-            Stop::Denied(rule) => Came::Answered(KeptReply::short(Brief::ShortOut(
+            Stop::Denied(rule) => CallResult::Answered(JournalReply::short(ScalarReply::ShortOut(
                 rule, short.done,
             ))),
-            Stop::Unpromised(refusal) => Came::Stopped(refusal, short.done),
+            Stop::Unpromised(refusal) => CallResult::Stopped(refusal, short.done),
         },
     }
 }

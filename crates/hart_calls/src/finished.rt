@@ -1,14 +1,20 @@
-// Processes that have ended.
+// `Finished` (struct): what is left of a process that ended, or whose start was refused: its name, outcome, journal (its
+// calls with their replies) and seat (an owner's capability at a frame store), which holds nothing.
 
-use crate::entry::Entry;
+use crate::journal_entry::JournalEntry;
 use process_model::Outcome;
 use shared_frames::SharedSeat;
 
-/// A process that has ended, with its journal, and a seat that holds nothing.
+/// What is left of a process that ended, or whose start was refused.
 #[derive(Drop)]
 pub struct Finished<'a> {
+    /// Its name: numbers, a child's is its parent's with the child's number after it.
     pub name: Vec<u64>,
+    /// How it ended, or why its start was refused.
     pub outcome: Outcome,
-    pub journal: Vec<Entry<'a>>,
+    /// Its calls with their replies, in order; empty for a refused start.
+    pub journal: Vec<JournalEntry<'a>>,
+    /// The seat that it had. Each function that returns a `Finished` promises that this seat holds no frame and has no
+    /// credits.
     pub seat: SharedSeat,
 }

@@ -1,31 +1,33 @@
-//! Calls of processes that run on threads, over frames that threads share.
+//! Calls of processes on threads (accesses, kernel copies, exec, sbrk, mmap, munmap, fork, exit), one at a time, over frames
+//! and files that threads share; each process keeps a journal (its calls with their replies).
 //!
-//! A process on its way has its list of calls and a journal of those that it made. Its type says that the journal replays
-//! from the process that it began with, and that its space is the process that the replay comes to: so says whoever takes
-//! it out of a queue, without knowing who had it before. Each call adds one entry, or ends the process.
+//! `Tracked` is an unfinished process with its list of calls and its journal. By its type invariant the journal replays in
+//! the model, from the process that it began with to the process that its space agrees with: a thread that takes it from a
+//! queue knows this, whichever thread had it before. `Tracked::next_call` makes the list's next call: it adds one journal
+//! entry, or ends the process, of which a `Finished` is left.
 #![tactic(auto)]
 
 mod access;
+mod call_result;
 mod calls;
-mod came;
 mod copies;
-mod ending;
-mod entry;
+mod exit;
 mod finished;
-mod forking;
-mod going;
-mod kept_reply;
-mod opening;
-mod room;
-mod slot;
+mod fork;
+mod fork_slot;
+mod journal_entry;
+mod journal_reply;
+mod model_process;
+mod plain_call;
+mod run_brand;
 mod tracked;
 mod turn;
 
-pub use entry::Entry;
 pub use finished::Finished;
-pub use kept_reply::{Kept, KeptReply};
-pub use opening::{Opening, begun};
-pub use room::Room;
-pub use slot::{Place, Slot};
+pub use fork_slot::{ForkSlot, Place};
+pub use journal_entry::JournalEntry;
+pub use journal_reply::{JournalReply, StoredReply};
+pub use model_process::{ModelProcess, begun};
+pub use run_brand::RunBrand;
 pub use tracked::Tracked;
 pub use turn::{MOST_ENTRIES, Turn};

@@ -1,16 +1,18 @@
-// A process with its list of calls and its journal.
+// `Tracked` (struct; fields in `TrackedParts`): an unfinished process with its name, list of calls, journal (its calls with
+// their replies) and address space. `new`; readers: name, calls made, next call and what it needs, number of children, next
+// child's name; a law: the journal replays in the model. `next_call` is in `turn`.
 
 ghost use Rattle.std.specs.Prelude.{[], ◌≡◌, ◌↔◌, ◌<◌, ◌≤◌, IfOk, length, true};
 ghost use Rattle.address_space.specs.Agreement.{body_of, IsSpace};
 ghost use Rattle.hart_calls.specs.Replay.{call_at, forks, Replays};
-ghost use Rattle.hart_calls.specs.Track.{AreThere, calls_of, child_name, next_of, Track};
-ghost use Rattle.hart_calls.specs.Turns.{HasMapping, IsFork, IsMmap, NeedsFiles};
-ghost use Rattle.shared_frames.specs.Fits.{FitsIn, view_of};
+ghost use Rattle.hart_calls.specs.Track.{NameLists, calls_of, child_name, next_of, Track};
+ghost use Rattle.hart_calls.specs.TurnCases.{HasMapping, IsFork, IsMmap, NeedsFiles};
+ghost use Rattle.shared_frames.specs.SeatsOfTable.{FitsIn, view_of};
 ghost use Rattle.table_walk.specs.Tables.{Tables};
 
-use crate::entry::Entry;
-use crate::opening::{Opening, begun};
-use crate::room::Room;
+use crate::journal_entry::JournalEntry;
+use crate::model_process::{ModelProcess, begun};
+use crate::run_brand::RunBrand;
 use address_space::Space;
 use file_shelf::PageUse;
 use process_model::{Call, Sequence};
@@ -18,45 +20,46 @@ use shared_frames::SharedSeat;
 use std::alloc::{AllocError, Global};
 use std::marker::{Model, PhantomData};
 
-/// What a process on its way has.
+/// The parts of an unfinished process.
 #[derive(Drop)]
-pub(crate) struct Parts<'a> {
+pub(crate) struct TrackedParts<'a> {
     pub(crate) alloc: Global,
     pub(crate) name: Vec<u64>,
     pub(crate) lists: &'a [Sequence<Call<'a>>],
-    /// The number of the list that it follows.
+    /// The number of its list in `lists`.
     pub(crate) list: usize,
-    /// The process that it began with, and the one that it is.
-    pub(crate) opening: Opening,
-    pub(crate) present: Opening,
-    pub(crate) journal: Vec<Entry<'a>>,
+    /// The process that it began with.
+    pub(crate) opening: ModelProcess,
+    /// The process that it is: its space agrees with it.
+    pub(crate) present: ModelProcess,
+    pub(crate) journal: Vec<JournalEntry<'a>>,
     /// How many children the journal names.
     pub(crate) children: usize,
-    /// Room for the pages of files that the next call may read.
+    /// Memory for the pages that the next call may read from files.
     pub(crate) spare: Vec<PageUse>,
-    /// It is large, and a process moves with each call: so it has a place of its own.
+    /// In a box, because it is large and each call moves the process.
     pub(crate) space: Box<Space<SharedSeat>>,
 }
 
-/// A process on its way, with the list of its calls and a journal of those that it made. The journal replays from the
-/// process that it began with, the space is the process that the replay comes to, and its seat is at the room's table: so
-/// says the type, wherever the value lies.
+/// An unfinished process, its list of calls and its journal. Type invariant: the journal, of at most 10,000 entries, replays
+/// in the model along the list, from the process that it began with to the present one; the space agrees with the present
+/// one; the seat is at the frame table of the run `B`.
 #[derive(Drop)]
-pub struct Tracked<'a, B: Room> {
-    pub(crate) parts: Parts<'a>,
+pub struct Tracked<'a, B: RunBrand> {
+    pub(crate) parts: TrackedParts<'a>,
     pub(crate) of: PhantomData<B>,
 }
 
-impl<'a, B: Room> Model for Tracked<'a, B> {
+impl<'a, B: RunBrand> Model for Tracked<'a, B> {
     ghost use Rattle.std.specs.Prelude.{◌≡◌, ◌-◌, ◌<◌, ◌≤◌, length, vec_len, vec_capacity};
     ghost use Rattle.std.specs.Coded.{codes};
     ghost use Rattle.address_space.specs.Agreement.{body_of, IsSpace};
     ghost use Rattle.frame_store.specs.View.{view_code};
-    ghost use Rattle.hart_calls.specs.Codes.{process_code};
+    ghost use Rattle.hart_calls.specs.ProcessCodes.{process_code};
     ghost use Rattle.hart_calls.specs.Replay.{forks, list_at, Replays};
-    ghost use Rattle.hart_calls.specs.Track.{AreThere, Track};
-    ghost use Rattle.hart_calls.specs.Turns.{most_entries};
-    ghost use Rattle.shared_frames.specs.Fits.{FitsIn, view_of};
+    ghost use Rattle.hart_calls.specs.Track.{NameLists, Track};
+    ghost use Rattle.hart_calls.specs.TurnCases.{most_entries};
+    ghost use Rattle.shared_frames.specs.SeatsOfTable.{FitsIn, view_of};
     ghost use Rattle.table_walk.specs.Tables.{Tables};
 
     ghost Value = { Track };
@@ -68,18 +71,20 @@ impl<'a, B: Room> Model for Tracked<'a, B> {
     ghost invariant = { λ x. FitsIn B.table x.parts.space.value.seat
         × ((t : Tables) × IsSpace (body_of view_of x.parts.space.value) t x.parts.present.state)
         × Replays x.parts.opening.state 0 0 (list_at x.parts.lists.now x.parts.list) x.parts.journal.items x.parts.present.state
-        × AreThere x.parts.lists.now
+        × NameLists x.parts.lists.now
         × (x.parts.list < length x.parts.lists.now)
         × (length x.parts.journal.items ≤ most_entries)
         × (x.parts.children ≡ forks x.parts.journal.items) };
 }
 
-impl<'a, B: Room> Tracked<'a, B> {
-    /// A process that has made no call. `opening` is the process that its space is, and `list` the number of the list that
-    /// it follows. No memory is taken: the space comes with its place.
+impl<'a, B: RunBrand> Tracked<'a, B> {
+    /// Returns an unfinished process that has made no call. `opening` is the process of the model that it begins as: `space`
+    /// must agree with it, and the seat of `space` must be at the frame table of the run. `name` is its name. `list` is the
+    /// index of its list of calls in `lists`, and must be below their number; each fork in `lists` must name a list that
+    /// exists. Allocates nothing.
     pub fn new(
         alloc: Global,
-        opening: Opening,
+        opening: ModelProcess,
         space: Box<Space<SharedSeat>>,
         name: Vec<u64>,
         lists: &'a [Sequence<Call<'a>>],
@@ -88,7 +93,7 @@ impl<'a, B: Room> Tracked<'a, B> {
         requires fits { FitsIn B.table space.value.seat }
         requires agrees { (t : Tables) × IsSpace (body_of view_of space.value) t opening.state }
         requires there { list < length lists.now }
-        requires named { AreThere lists.now }
+        requires named { NameLists lists.now }
         ensures name { result.name ≡ name.items }
         ensures lists { result.lists ≡ lists.entry.now }
         ensures list { result.list ≡ list }
@@ -99,7 +104,7 @@ impl<'a, B: Room> Tracked<'a, B> {
     {
         let present = begun(&opening);
         Tracked {
-            parts: Parts {
+            parts: TrackedParts {
                 alloc,
                 name,
                 lists,
@@ -115,20 +120,21 @@ impl<'a, B: Room> Tracked<'a, B> {
         }
     }
 
+    /// Returns its name, a sequence of numbers. A child's is its parent's, with the child's number after it.
     pub fn name(&self) -> &[u64]
         ensures { result.now ≡ self.now.name }
     {
         self.parts.name.as_slice()
     }
 
-    /// How many calls it made.
+    /// Returns how many calls it has made: the number of its journal entries.
     pub fn made(&self) -> usize
         ensures { result ≡ length self.now.journal }
     {
         self.parts.journal.len()
     }
 
-    /// The list's next call. Behind the last there is exit 0.
+    /// Returns the next call of its list, the one after those that it has made; `Exit` with status 0 after the last.
     pub fn next(&self) -> Call<'a>
         ensures { result ≡ next_of self.now }
     {
@@ -138,7 +144,8 @@ impl<'a, B: Room> Tracked<'a, B> {
         )
     }
 
-    /// Whether the next call needs the files: it is mmap, or the process has a mapping.
+    /// Returns whether `next_call` must be given a shelf: true exactly when the next call is mmap or the process has a
+    /// mapping.
     pub fn needs_files(&self) -> bool
         ensures { (result ≡ true) ↔ NeedsFiles self.now }
     {
@@ -152,21 +159,25 @@ impl<'a, B: Room> Tracked<'a, B> {
         !self.parts.space.layout.mappings().is_empty()
     }
 
-    /// Whether the next call is a fork.
+    /// Returns whether the next call is a fork, which needs a slot for its child.
     pub fn needs_slot(&self) -> bool
         ensures { (result ≡ true) ↔ IsFork (next_of self.now) }
     {
         matches!(self.next(), Call::Fork { .. })
     }
 
-    /// How many children the journal names.
+    /// Returns how many children the journal names: how many of its replies are `Forked`.
     pub fn children(&self) -> usize
         ensures { result ≡ forks self.now.journal }
     {
         self.parts.children
     }
 
-    /// The name of the next child.
+    /// Returns the name that its next child must have: this process's, with the number of children that the journal names
+    /// after it.
+    ///
+    /// # Errors
+    /// `AllocError`: the host is out of memory.
     pub fn child_name(&self) -> Result<Vec<u64>, AllocError>
         ensures { IfOk result (λ name. name.items ≡ child_name self.now) }
     {
@@ -177,7 +188,8 @@ impl<'a, B: Room> Tracked<'a, B> {
         Ok(name)
     }
 
-    /// Wherever the process was, its journal replays.
+    /// Law: the journal replays in the model along the list of calls, from the process that it began with to the present
+    /// one.
     pub fn replays(&self)
         ensures { Replays self.now.opening 0 0 (calls_of self.now) self.now.journal self.now.state }
     {
@@ -185,14 +197,14 @@ impl<'a, B: Room> Tracked<'a, B> {
     }
 }
 
-/// Whether a call makes a mapping.
+/// Whether a call is mmap.
 fn is_mmap(call: Call<'_>) -> bool
     ensures { (result ≡ true) ↔ IsMmap call.entry }
 {
     matches!(call, Call::Mmap { .. })
 }
 
-/// The call of this number; behind the last there is exit 0.
+/// Call `number` of a list, `exit 0` after the last.
 #[tactic(auto, using(crate::proofs::There::behind_last))]
 fn call_at<'a>(calls: &[Call<'a>], number: usize) -> Call<'a>
     ensures { result ≡ call_at calls.now number }

@@ -1,17 +1,19 @@
-// One call of a process.
+// `Tracked::next_call` makes an unfinished process's next call, with a shelf (files that threads share, and their history)
+// or without. `Turn` (enum) is what that leaves: the process, perhaps with a child, or its end. `MOST_ENTRIES`: how many
+// entries a journal (a process's calls with their replies) can have.
 
 ghost use Rattle.std.specs.Prelude.{[], ◌≡◌, ◌<◌, ◌≤◌, IfOk, vec_capacity};
-ghost use Rattle.hart_calls.specs.Asks.{HasRoomFor};
-ghost use Rattle.hart_calls.specs.Lent.{IsLent, OfLent};
+ghost use Rattle.hart_calls.specs.CallKinds.{HasRoomFor};
+ghost use Rattle.hart_calls.specs.LentFiles.{IsLent, OfLent};
 ghost use Rattle.hart_calls.specs.Track.{child_name, next_of, SameTrack};
-ghost use Rattle.hart_calls.specs.Turned.{Filed, HasTurned, Unfiled};
-ghost use Rattle.hart_calls.specs.Turns.{IsNamed, NeedsFiles};
+ghost use Rattle.hart_calls.specs.TurnResults.{HasFilesAfter, HasTurned, IsFullWithoutShelf};
+ghost use Rattle.hart_calls.specs.TurnCases.{IsNamed, NeedsFiles};
 
-use crate::entry::Entry;
 use crate::finished::Finished;
-use crate::kept_reply::room_for_reply;
-use crate::room::Room;
-use crate::slot::Slot;
+use crate::fork_slot::ForkSlot;
+use crate::journal_entry::JournalEntry;
+use crate::journal_reply::room_for_reply;
+use crate::run_brand::RunBrand;
 use crate::tracked::Tracked;
 use file_cabinet::Cabinet;
 use file_shelf::{PageUse, Shelf};
@@ -21,37 +23,50 @@ use std::alloc::AllocError;
 use std::mem;
 use std::sync::Wait;
 
-/// How many entries a journal has, at most.
+/// The most entries that a journal has: 10,000.
 pub const MOST_ENTRIES: usize = 10000;
 
-/// What one call makes of a process.
+/// What one call leaves of a process, as `Tracked::next_call` returns it.
 #[derive(Drop)]
-pub enum Turn<'a, B: Room> {
-    /// It goes on, and perhaps a child begins.
-    Goes(Tracked<'a, B>, Option<Tracked<'a, B>>),
+pub enum Turn<'a, B: RunBrand> {
+    /// The process continues, with one journal entry more. There is a child exactly when the entry's reply is `Forked`.
+    Continues(Tracked<'a, B>, Option<Tracked<'a, B>>),
+    /// The process has ended. Its seat holds nothing.
     Over(Finished<'a>),
 }
 
-impl<'a, B: Room> Tracked<'a, B> {
-    /// Makes the list's next call. An access to a page that is resident is made at once; one to another page is served
-    /// within the call. Room for the entry, with the pages of files that the call may read, is taken before the call: where
-    /// it is refused the call is not made, and the process ends. A process that ends writes its mappings back, but where a
-    /// page of a file is not promised.
+impl<'a, B: RunBrand> Tracked<'a, B> {
+    /// Makes the list's next call, `exit 0` after the last. A user access includes the service of its fault. `store` must be
+    /// at the frame table of the run.
     ///
-    /// A fork is given a free slot with the child's name, or why there is none. A process that has a mapping is lent the
-    /// shelf, and one that makes a mapping.
+    /// Returns `Continues` with one journal entry more, whose reply is the model's for some shortage (what the call needed
+    /// and did not get) that is possible (`CanBeShort`), and the child if it forked. Or returns `Over`. After an exit or an
+    /// end by a rule the journal has one entry more that says so, and every mapping was written back. With outcome `Memory`
+    /// or `JournalFull` it has none more and no file was changed; the history may have the pages that the call read.
+    ///
+    /// `slot`: for a fork, the child's place and its name, which must be `child_name`, or why it has none. If the process
+    /// continues after a fork, the reply is the refusal `NoSlot` exactly for `ForkSlot::NoSlot` and `Memory` exactly for
+    /// `ForkSlot::Memory`; else it is `Forked`, `NoFrame` or `SharersFull`. `shelf`: must be `Some` if `needs_files` returns
+    /// true.
+    ///
+    /// The reply is or names `NoFrame` only if the seat read the free count as 0 in this call, with fewer frames reserved
+    /// than were then needed; a fork's reply is `SharersFull` only if the seat read a reference count of 65,535.
+    ///
+    /// `JournalFull` ends the process only if its journal has `MOST_ENTRIES` entries or, with a shelf, if the history lacks
+    /// room for the page that an access reads, or for what a call that ends the process reads and the end writes. No cause
+    /// is promised for `Memory`.
     pub fn next_call<R: Wait>(
         self,
         store: &mut SharedSupply<'_, R>,
         shelf: Option<&mut Shelf>,
-        slot: Slot,
+        slot: ForkSlot,
     ) -> Turn<'a, B>
         requires store { store.old ≡ B.table }
         requires slot { IsNamed slot (child_name self) }
         requires lent { NeedsFiles self → IsLent shelf }
         ensures store { store.new ≡ B.table }
         ensures turned { HasTurned self.entry result slot }
-        ensures files { OfLent (Filed self.entry result) (Unfiled self.entry result) shelf.entry shelf.exit }
+        ensures files { OfLent (HasFilesAfter self.entry result) (IsFullWithoutShelf self.entry result) shelf.entry shelf.exit }
     {
         match shelf {
             Some(shelf) => self.turn(store, shelf, slot),
@@ -59,14 +74,19 @@ impl<'a, B: Room> Tracked<'a, B> {
         }
     }
 
-    /// The same of a process that has no mapping and makes none: it asks nothing of files, so there are none.
-    fn turn_without_files<R: Wait>(self, store: &mut SharedSupply<'_, R>, slot: Slot) -> Turn<'a, B>
+    /// `next_call` without a shelf, for a process that has no mapping and does not call mmap. It asks nothing of files, so
+    /// it gets an empty cabinet.
+    fn turn_without_files<R: Wait>(
+        self,
+        store: &mut SharedSupply<'_, R>,
+        slot: ForkSlot,
+    ) -> Turn<'a, B>
         requires store { store.old ≡ B.table }
         requires slot { IsNamed slot (child_name self) }
         requires none { NeedsFiles self → ⊥ }
         ensures store { store.new ≡ B.table }
         ensures turned { HasTurned self.entry result slot }
-        ensures full { Unfiled self.entry result }
+        ensures full { IsFullWithoutShelf self.entry result }
     {
         let alloc = self.parts.alloc;
         let Ok(cabinet) = Cabinet::new(alloc, &[]) else {
@@ -76,19 +96,19 @@ impl<'a, B: Room> Tracked<'a, B> {
         self.turn(store, &mut shelf, slot)
     }
 
-    /// The same with files. A function pays at entry for the size of its locals: so ends, forks, copies and exec, which have
-    /// large ones, stand apart (`inline(never)`).
+    /// `next_call` with a shelf. A function pays at entry for the size of its locals, so ends, forks, copies and exec, which
+    /// have large ones, are functions of their own (`inline(never)`).
     fn turn<R: Wait>(
         mut self,
         store: &mut SharedSupply<'_, R>,
         shelf: &mut Shelf,
-        slot: Slot,
+        slot: ForkSlot,
     ) -> Turn<'a, B>
         requires store { store.old ≡ B.table }
         requires slot { IsNamed slot (child_name self) }
         ensures store { store.new ≡ B.table }
         ensures turned { HasTurned self.entry result slot }
-        ensures files { Filed self.entry result shelf.old shelf.new }
+        ensures files { HasFilesAfter self.entry result shelf.old shelf.new }
     {
         if self.made() == MOST_ENTRIES {
             return Turn::Over(self.cut(store, Outcome::JournalFull));
@@ -99,15 +119,18 @@ impl<'a, B: Room> Tracked<'a, B> {
         match self.next() {
             Call::Fork { list } => {
                 let (tracked, child) = self.fork(store, list, slot);
-                Turn::Goes(tracked, child)
+                Turn::Continues(tracked, child)
             }
             Call::Exit { status } => Turn::Over(self.exit(store, shelf, status)),
-            call => self.stay(store, shelf, call, pages, room, &slot),
+            call => self.plain_call(store, shelf, call, pages, room, &slot),
         }
     }
 
-    /// Room for one entry more, for the pages of files that its call may read, and for a reply that carries bytes, where
-    /// the call may have such a one.
+    /// Reserves memory for one journal entry more and for the two pages that its call may read from files, and a box for the
+    /// reply if the call is `CopyIn`.
+    ///
+    /// # Errors
+    /// `AllocError`: the host is out of memory. The process is unchanged but for the spare memory of its journal.
     fn with_room(&mut self) -> Result<(Vec<PageUse>, Option<Box<Reply>>), AllocError>
         ensures same { SameTrack self.old self.new }
         ensures room { IfOk result (λ _. 0 < self.new.room) }

@@ -1,4 +1,5 @@
--- Entries of a buffer that accesses use.
+-- Lemmas on accesses by an entry of a hart's buffer (TLB): it matches if and only if the model's has the key; it answers as
+-- a walk by a table that the phase allows does (`answer_is`), and in user mode by the process's table (`user_served`).
 use Rattle.std.proofs.Common.{◌≡◌, ◌⊎◌, ℕ, ◌+◌, ◌*◌, ◌/◌, ◌^◌, ◌==◌, ◌&&◌, ◌||◌, get_or, Bool, true, false, List, Option, None, Some, option_map, map, refl, ap, sym, subst, ◌∙◌, inl, inr, arith, if◌then◌else◌}
 use Rattle.std.specs.Prelude.{Contains, Err, IfOk, is_ok, IsOk, Ok, Result, slice_get}
 use Rattle.std.proofs.lemmas.Bool.{eqb-true}
@@ -19,12 +20,12 @@ use Rattle.sv39_entry.specs.declared.scheme.Scheme.{Scheme}
 use Rattle.table_walk.specs.Tables.{Tables}
 use Rattle.table_walk.specs.declared.walk.Walk.{Walk}
 use Rattle.hart_machine.specs.Harts.{hart_of, key_of}
-use Rattle.hart_machine.specs.Walked.{IsEntryOf}
-use Rattle.hart_machine.specs.Serves.{IsClean, IsFenced, IsOwn, IsServing, IsTagged, may_have_kernel, may_have_own}
+use Rattle.hart_machine.specs.WalkEntries.{IsEntryOf}
+use Rattle.hart_machine.specs.BufferEntries.{HasNoStaleMark, IsEntryByPhase, IsProcessEntry, IsCurrentEntry, IsEntryByAsid, may_have_kernel, may_have_process}
 use Rattle.hart_machine.specs.Slots.{marks_of}
-use Rattle.hart_machine.specs.Tables.{IsServed, MayAsk}
+use Rattle.hart_machine.specs.Tables.{IsTranslated, MayAsk}
 use Rattle.hart_machine.specs.declared.hart.Hart.{Hart}
-use Rattle.hart_machine.specs.declared.tenant.Tenant.{Tenant}
+use Rattle.hart_machine.specs.declared.slot_process.SlotProcess.{SlotProcess}
 
 -- addresses of one page have one leaf
 pub leaf_on_page : (scheme : Scheme) (t : Tables) (a : ℕ) → leaf_at scheme t (4096 * page_of a) ≡ leaf_at scheme t a
@@ -80,7 +81,7 @@ other_has_kernel phase.Kernel e = refl
 other_has_kernel phase.Leave1 e = refl
 other_has_kernel phase.Leave2 e = absurd (cc)
 
-user_has_own : (p : Phase) → has_user_satp p ≡ true → may_have_own p ≡ true
+user_has_own : (p : Phase) → has_user_satp p ≡ true → may_have_process p ≡ true
 user_has_own phase.Idle e = absurd (cc)
 user_has_own phase.User e = refl
 user_has_own phase.Enter0 e = refl
@@ -107,14 +108,14 @@ module _ (scheme : Scheme) (a : ℕ) (access : Access) (mode : Mode) (z : Walk) 
   by_entry_of t asid e entry page answers = answers ∙ ap (λ l. answer l a access mode) (entry.leaf ∙ ap (λ (k : ℕ). leaf_at scheme t (4096 * k)) page ∙ leaf_on_page scheme t a)
 
   module _ (tables : ℕ → Tables) (kernel : Tables) (x : Hart) where
-    by_fenced : (e : TlbEntry) → IsFenced scheme x tables kernel e → e.page ≡ page_of a → z ≡ answer e.leaf a access mode → IsServed scheme x tables kernel a access mode z
+    by_fenced : (e : TlbEntry) → IsEntryByPhase scheme x tables kernel e → e.page ≡ page_of a → z ≡ answer e.leaf a access mode → IsTranslated scheme x tables kernel a access mode z
     by_fenced e (inl of_kernel) page answers = inl (of_kernel.0, by_entry_of kernel 0 e of_kernel.1 page answers)
     by_fenced e (inr own) page answers = inr (inl (own.0, own.1, own.2, by_entry_of (tables own.0) 0 e own.3 page answers))
 
     -- with address-space identifiers
-    module _ (places : List (Option Tenant)) (clean : IsClean x) (idle : x.slot ≡ None → x.phase ≡ phase.Idle) (hosted : (s : ℕ) → x.slot ≡ Some s → (y : Tenant) × (slice_get places s ≡ Some (Some y)))
-        (ask : MayAsk scheme x a) (e : TlbEntry) (tagged : IsTagged scheme places x tables kernel e) (page : e.page ≡ page_of a) (answers : z ≡ answer e.leaf a access mode) where
-      of_stale : (s : ℕ) → x.slot ≡ Some s → marks_of x.stale s ≡ true → IsServed scheme x tables kernel a access mode z
+    module _ (places : List (Option SlotProcess)) (clean : HasNoStaleMark x) (idle : x.slot ≡ None → x.phase ≡ phase.Idle) (hosted : (s : ℕ) → x.slot ≡ Some s → (y : SlotProcess) × (slice_get places s ≡ Some (Some y)))
+        (ask : MayAsk scheme x a) (e : TlbEntry) (tagged : IsEntryByAsid scheme places x tables kernel e) (page : e.page ≡ page_of a) (answers : z ≡ answer e.leaf a access mode) where
+      of_stale : (s : ℕ) → x.slot ≡ Some s → marks_of x.stale s ≡ true → IsTranslated scheme x tables kernel a access mode z
       of_stale s on stale = elim ask [
         | inl user ↦ absurd (apart user)
         | inr code ↦ inr (inr (apart, (code, e.leaf, tagged.code (page ∙ code), answers)))
@@ -122,12 +123,12 @@ module _ (scheme : Scheme) (a : ℕ) (access : Access) (mode : Mode) (z : Walk) 
         apart : x.phase ≡ phase.User → ⊥
         apart user = let none = clean s user on in let both : true ≡ false = sym stale ∙ none in cc
 
-      of_process : (s : ℕ) → has_user_satp x.phase ≡ true → x.slot ≡ Some s → IsOwn scheme places x tables s e → IsServed scheme x tables kernel a access mode z
+      of_process : (s : ℕ) → has_user_satp x.phase ≡ true → x.slot ≡ Some s → IsProcessEntry scheme places x tables s e → IsTranslated scheme x tables kernel a access mode z
       of_process s user on (inl stale) = of_stale s on stale
       of_process s user on (inr (inl dead)) = absurd (let y = hosted s on in dead y.0 y.1)
       of_process s user on (inr (inr entry)) = inr (inl (s, user_has_own x.phase user, on, by_entry_of (tables s) (s + 1) e entry page answers))
 
-      by_tagged : e.asid ≡ present_asid Asid (hart_of x) → IsServed scheme x tables kernel a access mode z
+      by_tagged : e.asid ≡ present_asid Asid (hart_of x) → IsTranslated scheme x tables kernel a access mode z
       by_tagged asid = elim (satp_is x idle e.asid asid) [
         | inl other ↦ elim tagged.whose [
           | inl of_kernel ↦ inl (other_has_kernel x.phase other.0, by_entry_of kernel 0 e of_kernel page answers)
@@ -137,23 +138,23 @@ module _ (scheme : Scheme) (a : ℕ) (access : Access) (mode : Mode) (z : Walk) 
           | inl of_kernel ↦ absurd (let none = of_kernel.of_space in let some = user.3 in omega (arith, none, some))
           | inr own ↦
               let same : own.0 ≡ user.0 = (let first = own.1 in let second = user.3 in omega (arith, first, second)) in
-              of_process user.0 user.1 user.2 (subst (λ (s : ℕ). IsOwn scheme places x tables s e) same own.2)
+              of_process user.0 user.1 user.2 (subst (λ (s : ℕ). IsProcessEntry scheme places x tables s e) same own.2)
         ]
       ]
 
-    module _ (policy : Policy) (places : List (Option Tenant)) (clean : policy ≡ Asid → IsClean x) (idle : x.slot ≡ None → x.phase ≡ phase.Idle)
-        (hosted : (s : ℕ) → x.slot ≡ Some s → (y : Tenant) × (slice_get places s ≡ Some (Some y))) (ask : MayAsk scheme x a) where
-      by_serving : (q : Policy) → policy ≡ q → (e : TlbEntry) → IsServing scheme q places x tables kernel e → e.page ≡ page_of a → e.asid ≡ present_asid q (hart_of x) → z ≡ answer e.leaf a access mode → IsServed scheme x tables kernel a access mode z
+    module _ (policy : Policy) (places : List (Option SlotProcess)) (clean : policy ≡ Asid → HasNoStaleMark x) (idle : x.slot ≡ None → x.phase ≡ phase.Idle)
+        (hosted : (s : ℕ) → x.slot ≡ Some s → (y : SlotProcess) × (slice_get places s ≡ Some (Some y))) (ask : MayAsk scheme x a) where
+      by_serving : (q : Policy) → policy ≡ q → (e : TlbEntry) → IsCurrentEntry scheme q places x tables kernel e → e.page ≡ page_of a → e.asid ≡ present_asid q (hart_of x) → z ≡ answer e.leaf a access mode → IsTranslated scheme x tables kernel a access mode z
       by_serving Full is e serves page asid answers = by_fenced e serves page answers
       by_serving Asid is e serves page asid answers = by_tagged places (clean is) idle hosted ask e serves page answers asid
 
-      pub answer_is : (n asid : ℕ) → asid ≡ present_asid policy (hart_of x) → ((e : TlbEntry) → slice_get x.buffer n ≡ Some e → IsServing scheme policy places x tables kernel e × (e.global ≡ false)) → is_match a asid (slice_get x.buffer n) ≡ true
-          → ((e : TlbEntry) → slice_get x.buffer n ≡ Some e → z ≡ answer e.leaf a access mode) → IsServed scheme x tables kernel a access mode z
+      pub answer_is : (n asid : ℕ) → asid ≡ present_asid policy (hart_of x) → ((e : TlbEntry) → slice_get x.buffer n ≡ Some e → IsCurrentEntry scheme policy places x tables kernel e × (e.global ≡ false)) → is_match a asid (slice_get x.buffer n) ≡ true
+          → ((e : TlbEntry) → slice_get x.buffer n ≡ Some e → z ≡ answer e.leaf a access mode) → IsTranslated scheme x tables kernel a access mode z
       answer_is n asid tagged serves matches answers = go (slice_get x.buffer n) refl matches where
         matched : (e : TlbEntry) → e.global ≡ false → is_match a asid (Some e) ≡ true → (e.page == page_of a && e.asid == asid) ≡ true
         matched e local is = sym (local_alone (e.page == page_of a) (e.asid == asid) e.global local) ∙ is
 
-        go : (o : Option TlbEntry) → slice_get x.buffer n ≡ o → is_match a asid o ≡ true → IsServed scheme x tables kernel a access mode z
+        go : (o : Option TlbEntry) → slice_get x.buffer n ≡ o → is_match a asid o ≡ true → IsTranslated scheme x tables kernel a access mode z
         go None there matches = absurd (cc)
         go (Some e) there matches =
             let s = serves e there in
@@ -161,7 +162,7 @@ module _ (scheme : Scheme) (a : ℕ) (access : Access) (mode : Mode) (z : Walk) 
             by_serving policy refl e s.0 (eqb-true e.page (page_of a) (left_true (e.page == page_of a) _ both)) (eqb-true e.asid asid (right_true (e.page == page_of a) _ both) ∙ tagged) (answers e there)
 
 -- the user's accesses are answered by the table of the process
-pub user_served : (scheme : Scheme) (tables : ℕ → Tables) (kernel : Tables) (x : Hart) (s a : ℕ) (access : Access) (mode : Mode) (z : Walk) → x.phase ≡ phase.User → x.slot ≡ Some s → IsServed scheme x tables kernel a access mode z
+pub user_served : (scheme : Scheme) (tables : ℕ → Tables) (kernel : Tables) (x : Hart) (s a : ℕ) (access : Access) (mode : Mode) (z : Walk) → x.phase ≡ phase.User → x.slot ≡ Some s → IsTranslated scheme x tables kernel a access mode z
     → z ≡ walk_answer scheme (tables s) a access mode
 user_served scheme tables kernel x s a access mode z user on (inl of_kernel) = absurd (let never : may_have_kernel phase.User ≡ true = ap may_have_kernel (sym user) ∙ of_kernel.0 in cc)
 user_served scheme tables kernel x s a access mode z user on (inr (inl own)) = own.3 ∙ ap (λ (k : ℕ). walk_answer scheme (tables k) a access mode) (same_Some own.0 s (sym own.2 ∙ on))

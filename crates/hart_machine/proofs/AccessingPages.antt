@@ -1,4 +1,5 @@
--- An access of the user changes bytes and what is pending alone: each page keeps its copy number.
+-- Lemmas on a user access in the model: what replies it has, that each page keeps its copy number (which names one copy of a
+-- page in memory), and which access is pending after it.
 use Rattle.std.proofs.Common.{◌≡◌, ℕ, zero, suc, ◌<◌, ◌%◌, ◌⊎◌, cond, Bool, true, false, IsTrue, Option, None, Some, refl, ap, sym, subst, ◌∙◌, inl, inr, arith}
 use Rattle.std.proofs.lemmas.Bool.{cases_eq, eq-eqb, ne_eqb}
 use Rattle.std.proofs.lemmas.Option.{same_Some}
@@ -10,7 +11,7 @@ use Rattle.process_model.specs.PageMap as pages
 use Rattle.process_model.specs.Process.{Page, Process, regions}
 use Rattle.process_model.specs.Regions.{first_rule}
 use Rattle.process_model.specs.Residence.{access_answer, with_page}
-use Rattle.process_model.specs.Service.{Answer, Asked, faulted, if_resident, if_settled, unless_denied, user_access}
+use Rattle.process_model.specs.Service.{Answer, AccessRequest, faulted, if_resident, if_settled, unless_denied, user_access}
 use Rattle.process_model.specs.declared.step.Reply.{Reply}
 use Rattle.process_model.specs.declared.step.Reply.TheVariants.{Fault, Stored, Value}
 use Rattle.sv39_entry.specs.Address.{page_of}
@@ -18,7 +19,7 @@ use Rattle.sv39_entry.specs.declared.access.Access.{Access}
 use Rattle.sv39_entry.specs.declared.access.Access.TheVariants.{Fetch, Load, Store}
 use Rattle.sv39_entry.specs.declared.rule.Rule.{Rule}
 use Rattle.hart_machine.specs.Accesses.{pending_after}
-use Rattle.hart_machine.specs.Tenants.{HasBytes}
+use Rattle.hart_machine.specs.SlotProcesses.{HasPageBytes}
 use Rattle.hart_machine.proofs.ProcessSteps.{HasCopies}
 
 -- a page in the place of another one with its copy number
@@ -48,7 +49,7 @@ answers_so Store s offset width value = inr refl
 answers_so Load s offset width value = inl (_, refl)
 answers_so Fetch s offset width value = inl (_, refl)
 
-module _ (p : Process) (x : Asked) where
+module _ (p : Process) (x : AccessRequest) where
   record IsSo (z : Answer) : Type 0 where
     answers : IsAnswer z.reply
     has : HasCopies z.process p
@@ -96,8 +97,8 @@ module _ (p : Process) (x : Asked) where
   width_some zero h = absurd (cc)
   width_some (suc n) h = omega arith
 
-  pub access_wide : IsTrue (is_width x.width) → HasBytes (user_access p x).process.pending
-  access_wide width = subst HasBytes (sym so.waits) (elim so.answers [
+  pub access_wide : IsTrue (is_width x.width) → HasPageBytes (user_access p x).process.pending
+  access_wide width = subst HasPageBytes (sym so.waits) (elim so.answers [
     | inl fault ↦ rw fault.1 (width_some x.width width)
     | inr answer ↦ elim answer [ inl value ↦ rw value.1 tt | inr stored ↦ rw stored tt ]
   ])

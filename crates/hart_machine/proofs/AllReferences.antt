@@ -1,4 +1,5 @@
--- All references of a machine's frames: those of the kernel's seat and of the processes' are those of the model.
+-- Lemmas: a machine's reference counts, frame by frame, are the references of the kernel and of the processes
+-- (`count_kinds`), and their sum is the model's number of references (`references_are`).
 use Rattle.std.proofs.Common.{◌≡◌, ℕ, ◌+◌, ◌<◌, sym, ◌∙◌, inl, inr, arith, List, ◌∷◌, ◌++◌, length, slice_index, ap}
 use Rattle.std.specs.Prelude.{sum, sum_by}
 use Rattle.std.proofs.lemmas.Bool.{cases_lt}

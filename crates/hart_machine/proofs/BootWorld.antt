@@ -1,17 +1,18 @@
--- The world in which a machine is at first.
+-- Lemmas for `boot`: the new machine is in the model's world (state) after boot, with empty buffers, the TLBs (`boots`,
+-- `boots_in`); and a configuration that can boot has at most 64 slots (places in the process table).
 use Rattle.std.proofs.Common.{◌≡◌, ℕ, ◌≤◌, ◌&&◌, nat_le, true, zero, suc, refl, ap, sym, subst, ◌∙◌, None, Some, option_map, List, [], ◌∷◌, map, replicate, arith}
 use Rattle.std.specs.Prelude.{Contains, slice_get}
 use Rattle.std.proofs.lemmas.List.{length-replicate}
 use Rattle.std.proofs.lemmas.Option.{same_Some, slice_get-map}
 use Rattle.address_space.specs.Kernel.{IsKernelTable}
-use Rattle.frame_store.specs.Plain.{BankRule}
+use Rattle.frame_store.specs.Plain.{PlainStateRule}
 use Rattle.frame_store.specs.Seats.{present}
 use Rattle.hart_machine.specs.Harts.{hart_of, key_of}
-use Rattle.hart_machine.specs.Serves.{IsIn}
-use Rattle.hart_machine.specs.Worlds.{IsPlace, IsWorld, seats_of}
+use Rattle.hart_machine.specs.BufferEntries.{IsInWorld}
+use Rattle.hart_machine.specs.Worlds.{IsSlotContent, IsWorld, seats_of}
 use Rattle.hart_machine.specs.declared.hart.Hart.{Hart}
 use Rattle.hart_machine.specs.declared.machine.Machine.{Machine}
-use Rattle.hart_machine.specs.declared.tenant.Tenant.{Tenant}
+use Rattle.hart_machine.specs.declared.slot_process.SlotProcess.{SlotProcess}
 use Rattle.hart_tlb.specs.declared.entry.TlbEntry.{TlbEntry}
 use Rattle.process_model.specs.Files.{File}
 use Rattle.process_model.specs.Frames.{can_boot, kernel_frames}
@@ -34,7 +35,7 @@ none_there zero i x e = absurd (cc)
 none_there (suc n) zero x e = absurd (cc)
 none_there (suc n) (suc i) x e = none_there n i x e
 
-empty_place : (n i : ℕ) (t : Tables) → IsPlace (slice_get (replicate n None) i) (slice_get (replicate n None) i) t
+empty_place : (n i : ℕ) (t : Tables) → IsSlotContent (slice_get (replicate n None) i) (slice_get (replicate n None) i) t
 empty_place zero i t = tt
 empty_place (suc n) zero t = tt
 empty_place (suc n) (suc i) t = empty_place n i t
@@ -60,7 +61,7 @@ few_slots c is =
     grind (arith, nat_tests, low.1)
 
 module _ (m : Machine) (c : Config) (files : List File) (ruled : m.policy ≡ c.policy) (schemed : m.kernel.scheme ≡ c.scheme) (small : c.slots ≤ most_slots) (sized : m.kernel.seat.size ≡ c.frames) (stacks : List ℕ) (t : Tables)
-    (table : IsKernelTable m.kernel.scheme m.kernel.seat m.kernel.root.0 c.frames c.slots stacks t) (rule : BankRule m.frames (m.kernel.seat ∷ []))
+    (table : IsKernelTable m.kernel.scheme m.kernel.seat m.kernel.root.0 c.frames c.slots stacks t) (rule : PlainStateRule m.frames (m.kernel.seat ∷ []))
     (slots : m.slots.items ≡ replicate c.slots None) (harts : map hart_of m.harts.items ≡ replicate c.harts model.idle_hart) (filed : m.files ≡ files) where
   idle_at : (h : ℕ) (x : Hart) → slice_get m.harts.items h ≡ Some x → hart_of x ≡ model.idle_hart
   idle_at h x is = hart_idle c.harts m.harts.items harts h x is
@@ -75,9 +76,9 @@ module _ (m : Machine) (c : Config) (files : List File) (ruled : m.policy ≡ c.
     schemes = λ s p at. absurd (none_there c.slots s p at);
     few = subst (λ n. n ≤ most_slots) (sym (length-replicate c.slots None)) small;
     frames = sized;
-    rule = subst (λ ts. BankRule m.frames (m.kernel.seat ∷ seats_of ts)) (sym slots) (rw (present_none {A = Tenant} c.slots) rule);
+    rule = subst (λ ts. PlainStateRule m.frames (m.kernel.seat ∷ seats_of ts)) (sym slots) (rw (present_none {A = SlotProcess} c.slots) rule);
     of_kernel = subst (λ n. IsKernelTable m.kernel.scheme m.kernel.seat m.kernel.root.0 c.frames n stacks t) (sym (length-replicate c.slots None)) table;
-    places = λ s. subst (λ ts. IsPlace (slice_get ts s) (slice_get (replicate c.slots None) s) t) (sym slots) (empty_place c.slots s t);
+    places = λ s. subst (λ ts. IsSlotContent (slice_get ts s) (slice_get (replicate c.slots None) s) t) (sym slots) (empty_place c.slots s t);
     copies = λ i j a b f g p q x y at. absurd (none_there c.slots i p at);
     counted = λ i n p a at. absurd (none_there c.slots i p at);
     files = filed;
@@ -89,7 +90,7 @@ module _ (m : Machine) (c : Config) (files : List File) (ruled : m.policy ≡ c.
   }
 
   -- no buffer has an entry
-  pub boots_in : IsIn m (booted c files)
+  pub boots_in : IsInWorld m (booted c files)
   boots_in = record {
     world = boots;
     buffers = λ h x e at in_it. absurd (nothing_buffered x.buffer (ap (λ (k : model.Hart). k.keys) (idle_at h x at)) e in_it);

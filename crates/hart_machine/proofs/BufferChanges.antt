@@ -1,4 +1,5 @@
--- What each buffer is after a step.
+-- Lemmas: each buffer (TLB) after an eviction, after an instruction of kernel entry or return, after a fill, and after any
+-- other step is what `BuffersAre` says; and from that it follows that only fills add entries (`only_fills_add`).
 use Rattle.std.proofs.Common.{◌≡◌, ◌⊎◌, ℕ, zero, suc, ◌==◌, ◌&&◌, Bool, true, false, not, get_or, Option, None, Some, option_map, List, [], ◌∷◌, refl, ap, sym, subst, ◌∙◌, inl, inr, arith, if◌then◌else◌}
 use Rattle.std.specs.Prelude.{Contains, remove, slice_get, slice_set}
 use Rattle.std.specs.Vec.{with_item}
@@ -16,10 +17,10 @@ use Rattle.table_walk.specs.Tables.{Tables}
 use Rattle.hart_machine.specs.Buffers.{buffer_after, BuffersAre, HasEntry, is_about, OnlyFillsAdd, SameBuffers, WasFilled}
 use Rattle.hart_machine.specs.Harts.{advanced, hart_of, with_entry}
 use Rattle.hart_machine.specs.Tables.{tables_of, present_table}
-use Rattle.hart_machine.specs.Walked.{entry_for}
+use Rattle.hart_machine.specs.WalkEntries.{entry_for}
 use Rattle.hart_machine.specs.declared.hart.Hart.{Hart}
 use Rattle.hart_machine.specs.declared.machine.Machine.{Machine}
-use Rattle.hart_machine.specs.declared.tables.Table.{Table}
+use Rattle.hart_machine.specs.declared.tables.SatpTable.{SatpTable}
 use Rattle.hart_machine.proofs.AccessingEntries.{same_hart}
 use Rattle.hart_machine.proofs.Entries.{in_remove}
 use Rattle.hart_machine.proofs.Fills.{in_newest}
@@ -82,10 +83,10 @@ module _ (m : Machine) (h : ℕ) (x y : Hart) (read : x ≡ get_or m.harts.items
   advanced_are made = set_is m.harts.items h x y read (buffer_after m.kernel.scheme m.policy tables kernel (step.Next h)) (ap (λ (u : Hart). u.buffer) made)
 
   -- a fill by the table that satp has
-  pub filled_are : (z : Hart) → slice_get m.harts.items h ≡ Some z → (t : Table) → t ≡ present_table z → (a i : ℕ) → i ≡ present_asid m.policy (hart_of x) → y ≡ with_entry x (entry_for m.kernel.scheme (tables_of tables kernel t) i a)
+  pub filled_are : (z : Hart) → slice_get m.harts.items h ≡ Some z → (t : SatpTable) → t ≡ present_table z → (a i : ℕ) → i ≡ present_asid m.policy (hart_of x) → y ≡ with_entry x (entry_for m.kernel.scheme (tables_of tables kernel t) i a)
       → (n : ℕ) → BuffersAre m changed tables kernel (step.Fill h a) (Filled n)
   filled_are z at t present a i tagged made n = set_is m.harts.items h x y read (buffer_after m.kernel.scheme m.policy tables kernel (step.Fill h a)) (ap (λ (u : Hart). u.buffer) made
-      ∙ ap (λ (j : ℕ). (with_entry x (entry_for m.kernel.scheme (tables_of tables kernel t) j a)).buffer) tagged ∙ ap (λ (u : Table). (with_entry x (entry_for m.kernel.scheme (tables_of tables kernel u) (present_asid m.policy (hart_of x)) a)).buffer) satp) where
+      ∙ ap (λ (j : ℕ). (with_entry x (entry_for m.kernel.scheme (tables_of tables kernel t) j a)).buffer) tagged ∙ ap (λ (u : SatpTable). (with_entry x (entry_for m.kernel.scheme (tables_of tables kernel u) (present_asid m.policy (hart_of x)) a)).buffer) satp) where
         satp : t ≡ present_table x
         satp = present ∙ ap present_table (sym (same_hart m.harts.items h z x read at))
 

@@ -1,4 +1,5 @@
--- Worked rows: what a step makes of a buffer in which two entries have one key.
+-- Tests that `buffer_after` (the buffer, or TLB, of the hart of a step after it) is right for evictions, a write of `satp`,
+-- a fence and a fill, in a buffer of two entries with the same page and ASID.
 use Rattle.std.proofs.Common.{◌≡◌, ℕ, false, None, Some, [], ◌∷◌, refl}
 use Rattle.hart_tlb.specs.declared.entry.TlbEntry.{TlbEntry}
 use Rattle.process_model.specs.declared.config.Policy.TheVariants.{Full}
@@ -8,7 +9,7 @@ use Rattle.process_model.specs.declared.step.Step.TheVariants as step
 use Rattle.table_walk.specs.Tables.{Tables}
 use Rattle.hart_machine.specs.Buffers.{buffer_after}
 use Rattle.table_walk.specs.Leaves.{page_leaf}
-use Rattle.hart_machine.specs.Walked.{entry_for}
+use Rattle.hart_machine.specs.WalkEntries.{entry_for}
 use Rattle.hart_machine.specs.declared.hart.Hart.{Hart}
 use Rattle.sv39_entry.specs.declared.scheme.Scheme.TheVariants.{Sv39}
 

@@ -1,4 +1,5 @@
--- What the entries of each buffer tell after a step, with fences of everything and with address-space identifiers.
+-- Lemmas: after a step and its stale marks, each buffer (TLB) has only entries that it may have, under policy `full` and
+-- under policy `asid`, in the model's world, its state (`still_in`); and so, under `asid`, `AreEntriesCurrent` (`are_true`).
 use Rattle.std.proofs.Common.{◌≡◌, ◌⊎◌, ℕ, zero, suc, ◌+◌, ◌*◌, ◌≤◌, ◌&&◌, ◌||◌, Bool, true, false, not, length, Option, None, Some, option_map, List, [], ◌∷◌, refl, ap, sym, subst, ◌∙◌, inl, inr, arith, if◌then◌else◌}
 use Rattle.std.specs.Prelude.{Contains, slice_get, unwrap_or}
 use Rattle.std.proofs.lemmas.Bool.{cases_eq, eq-eqb}
@@ -25,18 +26,18 @@ use Rattle.table_walk.specs.Leaves.{page_leaf, leaf_at}
 use Rattle.hart_machine.specs.Tables.{present_table, tables_of}
 use Rattle.hart_tlb.specs.Entries.{is_fenced}
 use Rattle.table_walk.specs.Tables.{Tables, walk_leaf}
-use Rattle.table_walk.specs.Mapped.{tables_of_scheme}
+use Rattle.table_walk.specs.LowPages.{tables_of_scheme}
 use Rattle.hart_machine.specs.Buffers.{buffer_after, BuffersAre, is_about}
 use Rattle.hart_machine.specs.Harts.{cleaned_for, cleaned_if, emptied, fenced, hart_of, is_before_user}
 use Rattle.process_model.specs.Text.{is_refused}
-use Rattle.hart_machine.specs.Serves.{AreTrue, IsClean, IsFenced, IsIn, IsOwn, IsServing, IsTagged, may_have_kernel, may_have_own, IsCode}
+use Rattle.hart_machine.specs.BufferEntries.{AreEntriesCurrent, HasNoStaleMark, IsEntryByPhase, IsInWorld, IsProcessEntry, IsCurrentEntry, IsEntryByAsid, may_have_kernel, may_have_process, IsTrampolineLeaf}
 use Rattle.hart_machine.specs.Slots.{marks_of}
-use Rattle.hart_machine.specs.Tenants.{IsTenant, view_of}
-use Rattle.hart_machine.specs.Walked.{entry_for, IsEntryOf}
-use Rattle.hart_machine.specs.Worlds.{HaveSameLeaves, IsPlace, IsWorld, KeepsTables}
+use Rattle.hart_machine.specs.SlotProcesses.{IsSlotProcess, view_of}
+use Rattle.hart_machine.specs.WalkEntries.{entry_for, IsEntryOf}
+use Rattle.hart_machine.specs.Worlds.{HaveSameLeaves, IsSlotContent, IsWorld, KeepsTables}
 use Rattle.hart_machine.specs.declared.hart.Hart.{Hart}
 use Rattle.hart_machine.specs.declared.machine.Machine.{Machine}
-use Rattle.hart_machine.specs.declared.tenant.Tenant.{Tenant}
+use Rattle.hart_machine.specs.declared.slot_process.SlotProcess.{SlotProcess}
 use Rattle.hart_machine.proofs.BufferChanges.{only_fills_add}
 use Rattle.hart_machine.proofs.StepShapes.{Advances, changed_in_kernel, enters, Goes, harts_go, MovesTo, stays, switches}
 use Rattle.hart_machine.proofs.AccessingEntries.{satp_is}
@@ -46,7 +47,7 @@ use Rattle.hart_machine.proofs.HartSteps.{cleaned_is, process_at}
 use Rattle.frame_store.specs.Seats.{place_set_other}
 use Rattle.hart_machine.proofs.PresentTables.{present_serves}
 use Rattle.hart_machine.proofs.Trampolines.{kernel_code_leaf, process_code_leaf}
-use Rattle.hart_machine.proofs.Mapped.{from_map}
+use Rattle.hart_machine.proofs.MapElements.{from_map}
 use Rattle.hart_machine.proofs.OneTables.{one_tables}
 use Rattle.hart_machine.proofs.KeptPolicy.{scheme_stays, stale_scheme}
 
@@ -80,7 +81,7 @@ switch_has_kernel phase.Enter2 e = absurd (cc)
 switch_has_kernel phase.Leave1 e = absurd (cc)
 switch_has_kernel phase.Leave2 e = absurd (cc)
 
-none_of_own : (p : Phase) → model.may_switch p ≡ true → may_have_own p ≡ true → ⊥
+none_of_own : (p : Phase) → model.may_switch p ≡ true → may_have_process p ≡ true → ⊥
 none_of_own phase.Idle may own = cc
 none_of_own phase.User may own = cc
 none_of_own phase.Enter0 may own = cc
@@ -128,7 +129,7 @@ fence_takes x local e r marked gone left own = go (is_before_user x.phase) x.slo
   go true None gone left = never gone
   go true (Some s) gone left = if_marked s (marks_of x.stale s) gone left
 
-module _ (m n : Machine) (w : World) (s : Step) (inn : IsIn m w) (after : IsWorld n (with_stale_slots w.policy w (plain_step w s)).world) (ruled : n.policy ≡ m.policy)
+module _ (m n : Machine) (w : World) (s : Step) (inn : IsInWorld m w) (after : IsWorld n (with_stale_slots w.policy w (plain_step w s)).world) (ruled : n.policy ≡ m.policy)
     (keeps : KeepsTables m n w.slots ((plain_step w s).world).slots) (reply : Reply) (told : reply ≡ (plain_step w s).reply)
     (are : BuffersAre m n (inn.world).tables (inn.world).kernel s reply) where
   abbrev is : IsWorld m w
@@ -149,11 +150,11 @@ module _ (m n : Machine) (w : World) (s : Step) (inn : IsIn m w) (after : IsWorl
   slots_are Full = refl
   slots_are Asid = refl
 
-  process_after : (r : ℕ) (y : Tenant) → slice_get n.slots.items r ≡ Some (Some y) → (q : Process) × (slice_get (o.world).slots r ≡ Some (Some q)) × IsTenant y (after.tables r) q
+  process_after : (r : ℕ) (y : SlotProcess) → slice_get n.slots.items r ≡ Some (Some y) → (q : Process) × (slice_get (o.world).slots r ≡ Some (Some q)) × IsSlotProcess y (after.tables r) q
   process_after r y at = let q = process_at n _ after r y at in (q.0, ap (λ (ps : List (Option Process)). slice_get ps r) (sym (slots_are w.policy)) ∙ q.1, q.2)
 
   -- of a process that was there and is there, and of which no leaf changes
-  own_same : (r : ℕ) (x y : Tenant) → slice_get m.slots.items r ≡ Some (Some x) → slice_get n.slots.items r ≡ Some (Some y) → changed r ≡ false → HaveSameLeaves (is.tables r) (after.tables r)
+  own_same : (r : ℕ) (x y : SlotProcess) → slice_get m.slots.items r ≡ Some (Some x) → slice_get n.slots.items r ≡ Some (Some y) → changed r ≡ false → HaveSameLeaves (is.tables r) (after.tables r)
   own_same r x y at_m at_n quiet =
       let p = process_at m w is r x at_m in
       let q = process_after r y at_n in
@@ -161,12 +162,12 @@ module _ (m n : Machine) (w : World) (s : Step) (inn : IsIn m w) (after : IsWorl
       (sym (ap (λ (c : Option (Option Process)). changed_at c (slice_get (o.world).slots r)) p.1 ∙ ap (changed_at (Some (Some p.0))) q.1) ∙ quiet) p.2 q.2
 
   -- a process in a slot that is not named as changed was there
-  was_there : (r : ℕ) (y : Tenant) → slice_get n.slots.items r ≡ Some (Some y) → changed r ≡ false → (x : Tenant) × (slice_get m.slots.items r ≡ Some (Some x))
+  was_there : (r : ℕ) (y : SlotProcess) → slice_get n.slots.items r ≡ Some (Some y) → changed r ≡ false → (x : SlotProcess) × (slice_get m.slots.items r ≡ Some (Some x))
   was_there r y at quiet = go (slice_get m.slots.items r) refl (slice_get w.slots r) refl (is.places r) where
-    q : (q : Process) × (slice_get (o.world).slots r ≡ Some (Some q)) × IsTenant y (after.tables r) q
+    q : (q : Process) × (slice_get (o.world).slots r ≡ Some (Some q)) × IsSlotProcess y (after.tables r) q
     q = process_after r y at
 
-    go : (a : Option (Option Tenant)) → slice_get m.slots.items r ≡ a → (b : Option (Option Process)) → slice_get w.slots r ≡ b → IsPlace a b (is.tables r) → (x : Tenant) × (slice_get m.slots.items r ≡ Some (Some x))
+    go : (a : Option (Option SlotProcess)) → slice_get m.slots.items r ≡ a → (b : Option (Option Process)) → slice_get w.slots r ≡ b → IsSlotContent a b (is.tables r) → (x : SlotProcess) × (slice_get m.slots.items r ≡ Some (Some x))
     go (Some (Some x)) at_m b at_w place = (x, at_m)
     go (Some None) at_m (Some None) at_w place = absurd (
         let named : changed r ≡ true = ap (λ c. changed_at c (slice_get (o.world).slots r)) at_w ∙ ap (changed_at (Some None)) q.1 in
@@ -267,23 +268,23 @@ module _ (m n : Machine) (w : World) (s : Step) (inn : IsIn m w) (after : IsWorl
     kernel_after : (asid : ℕ) → IsEntryOf m.kernel.scheme is.kernel asid e → IsEntryOf n.kernel.scheme after.kernel asid e
     kernel_after asid entry = entry_after is.kernel after.kernel kernel_same asid e entry
 
-    not_kernel : (p : Phase) → may_have_own p ≡ true → p ≡ phase.Kernel → ⊥
-    not_kernel p own is_kernel = let never : may_have_own phase.Kernel ≡ true = ap may_have_own (sym is_kernel) ∙ own in cc
+    not_kernel : (p : Phase) → may_have_process p ≡ true → p ≡ phase.Kernel → ⊥
+    not_kernel p own is_kernel = let never : may_have_process phase.Kernel ≡ true = ap may_have_process (sym is_kernel) ∙ own in cc
 
-    fenced_by : IsFenced m.kernel.scheme b.was is.tables is.kernel e → (MovesTo (hart_of b.was) b.plain_hart.hart × ((b.plain_hart.hart).stale ≡ (hart_of b.was).stale)) → IsFenced n.kernel.scheme y after.tables after.kernel e
+    fenced_by : IsEntryByPhase m.kernel.scheme b.was is.tables is.kernel e → (MovesTo (hart_of b.was) b.plain_hart.hart × ((b.plain_hart.hart).stale ≡ (hart_of b.was).stale)) → IsEntryByPhase n.kernel.scheme y after.tables after.kernel e
     fenced_by (inl of_kernel) (stays phased slotted, stale) = inl (ap may_have_kernel (sym (b.plain_hart).phased ∙ phased) ∙ of_kernel.0, kernel_after 0 of_kernel.1)
     fenced_by (inr own) (stays phased slotted, stale) =
         let upon : y.slot ≡ Some own.0 = sym (b.plain_hart).slotted ∙ slotted ∙ own.2 in
-        inr (own.0, ap may_have_own (sym (b.plain_hart).phased ∙ phased) ∙ own.1, upon, own_after own.0 0 own.2 upon (not_kernel (b.was).phase own.1) own.3)
+        inr (own.0, ap may_have_process (sym (b.plain_hart).phased ∙ phased) ∙ own.1, upon, own_after own.0 0 own.2 upon (not_kernel (b.was).phase own.1) own.3)
     fenced_by (inl of_kernel) (switches from to, stale) = inl (switch_has_kernel y.phase (ap model.may_switch (sym (b.plain_hart).phased) ∙ to), kernel_after 0 of_kernel.1)
     fenced_by (inr own) (switches from to, stale) = absurd (none_of_own (b.was).phase from own.1)
     fenced_by (inl of_kernel) (enters user entered slotted, stale) = absurd (let never : may_have_kernel phase.User ≡ true = ap may_have_kernel (sym user) ∙ of_kernel.0 in cc)
     fenced_by (inr own) (enters user entered slotted, stale) =
         let upon : y.slot ≡ Some own.0 = sym (b.plain_hart).slotted ∙ slotted ∙ own.2 in
-        inr (own.0, ap may_have_own (sym (b.plain_hart).phased ∙ entered), upon, own_after own.0 0 own.2 upon (not_kernel (b.was).phase own.1) own.3)
+        inr (own.0, ap may_have_process (sym (b.plain_hart).phased ∙ entered), upon, own_after own.0 0 own.2 upon (not_kernel (b.was).phase own.1) own.3)
 
     -- by the trampoline: in front of a fence no entry is left
-    advanced_by : (p : Phase) → (b.was).phase ≡ p → (a : Advances w s o.reply h (hart_of b.was) b.plain_hart.hart) → Contains (emptied b.was).buffer e → IsFenced m.kernel.scheme b.was is.tables is.kernel e → IsFenced n.kernel.scheme y after.tables after.kernel e
+    advanced_by : (p : Phase) → (b.was).phase ≡ p → (a : Advances w s o.reply h (hart_of b.was) b.plain_hart.hart) → Contains (emptied b.was).buffer e → IsEntryByPhase m.kernel.scheme b.was is.tables is.kernel e → IsEntryByPhase n.kernel.scheme y after.tables after.kernel e
     advanced_by p phased a there serves = go p phased (subst (λ (q : Phase). Contains (if model.is_before_fence q then [] else (b.was).buffer) e) phased there) (ap next_phase (sym phased) ∙ a.next) serves where
       upon : (r : ℕ) → (b.was).slot ≡ Some r → y.slot ≡ Some r
       upon r on = sym (b.plain_hart).slotted ∙ a.slotted ∙ on
@@ -291,16 +292,16 @@ module _ (m n : Machine) (w : World) (s : Step) (inn : IsIn m w) (after : IsWorl
       now : (q : Phase) → Some q ≡ Some a.after → y.phase ≡ q
       now q same = sym (b.plain_hart).phased ∙ a.phased ∙ sym (same_Some q a.after same)
 
-      go : (p : Phase) → (b.was).phase ≡ p → Contains (if model.is_before_fence p then [] else (b.was).buffer) e → next_phase p ≡ Some a.after → IsFenced m.kernel.scheme b.was is.tables is.kernel e → IsFenced n.kernel.scheme y after.tables after.kernel e
+      go : (p : Phase) → (b.was).phase ≡ p → Contains (if model.is_before_fence p then [] else (b.was).buffer) e → next_phase p ≡ Some a.after → IsEntryByPhase m.kernel.scheme b.was is.tables is.kernel e → IsEntryByPhase n.kernel.scheme y after.tables after.kernel e
       go phase.Idle q there next serves = absurd (cc)
       go phase.User q there next serves = absurd (cc)
       go phase.Enter0 q there next serves = absurd (omega (arith, there.1))
       go phase.Enter1 q there next (inl of_kernel) = absurd (let never : may_have_kernel phase.Enter1 ≡ true = ap may_have_kernel (sym q) ∙ of_kernel.0 in cc)
-      go phase.Enter1 q there next (inr own) = inr (own.0, ap may_have_own (now phase.Enter2 next), upon own.0 own.2, own_after own.0 0 own.2 (upon own.0 own.2) (not_kernel (b.was).phase own.1) own.3)
+      go phase.Enter1 q there next (inr own) = inr (own.0, ap may_have_process (now phase.Enter2 next), upon own.0 own.2, own_after own.0 0 own.2 (upon own.0 own.2) (not_kernel (b.was).phase own.1) own.3)
       go phase.Enter2 q there next serves = absurd (omega (arith, there.1))
       go phase.Kernel q there next serves = absurd (omega (arith, there.1))
       go phase.Leave1 q there next (inl of_kernel) = inl (ap may_have_kernel (now phase.Leave2 next), kernel_after 0 of_kernel.1)
-      go phase.Leave1 q there next (inr own) = absurd (let never : may_have_own phase.Leave1 ≡ true = ap may_have_own (sym q) ∙ own.1 in cc)
+      go phase.Leave1 q there next (inr own) = absurd (let never : may_have_process phase.Leave1 ≡ true = ap may_have_process (sym q) ∙ own.1 in cc)
       go phase.Leave2 q there next serves = absurd (omega (arith, there.1))
 
     -- with address-space identifiers
@@ -318,30 +319,30 @@ module _ (m n : Machine) (w : World) (s : Step) (inn : IsIn m w) (after : IsWorl
           (subst (λ (q : Policy). Contains (fenced q b.was).buffer e) asid (subst (λ (es : List TlbEntry). Contains es e) (left_by_fence h y b a at) left)) own)
     ]
 
-    tagged_after : m.policy ≡ Asid → Contains y.buffer e → IsTagged m.kernel.scheme m.slots.items b.was is.tables is.kernel e → IsTagged n.kernel.scheme n.slots.items y after.tables after.kernel e
+    tagged_after : m.policy ≡ Asid → Contains y.buffer e → IsEntryByAsid m.kernel.scheme m.slots.items b.was is.tables is.kernel e → IsEntryByAsid n.kernel.scheme n.slots.items y after.tables after.kernel e
     tagged_after asid left tagged = record {
-      code = subst (λ k. e.page ≡ trampoline_page k → IsCode e.leaf) same_scheme tagged.code;
+      code = subst (λ k. e.page ≡ trampoline_page k → IsTrampolineLeaf e.leaf) same_scheme tagged.code;
       whose = elim tagged.whose [
         | inl of_kernel ↦ inl (kernel_after 0 of_kernel)
         | inr own ↦ inr (own.0, own.1, owned own.0 own.1 (marks_of y.stale own.0) refl own.2)
       ];
     } where
-      owned : (r : ℕ) → e.asid ≡ r + 1 → (c : Bool) → marks_of y.stale r ≡ c → IsOwn m.kernel.scheme m.slots.items b.was is.tables r e → IsOwn n.kernel.scheme n.slots.items y after.tables r e
+      owned : (r : ℕ) → e.asid ≡ r + 1 → (c : Bool) → marks_of y.stale r ≡ c → IsProcessEntry m.kernel.scheme m.slots.items b.was is.tables r e → IsProcessEntry n.kernel.scheme n.slots.items y after.tables r e
       owned r own true marked old = inl marked
       owned r own false unmarked (inl stale) = absurd (mark_goes asid r stale unmarked left own)
       owned r own false unmarked (inr rest) = inr (at_slot (slice_get n.slots.items r) refl rest) where
         quiet : changed r ≡ false
         quiet = (true_of_or (changed r) ((b.plain_hart).hart.stale r) (sym ((b.plain_hart).marked asid r) ∙ unmarked)).0
 
-        at_slot : (c : Option (Option Tenant)) → slice_get n.slots.items r ≡ c → ((x : Tenant) → slice_get m.slots.items r ≡ Some (Some x) → ⊥) ⊎ IsEntryOf m.kernel.scheme (is.tables r) (r + 1) e
-            → ((x : Tenant) → slice_get n.slots.items r ≡ Some (Some x) → ⊥) ⊎ IsEntryOf n.kernel.scheme (after.tables r) (r + 1) e
+        at_slot : (c : Option (Option SlotProcess)) → slice_get n.slots.items r ≡ c → ((x : SlotProcess) → slice_get m.slots.items r ≡ Some (Some x) → ⊥) ⊎ IsEntryOf m.kernel.scheme (is.tables r) (r + 1) e
+            → ((x : SlotProcess) → slice_get n.slots.items r ≡ Some (Some x) → ⊥) ⊎ IsEntryOf n.kernel.scheme (after.tables r) (r + 1) e
         at_slot None none old = inl (λ x some. let both = sym none ∙ some in cc)
         at_slot (Some None) none old = inl (λ x some. let both = sym none ∙ some in let inner : None ≡ Some x = same_Some _ _ both in cc)
         at_slot (Some (Some z)) some (inl dead) = absurd (let x = was_there r z some quiet in dead x.0 x.1)
         at_slot (Some (Some z)) some (inr entry) = let x = was_there r z some quiet in inr (entry_after (is.tables r) (after.tables r) (own_same r x.0 z x.1 some quiet) (r + 1) e entry)
 
     -- by either policy
-    served_after : (q : Policy) → m.policy ≡ q → Contains y.buffer e → IsServing m.kernel.scheme q m.slots.items b.was is.tables is.kernel e → IsServing n.kernel.scheme q n.slots.items y after.tables after.kernel e
+    served_after : (q : Policy) → m.policy ≡ q → Contains y.buffer e → IsCurrentEntry m.kernel.scheme q m.slots.items b.was is.tables is.kernel e → IsCurrentEntry n.kernel.scheme q n.slots.items y after.tables after.kernel e
     served_after Asid asid left serves = tagged_after asid left serves
     served_after Full full left serves = elim b.went [
       | inl other ↦ fenced_by serves other
@@ -350,14 +351,14 @@ module _ (m n : Machine) (w : World) (s : Step) (inn : IsIn m w) (after : IsWorl
 
   -- a fill adds an entry that serves
   new_serves : (h : ℕ) (x : Hart) → slice_get m.harts.items h ≡ Some x → (a : ℕ) (e : TlbEntry) → e ≡ entry_for m.kernel.scheme (tables_of is.tables is.kernel (present_table x)) (present_asid m.policy (hart_of x)) a
-      → IsServing m.kernel.scheme m.policy m.slots.items x is.tables is.kernel e
+      → IsCurrentEntry m.kernel.scheme m.policy m.slots.items x is.tables is.kernel e
   new_serves h x at a e made = go m.policy made where
     idle : x.slot ≡ None → x.phase ≡ phase.Idle
     idle none = is.idle h x at none
 
-    go : (q : Policy) → e ≡ entry_for m.kernel.scheme (tables_of is.tables is.kernel (present_table x)) (present_asid q (hart_of x)) a → IsServing m.kernel.scheme q m.slots.items x is.tables is.kernel e
-    go Full made = subst (λ (z : TlbEntry). IsFenced m.kernel.scheme x is.tables is.kernel z) (sym made) (present_serves m.kernel.scheme is.tables is.kernel x idle _ (entry_is m.kernel.scheme _ 0 a))
-    go Asid made = subst (λ (z : TlbEntry). IsTagged m.kernel.scheme m.slots.items x is.tables is.kernel z) (sym made) (elim (satp_is x idle (present_asid Asid (hart_of x)) refl) [
+    go : (q : Policy) → e ≡ entry_for m.kernel.scheme (tables_of is.tables is.kernel (present_table x)) (present_asid q (hart_of x)) a → IsCurrentEntry m.kernel.scheme q m.slots.items x is.tables is.kernel e
+    go Full made = subst (λ (z : TlbEntry). IsEntryByPhase m.kernel.scheme x is.tables is.kernel z) (sym made) (present_serves m.kernel.scheme is.tables is.kernel x idle _ (entry_is m.kernel.scheme _ 0 a))
+    go Asid made = subst (λ (z : TlbEntry). IsEntryByAsid m.kernel.scheme m.slots.items x is.tables is.kernel z) (sym made) (elim (satp_is x idle (present_asid Asid (hart_of x)) refl) [
       | inl other ↦ rw (other.0) (record {
         code = λ code. kernel_code_leaf m.kernel.scheme m.kernel.seat m.kernel.root.0 w.frames (length w.slots) is.stacks is.kernel is.of_kernel a code;
         whose = inl (entry_is m.kernel.scheme is.kernel 0 a);
@@ -366,13 +367,13 @@ module _ (m n : Machine) (w : World) (s : Step) (inn : IsIn m w) (after : IsWorl
           let t = is.hosted h own.0 x at own.2 in
           let p = process_at m w is own.0 t.0 t.1 in
           rw (own.1, own.2) (record {
-            code = subst (λ k. page_of a ≡ trampoline_page k → IsCode (leaf_at k (is.tables own.0) a)) (is.schemes own.0 p.0 p.1 ∙ sym is.scheme) (process_code_leaf _ _ (is.tables own.0) p.0 (p.2).agrees.stands.shows a);
+            code = subst (λ k. page_of a ≡ trampoline_page k → IsTrampolineLeaf (leaf_at k (is.tables own.0) a)) (is.schemes own.0 p.0 p.1 ∙ sym is.scheme) (process_code_leaf _ _ (is.tables own.0) p.0 (p.2).agrees.stands.shows a);
             whose = inr (own.0, refl, inr (inr (entry_is m.kernel.scheme (is.tables own.0) (own.0 + 1) a)));
           })
     ])
 
   -- after the return the process's hart is not marked for it
-  clean_after : m.policy ≡ Asid → (h : ℕ) (y : Hart) → slice_get n.harts.items h ≡ Some y → IsClean y
+  clean_after : m.policy ≡ Asid → (h : ℕ) (y : Hart) → slice_get n.harts.items h ≡ Some y → HasNoStaleMark y
   clean_after asid h y at r user on = (b.plain_hart).marked asid r ∙ rw (unchanged, unmarked) refl where
     b : Before h y
     b = before h y at
@@ -407,7 +408,7 @@ module _ (m n : Machine) (w : World) (s : Step) (inn : IsIn m w) (after : IsWorl
     unmarked : (b.plain_hart.hart).stale r ≡ false
     unmarked = both.1
 
-  serving_after : (h : ℕ) (y : Hart) (e : TlbEntry) → slice_get n.harts.items h ≡ Some y → Contains y.buffer e → IsServing n.kernel.scheme m.policy n.slots.items y after.tables after.kernel e
+  serving_after : (h : ℕ) (y : Hart) (e : TlbEntry) → slice_get n.harts.items h ≡ Some y → Contains y.buffer e → IsCurrentEntry n.kernel.scheme m.policy n.slots.items y after.tables after.kernel e
   serving_after h y e at left =
       let b = before h y at in
       elim (only_fills_add m n is.tables is.kernel s reply are h e (y.buffer, ap (option_map (λ (x : Hart). x.buffer)) at, left)) [
@@ -416,29 +417,29 @@ module _ (m n : Machine) (w : World) (s : Step) (inn : IsIn m w) (after : IsWorl
             served_after h y at b e m.policy refl left (inn.buffers h b.was e b.there (subst (λ (es : List TlbEntry). Contains es e) (sym same) old.2))
         | inr new ↦
             let one : new.1 ≡ b.was = same_Some new.1 b.was (sym new.3 ∙ b.there) in
-            served_after h y at b e m.policy refl left (subst (λ (x : Hart). IsServing m.kernel.scheme m.policy m.slots.items x is.tables is.kernel e) one (new_serves h new.1 new.3 new.0 e new.4))
+            served_after h y at b e m.policy refl left (subst (λ (x : Hart). IsCurrentEntry m.kernel.scheme m.policy m.slots.items x is.tables is.kernel e) one (new_serves h new.1 new.3 new.0 e new.4))
       ]
 
   -- the machine is in the model's world, and no buffer tells what may not be told
-  pub still_in : IsIn n (with_stale_slots w.policy w o).world
+  pub still_in : IsInWorld n (with_stale_slots w.policy w o).world
   still_in = record {
     world = after;
-    buffers = λ h y e at left. subst (λ (q : Policy). IsServing n.kernel.scheme q n.slots.items y after.tables after.kernel e) (sym ruled) (serving_after h y e at left);
+    buffers = λ h y e at left. subst (λ (q : Policy). IsCurrentEntry n.kernel.scheme q n.slots.items y after.tables after.kernel e) (sym ruled) (serving_after h y e at left);
     clean = λ asid h y at. clean_after (sym ruled ∙ asid) h y at;
   }
 
 -- what that says with address-space identifiers
-module _ (m : Machine) (w : World) (inn : IsIn m w) (asid : m.policy ≡ Asid) where
-  tagged : (h : ℕ) (x : Hart) (e : TlbEntry) → slice_get m.harts.items h ≡ Some x → Contains x.buffer e → IsTagged m.kernel.scheme m.slots.items x (inn.world).tables (inn.world).kernel e
-  tagged h x e at there = subst (λ (q : Policy). IsServing m.kernel.scheme q m.slots.items x (inn.world).tables (inn.world).kernel e) asid (inn.buffers h x e at there)
+module _ (m : Machine) (w : World) (inn : IsInWorld m w) (asid : m.policy ≡ Asid) where
+  tagged : (h : ℕ) (x : Hart) (e : TlbEntry) → slice_get m.harts.items h ≡ Some x → Contains x.buffer e → IsEntryByAsid m.kernel.scheme m.slots.items x (inn.world).tables (inn.world).kernel e
+  tagged h x e at there = subst (λ (q : Policy). IsCurrentEntry m.kernel.scheme q m.slots.items x (inn.world).tables (inn.world).kernel e) asid (inn.buffers h x e at there)
 
-  pub are_true : AreTrue m
+  pub are_true : AreEntriesCurrent m
   are_true = record {
     own = λ h s x y t e at place has there own. elim (tagged h x e at there).whose [
       | inl of_kernel ↦ absurd (let none = of_kernel.of_space in omega (arith, none, own))
       | inr other ↦
           let same : other.0 ≡ s = (let second = other.1 in omega (arith, own, second)) in
-          elim (subst (λ (r : ℕ). IsOwn m.kernel.scheme m.slots.items x (inn.world).tables r e) same other.2) [
+          elim (subst (λ (r : ℕ). IsProcessEntry m.kernel.scheme m.slots.items x (inn.world).tables r e) same other.2) [
             | inl stale ↦ inl stale
             | inr rest ↦ elim rest [
               | inl dead ↦ absurd (dead y place)

@@ -1,4 +1,5 @@
--- Calls of the kernel for the process on a hart.
+-- Lemmas for kernel calls of the process on a hart: when the model refuses one because of the hart's phase or a waiting
+-- access, and that else the process is in the kernel (`is_in_kernel`) and the call runs (`call_runs`).
 use Rattle.std.proofs.Common.{◌≡◌, ◌⊎◌, ℕ, Bool, true, false, not, ◌&&◌, None, Some, option_map, refl, ap, sym, ◌∙◌, inl, inr}
 use Rattle.std.specs.Bool.{beq}
 use Rattle.std.specs.Prelude.{slice_get}
@@ -61,7 +62,7 @@ module _ (m : Machine) (w : World) (is : IsWorld m w) (h : ℕ) (p : Phase) (has
         there = has.there;
         in_kernel = has.phased ∙ kernel_is p kernel;
         on = on;
-        tenant = t.0;
+        slot_process = t.0;
         place = t.1;
         process = q.0;
         in_slot = q.1;

@@ -1,4 +1,6 @@
--- Leaves of settled pages, page by page: when two maps of pages have the same ones, and which slots a step names as changed.
+-- Lemmas: a process's leaves are the same if and only if each page has the same sign: its copy number (which names one copy
+-- of a page in memory) and its marks, or none. And a slot (place in the process table) is among those that a step changed if
+-- and only if its leaves changed there (`among_changed`).
 use Rattle.std.proofs.Common.{◌≡◌, ℕ, zero, suc, Bool, true, false, not, cond, ◌+◌, ◌<◌, inl, inr, refl, ap, sym, subst, ◌∙◌, arith, List, [], ◌∷◌, Option, None, Some, T}
 use Rattle.std.specs.Prelude.{◌&&◌, ◌||◌, ◌==◌, slice_get, if◌then◌else◌}
 use Rattle.std.specs.Cmp.{nat_cmp_total}
@@ -7,7 +9,7 @@ use Rattle.std.specs.List.{list_any}
 use Rattle.std.specs.Ordering.{eq_by_cmp, is_lt, nat_cmp}
 use Rattle.std.proofs.lemmas.Bool.{and_from, and_parts, cases_eq, eq-eqb, eqb-true, false_from_ne_true, ne_eqb}
 use Rattle.std.proofs.lemmas.Map.Lookups.{exact_unsigned}
-use Rattle.process_model.specs.Inserted.{inserted_here, inserted_other}
+use Rattle.process_model.specs.Insertion.{inserted_here, inserted_other}
 use Rattle.process_model.specs.PageMap.{PageMap, get, insert}
 use Rattle.process_model.specs.Process.{Page, Process}
 use Rattle.hart_machine.specs.Marks.{changed_at}

@@ -1,29 +1,31 @@
--- The worlds that a copy comes to, page by page.
+-- Lemmas for kernel copies, page by page: the machine is in the model's world (state) after a page was reached for the copy,
+-- made resident, so that an access succeeds (`reaches`), after a rule stopped it (`stops`), and after bytes were written
+-- (`puts`).
 use Rattle.std.proofs.Common.{◌≡◌, ℕ, ◌+◌, ◌%◌, ◌<◌, ◌≤◌, Bool, true, false, not, ◌||◌, Option, None, Some, Result, Ok, Err, List, refl, ap, sym, subst, ◌∙◌, inl, inr, arith}
 use Rattle.std.specs.Prelude.{◌⊎◌, nat_lt, slice_get, slice_set}
 use Rattle.std.specs.Vec.{with_item}
 use Rattle.std.proofs.lemmas.Bool.{and_parts}
 use Rattle.std.proofs.lemmas.List.{set-set}
 use Rattle.std.proofs.lemmas.Option.{slice_get_within}
-use Rattle.address_space.specs.Agreement.{IsOn}
-use Rattle.address_space.specs.Pending.{agrees_pending}
+use Rattle.address_space.specs.Agreement.{IsFrameOfPage}
+use Rattle.address_space.specs.PendingAccess.{agrees_pending}
 use Rattle.address_space.specs.Steps.{CanWrite}
 use Rattle.fault_rules.specs.Allowed.{can_reside}
-use Rattle.fault_rules.specs.Resides.{CanReside, is_shared_by}
+use Rattle.fault_rules.specs.MadeResident.{CanMakeResident, is_shared_by}
 use Rattle.fault_rules.specs.Serves.{IsEnd}
 use Rattle.fault_rules.specs.declared.service.Served.TheVariants as served
-use Rattle.frame_store.specs.Plain.{Bank}
+use Rattle.frame_store.specs.Plain.{PlainState}
 use Rattle.frame_store.specs.Seats.{place_set_same}
 use Rattle.frame_store.specs.View.{View}
-use Rattle.process_model.specs.Around.{Around, need_at, Progress, reached, resident_at, unless_dry, unless_resident}
+use Rattle.process_model.specs.Environment.{Environment, need_at, Progress, resident_at_address, resident_at, unless_dry, unless_resident}
 use Rattle.process_model.specs.Copies.{reached_in}
 use Rattle.process_model.specs.Files.{File}
 use Rattle.process_model.specs.PageMap.{get}
 use Rattle.process_model.specs.Process.{Page, Pending, Process, regions}
-use Rattle.process_model.specs.ReachedPages.{no_alignment, reached_parts, reached_serves}
+use Rattle.process_model.specs.ResidenceLaws.{no_alignment, reached_parts, reached_serves}
 use Rattle.process_model.specs.Regions.{copy_rule, keeps_stores}
 use Rattle.process_model.specs.Residence.{is_resident, is_resident_page, made_resident, region_on, stored, with_page}
-use Rattle.process_model.specs.Service.{around, begun, with_progress}
+use Rattle.process_model.specs.Service.{environment_of, initial_progress, with_progress}
 use Rattle.process_model.specs.World.{free, is_unserved_access, others_have, World}
 use Rattle.sv39_entry.specs.Address.{page_of}
 use Rattle.sv39_entry.specs.declared.access.Access.{Access}
@@ -31,23 +33,23 @@ use Rattle.sv39_entry.specs.declared.rule.Rule.{Rule}
 use Rattle.sv39_entry.specs.declared.rule.Rule.TheVariants.{NoFrame}
 use Rattle.sv39_entry.specs.declared.access.Access.TheVariants as access
 use Rattle.table_walk.specs.Tables.{Tables, leaf_node}
-use Rattle.user_copy.specs.Reaching.{Place, Reaches}
+use Rattle.user_copy.specs.ReachedPage.{Place, Reaches}
 use Rattle.user_copy.specs.Runs.{Puts}
 use Rattle.user_copy.specs.declared.short.Stop.TheVariants.{Denied}
 use Rattle.hart_machine.specs.Calls.{Follows, IsCaller}
-use Rattle.hart_machine.specs.Copied.{plain_words}
-use Rattle.hart_machine.specs.Serving.{HasServed, MustEnd, rule_of, WhenShared}
-use Rattle.hart_machine.specs.Tenants.{body_in, HasBytes, IsTenant}
+use Rattle.hart_machine.specs.CopyEffect.{plain_words}
+use Rattle.hart_machine.specs.ServeEffect.{HasServed, MustEnd, rule_of, WhenShared}
+use Rattle.hart_machine.specs.SlotProcesses.{body_in, HasPageBytes, IsSlotProcess}
 use Rattle.hart_machine.specs.Worlds.{HaveSameLeaves, IsWorld}
 use Rattle.hart_machine.specs.declared.machine.Machine.{Machine}
-use Rattle.hart_machine.specs.declared.tenant.Tenant.{Tenant}
+use Rattle.hart_machine.specs.declared.slot_process.SlotProcess.{SlotProcess}
 use Rattle.hart_machine.proofs.AccessingPages.{has_copies}
 use Rattle.hart_machine.proofs.AccessingWorlds.{bytes_change}
 use Rattle.process_laws.proofs.Later.{later, lt_shift, reached_later, shifted}
 use Rattle.hart_machine.proofs.HartSteps.{tenant_is}
 use Rattle.hart_machine.proofs.HeldFrames.{free_is}
 use Rattle.hart_machine.proofs.KeptTables.{same_tenant}
-use Rattle.hart_machine.proofs.ServedTenants.{only_reads}
+use Rattle.hart_machine.proofs.ServedProcesses.{only_reads}
 use Rattle.hart_machine.proofs.ServedWorlds.{is_reached, reached_follows, reaches_not, unreached}
 
 -- whose list of places is the same
@@ -75,11 +77,11 @@ same_slots m n w frames kernel slots files harts ruled is = record {
 }
 
 -- a page is on the frame that it was on, where its leaf is the one that it had
-same_on : (t u : Tables) → HaveSameLeaves t u → (n f : ℕ) → IsOn u n f → IsOn t n f
+same_on : (t u : Tables) → HaveSameLeaves t u → (n f : ℕ) → IsFrameOfPage u n f → IsFrameOfPage t n f
 same_on t u same n f on = (on.0, sym (same (leaf_node n)) ∙ on.1, on.2)
 
 -- no copy number is given twice: the counter only grows
-module _ (a : Around) (kind : Access) (g h : Progress) where
+module _ (a : Environment) (kind : Access) (g h : Progress) where
   same_progress : (x y : Progress) → ◌≡◌ {A = Result Progress Rule} (Ok x) (Ok y) → x ≡ y
   same_progress x y is = cc
 
@@ -96,14 +98,14 @@ module _ (a : Around) (kind : Access) (g h : Progress) where
   reached_grows address is = resident_grows (page_of address) (is_resident g.process kind (page_of address)) (reached_parts a kind g h address is).1
 
 -- the access that a copy makes, as one that waits
-abbrev pub asked : Access → ℕ → Pending
-asked a address = record { access = a; address = address; width = 1; served = false }
+abbrev pub request : Access → ℕ → Pending
+request a address = record { access = a; address = address; width = 1; served = false }
 
 module _ (m : Machine) (w : World) (is : IsWorld m w) (h s : ℕ) (k : IsCaller m w h s) where
   abbrev pub Spot : Type 0
-  Spot = Place View Bank (List File)
+  Spot = Place View PlainState (List File)
 
-  abbrev pub tenant_at : Spot → Tenant
+  abbrev pub tenant_at : Spot → SlotProcess
   tenant_at a = record { space = a.space; pending = None }
 
   abbrev pub machine_at : Spot → Machine
@@ -111,7 +113,7 @@ module _ (m : Machine) (w : World) (is : IsWorld m w) (h s : ℕ) (k : IsCaller 
 
   -- below these tables, each page with an old copy number is on the frame that it was on when the copy began
   abbrev pub AreOld : Tables → Process → Type 0
-  AreOld t q = (n f : ℕ) (z : Page) → get q.settled n ≡ Some z → z.copy < w.counter → IsOn t n f → IsOn (is.tables s) n f
+  AreOld t q = (n f : ℕ) (z : Page) → get q.settled n ≡ Some z → z.copy < w.counter → IsFrameOfPage t n f → IsFrameOfPage (is.tables s) n f
 
   -- the machine is in the world of some moment of a copy
   pub record IsCopied (a : Spot) (g : Progress) : Type 0 where
@@ -128,16 +130,16 @@ module _ (m : Machine) (w : World) (is : IsWorld m w) (h s : ℕ) (k : IsCaller 
 
   module _ (a : Spot) (g : Progress) (v : IsWorld (machine_at a) (with_progress w s g)) where
     -- the process has the tables that the world tells
-    pub tenant_in : IsTenant (tenant_at a) (v.tables s) g.process
+    pub tenant_in : IsSlotProcess (tenant_at a) (v.tables s) g.process
     tenant_in =
         let in_slot = place_set_same w.slots s (Some g.process) (slice_get_within w.slots s (Some k.process) k.in_slot) in
-        let place = place_set_same m.slots.items s (Some (tenant_at a)) (slice_get_within m.slots.items s (Some k.tenant) k.place) in
+        let place = place_set_same m.slots.items s (Some (tenant_at a)) (slice_get_within m.slots.items s (Some k.slot_process) k.place) in
         tenant_is (machine_at a) (with_progress w s g) v s (tenant_at a) g.process place in_slot
 
     -- what holds below some tables of the process holds below those
-    pub old_in : (t : Tables) (q : Process) → IsTenant (tenant_at a) t q → AreOld t g.process → AreOld (v.tables s) g.process
-    old_in t q tenant old n f z there below on =
-        old n f z there below (same_on t (v.tables s) (same_tenant (tenant_at a) (tenant_at a) q g.process t (v.tables s) refl tenant tenant_in) n f on)
+    pub old_in : (t : Tables) (q : Process) → IsSlotProcess (tenant_at a) t q → AreOld t g.process → AreOld (v.tables s) g.process
+    old_in t q slot_process old n f z there below on =
+        old n f z there below (same_on t (v.tables s) (same_tenant (tenant_at a) (tenant_at a) q g.process t (v.tables s) refl slot_process tenant_in) n f on)
 
   -- and it holds of a process that follows it
   old_follows : (v : View) (t u : Tables) (p q : Process) (low high : ℕ) → Follows v t u p q low high → w.counter ≤ low → AreOld t p → AreOld u q
@@ -154,7 +156,7 @@ module _ (m : Machine) (w : World) (is : IsWorld m w) (h s : ℕ) (k : IsCaller 
     at = place_set_same w.slots s (Some g.process) (slice_get_within w.slots s (Some k.process) k.in_slot)
 
     placed : slice_get (slice_set m.slots.items s (Some (tenant_at a))) s ≡ Some (Some (tenant_at a))
-    placed = place_set_same m.slots.items s (Some (tenant_at a)) (slice_get_within m.slots.items s (Some k.tenant) k.place)
+    placed = place_set_same m.slots.items s (Some (tenant_at a)) (slice_get_within m.slots.items s (Some k.slot_process) k.place)
 
     abbrev caller : IsCaller (machine_at a) there h s
     caller = record {
@@ -162,15 +164,15 @@ module _ (m : Machine) (w : World) (is : IsWorld m w) (h s : ℕ) (k : IsCaller 
       there = k.there;
       in_kernel = k.in_kernel;
       on = k.on;
-      tenant = tenant_at a;
+      slot_process = tenant_at a;
       place = placed;
       process = g.process;
       in_slot = at;
       unserved = ap is_unserved_access u.quiet;
     }
 
-    pub tenant : IsTenant (tenant_at a) (u.world.tables s) g.process
-    tenant = tenant_is (machine_at a) there u.world s (tenant_at a) g.process placed at
+    pub slot_process : IsSlotProcess (tenant_at a) (u.world.tables s) g.process
+    slot_process = tenant_is (machine_at a) there u.world s (tenant_at a) g.process placed at
 
     others : (c : ℕ) → others_have there s c ≡ others_have w s c
     others c = rw (set-set w.slots s (Some g.process) None) refl
@@ -191,24 +193,24 @@ module _ (m : Machine) (w : World) (is : IsWorld m w) (h s : ℕ) (k : IsCaller 
       between = record m { frames = b.store; slots = with_item (with_item m.slots s (Some (tenant_at a))) s (Some (tenant_at b)); files = a.files }
 
       abbrev waiting : Pending
-      waiting = asked kind address
+      waiting = request kind address
 
-      shift : (r : Result Progress Rule) → reached (around there s) kind address (begun there g.process) (rule_of g.process waiting) ≡ r → reached_in (around w s) kind g address ≡ shifted g.taken r
+      shift : (r : Result Progress Rule) → resident_at_address (environment_of there s) kind address (initial_progress there g.process) (rule_of g.process waiting) ≡ r → reached_in (environment_of w s) kind g address ≡ shifted g.taken r
       shift r e =
-          reached_later (around there s) (around w s) refl others g.taken
+          reached_later (environment_of there s) (environment_of w s) refl others g.taken
           (λ page need. lt_shift (free there) need g.taken ∙ ap (λ n. nat_lt n (g.taken + need)) (sym frees)) g.process g.fresh kind address (copy_rule g.process.scheme (regions g.process) kind address)
-          ∙ ap (shifted g.taken) (ap (reached (around there s) kind address (begun there g.process)) (sym (no_alignment g.process.scheme (regions g.process) kind address)) ∙ e)
+          ∙ ap (shifted g.taken) (ap (resident_at_address (environment_of there s) kind address (initial_progress there g.process)) (sym (no_alignment g.process.scheme (regions g.process) kind address)) ∙ e)
 
       module _ (e : Reaches plain_words a b kind address (Ok tt)) where
         allowed : rule_of g.process waiting ≡ None
-        allowed = no_alignment g.process.scheme (regions g.process) kind address ∙ by (copy_rule g.process.scheme (regions g.process) kind address) (e.ended (u.world.tables s) g.process tenant.agrees)
+        allowed = no_alignment g.process.scheme (regions g.process) kind address ∙ by (copy_rule g.process.scheme (regions g.process) kind address) (e.ended (u.world.tables s) g.process slot_process.agrees)
           where
             by : (o : Option Rule) → IsEnd o served.Ready → o ≡ None
             by None told = refl
             by (Some rule) told = absurd (cc)
 
-        can : CanReside (body_in (tenant_at a)) (u.world.tables s) g.process kind (page_of address)
-        can = can_reside (body_in (tenant_at a)) (u.world.tables s) g.process kind address 1 tenant.agrees allowed
+        can : CanMakeResident (body_in (tenant_at a)) (u.world.tables s) g.process kind (page_of address)
+        can = can_reside (body_in (tenant_at a)) (u.world.tables s) g.process kind address 1 slot_process.agrees allowed
 
         has : HasServed (tenant_at a) (tenant_at b) (u.world.tables s) g.process waiting None a.files a.store b.store
         has =
@@ -219,9 +221,9 @@ module _ (m : Machine) (w : World) (is : IsWorld m w) (h s : ℕ) (k : IsCaller 
               count = r.1;
               resides = r.2;
               counts = λ f n on told. r.3 f n on told tt;
-              tenant = λ fresh. record {
+              slot_process = λ fresh. record {
                 agrees = agrees_pending _ _ _ _ _ (made_resident a.files fresh (is_shared_by r.1) g.process kind (page_of address)) (r.2.agrees fresh) None;
-                framed = rw e.trapframe tenant.framed;
+                framed = rw e.trapframe slot_process.framed;
                 pending = refl;
                 wide = tt;
               };
@@ -230,20 +232,20 @@ module _ (m : Machine) (w : World) (is : IsWorld m w) (h s : ℕ) (k : IsCaller 
             }
 
         files_stay : b.files ≡ a.files
-        files_stay = e.moves (λ x un. cc) (u.world.tables s) g.process tenant.agrees ∙ only_reads a.files g.process (page_of address) (copy_rule g.process.scheme (regions g.process) kind address)
+        files_stay = e.moves (λ x un. cc) (u.world.tables s) g.process slot_process.agrees ∙ only_reads a.files g.process (page_of address) (copy_rule g.process.scheme (regions g.process) kind address)
 
-        pub reaches : (j : Progress) × (reached_in (around w s) kind g address ≡ Ok j) × IsUnderWay b j
+        pub reaches : (j : Progress) × (reached_in (environment_of w s) kind g address ≡ Ok j) × IsUnderWay b j
         reaches =
             let made = is_reached (machine_at a) there u.world h s false caller (tenant_at a) (tenant_at b) placed b.store e.keeps waiting None has in
             let i = made.0 in
             let j = later g.taken i in
             let reached_j = shift (Ok i) made.1 in
-            let quiet : i.process.pending ≡ None = (reached_serves (around w s) kind g j address reached_j).pending ∙ u.quiet in
+            let quiet : i.process.pending ≡ None = (reached_serves (environment_of w s) kind g j address reached_j).pending ∙ u.quiet in
             let gone = made.3 in
             let before = u.left in
             let world : IsWorld (machine_at b) (with_progress w s j) = same_slots between (machine_at b) (with_progress w s j)
             refl refl (set-set m.slots.items s (Some (tenant_at a)) (Some (tenant_at b))) (sym files_stay) refl refl (same_world i quiet made.2) in
-            let grown = reached_grows (around w s) kind g j address reached_j in
+            let grown = reached_grows (environment_of w s) kind g j address reached_j in
             let began = u.order in
             let follows = reached_follows (machine_at a) there u.world h s false caller (tenant_at a) (tenant_at b) placed b.store e.keeps waiting None has in
             let old_then : AreOld has.tables i.process = λ n f z settled.
@@ -255,7 +257,7 @@ module _ (m : Machine) (w : World) (is : IsWorld m w) (h s : ℕ) (k : IsCaller 
                 left = omega (arith, gone, before);
                 quiet = quiet;
                 order = omega (arith, grown, began);
-                old = old_in b j world has.tables _ (has.tenant g.fresh) old_then;
+                old = old_in b j world has.tables _ (has.slot_process g.fresh) old_then;
               },
             )
           where
@@ -269,13 +271,13 @@ module _ (m : Machine) (w : World) (is : IsWorld m w) (h s : ℕ) (k : IsCaller 
       module _ (rule : Rule) (e : Reaches plain_words a b kind address (Err (Denied rule))) where
         must : MustEnd (tenant_at b) (u.world.tables s) g.process waiting a.store rule
         must = record {
-          tenant = record {
-            agrees = e.whole rule refl (u.world.tables s) g.process tenant.agrees;
-            framed = rw e.trapframe tenant.framed;
+          slot_process = record {
+            agrees = e.whole rule refl (u.world.tables s) g.process slot_process.agrees;
+            framed = rw e.trapframe slot_process.framed;
             pending = u.quiet;
-            wide = subst HasBytes (sym u.quiet) tt;
+            wide = subst HasPageBytes (sym u.quiet) tt;
           };
-          why = by (copy_rule g.process.scheme (regions g.process) kind address) refl (e.ended (u.world.tables s) g.process tenant.agrees);
+          why = by (copy_rule g.process.scheme (regions g.process) kind address) refl (e.ended (u.world.tables s) g.process slot_process.agrees);
         }
           where
             aligned : rule_of g.process waiting ≡ copy_rule g.process.scheme (regions g.process) kind address
@@ -291,21 +293,21 @@ module _ (m : Machine) (w : World) (is : IsWorld m w) (h s : ℕ) (k : IsCaller 
                 inr (
                   aligned ∙ none,
                   dry,
-                  λ shared one. e.short tt (u.world.tables s) g.process shared (can_reside (body_in (tenant_at a)) (u.world.tables s) g.process kind address 1 tenant.agrees (aligned ∙ none)) one
+                  λ shared one. e.short tt (u.world.tables s) g.process shared (can_reside (body_in (tenant_at a)) (u.world.tables s) g.process kind address 1 slot_process.agrees (aligned ∙ none)) one
                       (ap served.Ended dry),
                 )
             by (Some r) some told = inl (aligned ∙ some ∙ ap Some (sym (same_end r rule told)))
 
-        pub stops : (reached_in (around w s) kind g address ≡ Err rule) × IsCopied b g
+        pub stops : (reached_in (environment_of w s) kind g address ≡ Err rule) × IsCopied b g
         stops =
             let not = reaches_not (machine_at a) there u.world h s false caller (tenant_at a) (tenant_at b) placed b.store e.keeps waiting rule must in
             let still = unreached (machine_at a) there u.world h s false caller (tenant_at a) (tenant_at b) placed b.store e.keeps waiting rule must in
             let world : IsWorld (machine_at b) there = same_slots between (machine_at b) there
             refl refl (set-set m.slots.items s (Some (tenant_at a)) (Some (tenant_at b))) (sym files_stop) refl refl still in
-            (shift (Err rule) not, record { world = world; old = old_in b g world (u.world.tables s) g.process must.tenant u.old })
+            (shift (Err rule) not, record { world = world; old = old_in b g world (u.world.tables s) g.process must.slot_process u.old })
           where
             files_stop : b.files ≡ a.files
-            files_stop = e.moves (λ x un. cc) (u.world.tables s) g.process tenant.agrees ∙ only_reads a.files g.process (page_of address) (copy_rule g.process.scheme (regions g.process) kind address)
+            files_stop = e.moves (λ x un. cc) (u.world.tables s) g.process slot_process.agrees ∙ only_reads a.files g.process (page_of address) (copy_rule g.process.scheme (regions g.process) kind address)
 
     -- bytes are put into a page that was reached for a store
 
@@ -316,10 +318,10 @@ module _ (m : Machine) (w : World) (is : IsWorld m w) (h s : ℕ) (k : IsCaller 
 
       can_write : CanWrite (body_in (tenant_at a)) (u.world.tables s) g.process (page_of address) x
       can_write =
-          let can = can_reside (body_in (tenant_at a)) (u.world.tables s) g.process access.Store address 1 tenant.agrees (no_alignment g.process.scheme (regions g.process) access.Store address ∙ allowed) in
+          let can = can_reside (body_in (tenant_at a)) (u.world.tables s) g.process access.Store address 1 slot_process.agrees (no_alignment g.process.scheme (regions g.process) access.Store address ∙ allowed) in
           let goes = ap (is_resident_page access.Store (region_on g.process (page_of address))) (sym settled) ∙ resident in
           record {
-            read = record { agrees = tenant.agrees; settled = settled };
+            read = record { agrees = slot_process.agrees; settled = settled };
             unmarked = is_not x.fork_mark (and_parts (not x.fork_mark) (x.stored_mark || not (keeps_stores (region_on g.process (page_of address)))) goes).0;
             region = can.region;
             in_region = can.in_region;
@@ -334,12 +336,12 @@ module _ (m : Machine) (w : World) (is : IsWorld m w) (h s : ℕ) (k : IsCaller 
           is_so true told = refl
           is_so false told = absurd (cc)
 
-      put_tenant : IsTenant (tenant_at d) (u.world.tables s) after
+      put_tenant : IsSlotProcess (tenant_at d) (u.world.tables s) after
       put_tenant = record {
         agrees = put.agrees (u.world.tables s) g.process x can_write;
-        framed = rw put.trapframe tenant.framed;
+        framed = rw put.trapframe slot_process.framed;
         pending = u.quiet;
-        wide = subst HasBytes (sym u.quiet) tt;
+        wide = subst HasPageBytes (sym u.quiet) tt;
       }
 
       abbrev put_between : Machine
@@ -348,7 +350,7 @@ module _ (m : Machine) (w : World) (is : IsWorld m w) (h s : ℕ) (k : IsCaller 
       pub puts : IsUnderWay d (record g { process = after })
       puts =
           let copies = has_copies g.process (page_of address) x (stored x (address % 4096) given) settled refl in
-          let changed = bytes_change (machine_at a) there u.world s (tenant_at a) (tenant_at d) g.process after placed at tenant put_tenant d.store put.keeps copies refl in
+          let changed = bytes_change (machine_at a) there u.world s (tenant_at a) (tenant_at d) g.process after placed at slot_process put_tenant d.store put.keeps copies refl in
           let free = put.free tt in
           let before = u.left in
           let world : IsWorld (machine_at d) (with_progress w s (record g { process = after })) =

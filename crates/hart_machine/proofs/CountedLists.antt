@@ -1,4 +1,5 @@
--- Sums and counts of a list by the numbers of its places: each is the length of another list.
+-- Lemmas on a list of counts, one for each number from 0 on: their sum is the length of a list that has each number that
+-- often (`sum_is`), and how many pass a test is the length of a list of just these numbers (`count_is`).
 use Rattle.std.proofs.Common.{◌≡◌, ℕ, zero, suc, ◌+◌, ◌<◌, ◌≤◌, Bool, true, false, cond, inl, inr, refl, ap, sym, ◌∙◌, arith, List, [], ◌∷◌, length, slice_index}
 use Rattle.std.specs.Prelude.{sum, count_by, nat_lt}
 use Rattle.std.proofs.lemmas.Bool.{cases_eq, cases_lt, le-ltb, lt-ltb}

@@ -1,4 +1,6 @@
--- Worlds in which a process ended: its slot is empty, and its hart idle.
+-- Lemmas for the end of a process: the machine is in the model's world (state) after the hart became idle (`idles`), and
+-- after the slot (place in the process table) was emptied and the process's seat (an owner's capability at a frame store)
+-- closed (`ends`).
 use Rattle.std.proofs.Common.{◌≡◌, ℕ, ◌≤◌, Bool, Option, None, Some, List, ◌∷◌, length, refl, ap, sym, subst, ◌∙◌, inl, inr}
 use Rattle.std.specs.Prelude.{slice_get, slice_set}
 use Rattle.std.specs.Vec.{with_item}
@@ -6,8 +8,8 @@ use Rattle.std.proofs.lemmas.Bool.{cases_eq}
 use Rattle.std.proofs.lemmas.List.{length-set}
 use Rattle.std.proofs.lemmas.Option.{same_Some, slice_get_within}
 use Rattle.address_space.specs.Kernel.{IsKernelTable}
-use Rattle.frame_store.specs.Laws.{Keeps}
-use Rattle.frame_store.specs.Plain.{Bank, BankRule}
+use Rattle.frame_store.specs.Laws.{KeepsSeats}
+use Rattle.frame_store.specs.Plain.{PlainState, PlainStateRule}
 use Rattle.frame_store.specs.Seats.{place_out, place_set_other, place_set_same}
 use Rattle.frame_store.specs.View.{View}
 use Rattle.process_model.specs.Files.{File}
@@ -21,11 +23,11 @@ use Rattle.table_walk.specs.Tables.{Tables}
 use Rattle.hart_machine.specs.Calls.{IsInKernel}
 use Rattle.hart_machine.specs.Harts.{hart_of}
 use Rattle.hart_machine.specs.Slots.{most_slots}
-use Rattle.hart_machine.specs.Tenants.{view_of}
-use Rattle.hart_machine.specs.Worlds.{IsPlace, IsWorld, seats_of}
+use Rattle.hart_machine.specs.SlotProcesses.{view_of}
+use Rattle.hart_machine.specs.Worlds.{IsSlotContent, IsWorld, seats_of}
 use Rattle.hart_machine.specs.declared.hart.Hart.{Hart}
 use Rattle.hart_machine.specs.declared.machine.Machine.{Machine}
-use Rattle.hart_machine.specs.declared.tenant.Tenant.{Tenant}
+use Rattle.hart_machine.specs.declared.slot_process.SlotProcess.{SlotProcess}
 use Rattle.hart_machine.proofs.AccessingWorlds.{Holds, holds_front}
 use Rattle.hart_machine.proofs.HartSteps.{hart_changes}
 use Rattle.hart_machine.proofs.StartedSeats.{second_steps}
@@ -48,7 +50,7 @@ module _ (m : Machine) (w : World) (is : IsWorld m w) (h s : ℕ) (waits : Bool)
   ]
 
 -- a process on no hart goes
-module _ (m : Machine) (w : World) (is : IsWorld m w) (s : ℕ) (x : Tenant) (p : Process) (place : slice_get m.slots.items s ≡ Some (Some x)) (at : slice_get w.slots s ≡ Some (Some p))
+module _ (m : Machine) (w : World) (is : IsWorld m w) (s : ℕ) (x : SlotProcess) (p : Process) (place : slice_get m.slots.items s ≡ Some (Some x)) (at : slice_get w.slots s ≡ Some (Some p))
     (free : (h : ℕ) (z : Hart) → slice_get m.harts.items h ≡ Some z → z.slot ≡ Some s → ⊥) where
   -- a process that is left was there, in another slot
   left : (i : ℕ) (q : Process) → slice_get (slice_set w.slots s None) i ≡ Some (Some q) → slice_get w.slots i ≡ Some (Some q)
@@ -59,19 +61,19 @@ module _ (m : Machine) (w : World) (is : IsWorld m w) (s : ℕ) (x : Tenant) (p 
     | inr apart ↦ sym (place_set_other w.slots s i None apart) ∙ there
   ]
 
-  places : (i : ℕ) → IsPlace (slice_get (slice_set m.slots.items s None) i) (slice_get (slice_set w.slots s None) i) (is.tables i)
+  places : (i : ℕ) → IsSlotContent (slice_get (slice_set m.slots.items s None) i) (slice_get (slice_set w.slots s None) i) (is.tables i)
   places i = elim (cases_eq i s) [
     | inl same ↦ rw (same, place_set_same m.slots.items s None (slice_get_within m.slots.items s (Some x) place), place_set_same w.slots s None (slice_get_within w.slots s (Some p) at)) tt
     | inr apart ↦ rw (place_set_other m.slots.items s i None apart, place_set_other w.slots s i None apart) (is.places i)
   ]
 
-  hosted : (h r : ℕ) (z : Hart) → slice_get m.harts.items h ≡ Some z → z.slot ≡ Some r → (t : Tenant) × (slice_get (slice_set m.slots.items s None) r ≡ Some (Some t))
+  hosted : (h r : ℕ) (z : Hart) → slice_get m.harts.items h ≡ Some z → z.slot ≡ Some r → (t : SlotProcess) × (slice_get (slice_set m.slots.items s None) r ≡ Some (Some t))
   hosted h r z on slot =
       let old = is.hosted h r z on slot in
       let apart : r ≡ s → ⊥ = λ same. free h z on (slot ∙ ap Some same) in
       (old.0, place_set_other m.slots.items s r None apart ∙ old.1)
 
-  pub empties : (n : Machine) → n.policy ≡ m.policy → n.kernel.scheme ≡ m.kernel.scheme → n.kernel.seat.size ≡ m.kernel.seat.size → n.slots.items ≡ slice_set m.slots.items s None → n.harts ≡ m.harts → BankRule n.frames (n.kernel.seat ∷ seats_of (slice_set m.slots.items s None))
+  pub empties : (n : Machine) → n.policy ≡ m.policy → n.kernel.scheme ≡ m.kernel.scheme → n.kernel.seat.size ≡ m.kernel.seat.size → n.slots.items ≡ slice_set m.slots.items s None → n.harts ≡ m.harts → PlainStateRule n.frames (n.kernel.seat ∷ seats_of (slice_set m.slots.items s None))
       → IsKernelTable n.kernel.scheme n.kernel.seat n.kernel.root.0 w.frames (length w.slots) is.stacks is.kernel → IsWorld n (record w { slots = slice_set w.slots s None; files = n.files })
   empties n ruled schemed sized slots harts rule table = record {
     tables = is.tables;
@@ -96,14 +98,14 @@ module _ (m : Machine) (w : World) (is : IsWorld m w) (s : ℕ) (x : Tenant) (p 
   }
 
 -- the seats, when the process of a slot has ended with a seat that holds nothing
-pub seat_left : (b c : Bank) (k : View) (places : List (Option Tenant)) (s : ℕ) (x : Tenant) (v : View) → slice_get places s ≡ Some (Some x) → Keeps BankRule b (view_of x) c v → BankRule b (k ∷ seats_of places)
-    → BankRule c (k ∷ v ∷ seats_of (slice_set places s None))
+pub seat_left : (b c : PlainState) (k : View) (places : List (Option SlotProcess)) (s : ℕ) (x : SlotProcess) (v : View) → slice_get places s ≡ Some (Some x) → KeepsSeats PlainStateRule b (view_of x) c v → PlainStateRule b (k ∷ seats_of places)
+    → PlainStateRule c (k ∷ v ∷ seats_of (slice_set places s None))
 seat_left b c k places s x v at keeps rule = second_steps b c k (view_of x) v (seats_of (slice_set places s None)) keeps (place_out (Holds b k) places s (holds_front b k) x at rule)
 
 module _ (m : Machine) (w : World) (is : IsWorld m w) (h s : ℕ) (waits : Bool) (k : IsInKernel m w h s waits) where
   -- the process with which a hart is in the kernel ends
-  pub ends : (x : Tenant) → slice_get m.slots.items s ≡ Some (Some x) → (n : Machine) → n.policy ≡ m.policy → n.kernel.scheme ≡ m.kernel.scheme → n.kernel.seat.size ≡ m.kernel.seat.size → n.slots.items ≡ slice_set m.slots.items s None
-      → n.harts ≡ with_item m.harts h (idled k.hart) → n.files ≡ all_written_back m.files k.process → BankRule n.frames (n.kernel.seat ∷ seats_of (slice_set m.slots.items s None))
+  pub ends : (x : SlotProcess) → slice_get m.slots.items s ≡ Some (Some x) → (n : Machine) → n.policy ≡ m.policy → n.kernel.scheme ≡ m.kernel.scheme → n.kernel.seat.size ≡ m.kernel.seat.size → n.slots.items ≡ slice_set m.slots.items s None
+      → n.harts ≡ with_item m.harts h (idled k.hart) → n.files ≡ all_written_back m.files k.process → PlainStateRule n.frames (n.kernel.seat ∷ seats_of (slice_set m.slots.items s None))
       → ((frames slots : ℕ) (stacks : List ℕ) (t : Tables) → IsKernelTable m.kernel.scheme m.kernel.seat m.kernel.root.0 frames slots stacks t → IsKernelTable n.kernel.scheme n.kernel.seat n.kernel.root.0 frames slots stacks t)
       → (reply : Reply) → IsWorld n (ended w h (hart_of k.hart) s k.process reply).world
   ends x place n ruled schemed sized slots harts files rule table reply =

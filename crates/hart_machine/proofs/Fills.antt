@@ -1,4 +1,5 @@
--- What a hart's buffer has after a fill.
+-- Lemmas on a fill of a hart's buffer (TLB): which entries it then has, that keys and the new entry's number are the
+-- model's, and so is the hart (`kept_is`).
 use Rattle.std.proofs.Common.{◌≡◌, ◌⊎◌, ℕ, zero, suc, ◌+◌, ◌-◌, ◌<◌, ◌≤◌, nat_lt, length, true, false, List, [], ◌∷◌, ◌++◌, map, drop, refl, ap, sym, ◌∙◌, inl, inr, arith}
 use Rattle.std.specs.Prelude.{Contains}
 use Rattle.std.proofs.lemmas.Bool.{cases_lt}

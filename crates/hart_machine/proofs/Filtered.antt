@@ -1,4 +1,5 @@
--- Elements that a filter leaves.
+-- Lemmas on lists: a member of a list is one of the list with one element more in front, and a member of a filtered list is
+-- one of the list and passes the test.
 use Rattle.std.proofs.Common.{◌≡◌, zero, suc, Bool, true, false, cond, filter, List, [], ◌∷◌, refl, ap, sym, ◌∙◌, arith}
 use Rattle.std.specs.Prelude.{Contains}
 

@@ -1,14 +1,15 @@
--- Worlds in which the process of one slot is another, with other tables and pages, by its own seat.
+-- Lemmas: the machine is in the model's world (state) after a call that gave one process other tables and pages, by its own
+-- seat (an owner's capability at a frame store), if each of its pages was there before or is new (`call_changes`).
 use Rattle.std.proofs.Common.{◌≡◌, ◌⊎◌, ◌↔◌, ℕ, ◌<◌, ◌≤◌, Option, None, Some, List, ◌∷◌, refl, ap, sym, subst, ◌∙◌, inl, inr, arith}
 use Rattle.std.specs.Prelude.{slice_get, slice_set}
 use Rattle.std.specs.Vec.{with_item}
 use Rattle.std.proofs.lemmas.Bool.{cases_eq}
 use Rattle.std.proofs.lemmas.List.{length-set}
 use Rattle.std.proofs.lemmas.Option.{same_Some, slice_get_within}
-use Rattle.address_space.specs.Agreement.{IsOn}
+use Rattle.address_space.specs.Agreement.{IsFrameOfPage}
 use Rattle.address_space.specs.Kernel.{IsKernelTable}
-use Rattle.frame_store.specs.Laws.{Keeps}
-use Rattle.frame_store.specs.Plain.{Bank, BankRule}
+use Rattle.frame_store.specs.Laws.{KeepsSeats}
+use Rattle.frame_store.specs.Plain.{PlainState, PlainStateRule}
 use Rattle.frame_store.specs.Seats.{place_out, place_set_other, place_set_same}
 use Rattle.frame_store.specs.View.{IsSole, references, View}
 use Rattle.process_model.specs.Files.{File}
@@ -16,13 +17,13 @@ use Rattle.process_model.specs.PageMap as pages
 use Rattle.process_model.specs.Process.{Page, Process}
 use Rattle.process_model.specs.World.{with_process, World}
 use Rattle.table_walk.specs.Tables.{leaf_node, Tables}
-use Rattle.hart_machine.specs.Calls.{Follows, IsKept}
-use Rattle.hart_machine.specs.Tenants.{IsTenant, view_of}
+use Rattle.hart_machine.specs.Calls.{Follows, KeepsPage}
+use Rattle.hart_machine.specs.SlotProcesses.{IsSlotProcess, view_of}
 use Rattle.hart_machine.specs.Slots.{most_slots}
-use Rattle.hart_machine.specs.Worlds.{AreCounted, HaveCopies, IsPlace, IsWorld, seats_of}
+use Rattle.hart_machine.specs.Worlds.{AreCounted, HaveCopies, IsSlotContent, IsWorld, seats_of}
 use Rattle.hart_machine.specs.declared.hart.Hart.{Hart}
 use Rattle.hart_machine.specs.declared.machine.Machine.{Machine}
-use Rattle.hart_machine.specs.declared.tenant.Tenant.{Tenant}
+use Rattle.hart_machine.specs.declared.slot_process.SlotProcess.{SlotProcess}
 use Rattle.hart_machine.proofs.AccessingWorlds.{Holds, holds_front, seat_steps}
 use Rattle.hart_machine.proofs.StartedCopies.{tenant_in}
 use Rattle.hart_machine.proofs.StartedPages.{one_frame, one_page}
@@ -30,14 +31,14 @@ use Rattle.hart_machine.proofs.StartedSeats.{sole_apart}
 use Rattle.hart_machine.proofs.StartedTables.{tables_here, tables_there, tables_with}
 
 -- what the process of a slot holds alone no other process has
-pub sole_elsewhere : (b : Bank) (k : View) (places : List (Option Tenant)) (s j : ℕ) (y z : Tenant) (f : ℕ) → slice_get places s ≡ Some (Some y) → slice_get places j ≡ Some (Some z) → (j ≡ s → ⊥)
-    → BankRule b (k ∷ seats_of places) → IsSole (view_of y) f → references (view_of z) f ≡ 0
+pub sole_elsewhere : (b : PlainState) (k : View) (places : List (Option SlotProcess)) (s j : ℕ) (y z : SlotProcess) (f : ℕ) → slice_get places s ≡ Some (Some y) → slice_get places j ≡ Some (Some z) → (j ≡ s → ⊥)
+    → PlainStateRule b (k ∷ seats_of places) → IsSole (view_of y) f → references (view_of z) f ≡ 0
 sole_elsewhere b k places s j y z f at upon apart rule sole =
     sole_apart b k (view_of y) (slice_set places s None) (place_out (Holds b k) places s (holds_front b k) y at rule) f j z sole (place_set_other places s j None apart ∙ upon)
 
 -- a process of which each page was there follows
 pub keeps_follow : (v : View) (t u : Tables) (p q : Process) (counter : ℕ) → ((n : ℕ) (a : Page) → pages.get p.settled n ≡ Some a → a.copy < counter)
-    → ((n : ℕ) (a : Page) → pages.get q.settled n ≡ Some a → IsKept t u p n a) → Follows v t u p q counter counter
+    → ((n : ℕ) (a : Page) → pages.get q.settled n ≡ Some a → KeepsPage t u p n a) → Follows v t u p q counter counter
 keeps_follow v t u p q counter low kept = record {
   each = λ n a there. inl (kept n a there);
   apart = λ l n a b there also given same. absurd (
@@ -48,13 +49,13 @@ keeps_follow v t u p q counter low kept = record {
   order = omega arith;
 }
 
-module _ (m : Machine) (w : World) (is : IsWorld m w) (s : ℕ) (x y : Tenant) (p q : Process) (u : Tables)
-    (place : slice_get m.slots.items s ≡ Some (Some x)) (at : slice_get w.slots s ≡ Some (Some p)) (tenant : IsTenant y u q)
-    (high : ℕ) (follows : Follows (view_of y) (is.tables s) u p q w.counter high) (b : Bank) (keeps : Keeps BankRule m.frames (view_of x) b (view_of y)) (schemed : q.scheme ≡ w.scheme) where
+module _ (m : Machine) (w : World) (is : IsWorld m w) (s : ℕ) (x y : SlotProcess) (p q : Process) (u : Tables)
+    (place : slice_get m.slots.items s ≡ Some (Some x)) (at : slice_get w.slots s ≡ Some (Some p)) (slot_process : IsSlotProcess y u q)
+    (high : ℕ) (follows : Follows (view_of y) (is.tables s) u p q w.counter high) (b : PlainState) (keeps : KeepsSeats PlainStateRule m.frames (view_of x) b (view_of y)) (schemed : q.scheme ≡ w.scheme) where
   abbrev tables : ℕ → Tables
   tables = tables_with is.tables s u
 
-  rule : BankRule b (m.kernel.seat ∷ seats_of (slice_set m.slots.items s (Some y)))
+  rule : PlainStateRule b (m.kernel.seat ∷ seats_of (slice_set m.slots.items s (Some y)))
   rule = seat_steps m.frames m.kernel.seat m.slots.items s x place is.rule b y keeps
 
   -- a process of the new world is that of the slot, or another one that was there
@@ -71,13 +72,13 @@ module _ (m : Machine) (w : World) (is : IsWorld m w) (s : ℕ) (x y : Tenant) (
     there : slice_get w.slots i ≡ Some (Some process)
     settled : pages.get process.settled n ≡ Some page
     copy : page.copy ≡ a.copy
-    on : IsOn (is.tables i) n f
+    on : IsFrameOfPage (is.tables i) n f
 
   -- and one that is new
   record IsNewPage (i n : ℕ) (a : Page) (f : ℕ) : Type 0 where
     here : i ≡ s
     settled : pages.get q.settled n ≡ Some a
-    on : IsOn u n f
+    on : IsFrameOfPage u n f
     given : w.counter ≤ a.copy
     below : a.copy < high
     sole : IsSole (view_of y) f
@@ -85,12 +86,12 @@ module _ (m : Machine) (w : World) (is : IsWorld m w) (s : ℕ) (x y : Tenant) (
   was_low : (i n : ℕ) (a : Page) (f : ℕ) → WasPage i n a f → a.copy < w.counter
   was_low i n a f was = subst (λ z. z < w.counter) was.copy (is.counted i n was.process was.page was.there was.settled)
 
-  was_or_new : (i n f : ℕ) (r : Process) (a : Page) → slice_get (slice_set w.slots s (Some q)) i ≡ Some (Some r) → pages.get r.settled n ≡ Some a → IsOn (tables i) n f
+  was_or_new : (i n f : ℕ) (r : Process) (a : Page) → slice_get (slice_set w.slots s (Some q)) i ≡ Some (Some r) → pages.get r.settled n ≡ Some a → IsFrameOfPage (tables i) n f
       → WasPage i n a f ⊎ IsNewPage i n a f
   was_or_new i n f r a there settled on = elim (this_or_other i r there) [
     | inl this ↦ (
         let own : pages.get q.settled n ≡ Some a = ap (λ (z : Process). pages.get z.settled n) this.1 ∙ settled in
-        let on_own : IsOn u n f = subst (λ (t : Tables). IsOn t n f) (tables_here is.tables s u i this.0) on in
+        let on_own : IsFrameOfPage u n f = subst (λ (t : Tables). IsFrameOfPage t n f) (tables_here is.tables s u i this.0) on in
         elim (follows.each n a own) [
           | inl kept ↦ inl (record {
             process = p;
@@ -98,7 +99,7 @@ module _ (m : Machine) (w : World) (is : IsWorld m w) (s : ℕ) (x y : Tenant) (
             there = ap (slice_get w.slots) this.0 ∙ at;
             settled = kept.settled;
             copy = kept.copy;
-            on = subst (λ (k : ℕ). IsOn (is.tables k) n f) (sym this.0) (kept.on f on_own);
+            on = subst (λ (k : ℕ). IsFrameOfPage (is.tables k) n f) (sym this.0) (kept.on f on_own);
           })
           | inr new ↦ inr (record { here = this.0; settled = own; on = on_own; given = new.given; below = new.below; sole = new.sole f on_own })
         ])
@@ -108,24 +109,24 @@ module _ (m : Machine) (w : World) (is : IsWorld m w) (s : ℕ) (x y : Tenant) (
       there = other.1;
       settled = settled;
       copy = refl;
-      on = subst (λ (t : Tables). IsOn t n f) (tables_there is.tables s u i other.0) on;
+      on = subst (λ (t : Tables). IsFrameOfPage t n f) (tables_there is.tables s u i other.0) on;
     })
   ]
 
   -- a new page and one that was there have two frames
-  frames_apart : (i j l n f g : ℕ) (r : Process) (a c : Page) → IsNewPage i l a f → slice_get (slice_set w.slots s (Some q)) j ≡ Some (Some r) → pages.get r.settled n ≡ Some c → IsOn (tables j) n g
+  frames_apart : (i j l n f g : ℕ) (r : Process) (a c : Page) → IsNewPage i l a f → slice_get (slice_set w.slots s (Some q)) j ≡ Some (Some r) → pages.get r.settled n ≡ Some c → IsFrameOfPage (tables j) n g
       → c.copy < w.counter → f ≡ g → ⊥
   frames_apart i j l n f g r a c new there settled on low same = elim (this_or_other j r there) [
     | inl this ↦ (
         let own : pages.get q.settled n ≡ Some c = ap (λ (z : Process). pages.get z.settled n) this.1 ∙ settled in
-        let on_own : IsOn u n g = subst (λ (t : Tables). IsOn t n g) (tables_here is.tables s u j this.0) on in
-        let page : l ≡ n = one_page (view_of y) y.space.root.0 y.space.trapframe.0 u q tenant.agrees.stands l n f g a c new.settled own new.on on_own same in
+        let on_own : IsFrameOfPage u n g = subst (λ (t : Tables). IsFrameOfPage t n g) (tables_here is.tables s u j this.0) on in
+        let page : l ≡ n = one_page (view_of y) y.space.root.0 y.space.trapframe.0 u q slot_process.agrees.stands l n f g a c new.settled own new.on on_own same in
         let copy : a.copy ≡ c.copy = ap (λ (z : Page). z.copy) (same_Some a c (sym new.settled ∙ ap (pages.get q.settled) page ∙ own)) in
         let given = new.given in
         omega (arith, copy, low, given))
     | inr other ↦ (
         let z = tenant_in m w is j r other.1 in
-        let upon : IsOn (is.tables j) n g = subst (λ (t : Tables). IsOn t n g) (tables_there is.tables s u j other.0) on in
+        let upon : IsFrameOfPage (is.tables j) n g = subst (λ (t : Tables). IsFrameOfPage t n g) (tables_there is.tables s u j other.0) on in
         let none : references (view_of z.0) f ≡ 0 = sole_elsewhere b m.kernel.seat (slice_set m.slots.items s (Some y)) s j y z.0 f
         (place_set_same m.slots.items s (Some y) (slice_get_within m.slots.items s (Some x) place)) (place_set_other m.slots.items s j (Some y) other.0 ∙ z.1) other.0 rule new.sole in
         let one : references (view_of z.0) g ≡ 1 = z.2.agrees.stands.owns.named g (leaf_node n) (inr (upon.0, upon.1, upon.2)) in
@@ -149,9 +150,9 @@ module _ (m : Machine) (w : World) (is : IsWorld m w) (s : ℕ) (x y : Tenant) (
           let given = first.given in
           ((λ e. absurd (frames_apart i j l n f g o a c first at_j in_j on_j low e)), (λ e. absurd (omega (arith, low, given, e)))))
       | inr second ↦ (
-        (λ e. let page : l ≡ n = one_page (view_of y) y.space.root.0 y.space.trapframe.0 u q tenant.agrees.stands l n f g a c first.settled second.settled first.on second.on e in
+        (λ e. let page : l ≡ n = one_page (view_of y) y.space.root.0 y.space.trapframe.0 u q slot_process.agrees.stands l n f g a c first.settled second.settled first.on second.on e in
             ap (λ (z : Page). z.copy) (same_Some a c (sym first.settled ∙ ap (pages.get q.settled) page ∙ second.settled))),
-        (λ e. one_frame (view_of y) y.space.root.0 y.space.trapframe.0 u q tenant.agrees.stands l n f g first.on second.on (follows.apart l n a c first.settled second.settled first.given e)),
+        (λ e. one_frame (view_of y) y.space.root.0 y.space.trapframe.0 u q slot_process.agrees.stands l n f g first.on second.on (follows.apart l n a c first.settled second.settled first.given e)),
       )
     ]
   ]
@@ -169,13 +170,13 @@ module _ (m : Machine) (w : World) (is : IsWorld m w) (s : ℕ) (x y : Tenant) (
     | inr other ↦ (let low = is.counted i n r a other.1 settled in let order = follows.order in omega (arith, low, order))
   ]
 
-  places : (k : ℕ) → IsPlace (slice_get (slice_set m.slots.items s (Some y)) k) (slice_get (slice_set w.slots s (Some q)) k) (tables k)
+  places : (k : ℕ) → IsSlotContent (slice_get (slice_set m.slots.items s (Some y)) k) (slice_get (slice_set w.slots s (Some q)) k) (tables k)
   places k = elim (cases_eq k s) [
-    | inl same ↦ rw (tables_here is.tables s u k same, same, place_set_same m.slots.items s (Some y) (slice_get_within m.slots.items s (Some x) place), place_set_same w.slots s (Some q) (slice_get_within w.slots s (Some p) at)) tenant
+    | inl same ↦ rw (tables_here is.tables s u k same, same, place_set_same m.slots.items s (Some y) (slice_get_within m.slots.items s (Some x) place), place_set_same w.slots s (Some q) (slice_get_within w.slots s (Some p) at)) slot_process
     | inr apart ↦ rw (tables_there is.tables s u k apart, place_set_other m.slots.items s k (Some y) apart, place_set_other w.slots s k (Some q) apart) (is.places k)
   ]
 
-  hosted : (h k : ℕ) (z : Hart) → slice_get m.harts.items h ≡ Some z → z.slot ≡ Some k → (t : Tenant) × (slice_get (slice_set m.slots.items s (Some y)) k ≡ Some (Some t))
+  hosted : (h k : ℕ) (z : Hart) → slice_get m.harts.items h ≡ Some z → z.slot ≡ Some k → (t : SlotProcess) × (slice_get (slice_set m.slots.items s (Some y)) k ≡ Some (Some t))
   hosted h k z on slot = elim (cases_eq k s) [
     | inl same ↦ (y, ap (slice_get (slice_set m.slots.items s (Some y))) same ∙ place_set_same m.slots.items s (Some y) (slice_get_within m.slots.items s (Some x) place))
     | inr apart ↦ let old = is.hosted h k z on slot in (old.0, place_set_other m.slots.items s k (Some y) apart ∙ old.1)

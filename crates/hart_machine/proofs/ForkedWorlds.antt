@@ -1,13 +1,14 @@
--- The world in which a process has forked: each of its pages, and of the child's, is one that it had.
+-- Lemmas: the machine is in the model's world (state) after a fork, with marked parent and child (`forks`): each page of
+-- both is one that the parent had. And on the seats (an owner's capability at a frame store) of the two.
 use Rattle.std.proofs.Common.{◌≡◌, ◌↔◌, ℕ, ◌<◌, ◌≤◌, Option, None, Some, List, [], ◌∷◌, refl, ap, sym, subst, ◌∙◌, inl, inr}
 use Rattle.std.specs.Prelude.{slice_get, slice_set}
 use Rattle.std.specs.Vec.{with_item}
 use Rattle.std.proofs.lemmas.Bool.{cases_eq}
 use Rattle.std.proofs.lemmas.List.{length-set}
 use Rattle.std.proofs.lemmas.Option.{same_Some, slice_get_within}
-use Rattle.address_space.specs.Agreement.{IsOn}
+use Rattle.address_space.specs.Agreement.{IsFrameOfPage}
 use Rattle.address_space.specs.Kernel.{IsKernelTable}
-use Rattle.frame_store.specs.Plain.{Bank, BankRule, to_front}
+use Rattle.frame_store.specs.Plain.{PlainState, PlainStateRule, to_front}
 use Rattle.frame_store.specs.Seats.{place_set_other, place_set_same, place_split, places_apart}
 use Rattle.frame_store.specs.View.{View}
 use Rattle.process_model.specs.EachValue.{found_each}
@@ -17,12 +18,12 @@ use Rattle.process_model.specs.Process.{Page, Process}
 use Rattle.process_model.specs.Residence.{child_of, child_page, marked, marked_page}
 use Rattle.process_model.specs.World.{with_process, World}
 use Rattle.table_walk.specs.Tables.{Tables}
-use Rattle.hart_machine.specs.Tenants.{IsTenant, view_of}
+use Rattle.hart_machine.specs.SlotProcesses.{IsSlotProcess, view_of}
 use Rattle.hart_machine.specs.Slots.{most_slots}
-use Rattle.hart_machine.specs.Worlds.{AreCounted, HaveCopies, IsPlace, IsWorld, seats_of}
+use Rattle.hart_machine.specs.Worlds.{AreCounted, HaveCopies, IsSlotContent, IsWorld, seats_of}
 use Rattle.hart_machine.specs.declared.hart.Hart.{Hart}
 use Rattle.hart_machine.specs.declared.machine.Machine.{Machine}
-use Rattle.hart_machine.specs.declared.tenant.Tenant.{Tenant}
+use Rattle.hart_machine.specs.declared.slot_process.SlotProcess.{SlotProcess}
 use Rattle.hart_machine.proofs.AccessingWorlds.{Holds, holds_back, holds_front}
 use Rattle.hart_machine.proofs.StartedTables.{tables_here, tables_there, tables_with}
 
@@ -37,22 +38,22 @@ child_pages : (p : Process) → HasPagesOf (child_of p).settled p.settled
 child_pages p n a there = let b = found_each (child_page p) p.settled n a there in (b.0, b.1, ap (λ (z : Page). z.copy) b.2)
 
 -- the seats: the parent's steps, and the child's goes to the empty place
-pub seats_split : (b c : Bank) (k : View) (places : List (Option Tenant)) (s e : ℕ) (x y z : Tenant) → slice_get places s ≡ Some (Some x) → slice_get places e ≡ Some None
-    → ((others : List View) → BankRule b (view_of x ∷ others) → BankRule c (view_of y ∷ view_of z ∷ others))
-    → BankRule b (k ∷ seats_of places) → BankRule c (k ∷ seats_of (slice_set (slice_set places s (Some y)) e (Some z)))
+pub seats_split : (b c : PlainState) (k : View) (places : List (Option SlotProcess)) (s e : ℕ) (x y z : SlotProcess) → slice_get places s ≡ Some (Some x) → slice_get places e ≡ Some None
+    → ((others : List View) → PlainStateRule b (view_of x ∷ others) → PlainStateRule c (view_of y ∷ view_of z ∷ others))
+    → PlainStateRule b (k ∷ seats_of places) → PlainStateRule c (k ∷ seats_of (slice_set (slice_set places s (Some y)) e (Some z)))
 seats_split b c k places s e x y z at empty keeps rule =
     place_split (Holds b k) (Holds c k) (holds_front b k) (holds_back c k) places s (holds_front c k) e x y z at empty
     (λ others h. to_front c.words c.counts c.free (view_of y ∷ view_of z ∷ []) k _ (keeps _ (to_front b.words b.counts b.free (k ∷ []) (view_of x) _ h))) rule
 
-module _ (m : Machine) (w : World) (is : IsWorld m w) (s e : ℕ) (x y z : Tenant) (p : Process) (t u : Tables)
+module _ (m : Machine) (w : World) (is : IsWorld m w) (s e : ℕ) (x y z : SlotProcess) (p : Process) (t u : Tables)
     (place : slice_get m.slots.items s ≡ Some (Some x)) (at : slice_get w.slots s ≡ Some (Some p)) (empty : slice_get m.slots.items e ≡ Some None) (free : slice_get w.slots e ≡ Some None)
-    (parent : IsTenant y t (marked p)) (child : IsTenant z u (child_of p))
-    (on_parent : (n f : ℕ) (a : Page) → pages.get p.settled n ≡ Some a → IsOn t n f → IsOn (is.tables s) n f) (on_child : (n f : ℕ) (a : Page) → pages.get p.settled n ≡ Some a → IsOn u n f → IsOn (is.tables s) n f)
-    (b : Bank) (rule : BankRule b (m.kernel.seat ∷ seats_of (slice_set (slice_set m.slots.items s (Some y)) e (Some z)))) where
+    (parent : IsSlotProcess y t (marked p)) (child : IsSlotProcess z u (child_of p))
+    (on_parent : (n f : ℕ) (a : Page) → pages.get p.settled n ≡ Some a → IsFrameOfPage t n f → IsFrameOfPage (is.tables s) n f) (on_child : (n f : ℕ) (a : Page) → pages.get p.settled n ≡ Some a → IsFrameOfPage u n f → IsFrameOfPage (is.tables s) n f)
+    (b : PlainState) (rule : PlainStateRule b (m.kernel.seat ∷ seats_of (slice_set (slice_set m.slots.items s (Some y)) e (Some z)))) where
   abbrev slots : List (Option Process)
   slots = slice_set (slice_set w.slots s (Some (marked p))) e (Some (child_of p))
 
-  abbrev items : List (Option Tenant)
+  abbrev items : List (Option SlotProcess)
   items = slice_set (slice_set m.slots.items s (Some y)) e (Some z)
 
   abbrev tables : ℕ → Tables
@@ -84,7 +85,7 @@ module _ (m : Machine) (w : World) (is : IsWorld m w) (s e : ℕ) (x y z : Tenan
     tables_there (tables_with is.tables s t) e u i far ∙ tables_there is.tables s t i off,
   )
 
-  places : (i : ℕ) → IsPlace (slice_get items i) (slice_get slots i) (tables i)
+  places : (i : ℕ) → IsSlotContent (slice_get items i) (slice_get slots i) (tables i)
   places i = elim (cases_eq i e) [
     | inl same ↦ (let a = at_child i same in rw (a.0, a.1, a.2) child)
     | inr far ↦ elim (cases_eq i s) [
@@ -101,22 +102,22 @@ module _ (m : Machine) (w : World) (is : IsWorld m w) (s e : ℕ) (x y z : Tenan
     there : slice_get w.slots slot ≡ Some (Some process)
     settled : pages.get process.settled n ≡ Some page
     copy : page.copy ≡ a.copy
-    on : IsOn (is.tables slot) n f
+    on : IsFrameOfPage (is.tables slot) n f
 
-  was : (i n f : ℕ) (r : Process) (a : Page) → slice_get slots i ≡ Some (Some r) → pages.get r.settled n ≡ Some a → IsOn (tables i) n f → WasPage n a f
+  was : (i n f : ℕ) (r : Process) (a : Page) → slice_get slots i ≡ Some (Some r) → pages.get r.settled n ≡ Some a → IsFrameOfPage (tables i) n f → WasPage n a f
   was i n f r a there settled on = elim (cases_eq i e) [
     | inl same ↦ (
         let k = at_child i same in
         let old = child_pages p n a (ap (λ (q : Process). pages.get q.settled n) (same_Some _ _ (same_Some _ _ (sym k.0 ∙ there))) ∙ settled) in
-        record { slot = s; process = p; page = old.0; there = at; settled = old.1; copy = old.2; on = on_child n f old.0 old.1 (subst (λ (v : Tables). IsOn v n f) k.2 on) })
+        record { slot = s; process = p; page = old.0; there = at; settled = old.1; copy = old.2; on = on_child n f old.0 old.1 (subst (λ (v : Tables). IsFrameOfPage v n f) k.2 on) })
     | inr far ↦ elim (cases_eq i s) [
       | inl same ↦ (
           let k = at_parent i same in
           let old = parent_pages p n a (ap (λ (q : Process). pages.get q.settled n) (same_Some _ _ (same_Some _ _ (sym k.0 ∙ there))) ∙ settled) in
-          record { slot = s; process = p; page = old.0; there = at; settled = old.1; copy = old.2; on = on_parent n f old.0 old.1 (subst (λ (v : Tables). IsOn v n f) k.2 on) })
+          record { slot = s; process = p; page = old.0; there = at; settled = old.1; copy = old.2; on = on_parent n f old.0 old.1 (subst (λ (v : Tables). IsFrameOfPage v n f) k.2 on) })
       | inr off ↦ (
           let k = at_other i far off in
-          record { slot = i; process = r; page = a; there = sym k.0 ∙ there; settled = settled; copy = refl; on = subst (λ (v : Tables). IsOn v n f) k.2 on })
+          record { slot = i; process = r; page = a; there = sym k.0 ∙ there; settled = settled; copy = refl; on = subst (λ (v : Tables). IsFrameOfPage v n f) k.2 on })
     ]
   ]
 
@@ -152,7 +153,7 @@ module _ (m : Machine) (w : World) (is : IsWorld m w) (s e : ℕ) (x y z : Tenan
     ]
   ]
 
-  hosted : (h k : ℕ) (v : Hart) → slice_get m.harts.items h ≡ Some v → v.slot ≡ Some k → (o : Tenant) × (slice_get items k ≡ Some (Some o))
+  hosted : (h k : ℕ) (v : Hart) → slice_get m.harts.items h ≡ Some v → v.slot ≡ Some k → (o : SlotProcess) × (slice_get items k ≡ Some (Some o))
   hosted h k v on slot = elim (cases_eq k e) [
     | inl same ↦ (z, (at_child k same).1)
     | inr far ↦ elim (cases_eq k s) [

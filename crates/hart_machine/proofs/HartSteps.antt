@@ -1,4 +1,6 @@
--- Steps on one hart: what they are refused for, and worlds in which one hart is another.
+-- Lemmas for steps on one hart: when the model refuses them; a machine's harts and processes found by number; and that reply
+-- and world (the model's state) are the model's after one hart changed, after `Switch` (`switches`) and after `Next`
+-- (`goes_on`), with their refusals.
 use Rattle.std.proofs.Common.{◌≡◌, ℕ, zero, suc, ◌+◌, ◌==◌, ◌<◌, get_or, filter, ◌⊎◌, inl, inr, Bool, true, false, Option, None, Some, option_map, is_some, List, [], ◌∷◌, map, not, ◌||◌, ◌&&◌, refl, ap, sym, subst, ◌∙◌, arith, if◌then◌else◌}
 use Rattle.std.specs.Prelude.{Contains, slice_get, slice_set, unwrap_or}
 use Rattle.std.specs.List.{list_any}
@@ -25,11 +27,11 @@ use Rattle.process_model.specs.declared.step.Reply.TheVariants.{Done, Refused}
 use Rattle.process_model.specs.declared.step.Refusal.{Refusal}
 use Rattle.hart_machine.specs.Harts.{advanced, cleaned, cleaned_for, cleaned_if, emptied, fenced, hart_of, is_before_user, key_of}
 use Rattle.hart_machine.specs.Slots.{marks_of, most_slots}
-use Rattle.hart_machine.specs.Tenants.{IsTenant}
-use Rattle.hart_machine.specs.Worlds.{IsPlace, IsWorld, Makes}
+use Rattle.hart_machine.specs.SlotProcesses.{IsSlotProcess}
+use Rattle.hart_machine.specs.Worlds.{IsSlotContent, IsWorld, IsModelOutcome}
 use Rattle.hart_machine.specs.declared.hart.Hart.{Hart}
 use Rattle.hart_machine.specs.declared.machine.Machine.{Machine}
-use Rattle.hart_machine.specs.declared.tenant.Tenant.{Tenant}
+use Rattle.hart_machine.specs.declared.slot_process.SlotProcess.{SlotProcess}
 use Rattle.hart_machine.proofs.Filtered.{in_filter, later}
 
 -- refusals
@@ -68,11 +70,11 @@ module _ (w : World) (x : model.Hart) (run : ℕ → Process → Outcome) where
 
 -- what is answered
 
-pub refused : (m : Machine) (w : World) → IsWorld m w → (r : Refusal) (o : Outcome) → o ≡ refuses w r → Makes m (Refused r) o
-refused m w is r o e = subst (λ (x : Outcome). Makes m (Refused r) x) (sym e) (refl, is)
+pub refused : (m : Machine) (w : World) → IsWorld m w → (r : Refusal) (o : Outcome) → o ≡ refuses w r → IsModelOutcome m (Refused r) o
+refused m w is r o e = subst (λ (x : Outcome). IsModelOutcome m (Refused r) x) (sym e) (refl, is)
 
-pub makes : (m : Machine) (reply : Reply) (w : World) (o : Outcome) → IsWorld m w → o ≡ answers w reply → Makes m reply o
-makes m reply w o is e = subst (λ (x : Outcome). Makes m reply x) (sym e) (refl, is)
+pub makes : (m : Machine) (reply : Reply) (w : World) (o : Outcome) → IsWorld m w → o ≡ answers w reply → IsModelOutcome m reply o
+makes m reply w o is e = subst (λ (x : Outcome). IsModelOutcome m reply x) (sym e) (refl, is)
 
 -- harts and processes of a machine
 
@@ -106,20 +108,20 @@ module _ (m : Machine) (w : World) (is : IsWorld m w) where
       within = subst (λ n. h < n) (sym m.harts.ok.0) (slice_get_within m.harts.items h x at);
     }
 
-  pub process_at : (s : ℕ) (x : Tenant) → slice_get m.slots.items s ≡ Some (Some x) → (p : Process) × (slice_get w.slots s ≡ Some (Some p)) × IsTenant x (is.tables s) p
+  pub process_at : (s : ℕ) (x : SlotProcess) → slice_get m.slots.items s ≡ Some (Some x) → (p : Process) × (slice_get w.slots s ≡ Some (Some p)) × IsSlotProcess x (is.tables s) p
   process_at s x at = go (slice_get m.slots.items s) (slice_get w.slots s) refl (is.places s) at where
-    go : (a : Option (Option Tenant)) (b : Option (Option Process)) → slice_get w.slots s ≡ b → IsPlace a b (is.tables s) → a ≡ Some (Some x)
-        → (p : Process) × (slice_get w.slots s ≡ Some (Some p)) × IsTenant x (is.tables s) p
+    go : (a : Option (Option SlotProcess)) (b : Option (Option Process)) → slice_get w.slots s ≡ b → IsSlotContent a b (is.tables s) → a ≡ Some (Some x)
+        → (p : Process) × (slice_get w.slots s ≡ Some (Some p)) × IsSlotProcess x (is.tables s) p
     go None b there place e = absurd (cc)
     go (Some None) b there place e = absurd (let same = same_Some _ _ e in cc)
     go (Some (Some y)) None there place e = absurd place
     go (Some (Some y)) (Some None) there place e = absurd place
-    go (Some (Some y)) (Some (Some p)) there place e = (p, there, subst (λ z. IsTenant z (is.tables s) p) (same_Some y x (same_Some _ _ e)) place)
+    go (Some (Some y)) (Some (Some p)) there place e = (p, there, subst (λ z. IsSlotProcess z (is.tables s) p) (same_Some y x (same_Some _ _ e)) place)
 
-  pub tenant_at : (s : ℕ) → is_some (process_in w s) ≡ true → (x : Tenant) × (slice_get m.slots.items s ≡ Some (Some x))
+  pub tenant_at : (s : ℕ) → is_some (process_in w s) ≡ true → (x : SlotProcess) × (slice_get m.slots.items s ≡ Some (Some x))
   tenant_at s some = go (slice_get m.slots.items s) refl (slice_get w.slots s) (is.places s) some where
-    go : (a : Option (Option Tenant)) → slice_get m.slots.items s ≡ a → (b : Option (Option Process)) → IsPlace a b (is.tables s) → is_some (flat b) ≡ true
-        → (x : Tenant) × (slice_get m.slots.items s ≡ Some (Some x))
+    go : (a : Option (Option SlotProcess)) → slice_get m.slots.items s ≡ a → (b : Option (Option Process)) → IsSlotContent a b (is.tables s) → is_some (flat b) ≡ true
+        → (x : SlotProcess) × (slice_get m.slots.items s ≡ Some (Some x))
     go a there None place e = absurd (cc)
     go a there (Some None) place e = absurd (cc)
     go None there (Some (Some p)) place e = absurd place
@@ -127,8 +129,8 @@ module _ (m : Machine) (w : World) (is : IsWorld m w) where
     go (Some (Some x)) there (Some (Some p)) place e = (x, there)
 
   -- the process that is in a slot is that of the model
-  pub tenant_is : (s : ℕ) (x : Tenant) (p : Process) → slice_get m.slots.items s ≡ Some (Some x) → slice_get w.slots s ≡ Some (Some p) → IsTenant x (is.tables s) p
-  tenant_is s x p place at = let found = process_at s x place in subst (λ (q : Process). IsTenant x (is.tables s) q) (same_Some found.0 p (same_Some _ _ (sym found.1 ∙ at))) found.2
+  pub tenant_is : (s : ℕ) (x : SlotProcess) (p : Process) → slice_get m.slots.items s ≡ Some (Some x) → slice_get w.slots s ≡ Some (Some p) → IsSlotProcess x (is.tables s) p
+  tenant_is s x p place at = let found = process_at s x place in subst (λ (q : Process). IsSlotProcess x (is.tables s) q) (same_Some found.0 p (same_Some _ _ (sym found.1 ∙ at))) found.2
 
   pub can_run_is : (slot : Option ℕ) (s : ℕ) → slot ≡ Some s → true ≡ is_some (process_in w s) → (b : Bool) → b ≡ list_any (λ x. has_slot s x.slot) m.harts.items → not b ≡ can_run w slot
   can_run_is slot s e there b any =
@@ -156,7 +158,7 @@ module _ (m : Machine) (w : World) (is : IsWorld m w) where
     abbrev IsAlone : Type 0
     IsAlone = (s : ℕ) → y.slot ≡ Some s → (k : ℕ) (z : Hart) → slice_get m.harts.items k ≡ Some z → z.slot ≡ Some s → k ≡ h
 
-    pub hart_changes : ((s : ℕ) → y.slot ≡ Some s → (t : Tenant) × (slice_get m.slots.items s ≡ Some (Some t))) → IsAlone → (y.slot ≡ None → y.phase ≡ phase.Idle)
+    pub hart_changes : ((s : ℕ) → y.slot ≡ Some s → (t : SlotProcess) × (slice_get m.slots.items s ≡ Some (Some t))) → IsAlone → (y.slot ≡ None → y.phase ≡ phase.Idle)
         → ((e : TlbEntry) → Contains y.buffer e → e.global ≡ false) → IsWorld (record m { harts = with_item m.harts h y }) (with_hart w h (hart_of y))
     hart_changes hosted alone idle local = record {
       tables = is.tables;
@@ -174,7 +176,7 @@ module _ (m : Machine) (w : World) (is : IsWorld m w) where
       counted = is.counted;
       files = is.files;
       harts = map-set hart_of m.harts.items h y ∙ ap (λ hs. slice_set hs h (hart_of y)) is.harts;
-      hosted = λ k s z at. at_each k z at (λ (u : Hart). u.slot ≡ Some s → (t : Tenant) × (slice_get m.slots.items s ≡ Some (Some t))) (hosted s) (λ old. is.hosted k s z old);
+      hosted = λ k s z at. at_each k z at (λ (u : Hart). u.slot ≡ Some s → (t : SlotProcess) × (slice_get m.slots.items s ≡ Some (Some t))) (hosted s) (λ old. is.hosted k s z old);
       alone = λ s k l z u at also on upon. elim (new_or_old k z at) [
         | inl new ↦ elim (new_or_old l u also) [
           | inl more ↦ new.0 ∙ sym more.0
@@ -227,17 +229,17 @@ switched x slot = record x { phase = model.phase_for slot; slot = slot }
 
 module _ (m : Machine) (w : World) (is : IsWorld m w) (h : ℕ) (slot : Option ℕ) where
   module _ (p : Phase) (has : HasHart m w h p) where
-    pub switch_refused : (model.may_switch p ≡ false) ⊎ (can_run w slot ≡ false) → Makes m (Refused (Impossible p)) (plain_step w (step.Switch h slot))
+    pub switch_refused : (model.may_switch p ≡ false) ⊎ (can_run w slot ≡ false) → IsModelOutcome m (Refused (Impossible p)) (plain_step w (step.Switch h slot))
     switch_refused fails = refused m w is (Impossible p) _
         (impossible w h true (λ x. model.may_switch x.phase && can_run w slot) always _ (hart_of has.hart) has.in_model refl
         (ap (λ q. model.may_switch q && can_run w slot) has.phased ∙ not_both (model.may_switch p) (can_run w slot) fails)
         ∙ ap (λ q. refuses w (Impossible q)) has.phased)
 
     pub switches : (x y : Hart) → x ≡ get_or m.harts.items h x → y ≡ switched x slot → model.may_switch p ≡ true → can_run w slot ≡ true
-        → Makes (record m { harts = with_item m.harts h y }) Done (plain_step w (step.Switch h slot))
-    switches x y read made may can = subst (λ (z : Hart). Makes (record m { harts = with_item m.harts h z }) Done (plain_step w (step.Switch h slot))) (sym (made ∙ ap (λ z. switched z slot) (hart_read m w is h p has x read))) (makes _ Done _ _ (hart_changes m w is h has.hart (switched has.hart slot) has.there (hosts slot can) (lone slot can) (idles slot) (λ e. is.local h has.hart e has.there))
+        → IsModelOutcome (record m { harts = with_item m.harts h y }) Done (plain_step w (step.Switch h slot))
+    switches x y read made may can = subst (λ (z : Hart). IsModelOutcome (record m { harts = with_item m.harts h z }) Done (plain_step w (step.Switch h slot))) (sym (made ∙ ap (λ z. switched z slot) (hart_read m w is h p has x read))) (makes _ Done _ _ (hart_changes m w is h has.hart (switched has.hart slot) has.there (hosts slot can) (lone slot can) (idles slot) (λ e. is.local h has.hart e has.there))
         (runs w h true (λ x. model.may_switch x.phase && can_run w slot) always _ (hart_of has.hart) has.in_model refl (rw (has.phased, may, can) refl) refl)) where
-          hosts : (o : Option ℕ) → can_run w o ≡ true → (s : ℕ) → o ≡ Some s → (t : Tenant) × (slice_get m.slots.items s ≡ Some (Some t))
+          hosts : (o : Option ℕ) → can_run w o ≡ true → (s : ℕ) → o ≡ Some s → (t : SlotProcess) × (slice_get m.slots.items s ≡ Some (Some t))
           hosts None can s e = absurd (cc)
           hosts (Some r) can s e = tenant_at m w is s (ap (λ n. is_some (process_in w n)) (sym (same_Some r s e)) ∙ and_left _ _ can)
 
@@ -354,13 +356,13 @@ fenced_slot Asid x = go (is_before_user x.phase) x.slot where
   go false o = refl
 
 module _ (m : Machine) (w : World) (is : IsWorld m w) (h : ℕ) (p : Phase) (has : HasHart m w h p) where
-  pub next_refused : can_go_on w (hart_of has.hart) ≡ false → Makes m (Refused (Impossible p)) (plain_step w (step.Next h))
+  pub next_refused : can_go_on w (hart_of has.hart) ≡ false → IsModelOutcome m (Refused (Impossible p)) (plain_step w (step.Next h))
   next_refused fails = refused m w is (Impossible p) _
       (impossible w h true (can_go_on w) always _ (hart_of has.hart) has.in_model refl fails ∙ ap (λ q. refuses w (Impossible q)) has.phased)
 
   pub goes_on : (x y : Hart) → x ≡ get_or m.harts.items h x → y ≡ advanced m.policy x → can_go_on w (hart_of has.hart) ≡ true
-      → Makes (record m { harts = with_item m.harts h y }) Done (plain_step w (step.Next h))
-  goes_on x y read made can = subst (λ (z : Hart). Makes (record m { harts = with_item m.harts h z }) Done (plain_step w (step.Next h))) (sym (made ∙ ap (advanced m.policy) (hart_read m w is h p has x read)))
+      → IsModelOutcome (record m { harts = with_item m.harts h y }) Done (plain_step w (step.Next h))
+  goes_on x y read made can = subst (λ (z : Hart). IsModelOutcome (record m { harts = with_item m.harts h z }) Done (plain_step w (step.Next h))) (sym (made ∙ ap (advanced m.policy) (hart_read m w is h p has x read)))
       (makes _ Done _ _ (hart_changes m w is h has.hart (advanced m.policy has.hart) has.there (λ s on. is.hosted h s has.hart has.there (sym slot_is ∙ on))
       (λ s on k z at also. is.alone s k h z has.hart at has.there also (sym slot_is ∙ on)) idles (λ e there. local e (in_fenced m.policy has.hart e there)))
       (runs w h true (can_go_on w) always _ (hart_of has.hart) has.in_model refl can refl ∙ rw (← is.policy, ← advanced_is m.policy has.hart local) refl)) where

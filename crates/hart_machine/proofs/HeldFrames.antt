@@ -1,11 +1,13 @@
--- What each frame of a machine is referenced for, and so how many are held, free and shared: the accounts of the model.
+-- Lemmas: what each frame of a machine is referenced for (the kernel, TRAMPOLINE, trapframes and tables, or pages of one
+-- copy number, which names one copy of a page in memory), and so that free, held and shared frames are the model's
+-- (`report_is`).
 use Rattle.std.proofs.Common.{◌≡◌, ℕ, suc, ◌+◌, ◌-◌, ◌<◌, ◌≤◌, ◌⊎◌, Bool, true, false, cond, inl, inr, refl, ap, sym, subst, ◌∙◌, arith, List, [], ◌∷◌, ◌++◌, length, slice_index, Option, Some, None}
 use Rattle.std.specs.Prelude.{count_by, filter, flat_map, if◌then◌else◌, nat_le, nat_lt, slice_get, sum_by}
 use Rattle.std.proofs.lemmas.Bool.{cases_eq, cases_lt}
 use Rattle.std.proofs.lemmas.List.{length-append}
 use Rattle.std.proofs.lemmas.List.Sums.{length-filter}
 use Rattle.std.proofs.lemmas.Option.{same_Some}
-use Rattle.address_space.specs.Agreement.{IsOn}
+use Rattle.address_space.specs.Agreement.{IsFrameOfPage}
 use Rattle.frame_store.specs.Plain.{is_shared, is_zero, report_of, total_credits}
 use Rattle.process_model.specs.Frames.{copies_in, copies_of, has_copy, is_shared_copy, kernel_frames, live, own_frames, shared_frames}
 use Rattle.process_model.specs.PageMap.{get, numbers}
@@ -13,10 +15,10 @@ use Rattle.process_model.specs.Process.{Page, Process}
 use Rattle.process_model.specs.World.{free, report, World}
 use Rattle.process_model.specs.declared.step.Report.{Report}
 use Rattle.table_walk.specs.Tables.{Tables}
-use Rattle.hart_machine.specs.Tenants.{IsTenant}
-use Rattle.hart_machine.specs.Worlds.{IsPlace, IsWorld, seats_of}
+use Rattle.hart_machine.specs.SlotProcesses.{IsSlotProcess}
+use Rattle.hart_machine.specs.Worlds.{IsSlotContent, IsWorld, seats_of}
 use Rattle.hart_machine.specs.declared.machine.Machine.{Machine}
-use Rattle.hart_machine.specs.declared.tenant.Tenant.{Tenant}
+use Rattle.hart_machine.specs.declared.slot_process.SlotProcess.{SlotProcess}
 use Rattle.hart_machine.proofs.AllReferences.{count_kinds, kernel, places, references_are, sized}
 use Rattle.hart_machine.proofs.CountedLists.{count_is, count_opposite, none_past, one_past}
 use Rattle.hart_machine.proofs.KeySets.{keys_distinct, numbers_have, numbers_have_only}
@@ -41,7 +43,7 @@ or_zero c e = grind arith
 
 -- places
 
-tenant_of : (o : Option (Option Tenant)) (q : Option (Option Process)) (t : Tables) (p : Process) → q ≡ Some (Some p) → IsPlace o q t → (x : Tenant) × IsTenant x t p
+tenant_of : (o : Option (Option SlotProcess)) (q : Option (Option Process)) (t : Tables) (p : Process) → q ≡ Some (Some p) → IsSlotContent o q t → (x : SlotProcess) × IsSlotProcess x t p
 tenant_of None None t p is place = absurd (cc)
 tenant_of None (Some q) t p is place = absurd place
 tenant_of (Some None) None t p is place = absurd place
@@ -49,17 +51,17 @@ tenant_of (Some None) (Some None) t p is place = absurd (let none : ◌≡◌ {A
 tenant_of (Some None) (Some (Some q)) t p is place = absurd place
 tenant_of (Some (Some x)) None t p is place = absurd place
 tenant_of (Some (Some x)) (Some None) t p is place = absurd place
-tenant_of (Some (Some x)) (Some (Some q)) t p is place = (x, subst (λ (z : Process). IsTenant x t z) (same_Some _ _ (same_Some _ _ is)) place)
+tenant_of (Some (Some x)) (Some (Some q)) t p is place = (x, subst (λ (z : Process). IsSlotProcess x t z) (same_Some _ _ (same_Some _ _ is)) place)
 
 -- no seat of a process has credits
-seats_credits : (items : List (Option Tenant)) (slots : List (Option Process)) (tables : ℕ → Tables) → ((s : ℕ) → IsPlace (slice_get items s) (slice_get slots s) (tables s)) → total_credits (seats_of items) ≡ 0
+seats_credits : (items : List (Option SlotProcess)) (slots : List (Option Process)) (tables : ℕ → Tables) → ((s : ℕ) → IsSlotContent (slice_get items s) (slice_get slots s) (tables s)) → total_credits (seats_of items) ≡ 0
 seats_credits [] slots tables at = refl
 seats_credits (None ∷ items) [] tables at = absurd (at 0)
 seats_credits (Some x ∷ items) [] tables at = absurd (at 0)
 seats_credits (None ∷ items) (o ∷ slots) tables at = seats_credits items slots (λ i. tables (suc i)) (λ s. at (suc s))
 seats_credits (Some x ∷ items) (None ∷ slots) tables at = absurd (at 0)
 seats_credits (Some x ∷ items) (Some p ∷ slots) tables at =
-    let here : IsTenant x (tables 0) p = at 0 in
+    let here : IsSlotProcess x (tables 0) p = at 0 in
     let none = here.agrees.credits in
     let rest = seats_credits items slots (λ i. tables (suc i)) (λ s. at (suc s)) in
     omega (arith, none, rest)
@@ -72,7 +74,7 @@ pub record OnFrame (slots : List (Option Process)) (tables : ℕ → Tables) (f 
   pub page : Page
   pub there : slice_get slots slot ≡ Some (Some process)
   pub settled : get process.settled number ≡ Some page
-  pub on : IsOn (tables slot) number f
+  pub on : IsFrameOfPage (tables slot) number f
   pub copy : page.copy ≡ c
 
 -- a frame f has so many references for the kernel, for TRAMPOLINE, for trapframes and tables, and for pages, and a count: it is frame

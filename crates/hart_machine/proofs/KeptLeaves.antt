@@ -1,12 +1,13 @@
--- A call by which the process of a slot keeps each page with its copy number and its marks leaves each leaf what it was.
+-- Lemmas: if a call leaves each page of a process its copy number (which names one copy of a page in memory) and its marks,
+-- it leaves each leaf (`followed_same`), and the machine keeps its page tables (`slot_keeps`).
 use Rattle.std.proofs.Common.{◌≡◌, ℕ, ◌<◌, Bool, true, false, not, length, Option, None, Some, List, refl, ap, sym, subst, ◌∙◌, inl, inr, arith}
 use Rattle.std.specs.Prelude.{slice_get, slice_set}
 use Rattle.std.specs.FinMap as finite
 use Rattle.std.proofs.lemmas.Bool.{cases_eq}
 use Rattle.std.proofs.lemmas.List.{length-set}
 use Rattle.std.proofs.lemmas.Option.{same_Some, slice_get_within}
-use Rattle.address_space.specs.Agreement.{IsOn}
-use Rattle.address_space.specs.Ending.{Drops}
+use Rattle.address_space.specs.Agreement.{IsFrameOfPage}
+use Rattle.address_space.specs.SpaceTeardown.{Drops}
 use Rattle.address_space.specs.Kernel.{IsKernelTable}
 use Rattle.address_space.specs.SameLeaves.{leaves_stay, WasAlike}
 use Rattle.frame_store.specs.Seats.{place_set_other, place_set_same}
@@ -16,10 +17,10 @@ use Rattle.process_model.specs.Process.{Page, Process, regions}
 use Rattle.process_model.specs.Stale.{is_changed}
 use Rattle.table_walk.specs.Tables.{Tables, leaf_node}
 use Rattle.hart_machine.specs.Calls.{Follows}
-use Rattle.hart_machine.specs.Tenants.{body_in, IsTenant}
+use Rattle.hart_machine.specs.SlotProcesses.{body_in, IsSlotProcess}
 use Rattle.hart_machine.specs.Worlds.{HaveSameLeaves, KeepsTables}
 use Rattle.hart_machine.specs.declared.machine.Machine.{Machine}
-use Rattle.hart_machine.specs.declared.tenant.Tenant.{Tenant}
+use Rattle.hart_machine.specs.declared.slot_process.SlotProcess.{SlotProcess}
 use Rattle.hart_machine.proofs.ChangedSlots.{pages_are_same, sign, sign_of}
 use Rattle.hart_machine.proofs.KeptTables.{same_tenant}
 use Rattle.sv39_entry.specs.Schemes.{trampoline_page, trapframe_page}
@@ -46,7 +47,7 @@ module _ (p q : Process) (unchanged : is_changed (Some p) (Some q) ≡ false) wh
     go None is same = absurd (cc)
     go (Some a) is same = let one = same_Some (sign a) (sign z) same in (a, is, ap (λ t. t.0) (sym one), ap (λ t. t.1) (sym one), ap (λ t. t.2) (sym one))
 
-module _ (x y : Tenant) (t u : Tables) (p q : Process) (before : IsTenant x t p) (after : IsTenant y u q) (unchanged : is_changed (Some p) (Some q) ≡ false) (schemed : q.scheme ≡ p.scheme) where
+module _ (x y : SlotProcess) (t u : Tables) (p q : Process) (before : IsSlotProcess x t p) (after : IsSlotProcess y u q) (unchanged : is_changed (Some p) (Some q) ≡ false) (schemed : q.scheme ≡ p.scheme) where
   -- where a run of pages was dropped, none of it was settled
   pub dropped_none : (first end : ℕ) → Drops t u first end → HaveSameLeaves t u
   dropped_none first end drops number = go (finite.get u.leaves number) refl (finite.get t.leaves number) refl where
@@ -69,7 +70,7 @@ module _ (x y : Tenant) (t u : Tables) (p q : Process) (before : IsTenant x t p)
 
   -- where each page follows one that was there, or is new
   module _ (trapframe : y.space.trapframe ≡ x.space.trapframe) (same_regions : regions q ≡ regions p) (low : ℕ) (counted : (n : ℕ) (a : Page) → pages.get p.settled n ≡ Some a → a.copy < low)
-      (on : (n f : ℕ) (z : Page) → pages.get q.settled n ≡ Some z → z.copy < low → IsOn u n f → IsOn t n f) where
+      (on : (n f : ℕ) (z : Page) → pages.get q.settled n ≡ Some z → z.copy < low → IsFrameOfPage u n f → IsFrameOfPage t n f) where
     alike : (n : ℕ) (z : Page) → pages.get q.settled n ≡ Some z → WasAlike t u p n z
     alike n z there =
         let old = was_alike p q unchanged n z there in
@@ -81,16 +82,16 @@ module _ (x y : Tenant) (t u : Tables) (p q : Process) (before : IsTenant x t p)
     followed_same number = leaves_stay (body_in x) (body_in y) t u p q before.agrees after.agrees (ap (λ f. f.0) trapframe) schemed same_regions (still_settled p q unchanged) alike number
 
 -- a page that follows one is on its frame, where its copy number is an old one
-pub old_on : (v : View) (t u : Tables) (p q : Process) (low high : ℕ) → Follows v t u p q low high → (n f : ℕ) (z : Page) → pages.get q.settled n ≡ Some z → z.copy < low → IsOn u n f → IsOn t n f
+pub old_on : (v : View) (t u : Tables) (p q : Process) (low high : ℕ) → Follows v t u p q low high → (n f : ℕ) (z : Page) → pages.get q.settled n ≡ Some z → z.copy < low → IsFrameOfPage u n f → IsFrameOfPage t n f
 old_on v t u p q low high follows n f z there below on = elim (follows.each n z there) [
   | inl kept ↦ kept.on f on
   | inr new ↦ absurd (let given = new.given in omega (arith, given, below))
 ]
 
 -- the process of one slot is another
-module _ (m n : Machine) (before after : List (Option Process)) (s : ℕ) (x y : Tenant) (p q : Process) (place : slice_get m.slots.items s ≡ Some (Some x)) (at : slice_get before s ≡ Some (Some p))
+module _ (m n : Machine) (before after : List (Option Process)) (s : ℕ) (x y : SlotProcess) (p q : Process) (place : slice_get m.slots.items s ≡ Some (Some x)) (at : slice_get before s ≡ Some (Some p))
     (slots : n.slots.items ≡ slice_set m.slots.items s (Some y)) (model : after ≡ slice_set before s (Some q)) (kernel : n.kernel ≡ m.kernel)
-    (here : (t u : Tables) → is_changed (Some p) (Some q) ≡ false → IsTenant x t p → IsTenant y u q → HaveSameLeaves t u) where
+    (here : (t u : Tables) → is_changed (Some p) (Some q) ≡ false → IsSlotProcess x t p → IsSlotProcess y u q → HaveSameLeaves t u) where
   now_here : slice_get n.slots.items s ≡ Some (Some y)
   now_here = ap (λ xs. slice_get xs s) slots ∙ place_set_same m.slots.items s (Some y) (slice_get_within m.slots.items s (Some x) place)
 
@@ -108,14 +109,14 @@ module _ (m n : Machine) (before after : List (Option Process)) (s : ℕ) (x y :
           let c_is : c ≡ p = same_Some c p (same_Some _ _ (sym at_w ∙ ap (slice_get before) same ∙ at)) in
           let d_is : d ≡ q = same_Some d q (same_Some _ _ (sym at_v ∙ ap (slice_get after) same ∙ now_in)) in
           here t u (ap (λ o. is_changed o (Some q)) (ap Some (sym c_is)) ∙ ap (λ o. is_changed (Some c) o) (ap Some (sym d_is)) ∙ unchanged)
-          (subst (λ z. IsTenant z t p) a_is (subst (λ z. IsTenant a t z) c_is of_a)) (subst (λ z. IsTenant z u q) b_is (subst (λ z. IsTenant b u z) d_is of_b))
+          (subst (λ z. IsSlotProcess z t p) a_is (subst (λ z. IsSlotProcess a t z) c_is of_a)) (subst (λ z. IsSlotProcess z u q) b_is (subst (λ z. IsSlotProcess b u z) d_is of_b))
       | inr apart ↦
           same_tenant a b c d t u (same_Some a b (same_Some _ _ (sym at_m ∙ sym (place_set_other m.slots.items s r (Some y) apart) ∙ ap (λ xs. slice_get xs r) (sym slots) ∙ at_n))) of_a of_b
     ];
   }
 
 -- it is told by one pair of tables
-pub slot_keeps_by : (m n : Machine) (before after : List (Option Process)) (s : ℕ) (x y : Tenant) (p q : Process) (t u : Tables) → IsTenant x t p → IsTenant y u q → slice_get m.slots.items s ≡ Some (Some x) → slice_get before s ≡ Some (Some p)
+pub slot_keeps_by : (m n : Machine) (before after : List (Option Process)) (s : ℕ) (x y : SlotProcess) (p q : Process) (t u : Tables) → IsSlotProcess x t p → IsSlotProcess y u q → slice_get m.slots.items s ≡ Some (Some x) → slice_get before s ≡ Some (Some p)
     → n.slots.items ≡ slice_set m.slots.items s (Some y) → after ≡ slice_set before s (Some q) → n.kernel ≡ m.kernel → (is_changed (Some p) (Some q) ≡ false → HaveSameLeaves t u) → KeepsTables m n before after
 slot_keeps_by m n before after s x y p q t u of_x of_y place at slots model kernel same = slot_keeps m n before after s x y p q place at slots model kernel
     (λ a b unchanged in_a in_b page. same_tenant y y q q u b refl of_y in_b page ∙ same unchanged page ∙ same_tenant x x p p a t refl in_a of_x page)

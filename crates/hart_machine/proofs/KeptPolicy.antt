@@ -1,13 +1,14 @@
--- No step changes the policy.
+-- Lemmas: no step of the model changes the policy or the scheme of translation (Sv39 or Sv48), and marking slots as stale
+-- does not change the scheme.
 use Rattle.std.proofs.Common.{◌≡◌, ℕ, Bool, true, false, List, Option, None, Some, refl}
 use Rattle.std.specs.Prelude.{Err, Ok, Result}
-use Rattle.process_model.specs.Around.{Progress}
+use Rattle.process_model.specs.Environment.{Progress}
 use Rattle.process_model.specs.Calls.{forked, forked_unless, mapped_to, replaced, replaced_unless, resized_to, started, started_unless, unmapped_to}
 use Rattle.process_model.specs.Harts.{Hart}
 use Rattle.process_model.specs.Images.{image_loads, LoadSegment}
 use Rattle.process_model.specs.Mappings.{Mapped, Unmapped}
 use Rattle.process_model.specs.Process.{Pending, Process}
-use Rattle.process_model.specs.Service.{access_step, Answer, served, served_or_ended, told_if, user_access}
+use Rattle.process_model.specs.Service.{access_step, Answer, served, served_or_ended, access_outcome_if, user_access}
 use Rattle.process_model.specs.Steps.{plain_step}
 use Rattle.process_model.specs.World.{always, can_go_on, can_serve, free_slot, kernel_call, Outcome, refuses, World}
 use Rattle.process_model.specs.declared.image.BadImage.{BadImage}
@@ -66,7 +67,7 @@ module _ (w : World) where
   unmapped_stays s (Err e) = (refl, refl)
   unmapped_stays s (Ok u) = (refl, refl)
 
-  told_stays : (h : ℕ) (hart : Hart) (t : ℕ) (x : Answer) (b : Bool) → Stays (told_if w h hart t x b)
+  told_stays : (h : ℕ) (hart : Hart) (t : ℕ) (x : Answer) (b : Bool) → Stays (access_outcome_if w h hart t x b)
   told_stays h hart t x true = (refl, refl)
   told_stays h hart t x false = (refl, refl)
 

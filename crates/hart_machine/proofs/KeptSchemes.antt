@@ -1,15 +1,15 @@
--- Accesses and calls leave a process its scheme.
+-- Lemmas: a user access, sbrk, mmap and munmap leave a process its scheme of translation (Sv39 or Sv48).
 use Rattle.std.proofs.Common.{◌≡◌, ℕ, ℤ, Bool, true, false, Option, None, Some, List, Result, Ok, refl, ap, sym}
 use Rattle.process_model.specs.Files.{File}
 use Rattle.process_model.specs.Heap.{resized_unless, sbrk_result}
 use Rattle.process_model.specs.Mappings.{Mapped, mapped, mapped_unless, Unmapped, unmapped, unmapped_if, unmapped_in, unmapped_unless}
 use Rattle.process_model.specs.Process.{Page, Process, regions}
 use Rattle.process_model.specs.Regions.{first_rule, Region}
-use Rattle.process_model.specs.Service.{Asked, if_resident, if_settled, unless_denied, user_access}
+use Rattle.process_model.specs.Service.{AccessRequest, if_resident, if_settled, unless_denied, user_access}
 use Rattle.process_model.specs.declared.step.Refusal.{Refusal}
 use Rattle.sv39_entry.specs.declared.rule.Rule.{Rule}
 
-module _ (p : Process) (a : Asked) where
+module _ (p : Process) (a : AccessRequest) where
   resident_scheme : (s : Page) (b : Bool) → ((if_resident p a s b).process).scheme ≡ p.scheme
   resident_scheme s true = refl
   resident_scheme s false = refl

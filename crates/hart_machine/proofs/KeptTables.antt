@@ -1,4 +1,5 @@
--- Steps that leave each slot what it had, or all but one, and what buffers may have of tables then.
+-- Lemmas: a machine keeps its page tables (`KeepsTables`, `SameTables`, `KeepsOtherSlots`) if no slot (place in the process
+-- table) changed, or only one did: its process is by the same tables, ended, or started; and so over two such changes.
 use Rattle.std.proofs.Common.{◌≡◌, ℕ, length, Option, None, Some, List, refl, ap, sym, subst, ◌∙◌, inl, inr}
 use Rattle.std.specs.Prelude.{slice_get, slice_set}
 use Rattle.std.proofs.lemmas.Bool.{cases_eq}
@@ -8,17 +9,17 @@ use Rattle.address_space.specs.Kernel.{IsKernelTable}
 use Rattle.frame_store.specs.Seats.{place_set_other, place_set_same}
 use Rattle.process_model.specs.Process.{Process}
 use Rattle.table_walk.specs.Tables.{Tables}
-use Rattle.table_walk.specs.Mapped.{tables_of_scheme}
-use Rattle.hart_machine.specs.Tenants.{IsTenant, view_of}
-use Rattle.hart_machine.specs.Worlds.{HaveSameLeaves, KeepsOthers, KeepsTables, SamePlaces, SameTables}
+use Rattle.table_walk.specs.LowPages.{tables_of_scheme}
+use Rattle.hart_machine.specs.SlotProcesses.{IsSlotProcess, view_of}
+use Rattle.hart_machine.specs.Worlds.{HaveSameLeaves, KeepsOtherSlots, KeepsTables, SamePlaces, SameTables}
 use Rattle.hart_machine.specs.declared.machine.Machine.{Machine}
-use Rattle.hart_machine.specs.declared.tenant.Tenant.{Tenant}
+use Rattle.hart_machine.specs.declared.slot_process.SlotProcess.{SlotProcess}
 use Rattle.hart_machine.proofs.OneTables.{one_tables}
 
 -- the process of a slot has the tables that it had
-pub same_tenant : (x y : Tenant) (p q : Process) (t u : Tables) → x ≡ y → IsTenant x t p → IsTenant y u q → HaveSameLeaves t u
+pub same_tenant : (x y : SlotProcess) (p q : Process) (t u : Tables) → x ≡ y → IsSlotProcess x t p → IsSlotProcess y u q → HaveSameLeaves t u
 same_tenant x y p q t u same a b =
-    let other = subst (λ (z : Tenant). IsTenant z u q) (sym same) b in
+    let other = subst (λ (z : SlotProcess). IsSlotProcess z u q) (sym same) b in
     one_tables (view_of x) x.space.root.0 t u a.agrees.stands.tables (tables_of_scheme (other.agrees.lays.scheme ∙ sym a.agrees.lays.scheme) other.agrees.stands.tables)
 
 -- each is below the tables that it was below
@@ -33,7 +34,7 @@ pub unmoved : (m n : Machine) → SamePlaces m n → SameTables m n
 unmoved m n same = record {
   many = ap length same.0;
   kernel = same.1;
-  below = λ s x y p t at_m at_n a. (p, subst (λ (z : Tenant). IsTenant z t p) (same_Some x y (same_Some _ _ (sym at_m ∙ ap (λ xs. slice_get xs s) (sym same.0) ∙ at_n))) a);
+  below = λ s x y p t at_m at_n a. (p, subst (λ (z : SlotProcess). IsSlotProcess z t p) (same_Some x y (same_Some _ _ (sym at_m ∙ ap (λ xs. slice_get xs s) (sym same.0) ∙ at_n))) a);
 }
 
 pub moved_twice : (m n o : Machine) → SamePlaces m n → SameTables n o → SameTables m o
@@ -51,8 +52,8 @@ pub nothing_moved : (m : Machine) → SameTables m m
 nothing_moved m = unmoved m m (refl, refl)
 
 -- the process of one slot is another, below the same tables
-pub one_below : (m n : Machine) (s : ℕ) (x y : Tenant) → slice_get m.slots.items s ≡ Some (Some x) → n.slots.items ≡ slice_set m.slots.items s (Some y) → n.kernel ≡ m.kernel
-    → ((t : Tables) (p : Process) → IsTenant x t p → (q : Process) × IsTenant y t q) → SameTables m n
+pub one_below : (m n : Machine) (s : ℕ) (x y : SlotProcess) → slice_get m.slots.items s ≡ Some (Some x) → n.slots.items ≡ slice_set m.slots.items s (Some y) → n.kernel ≡ m.kernel
+    → ((t : Tables) (p : Process) → IsSlotProcess x t p → (q : Process) × IsSlotProcess y t q) → SameTables m n
 one_below m n s x y place slots kernel after = record {
   many = ap length slots ∙ length-set m.slots.items s (Some y);
   kernel = kernel;
@@ -61,15 +62,15 @@ one_below m n s x y place slots kernel after = record {
         let a_is : a ≡ x = same_Some a x (same_Some _ _ (sym at_m ∙ ap (slice_get m.slots.items) same ∙ place)) in
         let now = ap (λ xs. slice_get xs s) slots ∙ place_set_same m.slots.items s (Some y) (slice_get_within m.slots.items s (Some x) place) in
         let b_is : b ≡ y = same_Some b y (same_Some _ _ (sym at_n ∙ ap (slice_get n.slots.items) same ∙ now)) in
-        let z = after t p (subst (λ (c : Tenant). IsTenant c t p) a_is of_a) in
-        (z.0, subst (λ (c : Tenant). IsTenant c t z.0) (sym b_is) z.1))
+        let z = after t p (subst (λ (c : SlotProcess). IsSlotProcess c t p) a_is of_a) in
+        (z.0, subst (λ (c : SlotProcess). IsSlotProcess c t z.0) (sym b_is) z.1))
     | inr apart ↦
-        (p, subst (λ (c : Tenant). IsTenant c t p) (same_Some a b (same_Some _ _ (sym at_m ∙ sym (place_set_other m.slots.items s r (Some y) apart) ∙ ap (λ xs. slice_get xs r) (sym slots) ∙ at_n))) of_a)
+        (p, subst (λ (c : SlotProcess). IsSlotProcess c t p) (same_Some a b (same_Some _ _ (sym at_m ∙ sym (place_set_other m.slots.items s r (Some y) apart) ∙ ap (λ xs. slice_get xs r) (sym slots) ∙ at_n))) of_a)
   ];
 }
 
 -- each slot but one has what it had, by one change after another
-pub others_kept : (m n o : Machine) (s : ℕ) → KeepsOthers m n s → KeepsOthers n o s → KeepsOthers m o s
+pub others_kept : (m n o : Machine) (s : ℕ) → KeepsOtherSlots m n s → KeepsOtherSlots n o s → KeepsOtherSlots m o s
 others_kept m n o s first then = record {
   many = then.many ∙ first.many;
   kernel = λ frames slots stacks t is. then.kernel frames slots stacks t (first.kernel frames slots stacks t is);
@@ -77,7 +78,7 @@ others_kept m n o s first then = record {
 }
 
 -- one slot has another process
-pub one_other : (m n : Machine) (s : ℕ) (y : Option Tenant) → n.slots.items ≡ slice_set m.slots.items s y → n.kernel ≡ m.kernel → KeepsOthers m n s
+pub one_other : (m n : Machine) (s : ℕ) (y : Option SlotProcess) → n.slots.items ≡ slice_set m.slots.items s y → n.kernel ≡ m.kernel → KeepsOtherSlots m n s
 one_other m n s y slots kernel = record {
   many = ap length slots ∙ length-set m.slots.items s y;
   kernel = λ frames places stacks t is. subst (λ k. IsKernelTable k.scheme k.seat k.root.0 frames places stacks t) (sym kernel) is;
@@ -85,7 +86,7 @@ one_other m n s y slots kernel = record {
 }
 
 -- the process of one slot ended
-pub others_keep : (m n : Machine) (before after : List (Option Process)) (s : ℕ) → KeepsOthers m n s → ((q : Process) → slice_get after s ≡ Some (Some q) → ⊥) → KeepsTables m n before after
+pub others_keep : (m n : Machine) (before after : List (Option Process)) (s : ℕ) → KeepsOtherSlots m n s → ((q : Process) → slice_get after s ≡ Some (Some q) → ⊥) → KeepsTables m n before after
 others_keep m n before after s keeps gone = record {
   many = keeps.many;
   kernel = keeps.kernel;
@@ -96,12 +97,12 @@ others_keep m n before after s keeps gone = record {
 }
 
 -- a process began in a slot where there was none
-pub others_born : (m n : Machine) (before after : List (Option Process)) (s : ℕ) → KeepsOthers m n s → slice_get m.slots.items s ≡ Some None → KeepsTables m n before after
+pub others_born : (m n : Machine) (before after : List (Option Process)) (s : ℕ) → KeepsOtherSlots m n s → slice_get m.slots.items s ≡ Some None → KeepsTables m n before after
 others_born m n before after s keeps empty = record {
   many = keeps.many;
   kernel = keeps.kernel;
   leaves = λ r x y p q t u at_m at_n at_w at_v unchanged a b. elim (cases_eq r s) [
-    | inl same ↦ absurd (let both : ◌≡◌ {A = Option (Option Tenant)} (Some None) (Some (Some x)) = sym empty ∙ ap (slice_get m.slots.items) (sym same) ∙ at_m in cc)
+    | inl same ↦ absurd (let both : ◌≡◌ {A = Option (Option SlotProcess)} (Some None) (Some (Some x)) = sym empty ∙ ap (slice_get m.slots.items) (sym same) ∙ at_m in cc)
     | inr apart ↦ same_tenant x y p q t u (same_Some x y (same_Some _ _ (sym at_m ∙ sym (keeps.others r apart) ∙ at_n))) a b
   ];
 }
@@ -116,13 +117,13 @@ same_slots m n before after slots kernel = record {
 }
 
 -- and after a step that keeps tables a process began in a slot that was empty before it
-pub then_born : (m n o : Machine) (before between after : List (Option Process)) (e : ℕ) (z : Tenant) (q : Process) → KeepsTables m n before between → slice_get m.slots.items e ≡ Some None
+pub then_born : (m n o : Machine) (before between after : List (Option Process)) (e : ℕ) (z : SlotProcess) (q : Process) → KeepsTables m n before between → slice_get m.slots.items e ≡ Some None
     → o.slots.items ≡ slice_set n.slots.items e (Some z) → o.kernel ≡ n.kernel → after ≡ slice_set between e (Some q) → KeepsTables m o before after
 then_born m n o before between after e z q keeps empty slots kernel model = record {
   many = ap length slots ∙ length-set n.slots.items e (Some z) ∙ keeps.many;
   kernel = λ frames slots stacks t table. subst (λ k. IsKernelTable k.scheme k.seat k.root.0 frames slots stacks t) (sym kernel) (keeps.kernel frames slots stacks t table);
   leaves = λ r x y p c t u at_m at_o at_w at_v unchanged a b. elim (cases_eq r e) [
-    | inl same ↦ absurd (let both : ◌≡◌ {A = Option (Option Tenant)} (Some None) (Some (Some x)) = sym empty ∙ ap (slice_get m.slots.items) (sym same) ∙ at_m in cc)
+    | inl same ↦ absurd (let both : ◌≡◌ {A = Option (Option SlotProcess)} (Some None) (Some (Some x)) = sym empty ∙ ap (slice_get m.slots.items) (sym same) ∙ at_m in cc)
     | inr apart ↦
         keeps.leaves r x y p c t u at_m (sym (place_set_other n.slots.items e r (Some z) apart) ∙ ap (λ xs. slice_get xs r) (sym slots) ∙ at_o) at_w
         (sym (place_set_other between e r (Some q) apart) ∙ ap (λ xs. slice_get xs r) (sym model) ∙ at_v) unchanged a b

@@ -1,4 +1,5 @@
--- Keys of maps from numbers, as lists without repeats.
+-- Lemmas on maps from numbers: their keys are a list without repeats; a number is among the keys if and only if something is
+-- found at it, and among those of a set if and only if it was put in. Also membership in lists, by two definitions.
 use Rattle.std.proofs.Common.{◌≡◌, ℕ, zero, suc, ◌<◌, ◌⊎◌, Bool, true, false, cond, inl, inr, refl, ap, sym, subst, arith, List, [], ◌∷◌, map, length, Option, Some, None}
 use Rattle.std.specs.Prelude.{T, ◌&&◌, is_some, All, Contains}
 use Rattle.std.specs.Ordering.{nat_cmp, eq_by_cmp, is_lt}
@@ -6,7 +7,7 @@ use Rattle.std.specs.Cmp.{nat_cmp_total, Equal-is, eq_by_cmp_equiv}
 use Rattle.std.proofs.lemmas.Map.Lookups.{exact_unsigned}
 use Rattle.std.specs.FinMap.Entries.{find, below_all, is_sorted}
 use Rattle.std.proofs.lemmas.List.{length-map}
-use Rattle.process_model.specs.Inserted.{key_in, key_out}
+use Rattle.process_model.specs.Insertion.{key_in, key_out}
 use Rattle.process_model.specs.PageMap.{PageMap, get, keys, numbers}
 use Rattle.hart_machine.proofs.NumberLists.{Among, Distinct}
 

@@ -1,4 +1,4 @@
--- The leaves of the kernel's table: their frames are there, and none has G.
+-- Lemmas on the leaves of the kernel's page table: each names a frame, and none has G (global).
 use Rattle.std.proofs.Common.{◌⊎◌, ◌≤◌, ◌==◌, ◌&&◌, nat_le, nat_lt, cond, Bool, List, option_map, ◌≡◌, ℕ, ◌+◌, ◌-◌, ◌/◌, ◌%◌, ◌^◌, ◌<◌, true, false, Option, None, Some, refl, ap, sym, subst, ◌∙◌, inl, inr, arith}
 use Rattle.std.proofs.lemmas.Option.{same_Some}
 use Rattle.std.specs.FinMap.{get}

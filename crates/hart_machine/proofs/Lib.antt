@@ -4,7 +4,7 @@ pub mod AccessingPages
 pub mod AccessingWorlds
 pub mod AllReferences
 pub mod BootWorld
-pub mod BriefReplies
+pub mod ScalarReplies
 pub mod BufferChanges
 mod BufferRows
 pub mod BufferSteps
@@ -22,7 +22,7 @@ pub mod Filtered
 pub mod Fills
 pub mod Following
 pub mod ForkOutcomes
-pub mod ForkedTenants
+pub mod ForkedProcesses
 pub mod ForkedWorlds
 pub mod HartSteps
 pub mod HeldFrames
@@ -44,7 +44,7 @@ pub mod ProcessSteps
 pub mod Released
 pub mod SeatFrames
 pub mod ServedPages
-pub mod ServedTenants
+pub mod ServedProcesses
 pub mod ServedWorlds
 pub mod SharedPages
 pub mod Sizing
@@ -69,7 +69,7 @@ pub mod MarkedCalls
 pub mod StepsMade
 pub mod MarkedCopies
 pub mod KeptLeaves
-pub mod Mapped
+pub mod MapElements
 pub mod MarkedHarts
 pub mod MarkedWorlds
 pub mod MarkedSteps

@@ -1,4 +1,5 @@
--- Lists of steps.
+-- Lemmas for `Machine::run`: replies, world (the model's state) and buffers (TLBs) after some steps of a list (`HasRun`),
+-- after one more, and after all.
 use Rattle.std.proofs.Common.{◌≡◌, ℕ, ◌<◌, ◌≤◌, ◌+◌, get_or, length, drop, List, [], ◌∷◌, ◌++◌, ap, refl, sym, subst, ◌∙◌}
 use Rattle.std.proofs.lemmas.List.{append-nil, append_assoc, at_drop_more, drop_all}
 use Rattle.process_model.specs.Stale.{with_stale_slots}
@@ -10,7 +11,7 @@ use Rattle.process_model.specs.declared.step.Step.{Step}
 use Rattle.process_model.specs.declared.config.Policy.TheVariants.{Asid, Full}
 use Rattle.hart_machine.specs.Buffers.{BuffersAre}
 use Rattle.hart_machine.specs.Runs.{BuffersFollow}
-use Rattle.hart_machine.specs.Serves.{AreTrue, IsIn}
+use Rattle.hart_machine.specs.BufferEntries.{AreEntriesCurrent, IsInWorld}
 use Rattle.hart_machine.specs.declared.machine.Machine.{Machine}
 use Rattle.hart_machine.proofs.Buffered.{are_true}
 use Rattle.hart_machine.proofs.KeptPolicy.{policy_stays}
@@ -18,7 +19,7 @@ use Rattle.hart_machine.proofs.KeptPolicy.{policy_stays}
 -- lists of steps: some of them were made, from the machine `first` on, and from the world that they came to the others answer the rest
 pub record HasRun (first m : Machine) (all left : List Step) (replies : List Reply) (w : World) : Type 0 where
   pub world : World
-  pub is_in : IsIn m world
+  pub is_in : IsInWorld m world
   pub replied : (run w all).replies ≡ replies ++ (run world left).replies
   pub comes_to : (run w all).world ≡ (run world left).world
   pub ruled : world.policy ≡ w.policy
@@ -32,13 +33,9 @@ step_policy : (w : World) (s : Step) → ((step w s).world).policy ≡ w.policy
 unfolding step
 step_policy w s = marks_policy w.policy w (plain_step w s) ∙ policy_stays w s
 
--- at the start none was made
-pub none_run : (m : Machine) (all : List Step) (w : World) → IsIn m w → HasRun m m all all [] w
-none_run m all w is = record { world = w; is_in = is; replied = refl; comes_to = refl; ruled = refl; buffers = λ new k. k }
-
 -- one more
 pub one_more : (first m n : Machine) (all rest : List Step) (s : Step) (replies : List Reply) (reply : Reply) (w : World) → HasRun first m all (s ∷ rest) replies w
-    → ((v : World) → IsIn m v → (reply ≡ (step v s).reply) × IsIn n (step v s).world) → ((v : World) (is : IsIn m v) → BuffersAre m n (is.world).tables (is.world).kernel s reply) → HasRun first n all rest (replies ++ reply ∷ []) w
+    → ((v : World) → IsInWorld m v → (reply ≡ (step v s).reply) × IsInWorld n (step v s).world) → ((v : World) (is : IsInWorld m v) → BuffersAre m n (is.world).tables (is.world).kernel s reply) → HasRun first n all rest (replies ++ reply ∷ []) w
 one_more first m n all rest s replies reply w has makes are =
     let made = makes has.world has.is_in in
     record {
@@ -51,14 +48,14 @@ one_more first m n all rest s replies reply w has makes are =
     }
 
 -- all of them
-pub all_run : (first m : Machine) (all : List Step) (replies : List Reply) (w : World) → HasRun first m all [] replies w → (replies ≡ (run w all).replies) × IsIn m (run w all).world
-all_run first m all replies w has = (sym (has.replied ∙ append-nil replies), subst (λ (v : World). IsIn m v) (sym has.comes_to) has.is_in)
+pub all_run : (first m : Machine) (all : List Step) (replies : List Reply) (w : World) → HasRun first m all [] replies w → (replies ≡ (run w all).replies) × IsInWorld m (run w all).world
+all_run first m all replies w has = (sym (has.replied ∙ append-nil replies), subst (λ (v : World). IsInWorld m v) (sym has.comes_to) has.is_in)
 
 -- the buffers, and what they tell
 pub run_buffers : (first m : Machine) (all : List Step) (replies : List Reply) (w : World) → HasRun first m all [] replies w → BuffersFollow first w all m
 run_buffers first m all replies w has = has.buffers m refl
 
-pub run_true : (first m : Machine) (all : List Step) (replies : List Reply) (w : World) → HasRun first m all [] replies w → w.policy ≡ Asid → AreTrue m
+pub run_true : (first m : Machine) (all : List Step) (replies : List Reply) (w : World) → HasRun first m all [] replies w → w.policy ≡ Asid → AreEntriesCurrent m
 run_true first m all replies w has asid = are_true m has.world has.is_in ((has.is_in).world.policy ∙ has.ruled ∙ asid)
 
 -- what is left begins with the step that is next

@@ -1,4 +1,6 @@
--- Which calls change the leaves of a process, and which do not.
+-- Lemmas on which calls change the leaves of a process in the model: sbrk and munmap if and only if they release a settled
+-- page (one in memory); making a page resident if and only if it was not; fork if and only if a page that may be written has
+-- no fork mark (the next store takes it over); exec always; mmap and user accesses never.
 use Rattle.std.proofs.Common.{◌≡◌, ℕ, ℤ, suc, Bool, true, false, ◌+◌, ◌<◌, ◌≤◌, inl, inr, refl, ap, sym, subst, ◌∙◌, arith, List, [], ◌∷◌, ◌++◌, Option, None, Some, Result, Ok}
 use Rattle.std.specs.Prelude.{drop, flat_map, not, nat_abs, nat_lt, option_map, ◌&&◌, ◌||◌, ◌%◌, ◌==◌}
 use Rattle.std.proofs.lemmas.Bool.{cases_lt}
@@ -8,16 +10,16 @@ use Rattle.process_model.specs.EachValue.{each_answer, each_there}
 use Rattle.process_model.specs.Files.{File}
 use Rattle.process_model.specs.Heap.{resized, resized_unless, sbrk_result, size_refusal, wanted_size, without_pages}
 use Rattle.process_model.specs.Images.{LoadSegment, end_of_loads}
-use Rattle.process_model.specs.Inserted.{inserted_here}
-use Rattle.process_model.specs.Loading.{load_pages, numbered, page_run, process_of}
+use Rattle.process_model.specs.Insertion.{inserted_here}
+use Rattle.process_model.specs.ImageProcess.{load_pages, numbered, page_run, process_of}
 use Rattle.process_model.specs.Mappings.{Mapped, Unmapped, leaves_hole, map_refusal, mapped, mapped_unless, mapping_around, unmapped, unmapped_from, unmapped_if, unmapped_in, unmapped_unless}
 use Rattle.hart_machine.proofs.ChangedSlots.{changed, same_settled, sign, sign_changes, sign_of, signs_after_put, signs_stay}
 use Rattle.process_model.specs.PageMap.{PageMap, from_list, get}
 use Rattle.process_model.specs.Process.{Page, Pending, Process, grants_write, regions, without_pending}
 use Rattle.process_model.specs.Regions.{Region, first_rule, keeps_stores}
-use Rattle.process_model.specs.Released.{run_goes, still_settled, was_settled}
-use Rattle.process_model.specs.Residence.{access_answer, goes_through, initial_page, is_resident, is_resident_page, leaves_mark, made_resident, made_resident_from, marked, marked_page, region_on, taken_over, taken_over_unless}
-use Rattle.process_model.specs.Service.{Answer, Asked, if_resident, if_settled, unless_denied, user_access}
+use Rattle.process_model.specs.ReleaseLaws.{run_goes, still_settled, was_settled}
+use Rattle.process_model.specs.Residence.{access_answer, can_complete, initial_page, is_resident, is_resident_page, leaves_mark, made_resident, made_resident_from, marked, marked_page, region_on, taken_over, taken_over_unless}
+use Rattle.process_model.specs.Service.{Answer, AccessRequest, if_resident, if_settled, unless_denied, user_access}
 use Rattle.sv39_entry.specs.Address.{page_of}
 use Rattle.sv39_entry.specs.declared.access.Access.{Access}
 use Rattle.sv39_entry.specs.declared.access.Access.TheVariants.{Fetch, Load, Store}
@@ -127,7 +129,7 @@ marks_apart false true keeps goes clear same = cc
 marks_apart false false true goes clear same = cc
 marks_apart false false false goes clear same = cc
 
-taken_apart : (access : Access) (r : Option Region) (fresh : ℕ) (shared : Bool) (s : Page) → goes_through access r s ≡ false → sign s ≡ sign (taken_over fresh shared r s) → ⊥
+taken_apart : (access : Access) (r : Option Region) (fresh : ℕ) (shared : Bool) (s : Page) → can_complete access r s ≡ false → sign s ≡ sign (taken_over fresh shared r s) → ⊥
 taken_apart Fetch r fresh shared s goes same = cc
 taken_apart Load r fresh shared s goes same = cc
 taken_apart Store r fresh shared s goes same = marks_apart s.fork_mark s.stored_mark (keeps_stores r) goes (ap (λ t. t.1) same) (ap (λ t. t.2) same)
@@ -214,7 +216,7 @@ module _ (files : List File) (p : Process) (len protection flags n : ℕ) (m : M
 
 -- ---- accesses of the user
 
-module _ (p : Process) (a : Asked) where
+module _ (p : Process) (a : AccessRequest) where
   abbrev SignsStay : Answer → Type 0
   SignsStay x = (n : ℕ) → sign_of (get p.settled n) ≡ sign_of (get (x.process).settled n)
 
@@ -231,7 +233,7 @@ module _ (p : Process) (a : Asked) where
 
   settled_signs : (o : Option Page) → get p.settled (page_of a.address) ≡ o → SignsStay (if_settled p a o)
   settled_signs None there n = refl
-  settled_signs (Some s) there n = resident_signs s (goes_through a.access (region_on p (page_of a.address)) s) there n
+  settled_signs (Some s) there n = resident_signs s (can_complete a.access (region_on p (page_of a.address)) s) there n
 
   denied_signs : (o : Option Rule) → SignsStay (unless_denied p a o)
   denied_signs (Some r) n = refl

@@ -1,19 +1,20 @@
--- Kernel copies change the leaves of a process where they make a page resident, and only there.
+-- Lemmas on kernel copies in the model: a flag that tells whether a page became resident (its access then succeeds without a
+-- fault) also tells whether the process's leaves changed (`copied_in_told`, `copied_out_told`); regions and scheme stay.
 use Rattle.std.proofs.Common.{◌≡◌, ◌⊎◌, ℕ, zero, suc, Bool, true, false, not, ◌+◌, ◌<◌, ◌≤◌, inl, inr, refl, ap, sym, subst, ◌∙◌, arith, List, [], ◌∷◌, length, Option, None, Some, Result, Ok, Err}
 use Rattle.std.specs.Prelude.{zip, ◌&&◌, ◌||◌, ◌%◌}
 use Rattle.std.proofs.lemmas.Bool.{cases_eq, true≢false}
 use Rattle.std.proofs.lemmas.Option.{same_Some}
 use Rattle.address_space.specs.Accesses.{IsGranted}
-use Rattle.process_model.specs.Around.{Around, Progress}
+use Rattle.process_model.specs.Environment.{Environment, Progress}
 use Rattle.process_model.specs.Bytes.{numbers_from}
 use Rattle.process_model.specs.Copies.{Copied, copied_in, copied_out, copy_begun, next_in, next_out, one_in, one_out, reached_in, with_byte, with_byte_on}
 use Rattle.process_model.specs.CopyRuns.{more_in, more_out}
 use Rattle.hart_machine.proofs.ChangedSlots.{changed, sign, sign_changes, sign_of, signs_after_put, signs_stay}
 use Rattle.process_model.specs.PageMap.{get}
 use Rattle.process_model.specs.Process.{Page, Process, regions}
-use Rattle.process_model.specs.ReachedPages.{reached_parts, reached_serves, resident_again, same_rule}
+use Rattle.process_model.specs.ResidenceLaws.{reached_parts, reached_serves, resident_again, same_rule}
 use Rattle.process_model.specs.Regions.{copy_rule, Region, keeps_stores, region_at}
-use Rattle.process_model.specs.Residence.{goes_through, is_resident, is_resident_page, region_on, stored}
+use Rattle.process_model.specs.Residence.{can_complete, is_resident, is_resident_page, region_on, stored}
 use Rattle.sv39_entry.specs.Address.{page_of}
 use Rattle.sv39_entry.specs.declared.access.Access.{Access}
 use Rattle.sv39_entry.specs.declared.access.Access.TheVariants as access
@@ -22,7 +23,7 @@ use Rattle.hart_machine.specs.Marks.{TellsResidence}
 
 -- ---- whether a page is resident follows from its region and its sign
 
-goes_by_sign : (kind : Access) (r : Option Region) (s t : Page) → sign s ≡ sign t → goes_through kind r s ≡ goes_through kind r t
+goes_by_sign : (kind : Access) (r : Option Region) (s t : Page) → sign s ≡ sign t → can_complete kind r s ≡ can_complete kind r t
 goes_by_sign access.Fetch r s t same = refl
 goes_by_sign access.Load r s t same = refl
 goes_by_sign access.Store r s t same = ap (λ (x : ℕ × Bool × Bool). not x.1 && (x.2 || not (keeps_stores r))) same
@@ -57,7 +58,7 @@ record Comes (kind : Access) (R : ℕ → Type 0) (p q : Process) : Type 0 where
   scheme : q.scheme ≡ p.scheme
   each : (k : ℕ) → (sign_of (get p.settled k) ≡ sign_of (get q.settled k)) ⊎ ((is_resident p kind k ≡ false) × (is_resident q kind k ≡ true) × R k × MayReach kind p k)
 
-module _ (a : Around) (kind : Access) (R : ℕ → Type 0) (p : Process) where
+module _ (a : Environment) (kind : Access) (R : ℕ → Type 0) (p : Process) where
   begins : Comes kind R p p
   begins = record { regions = refl; scheme = refl; each = λ k. inl refl }
 
@@ -103,7 +104,7 @@ module _ (a : Around) (kind : Access) (R : ℕ → Type 0) (p : Process) where
 
 -- ---- along the addresses
 
-module _ (a : Around) (R : ℕ → Type 0) (p : Process) where
+module _ (a : Environment) (R : ℕ → Type 0) (p : Process) where
   abbrev ComesIn : Copied → Type 0
   ComesIn c = Comes access.Load R p (c.progress).process
 
@@ -213,7 +214,7 @@ near address n most y from to = elim (cases_eq (page_of y) (page_of address)) [
   | inr apart ↦ inr (omega (arith, most, from, to, apart))
 ]
 
-module _ (a : Around) (g : Progress) (address : ℕ) where
+module _ (a : Environment) (g : Progress) (address : ℕ) where
   module _ (n : ℕ) (most : n ≤ 4096) where
     abbrev after_in : Process
     after_in = ((copied_in a g address n).progress).process

@@ -1,4 +1,5 @@
--- A step and the marks that follow it: the machine is in the world of the model after the step.
+-- Lemmas for a step and the stale marks after it: reply, world (the model's state) and each buffer (TLB) are the model's,
+-- only fills add entries, and under policy `asid` no entry of a living process is stale on an unmarked hart (`true_after`).
 use Rattle.std.proofs.Common.{◌≡◌, ℕ, Option, map, refl, ap, sym, subst, ◌∙◌}
 use Rattle.process_model.specs.Stale.{with_stale_slots}
 use Rattle.process_model.specs.Steps as model
@@ -11,8 +12,8 @@ use Rattle.process_model.specs.declared.step.Step.{Step}
 use Rattle.hart_machine.specs.Buffers.{BuffersAre, OnlyFillsAdd, SameBuffers}
 use Rattle.hart_machine.specs.Harts.{hart_of, marked_harts}
 use Rattle.hart_machine.specs.Marks.{AreMarked}
-use Rattle.hart_machine.specs.Serves.{AreTrue, IsIn}
-use Rattle.hart_machine.specs.Worlds.{IsWorld, KeepsTables, Makes}
+use Rattle.hart_machine.specs.BufferEntries.{AreEntriesCurrent, IsInWorld}
+use Rattle.hart_machine.specs.Worlds.{IsWorld, KeepsTables, IsModelOutcome}
 use Rattle.hart_machine.specs.declared.machine.Machine.{Machine}
 use Rattle.hart_machine.proofs.BufferChanges.{only_fills_add}
 use Rattle.hart_machine.proofs.Buffered.{are_true, still_in}
@@ -20,7 +21,7 @@ use Rattle.hart_machine.proofs.KeptPolicy.{policy_stays}
 use Rattle.hart_machine.proofs.MarkedWorlds.{marks_follow}
 
 -- m is the machine before the step, n after it, o and k with the marks
-module _ (m n o k : Machine) (w : World) (s : Step) (inn : IsIn m w) (reply : Reply) (changed born : Option ℕ) (made : Makes n reply (plain_step w s)) (marks : AreMarked w (plain_step w s) changed born)
+module _ (m n o k : Machine) (w : World) (s : Step) (inn : IsInWorld m w) (reply : Reply) (changed born : Option ℕ) (made : IsModelOutcome n reply (plain_step w s)) (marks : AreMarked w (plain_step w s) changed born)
     (keeps : KeepsTables m n w.slots ((plain_step w s).world).slots) (are : BuffersAre m n (inn.world).tables (inn.world).kernel s reply)
     (first : map hart_of o.harts.items ≡ marked_harts n.policy changed (map hart_of n.harts.items)) (first_buffers : SameBuffers n o) (first_others : o ≡ record n { harts = o.harts })
     (second : map hart_of k.harts.items ≡ marked_harts o.policy born (map hart_of o.harts.items)) (second_buffers : SameBuffers o k) (second_others : k ≡ record o { harts = k.harts }) where
@@ -51,7 +52,7 @@ module _ (m n o k : Machine) (w : World) (s : Step) (inn : IsIn m w) (reply : Re
   pub are_after : BuffersAre m k (inn.world).tables (inn.world).kernel s reply
   are_after h = buffers h ∙ are h
 
-  pub in_after : IsIn k (model.step w s).world
+  pub in_after : IsInWorld k (model.step w s).world
   unfolding model.step
   in_after = still_in m k w s inn in_world as_first keeps_after reply made.0 are_after
 
@@ -59,12 +60,12 @@ module _ (m n o k : Machine) (w : World) (s : Step) (inn : IsIn m w) (reply : Re
   same_reply Full = refl
   same_reply Asid = refl
 
-  pub made_after : (reply ≡ (model.step w s).reply) × IsIn k (model.step w s).world
+  pub made_after : (reply ≡ (model.step w s).reply) × IsInWorld k (model.step w s).world
   unfolding model.step
   made_after = (made.0 ∙ sym (same_reply w.policy), in_after)
 
   pub fills_alone : OnlyFillsAdd m k (inn.world).tables (inn.world).kernel s
   fills_alone = only_fills_add m k (inn.world).tables (inn.world).kernel s reply are_after
 
-  pub true_after : w.policy ≡ Asid → AreTrue k
+  pub true_after : w.policy ≡ Asid → AreEntriesCurrent k
   true_after asid = are_true k (model.step w s).world in_after (as_first ∙ (inn.world).policy ∙ asid)

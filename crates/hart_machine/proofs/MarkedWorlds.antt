@@ -1,4 +1,5 @@
--- The marks that follow a step: the machine with them is in the model's world with them.
+-- Lemmas: if a step names the slots (places in the process table) that it changed, the machine marked for these is in the
+-- model's world (state) with its stale marks (`marks_follow`); the slots named are below 64.
 use Rattle.std.proofs.Common.{◌≡◌, ℕ, ◌<◌, ◌≤◌, ◌||◌, Bool, true, false, map, length, None, Option, option_map, Some, List, [], ◌∷◌, refl, ap, sym, subst, ◌∙◌, arith}
 use Rattle.std.specs.Prelude.{Contains, slice_get}
 use Rattle.std.proofs.Math.Path.{fun_ext}
@@ -19,7 +20,7 @@ use Rattle.hart_machine.specs.Worlds.{IsWorld}
 use Rattle.hart_machine.specs.declared.hart.Hart.{Hart}
 use Rattle.hart_machine.specs.declared.machine.Machine.{Machine}
 use Rattle.hart_machine.proofs.ChangedSlots.{among_changed}
-use Rattle.hart_machine.proofs.Mapped.{from_map}
+use Rattle.hart_machine.proofs.MapElements.{from_map}
 
 -- a slot that is named is one of those that there are
 named_there : (w : World) (o : Outcome) (s : ℕ) → changed_at (slice_get w.slots s) (slice_get (o.world).slots s) ≡ true → s < length w.slots

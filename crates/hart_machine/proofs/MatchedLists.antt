@@ -1,4 +1,5 @@
--- Lists that a relation matches one to one.
+-- Lemmas on lists of numbers that a relation matches one to one (`Matched`): how to make one, to append two, and to add a
+-- pair.
 use Rattle.std.proofs.Common.{◌≡◌, ℕ, inl, inr, refl, sym, subst, arith, List, [], ◌∷◌, ◌++◌, length}
 use Rattle.std.proofs.lemmas.List.{length-append}
 use Rattle.hart_machine.proofs.NumberLists.{Among, among_back, among_front, among_parts, Distinct, distinct_append}

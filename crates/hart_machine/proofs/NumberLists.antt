@@ -1,4 +1,5 @@
--- Lists of numbers: what is among them, how often, and lists without repeats.
+-- Lemmas on lists of numbers: what is among them (`Among`), how often (`times`), and lists without repeats (`Distinct`),
+-- also appended, mapped and filtered.
 use Rattle.std.proofs.Common.{◌≡◌, ℕ, ◌+◌, ◌≤◌, ◌⊎◌, ◌==◌, Bool, true, false, cond, inl, inr, refl, ap, sym, subst, ◌∙◌, arith, List, [], ◌∷◌, ◌++◌, map}
 use Rattle.std.specs.Prelude.{filter}
 use Rattle.std.proofs.lemmas.Bool.{cases_eq, cases_lt, eq-eqb, ne_eqb}

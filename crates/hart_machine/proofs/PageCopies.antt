@@ -1,4 +1,5 @@
--- Copy numbers of processes, found by their pages.
+-- Lemmas: a copy number (which names one copy of a page in memory) is among those of a process, or of all processes, if and
+-- only if a page, or a process, has it; and the same of the test `has_copy`.
 use Rattle.std.proofs.Common.{◌≡◌, ℕ, zero, suc, ◌<◌, ◌==◌, ◌⊎◌, Bool, true, false, cond, inl, inr, refl, ap, sym, subst, arith, List, [], ◌∷◌, map, Option, Some, None}
 use Rattle.std.specs.Prelude.{T, ◌||◌, flat_map, slice_get}
 use Rattle.std.specs.List.{list_any}

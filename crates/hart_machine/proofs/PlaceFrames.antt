@@ -1,15 +1,16 @@
--- The frames of all processes of a machine, as lists.
+-- Lemmas: the frames of all processes of a machine, as three lists (`HasAll`): frame 0 once for each process, trapframes and
+-- tables, and frames of pages; how long these are, and that together they are all references of the processes.
 use Rattle.std.proofs.Common.{◌≡◌, ℕ, zero, suc, ◌+◌, true, false, cond, inl, inr, refl, ap, sym, subst, ◌∙◌, arith, List, [], ◌∷◌, ◌++◌, length, Option, Some, None, slice_index}
 use Rattle.std.specs.Prelude.{◌↔◌, count_by, slice_get, sum_by}
 use Rattle.std.proofs.lemmas.List.{length-append}
 use Rattle.std.proofs.lemmas.List.Sums.{sum_by-cons}
 use Rattle.std.proofs.lemmas.Option.{same_Some}
-use Rattle.address_space.specs.Agreement.{IsOn, nothing, Stands}
+use Rattle.address_space.specs.Agreement.{IsFrameOfPage, no_extra, IsInMemory}
 use Rattle.frame_store.specs.Plain.{Agrees, AllAgree, total_references}
 use Rattle.frame_store.specs.View.{View}
-use Rattle.hart_machine.specs.Tenants.{IsTenant, view_of}
-use Rattle.hart_machine.specs.Worlds.{IsPlace, seats_of}
-use Rattle.hart_machine.specs.declared.tenant.Tenant.{Tenant}
+use Rattle.hart_machine.specs.SlotProcesses.{IsSlotProcess, view_of}
+use Rattle.hart_machine.specs.Worlds.{IsSlotContent, seats_of}
+use Rattle.hart_machine.specs.declared.slot_process.SlotProcess.{SlotProcess}
 use Rattle.process_model.specs.Frames.{copies_of, has_copy, live, own_frames, references_of}
 use Rattle.process_model.specs.PageMap.{get}
 use Rattle.process_model.specs.Process.{Page, Process}
@@ -23,9 +24,9 @@ entries_of p = length p.settled.entries
 
 -- a frame is of the pages with a copy number, and of no others
 abbrev pub OfCopy : List (Option Process) → (ℕ → Tables) → ℕ → ℕ → Type 0
-OfCopy slots tables f c = (i n g : ℕ) (p : Process) (a : Page) → slice_get slots i ≡ Some (Some p) → get p.settled n ≡ Some a → IsOn (tables i) n g → (f ≡ g) ↔ (a.copy ≡ c)
+OfCopy slots tables f c = (i n g : ℕ) (p : Process) (a : Page) → slice_get slots i ≡ Some (Some p) → get p.settled n ≡ Some a → IsFrameOfPage (tables i) n g → (f ≡ g) ↔ (a.copy ≡ c)
 
-pub record HasAll (counts : List ℕ) (items : List (Option Tenant)) (slots : List (Option Process)) (tables : ℕ → Tables) : Type 0 where
+pub record HasAll (counts : List ℕ) (items : List (Option SlotProcess)) (slots : List (Option Process)) (tables : ℕ → Tables) : Type 0 where
   -- frame 0 once for each process; trapframes and tables; the frames of pages
   pub code : List ℕ
   pub own : List ℕ
@@ -37,21 +38,21 @@ pub record HasAll (counts : List ℕ) (items : List (Option Tenant)) (slots : Li
   pub code_times : times 0 code ≡ length code
   pub lone : (f : ℕ) → Among f own → slice_index counts f ≡ 1
   pub no_code : Among 0 pages → ⊥
-  pub of_page : (f : ℕ) → Among f pages → (i n : ℕ) × (p : Process) × (a : Page) × (slice_get slots i ≡ Some (Some p)) × (get p.settled n ≡ Some a) × IsOn (tables i) n f
-  pub has_page : (f i n : ℕ) (p : Process) (a : Page) → slice_get slots i ≡ Some (Some p) → get p.settled n ≡ Some a → IsOn (tables i) n f → Among f pages
+  pub of_page : (f : ℕ) → Among f pages → (i n : ℕ) × (p : Process) × (a : Page) × (slice_get slots i ≡ Some (Some p)) × (get p.settled n ≡ Some a) × IsFrameOfPage (tables i) n f
+  pub has_page : (f i n : ℕ) (p : Process) (a : Page) → slice_get slots i ≡ Some (Some p) → get p.settled n ≡ Some a → IsFrameOfPage (tables i) n f → Among f pages
   pub copied : (f c : ℕ) → OfCopy slots tables f c → times f pages ≡ count_by (has_copy c) (live slots)
   pub all : (f : ℕ) → times f code + times f own + times f pages ≡ total_references f (seats_of items)
 
 -- of one process
 
-module _ (v : View) (root trapframe : ℕ) (t : Tables) (p : Process) (s : Stands v root trapframe nothing t p) (h : HasFrames v trapframe t p) (f c : ℕ)
-    (of : (n g : ℕ) (a : Page) → get p.settled n ≡ Some a → IsOn t n g → (f ≡ g) ↔ (a.copy ≡ c)) where
+module _ (v : View) (root trapframe : ℕ) (t : Tables) (p : Process) (s : IsInMemory v root trapframe no_extra t p) (h : HasFrames v trapframe t p) (f c : ℕ)
+    (of : (n g : ℕ) (a : Page) → get p.settled n ≡ Some a → IsFrameOfPage t n g → (f ≡ g) ↔ (a.copy ≡ c)) where
   copied_one : times f h.pages ≡ cond (has_copy c p) 1 0
   copied_one = elim (has_copy c p) as (λ b. has_copy c p ≡ b → times f h.pages ≡ cond b 1 0) [
     | true ↦ λ is.
         let page = page_of_copy p c (has_among c p is) in
         let shown = s.shows.settled page.0 page.1 page.2 in
-        let on : IsOn t page.0 shown.frame = (shown.leaf, shown.mapped, shown.made.names) in
+        let on : IsFrameOfPage t page.0 shown.frame = (shown.leaf, shown.mapped, shown.made.names) in
         let same : f ≡ shown.frame = (of page.0 shown.frame page.1 page.2 on).1 page.3 in
         times_one f h.pages h.pages_distinct (subst (λ z. Among z h.pages) (sym same) (h.has_page shown.frame page.0 page.1 page.2 on))
     | false ↦ λ not_it. times_none f h.pages (λ i.
@@ -62,7 +63,7 @@ module _ (v : View) (root trapframe : ℕ) (t : Tables) (p : Process) (s : Stand
   ] refl
 
 module _ (words counts : List ℕ) where
-  pub places_have : (items : List (Option Tenant)) (slots : List (Option Process)) (tables : ℕ → Tables) → ((s : ℕ) → IsPlace (slice_get items s) (slice_get slots s) (tables s))
+  pub places_have : (items : List (Option SlotProcess)) (slots : List (Option Process)) (tables : ℕ → Tables) → ((s : ℕ) → IsSlotContent (slice_get items s) (slice_get slots s) (tables s))
       → AllAgree words counts (seats_of items) → HasAll counts items slots tables
   places_have [] [] tables places agree = record {
     code = [];
@@ -99,7 +100,7 @@ module _ (words counts : List ℕ) where
         lone = rest.lone;
         no_code = rest.no_code;
         of_page = λ f i. let old = rest.of_page f i in (suc old.0, old.1, old.2, old.3, old.4, old.5, old.6);
-        has_page = λ f i n p a at. elim i as (λ j. slice_get (None ∷ slots) j ≡ Some (Some p) → get p.settled n ≡ Some a → IsOn (tables j) n f → Among f rest.pages) [
+        has_page = λ f i n p a at. elim i as (λ j. slice_get (None ∷ slots) j ≡ Some (Some p) → get p.settled n ≡ Some a → IsFrameOfPage (tables j) n f → Among f rest.pages) [
           | zero ↦ λ never. absurd (cc)
           | suc j ↦ λ there has on. rest.has_page f j n p a there has on
         ] at;
@@ -107,7 +108,7 @@ module _ (words counts : List ℕ) where
         all = rest.all;
       }
   places_have (Some x ∷ items) (Some p ∷ slots) tables places agree =
-      let place : IsTenant x (tables 0) p = places 0 in
+      let place : IsSlotProcess x (tables 0) p = places 0 in
       let stands = place.agrees.stands in
       let h = process_frames (view_of x) x.space.root.0 x.space.trapframe.0 (tables 0) p stands in
       let rest = places_have items slots (λ i. tables (suc i)) (λ s. places (suc s)) agree.1 in
@@ -140,7 +141,7 @@ module _ (words counts : List ℕ) where
           | inl j ↦ (let page = h.of_page f j in (0, page.0, p, page.1, refl, page.2, page.3))
           | inr j ↦ (let old = rest.of_page f j in (suc old.0, old.1, old.2, old.3, old.4, old.5, old.6))
         ];
-        has_page = λ f i n q a at. elim i as (λ j. slice_get (Some p ∷ slots) j ≡ Some (Some q) → get q.settled n ≡ Some a → IsOn (tables j) n f → Among f (h.pages ++ rest.pages)) [
+        has_page = λ f i n q a at. elim i as (λ j. slice_get (Some p ∷ slots) j ≡ Some (Some q) → get q.settled n ≡ Some a → IsFrameOfPage (tables j) n f → Among f (h.pages ++ rest.pages)) [
           | zero ↦ λ here has on. among_front f h.pages rest.pages (h.has_page f n a (ap (λ (z : Process). get z.settled n) (same_Some p q (same_Some _ _ here)) ∙ has) on)
           | suc j ↦ λ there has on. among_back f h.pages rest.pages (rest.has_page f j n q a there has on)
         ] at;

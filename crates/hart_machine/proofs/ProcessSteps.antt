@@ -1,29 +1,30 @@
--- Worlds in which one process is another, with the same pages and tables.
+-- Lemmas: the machine is in the model's world (state) after one process became another with the same pages and tables
+-- (`process_changes`), and after its pending access was dropped (`nothing_pending`).
 use Rattle.std.proofs.Common.{◌≡◌, ℕ, ◌<◌, ◌≤◌, zero, suc, ◌↔◌, Option, None, Some, List, [], ◌∷◌, refl, ap, sym, subst, ◌∙◌, inl, inr}
 use Rattle.std.specs.Prelude.{slice_get, slice_set}
 use Rattle.std.specs.Vec.{with_item}
 use Rattle.std.proofs.lemmas.Bool.{cases_eq}
 use Rattle.std.proofs.lemmas.List.{length-set}
 use Rattle.std.proofs.lemmas.Option.{same_Some, slice_get_within}
-use Rattle.frame_store.specs.Plain.{Bank, BankRule}
+use Rattle.frame_store.specs.Plain.{PlainState, PlainStateRule}
 use Rattle.frame_store.specs.Seats.{place_set_other, place_set_same}
 use Rattle.process_model.specs.PageMap as pages
 use Rattle.process_model.specs.Process.{Page, Process}
 use Rattle.process_model.specs.World.{World, with_process}
-use Rattle.address_space.specs.Pending.{agrees_pending}
+use Rattle.address_space.specs.PendingAccess.{agrees_pending}
 use Rattle.address_space.specs.Kernel.{IsKernelTable}
 use Rattle.hart_machine.specs.Slots.{most_slots}
-use Rattle.hart_machine.specs.Tenants.{IsTenant, view_of}
-use Rattle.hart_machine.specs.Worlds.{IsPlace, IsWorld, seats_of}
+use Rattle.hart_machine.specs.SlotProcesses.{IsSlotProcess, view_of}
+use Rattle.hart_machine.specs.Worlds.{IsSlotContent, IsWorld, seats_of}
 use Rattle.hart_machine.specs.declared.hart.Hart.{Hart}
 use Rattle.hart_machine.specs.declared.machine.Machine.{Machine}
-use Rattle.hart_machine.specs.declared.tenant.Tenant.{Tenant}
+use Rattle.hart_machine.specs.declared.slot_process.SlotProcess.{SlotProcess}
 
 -- each page that one process has, the other has with the same copy number
 abbrev pub HasCopies : Process → Process → Type 0
 HasCopies q p = (n : ℕ) (a : Page) → pages.get q.settled n ≡ Some a → (b : Page) × (pages.get p.settled n ≡ Some b) × (b.copy ≡ a.copy)
 
-module _ (m : Machine) (w : World) (is : IsWorld m w) (s : ℕ) (x y : Tenant) (p q : Process) (place : slice_get m.slots.items s ≡ Some (Some x)) (at : slice_get w.slots s ≡ Some (Some p)) where
+module _ (m : Machine) (w : World) (is : IsWorld m w) (s : ℕ) (x y : SlotProcess) (p q : Process) (place : slice_get m.slots.items s ≡ Some (Some x)) (at : slice_get w.slots s ≡ Some (Some p)) where
   -- what holds of the process in a slot, where it holds of the new one and of the old ones
   at_each : {A : Type 0} (xs : List (Option A)) (a b : A) → slice_get xs s ≡ Some (Some a) → (k : ℕ) (c : Option (Option A)) → slice_get (slice_set xs s (Some b)) k ≡ c
       → (P : Option (Option A) → Type 0) → (k ≡ s → P (Some (Some b))) → ((k ≡ s → ⊥) → slice_get xs k ≡ c → P c) → P c
@@ -41,9 +42,9 @@ module _ (m : Machine) (w : World) (is : IsWorld m w) (s : ℕ) (x y : Tenant) (
         (λ same e. let is_q : q ≡ r = same_Some q r (same_Some _ _ e) in let found = has n a (ap (λ (z : Process). pages.get z.settled n) is_q ∙ settled) in (p, found.0, ap (slice_get w.slots) same ∙ at, found.1, found.2))
         (λ apart old e. (r, a, old, settled, refl)) refl
 
-    pub process_changes : (b : Bank) → BankRule b (m.kernel.seat ∷ seats_of (slice_set m.slots.items s (Some y))) → IsTenant y (is.tables s) q → q.scheme ≡ p.scheme
+    pub process_changes : (b : PlainState) → PlainStateRule b (m.kernel.seat ∷ seats_of (slice_set m.slots.items s (Some y))) → IsSlotProcess y (is.tables s) q → q.scheme ≡ p.scheme
         → IsWorld (record m { frames = b; slots = with_item m.slots s (Some y) }) (with_process w s q)
-    process_changes b rule tenant schemed = record {
+    process_changes b rule slot_process schemed = record {
       tables = is.tables;
       kernel = is.kernel;
       stacks = is.stacks;
@@ -68,28 +69,28 @@ module _ (m : Machine) (w : World) (is : IsWorld m w) (s : ℕ) (x y : Tenant) (
       idle = is.idle;
       local = is.local;
     } where
-      places : (k : ℕ) → IsPlace (slice_get (slice_set m.slots.items s (Some y)) k) (slice_get (slice_set w.slots s (Some q)) k) (is.tables k)
+      places : (k : ℕ) → IsSlotContent (slice_get (slice_set m.slots.items s (Some y)) k) (slice_get (slice_set w.slots s (Some q)) k) (is.tables k)
       places k = elim (cases_eq k s) [
-        | inl same ↦ rw (same, place_set_same m.slots.items s (Some y) (slice_get_within m.slots.items s (Some x) place), place_set_same w.slots s (Some q) (slice_get_within w.slots s (Some p) at)) tenant
+        | inl same ↦ rw (same, place_set_same m.slots.items s (Some y) (slice_get_within m.slots.items s (Some x) place), place_set_same w.slots s (Some q) (slice_get_within w.slots s (Some p) at)) slot_process
         | inr apart ↦ rw (place_set_other m.slots.items s k (Some y) apart, place_set_other w.slots s k (Some q) apart) (is.places k)
       ]
 
-      hosted : (h k : ℕ) (z : Hart) → slice_get m.harts.items h ≡ Some z → z.slot ≡ Some k → (t : Tenant) × (slice_get (slice_set m.slots.items s (Some y)) k ≡ Some (Some t))
+      hosted : (h k : ℕ) (z : Hart) → slice_get m.harts.items h ≡ Some z → z.slot ≡ Some k → (t : SlotProcess) × (slice_get (slice_set m.slots.items s (Some y)) k ≡ Some (Some t))
       hosted h k z on slot = elim (cases_eq k s) [
         | inl same ↦ (y, ap (slice_get (slice_set m.slots.items s (Some y))) same ∙ place_set_same m.slots.items s (Some y) (slice_get_within m.slots.items s (Some x) place))
         | inr apart ↦ let old = is.hosted h k z on slot in (old.0, place_set_other m.slots.items s k (Some y) apart ∙ old.1)
       ]
 
-seats_stay : (places : List (Option Tenant)) (s : ℕ) (x y : Tenant) → slice_get places s ≡ Some (Some x) → view_of y ≡ view_of x → seats_of (slice_set places s (Some y)) ≡ seats_of places
+seats_stay : (places : List (Option SlotProcess)) (s : ℕ) (x y : SlotProcess) → slice_get places s ≡ Some (Some x) → view_of y ≡ view_of x → seats_of (slice_set places s (Some y)) ≡ seats_of places
 seats_stay [] s x y at e = refl
 seats_stay (z ∷ places) zero x y at e = rw (same_Some z (Some x) at) (ap (λ v. v ∷ seats_of places) e)
 seats_stay (None ∷ places) (suc s) x y at e = seats_stay places s x y at e
 seats_stay (Some z ∷ places) (suc s) x y at e = ap (λ vs. view_of z ∷ vs) (seats_stay places s x y at e)
 
-module _ (m : Machine) (w : World) (is : IsWorld m w) (s : ℕ) (x : Tenant) (p : Process) (place : slice_get m.slots.items s ≡ Some (Some x)) (at : slice_get w.slots s ≡ Some (Some p))
-    (tenant : IsTenant x (is.tables s) p) where
+module _ (m : Machine) (w : World) (is : IsWorld m w) (s : ℕ) (x : SlotProcess) (p : Process) (place : slice_get m.slots.items s ≡ Some (Some x)) (at : slice_get w.slots s ≡ Some (Some p))
+    (slot_process : IsSlotProcess x (is.tables s) p) where
   -- the process of a slot has no access pending any more
   pub nothing_pending : IsWorld (record m { slots = with_item m.slots s (Some (record x { pending = None })) }) (with_process w s (record p { pending = None }))
   nothing_pending = process_changes m w is s x (record x { pending = None }) p (record p { pending = None }) place at (λ n a there. (a, there, refl)) m.frames
-      (subst (λ vs. BankRule m.frames (m.kernel.seat ∷ vs)) (sym (seats_stay m.slots.items s x (record x { pending = None }) place refl)) is.rule)
-      (record { agrees = agrees_pending _ _ _ _ _ p tenant.agrees None; framed = tenant.framed; pending = refl; wide = tt }) refl
+      (subst (λ vs. PlainStateRule m.frames (m.kernel.seat ∷ vs)) (sym (seats_stay m.slots.items s x (record x { pending = None }) place refl)) is.rule)
+      (record { agrees = agrees_pending _ _ _ _ _ p slot_process.agrees None; framed = slot_process.framed; pending = refl; wide = tt }) refl

@@ -1,9 +1,10 @@
--- Whether a run of pages that goes has a settled page, and so whether a call changes leaves.
+-- Lemmas for munmap and sbrk: whether a range of pages that is released has a settled page (one in memory) says whether the
+-- call changes leaves (`tells`); and the arithmetic of the new size.
 use Rattle.std.proofs.Common.{◌≡◌, ℕ, ℤ, pos, Bool, true, false, ◌+ℤ◌, ◌<◌, ◌≤◌, refl, ap, sym, subst, ◌∙◌, arith, Option, None, Some, of_z, to_z, w64}
 use Rattle.std.specs.Prelude.{Err, nat_abs, Ok, Result}
 use Rattle.std.specs.Int.{div_ceil, FitsUnsigned}
 use mir.Val.{SFits}
-use Rattle.lazy_growth.proofs.Asked.{below_zero, heap_low}
+use Rattle.lazy_growth.proofs.SizeRefusals.{below_zero, heap_low}
 use Rattle.process_model.specs.Bytes.{pages_for}
 use Rattle.process_model.specs.Heap.{resized, resized_unless, sbrk_result, size_refusal, wanted_size}
 use Rattle.process_model.specs.Order.{HasOrder}

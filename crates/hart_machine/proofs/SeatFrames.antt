@@ -1,4 +1,5 @@
--- The frames that the seat of a process has, as a list: frame 0, its trapframe, its tables and those of its pages.
+-- Lemmas: the frames that a process's seat (an owner's capability at a frame store) holds are frame 0, its trapframe, its
+-- tables and those of its pages, as a list with one entry for each reference (`HasFrames`, `process_frames`).
 use Rattle.std.proofs.Common.{◌≡◌, ℕ, ◌<◌, ◌≤◌, inl, inr, ap, sym, subst, ◌∙◌, arith, List, ◌∷◌, ◌++◌, map, length, Some}
 use Rattle.std.specs.Prelude.{is_some}
 use Rattle.std.specs.FinMap as finite
@@ -12,7 +13,7 @@ use Rattle.sv39_entry.specs.Frame.{ppn_of}
 use Rattle.sv39_entry.specs.Word.{ppn}
 use Rattle.sv39_entry.specs.Schemes.{trampoline_page, trapframe_page, of_scheme}
 use Rattle.table_walk.specs.Tables.{Tables, leaf_node}
-use Rattle.address_space.specs.Agreement.{IsOn, Names, nothing, Stands}
+use Rattle.address_space.specs.Agreement.{IsFrameOfPage, NamesFrame, no_extra, IsInMemory}
 use Rattle.hart_machine.proofs.NumberLists.{Among, among_back, among_front, among_map, among_parts, Distinct, distinct_append, distinct_map, mapped_from, times, times_are}
 use Rattle.hart_machine.proofs.MatchedLists.{Matched, matched, matched_append, matched_cons}
 use Rattle.hart_machine.proofs.KeySets.{among_contains, contains_among, key_settled, keys_distinct, length_keys, settled_key, value}
@@ -25,15 +26,15 @@ pub record HasFrames (v : View) (trapframe : ℕ) (t : Tables) (p : Process) : T
   pub tables_long : length tables ≡ tables_of p
   pub pages_long : length pages ≡ length p.settled.entries
   pub pages_distinct : Distinct pages
-  pub of_page : (f : ℕ) → Among f pages → (n : ℕ) × (a : Page) × (get p.settled n ≡ Some a) × IsOn t n f
-  pub has_page : (f n : ℕ) (a : Page) → get p.settled n ≡ Some a → IsOn t n f → Among f pages
+  pub of_page : (f : ℕ) → Among f pages → (n : ℕ) × (a : Page) × (get p.settled n ≡ Some a) × IsFrameOfPage t n f
+  pub has_page : (f n : ℕ) (a : Page) → get p.settled n ≡ Some a → IsFrameOfPage t n f → Among f pages
   pub no_code : Among 0 pages → ⊥
   -- the seat is the sole holder of its tables and its trapframe
   pub lone : (f : ℕ) → Among f (trapframe ∷ tables) → (references v f ≡ 1) × IsSole v f
   -- each frame as often as the seat has references of it
   pub all : (f : ℕ) → times f (0 ∷ trapframe ∷ (tables ++ pages)) ≡ references v f
 
-module _ (v : View) (root trapframe : ℕ) (t : Tables) (p : Process) (s : Stands v root trapframe nothing t p) where
+module _ (v : View) (root trapframe : ℕ) (t : Tables) (p : Process) (s : IsInMemory v root trapframe no_extra t p) where
   abbrev tabled : List ℕ
   tabled = keys p.tabled
 
@@ -43,7 +44,7 @@ module _ (v : View) (root trapframe : ℕ) (t : Tables) (p : Process) (s : Stand
   abbrev every_number : List ℕ
   every_number = leaf_node (trampoline_page p.scheme) ∷ leaf_node (trapframe_page p.scheme) ∷ (table_numbers p.scheme tabled ++ leaf_numbers)
 
-  one_named : (f g k : ℕ) → Names t f k → Names t g k → f ≡ g
+  one_named : (f g k : ℕ) → NamesFrame t f k → NamesFrame t g k → f ≡ g
   one_named f g k (inl at) (inl also) = same_Some f g (sym at ∙ also)
   one_named f g k (inl at) (inr leaf) =
       let low = (s.tables.known.below k f at).1 in
@@ -61,7 +62,7 @@ module _ (v : View) (root trapframe : ℕ) (t : Tables) (p : Process) (s : Stand
   page_low : (n : ℕ) → Among n (keys p.settled) → n < (trapframe_page p.scheme)
   page_low n i = let a = key_settled p.settled n i in s.shows.low n a.0 a.1
 
-  table_there : (k : ℕ) → Among k (table_numbers p.scheme tabled) → (f : ℕ) × Names t f k
+  table_there : (k : ℕ) → Among k (table_numbers p.scheme tabled) → (f : ℕ) × NamesFrame t f k
   table_there k i =
       let way = way_of p.scheme tabled s.tabled_low k i in
       let f = value (finite.get t.tables k) ((s.tabled k).1 (way.0, way.1, among_contains way.0 (all_of p.scheme tabled) way.2, way.3, way.4)) in
@@ -72,7 +73,7 @@ module _ (v : View) (root trapframe : ℕ) (t : Tables) (p : Process) (s : Stand
       let way = (s.tabled k).0 (ap is_some at) in
       way_in p.scheme tabled s.tabled_low k way.0 way.1 (contains_among way.0 (all_of p.scheme tabled) way.2) way.3 way.4
 
-  leaf_there : (k : ℕ) → Among k leaf_numbers → (f : ℕ) × Names t f k
+  leaf_there : (k : ℕ) → Among k leaf_numbers → (f : ℕ) × NamesFrame t f k
   leaf_there k i =
       let n = mapped_from leaf_node k (keys p.settled) i in
       let a = key_settled p.settled n.0 n.1 in
@@ -106,7 +107,7 @@ module _ (v : View) (root trapframe : ℕ) (t : Tables) (p : Process) (s : Stand
   rest_distinct : Distinct (table_numbers p.scheme tabled ++ leaf_numbers)
   rest_distinct = distinct_append (table_numbers p.scheme tabled) leaf_numbers (tables_distinct p.scheme tabled s.tabled_low) leaves_distinct apart_numbers
 
-  every_in : (k f : ℕ) → Names t f k → Among k every_number
+  every_in : (k f : ℕ) → NamesFrame t f k → Among k every_number
   every_in k f (inl at) = inr (inr (among_front k (table_numbers p.scheme tabled) leaf_numbers (table_in k f at)))
   every_in k f (inr leaf) = elim (s.shows.only k leaf.0 leaf.1) [
     | inl e ↦ inl e
@@ -119,35 +120,35 @@ module _ (v : View) (root trapframe : ℕ) (t : Tables) (p : Process) (s : Stand
 
   -- each list of numbers with its frames
 
-  table_frames : (fs : List ℕ) × Matched (Names t) (table_numbers p.scheme tabled) fs
-  table_frames = matched (Names t) (table_numbers p.scheme tabled) (tables_distinct p.scheme tabled s.tabled_low) table_there (λ f g k _. one_named f g k) (λ f j k _ _. s.owns.once f j k)
+  table_frames : (fs : List ℕ) × Matched (NamesFrame t) (table_numbers p.scheme tabled) fs
+  table_frames = matched (NamesFrame t) (table_numbers p.scheme tabled) (tables_distinct p.scheme tabled s.tabled_low) table_there (λ f g k _. one_named f g k) (λ f j k _ _. s.owns.once f j k)
 
-  page_frames : (fs : List ℕ) × Matched (Names t) leaf_numbers fs
-  page_frames = matched (Names t) leaf_numbers leaves_distinct leaf_there (λ f g k _. one_named f g k) (λ f j k _ _. s.owns.once f j k)
+  page_frames : (fs : List ℕ) × Matched (NamesFrame t) leaf_numbers fs
+  page_frames = matched (NamesFrame t) leaf_numbers leaves_distinct leaf_there (λ f g k _. one_named f g k) (λ f j k _ _. s.owns.once f j k)
 
-  on_code : Names t 0 (leaf_node (trampoline_page p.scheme))
+  on_code : NamesFrame t 0 (leaf_node (trampoline_page p.scheme))
   on_code = let code = s.shows.on_trampoline in inr (code.0, code.1, code.2.names)
 
-  on_saved : Names t trapframe (leaf_node (trapframe_page p.scheme))
+  on_saved : NamesFrame t trapframe (leaf_node (trapframe_page p.scheme))
   on_saved = let saved = s.shows.on_trapframe in inr (saved.0, saved.1, saved.2.names)
 
-  with_trapframe : Matched (Names t) (leaf_node (trapframe_page p.scheme) ∷ (table_numbers p.scheme tabled ++ leaf_numbers)) (trapframe ∷ (table_frames.0 ++ page_frames.0))
+  with_trapframe : Matched (NamesFrame t) (leaf_node (trapframe_page p.scheme) ∷ (table_numbers p.scheme tabled ++ leaf_numbers)) (trapframe ∷ (table_frames.0 ++ page_frames.0))
   with_trapframe =
-      matched_cons (Names t) (leaf_node (trapframe_page p.scheme)) trapframe _ _ (λ g r. one_named g trapframe (leaf_node (trapframe_page p.scheme)) r on_saved)
+      matched_cons (NamesFrame t) (leaf_node (trapframe_page p.scheme)) trapframe _ _ (λ g r. one_named g trapframe (leaf_node (trapframe_page p.scheme)) r on_saved)
       (λ j i r. leaf_far j (trapframe_page p.scheme) (omega arith) (omega (arith, of_scheme p.scheme)) (s.owns.once trapframe j (leaf_node (trapframe_page p.scheme)) r on_saved) i) on_saved
-      (matched_append (Names t) (table_numbers p.scheme tabled) leaf_numbers table_frames.0 page_frames.0 rest_distinct (λ f j k _ _. s.owns.once f j k) table_frames.1 page_frames.1 apart_numbers)
+      (matched_append (NamesFrame t) (table_numbers p.scheme tabled) leaf_numbers table_frames.0 page_frames.0 rest_distinct (λ f j k _ _. s.owns.once f j k) table_frames.1 page_frames.1 apart_numbers)
 
   code_apart : (j : ℕ) → Among j (leaf_node (trapframe_page p.scheme) ∷ (table_numbers p.scheme tabled ++ leaf_numbers)) → j ≡ leaf_node (trampoline_page p.scheme) → ⊥
   code_apart j (inl e) same = absurd (omega (arith, same, e, of_scheme p.scheme))
   code_apart j (inr later) same = leaf_far j (trampoline_page p.scheme) (omega (arith, of_scheme p.scheme)) (omega arith) same later
 
-  with_code : Matched (Names t) every_number (0 ∷ trapframe ∷ (table_frames.0 ++ page_frames.0))
+  with_code : Matched (NamesFrame t) every_number (0 ∷ trapframe ∷ (table_frames.0 ++ page_frames.0))
   with_code =
-      matched_cons (Names t) (leaf_node (trampoline_page p.scheme)) 0 _ _ (λ g r. one_named g 0 (leaf_node (trampoline_page p.scheme)) r on_code)
+      matched_cons (NamesFrame t) (leaf_node (trampoline_page p.scheme)) 0 _ _ (λ g r. one_named g 0 (leaf_node (trampoline_page p.scheme)) r on_code)
       (λ j i r. code_apart j i (s.owns.once 0 j (leaf_node (trampoline_page p.scheme)) r on_code)) on_code with_trapframe
 
   -- a table's number is no leaf's
-  table_named : (f k : ℕ) → Among k (table_numbers p.scheme tabled) → Names t f k → finite.get t.tables k ≡ Some f
+  table_named : (f k : ℕ) → Among k (table_numbers p.scheme tabled) → NamesFrame t f k → finite.get t.tables k ≡ Some f
   table_named f k i (inl at) = at
   table_named f k i (inr leaf) =
       let low = table_range p.scheme tabled s.tabled_low k i in

@@ -1,4 +1,6 @@
--- The pages of a process of which one was made resident.
+-- Lemmas on the pages of a process in the model after one was made resident (an access to it then succeeds): every other
+-- page is as it was, the page is in memory, with its copy number (which names one copy) or a new one; if it was resident,
+-- nothing changed.
 use Rattle.std.proofs.Common.{◌≡◌, ℕ, ◌⊎◌, cond, Bool, true, false, Option, None, Some, List, refl, ap, sym, subst, ◌∙◌, inl, inr}
 use Rattle.std.specs.Prelude.{if◌then◌else◌, not, ◌&&◌, ◌||◌}
 use Rattle.std.specs.Cmp.{nat_cmp_total, unsigned_tied}
@@ -6,17 +8,17 @@ use Rattle.std.specs.FinMap.Entries.{find, find-put}
 use Rattle.std.specs.Ordering.{eq_by_cmp, nat_cmp}
 use Rattle.std.proofs.lemmas.Bool.{cases_eq, eq-eqb, ne_eqb}
 use Rattle.std.proofs.lemmas.Option.{same_Some}
-use Rattle.fault_rules.specs.Resides.{gets_frame, is_counted}
+use Rattle.fault_rules.specs.MadeResident.{gets_frame, is_counted}
 use Rattle.process_model.specs.Files.{File}
 use Rattle.process_model.specs.PageMap.{get, insert}
 use Rattle.process_model.specs.Process.{Page, Process}
 use Rattle.process_model.specs.Regions.{keeps_stores, Region}
-use Rattle.process_model.specs.Residence.{goes_through, is_resident_page, made_resident_from, parts_from, region_on, taken_over}
+use Rattle.process_model.specs.Residence.{can_complete, is_resident_page, made_resident_from, parts_from, region_on, taken_over}
 use Rattle.sv39_entry.specs.declared.access.Access.{Access}
 use Rattle.sv39_entry.specs.declared.access.Access.TheVariants.{Fetch, Load, Store}
 
 -- a page that a store goes through to keeps its frame, and so does one that is not stored to
-keeps_frame : (shared : Bool) (access : Access) (r : Option Region) (s : Page) → goes_through access r s ≡ true → gets_frame shared access (Some s) ≡ false
+keeps_frame : (shared : Bool) (access : Access) (r : Option Region) (s : Page) → can_complete access r s ≡ true → gets_frame shared access (Some s) ≡ false
 keeps_frame shared Fetch r s through = refl
 keeps_frame shared Load r s through = refl
 keeps_frame shared Store r s through = elim s.fork_mark as (λ b. (not b && (s.stored_mark || not (keeps_stores r))) ≡ true → (b && shared) ≡ false) [
@@ -40,7 +42,7 @@ module _ (fresh : ℕ) (page : ℕ) where
     go (inl at) found = inr (at, subst (λ (z : Page). CopyIs gets z o) (same_Some x b (rw (unsigned_tied n page, eq-eqb n page at) at found)) copy)
     go (inr apart) found = inl (apart, rw (unsigned_tied n page, ne_eqb n page apart) at found)
 
-  taken_copy : (shared : Bool) (access : Access) (r : Option Region) (s : Page) → goes_through access r s ≡ false → CopyIs (gets_frame shared access (Some s)) (taken_over fresh shared r s) (Some s)
+  taken_copy : (shared : Bool) (access : Access) (r : Option Region) (s : Page) → can_complete access r s ≡ false → CopyIs (gets_frame shared access (Some s)) (taken_over fresh shared r s) (Some s)
   taken_copy shared Fetch r s stops = absurd (cc)
   taken_copy shared Load r s stops = absurd (cc)
   taken_copy shared Store r s stops = elim (parts_from shared s) as (λ b. parts_from shared s ≡ b → CopyIs b (taken_over fresh shared r s) (Some s)) [
@@ -52,7 +54,7 @@ module _ (fresh : ℕ) (page : ℕ) where
   pub page_after : (files : List File) (shared : Bool) (p : Process) (access : Access) (o : Option Page) → get p.settled page ≡ o → (n : ℕ) (b : Page)
       → get (made_resident_from files fresh shared p access page o).settled n ≡ Some b → IsPageOf p (gets_frame shared access o) o n b
   page_after files shared p access None is n b there = with_one p _ true None refl n b there
-  page_after files shared p access (Some s) is n b there = elim (goes_through access (region_on p page) s) as (λ t. goes_through access (region_on p page) s ≡ t → IsPageOf p (gets_frame shared access (Some s)) (Some s) n b) [
+  page_after files shared p access (Some s) is n b there = elim (can_complete access (region_on p page) s) as (λ t. can_complete access (region_on p page) s ≡ t → IsPageOf p (gets_frame shared access (Some s)) (Some s) n b) [
     | true ↦ λ e. rw (keeps_frame shared access (region_on p page) s e) (as_it_was (cases_eq n page) (rw e at there))
     | false ↦ λ e. with_one p (taken_over fresh shared (region_on p page) s) (gets_frame shared access (Some s)) (Some s) (taken_copy shared access (region_on p page) s e) n b (rw e at there)
   ] refl where
@@ -67,7 +69,7 @@ module _ (fresh : ℕ) (page : ℕ) where
   pub page_there : (files : List File) (shared : Bool) (p : Process) (access : Access) (o : Option Page) → get p.settled page ≡ o
       → (z : Page) × (get (made_resident_from files fresh shared p access page o).settled page ≡ Some z)
   page_there files shared p access None is = (_, put_here p _)
-  page_there files shared p access (Some s) is = elim (goes_through access (region_on p page) s) as (λ t. goes_through access (region_on p page) s ≡ t → (z : Page) × (get (made_resident_from files fresh shared p access page (Some s)).settled page ≡ Some z)) [
+  page_there files shared p access (Some s) is = elim (can_complete access (region_on p page) s) as (λ t. can_complete access (region_on p page) s ≡ t → (z : Page) × (get (made_resident_from files fresh shared p access page (Some s)).settled page ≡ Some z)) [
     | true ↦ λ e. (s, rw e is)
     | false ↦ λ e. (taken_over fresh shared (region_on p page) s, rw e (put_here p (taken_over fresh shared (region_on p page) s)))
   ] refl

@@ -1,24 +1,26 @@
--- The worlds that the service of a fault comes to.
+-- Lemmas for the step `Serve` (and for a page that a kernel copy reaches): the machine is in the model's world (state) if
+-- the page was made resident (`is_served`) or the process has to end by a rule (`is_ending`); and which slot (place in the
+-- process table) is named to be marked as stale, and leaves that stay.
 use Rattle.std.proofs.Common.{◌≡◌, ℕ, ◌+◌, ◌-◌, ◌<◌, ◌≤◌, ◌==◌, ◌⊎◌, Bool, true, false, not, Option, None, Some, List, refl, ap, sym, subst, ◌∙◌, inl, inr, arith, slice_index, is_some}
 use Rattle.std.specs.Prelude.{Ok, Err, IfErr, IfOk, Result, slice_get, slice_set}
 use Rattle.std.specs.FinMap as finite
 use Rattle.std.specs.Vec.{with_item}
 use Rattle.std.proofs.lemmas.Bool.{le-ltb, lt-ltb}
 use Rattle.std.proofs.lemmas.Option.{slice_get_within}
-use Rattle.address_space.specs.Agreement.{IsOn}
-use Rattle.fault_rules.specs.Resides.{gets_frame, is_counted, is_shared_by, IsPlaced}
-use Rattle.frame_store.specs.Laws.{Keeps}
-use Rattle.frame_store.specs.Plain.{Bank, BankRule}
+use Rattle.address_space.specs.Agreement.{IsFrameOfPage}
+use Rattle.fault_rules.specs.MadeResident.{gets_frame, is_counted, is_shared_by, IsOnItsFrame}
+use Rattle.frame_store.specs.Laws.{KeepsSeats}
+use Rattle.frame_store.specs.Plain.{PlainState, PlainStateRule}
 use Rattle.frame_store.specs.Seats.{place_set_back, place_set_same}
 use Rattle.frame_store.specs.View.{IsSole}
-use Rattle.process_model.specs.Around as model
-use Rattle.process_model.specs.Around.{is_shared_page, need_at, Progress, reached, unless_dry, unless_resident, resident_at}
+use Rattle.process_model.specs.Environment as model
+use Rattle.process_model.specs.Environment.{is_shared_page, need_at, Progress, resident_at_address, unless_dry, unless_resident, resident_at}
 use Rattle.process_model.specs.Files.{File}
 use Rattle.process_model.specs.PageMap.{get}
 use Rattle.process_model.specs.Process.{Page, Pending, Process}
-use Rattle.process_model.specs.ReachedPages.{made_settles}
+use Rattle.process_model.specs.ResidenceLaws.{made_settles}
 use Rattle.process_model.specs.Residence.{is_resident, made_resident}
-use Rattle.process_model.specs.Service.{around, begun, is_dry, served, served_or_ended, with_progress}
+use Rattle.process_model.specs.Service.{environment_of, initial_progress, is_dry, served, served_or_ended, with_progress}
 use Rattle.process_model.specs.Stale.{is_changed}
 use Rattle.process_model.specs.World.{free, is_unserved_access, others_have, Outcome, with_process, World}
 use Rattle.process_model.specs.declared.step.Reply.TheVariants.{Ready}
@@ -30,14 +32,14 @@ use Rattle.sv39_entry.specs.declared.rule.Rule.{Rule}
 use Rattle.sv39_entry.specs.declared.rule.Rule.TheVariants.{NoFrame}
 use Rattle.sv39_entry.specs.Schemes.{trapframe_page}
 use Rattle.table_walk.specs.Tables.{leaf_node, Tables}
-use Rattle.hart_machine.specs.Calls.{Follows, IsInKernel, IsKept, IsNew}
+use Rattle.hart_machine.specs.Calls.{Follows, IsInKernel, KeepsPage, IsNew}
 use Rattle.hart_machine.specs.Harts.{hart_of}
 use Rattle.hart_machine.specs.Marks.{AreMarked, slot_if}
-use Rattle.hart_machine.specs.Serving.{HasServed, IsEnding, MustEnd, rule_of, was_served, WhenShared}
-use Rattle.hart_machine.specs.Tenants.{IsTenant, view_of}
-use Rattle.hart_machine.specs.Worlds.{HaveSameLeaves, IsWorld, KeepsTables, Makes}
+use Rattle.hart_machine.specs.ServeEffect.{HasServed, IsEnding, MustEnd, rule_of, was_served, WhenShared}
+use Rattle.hart_machine.specs.SlotProcesses.{IsSlotProcess, view_of}
+use Rattle.hart_machine.specs.Worlds.{HaveSameLeaves, IsWorld, KeepsTables, IsModelOutcome}
 use Rattle.hart_machine.specs.declared.machine.Machine.{Machine}
-use Rattle.hart_machine.specs.declared.tenant.Tenant.{Tenant}
+use Rattle.hart_machine.specs.declared.slot_process.SlotProcess.{SlotProcess}
 use Rattle.hart_machine.proofs.AccessingWorlds.{bytes_change}
 use Rattle.hart_machine.proofs.Following.{call_changes}
 use Rattle.hart_machine.proofs.HartSteps.{tenant_is}
@@ -59,7 +61,7 @@ tells : (ℕ → ℕ) → Option ℕ → Bool
 tells count None = false
 tells count (Some leaf) = not (count (ppn leaf - 0x80000) == 1)
 
-tells_of : (count : ℕ → ℕ) (t : Tables) (page f : ℕ) → IsOn t page f → tells count (finite.get t.leaves (leaf_node page)) ≡ not (count f == 1)
+tells_of : (count : ℕ → ℕ) (t : Tables) (page f : ℕ) → IsFrameOfPage t page f → tells count (finite.get t.leaves (leaf_node page)) ≡ not (count f == 1)
 unfolding tells
 tells_of count t page f on =
     let here : ppn on.0 - 0x80000 ≡ f = (let names = on.2 in omega (arith, names)) in
@@ -79,8 +81,8 @@ other_leaf : (n page : ℕ) → (n ≡ page → ⊥) → leaf_node n ≡ leaf_no
 other_leaf n page apart same = apart (omega (arith, same))
 
 -- a page is made resident for an access, or it can't be: by the service of a fault, or for a copy
-module _ (m : Machine) (w : World) (is : IsWorld m w) (h s : ℕ) (waits : Bool) (k : IsInKernel m w h s waits) (x y : Tenant) (place : slice_get m.slots.items s ≡ Some (Some x))
-    (b : Bank) (keeps : Keeps BankRule m.frames (view_of x) b (view_of y)) (a : Pending) where
+module _ (m : Machine) (w : World) (is : IsWorld m w) (h s : ℕ) (waits : Bool) (k : IsInKernel m w h s waits) (x y : SlotProcess) (place : slice_get m.slots.items s ≡ Some (Some x))
+    (b : PlainState) (keeps : KeepsSeats PlainStateRule m.frames (view_of x) b (view_of y)) (a : Pending) where
   abbrev p : Process
   p = k.process
 
@@ -91,13 +93,13 @@ module _ (m : Machine) (w : World) (is : IsWorld m w) (h s : ℕ) (waits : Bool)
   page = page_of a.address
 
   abbrev shared : Bool
-  shared = is_shared_page (around w s) p page
+  shared = is_shared_page (environment_of w s) p page
 
   abbrev need : ℕ
-  need = need_at (around w s) a.access page p
+  need = need_at (environment_of w s) a.access page p
 
-  tenant : IsTenant x t p
-  tenant = tenant_is m w is s x p place k.in_slot
+  slot_process : IsSlotProcess x t p
+  slot_process = tenant_is m w is s x p place k.in_slot
 
   -- what is said of the frames that it takes holds of the model's number of them
   told_of : (P : ℕ → Type 0) → WhenShared m.frames t p a P → P need
@@ -121,23 +123,23 @@ module _ (m : Machine) (w : World) (is : IsWorld m w) (h s : ℕ) (waits : Bool)
   module _ (rule : Rule) (must : MustEnd y t p a m.frames rule) where
     pub unreached : IsWorld (record m { frames = b; slots = with_item m.slots s (Some y) }) w
     unreached =
-        let after = bytes_change m w is s x y p p place k.in_slot tenant must.tenant b keeps (λ n z there. (z, there, refl)) refl in
+        let after = bytes_change m w is s x y p p place k.in_slot slot_process must.slot_process b keeps (λ n z there. (z, there, refl)) refl in
         subst (λ (v : World). IsWorld (record m { frames = b; slots = with_item m.slots s (Some y) }) v)
         (ap (λ (ps : List (Option Process)). let v : World = record w { slots = ps } in v) (place_set_back w.slots s (Some p) k.in_slot)) after
 
-    reaches : (why : (rule_of p a ≡ Some rule) ⊎ ((rule_of p a ≡ None) × (rule ≡ NoFrame) × WhenShared m.frames t p a (λ n. m.frames.free < n))) → reached (around w s) a.access a.address (begun w p) (rule_of p a) ≡ Err rule
+    reaches : (why : (rule_of p a ≡ Some rule) ⊎ ((rule_of p a ≡ None) × (rule ≡ NoFrame) × WhenShared m.frames t p a (λ n. m.frames.free < n))) → resident_at_address (environment_of w s) a.access a.address (initial_progress w p) (rule_of p a) ≡ Err rule
     unfolding resident_at
-    reaches (inl denied) = ap (reached (around w s) a.access a.address (begun w p)) denied
+    reaches (inl denied) = ap (resident_at_address (environment_of w s) a.access a.address (initial_progress w p)) denied
     reaches (inr short) =
         let few : m.frames.free < need = told_of (λ n. m.frames.free < n) short.2 in
         let all = free_is m w is in
         let dry : is_dry w (0 + need) ≡ true = lt-ltb (free w) (0 + need) (omega (arith, few, all)) in
-        ap (reached (around w s) a.access a.address (begun w p)) short.0 ∙ elim (is_resident p a.access page) as (λ r. is_resident p a.access page ≡ r → unless_resident (around w s) a.access page (begun w p) r ≡ Err rule) [
+        ap (resident_at_address (environment_of w s) a.access a.address (initial_progress w p)) short.0 ∙ elim (is_resident p a.access page) as (λ r. is_resident p a.access page ≡ r → unless_resident (environment_of w s) a.access page (initial_progress w p) r ≡ Err rule) [
           | true ↦ λ e. absurd (let none = resident_needs_none e in omega (arith, few, none))
-          | false ↦ λ _. ap (unless_dry (around w s) a.access page (begun w p) need) dry ∙ ap Err (sym short.1)
+          | false ↦ λ _. ap (unless_dry (environment_of w s) a.access page (initial_progress w p) need) dry ∙ ap Err (sym short.1)
         ] refl
 
-    pub reaches_not : reached (around w s) a.access a.address (begun w p) (rule_of p a) ≡ Err rule
+    pub reaches_not : resident_at_address (environment_of w s) a.access a.address (initial_progress w p) (rule_of p a) ≡ Err rule
     reaches_not = reaches must.why
 
     -- the caller is there as before
@@ -147,7 +149,7 @@ module _ (m : Machine) (w : World) (is : IsWorld m w) (h s : ℕ) (waits : Bool)
       there = k.there;
       in_kernel = k.in_kernel;
       on = k.on;
-      tenant = y;
+      slot_process = y;
       place = place_set_same m.slots.items s (Some y) (slice_get_within m.slots.items s (Some x) place);
       process = p;
       in_slot = k.in_slot;
@@ -165,8 +167,8 @@ module _ (m : Machine) (w : World) (is : IsWorld m w) (h s : ℕ) (waits : Bool)
       go : (o : Option Page) → get p.settled page ≡ o → from_count ≡ shared
       go None e = absurd (let never : is_counted a.access None ≡ true = ap (is_counted a.access) (sym e) ∙ is_read in none_counted a.access never)
       go (Some z) e =
-          let shown = tenant.agrees.stands.shows.settled page z e in
-          let on : IsOn t page shown.frame = (shown.leaf, shown.mapped, shown.made.names) in
+          let shown = slot_process.agrees.stands.shows.settled page z e in
+          let on : IsFrameOfPage t page shown.frame = (shown.leaf, shown.mapped, shown.made.names) in
           let c = is_there has.count (has.resides.counted ∙ is_read) in
           ap is_shared_by c.1 ∙ ap (λ (n : ℕ). not (n == 1)) (has.counts shown.frame c.0 on c.1) ∙ sym (others_have_page m w is s page shown.frame p z k.in_slot e on)
           ∙ ap (λ (o : Option Page). model.is_shared_by (others_have w s) o) (sym e)
@@ -180,7 +182,7 @@ module _ (m : Machine) (w : World) (is : IsWorld m w) (h s : ℕ) (waits : Bool)
     low : page < trapframe_page p.scheme
     low =
         let z = page_there w.counter page m.files from_count p a.access (get p.settled page) refl in
-        let small = (has.tenant w.counter).agrees.stands.shows.low page z.0 z.1 in
+        let small = (has.slot_process w.counter).agrees.stands.shows.low page z.0 z.1 in
         omega (arith, small, ap trapframe_page (made_settles m.files w.counter from_count a.access page p).scheme)
 
     abbrev with_waiting : Process → Process
@@ -190,37 +192,37 @@ module _ (m : Machine) (w : World) (is : IsWorld m w) (h s : ℕ) (waits : Bool)
     gets = gets_frame from_count a.access (get p.settled page)
 
     -- a page that keeps its frame
-    kept_on : (c : Bool) → gets ≡ c → c ≡ false → (z : Page) → get p.settled page ≡ Some z → (f : ℕ) → IsOn has.tables page f → IsOn t page f
+    kept_on : (c : Bool) → gets ≡ c → c ≡ false → (z : Page) → get p.settled page ≡ Some z → (f : ℕ) → IsFrameOfPage has.tables page f → IsFrameOfPage t page f
     kept_on c e off z settled f on =
-        let shown = tenant.agrees.stands.shows.settled page z settled in
-        let was : IsOn t page shown.frame = (shown.leaf, shown.mapped, shown.made.names) in
-        let now : IsOn has.tables page shown.frame = subst (λ (g : Bool). IsPlaced (view_of x) (view_of y) t has.tables page g) (e ∙ off) has.resides.placed shown.frame was in
-        let same : shown.frame ≡ f = one_frame (view_of y) y.space.root.0 y.space.trapframe.0 has.tables _ (has.tenant w.counter).agrees.stands page page shown.frame f now on refl in
-        subst (IsOn t page) same was
+        let shown = slot_process.agrees.stands.shows.settled page z settled in
+        let was : IsFrameOfPage t page shown.frame = (shown.leaf, shown.mapped, shown.made.names) in
+        let now : IsFrameOfPage has.tables page shown.frame = subst (λ (g : Bool). IsOnItsFrame (view_of x) (view_of y) t has.tables page g) (e ∙ off) has.resides.placed shown.frame was in
+        let same : shown.frame ≡ f = one_frame (view_of y) y.space.root.0 y.space.trapframe.0 has.tables _ (has.slot_process w.counter).agrees.stands page page shown.frame f now on refl in
+        subst (IsFrameOfPage t page) same was
 
-    each : (high : ℕ) → (gets ≡ true → w.counter < high) → (n : ℕ) (z : Page) → get fresh_page.settled n ≡ Some z → IsKept t has.tables p n z ⊎ IsNew (view_of y) has.tables w.counter high n z
+    each : (high : ℕ) → (gets ≡ true → w.counter < high) → (n : ℕ) (z : Page) → get fresh_page.settled n ≡ Some z → KeepsPage t has.tables p n z ⊎ IsNew (view_of y) has.tables w.counter high n z
     each high more n z there = elim (page_after w.counter page m.files from_count p a.access (get p.settled page) refl n z there) [
       | inl other ↦ inl (record {
         before = z;
         settled = other.1;
         copy = refl;
         on = λ f on.
-            let small = tenant.agrees.stands.shows.low n z other.1 in
+            let small = slot_process.agrees.stands.shows.low n z other.1 in
             let same = has.resides.others (leaf_node n) (other_leaf n page other.0) in
             (on.0, sym same ∙ on.1, on.2);
       })
       | inr here ↦ go gets refl here.0 here.1
     ] where
-      go : (c : Bool) → gets ≡ c → n ≡ page → CopyIs w.counter page gets z (get p.settled page) → IsKept t has.tables p n z ⊎ IsNew (view_of y) has.tables w.counter high n z
+      go : (c : Bool) → gets ≡ c → n ≡ page → CopyIs w.counter page gets z (get p.settled page) → KeepsPage t has.tables p n z ⊎ IsNew (view_of y) has.tables w.counter high n z
       go true e at copy = inr (
           let fresh : z.copy ≡ w.counter = subst (λ (g : Bool). CopyIs w.counter page g z (get p.settled page)) e copy in
-          let placed = subst (λ (g : Bool). IsPlaced (view_of x) (view_of y) t has.tables page g) e has.resides.placed in
+          let placed = subst (λ (g : Bool). IsOnItsFrame (view_of x) (view_of y) t has.tables page g) e has.resides.placed in
           let above = more e in
           record {
             given = omega (arith, fresh);
             below = omega (arith, fresh, above);
             sole = λ f on.
-                let same : placed.0 ≡ f = one_frame (view_of y) y.space.root.0 y.space.trapframe.0 has.tables _ (has.tenant w.counter).agrees.stands page n placed.0 f placed.1 on (sym at) in
+                let same : placed.0 ≡ f = one_frame (view_of y) y.space.root.0 y.space.trapframe.0 has.tables _ (has.slot_process w.counter).agrees.stands page n placed.0 f placed.1 on (sym at) in
                 subst (IsSole (view_of y)) same placed.3;
           })
       go false e at copy = inl (
@@ -229,7 +231,7 @@ module _ (m : Machine) (w : World) (is : IsWorld m w) (h s : ℕ) (waits : Bool)
             before = own.0;
             settled = ap (get p.settled) at ∙ own.1;
             copy = own.2;
-            on = λ f on. subst (λ (i : ℕ). IsOn t i f) (sym at) (kept_on false e refl own.0 own.1 f (subst (λ (i : ℕ). IsOn has.tables i f) at on));
+            on = λ f on. subst (λ (i : ℕ). IsFrameOfPage t i f) (sym at) (kept_on false e refl own.0 own.1 f (subst (λ (i : ℕ). IsFrameOfPage has.tables i f) at on));
           })
 
     -- a page with a new copy number is the one that was made resident
@@ -250,14 +252,14 @@ module _ (m : Machine) (w : World) (is : IsWorld m w) (h s : ℕ) (waits : Bool)
         → IsWorld (record m { frames = b; slots = with_item m.slots s (Some y) }) (record (with_process w s (with_waiting fresh_page)) { counter = high })
     world_after high order more =
         subst (λ (fs : List File). IsWorld (record m { frames = b; slots = with_item m.slots s (Some y) }) (record (with_process w s (with_waiting fresh_page)) { counter = high; files = fs })) is.files
-        (call_changes m w is s x y p (with_waiting fresh_page) has.tables place k.in_slot (has.tenant w.counter) high (follows high order more) b keeps ((made_settles m.files w.counter from_count a.access page p).scheme ∙ is.schemes s p k.in_slot) m.files)
+        (call_changes m w is s x y p (with_waiting fresh_page) has.tables place k.in_slot (has.slot_process w.counter) high (follows high order more) b keeps ((made_settles m.files w.counter from_count a.access page p).scheme ∙ is.schemes s p k.in_slot) m.files)
 
     -- each page was there, with its copy number, or has a new one
     pub reached_follows : Follows (view_of y) t has.tables p (with_waiting fresh_page) w.counter (w.counter + 1)
     reached_follows = follows (w.counter + 1) (omega arith) (λ _. omega arith)
 
     -- the machine is in the world in which the model has reached it
-    pub is_reached : (g : Progress) × (reached (around w s) a.access a.address (begun w p) (rule_of p a) ≡ Ok g)
+    pub is_reached : (g : Progress) × (resident_at_address (environment_of w s) a.access a.address (initial_progress w p) (rule_of p a) ≡ Ok g)
         × IsWorld (record m { frames = b; slots = with_item m.slots s (Some y) }) (with_progress w s (record g { process = with_waiting g.process })) × (b.free + g.taken ≡ m.frames.free) × (fresh_page ≡ g.process)
     unfolding resident_at
     is_reached =
@@ -265,15 +267,15 @@ module _ (m : Machine) (w : World) (is : IsWorld m w) (h s : ℕ) (waits : Bool)
         let left : b.free ≡ m.frames.free - need = told_of (λ n. b.free ≡ m.frames.free - n) has.free in
         let all = free_is m w is in
         let wet : is_dry w (0 + need) ≡ false = le-ltb (free w) (0 + need) (omega (arith, few, all)) in
-        let allow : (r : Result Progress Rule) → unless_resident (around w s) a.access page (begun w p) (is_resident p a.access page) ≡ r → reached (around w s) a.access a.address (begun w p) (rule_of p a) ≡ r =
-        λ r e. ap (reached (around w s) a.access a.address (begun w p)) has.allowed ∙ e in
-        elim (is_resident p a.access page) as (λ r. is_resident p a.access page ≡ r → (g : Progress) × (reached (around w s) a.access a.address (begun w p) (rule_of p a) ≡ Ok g)
+        let allow : (r : Result Progress Rule) → unless_resident (environment_of w s) a.access page (initial_progress w p) (is_resident p a.access page) ≡ r → resident_at_address (environment_of w s) a.access a.address (initial_progress w p) (rule_of p a) ≡ r =
+        λ r e. ap (resident_at_address (environment_of w s) a.access a.address (initial_progress w p)) has.allowed ∙ e in
+        elim (is_resident p a.access page) as (λ r. is_resident p a.access page ≡ r → (g : Progress) × (resident_at_address (environment_of w s) a.access a.address (initial_progress w p) (rule_of p a) ≡ Ok g)
         × IsWorld (record m { frames = b; slots = with_item m.slots s (Some y) }) (with_progress w s (record g { process = with_waiting g.process })) × (b.free + g.taken ≡ m.frames.free) × (fresh_page ≡ g.process)) [
           | true ↦ λ e.
               let stays = resident_stays w.counter page m.files from_count p a.access (get p.settled page) e in
               let none = resident_needs_none e in (
-                begun w p,
-                allow (Ok (begun w p)) (ap (unless_resident (around w s) a.access page (begun w p)) e),
+                initial_progress w p,
+                allow (Ok (initial_progress w p)) (ap (unless_resident (environment_of w s) a.access page (initial_progress w p)) e),
                 subst (λ (q : Process). IsWorld (record m { frames = b; slots = with_item m.slots s (Some y) }) (record (with_process w s (with_waiting q)) { counter = w.counter })) stays.0
                     (world_after w.counter (omega arith) (λ gained. absurd (let kept = stays.1 in cc))),
                 omega (arith, left, none),
@@ -282,7 +284,7 @@ module _ (m : Machine) (w : World) (is : IsWorld m w) (h s : ℕ) (waits : Bool)
           | false ↦ λ e.
               let g : Progress = record { process = made_resident w.files w.counter shared p a.access page; fresh = w.counter + 1; taken = 0 + need } in (
                 g,
-                allow (Ok g) (ap (unless_resident (around w s) a.access page (begun w p)) e ∙ ap (unless_dry (around w s) a.access page (begun w p) need) wet),
+                allow (Ok g) (ap (unless_resident (environment_of w s) a.access page (initial_progress w p)) e ∙ ap (unless_dry (environment_of w s) a.access page (initial_progress w p) need) wet),
                 subst (λ (q : Process). IsWorld (record m { frames = b; slots = with_item m.slots s (Some y) }) (record (with_process w s (with_waiting q)) { counter = w.counter + 1 })) is_models
                     (world_after (w.counter + 1) (omega arith) (λ _. omega arith)),
                 omega (arith, left, few),
@@ -299,23 +301,23 @@ module _ (m : Machine) (w : World) (is : IsWorld m w) (h s : ℕ) (waits : Bool)
 
     -- where none is another, each page has the leaf that it had
     pub leaves_as_before : y.space.trapframe ≡ x.space.trapframe → is_changed (Some p) (Some (with_waiting fresh_page)) ≡ false → HaveSameLeaves t has.tables
-    leaves_as_before trapframe unchanged = followed_same x y t has.tables p (with_waiting fresh_page) tenant (has.tenant w.counter) unchanged (made_settles m.files w.counter from_count a.access page p).scheme trapframe (made_settles m.files w.counter from_count a.access page p).regions
+    leaves_as_before trapframe unchanged = followed_same x y t has.tables p (with_waiting fresh_page) slot_process (has.slot_process w.counter) unchanged (made_settles m.files w.counter from_count a.access page p).scheme trapframe (made_settles m.files w.counter from_count a.access page p).regions
         w.counter (λ n z there. is.counted s n p z k.in_slot there)
         (old_on (view_of y) t has.tables p (with_waiting fresh_page) w.counter (w.counter + 1) reached_follows)
 
 -- the service of an access that waits
-module _ (m : Machine) (w : World) (is : IsWorld m w) (h s : ℕ) (k : IsInKernel m w h s true) (x y : Tenant) (place : slice_get m.slots.items s ≡ Some (Some x))
-    (b : Bank) (keeps : Keeps BankRule m.frames (view_of x) b (view_of y)) (a : Pending) (waits : (k.process).pending ≡ Some a) where
+module _ (m : Machine) (w : World) (is : IsWorld m w) (h s : ℕ) (k : IsInKernel m w h s true) (x y : SlotProcess) (place : slice_get m.slots.items s ≡ Some (Some x))
+    (b : PlainState) (keeps : KeepsSeats PlainStateRule m.frames (view_of x) b (view_of y)) (a : Pending) (waits : (k.process).pending ≡ Some a) where
   -- it is what the model makes of how far it came
-  serves_by : (r : Result Progress Rule) → reached (around w s) a.access a.address (begun w k.process) (rule_of k.process a) ≡ r
+  serves_by : (r : Result Progress Rule) → resident_at_address (environment_of w s) a.access a.address (initial_progress w k.process) (rule_of k.process a) ≡ r
       → served w h (hart_of k.hart) s k.process (k.process).pending ≡ served_or_ended w h (hart_of k.hart) s k.process a r
   serves_by r e = ap (served w h (hart_of k.hart) s k.process) waits ∙ ap (served_or_ended w h (hart_of k.hart) s k.process a) e
 
   pub is_served : HasServed x y (is.tables s) k.process a (was_served a) m.files m.frames b
-      → Makes (record m { frames = b; slots = with_item m.slots s (Some y) }) Ready (served w h (hart_of k.hart) s k.process (k.process).pending)
+      → IsModelOutcome (record m { frames = b; slots = with_item m.slots s (Some y) }) Ready (served w h (hart_of k.hart) s k.process (k.process).pending)
   is_served has =
       let made = is_reached m w is h s true k x y place b keeps a (was_served a) has in
-      subst (λ (o : Outcome). Makes (record m { frames = b; slots = with_item m.slots s (Some y) }) Ready o) (sym (serves_by (Ok made.0) made.1)) (refl, made.2)
+      subst (λ (o : Outcome). IsModelOutcome (record m { frames = b; slots = with_item m.slots s (Some y) }) Ready o) (sym (serves_by (Ok made.0) made.1)) (refl, made.2)
 
   -- of the slots, it makes one another
   module _ (has : HasServed x y (is.tables s) k.process a (was_served a) m.files m.frames b) where
@@ -336,7 +338,7 @@ module _ (m : Machine) (w : World) (is : IsWorld m w) (h s : ℕ) (k : IsInKerne
         → KeepsTables m (record m { frames = b; slots = with_item m.slots s (Some y) }) w.slots (served w h (hart_of k.hart) s k.process (k.process).pending).world.slots
     keeps_leaves trapframe =
         slot_keeps_by m (record m { frames = b; slots = with_item m.slots s (Some y) }) w.slots _ s x y k.process now_served (is.tables s) has.tables
-        (tenant_is m w is s x k.process place k.in_slot) (has.tenant w.counter) place k.in_slot refl served_sets refl
+        (tenant_is m w is s x k.process place k.in_slot) (has.slot_process w.counter) place k.in_slot refl served_sets refl
         (leaves_as_before m w is h s true k x y place b keeps a (was_served a) has trapframe)
 
   pub is_ending : (rule : Rule) → MustEnd y (is.tables s) k.process a m.frames rule → IsEnding m (record m { frames = b; slots = with_item m.slots s (Some y) }) w h s k rule
@@ -351,34 +353,34 @@ module _ (m : Machine) (w : World) (is : IsWorld m w) (h s : ℕ) (k : IsInKerne
 
 -- by what the process's call told
 
-module _ (m : Machine) (s : ℕ) (x y : Tenant) (place : (w : World) (h : ℕ) → IsInKernel m w h s true → slice_get m.slots.items s ≡ Some (Some x))
-    (b : Bank) (keeps : Keeps BankRule m.frames (view_of x) b (view_of y)) (files : List File) (stay : files ≡ m.files) where
+module _ (m : Machine) (s : ℕ) (x y : SlotProcess) (place : (w : World) (h : ℕ) → IsInKernel m w h s true → slice_get m.slots.items s ≡ Some (Some x))
+    (b : PlainState) (keeps : KeepsSeats PlainStateRule m.frames (view_of x) b (view_of y)) (files : List File) (stay : files ≡ m.files) where
   abbrev after : Machine
   after = record m { frames = b; slots = with_item m.slots s (Some y); files = files }
 
   files_are : (P : Machine → Type 0) → P (record m { frames = b; slots = with_item m.slots s (Some y) }) → P after
   files_are P it = subst (λ (fs : List File). P (record m { frames = b; slots = with_item m.slots s (Some y); files = fs })) (sym stay) it
 
-  pub served_by : (r : Result Bool Rule) → IfOk r (λ _. (t : Tables) (p : Process) (a : Pending) → IsTenant x t p → p.pending ≡ Some a → HasServed x y t p a (was_served a) m.files m.frames b)
-      → IfOk r (λ _. (w : World) (h : ℕ) → IsWorld m w → (k : IsInKernel m w h s true) → Makes after Ready (served w h (hart_of k.hart) s k.process (k.process).pending))
+  pub served_by : (r : Result Bool Rule) → IfOk r (λ _. (t : Tables) (p : Process) (a : Pending) → IsSlotProcess x t p → p.pending ≡ Some a → HasServed x y t p a (was_served a) m.files m.frames b)
+      → IfOk r (λ _. (w : World) (h : ℕ) → IsWorld m w → (k : IsInKernel m w h s true) → IsModelOutcome after Ready (served w h (hart_of k.hart) s k.process (k.process).pending))
   served_by (Err e) told = tt
   served_by (Ok u) told = λ w h is k.
       let a = some_pending (k.process).pending k.unserved in
       let at = place w h k in
-      files_are (λ n. Makes n Ready (served w h (hart_of k.hart) s k.process (k.process).pending))
+      files_are (λ n. IsModelOutcome n Ready (served w h (hart_of k.hart) s k.process (k.process).pending))
       (is_served m w is h s k x y at b keeps a.0 a.1 (told (is.tables s) k.process a.0 (tenant_is m w is s x k.process at k.in_slot) a.1))
 
-  pub marked_by : (r : Result Bool Rule) → IfOk r (λ _. (t : Tables) (p : Process) (a : Pending) → IsTenant x t p → p.pending ≡ Some a → HasServed x y t p a (was_served a) m.files m.frames b)
-      → IfOk r (λ told. (t : Tables) (p : Process) (a : Pending) → IsTenant x t p → p.pending ≡ Some a → told ≡ not (is_resident p a.access (page_of a.address)))
+  pub marked_by : (r : Result Bool Rule) → IfOk r (λ _. (t : Tables) (p : Process) (a : Pending) → IsSlotProcess x t p → p.pending ≡ Some a → HasServed x y t p a (was_served a) m.files m.frames b)
+      → IfOk r (λ told. (t : Tables) (p : Process) (a : Pending) → IsSlotProcess x t p → p.pending ≡ Some a → told ≡ not (is_resident p a.access (page_of a.address)))
       → IfOk r (λ told. (w : World) (h : ℕ) → IsWorld m w → (k : IsInKernel m w h s true) → AreMarked w (served w h (hart_of k.hart) s k.process (k.process).pending) (slot_if s told) None)
   marked_by (Err e) served tells = tt
   marked_by (Ok told) served tells = λ w h is k.
       let a = some_pending (k.process).pending k.unserved in
       let at = place w h k in
-      let tenant = tenant_is m w is s x k.process at k.in_slot in
-      is_marked m w is h s k x y at b keeps a.0 a.1 (served (is.tables s) k.process a.0 tenant a.1) told (tells (is.tables s) k.process a.0 tenant a.1)
+      let slot_process = tenant_is m w is s x k.process at k.in_slot in
+      is_marked m w is h s k x y at b keeps a.0 a.1 (served (is.tables s) k.process a.0 slot_process a.1) told (tells (is.tables s) k.process a.0 slot_process a.1)
 
-  pub tables_by : (r : Result Bool Rule) → IfOk r (λ _. (t : Tables) (p : Process) (a : Pending) → IsTenant x t p → p.pending ≡ Some a → HasServed x y t p a (was_served a) m.files m.frames b)
+  pub tables_by : (r : Result Bool Rule) → IfOk r (λ _. (t : Tables) (p : Process) (a : Pending) → IsSlotProcess x t p → p.pending ≡ Some a → HasServed x y t p a (was_served a) m.files m.frames b)
       → y.space.trapframe ≡ x.space.trapframe
       → IfOk r (λ _. (w : World) (h : ℕ) → IsWorld m w → (k : IsInKernel m w h s true) → KeepsTables m after w.slots (served w h (hart_of k.hart) s k.process (k.process).pending).world.slots)
   tables_by (Err e) told trapframe = tt
@@ -388,7 +390,7 @@ module _ (m : Machine) (s : ℕ) (x y : Tenant) (place : (w : World) (h : ℕ) �
       files_are (λ n. KeepsTables m n w.slots (served w h (hart_of k.hart) s k.process (k.process).pending).world.slots)
       (keeps_leaves m w is h s k x y at b keeps a.0 a.1 (told (is.tables s) k.process a.0 (tenant_is m w is s x k.process at k.in_slot) a.1) trapframe)
 
-  pub ending_by : (r : Result Bool Rule) → IfErr r (λ rule. (t : Tables) (p : Process) (a : Pending) → IsTenant x t p → p.pending ≡ Some a → MustEnd y t p a m.frames rule)
+  pub ending_by : (r : Result Bool Rule) → IfErr r (λ rule. (t : Tables) (p : Process) (a : Pending) → IsSlotProcess x t p → p.pending ≡ Some a → MustEnd y t p a m.frames rule)
       → IfErr r (λ rule. (w : World) (h : ℕ) → IsWorld m w → (k : IsInKernel m w h s true) → IsEnding m after w h s k rule)
   ending_by (Ok u) told = tt
   ending_by (Err rule) told = λ w h is k.

@@ -1,9 +1,10 @@
--- Whether another process has a page: the count of its frame tells.
+-- A lemma (`others_have_page`): another process has a page with the same copy number (which names one copy of a page in
+-- memory) if and only if the count of the page's frame is not 1.
 use Rattle.std.proofs.Common.{◌≡◌, ℕ, zero, suc, ◌==◌, Bool, true, false, not, Option, Some, None, List, [], ◌∷◌, length, refl, ap, sym, ◌∙◌, slice_index, arith}
 use Rattle.std.specs.Prelude.{filter, slice_get, slice_set}
 use Rattle.std.specs.List.{list_any}
 use Rattle.std.proofs.lemmas.Option.{same_Some}
-use Rattle.address_space.specs.Agreement.{IsOn}
+use Rattle.address_space.specs.Agreement.{IsFrameOfPage}
 use Rattle.process_model.specs.Frames.{has_copy, live}
 use Rattle.process_model.specs.PageMap.{get}
 use Rattle.process_model.specs.Process.{Page, Process}
@@ -40,7 +41,7 @@ module _ (P : Process → Bool) where
   ] refl
 
 -- another process has the page exactly where its frame has not one reference
-pub others_have_page : (m : Machine) (w : World) (is : IsWorld m w) (s n f : ℕ) (p : Process) (a : Page) → slice_get w.slots s ≡ Some (Some p) → get p.settled n ≡ Some a → IsOn (is.tables s) n f
+pub others_have_page : (m : Machine) (w : World) (is : IsWorld m w) (s n f : ℕ) (p : Process) (a : Page) → slice_get w.slots s ≡ Some (Some p) → get p.settled n ≡ Some a → IsFrameOfPage (is.tables s) n f
     → others_have w s a.copy ≡ not (slice_index m.frames.counts f == 1)
 others_have_page m w is s n f p a at settled on =
     let own : has_copy a.copy p ≡ true = among_has a.copy p (copy_of_page p n a settled) in

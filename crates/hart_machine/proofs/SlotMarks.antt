@@ -1,4 +1,5 @@
--- The slots that calls name as changed: none where they are refused, else those whose processes they set.
+-- Lemmas: which slots (places in the process table) a call names as changed (`AreMarked`): none if it is refused or a
+-- process ended, the slot whose process it set if its leaves changed, and the slot in which one started or was forked.
 use Rattle.std.proofs.Common.{◌≡◌, ℕ, Bool, true, false, Option, None, Some, List, refl, ap, sym, ◌∙◌, inl, inr}
 use Rattle.std.specs.Prelude.{◌==◌, ◌&&◌, ◌||◌, slice_get, slice_set}
 use Rattle.std.proofs.lemmas.Bool.{cases_eq, eq-eqb, ne_eqb}

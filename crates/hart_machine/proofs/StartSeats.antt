@@ -1,4 +1,6 @@
--- Seats for spaces: the kernel's seat shares frame 0.
+-- Lemmas on the kernel's seat (an owner's capability at a frame store) when processes start and end: each count is below
+-- 65,535, so it can share frame 0; and it still has the kernel's table after it took in a seat that holds frame 0 alone, or
+-- nothing.
 use Rattle.std.proofs.Common.{◌≡◌, ℕ, suc, ◌-◌, ◌<◌, ◌≤◌, IsTrue, Option, None, Some, List, [], ◌∷◌, length, inl, inr, refl, slice_index, ap, sym, ◌∙◌, subst, arith}
 use Rattle.std.specs.FinMap as finite
 use Rattle.std.specs.Ordering.{nat_cmp}
@@ -10,21 +12,21 @@ use Rattle.address_space.specs.Kernel.{HoldsKernel, IsKernelTable}
 use Rattle.address_space.specs.Steps.{IsBare}
 use Rattle.frame_store.specs.Plain.{total_references}
 use Rattle.frame_store.specs.Holds.{hold_of-with_hold_same, hold_of-with_hold_other}
-use Rattle.frame_store.specs.Joins.{hold_of-joined}
+use Rattle.frame_store.specs.ViewJoin.{hold_of-joined}
 use Rattle.frame_store.specs.Laws.{IsAnchored}
 use Rattle.frame_store.specs.View.{Hold, View, hold_of, joined, references, released, with_hold}
-use Rattle.hart_machine.specs.Tenants.{view_of}
-use Rattle.hart_machine.specs.Worlds.{IsPlace, IsWorld, seats_of}
+use Rattle.hart_machine.specs.SlotProcesses.{view_of}
+use Rattle.hart_machine.specs.Worlds.{IsSlotContent, IsWorld, seats_of}
 use Rattle.hart_machine.specs.declared.machine.Machine.{Machine}
-use Rattle.hart_machine.specs.declared.tenant.Tenant.{Tenant}
+use Rattle.hart_machine.specs.declared.slot_process.SlotProcess.{SlotProcess}
 use Rattle.process_model.specs.Process.{Process}
 use Rattle.process_model.specs.World.{World}
 use Rattle.table_walk.specs.Tables.{Tables}
-use Rattle.table_walk.specs.Same.{same_tables}
+use Rattle.table_walk.specs.SameFrames.{same_tables}
 use Rattle.sv39_entry.specs.declared.scheme.Scheme.{Scheme}
 
 -- a process names no frame twice
-names_once : (f : ℕ) (o : Option (Option Tenant)) (q : Option (Option Process)) (t : Tables) (x : Tenant) → o ≡ Some (Some x) → IsPlace o q t → references (view_of x) f ≤ 1
+names_once : (f : ℕ) (o : Option (Option SlotProcess)) (q : Option (Option Process)) (t : Tables) (x : SlotProcess) → o ≡ Some (Some x) → IsSlotContent o q t → references (view_of x) f ≤ 1
 names_once f None q t x is place = absurd (cc)
 names_once f (Some None) q t x is place = absurd (cc)
 names_once f (Some (Some y)) None t x is place = absurd place
@@ -37,9 +39,9 @@ names_once f (Some (Some y)) (Some (Some p)) t x is place =
           absurd (omega (arith, none, more)))
       | inr few ↦ few
     ] in
-    subst (λ (z : Tenant). references (view_of z) f ≤ 1) (same_Some _ _ (same_Some _ _ is)) here
+    subst (λ (z : SlotProcess). references (view_of z) f ≤ 1) (same_Some _ _ (same_Some _ _ is)) here
 
-seats_total : (f : ℕ) (places : List (Option Tenant)) → ((i : ℕ) (x : Tenant) → slice_get places i ≡ Some (Some x) → references (view_of x) f ≤ 1)
+seats_total : (f : ℕ) (places : List (Option SlotProcess)) → ((i : ℕ) (x : SlotProcess) → slice_get places i ≡ Some (Some x) → references (view_of x) f ≤ 1)
     → total_references f (seats_of places) ≤ length places
 seats_total f [] once = omega arith
 seats_total f (None ∷ places) once = let rest = seats_total f places (λ i x at. once (suc i) x at) in omega (arith, rest)
@@ -61,7 +63,7 @@ kernel_once f v stacks tables h = elim (cases_lt 1 (references v f)) [
 ]
 
 -- places of both have one number
-as_many : (o : Option (Option Tenant)) (q : Option (Option Process)) (t : Tables) (a : Option Tenant) → o ≡ Some a → IsPlace o q t → q ≡ None → ⊥
+as_many : (o : Option (Option SlotProcess)) (q : Option (Option Process)) (t : Tables) (a : Option SlotProcess) → o ≡ Some a → IsSlotContent o q t → q ≡ None → ⊥
 as_many None q t a is place none = absurd (cc)
 as_many (Some None) None t a is place none = place
 as_many (Some (Some x)) None t a is place none = place

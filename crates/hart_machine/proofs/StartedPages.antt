@@ -1,4 +1,5 @@
--- The pages of a process that starts, with copy numbers in a row, and each on a frame of its own.
+-- Lemmas on the pages of a process that starts: their copy numbers (each names one copy of a page in memory) are at least
+-- the counter and all different, and each page is on a frame of its own, not on frame 0.
 use Rattle.std.proofs.Common.{◌≡◌, ℕ, suc, ◌+◌, ◌<◌, ◌≤◌, ◌⊎◌, cond, false, ap, sym, subst, ◌∙◌, arith, inl, inr, List, [], ◌∷◌, map, length, Some, refl}
 use Rattle.std.specs.Prelude.{slice_get}
 use Rattle.std.specs.Cmp.{nat_cmp_total, unsigned_tied}
@@ -8,10 +9,10 @@ use Rattle.std.specs.Ordering.{nat_cmp}
 use Rattle.std.proofs.lemmas.Bool.{cases_eq, eq-eqb, ne_eqb}
 use Rattle.std.proofs.lemmas.List.{length-map}
 use Rattle.std.proofs.lemmas.Option.{same_Some, slice_get_within}
-use Rattle.address_space.specs.Agreement.{IsOn, Names, nothing, Stands}
+use Rattle.address_space.specs.Agreement.{IsFrameOfPage, NamesFrame, no_extra, IsInMemory}
 use Rattle.frame_store.specs.View.{View}
 use Rattle.process_model.specs.Images.{LoadSegment}
-use Rattle.process_model.specs.Loading.{image_pages, numbered, process_of}
+use Rattle.process_model.specs.ImageProcess.{image_pages, numbered, process_of}
 use Rattle.process_model.specs.PageMap.{PageMap, from_list, get, insert}
 use Rattle.process_model.specs.Process.{Page, Process}
 use Rattle.sv39_entry.specs.Frame.{ppn_of}
@@ -71,20 +72,20 @@ module _ (scheme : Scheme) (fresh : ℕ) (ls : List LoadSegment) where
 
 -- frames
 
-module _ (v : View) (root trapframe : ℕ) (t : Tables) (p : Process) (stands : Stands v root trapframe nothing t p) where
-  on_names : (n f : ℕ) → IsOn t n f → Names t f (leaf_node n)
+module _ (v : View) (root trapframe : ℕ) (t : Tables) (p : Process) (stands : IsInMemory v root trapframe no_extra t p) where
+  on_names : (n f : ℕ) → IsFrameOfPage t n f → NamesFrame t f (leaf_node n)
   on_names n f on = inr (on.0, on.1, on.2)
 
   -- a frame is one page's alone
-  pub one_page : (m n f g : ℕ) (a b : Page) → get p.settled m ≡ Some a → get p.settled n ≡ Some b → IsOn t m f → IsOn t n g → f ≡ g → m ≡ n
+  pub one_page : (m n f g : ℕ) (a b : Page) → get p.settled m ≡ Some a → get p.settled n ≡ Some b → IsFrameOfPage t m f → IsFrameOfPage t n g → f ≡ g → m ≡ n
   one_page m n f g a b at also on upon same =
-      let one = stands.owns.once f (leaf_node m) (leaf_node n) (on_names m f on) (subst (λ h. Names t h (leaf_node n)) (sym same) (on_names n g upon)) in
+      let one = stands.owns.once f (leaf_node m) (leaf_node n) (on_names m f on) (subst (λ h. NamesFrame t h (leaf_node n)) (sym same) (on_names n g upon)) in
       let low = stands.shows.low m a at in
       let lower = stands.shows.low n b also in
       omega (arith, one, low, lower)
 
   -- and not that of the trampoline
-  pub page_no_code : (n f : ℕ) (a : Page) → get p.settled n ≡ Some a → IsOn t n f → f ≡ 0 → ⊥
+  pub page_no_code : (n f : ℕ) (a : Page) → get p.settled n ≡ Some a → IsFrameOfPage t n f → f ≡ 0 → ⊥
   page_no_code n f a at on code_frame =
       let code = stands.shows.on_trampoline in
       let one = stands.owns.once f (leaf_node n) (leaf_node (trampoline_page p.scheme)) (on_names n f on) (inr (code.0, code.1, code.2.names ∙ ap ppn_of (sym code_frame))) in
@@ -92,7 +93,7 @@ module _ (v : View) (root trapframe : ℕ) (t : Tables) (p : Process) (stands : 
       omega (arith, one, low, of_scheme p.scheme)
 
   -- a page is on one frame
-  pub one_frame : (m n f g : ℕ) → IsOn t m f → IsOn t n g → m ≡ n → f ≡ g
+  pub one_frame : (m n f g : ℕ) → IsFrameOfPage t m f → IsFrameOfPage t n g → m ≡ n → f ≡ g
   one_frame m n f g on upon same =
       let word : on.0 ≡ upon.0 = same_Some _ _ (sym on.1 ∙ ap (λ k. finite.get t.leaves (leaf_node k)) same ∙ upon.1) in
       let number : ppn_of f ≡ ppn_of g = sym on.2 ∙ ap ppn word ∙ upon.2 in

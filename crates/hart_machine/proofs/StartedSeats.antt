@@ -1,4 +1,5 @@
--- The seats of a machine while a process starts: the kernel's first, then that of the new process, and those of the others.
+-- Lemmas on the seats (an owner's capability at a frame store) of a machine while a process starts: the kernel's, from which
+-- the new one is opened with frame 0, and the others'; and the new one becomes that of the process in an empty slot.
 use Rattle.std.proofs.Common.{◌≡◌, ℕ, ◌^◌, ◌<◌, ◌≤◌, inl, inr, false, refl, ap, ◌∙◌, arith, List, [], ◌∷◌, Option, None, Some, zero, suc, slice_index}
 use Rattle.std.specs.Prelude.{slice_get, slice_set}
 use Rattle.std.proofs.lemmas.Bool.{cases_lt}
@@ -6,16 +7,16 @@ use Rattle.std.proofs.lemmas.List.{get_or_past}
 use Rattle.std.proofs.lemmas.Option.{same_Some}
 use Rattle.address_space.specs.Agreement.{HoldsTrampoline}
 use Rattle.address_space.specs.Kernel.{IsKernelTable}
-use Rattle.frame_store.specs.Opened.{opened, opener}
+use Rattle.frame_store.specs.SeatOpening.{opened, opener}
 use Rattle.frame_store.specs.Holds.{hold_of-empty, hold_of-with_hold_other, hold_of-with_hold_same}
-use Rattle.frame_store.specs.Laws.{Fits, Keeps}
-use Rattle.frame_store.specs.Plain.{Agrees, Bank, BankRule, to_back, to_front, total_references}
+use Rattle.frame_store.specs.Laws.{IsSeatOf, KeepsSeats}
+use Rattle.frame_store.specs.Plain.{Agrees, PlainState, PlainStateRule, to_back, to_front, total_references}
 use Rattle.frame_store.specs.Seats.{place_in}
 use Rattle.frame_store.specs.View.{empty_view, Hold, hold_of, IsSole, opening_view, references, sole_hold, View}
-use Rattle.hart_machine.specs.Tenants.{view_of}
+use Rattle.hart_machine.specs.SlotProcesses.{view_of}
 use Rattle.hart_machine.specs.Worlds.{seats_of}
 use Rattle.hart_machine.specs.declared.machine.Machine.{Machine}
-use Rattle.hart_machine.specs.declared.tenant.Tenant.{Tenant}
+use Rattle.hart_machine.specs.declared.slot_process.SlotProcess.{SlotProcess}
 use Rattle.hart_machine.proofs.AccessingWorlds.{Holds, holds_back}
 use Rattle.hart_machine.proofs.StartSeats.{kernel_kept}
 use Rattle.table_walk.specs.Tables.{Tables}
@@ -57,30 +58,30 @@ module _ (m n : Machine) (opens : n.kernel ≡ record m.kernel { seat = opener m
   open_kernel frames slots stacks t k = rw opens (opener_kernel m.kernel.seat m.kernel.scheme m.kernel.root.0 frames slots stacks t k)
 
 -- the seat behind the kernel's steps
-pub second_steps : (b c : Bank) (k v w : View) (others : List View) → Keeps BankRule b v c w → BankRule b (k ∷ v ∷ others) → BankRule c (k ∷ w ∷ others)
+pub second_steps : (b c : PlainState) (k v w : View) (others : List View) → KeepsSeats PlainStateRule b v c w → PlainStateRule b (k ∷ v ∷ others) → PlainStateRule c (k ∷ w ∷ others)
 second_steps b c k v w others keeps rule = to_back c.words c.counts c.free (k ∷ []) w others (keeps (k ∷ others) (to_front b.words b.counts b.free (k ∷ []) v others rule))
 
-pub second_fits : (b : Bank) (k v : View) (others : List View) → BankRule b (k ∷ v ∷ others) → Fits BankRule b v
+pub second_fits : (b : PlainState) (k v : View) (others : List View) → PlainStateRule b (k ∷ v ∷ others) → IsSeatOf PlainStateRule b v
 second_fits b k v others rule = (k ∷ others, to_front b.words b.counts b.free (k ∷ []) v others rule)
 
 -- the seat behind the kernel's goes to an empty place
-pub seat_comes : (b : Bank) (k : View) (places : List (Option Tenant)) (s : ℕ) (y : Tenant) → slice_get places s ≡ Some None → BankRule b (k ∷ view_of y ∷ seats_of places)
-    → BankRule b (k ∷ seats_of (slice_set places s (Some y)))
+pub seat_comes : (b : PlainState) (k : View) (places : List (Option SlotProcess)) (s : ℕ) (y : SlotProcess) → slice_get places s ≡ Some None → PlainStateRule b (k ∷ view_of y ∷ seats_of places)
+    → PlainStateRule b (k ∷ seats_of (slice_set places s (Some y)))
 seat_comes b k places s y at rule = place_in (Holds b k) places s (holds_back b k) y at rule
 
 -- references of one process are among all
-among_all : (f : ℕ) (places : List (Option Tenant)) (j : ℕ) (z : Tenant) → slice_get places j ≡ Some (Some z) → references (view_of z) f ≤ total_references f (seats_of places)
+among_all : (f : ℕ) (places : List (Option SlotProcess)) (j : ℕ) (z : SlotProcess) → slice_get places j ≡ Some (Some z) → references (view_of z) f ≤ total_references f (seats_of places)
 among_all f [] j z at = absurd (cc)
 among_all f (None ∷ places) zero z at = absurd (cc)
 among_all f (None ∷ places) (suc j) z at = among_all f places j z at
 among_all f (Some x ∷ places) zero z at =
-    let here : references (view_of x) f ≡ references (view_of z) f = ap (λ (y : Tenant). references (view_of y) f) (same_Some x z (same_Some _ _ at)) in
+    let here : references (view_of x) f ≡ references (view_of z) f = ap (λ (y : SlotProcess). references (view_of y) f) (same_Some x z (same_Some _ _ at)) in
     omega (arith, here)
 among_all f (Some x ∷ places) (suc j) z at = let rest = among_all f places j z at in omega (arith, rest)
 
-module _ (b : Bank) (k v : View) (places : List (Option Tenant)) (rule : BankRule b (k ∷ v ∷ seats_of places)) where
+module _ (b : PlainState) (k v : View) (places : List (Option SlotProcess)) (rule : PlainStateRule b (k ∷ v ∷ seats_of places)) where
   -- a frame that the new seat holds alone no other process has
-  pub sole_apart : (f j : ℕ) (z : Tenant) → IsSole v f → slice_get places j ≡ Some (Some z) → references (view_of z) f ≡ 0
+  pub sole_apart : (f j : ℕ) (z : SlotProcess) → IsSole v f → slice_get places j ≡ Some (Some z) → references (view_of z) f ≡ 0
   sole_apart f j z sole at =
       let agrees : Agrees b.words b.counts v = rule.agrees.1.0 in
       let whole = (agrees f).sole sole in

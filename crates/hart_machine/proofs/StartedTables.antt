@@ -1,4 +1,5 @@
--- The tables of each slot, where a process starts in one.
+-- `tables_with`, a function: the page tables of each slot (place in the process table) with those of one slot replaced; and
+-- two lemmas on it.
 use Rattle.std.proofs.Common.{◌≡◌, ℕ, ◌==◌, cond, ap}
 use Rattle.std.proofs.lemmas.Bool.{eq-eqb, ne_eqb}
 use Rattle.table_walk.specs.Tables.{Tables}

@@ -1,4 +1,5 @@
--- The world in which a process starts, and the one that refuses it.
+-- Lemmas for the step `Start`: the machine is in the model's world (state) with the new process (`starts`), or refused in
+-- the one that it was in (`stays`), with the reply of the model (`makes_started`, `makes_refused`).
 use Rattle.std.proofs.Common.{◌≡◌, ℕ, ◌≤◌, true, false, ap, sym, subst, ◌∙◌, refl, arith, inl, inr, List, ◌∷◌, Option, None, Some, length}
 use Rattle.std.specs.Prelude.{Ok, slice_get, slice_set}
 use Rattle.std.proofs.Math.Nat.{lt_of_not-le}
@@ -8,12 +9,12 @@ use Rattle.std.proofs.lemmas.Option.{slice_get_within}
 use Rattle.address_space.specs.Agreement.{IsSpace}
 use Rattle.address_space.specs.Kernel.{IsKernelTable}
 use Rattle.address_space.specs.Parts.{OwnsAlone}
-use Rattle.frame_store.specs.Plain.{BankRule}
+use Rattle.frame_store.specs.Plain.{PlainStateRule}
 use Rattle.frame_store.specs.Seats.{place_set_other, place_set_same, places_apart}
 use Rattle.process_model.specs.Calls.{started, started_unless, with_image}
 use Rattle.process_model.specs.Frames.{start_need}
 use Rattle.process_model.specs.Images.{image_loads, LoadSegment}
-use Rattle.process_model.specs.Loading.{process_of}
+use Rattle.process_model.specs.ImageProcess.{process_of}
 use Rattle.process_model.specs.Service.{is_dry}
 use Rattle.process_model.specs.World.{free, free_slot, Outcome, refuses, World}
 use Rattle.process_model.specs.declared.image.Image as model
@@ -21,12 +22,12 @@ use Rattle.process_model.specs.declared.step.Refusal.TheVariants.{NoFrame}
 use Rattle.process_model.specs.declared.step.Reply.TheVariants.{Refused, Started}
 use Rattle.process_model.specs.Process.{Process}
 use Rattle.table_walk.specs.Tables.{Tables, leaf_node}
-use Rattle.hart_machine.specs.Tenants.{IsTenant, body_in, view_of}
+use Rattle.hart_machine.specs.SlotProcesses.{IsSlotProcess, body_in, view_of}
 use Rattle.hart_machine.specs.Slots.{most_slots}
-use Rattle.hart_machine.specs.Worlds.{IsPlace, IsWorld, Makes, seats_of}
+use Rattle.hart_machine.specs.Worlds.{IsSlotContent, IsWorld, IsModelOutcome, seats_of}
 use Rattle.hart_machine.specs.declared.hart.Hart.{Hart}
 use Rattle.hart_machine.specs.declared.machine.Machine.{Machine}
-use Rattle.hart_machine.specs.declared.tenant.Tenant.{Tenant}
+use Rattle.hart_machine.specs.declared.slot_process.SlotProcess.{SlotProcess}
 use Rattle.hart_machine.proofs.HeldFrames.{free_is}
 use Rattle.hart_machine.proofs.StartSlots.{free_is_empty, free_place}
 use Rattle.hart_machine.proofs.StartedCopies.{started_copies, started_counted, new_or_old}
@@ -36,16 +37,16 @@ use Rattle.hart_machine.proofs.StartedPages.{loaded_scheme}
 use Rattle.sv39_entry.specs.Schemes.{trapframe_page}
 
 module _ (m n : Machine) (w : World) (is : IsWorld m w) (s : ℕ) (place : slice_get m.slots.items s ≡ Some None) (at : slice_get w.slots s ≡ Some None)
-    (ls : List LoadSegment) (y : Tenant) (t : Tables) (sized : n.kernel.seat.size ≡ m.kernel.seat.size) (slots : n.slots.items ≡ slice_set m.slots.items s (Some y)) (harts : n.harts ≡ m.harts) (filed : n.files ≡ m.files) (ruled : n.policy ≡ m.policy) (schemed : n.kernel.scheme ≡ m.kernel.scheme)
+    (ls : List LoadSegment) (y : SlotProcess) (t : Tables) (sized : n.kernel.seat.size ≡ m.kernel.seat.size) (slots : n.slots.items ≡ slice_set m.slots.items s (Some y)) (harts : n.harts ≡ m.harts) (filed : n.files ≡ m.files) (ruled : n.policy ≡ m.policy) (schemed : n.kernel.scheme ≡ m.kernel.scheme)
     (agrees : IsSpace (body_in y) t (process_of w.scheme w.counter ls)) (alone : OwnsAlone (view_of y) t) (pending : y.pending ≡ None)
-    (rule : BankRule n.frames (n.kernel.seat ∷ view_of y ∷ seats_of m.slots.items))
+    (rule : PlainStateRule n.frames (n.kernel.seat ∷ view_of y ∷ seats_of m.slots.items))
     (table : IsKernelTable n.kernel.scheme n.kernel.seat n.kernel.root.0 w.frames (length w.slots) is.stacks is.kernel) where
   abbrev tables : ℕ → Tables
   tables = tables_with is.tables s t
 
-  tenant : IsTenant y t (process_of w.scheme w.counter ls)
+  slot_process : IsSlotProcess y t (process_of w.scheme w.counter ls)
   unfolding process_of
-  tenant = record {
+  slot_process = record {
     agrees = agrees;
     framed =
         let leaf = agrees.stands.shows.on_trapframe in
@@ -54,9 +55,9 @@ module _ (m n : Machine) (w : World) (is : IsWorld m w) (s : ℕ) (place : slice
     wide = tt;
   }
 
-  places_at : (k : ℕ) → IsPlace (slice_get (slice_set m.slots.items s (Some y)) k) (slice_get (slice_set w.slots s (Some (process_of w.scheme w.counter ls))) k) (tables k)
+  places_at : (k : ℕ) → IsSlotContent (slice_get (slice_set m.slots.items s (Some y)) k) (slice_get (slice_set w.slots s (Some (process_of w.scheme w.counter ls))) k) (tables k)
   places_at k = elim (cases_eq k s) [
-    | inl same ↦ rw (tables_here is.tables s t k same, same, place_set_same m.slots.items s (Some y) (slice_get_within m.slots.items s None place), place_set_same w.slots s (Some (process_of w.scheme w.counter ls)) (slice_get_within w.slots s None at)) tenant
+    | inl same ↦ rw (tables_here is.tables s t k same, same, place_set_same m.slots.items s (Some y) (slice_get_within m.slots.items s None place), place_set_same w.slots s (Some (process_of w.scheme w.counter ls)) (slice_get_within w.slots s None at)) slot_process
     | inr apart ↦ rw (tables_there is.tables s t k apart, place_set_other m.slots.items s k (Some y) apart, place_set_other w.slots s k (Some (process_of w.scheme w.counter ls)) apart) (is.places k)
   ]
 
@@ -67,7 +68,7 @@ module _ (m n : Machine) (w : World) (is : IsWorld m w) (s : ℕ) (place : slice
   apart_of : (h k : ℕ) (x : Hart) → slice_get m.harts.items h ≡ Some x → x.slot ≡ Some k → k ≡ s → ⊥
   apart_of h k x on slot same = let z = is.hosted h k x on slot in places_apart m.slots.items k s z.0 z.1 place (sym same)
 
-  hosted_at : (h k : ℕ) (x : Hart) → slice_get m.harts.items h ≡ Some x → x.slot ≡ Some k → (z : Tenant) × (slice_get (slice_set m.slots.items s (Some y)) k ≡ Some (Some z))
+  hosted_at : (h k : ℕ) (x : Hart) → slice_get m.harts.items h ≡ Some x → x.slot ≡ Some k → (z : SlotProcess) × (slice_get (slice_set m.slots.items s (Some y)) k ≡ Some (Some z))
   hosted_at h k x on slot = let z = is.hosted h k x on slot in (z.0, place_set_other m.slots.items s k (Some y) (apart_of h k x on slot) ∙ z.1)
 
   pub starts : IsWorld n (with_image w s ls)
@@ -83,21 +84,21 @@ module _ (m n : Machine) (w : World) (is : IsWorld m w) (s : ℕ) (place : slice
     ];
     few = subst (λ k. k ≤ most_slots) (sym (length-set w.slots s (Some (process_of w.scheme w.counter ls)))) is.few;
     frames = sized ∙ is.frames;
-    rule = subst (λ (xs : List (Option Tenant)). BankRule n.frames (n.kernel.seat ∷ seats_of xs)) (sym slots) (seat_comes n.frames n.kernel.seat m.slots.items s y place rule);
+    rule = subst (λ (xs : List (Option SlotProcess)). PlainStateRule n.frames (n.kernel.seat ∷ seats_of xs)) (sym slots) (seat_comes n.frames n.kernel.seat m.slots.items s y place rule);
     of_kernel = subst (λ k. IsKernelTable n.kernel.scheme n.kernel.seat n.kernel.root.0 w.frames k is.stacks is.kernel) (sym (length-set w.slots s (Some (process_of w.scheme w.counter ls)))) table;
-    places = λ k. subst (λ (xs : List (Option Tenant)). IsPlace (slice_get xs k) (slice_get (slice_set w.slots s (Some (process_of w.scheme w.counter ls))) k) (tables k)) (sym slots) (places_at k);
+    places = λ k. subst (λ (xs : List (Option SlotProcess)). IsSlotContent (slice_get xs k) (slice_get (slice_set w.slots s (Some (process_of w.scheme w.counter ls))) k) (tables k)) (sym slots) (places_at k);
     copies = started_copies m w is s at ls n.frames n.kernel.seat (view_of y) rule y.space.root.0 y.space.trapframe.0 t agrees.stands alone;
     counted = started_counted m w is s at ls;
     files = filed ∙ is.files;
     harts = rw harts is.harts;
-    hosted = λ h k x on slot. subst (λ (xs : List (Option Tenant)). (z : Tenant) × (slice_get xs k ≡ Some (Some z))) (sym slots) (hosted_at h k x (on_old h x on) slot);
+    hosted = λ h k x on slot. subst (λ (xs : List (Option SlotProcess)). (z : SlotProcess) × (slice_get xs k ≡ Some (Some z))) (sym slots) (hosted_at h k x (on_old h x on) slot);
     alone = λ s h k x z on also at upon. is.alone s h k x z (on_old h x on) (on_old k z also) at upon;
     idle = λ h x on none. is.idle h x (on_old h x on) none;
     local = λ h x e on. is.local h x e (on_old h x on);
   }
 
 -- the machine as it was, with another seat of the kernel
-module _ (m n : Machine) (w : World) (is : IsWorld m w) (sized : n.kernel.seat.size ≡ m.kernel.seat.size) (slots : n.slots ≡ m.slots) (harts : n.harts ≡ m.harts) (filed : n.files ≡ m.files) (ruled : n.policy ≡ m.policy) (schemed : n.kernel.scheme ≡ m.kernel.scheme) (rule : BankRule n.frames (n.kernel.seat ∷ seats_of m.slots.items))
+module _ (m n : Machine) (w : World) (is : IsWorld m w) (sized : n.kernel.seat.size ≡ m.kernel.seat.size) (slots : n.slots ≡ m.slots) (harts : n.harts ≡ m.harts) (filed : n.files ≡ m.files) (ruled : n.policy ≡ m.policy) (schemed : n.kernel.scheme ≡ m.kernel.scheme) (rule : PlainStateRule n.frames (n.kernel.seat ∷ seats_of m.slots.items))
     (table : IsKernelTable n.kernel.scheme n.kernel.seat n.kernel.root.0 w.frames (length w.slots) is.stacks is.kernel) where
   pub stays : IsWorld n w
   stays = record {
@@ -133,23 +134,23 @@ module _ (w : World) (s : ℕ) (image : model.Image) (ls : List LoadSegment) (to
   module _ (m n : Machine) (is : IsWorld m w) (sized : n.kernel.seat.size ≡ m.kernel.seat.size) (harts : n.harts ≡ m.harts) (filed : n.files ≡ m.files) (ruled : n.policy ≡ m.policy) (schemed : n.kernel.scheme ≡ m.kernel.scheme)
       (table : IsKernelTable n.kernel.scheme n.kernel.seat n.kernel.root.0 w.frames (length w.slots) is.stacks is.kernel) where
     -- enough frames are free
-    pub makes_started : (y : Tenant) (t : Tables) → n.slots.items ≡ slice_set m.slots.items s (Some y)
+    pub makes_started : (y : SlotProcess) (t : Tables) → n.slots.items ≡ slice_set m.slots.items s (Some y)
         → IsSpace (body_in y) t (process_of w.scheme w.counter ls) → OwnsAlone (view_of y) t → y.pending ≡ None
-        → BankRule n.frames (n.kernel.seat ∷ view_of y ∷ seats_of m.slots.items) → start_need w.scheme ls ≤ m.frames.free
-        → Makes n (Started s) (started w (image_loads w.scheme image) (free_slot w))
+        → PlainStateRule n.frames (n.kernel.seat ∷ view_of y ∷ seats_of m.slots.items) → start_need w.scheme ls ≤ m.frames.free
+        → IsModelOutcome n (Started s) (started w (image_loads w.scheme image) (free_slot w))
     makes_started y t slots agrees alone pending rule enough =
         let was = free_is m w is in
         let wet : is_dry w (start_need w.scheme ls) ≡ false = le-ltb (free w) (start_need w.scheme ls) (omega (arith, enough, was)) in
-        subst (λ (o : Outcome). Makes n (Started s) o) (sym (started_wet wet))
+        subst (λ (o : Outcome). IsModelOutcome n (Started s) o) (sym (started_wet wet))
         (refl, starts m n w is s (free_place m w is s to) (free_is_empty w s to) ls y t sized slots harts filed ruled schemed agrees alone pending rule table)
 
     -- too few are
-    pub makes_refused : n.slots ≡ m.slots → BankRule n.frames (n.kernel.seat ∷ seats_of m.slots.items) → (start_need w.scheme ls ≤ m.frames.free → ⊥)
-        → Makes n (Refused NoFrame) (started w (image_loads w.scheme image) (free_slot w))
+    pub makes_refused : n.slots ≡ m.slots → PlainStateRule n.frames (n.kernel.seat ∷ seats_of m.slots.items) → (start_need w.scheme ls ≤ m.frames.free → ⊥)
+        → IsModelOutcome n (Refused NoFrame) (started w (image_loads w.scheme image) (free_slot w))
     makes_refused slots rule few =
         let was = free_is m w is in
         let dry : is_dry w (start_need w.scheme ls) ≡ true = lt-ltb (free w) (start_need w.scheme ls) (lt_of_not-le (λ le. few (omega (arith, was, le)))) in
-        subst (λ (o : Outcome). Makes n (Refused NoFrame) o) (sym (started_dry dry)) (refl, stays m n w is sized slots harts filed ruled schemed rule table)
+        subst (λ (o : Outcome). IsModelOutcome n (Refused NoFrame) o) (sym (started_dry dry)) (refl, stays m n w is sized slots harts filed ruled schemed rule table)
 
   module _ (m : Machine) (is : IsWorld m w) where
     pub start_sets : start_need w.scheme ls ≤ m.frames.free → ((started w (image_loads w.scheme image) (free_slot w)).world).slots ≡ slice_set w.slots s (Some (process_of w.scheme w.counter ls))

@@ -1,9 +1,11 @@
--- What steps do to harts and slots, whatever they answer: how a hart goes on, which marks it keeps, and whose pages may change.
+-- Lemmas on every step of the model, whatever it replies: how phase, slot (place in the process table) and stale marks of
+-- each hart may change (`harts_go`), which steps change no leaf (`quiet_slots`), and that leaves change only for a process
+-- of a hart in phase `Kernel` (`changed_in_kernel`).
 use Rattle.std.proofs.Common.{◌≡◌, ◌⊎◌, ℕ, zero, suc, Bool, true, false, not, ◌+◌, ◌≤◌, inl, inr, refl, ap, sym, subst, ◌∙◌, arith, List, [], ◌∷◌, Option, None, Some, Result, Ok, Err, ℤ}
 use Rattle.std.specs.Prelude.{is_some, slice_get, slice_set, unwrap_or, ◌&&◌}
 use Rattle.std.proofs.lemmas.Bool.{and_parts, cases_eq, true≢false}
 use Rattle.std.proofs.lemmas.Option.{same_Some}
-use Rattle.process_model.specs.Around.{Progress}
+use Rattle.process_model.specs.Environment.{Progress}
 use Rattle.process_model.specs.Bytes.{first_true, is_width}
 use Rattle.process_model.specs.Calls.{forked, forked_unless, mapped_to, replaced, replaced_unless, resized_to, started, started_unless, unmapped_to}
 use Rattle.process_model.specs.Harts.{Hart, cleaned_at, cleaned_for, cleaned_if, emptied_if, fenced, is_kernel, is_user, may_switch, next_phase, phase_for}
@@ -14,7 +16,7 @@ use Rattle.hart_machine.proofs.ChangedSlots.{changed, same_settled}
 use Rattle.hart_machine.specs.Marks.{changed_at}
 use Rattle.process_model.specs.Process.{Pending, Process, without_pending}
 use Rattle.process_model.specs.Residence.{child_of, marked}
-use Rattle.process_model.specs.Service.{Answer, Asked, access_step, served, served_or_ended, told_if, user_access}
+use Rattle.process_model.specs.Service.{Answer, AccessRequest, access_step, served, served_or_ended, access_outcome_if, user_access}
 use Rattle.process_model.specs.Stale.{is_changed}
 use Rattle.process_model.specs.Steps.{filled, plain_step}
 use Rattle.process_model.specs.World.{Outcome, World, always, awaits_service, can_call, can_go_on, can_run, can_serve, flat, free_slot, kernel_call, lowest_free, on_hart, on_hart_at, refuses, unless_refused, with_its_process, with_process_of, with_slot_of}
@@ -235,7 +237,7 @@ module _ (w : World) where
       | inr apart ↦ (y, sym (set_other w.harts h k z apart) ∙ at, inl (stays refl refl, refl))
     ]
 
-    told_harts : (h : ℕ) (hart : Hart) (t : ℕ) (x : Answer) (b : Bool) → slice_get w.harts h ≡ Some hart → is_user hart.phase ≡ true → HartsGo (told_if w h hart t x b)
+    told_harts : (h : ℕ) (hart : Hart) (t : ℕ) (x : Answer) (b : Bool) → slice_get w.harts h ≡ Some hart → is_user hart.phase ≡ true → HartsGo (access_outcome_if w h hart t x b)
     told_harts h hart t x true there user =
         set_hart x.reply h hart (record hart { phase = Enter0 }) there (inl (enters (user_phase hart.phase user) refl refl, refl))
     told_harts h hart t x false there user = none_go x.reply
@@ -328,14 +330,14 @@ module _ (w : World) where
         ap (changed_at (slice_get w.slots n)) (set_other w.slots t n (Some q) apart) ∙ same_at (slice_get w.slots n)
   ]
 
-  told_quiet : (h : ℕ) (hart : Hart) (t : ℕ) (p : Process) (x : Answer) (b : Bool) → slice_get w.slots t ≡ Some (Some p) → changed p x.process ≡ false → IsQuiet w (told_if w h hart t x b)
+  told_quiet : (h : ℕ) (hart : Hart) (t : ℕ) (p : Process) (x : Answer) (b : Bool) → slice_get w.slots t ≡ Some (Some p) → changed p x.process ≡ false → IsQuiet w (access_outcome_if w h hart t x b)
   told_quiet h hart t p x true lives keeps = one_stays t p x.process lives keeps
   told_quiet h hart t p x false lives keeps = one_stays t p x.process lives keeps
 
   access_quiet : (h : ℕ) (access : Access) (address width value : ℕ) (via : Option ℕ) → IsQuiet w (access_step w h access address width value via)
   access_quiet h access address width value via = on_hart_is w h (is_width width) _ _ _ (IsQuiet w) refused_quiet (λ hart there user. with_its_process_is w hart _ (IsQuiet w) refused_quiet
       (λ t p on lives.
-      let a : Asked = record { access = access; address = address; width = width; value = value } in
+      let a : AccessRequest = record { access = access; address = address; width = width; value = value } in
       told_quiet h hart t p (user_access p a) _ lives (access_keeps p a)))
 
   mapped_quiet : (t : ℕ) (p : Process) (len protection flags n : ℕ) → slice_get w.slots t ≡ Some (Some p) → IsQuiet w (mapped_to w t (mapped w.files p len protection flags n))

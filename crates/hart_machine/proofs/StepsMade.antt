@@ -1,18 +1,19 @@
--- Steps of a machine that are told as those of the model, and the marks that follow them.
+-- Lemmas: what a machine's step is known to do (outcome, slots to be marked as stale, page tables kept) holds of any step
+-- equal to it; and a step that changes no leaf names no slot (`quiet_marks`).
 use Rattle.std.proofs.Common.{◌≡◌, ℕ, true, None, Option, sym, subst}
 use Rattle.process_model.specs.Steps.{plain_step}
 use Rattle.process_model.specs.World.{World}
 use Rattle.process_model.specs.declared.step.Reply.{Reply}
 use Rattle.process_model.specs.declared.step.Step.{Step}
 use Rattle.hart_machine.specs.Marks.{AreMarked}
-use Rattle.hart_machine.specs.Worlds.{KeepsTables, Makes}
+use Rattle.hart_machine.specs.Worlds.{KeepsTables, IsModelOutcome}
 use Rattle.hart_machine.specs.declared.machine.Machine.{Machine}
 use Rattle.hart_machine.proofs.StepShapes.{is_quiet, quiet_slots}
 
 -- what is told of a step is told of the one that it is
 
-pub made_by : (n : Machine) (reply : Reply) (w : World) (s t : Step) → t ≡ s → Makes n reply (plain_step w s) → Makes n reply (plain_step w t)
-made_by n reply w s t same made = subst (λ (x : Step). Makes n reply (plain_step w x)) (sym same) made
+pub made_by : (n : Machine) (reply : Reply) (w : World) (s t : Step) → t ≡ s → IsModelOutcome n reply (plain_step w s) → IsModelOutcome n reply (plain_step w t)
+made_by n reply w s t same made = subst (λ (x : Step). IsModelOutcome n reply (plain_step w x)) (sym same) made
 
 pub marked_by : (w : World) (s t : Step) → t ≡ s → (changed born : Option ℕ) → AreMarked w (plain_step w s) changed born → AreMarked w (plain_step w t) changed born
 marked_by w s t same changed born marks = subst (λ (x : Step). AreMarked w (plain_step w x) changed born) (sym same) marks

@@ -1,4 +1,5 @@
--- The numbers of the tables of some pages, as a list without repeats.
+-- Lemmas: the numbers of the page tables that some pages need are a list without repeats, as long as `tables_needed`; a
+-- number is in it if and only if its table is on the way to one of these pages, to TRAMPOLINE or to TRAPFRAME.
 use Rattle.std.proofs.Common.{◌≡◌, ℕ, zero, suc, ◌+◌, ◌-◌, ◌/◌, ◌^◌, ◌<◌, ◌≤◌, inl, inr, refl, sym, subst, ap, ◌∙◌, arith, List, [], ◌∷◌, ◌++◌, map, length, ◌*◌}
 use Rattle.std.specs.Prelude.{All}
 use Rattle.std.proofs.lemmas.Bool.{cases_eq}

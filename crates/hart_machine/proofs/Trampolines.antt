@@ -1,4 +1,5 @@
--- The trampoline page: the kernel's code is fetched from frame 0, by each table.
+-- Lemmas for the step `TrampolineFetch`: the kernel's table and each process's map TRAMPOLINE's page to the kernel's code in
+-- frame 0, a fetch by a walk or by a buffer (TLB) entry finds it, and refusals and reply are the model's.
 use Rattle.std.proofs.Common.{◌≡◌, ℕ, ◌+◌, ◌*◌, ◌/◌, ◌%◌, ◌<◌, ◌≤◌, ◌==◌, ◌&&◌, nat_lt, Bool, true, false, Option, None, Some, List, refl, ap, sym, ◌∙◌, inl, inr, arith, subst}
 use Rattle.std.specs.Prelude.{slice_get}
 use Rattle.std.specs.FinMap.{get}
@@ -27,14 +28,14 @@ use Rattle.table_walk.specs.Tables.{Tables, leaf_node, walk_leaf}
 use Rattle.table_walk.specs.Memory.{physical_address}
 use Rattle.table_walk.specs.declared.walk.Walk.{Walk}
 use Rattle.table_walk.specs.declared.walk.Walk.TheVariants as walk
-use Rattle.address_space.specs.Agreement.{code_rights, Shows}
+use Rattle.address_space.specs.Agreement.{code_rights, ShowsPages}
 use Rattle.address_space.specs.Kernel.{IsKernelTable, kernel_leaf, kernel_page}
 use Rattle.hart_machine.specs.Harts.{hart_of}
-use Rattle.hart_machine.specs.Tables.{IsServed}
+use Rattle.hart_machine.specs.Tables.{IsTranslated}
 use Rattle.table_walk.specs.Leaves.{answer, lands, Leaf, leaf_at, walk_answer}
 use Rattle.table_walk.specs.Nodes.{low_leaf}
-use Rattle.hart_machine.specs.Serves.{IsCode}
-use Rattle.hart_machine.specs.Worlds.{IsWorld, Makes}
+use Rattle.hart_machine.specs.BufferEntries.{IsTrampolineLeaf}
+use Rattle.hart_machine.specs.Worlds.{IsWorld, IsModelOutcome}
 use Rattle.hart_machine.specs.declared.hart.Hart.{Hart}
 use Rattle.hart_machine.specs.declared.machine.Machine.{Machine}
 use Rattle.hart_machine.proofs.HartSteps.{HasHart, impossible, improper, makes, process_at, refused, runs, without_entry, without_hart}
@@ -55,7 +56,7 @@ record HasCode (z : Scheme) (t : Tables) : Type 0 where
   names : ppn word ≡ ppn_of 0
   lets : permits Supervisor Fetch word ≡ true
 
-process_code : (v : View) (trapframe : ℕ) (t : Tables) (p : Process) → Shows v trapframe t p → HasCode p.scheme t
+process_code : (v : View) (trapframe : ℕ) (t : Tables) (p : Process) → ShowsPages v trapframe t p → HasCode p.scheme t
 process_code v trapframe t p shows = let leaf = shows.on_trampoline in record {
   word = leaf.0;
   mapped = leaf.1;
@@ -73,7 +74,7 @@ kernel_code z v root frames slots stacks t k = record {
 
 -- the same of an entry of a buffer that tells of the page
 
-code_leaf : (z : Scheme) (t : Tables) (word a : ℕ) → get t.leaves (leaf_node (trampoline_page z)) ≡ Some word → IsLeafOf word 0 code_rights false false true → page_of a ≡ trampoline_page z → IsCode (leaf_at z t a)
+code_leaf : (z : Scheme) (t : Tables) (word a : ℕ) → get t.leaves (leaf_node (trampoline_page z)) ≡ Some word → IsLeafOf word 0 code_rights false false true → page_of a ≡ trampoline_page z → IsTrampolineLeaf (leaf_at z t a)
 code_leaf z t word a mapped made page = (word, rw (low_canonical z a (omega (arith, page)), top_leaf z t a page ∙ mapped) refl, made)
 
 code_word : IsLeafOf (leaf_word 0 code_rights false false true) 0 code_rights false false true
@@ -94,11 +95,11 @@ code_word = record {
   executable = λ e none. refl;
 }
 
-pub kernel_code_leaf : (z : Scheme) (v : View) (root frames slots : ℕ) (stacks : List ℕ) (t : Tables) → IsKernelTable z v root frames slots stacks t → (a : ℕ) → page_of a ≡ trampoline_page z → IsCode (leaf_at z t a)
+pub kernel_code_leaf : (z : Scheme) (v : View) (root frames slots : ℕ) (stacks : List ℕ) (t : Tables) → IsKernelTable z v root frames slots stacks t → (a : ℕ) → page_of a ≡ trampoline_page z → IsTrampolineLeaf (leaf_at z t a)
 kernel_code_leaf z v root frames slots stacks t k a page =
     code_leaf z t (leaf_word 0 code_rights false false true) a (k.maps.leaves (trampoline_page z) (omega (arith, of_scheme z)) ∙ kernel_top z frames stacks) code_word page
 
-pub process_code_leaf : (v : View) (trapframe : ℕ) (t : Tables) (p : Process) → Shows v trapframe t p → (a : ℕ) → page_of a ≡ trampoline_page p.scheme → IsCode (leaf_at p.scheme t a)
+pub process_code_leaf : (v : View) (trapframe : ℕ) (t : Tables) (p : Process) → ShowsPages v trapframe t p → (a : ℕ) → page_of a ≡ trampoline_page p.scheme → IsTrampolineLeaf (leaf_at p.scheme t a)
 process_code_leaf v trapframe t p shows a page = let leaf = shows.on_trampoline in code_leaf p.scheme t leaf.0 a leaf.1 leaf.2 page
 
 module _ (z : Scheme) (offset : ℕ) (low : offset < 4096) where
@@ -114,13 +115,13 @@ module _ (z : Scheme) (offset : ℕ) (low : offset < 4096) where
       let page : page_of address ≡ trampoline_page z = omega (arith, low) in
       (code.word, is ∙ rw (low_canonical z address (omega (arith, page)), top_leaf z t address page ∙ code.mapped, code.lets) refl, code.names)
 
-  by_leaf : (l : Option Leaf) → IsCode l → (walked : Walk) → walked ≡ answer l address Fetch Supervisor → IsFetched walked
+  by_leaf : (l : Option Leaf) → IsTrampolineLeaf l → (walked : Walk) → walked ≡ answer l address Fetch Supervisor → IsFetched walked
   by_leaf l (word, is_leaf, made) walked is =
       let lets : permits Supervisor Fetch word ≡ true = rw (made.for_user, made.execute, made.accessed) refl in
       (word, is ∙ ap (λ (o : Option Leaf). answer o address Fetch Supervisor) is_leaf ∙ rw lets refl, made.names)
 
   module _ (m : Machine) (w : World) (is : IsWorld m w) (same : m.kernel.scheme ≡ z) (h : ℕ) (x : Hart) (at : slice_get m.harts.items h ≡ Some x) (walked : Walk)
-      (served : IsServed z x is.tables is.kernel address Fetch Supervisor walked) where
+      (served : IsTranslated z x is.tables is.kernel address Fetch Supervisor walked) where
     is_fetched : IsFetched walked
     is_fetched = elim served [
       | inl of_kernel ↦ by_table is.kernel (subst (λ y. HasCode y is.kernel) same (kernel_code m.kernel.scheme _ _ _ _ _ _ is.of_kernel)) walked of_kernel.1
@@ -153,7 +154,7 @@ is_proper offset aligned low = rw (eq-eqb (offset % 4) 0 aligned) (grind (arith,
 
 module _ (m : Machine) (w : World) (is : IsWorld m w) (h offset : ℕ) (via : Option ℕ) where
   abbrev fetches : Refusal → Type 0
-  fetches r = Makes m (Refused r) (plain_step w (step.TrampolineFetch h offset via))
+  fetches r = IsModelOutcome m (Refused r) (plain_step w (step.TrampolineFetch h offset via))
 
   pub nowhere : slice_get w.harts h ≡ None → fetches BadArgument
   nowhere none = refused m w is BadArgument _ (without_hart w h _ _ _ _ none)
@@ -173,13 +174,13 @@ module _ (m : Machine) (w : World) (is : IsWorld m w) (h offset : ℕ) (via : Op
         (impossible w h _ (λ x. model.in_trampoline x.phase) _ _ (hart_of has.hart) has.in_model (is_proper offset aligned low) (ap model.in_trampoline has.phased ∙ fails) ∙ ap (λ q. refuses w (Impossible q)) has.phased)
 
     module _ (inside : model.in_trampoline p ≡ true) (n : Machine) (after : IsWorld n w) where
-      pub no_entry : entry_serves m.policy (hart_of has.hart) (4096 * trampoline_page w.scheme + offset) via ≡ false → Makes n (Refused NoEntry) (plain_step w (step.TrampolineFetch h offset via))
+      pub no_entry : entry_serves m.policy (hart_of has.hart) (4096 * trampoline_page w.scheme + offset) via ≡ false → IsModelOutcome n (Refused NoEntry) (plain_step w (step.TrampolineFetch h offset via))
       no_entry fails = refused n w after NoEntry _
           (without_entry w h _ (λ x. model.in_trampoline x.phase) (λ x. entry_serves w.policy x (4096 * trampoline_page w.scheme + offset) via) _ (hart_of has.hart) has.in_model (is_proper offset aligned low)
           (ap model.in_trampoline has.phased ∙ inside) (ap (λ q. entry_serves q (hart_of has.hart) (4096 * trampoline_page w.scheme + offset) via) (sym is.policy) ∙ fails))
 
       pub fetches_code : entry_serves m.policy (hart_of has.hart) (4096 * trampoline_page w.scheme + offset) via ≡ true → (f : FrameNo) → Some f ≡ Some (record { 0 = 0 })
-          → Makes n (InFrame f.0) (plain_step w (step.TrampolineFetch h offset via))
+          → IsModelOutcome n (InFrame f.0) (plain_step w (step.TrampolineFetch h offset via))
       fetches_code serves f found = rw (same_Some _ _ found) (makes n (InFrame 0) w _ after
           (runs w h _ (λ x. model.in_trampoline x.phase) (λ x. entry_serves w.policy x (4096 * trampoline_page w.scheme + offset) via) (λ x. answers w (InFrame 0)) (hart_of has.hart) has.in_model (is_proper offset aligned low)
           (ap model.in_trampoline has.phased ∙ inside) (ap (λ q. entry_serves q (hart_of has.hart) (4096 * trampoline_page w.scheme + offset) via) (sym is.policy) ∙ serves)))

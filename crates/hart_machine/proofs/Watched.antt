@@ -1,12 +1,14 @@
--- What is read of a process in its slot: which pages are settled, and which accesses are granted.
+-- Lemmas on what `leaf_changes` reads of the process in a slot (place in the process table): settled pages (those in
+-- memory), fork marks (the next store takes the page over), accesses that are granted, and whether residence (an access
+-- succeeds without a fault) changed.
 use Rattle.std.proofs.Common.{◌≡◌, ◌⊎◌, ◌↔◌, ℕ, Bool, true, false, ◌+◌, ◌<◌, ◌≤◌, inl, inr, refl, ap, subst, sym, ◌∙◌, arith, Option, None, Some}
 use Rattle.std.specs.Prelude.{if◌then◌else◌, is_some, min, not, ◌&&◌}
 use mathlib.Core.Bool.{beq}
 use Rattle.std.proofs.lemmas.Bool.{and_parts, cases_eq, cases_lt}
 use Rattle.std.proofs.lemmas.Option.{same_Some}
 use Rattle.address_space.specs.Accesses.{gives_leaf, IsGranted}
-use Rattle.address_space.specs.Settled.{IsNextSettled, IsSettledPage}
-use Rattle.address_space.specs.declared.settled.SettledPage.{SettledPage}
+use Rattle.address_space.specs.SettledLists.{IsNextSettled, IsSettledPage}
+use Rattle.address_space.specs.declared.settled_pages.SettledPage.{SettledPage}
 use Rattle.address_space.specs.declared.space.Space.{Space}
 use Rattle.frame_store.specs.View.{View}
 use Rattle.process_model.specs.PageMap.{get}
@@ -22,12 +24,12 @@ use Rattle.table_walk.specs.Tables.{Tables}
 use Rattle.table_walk.specs.declared.walk.Walk.{Walk}
 use Rattle.table_walk.specs.declared.walk.Walk.TheVariants as walk
 use Rattle.hart_machine.specs.Marks.{TellsResidence}
-use Rattle.hart_machine.specs.declared.tenant.Tenant.{Tenant}
+use Rattle.hart_machine.specs.declared.slot_process.SlotProcess.{SlotProcess}
 use Rattle.hart_machine.proofs.Mapping.{same_space}
 
 -- a process in its slot, with a space all of whose parts are those of its own
-pub same_tenant : (x : Tenant) (z : Space View) → z.seat ≡ x.space.seat → z.root ≡ x.space.root → z.trapframe ≡ x.space.trapframe → z.layout ≡ x.space.layout
-    → ◌≡◌ {A = Tenant} (record { space = z; pending = x.pending }) x
+pub same_tenant : (x : SlotProcess) (z : Space View) → z.seat ≡ x.space.seat → z.root ≡ x.space.root → z.trapframe ≡ x.space.trapframe → z.layout ≡ x.space.layout
+    → ◌≡◌ {A = SlotProcess} (record { space = z; pending = x.pending }) x
 same_tenant x z seat root trapframe layout = λ i. record { space = same_space z x.space seat root trapframe layout i; pending = x.pending }
 
 -- ---- settled pages

@@ -1,4 +1,7 @@
--- Calls of the kernel for the process of a hart, and what they make of its pages.
+-- Kernel calls for the process on a hart: when the kernel can make one (`IsInKernel`, `IsCaller`, `call_while`), the
+-- replies, and the process after munmap and sbrk (`HasUnmapped`, `HasResized`). Also pages before and after a call
+-- (`Follows`): each was in memory before, on the same frame, or is new, with a new copy number (which names one copy of a
+-- page in memory).
 use Rattle.std.specs.Prelude.{◌≡◌, ◌⊎◌, ℕ, ◌+◌, ◌<◌, ◌≤◌, Err, false, not, ◌&&◌, Bool, true, List, ℤ, Ok, Result, Some, slice_get}
 use Rattle.frame_store.specs.View.{View, IsSole}
 use Rattle.process_model.specs.Bytes.{pages_for}
@@ -15,62 +18,66 @@ use Rattle.process_model.specs.declared.step.Reply.{Reply}
 use Rattle.process_model.specs.declared.step.Reply.TheVariants.{Done, MappedAt, OldSize, Refused}
 use Rattle.sv39_entry.specs.Address.{page_of}
 use Rattle.table_walk.specs.Tables.{Tables}
-use Rattle.address_space.specs.Agreement.{IsOn}
-use Rattle.address_space.specs.Ending.{Drops}
-use Rattle.hart_machine.specs.Tenants.{IsTenant}
+use Rattle.address_space.specs.Agreement.{IsFrameOfPage}
+use Rattle.address_space.specs.SpaceTeardown.{Drops}
+use Rattle.hart_machine.specs.SlotProcesses.{IsSlotProcess}
 use Rattle.hart_machine.specs.declared.hart.Hart.{Hart}
 use Rattle.hart_machine.specs.declared.machine.Machine.{Machine}
-use Rattle.hart_machine.specs.declared.tenant.Tenant.{Tenant}
+use Rattle.hart_machine.specs.declared.slot_process.SlotProcess.{SlotProcess}
 
 -- pages
 
--- a page was there before, with its copy number, and is on the frame that it was on
-pub record IsKept (t u : Tables) (p : Process) (n : ℕ) (a : Page) : Type 0 where
+-- page n, with the content a, was settled before with the same copy number, and is on the frame that it was on
+pub record KeepsPage (t u : Tables) (p : Process) (n : ℕ) (a : Page) : Type 0 where
   pub before : Page
   pub settled : pages.get p.settled n ≡ Some before
   pub copy : before.copy ≡ a.copy
-  pub on : (f : ℕ) → IsOn u n f → IsOn t n f
+  pub on : (f : ℕ) → IsFrameOfPage u n f → IsFrameOfPage t n f
 
--- or it has a copy number that was not given before, and a frame that no other seat has
+-- page n, with the content a, has a copy number from `low` up to, but without, `high`, and is on a frame of which the seat is
+-- the sole holder
 pub record IsNew (v : View) (u : Tables) (low high n : ℕ) (a : Page) : Type 0 where
   pub given : low ≤ a.copy
   pub below : a.copy < high
-  pub sole : (f : ℕ) → IsOn u n f → IsSole v f
+  pub sole : (f : ℕ) → IsFrameOfPage u n f → IsSole v f
 
--- A process follows another, below other tables: each of its pages was there or is new. The copy numbers of new pages lie between the
--- counters before and after, and no two have one.
+-- Process q, by tables u, comes after p, by tables t: each of its pages was there before (`KeepsPage`) or is new (`IsNew`). New
+-- copy numbers lie between the counters before and after, and no two pages have the same one.
 pub record Follows (v : View) (t u : Tables) (p q : Process) (low high : ℕ) : Type 0 where
-  pub each : (n : ℕ) (a : Page) → pages.get q.settled n ≡ Some a → IsKept t u p n a ⊎ IsNew v u low high n a
+  pub each : (n : ℕ) (a : Page) → pages.get q.settled n ≡ Some a → KeepsPage t u p n a ⊎ IsNew v u low high n a
   pub apart : (m n : ℕ) (a b : Page) → pages.get q.settled m ≡ Some a → pages.get q.settled n ≡ Some b → low ≤ a.copy → a.copy ≡ b.copy → m ≡ n
   pub order : low ≤ high
 
 -- calls
 
--- a hart is in the kernel with the process of a slot, while an access of the process waits for its service, or while none does
+-- hart h is in phase `Kernel` for the process of slot s, and an access of this process waits for service exactly as `waits`
+-- says
 pub record IsInKernel (m : Machine) (w : World) (h s : ℕ) (waits : Bool) : Type 0 where
   pub hart : Hart
   pub there : slice_get m.harts.items h ≡ Some hart
   pub in_kernel : hart.phase ≡ phase.Kernel
   pub on : hart.slot ≡ Some s
-  pub tenant : Tenant
-  pub place : slice_get m.slots.items s ≡ Some (Some tenant)
+  pub slot_process : SlotProcess
+  pub place : slice_get m.slots.items s ≡ Some (Some slot_process)
   pub process : Process
   pub in_slot : slice_get w.slots s ≡ Some (Some process)
   pub unserved : is_unserved_access process.pending ≡ waits
 
--- so that the kernel can make a call for it
+-- the same, with no access waiting: the kernel can make a call for the process
 abbrev pub IsCaller : Machine → World → ℕ → ℕ → Type 0
 IsCaller m w h s = IsInKernel m w h s false
 
+-- whether b is what `waits` says
 abbrev pub waits_as : Bool → Bool → Bool
 waits_as b true = b
 waits_as b false = not b
 
--- what a hart in the kernel does for its process, at such a time, or why it does not
+-- what the kernel does (`run`) for the process of hart h if it may: the hart is in phase `Kernel`, and an access waits for
+-- service exactly as `waits` says; else the refusal
 abbrev pub call_while : World → ℕ → Bool → (harts.Hart → ℕ → Process → Outcome) → Outcome
 call_while w h waits run = on_hart w h true (λ x. harts.is_kernel x.phase && waits_as (awaits_service w x) waits) always (λ x. with_its_process w x (run x))
 
--- what is answered
+-- replies
 
 abbrev pub mapped_or_refused : Result ℕ Refusal → Reply
 mapped_or_refused (Ok address) = MappedAt address
@@ -90,21 +97,21 @@ size_of (Err e) = Err e
 
 -- munmap
 
--- the process and the files are those that the model has, and nothing is pending; the leaves of the pages that went are gone
-pub record HasUnmapped (y : Tenant) (t : Tables) (p : Process) (before after : List File) (address len : ℕ) : Type 0 where
+-- process and files are those of the model after munmap, and no access is pending; the leaves of the unmapped pages are gone
+pub record HasUnmapped (y : SlotProcess) (t : Tables) (p : Process) (before after : List File) (address len : ℕ) : Type 0 where
   pub what : Unmapped
   pub is : unmapped before p address len ≡ Ok what
   pub tables : Tables
-  pub tenant : IsTenant y tables (without_pending what.process)
+  pub slot_process : IsSlotProcess y tables (without_pending what.process)
   pub drops : Drops t tables (page_of address) (page_of address + pages_for len)
   pub files : after ≡ what.files
 
 -- sbrk
 
--- the process is the one that the model has, and nothing is pending; the leaves of the pages above its size are gone
-pub record HasResized (y : Tenant) (t : Tables) (p : Process) (delta : ℤ) : Type 0 where
+-- the process is that of the model after sbrk, and no access is pending; the leaves of the pages above the new size are gone
+pub record HasResized (y : SlotProcess) (t : Tables) (p : Process) (delta : ℤ) : Type 0 where
   pub process : Process
   pub is : sbrk_result p delta ≡ Ok process
   pub tables : Tables
-  pub tenant : IsTenant y tables (without_pending process)
+  pub slot_process : IsSlotProcess y tables (without_pending process)
   pub drops : Drops t tables (pages_for process.size) (pages_for p.size)

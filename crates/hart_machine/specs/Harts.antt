@@ -1,4 +1,6 @@
--- Harts, as the model has them.
+-- The model's hart for one of the machine (`hart_of`). What happens to a hart, as functions: fences by policy, and the next
+-- instruction of kernel entry or return (`fenced`, `advanced`); fills (`with_entry`); and stale marks, on the model's harts
+-- (`marked`, `marked_harts`).
 use Rattle.std.specs.Prelude.{ℕ, Bool, true, false, not, ◌+◌, ◌==◌, ◌||◌, Option, None, Some, List, [], ◌∷◌, ◌++◌, filter, length, map, min, slice_set, unwrap_or, if◌then◌else◌}
 use Rattle.hart_tlb.specs.Buffer.{newest_entries}
 use Rattle.hart_tlb.specs.Entries.{is_fenced}
@@ -15,17 +17,18 @@ use Rattle.hart_machine.specs.declared.hart.Hart.{Hart}
 abbrev pub key_of : TlbEntry → model.Key
 key_of e = record { page = e.page; asid = e.asid }
 
+-- phase, slot and stale marks are the hart's; the keys are page and ASID of its buffer entries
 abbrev pub hart_of : Hart → model.Hart
 hart_of h = record { phase = h.phase; slot = h.slot; keys = map key_of h.buffer; stale = marks_of h.stale }
 
 -- fences
 
--- with fences of everything: where the next instruction is one, the buffer is empty after it
+-- policy `full`: if the next instruction is a fence, the buffer is empty after it
 abbrev pub emptied : Hart → Hart
 emptied h = record h { buffer = if model.is_before_fence h.phase then [] else h.buffer }
 
--- with address-space identifiers: where the slot is marked, the last fence of the return takes the entries of its identifier, and the
--- mark goes
+-- policy `asid`: if the hart is marked for its slot, the last fence of the return removes the entries of that slot's ASID
+-- that are not global, and clears the mark
 abbrev pub cleaned_if : Hart → ℕ → Bool → Hart
 cleaned_if h s true = record h { buffer = filter (λ e. not (is_fenced None (Some (s + 1)) e)) h.buffer; stale = slice_set h.stale s false }
 cleaned_if h s false = h
@@ -50,21 +53,21 @@ advanced policy h = record (fenced policy h) { phase = unwrap_or (model.next_pha
 
 -- fills
 
--- a hart keeps an entry; a full buffer loses its first
+-- an entry is added as the newest; a full buffer loses its oldest
 abbrev pub with_entry : Hart → TlbEntry → Hart
 with_entry h e = record h { buffer = newest_entries buffer_size (h.buffer ++ e ∷ []) }
 
--- the number that the entry gets
+-- the number of the entry that is added next
 abbrev pub next_number : List TlbEntry → ℕ
 next_number es = min (length es) 31
 
 -- marks
 
--- old entries of a slot may stand in the buffer from now on
+-- the hart is marked for slot s: its buffer may hold stale entries of that slot's ASID
 abbrev pub marked : ℕ → model.Hart → model.Hart
 marked s x = record x { stale = λ n. s == n || x.stale n }
 
--- with address-space identifiers each hart is marked
+-- under policy `asid` each hart is marked for the slot, if there is one
 abbrev pub marked_harts : Policy → Option ℕ → List model.Hart → List model.Hart
 marked_harts Full slot xs = xs
 marked_harts Asid None xs = xs

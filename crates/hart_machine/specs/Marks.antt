@@ -1,4 +1,6 @@
--- The slots of which a step makes other leaves.
+-- Which slots (places in the process table) a step names, to be marked as stale on every hart: those whose leaves it
+-- changed, and those in which a process started (`changed_at`, `AreMarked`); and the slots that the result of a call names.
+-- Also what the flag of a kernel copy says of residence, which lets an access succeed without a fault (`TellsResidence`).
 use Rattle.std.specs.Prelude.{◌≡◌, ◌⊎◌, ℕ, Bool, true, false, ◌+◌, ◌||◌, Option, None, Some, Result, Ok, Err, slice_get}
 use Rattle.address_space.specs.Accesses.{IsGranted}
 use Rattle.process_model.specs.Process.{Process}
@@ -11,17 +13,18 @@ abbrev pub slot_if : ℕ → Bool → Option ℕ
 slot_if s true = Some s
 slot_if s false = None
 
--- whether a step changes a leaf of the process in a slot, or one began there
+-- whether the step started a process in the slot, or changed the map of its process from pages to copy numbers and marks, on
+-- which the leaves depend
 abbrev pub changed_at : Option (Option Process) → Option (Option Process) → Bool
 changed_at None q = false
 changed_at (Some p) None = false
 changed_at (Some p) (Some q) = is_changed p q
 
--- the slots are those that the model names as changed
+-- `changed` and `born` together are exactly the slots that the model's step changed
 abbrev pub AreMarked : World → Outcome → Option ℕ → Option ℕ → Type 0
 AreMarked w o changed born = (n : ℕ) → changed_at (slice_get w.slots n) (slice_get (o.world).slots n) ≡ (has_slot n changed || has_slot n born)
 
--- a call that is refused changes none
+-- the slot to be marked after a call; none if it was refused
 abbrev pub marked_by : Result (Option ℕ) Refusal → Option ℕ
 marked_by (Ok slot) = slot
 marked_by (Err e) = None
@@ -30,7 +33,8 @@ abbrev pub marked_with : {A : Type 0} → Result (A × Option ℕ) Refusal → O
 marked_with (Ok x) = x.1
 marked_with (Err e) = None
 
--- the flag tells whether residence changed at an address or a page further: what a copy by the kernel makes resident, it makes there
+-- if the flag is true, residence for the access changed at some address; if it is false, neither the page of `address` nor
+-- the next one became resident: a kernel copy makes no other page resident
 pub record TellsResidence (flag : Bool) (p q : Process) (access : Access) (address : ℕ) : Type 0 where
   pub some : flag ≡ true → (a : ℕ) × ((IsGranted p access a × (IsGranted q access a → ⊥)) ⊎ ((IsGranted p access a → ⊥) × IsGranted q access a))
   pub none : flag ≡ false → (a : ℕ) → (a ≡ address) ⊎ (a ≡ address + 4096) → IsGranted q access a → IsGranted p access a

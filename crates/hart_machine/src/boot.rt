@@ -1,15 +1,16 @@
-// The machine boots.
+// `Machine::boot`: makes a machine with empty slots (places in the process table), idle harts, and the kernel's page table;
+// and the enum `BootError`, why it could not.
 
 ghost use Rattle.std.specs.Prelude.{◌≡◌, ◌↔◌, false, IfErr, IfOk, IsErrOf, map, None, replicate};
 ghost use Rattle.hart_machine.specs.Harts.{hart_of};
-ghost use Rattle.hart_machine.specs.Serves.{IsIn};
+ghost use Rattle.hart_machine.specs.BufferEntries.{IsInWorld};
 ghost use Rattle.process_model.specs.Frames.{can_boot};
 ghost use Rattle.process_model.specs.Harts as model;
 ghost use Rattle.process_model.specs.World.{booted};
 
 use crate::hart::Hart;
 use crate::machine::Machine;
-use crate::tenant::Tenant;
+use crate::slot_process::SlotProcess;
 use address_space::KernelTable;
 use cow_fork::PageList;
 use file_cabinet::Cabinet;
@@ -20,9 +21,9 @@ use std::alloc::{AllocError, AllocFailed, Global};
 /// Why a machine was not booted.
 #[derive(Clone, Copy, PartialEq, Eq, Debug)]
 pub enum BootError {
-    /// A limit is broken, or there are fewer frames than the kernel needs.
+    /// The configuration breaks a limit, or has fewer frames than the kernel takes.
     BadArgument,
-    /// Host memory was refused.
+    /// The host is out of memory.
     Memory,
 }
 
@@ -49,11 +50,16 @@ impl From<AllocError> for BootError {
 }
 
 impl Machine {
-    /// A machine of these sizes, with these files: its slots empty, its harts idle, and the table of the kernel built. All
-    /// room that it ever needs is made here. A refusal drops the files.
+    /// Boots a machine as `config` says, with these files, and returns it: all slots (places in the process table) are
+    /// empty, all harts idle, and the kernel's page table is built. All host memory that steps need is allocated here.
+    ///
+    /// # Errors
+    /// `BadArgument`: exactly when `config` breaks a limit (`can_boot`): 1 to 8 harts, 16 to 1,024 frames, 1 to 64 slots,
+    /// and at least the frames that the kernel takes (`kernel_frames`). `Memory`: the host is out of memory. Both drop
+    /// the files.
     pub fn boot(alloc: Global, config: Config, files: Cabinet) -> Result<Machine, BootError>
         ensures limits { IsErrOf result BootError.BadArgument ↔ (can_boot config.scheme config.harts config.frames config.slots ≡ false) }
-        ensures booted { IfOk result (λ m. IsIn m (booted config files)) }
+        ensures booted { IfOk result (λ m. IsInWorld m (booted config files)) }
     {
         if !config.is_bootable() {
             return Err(BootError::BadArgument);
@@ -82,8 +88,11 @@ impl Machine {
     }
 }
 
-/// So many slots without a process.
-fn empty_slots(alloc: Global, count: usize) -> Result<Vec<Option<Tenant>>, BootError>
+/// A list of `count` slots without a process.
+///
+/// # Errors
+/// `Memory`: the host is out of memory.
+fn empty_slots(alloc: Global, count: usize) -> Result<Vec<Option<SlotProcess>>, BootError>
     ensures slots { IfOk result (λ v. v.items ≡ replicate count None) }
     ensures memory { IfErr result (λ e. e ≡ BootError.Memory) }
 {
@@ -94,7 +103,10 @@ fn empty_slots(alloc: Global, count: usize) -> Result<Vec<Option<Tenant>>, BootE
     Ok(slots)
 }
 
-/// So many harts without a process.
+/// A list of `count` idle harts.
+///
+/// # Errors
+/// `Memory`: the host is out of memory.
 fn idle_harts(alloc: Global, count: usize) -> Result<Vec<Hart>, BootError>
     ensures harts { IfOk result (λ v. map hart_of v.items ≡ replicate count model.idle_hart) }
     ensures memory { IfErr result (λ e. e ≡ BootError.Memory) }

@@ -1,16 +1,17 @@
-// Calls of the kernel for the process on a hart.
+// Steps `Mmap`, `Munmap` and `Sbrk`: system calls that change the regions of the process on a hart. `in_kernel` tests, for
+// these and every other kernel call and for `Serve`, whether the step may be made.
 
 ghost use Rattle.std.specs.Prelude.{◌≡◌, ℕ, Err, IfErr, IfOk, None, Ok, Some};
-ghost use Rattle.frame_store.specs.Laws.{Fits, Keeps};
-ghost use Rattle.frame_store.specs.Plain.{BankRule};
+ghost use Rattle.frame_store.specs.Laws.{IsSeatOf, KeepsSeats};
+ghost use Rattle.frame_store.specs.Plain.{PlainStateRule};
 ghost use Rattle.hart_machine.specs.Buffers.{SameBuffers};
 ghost use Rattle.hart_machine.specs.Calls.{call_while, done_or_refused, HasResized, HasUnmapped, IsInKernel, mapped_or_refused, size_of, size_or_refused};
 ghost use Rattle.hart_machine.specs.Marks.{AreMarked, marked_by, marked_with};
-ghost use Rattle.hart_machine.specs.Tenants.{IsTenant, view_of};
-ghost use Rattle.hart_machine.specs.Worlds.{IsWorld, KeepsTables, Makes, SameTables};
-ghost use Rattle.lazy_growth.specs.Sizes.{size_before};
-ghost use Rattle.mmap_regions.specs.Mapped.{address_of_mapped, process_mapped};
-ghost use Rattle.process_model.specs.Briefs.{of_brief};
+ghost use Rattle.hart_machine.specs.SlotProcesses.{IsSlotProcess, view_of};
+ghost use Rattle.hart_machine.specs.Worlds.{IsWorld, KeepsTables, IsModelOutcome, SameTables};
+ghost use Rattle.lazy_growth.specs.SbrkResults.{size_before};
+ghost use Rattle.mmap_regions.specs.MmapEffect.{address_of_mapped, process_mapped};
+ghost use Rattle.process_model.specs.ScalarReplies.{reply_of_scalar};
 ghost use Rattle.process_model.specs.Harts as harts;
 ghost use Rattle.process_model.specs.Heap.{sbrk_result};
 ghost use Rattle.process_model.specs.Mappings as mappings;
@@ -23,16 +24,20 @@ ghost use Rattle.table_walk.specs.Tables.{Tables};
 
 use crate::hart::is_kernel;
 use crate::machine::Machine;
-use crate::marking::{Made, slot_if};
-use crate::tenant::Tenant;
+use crate::slot_process::SlotProcess;
+use crate::stale_marks::{StepEffect, slot_if};
 use file_cabinet::Cabinet;
 use frame_store::PlainFrames;
-use process_model::{Brief, Refusal};
+use process_model::{Refusal, ScalarReply};
 use sv39_entry::{PAGE_SIZE, Va};
 
 impl Machine {
-    /// The slot of the process with which a hart is in the kernel, while an access of it waits for its service, or while none
-    /// does; or why there is none.
+    /// The slot of the process for which a hart is in the kernel, if an access of it waits for service exactly as `waits`
+    /// says: true for the service of a fault, false for a kernel call.
+    ///
+    /// # Errors
+    /// `BadArgument`: there is no such hart. `Impossible` with the hart's phase: this is not `Kernel`, or an access waits and
+    /// `waits` is false, or none waits and `waits` is true.
     pub(crate) fn in_kernel(&self, hart: usize, waits: bool) -> Result<usize, Refusal>
         requires world { (w : World) × IsWorld self.now w }
         ensures there { IfOk result (λ s. (w : World) → IsWorld self.now w → IsInKernel self.now w hart s waits) }
@@ -50,7 +55,9 @@ impl Machine {
         Ok(slot)
     }
 
-    /// The process on a hart maps a file.
+    /// Maps a file, by its number from 0, for the process on a hart (MIT 6.1810, mmap lab). The reply is `MappedAt` with
+    /// the address, or the first refusal that applies of those of `in_kernel`, `BadArgument`, `FileNotWritable`,
+    /// `MappingsFull` and `NoRoom`.
     #[inline(never)]
     pub(crate) fn mmap(
         &mut self,
@@ -59,19 +66,22 @@ impl Machine {
         protection: u64,
         flags: u64,
         file: usize,
-    ) -> Brief
+    ) -> ScalarReply
         requires world { (w : World) × IsWorld self.old w }
-        ensures made { (w : World) → IsWorld self.old w → Makes self.new (of_brief result) (plain_step w (step.Mmap hart length protection flags file)) }
+        ensures made { (w : World) → IsWorld self.old w → IsModelOutcome self.new (reply_of_scalar result) (plain_step w (step.Mmap hart length protection flags file)) }
         ensures buffers { SameBuffers self.old self.new }
         ensures tables { SameTables self.old self.new }
     {
         match self.map_file(hart, length, protection, flags, file) {
-            Ok(address) => Brief::MappedAt(address),
-            Err(refusal) => Brief::Refused(refusal),
+            Ok(address) => ScalarReply::MappedAt(address),
+            Err(refusal) => ScalarReply::Refused(refusal),
         }
     }
 
-    /// The same, with the address of the mapping, or why there is none.
+    /// `mmap`, with the address of the mapping as the result.
+    ///
+    /// # Errors
+    /// Those of `in_kernel`, then the first that applies of `BadArgument`, `FileNotWritable`, `MappingsFull` and `NoRoom`.
     fn map_file(
         &mut self,
         hart: usize,
@@ -81,38 +91,47 @@ impl Machine {
         file: usize,
     ) -> Result<u64, Refusal>
         requires world { (w : World) × IsWorld self.old w }
-        ensures made { (w : World) → IsWorld self.old w → Makes self.new (mapped_or_refused result) (plain_step w (step.Mmap hart length protection flags file)) }
+        ensures made { (w : World) → IsWorld self.old w → IsModelOutcome self.new (mapped_or_refused result) (plain_step w (step.Mmap hart length protection flags file)) }
         ensures harts { self.new.harts ≡ self.old.harts }
         ensures tables { SameTables self.old self.new }
     {
         let slot = self.in_kernel(hart, false)?;
         let files = &self.files;
         let slots = &mut self.slots;
-        let Some(tenant) = &mut slots[slot] else {
+        let Some(slot_process) = &mut slots[slot] else {
             unreachable!()
         };
-        tenant.mmap(files, length, protection, flags, file)
+        slot_process.mmap(files, length, protection, flags, file)
     }
 
-    /// The process on a hart takes a range of addresses out of a mapping.
+    /// Unmaps `length` bytes from `address` on for the process on a hart (MIT 6.1810, mmap lab). The reply is `Done`, or
+    /// the first refusal that applies of those of `in_kernel`, `BadArgument` and `HoleInMapping`.
     #[inline(never)]
-    pub(crate) fn munmap(&mut self, hart: usize, address: u64, length: u64) -> Made<Brief>
+    pub(crate) fn munmap(
+        &mut self,
+        hart: usize,
+        address: u64,
+        length: u64,
+    ) -> StepEffect<ScalarReply>
         requires world { (w : World) × IsWorld self.old w }
-        ensures made { (w : World) → IsWorld self.old w → Makes self.new (of_brief result.reply) (plain_step w (step.Munmap hart address length)) }
+        ensures made { (w : World) → IsWorld self.old w → IsModelOutcome self.new (reply_of_scalar result.reply) (plain_step w (step.Munmap hart address length)) }
         ensures buffers { SameBuffers self.old self.new }
         ensures tables { (w : World) → IsWorld self.old w → KeepsTables self.old self.new w.slots (plain_step w (step.Munmap hart address length)).world.slots }
         ensures changed { (w : World) → IsWorld self.old w → AreMarked w (plain_step w (step.Munmap hart address length)) result.changed result.born }
     {
         match self.unmap(hart, address, length) {
-            Ok(changed) => Made::by(Brief::Done, changed),
-            Err(refusal) => Made::quiet(Brief::Refused(refusal)),
+            Ok(changed) => StepEffect::with_change(ScalarReply::Done, changed),
+            Err(refusal) => StepEffect::without_change(ScalarReply::Refused(refusal)),
         }
     }
 
-    /// The same, with the slot of the process where a page of it went, or why it is refused.
+    /// `munmap`, with the slot of the process as the result if a settled page was released, and else `None`.
+    ///
+    /// # Errors
+    /// Those of `in_kernel`, then `BadArgument`, then `HoleInMapping`.
     fn unmap(&mut self, hart: usize, address: u64, length: u64) -> Result<Option<usize>, Refusal>
         requires world { (w : World) × IsWorld self.old w }
-        ensures made { (w : World) → IsWorld self.old w → Makes self.new (done_or_refused result) (plain_step w (step.Munmap hart address length)) }
+        ensures made { (w : World) → IsWorld self.old w → IsModelOutcome self.new (done_or_refused result) (plain_step w (step.Munmap hart address length)) }
         ensures changed { (w : World) → IsWorld self.old w → AreMarked w (plain_step w (step.Munmap hart address length)) (marked_by result) None }
         ensures harts { self.new.harts ≡ self.old.harts }
         ensures tables { (w : World) → IsWorld self.old w → KeepsTables self.old self.new w.slots (plain_step w (step.Munmap hart address length)).world.slots }
@@ -121,32 +140,36 @@ impl Machine {
         let frames = &mut self.frames;
         let files = &mut self.files;
         let slots = &mut self.slots;
-        let Some(tenant) = &mut slots[slot] else {
+        let Some(slot_process) = &mut slots[slot] else {
             unreachable!()
         };
-        let released = tenant.munmap(frames, files, address, length)?;
+        let released = slot_process.munmap(frames, files, address, length)?;
         Ok(slot_if(slot, released))
     }
 
-    /// The heap of the process on a hart grows by so many bytes, or shrinks.
+    /// Moves the end of the heap of the process on a hart by `delta` bytes; takes no frame. The reply is `OldSize` with
+    /// the size before, in bytes, or the first refusal that applies of those of `in_kernel`, `BadSize` and `NoRoom`.
     #[inline(never)]
-    pub(crate) fn sbrk(&mut self, hart: usize, delta: i64) -> Made<Brief>
+    pub(crate) fn sbrk(&mut self, hart: usize, delta: i64) -> StepEffect<ScalarReply>
         requires world { (w : World) × IsWorld self.old w }
-        ensures made { (w : World) → IsWorld self.old w → Makes self.new (of_brief result.reply) (plain_step w (step.Sbrk hart delta)) }
+        ensures made { (w : World) → IsWorld self.old w → IsModelOutcome self.new (reply_of_scalar result.reply) (plain_step w (step.Sbrk hart delta)) }
         ensures buffers { SameBuffers self.old self.new }
         ensures tables { (w : World) → IsWorld self.old w → KeepsTables self.old self.new w.slots (plain_step w (step.Sbrk hart delta)).world.slots }
         ensures changed { (w : World) → IsWorld self.old w → AreMarked w (plain_step w (step.Sbrk hart delta)) result.changed result.born }
     {
         match self.resize(hart, delta) {
-            Ok((size, changed)) => Made::by(Brief::OldSize(size), changed),
-            Err(refusal) => Made::quiet(Brief::Refused(refusal)),
+            Ok((size, changed)) => StepEffect::with_change(ScalarReply::OldSize(size), changed),
+            Err(refusal) => StepEffect::without_change(ScalarReply::Refused(refusal)),
         }
     }
 
-    /// The same, with the size that it had and the slot of the process where a page of it went, or why it keeps its size.
+    /// `sbrk`, with the size before, in bytes, as the result, and the slot of the process if a settled page was released.
+    ///
+    /// # Errors
+    /// Those of `in_kernel`, then `BadSize`, then `NoRoom`.
     fn resize(&mut self, hart: usize, delta: i64) -> Result<(u64, Option<usize>), Refusal>
         requires world { (w : World) × IsWorld self.old w }
-        ensures made { (w : World) → IsWorld self.old w → Makes self.new (size_or_refused result) (plain_step w (step.Sbrk hart delta)) }
+        ensures made { (w : World) → IsWorld self.old w → IsModelOutcome self.new (size_or_refused result) (plain_step w (step.Sbrk hart delta)) }
         ensures changed { (w : World) → IsWorld self.old w → AreMarked w (plain_step w (step.Sbrk hart delta)) (marked_with result) None }
         ensures harts { self.new.harts ≡ self.old.harts }
         ensures tables { (w : World) → IsWorld self.old w → KeepsTables self.old self.new w.slots (plain_step w (step.Sbrk hart delta)).world.slots }
@@ -154,16 +177,19 @@ impl Machine {
         let slot = self.in_kernel(hart, false)?;
         let frames = &mut self.frames;
         let slots = &mut self.slots;
-        let Some(tenant) = &mut slots[slot] else {
+        let Some(slot_process) = &mut slots[slot] else {
             unreachable!()
         };
-        let (size, released) = tenant.sbrk(frames, delta)?;
+        let (size, released) = slot_process.sbrk(frames, delta)?;
         Ok((size, slot_if(slot, released)))
     }
 }
 
-impl Tenant {
-    /// Maps a file. Then nothing is pending.
+impl SlotProcess {
+    /// Maps a file and returns the address of the mapping; no access is pending then.
+    ///
+    /// # Errors
+    /// Those of the model (`mapped`). The process is then unchanged.
     fn mmap(
         &mut self,
         files: &Cabinet,
@@ -172,11 +198,11 @@ impl Tenant {
         flags: u64,
         file: usize,
     ) -> Result<u64, Refusal>
-        requires ready { (t : Tables) × (p : Process) × IsTenant self.old t p }
-        ensures answer { (t : Tables) (p : Process) → IsTenant self.old t p →
+        requires ready { (t : Tables) × (p : Process) × IsSlotProcess self.old t p }
+        ensures answer { (t : Tables) (p : Process) → IsSlotProcess self.old t p →
             result ≡ address_of_mapped (mappings.mapped files.now p length protection flags file) }
-        ensures after { IfOk result (λ _. (t : Tables) (p : Process) → IsTenant self.old t p →
-            IsTenant self.new t (without_pending (process_mapped p (mappings.mapped files.now p length protection flags file)))) }
+        ensures after { IfOk result (λ _. (t : Tables) (p : Process) → IsSlotProcess self.old t p →
+            IsSlotProcess self.new t (without_pending (process_mapped p (mappings.mapped files.now p length protection flags file)))) }
         ensures refused { IfErr result (λ _. self.new ≡ self.old) }
         ensures view { view_of self.new ≡ view_of self.old }
     {
@@ -185,7 +211,10 @@ impl Tenant {
         Ok(address)
     }
 
-    /// Takes a range of addresses out of a mapping, and tells whether a page went. Then nothing is pending.
+    /// Unmaps `length` bytes from `address` on and returns whether a settled page was released; no access is pending then.
+    ///
+    /// # Errors
+    /// Those of the model (`unmapped`). Process, frames and files are then unchanged.
     fn munmap(
         &mut self,
         frames: &mut PlainFrames,
@@ -193,16 +222,16 @@ impl Tenant {
         address: u64,
         length: u64,
     ) -> Result<bool, Refusal>
-        requires fits { Fits BankRule frames.old (view_of self.old) }
-        requires ready { (t : Tables) × (p : Process) × IsTenant self.old t p }
-        ensures unmapped { IfOk result (λ _. (t : Tables) (p : Process) → IsTenant self.old t p → HasUnmapped self.new t p files.old files.new address length) }
-        ensures changed { IfOk result (λ b. (t : Tables) (p : Process) → IsTenant self.old t p → (u : mappings.Unmapped) → mappings.unmapped files.old p address length ≡ Ok u → b ≡ is_changed (Some p) (Some (without_pending u.process))) }
-        ensures refused { IfErr result (λ e. (t : Tables) (p : Process) → IsTenant self.old t p → mappings.unmapped files.old p address length ≡ Err e) }
+        requires fits { IsSeatOf PlainStateRule frames.old (view_of self.old) }
+        requires ready { (t : Tables) × (p : Process) × IsSlotProcess self.old t p }
+        ensures unmapped { IfOk result (λ _. (t : Tables) (p : Process) → IsSlotProcess self.old t p → HasUnmapped self.new t p files.old files.new address length) }
+        ensures changed { IfOk result (λ b. (t : Tables) (p : Process) → IsSlotProcess self.old t p → (u : mappings.Unmapped) → mappings.unmapped files.old p address length ≡ Ok u → b ≡ is_changed (Some p) (Some (without_pending u.process))) }
+        ensures refused { IfErr result (λ e. (t : Tables) (p : Process) → IsSlotProcess self.old t p → mappings.unmapped files.old p address length ≡ Err e) }
         ensures stays { IfErr result (λ _. self.new ≡ self.old) }
         ensures trapframe { self.new.space.trapframe ≡ self.old.space.trapframe }
         ensures files_stay { IfErr result (λ _. files.new ≡ files.old) }
         ensures frames_stay { IfErr result (λ _. frames.new ≡ frames.old) }
-        ensures keeps { Keeps BankRule frames.old (view_of self.old) frames.new (view_of self.new) }
+        ensures keeps { KeepsSeats PlainStateRule frames.old (view_of self.old) frames.new (view_of self.new) }
     {
         let first = Va(address).page().number();
         let released = self.has_settled(frames, first, first + length.div_ceil(PAGE_SIZE));
@@ -211,18 +240,21 @@ impl Tenant {
         Ok(released)
     }
 
-    /// The heap grows by so many bytes, or shrinks. The size that it had, and whether a page went, are told. Then nothing is
-    /// pending.
+    /// Moves the end of the heap by `delta` bytes. Returns the size before, in bytes, and whether a settled page was
+    /// released; no access is pending then.
+    ///
+    /// # Errors
+    /// Those of the model (`sbrk_result`). Process and frames are then unchanged.
     fn sbrk(&mut self, frames: &mut PlainFrames, delta: i64) -> Result<(u64, bool), Refusal>
-        requires fits { Fits BankRule frames.old (view_of self.old) }
-        requires ready { (t : Tables) × (p : Process) × IsTenant self.old t p }
-        ensures answer { (t : Tables) (p : Process) → IsTenant self.old t p → size_of result ≡ size_before p (sbrk_result p delta) }
-        ensures changed { IfOk result (λ x. (t : Tables) (p : Process) → IsTenant self.old t p → (q : Process) → sbrk_result p delta ≡ Ok q → x.1 ≡ is_changed (Some p) (Some (without_pending q))) }
-        ensures resized { IfOk result (λ _. (t : Tables) (p : Process) → IsTenant self.old t p → HasResized self.new t p delta) }
+        requires fits { IsSeatOf PlainStateRule frames.old (view_of self.old) }
+        requires ready { (t : Tables) × (p : Process) × IsSlotProcess self.old t p }
+        ensures answer { (t : Tables) (p : Process) → IsSlotProcess self.old t p → size_of result ≡ size_before p (sbrk_result p delta) }
+        ensures changed { IfOk result (λ x. (t : Tables) (p : Process) → IsSlotProcess self.old t p → (q : Process) → sbrk_result p delta ≡ Ok q → x.1 ≡ is_changed (Some p) (Some (without_pending q))) }
+        ensures resized { IfOk result (λ _. (t : Tables) (p : Process) → IsSlotProcess self.old t p → HasResized self.new t p delta) }
         ensures stays { IfErr result (λ _. self.new ≡ self.old) }
         ensures trapframe { self.new.space.trapframe ≡ self.old.space.trapframe }
         ensures frames_stay { IfErr result (λ _. frames.new ≡ frames.old) }
-        ensures keeps { Keeps BankRule frames.old (view_of self.old) frames.new (view_of self.new) }
+        ensures keeps { KeepsSeats PlainStateRule frames.old (view_of self.old) frames.new (view_of self.new) }
     {
         let released = self.loses_page(frames, delta);
         let before = lazy_growth::sbrk(&mut self.space, frames, delta)?;
@@ -230,11 +262,11 @@ impl Tenant {
         Ok((before, released))
     }
 
-    /// Whether a page goes where the heap grows by so many bytes, or shrinks.
+    /// Whether an sbrk by `delta` bytes, if it is not refused, releases a settled page.
     fn loses_page(&mut self, frames: &mut PlainFrames, delta: i64) -> bool
-        requires fits { Fits BankRule frames.old (view_of self.old) }
-        requires ready { (t : Tables) × (p : Process) × IsTenant self.old t p }
-        ensures changed { (t : Tables) (p : Process) → IsTenant self.old t p → (q : Process) → sbrk_result p delta ≡ Ok q → result ≡ is_changed (Some p) (Some (without_pending q)) }
+        requires fits { IsSeatOf PlainStateRule frames.old (view_of self.old) }
+        requires ready { (t : Tables) × (p : Process) × IsSlotProcess self.old t p }
+        ensures changed { (t : Tables) (p : Process) → IsSlotProcess self.old t p → (q : Process) → sbrk_result p delta ≡ Ok q → result ≡ is_changed (Some p) (Some (without_pending q)) }
         ensures same { self.new ≡ self.old }
         ensures frames { frames.new ≡ frames.old }
     {
@@ -243,7 +275,7 @@ impl Tenant {
             Some(wanted) => {
                 self.has_settled(frames, wanted.div_ceil(PAGE_SIZE), size.div_ceil(PAGE_SIZE))
             }
-            // the call is refused
+            // sbrk is refused then
             None => false,
         }
     }

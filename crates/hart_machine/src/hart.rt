@@ -1,36 +1,38 @@
-// Harts between user and kernel.
+// `Hart`, a struct: its phase (user mode, or how far it is in kernel entry and return), its process's slot (place in the
+// process table), its buffer (TLB) and its stale marks; and what fences and writes of `satp`, fills and a switch do to them.
+// Also the next phase, tests of a phase (such as `is_user`), and `BUFFER_SIZE`, the capacity of a buffer.
 
 ghost use Rattle.std.specs.Prelude.{◌≡◌, ◌+◌, ◌<◌, ◌≤◌, ℕ, length, Some};
-ghost use Rattle.frame_store.specs.Laws.{Fits};
+ghost use Rattle.frame_store.specs.Laws.{IsSeatOf};
 ghost use Rattle.hart_machine.specs.Harts.{advanced, cleaned, emptied, hart_of, is_before_user, next_number, with_entry};
 ghost use Rattle.hart_machine.specs.Slots.{most_slots};
-ghost use Rattle.hart_machine.specs.Walked.{entry_for};
+ghost use Rattle.hart_machine.specs.WalkEntries.{entry_for};
 ghost use Rattle.table_walk.specs.Leaves.{LeavesAreLocal, LeavesAreThere};
 ghost use Rattle.process_model.specs.Harts as model;
 ghost use Rattle.table_walk.specs.Tables.{HasTables, Tables};
 
-use crate::filled::filled;
+use crate::fill_from_tables::fill_from_tables;
 use crate::slots::SlotSet;
 use frame_store::{FrameAccess, FrameSeat};
 use hart_tlb::Buffer;
 use process_model::{Phase, Policy};
 use sv39_entry::{FrameNo, Scheme, Va};
 
-/// How many entries the translation buffer of a hart holds.
+/// Capacity of a hart's buffer (its TLB), in entries.
 pub const BUFFER_SIZE: usize = 32;
 
-/// A hart: where it is between user and kernel, the slot of its process, and its translation buffer.
+/// A hart: its phase between user mode and kernel, the slot of its process, if it has one, and its buffer (TLB).
 #[derive(Drop)]
 pub(crate) struct Hart {
     pub(crate) phase: Phase,
     pub(crate) slot: Option<usize>,
     pub(crate) buffer: Buffer<BUFFER_SIZE>,
-    /// With address-space identifiers: the slots of which old entries may stand in the buffer.
+    /// Policy `asid`: the slots for which the hart is marked. Of their ASIDs the buffer may hold stale entries.
     pub(crate) stale: SlotSet,
 }
 
 impl Hart {
-    /// Without a process, and with an empty buffer.
+    /// An idle hart: no process, an empty buffer, and no mark.
     pub(crate) fn idle() -> Hart
         ensures { hart_of result ≡ model.idle_hart }
     {
@@ -42,8 +44,8 @@ impl Hart {
         }
     }
 
-    /// Makes the next instruction of the trampoline, which is a fence or a write of satp. Where there is none in this phase
-    /// nothing happens.
+    /// Makes the next instruction of kernel entry or return, a fence or a write of `satp` (the xv6 book, "Traps from user
+    /// space"), by the policy. In the phases `Idle` and `User` there is none, and nothing changes.
     pub(crate) fn advance(&mut self, policy: Policy)
         requires slot { (s : ℕ) → self.old.slot ≡ Some s → s < most_slots }
         ensures { self.new ≡ advanced policy self.old }
@@ -57,7 +59,7 @@ impl Hart {
         }
     }
 
-    /// With fences of everything: empties the buffer where the next instruction is one.
+    /// Policy `full`: if the next instruction is a fence, empties the buffer.
     fn fence(&mut self)
         ensures { self.new ≡ emptied self.old }
     {
@@ -66,8 +68,8 @@ impl Hart {
         }
     }
 
-    /// With address-space identifiers: where the next instruction is the last of the return and the slot is marked, takes the
-    /// entries of the slot's identifier out of the buffer, and the mark off.
+    /// Policy `asid`: if the next instruction is the last fence of the return and the hart is marked for its slot, fences
+    /// that slot's ASID and clears the mark. No other fence does anything.
     fn clean(&mut self)
         requires slot { (s : ℕ) → self.old.slot ≡ Some s → s < most_slots }
         ensures { self.new ≡ cleaned self.old }
@@ -84,7 +86,7 @@ impl Hart {
         }
     }
 
-    /// The address-space identifier that satp has.
+    /// The ASID in `satp`: that of the hart's process while `satp` names the process's table and the policy is `asid`, else 0.
     pub(crate) fn asid(&self, policy: Policy) -> u16
         requires slot { (s : ℕ) → self.now.slot ≡ Some s → s < most_slots }
         ensures { result ≡ model.present_asid policy (hart_of self.now) }
@@ -95,8 +97,8 @@ impl Hart {
         }
     }
 
-    /// Translates the page of an address by the tables below a root, and keeps the outcome under an address-space identifier. It
-    /// tells the number of the new entry.
+    /// Walks the page tables below `root` for the page of `va`, keeps what the walk finds as the newest entry of the buffer,
+    /// under `asid`, and returns the number of that entry. A full buffer loses its oldest entry.
     pub(crate) fn fill<F: FrameAccess>(
         &mut self,
         store: &mut F,
@@ -106,7 +108,7 @@ impl Hart {
         asid: u16,
         va: Va,
     ) -> usize
-        requires fits { Fits F.rule store.old seat.old }
+        requires fits { IsSeatOf F.rule store.old seat.old }
         requires held { (t : Tables) × HasTables scheme (F.Seat.view seat.old) root.0 t }
         ensures kept { (t : Tables) → HasTables scheme (F.Seat.view seat.old) root.0 t → LeavesAreThere scheme t → LeavesAreLocal scheme t → self.new ≡ with_entry self.old (entry_for scheme t asid va.0) }
         ensures number { result ≡ next_number self.old.buffer }
@@ -114,13 +116,13 @@ impl Hart {
         ensures view { F.Seat.view seat.new ≡ F.Seat.view seat.old }
         ensures same { store.new ≡ store.old }
     {
-        // a full buffer loses its first entry
+        // a full buffer loses its oldest entry, and then the new one has the number 31
         let number = self.buffer.len().min(31);
-        filled(&mut self.buffer, store, seat, scheme, root, asid, va);
+        fill_from_tables(&mut self.buffer, store, seat, scheme, root, asid, va);
         number
     }
 
-    /// Takes the process of a slot on the hart, or none.
+    /// Puts the process of a slot on the hart, in phase `Kernel`; `None` leaves the hart idle.
     pub(crate) fn take(&mut self, slot: Option<usize>)
         ensures { self.new ≡ record self.old { phase = model.phase_for slot; slot = slot } }
     {
@@ -132,7 +134,8 @@ impl Hart {
     }
 }
 
-/// The phase after the next instruction of the trampoline (the xv6 book, "Traps from user space").
+/// The phase after the next instruction of kernel entry or return (the xv6 book, "Traps from user space"); `None` in `Idle` and
+/// `User`, which have none.
 pub(crate) fn next_phase(phase: Phase) -> Option<Phase>
     ensures { result ≡ model.next_phase phase }
 {
@@ -147,7 +150,7 @@ pub(crate) fn next_phase(phase: Phase) -> Option<Phase>
     }
 }
 
-/// The address-space identifier of the process in a slot. That of the kernel is 0.
+/// The ASID of the process in a slot, under policy `asid`: the slot plus 1. The kernel has ASID 0.
 fn asid_of(slot: usize) -> u16
     requires { slot < most_slots }
     ensures { result ≡ slot + 1 }
@@ -155,14 +158,14 @@ fn asid_of(slot: usize) -> u16
     slot as u16 + 1
 }
 
-/// Whether that instruction is the last of the return.
+/// Whether the next instruction is the last of the return: the process runs after it.
 fn is_before_user(phase: Phase) -> bool
     ensures { result ≡ is_before_user phase }
 {
     matches!(phase, Phase::Leave2)
 }
 
-/// Whether that instruction is a fence.
+/// Whether the next instruction of kernel entry or return is a fence.
 fn is_before_fence(phase: Phase) -> bool
     ensures { result ≡ model.is_before_fence phase }
 {
@@ -172,28 +175,28 @@ fn is_before_fence(phase: Phase) -> bool
     )
 }
 
-/// Whether another process may come on a hart in this phase.
+/// Whether the hart may switch to a process, or to none, in this phase.
 pub(crate) fn may_switch(phase: Phase) -> bool
     ensures { result ≡ model.may_switch phase }
 {
     matches!(phase, Phase::Idle | Phase::Kernel)
 }
 
-/// Whether the user runs in this phase.
+/// Whether the process runs in user mode in this phase.
 pub(crate) fn is_user(phase: Phase) -> bool
     ensures { result ≡ model.is_user phase }
 {
     matches!(phase, Phase::User)
 }
 
-/// Whether the kernel runs outside the trampoline.
+/// Whether the kernel runs for the process in this phase, outside the trampoline.
 pub(crate) fn is_kernel(phase: Phase) -> bool
     ensures { result ≡ model.is_kernel phase }
 {
     matches!(phase, Phase::Kernel)
 }
 
-/// Whether satp has the process's table in this phase, and else the kernel's.
+/// Whether `satp` names the process's page table in this phase; in all others it names the kernel's.
 pub(crate) fn has_user_satp(phase: Phase) -> bool
     ensures { result ≡ model.has_user_satp phase }
 {
@@ -203,7 +206,7 @@ pub(crate) fn has_user_satp(phase: Phase) -> bool
     )
 }
 
-/// Whether the kernel's code runs in the trampoline page in this phase.
+/// Whether the kernel's code in the trampoline's page runs in this phase.
 pub(crate) fn in_trampoline(phase: Phase) -> bool
     ensures { result ≡ model.in_trampoline phase }
 {

@@ -1,27 +1,29 @@
-//! Harts and their steps.
+//! `Machine`, a struct: frames, the kernel's page table, processes in slots (places in the process table), harts with TLBs,
+//! and files. Its steps reply what the model replies, and leave the machine in the state that the model has. Also
+//! `BootError`, why a machine was not booted, and `BUFFER_SIZE`, the capacity of a TLB.
 #![tactic(auto)]
 
-mod accessing;
+mod access;
 mod boot;
-mod buffering;
+mod buffer_steps;
 mod calls;
-mod copying;
-mod ending;
-mod executing;
-mod filled;
-mod forking;
+mod copies;
+mod exec;
+mod exit;
+mod fill_from_tables;
+mod fork;
 mod hart;
+mod leaf_changes;
 mod machine;
-mod marking;
-mod serving;
+mod serve;
+mod slot_process;
 mod slots;
-mod starting;
-mod stepping;
-mod switching;
+mod stale_marks;
+mod start;
+mod step;
+mod switch;
 mod tables;
-mod tenant;
 mod trampoline;
-mod watching;
 
 pub use boot::BootError;
 pub use hart::BUFFER_SIZE;

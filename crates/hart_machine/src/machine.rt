@@ -1,49 +1,53 @@
-// The machine.
+// `Machine`, the struct, and its accessors: accounts of frames, files, a hart's phase and slot (place in the process table),
+// whether a slot has a process. Also `set_pending`, which sets a process's pending access.
 
 ghost use Rattle.std.specs.Prelude.{◌≡◌, is_some, option_and_then, option_map, slice_get, Some};
 ghost use Rattle.std.specs.Vec.{with_item};
-ghost use Rattle.hart_machine.specs.declared.tenant.Tenant.{Tenant};
-ghost use Rattle.hart_machine.specs.Serves.{IsIn};
+ghost use Rattle.hart_machine.specs.declared.slot_process.SlotProcess.{SlotProcess};
+ghost use Rattle.hart_machine.specs.BufferEntries.{IsInWorld};
 ghost use Rattle.hart_machine.specs.Worlds.{IsWorld};
 ghost use Rattle.process_model.specs.World.{process_in, report, World};
 
 use crate::hart::Hart;
-use crate::tenant::{Pending, Tenant};
+use crate::slot_process::{Pending, SlotProcess};
 use address_space::KernelTable;
 use cow_fork::PageList;
 use file_cabinet::Cabinet;
 use frame_store::{PlainFrames, PlainSeat};
 use process_model::{Phase, Policy, Report};
 
-/// One memory with the table of the kernel, processes in slots, harts, and files. All that it needs is made when it is booted.
+/// A machine: policy, frames, the kernel's page table, slots (places in the process table), harts with their buffers
+/// (TLBs), and files. `boot` makes one; `step` and `run` make its steps.
 #[derive(Drop)]
 pub struct Machine {
     pub(crate) policy: Policy,
     pub(crate) frames: PlainFrames,
     pub(crate) kernel: KernelTable<PlainSeat>,
-    pub(crate) slots: Vec<Option<Tenant>>,
+    pub(crate) slots: Vec<Option<SlotProcess>>,
     pub(crate) harts: Vec<Hart>,
     pub(crate) files: Cabinet,
-    /// Room for the pages of a process that forks.
+    /// The list into which a fork collects the settled pages of the parent.
     pub(crate) pages: PageList,
 }
 
 impl Machine {
-    /// The accounts of the frames.
+    /// Returns the counts of frames: free ones; held ones, which are all others; shared ones, which two or more processes
+    /// have, and the trampoline's if there is a process; and the references to frames, those of the kernel's direct map
+    /// aside.
     pub fn report(&self) -> Report
-        ensures { (w : World) → IsIn self.now w → result ≡ report w }
+        ensures { (w : World) → IsInWorld self.now w → result ≡ report w }
     {
         self.frames.report()
     }
 
-    /// The files, as they are now.
+    /// The files, with the bytes that they have at this moment.
     pub fn files(&self) -> &Cabinet
-        ensures { (w : World) → IsIn self.now w → result.now ≡ w.files }
+        ensures { (w : World) → IsInWorld self.now w → result.now ≡ w.files }
     {
         &self.files
     }
 
-    /// Where a hart is between user and kernel.
+    /// The phase of a hart between user mode and kernel; `None` if there is no such hart.
     pub(crate) fn phase_of(&self, hart: usize) -> Option<Phase>
         ensures { result ≡ option_map (λ x. x.phase) (slice_get self.now.harts.items hart) }
     {
@@ -53,7 +57,7 @@ impl Machine {
         }
     }
 
-    /// The slot of a hart's process.
+    /// The slot of the process on a hart; `None` if there is no such hart, or no process on it.
     pub(crate) fn slot_of(&self, hart: usize) -> Option<usize>
         ensures { result ≡ option_and_then (λ x. x.slot) (slice_get self.now.harts.items hart) }
     {
@@ -63,22 +67,22 @@ impl Machine {
         }
     }
 
-    /// Whether a slot has a process.
+    /// Whether there is such a slot and it has a process.
     pub(crate) fn has_process(&self, slot: usize) -> bool
         ensures { (w : World) → IsWorld self.now w → result ≡ is_some (process_in w slot) }
     {
         matches!(self.slots.get(slot), Some(Some(_)))
     }
 
-    /// Sets what the process of a slot has pending.
+    /// Sets the pending access of the process in a slot; `None` if none is pending.
     pub(crate) fn set_pending(&mut self, slot: usize, pending: Option<Pending>)
-        requires there { (x : Tenant) × (slice_get self.old.slots.items slot ≡ Some (Some x)) }
-        ensures { (x : Tenant) → slice_get self.old.slots.items slot ≡ Some (Some x) → self.new ≡ record self.old { slots = with_item self.old.slots slot (Some (record x { pending = pending })) } }
+        requires there { (x : SlotProcess) × (slice_get self.old.slots.items slot ≡ Some (Some x)) }
+        ensures { (x : SlotProcess) → slice_get self.old.slots.items slot ≡ Some (Some x) → self.new ≡ record self.old { slots = with_item self.old.slots slot (Some (record x { pending = pending })) } }
     {
         let slots = &mut self.slots;
-        let Some(tenant) = &mut slots[slot] else {
+        let Some(slot_process) = &mut slots[slot] else {
             unreachable!()
         };
-        tenant.pending = pending;
+        slot_process.pending = pending;
     }
 }

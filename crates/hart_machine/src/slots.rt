@@ -1,20 +1,21 @@
-// Sets of slots.
+// `SlotSet`, a struct: a set of slots (places in the process table), for the slots that are marked as stale on a hart; and
+// `MOST_SLOTS`, the maximum number of slots.
 
 ghost use Rattle.std.specs.Prelude.{◌≡◌, ◌<◌, ◌==◌, ◌||◌, ℕ, false, replicate, slice_set};
 ghost use Rattle.hart_machine.specs.Slots.{marks_of, most_slots};
 
 use std::marker::Model;
 
-/// How many slots a machine has at most.
+/// Maximum number of slots of a machine.
 pub(crate) const MOST_SLOTS: usize = 64;
 
-/// A set of slots.
+/// A set of slots below 64.
 #[derive(Drop)]
 pub(crate) struct SlotSet {
     members: [bool; MOST_SLOTS],
 }
 
-/// Contracts see of each slot whether it is in the set.
+/// Contracts see, for each slot, whether it is in the set.
 impl Model for SlotSet {
     ghost use Rattle.std.specs.Prelude.{Bool, List};
 
@@ -24,7 +25,7 @@ impl Model for SlotSet {
 }
 
 impl SlotSet {
-    /// Without a slot.
+    /// The empty set.
     pub(crate) fn empty() -> SlotSet
         ensures { result ≡ replicate most_slots false }
     {
@@ -40,7 +41,7 @@ impl SlotSet {
         self.members.get(slot).copied().unwrap_or(false)
     }
 
-    /// Puts a slot into the set.
+    /// Adds a slot to the set.
     pub(crate) fn insert(&mut self, slot: usize)
         requires { slot < most_slots }
         ensures { (n : ℕ) → marks_of self.new n ≡ (slot == n || marks_of self.old n) }
@@ -48,7 +49,7 @@ impl SlotSet {
         self.members[slot] = true;
     }
 
-    /// Takes a slot out of the set.
+    /// Removes a slot from the set.
     pub(crate) fn remove(&mut self, slot: usize)
         requires { slot < most_slots }
         ensures { self.new ≡ slice_set self.old slot false }

@@ -1,12 +1,13 @@
-// Translations by the table that a hart's satp has.
+// Translation on a hart: by a walk of the page table that its `satp` names (`SatpTable`, an enum: the kernel's or a
+// process's), or by an entry of its buffer (TLB); and fills of the buffer by such a walk.
 
 ghost use Rattle.std.specs.Prelude.{◌≡◌, IfOk, is_ok, option_map, slice_get, Some};
 ghost use Rattle.hart_machine.specs.Buffers.{BuffersAre};
 ghost use Rattle.hart_machine.specs.Harts.{hart_of};
-ghost use Rattle.hart_machine.specs.Serves.{IsIn};
-ghost use Rattle.hart_machine.specs.Tables.{tables_of, IsServed, IsThere, MayAsk, present_table};
+ghost use Rattle.hart_machine.specs.BufferEntries.{IsInWorld};
+ghost use Rattle.hart_machine.specs.Tables.{tables_of, IsTranslated, HasTable, MayAsk, present_table};
 ghost use Rattle.table_walk.specs.Leaves.{walk_answer};
-ghost use Rattle.hart_machine.specs.Worlds.{IsWorld, Makes, SamePlaces, StaysIn};
+ghost use Rattle.hart_machine.specs.Worlds.{IsWorld, IsModelOutcome, SamePlaces, KeepsWorld};
 ghost use Rattle.hart_machine.specs.declared.hart.Hart.{Hart};
 ghost use Rattle.process_model.specs.Harts.{entry_serves};
 ghost use Rattle.process_model.specs.Steps.{plain_step};
@@ -20,29 +21,29 @@ use hart_tlb::NoEntry;
 use sv39_entry::{Access, Mode, Va};
 use table_walk::{Walk, translate_held};
 
-/// A table that satp may have.
+/// A page table that `satp` may name: the kernel's, or a process's.
 #[derive(Clone, Copy)]
-pub(crate) enum Table {
+pub(crate) enum SatpTable {
     OfKernel,
-    /// That of the process in a slot.
+    /// The page table of the process in this slot.
     OfProcess(usize),
 }
 
 impl Hart {
-    /// The table that satp has now.
-    fn table(&self) -> Table
+    /// The page table that the hart's `satp` names in its phase.
+    fn table(&self) -> SatpTable
         ensures { result ≡ present_table self.now }
     {
         match self.slot {
-            Some(slot) if has_user_satp(self.phase) => Table::OfProcess(slot),
-            _ => Table::OfKernel,
+            Some(slot) if has_user_satp(self.phase) => SatpTable::OfProcess(slot),
+            _ => SatpTable::OfKernel,
         }
     }
 }
 
 impl Machine {
-    /// The table that a hart's satp has now.
-    pub(crate) fn table_of(&self, hart: usize) -> Option<Table>
+    /// The page table that a hart's `satp` names in its phase; `None` if there is no such hart.
+    pub(crate) fn table_of(&self, hart: usize) -> Option<SatpTable>
         ensures { result ≡ option_map present_table (slice_get self.now.harts.items hart) }
     {
         match self.harts.get(hart) {
@@ -51,9 +52,12 @@ impl Machine {
         }
     }
 
-    /// What an access on a hart is translated to: by the named entry of its buffer, or else by a walk of the table that its
-    /// satp has.
-    pub(crate) fn translated(
+    /// Translates an access on a hart: by the entry with number `via` of its buffer, or, if `via` is `None`, by a walk of the
+    /// page table that its `satp` names. Returns the leaf with the physical address, or the fault.
+    ///
+    /// # Errors
+    /// `NoEntry`: exactly when `via` names an entry that is not there, or is for another page or another ASID.
+    pub(crate) fn translate_access(
         &mut self,
         hart: usize,
         via: Option<usize>,
@@ -64,15 +68,15 @@ impl Machine {
         requires hart { (x : Hart) × (slice_get self.old.harts.items hart ≡ Some x) }
         requires world { (w : World) × IsWorld self.old w }
         ensures serves { (w : World) (x : Hart) → IsWorld self.old w → slice_get self.old.harts.items hart ≡ Some x → is_ok result ≡ entry_serves self.old.policy (hart_of x) va.0 via }
-        ensures walk { IfOk result (λ z. (w : World) (is : IsIn self.old w) (x : Hart) → slice_get self.old.harts.items hart ≡ Some x → MayAsk self.old.kernel.scheme x va.0 →
-            IsServed self.old.kernel.scheme x (is.world).tables (is.world).kernel va.0 access mode z) }
-        ensures world { StaysIn self.old self.new }
+        ensures walk { IfOk result (λ z. (w : World) (is : IsInWorld self.old w) (x : Hart) → slice_get self.old.harts.items hart ≡ Some x → MayAsk self.old.kernel.scheme x va.0 →
+            IsTranslated self.old.kernel.scheme x (is.world).tables (is.world).kernel va.0 access mode z) }
+        ensures world { KeepsWorld self.old self.new }
         ensures places { SamePlaces self.old self.new }
         ensures policy { self.new.policy ≡ self.old.policy }
         ensures harts { self.new.harts ≡ self.old.harts }
     {
         if let Some(entry) = via {
-            return self.by_entry(hart, entry, va, access, mode);
+            return self.translate_by_entry(hart, entry, va, access, mode);
         }
         let Some(table) = self.table_of(hart) else {
             unreachable!()
@@ -80,8 +84,11 @@ impl Machine {
         Ok(self.walk(table, va, access, mode))
     }
 
-    /// What an entry of a hart's buffer translates an access to, where there is one that serves it.
-    fn by_entry(
+    /// Translates an access by the entry with number `entry` of a hart's buffer.
+    ///
+    /// # Errors
+    /// `NoEntry`: exactly when that entry is not there, or is for another page or another ASID.
+    fn translate_by_entry(
         &self,
         hart: usize,
         entry: usize,
@@ -91,8 +98,8 @@ impl Machine {
     ) -> Result<Walk, NoEntry>
         requires world { (w : World) × IsWorld self.now w }
         ensures serves { (w : World) (x : Hart) → IsWorld self.now w → slice_get self.now.harts.items hart ≡ Some x → is_ok result ≡ entry_serves self.now.policy (hart_of x) va.0 (Some entry) }
-        ensures walk { IfOk result (λ z. (w : World) (is : IsIn self.now w) (x : Hart) → slice_get self.now.harts.items hart ≡ Some x → MayAsk self.now.kernel.scheme x va.0 →
-            IsServed self.now.kernel.scheme x (is.world).tables (is.world).kernel va.0 access mode z) }
+        ensures walk { IfOk result (λ z. (w : World) (is : IsInWorld self.now w) (x : Hart) → slice_get self.now.harts.items hart ≡ Some x → MayAsk self.now.kernel.scheme x va.0 →
+            IsTranslated self.now.kernel.scheme x (is.world).tables (is.world).kernel va.0 access mode z) }
     {
         let Some(hart) = self.harts.get(hart) else {
             return Err(NoEntry);
@@ -101,19 +108,19 @@ impl Machine {
         hart.buffer.use_entry(entry, va, asid, access, mode)
     }
 
-    /// Translates an access by the tables in memory.
-    fn walk(&mut self, table: Table, va: Va, access: Access, mode: Mode) -> Walk
-        requires there { IsThere self.old table }
+    /// Translates an access by a walk of this page table.
+    fn walk(&mut self, table: SatpTable, va: Va, access: Access, mode: Mode) -> Walk
+        requires there { HasTable self.old table }
         requires world { (w : World) × IsWorld self.old w }
         ensures walk { (w : World) (is : IsWorld self.old w) → result ≡ walk_answer w.scheme (tables_of is.tables is.kernel table) va.0 access mode }
-        ensures world { StaysIn self.old self.new }
+        ensures world { KeepsWorld self.old self.new }
         ensures places { SamePlaces self.old self.new }
         ensures policy { self.new.policy ≡ self.old.policy }
         ensures harts { self.new.harts ≡ self.old.harts }
     {
         let frames = &mut self.frames;
         match table {
-            Table::OfKernel => {
+            SatpTable::OfKernel => {
                 let kernel = &mut self.kernel;
                 translate_held(
                     frames,
@@ -125,22 +132,22 @@ impl Machine {
                     mode,
                 )
             }
-            Table::OfProcess(slot) => {
+            SatpTable::OfProcess(slot) => {
                 let slots = &mut self.slots;
-                let Some(tenant) = &mut slots[slot] else {
+                let Some(slot_process) = &mut slots[slot] else {
                     unreachable!()
                 };
-                tenant.space.translate(frames, va, access, mode)
+                slot_process.space.translate(frames, va, access, mode)
             }
         }
     }
 
-    /// Translates the page of an address by the table that a hart's satp has, and keeps the outcome in the hart's buffer. It
-    /// tells the number of the new entry.
-    pub(crate) fn keep(&mut self, hart: usize, table: Table, va: Va) -> usize
+    /// Walks the page table that a hart's `satp` names for the page of `va`, keeps what the walk finds as the newest entry of
+    /// the hart's buffer, and returns the number of that entry.
+    pub(crate) fn fill_from_walk(&mut self, hart: usize, table: SatpTable, va: Va) -> usize
         requires present { (x : Hart) × (slice_get self.old.harts.items hart ≡ Some x) × (table ≡ present_table x) }
         requires world { (w : World) × IsWorld self.old w }
-        ensures made { (w : World) → IsWorld self.old w → Makes self.new (Filled result) (plain_step w (step.Fill hart va.0)) }
+        ensures made { (w : World) → IsWorld self.old w → IsModelOutcome self.new (Filled result) (plain_step w (step.Fill hart va.0)) }
         ensures buffers { (w : World) (is : IsWorld self.old w) → BuffersAre self.old self.new is.tables is.kernel (step.Fill hart va.0) (Filled result) }
         ensures places { SamePlaces self.old self.new }
     {
@@ -149,7 +156,7 @@ impl Machine {
         let hart = &mut self.harts[hart];
         let asid = hart.asid(policy);
         match table {
-            Table::OfKernel => {
+            SatpTable::OfKernel => {
                 let kernel = &mut self.kernel;
                 hart.fill(
                     frames,
@@ -160,12 +167,12 @@ impl Machine {
                     va,
                 )
             }
-            Table::OfProcess(slot) => {
+            SatpTable::OfProcess(slot) => {
                 let slots = &mut self.slots;
-                let Some(tenant) = &mut slots[slot] else {
+                let Some(slot_process) = &mut slots[slot] else {
                     unreachable!()
                 };
-                let space = &mut tenant.space;
+                let space = &mut slot_process.space;
                 let scheme = space.layout.scheme();
                 hart.fill(frames, &mut space.seat, scheme, space.root, asid, va)
             }

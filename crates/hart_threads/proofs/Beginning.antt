@@ -1,25 +1,26 @@
--- What begins with a start, and what does not.
+-- Lemmas for enlisting a start: a process that began is unfinished as its voucher says (`begun_out`), a start without a
+-- process has ended (`unbegun_ended`), and which start is next when so many are left.
 use Rattle.std.proofs.Common.{◌≡◌, ℕ, ◌+◌, ◌-◌, ◌<◌, List, [], ◌∷◌, Option, None, Some, length, get_or, refl, sym, ap, ◌∙◌, subst, arith}
 use Rattle.std.specs.Prelude.{slice_get}
 use Rattle.std.proofs.lemmas.Grind.{merely}
 use Rattle.std.proofs.lemmas.Option.{slice_get-get_or}
-use Rattle.vouchers.specs.Entries.{Entry as Life, entry}
+use Rattle.vouchers.specs.Entries.{TokenEntry as Life, entry}
 use Rattle.hart_calls.specs.Replay.{list_at, Replays}
 use Rattle.hart_threads.proofs.Names.{first_of}
-use Rattle.hart_threads.specs.Heirs.{heirs}
+use Rattle.hart_threads.specs.ChildLists.{child_lists}
 use Rattle.hart_calls.specs.Track.{Track}
-use Rattle.hart_calls.specs.declared.entry.Entry.{Entry}
+use Rattle.hart_calls.specs.declared.journal_entry.JournalEntry.{JournalEntry}
 use Rattle.hart_calls.specs.declared.finished.Finished.{Finished}
 use Rattle.process_model.specs.Process.{Process}
 use Rattle.process_model.specs.declared.call.Call.{Call}
 use Rattle.process_model.specs.declared.call.Start.{Start}
 use Rattle.process_model.specs.declared.call.Outcome.{Outcome}
 use Rattle.process_model.specs.declared.call.Outcome.TheVariants as outcome
-use Rattle.shared_frames.specs.Fits.{view_of}
+use Rattle.shared_frames.specs.SeatsOfTable.{view_of}
 use Rattle.frame_store.specs.View.{View}
-use Rattle.hart_threads.specs.Makes.{IsUnbegun, IsWhy}
+use Rattle.hart_threads.specs.StartEffects.{IsUnbegun, IsWhy}
 use Rattle.hart_threads.specs.Starts.{IsProcessOf}
-use Rattle.hart_threads.specs.Rostered.{AsEnded, GoOn, IsEnded, IsOfStart, IsOut, Opens}
+use Rattle.hart_threads.specs.RosterState.{AsEnded, GoOn, IsEnded, IsOfStart, IsOut, BeginsAsImage}
 
 abbrev or_start : Start → Option Start → Start
 or_start d None = d
@@ -33,7 +34,7 @@ module _ (lists : List (List Call)) (starts : List Start) (i : ℕ) (s : Start) 
       let both : Some t ≡ Some s = sym of.2 ∙ (ap (slice_get starts) same ∙ at) in
       ap (or_start s) both
 
-  opens : (p : Process) → IsProcessOf s.image p → Opens starts name p
+  opens : (p : Process) → IsProcessOf s.image p → BeginsAsImage starts name p
   opens p is t of = merely (subst (λ (u : Start). IsProcessOf u.image p) (sym (only t of)) is)
 
   some : name ≡ [] → ⊥
@@ -42,17 +43,17 @@ module _ (lists : List (List Call)) (starts : List Start) (i : ℕ) (s : Start) 
   -- a process begins
   pub begun_out : (held : List Life) (k : ℕ) (t : Track) (p : Process) → k ≡ s.list → IsProcessOf s.image p → held ≡ entry name k [] ∷ [] → t.name ≡ name → t.lists ≡ lists → t.list ≡ k → t.opening ≡ p → t.journal ≡ [] → IsOut lists starts held t
   begun_out held k t p list is holds names its_lists its_list its_opening none = record {
-    holds = holds ∙ (ap (λ (m : List ℕ). entry m k [] ∷ []) (sym names) ∙ (ap (λ (n : ℕ). entry t.name n [] ∷ []) (sym its_list) ∙ ap (λ (hs : List ℕ). entry t.name t.list hs ∷ []) (sym (ap heirs none))));
+    holds = holds ∙ (ap (λ (m : List ℕ). entry m k [] ∷ []) (sym names) ∙ (ap (λ (n : ℕ). entry t.name n [] ∷ []) (sym its_list) ∙ ap (λ (hs : List ℕ). entry t.name t.list hs ∷ []) (sym (ap child_lists none))));
     lists = its_lists;
     named = λ empty. some (sym names ∙ empty);
-    opens = subst (λ (m : List ℕ). Opens starts m t.opening) (sym names) (subst (λ (q : Process). Opens starts name q) (sym its_opening) (opens p is));
+    opens = subst (λ (m : List ℕ). BeginsAsImage starts m t.opening) (sym names) (subst (λ (q : Process). BeginsAsImage starts name q) (sym its_opening) (opens p is));
     goes = subst GoOn (sym none) refl;
   }
 
   -- it has no process
-  why_ended : (v : View) (o : Outcome) (journal : List Entry) → journal ≡ [] → IsWhy s v o → AsEnded starts (list_at lists s.list) v o name journal
+  why_ended : (v : View) (o : Outcome) (journal : List JournalEntry) → journal ≡ [] → IsWhy s v o → AsEnded starts (list_at lists s.list) v o name journal
   why_ended v (outcome.Refused r) journal none why = (none, (s, (i, named, at), why))
-  why_ended v outcome.Memory journal none why = ((why.0, why.0, opens why.0 why.1, subst (λ (es : List Entry). Replays why.0 0 0 (list_at lists s.list) es why.0) (sym none) refl), subst GoOn (sym none) refl)
+  why_ended v outcome.Memory journal none why = ((why.0, why.0, opens why.0 why.1, subst (λ (es : List JournalEntry). Replays why.0 0 0 (list_at lists s.list) es why.0) (sym none) refl), subst GoOn (sym none) refl)
   why_ended v (outcome.Exited status) journal none why = absurd why
   why_ended v (outcome.Ended rule) journal none why = absurd why
   why_ended v outcome.JournalFull journal none why = absurd why
@@ -60,10 +61,10 @@ module _ (lists : List (List Call)) (starts : List Start) (i : ℕ) (s : Start) 
   pub unbegun_ended : (slots taken : ℕ) (f : Finished) → IsUnbegun slots taken s name f → IsEnded lists starts (entry f.name.items s.list []) f
   unbegun_ended slots taken f none = record {
     name = refl;
-    heirs = ap heirs none.journal;
+    child_lists = ap child_lists none.journal;
     bare = none.bare;
     ended = subst (λ (m : List ℕ). AsEnded starts (list_at lists s.list) (view_of f.seat) f.outcome m f.journal.items) (sym none.named) (why_ended (view_of f.seat) f.outcome f.journal.items none.journal none.why);
-    few = let long = ap (λ (es : List Entry). length es) none.journal in omega (arith, long);
+    few = let long = ap (λ (es : List JournalEntry). length es) none.journal in omega (arith, long);
   }
 
 -- the next start, where so many are left

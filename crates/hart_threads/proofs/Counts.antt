@@ -1,8 +1,9 @@
--- How many lives have a name.
+-- Lemmas on how many lives (the roster's records of processes) have one name: names stay apart if a life is added, removed,
+-- moved to the ended or replaced by one of its name; two lives of one name are one (`one_of`).
 use Rattle.std.proofs.Common.{◌≡◌, ◌⊎◌, inl, inr, ℕ, ◌+◌, ◌<◌, ◌≤◌, Bool, true, false, cond, List, [], ◌∷◌, ◌++◌, refl, sym, ap, ◌∙◌, arith}
-use Rattle.vouchers.specs.Entries.{Entry as Life, entry, Has, same, same_name, without}
+use Rattle.vouchers.specs.Entries.{TokenEntry as Life, entry, Has, same, same_name, without}
 use Rattle.vouchers.specs.Lists.{same_is, same_self, tells}
-use Rattle.hart_threads.specs.Rostered.{AreApart, AreNamed, times}
+use Rattle.hart_threads.specs.RosterState.{AreApart, AreNamed, times}
 
 -- one life
 

@@ -1,14 +1,15 @@
--- What splitting a seat off the kernel's leaves of it, and of the new one.
+-- Lemmas on splitting a seat (an owner's capability at a frame store) off the kernel's: what the kernel's keeps (`Lends`),
+-- that the new one holds frame 0 or nothing, that nothing is left once frame 0 is released, and that both are at one table.
 use Rattle.std.proofs.Common.{◌≡◌, ℕ, zero, suc, ◌-◌, ◌==◌, false, cond, ap, refl, subst, sym, ◌∙◌, List, [], ◌∷◌, arith, Result, Ok, Err}
 use Rattle.std.specs.Prelude.{IfErr, IfOk}
 use Rattle.atomic_table.specs.Seated.{TableId}
 use Rattle.address_space.specs.Agreement.{HoldsTrampoline}
 use Rattle.address_space.specs.Steps.{IsBare}
 use Rattle.frame_store.specs.Holds.{hold_of-empty, hold_of-frames, hold_of-with_hold_other, hold_of-with_hold_same, hold_of-without_hold_other, hold_of-without_hold_same}
-use Rattle.frame_store.specs.Laws.{IsAnchored, IsDry, Keeps}
-use Rattle.frame_store.specs.Opened.{opened, opener}
+use Rattle.frame_store.specs.Laws.{IsAnchored, IsDry, KeepsSeats}
+use Rattle.frame_store.specs.SeatOpening.{opened, opener}
 use Rattle.frame_store.specs.View.{Hold, View, empty_view, hold_of, read_full, references, released, with_hold, without_hold}
-use Rattle.shared_frames.specs.Fits.{AllFit, FitsIn, fits_still, view_of}
+use Rattle.shared_frames.specs.SeatsOfTable.{AllFit, FitsIn, fits_still, view_of}
 use Rattle.shared_frames.specs.declared.seat.SharedSeat.{SharedSeat}
 use Rattle.hart_threads.specs.Starts.{Lends}
 
@@ -102,7 +103,7 @@ fits_both z a b s t u is kept fits =
 module _ {E : Type 0} (z b : TableId) (s t : SharedSeat) (fits : FitsIn z s) where
   abbrev Opens : Result SharedSeat E → Type 0
   Opens r = IfOk r (λ _. view_of t ≡ opener (view_of s)) × IfOk r (λ u. view_of u ≡ opened (view_of s)) × IfErr r (λ _. view_of t ≡ read_full (view_of s))
-      × IfOk r (λ u. (others : List SharedSeat) → AllFit z (s ∷ others) → AllFit b (t ∷ u ∷ others)) × IfErr r (λ _. Keeps AllFit z s b t)
+      × IfOk r (λ u. (others : List SharedSeat) → AllFit z (s ∷ others) → AllFit b (t ∷ u ∷ others)) × IfErr r (λ _. KeepsSeats AllFit z s b t)
 
   pub opens_seat : (r : Result SharedSeat E) → Opens r → IfOk r (λ u. FitsIn z u × HoldsTrampoline (view_of u))
   opens_seat (Ok u) o = ((fits_both z z b s t u refl o.3 fits).1.1, opened_ready _ _ o.1)

@@ -3,7 +3,7 @@ mod Names
 mod Counts
 mod Rosters
 mod Lending
-mod Vouching
+mod TokenSteps
 mod Beginning
 mod Slotting
 mod Making

@@ -1,4 +1,5 @@
--- Names of children: the parent's, with a number after it.
+-- Lemmas on names of children (the parent's name with a number after it): never empty, never the name of a start, and they
+-- determine the parent's name and the number.
 use Rattle.std.proofs.Common.{◌≡◌, ℕ, List, [], ◌∷◌, ◌++◌, refl, sym, ap, ◌∙◌}
 
 abbrev pub first_of : List ℕ → ℕ

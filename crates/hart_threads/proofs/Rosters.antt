@@ -1,15 +1,16 @@
--- What each step of the roster keeps.
+-- Lemmas: each step keeps the roster's invariant `IsRostered`: empty roster, slot kept or freed, a start, a refused start,
+-- an end, a child born (`rostered_born`); once no process is unfinished, the ended ones are all (`all_back`).
 use Rattle.std.proofs.Common.{◌≡◌, ◌⊎◌, inl, inr, ℕ, zero, suc, ◌+◌, ◌<◌, List, [], ◌∷◌, ◌++◌, length, Option, None, Some, refl, sym, ap, ◌∙◌, subst, arith}
 use Rattle.std.specs.Prelude.{slice_get}
 use Rattle.std.proofs.lemmas.List.{append-nil}
-use Rattle.vouchers.specs.Entries.{Entry as Life, entry, Has, without}
+use Rattle.vouchers.specs.Entries.{TokenEntry as Life, entry, Has, without}
 use Rattle.vouchers.specs.Lists.{had_without, without_had, length-without, has_left, has_right, has_either}
 use Rattle.process_model.specs.declared.call.Call.{Call}
 use Rattle.process_model.specs.declared.call.Start.{Start}
 use Rattle.hart_calls.specs.declared.finished.Finished.{Finished}
 use Rattle.hart_threads.proofs.Counts.{apart_all, apart_instead, apart_last, apart_less, apart_more, apart_moved, apart_swap, one_of}
 use Rattle.hart_threads.proofs.Names.{first_of, name_parts, no_start, some_name}
-use Rattle.hart_threads.specs.Rostered.{AreApart, AreBelow, AreKin, AreNamed, Closed, ComesBack, Each, IsChildOf, IsEnded, IsKin, IsRostered, Knows, Started}
+use Rattle.hart_threads.specs.RosterState.{AreApart, AreBelow, AreStartsOrChildren, AreNamed, Closed, ComesBack, Each, IsChildOf, IsEnded, IsStartOrChild, IsRostered, Knows, Started}
 
 -- what stands at a place of a list
 
@@ -53,21 +54,21 @@ slot = entry [] 0 []
 
 -- each life but a kept slot's is there still, and may have named more children
 abbrev Keeps : List Life → List Life → Type 0
-Keeps r q = (x : Life) → (x ≡ slot → ⊥) → Has x r → (more : List ℕ) × Has (entry x.name x.list (x.heirs ++ more)) q
+Keeps r q = (x : Life) → (x ≡ slot → ⊥) → Has x r → (more : List ℕ) × Has (entry x.name x.list (x.child_lists ++ more)) q
 
 -- each life is an older one, or has named no child
 abbrev IsOlder : List Life → Life → Type 0
-IsOlder r x = (x.heirs ≡ []) ⊎ Has x r
+IsOlder r x = (x.child_lists ≡ []) ⊎ Has x r
 
 abbrev AreOlder : List Life → List Life → Type 0
 AreOlder r q = (x : Life) → Has x q → IsOlder r x
 
 -- each life that has a name is an older one, or a start or a child
 abbrev AreFrom : List Start → List Life → List Life → Type 0
-AreFrom starts r q = (x : Life) → Has x q → (x.name ≡ [] → ⊥) → Has x r ⊎ IsKin starts q x
+AreFrom starts r q = (x : Life) → Has x q → (x.name ≡ [] → ⊥) → Has x r ⊎ IsStartOrChild starts q x
 
-stay : (x : Life) (q : List Life) → Has x q → (more : List ℕ) × Has (entry x.name x.list (x.heirs ++ more)) q
-stay x q h = ([], subst (λ hs. Has (entry x.name x.list hs) q) (sym (append-nil x.heirs)) h)
+stay : (x : Life) (q : List Life) → Has x q → (more : List ℕ) × Has (entry x.name x.list (x.child_lists ++ more)) q
+stay x q h = ([], subst (λ hs. Has (entry x.name x.list hs) q) (sym (append-nil x.child_lists)) h)
 
 module _ (r q : List Life) (keeps : Keeps r q) where
   knows_still : (m : List ℕ) (k : ℕ) → (m ≡ [] → ⊥) → Knows r m k → Knows q m k
@@ -82,16 +83,16 @@ module _ (r q : List Life) (keeps : Keeps r q) where
     | inr was ↦ knows_still _ k (some_name x.name j) (c x j k was at)
   ]
 
-  kin_still : (starts : List Start) (x : Life) → IsKin starts r x → IsKin starts q x
+  kin_still : (starts : List Start) (x : Life) → IsStartOrChild starts r x → IsStartOrChild starts q x
   kin_still starts x (inl s) = inl s
   kin_still starts x (inr c) =
       let m = c.0 in
       let child = c.2 in
-      let h = keeps m (λ is. none_at child.number x.list (subst (λ (y : Life). slice_get y.heirs child.number ≡ Some x.list) is child.list)) c.1 in
-      inr (entry m.name m.list (m.heirs ++ h.0), h.1, record { number = child.number; name = child.name; list = slice_left m.heirs h.0 child.number x.list child.list })
+      let h = keeps m (λ is. none_at child.number x.list (subst (λ (y : Life). slice_get y.child_lists child.number ≡ Some x.list) is child.list)) c.1 in
+      inr (entry m.name m.list (m.child_lists ++ h.0), h.1, record { number = child.number; name = child.name; list = slice_left m.child_lists h.0 child.number x.list child.list })
 
-  kin_on : (starts : List Start) → AreFrom starts r q → AreKin starts r → AreKin starts q
-  kin_on starts from k x h ne = elim (from x h ne) as (λ _. IsKin starts q x) [
+  kin_on : (starts : List Start) → AreFrom starts r q → AreStartsOrChildren starts r → AreStartsOrChildren starts q
+  kin_on starts from k x h ne = elim (from x h ne) as (λ _. IsStartOrChild starts q x) [
     | inl was ↦ kin_still starts x (k x was ne)
     | inr new ↦ new
   ]
@@ -101,7 +102,7 @@ keeps_more : (e : Life) (r : List Life) → Keeps r (e ∷ r)
 keeps_more e r x ne h = stay x (e ∷ r) (inr h)
 
 older_more : (name : List ℕ) (list : ℕ) (r : List Life) → AreOlder r (entry name list [] ∷ r)
-older_more name list r x (inl is) = inl (ap (λ (y : Life). y.heirs) is)
+older_more name list r x (inl is) = inl (ap (λ (y : Life). y.child_lists) is)
 older_more name list r x (inr h) = inr h
 
 -- a life less
@@ -112,8 +113,8 @@ had_less e x out rest h = elim (has_either x (without e out) rest h) as (λ _. H
 ]
 
 keeps_less : (out rest : List Life) → Keeps (out ++ rest) (without slot out ++ rest)
-keeps_less out rest x ne k = elim (has_either x out rest k) as (λ _. (more : List ℕ) × Has (entry x.name x.list (x.heirs ++ more)) (without slot out ++ rest)) [
-  | inl h ↦ elim (had_without slot x out h) as (λ _. (more : List ℕ) × Has (entry x.name x.list (x.heirs ++ more)) (without slot out ++ rest)) [
+keeps_less out rest x ne k = elim (has_either x out rest k) as (λ _. (more : List ℕ) × Has (entry x.name x.list (x.child_lists ++ more)) (without slot out ++ rest)) [
+  | inl h ↦ elim (had_without slot x out h) as (λ _. (more : List ℕ) × Has (entry x.name x.list (x.child_lists ++ more)) (without slot out ++ rest)) [
     | inl is ↦ absurd (ne is)
     | inr r ↦ stay x _ (has_left x (without slot out) rest r)
   ]
@@ -185,7 +186,7 @@ module _ (starts : List Start) (m n : ℕ) (s : Start) (is : n ≡ m + 1) (at : 
   abbrev next_life : List ℕ → Life
   next_life name = entry name s.list []
 
-  starts_kin : (name : List ℕ) (q : List Life) (x : Life) → name ≡ m ∷ [] → x ≡ next_life name → IsKin starts q x
+  starts_kin : (name : List ℕ) (q : List Life) (x : Life) → name ≡ m ∷ [] → x ≡ next_life name → IsStartOrChild starts q x
   starts_kin name q x named same = inl (s, (m, ap (λ (y : Life). y.name) same ∙ named, at), ap (λ (y : Life). y.list) same)
 
   -- its name is its number, which no older one has
@@ -255,12 +256,12 @@ module _ (starts : List Start) (m n : ℕ) (s : Start) (is : n ≡ m + 1) (at : 
 
   older_refused : AreOlder (out ++ lives) with_refused
   older_refused x h = elim (which x h) as (λ _. IsOlder (out ++ lives) x) [
-    | inl same ↦ inl (ap (λ (y : Life). y.heirs) same)
+    | inl same ↦ inl (ap (λ (y : Life). y.child_lists) same)
     | inr was ↦ inr was
   ]
 
   from_refused : AreFrom starts (out ++ lives) with_refused
-  from_refused x h ne = elim (which x h) as (λ _. Has x (out ++ lives) ⊎ IsKin starts with_refused x) [
+  from_refused x h ne = elim (which x h) as (λ _. Has x (out ++ lives) ⊎ IsStartOrChild starts with_refused x) [
     | inl same ↦ inr (starts_kin starts m n s is at name with_refused x named same)
     | inr was ↦ inl was
   ]
@@ -330,11 +331,11 @@ module _ (name : List ℕ) (list child : ℕ) (before : List ℕ) (out rest : Li
   born = elder ∷ young ∷ others
 
   keeps_born : Keeps (out ++ rest) (born ++ rest)
-  keeps_born x ne w = elim (has_either x out rest w) as (λ _. (more : List ℕ) × Has (entry x.name x.list (x.heirs ++ more)) (born ++ rest)) [
-    | inl h ↦ elim (had_without slot x out h) as (λ _. (more : List ℕ) × Has (entry x.name x.list (x.heirs ++ more)) (born ++ rest)) [
+  keeps_born x ne w = elim (has_either x out rest w) as (λ _. (more : List ℕ) × Has (entry x.name x.list (x.child_lists ++ more)) (born ++ rest)) [
+    | inl h ↦ elim (had_without slot x out h) as (λ _. (more : List ℕ) × Has (entry x.name x.list (x.child_lists ++ more)) (born ++ rest)) [
       | inl is ↦ absurd (ne is)
-      | inr r ↦ elim (had_without parent x (without slot out) r) as (λ _. (more : List ℕ) × Has (entry x.name x.list (x.heirs ++ more)) (born ++ rest)) [
-        | inl is ↦ (child ∷ [], inl (ap (λ (y : Life). entry y.name y.list (y.heirs ++ child ∷ [])) is))
+      | inr r ↦ elim (had_without parent x (without slot out) r) as (λ _. (more : List ℕ) × Has (entry x.name x.list (x.child_lists ++ more)) (born ++ rest)) [
+        | inl is ↦ (child ∷ [], inl (ap (λ (y : Life). entry y.name y.list (y.child_lists ++ child ∷ [])) is))
         | inr left ↦ stay x (born ++ rest) (inr (inr (has_left x others rest left)))
       ]
     ]
@@ -356,19 +357,19 @@ module _ (name : List ℕ) (list child : ℕ) (before : List ℕ) (out rest : Li
       ordered is (inr new) = ([], inr (inl (ap (λ (n : List ℕ). entry (n ++ j ∷ []) k []) (ap (λ (y : Life). y.name) is) ∙ (ap (λ (i : ℕ). entry (name ++ i ∷ []) k []) new.0 ∙ ap (λ (i : ℕ). entry (name ++ length before ∷ []) i []) new.1))))
 
       which : Has x (born ++ rest) → Knows (born ++ rest) (x.name ++ j ∷ []) k
-      which (inl is) = ordered is (slice_snoc before child j k (subst (λ (y : Life). slice_get y.heirs j ≡ Some k) is at))
-      which (inr (inl is)) = absurd (none_at j k (subst (λ (y : Life). slice_get y.heirs j ≡ Some k) is at))
+      which (inl is) = ordered is (slice_snoc before child j k (subst (λ (y : Life). slice_get y.child_lists j ≡ Some k) is at))
+      which (inr (inl is)) = absurd (none_at j k (subst (λ (y : Life). slice_get y.child_lists j ≡ Some k) is at))
       which (inr (inr r)) = knows_still (out ++ rest) (born ++ rest) keeps_born (x.name ++ j ∷ []) k (some_name x.name j) (c x j k (was_other x r) at)
 
-  kin_born : (starts : List Start) → Has parent (without slot out) → AreKin starts (out ++ rest) → AreKin starts (born ++ rest)
+  kin_born : (starts : List Start) → Has parent (without slot out) → AreStartsOrChildren starts (out ++ rest) → AreStartsOrChildren starts (born ++ rest)
   kin_born starts mine kin x h ne = which h
     where
-      elder_kin : IsKin starts (born ++ rest) parent → IsKin starts (born ++ rest) elder
+      elder_kin : IsStartOrChild starts (born ++ rest) parent → IsStartOrChild starts (born ++ rest) elder
       elder_kin (inl s) = inl s
       elder_kin (inr c) = inr (c.0, c.1, record { number = c.2.number; name = c.2.name; list = c.2.list })
 
-      which : Has x (born ++ rest) → IsKin starts (born ++ rest) x
-      which (inl is) = subst (IsKin starts (born ++ rest)) (sym is) (elder_kin (kin_still (out ++ rest) (born ++ rest) keeps_born starts parent (kin parent (was_parent mine) (λ none. ne (ap (λ (y : Life). y.name) is ∙ none)))))
+      which : Has x (born ++ rest) → IsStartOrChild starts (born ++ rest) x
+      which (inl is) = subst (IsStartOrChild starts (born ++ rest)) (sym is) (elder_kin (kin_still (out ++ rest) (born ++ rest) keeps_born starts parent (kin parent (was_parent mine) (λ none. ne (ap (λ (y : Life). y.name) is ∙ none)))))
       which (inr (inl is)) = inr (elder, inl refl, record { number = length before; name = ap (λ (y : Life). y.name) is; list = slice_last before child ∙ ap (λ (y : Life). Some y.list) (sym is) })
       which (inr (inr r)) = kin_still (out ++ rest) (born ++ rest) keeps_born starts x (kin x (was_other x r) ne)
 
@@ -379,7 +380,7 @@ module _ (name : List ℕ) (list child : ℕ) (before : List ℕ) (out rest : Li
   below_born n mine some was x i (inr (inr h)) of = was x i (was_other x h) of
 
   -- the child's name is new: whoever had it would be a child of its parent, whose place was still empty
-  module _ (starts : List Start) (mine : Has parent (without slot out)) (some : name ≡ [] → ⊥) (kin : AreKin starts (out ++ rest)) (once : AreApart (out ++ rest)) where
+  module _ (starts : List Start) (mine : Has parent (without slot out)) (some : name ≡ [] → ⊥) (kin : AreStartsOrChildren starts (out ++ rest)) (once : AreApart (out ++ rest)) where
     is_new : (x : Life) → Has x (out ++ rest) → x.name ≡ name ++ length before ∷ [] → ⊥
     is_new x h is = elim (kin x h (λ none. some_name name (length before) (sym is ∙ none))) as (λ _. ⊥) [
       | inl s ↦ no_start name (length before) s.1.0 some (sym is ∙ s.1.1)
@@ -390,7 +391,7 @@ module _ (name : List ℕ) (list child : ℕ) (before : List ℕ) (out rest : Li
         of_parent m there child =
             let parts = name_parts m.name name child.number (length before) (sym child.name ∙ is) in
             let same = one_of name m parent (out ++ rest) (once name some) parts.0 refl there (was_parent mine) in
-            let list : slice_get before child.number ≡ Some x.list = subst (λ (y : Life). slice_get y.heirs child.number ≡ Some x.list) same child.list in
+            let list : slice_get before child.number ≡ Some x.list = subst (λ (y : Life). slice_get y.child_lists child.number ≡ Some x.list) same child.list in
             none_past before x.list (subst (λ (j : ℕ). slice_get before j ≡ Some x.list) parts.1 list)
 
     new_beside : (x : Life) → Has x (elder ∷ others ++ rest) → x.name ≡ name ++ length before ∷ [] → ⊥
@@ -403,7 +404,7 @@ module _ (name : List ℕ) (list child : ℕ) (before : List ℕ) (out rest : Li
         apart_swap young elder (others ++ rest) (apart_more young (elder ∷ others ++ rest) (λ _. new_beside) older)
 
 -- the same, by the lists of who is out after each of the four steps: both vouchers come back, and the child's and the parent's go out
-module _ (name named : List ℕ) (list child : ℕ) (before heirs none : List ℕ) (g0 g1 g2 g3 g4 : List Life) (e1 : g1 ≡ without (entry [] 0 []) g0) (had : Has (entry [] 0 []) g0) (e2 : g2 ≡ without (entry name list before) g1) (mine : Has (entry name list before) g1) (is : named ≡ name ++ length before ∷ []) (more : heirs ≡ before ++ child ∷ []) (bare : none ≡ []) (e3 : g3 ≡ entry named child none ∷ g2) (e4 : g4 ≡ entry name list heirs ∷ g3) where
+module _ (name named : List ℕ) (list child : ℕ) (before child_lists none : List ℕ) (g0 g1 g2 g3 g4 : List Life) (e1 : g1 ≡ without (entry [] 0 []) g0) (had : Has (entry [] 0 []) g0) (e2 : g2 ≡ without (entry name list before) g1) (mine : Has (entry name list before) g1) (is : named ≡ name ++ length before ∷ []) (more : child_lists ≡ before ++ child ∷ []) (bare : none ≡ []) (e3 : g3 ≡ entry named child none ∷ g2) (e4 : g4 ≡ entry name list child_lists ∷ g3) where
   is_born : g4 ≡ born name list child before g0 []
   is_born = e4 ∙ (ap (λ hs. entry name list hs ∷ g3) more ∙ ap (λ g. entry name list (before ++ child ∷ []) ∷ g) (e3 ∙ (ap (λ hs. entry named child hs ∷ g2) bare ∙ ap (λ m. entry m child [] ∷ g2) is ∙ ap (λ g. entry (name ++ length before ∷ []) child [] ∷ g) (e2 ∙ ap (without (entry name list before)) e1))))
 

@@ -1,19 +1,20 @@
--- What a hart has in hand before and after a call.
-use Rattle.hart_calls.specs.declared.room.Room.{Ghosts as Room}
+-- Predicates on a hart's step of a job (an unfinished process): before the call, it has no slot for a child (`IsNone`);
+-- after it, if the process has ended, the roster (list of processes) can take its end with its voucher (`IsDue`).
+use Rattle.hart_calls.specs.declared.run_brand.RunBrand.{Ghosts as RunBrand}
 use Rattle.hart_threads.specs.declared.plan.Plan.{Ghosts as Plan}
-use Rattle.hart_calls.specs.declared.slot.Slot.{Slot}
-use Rattle.hart_calls.specs.declared.slot.Slot.TheVariants as slot
-use Rattle.hart_threads.specs.Rostered.{IsBack}
-use Rattle.vouchers.specs.Fits.{held_of}
-use Rattle.hart_threads.specs.declared.job.Step.{Step}
-use Rattle.hart_threads.specs.declared.job.Step.TheVariants as step
+use Rattle.hart_calls.specs.declared.fork_slot.ForkSlot.{ForkSlot}
+use Rattle.hart_calls.specs.declared.fork_slot.ForkSlot.TheVariants as slot
+use Rattle.hart_threads.specs.RosterState.{IsEndedWithToken}
+use Rattle.vouchers.specs.IssuerSeats.{held_of}
+use Rattle.hart_threads.specs.declared.job.JobStep.{JobStep}
+use Rattle.hart_threads.specs.declared.job.JobStep.TheVariants as step
 
--- no slot, for one reason or the other
-abbrev pub IsNone : Slot → Type 0
+-- no slot is free for the call, for whichever reason
+abbrev pub IsNone : ForkSlot → Type 0
 IsNone (slot.Free name place) = ⊥
 IsNone s = Unit {0}
 
--- a process that is over may go to the roster as one that has ended
-abbrev pub IsDue : {X : Type 0} {plan : Plan X} {room : Room X} → Step X plan room → Type 0
-IsDue (step.Goes job) = Unit {0}
-IsDue {plan} (step.Over gone) = IsBack plan.lists plan.plan (held_of gone.voucher) gone.finished
+-- if the process has ended, the roster takes its end with the voucher that it had
+abbrev pub IsDue : {X : Type 0} {plan : Plan X} {room : RunBrand X} → JobStep X plan room → Type 0
+IsDue (step.Continues job) = Unit {0}
+IsDue {plan} (step.Over gone) = IsEndedWithToken plan.lists plan.plan (held_of gone.token) gone.finished

@@ -1,8 +1,8 @@
 -- The files of this folder.
-pub mod Heirs
-pub mod Rostered
+pub mod ChildLists
+pub mod RosterState
 pub mod Slots
-pub mod Makes
+pub mod StartEffects
 pub mod Starts
 pub mod Due
 pub mod Plans

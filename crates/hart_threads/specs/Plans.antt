@@ -1,4 +1,5 @@
--- A run of nothing.
+-- Fillers for a `Plan` or `StartOutcomes` (ghost constants of a run) that belongs to no run: empty lists of calls, of starts
+-- and of slots taken.
 use Rattle.std.specs.Prelude.{Bool, List, []}
 use Rattle.process_model.specs.declared.call.Call.{Call}
 use Rattle.process_model.specs.declared.call.Start.{Start}

@@ -1,13 +1,15 @@
--- Starts: what they leave of the kernel's seat, and why one is refused.
+-- Predicates for one start: what the kernel's seat (its capability at the frame store) keeps when it lends frame 0
+-- (`Lends`); why the start is refused (`IsRefusedStart`); the space that begins agrees with a process (`IsBegun`), which is
+-- its image's (`IsProcessOf`).
 use Rattle.std.specs.Prelude.{◌≡◌, ◌≢◌, ℕ, ◌++◌, ◌∷◌, [], Bool, true, false, Err, List, Ok}
 use Rattle.address_space.specs.Agreement.{body_of, IsSpace}
 use Rattle.address_space.specs.declared.space.Space.{Space}
 use Rattle.atomic_table.specs.Seated.{TableId}
 use Rattle.frame_store.specs.View.{View, hold_of, references}
-use Rattle.hart_calls.specs.declared.opening.Opening.{Opening}
-use Rattle.process_model.specs.Loading.{process_of}
+use Rattle.hart_calls.specs.declared.model_process.ModelProcess.{ModelProcess}
+use Rattle.process_model.specs.ImageProcess.{process_of}
 use Rattle.process_model.specs.Process.{Process}
-use Rattle.shared_frames.specs.Fits.{FitsIn, view_of}
+use Rattle.shared_frames.specs.SeatsOfTable.{FitsIn, view_of}
 use Rattle.shared_frames.specs.declared.seat.SharedSeat.{SharedSeat}
 use Rattle.table_walk.specs.Tables.{Tables}
 use Rattle.process_model.specs.Images.{image_loads, LoadSegment}
@@ -16,7 +18,8 @@ use Rattle.process_model.specs.declared.step.Refusal.{Refusal}
 use Rattle.process_model.specs.declared.step.Refusal.TheVariants as refusal
 use Rattle.sv39_entry.specs.declared.scheme.Scheme.TheVariants.{Sv39}
 
--- A seat that shared frame 0 with others holds what it held, and knows what it knew. Of frame 0 it may not be the sole holder any more.
+-- A seat that shared frame 0 with others has the credits, references and known words that it had. It may have lost the sole
+-- mark of frame 0, and its tallies may differ.
 pub record Lends (v w : View) : Type 0 where
   pub size : w.size ≡ v.size
   pub credits : w.credits ≡ v.credits
@@ -24,8 +27,8 @@ pub record Lends (v w : View) : Type 0 where
   pub words : (hold_of w 0).words ≡ (hold_of v 0).words
   pub others : (f : ℕ) → f ≢ 0 → hold_of w f ≡ hold_of v f
 
--- in this order: there is no slot; the image is not accepted; the count of frame 0 was read as 65,535; frames are wanting. No other count is
--- read.
+-- why a start is refused, and what the kernel's seat read: NoSlot exactly if there is none; BadImage, the image fails this
+-- check; SharersFull, one count was read as 65,535; NoFrame. No other count was read
 abbrev pub IsRefusedStart : Bool → Image → View → View → Refusal → Type 0
 IsRefusedStart slot image v w refusal.NoSlot = (slot ≡ false) × (w.tallies.looks ≡ v.tallies.looks)
 IsRefusedStart slot image v w (refusal.BadImage part) = (slot ≡ true) × (image_loads Sv39 image ≡ Err part) × (w.tallies.looks ≡ v.tallies.looks)
@@ -33,10 +36,10 @@ IsRefusedStart slot image v w refusal.SharersFull = (slot ≡ true) × (w.tallie
 IsRefusedStart slot image v w refusal.NoFrame = (slot ≡ true) × (w.tallies.looks ≡ v.tallies.looks)
 IsRefusedStart slot image v w r = ⊥
 
--- a space at a table, and the process that it is
-abbrev pub IsBegun : TableId → Space SharedSeat → Opening → Type 0
+-- a space whose seat is at this table, and the process that the space agrees with
+abbrev pub IsBegun : TableId → Space SharedSeat → ModelProcess → Type 0
 IsBegun table space opening = FitsIn table space.seat × ((t : Tables) × IsSpace (body_of view_of space) t opening.state)
 
--- the image is accepted, and it is its process
+-- the image is accepted under Sv39, and p is its process, with copy numbers from 0
 abbrev pub IsProcessOf : Image → Process → Type 0
 IsProcessOf image p = (loads : List LoadSegment) × (image_loads Sv39 image ≡ Ok loads) × (p ≡ process_of Sv39 0 loads)

@@ -1,82 +1,83 @@
-// Starts that were made, put on the roster and into the run queue.
+// `Enlister` (struct): what the starts of a run share when they are enlisted; `enlist_all` enters each start's result on the
+// roster (list of unfinished and ended processes) and puts the process, if there is one, into the run queue.
 
 ghost use Rattle.std.specs.Prelude.{◌≡◌, ◌-◌, ◌<◌, ◌∷◌, [], All, Some, length, slice_get, take};
-ghost use Rattle.hart_calls.specs.Track.{AreThere};
-ghost use Rattle.hart_threads.specs.Makes.{any_full, AreMade, IsFullKnown, IsMade, slots_of, takes_slot};
+ghost use Rattle.hart_calls.specs.Track.{NameLists};
+ghost use Rattle.hart_threads.specs.StartEffects.{any_full, AreStartResults, IsFullKnown, IsStartResult, slots_of, takes_slot};
 ghost use Rattle.hart_threads.specs.Slots.{count};
 
-use crate::fates::Fates;
 use crate::job::Job;
-use crate::made::Made;
 use crate::plan::Plan;
 use crate::queue::{Part, put};
 use crate::roster::Roster;
+use crate::start_outcomes::StartOutcomes;
+use crate::start_result::StartResult;
 use hart_calls::Tracked;
 use process_model::{Call, Sequence, Start};
 use std::alloc::Global;
 use std::collections::VecDeque;
 use std::sync::Wait;
-use vouchers::Desk;
+use vouchers::TokenTable;
 
-/// What all processes of a run begin with.
+/// What the processes of a run share when they are enlisted.
 #[derive(Drop)]
-pub(crate) struct Enlisting<'r, 'a, B: Plan, R: Wait> {
+pub(crate) struct Enlister<'r, 'a, B: Plan, R: Wait> {
     pub(crate) rt: &'r R,
     pub(crate) alloc: Global,
-    pub(crate) desk: &'r Desk,
+    pub(crate) token_table: &'r TokenTable,
     pub(crate) lists: &'a [Sequence<Call<'a>>],
     pub(crate) parts: &'r [Part<'a, B>],
-    ghost at: { desk.now ≡ B.desk },
+    ghost at: { token_table.now ≡ B.token_table },
     ghost of_lists: { lists.now ≡ B.lists },
 }
 
-impl<'r, 'a, B: Plan, R: Wait> Enlisting<'r, 'a, B, R> {
-    /// Puts the next start's process into the queue, or its end on the roster if it has none.
-    fn enlist<F: Fates>(
+impl<'r, 'a, B: Plan, R: Wait> Enlister<'r, 'a, B, R> {
+    /// Puts the next start's process on the roster and into the queue, or its end on the roster if it has no process.
+    fn enlist<F: StartOutcomes>(
         &self,
         roster: &mut Roster<'a, B, F>,
-        made: Made<'a>,
+        made: StartResult<'a>,
         start: Start<'_>,
         place: usize,
     )
-        requires made { IsMade B.table F.slots (count (take (length B.plan - roster.old) F.taken)) start ((length B.plan - roster.old) ∷ []) made }
+        requires made { IsStartResult B.table F.slots (count (take (length B.plan - roster.old) F.taken)) start ((length B.plan - roster.old) ∷ []) made }
         requires taken { slice_get F.taken (length B.plan - roster.old) ≡ Some (takes_slot made) }
         requires full { IsFullKnown F.full made }
         requires list { start.list < length self.now.lists.now }
         requires start { slice_get B.plan (length B.plan - roster.old) ≡ Some start }
-        requires named { AreThere self.now.lists.now }
+        requires named { NameLists self.now.lists.now }
         requires left { 0 < roster.old }
         ensures left { roster.new ≡ roster.old - 1 }
     {
         match made {
-            Made::Begun {
+            StartResult::Begun {
                 name,
                 space,
                 opening,
             } => {
-                let voucher = roster.start(self.desk, name.as_slice(), start.list);
+                let token = roster.start(self.token_table, name.as_slice(), start.list);
                 let tracked = Tracked::<B>::new(
                     self.alloc, opening, space, name, self.lists, start.list,
                 );
-                put(self.rt, self.parts, place, Job { tracked, voucher });
+                put(self.rt, self.parts, place, Job { tracked, token });
             }
-            Made::Over(finished) => roster.refuse(finished),
+            StartResult::Over(finished) => roster.refuse(finished),
         }
     }
 
-    /// Enlists all starts in order. Their jobs go to the parts of the queue in turn.
-    pub(crate) fn enlist_all<F: Fates>(
+    /// Enlists all starts in order. Their jobs are put into the parts of the queue in turn.
+    pub(crate) fn enlist_all<F: StartOutcomes>(
         &self,
         roster: &mut Roster<'a, B, F>,
-        all: &mut VecDeque<Made<'a>>,
+        all: &mut VecDeque<StartResult<'a>>,
         starts: &[Start<'_>],
     )
-        requires made { AreMade B.table F.slots starts.now 0 0 all.old.items }
+        requires made { AreStartResults B.table F.slots starts.now 0 0 all.old.items }
         requires all { length all.old.items ≡ length starts.now }
         requires taken { F.taken ≡ slots_of all.old.items }
         requires full { F.full ≡ any_full all.old.items }
         requires lists { All (λ start. start.list < length self.now.lists.now) starts.now }
-        requires named { AreThere self.now.lists.now }
+        requires named { NameLists self.now.lists.now }
         requires of_starts { starts.now ≡ B.plan }
         requires left { roster.old ≡ length starts.now }
     {

@@ -1,15 +1,19 @@
-// Who looks on at calls.
+// `Gate` (trait): hooks that run before and after each call of a process on its hart's thread; `OpenGate` (struct): hooks
+// that do nothing.
 
 use process_model::Call;
 
-/// Looks on: a call enters before it is made, and leaves after, on the thread of its hart. No lock is held then.
+/// Hooks that run before and after each call of a process, on the thread of its hart, with no lock held. No clause promises
+/// this.
 pub trait Gate {
+    /// Runs before the process of this name makes its next call, `call`, on the hart of this number, counted from 0.
     fn enter(&self, hart: usize, name: &[u64], call: Call<'_>);
 
+    /// Runs after that call, with the same arguments as `enter`, also if the call ended the process.
     fn leave(&self, hart: usize, name: &[u64], call: Call<'_>);
 }
 
-/// A gate that never holds a call.
+/// A gate whose hooks do nothing.
 pub struct OpenGate;
 
 impl Gate for OpenGate {

@@ -1,73 +1,80 @@
-// A hart: it takes jobs and makes calls.
+// `HartThread` (struct): one hart of a run and what it shares with the others; its scheduler loop `run`: take a process from
+// the run queue, make up to a quantum of its calls with the gate's hooks around each, put it back; a fork's slot (place in
+// the process table) and child, and the end of a process, go through the roster.
 
 ghost use Rattle.std.specs.Prelude.{◌≡◌, ◌∷◌, [], IfErr, IfOk};
 ghost use Rattle.hart_calls.specs.Track.{child_name};
-ghost use Rattle.hart_calls.specs.Turned.{HasTurned};
-ghost use Rattle.hart_calls.specs.Turns.{IsNamed};
+ghost use Rattle.hart_calls.specs.TurnResults.{HasTurned};
+ghost use Rattle.hart_calls.specs.TurnCases.{IsNamed};
 ghost use Rattle.hart_threads.specs.Due.{IsDue, IsNone};
-ghost use Rattle.hart_threads.specs.Rostered.{IsBack, IsOut};
+ghost use Rattle.hart_threads.specs.RosterState.{IsEndedWithToken, IsOut};
 ghost use Rattle.vouchers.specs.Entries.{entry};
-ghost use Rattle.vouchers.specs.Fits.{HoldsAt, held_of};
+ghost use Rattle.vouchers.specs.IssuerSeats.{HoldsAt, held_of};
 
-use crate::fates::Fates;
 use crate::gate::Gate;
-use crate::job::{Gone, Job, Step};
+use crate::job::{EndedJob, Job, JobStep};
 use crate::plan::Plan;
 use crate::queue::{Part, put, take};
 use crate::roster::{Admission, Roster};
+use crate::start_outcomes::StartOutcomes;
 use file_shelf::Shelf;
-use hart_calls::{Place, Slot, Tracked, Turn};
+use hart_calls::{ForkSlot, Place, Tracked, Turn};
 use shared_frames::SharedFrames;
 use std::alloc::AllocError;
 use std::marker::PhantomData;
 use std::sync::{Mutex, Wait};
 use std::thread;
-use vouchers::{Desk, Voucher};
+use vouchers::{Token, TokenTable};
 
-/// What a hart knows of the run.
+/// One hart, and what it shares with the others of its run.
 #[derive(Drop)]
-pub(crate) struct Hart<'r, 'a, B: Plan, F: Fates, R: Wait, G: Gate> {
+pub(crate) struct HartThread<'r, 'a, B: Plan, F: StartOutcomes, R: Wait, G: Gate> {
     pub(crate) rt: &'r R,
     pub(crate) frames: &'r SharedFrames,
-    pub(crate) desk: &'r Desk,
+    pub(crate) token_table: &'r TokenTable,
     pub(crate) roster: &'r Mutex<Roster<'a, B, F>>,
     pub(crate) shelf: &'r Mutex<Shelf>,
     pub(crate) parts: &'r [Part<'a, B>],
     pub(crate) gate: &'r G,
     pub(crate) number: usize,
     ghost table: { frames.now.table ≡ B.table },
-    ghost at: { desk.now ≡ B.desk },
+    ghost at: { token_table.now ≡ B.token_table },
 }
 
-impl<'r, 'a, B: Plan, F: Fates, R: Wait, G: Gate> Hart<'r, 'a, B, F, R, G> {
-    /// A slot for the child of the next call, with the child's name and a place for its space, or why there is none: no call
-    /// but a fork needs one.
-    fn admit(&self, tracked: &mut Tracked<'a, B>) -> Result<(Voucher, Vec<u64>, Place), Slot>
+impl<'r, 'a, B: Plan, F: StartOutcomes, R: Wait, G: Gate> HartThread<'r, 'a, B, F, R, G> {
+    /// Keeps a slot for the child of the next call, with the child's name and a place for its space.
+    ///
+    /// # Errors
+    /// Why there is none: `NoSlot` if the call is no fork or every slot is in use, `Memory` if the host is out of memory.
+    fn admit(&self, tracked: &mut Tracked<'a, B>) -> Result<(Token, Vec<u64>, Place), ForkSlot>
         ensures same { tracked.new ≡ tracked.old }
-        ensures at { IfOk result (λ r. HoldsAt B.desk r.0) }
+        ensures at { IfOk result (λ r. HoldsAt B.token_table r.0) }
         ensures slot { IfOk result (λ r. held_of r.0 ≡ entry [] 0 [] ∷ []) }
         ensures name { IfOk result (λ r. r.1.items ≡ child_name tracked.old) }
         ensures none { IfErr result (λ slot. IsNone slot) }
     {
         if !tracked.needs_slot() {
-            return Err(Slot::NoSlot);
+            return Err(ForkSlot::NoSlot);
         }
-        let admission = self.roster.lock(self.rt).admit(self.desk);
+        let admission = self.roster.lock(self.rt).admit(self.token_table);
         let slot = match admission {
             Admission::Kept(slot) => slot,
-            Admission::NoSlot => return Err(Slot::NoSlot),
-            Admission::Memory => return Err(Slot::Memory),
+            Admission::NoSlot => return Err(ForkSlot::NoSlot),
+            Admission::Memory => return Err(ForkSlot::Memory),
         };
         match self.room_for_child(tracked) {
             Ok((name, place)) => Ok((slot, name, place)),
             Err(_) => {
-                self.roster.lock(self.rt).withdraw(self.desk, slot);
-                Err(Slot::Memory)
+                self.roster.lock(self.rt).withdraw(self.token_table, slot);
+                Err(ForkSlot::Memory)
             }
         }
     }
 
-    /// The name of the next child, and a place for its space.
+    /// Allocates the name of the next child, and a place for its space.
+    ///
+    /// # Errors
+    /// `AllocError`: the host is out of memory.
     fn room_for_child(&self, tracked: &mut Tracked<'a, B>) -> Result<(Vec<u64>, Place), AllocError>
         ensures same { tracked.new ≡ tracked.old }
         ensures name { IfOk result (λ r. r.0.items ≡ child_name tracked.old) }
@@ -78,8 +85,8 @@ impl<'r, 'a, B: Plan, F: Fates, R: Wait, G: Gate> Hart<'r, 'a, B, F, R, G> {
         Ok((name, place))
     }
 
-    /// Makes the next call. One that needs the files is lent the shelf for its whole length.
-    fn call(&self, tracked: Tracked<'a, B>, slot: Slot) -> Turn<'a, B>
+    /// Makes the next call. If it needs files, the shelf is locked for the whole call.
+    fn call(&self, tracked: Tracked<'a, B>, slot: ForkSlot) -> Turn<'a, B>
         requires slot { IsNamed slot (child_name tracked) }
         ensures turned { HasTurned tracked.entry result slot }
     {
@@ -92,113 +99,112 @@ impl<'r, 'a, B: Plan, F: Fates, R: Wait, G: Gate> Hart<'r, 'a, B, F, R, G> {
         }
     }
 
-    /// Makes the fork of a process that has a slot for it.
+    /// Makes the next call, a fork with a slot. The child, if there is one, is entered on the roster and put into the queue;
+    /// else the slot is freed.
     #[inline(never)]
     fn fork(
         &self,
         tracked: Tracked<'a, B>,
-        voucher: Voucher,
-        slot: Voucher,
+        token: Token,
+        slot: Token,
         name: Vec<u64>,
         place: Place,
-    ) -> Step<'a, B>
-        requires at { HoldsAt B.desk voucher × HoldsAt B.desk slot }
-        requires out { IsOut B.lists B.plan (held_of voucher) tracked }
+    ) -> JobStep<'a, B>
+        requires at { HoldsAt B.token_table token × HoldsAt B.token_table slot }
+        requires out { IsOut B.lists B.plan (held_of token) tracked }
         requires slot { held_of slot ≡ entry [] 0 [] ∷ [] }
         requires name { name.items ≡ child_name tracked }
         ensures due { IsDue result }
     {
-        match self.call(tracked, Slot::Free(name, place)) {
-            Turn::Goes(tracked, child) => match child {
+        match self.call(tracked, ForkSlot::Free(name, place)) {
+            Turn::Continues(tracked, child) => match child {
                 Some(child) => {
-                    let (voucher, young) = self
+                    let (token, young) = self
                         .roster
                         .lock(self.rt)
-                        .born(self.desk, &tracked, &child, slot, voucher);
+                        .add_child(self.token_table, &tracked, &child, slot, token);
                     let job = Job {
                         tracked: child,
-                        voucher: young,
+                        token: young,
                     };
                     put(self.rt, self.parts, self.number, job);
-                    Step::Goes(Job { tracked, voucher })
+                    JobStep::Continues(Job { tracked, token })
                 }
                 None => {
-                    self.roster.lock(self.rt).withdraw(self.desk, slot);
-                    Step::Goes(Job { tracked, voucher })
+                    self.roster.lock(self.rt).withdraw(self.token_table, slot);
+                    JobStep::Continues(Job { tracked, token })
                 }
             },
             Turn::Over(finished) => {
-                self.roster.lock(self.rt).withdraw(self.desk, slot);
-                Step::Over(Gone {
+                self.roster.lock(self.rt).withdraw(self.token_table, slot);
+                JobStep::Over(EndedJob {
                     finished,
-                    voucher,
+                    token,
                     of: PhantomData,
                 })
             }
         }
     }
 
-    /// Makes a call for which no slot is kept.
-    fn plain(&self, tracked: Tracked<'a, B>, voucher: Voucher, slot: Slot) -> Step<'a, B>
-        requires at { HoldsAt B.desk voucher }
-        requires out { IsOut B.lists B.plan (held_of voucher) tracked }
+    /// Makes the next call, for which no slot is kept.
+    fn plain(&self, tracked: Tracked<'a, B>, token: Token, slot: ForkSlot) -> JobStep<'a, B>
+        requires at { HoldsAt B.token_table token }
+        requires out { IsOut B.lists B.plan (held_of token) tracked }
         requires none { IsNone slot }
         ensures due { IsDue result }
     {
         match self.call(tracked, slot) {
-            Turn::Goes(tracked, child) => match child {
+            Turn::Continues(tracked, child) => match child {
                 Some(_) => unreachable!(),
-                None => Step::Goes(Job { tracked, voucher }),
+                None => JobStep::Continues(Job { tracked, token }),
             },
-            Turn::Over(finished) => Step::Over(Gone {
+            Turn::Over(finished) => JobStep::Over(EndedJob {
                 finished,
-                voucher,
+                token,
                 of: PhantomData,
             }),
         }
     }
 
-    /// Makes one call of a job.
-    fn step(&self, job: Job<'a, B>) -> Step<'a, B>
+    /// Makes the next call of a job.
+    fn step(&self, job: Job<'a, B>) -> JobStep<'a, B>
         ensures due { IsDue result }
     {
-        let Job {
-            mut tracked,
-            voucher,
-        } = job;
+        let Job { mut tracked, token } = job;
         match self.admit(&mut tracked) {
-            Ok((slot, name, place)) => self.fork(tracked, voucher, slot, name, place),
-            Err(slot) => self.plain(tracked, voucher, slot),
+            Ok((slot, name, place)) => self.fork(tracked, token, slot, name, place),
+            Err(slot) => self.plain(tracked, token, slot),
         }
     }
 
-    /// The process comes back.
+    /// Returns an ended process and its voucher to the roster.
     #[inline(never)]
-    fn finish(&self, gone: Gone<'a, B>)
-        requires back { IsBack B.lists B.plan (held_of gone.voucher) gone.finished }
+    fn finish(&self, gone: EndedJob<'a, B>)
+        requires back { IsEndedWithToken B.lists B.plan (held_of gone.token) gone.finished }
     {
-        let Gone {
+        let EndedJob {
             finished,
-            voucher,
+            token,
             ..
         } = gone;
         self.roster
             .lock(self.rt)
-            .finish(self.desk, finished, voucher);
+            .finish(self.token_table, finished, token);
     }
 
-    /// Makes up to so many calls of a process, which then goes back into the queue.
+    /// Makes up to `quantum` calls of a process, with the hooks around each, and puts it back into the queue unless it has
+    /// ended.
     fn turn(&self, job: Job<'a, B>, quantum: usize) {
         let mut current = job;
         'calls: for _ in 0..quantum {
             let call = current.tracked.next();
             self.gate.enter(self.number, current.tracked.name(), call);
             match self.step(current) {
-                Step::Goes(next) => {
+                JobStep::Continues(next) => {
                     self.gate.leave(self.number, next.tracked.name(), call);
                     current = next;
                 }
-                Step::Over(gone) => {
+                JobStep::Over(gone) => {
                     self.gate
                         .leave(self.number, gone.finished.name.as_slice(), call);
                     self.finish(gone);
@@ -209,7 +215,7 @@ impl<'r, 'a, B: Plan, F: Fates, R: Wait, G: Gate> Hart<'r, 'a, B, F, R, G> {
         put(self.rt, self.parts, self.number, current);
     }
 
-    /// Takes turns until nobody is out.
+    /// Takes jobs from the queue and runs them, until the queue is empty and no slot is in use.
     pub(crate) fn run(&self, quantum: usize) {
         'turns: for _ in self.rt.forever() {
             match take(self.rt, self.parts, self.number) {

@@ -1,34 +1,38 @@
-// Processes with the vouchers that say that they are out.
+// `Job` (struct): an unfinished process with its voucher (a linear token which proves that the roster, the list of
+// processes, has it). `EndedJob` (struct): an ended process with the voucher to return. `JobStep` (enum): which of the two a
+// call leaves.
 
-ghost use Rattle.hart_threads.specs.Rostered.{IsOut};
-ghost use Rattle.vouchers.specs.Fits.{HoldsAt, held_of};
+ghost use Rattle.hart_threads.specs.RosterState.{IsOut};
+ghost use Rattle.vouchers.specs.IssuerSeats.{HoldsAt, held_of};
 
 use crate::plan::Plan;
 use hart_calls::{Finished, Tracked};
 use std::marker::PhantomData;
-use vouchers::Voucher;
+use vouchers::Token;
 
-/// What lies in the run queue, and what a running hart owes: a process, and its voucher.
+/// An unfinished process and its voucher, as they are in the run queue or on a hart.
 #[derive(Drop)]
 pub(crate) struct Job<'a, B: Plan> {
     pub(crate) tracked: Tracked<'a, B>,
-    pub(crate) voucher: Voucher,
-    ghost at: { HoldsAt B.desk voucher },
-    ghost out: { IsOut B.lists B.plan (held_of voucher) tracked },
+    pub(crate) token: Token,
+    ghost at: { HoldsAt B.token_table token },
+    ghost out: { IsOut B.lists B.plan (held_of token) tracked },
 }
 
-/// What a hart owes the roster for a process that has ended.
+/// An ended process and the voucher that it had, which the hart has to return to the roster.
 #[derive(Drop)]
-pub(crate) struct Gone<'a, B: Plan> {
+pub(crate) struct EndedJob<'a, B: Plan> {
     pub(crate) finished: Finished<'a>,
-    pub(crate) voucher: Voucher,
+    pub(crate) token: Token,
     pub(crate) of: PhantomData<B>,
-    ghost at: { HoldsAt B.desk voucher },
+    ghost at: { HoldsAt B.token_table token },
 }
 
-/// What a call makes of a job.
+/// What one call leaves of a job.
 #[derive(Drop)]
-pub(crate) enum Step<'a, B: Plan> {
-    Goes(Job<'a, B>),
-    Over(Gone<'a, B>),
+pub(crate) enum JobStep<'a, B: Plan> {
+    /// The process continues.
+    Continues(Job<'a, B>),
+    /// The process has ended.
+    Over(EndedJob<'a, B>),
 }

@@ -1,23 +1,24 @@
-//! Harts as threads: processes start in order, harts take them from a run queue, and each of them comes back.
+//! Harts as threads: `run_harts` starts processes in order, harts take them from a run queue and make their calls, and each
+//! process is returned once, as it ended. `Gate` (trait): hooks around each call.
 //!
-//! Who is out, and who has ended, stands in a roster under a lock; whoever is out carries a voucher that says so, from the
-//! queue through a hart's hands to the roster. A call is made while no lock is held, but that a call which needs the files
-//! is lent the shelf.
+//! A roster under a lock lists the unfinished and the ended processes. Each unfinished process has a voucher; redeeming it
+//! proves that the roster still lists the process, so none is lost between queue, hart and roster. A hart holds no lock
+//! during a call, except that of the shelf if the call needs files.
 #![tactic(auto)]
 
 mod enlist;
-mod fates;
 mod gate;
 mod hart;
 mod job;
-mod made;
-mod name_room;
+mod name_buffer;
 mod plan;
 mod queue;
 mod roster;
 mod run;
 mod seats;
 mod start;
+mod start_outcomes;
+mod start_result;
 
 pub use gate::{Gate, OpenGate};
 pub use run::run_harts;

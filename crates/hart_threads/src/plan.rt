@@ -1,11 +1,11 @@
-// What a run is of.
+// `Plan` (trait): ghost constants of a run, carried in its types: the lists of calls and the starts that it was given.
 
-use hart_calls::Room;
+use hart_calls::RunBrand;
 use std::marker::Brand;
 
-/// The lists of calls of a run, and its starts: what lies under a lock is known by its type alone, so its type says of which
-/// run it is. Each run picks these.
-pub trait Plan: Room {
+/// Ghost constants of a run: the lists of calls and the starts that it was given. A contract knows a value under a lock by
+/// its type alone, so these are in the type. Each run picks its own.
+pub trait Plan: RunBrand {
     ghost use Rattle.std.specs.Prelude.{List};
     ghost use Rattle.process_model.specs.declared.call.Call.{Call};
     ghost use Rattle.process_model.specs.declared.call.Start.{Start};

@@ -1,4 +1,5 @@
-// The run queue: a part for each hart, each under a lock of its own.
+// The run queue: `Part`, a queue of jobs (unfinished processes) under a lock, one for each hart; `parts_for` allocates them,
+// `take` pops a job from the hart's own part or else from another, `put` appends one to a part that has room.
 
 use crate::job::Job;
 use crate::plan::Plan;
@@ -6,10 +7,13 @@ use std::alloc::{AllocError, Global};
 use std::collections::VecDeque;
 use std::sync::{Mutex, Wait};
 
-/// A part of the run queue.
+/// One part of the run queue, under its lock.
 pub(crate) type Part<'a, B> = Mutex<VecDeque<Job<'a, B>>>;
 
-/// A part for each hart, at least one, each with room for so many jobs.
+/// Makes a part for each hart, at least one, each with room for `slots` jobs.
+///
+/// # Errors
+/// `AllocError`: the host is out of memory.
 pub(crate) fn parts_for<'a, B: Plan>(
     alloc: Global,
     harts: usize,
@@ -22,7 +26,8 @@ pub(crate) fn parts_for<'a, B: Plan>(
     Ok(parts)
 }
 
-/// The next job, from the hart's own part or else from the others in turn.
+/// Takes the next job from the hart's own part, or else from the others in turn. `None` if each part was empty when it was
+/// locked.
 pub(crate) fn take<'a, B: Plan, R: Wait>(
     rt: &R,
     parts: &[Part<'a, B>],
@@ -37,7 +42,8 @@ pub(crate) fn take<'a, B: Plan, R: Wait>(
     None
 }
 
-/// Puts a job into the hart's own part, or where else there is room. Each part has room for as many jobs as there are slots.
+/// Puts a job into part `hart`, or the next one that has room; it tries until one has. Each part has room for as many jobs
+/// as there are slots.
 pub(crate) fn put<'a, B: Plan, R: Wait>(
     rt: &R,
     parts: &[Part<'a, B>],

@@ -1,83 +1,88 @@
-// Who must come back.
+// `Roster` (struct): the unfinished and the ended processes of a run, its slots (places in the process table) and the issuer
+// of its vouchers (linear tokens, one for each unfinished process): a start, a refused start, a slot kept for a fork
+// (`Admission`, enum) or freed, a child, an end, and `close`, which returns all that ended.
 
 ghost use Rattle.std.specs.Prelude.{◌≡◌, ◌+◌, ◌-◌, ◌<◌, ◌≤◌, ◌∷◌, [], All, IfSome, Some, length, slice_get, vec_len, vec_capacity};
-ghost use Rattle.vouchers.specs.Entries.{Entry as Life, entry};
-ghost use Rattle.vouchers.specs.Fits.{KeepsAt, HoldsAt, given_of, held_of};
-ghost use Rattle.hart_threads.specs.Heirs.{heirs};
-ghost use Rattle.hart_threads.specs.Rostered.{ComesBack, IsAdmitted, IsBack, IsBirth, IsEnded};
-ghost use Rattle.hart_threads.specs.Slots.{IsSettled, IsTaken};
+ghost use Rattle.vouchers.specs.Entries.{TokenEntry as Life, entry};
+ghost use Rattle.vouchers.specs.IssuerSeats.{KeepsAt, HoldsAt, given_of, held_of};
+ghost use Rattle.hart_threads.specs.ChildLists.{child_lists};
+ghost use Rattle.hart_threads.specs.RosterState.{ComesBack, IsAdmitted, IsEndedWithToken, IsBirth, IsEnded};
+ghost use Rattle.hart_threads.specs.Slots.{MatchesSlots, IsTaken};
 ghost use Rattle.process_model.specs.declared.call.Start.{Start};
 
-use crate::fates::Fates;
 use crate::plan::Plan;
+use crate::start_outcomes::StartOutcomes;
 use hart_calls::{Finished, Tracked};
 use std::alloc::Global;
 use std::marker::{Brand, Model, PhantomData};
 use std::mem;
-use vouchers::{Desk, Keeper, Voucher};
+use vouchers::{Token, TokenIssuer, TokenTable};
 
-/// Who is out, and who has ended. Contracts see it as how many starts are left.
+/// Unfinished and ended processes. Contracts see the number of starts left.
 ///
-/// Wherever it lies, each process that was started, with the list of its start, and each child that one of these has named,
-/// with the list of its fork, is out or has ended, once, and nobody else. Whoever is out has a voucher, and so has each slot that
-/// is kept for a fork under way (a voucher of no name); there is room for all of them to end. Each start is out only if it took
-/// a slot, and was refused only by the rule for slots and counts (`IsSettled`).
+/// Type invariant, until `close` has returned the ended ones: each process that was started, with the list of its start, and
+/// each child that one of these has named, with the list of its fork, is unfinished or has ended, once, and there are no
+/// others. Each unfinished process has a voucher, and so has each slot that is kept for a fork under way (a voucher without
+/// a name); there is memory for the ends of all of them. An unfinished start took a slot that was free; all that ended keep
+/// the rule for slots and counts (`MatchesSlots`).
 #[derive(Drop)]
-pub(crate) struct Roster<'a, B: Plan, F: Fates> {
+pub(crate) struct Roster<'a, B: Plan, F: StartOutcomes> {
     slots: usize,
-    /// Slots in use.
+    /// Slots in use: by an unfinished process, or kept for a fork.
     out: usize,
     /// Starts that were neither made nor refused yet.
     left: usize,
     finished: Vec<Finished<'a>>,
-    /// Those who ended were handed over.
+    /// Whether `close` has returned the ended processes.
     handed: bool,
-    keeper: Keeper,
+    issuer: TokenIssuer,
     of: PhantomData<B>,
     after: PhantomData<F>,
 }
 
-impl<'a, B: Plan, F: Fates> Model for Roster<'a, B, F> {
+impl<'a, B: Plan, F: StartOutcomes> Model for Roster<'a, B, F> {
     ghost use Rattle.std.specs.Prelude.{◌≡◌, ℕ, ◌+◌, ◌-◌, ◌≤◌, All, List, false, length, vec_len, vec_capacity};
-    ghost use Rattle.vouchers.specs.Entries.{Entry as Life};
-    ghost use Rattle.vouchers.specs.Fits.{KeepsAt, given_of};
-    ghost use Rattle.hart_threads.specs.Rostered.{Each, IsRostered};
-    ghost use Rattle.hart_threads.specs.Slots.{AreTaken, IsSettled};
+    ghost use Rattle.vouchers.specs.Entries.{TokenEntry as Life};
+    ghost use Rattle.vouchers.specs.IssuerSeats.{KeepsAt, given_of};
+    ghost use Rattle.hart_threads.specs.RosterState.{Each, IsRostered};
+    ghost use Rattle.hart_threads.specs.Slots.{AreTaken, MatchesSlots};
 
     ghost Value = { ℕ };
 
     ghost view = { λ r. r.left };
 
-    ghost invariant = { λ r. KeepsAt B.desk r.keeper
-        × (length (given_of r.keeper) ≡ r.out)
-        × (r.handed ≡ false → (lives : List Life) × Each B.lists B.plan lives r.finished.items × IsRostered B.plan (length B.plan - r.left) (given_of r.keeper) lives × All (IsSettled F.slots F.taken F.full) r.finished.items)
+    ghost invariant = { λ r. KeepsAt B.token_table r.issuer
+        × (length (given_of r.issuer) ≡ r.out)
+        × (r.handed ≡ false → (lives : List Life) × Each B.lists B.plan lives r.finished.items × IsRostered B.plan (length B.plan - r.left) (given_of r.issuer) lives × All (MatchesSlots F.slots F.taken F.full) r.finished.items)
         × (vec_len r.finished + r.out + r.left ≤ vec_capacity r.finished)
         × (r.left ≤ length B.plan)
-        × AreTaken F.slots F.taken (given_of r.keeper) };
+        × AreTaken F.slots F.taken (given_of r.issuer) };
 }
 
-/// What comes of asking for a slot.
+/// The reply to a fork that asks for a slot.
 #[derive(Drop)]
 pub(crate) enum Admission {
-    /// The slot is kept, with room for an end.
-    Kept(Voucher),
+    /// A slot is kept for the child, with memory for its end. The voucher has no name.
+    Kept(Token),
+    /// Every slot is in use.
     NoSlot,
+    /// The host has no memory for one end more.
     Memory,
 }
 
-impl<'a, B: Plan, F: Fates> Roster<'a, B, F> {
-    /// A roster with nobody on it, for `starts` starts; `finished` has room for their ends.
+impl<'a, B: Plan, F: StartOutcomes> Roster<'a, B, F> {
+    /// Makes an empty roster, for `starts` starts; `finished` has room for their ends.
     pub(crate) fn with_room(
         finished: Vec<Finished<'a>>,
-        keeper: Keeper,
+        issuer: TokenIssuer,
         slots: usize,
         starts: usize,
     ) -> Roster<'a, B, F>
         requires none_ended { finished.items ≡ [] }
         requires room { vec_len finished + starts ≤ vec_capacity finished }
         requires starts { length B.plan ≡ starts }
-        requires at { KeepsAt B.desk keeper }
-        requires none { given_of keeper ≡ [] }
+        requires at { KeepsAt B.token_table issuer }
+        requires none { given_of issuer ≡ [] }
         ensures left { result ≡ starts }
     {
         Roster {
@@ -86,44 +91,44 @@ impl<'a, B: Plan, F: Fates> Roster<'a, B, F> {
             left: starts,
             finished,
             handed: false,
-            keeper,
+            issuer,
             of: PhantomData,
             after: PhantomData,
         }
     }
 
-    /// The next start was made. Its process has the voucher, and no child yet.
-    pub(crate) fn start(&mut self, desk: &Desk, name: &[u64], list: usize) -> Voucher
-        requires desk { desk.now ≡ B.desk }
+    /// Enters the process of the next start, and returns its voucher. It has no child yet.
+    pub(crate) fn start(&mut self, token_table: &TokenTable, name: &[u64], list: usize) -> Token
+        requires token_table { token_table.now ≡ B.token_table }
         requires left { 0 < self.old }
         requires name { name.now ≡ (length B.plan - self.old) ∷ [] }
         requires taken { IsTaken F.slots F.taken (length B.plan - self.old) }
         requires list { (s : Start) × (slice_get B.plan (length B.plan - self.old) ≡ Some s) × (list ≡ s.list) }
         ensures left { self.new ≡ self.old - 1 }
-        ensures at { HoldsAt B.desk result }
+        ensures at { HoldsAt B.token_table result }
         ensures holds { held_of result ≡ entry name.now list [] ∷ [] }
     {
         self.left -= 1;
         self.out += 1;
-        desk.issue::<Brand, (&[u64], usize)>(&mut self.keeper, &(name, list))
+        token_table.issue::<Brand, (&[u64], usize)>(&mut self.issuer, &(name, list))
     }
 
-    /// The next start has no process.
+    /// Enters the end of the next start, which has no process.
     pub(crate) fn refuse(&mut self, unstarted: Finished<'a>)
         requires left { 0 < self.old }
         requires name { unstarted.name.items ≡ (length B.plan - self.old) ∷ [] }
         requires refused { (s : Start) × (slice_get B.plan (length B.plan - self.old) ≡ Some s) × IsEnded B.lists B.plan (entry unstarted.name.items s.list []) unstarted }
-        requires settled { IsSettled F.slots F.taken F.full unstarted }
+        requires settled { MatchesSlots F.slots F.taken F.full unstarted }
         ensures left { self.new ≡ self.old - 1 }
     {
         self.left -= 1;
         self.finished.push_reserved(unstarted);
     }
 
-    /// Keeps a slot for a fork, with room for the end of the child.
-    pub(crate) fn admit(&mut self, desk: &Desk) -> Admission
-        requires desk { desk.now ≡ B.desk }
-        ensures { IsAdmitted B.desk result }
+    /// Keeps a slot for a fork, with memory for the end of the child, or replies why it cannot.
+    pub(crate) fn admit(&mut self, token_table: &TokenTable) -> Admission
+        requires token_table { token_table.now ≡ B.token_table }
+        ensures { IsAdmitted B.token_table result }
     {
         if self.slots <= self.out {
             return Admission::NoSlot;
@@ -132,65 +137,71 @@ impl<'a, B: Plan, F: Fates> Roster<'a, B, F> {
             return Admission::Memory;
         };
         self.out += 1;
-        Admission::Kept(desk.issue::<Brand, ()>(&mut self.keeper, &()))
+        Admission::Kept(token_table.issue::<Brand, ()>(&mut self.issuer, &()))
     }
 
-    /// The fork was refused, and its slot is free again.
-    pub(crate) fn withdraw(&mut self, desk: &Desk, slot: Voucher)
-        requires desk { desk.now ≡ B.desk }
-        requires at { HoldsAt B.desk slot }
+    /// Frees the slot that was kept for a fork which named no child.
+    pub(crate) fn withdraw(&mut self, token_table: &TokenTable, slot: Token)
+        requires token_table { token_table.now ≡ B.token_table }
+        requires at { HoldsAt B.token_table slot }
         requires slot { held_of slot ≡ entry [] 0 [] ∷ [] }
     {
-        desk.redeem(&mut self.keeper, slot);
+        token_table.redeem(&mut self.issuer, slot);
         self.out -= 1;
     }
 
-    /// A process has named a child, which has the slot now. The answer is the new voucher of the process, and the child's.
-    pub(crate) fn born(
+    /// Enters a child that a process has named, in the slot that was kept for it. Returns the new voucher of the parent,
+    /// which lists the child, and the child's voucher.
+    pub(crate) fn add_child(
         &mut self,
-        desk: &Desk,
+        token_table: &TokenTable,
         parent: &Tracked<'a, B>,
         child: &Tracked<'a, B>,
-        slot: Voucher,
-        voucher: Voucher,
-    ) -> (Voucher, Voucher)
-        requires desk { desk.now ≡ B.desk }
-        requires slot_at { HoldsAt B.desk slot }
-        requires at { HoldsAt B.desk voucher }
+        slot: Token,
+        token: Token,
+    ) -> (Token, Token)
+        requires token_table { token_table.now ≡ B.token_table }
+        requires slot_at { HoldsAt B.token_table slot }
+        requires at { HoldsAt B.token_table token }
         requires slot { held_of slot ≡ entry [] 0 [] ∷ [] }
-        requires birth { IsBirth (held_of voucher) parent.now child.now }
-        ensures at { HoldsAt B.desk result.0 × HoldsAt B.desk result.1 }
-        ensures parent { held_of result.0 ≡ entry parent.now.name parent.now.list (heirs parent.now.journal) ∷ [] }
-        ensures child { held_of result.1 ≡ entry child.now.name child.now.list (heirs child.now.journal) ∷ [] }
+        requires birth { IsBirth (held_of token) parent.now child.now }
+        ensures at { HoldsAt B.token_table result.0 × HoldsAt B.token_table result.1 }
+        ensures parent { held_of result.0 ≡ entry parent.now.name parent.now.list (child_lists parent.now.journal) ∷ [] }
+        ensures child { held_of result.1 ≡ entry child.now.name child.now.list (child_lists child.now.journal) ∷ [] }
     {
-        desk.redeem(&mut self.keeper, slot);
-        desk.redeem(&mut self.keeper, voucher);
-        let young = desk.issue::<Brand, Tracked<'a, B>>(&mut self.keeper, child);
-        let old = desk.issue::<Brand, Tracked<'a, B>>(&mut self.keeper, parent);
+        token_table.redeem(&mut self.issuer, slot);
+        token_table.redeem(&mut self.issuer, token);
+        let young = token_table.issue::<Brand, Tracked<'a, B>>(&mut self.issuer, child);
+        let old = token_table.issue::<Brand, Tracked<'a, B>>(&mut self.issuer, parent);
         (old, young)
     }
 
-    /// A process comes back, and its slot is free again.
-    pub(crate) fn finish(&mut self, desk: &Desk, finished: Finished<'a>, returned: Voucher)
-        requires desk { desk.now ≡ B.desk }
-        requires at { HoldsAt B.desk returned }
-        requires back { IsBack B.lists B.plan (held_of returned) finished }
+    /// Enters the end of a process, and frees its slot.
+    pub(crate) fn finish(
+        &mut self,
+        token_table: &TokenTable,
+        finished: Finished<'a>,
+        returned: Token,
+    )
+        requires token_table { token_table.now ≡ B.token_table }
+        requires at { HoldsAt B.token_table returned }
+        requires back { IsEndedWithToken B.lists B.plan (held_of returned) finished }
         ensures left { self.new ≡ self.old }
     {
-        desk.redeem(&mut self.keeper, returned);
+        token_table.redeem(&mut self.issuer, returned);
         self.out -= 1;
         self.finished.push_reserved(finished);
     }
 
-    /// Whether nobody is out.
+    /// Returns whether no slot is in use.
     pub(crate) fn is_done(&self) -> bool {
         self.out == 0
     }
 
-    /// All who came back, once, where nobody is out.
+    /// Returns all ended processes, once. `None` while a slot is in use or a start is left, and after the first `Some`.
     pub(crate) fn close(&mut self, alloc: Global) -> Option<Vec<Finished<'a>>>
         ensures back { IfSome result (λ all. ComesBack B.lists B.plan all.items) }
-        ensures settled { IfSome result (λ all. All (IsSettled F.slots F.taken F.full) all.items) }
+        ensures settled { IfSome result (λ all. All (MatchesSlots F.slots F.taken F.full) all.items) }
     {
         if self.out > 0 || self.left > 0 || self.handed {
             return None;

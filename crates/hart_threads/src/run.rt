@@ -1,26 +1,27 @@
-// A run: starts, harts on threads, and who came back.
+// `run_harts`: makes the starts in order, runs the harts on threads until no process is unfinished, and returns each process
+// as it ended. Steps: host memory and starts (`run_in`), roster and queue (`run_made`), threads (`run_all`, `run_hart`).
 
 ghost use Rattle.std.specs.Prelude.{◌≡◌, ◌+◌, ◌<◌, ◌≤◌, [], All, length, vec_len, vec_capacity, IfErr, IfOk};
 ghost use Rattle.frame_store.specs.View.{IsHeld};
-ghost use Rattle.hart_calls.specs.Track.{AreThere};
-ghost use Rattle.hart_threads.specs.Makes.{any_full, AreMade, slots_of};
-ghost use Rattle.hart_threads.specs.Rostered.{ComesBack};
-ghost use Rattle.hart_threads.specs.Slots.{AreSlotted, HasReadFull, IsSettled, OnFull};
+ghost use Rattle.hart_calls.specs.Track.{NameLists};
+ghost use Rattle.hart_threads.specs.StartEffects.{any_full, AreStartResults, slots_of};
+ghost use Rattle.hart_threads.specs.RosterState.{ComesBack};
+ghost use Rattle.hart_threads.specs.Slots.{AreSlotted, HasReadFull, MatchesSlots, OnFull};
 ghost use Rattle.hart_threads.specs.Starts.{Lends};
-ghost use Rattle.shared_frames.specs.Fits.{FitsIn, view_of};
-ghost use Rattle.vouchers.specs.Fits.{KeepsAt, given_of};
+ghost use Rattle.shared_frames.specs.SeatsOfTable.{FitsIn, view_of};
+ghost use Rattle.vouchers.specs.IssuerSeats.{KeepsAt, given_of};
 ghost use denote.Param.Send.{IsSend, IsSync};
 
-use crate::enlist::Enlisting;
-use crate::fates::Fates;
+use crate::enlist::Enlister;
 use crate::gate::Gate;
-use crate::hart::Hart;
-use crate::made::Made;
-use crate::name_room::name_rooms;
+use crate::hart::HartThread;
+use crate::name_buffer::name_rooms;
 use crate::plan::Plan;
 use crate::queue::{Part, parts_for};
 use crate::roster::Roster;
-use crate::start::Starting;
+use crate::start::StartContext;
+use crate::start_outcomes::StartOutcomes;
+use crate::start_result::StartResult;
 use file_shelf::Shelf;
 use hart_calls::Finished;
 use process_model::{Call, Sequence, Start};
@@ -31,13 +32,13 @@ use std::marker::Brand;
 use std::sync::{Mutex, Wait};
 use std::thread;
 use std::thread::Threads;
-use vouchers::{Desk, Keeper};
+use vouchers::{TokenIssuer, TokenTable};
 
-/// Runs one hart.
-fn run_hart<'a, B: Plan, F: Fates, R: Wait, G: Gate>(
+/// Runs one hart until no slot is in use.
+fn run_hart<'a, B: Plan, F: StartOutcomes, R: Wait, G: Gate>(
     rt: &R,
     frames: &SharedFrames,
-    desk: &Desk,
+    token_table: &TokenTable,
     roster: &Mutex<Roster<'a, B, F>>,
     shelf: &Mutex<Shelf>,
     parts: &[Part<'a, B>],
@@ -46,12 +47,12 @@ fn run_hart<'a, B: Plan, F: Fates, R: Wait, G: Gate>(
     quantum: usize,
 )
     requires frames { frames.now.table ≡ B.table }
-    requires desk { desk.now ≡ B.desk }
+    requires token_table { token_table.now ≡ B.token_table }
 {
-    let hart = Hart {
+    let hart = HartThread {
         rt,
         frames,
-        desk,
+        token_table,
         roster,
         shelf,
         parts,
@@ -61,18 +62,18 @@ fn run_hart<'a, B: Plan, F: Fates, R: Wait, G: Gate>(
     hart.run(quantum);
 }
 
-/// Runs all harts: hart 0 is this thread. A thread that cannot be started is left out.
+/// Runs all harts until no slot is in use. Hart 0 is this thread; a thread that cannot be started is left out.
 fn run_all<
     'r,
     'a,
     B: Plan + Send + Sync,
-    F: Fates + Send + Sync,
+    F: StartOutcomes + Send + Sync,
     R: Threads + Wait + Sync,
     G: Gate + Sync,
 >(
     rt: &'r R,
     frames: &'r SharedFrames,
-    desk: &'r Desk,
+    token_table: &'r TokenTable,
     roster: &'r Mutex<Roster<'a, B, F>>,
     shelf: &'r Mutex<Shelf>,
     parts: &'r [Part<'a, B>],
@@ -81,35 +82,53 @@ fn run_all<
     quantum: usize,
 )
     requires frames { frames.now.table ≡ B.table }
-    requires desk { desk.now ≡ B.desk }
+    requires token_table { token_table.now ≡ B.token_table }
 {
     thread::scope(
         thread::scope_env(),
         rt,
         |scope|
-            requires { (frames.now.table ≡ B.table) × (desk.now ≡ B.desk) × IsSync R.row × IsSync G.row × IsSend B.row × IsSync B.row × IsSend F.row × IsSync F.row }
+            requires { (frames.now.table ≡ B.table) × (token_table.now ≡ B.token_table) × IsSync R.row × IsSync G.row × IsSend B.row × IsSync B.row × IsSend F.row × IsSync F.row }
         {
             for number in 1..harts {
                 let _ = scope.spawn(
                     move || -> ()
-                        requires { (frames.now.table ≡ B.table) × (desk.now ≡ B.desk) }
+                        requires { (frames.now.table ≡ B.table) × (token_table.now ≡ B.token_table) }
                     {
                         run_hart(
-                            rt, frames, desk, roster, shelf, parts, gate, number, quantum,
+                            rt,
+                            frames,
+                            token_table,
+                            roster,
+                            shelf,
+                            parts,
+                            gate,
+                            number,
+                            quantum,
                         )
                     },
                 );
             }
-            run_hart(rt, frames, desk, roster, shelf, parts, gate, 0, quantum);
+            run_hart(
+                rt,
+                frames,
+                token_table,
+                roster,
+                shelf,
+                parts,
+                gate,
+                0,
+                quantum,
+            );
         },
     );
 }
 
-/// Runs the processes that the starts made, until all have come back.
+/// Enlists the results of the starts, runs the harts until no process is unfinished, and returns the ended processes.
 fn run_made<
     'a,
     B: Plan + Send + Sync,
-    F: Fates + Send + Sync,
+    F: StartOutcomes + Send + Sync,
     R: Threads + Wait + Sync,
     G: Gate + Sync,
 >(
@@ -117,47 +136,55 @@ fn run_made<
     alloc: Global,
     frames: &SharedFrames,
     shelf: &Mutex<Shelf>,
-    desk: &Desk,
-    keeper: Keeper,
+    token_table: &TokenTable,
+    issuer: TokenIssuer,
     ends: Vec<Finished<'a>>,
     lists: &'a [Sequence<Call<'a>>],
     starts: &[Start<'_>],
     parts: &[Part<'a, B>],
-    all: &mut VecDeque<Made<'a>>,
+    all: &mut VecDeque<StartResult<'a>>,
     slots: usize,
     harts: usize,
     quantum: usize,
     gate: &G,
 ) -> Vec<Finished<'a>>
     requires frames { frames.now.table ≡ B.table }
-    requires desk { desk.now ≡ B.desk }
+    requires token_table { token_table.now ≡ B.token_table }
     requires of_lists { lists.now ≡ B.lists }
     requires of_starts { starts.now ≡ B.plan }
     requires lists { All (λ start. start.list < length lists.now) starts.now }
-    requires named { AreThere lists.now }
-    requires at { KeepsAt B.desk keeper }
-    requires none { given_of keeper ≡ [] }
+    requires named { NameLists lists.now }
+    requires at { KeepsAt B.token_table issuer }
+    requires none { given_of issuer ≡ [] }
     requires none_ended { ends.items ≡ [] }
     requires room { vec_len ends + length starts.now ≤ vec_capacity ends }
-    requires made { AreMade B.table F.slots starts.now 0 0 all.old.items }
+    requires made { AreStartResults B.table F.slots starts.now 0 0 all.old.items }
     requires all { length all.old.items ≡ length starts.now }
     requires taken { F.taken ≡ slots_of all.old.items }
     requires full { F.full ≡ any_full all.old.items }
     ensures back { ComesBack B.lists B.plan result.items }
-    ensures settled { All (IsSettled F.slots F.taken F.full) result.items }
+    ensures settled { All (MatchesSlots F.slots F.taken F.full) result.items }
 {
-    let mut roster = Roster::<B, F>::with_room(ends, keeper, slots, starts.len());
-    let enlisting = Enlisting {
+    let mut roster = Roster::<B, F>::with_room(ends, issuer, slots, starts.len());
+    let enlisting = Enlister {
         rt,
         alloc,
-        desk,
+        token_table,
         lists,
         parts,
     };
     enlisting.enlist_all::<F>(&mut roster, all, starts);
     let roster = Mutex::new(roster);
     run_all(
-        rt, frames, desk, &roster, shelf, parts, gate, harts, quantum,
+        rt,
+        frames,
+        token_table,
+        &roster,
+        shelf,
+        parts,
+        gate,
+        harts,
+        quantum,
     );
     'rest: for _ in rt.forever() {
         if let Some(all) = roster.lock(rt).close(alloc) {
@@ -168,16 +195,16 @@ fn run_made<
     unreachable!()
 }
 
-/// A run in a room: all memory for the starts is taken before the first is made, except for their spaces. A process for whose
-/// space the host has no memory ends before its first call.
+/// `run_harts` for the run `B`. All host memory for the starts is allocated before the first is made, except for their
+/// spaces. A process for whose space the host has no memory ends before its first call.
 fn run_in<'a, B: Plan + Send + Sync, R: Threads + Wait + Sync, G: Gate + Sync>(
     rt: &R,
     alloc: Global,
     frames: &SharedFrames,
     kernel: &mut SharedSeat,
     shelf: &Mutex<Shelf>,
-    desk: &Desk,
-    keeper: Keeper,
+    token_table: &TokenTable,
+    issuer: TokenIssuer,
     lists: &'a [Sequence<Call<'a>>],
     starts: &[Start<'_>],
     slots: usize,
@@ -186,13 +213,13 @@ fn run_in<'a, B: Plan + Send + Sync, R: Threads + Wait + Sync, G: Gate + Sync>(
     gate: &G,
 ) -> Result<Vec<Finished<'a>>, AllocError>
     requires frames { frames.now.table ≡ B.table }
-    requires desk { desk.now ≡ B.desk }
+    requires token_table { token_table.now ≡ B.token_table }
     requires of_lists { lists.now ≡ B.lists }
     requires of_starts { starts.now ≡ B.plan }
-    requires at { KeepsAt B.desk keeper }
-    requires none { given_of keeper ≡ [] }
+    requires at { KeepsAt B.token_table issuer }
+    requires none { given_of issuer ≡ [] }
     requires lists { All (λ start. start.list < length lists.now) starts.now }
-    requires named { AreThere lists.now }
+    requires named { NameLists lists.now }
     requires fits { FitsIn B.table kernel.old }
     requires anchored { IsHeld (view_of kernel.old) 0 }
     ensures back { IfOk result (λ all. ComesBack B.lists B.plan all.items) }
@@ -207,30 +234,51 @@ fn run_in<'a, B: Plan + Send + Sync, R: Threads + Wait + Sync, G: Gate + Sync>(
     let mut rooms = name_rooms(alloc, starts.len())?;
     let mut made = VecDeque::with_capacity(alloc, starts.len())?;
     let parts = parts_for::<B>(alloc, harts, slots)?;
-    let starting = Starting { rt, alloc, frames };
+    let starting = StartContext { rt, alloc, frames };
     starting.make_all(kernel, &mut rooms, &mut made, starts, slots);
     let parts = parts.as_slice();
     Ok(run_made::<B, Brand, R, G>(
-        rt, alloc, frames, shelf, desk, keeper, ends, lists, starts, parts, &mut made, slots,
-        harts, quantum, gate,
+        rt,
+        alloc,
+        frames,
+        shelf,
+        token_table,
+        issuer,
+        ends,
+        lists,
+        starts,
+        parts,
+        &mut made,
+        slots,
+        harts,
+        quantum,
+        gate,
     ))
 }
 
-/// Starts processes in order, each of an image and with a list of calls, and runs them with so many harts on threads: hart 0
-/// is this thread, and a thread that cannot be started is left out. Processes have page tables of Sv39. A hart takes a process from the run queue, makes up to
-/// `quantum` calls and puts it back. `slots` is the number of places for processes.
+/// Starts processes in order, each of an image and with a list of calls, and runs them on `harts` harts until all have
+/// ended. Hart 0 is this thread, the others are threads of their own; a thread that cannot be started is left out. Page
+/// tables are of Sv39. A hart takes a process from the run queue, makes up to `quantum` calls and puts it back. `slots` is
+/// the number of places for processes. `shelf` has their files; `gate` is called before and after each call.
 ///
-/// Each process that was started, and each child that a journal names, comes back once, as it ended, and nobody else: its
-/// journal has the first calls of its list, which is that of its start, or of its parent's fork, up to the one that ended
-/// it, and its seat holds nothing; so does each start that was refused, with an empty journal. The kernel's seat needs frame
-/// 0, which it shares with the processes, and holds what it held.
+/// `kernel` must be a seat at the table of `frames` that has a reference to frame 0, which it shares with the processes. It
+/// then has the references and credits that it had, but may no longer be the sole holder of frame 0. Each start, and each
+/// fork in `lists`, must name a list by an index below their number.
 ///
-/// A start is refused for want of a slot exactly when at least `slots` of the starts before it took one. A start whose process made
-/// a call took one, and one that was refused took none; nothing is said of a process that ended for want of memory before its first
-/// call. A start is refused for a full count of frame 0 only if the kernel's seat read a count of 65,535 in this call.
+/// Returns each process that was started, and each child that a journal names, once, as it ended, and no other. Its journal
+/// has the first calls of its list, which is that of its start or of its parent's fork; the last entry says how it ended,
+/// except after `Memory` and `JournalFull`; its seat holds nothing. A start that was refused is returned too, with an empty
+/// journal.
+///
+/// A start is refused with `NoSlot` exactly when at least `slots` of the starts before it took a slot. A start whose process
+/// made a call took one, and one that was refused took none; nothing is said of a process that ended with `Memory` before
+/// its first call. A start is refused with `SharersFull` only if the kernel's seat read a count of 65,535 in this call; with
+/// `BadImage` only if its image fails that check; with `NoFrame` only if its image is accepted and the free count was read
+/// as 0 with fewer frames reserved than it needs. No start is refused with another refusal.
 ///
 /// # Errors
-/// `AllocError`: the kernel's seat is unchanged. All memory whose refusal is told so is taken before the first start.
+/// `AllocError`: the kernel's seat is unchanged. All memory whose refusal is reported so is allocated before the first
+/// start.
 pub fn run_harts<'a, R: Threads + Wait + Sync, G: Gate + Sync>(
     rt: &R,
     alloc: Global,
@@ -245,7 +293,7 @@ pub fn run_harts<'a, R: Threads + Wait + Sync, G: Gate + Sync>(
     gate: &G,
 ) -> Result<Vec<Finished<'a>>, AllocError>
     requires lists { All (λ start. start.list < length lists.now) starts.now }
-    requires named { AreThere lists.now }
+    requires named { NameLists lists.now }
     requires fits { FitsIn frames.now.table kernel.old }
     requires anchored { IsHeld (view_of kernel.old) 0 }
     ensures back { IfOk result (λ all. ComesBack lists.entry.now starts.now all.items) }
@@ -255,8 +303,20 @@ pub fn run_harts<'a, R: Threads + Wait + Sync, G: Gate + Sync>(
     ensures fits { FitsIn frames.now.table kernel.new }
     ensures lends { Lends (view_of kernel.old) (view_of kernel.new) }
 {
-    let (desk, keeper) = Desk::open(alloc)?;
+    let (token_table, issuer) = TokenTable::open(alloc)?;
     run_in::<Brand, R, G>(
-        rt, alloc, frames, kernel, shelf, &desk, keeper, lists, starts, slots, harts, quantum, gate,
+        rt,
+        alloc,
+        frames,
+        kernel,
+        shelf,
+        &token_table,
+        issuer,
+        lists,
+        starts,
+        slots,
+        harts,
+        quantum,
+        gate,
     )
 }

@@ -1,4 +1,6 @@
-// Seats that are split off the kernel's.
+// One start on a seat (an owner's capability at a frame store) split off the kernel's: `started` returns the space and the
+// process that it begins as, or a refusal (NoSlot, BadImage, SharersFull, NoFrame) with an empty seat; `end_unstarted` ends
+// a process for whose space the host has no memory.
 
 ghost use Rattle.std.specs.Prelude.{[], ◌≡◌, ◌<◌, true, IfErr, IfOk};
 ghost use Rattle.address_space.specs.Agreement.{HoldsTrampoline};
@@ -6,23 +8,23 @@ ghost use Rattle.address_space.specs.Steps.{IsBare};
 ghost use Rattle.frame_store.specs.View.{IsHeld, read_full};
 ghost use Rattle.process_model.specs.declared.call.Outcome.TheVariants as outcome;
 ghost use Rattle.process_model.specs.Frames.{start_need};
-ghost use Rattle.process_model.specs.Loading.{process_of};
-ghost use Rattle.shared_frames.specs.Fits.{FitsIn, view_of};
-ghost use Rattle.hart_threads.specs.Rostered.{RefusesStart};
+ghost use Rattle.process_model.specs.ImageProcess.{process_of};
+ghost use Rattle.shared_frames.specs.SeatsOfTable.{FitsIn, view_of};
+ghost use Rattle.hart_threads.specs.RosterState.{RefusesStart};
 ghost use Rattle.hart_threads.specs.Starts.{IsBegun, IsProcessOf, IsRefusedStart, Lends};
 
 use address_space::Space;
 use exec_segments::{Image, start};
 use frame_store::{FrameAccess, FrameSupply, NoFrame, SharersFull, opened_seat};
-use hart_calls::{Finished, Opening, begun};
+use hart_calls::{Finished, ModelProcess, begun};
 use process_model::{Outcome, Refusal};
 use shared_frames::{SharedSeat, SharedSupply};
 use std::alloc::Global;
 use std::sync::Wait;
 use sv39_entry::{FrameNo, Scheme};
 
-/// A seat that holds nothing.
-fn bare_seat<R: Wait>(store: &mut SharedSupply<'_, R>, kernel: &mut SharedSeat) -> SharedSeat
+/// Splits a seat that holds nothing off the kernel's.
+fn empty_seat<R: Wait>(store: &mut SharedSupply<'_, R>, kernel: &mut SharedSeat) -> SharedSeat
     requires fits { FitsIn store.old kernel.old }
     requires anchored { IsHeld (view_of kernel.old) 0 }
     ensures bare { IsBare (view_of result) }
@@ -33,8 +35,8 @@ fn bare_seat<R: Wait>(store: &mut SharedSupply<'_, R>, kernel: &mut SharedSeat) 
     store.split(kernel, &[])
 }
 
-/// Lets go of all that a seat for a process holds that was not started: frame 0.
-fn stripped<R: Wait>(store: &mut SharedSupply<'_, R>, mut seat: SharedSeat) -> SharedSeat
+/// Drops frame 0, all that the seat of a process which was not started holds. Returns the seat, which holds nothing.
+fn release_seat<R: Wait>(store: &mut SharedSupply<'_, R>, mut seat: SharedSeat) -> SharedSeat
     requires fits { FitsIn store.old seat }
     requires seat { HoldsTrampoline (view_of seat) }
     ensures bare { IsBare (view_of result) }
@@ -45,7 +47,10 @@ fn stripped<R: Wait>(store: &mut SharedSupply<'_, R>, mut seat: SharedSeat) -> S
     seat
 }
 
-/// A seat for a process: it holds frame 0, and nothing else.
+/// Splits a seat for a process off the kernel's: it holds frame 0, for the trampoline, and nothing else.
+///
+/// # Errors
+/// `SharersFull`, only after the kernel's seat read a count of 65,535. The kernel's seat holds what it held.
 fn opened<R: Wait>(
     store: &mut SharedSupply<'_, R>,
     kernel: &mut SharedSeat,
@@ -62,13 +67,15 @@ fn opened<R: Wait>(
     opened_seat(store, kernel)
 }
 
-/// A process of an image on its seat, and the process of the model that it begins as. Without frames nothing is left of the
-/// seat.
+/// Builds the process of an image on its seat. Returns its space, and the process of the model that it begins as.
+///
+/// # Errors
+/// The seat, which holds nothing. It has read the free count as 0 with fewer frames reserved than the start needs.
 fn built<R: Wait>(
     store: &mut SharedSupply<'_, R>,
     seat: SharedSeat,
     image: &Image<'_>,
-) -> Result<(Space<SharedSeat>, Opening), SharedSeat>
+) -> Result<(Space<SharedSeat>, ModelProcess), SharedSeat>
     requires fits { FitsIn store.old seat }
     requires seat { HoldsTrampoline (view_of seat) }
     ensures built { IfOk result (λ r. IsBegun store.old r.0 r.1) }
@@ -79,16 +86,16 @@ fn built<R: Wait>(
 {
     match start(store, seat, image) {
         Ok(space) => Ok((space, begun(image))),
-        Err((NoFrame, seat)) => Err(stripped(store, seat)),
+        Err((NoFrame, seat)) => Err(release_seat(store, seat)),
     }
 }
 
-/// Ends a process before its first call, since the host has no place for its space.
-pub(crate) fn unbegun<'a, R: Wait>(
+/// Ends a process before its first call with outcome `Memory`, because the host has no memory for its space.
+pub(crate) fn end_unstarted<'a, R: Wait>(
     alloc: Global,
     store: &mut SharedSupply<'_, R>,
     space: Space<SharedSeat>,
-    opening: Opening,
+    opening: ModelProcess,
     name: Vec<u64>,
 ) -> Finished<'a>
     requires begun { IsBegun store.old space opening }
@@ -107,15 +114,20 @@ pub(crate) fn unbegun<'a, R: Wait>(
     }
 }
 
-/// A process of an image, on a seat of its own; its addresses are translated by Sv39. Without a slot it is refused, then
-/// for an image that is not accepted, then where frame 0 has as many sharers as can be counted, and then for want of frames;
-/// what is left is a seat that holds nothing.
+/// Starts a process of an image on a seat of its own, with page tables of Sv39. Returns its space, and the process of the
+/// model that it begins as.
+///
+/// # Errors
+/// These are checked in this order; the seat that is returned holds nothing. `NoSlot`: exactly if `has_slot` is false.
+/// `BadImage`: only if the image fails this check; an image that fails one is never started. `SharersFull`: only after the
+/// kernel's seat read a count of 65,535. `NoFrame`: only if the image is accepted, and after the free count was read as 0
+/// with fewer frames reserved than it needs.
 pub(crate) fn started<R: Wait>(
     store: &mut SharedSupply<'_, R>,
     kernel: &mut SharedSeat,
     image: process_model::Image<'_>,
     has_slot: bool,
-) -> Result<(Space<SharedSeat>, Opening), (Refusal, SharedSeat)>
+) -> Result<(Space<SharedSeat>, ModelProcess), (Refusal, SharedSeat)>
     requires fits { FitsIn store.old kernel.old }
     requires anchored { IsHeld (view_of kernel.old) 0 }
     ensures started { IfOk result (λ r. IsBegun store.old r.0 r.1) }
@@ -129,14 +141,14 @@ pub(crate) fn started<R: Wait>(
     ensures fits { FitsIn store.old kernel.new }
 {
     if !has_slot {
-        return Err((Refusal::NoSlot, bare_seat(store, kernel)));
+        return Err((Refusal::NoSlot, empty_seat(store, kernel)));
     }
     let image = match Image::judged(Scheme::Sv39, image) {
         Ok(image) => image,
-        Err(part) => return Err((Refusal::BadImage(part), bare_seat(store, kernel))),
+        Err(part) => return Err((Refusal::BadImage(part), empty_seat(store, kernel))),
     };
     let Ok(seat) = opened(store, kernel) else {
-        return Err((Refusal::SharersFull, bare_seat(store, kernel)));
+        return Err((Refusal::SharersFull, empty_seat(store, kernel)));
     };
     match built(store, seat, &image) {
         Ok(process) => Ok(process),

@@ -1,15 +1,16 @@
-// The starts, in order, before a hart runs.
+// `StartContext` (struct): what the starts of a run share; `make_all` makes or refuses each start, in order, before any hart
+// runs, and lists the results; a start is refused with NoSlot if no slot (place in the process table) is left.
 
 ghost use Rattle.std.specs.Prelude.{◌≡◌, ◌≤◌, ◌++◌, ◌∷◌, [], length, vec_len};
 ghost use Rattle.std.specs.VecDeque.{deque_capacity};
 ghost use Rattle.frame_store.specs.View.{IsHeld};
-ghost use Rattle.hart_threads.specs.Makes.{all_looks, AreMade, IsMade, looks_of};
+ghost use Rattle.hart_threads.specs.StartEffects.{all_looks, AreStartResults, IsStartResult, looks_of};
 ghost use Rattle.hart_threads.specs.Starts.{Lends};
-ghost use Rattle.shared_frames.specs.Fits.{FitsIn, view_of};
+ghost use Rattle.shared_frames.specs.SeatsOfTable.{FitsIn, view_of};
 
-use crate::made::Made;
-use crate::name_room::NameRoom;
-use crate::seats::{started, unbegun};
+use crate::name_buffer::NameBuffer;
+use crate::seats::{end_unstarted, started};
+use crate::start_result::StartResult;
 use hart_calls::Finished;
 use process_model::{Outcome, Start};
 use shared_frames::{SharedFrames, SharedSeat};
@@ -17,17 +18,17 @@ use std::alloc::Global;
 use std::collections::VecDeque;
 use std::sync::Wait;
 
-/// What all starts of a run have.
+/// What all starts of a run share.
 #[derive(Drop)]
-pub(crate) struct Starting<'r, R: Wait> {
+pub(crate) struct StartContext<'r, R: Wait> {
     pub(crate) rt: &'r R,
     pub(crate) alloc: Global,
     pub(crate) frames: &'r SharedFrames,
 }
 
-impl<'r, R: Wait> Starting<'r, R> {
-    /// Makes a start while `taken` of `slots` slots are taken, or refuses it. If the host has no memory for its space, the process
-    /// ends before its first call.
+impl<'r, R: Wait> StartContext<'r, R> {
+    /// Makes a start while `taken` of `slots` slots are taken, or refuses it. If the host has no memory for its space, the
+    /// process ends before its first call.
     fn make<'a>(
         &self,
         kernel: &mut SharedSeat,
@@ -35,10 +36,10 @@ impl<'r, R: Wait> Starting<'r, R> {
         start: Start<'_>,
         slots: usize,
         taken: usize,
-    ) -> Made<'a>
+    ) -> StartResult<'a>
         requires fits { FitsIn self.now.frames.now.table kernel.old }
         requires anchored { IsHeld (view_of kernel.old) 0 }
-        ensures made { IsMade self.now.frames.now.table slots taken start.entry name.items result }
+        ensures made { IsStartResult self.now.frames.now.table slots taken start.entry name.items result }
         ensures looks { (view_of kernel.new).tallies.looks ≡ (view_of kernel.old).tallies.looks ++ looks_of result }
         ensures fits { FitsIn self.now.frames.now.table kernel.new }
         ensures lends { Lends (view_of kernel.old) (view_of kernel.new) }
@@ -46,14 +47,16 @@ impl<'r, R: Wait> Starting<'r, R> {
         let mut store = self.frames.supply(self.rt);
         match started(&mut store, kernel, start.image, taken < slots) {
             Ok((space, opening)) => match Box::new(self.alloc, space) {
-                Ok(space) => Made::Begun {
+                Ok(space) => StartResult::Begun {
                     name,
                     space,
                     opening,
                 },
-                Err(full) => Made::Over(unbegun(self.alloc, &mut store, full.value, opening, name)),
+                Err(full) => StartResult::Over(end_unstarted(
+                    self.alloc, &mut store, full.value, opening, name,
+                )),
             },
-            Err((refusal, seat)) => Made::Over(Finished {
+            Err((refusal, seat)) => StartResult::Over(Finished {
                 name,
                 outcome: Outcome::Refused(refusal),
                 journal: Vec::new(self.alloc),
@@ -62,12 +65,13 @@ impl<'r, R: Wait> Starting<'r, R> {
         }
     }
 
-    /// Makes all starts in order, or refuses them, for a run of `slots` slots. `rooms` and `all` have room for each.
+    /// Makes or refuses all starts in order, for a run of `slots` slots, and puts their results into `all`. `rooms` has a
+    /// name buffer for each start, `all` has room for all results.
     pub(crate) fn make_all<'a>(
         &self,
         kernel: &mut SharedSeat,
-        rooms: &mut Vec<NameRoom>,
-        all: &mut VecDeque<Made<'a>>,
+        rooms: &mut Vec<NameBuffer>,
+        all: &mut VecDeque<StartResult<'a>>,
         starts: &[Start<'_>],
         slots: usize,
     )
@@ -76,7 +80,7 @@ impl<'r, R: Wait> Starting<'r, R> {
         requires names { vec_len rooms.old ≡ length starts.now }
         requires none { all.old.items ≡ [] }
         requires room { length starts.now ≤ deque_capacity all.old }
-        ensures made { AreMade self.now.frames.now.table slots starts.now 0 0 all.new.items }
+        ensures made { AreStartResults self.now.frames.now.table slots starts.now 0 0 all.new.items }
         ensures all { length all.new.items ≡ length starts.now }
         ensures looks { (view_of kernel.new).tallies.looks ≡ (view_of kernel.old).tallies.looks ++ all_looks all.new.items }
         ensures fits { FitsIn self.now.frames.now.table kernel.new }

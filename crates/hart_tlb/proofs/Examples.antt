@@ -1,4 +1,6 @@
--- Worked examples of the definitions, which the checker computes: a leaf of a superpage of 512 pages at 0x200000.
+-- Worked examples of the definitions, which the checker computes, with a leaf of a superpage of 512 pages at 0x200000, one
+-- of a single page, and none: what fences remove, which accesses an entry serves and their outcomes, which entry a fill
+-- drops, and which numbers match.
 use Rattle.std.proofs.Common.{◌≡◌, ℕ, Bool, true, false, Option, None, Some, [], ◌∷◌, refl}
 use Rattle.sv39_entry.specs.declared.access.Access.TheVariants.{Fetch, Load}
 use Rattle.sv39_entry.specs.declared.access.Mode.TheVariants.{User}

@@ -1,4 +1,5 @@
--- The numbers at which a test holds, one more at a time.
+-- Lemma for the loop of `Buffer::matching`: the numbers below n + 1 at which a test of list elements holds are those below
+-- n, and then n itself if the test holds there.
 use Rattle.std.proofs.Common.{◌≡◌, ℕ, ◌+◌, ◌<◌, Bool, cond, Option, Some, List, [], ◌∷◌, ◌++◌, filter, get_or, length, slice_get, refl, arith}
 use Rattle.std.specs.List.{range_with_len}
 use Rattle.std.proofs.lemmas.List.{map-id}

@@ -1,4 +1,5 @@
--- Addresses of one page have one walk.
+-- Lemmas: a walk finds the same for all addresses of one page; and if a leaf leads one of them to a byte inside the memory,
+-- it leads each to one, provided that the frame is inside as a whole or not at all.
 use Rattle.std.proofs.Common.{◌≡◌, ℕ, ◌+◌, ◌*◌, ◌/◌, ◌%◌, ◌^◌, true, refl, ◌∙◌, arith}
 use Rattle.std.proofs.lemmas.Nat.{mod-pow-add}
 use Rattle.sv39_entry.specs.Address.{page_of}

@@ -1,4 +1,5 @@
-// Entries of a translation buffer.
+// `TlbEntry`: a struct, one TLB entry: its page, its ASID, whether it is global, and the leaf that the walk found, if any.
+// Its methods: which accesses it may serve, how it translates them, and which fences remove it.
 
 ghost use Rattle.std.specs.Prelude.{◌≡◌};
 ghost use Rattle.hart_tlb.specs.Entries as entries;
@@ -8,21 +9,22 @@ use crate::leaf::TlbLeaf;
 use sv39_entry::{Access, Entry, Mode, Va, Vpn};
 use table_walk::Walk;
 
-/// What a walk found for one page of 4,096 bytes, also where its leaf is a superpage.
+/// A buffer entry: what a walk found for one page of 4,096 bytes, a leaf or none. If its leaf is a superpage, the entry
+/// still serves that one page.
 #[derive(Clone, Copy, PartialEq, Eq, Debug)]
 pub struct TlbEntry {
-    /// Bits 63 to 12 of the addresses that it serves.
+    /// The page whose addresses the entry serves.
     pub page: Vpn,
-    /// The address space number that satp had.
+    /// The ASID that satp had at the fill.
     pub asid: u16,
-    /// Whether the entry serves every address space: some entry of its walk had G (RISC-V Privileged Architecture
+    /// Whether the entry serves every ASID: its leaf or a pointer on the way to it has G (RISC-V Privileged Architecture
     /// 20211203, 4.3.1).
     pub global: bool,
-    /// `None`: the walk found no leaf.
+    /// The leaf that the walk found; `None` if it found none.
     pub leaf: Option<TlbLeaf>,
 }
 
-/// What stands in a place that no entry has.
+/// Filler for an unused place of a fixed-size list.
 impl Default for TlbEntry {
     ghost use Rattle.std.specs.Prelude.{◌≡◌, false, None};
 
@@ -39,14 +41,15 @@ impl Default for TlbEntry {
 }
 
 impl TlbEntry {
-    /// Whether the entry may serve an access to an address under an address space number.
+    /// Whether the entry may serve an access to an address under an ASID: it is for that page, and for that ASID or global.
     pub(crate) fn matches(&self, va: Va, asid: u16) -> bool
         ensures { result ≡ entries.matches va.0 asid self.now }
     {
         self.page == va.page() && (self.asid == asid || self.global)
     }
 
-    /// What the entry makes of an access to an address of its page: the rights are judged now.
+    /// Returns the outcome of an access to an address of the entry's page: the leaf and the physical address, or a page
+    /// fault if there is no leaf or its rights, judged at this use, do not permit the access.
     pub(crate) fn answer(&self, va: Va, access: Access, mode: Mode) -> Walk
         ensures { result ≡ answer self.now.leaf va.0 access mode }
     {
@@ -63,7 +66,8 @@ impl TlbEntry {
         }
     }
 
-    /// Whether a fence for an address and an address space number takes the entry; `None` stands for all of them.
+    /// Whether a fence for an address and an ASID removes the entry; `None` means every address, or every ASID and the
+    /// global entries.
     pub(crate) fn is_fenced(&self, va: Option<Va>, asid: Option<u16>) -> bool
         ensures { result ≡ entries.is_fenced va asid self.now }
     {

@@ -1,4 +1,5 @@
-// Leaves that walks came to.
+// `TlbLeaf`: a struct, the leaf that a TLB entry records, with its word and level. Its methods also give the physical
+// address for a virtual one, and whether the leaf maps a virtual address.
 
 ghost use Rattle.std.specs.Prelude.{◌≡◌, ◌≤◌};
 ghost use Rattle.hart_tlb.specs.Entries.{covers};
@@ -8,7 +9,8 @@ use std::marker::Model;
 use sv39_entry::{Entry, Va, Vpn};
 use table_walk::physical_address;
 
-/// The leaf that a walk came to, at its level (0 for a page of 4,096 bytes, the others for superpages).
+/// The leaf that a walk found: its word, a page table entry, and its level (0 for a page of 4,096 bytes, 1 to 3 for
+/// superpages).
 #[derive(Clone, Copy, PartialEq, Eq, Debug)]
 pub struct TlbLeaf {
     word: u64,
@@ -38,14 +40,14 @@ impl TlbLeaf {
         TlbLeaf { word, level }
     }
 
-    /// The leaf's word.
+    /// Returns the word of the leaf, a page table entry.
     pub fn word(self) -> u64
         ensures { result ≡ self.word }
     {
         self.word
     }
 
-    /// The level at which the walk found it.
+    /// Returns the level at which the walk found the leaf, at most 3.
     pub fn level(self) -> u32
         ensures value { result ≡ self.level }
         ensures low { result ≤ 3 }
@@ -53,14 +55,15 @@ impl TlbLeaf {
         self.level
     }
 
-    /// The physical address of an address that the leaf maps (the standard, 4.3.2, step 8).
+    /// Returns the physical address that the leaf gives to an address (the standard, 4.3.2, step 8).
     pub(crate) fn address(self, va: Va) -> u64
         ensures { result ≡ memory.physical_address self.word self.level va.0 }
     {
         physical_address(Entry::from_word(self.word), self.level, va)
     }
 
-    /// Whether the leaf, of a page, maps an address too: they agree in all bits above the offset of the leaf's size.
+    /// Whether the leaf, which maps `page`, maps an address too: both agree in all bits above the
+    /// offset in a page of the leaf's size.
     pub(crate) fn covers(self, page: Vpn, va: Va) -> bool
         ensures { result ≡ covers page self va.0 }
     {

@@ -1,4 +1,5 @@
--- A process whose heap ends elsewhere.
+-- Lemmas for sbrk: an empty range of pages releases none; what the model says of a size that is refused, granted, or grows;
+-- and once the pages above the new end are dropped, the space becomes the process with the new size (`resizes`).
 use Rattle.std.proofs.Common.{◌≡◌, ℕ, ℤ, pos, ◌+ℤ◌, ◌≤ℤ◌, Bool, true, false, cond, ◌||◌, ◌<◌, ◌≤◌, T, ap, ◌∙◌, refl, arith, Some, Ok, Err, List, [], ◌∷◌}
 use Rattle.std.specs.Prelude.{filter, nat_abs, nat_le, nat_lt}
 use Rattle.std.specs.FinMap.Entries.{is_sorted}
@@ -8,20 +9,20 @@ use Rattle.std.proofs.lemmas.Int.{ints}
 use lib.Dec.{T_prop}
 use mathlib.Core.HLevel.{Σ_prop_path}
 use Rattle.address_space.specs.Agreement.{Body, IsSpace}
-use Rattle.address_space.specs.Ending.{Drops}
-use Rattle.address_space.specs.Steps.{CanRelay, HasRelaid, sized}
-use Rattle.lazy_growth.proofs.Asked.{heap_low}
-use Rattle.lazy_growth.specs.Resized.{Resizes}
-use Rattle.lazy_growth.specs.Sizes.{IsNewSize}
+use Rattle.address_space.specs.SpaceTeardown.{Drops}
+use Rattle.address_space.specs.Steps.{CanReplaceLayout, HasReplacedLayout, sized}
+use Rattle.lazy_growth.proofs.SizeRefusals.{heap_low}
+use Rattle.lazy_growth.specs.SbrkEffect.{Resizes}
+use Rattle.lazy_growth.specs.SbrkResults.{IsNewSize}
 use Rattle.process_model.specs.Bytes.{pages_for}
 use Rattle.process_model.specs.Heap.{resized, resized_unless, sbrk_result, size_refusal, wanted_size, without_pages}
 use Rattle.process_model.specs.Order.{HasOrder}
-use Rattle.process_model.specs.OrderKept.{resized_order, sized_order}
+use Rattle.process_model.specs.OrderLaws.{resized_order, sized_order}
 use Rattle.process_model.specs.PageMap.{only, PageMap}
 use Rattle.process_model.specs.PageRegions.{region_resized}
 use Rattle.process_model.specs.Process.{Process}
 use Rattle.process_model.specs.Regions.{is_guard_kind, is_shared_kind}
-use Rattle.process_model.specs.Released.{was_settled}
+use Rattle.process_model.specs.ReleaseLaws.{was_settled}
 use Rattle.process_model.specs.declared.step.Refusal.{Refusal}
 use Rattle.sv39_entry.specs.Schemes.{trapframe_page}
 use Rattle.table_walk.specs.Tables.{Tables}
@@ -88,7 +89,7 @@ module _ (p : Process) (delta : ℤ) (size : ℕ) (is : IsNewSize p delta size) 
   abbrev pub released : Process
   released = without_pages p (pages_for size) (pages_for p.size)
 
-  can_relay : CanRelay released (resized p size)
+  can_relay : CanReplaceLayout released (resized p size)
   can_relay = record {
     scheme = refl;
     settled = refl;
@@ -110,7 +111,7 @@ module _ (p : Process) (delta : ℤ) (size : ℕ) (is : IsNewSize p delta size) 
   }
 
   pub resizes : (x y : Body) (t u : Tables) (first end : ℕ) → first ≡ pages_for size → end ≡ pages_for p.size → IsSpace x u (without_pages p first end) → Drops t u first end
-      → HasRelaid x y (λ q. sized q size) → Resizes y t p delta
+      → HasReplacedLayout x y (λ q. sized q size) → Resizes y t p delta
   resizes x y t u first end from to space drops relaid = record {
     process = resized p size;
     is = granted p delta size is;

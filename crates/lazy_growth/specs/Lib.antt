@@ -1,2 +1,2 @@
-pub mod Resized
-pub mod Sizes
+pub mod SbrkEffect
+pub mod SbrkResults

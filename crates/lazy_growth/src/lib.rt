@@ -1,9 +1,10 @@
-//! The heap of a process: it grows and shrinks without a frame. A page of it gets its frame at the first access (the xv6
-//! book, "Page-fault exceptions"), and a page that goes lets its frame go.
+//! sbrk with lazy growth (the xv6 book, "Page-fault exceptions"): function `sbrk` and its errors, enum `SizeError`. A heap
+//! that grows takes no frame, since each page of it gets one at its first access; a heap that shrinks releases the frames of
+//! the pages above its new end.
 #![tactic(auto)]
 
-mod refused;
-mod sizing;
+mod heap_size;
+mod size_error;
 
-pub use refused::SizeError;
-pub use sizing::sbrk;
+pub use heap_size::sbrk;
+pub use size_error::SizeError;

@@ -1,4 +1,5 @@
--- The mapping that holds a run, found from the front of a list.
+-- Lemmas on the mapping that holds a range of pages (`mapping_around`): found by a search of a list from the front; it ends
+-- at TRAPFRAME or below; and what is found in the code's list is found in the process's.
 use Rattle.std.proofs.Common.{◌≡◌, ℕ, zero, suc, true, false, ◌<◌, ◌≤◌, Option, None, Some, List, [], ◌∷◌, drop, get_or, length, map, refl, ap, sym, ◌∙◌, arith}
 use Rattle.std.specs.Prelude.{◌&&◌, nat_le, option_map}
 use Rattle.address_space.specs.Layouts.{LaysOut, Layout, region_of}

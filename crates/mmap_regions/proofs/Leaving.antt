@@ -1,22 +1,24 @@
--- A run of a mapping goes from a process.
+-- Lemmas for munmap: the run (pages of one mapping) that it is asked to unmap, in the model's definition (`asked`), or the
+-- refusal; it is a run of the process (`run_of_mapping`); and once its pages are dropped and what is left replaces the
+-- mapping, the space is the model's process (`relaid_as`).
 use Rattle.std.proofs.Common.{◌≡◌, ℕ, Bool, true, false, ◌&&◌, ◌+◌, ◌%◌, ◌≤◌, refl, ap, sym, subst, arith, List, ◌++◌, Option, None, Some}
 use Rattle.std.specs.Prelude.{◌==◌, nat_lt, option_to_list, Result, Ok, Err}
 use Rattle.address_space.specs.Agreement.{Body, IsSpace}
-use Rattle.address_space.specs.Ending.{Drops}
-use Rattle.address_space.specs.Steps.{CanRelay, HasRelaid, left_with}
+use Rattle.address_space.specs.SpaceTeardown.{Drops}
+use Rattle.address_space.specs.Steps.{CanReplaceLayout, HasReplacedLayout, left_with}
 use Rattle.mmap_regions.proofs.Around.{around_low}
-use Rattle.mmap_regions.specs.Runs.{IsRunOf, MappedRun, run_asked, run_if, run_in, run_unless}
+use Rattle.mmap_regions.specs.Runs.{IsRunOf, MappedRun, requested_run, run_if, run_in, run_unless}
 use Rattle.process_model.specs.Bytes.{pages_for}
 use Rattle.process_model.specs.Files.{File}
 use Rattle.process_model.specs.Heap.{without_pages}
 use Rattle.process_model.specs.MappingRows.{around_each, around_holds}
 use Rattle.process_model.specs.Mappings.{back_of, front_of, leaves_hole, mapping_around, Unmapped, unmapped, unmapped_from, unmapped_if, unmapped_in, unmapped_unless, with_instead}
 use Rattle.process_model.specs.Order.{HasOrder, IsMapping}
-use Rattle.process_model.specs.OrderKept.{unmapped_order}
+use Rattle.process_model.specs.OrderLaws.{unmapped_order}
 use Rattle.process_model.specs.PageRegions.{mapping_at, region_left}
 use Rattle.process_model.specs.Process.{Process}
 use Rattle.process_model.specs.Regions.{is_guard_kind, is_shared_kind, Region}
-use Rattle.process_model.specs.Released.{was_settled}
+use Rattle.process_model.specs.ReleaseLaws.{was_settled}
 use Rattle.process_model.specs.declared.step.Refusal.{Refusal}
 use Rattle.sv39_entry.specs.Address.{page_of}
 use Rattle.table_walk.specs.Tables.{Tables}
@@ -78,7 +80,7 @@ module _ (p : Process) (address len : ℕ) where
   abbrev end : ℕ
   end = page_of address + pages_for len
 
-  pub asked : (r : MappedRun) → run_asked p address len ≡ Ok r → IsAsked p address len r
+  pub asked : (r : MappedRun) → requested_run p address len ≡ Ok r → IsAsked p address len r
   unfolding unmapped
   asked r is =
       let part = if_asked p first end (address % 4096 == 0 && nat_lt 0 len) r is in
@@ -90,7 +92,7 @@ module _ (p : Process) (address len : ℕ) where
         is = λ files. rw (part.first_is, part.end_is) (part.is files);
       }
 
-  pub refused : (e : Refusal) → run_asked p address len ≡ Err e → (files : List File) → unmapped files p address len ≡ Err e
+  pub refused : (e : Refusal) → requested_run p address len ≡ Err e → (files : List File) → unmapped files p address len ≡ Err e
   unfolding unmapped
   refused e is files = if_refused p first end (address % 4096 == 0 && nat_lt 0 len) e is files
 
@@ -125,7 +127,7 @@ module _ (p : Process) (address len : ℕ) (r : MappedRun) (is : IsAsked p addre
     pub after_is : after ≡ modelled
     after_is = ap (λ ms. record (without_pages p r.first r.end) { mappings = with_instead p.mappings r.mapping.first ms }) left
 
-    can_relay : CanRelay (without_pages p r.first r.end) modelled
+    can_relay : CanReplaceLayout (without_pages p r.first r.end) modelled
     can_relay = record {
       scheme = refl;
       settled = refl;
@@ -146,5 +148,5 @@ module _ (p : Process) (address len : ℕ) (r : MappedRun) (is : IsAsked p addre
           );
     }
 
-    pub relaid_as : (x y : Body) (u : Tables) → IsSpace x u (without_pages p r.first r.end) → HasRelaid x y (λ q. left_with q r.mapping.first rest) → IsSpace y u modelled
-    relaid_as x y u space relaid = subst (IsSpace y u) after_is (relaid u (without_pages p r.first r.end) space (subst (CanRelay (without_pages p r.first r.end)) (sym after_is) can_relay))
+    pub relaid_as : (x y : Body) (u : Tables) → IsSpace x u (without_pages p r.first r.end) → HasReplacedLayout x y (λ q. left_with q r.mapping.first rest) → IsSpace y u modelled
+    relaid_as x y u space relaid = subst (IsSpace y u) after_is (relaid u (without_pages p r.first r.end) space (subst (CanReplaceLayout (without_pages p r.first r.end)) (sym after_is) can_relay))

@@ -1,4 +1,5 @@
--- What mmap answers and makes of a process, by the first test that it fails.
+-- Lemmas for mmap: the model's result by the first test that fails, or the process with the mapping (`granted`); the regions
+-- stay in order with it (`relays`); and the space with the code's mapping is the model's process (`with_mapping`).
 use Rattle.std.proofs.Common.{◌≡◌, ℕ, true, false, not, ◌&&◌, ◌≤◌, ◌<◌, ◌+◌, ap, subst, sym, ◌∙◌, refl, Some, None, Ok, Err, List, length, map}
 use Rattle.std.specs.Prelude.{nat_le, slice_get, unwrap_or}
 use Rattle.std.specs.List.{list_all}
@@ -6,10 +7,10 @@ use Rattle.std.proofs.lemmas.Bool.{and_parts, le-leb, leb-true, lt-leb}
 use Rattle.std.proofs.lemmas.List.{length-map}
 use Rattle.process_model.specs.Bytes.{pages_for}
 use Rattle.process_model.specs.Files.{File, is_writable}
-use Rattle.process_model.specs.Granted.{place_fits}
+use Rattle.process_model.specs.GrantLaws.{place_fits}
 use Rattle.process_model.specs.Mappings.{asks_write, fits_at, is_apart, is_bad_mapping, is_shared, map_refusal, mapped, mapped_unless, mapping_of, mapping_place, most_mappings}
 use Rattle.process_model.specs.Order.{HasOrder}
-use Rattle.process_model.specs.OrderKept.{mapped_order}
+use Rattle.process_model.specs.OrderLaws.{mapped_order}
 use Rattle.process_model.specs.PageRegions.{region_with_mapping}
 use Rattle.process_model.specs.Process.{Process}
 use Rattle.process_model.specs.Regions.{Region}
@@ -19,7 +20,7 @@ use Rattle.sv39_entry.specs.Schemes.{trapframe_page}
 use Rattle.table_walk.specs.Tables.{Tables}
 use Rattle.address_space.specs.Agreement.{Body, IsSpace}
 use Rattle.address_space.specs.Layouts.{LaysOut, Layout, region_of}
-use Rattle.address_space.specs.Steps.{CanRelay, HasRelaid, mapped_with}
+use Rattle.address_space.specs.Steps.{CanReplaceLayout, HasReplacedLayout, mapped_with}
 use Rattle.address_space.specs.declared.region.Region.{Region as Run}
 
 -- a process has as many mappings as the code's list
@@ -33,10 +34,10 @@ place_below p pages first is =
     leb-true (first + pages) (trapframe_page p.scheme) (and_parts (nat_le (pages_for p.size) first) (nat_le (first + pages) (trapframe_page p.scheme)) outer.0).1
 
 -- a space with a mapping of the code has the model's
-pub with_mapping : (x y : Body) (t : Tables) (p : Process) (run : Run) (r : Region) → region_of run ≡ r → HasRelaid x y (λ q. mapped_with q (region_of run))
-    → CanRelay p (mapped_with p r) → IsSpace x t p → IsSpace y t (mapped_with p r)
+pub with_mapping : (x y : Body) (t : Tables) (p : Process) (run : Run) (r : Region) → region_of run ≡ r → HasReplacedLayout x y (λ q. mapped_with q (region_of run))
+    → CanReplaceLayout p (mapped_with p r) → IsSpace x t p → IsSpace y t (mapped_with p r)
 with_mapping x y t p run r same relaid can agrees =
-    subst (λ (m : Region). IsSpace y t (mapped_with p m)) same (relaid t p agrees (subst (λ (m : Region). CanRelay p (mapped_with p m)) (sym same) can))
+    subst (λ (m : Region). IsSpace y t (mapped_with p m)) same (relaid t p agrees (subst (λ (m : Region). CanReplaceLayout p (mapped_with p m)) (sym same) can))
 
 module _ (files : List File) (p : Process) (len protection flags n : ℕ) where
   refused : (e : Refusal) → map_refusal files p len protection flags n ≡ Some e → mapped files p len protection flags n ≡ Err e
@@ -69,7 +70,7 @@ module _ (files : List File) (p : Process) (len protection flags n : ℕ) where
 
     -- the regions with the mapping stand in order, and each settled page keeps its region
     pub relays : (pages first : ℕ) → pages ≡ pages_for len → Some first ≡ mapping_place p pages → HasOrder 0 p
-        → CanRelay p (mapped_with p (mapping_of first pages protection flags n))
+        → CanReplaceLayout p (mapped_with p (mapping_of first pages protection flags n))
     relays pages first long is order =
         let fits : fits_at p pages first ≡ true = place_fits p pages first (sym is) in
         record {

@@ -1,4 +1,6 @@
--- Where a mapping goes: the search from above.
+-- Lemmas for `mapping_place`, the search for the place of a mapping from TRAPFRAME downwards (`Searched`): it begins, goes
+-- on below a mapping, finds a place above a mapping or above the heap, or finds none. Before it, lemmas on lists of mappings
+-- in order.
 use Rattle.std.proofs.Common.{◌≡◌, ℕ, zero, suc, ◌+◌, ◌-◌, ◌<◌, ◌≤◌, None, Some, List, [], ◌∷◌, length, map, refl, ap, sym, ◌∙◌, inl, inr, arith, slice_index_or}
 use Rattle.std.proofs.lemmas.Bool.{cases_eq, cases_lt}
 use Rattle.std.proofs.lemmas.Option.{same_Some}

@@ -1,4 +1,5 @@
--- What a protection asks for: its bits, and the rights that they become.
+-- Lemmas on mmap's `protection`: the test of any bit (`bit_is`) and of PROT_WRITE (`writes_bit`), and the rights after R, W
+-- and X are set in turn (`set_in_turn`).
 use Rattle.std.proofs.Common.{◌≡◌, ℕ, zero, suc, Bool, true, false, not, ◌*◌, ◌/◌, ◌%◌, ◌^◌, ◌<◌, ap, ◌∙◌, refl, arith}
 use Rattle.std.specs.Prelude.{bit_and, bit_or, ◌==◌, ◌-◌, if◌then◌else◌}
 use Rattle.std.proofs.lemmas.Bool.{ne_eqb}
@@ -9,7 +10,7 @@ use Rattle.sv39_entry.specs.Rights.{executes, reads, writes}
 
 -- ---- bits
 
--- a digit in its place is 0 where it is none
+-- for b below 2, b * k is not 0 exactly if b is 1
 digit : (b k : ℕ) → b < 2 → 0 < k → not (b * k == 0) ≡ (b == 1)
 digit zero k few some = let none : zero * k ≡ 0 = omega arith in rw none refl
 digit (suc zero) k few some = let once : suc zero * k ≡ k = omega arith in rw once (rw (ne_eqb k 0 (λ none. omega (arith, none, some))) refl)

@@ -1,13 +1,13 @@
--- A run is gone through by its settled pages.
+-- Lemmas for the loops over the settled pages (those in memory) of a run (pages of one mapping): what a page with or without
+-- the stored mark (D) adds to the page writes, when the loop is over, that there are more writes to come, and that offsets
+-- in the file stay in reach.
 use Rattle.std.proofs.Common.{◌≡◌, ℕ, true, false, ◌+◌, ◌-◌, ◌*◌, ◌<◌, ◌≤◌, refl, ap, sym, subst, ◌∙◌, arith, List, [], ◌∷◌, ◌++◌, Option, None, Some, length}
 use Rattle.std.specs.Prelude.{is_some, if◌then◌else◌}
 use Rattle.std.proofs.lemmas.List.{append-nil, length-append}
 use Rattle.std.proofs.lemmas.Option.{same_Some}
-use Rattle.address_space.specs.Agreement.{body_of, is_dirty_page}
-use Rattle.address_space.specs.Settled.{IsNextSettled, IsSettledPage}
-use Rattle.address_space.specs.declared.settled.SettledPage.{SettledPage}
-use Rattle.address_space.specs.declared.space.Space.{Space}
-use Rattle.frame_store.specs.View.{View}
+use Rattle.address_space.specs.Agreement.{is_dirty_page}
+use Rattle.address_space.specs.SettledLists.{IsNextSettled, IsSettledPage}
+use Rattle.address_space.specs.declared.settled_pages.SettledPage.{SettledPage}
 use Rattle.mmap_regions.specs.Runs.{IsRunOf, MappedRun, stored_file}
 use Rattle.mmap_regions.proofs.Moves.{of_file, page_written, run_goes_on, run_is_over, run_longer}
 use Rattle.process_model.specs.Mappings.{longest_mapping}
@@ -25,10 +25,6 @@ none_of (Some x) is = absurd (cc)
 pub some_of : {A : Type 0} (o : Option A) → is_some o ≡ true → (x : A) × (o ≡ Some x)
 some_of None is = absurd (cc)
 some_of (Some x) is = (x, refl)
-
--- a space that is as it was
-pub same_body : {S : Type 0} (view : S → View) (x y : Space S) → view x.seat ≡ view y.seat → x.root ≡ y.root → x.trapframe ≡ y.trapframe → x.layout ≡ y.layout → body_of view x ≡ body_of view y
-same_body view x y seat root trapframe layout = λ i. record { view = seat i; root = (root i).0; trapframe = (trapframe i).0; layout = layout i }
 
 module _ (t : Tables) (p : Process) (run : MappedRun) (is : IsRunOf p run) where
   abbrev so_far : ℕ → List PageMove

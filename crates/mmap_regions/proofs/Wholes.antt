@@ -1,4 +1,5 @@
--- All mappings of a process, one after another.
+-- Lemmas for the loops over all mappings of a process: each whole mapping is a run of the process, and the page writes of
+-- the mappings before number i are none, grow by those of one mapping, and are all in the end.
 use Rattle.std.proofs.Common.{◌≡◌, ℕ, zero, suc, ◌+◌, ◌<◌, ◌≤◌, refl, ap, sym, subst, ◌∙◌, inr, arith, List, [], ◌∷◌, ◌++◌, Some, length, map, take}
 use Rattle.std.specs.Prelude.{flat_map, slice_get}
 use Rattle.std.proofs.lemmas.List.{append-nil, append_assoc, length-append, length-map, take_all}

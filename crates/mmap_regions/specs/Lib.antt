@@ -1,3 +1,3 @@
-pub mod Mapped
+pub mod MmapEffect
 pub mod Runs
-pub mod Unmapped
+pub mod MunmapEffect

@@ -1,4 +1,4 @@
-// Where a mapping goes.
+// `mapping_place`: the place of a new mapping, the greatest page at which it fits, found from TRAPFRAME downwards.
 
 ghost use Rattle.std.specs.Prelude.{◌≡◌, ◌≤◌};
 ghost use Rattle.address_space.specs.Layouts.{LaysOut};
@@ -9,8 +9,8 @@ ghost use Rattle.process_model.specs.Process.{Process};
 use address_space::Layout;
 use sv39_entry::PAGE_SIZE;
 
-/// The greatest page at which a run of so many pages fits: above the heap, below the trapframe, and apart from the mappings
-/// that there are.
+/// Returns the number of the greatest page at which a run of `pages` pages fits: above the heap, below TRAPFRAME, and apart
+/// from the mappings of the layout; `None` if it fits nowhere.
 pub(crate) fn mapping_place(layout: &Layout, pages: u64) -> Option<u64>
     requires order { (p : Process) × LaysOut layout.now p × HasOrder 0 p }
     requires few { pages ≤ model.longest_mapping }

@@ -1,8 +1,10 @@
-// Runs of pages of a mapping.
+// Struct `Run`, pages of one mapping from a first page up to an end: all of a mapping, or those that munmap is asked to
+// unmap (or why it is refused). Also what a run leaves of its mapping, and the file and offset to which stores to the
+// mapping are written back.
 
 ghost use Rattle.std.specs.Prelude.{◌≡◌, ◌<◌, ◌≤◌, ◌^◌, ◌++◌, false, map, option_map, option_to_list};
 ghost use Rattle.address_space.specs.Layouts.{LaysOut, region_of, source_of};
-ghost use Rattle.mmap_regions.specs.Runs.{all_of, asked_of, IsRunOf, run_asked, run_of, stored_file};
+ghost use Rattle.mmap_regions.specs.Runs.{all_of, requested_run_of, IsRunOf, requested_run, run_of, stored_file};
 ghost use Rattle.process_model.specs.Mappings as model;
 ghost use Rattle.process_model.specs.Order.{HasOrder, IsInReach};
 ghost use Rattle.process_model.specs.Process.{Process};
@@ -12,7 +14,7 @@ use address_space::{Layout, Region, RegionKind, Source};
 use process_model::Refusal;
 use sv39_entry::{Access, PAGE_SIZE, Va, Vpn};
 
-/// The pages of a mapping from one up to, and without, another.
+/// The pages of a mapping from `first` up to, and without, `end`.
 #[derive(Clone, Copy)]
 pub(crate) struct Run {
     pub mapping: Region,
@@ -34,10 +36,14 @@ impl Run {
         }
     }
 
-    /// The run that munmap is asked to take out of a mapping. `length` is in bytes, and is rounded up to pages.
-    pub fn asked(layout: &Layout, address: u64, length: u64) -> Result<Run, Refusal>
+    /// Returns the run that munmap is asked to unmap: `length` bytes from `address` on, rounded up to whole pages.
+    ///
+    /// # Errors
+    /// `BadArgument`: `address` is no multiple of 4,096, `length` is 0, or the range is not inside one mapping.
+    /// `HoleInMapping`: it touches neither end.
+    pub fn requested(layout: &Layout, address: u64, length: u64) -> Result<Run, Refusal>
         requires order { (p : Process) × LaysOut layout.now p × HasOrder 0 p }
-        ensures { (p : Process) → LaysOut layout.now p → HasOrder 0 p → asked_of result ≡ run_asked p address length }
+        ensures { (p : Process) → LaysOut layout.now p → HasOrder 0 p → requested_run_of result ≡ requested_run p address length }
     {
         if address % PAGE_SIZE != 0 || length == 0 {
             return Err(Refusal::BadArgument);
@@ -58,8 +64,8 @@ impl Run {
         })
     }
 
-    /// What is left of the mapping when the run, at one of its ends, has gone. The bytes that are left are those of the same
-    /// places of the file.
+    /// Returns what is left of the mapping without the run, which touches one of its ends; `None` if nothing is. Pages that
+    /// are left keep their place in the file.
     pub fn left(&self) -> Option<Region>
         requires run { (p : Process) × IsRunOf p (run_of self.now) }
         requires whole { model.leaves_hole (region_of self.now.mapping) self.now.first self.now.end ≡ false }
@@ -85,7 +91,8 @@ impl Run {
         None
     }
 
-    /// The file to which stores to the pages of the run go back, and the offset in it of the first byte of the mapping.
+    /// Returns the number of the file to which stores to the mapping are written back, and the offset in it of the mapping's
+    /// first byte, in bytes; `None` if there is none: if the mapping is not shared, or may not be written.
     pub fn file(&self) -> Option<(usize, usize)>
         ensures { result ≡ stored_file (region_of self.now.mapping) }
     {
@@ -100,7 +107,7 @@ impl Run {
     }
 }
 
-/// The mapping that holds a whole run of pages.
+/// Returns the mapping that holds all pages from `first` up to, and without, `end`; `None` if none does.
 fn mapping_around(mappings: &[Region], first: u64, end: u64) -> Option<Region>
     requires some { first ≤ end }
     ensures { option_map region_of result ≡ model.mapping_around (map region_of mappings.now) first end }
@@ -113,7 +120,7 @@ fn mapping_around(mappings: &[Region], first: u64, end: u64) -> Option<Region>
     None
 }
 
-/// What a source has from so many pages on.
+/// Returns the source of a mapping without its first `pages` pages: a file's offset grows by their bytes.
 fn moved_along(source: Source, pages: u64) -> Source
     requires reach { IsInReach (source_of source) pages }
     ensures { source_of result ≡ model.moved_along (source_of source) pages }

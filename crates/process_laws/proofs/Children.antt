@@ -1,4 +1,5 @@
--- The child of a fork.
+-- Lemmas about the child of a fork: a reply `Forked` gives the lowest free slot (place in the process table), and the
+-- process in it then has its parent's regions, heap base and size, waits for nothing, and has no stored mark (D).
 use Rattle.std.proofs.Common.{◌≡◌, ℕ, Bool, true, false, cond, refl, sym, ap, ◌∙◌, arith, List, [], ◌∷◌, Option, None, Some}
 use Rattle.std.specs.Ordering.{eq_by_cmp, nat_cmp}
 use Rattle.std.specs.FinMap.Entries.{find}
@@ -6,7 +7,7 @@ use Rattle.std.proofs.lemmas.List.{length-set}
 use Rattle.process_laws.proofs.HeldBytes.{free_there, Puts, set_puts}
 use Rattle.process_laws.proofs.Running.{has_it, process_runs, ran_on, step_process, step_reply}
 use Rattle.process_laws.specs.Pages.{has_mark, has_stored_mark}
-use Rattle.process_laws.specs.Words.{IsChild, IsMade, IsOn}
+use Rattle.process_laws.specs.Words.{IsChild, IsMade, IsOnHart}
 use Rattle.process_model.specs.Calls.{forked, forked_unless}
 use Rattle.process_model.specs.Harts.{Hart}
 use Rattle.process_model.specs.PageMap.{each_value}
@@ -35,11 +36,7 @@ child_put w s p child free =
     let long = length-set w.slots s (Some (marked p)) in
     set_puts (with_process w s (marked p)) (with_process (with_process w s (marked p)) child (child_of p)) child (Some (child_of p)) (omega (arith, room, long)) refl
 
-slot_told : Reply → ℕ
-slot_told (Forked t) = t
-slot_told _ = 0
-
-module _ (w : World) (h s : ℕ) (p : Process) (on : IsOn w h s p) (t : ℕ) where
+module _ (w : World) (h s : ℕ) (p : Process) (on : IsOnHart w h s p) (t : ℕ) where
   abbrev Bears : World → Type 0
   Bears v = (free_slot w ≡ Some t) × (c : Process) × (process_in v t ≡ Some c) × IsChild p c
 

@@ -1,4 +1,6 @@
--- Kernel copies, byte by byte.
+-- Lemmas about the bytes of kernel copies, one byte at a time: a copyin settles (puts in memory) the pages of the bytes that
+-- it copied, and brings the bytes that are there; a copyout settles the pages too, and leaves its bytes there. Neither
+-- changes any other byte of the process.
 use Rattle.std.proofs.Common.{◌≡◌, ℕ, zero, suc, Bool, true, false, cond, ◌&&◌, ◌||◌, ◌==◌, ◌+◌, ◌-◌, ◌%◌, ◌<◌, ◌≤◌, refl, sym, ap, ◌∙◌, arith, inl, inr, List, [], ◌∷◌, ◌++◌, drop, length, Option, None, Some}
 use Rattle.std.specs.Prelude.{nat_le, nat_lt, fold, zip, Result, Ok, Err}
 use Rattle.std.proofs.lemmas.Bool.{cases_eq, cases_lt, eq-eqb, eqb-true, leb-true, ltb-true, le-leb, lt-ltb, and_parts, and_from, or_left, or_right, or_cases, false≢true, false_from_ne_true}
@@ -14,7 +16,7 @@ use Rattle.process_model.specs.Files.{File}
 use Rattle.process_model.specs.Regions.{region_at, copy_rule}
 use Rattle.process_model.specs.Process.{Process, Page, regions}
 use Rattle.process_model.specs.Residence.{region_page}
-use Rattle.process_model.specs.Around.{Around, Progress}
+use Rattle.process_model.specs.Environment.{Environment, Progress}
 use Rattle.process_model.specs.Copies.{Copied, copy_begun, reached_in, byte_of_page, byte_of, with_byte_on, with_byte, one_in, next_in, one_out, next_out, copied_in, copied_out}
 use Rattle.process_laws.specs.Latest.{byte_at, is_among, is_in_their_pages}
 use Rattle.process_laws.proofs.PageBytes.{bytes_on, AllSized, byte_in, byte_from, or_start, among_true, is_among-true, byte_in-stored, stored_sized}
@@ -100,7 +102,7 @@ byte_read q a b f = read_page (get q.settled (page_of a)) a b f
 
 -- an address of the process is reached
 
-reaches_in : (x : Around) (access : Access) (g : Progress) (address : ℕ) → AllSized (g.process).settled → Reaches x.files (page_of address) g.process (reached_in x access g address)
+reaches_in : (x : Environment) (access : Access) (g : Progress) (address : ℕ) → AllSized (g.process).settled → Reaches x.files (page_of address) g.process (reached_in x access g address)
 reaches_in x access g address sized = reached_reaches x access address g (copy_rule g.process.scheme (regions g.process) access address) sized
 
 -- how far a copy from a process came: its addresses so far are settled, and were read
@@ -111,7 +113,7 @@ pub record CameIn (files : List File) (p : Process) (address at : ℕ) (c : Copi
   pub told : (a : ℕ) → byte_in ((c.progress).process).settled a ≡ cond (is_in_their_pages address (length c.bytes) a) (or_start files p a (byte_in p.settled a)) (byte_in p.settled a)
   pub read : (i : ℕ) → i < length c.bytes → byte_in ((c.progress).process).settled (address + i) ≡ Some (byte_at c.bytes i)
 
-module _ (x : Around) (p : Process) (address : ℕ) where
+module _ (x : Environment) (p : Process) (address : ℕ) where
   -- what is held is kept
   some_kept : (files : List File) (q : Process) (a b : ℕ) (now : Bool) (o : Option ℕ) → o ≡ Some b → cond now (or_start files q a o) o ≡ Some b
   some_kept files q a b true o e = ap (or_start files q a) e
@@ -156,7 +158,7 @@ module _ (x : Around) (p : Process) (address : ℕ) where
   all_came_in (suc n) at c i = all_came_in n (at + 1) (next_in x c at c.stop) (next_came_in at c c.stop refl i)
 
 -- a copy from the process
-pub copy_came_in : (x : Around) (g : Progress) (p : Process) (address n : ℕ) → regions g.process ≡ regions p → ((a : ℕ) → byte_in (g.process).settled a ≡ byte_in p.settled a) → AllSized (g.process).settled
+pub copy_came_in : (x : Environment) (g : Progress) (p : Process) (address n : ℕ) → regions g.process ≡ regions p → ((a : ℕ) → byte_in (g.process).settled a ≡ byte_in p.settled a) → AllSized (g.process).settled
     → (end : ℕ) × CameIn x.files p address end (copied_in x g address n)
 unfolding copied_in
 copy_came_in x g p address n same begins sized = all_came_in x p address n address (copy_begun g)
@@ -199,7 +201,7 @@ puts_on at b q (Some page) x sized e some =
 puts_byte : (at b : ℕ) (q : Process) (x : ℕ) → AllSized q.settled → byte_in q.settled at ≡ Some x → PutsByte at b q (with_byte q at b)
 puts_byte at b q x sized some = puts_on at b q (get q.settled (page_of at)) x sized refl some
 
-module _ (w : Around) (p : Process) (address : ℕ) (bytes : List ℕ) where
+module _ (w : Environment) (p : Process) (address : ℕ) (bytes : List ℕ) where
   -- the byte at an address after one more
   put_next : (k at a b : ℕ) (x : Option ℕ) → at ≡ address + k → b ≡ byte_at bytes k
       → cond (is_among at 1 a) (Some (byte_at (b ∷ []) (a - at))) (cond (is_among address k a) (Some (byte_at bytes (a - address))) x) ≡ cond (is_among address (k + 1) a) (Some (byte_at bytes (a - address))) x
@@ -252,7 +254,7 @@ module _ (w : Around) (p : Process) (address : ℕ) (bytes : List ℕ) where
   all_came_out (b ∷ rest) at c i = all_came_out rest (at + 1) (next_out w c (at, b) c.stop) (next_came_out at b rest c c.stop refl i)
 
 -- a copy to the process
-pub copy_came_out : (x : Around) (g : Progress) (p : Process) (address : ℕ) (bytes : List ℕ) → regions g.process ≡ regions p → ((a : ℕ) → byte_in (g.process).settled a ≡ byte_in p.settled a) → AllSized (g.process).settled
+pub copy_came_out : (x : Environment) (g : Progress) (p : Process) (address : ℕ) (bytes : List ℕ) → regions g.process ≡ regions p → ((a : ℕ) → byte_in (g.process).settled a ≡ byte_in p.settled a) → AllSized (g.process).settled
     → (end : ℕ) × CameOut x.files p address bytes end [] (copied_out x g address bytes)
 unfolding copied_out
 copy_came_out x g p address bytes same begins sized = all_came_out x p address bytes bytes address (copy_begun g)

@@ -1,4 +1,6 @@
--- Frames that kernel copies take.
+-- Lemmas about the frames that copyin and copyout take: what a copy took so far is gone from the free frames; and for each
+-- copy there is one number of frames, whatever the size of the memory: it says NoFrame if and only if fewer are free, and
+-- else the free count falls by that number.
 use Rattle.std.proofs.Common.{◌≡◌, ℕ, Bool, true, false, ◌+◌, ◌%◌, refl, sym, ap, subst, ◌∙◌, arith, Option, None, Some, List, [], ◌∷◌, length, Bor}
 use Rattle.std.specs.Prelude.{fold, nat_le, nat_lt, Result, Ok, Err, zip}
 use Rattle.std.proofs.lemmas.List.{set-set}
@@ -12,18 +14,18 @@ use Rattle.process_laws.proofs.Memories.{each_call, InEach}
 use Rattle.process_laws.proofs.PageCopies.{put_replaces, Replaced}
 use Rattle.process_laws.proofs.Running.{set_lives}
 use Rattle.process_laws.proofs.ServiceSpends.{service_spends}
-use Rattle.process_laws.specs.Numbered.{HasNewCopies}
-use Rattle.process_laws.specs.Words.{in_memory, tells_no_frame}
-use Rattle.process_model.specs.Around.{Around, need_at, Progress, reached, resident_at, unless_dry, unless_resident}
+use Rattle.process_laws.specs.CopyNumbers.{HasNewCopies}
+use Rattle.process_laws.specs.Words.{in_memory, is_no_frame_reply}
+use Rattle.process_model.specs.Environment.{Environment, need_at, Progress, resident_at_address, resident_at, unless_dry, unless_resident}
 use Rattle.process_model.specs.Bytes.{numbers_from}
-use Rattle.process_model.specs.Calls.{told_in, told_out}
+use Rattle.process_model.specs.Calls.{copy_in_outcome, copy_out_outcome}
 use Rattle.process_model.specs.Copies.{Copied, copied_in, copied_out, copy_begun, in_reply, longest_copy, next_in, next_out, one_in, one_out, out_reply, reached_in, with_byte_on}
 use Rattle.process_model.specs.Frames.{copies_of}
 use Rattle.process_model.specs.PageMap.{get}
 use Rattle.process_model.specs.Process.{Page, Process, regions, without_pending}
 use Rattle.process_model.specs.Regions.{copy_rule}
 use Rattle.process_model.specs.Residence.{is_resident, stored, with_page}
-use Rattle.process_model.specs.Service.{around, begun, is_dry, with_progress}
+use Rattle.process_model.specs.Service.{environment_of, initial_progress, is_dry, with_progress}
 use Rattle.process_model.specs.Steps.{step}
 use Rattle.process_model.specs.World.{free, others_have, process_in, with_process, World}
 use Rattle.process_model.specs.declared.step.Step.TheVariants.{CopyIn, CopyOut}
@@ -46,25 +48,25 @@ same_ok x y e = cc
 
 module _ (u : World) (s : ℕ) (p : Process) (kind : Access) (page : ℕ) (h : Progress) (new : HasNewCopies u) (lives : process_in u s ≡ Some p) where
   abbrev need : ℕ
-  need = need_at (around u s) kind page p
+  need = need_at (environment_of u s) kind page p
 
-  page_dry : is_resident p kind page ≡ false → (b : Bool) → is_dry u (0 + need) ≡ b → unless_dry (around u s) kind page (begun u p) need b ≡ Ok h → free (with_progress u s h) + h.taken ≡ free u
+  page_dry : is_resident p kind page ≡ false → (b : Bool) → is_dry u (0 + need) ≡ b → unless_dry (environment_of u s) kind page (initial_progress u p) need b ≡ Ok h → free (with_progress u s h) + h.taken ≡ free u
   unfolding resident_at
   page_dry absent true dry e = absurd (cc)
   page_dry absent false wet e =
-      let done : resident_at (around u s) kind page (begun u p) ≡ Ok h = ap (unless_resident (around u s) kind page (begun u p)) absent ∙ ap (unless_dry (around u s) kind page (begun u p) need) wet ∙ e in
+      let done : resident_at (environment_of u s) kind page (initial_progress u p) ≡ Ok h = ap (unless_resident (environment_of u s) kind page (initial_progress u p)) absent ∙ ap (unless_dry (environment_of u s) kind page (initial_progress u p) need) wet ∙ e in
       let spends : free (with_progress u s h) + need ≡ free u = service_spends u s page p kind h new lives absent done in
       let taken : 0 + need ≡ h.taken = ap (λ (g : Progress). g.taken) (same_ok _ h e) in
       omega (arith, spends, taken)
 
-  page_unless : (b : Bool) → is_resident p kind page ≡ b → unless_resident (around u s) kind page (begun u p) b ≡ Ok h → free (with_progress u s h) + h.taken ≡ free u
+  page_unless : (b : Bool) → is_resident p kind page ≡ b → unless_resident (environment_of u s) kind page (initial_progress u p) b ≡ Ok h → free (with_progress u s h) + h.taken ≡ free u
   page_unless true there e =
-      let is : begun u p ≡ h = same_ok _ h e in
+      let is : initial_progress u p ≡ h = same_ok _ h e in
       let same : free (with_process u s p) ≡ free u = same_free u s p p lives refl refl in
       subst (λ (g : Progress). free (with_progress u s g) + g.taken ≡ free u) is (omega (arith, same))
   page_unless false absent e = page_dry absent _ refl e
 
-  page_spends : resident_at (around u s) kind page (begun u p) ≡ Ok h → free (with_progress u s h) + h.taken ≡ free u
+  page_spends : resident_at (environment_of u s) kind page (initial_progress u p) ≡ Ok h → free (with_progress u s h) + h.taken ≡ free u
   unfolding resident_at
   page_spends e = page_unless _ refl e
 
@@ -93,13 +95,13 @@ module _ (w : World) (s : ℕ) (p : Process) (holds : Holds New w) (lives : proc
     others : (c : ℕ) → others_have there s c ≡ others_have w s c
     others c = rw (set-set w.slots s (Some g.process) None) refl
 
-    dry_there : (page n : ℕ) → (around there s).is_dry page (0 + n) ≡ (around w s).is_dry page (g.taken + n)
+    dry_there : (page n : ℕ) → (environment_of there s).is_dry page (0 + n) ≡ (environment_of w s).is_dry page (g.taken + n)
     dry_there page n = lt_shift (free there) n g.taken ∙ ap (λ f. nat_lt f (g.taken + n)) k.spent
 
-    pub shift : resident_at (around w s) kind (page_of address) g ≡ shifted g.taken (resident_at (around there s) kind (page_of address) (begun there g.process))
-    shift = reached_later (around there s) (around w s) refl others g.taken dry_there g.process g.fresh kind address None
+    pub shift : resident_at (environment_of w s) kind (page_of address) g ≡ shifted g.taken (resident_at (environment_of there s) kind (page_of address) (initial_progress there g.process))
+    shift = reached_later (environment_of there s) (environment_of w s) refl others g.taken dry_there g.process g.fresh kind address None
 
-    page_came : (r : Result Progress Rule) → resident_at (around there s) kind (page_of address) (begun there g.process) ≡ r → GoesIfOk New w.counter (shifted g.taken r) → SpentIfOk (shifted g.taken r)
+    page_came : (r : Result Progress Rule) → resident_at (environment_of there s) kind (page_of address) (initial_progress there g.process) ≡ r → GoesIfOk New w.counter (shifted g.taken r) → SpentIfOk (shifted g.taken r)
     page_came (Err r) e goes = stopped
     page_came (Ok h) e (every.went goes) = came (record {
       goes = goes;
@@ -110,13 +112,13 @@ module _ (w : World) (s : ℕ) (p : Process) (holds : Holds New w) (lives : proc
           omega (arith, spends, same, before);
     })
 
-    reached_spent : (o : Option Rule) → copy_rule g.process.scheme (regions g.process) kind address ≡ o → SpentIfOk (reached (around w s) kind address g o)
+    reached_spent : (o : Option Rule) → copy_rule g.process.scheme (regions g.process) kind address ≡ o → SpentIfOk (resident_at_address (environment_of w s) kind address g o)
     reached_spent (Some r) e = stopped
     reached_spent None e =
-        let goes = reached_goes New (fresh_is_kept w.scheme) (around w s) w.counter g k.goes kind address None (λ _. e) in
+        let goes = reached_goes New (fresh_is_kept w.scheme) (environment_of w s) w.counter g k.goes kind address None (λ _. e) in
         subst SpentIfOk (sym shift) (page_came _ refl (subst (GoesIfOk New w.counter) shift goes))
 
-    reach_spent : SpentIfOk (reached_in (around w s) kind g address)
+    reach_spent : SpentIfOk (reached_in (environment_of w s) kind g address)
     reach_spent = reached_spent (copy_rule g.process.scheme (regions g.process) kind address) refl
 
   -- a byte that is put takes no frame
@@ -129,13 +131,13 @@ module _ (w : World) (s : ℕ) (p : Process) (holds : Holds New w) (lives : proc
       let same : free (with_process w s q) ≡ free (with_process w s g.process) = put_free w s p q g.process lives (put.after ∙ sym put.before) refl in
       let before = k.spent in
       record {
-        goes = byte_on_goes New (fresh_is_kept w.scheme) (around w s) w.counter g k.goes address b (Some x) e;
+        goes = byte_on_goes New (fresh_is_kept w.scheme) (environment_of w s) w.counter g k.goes address b (Some x) e;
         spent = omega (arith, same, before);
       }
 
   -- all addresses
 
-  spent_in : (c : Copied) (at : ℕ) (o : Option Rule) → Spent c.progress → Spent ((next_in (around w s) c at o).progress)
+  spent_in : (c : Copied) (at : ℕ) (o : Option Rule) → Spent c.progress → Spent ((next_in (environment_of w s) c at o).progress)
   spent_in c at (Some r) k = k
   spent_in c at None k = one _ (reach_spent c.progress k access.Load at)
     where
@@ -143,11 +145,11 @@ module _ (w : World) (s : ℕ) (p : Process) (holds : Holds New w) (lives : proc
       one _ stopped = k
       one _ (came g) = g
 
-  pub spent_in_all : (ns : List ℕ) (c : Copied) → Spent c.progress → Spent ((fold (λ c at. next_in (around w s) c at c.stop) c ns).progress)
+  pub spent_in_all : (ns : List ℕ) (c : Copied) → Spent c.progress → Spent ((fold (λ c at. next_in (environment_of w s) c at c.stop) c ns).progress)
   spent_in_all [] c k = k
-  spent_in_all (at ∷ ns) c k = spent_in_all ns (next_in (around w s) c at c.stop) (spent_in c at c.stop k)
+  spent_in_all (at ∷ ns) c k = spent_in_all ns (next_in (environment_of w s) c at c.stop) (spent_in c at c.stop k)
 
-  spent_out : (c : Copied) (x : ℕ × ℕ) (o : Option Rule) → Spent c.progress → Spent ((next_out (around w s) c x o).progress)
+  spent_out : (c : Copied) (x : ℕ × ℕ) (o : Option Rule) → Spent c.progress → Spent ((next_out (environment_of w s) c x o).progress)
   spent_out c x (Some r) k = k
   spent_out c x None k = one _ (reach_spent c.progress k access.Store x.0)
     where
@@ -155,18 +157,18 @@ module _ (w : World) (s : ℕ) (p : Process) (holds : Holds New w) (lives : proc
       one _ stopped = k
       one _ (came {g} h) = byte_spent g x.0 x.1 (get (g.process).settled (page_of x.0)) refl h
 
-  pub spent_out_all : (xs : List (ℕ × ℕ)) (c : Copied) → Spent c.progress → Spent ((fold (λ c x. next_out (around w s) c x c.stop) c xs).progress)
+  pub spent_out_all : (xs : List (ℕ × ℕ)) (c : Copied) → Spent c.progress → Spent ((fold (λ c x. next_out (environment_of w s) c x c.stop) c xs).progress)
   spent_out_all [] c k = k
-  spent_out_all (x ∷ xs) c k = spent_out_all xs (next_out (around w s) c x c.stop) (spent_out c x c.stop k)
+  spent_out_all (x ∷ xs) c k = spent_out_all xs (next_out (environment_of w s) c x c.stop) (spent_out c x c.stop k)
 
-  pub not_begun : Spent (begun w (without_pending p))
+  pub not_begun : Spent (initial_progress w (without_pending p))
   not_begun =
       let same : free (with_process w s (without_pending p)) ≡ free w = same_free w s p (without_pending p) lives refl refl in
       record { goes = record { keeps = (fresh_is_kept w.scheme).awaiting w.counter p None (holds.each s p lives); rises = omega arith }; spent = omega (arith, same) }
 
 -- ---- both kinds, in memories of every size
 
-abbrev pub in_next : Around → Copied → ℕ → Copied
+abbrev pub in_next : Environment → Copied → ℕ → Copied
 in_next a c at = next_in a c at c.stop
 
 pub in_goes : Goes access.Load (λ at. at) (λ c at g. one_in c at (Ok g)) in_next
@@ -178,7 +180,7 @@ in_goes = record {
   taken = λ c x g. refl;
 }
 
-abbrev pub out_next : Around → Copied → ℕ × ℕ → Copied
+abbrev pub out_next : Environment → Copied → ℕ × ℕ → Copied
 out_next a c x = next_out a c x c.stop
 
 pub out_goes : Goes access.Store (λ x. x.0) (λ c x g. one_out c x.0 x.1 (Ok g)) out_next
@@ -191,10 +193,10 @@ out_goes = record {
 }
 
 -- with no byte copied no frame is taken
-nothing_beside : (frames : ℕ) (w : World) (p : Process) → Beside frames (copy_begun (begun w p)) (copy_begun (begun w p))
+nothing_beside : (frames : ℕ) (w : World) (p : Process) → Beside frames (copy_begun (initial_progress w p)) (copy_begun (initial_progress w p))
 nothing_beside frames w p = Beside.along refl (omega arith) refl
 
-tells_in : (bytes : List ℕ) (o : Option Rule) → tells_no_frame (in_reply bytes o) ≡ is_dry_stop o
+tells_in : (bytes : List ℕ) (o : Option Rule) → is_no_frame_reply (in_reply bytes o) ≡ is_dry_stop o
 tells_in bytes None = refl
 tells_in bytes (Some rule.Misaligned) = refl
 tells_in bytes (Some rule.BeyondMax) = refl
@@ -206,7 +208,7 @@ tells_in bytes (Some rule.NoWrite) = refl
 tells_in bytes (Some rule.NoExec) = refl
 tells_in bytes (Some rule.NoFrame) = refl
 
-tells_out : (bytes : List ℕ) (o : Option Rule) → tells_no_frame (out_reply bytes o) ≡ is_dry_stop o
+tells_out : (bytes : List ℕ) (o : Option Rule) → is_no_frame_reply (out_reply bytes o) ≡ is_dry_stop o
 tells_out bytes None = refl
 tells_out bytes (Some rule.Misaligned) = refl
 tells_out bytes (Some rule.BeyondMax) = refl
@@ -224,33 +226,33 @@ module _ (w : World) (holds : Holds New w) where
 
   module _ (s : ℕ) (p : Process) (lives : process_in w s ≡ Some p) (address : ℕ) where
     abbrev first : Progress
-    first = begun w (without_pending p)
+    first = initial_progress w (without_pending p)
 
-    in_takes : (n : ℕ) → InEach Spends w (refused_spends w) (λ u. told_in u s (copied_in (around u s) (begun u (without_pending p)) address n))
+    in_takes : (n : ℕ) → InEach Spends w (refused_spends w) (λ u. copy_in_outcome u s (copied_in (environment_of u s) (initial_progress u (without_pending p)) address n))
     unfolding InEach copied_in
     in_takes n = (
-      (copied_in (ample (around w s)) first address n).progress.taken,
+      (copied_in (ample (environment_of w s)) first address n).progress.taken,
       λ m.
           let frames = free (in_memory w m) in
-          let c = copied_in (limited (around w s) frames) first address n in
-          let d = copied_in (ample (around w s)) first address n in
-          let b : Beside frames c d = beside_all access.Load (λ at. at) (λ c at g. one_in c at (Ok g)) in_next in_goes (around w s) frames (numbers_from address n) (copy_begun first) (copy_begun first) (nothing_beside frames w (without_pending p)) in
+          let c = copied_in (limited (environment_of w s) frames) first address n in
+          let d = copied_in (ample (environment_of w s)) first address n in
+          let b : Beside frames c d = beside_all access.Load (λ at. at) (λ c at g. one_in c at (Ok g)) in_next in_goes (environment_of w s) frames (numbers_from address n) (copy_begun first) (copy_begun first) (nothing_beside frames w (without_pending p)) in
           let k = spent_in_all (in_memory w m) s p (holds_at m) lives (numbers_from address n) (copy_begun first) (not_begun (in_memory w m) s p (holds_at m) lives) in (
             tells_in c.bytes c.stop ∙ tells_dry frames c d b,
             λ quiet. let spent = k.spent in let taken = takes_all frames c d b (sym (tells_in c.bytes c.stop) ∙ quiet) in omega (arith, spent, taken),
           ),
     )
 
-    out_takes : (bs : List ℕ) → InEach Spends w (refused_spends w) (λ u. told_out u s (copied_out (around u s) (begun u (without_pending p)) address bs))
+    out_takes : (bs : List ℕ) → InEach Spends w (refused_spends w) (λ u. copy_out_outcome u s (copied_out (environment_of u s) (initial_progress u (without_pending p)) address bs))
     unfolding InEach copied_out
     out_takes bs = (
-      (copied_out (ample (around w s)) first address bs).progress.taken,
+      (copied_out (ample (environment_of w s)) first address bs).progress.taken,
       λ m.
           let frames = free (in_memory w m) in
-          let c = copied_out (limited (around w s) frames) first address bs in
-          let d = copied_out (ample (around w s)) first address bs in
+          let c = copied_out (limited (environment_of w s) frames) first address bs in
+          let d = copied_out (ample (environment_of w s)) first address bs in
           let b : Beside frames c d =
-          beside_all access.Store (λ x. x.0) (λ c x g. one_out c x.0 x.1 (Ok g)) out_next out_goes (around w s) frames (zip (numbers_from address (length bs)) bs) (copy_begun first) (copy_begun first) (nothing_beside frames w (without_pending p)) in
+          beside_all access.Store (λ x. x.0) (λ c x g. one_out c x.0 x.1 (Ok g)) out_next out_goes (environment_of w s) frames (zip (numbers_from address (length bs)) bs) (copy_begun first) (copy_begun first) (nothing_beside frames w (without_pending p)) in
           let k = spent_out_all (in_memory w m) s p (holds_at m) lives (zip (numbers_from address (length bs)) bs) (copy_begun first) (not_begun (in_memory w m) s p (holds_at m) lives) in (
             tells_out c.bytes c.stop ∙ tells_dry frames c d b,
             λ quiet. let spent = k.spent in let taken = takes_all frames c d b (sym (tells_out c.bytes c.stop) ∙ quiet) in omega (arith, spent, taken),
@@ -260,9 +262,9 @@ module _ (w : World) (holds : Holds New w) where
   pub copies_in_spend : (h address n : ℕ) → (k : ℕ) × ((m : ℕ) → Spends (in_memory w m) (step (in_memory w m) (CopyIn h address n)) k)
   unfolding InEach
   copies_in_spend h address n = step_spends w (are_new w holds) (CopyIn h address n)
-      (each_call Spends w (refused_spends w) h (nat_le n longest_copy) (λ u hart s p. told_in u s (copied_in (around u s) (begun u (without_pending p)) address n)) (λ hart s p lives. in_takes s p lives address n))
+      (each_call Spends w (refused_spends w) h (nat_le n longest_copy) (λ u hart s p. copy_in_outcome u s (copied_in (environment_of u s) (initial_progress u (without_pending p)) address n)) (λ hart s p lives. in_takes s p lives address n))
 
   pub copies_out_spend : (h address : ℕ) (bytes : Bor (List ℕ)) → (k : ℕ) × ((m : ℕ) → Spends (in_memory w m) (step (in_memory w m) (CopyOut h address bytes)) k)
   unfolding InEach
   copies_out_spend h address bytes = step_spends w (are_new w holds) (CopyOut h address bytes)
-      (each_call Spends w (refused_spends w) h (nat_le (length bytes.now) longest_copy) (λ u hart s p. told_out u s (copied_out (around u s) (begun u (without_pending p)) address bytes.now)) (λ hart s p lives. out_takes s p lives address bytes.now))
+      (each_call Spends w (refused_spends w) h (nat_le (length bytes.now) longest_copy) (λ u hart s p. copy_out_outcome u s (copied_out (environment_of u s) (initial_progress u (without_pending p)) address bytes.now)) (λ hart s p lives. out_takes s p lives address bytes.now))

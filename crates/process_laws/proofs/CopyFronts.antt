@@ -1,4 +1,5 @@
--- A kernel copy that ends after k bytes did what a copy of k bytes does.
+-- Lemmas about copyin and copyout: a copy that ends after its first k bytes, all or fewer, leaves the same world (the
+-- model's whole state) as a copy of just these k bytes.
 use Rattle.std.proofs.Common.{◌≡◌, ℕ, zero, suc, ◌+◌, ◌≤◌, refl, sym, ap, ◌∙◌, arith, Option, None, Some, List, [], ◌∷◌, length, take, Bor}
 use Rattle.std.specs.Prelude.{fold, map, nat_le, Result, Ok, Err, zip}
 use Rattle.std.proofs.lemmas.Bool.{le-leb, leb-true}
@@ -7,14 +8,14 @@ use Rattle.process_laws.proofs.CopyFrames.{in_goes, in_next, out_goes, out_next}
 use Rattle.process_laws.proofs.CopyStops.{Goes}
 use Rattle.process_laws.proofs.Copying.{InRan, OutRan}
 use Rattle.process_laws.proofs.Running.{has_it, hart_runs, process_runs, step_reply}
-use Rattle.process_laws.specs.Words.{copied, IsOn}
-use Rattle.process_model.specs.Around.{Around, Progress}
+use Rattle.process_laws.specs.Words.{copied, IsOnHart}
+use Rattle.process_model.specs.Environment.{Environment, Progress}
 use Rattle.process_model.specs.Bytes.{numbers_from}
-use Rattle.process_model.specs.Calls.{told_in, told_out}
+use Rattle.process_model.specs.Calls.{copy_in_outcome, copy_out_outcome}
 use Rattle.process_model.specs.Copies.{Copied, copied_in, copied_out, copy_begun, in_reply, longest_copy, one_in, one_out, out_reply, reached_in}
 use Rattle.process_model.specs.Harts.{Hart}
 use Rattle.process_model.specs.Process.{Process, without_pending}
-use Rattle.process_model.specs.Service.{around, begun, with_progress}
+use Rattle.process_model.specs.Service.{environment_of, initial_progress, with_progress}
 use Rattle.process_model.specs.Stale.{changed_slots, with_stale, with_stale_slots}
 use Rattle.process_model.specs.Steps.{plain_step, step}
 use Rattle.process_model.specs.World.{always, can_call, Outcome, with_its_process, World}
@@ -34,7 +35,7 @@ record Front {X : Type 0} (next : Copied → X → Copied) (c : Copied) (xs : Li
   long : length (fold next c xs).bytes ≡ length c.bytes + many
   same : (fold next c (take many xs)).progress ≡ (fold next c xs).progress
 
-module _ {X : Type 0} (kind : Access) (at : X → ℕ) (done : Copied → X → Progress → Copied) (next : Around → Copied → X → Copied) (is : Goes kind at done next) (a : Around)
+module _ {X : Type 0} (kind : Access) (at : X → ℕ) (done : Copied → X → Progress → Copied) (next : Environment → Copied → X → Copied) (is : Goes kind at done next) (a : Environment)
     (grows : (c : Copied) (x : X) (g : Progress) → length (done c x g).bytes ≡ length c.bytes + 1) where
   stays_all : (xs : List X) (c : Copied) (r : Rule) → c.stop ≡ Some r → fold (next a) c xs ≡ c
   stays_all [] c r e = refl
@@ -81,7 +82,7 @@ places_front (b ∷ bs) (suc i) at = ap (λ xs. (at, b) ∷ xs) (places_front bs
 
 -- ---- copies
 
-module _ (a : Around) (g : Progress) (address : ℕ) where
+module _ (a : Environment) (g : Progress) (address : ℕ) where
   in_front : (n : ℕ) → let c = copied_in a g address n in (length c.bytes ≤ n) × ((copied_in a g address (length c.bytes)).progress ≡ c.progress)
   unfolding copied_in
   in_front n =
@@ -122,19 +123,19 @@ copied_of_out : (bs : List ℕ) (o : Option Rule) → copied (out_reply bs o) �
 copied_of_out bs None = refl
 copied_of_out bs (Some r) = refl
 
-module _ (w : World) (h s : ℕ) (p : Process) (on : IsOn w h s p) (address : ℕ) where
+module _ (w : World) (h s : ℕ) (p : Process) (on : IsOnHart w h s p) (address : ℕ) where
   abbrev begin : Progress
-  begin = begun w (without_pending p)
+  begin = initial_progress w (without_pending p)
 
   pub in_front_world : (n : ℕ) → InRan w h s p address n → (step w (CopyIn h address n)).world ≡ (step w (CopyIn h address (copied (step w (CopyIn h address n)).reply))).world
   in_front_world n ran =
-      let c = copied_in (around w s) begin address n in
-      let f = in_front (around w s) begin address n in
+      let c = copied_in (environment_of w s) begin address n in
+      let f = in_front (environment_of w s) begin address n in
       let k = length c.bytes in
       let some = f.0 in
       let most = leb-true n longest_copy ran.fits in
-      let call = λ (hart : Hart) (s : ℕ) (p : Process). told_in w s (copied_in (around w s) (begun w (without_pending p)) address k) in
-      let goes : plain_step w (CopyIn h address k) ≡ told_in w s (copied_in (around w s) begin address k) =
+      let call = λ (hart : Hart) (s : ℕ) (p : Process). copy_in_outcome w s (copied_in (environment_of w s) (initial_progress w (without_pending p)) address k) in
+      let goes : plain_step w (CopyIn h address k) ≡ copy_in_outcome w s (copied_in (environment_of w s) begin address k) =
       hart_runs w h (nat_le k longest_copy) (can_call w) always (λ hart. with_its_process w hart (call hart)) ran.hart ran.there (le-leb k longest_copy (omega (arith, some, most))) ran.can refl
       ∙ process_runs w ran.hart (call ran.hart) s p (has_it w h s ran.hart on.there ran.there) on.lives in
       let told : copied (step w (CopyIn h address n)).reply ≡ k = ap copied (step_reply w (CopyIn h address n) ∙ ap (λ (o : Outcome). o.reply) ran.is) ∙ copied_of_in c.bytes c.stop in
@@ -144,16 +145,16 @@ module _ (w : World) (h s : ℕ) (p : Process) (on : IsOn w h s p) (address : �
   pub out_front_world : (bytes front : Bor (List ℕ)) → OutRan w h s p address bytes → front.now ≡ take (copied (step w (CopyOut h address bytes)).reply) bytes.now
       → (step w (CopyOut h address bytes)).world ≡ (step w (CopyOut h address front)).world
   out_front_world bytes front ran are =
-      let c = copied_out (around w s) begin address bytes.now in
+      let c = copied_out (environment_of w s) begin address bytes.now in
       let k = length c.bytes in
       let told : copied (step w (CopyOut h address bytes)).reply ≡ k = ap copied (step_reply w (CopyOut h address bytes) ∙ ap (λ (o : Outcome). o.reply) ran.is) ∙ copied_of_out c.bytes c.stop in
       let same : front.now ≡ take k bytes.now = are ∙ ap (λ i. take i bytes.now) told in
       let short = length-take k bytes.now in
       let long : length front.now ≡ length (take k bytes.now) = ap length same in
       let most = leb-true (length bytes.now) longest_copy ran.fits in
-      let call = λ (hart : Hart) (s : ℕ) (p : Process). told_out w s (copied_out (around w s) (begun w (without_pending p)) address front.now) in
-      let goes : plain_step w (CopyOut h address front) ≡ told_out w s (copied_out (around w s) begin address front.now) =
+      let call = λ (hart : Hart) (s : ℕ) (p : Process). copy_out_outcome w s (copied_out (environment_of w s) (initial_progress w (without_pending p)) address front.now) in
+      let goes : plain_step w (CopyOut h address front) ≡ copy_out_outcome w s (copied_out (environment_of w s) begin address front.now) =
       hart_runs w h (nat_le (length front.now) longest_copy) (can_call w) always (λ hart. with_its_process w hart (call hart)) ran.hart ran.there (le-leb (length front.now) longest_copy (omega (arith, long, short, most))) ran.can refl
       ∙ process_runs w ran.hart (call ran.hart) s p (has_it w h s ran.hart on.there ran.there) on.lives in
-      let progress : (copied_out (around w s) begin address front.now).progress ≡ c.progress = ap (λ bs. (copied_out (around w s) begin address bs).progress) same ∙ out_front (around w s) begin address bytes.now in
+      let progress : (copied_out (environment_of w s) begin address front.now).progress ≡ c.progress = ap (λ bs. (copied_out (environment_of w s) begin address bs).progress) same ∙ out_front (environment_of w s) begin address bytes.now in
       step_same w (CopyOut h address bytes) (CopyOut h address front) (ap (λ (o : Outcome). o.world) ran.is ∙ ap (with_progress w s) (sym progress) ∙ ap (λ (o : Outcome). o.world) (sym goes))

@@ -1,11 +1,12 @@
--- Where a kernel copy finds too few frames: just where all that it would take is more than there are.
+-- Lemmas about when a kernel copy lacks frames, for copyin and copyout at once (`Goes`): it stops by NoFrame if and only if
+-- with ample frames it would take more than there are; if it does not, it takes as many as with ample frames.
 use Rattle.std.proofs.Common.{◌≡◌, ℕ, Bool, true, false, ◌+◌, ◌<◌, ◌≤◌, refl, sym, ap, ◌∙◌, arith, Option, None, Some, List, [], ◌∷◌}
 use Rattle.std.specs.Prelude.{fold, nat_lt, Result, Ok, Err}
 use Rattle.std.proofs.lemmas.Bool.{le-ltb, lt-ltb, ltb-false, ltb-true}
 use Rattle.process_laws.proofs.Copying.{byte_rule}
 use Rattle.process_laws.proofs.Counting.{quiet_rule}
-use Rattle.process_laws.specs.Words.{tells_no_frame}
-use Rattle.process_model.specs.Around.{Around, need_at, Progress, reached, resident_at, unless_dry, unless_resident}
+use Rattle.process_laws.specs.Words.{is_no_frame_reply}
+use Rattle.process_model.specs.Environment.{Environment, need_at, Progress, resident_at_address, resident_at, unless_dry, unless_resident}
 use Rattle.process_model.specs.Copies.{Copied, reached_in}
 use Rattle.process_model.specs.Process.{regions}
 use Rattle.process_model.specs.Regions.{copy_rule}
@@ -18,14 +19,14 @@ use Rattle.sv39_entry.specs.declared.rule.Rule.TheVariants.{NoFrame}
 
 abbrev pub is_dry_stop : Option Rule → Bool
 is_dry_stop None = false
-is_dry_stop (Some r) = tells_no_frame (Ended r)
+is_dry_stop (Some r) = is_no_frame_reply (Ended r)
 
 -- with so many frames, and with as many as are asked for
 
-abbrev pub limited : Around → ℕ → Around
+abbrev pub limited : Environment → ℕ → Environment
 limited a frames = record a { is_dry = λ page total. nat_lt frames total }
 
-abbrev pub ample : Around → Around
+abbrev pub ample : Environment → Environment
 ample a = record a { is_dry = λ page total. false }
 
 -- what an address comes to with ample frames, and with so many
@@ -34,7 +35,7 @@ data Comes (frames : ℕ) (g : Progress) : Result Progress Rule → Result Progr
   dry : {h : Progress} → g.taken ≤ h.taken → frames < h.taken → Comes frames g (Ok h) (Err NoFrame)
   denied : {r : Rule} → is_dry_stop (Some r) ≡ false → Comes frames g (Err r) (Err r)
 
-module _ (a : Around) (frames : ℕ) (kind : Access) (address : ℕ) (g : Progress) (few : g.taken ≤ frames) where
+module _ (a : Environment) (frames : ℕ) (kind : Access) (address : ℕ) (g : Progress) (few : g.taken ≤ frames) where
   abbrev page : ℕ
   page = page_of address
 
@@ -53,7 +54,7 @@ module _ (a : Around) (frames : ℕ) (kind : Access) (address : ℕ) (g : Progre
   unfolding resident_at
   comes_at = comes_page (is_resident g.process kind page)
 
-  comes_rule : (o : Option Rule) → copy_rule g.process.scheme (regions g.process) kind address ≡ o → Comes frames g (reached (ample a) kind address g o) (reached (limited a frames) kind address g o)
+  comes_rule : (o : Option Rule) → copy_rule g.process.scheme (regions g.process) kind address ≡ o → Comes frames g (resident_at_address (ample a) kind address g o) (resident_at_address (limited a frames) kind address g o)
   comes_rule None e = comes_at
   comes_rule (Some r) e = denied (quiet_rule g.process kind address 1 r (byte_rule g.process kind address ∙ e))
 
@@ -61,10 +62,10 @@ module _ (a : Around) (frames : ℕ) (kind : Access) (address : ℕ) (g : Progre
   comes = comes_rule (copy_rule g.process.scheme (regions g.process) kind address) refl
 
 -- one address more, of a copy of either kind
-pub record Goes {X : Type 0} (kind : Access) (at : X → ℕ) (done : Copied → X → Progress → Copied) (next : Around → Copied → X → Copied) : Type 0 where
-  pub stays : (a : Around) (c : Copied) (x : X) (r : Rule) → c.stop ≡ Some r → next a c x ≡ c
-  pub stops : (a : Around) (c : Copied) (x : X) (r : Rule) → c.stop ≡ None → reached_in a kind c.progress (at x) ≡ Err r → next a c x ≡ record c { stop = Some r }
-  pub goes : (a : Around) (c : Copied) (x : X) (g : Progress) → c.stop ≡ None → reached_in a kind c.progress (at x) ≡ Ok g → next a c x ≡ done c x g
+pub record Goes {X : Type 0} (kind : Access) (at : X → ℕ) (done : Copied → X → Progress → Copied) (next : Environment → Copied → X → Copied) : Type 0 where
+  pub stays : (a : Environment) (c : Copied) (x : X) (r : Rule) → c.stop ≡ Some r → next a c x ≡ c
+  pub stops : (a : Environment) (c : Copied) (x : X) (r : Rule) → c.stop ≡ None → reached_in a kind c.progress (at x) ≡ Err r → next a c x ≡ record c { stop = Some r }
+  pub goes : (a : Environment) (c : Copied) (x : X) (g : Progress) → c.stop ≡ None → reached_in a kind c.progress (at x) ≡ Ok g → next a c x ≡ done c x g
   pub goes_on : (c : Copied) (x : X) (g : Progress) → (done c x g).stop ≡ None
   pub taken : (c : Copied) (x : X) (g : Progress) → ((done c x g).progress).taken ≡ g.taken
 
@@ -73,7 +74,7 @@ pub data Beside (frames : ℕ) (c d : Copied) : Type 0 where
   along : c ≡ d → (d.progress).taken ≤ frames → is_dry_stop d.stop ≡ false → Beside frames c d
   dried : c.stop ≡ Some NoFrame → frames < (d.progress).taken → is_dry_stop d.stop ≡ false → Beside frames c d
 
-module _ {X : Type 0} (kind : Access) (at : X → ℕ) (done : Copied → X → Progress → Copied) (next : Around → Copied → X → Copied) (is : Goes kind at done next) (a : Around) (frames : ℕ) where
+module _ {X : Type 0} (kind : Access) (at : X → ℕ) (done : Copied → X → Progress → Copied) (next : Environment → Copied → X → Copied) (is : Goes kind at done next) (a : Environment) (frames : ℕ) where
   module _ (c d : Copied) (x : X) where
     abbrev after_c : Copied
     after_c = next (limited a frames) c x

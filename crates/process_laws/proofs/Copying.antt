@@ -1,4 +1,6 @@
--- How far kernel copies come.
+-- Lemmas about how far copyin and copyout get, and why they stop: each byte that is copied is granted, and the copy ends
+-- after all bytes, before a byte that a rule forbids, or by NoFrame (`copies_in`, `copies_out`). Before that: what a copy
+-- that is not refused runs (`InRan`, `OutRan`).
 use Rattle.std.proofs.Common.{◌≡◌, ℕ, zero, suc, Bool, true, false, cond, ◌&&◌, ◌+◌, ◌%◌, ◌<◌, inl, inr, refl, sym, ap, subst, ◌∙◌, arith, Option, None, Some, List, [], ◌∷◌, ◌++◌, length, Bor}
 use Rattle.std.specs.Prelude.{fold, nat_le, option_map, Result, Ok, Err, slice_get, zip}
 use Rattle.std.proofs.lemmas.Bool.{cases_lt, eq-eqb}
@@ -10,11 +12,11 @@ use Rattle.process_laws.proofs.HeldBytes.{none_some}
 use Rattle.process_laws.proofs.Running.{has_it, process_runs, ran_on, step_reply, was_made}
 use Rattle.process_laws.proofs.Users.{same_from}
 use Rattle.process_laws.specs.Headline.{Copies, StopsAfter}
-use Rattle.process_laws.specs.Words.{byte, copied, Forbids, IsGranted, IsIn, IsMade, IsOn, stopped_by, tells_no_frame}
-use Rattle.process_model.specs.ReachedPages.{made_settles}
-use Rattle.process_model.specs.Around.{Around, Progress, reached, resident_at, unless_dry, unless_resident}
+use Rattle.process_laws.specs.Words.{byte, copied, Forbids, IsGranted, IsInPhase, IsMade, IsOnHart, stopped_by, is_no_frame_reply}
+use Rattle.process_model.specs.ResidenceLaws.{made_settles}
+use Rattle.process_model.specs.Environment.{Environment, Progress, resident_at_address, resident_at, unless_dry, unless_resident}
 use Rattle.process_model.specs.Bytes.{numbers_from}
-use Rattle.process_model.specs.Calls.{told_in, told_out}
+use Rattle.process_model.specs.Calls.{copy_in_outcome, copy_out_outcome}
 use Rattle.process_model.specs.Copies.{byte_of, Copied, copied_in, copied_out, copy_begun, in_reply, longest_copy, next_in, next_out, one_in, one_out, out_reply, reached_in, with_byte, with_byte_on}
 use Rattle.process_model.specs.Files.{File}
 use Rattle.process_model.specs.Harts.{Hart, is_kernel}
@@ -22,7 +24,7 @@ use Rattle.process_model.specs.PageMap.{get}
 use Rattle.process_model.specs.Process.{Page, Process, regions, without_pending}
 use Rattle.process_model.specs.Regions.{copy_rule, first_rule}
 use Rattle.process_model.specs.Residence.{made_resident_from, taken_over_unless}
-use Rattle.process_model.specs.Service.{around, begun}
+use Rattle.process_model.specs.Service.{environment_of, initial_progress}
 use Rattle.process_model.specs.Steps.{plain_step, step}
 use Rattle.process_model.specs.World.{always, can_call, Outcome, with_its_process, World}
 use Rattle.process_model.specs.declared.phase.Phase.{Phase}
@@ -71,7 +73,7 @@ idle_from : (files : List File) (fresh : ℕ) (shared : Bool) (p : Process) (acc
 idle_from files fresh shared p access page None = refl
 idle_from files fresh shared p access page (Some x) = idle_unless fresh shared p page x _
 
-module _ (a : Around) (p : Process) (g : Progress) (kind : Access) (at : ℕ) (same : AsRuled g.process p) (idle : (g.process).pending ≡ p.pending) where
+module _ (a : Environment) (p : Process) (g : Progress) (kind : Access) (at : ℕ) (same : AsRuled g.process p) (idle : (g.process).pending ≡ p.pending) where
   reach_dry : copy_rule p.scheme (regions p) kind at ≡ None → (need : ℕ) (b : Bool) → ReachesIt p kind at (unless_dry a kind (page_of at) g need b)
   reach_dry none need true = stopped (dry none)
   reach_dry none need false = came none (same_from a.files g.fresh _ g.process kind (page_of at) _ ∙ same.0, (made_settles a.files g.fresh _ kind (page_of at) g.process).scheme ∙ same.1) (idle_from a.files g.fresh _ g.process kind (page_of at) _ ∙ idle)
@@ -84,7 +86,7 @@ module _ (a : Around) (p : Process) (g : Progress) (kind : Access) (at : ℕ) (s
   unfolding resident_at
   reach_page none = reach_resident none _
 
-  reach_rule : (o : Option Rule) → copy_rule p.scheme (regions p) kind at ≡ o → ReachesIt p kind at (reached a kind at g o)
+  reach_rule : (o : Option Rule) → copy_rule p.scheme (regions p) kind at ≡ o → ReachesIt p kind at (resident_at_address a kind at g o)
   reach_rule None e = reach_page e
   reach_rule (Some r) e = stopped (denied e)
 
@@ -92,7 +94,7 @@ module _ (a : Around) (p : Process) (g : Progress) (kind : Access) (at : ℕ) (s
   reach = reach_rule (copy_rule g.process.scheme (regions g.process) kind at) (ap (λ rs. copy_rule p.scheme rs kind at) (sym same.0) ∙ ap (λ z. copy_rule z (regions g.process) kind at) (sym same.1))
 
 -- so far: n addresses were tried
-pub record SoFar (a : Around) (p : Process) (kind : Access) (address n : ℕ) (c : Copied) : Type 0 where
+pub record SoFar (a : Environment) (p : Process) (kind : Access) (address n : ℕ) (c : Copied) : Type 0 where
   pub idle : ((c.progress).process).pending ≡ p.pending
   pub halted : (rule : Rule) → c.stop ≡ Some rule → reached_in a kind c.progress (address + length c.bytes) ≡ Err rule
   pub same : AsRuled ((c.progress).process) p
@@ -103,7 +105,7 @@ pub record SoFar (a : Around) (p : Process) (kind : Access) (address n : ℕ) (c
 none_and_some : {A : Type 0} {o : Option A} {x : A} → o ≡ None → o ≡ Some x → ⊥
 none_and_some e f = cc
 
-module _ (a : Around) (p : Process) (address : ℕ) where
+module _ (a : Environment) (p : Process) (address : ℕ) where
   one_more : (kind : Access) (n : ℕ) (c : Copied) (b : ℕ) (g : Progress) → SoFar a p kind address n c → c.stop ≡ None → copy_rule p.scheme (regions p) kind (address + n) ≡ None → AsRuled g.process p → (g.process).pending ≡ p.pending
       → SoFar a p kind address (n + 1) (record { progress = g; bytes = c.bytes ++ b ∷ []; stop = None })
   one_more kind n c b g f e none same idle =
@@ -191,7 +193,7 @@ module _ (a : Around) (p : Process) (address : ℕ) where
       subst (λ k. SoFar a p access.Store address k (fold (λ c x. next_out a c x c.stop) c (zip (numbers_from at (length (b ∷ bs))) (b ∷ bs)))) (omega arith)
       (out_all bs (n + 1) (at + 1) (next_out a c (at, b) c.stop) (omega (arith, is)) (subst (λ k. SoFar a p access.Store address (n + 1) (next_out a c (k, b) c.stop)) (sym is) (out_next n b c c.stop refl f)))
 
-not_begun : (a : Around) (g : Progress) (kind : Access) (address : ℕ) → SoFar a g.process kind address 0 (copy_begun g)
+not_begun : (a : Environment) (g : Progress) (kind : Access) (address : ℕ) → SoFar a g.process kind address 0 (copy_begun g)
 not_begun a g kind address = record {
   idle = refl;
   halted = λ rule is. absurd (none_some is);
@@ -201,12 +203,12 @@ not_begun a g kind address = record {
   stops = λ rule is. absurd (none_some is);
 }
 
-pub in_so_far : (a : Around) (g : Progress) (address n : ℕ) → SoFar a g.process access.Load address n (copied_in a g address n)
+pub in_so_far : (a : Environment) (g : Progress) (address n : ℕ) → SoFar a g.process access.Load address n (copied_in a g address n)
 unfolding copied_in
 in_so_far a g address n = subst (λ k. SoFar a g.process access.Load address k (fold (λ c at. next_in a c at c.stop) (copy_begun g) (numbers_from address n))) (omega arith)
     (in_all a g.process address n 0 address _ (omega arith) (not_begun a g access.Load address))
 
-pub out_so_far : (a : Around) (g : Progress) (address : ℕ) (bs : List ℕ) → SoFar a g.process access.Store address (length bs) (copied_out a g address bs)
+pub out_so_far : (a : Environment) (g : Progress) (address : ℕ) (bs : List ℕ) → SoFar a g.process access.Store address (length bs) (copied_out a g address bs)
 unfolding copied_out
 out_so_far a g address bs = subst (λ k. SoFar a g.process access.Store address k (fold (λ c x. next_out a c x c.stop) (copy_begun g) (zip (numbers_from address (length bs)) bs))) (omega arith)
     (out_all a g.process address bs 0 address _ (omega arith) (not_begun a g access.Store address))
@@ -215,11 +217,11 @@ out_so_far a g address bs = subst (λ k. SoFar a g.process access.Store address 
 
 -- where the byte alone is told that there is no frame, if that stopped it
 module _ (alone : Reply) where
-  stop_says : (p : Process) (kind : Access) (address n k : ℕ) (rule : Rule) → k < n → Stops p kind (address + k) rule → (rule ≡ NoFrame → tells_no_frame alone ≡ true) → StopsAfter p kind address n k alone (Some rule)
+  stop_says : (p : Process) (kind : Access) (address n k : ℕ) (rule : Rule) → k < n → Stops p kind (address + k) rule → (rule ≡ NoFrame → is_no_frame_reply alone ≡ true) → StopsAfter p kind address n k alone (Some rule)
   stop_says p kind address n k rule l (denied e) says = StopsAfter.forbidden l (byte_forbidden p kind (address + k) rule e)
   stop_says p kind address n k rule l (dry e) says = StopsAfter.no_frame l (byte_granted p kind (address + k) e) (says refl)
 
-  ends_so : (a : Around) (p : Process) (kind : Access) (address n : ℕ) (c : Copied) (o : Option Rule) → c.stop ≡ o → SoFar a p kind address n c → (c.stop ≡ Some NoFrame → tells_no_frame alone ≡ true)
+  ends_so : (a : Environment) (p : Process) (kind : Access) (address n : ℕ) (c : Copied) (o : Option Rule) → c.stop ≡ o → SoFar a p kind address n c → (c.stop ≡ Some NoFrame → is_no_frame_reply alone ≡ true)
       → Copies p kind address n (length c.bytes) alone o
   ends_so a p kind address n c None e f says = record { granted = λ i l. byte_granted p kind (address + i) (f.granted i l); stops = StopsAfter.whole (f.goes_on e) }
   ends_so a p kind address n c (Some rule) e f says =
@@ -257,16 +259,16 @@ pub record InRan (w : World) (h s : ℕ) (p : Process) (address n : ℕ) : Type 
   pub there : slice_get w.harts h ≡ Some hart
   pub can : can_call w hart ≡ true
   pub fits : nat_le n longest_copy ≡ true
-  pub in_kernel : IsIn w h Kernel
-  pub is : plain_step w (CopyIn h address n) ≡ told_in w s (copied_in (around w s) (begun w (without_pending p)) address n)
+  pub in_kernel : IsInPhase w h Kernel
+  pub is : plain_step w (CopyIn h address n) ≡ copy_in_outcome w s (copied_in (environment_of w s) (initial_progress w (without_pending p)) address n)
 
 pub record OutRan (w : World) (h s : ℕ) (p : Process) (address : ℕ) (bytes : Bor (List ℕ)) : Type 0 where
   pub hart : Hart
   pub there : slice_get w.harts h ≡ Some hart
   pub can : can_call w hart ≡ true
   pub fits : nat_le (length bytes.now) longest_copy ≡ true
-  pub in_kernel : IsIn w h Kernel
-  pub is : plain_step w (CopyOut h address bytes) ≡ told_out w s (copied_out (around w s) (begun w (without_pending p)) address bytes.now)
+  pub in_kernel : IsInPhase w h Kernel
+  pub is : plain_step w (CopyOut h address bytes) ≡ copy_out_outcome w s (copied_out (environment_of w s) (initial_progress w (without_pending p)) address bytes.now)
 
 kernel_phase : (phase : Phase) (b : Bool) → (is_kernel phase && b) ≡ true → phase ≡ Kernel
 kernel_phase Kernel b e = refl
@@ -278,38 +280,38 @@ kernel_phase Enter2 b e = absurd cc
 kernel_phase Leave1 b e = absurd cc
 kernel_phase Leave2 b e = absurd cc
 
-in_phase : (w : World) (h : ℕ) (hart : Hart) (phase : Phase) → slice_get w.harts h ≡ Some hart → hart.phase ≡ phase → IsIn w h phase
+in_phase : (w : World) (h : ℕ) (hart : Hart) (phase : Phase) → slice_get w.harts h ≡ Some hart → hart.phase ≡ phase → IsInPhase w h phase
 in_phase w h hart phase there is = ap (option_map (λ (hart : Hart). hart.phase)) there ∙ ap Some is
 
-pub in_ran : (w : World) (h s address n : ℕ) (p : Process) → IsOn w h s p → IsMade (step w (CopyIn h address n)).reply → InRan w h s p address n
+pub in_ran : (w : World) (h s address n : ℕ) (p : Process) → IsOnHart w h s p → IsMade (step w (CopyIn h address n)).reply → InRan w h s p address n
 in_ran w h s address n p on made =
-    let call = λ (hart : Hart) (s : ℕ) (p : Process). told_in w s (copied_in (around w s) (begun w (without_pending p)) address n) in
+    let call = λ (hart : Hart) (s : ℕ) (p : Process). copy_in_outcome w s (copied_in (environment_of w s) (initial_progress w (without_pending p)) address n) in
     let r = ran_on w h (nat_le n longest_copy) (can_call w) always (λ hart. with_its_process w hart (call hart)) (was_made w (CopyIn h address n) made) in
     record { hart = r.hart; there = r.there; can = r.can; fits = r.fits; in_kernel = in_phase w h r.hart Kernel r.there (kernel_phase r.hart.phase _ r.can); is = r.is ∙ process_runs w r.hart (call r.hart) s p (has_it w h s r.hart on.there r.there) on.lives }
 
-pub out_ran : (w : World) (h s address : ℕ) (bytes : Bor (List ℕ)) (p : Process) → IsOn w h s p → IsMade (step w (CopyOut h address bytes)).reply → OutRan w h s p address bytes
+pub out_ran : (w : World) (h s address : ℕ) (bytes : Bor (List ℕ)) (p : Process) → IsOnHart w h s p → IsMade (step w (CopyOut h address bytes)).reply → OutRan w h s p address bytes
 out_ran w h s address bytes p on made =
-    let call = λ (hart : Hart) (s : ℕ) (p : Process). told_out w s (copied_out (around w s) (begun w (without_pending p)) address bytes.now) in
+    let call = λ (hart : Hart) (s : ℕ) (p : Process). copy_out_outcome w s (copied_out (environment_of w s) (initial_progress w (without_pending p)) address bytes.now) in
     let r = ran_on w h (nat_le (length bytes.now) longest_copy) (can_call w) always (λ hart. with_its_process w hart (call hart)) (was_made w (CopyOut h address bytes) made) in
     record { hart = r.hart; there = r.there; can = r.can; fits = r.fits; in_kernel = in_phase w h r.hart Kernel r.there (kernel_phase r.hart.phase _ r.can); is = r.is ∙ process_runs w r.hart (call r.hart) s p (has_it w h s r.hart on.there r.there) on.lives }
 
 pub copies_in : (w : World) (h s address n : ℕ) (p : Process) (alone : ℕ → Reply) → InRan w h s p address n
-    → (let c = copied_in (around w s) (begun w (without_pending p)) address n in c.stop ≡ Some NoFrame → tells_no_frame (alone (length c.bytes)) ≡ true)
+    → (let c = copied_in (environment_of w s) (initial_progress w (without_pending p)) address n in c.stop ≡ Some NoFrame → is_no_frame_reply (alone (length c.bytes)) ≡ true)
     → let r = (step w (CopyIn h address n)).reply in Copies p access.Load address n (copied r) (alone (copied r)) (stopped_by r)
 unfolding Says
 copies_in w h s address n p alone ran says =
-    let c = copied_in (around w s) (begun w (without_pending p)) address n in
+    let c = copied_in (environment_of w s) (initial_progress w (without_pending p)) address n in
     subst (Says p access.Load address n alone) (sym (step_reply w (CopyIn h address n) ∙ ap (λ (o : Outcome). o.reply) ran.is))
     (in_says p address n alone c.bytes c.stop
-    (copies_same (alone (length c.bytes)) p access.Load address n (length c.bytes) c.stop (ends_so (alone (length c.bytes)) (around w s) (without_pending p) access.Load address n c c.stop refl (in_so_far (around w s) (begun w (without_pending p)) address n) says)))
+    (copies_same (alone (length c.bytes)) p access.Load address n (length c.bytes) c.stop (ends_so (alone (length c.bytes)) (environment_of w s) (without_pending p) access.Load address n c c.stop refl (in_so_far (environment_of w s) (initial_progress w (without_pending p)) address n) says)))
 
 pub copies_out : (w : World) (h s address : ℕ) (bytes : Bor (List ℕ)) (p : Process) (alone : ℕ → Reply) → OutRan w h s p address bytes
-    → (let c = copied_out (around w s) (begun w (without_pending p)) address bytes.now in c.stop ≡ Some NoFrame → tells_no_frame (alone (length c.bytes)) ≡ true)
+    → (let c = copied_out (environment_of w s) (initial_progress w (without_pending p)) address bytes.now in c.stop ≡ Some NoFrame → is_no_frame_reply (alone (length c.bytes)) ≡ true)
     → let r = (step w (CopyOut h address bytes)).reply in Copies p access.Store address (length bytes.now) (copied r) (alone (copied r)) (stopped_by r)
 unfolding Says
 copies_out w h s address bytes p alone ran says =
-    let c = copied_out (around w s) (begun w (without_pending p)) address bytes.now in
+    let c = copied_out (environment_of w s) (initial_progress w (without_pending p)) address bytes.now in
     subst (Says p access.Store address (length bytes.now) alone) (sym (step_reply w (CopyOut h address bytes) ∙ ap (λ (o : Outcome). o.reply) ran.is))
     (out_says p address (length bytes.now) alone c.bytes c.stop
     (copies_same (alone (length c.bytes)) p access.Store address (length bytes.now) (length c.bytes) c.stop
-    (ends_so (alone (length c.bytes)) (around w s) (without_pending p) access.Store address (length bytes.now) c c.stop refl (out_so_far (around w s) (begun w (without_pending p)) address bytes.now) says)))
+    (ends_so (alone (length c.bytes)) (environment_of w s) (without_pending p) access.Store address (length bytes.now) c c.stop refl (out_so_far (environment_of w s) (initial_progress w (without_pending p)) address bytes.now) says)))

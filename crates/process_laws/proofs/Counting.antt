@@ -1,4 +1,6 @@
--- Frames that a start, a fork, a service and an exec take.
+-- Lemmas: for a start, a fork and a service of a page fault there is one number of frames, whatever the size of the memory:
+-- the reply says NoFrame if and only if fewer are free, and else the free count falls by that number (0 if it rises). Before
+-- them: the free count when one process changes or is gone.
 use Rattle.std.proofs.Common.{◌≡◌, ℕ, Bool, true, false, ◌+◌, ◌-◌, ◌≤◌, refl, sym, ap, ◌∙◌, arith, Option, None, Some, List, [], ◌∷◌, ◌++◌, length, length-set}
 use Rattle.std.specs.Prelude.{nat_lt, Result, Ok, Err, slice_get, slice_set, sum_by}
 use Rattle.process_laws.proofs.Earlier.{answered_is_first}
@@ -9,9 +11,9 @@ use Rattle.process_laws.proofs.ServiceSpends.{service_spends}
 use Rattle.process_laws.proofs.SetSizes.{count_grows, length_keys}
 use Rattle.process_laws.proofs.SlotSums.{all_copies, count_set, count_slots, full_slot, sum_set}
 use Rattle.process_laws.proofs.StartSpends.{start_spends}
-use Rattle.process_laws.specs.Numbered.{HasNewCopies}
-use Rattle.process_laws.specs.Words.{tells_no_frame, in_memory}
-use Rattle.process_model.specs.Around.{is_shared_page, need_at, Progress, reached, resident_at, unless_dry, unless_resident}
+use Rattle.process_laws.specs.CopyNumbers.{HasNewCopies}
+use Rattle.process_laws.specs.Words.{is_no_frame_reply, in_memory}
+use Rattle.process_model.specs.Environment.{is_shared_page, need_at, Progress, resident_at_address, resident_at, unless_dry, unless_resident}
 use Rattle.process_model.specs.Calls.{forked, forked_unless, started, started_unless}
 use Rattle.process_model.specs.Frames.{copies_in, copies_of, fork_need, free_frames, kernel_frames, live, own_frames, start_need}
 use Rattle.process_model.specs.Harts.{Hart}
@@ -20,7 +22,7 @@ use Rattle.process_model.specs.PageMap.{count, numbers}
 use Rattle.process_model.specs.Process.{Pending, Process, regions}
 use Rattle.process_model.specs.Regions.{first_rule}
 use Rattle.process_model.specs.Residence.{is_resident, made_resident}
-use Rattle.process_model.specs.Service.{around, begun, ended, is_dry, served, served_or_ended, with_progress, with_served}
+use Rattle.process_model.specs.Service.{environment_of, initial_progress, ended, is_dry, served, served_or_ended, with_progress, with_served}
 use Rattle.process_model.specs.Stale.{with_stale_slots}
 use Rattle.process_model.specs.Steps.{plain_step, step}
 use Rattle.process_model.specs.World.{free, free_slot, Outcome, process_in, refuses, with_process, World}
@@ -41,17 +43,17 @@ use Rattle.sv39_entry.specs.declared.rule.Rule.TheVariants as rule
 -- ---- one outcome, in a world
 
 abbrev pub Spends : World → Outcome → ℕ → Type 0
-Spends v o n = (tells_no_frame o.reply ≡ nat_lt (free v) n) × (tells_no_frame o.reply ≡ false → free v - free o.world ≡ n)
+Spends v o n = (is_no_frame_reply o.reply ≡ nat_lt (free v) n) × (is_no_frame_reply o.reply ≡ false → free v - free o.world ≡ n)
 
 pub none_less : (a : ℕ) → nat_lt a 0 ≡ false
 none_less a = grind arith
 
 -- nothing is taken
-spends_none : (v : World) (o : Outcome) → tells_no_frame o.reply ≡ false → free v ≤ free o.world → Spends v o 0
+spends_none : (v : World) (o : Outcome) → is_no_frame_reply o.reply ≡ false → free v ≤ free o.world → Spends v o 0
 spends_none v o e le = (e ∙ sym (none_less (free v)), λ _. omega (arith, le))
 
 -- so much is taken, or it is dry
-spends_need : (v : World) (n : ℕ) (f : Bool → Outcome) (b : Bool) → nat_lt (free v) n ≡ b → tells_no_frame (f true).reply ≡ true → tells_no_frame (f false).reply ≡ false
+spends_need : (v : World) (n : ℕ) (f : Bool → Outcome) (b : Bool) → nat_lt (free v) n ≡ b → is_no_frame_reply (f true).reply ≡ true → is_no_frame_reply (f false).reply ≡ false
     → (nat_lt (free v) n ≡ false → free (f false).world + n ≡ free v) → Spends v (f b) n
 spends_need v n f true e dry wet spends = (dry ∙ sym e, λ is. absurd (let no : true ≡ false = sym dry ∙ is in cc))
 spends_need v n f false e dry wet spends = (wet ∙ sym e, λ is. let h = spends e in omega (arith, h))
@@ -60,7 +62,7 @@ marks_spend : (policy : Policy) (v : World) (o : Outcome) (n : ℕ) → Spends v
 marks_spend Full v o n t = t
 marks_spend Asid v o n t = t
 
-pub refused_spends : (w : World) (m : ℕ) (r : Refusal) → tells_no_frame (Refused r) ≡ false → Spends (in_memory w m) (refuses (in_memory w m) r) 0
+pub refused_spends : (w : World) (m : ℕ) (r : Refusal) → is_no_frame_reply (Refused r) ≡ false → Spends (in_memory w m) (refuses (in_memory w m) r) 0
 refused_spends w m r quiet = spends_none (in_memory w m) (refuses (in_memory w m) r) quiet (omega arith)
 
 -- ---- frames of a process that is changed or gone
@@ -111,7 +113,7 @@ frees v s p e =
     (omega (arith, before, fewer, old, now)) (omega (arith, sums)))
 
 -- no region has too few frames
-pub quiet_rule : (p : Process) (kind : Access) (address width : ℕ) (r : Rule) → first_rule p.scheme (regions p) kind address width ≡ Some r → tells_no_frame (Ended r) ≡ false
+pub quiet_rule : (p : Process) (kind : Access) (address width : ℕ) (r : Rule) → first_rule p.scheme (regions p) kind address width ≡ Some r → is_no_frame_reply (Ended r) ≡ false
 quiet_rule p kind address width rule.NoFrame e = absurd ((answered_is_first p.scheme (regions p) kind address width rule.NoFrame e).denies)
 quiet_rule p kind address width rule.Misaligned e = refl
 quiet_rule p kind address width rule.BeyondMax e = refl
@@ -134,7 +136,7 @@ module _ (w : World) (new : HasNewCopies w) where
   new_at : (m : ℕ) → HasNewCopies (at m)
   new_at m = record { below = new.below; once = new.once }
 
-  pub spends_refused : (r : Refusal) → tells_no_frame (Refused r) ≡ false → Each (λ u. refuses u r)
+  pub spends_refused : (r : Refusal) → is_no_frame_reply (Refused r) ≡ false → Each (λ u. refuses u r)
   unfolding InEach
   spends_refused r quiet = (0, λ m. refused_spends w m r quiet)
 
@@ -177,44 +179,44 @@ module _ (w : World) (new : HasNewCopies w) where
     serves_it u r = served_or_ended u h hart s p a r
 
     abbrev need : ℕ
-    need = need_at (around w s) a.access page p
+    need = need_at (environment_of w s) a.access page p
 
     abbrev made : Progress
-    made = record { process = made_resident w.files w.counter (is_shared_page (around w s) p page) p a.access page; fresh = w.counter + 1; taken = 0 + need }
+    made = record { process = made_resident w.files w.counter (is_shared_page (environment_of w s) p page) p a.access page; fresh = w.counter + 1; taken = 0 + need }
 
     -- the process waits for nothing then, which takes no frame
     served_free : (m : ℕ) (g : Progress) → free (serves_it (at m) (Ok g)).world ≡ free (with_progress (at m) s g)
     served_free m g = put_free (at m) s p ((with_served g a).process) g.process lives refl refl
 
     absent_spends : (m : ℕ) → is_resident p a.access page ≡ false → is_dry (at m) (0 + need) ≡ false
-        → free (serves_it (at m) (unless_dry (around (at m) s) a.access page (begun (at m) p) need false)).world + need ≡ free (at m)
+        → free (serves_it (at m) (unless_dry (environment_of (at m) s) a.access page (initial_progress (at m) p) need false)).world + need ≡ free (at m)
     unfolding resident_at
     absent_spends m absent wet =
-        let a_m = around (at m) s in
-        let g = begun (at m) p in
+        let a_m = environment_of (at m) s in
+        let g = initial_progress (at m) p in
         let done : resident_at a_m a.access page g ≡ Ok made = ap (unless_resident a_m a.access page g) absent ∙ ap (unless_dry a_m a.access page g need) wet in
         let spends = service_spends (at m) s page p a.access made (new_at m) lives absent done in
         let same = served_free m made in
         omega (arith, spends, same)
 
-    absent_takes : is_resident p a.access page ≡ false → Each (λ u. serves_it u (unless_resident (around u s) a.access page (begun u p) false))
+    absent_takes : is_resident p a.access page ≡ false → Each (λ u. serves_it u (unless_resident (environment_of u s) a.access page (initial_progress u p) false))
     unfolding InEach
     absent_takes absent = (
       need,
-      λ m. spends_need (at m) need (λ b. serves_it (at m) (unless_dry (around (at m) s) a.access page (begun (at m) p) need b)) (is_dry (at m) (0 + need)) (ap (is_dry (at m)) (omega arith)) refl refl
+      λ m. spends_need (at m) need (λ b. serves_it (at m) (unless_dry (environment_of (at m) s) a.access page (initial_progress (at m) p) need b)) (is_dry (at m) (0 + need)) (ap (is_dry (at m)) (omega arith)) refl refl
           (λ wet. absent_spends m absent (ap (is_dry (at m)) (omega arith) ∙ wet)),
     )
 
-    resident_takes : (b : Bool) → is_resident p a.access page ≡ b → Each (λ u. serves_it u (unless_resident (around u s) a.access page (begun u p) b))
+    resident_takes : (b : Bool) → is_resident p a.access page ≡ b → Each (λ u. serves_it u (unless_resident (environment_of u s) a.access page (initial_progress u p) b))
     unfolding InEach
-    resident_takes true e = (0, λ m. spends_none (at m) (serves_it (at m) (Ok (begun (at m) p))) refl (let same = same_free (at m) s p ((with_served (begun (at m) p) a).process) lives refl refl in omega (arith, same)))
+    resident_takes true e = (0, λ m. spends_none (at m) (serves_it (at m) (Ok (initial_progress (at m) p))) refl (let same = same_free (at m) s p ((with_served (initial_progress (at m) p) a).process) lives refl refl in omega (arith, same)))
     resident_takes false e = absent_takes e
 
-    page_takes : Each (λ u. serves_it u (resident_at (around u s) a.access page (begun u p)))
+    page_takes : Each (λ u. serves_it u (resident_at (environment_of u s) a.access page (initial_progress u p)))
     unfolding InEach resident_at
     page_takes = resident_takes (is_resident p a.access page) refl
 
-    rule_takes : (o : Option Rule) → first_rule p.scheme (regions p) a.access a.address a.width ≡ o → Each (λ u. serves_it u (reached (around u s) a.access a.address (begun u p) o))
+    rule_takes : (o : Option Rule) → first_rule p.scheme (regions p) a.access a.address a.width ≡ o → Each (λ u. serves_it u (resident_at_address (environment_of u s) a.access a.address (initial_progress u p) o))
     unfolding InEach
     rule_takes None e = page_takes
     rule_takes (Some r) e = (0, λ m. spends_none (at m) (ended (at m) h hart s p (Ended r)) (quiet_rule p a.access a.address a.width r e) (frees (at m) s p lives))

@@ -1,10 +1,11 @@
--- The pages of an accepted image rise, so no two are the same.
+-- Lemma: the page numbers of an accepted image, its segments' pages and then guard and stack, ascend, each above the one
+-- before it (`Rises`); so no two are the same.
 use Rattle.std.proofs.Common.{◌≡◌, ℕ, zero, suc, ◌+◌, ◌≤◌, arith, append_assoc, List, [], ◌∷◌, ◌++◌}
 use Rattle.std.specs.Prelude.{Ok, flat_map}
 use Rattle.sv39_entry.specs.declared.scheme.Scheme.{Scheme}
 use Rattle.process_model.specs.Bytes.{pages_for}
 use Rattle.process_model.specs.Images.{LoadSegment, end_page, end_of_loads, image_loads}
-use Rattle.process_model.specs.Loading.{page_run, load_pages, image_pages}
+use Rattle.process_model.specs.ImageProcess.{page_run, load_pages, image_pages}
 use Rattle.process_model.specs.Order.{InRow}
 use Rattle.process_laws.proofs.ImageOrder.{accepted_is_placed}
 use Rattle.sv39_entry.specs.Address.{page_of}

@@ -1,11 +1,12 @@
--- The first rule that denies an access is the only one before which none does.
+-- Lemmas: `first_rule` gives a rule if and only if that rule denies the access and none with a smaller number does
+-- (`IsFirst`); if it gives none, no rule denies the access.
 use Rattle.std.proofs.Common.{◌≡◌, ℕ, ◌<◌, Option, None, Some, List, refl, sym, ap, ◌∙◌, arith}
 use Rattle.std.proofs.lemmas.Grind.{common_steps}
 use Rattle.std.specs.Prelude.{◌==◌, if◌then◌else◌}
 use Rattle.sv39_entry.specs.declared.scheme.Scheme.{Scheme}
 use Rattle.sv39_entry.specs.declared.scheme.Scheme.TheVariants.{Sv39, Sv48}
 use Rattle.process_model.specs.Regions.{Region, first_rule}
-use Rattle.process_laws.specs.Denied.{Denies, IsFirst}
+use Rattle.process_laws.specs.RuleDenials.{Denies, IsFirst}
 use Rattle.sv39_entry.specs.RuleText.{rule_number}
 use Rattle.sv39_entry.specs.declared.access.Access.{Access}
 use Rattle.sv39_entry.specs.declared.rule.Rule.{Rule}

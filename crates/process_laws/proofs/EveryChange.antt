@@ -1,17 +1,18 @@
--- What every step keeps: a property of processes that each kind of change of a process keeps. The property may speak of the
--- counter, above which no copy number was given.
+-- Lemmas: a property of processes that each kind of change keeps (`IsKept`: a page settled, taken over or written; heap,
+-- mappings, fork, image, ..) holds of every process in every run since boot (`always_holds`). It may speak of the world's
+-- counter, which is above every copy number (names one copy of a page in memory) that was given.
 use Rattle.std.proofs.Common.{◌≡◌, ◌≢◌, ℕ, zero, suc, ℤ, Bool, true, false, cond, ◌+◌, ◌%◌, ◌≤◌, ◌⊎◌, inl, inr, refl, sym, ap, subst, ◌∙◌, arith, List, [], ◌∷◌, ◌++◌, Option, None, Some, length}
 use Rattle.std.proofs.lemmas.Bool.{eqb-true, true≢false}
 use Rattle.std.proofs.lemmas.Bool.Decides.{nat_tests}
 use Rattle.std.proofs.lemmas.Grind.{common_steps}
 use Rattle.std.specs.Prelude.{◌/◌, ◌^◌, unwrap_or, is_none, nat_abs, slice_get, slice_set, fold, zip, replicate, Result, Ok, Err}
 use Rattle.std.proofs.lemmas.Option.{same_Some}
-use Rattle.process_laws.specs.Apart.{EachProcess}
+use Rattle.process_laws.specs.DisjointRegions.{EachProcess}
 use Rattle.process_laws.proofs.StepReplies.{step_suits}
 use Rattle.sv39_entry.specs.declared.scheme.Scheme.{Scheme}
 use Rattle.process_model.specs.Bytes.{pages_for, is_width, low_bytes, write_bytes, numbers_from}
 use Rattle.process_model.specs.Files.{File}
-use Rattle.process_model.specs.Granted.{map_granted}
+use Rattle.process_model.specs.GrantLaws.{map_granted}
 use Rattle.process_model.specs.PageMap.{get}
 use Rattle.process_model.specs.Regions.{Region, copy_rule, first_rule, fault_cause, is_aligned}
 use Rattle.process_model.specs.Process.{Process, Page, Pending, regions, without_pending}
@@ -19,11 +20,11 @@ use Rattle.process_model.specs.Residence.{settled_anew, taken_over, taken_over_u
 use Rattle.process_model.specs.Heap.{without_pages, size_refusal, resized, resized_unless, wanted_size, sbrk_result}
 use Rattle.process_model.specs.Mappings.{mapping_place, map_refusal, mapping_of, with_mapping, Mapped, mapped_unless, mapped, mapping_around, leaves_hole, front_of, back_of, with_instead, Unmapped, unmapped_unless, unmapped_in, unmapped_if, unmapped}
 use Rattle.process_model.specs.Images.{LoadSegment, image_loads}
-use Rattle.process_model.specs.Loading.{image_pages, process_of}
+use Rattle.process_model.specs.ImageProcess.{image_pages, process_of}
 use Rattle.process_model.specs.Harts.{Hart}
 use Rattle.process_model.specs.World.{World, Outcome, flat, process_in, with_process, booted, common_refusal, unless_refused, on_hart_at, on_hart, with_process_of, with_slot_of, with_its_process, kernel_call, can_call, always}
-use Rattle.process_model.specs.Around.{Around, Progress, unless_dry, unless_resident, resident_at, reached}
-use Rattle.process_model.specs.Service.{Answer, Asked, access_step, around, begun, faulted, if_resident, if_settled, told_if, unless_denied, user_access, ended, served_or_ended, served, with_progress, with_served}
+use Rattle.process_model.specs.Environment.{Environment, Progress, unless_dry, unless_resident, resident_at, resident_at_address}
+use Rattle.process_model.specs.Service.{Answer, AccessRequest, access_step, environment_of, initial_progress, faulted, if_resident, if_settled, access_outcome_if, unless_denied, user_access, ended, served_or_ended, served, with_progress, with_served}
 use Rattle.process_model.specs.Copies.{Copied, copy_begun, with_byte_on, one_in, next_in, one_out, next_out, copied_in, copied_out}
 use Rattle.process_model.specs.Calls.{with_image, started_unless, started_as, started, replaced_unless, replaced, forked_unless, forked, resized_to, mapped_to, unmapped_to}
 use Rattle.process_model.specs.Stale.{with_stale_slots}
@@ -208,12 +209,12 @@ module _ (P : ℕ → Process → Type 0) where
 
       module _ (files : List File) (u : Unmapped) (first end : ℕ) (le : first ≤ end) where
         hole_kept : (m : Region) (b : Bool) → mapping_around p.mappings first end ≡ Some m → leaves_hole m first end ≡ b → unmapped_unless files p m first end b ≡ Ok u → P n u.process
-        hole_kept m true around is e = cc
-        hole_kept m false around is e = subst (λ (v : Unmapped). P n v.process) (same_Ok _ u e) (k.unmapping n p m first end le around is f)
+        hole_kept m true environment_of is e = cc
+        hole_kept m false environment_of is e = subst (λ (v : Unmapped). P n v.process) (same_Ok _ u e) (k.unmapping n p m first end le environment_of is f)
 
         around_kept : (o : Option Region) → mapping_around p.mappings first end ≡ o → unmapped_in files p first end o ≡ Ok u → P n u.process
-        around_kept None around e = cc
-        around_kept (Some m) around e = hole_kept m _ around refl e
+        around_kept None environment_of e = cc
+        around_kept (Some m) environment_of e = hole_kept m _ environment_of refl e
 
         unmapped_kept : (b : Bool) → unmapped_if files p first end b ≡ Ok u → P n u.process
         unmapped_kept false e = cc
@@ -224,7 +225,7 @@ module _ (P : ℕ → Process → Type 0) where
       munmap_kept files address len u e = unmapped_kept files u (page_of address) (page_of address + pages_for len) (omega arith) _ e
 
     -- pages of a process are made resident
-    module _ (a : Around) (n : ℕ) (g : Progress) (h : Goes n g) where
+    module _ (a : Environment) (n : ℕ) (g : Progress) (h : Goes n g) where
       dry_goes : (access : Access) (address need : ℕ) (dry : Bool) → copy_rule g.process.scheme (regions g.process) access address ≡ None → GoesIfOk n (unless_dry a access (page_of address) g need dry)
       dry_goes access address need true granted = stopped
       dry_goes access address need false granted = went (record { keeps = resident_kept g.fresh a.files _ g.process h.keeps access address _ refl granted; rises = let r = h.rises in omega (r, arith) })
@@ -238,7 +239,7 @@ module _ (P : ℕ → Process → Type 0) where
       at_goes access address granted = unless_goes access address _ granted
 
       -- what no rule denies is made resident
-      pub reached_goes : (access : Access) (address : ℕ) (r : Option Rule) → (r ≡ None → copy_rule g.process.scheme (regions g.process) access address ≡ None) → GoesIfOk n (reached a access address g r)
+      pub reached_goes : (access : Access) (address : ℕ) (r : Option Rule) → (r ≡ None → copy_rule g.process.scheme (regions g.process) access address ≡ None) → GoesIfOk n (resident_at_address a access address g r)
       reached_goes access address (Some r) granted = stopped
       reached_goes access address None granted = at_goes access address (granted refl)
 
@@ -251,7 +252,7 @@ module _ (P : ℕ → Process → Type 0) where
       }
 
     -- copies
-    module _ (a : Around) (n : ℕ) where
+    module _ (a : Environment) (n : ℕ) where
       one_in_goes : (c : Copied) (address : ℕ) (r : Result Progress Rule) → Goes n c.progress → GoesIfOk n r → Goes n (one_in c address r).progress
       one_in_goes c address (Err b) h stopped = h
       one_in_goes c address (Ok g) h (went i) = i
@@ -282,7 +283,7 @@ module _ (P : ℕ → Process → Type 0) where
       copied_out_goes g address bytes h = fold_goes (λ c x. next_out a c x c.stop) (zip (numbers_from address (length bytes)) bytes) (copy_begun g) (λ c x i. next_out_goes c x _ i) h
 
     -- accesses of the user
-    module _ (n : ℕ) (a : Asked) (p : Process) (f : P n p) where
+    module _ (n : ℕ) (a : AccessRequest) (p : Process) (f : P n p) where
       faulted_kept : (cause : ℕ) → P n (faulted p a cause).process
       faulted_kept cause = k.awaiting n p _ f
 
@@ -309,7 +310,7 @@ module _ (P : ℕ → Process → Type 0) where
       user_kept e = denied_kept _ (λ g. aligned_fits a.address a.width e (granted p.scheme (regions p) a.access a.address a.width g).0)
 
     module _ (w : World) (same : w.scheme ≡ scheme) (h : Holds w) where
-      told_holds : (number : ℕ) (hart : Hart) (s : ℕ) (x : Answer) (b : Bool) → P w.counter x.process → Holds (told_if w number hart s x b).world
+      told_holds : (number : ℕ) (hart : Hart) (s : ℕ) (x : Answer) (b : Bool) → P w.counter x.process → Holds (access_outcome_if w number hart s x b).world
       told_holds number hart s x true f = put_holds w _ s x.process refl (omega arith) f h
       told_holds number hart s x false f = with_holds w s x.process f h
 
@@ -409,13 +410,13 @@ module _ (P : ℕ → Process → Type 0) where
       served_or_ended_holds number hart s p a (Err r) stopped = ended_holds number hart s p (Ended r)
       served_or_ended_holds number hart s p a (Ok g) (went i) = progress_holds s (with_served g a) (record { keeps = k.awaiting g.fresh g.process _ i.keeps; rises = i.rises })
 
-      begun_goes : (p : Process) → P w.counter p → Goes w.counter (begun w p)
+      begun_goes : (p : Process) → P w.counter p → Goes w.counter (initial_progress w p)
       begun_goes p f = record { keeps = f; rises = omega arith }
 
       served_holds : (number : ℕ) (hart : Hart) (s : ℕ) (p : Process) (o : Option Pending) → P w.counter p → Holds (served w number hart s p o).world
       served_holds number hart s p None f = h
       served_holds number hart s p (Some a) f =
-          served_or_ended_holds number hart s p a _ (reached_goes (around w s) w.counter (begun w p) (begun_goes p f) a.access a.address _ (λ e. (granted p.scheme (regions p) a.access a.address a.width e).1))
+          served_or_ended_holds number hart s p a _ (reached_goes (environment_of w s) w.counter (initial_progress w p) (begun_goes p f) a.access a.address _ (λ e. (granted p.scheme (regions p) a.access a.address a.width e).1))
 
     -- what the step itself changes
     plain_holds : (w : World) → w.scheme ≡ scheme → Holds w → (s : Step) → Holds (plain_step w s).world
@@ -435,8 +436,8 @@ module _ (P : ℕ → Process → Type 0) where
     plain_holds w same h (Sbrk n delta) = kernel_holds w same h n _ _ (λ hart s p f. resized_holds w same h s p f delta _ refl)
     plain_holds w same h (Mmap n len protection flags file) = kernel_holds w same h n _ _ (λ hart s p f. mapped_holds w same h s p f len protection flags file _ refl)
     plain_holds w same h (Munmap n address len) = kernel_holds w same h n _ _ (λ hart s p f. unmapped_holds w same h s p f address len _ refl)
-    plain_holds w same h (CopyIn n address count) = kernel_holds w same h n _ _ (λ hart s p f. progress_holds w same h s _ (copied_in_goes (around w s) w.counter (begun w (without_pending p)) address count (begun_goes w same h (without_pending p) (k.awaiting w.counter p None f))))
-    plain_holds w same h (CopyOut n address bytes) = kernel_holds w same h n _ _ (λ hart s p f. progress_holds w same h s _ (copied_out_goes (around w s) w.counter (begun w (without_pending p)) address bytes.now (begun_goes w same h (without_pending p) (k.awaiting w.counter p None f))))
+    plain_holds w same h (CopyIn n address count) = kernel_holds w same h n _ _ (λ hart s p f. progress_holds w same h s _ (copied_in_goes (environment_of w s) w.counter (initial_progress w (without_pending p)) address count (begun_goes w same h (without_pending p) (k.awaiting w.counter p None f))))
+    plain_holds w same h (CopyOut n address bytes) = kernel_holds w same h n _ _ (λ hart s p f. progress_holds w same h s _ (copied_out_goes (environment_of w s) w.counter (initial_progress w (without_pending p)) address bytes.now (begun_goes w same h (without_pending p) (k.awaiting w.counter p None f))))
     plain_holds w same h (Exit n status) = kernel_holds w same h n _ _ (λ hart s p f. ended_holds w same h n hart s p (Exited status))
 
     marks_hold : (policy : Policy) (w : World) (o : Outcome) → Holds o.world → Holds (with_stale_slots policy w o).world

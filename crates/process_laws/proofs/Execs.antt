@@ -1,10 +1,11 @@
--- Frames that exec asks for: those of a start of the image, but for the trapframe, which stays.
+-- Lemma: an exec needs one number of frames, whatever the size of the memory: it says NoFrame if and only if fewer are free.
+-- If it is done, a start of the same image needs one more, as an exec keeps the process's trapframe.
 use Rattle.std.proofs.Common.{◌≡◌, ℕ, Bool, true, false, ◌+◌, refl, sym, ap, ◌∙◌, arith, Some, List}
 use Rattle.std.specs.Prelude.{nat_lt, Result, Ok, Err}
 use Rattle.process_laws.proofs.Counting.{none_less}
 use Rattle.process_laws.proofs.Memories.{each_call, InEach}
 use Rattle.process_laws.proofs.Running.{step_reply}
-use Rattle.process_laws.specs.Words.{in_memory, tells_no_frame}
+use Rattle.process_laws.specs.Words.{in_memory, is_no_frame_reply}
 use Rattle.sv39_entry.specs.declared.scheme.Scheme.{Scheme}
 use Rattle.process_model.specs.Calls.{replaced, replaced_unless, started, started_unless}
 use Rattle.process_model.specs.Frames.{exec_need, start_need}
@@ -25,9 +26,9 @@ use Rattle.process_model.specs.declared.step.Step.TheVariants.{Exec, Start}
 
 -- what a start of the image is told, where it needs one frame more than n
 abbrev pub SameAsStart : Scheme → Image → ℕ → Type 0
-SameAsStart z image n = (u : World) (t : ℕ) → u.scheme ≡ z → free_slot u ≡ Some t → tells_no_frame (step u (Start image)).reply ≡ nat_lt (free u) (n + 1)
+SameAsStart z image n = (u : World) (t : ℕ) → u.scheme ≡ z → free_slot u ≡ Some t → is_no_frame_reply (step u (Start image)).reply ≡ nat_lt (free u) (n + 1)
 
-start_says : (u : World) (t : ℕ) (ls : List LoadSegment) (b : Bool) → tells_no_frame (started_unless u t ls b).reply ≡ b
+start_says : (u : World) (t : ℕ) (ls : List LoadSegment) (b : Bool) → is_no_frame_reply (started_unless u t ls b).reply ≡ b
 start_says u t ls true = refl
 start_says u t ls false = refl
 
@@ -36,16 +37,16 @@ same_start z image ls e u t alike to =
     let loads : image_loads u.scheme image ≡ Ok ls = ap (λ y. image_loads y image) alike ∙ e in
     let is : plain_step u (Start image) ≡ started_unless u t ls (is_dry u (start_need u.scheme ls)) = ap (λ r. started u r (free_slot u)) loads ∙ ap (started u (Ok ls)) to in
     let one : start_need u.scheme ls ≡ exec_need z ls + 1 = ap (λ y. start_need y ls) alike ∙ omega arith in
-    ap tells_no_frame (step_reply u (Start image) ∙ ap (λ (o : Outcome). o.reply) is) ∙ start_says u t ls _ ∙ ap (nat_lt (free u)) one
+    ap is_no_frame_reply (step_reply u (Start image) ∙ ap (λ (o : Outcome). o.reply) is) ∙ start_says u t ls _ ∙ ap (nat_lt (free u)) one
 
 module _ (w : World) (image : Image) where
   abbrev at : ℕ → World
   at m = in_memory w m
 
   abbrev Asks : World → Outcome → ℕ → Type 0
-  Asks v o n = (tells_no_frame o.reply ≡ nat_lt (free v) n) × (o.reply ≡ Done → SameAsStart w.scheme image n)
+  Asks v o n = (is_no_frame_reply o.reply ≡ nat_lt (free v) n) × (o.reply ≡ Done → SameAsStart w.scheme image n)
 
-  refused_asks : (m : ℕ) (r : Refusal) → tells_no_frame (Refused r) ≡ false → Asks (at m) (refuses (at m) r) 0
+  refused_asks : (m : ℕ) (r : Refusal) → is_no_frame_reply (Refused r) ≡ false → Asks (at m) (refuses (at m) r) 0
   refused_asks m r quiet = (quiet ∙ sym (none_less (free (at m))), λ done. absurd cc)
 
   marks_ask : (policy : Policy) (v : World) (o : Outcome) (n : ℕ) → Asks v o n → Asks v (with_stale_slots policy v o) n
@@ -61,7 +62,7 @@ module _ (w : World) (image : Image) where
   exec_asks s p (Err b) e = (0, λ m. refused_asks m (refusal.BadImage b) refl)
   exec_asks s p (Ok ls) e = (exec_need w.scheme ls, λ m. exec_unless s p ls (at m) e (is_dry (at m) (exec_need w.scheme ls)) refl)
 
-  pub execs : (h : ℕ) → (n : ℕ) × ((m : ℕ) → (tells_no_frame (step (at m) (Exec h image)).reply ≡ nat_lt (free (at m)) n) × ((step (at m) (Exec h image)).reply ≡ Done → SameAsStart w.scheme image n))
+  pub execs : (h : ℕ) → (n : ℕ) × ((m : ℕ) → (is_no_frame_reply (step (at m) (Exec h image)).reply ≡ nat_lt (free (at m)) n) × ((step (at m) (Exec h image)).reply ≡ Done → SameAsStart w.scheme image n))
   unfolding InEach step
   execs h =
       let t = each_call Asks w refused_asks h true (λ u hart s p. replaced u s p (image_loads w.scheme image)) (λ hart s p e. exec_asks s p (image_loads w.scheme image) refl) in

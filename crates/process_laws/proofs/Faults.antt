@@ -1,4 +1,6 @@
--- Accesses of the user that fault.
+-- Lemma: a user access that is made (not refused) but not granted, or whose page is not resident (in memory and ready for
+-- it), faults with its own cause, and leaves the process waiting for service and its hart at the first instruction of kernel
+-- entry.
 use Rattle.std.proofs.Common.{◌≡◌, ℕ, Bool, true, false, cond, ◌%◌, refl, sym, ap, subst, ◌∙◌, Option, None, Some}
 use Rattle.std.proofs.lemmas.Bool.{eq-eqb, eqb-true}
 use Rattle.std.proofs.lemmas.Option.{same_Some}
@@ -8,13 +10,13 @@ use Rattle.process_laws.proofs.Granting.{granted_by}
 use Rattle.process_laws.proofs.OnHarts.{asks}
 use Rattle.process_laws.proofs.Running.{has_it, set_lives, step_process, step_reply, was_made}
 use Rattle.process_laws.proofs.Users.{user_ran}
-use Rattle.process_laws.specs.Words.{Asked, Asks, cause, IsResident, IsGranted, IsIn, IsMade, IsOn, waiting}
+use Rattle.process_laws.specs.Words.{UserAccess, IsAccessStep, cause, IsResident, IsGranted, IsInPhase, IsMade, IsOnHart, with_pending_access}
 use Rattle.process_model.specs.Harts.{Hart}
 use Rattle.process_model.specs.PageMap.{get}
 use Rattle.process_model.specs.Process.{Page, Process, regions}
 use Rattle.process_model.specs.Regions.{copy_rule, fault_cause, first_rule, is_aligned}
-use Rattle.process_model.specs.Residence.{goes_through, is_resident, is_resident_page, region_on}
-use Rattle.process_model.specs.Service.{access_step, faulted, if_resident, if_settled, told, unless_denied, user_access}
+use Rattle.process_model.specs.Residence.{can_complete, is_resident, is_resident_page, region_on}
+use Rattle.process_model.specs.Service.{access_step, faulted, if_resident, if_settled, access_outcome, unless_denied, user_access}
 use Rattle.process_model.specs.Service as service
 use Rattle.process_model.specs.Steps.{plain_step, step}
 use Rattle.process_model.specs.World.{Outcome, process_in, with_process, World}
@@ -45,10 +47,10 @@ abbrev cause_if : Access → Bool → ℕ
 cause_if kind b = cond b (page_fault_cause kind) (misaligned_cause kind)
 
 module _ (p : Process) (kind : Access) (address width value : ℕ) where
-  abbrev what : Asked
+  abbrev what : UserAccess
   what = record { access = kind; address = address; width = width }
 
-  abbrev it : service.Asked
+  abbrev it : service.AccessRequest
   it = asks kind address width value
 
   denied_cause : (r : Rule) → first_rule p.scheme (regions p) kind address width ≡ Some r → fault_cause kind r ≡ cause what
@@ -71,7 +73,7 @@ module _ (p : Process) (kind : Access) (address width value : ℕ) where
 
   faults_settled : (o : Option Page) → is_resident_page kind (region_on p (page_of address)) o ≡ false → if_settled p it o ≡ faulted p it (page_fault_cause kind)
   faults_settled None e = refl
-  faults_settled (Some page) e = faults_resident page (goes_through kind (region_on p (page_of address)) page) e
+  faults_settled (Some page) e = faults_resident page (can_complete kind (region_on p (page_of address)) page) e
 
   module _ (not : IsGranted p what → IsResident p what → ⊥) where
     absent : IsGranted p what → (b : Bool) → is_resident p kind (page_of address) ≡ b → b ≡ false
@@ -89,28 +91,28 @@ module _ (p : Process) (kind : Access) (address width value : ℕ) where
 
 -- what the world is then
 
-abbrev Faulted : World → ℕ → ℕ → Process → Asked → Step → Type 0
-Faulted w h s p a x = ((step w x).reply ≡ Fault (cause a)) × IsOn (step w x).world h s (waiting p a) × IsIn (step w x).world h Enter0
+abbrev Faulted : World → ℕ → ℕ → Process → UserAccess → Step → Type 0
+Faulted w h s p a x = ((step w x).reply ≡ Fault (cause a)) × IsOnHart (step w x).world h s (with_pending_access p a) × IsInPhase (step w x).world h Enter0
 
-module _ (w : World) (h s : ℕ) (p : Process) (on : IsOn w h s p) (x : Step) where
+module _ (w : World) (h s : ℕ) (p : Process) (on : IsOnHart w h s p) (x : Step) where
   faults_as : (kind : Access) (address width value : ℕ) (via : Option ℕ) → plain_step w x ≡ access_step w h kind address width value via → IsMade (plain_step w x).reply
-      → let a : Asked = record { access = kind; address = address; width = width } in (IsGranted p a → IsResident p a → ⊥) → Faulted w h s p a x
+      → let a : UserAccess = record { access = kind; address = address; width = width } in (IsGranted p a → IsResident p a → ⊥) → Faulted w h s p a x
   faults_as kind address width value via same made not =
-      let a : Asked = record { access = kind; address = address; width = width } in
+      let a : UserAccess = record { access = kind; address = address; width = width } in
       let r = user_ran w h s p kind address width value via on (subst (λ (o : Outcome). IsMade o.reply) same made) in
       let hart : Hart = record r.hart { phase = Enter0 } in
-      let v : World = with_process w s (waiting p a) in
-      let is : plain_step w x ≡ told w h r.hart s (faulted p (asks kind address width value) (cause a)) = same ∙ r.is ∙ ap (told w h r.hart s) (faults_user p kind address width value not) in
-      let at : At (told w h r.hart s (faulted p (asks kind address width value) (cause a))).world h hart.slot Enter0 = put_at v h r.hart hart r.there in
+      let v : World = with_process w s (with_pending_access p a) in
+      let is : plain_step w x ≡ access_outcome w h r.hart s (faulted p (asks kind address width value) (cause a)) = same ∙ r.is ∙ ap (access_outcome w h r.hart s) (faults_user p kind address width value not) in
+      let at : At (access_outcome w h r.hart s (faulted p (asks kind address width value) (cause a))).world h hart.slot Enter0 = put_at v h r.hart hart r.there in
       let there = step_at w x h hart.slot Enter0 (subst (λ (o : Outcome). At o.world h hart.slot Enter0) (sym is) at) in
-      let lives : process_in (step w x).world s ≡ Some (waiting p a) = step_process w x s ∙ ap (λ (o : Outcome). process_in o.world s) is ∙ set_lives w.slots s p (waiting p a) on.lives in
+      let lives : process_in (step w x).world s ≡ Some (with_pending_access p a) = step_process w x s ∙ ap (λ (o : Outcome). process_in o.world s) is ∙ set_lives w.slots s p (with_pending_access p a) on.lives in
       (step_reply w x ∙ ap (λ (o : Outcome). o.reply) is, record { there = there.on ∙ has_it w h s r.hart on.there r.there; lives = lives }, there.is_in)
 
-faults_plain : (w : World) (h s : ℕ) (p : Process) (a : Asked) (via : Option ℕ) (x : Step) → IsOn w h s p → Asks h via a x → IsMade (plain_step w x).reply → (IsGranted p a → IsResident p a → ⊥) → Faulted w h s p a x
-faults_plain w h s p a via x on (Asks.fetch {address}) made not = faults_as w h s p on x access.Fetch address 4 0 via refl made not
-faults_plain w h s p a via x on (Asks.load {address} {width}) made not = faults_as w h s p on x access.Load address width 0 via refl made not
-faults_plain w h s p a via x on (Asks.store {address} {width} {value}) made not = faults_as w h s p on x access.Store address width value via refl made not
+faults_plain : (w : World) (h s : ℕ) (p : Process) (a : UserAccess) (via : Option ℕ) (x : Step) → IsOnHart w h s p → IsAccessStep h via a x → IsMade (plain_step w x).reply → (IsGranted p a → IsResident p a → ⊥) → Faulted w h s p a x
+faults_plain w h s p a via x on (IsAccessStep.fetch {address}) made not = faults_as w h s p on x access.Fetch address 4 0 via refl made not
+faults_plain w h s p a via x on (IsAccessStep.load {address} {width}) made not = faults_as w h s p on x access.Load address width 0 via refl made not
+faults_plain w h s p a via x on (IsAccessStep.store {address} {width} {value}) made not = faults_as w h s p on x access.Store address width value via refl made not
 
-pub faults : (w : World) (h s : ℕ) (p : Process) (a : Asked) (via : Option ℕ) (x : Step) → IsOn w h s p → Asks h via a x → IsMade (step w x).reply → (IsGranted p a → IsResident p a → ⊥)
-    → ((step w x).reply ≡ Fault (cause a)) × IsOn (step w x).world h s (waiting p a) × IsIn (step w x).world h Enter0
+pub faults : (w : World) (h s : ℕ) (p : Process) (a : UserAccess) (via : Option ℕ) (x : Step) → IsOnHart w h s p → IsAccessStep h via a x → IsMade (step w x).reply → (IsGranted p a → IsResident p a → ⊥)
+    → ((step w x).reply ≡ Fault (cause a)) × IsOnHart (step w x).world h s (with_pending_access p a) × IsInPhase (step w x).world h Enter0
 faults w h s p a via x on asked made not = faults_plain w h s p a via x on asked (was_made w x made) not

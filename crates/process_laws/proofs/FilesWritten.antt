@@ -1,4 +1,6 @@
--- What a process writes back: bytes that it stored to shared mappings, each to its place in the file, and no others.
+-- Lemmas about write-back, of a run of pages of a mapping and of all mappings: each byte of a file stays or becomes one that
+-- the process has at that place, on a page with the stored mark (D) of a writable shared mapping; no file changes its
+-- length, or whether it may be written (`Written`).
 use Rattle.std.proofs.Common.{◌≡◌, ◌⊎◌, ℕ, zero, suc, true, false, cond, ◌&&◌, ◌+◌, ◌-◌, ◌*◌, ◌%◌, ◌<◌, ◌≤◌, inl, inr, refl, sym, ap, subst, ◌∙◌, arith, List, [], ◌∷◌, ◌++◌, Option, None, Some, length, take, drop}
 use Rattle.std.specs.Prelude.{T, fold, nat_le, nat_lt, slice_get, slice_set}
 use Rattle.std.specs.Ordering.{nat_cmp}
@@ -17,7 +19,7 @@ use Rattle.process_laws.proofs.WrittenBack.{below_stays, length_stays, over_is, 
 use Rattle.process_laws.specs.FilePlaces.{file_bytes}
 use Rattle.process_laws.specs.Latest.{byte_at, page_byte}
 use Rattle.process_laws.specs.Pages.{grant, grant_in, has_mark, has_stored_mark, pages_on}
-use Rattle.process_laws.specs.Words.{goes_back, Written, WroteBack}
+use Rattle.process_laws.specs.Words.{is_page_written_back, Written, WroteBack}
 use Rattle.process_model.specs.declared.step.Step.{Step}
 use Rattle.process_model.specs.Bytes.{pages_for, write_bytes}
 use Rattle.process_model.specs.Files.{bytes_of, File, is_writable, with_file_at, with_page_written, written_over}
@@ -88,7 +90,7 @@ written_on x p one two three f g = record {
 
 module _ (x : Step) (p : Process) (sized : AllSized p.settled) where
   -- one page
-  module _ (m : Region) (e : ℕ × Page) (there : get p.settled e.0 ≡ Some e.1) (grants : grant p e.0 ≡ grant_in (Some m) e.0) (due : is_written_back m e.1 ≡ true) (goes : goes_back x e.0 ≡ true) where
+  module _ (m : Region) (e : ℕ × Page) (there : get p.settled e.0 ≡ Some e.1) (grants : grant p e.0 ≡ grant_in (Some m) e.0) (due : is_written_back m e.1 ≡ true) (goes : is_page_written_back x e.0 ≡ true) where
     size : length (e.1).bytes ≡ 4096
     size = sized.size e.0 (e.1).bytes (ap bytes_on there)
 
@@ -107,7 +109,7 @@ module _ (x : Step) (p : Process) (sized : AllSized p.settled) where
           offset = offset + 4096 * (e.0 - m.first);
           of_file = ap (λ s. pages_on s (e.0 - m.first)) source;
           place = ap (λ k. offset + 4096 * (e.0 - m.first) + k) place;
-          goes = ap (goes_back x) page ∙ goes;
+          goes = ap (is_page_written_back x) page ∙ goes;
           stored = ap (has_stored_mark p) page ∙ ap (has_mark (λ x. x.stored_mark)) there ∙ both.1;
           byte = ap (λ k. page_byte (get p.settled k) ((4096 * e.0 + i) % 4096)) page ∙ ap (λ k. page_byte (get p.settled e.0) k) place ∙ ap (λ o. page_byte o i) there ∙ ap Some is;
         }
@@ -157,7 +159,7 @@ module _ (x : Step) (p : Process) (sized : AllSized p.settled) where
     source_written files (file n offset) is = over_written files n offset is
 
   -- all pages of a run
-  module _ (m : Region) (from end : ℕ) (grants : (page : ℕ) → from ≤ page → page < end → grant p page ≡ grant_in (Some m) page) (go : (page : ℕ) → from ≤ page → page < end → goes_back x page ≡ true) where
+  module _ (m : Region) (from end : ℕ) (grants : (page : ℕ) → from ≤ page → page < end → grant p page ≡ grant_in (Some m) page) (go : (page : ℕ) → from ≤ page → page < end → is_page_written_back x page ≡ true) where
     one_written : (files : List File) (e : ℕ × Page) → get p.settled e.0 ≡ Some e.1 → Written x p files (with_written m from end files e)
     one_written files e there = elim (nat_le from e.0 && nat_lt e.0 end && is_written_back m e.1) as (λ b. (nat_le from e.0 && nat_lt e.0 end && is_written_back m e.1) ≡ b
         → Written x p files (cond b (page_written m.source files (4096 * (e.0 - m.first)) (e.1).bytes) files)) [
@@ -182,7 +184,7 @@ module _ (x : Step) (p : Process) (sized : AllSized p.settled) where
 
   -- and of all mappings
   module _ (order : IsInOrder p) where
-    mappings_written : ((page : ℕ) → goes_back x page ≡ true) → (low high : ℕ) (ms : List Region) (files : List File) → pages_for p.size ≤ low → Row 1 low ms high → ((page : ℕ) → low ≤ page → Found p.mappings page ≡ Found ms page) → Written x p files (fold (mapping_written_back p) files ms)
+    mappings_written : ((page : ℕ) → is_page_written_back x page ≡ true) → (low high : ℕ) (ms : List Region) (files : List File) → pages_for p.size ≤ low → Row 1 low ms high → ((page : ℕ) → low ≤ page → Found p.mappings page ≡ Found ms page) → Written x p files (fold (mapping_written_back p) files ms)
     mappings_written all low high [] files base row sub = none_written x p files
     mappings_written all low high (m ∷ ms) files base row sub =
         let start = row.0 in
@@ -193,7 +195,7 @@ module _ (x : Step) (p : Process) (sized : AllSized p.settled) where
         (mappings_written all (end_of m) high ms (mapping_written_back p files m) (omega (arith, base, start, some)) row.2
         (λ page from. sub page (omega (arith, start, some, from)) ∙ skipped m ms page (grind (arith, nat_tests, from))))
 
-    pub end_written : ((page : ℕ) → goes_back x page ≡ true) → (files : List File) → Written x p files (all_written_back files p)
+    pub end_written : ((page : ℕ) → is_page_written_back x page ≡ true) → (files : List File) → Written x p files (all_written_back files p)
     end_written all files = mappings_written all (pages_for p.size) (trapframe_page p.scheme) p.mappings files (omega arith) order.above (λ page from. refl)
 
     around_found : (low high first_page end page : ℕ) (ms : List Region) (m : Region) → first_page ≤ page → page < end → Row 1 low ms high → mapping_around ms first_page end ≡ Some m → (low ≤ page) × (Found ms page ≡ grant_in (Some m) page)
@@ -214,7 +216,7 @@ module _ (x : Step) (p : Process) (sized : AllSized p.settled) where
               (omega (arith, start, past), skipped x ms page (grind (arith, nat_tests, past)) ∙ rest.1)
         ] refl e
 
-    pub unmap_written : (m : Region) (from end : ℕ) → ((page : ℕ) → from ≤ page → page < end → goes_back x page ≡ true) → (files : List File) → mapping_around p.mappings from end ≡ Some m → Written x p files (written_back files p m from end)
+    pub unmap_written : (m : Region) (from end : ℕ) → ((page : ℕ) → from ≤ page → page < end → is_page_written_back x page ≡ true) → (files : List File) → mapping_around p.mappings from end ≡ Some m → Written x p files (written_back files p m from end)
     unmap_written m from end go files around = run_written m from end (λ page start stop.
         let k = around_found (pages_for p.size) (trapframe_page p.scheme) from end page p.mappings m start stop order.above around in
         past_heap p order page p.mappings k.0 ∙ k.1) go files

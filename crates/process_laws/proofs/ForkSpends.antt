@@ -1,4 +1,5 @@
--- A fork takes its need from the free frames.
+-- Lemma: a fork for which enough frames are free lowers the free count by exactly `fork_need` (the child's trapframe and
+-- page tables, and no page).
 use Rattle.std.proofs.Common.{◌≡◌, ℕ, false, ◌+◌, ◌≢◌, inl, inr, sym, ap, ◌∙◌, arith, List, ◌++◌, Option, None, Some, length, length-set}
 use Rattle.std.specs.Prelude.{slice_get, slice_set, sum_by}
 use Rattle.process_model.specs.PageMap.{numbers, keys, count}

@@ -1,4 +1,5 @@
--- What is taken from the free frames.
+-- Lemma: if what the processes hold (different copies of pages, and frames of their own) grows by a number of frames that
+-- are free, the free count falls by exactly that number.
 use Rattle.std.proofs.Common.{◌≡◌, ℕ, false, ◌+◌, ◌-◌, ◌≤◌, arith, List, Option, length}
 use Rattle.std.specs.Prelude.{nat_lt, sum_by}
 use Rattle.sv39_entry.specs.declared.scheme.Scheme.{Scheme}

@@ -1,10 +1,11 @@
--- Copy numbers are given once: a property of a process that each kind of change keeps.
+-- `IsFresh`: the copy numbers (each names one copy of a page in memory) of a process are below a number, and none is at two
+-- pages; and the lemma that each kind of change of a process keeps this.
 use Rattle.std.proofs.Common.{◌≡◌, ℕ, Bool, true, false, cond, ◌+◌, ◌<◌, ◌≤◌, inl, inr, refl, sym, ap, subst, ◌∙◌, arith, List, [], ◌∷◌, Some, length}
 use Rattle.sv39_entry.specs.declared.scheme.Scheme.{Scheme}
 use Rattle.process_model.specs.PageMap.{PageMap, get, insert, only, from_list, with_values}
 use Rattle.process_model.specs.Process.{Process, Page}
 use Rattle.process_model.specs.Residence.{child_page, marked_page, parts_from}
-use Rattle.process_model.specs.Loading.{process_of, numbered, image_pages}
+use Rattle.process_model.specs.ImageProcess.{process_of, numbered, image_pages}
 use Rattle.process_model.specs.Images.{LoadSegment}
 use Rattle.process_laws.proofs.EveryChange.{IsKept}
 use Rattle.process_laws.proofs.LookUps.{found_inserted, found_only}

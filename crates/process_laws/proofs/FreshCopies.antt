@@ -1,10 +1,11 @@
--- The counter is above all copy numbers.
+-- Lemma: the world's counter is above every copy number (names one copy of a page in memory) in the list of those that all
+-- processes have.
 use Rattle.std.proofs.Common.{◌≡◌, ℕ, zero, suc, ◌<◌, inl, inr, refl, List, [], ◌∷◌, Option, None, Some}
 use Rattle.std.specs.Prelude.{slice_get}
 use Rattle.process_model.specs.Process.{Process}
 use Rattle.process_model.specs.Frames.{copies_of}
 use Rattle.process_model.specs.World.{World, flat}
-use Rattle.process_laws.specs.Numbered.{HasNewCopies}
+use Rattle.process_laws.specs.CopyNumbers.{HasNewCopies}
 use Rattle.process_laws.proofs.SetSizes.{Among, among_parts}
 use Rattle.process_laws.proofs.SlotSums.{all_copies}
 use Rattle.process_laws.proofs.PageCopies.{each_below}

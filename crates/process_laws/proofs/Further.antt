@@ -1,19 +1,21 @@
--- What accesses, services and copies do to the marks of a process: its regions and its size stay.
+-- `Further`: a process after a change that keeps its regions, size, heap base and stored marks (D) and adds no fork mark
+-- (left by a fork: copy first), and that removes fork marks or adds stored marks only on given pages. Lemmas: answered
+-- accesses, page-fault service and kernel copies change a process in no other way.
 use Rattle.std.proofs.Common.{◌≡◌, ◌⊎◌, ◌<◌, ℕ, suc, Bool, true, false, ◌||◌, ◌+◌, ◌%◌, inl, inr, refl, sym, ap, subst, ◌∙◌, arith, List, [], ◌∷◌, length, Option, None, Some}
 use Rattle.std.specs.Prelude.{fold, Result, Ok, Err, zip}
 use Rattle.std.proofs.lemmas.Bool.{cases_eq}
 use Rattle.std.proofs.lemmas.Bool.Decides.{nat_tests}
 use Rattle.process_laws.proofs.Givens.{mark_at}
 use Rattle.process_laws.specs.Pages.{has_fork_mark, has_some_of, has_stored_mark, is_store}
-use Rattle.process_model.specs.Around.{Around, Progress, reached, resident_at, unless_dry, unless_resident}
+use Rattle.process_model.specs.Environment.{Environment, Progress, resident_at_address, resident_at, unless_dry, unless_resident}
 use Rattle.process_model.specs.Bytes.{numbers_from}
 use Rattle.process_model.specs.Copies.{Copied, copied_in, copied_out, copy_begun, next_in, next_out, one_in, one_out, with_byte_on}
 use Rattle.process_model.specs.Files.{File}
-use Rattle.process_model.specs.Inserted.{inserted_here, inserted_other}
+use Rattle.process_model.specs.Insertion.{inserted_here, inserted_other}
 use Rattle.process_model.specs.PageMap.{get}
 use Rattle.process_model.specs.Process.{Page, Process, regions}
 use Rattle.process_model.specs.Regions.{copy_rule, Region}
-use Rattle.process_model.specs.Residence.{access_answer, goes_through, initial_page, leaves_mark, made_resident_from, region_on, settled_anew, stored, taken_over, taken_over_unless, with_page}
+use Rattle.process_model.specs.Residence.{access_answer, can_complete, initial_page, leaves_mark, made_resident_from, region_on, settled_anew, stored, taken_over, taken_over_unless, with_page}
 use Rattle.sv39_entry.specs.Address.{page_of}
 use Rattle.sv39_entry.specs.declared.access.Access.{Access}
 use Rattle.sv39_entry.specs.declared.access.Access.TheVariants as access
@@ -119,7 +121,7 @@ over_further may fresh shared p page x true there goes = still may p
 over_further may fresh shared p page x false there goes = put_further may p page x (taken_over fresh shared (region_on p page) x) there (λ e. absurd cc) (or_more x.stored_mark _) (λ e. inr (goes refl)) (λ e. inr (goes refl))
 
 -- only a store is held back
-held_store : (kind : Access) (r : Option Region) (x : Page) → goes_through kind r x ≡ false → is_store kind ≡ true
+held_store : (kind : Access) (r : Option Region) (x : Page) → can_complete kind r x ≡ false → is_store kind ≡ true
 held_store access.Fetch r x e = absurd cc
 held_store access.Load r x e = absurd cc
 held_store access.Store r x e = refl
@@ -135,7 +137,7 @@ pub data FurtherIfOk (may : ℕ → Bool) (p : Process) : Result Progress Rule �
   stopped : {r : Rule} → FurtherIfOk may p (Err r)
   came : {g : Progress} → Further may p g.process → FurtherIfOk may p (Ok g)
 
-module _ (may : ℕ → Bool) (a : Around) (g : Progress) (kind : Access) where
+module _ (may : ℕ → Bool) (a : Environment) (g : Progress) (kind : Access) where
   dry_further : (page need : ℕ) (b : Bool) → (is_store kind ≡ true → may page ≡ true) → FurtherIfOk may g.process (unless_dry a kind page g need b)
   dry_further page need true goes = stopped
   dry_further page need false goes = came (made_further may a.files g.fresh _ g.process kind page _ refl goes)
@@ -148,7 +150,7 @@ module _ (may : ℕ → Bool) (a : Around) (g : Progress) (kind : Access) where
   unfolding resident_at
   at_further page goes = unless_further page _ goes
 
-  pub reached_further : (address : ℕ) (o : Option Rule) → (is_store kind ≡ true → may (page_of address) ≡ true) → FurtherIfOk may g.process (reached a kind address g o)
+  pub reached_further : (address : ℕ) (o : Option Rule) → (is_store kind ≡ true → may (page_of address) ≡ true) → FurtherIfOk may g.process (resident_at_address a kind address g o)
   reached_further address None goes = at_further (page_of address) goes
   reached_further address (Some r) goes = stopped
 
@@ -162,7 +164,7 @@ abbrev AllMay : (ℕ → Bool) → List (ℕ × ℕ) → Type 0
 AllMay may [] = Unit {0}
 AllMay may (x ∷ xs) = (may (page_of x.0) ≡ true) × AllMay may xs
 
-module _ (may : ℕ → Bool) (a : Around) (p : Process) where
+module _ (may : ℕ → Bool) (a : Environment) (p : Process) where
   abbrev Far : Copied → Type 0
   Far c = Further may p (c.progress).process
 
@@ -192,7 +194,7 @@ module _ (may : ℕ → Bool) (a : Around) (p : Process) where
   all_out_far [] c goes f = f
   all_out_far (x ∷ xs) c goes f = all_out_far xs (next_out a c x c.stop) goes.1 (next_out_far c x c.stop goes.0 f)
 
-pub copied_in_far : (a : Around) (g : Progress) (address n : ℕ) → Further (λ page. false) g.process ((copied_in a g address n).progress).process
+pub copied_in_far : (a : Environment) (g : Progress) (address n : ℕ) → Further (λ page. false) g.process ((copied_in a g address n).progress).process
 unfolding copied_in
 copied_in_far a g address n = all_in_far (λ page. false) a g.process (numbers_from address n) (copy_begun g) (still (λ page. false) g.process)
 
@@ -207,7 +209,7 @@ places_may may at (b ∷ bs) each = (
 in_its_pages : (address n i : ℕ) → i < n → has_some_of address n (page_of (address + i)) ≡ true
 in_its_pages address n i less = grind (arith, nat_tests, less)
 
-pub copied_out_far : (a : Around) (g : Progress) (address : ℕ) (bytes : List ℕ) → Further (has_some_of address (length bytes)) g.process ((copied_out a g address bytes).progress).process
+pub copied_out_far : (a : Environment) (g : Progress) (address : ℕ) (bytes : List ℕ) → Further (has_some_of address (length bytes)) g.process ((copied_out a g address bytes).progress).process
 unfolding copied_out
 copied_out_far a g address bytes =
     let may = has_some_of address (length bytes) in

@@ -1,4 +1,6 @@
--- What calls give to the pages that they move.
+-- Lemmas about the grant (rights, kind of region, source of bytes) of a page that sbrk, mmap or munmap maps or unmaps: what
+-- it is afterwards; that it was none before or is none after; and that the page is not below the heap's base, or is above
+-- the heap. Then about an image's process: its grants, no marks, nothing pending, its size and heap base.
 use Rattle.std.proofs.Common.{◌≡◌, ◌⊎◌, ℕ, ℤ, pos, negsuc, Bool, true, false, cond, ◌&&◌, ◌||◌, ◌==◌, ◌+◌, ◌-◌, ◌*◌, ◌<◌, ◌≤◌, inl, inr, refl, sym, ap, subst, ◌∙◌, arith, List, [], ◌∷◌, ◌++◌, map, Option, None, Some}
 use Rattle.std.specs.Prelude.{int_lt, nat_abs, Ok, nat_le, nat_lt, if◌then◌else◌}
 use Rattle.std.specs.List.{list_all}
@@ -8,11 +10,11 @@ use Rattle.std.proofs.lemmas.Option.{same_Some}
 use Rattle.process_laws.proofs.Grants.{around_above, Found, here, skipped}
 use Rattle.process_laws.specs.Pages.{Grant, grant, grant_in, has_fork_mark, has_mark, has_stored_mark, heap_grant, image_size, is_between, loads_grant, mapping_grant}
 use Rattle.process_model.specs.Bytes.{pages_for}
-use Rattle.process_model.specs.Granted.{none_true, size_granted}
+use Rattle.process_model.specs.GrantLaws.{none_true, size_granted}
 use Rattle.process_model.specs.Heap.{heap_limit, resized, size_refusal, without_pages}
 use Rattle.process_model.specs.Images.{end_of_loads, end_page, LoadSegment}
-use Rattle.process_model.specs.Inserted.{inserted_here, inserted_other}
-use Rattle.process_model.specs.Loading.{guard_at, image_pages, numbered, process_of, segment_region, stack_at}
+use Rattle.process_model.specs.Insertion.{inserted_here, inserted_other}
+use Rattle.process_model.specs.ImageProcess.{guard_at, image_pages, numbered, process_of, segment_region, stack_at}
 use Rattle.process_model.specs.Mappings.{back_of, fits_at, front_of, is_apart, mapping_around, mapping_of, moved_along, with_instead, with_mapping}
 use Rattle.process_model.specs.Order.{IsInOrder, Row}
 use Rattle.process_model.specs.PageMap.{from_list, get, insert}

@@ -1,4 +1,6 @@
--- The way of a process from its start into user mode and back into the kernel.
+-- Lemmas about the way of a process: a start puts the image's process in the lowest free slot (place in the process table);
+-- a switch puts a process on a hart or takes it off; `Next` is one instruction in the trampoline; a trap enters the kernel.
+-- Each says which slot and which phase the hart has then.
 use Rattle.std.proofs.Common.{◌≡◌, ◌≢◌, ◌⊎◌, ◌==◌, ℕ, zero, suc, Bool, true, false, ◌&&◌, inl, inr, refl, sym, ap, subst, ◌∙◌, arith, List, [], ◌∷◌, Option, None, Some, pos}
 use Rattle.std.specs.Prelude.{Err, Ok, option_map, Result, slice_get, slice_set, unwrap_or}
 use Rattle.std.specs.List.{list_any}
@@ -10,12 +12,12 @@ use Rattle.process_laws.proofs.Possible.{stands}
 use Rattle.process_laws.proofs.Running.{has_it, hart_runs, process_runs, step_process, step_reply}
 use Rattle.process_laws.specs.Moments.{slot_at, slot_on}
 use Rattle.process_laws.specs.Pages.{image_grant, image_size, size_after}
-use Rattle.process_laws.specs.Words.{Begins, IsIn, IsMade, IsOn, tells_no_frame}
+use Rattle.process_laws.specs.Words.{Begins, IsInPhase, IsMade, IsOnHart, is_no_frame_reply}
 use Rattle.process_model.specs.Calls.{started, started_as, started_unless, with_image}
 use Rattle.process_model.specs.Frames.{start_need}
 use Rattle.process_model.specs.Harts.{cleaned_at, cleaned_for, cleaned_if, emptied_if, fenced, Hart, is_kernel, is_user, may_switch, next_phase, phase_for}
 use Rattle.process_model.specs.Images.{image_loads, LoadSegment}
-use Rattle.process_model.specs.Loading.{process_of}
+use Rattle.process_model.specs.ImageProcess.{process_of}
 use Rattle.process_model.specs.Process.{Process, without_pending}
 use Rattle.process_model.specs.Service.{is_dry}
 use Rattle.process_model.specs.Stale.{changed_slots, with_stale, with_stale_slots}
@@ -70,7 +72,7 @@ fenced_slot Asid hart = cleaned_at_slot hart _
 -- a hart has that slot, and is in that phase
 pub record At (w : World) (h : ℕ) (slot : Option ℕ) (phase : Phase) : Type 0 where
   pub on : slot_on w h ≡ slot
-  pub is_in : IsIn w h phase
+  pub is_in : IsInPhase w h phase
 
 -- marks change neither
 marks_at : (policy : Policy) (w : World) (o : Outcome) (h : ℕ) (slot : Option ℕ) (phase : Phase) → At o.world h slot phase → At (with_stale_slots policy w o).world h slot phase
@@ -108,8 +110,8 @@ quiet_in Enter2 b e = refl
 quiet_in Leave1 b e = refl
 quiet_in Leave2 b e = refl
 
-pub next_goes : (w : World) (h s : ℕ) (p : Process) (phase after : Phase) → IsOn w h s p → IsIn w h phase → next_phase phase ≡ Some after → (phase ≡ Kernel → is_unserved_access p.pending ≡ false)
-    → IsOn (step w (Next h)).world h s p × IsIn (step w (Next h)).world h after
+pub next_goes : (w : World) (h s : ℕ) (p : Process) (phase after : Phase) → IsOnHart w h s p → IsInPhase w h phase → next_phase phase ≡ Some after → (phase ≡ Kernel → is_unserved_access p.pending ≡ false)
+    → IsOnHart (step w (Next h)).world h s p × IsInPhase (step w (Next h)).world h after
 next_goes w h s p phase after on in_phase next quiet =
     let k = stands w h phase in_phase in
     let runs = has_it w h s k.hart on.there k.there in
@@ -136,14 +138,14 @@ slot_elsewhere (hart ∷ harts) s apart = rw (not_it hart.slot (apart 0)) (slot_
         by true is = absurd (e (ap Some (eqb-true t s is)))
         by false is = refl
 
-pub switch_goes : (w : World) (h s : ℕ) (p : Process) → process_in w s ≡ Some p → ((k : ℕ) → slot_on w k ≢ Some s) → IsIn w h Idle ⊎ IsIn w h Kernel
-    → IsOn (step w (Switch h (Some s))).world h s p × IsIn (step w (Switch h (Some s))).world h Kernel
+pub switch_goes : (w : World) (h s : ℕ) (p : Process) → process_in w s ≡ Some p → ((k : ℕ) → slot_on w k ≢ Some s) → IsInPhase w h Idle ⊎ IsInPhase w h Kernel
+    → IsOnHart (step w (Switch h (Some s))).world h s p × IsInPhase (step w (Switch h (Some s))).world h Kernel
 switch_goes w h s p lives apart phase = by phase
   where
     runs_on : can_run w (Some s) ≡ true
     runs_on = rw (lives, slot_elsewhere w.harts s apart) refl
 
-    goes_in : (from : Phase) → may_switch from ≡ true → IsIn w h from → IsOn (step w (Switch h (Some s))).world h s p × IsIn (step w (Switch h (Some s))).world h Kernel
+    goes_in : (from : Phase) → may_switch from ≡ true → IsInPhase w h from → IsOnHart (step w (Switch h (Some s))).world h s p × IsInPhase (step w (Switch h (Some s))).world h Kernel
     goes_in from may in_phase =
         let k = stands w h from in_phase in
         let can : (may_switch k.hart.phase && can_run w (Some s)) ≡ true = rw (k.in_phase, may, runs_on) refl in
@@ -154,11 +156,11 @@ switch_goes w h s p lives apart phase = by phase
         let alive : process_in (step w (Switch h (Some s))).world s ≡ Some p = step_process w (Switch h (Some s)) s ∙ ap (λ (o : Outcome). process_in o.world s) goes ∙ lives in
         (record { there = there.on; lives = alive }, there.is_in)
 
-    by : IsIn w h Idle ⊎ IsIn w h Kernel → IsOn (step w (Switch h (Some s))).world h s p × IsIn (step w (Switch h (Some s))).world h Kernel
+    by : IsInPhase w h Idle ⊎ IsInPhase w h Kernel → IsOnHart (step w (Switch h (Some s))).world h s p × IsInPhase (step w (Switch h (Some s))).world h Kernel
     by (inl idle) = goes_in Idle refl idle
     by (inr kernel) = goes_in Kernel refl kernel
 
-pub leave_goes : (w : World) (h : ℕ) → IsIn w h Kernel → (slot_on (step w (Switch h None)).world h ≡ None) × IsIn (step w (Switch h None)).world h Idle
+pub leave_goes : (w : World) (h : ℕ) → IsInPhase w h Kernel → (slot_on (step w (Switch h None)).world h ≡ None) × IsInPhase (step w (Switch h None)).world h Idle
 leave_goes w h kernel =
     let k = stands w h Kernel kernel in
     let can : (may_switch k.hart.phase && can_run w None) ≡ true = rw (k.in_phase) refl in
@@ -170,7 +172,7 @@ leave_goes w h kernel =
 
 -- ---- a trap
 
-pub trap_goes : (w : World) (h s : ℕ) (p : Process) → IsOn w h s p → IsIn w h User → (slot_on (step w (Trap h)).world h ≡ Some s) × IsIn (step w (Trap h)).world h Enter0
+pub trap_goes : (w : World) (h s : ℕ) (p : Process) → IsOnHart w h s p → IsInPhase w h User → (slot_on (step w (Trap h)).world h ≡ Some s) × IsInPhase (step w (Trap h)).world h Enter0
 trap_goes w h s p on user =
     let k = stands w h User user in
     let runs = has_it w h s k.hart on.there k.there in
@@ -219,12 +221,12 @@ module _ (w : World) (image : Image) where
   start_brings s e = in_slot (step w (Start image)).world (step w (Start image)).reply s e (free_slot w) refl (sym (step_reply w (Start image)) ∙ e) (step_process w (Start image))
 
   -- it is made
-  pub start_goes : (s : ℕ) (ls : List LoadSegment) → free_slot w ≡ Some s → image_loads w.scheme image ≡ Ok ls → tells_no_frame (step w (Start image)).reply ≡ false → IsMade (step w (Start image)).reply
+  pub start_goes : (s : ℕ) (ls : List LoadSegment) → free_slot w ≡ Some s → image_loads w.scheme image ≡ Ok ls → is_no_frame_reply (step w (Start image)).reply ≡ false → IsMade (step w (Start image)).reply
   start_goes s ls free loads quiet = made (is_dry w (start_need w.scheme ls)) is
     where
       is : plain_step w (Start image) ≡ started_unless w s ls (is_dry w (start_need w.scheme ls))
       is = ap (λ r. started w r (free_slot w)) loads ∙ ap (started w (Ok ls)) free
 
       made : (b : Bool) → plain_step w (Start image) ≡ started_unless w s ls b → IsMade (step w (Start image)).reply
-      made true e = absurd (false≢true (sym quiet ∙ ap tells_no_frame (step_reply w (Start image) ∙ ap (λ (o : Outcome). o.reply) e)))
+      made true e = absurd (false≢true (sym quiet ∙ ap is_no_frame_reply (step_reply w (Start image) ∙ ap (λ (o : Outcome). o.reply) e)))
       made false e = λ r f. absurd (let no = sym f ∙ step_reply w (Start image) ∙ ap (λ (o : Outcome). o.reply) e in cc)

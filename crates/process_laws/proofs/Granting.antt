@@ -1,10 +1,11 @@
--- What is granted is forbidden by no rule, and the other way round.
+-- Lemmas: in every run, a region grants an aligned access if and only if no rule denies it (`first_rule` gives none); used
+-- for this, that guard regions grant no right and regions are in ascending order in every run (`IsSound`).
 use Rattle.std.proofs.Common.{◌≡◌, ◌⊎◌, ℕ, Bool, true, false, cond, not, ◌&&◌, ◌==◌, ◌+◌, ◌-◌, ◌%◌, ◌≤◌, ◌<◌, inl, inr, refl, sym, ap, subst, ◌∙◌, arith, Option, None, Some, List, [], ◌∷◌, ◌++◌, map}
 use Rattle.std.specs.Prelude.{nat_le, nat_lt}
 use Rattle.std.proofs.lemmas.Bool.{and_parts, eq-eqb, eqb-true, ltb-true, false≢true}
 use Rattle.std.proofs.lemmas.Grind.{common_steps}
 use Rattle.std.proofs.lemmas.Option.{same_Some}
-use Rattle.process_laws.specs.Words.{Asked, has_right, IsGranted}
+use Rattle.process_laws.specs.Words.{UserAccess, has_right, IsGranted}
 use Rattle.process_laws.proofs.EveryChange.{always_holds, IsKept}
 use Rattle.process_laws.proofs.InOrder.{order_is_kept}
 use Rattle.sv39_entry.specs.declared.scheme.Scheme.{Scheme}
@@ -12,7 +13,7 @@ use Rattle.sv39_entry.specs.declared.scheme.Scheme.TheVariants.{Sv39, Sv48}
 use Rattle.process_model.specs.Bytes.{pages_for}
 use Rattle.process_model.specs.Files.{File}
 use Rattle.process_model.specs.Images.{LoadSegment, end_of_loads}
-use Rattle.process_model.specs.Loading.{guard_at, process_of, segment_region}
+use Rattle.process_model.specs.ImageProcess.{guard_at, process_of, segment_region}
 use Rattle.process_model.specs.Mappings.{back_of, front_of, is_shared, mapping_around, mapping_of, moved_along, with_instead, with_mapping}
 use Rattle.process_model.specs.Order.{EachRegion, IsInOrder, Row}
 use Rattle.process_model.specs.Process.{heap_of, Process, regions}
@@ -47,7 +48,7 @@ region_if z rs kind address (Some r) f e = (r, refl, right_there z rs kind addre
 region_there : (z : Scheme) (rs : List Region) (kind : Access) (address : ℕ) → copy_rule z rs kind address ≡ None → (r : Region) × (region_at rs (page_of address) ≡ Some r) × (has_right r kind ≡ true)
 region_there z rs kind address e = region_if z rs kind address _ refl e
 
-pub granted_by : (p : Process) (a : Asked) → first_rule p.scheme (regions p) a.access a.address a.width ≡ None → IsGranted p a
+pub granted_by : (p : Process) (a : UserAccess) → first_rule p.scheme (regions p) a.access a.address a.width ≡ None → IsGranted p a
 granted_by p a e =
     let t = aligned_if (is_aligned a.address a.width) (copy_rule p.scheme (regions p) a.access a.address) e in
     let r = region_there p.scheme (regions p) a.access a.address t.1 in
@@ -209,7 +210,7 @@ copy_granted : (z : Scheme) (rs : List Region) (access : Access) (address : ℕ)
 copy_granted Sv39 rs access address r below has guard right = granted39 rs access address r below has guard right
 copy_granted Sv48 rs access address r below has guard right = granted48 rs access address r below has guard right
 
-pub sound_grants : (p : Process) (a : Asked) → IsSound p → IsGranted p a → first_rule p.scheme (regions p) a.access a.address a.width ≡ None
+pub sound_grants : (p : Process) (a : UserAccess) → IsSound p → IsGranted p a → first_rule p.scheme (regions p) a.access a.address a.width ≡ None
 sound_grants p a sound g =
     let below : page_of a.address < trapframe_page p.scheme = below_trapframe p (page_of a.address) g.region sound.ordered g.has in
     let bare : Bare g.region = each_at Bare (regions p) (page_of a.address) g.region (each_append Bare p.parts (heap_of p ∷ p.mappings) sound.bare.parts (heap_bare p, sound.bare.mappings)) g.has in

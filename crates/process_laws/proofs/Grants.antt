@@ -1,4 +1,6 @@
--- What pages keep where regions change elsewhere.
+-- Lemmas: a page outside the range that sbrk, mmap or munmap maps or unmaps keeps its grant (rights, kind of region, source
+-- of bytes) and what it has in memory (`SameAt`). Also what is found for a page in a list of regions, and which pages stay
+-- when a range is released.
 use Rattle.std.proofs.Common.{◌≡◌, ℕ, Bool, true, false, cond, not, ◌&&◌, ◌||◌, ◌==◌, ◌+◌, ◌-◌, ◌≤◌, refl, sym, ap, ◌∙◌, arith, List, [], ◌∷◌, ◌++◌, Option, None, Some}
 use Rattle.std.specs.Prelude.{nat_le, nat_lt}
 use Rattle.std.specs.Ordering.{nat_cmp}

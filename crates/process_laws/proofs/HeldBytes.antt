@@ -1,4 +1,6 @@
--- The bytes that a world holds for its processes, and what a change of one slot makes of them.
+-- `held`: the byte of a settled page (in memory) at an address of the process in a slot (place in the process table) of a
+-- world. Lemmas: what a world holds after one slot is set or emptied (`Puts`), and that an address that is reached has its
+-- page settled and no other byte changed.
 use Rattle.std.proofs.Common.{◌≡◌, ◌≢◌, ℕ, zero, suc, Bool, true, false, cond, ◌&&◌, ◌==◌, ◌+◌, ◌<◌, refl, sym, ap, ◌∙◌, arith, inl, inr, List, [], ◌∷◌, length, Option, None, Some}
 use Rattle.std.specs.Prelude.{slice_get, slice_set, Result, Ok, Err}
 use Rattle.std.proofs.lemmas.Bool.{cases_eq, eq-eqb, ne_eqb, false≢true}
@@ -11,7 +13,7 @@ use Rattle.process_model.specs.Process.{Process, Page}
 use Rattle.process_model.specs.Regions.{Region}
 use Rattle.process_model.specs.Files.{File}
 use Rattle.process_model.specs.Residence.{is_resident_page, is_resident, region_on}
-use Rattle.process_model.specs.Around.{Around, Progress, unless_dry, unless_resident, resident_at, reached}
+use Rattle.process_model.specs.Environment.{Environment, Progress, unless_dry, unless_resident, resident_at, resident_at_address}
 use Rattle.process_model.specs.World.{World, flat, process_in, has_slot, lowest_free}
 use Rattle.process_laws.specs.Moments.{slot_on}
 use Rattle.process_laws.proofs.PageBytes.{contents, AllSized, byte_in, SettlesPage, stays_settled, resident_settles}
@@ -67,9 +69,6 @@ set_puts w v t o l e = record {
   here = ap (λ slots. flat (slice_get slots t)) e ∙ ap flat (set_here w.slots t o l);
   others = λ s ne. ap (λ slots. flat (slice_get slots s)) e ∙ ap flat (set_other w.slots t s o ne);
 }
-
-pub puts_again : (w v u : World) (t : ℕ) (o r : Option Process) → Puts w t o v → Puts v t r u → Puts w t r u
-puts_again w v u t o r f g = record { here = g.here; others = λ s ne. g.others s ne ∙ f.others s ne }
 
 -- what is held afterwards
 pub held_put : (w v : World) (t : ℕ) (o : Option Process) → Puts w t o v → (s a : ℕ) → held v s a ≡ cond (t == s) (byte_held o a) (held w s a)
@@ -129,7 +128,7 @@ there_page : (access : Access) (r : Option Region) (o : Option Page) → is_resi
 there_page access r None e = absurd (false≢true e)
 there_page access r (Some x) e = (x, refl)
 
-module _ (a : Around) (g : Progress) (sized : AllSized (g.process).settled) (access : Access) (page : ℕ) where
+module _ (a : Environment) (g : Progress) (sized : AllSized (g.process).settled) (access : Access) (page : ℕ) where
   dry_reaches : (need : ℕ) (b : Bool) → Reaches a.files page g.process (unless_dry a access page g need b)
   dry_reaches need true = stopped
   dry_reaches need false = came (resident_settles a.files g.fresh _ g.process access page sized)
@@ -138,7 +137,7 @@ module _ (a : Around) (g : Progress) (sized : AllSized (g.process).settled) (acc
   resident_reaches true e = let x = there_page access (region_on g.process page) (get (g.process).settled page) e in came (stays_settled a.files g.process page x.0 x.1 sized)
   resident_reaches false e = dry_reaches _ _
 
-pub reached_reaches : (a : Around) (access : Access) (address : ℕ) (g : Progress) (o : Option Rule) → AllSized (g.process).settled → Reaches a.files (page_of address) g.process (reached a access address g o)
+pub reached_reaches : (a : Environment) (access : Access) (address : ℕ) (g : Progress) (o : Option Rule) → AllSized (g.process).settled → Reaches a.files (page_of address) g.process (resident_at_address a access address g o)
 unfolding resident_at
 reached_reaches a access address g (Some r) sized = stopped
 reached_reaches a access address g None sized = resident_reaches a g sized access (page_of address) (is_resident g.process access (page_of address)) refl

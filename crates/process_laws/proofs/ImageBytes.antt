@@ -1,4 +1,5 @@
--- The byte that an image has at an address, told by its segments and by its pages.
+-- Lemma: the byte that an image has at an address is one and the same by its segments (`loads_byte`) and by the pages that
+-- are made of it (`image_pages`).
 use Rattle.std.proofs.Common.{◌≡◌, ℕ, zero, suc, Bool, true, false, cond, ◌==◌, ◌+◌, ◌-◌, ◌*◌, ◌%◌, refl, sym, ap, ◌∙◌, arith, List, [], ◌∷◌, ◌++◌, drop, Option, Some}
 use Rattle.std.specs.Prelude.{flat_map, nat_le, nat_lt}
 use Rattle.std.proofs.lemmas.Bool.{and_parts, eqb-true, leb-true}
@@ -10,7 +11,7 @@ use Rattle.process_laws.specs.Latest.{byte_at, loads_byte}
 use Rattle.process_laws.specs.Pages.{is_between}
 use Rattle.process_model.specs.Bytes.{padded, pages_for}
 use Rattle.process_model.specs.Images.{end_of_loads, end_page, LoadSegment}
-use Rattle.process_model.specs.Loading.{image_pages, load_pages, page_run}
+use Rattle.process_model.specs.ImageProcess.{image_pages, load_pages, page_run}
 use Rattle.sv39_entry.specs.Address.{page_of}
 
 append_again : (xs ys zs : List (ℕ × List ℕ)) → (xs ++ ys) ++ zs ≡ xs ++ (ys ++ zs)

@@ -1,4 +1,5 @@
--- The segments of an accepted image stand in a row, with room for the guard and the stack below the trapframe.
+-- Lemma: the segments of an accepted image are in ascending order, apart, each with a page at least, and leave room for
+-- guard and stack below the trapframe (`IsPlaced`).
 use Rattle.std.proofs.Common.{◌≡◌, ℕ, Bool, true, false, not, ◌+◌, ◌%◌, ◌<◌, ◌≤◌, ◌&&◌, refl, sym, subst, arith, List, [], ◌∷◌, ◌++◌, Option, None, Some, length}
 use Rattle.std.specs.Prelude.{Result, Ok, Err, fold, map, if◌then◌else◌, nat_lt, nat_le, ◌==◌, ◌^◌}
 use Rattle.std.proofs.lemmas.Bool.{not-false, eqb-true, ltb-true, ltb-false}
@@ -12,7 +13,7 @@ use Rattle.process_model.specs.declared.image.BadImage.{BadImage}
 use Rattle.process_model.specs.declared.image.BadImage.TheVariants as part
 use Rattle.process_model.specs.declared.image.Image.{Image}
 use Rattle.process_model.specs.declared.image.Image.TheVariants.{Elf, Segments}
-use Rattle.process_model.specs.Granted.{none_true}
+use Rattle.process_model.specs.GrantLaws.{none_true}
 
 row_more : (low : ℕ) (ls : List LoadSegment) (l : LoadSegment) → InRow low ls → StandsAt (end_of_loads low ls) l → InRow low (ls ++ l ∷ [])
 row_more low [] l row at = (at, tt)

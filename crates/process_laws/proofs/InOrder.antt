@@ -1,15 +1,16 @@
--- The regions of a process stand in ascending order: a property that each kind of change keeps, so no page is in two of them.
+-- Lemmas: each kind of change of a process keeps its regions in ascending order (`IsInOrder`); and regions in this order
+-- have no page in common (`AreApart`).
 use Rattle.std.proofs.Common.{◌≡◌, ℕ, zero, suc, true, ◌+◌, ◌*◌, ◌<◌, ◌≤◌, refl, sym, ap, subst, ◌∙◌, arith, List, [], ◌∷◌, ◌++◌, Some, map}
 use Rattle.std.specs.Prelude.{slice_get}
 use Rattle.std.proofs.lemmas.Option.{same_Some}
-use Rattle.process_laws.specs.Apart.{AreApart}
+use Rattle.process_laws.specs.DisjointRegions.{AreApart}
 use Rattle.sv39_entry.specs.declared.scheme.Scheme.{Scheme}
 use Rattle.process_model.specs.Bytes.{pages_for}
-use Rattle.process_model.specs.Granted.{map_granted, place_fits}
+use Rattle.process_model.specs.GrantLaws.{map_granted, place_fits}
 use Rattle.process_model.specs.Images.{LoadSegment, end_page, end_of_loads}
-use Rattle.process_model.specs.Loading.{segment_region, guard_at, stack_at, process_of}
+use Rattle.process_model.specs.ImageProcess.{segment_region, guard_at, stack_at, process_of}
 use Rattle.process_model.specs.Order.{EachRegion, HasLeaves, HasNoFile, InRow, IsInOrder, IsPlaced, Row}
-use Rattle.process_model.specs.OrderKept.{mapped_order, regions_row, resized_order, same_order, unmapped_order}
+use Rattle.process_model.specs.OrderLaws.{mapped_order, regions_row, resized_order, same_order, unmapped_order}
 use Rattle.process_model.specs.Process.{Process, regions}
 use Rattle.process_model.specs.RegionRows.{held, row_append}
 use Rattle.process_model.specs.Regions.{Region, end_of, guard_pages, holds_page, stack_pages}

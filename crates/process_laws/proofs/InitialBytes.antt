@@ -1,4 +1,5 @@
--- The byte with which a page begins: that of its file at its place, and zero where there is none.
+-- Lemma: the initial bytes of a page (`initial_page`) are, byte by byte, those of its file at the page's place, and zero
+-- past the file's end and in pages of no file (`initial_byte`).
 use Rattle.std.proofs.Common.{◌≡◌, ℕ, ◌+◌, ◌-◌, ◌*◌, ◌%◌, ◌<◌, inl, inr, refl, sym, ◌∙◌, arith, List, [], Option, None, Some, length, take, drop}
 use Rattle.std.specs.Prelude.{replicate, slice_get}
 use Rattle.std.proofs.lemmas.Bool.{cases_lt}

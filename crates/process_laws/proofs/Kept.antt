@@ -1,4 +1,6 @@
--- Harts that a step does not move, which process comes on one that it moves, and files that it does not write back to.
+-- `Keeps`, proved of every step: a hart that the step does not move keeps its process and phase; a process that a step puts
+-- on a hart was on none; files change only by a step that writes back; an empty slot (place in the process table) stays
+-- empty unless the reply says that a process began in it; the number of slots stays.
 use Rattle.std.proofs.Common.{◌≡◌, ◌≢◌, ◌⊎◌, ◌==◌, ◌&&◌, ◌||◌, not, ℕ, zero, suc, Bool, true, false, length, refl, sym, ap, subst, ◌∙◌, inl, inr, List, [], ◌∷◌, Option, None, Some}
 use Rattle.std.specs.List.{list_any}
 use Rattle.std.specs.Prelude.{is_some, option_map, Result, Ok, Err, slice_get, slice_set}
@@ -10,15 +12,15 @@ use Rattle.process_laws.proofs.HeldBytes.{none_some}
 use Rattle.process_laws.proofs.OnHarts.{access_there, its_good, kernel_good, on_hart_can, on_hart_good}
 use Rattle.process_laws.proofs.Untouched.{get_set_other}
 use Rattle.process_laws.specs.Moments.{slot_at, slot_on}
-use Rattle.process_laws.specs.Words.{is_born, moved_hart, phase_on, writes_back}
-use Rattle.process_model.specs.Around.{Progress}
+use Rattle.process_laws.specs.Words.{starts_in_slot, moved_hart, phase_on, writes_back}
+use Rattle.process_model.specs.Environment.{Progress}
 use Rattle.process_model.specs.Calls.{forked, forked_unless, mapped_to, replaced, replaced_unless, resized_to, started, started_unless, unmapped_to, with_image}
 use Rattle.process_model.specs.Copies.{Copied, copied_in, copied_out, in_reply, out_reply}
 use Rattle.process_model.specs.Harts.{Hart, may_switch}
 use Rattle.process_model.specs.Images.{image_loads, LoadSegment}
 use Rattle.process_model.specs.Mappings.{Mapped, Unmapped}
 use Rattle.process_model.specs.Process.{Pending, Process, without_pending}
-use Rattle.process_model.specs.Service.{around, begun, served, served_or_ended, with_progress}
+use Rattle.process_model.specs.Service.{environment_of, initial_progress, served, served_or_ended, with_progress}
 use Rattle.process_model.specs.Stale.{changed_slots, with_stale, with_stale_slots}
 use Rattle.process_model.specs.Steps.{plain_step, step}
 use Rattle.process_model.specs.World.{answers, can_run, flat, free_slot, has_slot, Outcome, process_in, refuses, World}
@@ -39,7 +41,7 @@ SameHart w v k = (slot_on v k ≡ slot_on w k) × (phase_on v k ≡ phase_on w k
 
 -- where no process was, none comes but one that is told of
 abbrev StaysEmpty : World → Outcome → Type 0
-StaysEmpty w o = (s : ℕ) → process_in w s ≡ None → is_born o.reply s ≡ false → process_in o.world s ≡ None
+StaysEmpty w o = (s : ℕ) → process_in w s ≡ None → starts_in_slot o.reply s ≡ false → process_in o.world s ≡ None
 
 -- a hart has the process that it had, or one that was on no hart
 abbrev pub Comes : World → ℕ → Option ℕ → Type 0
@@ -129,7 +131,7 @@ set_empty w v r t p o lives e s none calm =
     ap (λ slots. flat (slice_get slots s)) e ∙ ap flat (get_set_other w.slots t s o (λ same. none_some (sym none ∙ ap (process_in w) (sym same) ∙ lives))) ∙ none
 
 -- or one that is told of
-born_empty : (w v : World) (r : Reply) (t : ℕ) (o : Option Process) → ((s : ℕ) → is_born r s ≡ (t == s)) → v.slots ≡ slice_set w.slots t o → StaysEmpty w (answers v r)
+born_empty : (w v : World) (r : Reply) (t : ℕ) (o : Option Process) → ((s : ℕ) → starts_in_slot r s ≡ (t == s)) → v.slots ≡ slice_set w.slots t o → StaysEmpty w (answers v r)
 born_empty w v r t o born e s none calm =
     ap (λ slots. flat (slice_get slots s)) e ∙ ap flat (get_set_other w.slots t s o (λ same. let no : true ≡ false = sym (eq-eqb t s same) ∙ sym (born s) ∙ calm in false≢true (sym no))) ∙ none
 
@@ -137,8 +139,8 @@ born_empty w v r t o born e s none calm =
 data Slots (w v : World) (r : Reply) : Type 0 where
   same : v.slots ≡ w.slots → Slots w v r
   set : (t : ℕ) (p : Process) (o : Option Process) → process_in w t ≡ Some p → v.slots ≡ slice_set w.slots t o → Slots w v r
-  born : (t : ℕ) (o : Option Process) → ((s : ℕ) → is_born r s ≡ (t == s)) → v.slots ≡ slice_set w.slots t o → Slots w v r
-  both : (t : ℕ) (p : Process) (o : Option Process) (child : ℕ) (u : Option Process) → process_in w t ≡ Some p → ((s : ℕ) → is_born r s ≡ (child == s)) → v.slots ≡ slice_set (slice_set w.slots t o) child u → Slots w v r
+  born : (t : ℕ) (o : Option Process) → ((s : ℕ) → starts_in_slot r s ≡ (t == s)) → v.slots ≡ slice_set w.slots t o → Slots w v r
+  both : (t : ℕ) (p : Process) (o : Option Process) (child : ℕ) (u : Option Process) → process_in w t ≡ Some p → ((s : ℕ) → starts_in_slot r s ≡ (child == s)) → v.slots ≡ slice_set (slice_set w.slots t o) child u → Slots w v r
 
 slots_empty : (w v : World) (r : Reply) → Slots w v r → StaysEmpty w (answers v r)
 slots_empty w v r (same e) = same_empty w v r e
@@ -249,8 +251,8 @@ module _ (w : World) where
   plain_keeps (step_of.Sbrk h delta) = kernel_good w (Keeps w _) (quiet _) h true _ (λ hart t p on here. size_keeps _ t p _ here)
   plain_keeps (step_of.Mmap h len protection flags n) = kernel_good w (Keeps w _) (quiet _) h true _ (λ hart t p on here. map_keeps _ t p _ here)
   plain_keeps (step_of.Munmap h address len) = kernel_good w (Keeps w _) (quiet _) h true _ (λ hart t p on here. unmap_keeps h address len t p _ here)
-  plain_keeps (step_of.CopyIn h address n) = kernel_good w (Keeps w _) (quiet _) h _ _ (λ hart t p on here. let c = copied_in (around w t) (begun w (without_pending p)) address n in in_keeps (step_of.CopyIn h address n) t p c c.stop here)
-  plain_keeps (step_of.CopyOut h address bytes) = kernel_good w (Keeps w _) (quiet _) h _ _ (λ hart t p on here. let c = copied_out (around w t) (begun w (without_pending p)) address bytes.now in out_keeps (step_of.CopyOut h address bytes) t p c c.stop here)
+  plain_keeps (step_of.CopyIn h address n) = kernel_good w (Keeps w _) (quiet _) h _ _ (λ hart t p on here. let c = copied_in (environment_of w t) (initial_progress w (without_pending p)) address n in in_keeps (step_of.CopyIn h address n) t p c c.stop here)
+  plain_keeps (step_of.CopyOut h address bytes) = kernel_good w (Keeps w _) (quiet _) h _ _ (λ hart t p on here. let c = copied_out (environment_of w t) (initial_progress w (without_pending p)) address bytes.now in out_keeps (step_of.CopyOut h address bytes) t p c c.stop here)
   plain_keeps (step_of.Exit h status) = kernel_good w (Keeps w _) (quiet _) h true _ (λ hart t p on here. ending _ _ _ h _ refl refl refl refl (set t p _ here refl))
 
   -- marks move no hart

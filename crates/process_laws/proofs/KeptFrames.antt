@@ -1,4 +1,5 @@
--- Steps that need no frame take none.
+-- Lemma: a step that takes no frames (any but start, service of a fault, fork, kernel copy and exec) never lowers the free
+-- count.
 use Rattle.std.proofs.Common.{◌≡◌, ◌≢◌, ℕ, ℤ, Bool, true, false, cond, ◌≤◌, ◌+◌, ◌%◌, inl, inr, refl, sym, ap, subst, ◌∙◌, arith, List, [], ◌∷◌, ◌++◌, Option, None, Some, length, length-set}
 use Rattle.std.specs.Prelude.{filter, nat_le, nat_lt, ◌||◌, slice_get, slice_set, sum_by}
 use Rattle.process_laws.proofs.Counting.{freed, frees, more_count}
@@ -19,7 +20,7 @@ use Rattle.process_model.specs.PageMap.{count, get, numbers}
 use Rattle.process_model.specs.Process.{Page, Process, without_pending}
 use Rattle.process_model.specs.Regions.{Region}
 use Rattle.process_model.specs.Residence.{access_answer, with_page}
-use Rattle.process_model.specs.Service.{access_step, Answer, answered, told, told_if}
+use Rattle.process_model.specs.Service.{access_step, Answer, answered, access_outcome, access_outcome_if}
 use Rattle.process_model.specs.Stale.{with_stale_slots}
 use Rattle.process_model.specs.Steps.{plain_step, step}
 use Rattle.process_model.specs.World.{free, Outcome, process_in, refuses, with_process, World}
@@ -144,7 +145,7 @@ module _ (w : World) where
   abbrev By : Step → Type 0
   By x = Keeps (plain_step w x)
 
-  told_free : (h : ℕ) (hart : Hart) (t : ℕ) (x : Answer) (b : Bool) → free (told_if w h hart t x b).world ≡ free (with_process w t x.process)
+  told_free : (h : ℕ) (hart : Hart) (t : ℕ) (x : Answer) (b : Bool) → free (access_outcome_if w h hart t x b).world ≡ free (with_process w t x.process)
   told_free h hart t x true = refl
   told_free h hart t x false = refl
 
@@ -154,7 +155,7 @@ module _ (w : World) where
       (λ hart t p page here on is fits. answers_keep hart t p page here is)
     where
       answers_keep : (hart : Hart) (t : ℕ) (p : Process) (page : Page) → process_in w t ≡ Some p → get p.settled (page_of address) ≡ Some page
-          → Keeps (told w h hart t (answered p (asks kind address width value) (access_answer kind page (address % 4096) width value)))
+          → Keeps (access_outcome w h hart t (answered p (asks kind address width value) (access_answer kind page (address % 4096) width value)))
       answers_keep hart t p page here is =
           let q = without_pending (with_page p (page_of address) (access_answer kind page (address % 4096) width value).1) in
           fewer t p q _ here (same_within (copies_of q) (copies_of p) (answer_copies p (page_of address) page kind (address % 4096) width value is)) refl (told_free h hart t (answered p (asks kind address width value) (access_answer kind page (address % 4096) width value)) _)

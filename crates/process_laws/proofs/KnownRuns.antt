@@ -1,4 +1,6 @@
--- What is known over whole runs: the world holds the latest bytes, and loads, fetches and copies bring what it holds.
+-- Lemmas about whole runs since boot: the byte that the world holds at an address is the latest that was left there
+-- (`HoldsLatest`), none if the page is not in memory; and values of loads and fetches, and bytes that copyin brings, are
+-- those that the world holds.
 use Rattle.std.proofs.Common.{◌≡◌, ℕ, zero, suc, ◌+◌, ◌*◌, ◌%◌, ◌^◌, ◌<◌, ◌≤◌, refl, sym, ap, ◌∙◌, arith, List, [], ◌∷◌, ◌++◌, take, drop, length, Option, None, Some}
 use Rattle.std.specs.Prelude.{slice_get, replicate}
 use Rattle.std.proofs.lemmas.List.{length-take-le, length-drop, get_or-take, get_or-drop}
@@ -12,12 +14,12 @@ use Rattle.process_model.specs.Process.{Process, Page, without_pending}
 use Rattle.process_model.specs.Residence.{loaded}
 use Rattle.sv39_entry.specs.declared.rule.Rule.{Rule}
 use Rattle.process_model.specs.Copies.{Copied, in_reply, copied_in}
-use Rattle.process_model.specs.Calls.{told_in}
+use Rattle.process_model.specs.Calls.{copy_in_outcome}
 use Rattle.process_model.specs.Stale.{with_stale_slots}
 use Rattle.process_model.specs.Steps
 use Rattle.process_model.specs.Steps.{run, plain_step}
 use Rattle.process_model.specs.World.{World, Outcome, answers, booted, flat, process_in}
-use Rattle.process_model.specs.Service.{around, begun, with_progress}
+use Rattle.process_model.specs.Service.{environment_of, initial_progress, with_progress}
 use Rattle.process_model.specs.declared.config.Config.{Config}
 use Rattle.process_model.specs.declared.config.Policy.{Policy}
 use Rattle.process_model.specs.declared.config.Policy.TheVariants.{Full, Asid}
@@ -185,10 +187,10 @@ came_brings w h s t address end p c o here on i = record { brings = at o } where
   at None = there
   at (Some r) = there
 
-copy_brings : (w : World) (h s t address count : ℕ) (p : Process) → Sized w → process_in w t ≡ Some p → slot_on w h ≡ Some t → Brings w h s address (told_in w t (copied_in (around w t) (begun w (without_pending p)) address count))
+copy_brings : (w : World) (h s t address count : ℕ) (p : Process) → Sized w → process_in w t ≡ Some p → slot_on w h ≡ Some t → Brings w h s address (copy_in_outcome w t (copied_in (environment_of w t) (initial_progress w (without_pending p)) address count))
 copy_brings w h s t address count p k here on =
-    let i = copy_came_in (around w t) (begun w (without_pending p)) p address count refl (λ a. refl) (k.pages t p here) in
-    let c = copied_in (around w t) (begun w (without_pending p)) address count in
+    let i = copy_came_in (environment_of w t) (initial_progress w (without_pending p)) p address count refl (λ a. refl) (k.pages t p here) in
+    let c = copied_in (environment_of w t) (initial_progress w (without_pending p)) address count in
     came_brings w h s t address i.0 p c c.stop here on i.1
 
 plain_brings : (w : World) (h s address count : ℕ) → Sized w → Brings w h s address (plain_step w (step.CopyIn h address count))

@@ -1,4 +1,5 @@
--- After each step the world holds what is known from the step and its reply.
+-- `Known`, proved of every step: the bytes that the world holds after it are those computed from the step, its reply and the
+-- bytes held before (`left_by`), and each page in memory still has 4,096 bytes.
 use Rattle.std.proofs.Common.{◌≡◌, ℕ, zero, suc, Bool, true, false, cond, ◌&&◌, ◌==◌, ◌+◌, ◌-◌, ◌/◌, ◌%◌, ◌^◌, ◌<◌, ◌≤◌, refl, sym, ap, ◌∙◌, arith, List, [], length, Option, None, Some, Bor}
 use Rattle.std.specs.Prelude.{ℤ, nat_abs, slice_set, Result, Ok, Err}
 use Rattle.std.proofs.lemmas.List.{length-set}
@@ -13,12 +14,12 @@ use Rattle.process_model.specs.Residence.{access_answer, marked, child_of}
 use Rattle.process_model.specs.Heap.{wanted_size, resized_unless, sbrk_result}
 use Rattle.process_model.specs.Mappings.{mapped_unless, mapped, unmapped_unless, unmapped_in, unmapped_if, unmapped}
 use Rattle.process_model.specs.Images.{LoadSegment, image_loads}
-use Rattle.process_model.specs.Loading.{process_of}
+use Rattle.process_model.specs.ImageProcess.{process_of}
 use Rattle.process_model.specs.Harts.{Hart}
 use Rattle.process_model.specs.World.{World, Outcome, answers, refuses, process_in, with_process, with_hart, always, lowest_free, has_slot}
-use Rattle.process_model.specs.Around.{Progress}
-use Rattle.process_model.specs.Service.{Asked, around, begun, faulted, answered, ended, served_or_ended, served, told, with_progress, with_served}
-use Rattle.process_model.specs.Calls.{with_image, started_unless, started_as, started, replaced_unless, replaced, forked_unless, forked, resized_to, mapped_to, unmapped_to, told_in, told_out}
+use Rattle.process_model.specs.Environment.{Progress}
+use Rattle.process_model.specs.Service.{AccessRequest, environment_of, initial_progress, faulted, answered, ended, served_or_ended, served, access_outcome, with_progress, with_served}
+use Rattle.process_model.specs.Calls.{with_image, started_unless, started_as, started, replaced_unless, replaced, forked_unless, forked, resized_to, mapped_to, unmapped_to, copy_in_outcome, copy_out_outcome}
 use Rattle.process_model.specs.Steps
 use Rattle.process_model.specs.Steps.{plain_step}
 use Rattle.process_model.specs.Stale.{with_stale_slots}
@@ -82,16 +83,16 @@ module _ (w : World) (k : Sized w) (t : ℕ) (p : Process) (here : process_in w 
 
   -- accesses
 
-  faulted_known : (st : Step) (h : ℕ) (hart : Hart) (x : Asked) (cause : ℕ) → ((s a : ℕ) → held w s a ≡ left_by w st (reply.Fault cause) (held w) s a) → Known w st (told w h hart t (faulted p x cause))
+  faulted_known : (st : Step) (h : ℕ) (hart : Hart) (x : AccessRequest) (cause : ℕ) → ((s a : ℕ) → held w s a ≡ left_by w st (reply.Fault cause) (held w) s a) → Known w st (access_outcome w h hart t (faulted p x cause))
   faulted_known st h hart x cause silent = same_known st _ _ _ refl (λ n. refl) silent
 
   -- a page that only was read
-  read_known : (st : Step) (h : ℕ) (hart : Hart) (x : Asked) (page : Page) (v : ℕ) → get p.settled (page_of x.address) ≡ Some page → ((s a : ℕ) → held w s a ≡ left_by w st (reply.Value v) (held w) s a) → Known w st (told w h hart t (answered p x (reply.Value v, page)))
+  read_known : (st : Step) (h : ℕ) (hart : Hart) (x : AccessRequest) (page : Page) (v : ℕ) → get p.settled (page_of x.address) ≡ Some page → ((s a : ℕ) → held w s a ≡ left_by w st (reply.Value v) (held w) s a) → Known w st (access_outcome w h hart t (answered p x (reply.Value v, page)))
   read_known st h hart x page v e silent = same_known st _ _ _ refl (put_same p.settled (page_of x.address) page page e refl) silent
 
   -- bytes that were stored
   stored_known : (h : ℕ) (hart : Hart) (address width value : ℕ) (via : Option ℕ) (page : Page) → slot_on w h ≡ Some t → get p.settled (page_of address) ≡ Some page → address % 4096 + width ≤ 4096
-      → Known w (step.Store h address width value via) (told w h hart t (answered p (asks access.Store address width value) (access_answer access.Store page (address % 4096) width value)))
+      → Known w (step.Store h address width value via) (access_outcome w h hart t (answered p (asks access.Store address width value) (access_answer access.Store page (address % 4096) width value)))
   stored_known h hart address width value via page on e fits =
       let vs = low_bytes value width in
       let long : length vs ≡ width = length-low_bytes value width in
@@ -138,7 +139,7 @@ module _ (w : World) (k : Sized w) (t : ℕ) (p : Process) (here : process_in w 
 
   serve_known : (h : ℕ) (hart : Hart) (o : Option Pending) → slot_on w h ≡ Some t → p.pending ≡ o → Known w (step.Serve h) (served w h hart t p o)
   serve_known h hart None on e = refused_known w k _ _
-  serve_known h hart (Some x) on e = served_known h hart x _ on e (reached_reaches (around w t) x.access x.address (begun w p) (first_rule p.scheme (regions p) x.access x.address x.width) (k.pages t p here))
+  serve_known h hart (Some x) on e = served_known h hart x _ on e (reached_reaches (environment_of w t) x.access x.address (initial_progress w p) (first_rule p.scheme (regions p) x.access x.address x.width) (k.pages t p here))
 
   -- calls
 
@@ -233,10 +234,10 @@ module _ (w : World) (k : Sized w) (t : ℕ) (p : Process) (here : process_in w 
     says None = held_now
     says (Some r) = held_now
 
-  copy_in_known : (h address n : ℕ) → slot_on w h ≡ Some t → Known w (step.CopyIn h address n) (told_in w t (copied_in (around w t) (begun w (without_pending p)) address n))
+  copy_in_known : (h address n : ℕ) → slot_on w h ≡ Some t → Known w (step.CopyIn h address n) (copy_in_outcome w t (copied_in (environment_of w t) (initial_progress w (without_pending p)) address n))
   copy_in_known h address n on =
-      let i = copy_came_in (around w t) (begun w (without_pending p)) p address n refl (λ a. refl) (k.pages t p here) in
-      let c = copied_in (around w t) (begun w (without_pending p)) address n in
+      let i = copy_came_in (environment_of w t) (initial_progress w (without_pending p)) p address n refl (λ a. refl) (k.pages t p here) in
+      let c = copied_in (environment_of w t) (initial_progress w (without_pending p)) address n in
       in_said h address n i.0 c c.stop on i.1
 
   out_said : (h address : ℕ) (bytes : Bor (List ℕ)) (end : ℕ) (c : Copied) (o : Option Rule) → slot_on w h ≡ Some t → CameOut w.files p address bytes.now end [] c → Known w (step.CopyOut h address bytes) (answers (with_progress w t c.progress) (out_reply c.bytes o))
@@ -254,10 +255,10 @@ module _ (w : World) (k : Sized w) (t : ℕ) (p : Process) (here : process_in w 
     says None = held_now
     says (Some r) = held_now
 
-  copy_out_known : (h address : ℕ) (bytes : Bor (List ℕ)) → slot_on w h ≡ Some t → Known w (step.CopyOut h address bytes) (told_out w t (copied_out (around w t) (begun w (without_pending p)) address bytes.now))
+  copy_out_known : (h address : ℕ) (bytes : Bor (List ℕ)) → slot_on w h ≡ Some t → Known w (step.CopyOut h address bytes) (copy_out_outcome w t (copied_out (environment_of w t) (initial_progress w (without_pending p)) address bytes.now))
   copy_out_known h address bytes on =
-      let i = copy_came_out (around w t) (begun w (without_pending p)) p address bytes.now refl (λ a. refl) (k.pages t p here) in
-      let c = copied_out (around w t) (begun w (without_pending p)) address bytes.now in
+      let i = copy_came_out (environment_of w t) (initial_progress w (without_pending p)) p address bytes.now refl (λ a. refl) (k.pages t p here) in
+      let c = copied_out (environment_of w t) (initial_progress w (without_pending p)) address bytes.now in
       out_said h address bytes i.0 c c.stop on i.1
 
 -- start

@@ -1,9 +1,10 @@
--- What is reached in the middle of a call, and from its beginning in the world that stands then: they differ in the frames that were taken
--- before alone.
+-- Lemma: making the page of an address resident (in memory and ready for an access) in the middle of a kernel copy has the
+-- result that it has at the beginning of one in the world as it is by then; only the number of frames taken differs
+-- (`shifted`).
 use Rattle.std.proofs.Common.{◌≡◌, ℕ, ◌+◌, Bool, true, false, refl, ap, sym, ◌∙◌, arith, Option, None, Some, Result, Ok, Err}
 use Rattle.std.specs.Prelude.{nat_lt}
 use Rattle.std.proofs.lemmas.Bool.{le-ltb, lt-ltb, ltb-false, ltb-true}
-use Rattle.process_model.specs.Around.{Around, is_shared_by, is_shared_page, need_at, Progress, reached, resident_at, unless_dry, unless_resident}
+use Rattle.process_model.specs.Environment.{Environment, is_shared_by, is_shared_page, need_at, Progress, resident_at_address, resident_at, unless_dry, unless_resident}
 use Rattle.process_model.specs.PageMap.{get}
 use Rattle.process_model.specs.Process.{Page, Process}
 use Rattle.process_model.specs.Residence.{is_resident, made_resident}
@@ -27,7 +28,7 @@ abbrev pub shifted : ℕ → Result Progress Rule → Result Progress Rule
 shifted more (Ok h) = Ok (later more h)
 shifted more (Err r) = Err r
 
-module _ (x y : Around) (files : x.files ≡ y.files) (others : (c : ℕ) → x.others_have c ≡ y.others_have c) (more : ℕ)
+module _ (x y : Environment) (files : x.files ≡ y.files) (others : (c : ℕ) → x.others_have c ≡ y.others_have c) (more : ℕ)
     (dry : (page need : ℕ) → x.is_dry page (0 + need) ≡ y.is_dry page (more + need)) (p : Process) (fresh : ℕ) (access : Access) where
   abbrev first : Progress
   first = record { process = p; fresh = fresh; taken = 0 }
@@ -59,7 +60,7 @@ module _ (x y : Around) (files : x.files ≡ y.files) (others : (c : ℕ) → x.
       let need = need_at x access page p in
       ap (λ (n : ℕ). unless_dry y access page second n (y.is_dry page (more + n))) (sym (needs page)) ∙ ap (unless_dry y access page second need) (sym (dry page need)) ∙ made page need (x.is_dry page (0 + need))
 
-  pub reached_later : (address : ℕ) (o : Option Rule) → reached y access address second o ≡ shifted more (reached x access address first o)
+  pub reached_later : (address : ℕ) (o : Option Rule) → resident_at_address y access address second o ≡ shifted more (resident_at_address x access address first o)
   unfolding resident_at
   reached_later address None = resides (page_of address) (is_resident p access (page_of address))
   reached_later address (Some r) = refl

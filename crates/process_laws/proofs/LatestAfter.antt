@@ -1,15 +1,16 @@
--- After each step the byte that a world holds is the latest that was left there.
+-- Lemma: what a step leaves at an address (`left_by`) depends on the earlier bytes at that address alone; used to pass from
+-- the byte that a world holds to the latest byte that was left.
 use Rattle.std.proofs.Common.{◌≡◌, ℕ, refl, Option, None, Some}
 use Rattle.process_model.specs.World.{World}
 use Rattle.process_model.specs.declared.step.Reply.{Reply}
 use Rattle.process_model.specs.declared.step.Reply.TheVariants as reply
 use Rattle.process_model.specs.declared.step.Step.{Step}
 use Rattle.process_model.specs.declared.step.Step.TheVariants as step
-use Rattle.process_laws.specs.Latest.{Knowledge, left_by, of_slot}
+use Rattle.process_laws.specs.Latest.{LatestBytes, left_by, of_slot}
 use Rattle.process_laws.specs.Moments.{slot_on}
 
 -- what is left follows from what was known before at the same address
-module _ (w : World) (one two : Knowledge) (s a : ℕ) (same : (t : ℕ) → one t a ≡ two t a) where
+module _ (w : World) (one two : LatestBytes) (s a : ℕ) (same : (t : ℕ) → one t a ≡ two t a) where
   parents : (u : Option ℕ) → of_slot one u a ≡ of_slot two u a
   parents None = refl
   parents (Some t) = same t

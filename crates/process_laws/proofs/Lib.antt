@@ -17,7 +17,7 @@ pub mod CopyFrames
 pub mod Refused
 pub mod Replies
 pub mod StepReplies
-pub mod Untold
+pub mod QuietSteps
 pub mod Possible
 pub mod Going
 pub mod Faults
@@ -35,7 +35,7 @@ pub mod Children
 pub mod CallsMade
 pub mod OneHart
 pub mod Proper
-pub mod Told
+pub mod HeadlineProof
 pub mod WrongModels
 pub mod ScriptLines
 pub mod Execs

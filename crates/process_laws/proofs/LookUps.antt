@@ -1,4 +1,5 @@
--- What is found in a map of pages after it changed.
+-- Lemmas about maps from page numbers: what is found after an insertion is the new value at its key, or was there; what is
+-- found after a selection of keys was there.
 use Rattle.std.proofs.Common.{◌≡◌, ℕ, Bool, true, false, cond, ◌⊎◌, inl, inr, refl, sym, ap, ◌∙◌, Option, None, Some}
 use Rattle.std.specs.Ordering.{nat_cmp, eq_by_cmp, is_eq}
 use Rattle.std.specs.Cmp.{nat_cmp_total, unsigned_tied}

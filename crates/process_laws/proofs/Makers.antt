@@ -1,4 +1,5 @@
--- Whether the hart that makes a step has the process of a slot.
+-- `IsOfAnother`, a predicate: the hart that makes a step does not have the process of a given slot (place in the process
+-- table); true of a step of no hart.
 use Rattle.std.specs.Prelude.{◌≡◌, ◌≢◌, ℕ, Some, slice_get}
 use Rattle.process_laws.specs.Words.{hart_of}
 use Rattle.process_model.specs.Harts.{Hart}

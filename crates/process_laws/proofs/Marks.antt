@@ -1,4 +1,6 @@
--- The stored marks of pages: which accesses leave one, and what a service makes of them.
+-- Lemmas about the stored mark (D: made ready for a store): making a page resident for a fetch or a load sets none; pages
+-- without it are not written back; and after a service the page is resident (in memory and ready), for a store without fork
+-- mark and, in a writable shared mapping, with the stored mark.
 use Rattle.std.proofs.Common.{◌≡◌, ◌≢◌, ℕ, Bool, true, false, not, ◌&&◌, ◌||◌, ◌-◌, ◌*◌, ◌<◌, ◌≤◌, inl, inr, refl, ap, sym, ◌∙◌, arith, List, [], ◌∷◌, Option, None, Some, cond}
 use Rattle.std.specs.Prelude.{T, Ok, fold, nat_le, nat_lt}
 use Rattle.std.specs.Ordering.{nat_cmp}
@@ -6,14 +8,14 @@ use Rattle.std.specs.Cmp.{unsigned_tied}
 use Rattle.std.specs.FinMap.Entries.{find, is_sorted}
 use Rattle.std.proofs.lemmas.Bool.{cases_eq, eq-eqb, leb-true, ltb-true, and_parts, ne_eqb}
 use Rattle.std.proofs.lemmas.Option.{same_Some}
-use Rattle.process_model.specs.Around.{Around, Progress, is_shared_page, need_at, resident_at, unless_dry, unless_resident}
+use Rattle.process_model.specs.Environment.{Environment, Progress, is_shared_page, need_at, resident_at, unless_dry, unless_resident}
 use Rattle.process_model.specs.Files.{File}
-use Rattle.process_model.specs.Inserted.{inserted_here, inserted_other}
+use Rattle.process_model.specs.Insertion.{inserted_here, inserted_other}
 use Rattle.process_model.specs.Mappings.{is_written_back, page_written, with_written, written_back}
 use Rattle.process_model.specs.PageMap.{get}
 use Rattle.process_model.specs.Process.{Page, Process}
 use Rattle.process_model.specs.Regions.{Region, keeps_stores}
-use Rattle.process_model.specs.Residence.{goes_through, initial_page, is_resident, is_resident_page, leaves_mark, made_resident, made_resident_from, region_on}
+use Rattle.process_model.specs.Residence.{can_complete, initial_page, is_resident, is_resident_page, leaves_mark, made_resident, made_resident_from, region_on}
 use Rattle.process_laws.proofs.EveryChange.{same_Ok}
 use Rattle.process_laws.proofs.PageCopies.{first, found_above, second}
 use Rattle.process_laws.proofs.Standing.{made_stands}
@@ -27,7 +29,7 @@ no_mark Fetch r other = refl
 no_mark Load r other = refl
 no_mark Store r other = absurd (other refl)
 
-loads_go_through : (access : Access) (r : Option Region) (s : Page) → access ≢ Store → goes_through access r s ≡ true
+loads_go_through : (access : Access) (r : Option Region) (s : Page) → access ≢ Store → can_complete access r s ≡ true
 loads_go_through Fetch r s other = refl
 loads_go_through Load r s other = refl
 loads_go_through Store r s other = absurd (other refl)
@@ -87,7 +89,7 @@ clear_pages_stay files p m from end clear = all_stay m from end p.settled.entrie
 
 -- a service
 
-module _ (a : Around) (access : Access) (page : ℕ) (g h : Progress) where
+module _ (a : Environment) (access : Access) (page : ℕ) (g h : Progress) where
   wet_stands : (need : ℕ) (dry : Bool) → unless_dry a access page g need dry ≡ Ok h → is_resident h.process access page ≡ true
   wet_stands need true e = absurd (cc)
   wet_stands need false e =

@@ -1,7 +1,8 @@
--- One step in memories of every size: what holds of it by one number, whatever the size is.
+-- Lemmas by which a claim with one number, the same for every size of the memory (`InEach`), passes from what a kernel call
+-- or a service runs to the whole step; a refusal has number 0.
 use Rattle.std.proofs.Common.{◌≡◌, ℕ, Bool, true, false, cond, not, refl, sym, subst, ◌∙◌, Option, None, Some}
 use Rattle.std.specs.Prelude.{slice_get}
-use Rattle.process_laws.specs.Words.{in_memory, tells_no_frame}
+use Rattle.process_laws.specs.Words.{in_memory, is_no_frame_reply}
 use Rattle.process_model.specs.Harts.{Hart}
 use Rattle.process_model.specs.Process.{Process}
 use Rattle.process_model.specs.World.{always, can_call, can_serve, common_refusal, is_unserved, kernel_call, on_hart, on_hart_at, Outcome, process_in, process_of_slot, refuses, unless_refused, with_its_process, with_process_of, with_slot_of, World}
@@ -10,7 +11,7 @@ use Rattle.process_model.specs.declared.step.Refusal.TheVariants as refusal
 use Rattle.process_model.specs.declared.step.Reply.TheVariants.{Refused}
 
 -- P says of a world and an outcome of a step there what the number is to say
-module _ (P : World → Outcome → ℕ → Type 0) (w : World) (quiet : (m : ℕ) (r : Refusal) → tells_no_frame (Refused r) ≡ false → P (in_memory w m) (refuses (in_memory w m) r) 0) where
+module _ (P : World → Outcome → ℕ → Type 0) (w : World) (quiet : (m : ℕ) (r : Refusal) → is_no_frame_reply (Refused r) ≡ false → P (in_memory w m) (refuses (in_memory w m) r) 0) where
   abbrev pub at : ℕ → World
   at m = in_memory w m
 
@@ -18,7 +19,7 @@ module _ (P : World → Outcome → ℕ → Type 0) (w : World) (quiet : (m : �
   unfoldable pub InEach : (World → Outcome) → Type 0
   InEach f = (n : ℕ) × ((m : ℕ) → P (at m) (f (at m)) n)
 
-  refused : (r : Refusal) → tells_no_frame (Refused r) ≡ false → InEach (λ u. refuses u r)
+  refused : (r : Refusal) → is_no_frame_reply (Refused r) ≡ false → InEach (λ u. refuses u r)
   unfolding InEach
   refused r e = (0, λ m. quiet m r e)
 

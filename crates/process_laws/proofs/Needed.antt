@@ -1,5 +1,5 @@
--- The tables of pages are those of the set of pages, and no fewer for more pages; one page more needs one of each level below the root's
--- at most.
+-- Lemmas about how many page tables a list of pages needs (`tables_needed`): it depends on the set of pages alone, does not
+-- fall with one page more, and grows with one by at most one table of each level below the root's.
 use Rattle.std.proofs.Common.{◌≡◌, ℕ, ◌+◌, ◌≤◌, ◌/◌, inl, inr, arith, refl, List, [], ◌∷◌, length, map}
 use Rattle.sv39_entry.specs.declared.scheme.Scheme.{Scheme}
 use Rattle.process_model.specs.PageMap.{NumberSet, insert, numbers, keys, count}

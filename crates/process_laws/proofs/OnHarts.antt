@@ -1,4 +1,6 @@
--- What every step does on its hart, for its process. What a refusal leaves true, and what the step itself makes true, is true after the step.
+-- Lemmas by which a claim about outcomes is proved of any step on a hart: if it holds of each refusal and of what the step
+-- runs for its process, then it holds of the step; for any hart step, kernel calls, and user accesses (that fault, or are
+-- answered within one page).
 use Rattle.std.proofs.Common.{◌≡◌, ℕ, Bool, true, false, cond, ◌+◌, ◌%◌, ◌≤◌, ◌⊎◌, refl, ap, ◌∙◌, arith, inl, inr, Option, None, Some}
 use Rattle.std.specs.Prelude.{slice_get}
 use Rattle.std.proofs.lemmas.Bool.{eqb-true}
@@ -14,18 +16,18 @@ use Rattle.process_model.specs.Process.{Process, Page, regions}
 use Rattle.process_model.specs.Residence.{access_answer}
 use Rattle.process_model.specs.Harts.{Hart}
 use Rattle.process_model.specs.World.{World, Outcome, refuses, process_in, can_call, always, common_refusal, unless_refused, on_hart_at, on_hart, with_process_of, with_slot_of, with_its_process, kernel_call}
-use Rattle.process_model.specs.Service.{Answer, Asked, faulted, answered, if_resident, if_settled, told, unless_denied, access_step}
+use Rattle.process_model.specs.Service.{Answer, AccessRequest, faulted, answered, if_resident, if_settled, access_outcome, unless_denied, access_step}
 use Rattle.process_model.specs.declared.phase.Phase.{Phase}
 use Rattle.process_model.specs.declared.step.Refusal.{Refusal}
 use Rattle.process_model.specs.declared.step.Refusal.TheVariants.{Impossible}
 use Rattle.process_laws.specs.Moments.{slot_at, slot_on}
 
-abbrev pub asks : Access → ℕ → ℕ → ℕ → Asked
+abbrev pub asks : Access → ℕ → ℕ → ℕ → AccessRequest
 asks access address width value = record { access = access; address = address; width = width; value = value }
 
 -- what an access comes to, is good where a fault is and an answer is
 
-module _ (Good : Answer → Type 0) (x : Asked) (p : Process) where
+module _ (Good : Answer → Type 0) (x : AccessRequest) (p : Process) where
   abbrev IsGoodOn : Page → Type 0
   IsGoodOn page = Good (answered p x (access_answer x.access page (x.address % 4096) x.width x.value))
 
@@ -114,17 +116,17 @@ module _ (w : World) (Good : Outcome → Type 0) (quiet : (r : Refusal) → Good
   -- accesses
 
   pub access_there : (h : ℕ) (access : Access) (address width value : ℕ) (via : Option ℕ)
-      → ((hart : Hart) (t : ℕ) (p : Process) (cause : ℕ) → process_in w t ≡ Some p → slot_on w h ≡ Some t → slice_get w.harts h ≡ Some hart → Good (told w h hart t (faulted p (asks access address width value) cause)))
+      → ((hart : Hart) (t : ℕ) (p : Process) (cause : ℕ) → process_in w t ≡ Some p → slot_on w h ≡ Some t → slice_get w.harts h ≡ Some hart → Good (access_outcome w h hart t (faulted p (asks access address width value) cause)))
       → ((hart : Hart) (t : ℕ) (p : Process) (page : Page) → process_in w t ≡ Some p → slot_on w h ≡ Some t → get p.settled (page_of address) ≡ Some page → address % 4096 + width ≤ 4096
-      → Good (told w h hart t (answered p (asks access address width value) (access_answer access page (address % 4096) width value))))
+      → Good (access_outcome w h hart t (answered p (asks access address width value) (access_answer access page (address % 4096) width value))))
       → Good (access_step w h access address width value via)
   access_there h access address width value via fails f = on_hart_good h (is_width width) _ _ _ (λ hart is proper. its_good h hart _ is
-      (λ t p on here. granted_good (λ x. Good (told w h hart t x)) (asks access address width value) p _ (λ cause. fails hart t p cause here on is)
+      (λ t p on here. granted_good (λ x. Good (access_outcome w h hart t x)) (asks access address width value) p _ (λ cause. fails hart t p cause here on is)
       (λ page e granted. f hart t p page here on e (granted_fits p access address width proper granted))))
 
   pub access_good : (h : ℕ) (access : Access) (address width value : ℕ) (via : Option ℕ)
-      → ((hart : Hart) (t : ℕ) (p : Process) (cause : ℕ) → process_in w t ≡ Some p → slot_on w h ≡ Some t → Good (told w h hart t (faulted p (asks access address width value) cause)))
+      → ((hart : Hart) (t : ℕ) (p : Process) (cause : ℕ) → process_in w t ≡ Some p → slot_on w h ≡ Some t → Good (access_outcome w h hart t (faulted p (asks access address width value) cause)))
       → ((hart : Hart) (t : ℕ) (p : Process) (page : Page) → process_in w t ≡ Some p → slot_on w h ≡ Some t → get p.settled (page_of address) ≡ Some page → address % 4096 + width ≤ 4096
-      → Good (told w h hart t (answered p (asks access address width value) (access_answer access page (address % 4096) width value))))
+      → Good (access_outcome w h hart t (answered p (asks access address width value) (access_answer access page (address % 4096) width value))))
       → Good (access_step w h access address width value via)
   access_good h access address width value via fails f = access_there h access address width value via (λ hart t p cause here on is. fails hart t p cause here on) f

@@ -1,4 +1,4 @@
--- No process is on two harts.
+-- Lemmas: no process is on two harts, after any step that starts so, and in every run since boot.
 use Rattle.std.proofs.Common.{◌≡◌, ◌≢◌, ◌⊎◌, ℕ, zero, suc, ap, sym, ◌∙◌, inl, inr, List, [], ◌∷◌, Option, None, Some}
 use Rattle.std.specs.Prelude.{replicate, slice_get}
 use Rattle.std.proofs.lemmas.Bool.{cases_eq}

@@ -1,6 +1,6 @@
--- A process is changed by its own steps alone.
+-- Lemma: a process stays as it is through every step that is not made by it, or for it, on its own hart.
 use Rattle.std.proofs.Common.{◌≡◌, ◌≢◌, ℕ, refl, sym, ap, ◌∙◌, Option, Some}
-use Rattle.process_laws.specs.Words.{hart_of, maker}
+use Rattle.process_laws.specs.Words.{hart_of, hart_of_step}
 use Rattle.process_laws.proofs.OnHarts.{on_hart_good}
 use Rattle.process_laws.proofs.Untouched.{other_kept}
 use Rattle.process_laws.specs.Moments.{slot_at, slot_on}
@@ -41,10 +41,10 @@ module _ (t : ℕ) (q : Process) where
   unfolding steps.step
   marked_kept w x k = marks_keep_it w.policy w (plain_step w x) k
 
-  by_its_own : (w : World) (x : Step) → ((h : ℕ) → maker x ≡ Some h → slot_on w h ≢ Some t) → hart_of x ≡ maker x → process_in w t ≡ Some q → Kept (steps.step w x)
+  by_its_own : (w : World) (x : Step) → ((h : ℕ) → hart_of_step x ≡ Some h → slot_on w h ≢ Some t) → hart_of x ≡ hart_of_step x → process_in w t ≡ Some q → Kept (steps.step w x)
   by_its_own w x apart same k = other_kept w x t q (λ h hart e is on. apart h (sym same ∙ e) (ap slot_at is ∙ on)) k
 
-  pub kept_by : (w : World) (x : Step) → ((h : ℕ) → maker x ≡ Some h → slot_on w h ≢ Some t) → process_in w t ≡ Some q → Kept (steps.step w x)
+  pub kept_by : (w : World) (x : Step) → ((h : ℕ) → hart_of_step x ≡ Some h → slot_on w h ≢ Some t) → process_in w t ≡ Some q → Kept (steps.step w x)
   kept_by w (step.Start image) apart k = by_its_own w (step.Start image) apart refl k
   kept_by w (step.Switch h slot) apart k = marked_kept w (step.Switch h slot) (switch_kept w h slot k)
   kept_by w (step.Trap h) apart k = by_its_own w (step.Trap h) apart refl k

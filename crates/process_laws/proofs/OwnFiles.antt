@@ -1,4 +1,5 @@
--- What its own step writes back to files.
+-- Lemma: what a process's own step changes in files is write-back by munmap, exec or its end: each byte that changes becomes
+-- one that the process had at that place on a page with the stored mark (D) of a writable shared mapping (`Written`).
 use Rattle.std.proofs.Common.{◌≡◌, ℕ, Bool, true, false, ◌+◌, refl, sym, subst, List, Option, None, Some, ◌<◌, ◌≤◌, arith}
 use Rattle.std.specs.Prelude.{Result, Ok, Err}
 use Rattle.std.proofs.lemmas.Bool.Decides.{nat_tests}
@@ -8,7 +9,7 @@ use Rattle.process_laws.proofs.Granting.{IsSound}
 use Rattle.process_laws.proofs.Kept.{step_keeps}
 use Rattle.process_laws.proofs.OnHarts.{kernel_good}
 use Rattle.process_laws.proofs.PageBytes.{AllSized}
-use Rattle.process_laws.specs.Words.{goes_back, is_end, IsOn, maker, Written}
+use Rattle.process_laws.specs.Words.{is_page_written_back, is_end, IsOnHart, hart_of_step, Written}
 use Rattle.process_model.specs.Bytes.{pages_for}
 use Rattle.process_model.specs.Calls.{replaced, replaced_unless, unmapped_to}
 use Rattle.process_model.specs.Images.{image_loads, LoadSegment}
@@ -25,7 +26,7 @@ use Rattle.process_model.specs.declared.step.Step.TheVariants as step_of
 use Rattle.sv39_entry.specs.Address.{page_of}
 use Rattle.process_laws.proofs.OwnSteps.{Own, owns, same_process, step_files}
 
-module _ (w : World) (h s : ℕ) (p : Process) (on : IsOn w h s p) (sound : IsSound p) (sized : AllSized p.settled) where
+module _ (w : World) (h s : ℕ) (p : Process) (on : IsOnHart w h s p) (sound : IsSound p) (sized : AllSized p.settled) where
   abbrev Good : Step → Outcome → Type 0
   Good x o = Written x p w.files (o.world).files
 
@@ -44,7 +45,7 @@ module _ (w : World) (h s : ℕ) (p : Process) (on : IsOn w h s p) (sound : IsSo
     abbrev stop : ℕ
     stop = from + pages_for len
 
-    in_range : (page : ℕ) → from ≤ page → page < stop → goes_back munmap page ≡ true
+    in_range : (page : ℕ) → from ≤ page → page < stop → is_page_written_back munmap page ≡ true
     in_range page start before = grind (arith, nat_tests, start, before)
 
     hole_files : (t : ℕ) (m : Region) (b : Bool) → mapping_around p.mappings from stop ≡ Some m → Good munmap (unmapped_to w t (unmapped_unless w.files p m from stop b))
@@ -87,11 +88,11 @@ module _ (w : World) (h s : ℕ) (p : Process) (on : IsOn w h s p) (sound : IsSo
   to_step x = subst (Written x p w.files) (sym (step_files w x))
 
   -- an end writes all back, and any other step what it says
-  files_by : (x : Step) → ((page : ℕ) → goes_back x page ≡ true) → (is_end (step w x).reply ≡ false → Good x (step w x)) → Own w h s x p (step w x) → Good x (step w x)
+  files_by : (x : Step) → ((page : ℕ) → is_page_written_back x page ≡ true) → (is_end (step w x).reply ≡ false → Good x (step w x)) → Own w h s x p (step w x) → Good x (step w x)
   files_by x all calm (Own.alive q there lives k) = calm lives
   files_by x all calm (Own.gone there is at written) = subst (Written x p w.files) (sym written) (end_written x p sized sound.ordered all w.files)
 
-  pub own_files : (x : Step) → maker x ≡ Some h → Written x p w.files ((step w x).world).files
+  pub own_files : (x : Step) → hart_of_step x ≡ Some h → Written x p w.files ((step w x).world).files
   own_files (step_of.Munmap k address len) e = subst (λ n. Good (step_of.Munmap n address len) (step w (step_of.Munmap n address len))) (sym (same_Some k h e)) (to_step (step_of.Munmap h address len) (unmaps address len))
   own_files (step_of.Exec k image) e = files_by (step_of.Exec k image) (λ page. refl)
       (λ lives. subst (λ n. Good (step_of.Exec n image) (step w (step_of.Exec n image))) (sym (same_Some k h e)) (to_step (step_of.Exec h image) (execs image)))

@@ -1,4 +1,6 @@
--- What its own step makes of a process, beside its bytes.
+-- Lemma: by its own step a process becomes what part (f) of the headline says of regions, marks, size and pending access
+-- (`Becomes`), or it ended: its slot (place in the process table) is empty, its hart idle, all its mappings written back
+-- (`Own`). Its bytes are in `KnownSteps`.
 use Rattle.std.proofs.Common.{pos, ◌≡◌, ◌≢◌, ℕ, ℤ, Bool, true, false, cond, ◌+◌, ◌-◌, ◌*◌, ◌%◌, inl, inr, refl, sym, ap, subst, ◌∙◌, arith, List, [], ◌∷◌, length, Option, None, Some, Bor, ◌||◌}
 use Rattle.std.specs.Prelude.{nat_abs, Result, Ok, Err, slice_get, unwrap_or}
 use Rattle.std.specs.Ordering.{eq_by_cmp, nat_cmp}
@@ -19,22 +21,22 @@ use Rattle.process_laws.proofs.Untouched.{free_is_empty}
 use Rattle.process_laws.specs.Moments.{Moment, slot_on}
 use Rattle.process_laws.specs.Headline.{Becomes}
 use Rattle.process_laws.specs.Pages.{grant_in, has_mark, has_some_of, has_stored_mark, image_grant, image_size, is_between, is_remapped, is_store, is_store_at, is_stored_to, mapping_grant, size_after, has_fork_mark}
-use Rattle.process_laws.specs.Words.{is_end, is_fault, IsMade, IsOn, maker}
-use Rattle.process_model.specs.Around.{Progress}
+use Rattle.process_laws.specs.Words.{is_end, is_fault, IsMade, IsOnHart, hart_of_step}
+use Rattle.process_model.specs.Environment.{Progress}
 use Rattle.process_model.specs.Bytes.{pages_for}
-use Rattle.process_model.specs.Calls.{forked, forked_unless, mapped_to, replaced, replaced_unless, resized_to, told_in, told_out, unmapped_to}
+use Rattle.process_model.specs.Calls.{forked, forked_unless, mapped_to, replaced, replaced_unless, resized_to, copy_in_outcome, copy_out_outcome, unmapped_to}
 use Rattle.process_model.specs.Copies.{Copied, copied_in, copied_out, in_reply, out_reply}
-use Rattle.process_model.specs.Granted.{place_fits}
+use Rattle.process_model.specs.GrantLaws.{place_fits}
 use Rattle.process_model.specs.Harts.{Hart}
 use Rattle.process_model.specs.Heap.{resized_unless, sbrk_result, size_refusal, wanted_size, without_pages}
 use Rattle.process_model.specs.Images.{image_loads, LoadSegment}
-use Rattle.process_model.specs.Loading.{process_of}
+use Rattle.process_model.specs.ImageProcess.{process_of}
 use Rattle.process_model.specs.Mappings.{all_written_back, map_refusal, mapped, mapped_unless, mapping_around, mapping_of, mapping_place, unmapped, unmapped_if, unmapped_in, unmapped_unless}
 use Rattle.process_model.specs.PageMap.{each_value, get}
 use Rattle.process_model.specs.Process.{grants_write, Page, Pending, Process, regions, without_pending}
 use Rattle.process_model.specs.Regions.{first_rule, Region, region_at}
 use Rattle.process_model.specs.Residence.{access_answer, child_of, marked, marked_page, with_page}
-use Rattle.process_model.specs.Service.{around, begun, ended, faulted, is_dry, served, served_or_ended, told, with_progress, with_served}
+use Rattle.process_model.specs.Service.{environment_of, initial_progress, ended, faulted, served, served_or_ended, access_outcome, with_progress, with_served}
 use Rattle.process_model.specs.Service as service
 use Rattle.process_model.specs.Stale.{with_stale_slots}
 use Rattle.process_model.specs.Steps.{plain_step, step}
@@ -64,8 +66,8 @@ told_as w x r = record { before = w; step = x; reply = r; after = w }
 
 pub becomes_as : (m n : Moment) (h : ℕ) (p q : Process) → (n.before).scheme ≡ (m.before).scheme → n.step ≡ m.step → n.reply ≡ m.reply → Becomes m h p q → Becomes n h p q
 becomes_as m n h p q scheme step reply k =
-    let told = subst (λ r. Becomes (record { before = m.before; step = m.step; reply = r; after = m.after }) h p q) (sym reply) k in
-    let j = subst (λ x. Becomes (record { before = m.before; step = x; reply = n.reply; after = m.after }) h p q) (sym step) told in
+    let access_outcome = subst (λ r. Becomes (record { before = m.before; step = m.step; reply = r; after = m.after }) h p q) (sym reply) k in
+    let j = subst (λ x. Becomes (record { before = m.before; step = x; reply = n.reply; after = m.after }) h p q) (sym step) access_outcome in
     record { waits = j.waits; stays = j.stays; remapped = λ page inside. rw scheme (j.remapped page inside); vacant = j.vacant; below = j.below; forked = j.forked; unforked = j.unforked; base = j.base; stored = j.stored; cleared = j.cleared; size = rw scheme j.size; old_size = j.old_size }
 
 -- marks change no file
@@ -96,7 +98,7 @@ refused_size z (step_of.Exec h image) r size = refl
 refused_size z (step_of.Sbrk h delta) r size = refl
 refused_size z _ r size = refl
 
-module _ (w : World) (h s : ℕ) (p : Process) (on : IsOn w h s p) (x : Step) where
+module _ (w : World) (h s : ℕ) (p : Process) (on : IsOnHart w h s p) (x : Step) where
   abbrev Fate : Outcome → Type 0
   Fate o = Own w h s x p o
 
@@ -144,7 +146,7 @@ module _ (w : World) (h s : ℕ) (p : Process) (on : IsOn w h s p) (x : Step) wh
 
   -- accesses
 
-  fault_fate : (hart : Hart) (a : service.Asked) (cause : ℕ) → Calm (Fault cause) → Fate (told w h hart s (faulted p a cause))
+  fault_fate : (hart : Hart) (a : service.AccessRequest) (cause : ℕ) → Calm (Fault cause) → Fate (access_outcome w h hart s (faulted p a cause))
   fault_fate hart a cause still = further _ _ _ refl refl refl still (λ n e. absurd cc) (record { same = refl; size = refl; base = refl; kept = λ page e. inl e; forked = λ page e. e; stored = λ page e. e; anew = λ page e. inl e })
 
   answer_fate : (v : World) (r : Reply) (kind : Access) (address width value : ℕ) (page : Page) → v.slots ≡ (with_process w s (without_pending (with_page p (page_of address) (access_answer kind page (address % 4096) width value).1))).slots
@@ -161,7 +163,7 @@ module _ (w : World) (h s : ℕ) (p : Process) (on : IsOn w h s p) (x : Step) wh
 
   serve_fate : (hart : Hart) (o : Option Pending) → slice_get w.harts h ≡ Some hart → Calm Ready → ((a : Pending) → o ≡ Some a → is_store a.access ≡ true → is_stored_to p x (page_of a.address) ≡ true) → Fate (served w h hart s p o)
   serve_fate hart None there still goes = quiet _
-  serve_fate hart (Some a) there still goes = serve_or hart a _ there still (reached_further (is_stored_to p x) (around w s) (begun w p) a.access a.address (first_rule p.scheme (regions p) a.access a.address a.width) (goes a refl))
+  serve_fate hart (Some a) there still goes = serve_or hart a _ there still (reached_further (is_stored_to p x) (environment_of w s) (initial_progress w p) a.access a.address (first_rule p.scheme (regions p) a.access a.address a.width) (goes a refl))
 
   -- copies
 
@@ -176,15 +178,15 @@ module _ (w : World) (h s : ℕ) (p : Process) (on : IsOn w h s p) (x : Step) wh
   begun_further : (may : ℕ → Bool) (q : Process) → Further may (without_pending p) q → Further may p q
   begun_further may q f = record { same = f.same; size = f.size; base = f.base; kept = f.kept; forked = f.forked; stored = f.stored; anew = f.anew }
 
-  copy_in_fate : (address n : ℕ) → ((r : Reply) → Calm r) → ((q : Process) → Further (λ page. false) p q → Further (is_stored_to p x) p q) → Fate (told_in w s (copied_in (around w s) (begun w (without_pending p)) address n))
+  copy_in_fate : (address n : ℕ) → ((r : Reply) → Calm r) → ((q : Process) → Further (λ page. false) p q → Further (is_stored_to p x) p q) → Fate (copy_in_outcome w s (copied_in (environment_of w s) (initial_progress w (without_pending p)) address n))
   copy_in_fate address n still may =
-      let c = copied_in (around w s) (begun w (without_pending p)) address n in
-      in_fate c c.stop (still (in_reply c.bytes c.stop)) ((in_so_far (around w s) (begun w (without_pending p)) address n).idle) (may (c.progress).process (begun_further (λ page. false) (c.progress).process (copied_in_far (around w s) (begun w (without_pending p)) address n)))
+      let c = copied_in (environment_of w s) (initial_progress w (without_pending p)) address n in
+      in_fate c c.stop (still (in_reply c.bytes c.stop)) ((in_so_far (environment_of w s) (initial_progress w (without_pending p)) address n).idle) (may (c.progress).process (begun_further (λ page. false) (c.progress).process (copied_in_far (environment_of w s) (initial_progress w (without_pending p)) address n)))
 
-  copy_out_fate : (address : ℕ) (bytes : List ℕ) → ((r : Reply) → Calm r) → ((q : Process) → Further (has_some_of address (length bytes)) p q → Further (is_stored_to p x) p q) → Fate (told_out w s (copied_out (around w s) (begun w (without_pending p)) address bytes))
+  copy_out_fate : (address : ℕ) (bytes : List ℕ) → ((r : Reply) → Calm r) → ((q : Process) → Further (has_some_of address (length bytes)) p q → Further (is_stored_to p x) p q) → Fate (copy_out_outcome w s (copied_out (environment_of w s) (initial_progress w (without_pending p)) address bytes))
   copy_out_fate address bytes still may =
-      let c = copied_out (around w s) (begun w (without_pending p)) address bytes in
-      out_fate c c.stop (still (out_reply c.bytes c.stop)) ((out_so_far (around w s) (begun w (without_pending p)) address bytes).idle) (may (c.progress).process (begun_further (has_some_of address (length bytes)) (c.progress).process (copied_out_far (around w s) (begun w (without_pending p)) address bytes)))
+      let c = copied_out (environment_of w s) (initial_progress w (without_pending p)) address bytes in
+      out_fate c c.stop (still (out_reply c.bytes c.stop)) ((out_so_far (environment_of w s) (initial_progress w (without_pending p)) address bytes).idle) (may (c.progress).process (begun_further (has_some_of address (length bytes)) (c.progress).process (copied_out_far (environment_of w s) (initial_progress w (without_pending p)) address bytes)))
 
 -- pages that are released, and those of an image and of a fork's parent
 
@@ -223,7 +225,7 @@ fork_kept p page is = marks_kept (marked_page p) (λ n x e. ap (λ b. b || grant
 
 -- calls that change regions, fork and exec
 
-module _ (w : World) (h s : ℕ) (p : Process) (on : IsOn w h s p) where
+module _ (w : World) (h s : ℕ) (p : Process) (on : IsOnHart w h s p) where
   sbrk_unless : IsSound p → (delta : ℤ) (o : Option Refusal) → size_refusal p (wanted_size p delta) ≡ o → Own w h s (step_of.Sbrk h delta) p (resized_to w s p (resized_unless p (nat_abs (wanted_size p delta)) o))
   sbrk_unless sound delta (Some r) none = quiet w h s p on _ r
   sbrk_unless sound delta None none =
@@ -287,16 +289,16 @@ module _ (w : World) (h s : ℕ) (p : Process) (on : IsOn w h s p) where
     end = first + pages_for len
 
     hole_fate : (m : Region) (b : Bool) → mapping_around p.mappings first end ≡ Some m → Own w h s (step_of.Munmap h address len) p (unmapped_to w s (unmapped_unless w.files p m first end b))
-    hole_fate m true around = quiet w h s p on _ _
-    hole_fate m false around = puts w h s p on _ _ _ _ refl refl (record {
+    hole_fate m true environment_of = quiet w h s p on _ _
+    hole_fate m false environment_of = puts w h s p on _ _ _ _ refl refl (record {
       waits = λ made. refl;
       stays = λ page out.
-          let k = unmapped_same p m (pages_for p.size) (trapframe_page p.scheme) first end page (omega arith) out (sound.ordered).above around in
+          let k = unmapped_same p m (pages_for p.size) (trapframe_page p.scheme) first end page (omega arith) out (sound.ordered).above environment_of in
           (k.grants, λ e. mark_at (λ z. z.stored_mark) (get (without_pages p first end).settled page) (get p.settled page) k.settled ∙ e);
-      remapped = λ page inside. unmapped_given p sound.ordered page first end inside m around;
-      vacant = λ page inside other. inr (unmapped_given p sound.ordered page first end inside m around);
-      below = λ page inside. unmapped_above p sound.ordered page first end inside m around;
-      unforked = λ page out e. inl (mark_at (λ z. z.fork_mark) (get (without_pages p first end).settled page) (get p.settled page) (unmapped_same p m (pages_for p.size) (trapframe_page p.scheme) first end page (omega arith) out (sound.ordered).above around).settled ∙ e);
+      remapped = λ page inside. unmapped_given p sound.ordered page first end inside m environment_of;
+      vacant = λ page inside other. inr (unmapped_given p sound.ordered page first end inside m environment_of);
+      below = λ page inside. unmapped_above p sound.ordered page first end inside m environment_of;
+      unforked = λ page out e. inl (mark_at (λ z. z.fork_mark) (get (without_pages p first end).settled page) (get p.settled page) (unmapped_same p m (pages_for p.size) (trapframe_page p.scheme) first end page (omega arith) out (sound.ordered).above environment_of).settled ∙ e);
       base = inl refl;
       forked = λ other page. released_mark (λ z. z.fork_mark) p first end page;
       stored = λ page e. inl (released_mark (λ z. z.stored_mark) p first end page e);
@@ -306,8 +308,8 @@ module _ (w : World) (h s : ℕ) (p : Process) (on : IsOn w h s p) where
     })
 
     in_fate_of : (o : Option Region) → mapping_around p.mappings first end ≡ o → Own w h s (step_of.Munmap h address len) p (unmapped_to w s (unmapped_in w.files p first end o))
-    in_fate_of None around = quiet w h s p on _ _
-    in_fate_of (Some m) around = hole_fate m _ around
+    in_fate_of None environment_of = quiet w h s p on _ _
+    in_fate_of (Some m) environment_of = hole_fate m _ environment_of
 
     if_fate : (b : Bool) → Own w h s (step_of.Munmap h address len) p (unmapped_to w s (unmapped_if w.files p first end b))
     if_fate false = quiet w h s p on _ _
@@ -373,7 +375,7 @@ store_here a store = rw (store, eq-eqb (page_of a.address) (page_of a.address) r
 
 -- ---- all steps
 
-module _ (w : World) (h s : ℕ) (p : Process) (on : IsOn w h s p) where
+module _ (w : World) (h s : ℕ) (p : Process) (on : IsOnHart w h s p) where
   abbrev FateOf : Step → Type 0
   FateOf x = Own w h s x p (plain_step w x)
 
@@ -395,24 +397,24 @@ module _ (w : World) (h s : ℕ) (p : Process) (on : IsOn w h s p) where
   fetch_own address via =
       let x = step_of.Fetch h address via in
       access_good w (Own w h s x p) (quiet w h s p on x) h access.Fetch address 4 0 via
-      (λ hart t q cause here at. its w h s p on x (λ t q. told w h hart t (faulted q (harts.asks access.Fetch address 4 0) cause)) t q at here (fault_fate w h s p on x hart (harts.asks access.Fetch address 4 0) cause ((λ page. refl), refl)))
-      (λ hart t q page here at e fits. its w h s p on x (λ t q. told w h hart t (service.answered q (harts.asks access.Fetch address 4 0) (access_answer access.Fetch page (address % 4096) 4 0))) t q at here
+      (λ hart t q cause here at. its w h s p on x (λ t q. access_outcome w h hart t (faulted q (harts.asks access.Fetch address 4 0) cause)) t q at here (fault_fate w h s p on x hart (harts.asks access.Fetch address 4 0) cause ((λ page. refl), refl)))
+      (λ hart t q page here at e fits. its w h s p on x (λ t q. access_outcome w h hart t (service.answered q (harts.asks access.Fetch address 4 0) (access_answer access.Fetch page (address % 4096) 4 0))) t q at here
       (answer_fate w h s p on x _ _ access.Fetch address 4 0 page refl refl refl ((λ page. refl), refl) (λ n e. absurd cc) (answer_there hart access.Fetch address 4 0 x page t q at here e)))
 
   load_own : (address width : ℕ) (via : Option ℕ) → FateOf (step_of.Load h address width via)
   load_own address width via =
       let x = step_of.Load h address width via in
       access_good w (Own w h s x p) (quiet w h s p on x) h access.Load address width 0 via
-      (λ hart t q cause here at. its w h s p on x (λ t q. told w h hart t (faulted q (harts.asks access.Load address width 0) cause)) t q at here (fault_fate w h s p on x hart (harts.asks access.Load address width 0) cause ((λ page. refl), refl)))
-      (λ hart t q page here at e fits. its w h s p on x (λ t q. told w h hart t (service.answered q (harts.asks access.Load address width 0) (access_answer access.Load page (address % 4096) width 0))) t q at here
+      (λ hart t q cause here at. its w h s p on x (λ t q. access_outcome w h hart t (faulted q (harts.asks access.Load address width 0) cause)) t q at here (fault_fate w h s p on x hart (harts.asks access.Load address width 0) cause ((λ page. refl), refl)))
+      (λ hart t q page here at e fits. its w h s p on x (λ t q. access_outcome w h hart t (service.answered q (harts.asks access.Load address width 0) (access_answer access.Load page (address % 4096) width 0))) t q at here
       (answer_fate w h s p on x _ _ access.Load address width 0 page refl refl refl ((λ page. refl), refl) (λ n e. absurd cc) (answer_there hart access.Load address width 0 x page t q at here e)))
 
   store_own : (address width value : ℕ) (via : Option ℕ) → FateOf (step_of.Store h address width value via)
   store_own address width value via =
       let x = step_of.Store h address width value via in
       access_good w (Own w h s x p) (quiet w h s p on x) h access.Store address width value via
-      (λ hart t q cause here at. its w h s p on x (λ t q. told w h hart t (faulted q (harts.asks access.Store address width value) cause)) t q at here (fault_fate w h s p on x hart (harts.asks access.Store address width value) cause ((λ page. refl), refl)))
-      (λ hart t q page here at e fits. its w h s p on x (λ t q. told w h hart t (service.answered q (harts.asks access.Store address width value) (access_answer access.Store page (address % 4096) width value))) t q at here
+      (λ hart t q cause here at. its w h s p on x (λ t q. access_outcome w h hart t (faulted q (harts.asks access.Store address width value) cause)) t q at here (fault_fate w h s p on x hart (harts.asks access.Store address width value) cause ((λ page. refl), refl)))
+      (λ hart t q page here at e fits. its w h s p on x (λ t q. access_outcome w h hart t (service.answered q (harts.asks access.Store address width value) (access_answer access.Store page (address % 4096) width value))) t q at here
       (answer_fate w h s p on x _ _ access.Store address width value page refl refl refl ((λ page. refl), refl) (λ n e. absurd cc) (answer_there hart access.Store address width value x page t q at here e)))
 
   serve_own : FateOf (step_of.Serve h)
@@ -452,7 +454,7 @@ module _ (w : World) (h s : ℕ) (p : Process) (on : IsOn w h s p) where
   copy_out_own address bytes = call_own (step_of.CopyOut h address bytes) _ _ (λ hart. copy_out_fate w h s p on (step_of.CopyOut h address bytes) address bytes.now (λ r. ((λ page. refl), refl)) (λ q f. f))
 
   -- its own step
-  own_plain : IsSound p → (x : Step) → maker x ≡ Some h → FateOf x
+  own_plain : IsSound p → (x : Step) → hart_of_step x ≡ Some h → FateOf x
   own_plain sound (step_of.Start image) e = absurd cc
   own_plain sound (step_of.Switch k slot) e = absurd cc
   own_plain sound (step_of.Trap k) e = subst (λ n. FateOf (step_of.Trap n)) (sym (same_Some k h e)) trap_own
@@ -477,5 +479,5 @@ module _ (w : World) (h s : ℕ) (p : Process) (on : IsOn w h s p) where
   as_step x (Own.alive q e lives k) = Own.alive q (step_process w x s ∙ e) (ap is_end (step_reply w x) ∙ lives) (becomes_as (told_as w x (plain_step w x).reply) (told_as w x (step w x).reply) h p q refl refl (step_reply w x) k)
   as_step x (Own.gone e is at written) = Own.gone (step_process w x s ∙ e) (ap is_end (step_reply w x) ∙ is) (step_at w x h None Idle at) (step_files w x ∙ written)
 
-  pub owns : IsSound p → (x : Step) → maker x ≡ Some h → Own w h s x p (step w x)
+  pub owns : IsSound p → (x : Step) → hart_of_step x ≡ Some h → Own w h s x p (step w x)
   owns sound x e = as_step x (own_plain sound x e)

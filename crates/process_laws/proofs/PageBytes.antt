@@ -1,4 +1,5 @@
--- The bytes of settled pages, and what each change of a process makes of them.
+-- The byte of a settled page (in memory) at an address (`byte_in`), and `AllSized`, each page has 4,096 bytes. Lemmas: what
+-- a fork, a store, a page made resident, a release of pages and an image's start make of the bytes.
 use Rattle.std.proofs.Common.{◌≡◌, ℕ, zero, suc, Bool, true, false, cond, not, ◌&&◌, ◌||◌, ◌==◌, ◌+◌, ◌-◌, ◌%◌, ◌<◌, ◌≤◌, refl, sym, ap, ◌∙◌, arith, inl, inr, List, [], ◌∷◌, ◌++◌, take, drop, length, Option, None, Some}
 use Rattle.std.specs.Prelude.{nat_le, nat_lt, replicate, slice_get, flat_map, if◌then◌else◌}
 use Rattle.std.specs.Ordering.{nat_cmp, eq_by_cmp}
@@ -17,11 +18,11 @@ use Rattle.process_model.specs.PageMap.{PageMap, get, insert, only, each_value, 
 use Rattle.process_model.specs.Files.{File, bytes_of}
 use Rattle.process_model.specs.Regions.{Region, Source, zeros, image, file, region_at}
 use Rattle.process_model.specs.Process.{Process, Page, regions}
-use Rattle.process_model.specs.Residence.{source_page, region_page, initial_page, goes_through, with_page, settled_anew, taken_over, taken_over_unless, made_resident_from, made_resident, stored, child_of, child_page, leaves_mark, marked_page, marked, region_on}
+use Rattle.process_model.specs.Residence.{source_page, region_page, initial_page, can_complete, with_page, settled_anew, taken_over, taken_over_unless, made_resident_from, made_resident, stored, child_of, child_page, leaves_mark, marked_page, marked, region_on}
 use Rattle.process_model.specs.Heap.{without_pages}
 use Rattle.process_model.specs.Images.{LoadSegment}
 use Rattle.process_model.specs.Images.{end_of_loads}
-use Rattle.process_model.specs.Loading.{page_run, load_pages, image_pages, numbered, process_of}
+use Rattle.process_model.specs.ImageProcess.{page_run, load_pages, image_pages, numbered, process_of}
 use Rattle.process_laws.specs.Latest.{byte_at, is_among}
 
 -- the byte of a list of pages at an address
@@ -255,7 +256,7 @@ unmarks files fresh shared p page x false e s =
 
 resident_from : (files : List File) (fresh : ℕ) (shared : Bool) (p : Process) (access : Access) (page : ℕ) (o : Option Page) → get p.settled page ≡ o → AllSized p.settled → SettlesPage files page p (made_resident_from files fresh shared p access page o)
 resident_from files fresh shared p access page None e s = settles_anew files fresh p access page e s
-resident_from files fresh shared p access page (Some x) e s = unmarks files fresh shared p page x (goes_through access (region_on p page) x) e s
+resident_from files fresh shared p access page (Some x) e s = unmarks files fresh shared p page x (can_complete access (region_on p page) x) e s
 
 pub resident_settles : (files : List File) (fresh : ℕ) (shared : Bool) (p : Process) (access : Access) (page : ℕ) → AllSized p.settled → SettlesPage files page p (made_resident files fresh shared p access page)
 resident_settles files fresh shared p access page s = resident_from files fresh shared p access page (get p.settled page) refl s

@@ -1,4 +1,5 @@
--- The copy numbers of pages, when one page is set.
+-- Lemmas about the list of copy numbers (each names one copy of a page in memory) of a process's pages: a page that is put
+-- first adds its number, one put again replaces its old number; and bounds of what is found are bounds of the list.
 use Rattle.std.proofs.Common.{◌≡◌, ℕ, Bool, true, false, cond, ◌<◌, ◌⊎◌, inl, inr, refl, ap, arith, List, [], ◌∷◌, ◌++◌, Some, None, map}
 use Rattle.std.specs.Prelude.{T, ◌&&◌, ◌||◌, ◌==◌, is_some, flat_map}
 use Rattle.std.specs.List.{list_any}

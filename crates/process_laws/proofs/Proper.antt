@@ -1,11 +1,13 @@
--- What was so of a step that was made, and what replies tell.
+-- Lemmas about steps that are made (not refused): the hart was in a phase for the step, widths and lengths of copies were
+-- allowed, no kernel call while an access waits, what a switch needs. Also replies of exit, mmap and trampoline fetches, and
+-- that each multiple of 4 below 4,096 can be fetched there.
 use Rattle.std.proofs.Common.{◌≡◌, ℕ, ℤ, Bool, true, false, not, ◌&&◌, ◌/◌, ◌%◌, ◌*◌, ◌≤◌, refl, sym, ap, subst, ◌∙◌, arith, [], ◌∷◌, Option, None, Some, length, ◌<◌, ◌≢◌, ◌+◌}
 use Rattle.std.specs.Prelude.{is_none, nat_le, option_map, slice_get, is_some, nat_lt, ◌==◌}
 use Rattle.std.proofs.lemmas.Bool.{and_parts, eq-eqb, leb-true, lt-ltb}
 use Rattle.std.proofs.lemmas.Option.{same_Some}
 use Rattle.process_laws.proofs.OnHarts.{kernel_good, on_hart_good}
 use Rattle.process_laws.proofs.Running.{has_it, Ran, ran_on, was_made, step_reply, hart_runs}
-use Rattle.process_laws.specs.Words.{Asked, Asks, Calls, CopiesBytes, hart_of, is_phase_for, IsIn, IsMade, IsOn}
+use Rattle.process_laws.specs.Words.{UserAccess, IsAccessStep, IsKernelCall, CopiesBytes, hart_of, is_phase_for, IsInPhase, IsMade, IsOnHart}
 use Rattle.process_laws.proofs.Going.{At, put_at, step_at}
 use Rattle.process_laws.proofs.Kept.{none_on}
 use Rattle.process_laws.proofs.Possible.{stands}
@@ -15,7 +17,7 @@ use Rattle.process_model.specs.Bytes.{is_width, pages_for}
 use Rattle.process_model.specs.Calls.{mapped_to}
 use Rattle.process_model.specs.Copies.{longest_copy}
 use Rattle.process_model.specs.Files.{is_writable}
-use Rattle.process_model.specs.Granted.{map_granted, none_true}
+use Rattle.process_model.specs.GrantLaws.{map_granted, none_true}
 use Rattle.process_model.specs.Harts.{Hart, is_kernel, may_switch, entry_serves, phase_for, in_trampoline}
 use Rattle.process_model.specs.Mappings.{asks_write, is_bad_mapping, is_shared, map_refusal, mapped, mapped_unless, mapping_place, most_mappings}
 use Rattle.process_model.specs.Process.{Process}
@@ -38,7 +40,7 @@ module _ (w : World) where
   -- ---- its phase
 
   abbrev InPhase : ℕ → Step → Type 0
-  InPhase h x = (phase : Phase) × IsIn w h phase × (is_phase_for x phase ≡ true)
+  InPhase h x = (phase : Phase) × IsInPhase w h phase × (is_phase_for x phase ≡ true)
 
   phase_of : (h : ℕ) (x : Step) (proper : Bool) (possible : Hart → Bool) (run : Hart → Outcome) (o : Outcome) → Ran w h proper possible run o → ((hart : Hart) → possible hart ≡ true → is_phase_for x hart.phase ≡ true) → InPhase h x
   phase_of h x proper possible run o r goes = ((r.hart).phase, ap (option_map (λ (hart : Hart). hart.phase)) r.there, goes r.hart r.can)
@@ -72,10 +74,10 @@ module _ (w : World) where
 
   -- ---- what was asked
 
-  pub access_wide : (h : ℕ) (a : Asked) (via : Option ℕ) (x : Step) → Asks h via a x → IsMade (step w x).reply → is_width a.width ≡ true
-  access_wide h a via x Asks.fetch made = refl
-  access_wide h a via x (Asks.load {address} {width}) made = (ran_on w h _ _ _ _ (was_made w (step_of.Load h address width via) made)).fits
-  access_wide h a via x (Asks.store {address} {width} {value}) made = (ran_on w h _ _ _ _ (was_made w (step_of.Store h address width value via) made)).fits
+  pub access_wide : (h : ℕ) (a : UserAccess) (via : Option ℕ) (x : Step) → IsAccessStep h via a x → IsMade (step w x).reply → is_width a.width ≡ true
+  access_wide h a via x IsAccessStep.fetch made = refl
+  access_wide h a via x (IsAccessStep.load {address} {width}) made = (ran_on w h _ _ _ _ (was_made w (step_of.Load h address width via) made)).fits
+  access_wide h a via x (IsAccessStep.store {address} {width} {value}) made = (ran_on w h _ _ _ _ (was_made w (step_of.Store h address width value via) made)).fits
 
   pub copy_few : (h n : ℕ) (x : Step) → CopiesBytes h n x → IsMade (step w x).reply → n ≤ longest_copy
   copy_few h n x (CopiesBytes.copy_in {address}) made = leb-true n longest_copy (ran_on w h _ _ _ _ (was_made w (step_of.CopyIn h address n) made)).fits
@@ -83,24 +85,24 @@ module _ (w : World) where
 
   -- ---- no call while an access waits
 
-  module _ (h s : ℕ) (p : Process) (on : IsOn w h s p) where
+  module _ (h s : ℕ) (p : Process) (on : IsOnHart w h s p) where
     quiet_by : (proper : Bool) (run : Hart → Outcome) (o : Outcome) → Ran w h proper (can_call w) run o → is_unserved_access p.pending ≡ false
     quiet_by proper run o r =
         let slot : (r.hart).slot ≡ Some s = has_it w h s r.hart on.there r.there in
         ap is_unserved (sym on.lives) ∙ ap (λ o. is_unserved (process_of_slot w o)) (sym slot) ∙ not_true _ (and_parts (is_kernel (r.hart).phase) _ r.can).1
 
-    pub call_quiet : (x : Step) → Calls h x → IsMade (step w x).reply → is_unserved_access p.pending ≡ false
-    call_quiet x Calls.fork made = quiet_by _ _ _ (ran_on w h _ _ _ _ (was_made w (step_of.Fork h) made))
-    call_quiet x (Calls.exec {image}) made = quiet_by _ _ _ (ran_on w h _ _ _ _ (was_made w (step_of.Exec h image) made))
-    call_quiet x (Calls.sbrk {delta}) made = quiet_by _ _ _ (ran_on w h _ _ _ _ (was_made w (step_of.Sbrk h delta) made))
-    call_quiet x (Calls.mmap {len} {protection} {flags} {n}) made = quiet_by _ _ _ (ran_on w h _ _ _ _ (was_made w (step_of.Mmap h len protection flags n) made))
-    call_quiet x (Calls.munmap {address} {len}) made = quiet_by _ _ _ (ran_on w h _ _ _ _ (was_made w (step_of.Munmap h address len) made))
-    call_quiet x (Calls.copy_in {address} {n}) made = quiet_by _ _ _ (ran_on w h _ _ _ _ (was_made w (step_of.CopyIn h address n) made))
-    call_quiet x (Calls.copy_out {address} {bytes}) made = quiet_by _ _ _ (ran_on w h _ _ _ _ (was_made w (step_of.CopyOut h address bytes) made))
-    call_quiet x (Calls.exit {status}) made = quiet_by _ _ _ (ran_on w h _ _ _ _ (was_made w (step_of.Exit h status) made))
+    pub call_quiet : (x : Step) → IsKernelCall h x → IsMade (step w x).reply → is_unserved_access p.pending ≡ false
+    call_quiet x IsKernelCall.fork made = quiet_by _ _ _ (ran_on w h _ _ _ _ (was_made w (step_of.Fork h) made))
+    call_quiet x (IsKernelCall.exec {image}) made = quiet_by _ _ _ (ran_on w h _ _ _ _ (was_made w (step_of.Exec h image) made))
+    call_quiet x (IsKernelCall.sbrk {delta}) made = quiet_by _ _ _ (ran_on w h _ _ _ _ (was_made w (step_of.Sbrk h delta) made))
+    call_quiet x (IsKernelCall.mmap {len} {protection} {flags} {n}) made = quiet_by _ _ _ (ran_on w h _ _ _ _ (was_made w (step_of.Mmap h len protection flags n) made))
+    call_quiet x (IsKernelCall.munmap {address} {len}) made = quiet_by _ _ _ (ran_on w h _ _ _ _ (was_made w (step_of.Munmap h address len) made))
+    call_quiet x (IsKernelCall.copy_in {address} {n}) made = quiet_by _ _ _ (ran_on w h _ _ _ _ (was_made w (step_of.CopyIn h address n) made))
+    call_quiet x (IsKernelCall.copy_out {address} {bytes}) made = quiet_by _ _ _ (ran_on w h _ _ _ _ (was_made w (step_of.CopyOut h address bytes) made))
+    call_quiet x (IsKernelCall.exit {status}) made = quiet_by _ _ _ (ran_on w h _ _ _ _ (was_made w (step_of.Exit h status) made))
 
   -- nor does a hart go on from the kernel
-  pub next_quiet : (h s : ℕ) (p : Process) → IsOn w h s p → IsIn w h Kernel → IsMade (step w (step_of.Next h)).reply → is_unserved_access p.pending ≡ false
+  pub next_quiet : (h s : ℕ) (p : Process) → IsOnHart w h s p → IsInPhase w h Kernel → IsMade (step w (step_of.Next h)).reply → is_unserved_access p.pending ≡ false
   next_quiet h s p on kernel made =
       let r = ran_on w h true (can_go_on w) always (advanced w h) (was_made w (step_of.Next h) made) in
       let k = stands w h Kernel kernel in
@@ -128,7 +130,7 @@ module _ (w : World) where
       let it = some_is (process_in w s) parts.0 in
       (it.0, it.1, none_on w.harts s (not_true _ parts.1))
 
-  pub switch_off : (h : ℕ) → IsMade (step w (step_of.Switch h None)).reply → (slot_on (step w (step_of.Switch h None)).world h ≡ None) × IsIn (step w (step_of.Switch h None)).world h Idle
+  pub switch_off : (h : ℕ) → IsMade (step w (step_of.Switch h None)).reply → (slot_on (step w (step_of.Switch h None)).world h ≡ None) × IsInPhase (step w (step_of.Switch h None)).world h Idle
   switch_off h made =
       let r = ran_on w h true (λ hart. may_switch hart.phase && can_run w None) always (λ hart. answers (with_hart w h (record hart { phase = phase_for None; slot = None })) Done) (was_made w (step_of.Switch h None) made) in
       let hart = record r.hart { phase = Idle; slot = None } in
@@ -138,7 +140,7 @@ module _ (w : World) where
 
   -- ---- the trampoline's code
 
-  pub fetches : (h offset : ℕ) (phase : Phase) → IsIn w h phase → in_trampoline phase ≡ true → offset % 4 ≡ 0 → offset < 4096 → IsMade (step w (step_of.TrampolineFetch h offset None)).reply
+  pub fetches : (h offset : ℕ) (phase : Phase) → IsInPhase w h phase → in_trampoline phase ≡ true → offset % 4 ≡ 0 → offset < 4096 → IsMade (step w (step_of.TrampolineFetch h offset None)).reply
   fetches h offset phase in_phase runs whole low e f =
       let k = stands w h phase in_phase in
       let fits : (offset % 4 == 0 && nat_lt offset 4096) ≡ true = rw (eq-eqb (offset % 4) 0 whole, lt-ltb offset 4096 low) refl in

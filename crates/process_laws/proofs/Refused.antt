@@ -1,16 +1,16 @@
--- A refused step changes nothing.
+-- Lemma: a step whose reply is a refusal changes nothing: the world (the model's whole state) after it is the world before.
 use Rattle.std.proofs.Common.{◌≡◌, ◌+◌, ℕ, Bool, true, false, not, refl, ap, ◌∙◌, Option, None, Some, List, [], ◌∷◌, map}
 use Rattle.std.specs.Prelude.{Result, Ok, Err}
 use Rattle.std.proofs.lemmas.Bool.{and_from, eq-eqb}
 use Rattle.process_laws.proofs.OnHarts.{access_good, its_good, kernel_good, on_hart_good}
-use Rattle.process_model.specs.Around.{Progress}
+use Rattle.process_model.specs.Environment.{Progress}
 use Rattle.process_model.specs.Calls.{forked, forked_unless, mapped_to, replaced, replaced_unless, resized_to, started, started_unless, unmapped_to}
 use Rattle.process_model.specs.Copies.{Copied, copied_in, copied_out, in_reply, out_reply}
 use Rattle.process_model.specs.Harts.{Hart}
 use Rattle.process_model.specs.Images.{image_loads, LoadSegment}
 use Rattle.process_model.specs.Mappings.{Mapped, Unmapped}
 use Rattle.process_model.specs.Process.{Page, Pending, Process, without_pending}
-use Rattle.process_model.specs.Service.{around, begun, served, served_or_ended, with_progress}
+use Rattle.process_model.specs.Service.{environment_of, initial_progress, served, served_or_ended, with_progress}
 use Rattle.process_model.specs.Stale.{changed_slots, is_changed, same_leaf, same_leaves, same_mark, with_stale, with_stale_slots}
 use Rattle.process_model.specs.Steps.{plain_step, step}
 use Rattle.process_model.specs.World.{answers, free_slot, Outcome, World}
@@ -144,8 +144,8 @@ module _ (w : World) where
   plain_same (step.Sbrk h delta) = kernel_good w Same quiet h true _ (λ hart t p on here. size_same t p _)
   plain_same (step.Mmap h len protection flags n) = kernel_good w Same quiet h true _ (λ hart t p on here. map_same t _)
   plain_same (step.Munmap h address len) = kernel_good w Same quiet h true _ (λ hart t p on here. unmap_same t _)
-  plain_same (step.CopyIn h address n) = kernel_good w Same quiet h _ _ (λ hart t p on here. let c = copied_in (around w t) (begun w (without_pending p)) address n in in_same t c c.stop)
-  plain_same (step.CopyOut h address bytes) = kernel_good w Same quiet h _ _ (λ hart t p on here. let c = copied_out (around w t) (begun w (without_pending p)) address bytes.now in out_same t c c.stop)
+  plain_same (step.CopyIn h address n) = kernel_good w Same quiet h _ _ (λ hart t p on here. let c = copied_in (environment_of w t) (initial_progress w (without_pending p)) address n in in_same t c c.stop)
+  plain_same (step.CopyOut h address bytes) = kernel_good w Same quiet h _ _ (λ hart t p on here. let c = copied_out (environment_of w t) (initial_progress w (without_pending p)) address bytes.now in out_same t c c.stop)
   plain_same (step.Exit h status) = kernel_good w Same quiet h true _ (λ hart t p on here e f. absurd cc)
 
   marks_same : (policy : Policy) (o : Outcome) → Same o → Same (with_stale_slots policy w o)

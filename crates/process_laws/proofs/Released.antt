@@ -1,4 +1,5 @@
--- Pages that were released, and what they are when they return.
+-- Lemmas: a page that sbrk or munmap releases is not settled (in memory) afterwards; and a page that is not settled has its
+-- initial bytes after it is made resident (in memory and ready for an access).
 use Rattle.std.proofs.Common.{◌≡◌, ℕ, ℤ, Bool, true, false, ◌+◌, ◌≤◌, ◌<◌, ap, subst, List, Option, None, Some}
 use Rattle.std.specs.Prelude.{Ok, option_map}
 use Rattle.process_model.specs.Bytes.{pages_for}
@@ -8,7 +9,7 @@ use Rattle.process_model.specs.Mappings.{Unmapped, unmapped, unmapped_from, unma
 use Rattle.process_model.specs.PageMap.{get}
 use Rattle.process_model.specs.Process.{Page, Process}
 use Rattle.process_model.specs.Regions.{Region}
-use Rattle.process_model.specs.Released.{run_goes}
+use Rattle.process_model.specs.ReleaseLaws.{run_goes}
 use Rattle.process_model.specs.Residence.{initial_page, made_resident, made_resident_from}
 use Rattle.process_model.specs.declared.step.Refusal.{Refusal}
 use Rattle.process_laws.proofs.Standing.{put_is_there}

@@ -1,4 +1,5 @@
--- What makes a step, what is served, and bad images.
+-- Lemmas: a step of a process is made (not refused) only on a hart that has one; a service in the kernel is made if, and in
+-- any case only if, the process waits for one; and neither a start nor an exec of a bad image is made.
 use Rattle.std.proofs.Common.{◌≡◌, ℕ, Bool, true, false, not, refl, sym, ap, subst, ◌∙◌, Option, None, Some}
 use Rattle.std.specs.Prelude.{Err}
 use Rattle.std.proofs.lemmas.Bool.{and_parts}
@@ -7,7 +8,7 @@ use Rattle.process_laws.proofs.OnHarts.{access_good, its_good, kernel_good, on_h
 use Rattle.process_laws.proofs.Possible.{service_made}
 use Rattle.process_laws.proofs.Running.{has_it, ran_on, was_made}
 use Rattle.process_laws.specs.Moments.{slot_on}
-use Rattle.process_laws.specs.Words.{Asked, IsIn, IsMade, IsOn, maker, waiting}
+use Rattle.process_laws.specs.Words.{UserAccess, IsInPhase, IsMade, IsOnHart, hart_of_step, with_pending_access}
 use Rattle.process_model.specs.Calls.{replaced, started}
 use Rattle.process_model.specs.Images.{image_loads}
 use Rattle.process_model.specs.Process.{Pending, Process}
@@ -25,7 +26,7 @@ use Rattle.sv39_entry.specs.declared.access.Access.TheVariants as access
 -- ---- who makes a step
 
 abbrev pub Hosts : World → ℕ → Type 0
-Hosts w h = (s : ℕ) × (p : Process) × IsOn w h s p
+Hosts w h = (s : ℕ) × (p : Process) × IsOnHart w h s p
 
 module _ (w : World) (h : ℕ) where
   abbrev Hosted : Outcome → Type 0
@@ -37,7 +38,7 @@ module _ (w : World) (h : ℕ) where
   there : (t : ℕ) (p : Process) → slot_on w h ≡ Some t → process_in w t ≡ Some p → Hosts w h
   there t p on lives = (t, p, record { there = on; lives = lives })
 
-  hosted : (x : Step) → maker x ≡ Some h → Hosted (plain_step w x)
+  hosted : (x : Step) → hart_of_step x ≡ Some h → Hosted (plain_step w x)
   hosted (step_of.Start image) e = absurd cc
   hosted (step_of.Switch k slot) e = absurd cc
   hosted (step_of.Trap k) e = subst (λ n. Hosted (plain_step w (step_of.Trap n))) (sym (same_Some k h e)) (on_hart_good w Hosted unmade h true _ _ _ (λ hart is _. its_good w Hosted unmade h hart _ is (λ t p on here made. there t p on here)))
@@ -61,13 +62,13 @@ module _ (w : World) (h : ℕ) where
   hosted (step_of.CopyOut k address bytes) e = subst (λ n. Hosted (plain_step w (step_of.CopyOut n address bytes))) (sym (same_Some k h e)) (kernel_good w Hosted unmade h _ _ (λ hart t p on here made. there t p on here))
   hosted (step_of.Exit k status) e = subst (λ n. Hosted (plain_step w (step_of.Exit n status))) (sym (same_Some k h e)) (kernel_good w Hosted unmade h _ _ (λ hart t p on here made. there t p on here))
 
-  pub step_hosted : (x : Step) → maker x ≡ Some h → IsMade (step w x).reply → Hosts w h
+  pub step_hosted : (x : Step) → hart_of_step x ≡ Some h → IsMade (step w x).reply → Hosts w h
   step_hosted x e made = hosted x e (was_made w x made)
 
 -- ---- what is served
 
-module _ (w : World) (h s : ℕ) (p : Process) (on : IsOn w h s p) where
-  waits_by : (o : Option Pending) → p.pending ≡ o → is_unserved_access o ≡ true → (a : Asked) × (p ≡ waiting p a)
+module _ (w : World) (h s : ℕ) (p : Process) (on : IsOnHart w h s p) where
+  waits_by : (o : Option Pending) → p.pending ≡ o → is_unserved_access o ≡ true → (a : UserAccess) × (p ≡ with_pending_access p a)
   waits_by None is waits = absurd cc
   waits_by (Some a) is waits = (record { access = a.access; address = a.address; width = a.width }, ap (λ (o : Option Pending). record p { pending = o }) (is ∙ ap (λ b. let x : Pending = record { access = a.access; address = a.address; width = a.width; served = b } in Some x) (unserved a.served waits)))
     where
@@ -76,7 +77,7 @@ module _ (w : World) (h s : ℕ) (p : Process) (on : IsOn w h s p) where
       unserved false e = refl
 
   -- an access that waits is served, in the kernel
-  pub serves_it : IsIn w h Kernel → is_unserved_access p.pending ≡ true → IsMade (step w (step_of.Serve h)).reply
+  pub serves_it : IsInPhase w h Kernel → is_unserved_access p.pending ≡ true → IsMade (step w (step_of.Serve h)).reply
   serves_it kernel waits = let k = waits_by p.pending refl waits in service_made w h s p k.0 (record { there = on.there; lives = on.lives ∙ ap Some k.1 }) kernel
 
   -- and no other

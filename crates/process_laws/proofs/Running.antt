@@ -1,4 +1,6 @@
--- What runs where nothing refuses a step, and what was not refused.
+-- Lemmas about a step on a hart: what it runs if nothing refuses it, and, if it was made (not refused), that the hart was
+-- there, the arguments proper and the step possible (`Ran`). Marks of stale TLB entries change neither processes nor the
+-- reply.
 use Rattle.std.proofs.Common.{◌≡◌, ℕ, zero, suc, Bool, true, false, not, refl, sym, ap, ◌∙◌, List, [], ◌∷◌, Option, None, Some}
 use Rattle.std.specs.Prelude.{slice_get, slice_set}
 use Rattle.process_laws.specs.Moments.{slot_at, slot_on}

@@ -1,4 +1,5 @@
--- A fork adds no copy number.
+-- Lemma: a fork adds no copy number (names one copy of a page in memory): parent and child have those of the parent, each
+-- counted once, beside any other processes.
 use Rattle.std.proofs.Common.{◌≡◌, ℕ, Bool, true, false, cond, refl, sym, ap, ◌∙◌, List, [], ◌∷◌, ◌++◌, Some, map}
 use Rattle.std.specs.Prelude.{flat_map}
 use Rattle.std.specs.Ordering.{nat_cmp, eq_by_cmp}

@@ -1,10 +1,11 @@
--- In every run the world and each process have the scheme of the machine that was booted.
-use Rattle.std.proofs.Common.{◌≡◌, ℕ, Bool, true, false, refl, sym, ◌∙◌, List, [], ◌∷◌, Some}
+-- `HasScheme`, and the lemma that it holds in every run since boot: the world and each process have the translation scheme
+-- (Sv39 or Sv48) of the boot configuration.
+use Rattle.std.proofs.Common.{◌≡◌, ℕ, refl, sym, ◌∙◌, List, [], ◌∷◌, Some}
 use Rattle.process_laws.proofs.EveryChange.{always_holds, IsKept}
 use Rattle.process_laws.proofs.StepReplies.{step_suits}
 use Rattle.process_model.specs.Files.{File}
 use Rattle.process_model.specs.Images.{LoadSegment}
-use Rattle.process_model.specs.Loading.{process_of}
+use Rattle.process_model.specs.ImageProcess.{process_of}
 use Rattle.process_model.specs.Process.{Process}
 use Rattle.process_model.specs.Steps.{run, step}
 use Rattle.process_model.specs.World.{booted, process_in, World}

@@ -1,15 +1,16 @@
--- What a script writes is what the steps of a run reply.
+-- The proof of `IsTextOfRun` for every script: its text has, line by line, the replies to the steps of one run since boot.
+-- Before it: runs one after another, and the steps and the reply of a `fix` line (into the kernel, service, back).
 use Rattle.std.proofs.Common.{◌≡◌, ℕ, Bool, true, false, cond, not, ◌&&◌, ◌||◌, refl, sym, ap, subst, ◌∙◌, List, [], ◌∷◌, ◌++◌, Option, Some}
 use Rattle.std.specs.Prelude.{map}
 use Rattle.std.specs.List.{list_any}
 use Rattle.std.proofs.lemmas.List.{append-nil}
 use Rattle.process_laws.proofs.OnHarts.{its_good, on_hart_good}
 use Rattle.process_laws.proofs.Running.{step_reply}
-use Rattle.process_laws.proofs.Told.{headline_holds}
-use Rattle.process_laws.specs.ScriptRuns.{AreLines, fixed_reply, last_or, line_said, made_of, service_of, steps_of, TellsRun}
+use Rattle.process_laws.proofs.HeadlineProof.{headline_holds}
+use Rattle.process_laws.specs.ScriptRuns.{AreLines, fixed_reply, last_or, line_answer, made_of, service_of, steps_of, IsTextOfRun}
 use Rattle.process_model.specs.Script.{file_of, Script}
 use Rattle.process_model.specs.Steps.{plain_step, run, step}
-use Rattle.process_model.specs.Text.{back_if, commands_text, enter_steps, fixed, fixed_after, is_ready, is_refused, line_text, on_steps, played, series_of, three_next, unless_stopped}
+use Rattle.process_model.specs.Text.{back_if, commands_text, enter_steps, fixed, fixed_after, is_ready, is_refused, line_text, on_steps, line_result, series_of, three_next, unless_stopped}
 use Rattle.process_model.specs.Words.{reply_text}
 use Rattle.process_model.specs.World.{booted, Outcome, World}
 use Rattle.process_model.specs.declared.image.OwnedImage.{OwnedImage}
@@ -193,7 +194,7 @@ module _ (images : List OwnedImage) (w : World) (h : ℕ) where
 -- ---- lines
 
 IsLine : List OwnedImage → World → Command → Type 0
-IsLine images w c = let now = run w (steps_of images w c) in ((played images w c).world ≡ now.world) × ((played images w c).text ≡ line_said w c now.replies)
+IsLine images w c = let now = run w (steps_of images w c) in ((line_result images w c).world ≡ now.world) × ((line_result images w c).text ≡ line_answer w c now.replies)
 
 module _ (images : List OwnedImage) (w : World) where
   series_line : (o : Outcome) (xs : List Step) → IsSeries o Done w xs → (o.world ≡ (run w xs).world) × (reply_text o.reply ≡ reply_text (last_or Done (run w xs).replies))
@@ -216,25 +217,25 @@ record HasLines (images : List OwnedImage) (cs : List Command) (w : World) : Typ
   steps : List Step
   are : AreLines images w cs steps (run w steps).replies (commands_text images w cs)
 
-line_more : (images : List OwnedImage) (c : Command) (cs : List Command) (w : World) → IsLine images w c → HasLines images cs (played images w c).world → HasLines images (c ∷ cs) w
+line_more : (images : List OwnedImage) (c : Command) (cs : List Command) (w : World) → IsLine images w c → HasLines images cs (line_result images w c).world → HasLines images (c ∷ cs) w
 unfolding IsLine
 line_more images c cs w l rest =
     let made = steps_of images w c in
     let now = run w made in
     let r = run_append made rest.steps w in
-    let there : AreLines images now.world cs rest.steps (run now.world rest.steps).replies (commands_text images (played images w c).world cs) =
-    subst (λ (v : World). AreLines images v cs rest.steps (run v rest.steps).replies (commands_text images (played images w c).world cs)) l.0 rest.are in
+    let there : AreLines images now.world cs rest.steps (run now.world rest.steps).replies (commands_text images (line_result images w c).world cs) =
+    subst (λ (v : World). AreLines images v cs rest.steps (run v rest.steps).replies (commands_text images (line_result images w c).world cs)) l.0 rest.are in
     record {
       steps = made ++ rest.steps;
       are = subst (λ (rs : List Reply). AreLines images w (c ∷ cs) (made ++ rest.steps) rs (commands_text images w (c ∷ cs))) (sym r.1)
-          (subst (λ (t : List ℕ). AreLines images w (c ∷ cs) (made ++ rest.steps) (now.replies ++ (run now.world rest.steps).replies) (line_text t ++ commands_text images (played images w c).world cs)) (sym l.1) (AreLines.line there));
+          (subst (λ (t : List ℕ). AreLines images w (c ∷ cs) (made ++ rest.steps) (now.replies ++ (run now.world rest.steps).replies) (line_text t ++ commands_text images (line_result images w c).world cs)) (sym l.1) (AreLines.line there));
     }
 
 has_lines : (images : List OwnedImage) (cs : List Command) (w : World) → HasLines images cs w
 has_lines images [] w = record { steps = []; are = AreLines.none }
-has_lines images (c ∷ cs) w = line_more images c cs w (line_is images w c) (has_lines images cs (played images w c).world)
+has_lines images (c ∷ cs) w = line_more images c cs w (line_is images w c) (has_lines images cs (line_result images w c).world)
 
-pub tells_run : (s : Script) → TellsRun s
+pub tells_run : (s : Script) → IsTextOfRun s
 tells_run s =
     let files = map file_of s.files in
     let all = has_lines s.images s.commands (booted s.config files) in

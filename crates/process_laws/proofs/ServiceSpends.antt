@@ -1,15 +1,16 @@
--- Service of a page takes its need from the free frames.
+-- Lemma: a service that makes a page resident (in memory and ready for the access), which it was not, lowers the free count
+-- by exactly its need (`need_at`).
 use Rattle.std.proofs.Common.{◌≡◌, ℕ, Bool, true, false, cond, ◌+◌, ◌-◌, ◌≤◌, ◌<◌, inl, inr, refl, sym, ap, subst, ◌∙◌, arith, List, ◌∷◌, ◌++◌, Option, None, Some, length-set}
 use Rattle.std.proofs.lemmas.Bool.{and_parts}
 use Rattle.std.specs.Prelude.{Result, Ok, Err, slice_get, slice_set, sum_by}
 use Rattle.process_model.specs.PageMap.{get, numbers, keys, count}
 use Rattle.process_model.specs.Process.{Process, Page}
 use Rattle.process_model.specs.Residence.{settled_anew, initial_page, with_page, is_resident_page, is_resident, leaves_mark, made_resident_from, parts_from, region_on, taken_over}
-use Rattle.process_model.specs.Frames.{live, copies_of, own_frames, tables_needed, tables_of, settle_need, part_need, resident_need_of}
+use Rattle.process_model.specs.Frames.{live, copies_of, own_frames, tables_needed, tables_of, settle_need, take_over_need, resident_need_of}
 use Rattle.process_model.specs.World.{World, process_in, free, others_have}
-use Rattle.process_model.specs.Around.{Progress, is_shared_by, is_shared_page, need_at, resident_at, unless_dry}
-use Rattle.process_model.specs.Service.{around, begun, is_dry, with_progress}
-use Rattle.process_laws.specs.Numbered.{HasNewCopies}
+use Rattle.process_model.specs.Environment.{Progress, is_shared_by, is_shared_page, need_at, resident_at, unless_dry}
+use Rattle.process_model.specs.Service.{environment_of, initial_progress, is_dry, with_progress}
+use Rattle.process_laws.specs.CopyNumbers.{HasNewCopies}
 use Rattle.process_laws.proofs.SetSizes.{Among, Within, among_front, among_back, among_parts, among_middle, middle_has, longer_only, longer_has, count_same, count_new}
 use Rattle.process_laws.proofs.Needed.{tables_grow, tables_of_insert}
 use Rattle.process_laws.proofs.SlotSums.{full_slot, set_same, sum_set, all_copies, set_has, count_set, count_slots}
@@ -71,7 +72,7 @@ module _ (w : World) (s : ℕ) (p : Process) (full : slice_get w.slots s ≡ Som
         takes r 1 (tables_needed p.scheme (page ∷ keys p.tabled) - tables_of p) copies (omega (grow, tables, arith))
 
     -- a page in the place of another, with a new number where others have the old one
-    taking : (page : ℕ) (x y : Page) (b : Bool) → get p.settled page ≡ Some x → y.copy ≡ cond b w.counter x.copy → (b ≡ true → others_have w s x.copy ≡ true) → Takes (with_page p page y) (part_need b)
+    taking : (page : ℕ) (x y : Page) (b : Bool) → get p.settled page ≡ Some x → y.copy ≡ cond b w.counter x.copy → (b ≡ true → others_have w s x.copy ≡ true) → Takes (with_page p page y) (take_over_need b)
     taking page x y true is number shared =
         let r : Process = with_page p page y in
         let at : Replaced x.copy w.counter (copies_of p) (copies_of r) = subst (λ n. Replaced x.copy n (copies_of p) (copies_of r)) number (put_replaces page y x p.settled.entries p.settled.sorted is) in
@@ -95,14 +96,14 @@ free_of w s (Ok g) = free (with_progress w s g)
 free_of w s (Err r) = 0
 
 pub service_spends : (w : World) (s page : ℕ) (p : Process) (access : Access) (g : Progress) → HasNewCopies w → process_in w s ≡ Some p → is_resident p access page ≡ false
-    → resident_at (around w s) access page (begun w p) ≡ Ok g → free (with_progress w s g) + need_at (around w s) access page p ≡ free w
+    → resident_at (environment_of w s) access page (initial_progress w p) ≡ Ok g → free (with_progress w s g) + need_at (environment_of w s) access page p ≡ free w
 unfolding resident_at free_of
 service_spends w s page p access g new here absent done =
     let full : slice_get w.slots s ≡ Some (Some p) = full_slot (slice_get w.slots s) p here in
-    let need : ℕ = need_at (around w s) access page p in
-    let r : Process = made_resident_from w.files w.counter (is_shared_page (around w s) p page) p access page (get p.settled page) in
+    let need : ℕ = need_at (environment_of w s) access page p in
+    let r : Process = made_resident_from w.files w.counter (is_shared_page (environment_of w s) p page) p access page (get p.settled page) in
     let t = serving w s p full new access page (get p.settled page) refl absent in
-    elim (is_dry w (0 + need)) as (λ b. is_dry w (0 + need) ≡ b → unless_dry (around w s) access page (begun w p) need b ≡ Ok g → free (with_progress w s g) + need ≡ free w) [
+    elim (is_dry w (0 + need)) as (λ b. is_dry w (0 + need) ≡ b → unless_dry (environment_of w s) access page (initial_progress w p) need b ≡ Ok g → free (with_progress w s g) + need ≡ free w) [
       | true ↦ λ _ done. absurd (cc)
       | false ↦ λ wet done.
           let is : free (with_progress w s g) ≡ free (record w { slots = slice_set w.slots s (Some r); counter = w.counter + 1 }) = sym (ap (free_of w s) done) in

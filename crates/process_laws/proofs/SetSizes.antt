@@ -1,4 +1,5 @@
--- Lists of numbers as sets, and how many different numbers they have.
+-- Lemmas about lists of numbers as sets: members and sublists (`Among`, `Within`), keys of maps, and how many different
+-- numbers a list has (`count`): as many in lists with the same members, and with one number more as many or one more.
 use Rattle.std.proofs.Common.{◌≡◌, ℕ, true, false, cond, ◌+◌, ◌≤◌, ◌⊎◌, inl, inr, refl, sym, ap, ◌∙◌, arith, List, [], ◌∷◌, ◌++◌, Option, Some, None, map, length}
 use Rattle.std.specs.Prelude.{is_some}
 use Rattle.std.specs.Ordering.{nat_cmp, eq_by_cmp}

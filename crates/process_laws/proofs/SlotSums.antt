@@ -1,4 +1,5 @@
--- Sums and copy numbers over the live processes, when one slot is set.
+-- Lemmas about the process table when one slot (place in it) is set: sums over the live processes, and which copy numbers
+-- (each names one copy of a page in memory) they have and how many different ones.
 use Rattle.std.proofs.Common.{◌≡◌, ℕ, zero, suc, ◌+◌, ◌≤◌, inl, inr, refl, sym, ap, ◌∙◌, arith, List, [], ◌∷◌, ◌++◌, Option, None, Some}
 use Rattle.std.specs.Prelude.{slice_get, slice_set, flat_map, sum_by}
 use Rattle.std.proofs.lemmas.Option.{same_Some}

@@ -1,4 +1,5 @@
--- Pages that are made to stand for an access.
+-- Lemma: a page made resident for an access (`made_resident`: settled, or taken over, with its marks) is resident for it (in
+-- memory and ready).
 use Rattle.std.proofs.Common.{◌≡◌, ℕ, Bool, true, false, cond, not, ◌||◌, refl, ap, ◌∙◌, List, Option, None, Some}
 use Rattle.std.specs.Ordering.{nat_cmp}
 use Rattle.std.specs.Cmp.{eq_by_cmp_equiv, nat_cmp_total}
@@ -7,7 +8,7 @@ use Rattle.process_model.specs.Files.{File}
 use Rattle.process_model.specs.PageMap.{PageMap, get, insert}
 use Rattle.process_model.specs.Process.{Process, Page}
 use Rattle.process_model.specs.Regions.{Region, keeps_stores}
-use Rattle.process_model.specs.Residence.{goes_through, initial_page, is_resident, is_resident_page, leaves_mark, made_resident, made_resident_from, region_on, taken_over, taken_over_unless}
+use Rattle.process_model.specs.Residence.{can_complete, initial_page, is_resident, is_resident_page, leaves_mark, made_resident, made_resident_from, region_on, taken_over, taken_over_unless}
 use Rattle.sv39_entry.specs.declared.access.Access.{Access}
 use Rattle.sv39_entry.specs.declared.access.Access.TheVariants.{Fetch, Load, Store}
 
@@ -21,7 +22,7 @@ either : (m : Bool) → (m || not m) ≡ true
 either true = refl
 either false = refl
 
-new_serves : (access : Access) (r : Option Region) (bytes : List ℕ) (copy : ℕ) → goes_through access r (record { bytes = bytes; copy = copy; fork_mark = false; stored_mark = leaves_mark access r }) ≡ true
+new_serves : (access : Access) (r : Option Region) (bytes : List ℕ) (copy : ℕ) → can_complete access r (record { bytes = bytes; copy = copy; fork_mark = false; stored_mark = leaves_mark access r }) ≡ true
 new_serves Fetch r bytes copy = refl
 new_serves Load r bytes copy = refl
 new_serves Store r bytes copy = either (keeps_stores r)
@@ -32,7 +33,7 @@ marked_either : (s m : Bool) → ((s || m) || not m) ≡ true
 marked_either true m = refl
 marked_either false m = either m
 
-taken_serves : (access : Access) (fresh : ℕ) (shared : Bool) (r : Option Region) (s : Page) → goes_through access r (taken_over fresh shared r s) ≡ true
+taken_serves : (access : Access) (fresh : ℕ) (shared : Bool) (r : Option Region) (s : Page) → can_complete access r (taken_over fresh shared r s) ≡ true
 taken_serves Fetch fresh shared r s = refl
 taken_serves Load fresh shared r s = refl
 taken_serves Store fresh shared r s = marked_either s.stored_mark (keeps_stores r)
@@ -40,7 +41,7 @@ taken_serves Store fresh shared r s = marked_either s.stored_mark (keeps_stores 
 made_there : (files : List File) (fresh : ℕ) (shared : Bool) (p : Process) (access : Access) (page : ℕ) (o : Option Page) → get p.settled page ≡ o → is_resident (made_resident_from files fresh shared p access page o) access page ≡ true
 made_there files fresh shared p access page None e = ap (is_resident_page access (region_on p page)) (put_is_there p.settled page _) ∙ new_serves access (region_on p page) (initial_page files p page) fresh
 made_there files fresh shared p access page (Some s) e =
-    elim (goes_through access (region_on p page) s) as (λ b. goes_through access (region_on p page) s ≡ b → is_resident (taken_over_unless fresh shared p page s b) access page ≡ true) [
+    elim (can_complete access (region_on p page) s) as (λ b. can_complete access (region_on p page) s ≡ b → is_resident (taken_over_unless fresh shared p page s b) access page ≡ true) [
       | true ↦ λ t. ap (is_resident_page access (region_on p page)) e ∙ t
       | false ↦ λ _. ap (is_resident_page access (region_on p page)) (put_is_there p.settled page _) ∙ taken_serves access fresh shared (region_on p page) s
     ] refl

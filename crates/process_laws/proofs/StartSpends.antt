@@ -1,4 +1,5 @@
--- A start takes its need from the free frames.
+-- Lemma: a start of an accepted image for which enough frames are free lowers the free count by exactly `start_need` (its
+-- pages, page tables and trapframe).
 use Rattle.std.proofs.Common.{◌≡◌, ℕ, false, ◌+◌, ◌≤◌, ◌<◌, inl, inr, refl, ap, arith, List, [], ◌∷◌, ◌++◌, Option, None, Some, length, length-set}
 use Rattle.std.specs.Prelude.{Ok, slice_get, slice_set, sum_by}
 use Rattle.std.specs.Ordering.{nat_cmp}
@@ -7,13 +8,13 @@ use Rattle.std.proofs.lemmas.List.{length-map}
 use Rattle.process_model.specs.PageMap.{PageMap, from_list, numbers, keys, count}
 use Rattle.process_model.specs.Process.{Process, Page}
 use Rattle.process_model.specs.Images.{LoadSegment, image_loads}
-use Rattle.process_model.specs.Loading.{image_pages, page_numbers, numbered, process_of}
+use Rattle.process_model.specs.ImageProcess.{image_pages, page_numbers, numbered, process_of}
 use Rattle.process_model.specs.Frames.{live, copies_of, own_frames, exec_need, tables_needed, start_need}
 use Rattle.process_model.specs.ImageNeed.{exec_need_is}
 use Rattle.process_model.specs.World.{World, free, free_slot}
 use Rattle.process_model.specs.Service.{is_dry}
 use Rattle.process_model.specs.Calls.{with_image}
-use Rattle.process_laws.specs.Numbered.{HasNewCopies}
+use Rattle.process_laws.specs.CopyNumbers.{HasNewCopies}
 use Rattle.process_laws.proofs.SetSizes.{Among, among_parts, longer_only, longer_has, found_key, insert_has_only, count_same, count_new}
 use Rattle.process_laws.proofs.Needed.{tables_of_numbers}
 use Rattle.process_laws.proofs.SlotSums.{empty_slot, set_same, sum_set, all_copies, count_set}

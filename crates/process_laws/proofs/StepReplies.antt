@@ -1,16 +1,17 @@
--- Which replies a step may get, and that the memory and the scheme stay.
+-- `Suits`, proved of every step: the reply is a refusal or of the step's own kind (`is_reply`), and the number of frames and
+-- the translation scheme (Sv39 or Sv48) stay.
 use Rattle.std.proofs.Common.{◌≡◌, ℕ, Bool, true, false, refl, Option, None, Some, List}
 use Rattle.std.specs.Prelude.{Result, Ok, Err}
 use Rattle.process_laws.proofs.OnHarts.{access_good, its_good, kernel_good, on_hart_good}
 use Rattle.process_laws.specs.Words.{is_reply}
-use Rattle.process_model.specs.Around.{Progress}
+use Rattle.process_model.specs.Environment.{Progress}
 use Rattle.process_model.specs.Calls.{forked, forked_unless, mapped_to, replaced, replaced_unless, resized_to, started, started_unless, unmapped_to}
 use Rattle.process_model.specs.Copies.{Copied, copied_in, copied_out, in_reply, out_reply}
 use Rattle.process_model.specs.Harts.{Hart}
 use Rattle.process_model.specs.Images.{image_loads, LoadSegment}
 use Rattle.process_model.specs.Mappings.{Mapped, Unmapped}
 use Rattle.process_model.specs.Process.{Pending, Process, without_pending}
-use Rattle.process_model.specs.Service.{around, begun, served, served_or_ended, with_progress}
+use Rattle.process_model.specs.Service.{environment_of, initial_progress, served, served_or_ended, with_progress}
 use Rattle.process_model.specs.Stale.{with_stale_slots}
 use Rattle.process_model.specs.Steps.{plain_step, step}
 use Rattle.process_model.specs.World.{answers, free_slot, Outcome, refuses, World}
@@ -111,9 +112,9 @@ module _ (w : World) where
   plain_suits (step_of.Mmap h len protection flags n) = kernel_good w (Suits w _) (quiet _) h true _ (λ hart t p on here. map_suits h t len protection flags n _)
   plain_suits (step_of.Munmap h address len) = kernel_good w (Suits w _) (quiet _) h true _ (λ hart t p on here. unmap_suits h t address len _)
   plain_suits (step_of.CopyIn h address n) =
-      kernel_good w (Suits w _) (quiet _) h _ _ (λ hart t p on here. let c = copied_in (around w t) (begun w (without_pending p)) address n in in_suits h t address n c c.stop)
+      kernel_good w (Suits w _) (quiet _) h _ _ (λ hart t p on here. let c = copied_in (environment_of w t) (initial_progress w (without_pending p)) address n in in_suits h t address n c c.stop)
   plain_suits (step_of.CopyOut h address bytes) =
-      kernel_good w (Suits w _) (quiet _) h _ _ (λ hart t p on here. let c = copied_out (around w t) (begun w (without_pending p)) address bytes.now in out_suits h t address bytes c c.stop)
+      kernel_good w (Suits w _) (quiet _) h _ _ (λ hart t p on here. let c = copied_out (environment_of w t) (initial_progress w (without_pending p)) address bytes.now in out_suits h t address bytes c c.stop)
   plain_suits (step_of.Exit h status) = kernel_good w (Suits w _) (quiet _) h true _ (λ hart t p on here. suits _ _ _ refl refl refl)
 
   marks_suit : (policy : Policy) (x : Step) (o : Outcome) → Suits w x o → Suits w x (with_stale_slots policy w o)

@@ -1,4 +1,5 @@
--- No step changes a process of another slot.
+-- Lemma: a process stays as it is through every step of a hart that has another process or none, and through a start.
+-- (`Others` derives the headline's claim from it.)
 use Rattle.std.proofs.Common.{◌≡◌, ◌≢◌, ℕ, zero, suc, Bool, true, false, ◌+◌, ◌≤◌, refl, ap, ◌∙◌, arith, List, [], ◌∷◌, Option, None, Some}
 use Rattle.std.specs.Prelude.{slice_get, slice_set, Result, Ok, Err}
 use Rattle.std.proofs.lemmas.Option.{same_Some}
@@ -8,8 +9,8 @@ use Rattle.process_model.specs.Harts.{Hart}
 use Rattle.process_model.specs.Images.{LoadSegment}
 use Rattle.process_model.specs.Mappings.{Mapped, Unmapped}
 use Rattle.process_model.specs.World.{World, Outcome, flat, process_in, with_process, lowest_free, unless_refused, on_hart_at, on_hart, always, with_process_of, with_slot_of, with_its_process, kernel_call, can_call}
-use Rattle.process_model.specs.Around.{Progress}
-use Rattle.process_model.specs.Service.{Answer, access_step, served_or_ended, served, told_if}
+use Rattle.process_model.specs.Environment.{Progress}
+use Rattle.process_model.specs.Service.{Answer, access_step, served_or_ended, served, access_outcome_if}
 use Rattle.process_model.specs.Calls.{started_unless, started_as, started, replaced_unless, replaced, forked_unless, forked, resized_to, mapped_to, unmapped_to}
 use Rattle.process_model.specs.Stale.{with_stale_slots}
 use Rattle.process_model.specs.Steps.{plain_step}
@@ -67,7 +68,7 @@ module _ (t : ℕ) (q : Process) where
 
   module _ (w : World) (k : Leaves t q w) where
     -- whatever becomes of the process of another slot
-    told_leaves : (h : ℕ) (hart : Hart) (s : ℕ) (x : Answer) (b : Bool) → s ≢ t → Leaves t q (told_if w h hart s x b).world
+    told_leaves : (h : ℕ) (hart : Hart) (s : ℕ) (x : Answer) (b : Bool) → s ≢ t → Leaves t q (access_outcome_if w h hart s x b).world
     told_leaves h hart s x true ne = set_leaves w _ s _ ne refl k
     told_leaves h hart s x false ne = set_leaves w _ s _ ne refl k
 

@@ -1,4 +1,6 @@
--- Pages that are written back: what files have afterwards, and that nothing else is.
+-- Lemmas about write-back of a mapping's pages: bytes written over a file's keep its length and the bytes before them, and
+-- are there afterwards, up to its length; and a page that later maps the place of a page that was written back begins with
+-- that page's bytes.
 use Rattle.std.proofs.Common.{◌≡◌, ℕ, zero, suc, Bool, true, false, cond, ◌&&◌, ◌+◌, ◌-◌, ◌*◌, ◌<◌, ◌≤◌, inl, inr, refl, ap, sym, subst, ◌∙◌, arith, List, [], ◌∷◌, ◌++◌, Option, None, Some, length, take, drop}
 use Rattle.std.specs.Prelude.{T, fold, nat_le, nat_lt, slice_get, slice_set}
 use Rattle.std.specs.Ordering.{nat_cmp}

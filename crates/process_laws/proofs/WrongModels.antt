@@ -1,14 +1,16 @@
--- What the headline refuses, whatever the model is: moments that a wrong one would bring.
+-- Lemmas, one for each of fourteen wrong behaviors of a kernel (a copy that stops although frames suffice, a byte lost at a
+-- trap, a second fault, a mapping over another, a bad image started, ..): a part of the headline excludes it, for moments of
+-- any model.
 use Rattle.std.proofs.Common.{◌≡◌, ◌≢◌, ◌≤◌, inl, inr, ◌+◌, ◌-◌, ℕ, ℤ, Bool, true, false, refl, sym, ap, subst, ◌∙◌, List, Option, None, Some, length, arith}
 use Rattle.std.specs.Prelude.{Err}
 use Rattle.std.proofs.lemmas.Bool.{false≢true, ltb-true}
 use Rattle.std.proofs.lemmas.Option.{same_Some}
 use Rattle.process_laws.specs.Headline.{AnswersUser, Becomes, ChangesOwn, CopiesForKernel, StopsAfter, IsDry, ReadsLatest}
-use Rattle.process_laws.specs.Makes.{MakesSteps}
+use Rattle.process_laws.specs.MadeSteps.{MakesSteps}
 use Rattle.process_laws.specs.Latest.{byte_had, is_released, latest, left_by}
 use Rattle.process_laws.specs.Moments.{Moment, moment_of, slot_on}
 use Rattle.process_laws.specs.Pages.{grant, grant_after, has_fork_mark, has_stored_mark, is_between, is_remapped, is_store_at, is_stored_to, mapping_grant}
-use Rattle.process_laws.specs.Words.{Asked, byte, cause, copied, Forbids, is_fault, is_reply, IsAnswer, IsGranted, IsResident, Loads, maker, stopped_by, tells_no_frame, Tries}
+use Rattle.process_laws.specs.Words.{UserAccess, byte, cause, copied, Forbids, is_fault, is_reply, IsAnswer, IsGranted, IsResident, LoadsImage, hart_of_step, stopped_by, is_no_frame_reply, Tries}
 use Rattle.process_model.specs.Bytes.{pages_for}
 use Rattle.process_model.specs.Images.{image_loads}
 use Rattle.process_model.specs.Process.{Process, regions}
@@ -25,7 +27,7 @@ use Rattle.sv39_entry.specs.declared.rule.Rule.{Rule}
 use Rattle.sv39_entry.specs.declared.rule.Rule.TheVariants.{NoFrame}
 
 -- a copy that stops by NoFrame before a byte for which there are frames
-ends_dry : (p : Process) (kind : Access) (address n k : ℕ) (alone : Reply) (o : Option Rule) → o ≡ Some NoFrame → StopsAfter p kind address n k alone o → tells_no_frame alone ≡ true
+ends_dry : (p : Process) (kind : Access) (address n k : ℕ) (alone : Reply) (o : Option Rule) → o ≡ Some NoFrame → StopsAfter p kind address n k alone o → is_no_frame_reply alone ≡ true
 ends_dry p kind address n k alone o e (StopsAfter.whole is) = absurd cc
 ends_dry p kind address n k alone o e (StopsAfter.forbidden {rule} less f) = absurd (let is : rule ≡ NoFrame = cc in subst (λ (r : Rule). Forbids p (byte kind (address + k)) r) is f).denies
 ends_dry p kind address n k alone o e (StopsAfter.no_frame less g so) = so
@@ -35,7 +37,7 @@ pub copy_with_frames : (m : Moment) (h address n need : ℕ) (p : Process) (byte
 copy_with_frames m h address n need p bytes k step is dry enough =
     let c = k.from n step in
     let so = ends_dry p access.Load address n (copied m.reply) _ (stopped_by m.reply) (ap stopped_by is) c.stops in
-    let alone : tells_no_frame (moment_of m.after (CopyIn h (address + length bytes.items) 1)).reply ≡ true = ap (λ (r : Reply). tells_no_frame (moment_of m.after (CopyIn h (address + copied r) 1)).reply) (sym is) ∙ so in
+    let alone : is_no_frame_reply (moment_of m.after (CopyIn h (address + length bytes.items) 1)).reply ≡ true = ap (λ (r : Reply). is_no_frame_reply (moment_of m.after (CopyIn h (address + copied r) 1)).reply) (sym is) ∙ so in
     let less = ltb-true (free m.after) need (sym dry ∙ alone) in
     absurd (omega (arith, less, enough))
 
@@ -54,7 +56,7 @@ calm kind r IsAnswer.loaded = refl
 calm kind r IsAnswer.stored = refl
 
 -- an access that faults though it is granted and its page at hand
-pub no_second_fault : (m : Moment) (h s cause : ℕ) (p : Process) (a : Asked) → AnswersUser m h s p a → Tries m h s p a → IsGranted p a → IsResident p a → m.reply ≢ Fault cause
+pub no_second_fault : (m : Moment) (h s cause : ℕ) (p : Process) (a : UserAccess) → AnswersUser m h s p a → Tries m h s p a → IsGranted p a → IsResident p a → m.reply ≢ Fault cause
 no_second_fault m h s cause p a k t g resident is = false≢true (sym (calm a.access m.reply (k.answered t g resident)) ∙ ap is_fault is)
 
 -- what is left of a mapping that reads from another place of its file
@@ -78,7 +80,7 @@ no_mark_by_service m h page p q k step none = by (has_fork_mark q page) refl
     by true e = absurd (false≢true (sym none ∙ k.forked (λ fork. absurd (let no = sym step ∙ fork in cc)) page e))
 
 -- a fault with a cause that is not its own
-pub fault_tells_its_cause : (m : Moment) (h s c : ℕ) (p : Process) (a : Asked) → AnswersUser m h s p a → Tries m h s p a → (IsGranted p a → IsResident p a → ⊥) → m.reply ≡ Fault c → c ≡ cause a
+pub fault_tells_its_cause : (m : Moment) (h s c : ℕ) (p : Process) (a : UserAccess) → AnswersUser m h s p a → Tries m h s p a → (IsGranted p a → IsResident p a → ⊥) → m.reply ≡ Fault c → c ≡ cause a
 fault_tells_its_cause m h s c p a k t not is = let must = (k.faults t not).0 in cc
 
 -- a service for a load that leaves the stored mark, so that the page would be written back
@@ -114,11 +116,11 @@ copy_of_another_kind m h address bytes copied k step is = false≢true (sym (ap 
 
 -- a start of a bad image
 pub bad_image_never_starts : (m : Moment) (image : Image) (e : BadImage) (s : ℕ) → MakesSteps m → m.step ≡ Start image → image_loads (m.before).scheme image ≡ Err e → m.reply ≢ Started s
-bad_image_never_starts m image e s k step bad is = k.bad_image image e (subst (Loads image) (sym step) Loads.start) bad (λ r f. let no = sym is ∙ f in absurd cc)
+bad_image_never_starts m image e s k step bad is = k.bad_image image e (subst (LoadsImage image) (sym step) LoadsImage.start) bad (λ r f. let no = sym is ∙ f in absurd cc)
 
 -- a call of the kernel on a hart that has no process
 pub no_call_for_nobody : (m : Moment) (h address len : ℕ) → MakesSteps m → m.step ≡ Munmap h address len → slot_on m.before h ≡ None → m.reply ≢ Done
 no_call_for_nobody m h address len k step none is =
-    let host = k.hosted h (ap maker step) (λ r f. let no = sym is ∙ f in absurd cc) in
+    let host = k.hosted h (ap hart_of_step step) (λ r f. let no = sym is ∙ f in absurd cc) in
     let no = sym none ∙ (host.2).there in
     cc

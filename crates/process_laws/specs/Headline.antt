@@ -1,16 +1,20 @@
--- THE HEADLINE: what a process of xv6 on Sv39 or Sv48 may rely on, whatever the harts do.
+-- THE HEADLINE: what a process of xv6 on Sv39 or Sv48 may rely on, whatever the harts do. Of one step: (a) answers and
+-- faults of user accesses, (b) kernel copies, (c) frames that steps take, (d) the latest bytes are read, (e) other processes
+-- stay, (f) what a process's own step changes, (g) steps that are made. `Holds` joins them; `Headline` says it of each step
+-- of a run.
 --
--- The harts have made any list of steps since boot, and now make one more. `past` has the moments before, the newest first. `m` is the
--- moment now: the step, its reply, the world before it and the world after it. The reply of `m` is what the machine answered; worlds, and
--- the replies of the past and of each `moment_of`, are the model's. A world has files and, in its slots, processes; a process has regions,
--- and the bytes of its settled pages (xv6: those with a valid leaf: an image's from the start, others by a service or a copy). `Words` has
--- the words, `Pages` what a region gives to a page, `Latest` the latest byte at an address, and `Makes` part (g).
+-- The harts have made any list of steps since boot, and make one more. `past` has the moments before it, the newest first.
+-- `m` is the moment of this step: the step, its reply, the world before it and the world after it. The reply of `m` is what
+-- the machine answered; worlds, and the replies of the past and of each `moment_of`, are the model's. A world has files and,
+-- in its slots, processes; a process has regions, and the bytes of its settled pages (xv6: those with a valid leaf: an
+-- image's from the start, others by a service or a copy). `Words` has the words, `Pages` what a region gives to a page,
+-- `Latest` the latest byte at an address, and `MadeSteps` part (g).
 use Rattle.std.specs.Prelude.{◌≡◌, ◌≢◌, ◌⊎◌, ℕ, ℤ, false, true, ◌+◌, ◌-◌, ◌<◌, ◌≤◌, nat_lt, Option, None, Some, List, [], ◌∷◌, length, take, pos}
 use Rattle.std.specs.Borrow.{Bor}
 use Rattle.process_laws.specs.Latest.{AreLatest, byte_had, bytes_in, IsLatest, latest}
 use Rattle.process_laws.specs.Moments.{Moment, moment_of, moments_from, slot_on}
 use Rattle.process_laws.specs.Pages.{grant, grant_after, has_fork_mark, has_stored_mark, is_remapped, is_stored_to, may_remap, size_after}
-use Rattle.process_laws.specs.Words.{Asked, Asks, byte, cause, copied, Forbids, in_memory, is_end, is_fault, IsAnswer, IsChild, IsGranted, IsIn, IsMade, IsOn, IsResident, is_born, maker, moved_hart, phase_on, Serves, stopped_by, takes_frames, tells_no_frame, Tries, waiting, writes_back, Written}
+use Rattle.process_laws.specs.Words.{UserAccess, IsAccessStep, byte, cause, copied, Forbids, in_memory, is_end, is_fault, IsAnswer, IsChild, IsGranted, IsInPhase, IsMade, IsOnHart, IsResident, starts_in_slot, hart_of_step, moved_hart, phase_on, Serves, stopped_by, takes_frames, is_no_frame_reply, Tries, with_pending_access, writes_back, Written}
 use Rattle.process_model.specs.Files.{File}
 use Rattle.process_model.specs.Process.{Process}
 use Rattle.process_model.specs.Steps.{run}
@@ -27,85 +31,91 @@ use Rattle.sv39_entry.specs.declared.access.Access.{Access}
 use Rattle.sv39_entry.specs.declared.access.Access.TheVariants.{Load, Store}
 use Rattle.sv39_entry.specs.declared.rule.Rule.{Rule}
 use Rattle.sv39_entry.specs.declared.rule.Rule.TheVariants.{NoFrame}
-use Rattle.process_laws.specs.Makes.{MakesOwn, MakesSteps}
+use Rattle.process_laws.specs.MadeSteps.{MakesOwn, MakesSteps}
 
--- (a) The user access a of process p, in slot s, on hart h. If its page at 0x1000 begins with the byte 0x61, and its guard is after it,
--- `load 0 0x1000 1` answers `value 0x61`; `load 0 0x2000 1` answers `fault 13`, and its service `ended 4 GuardPage`
-pub record AnswersUser (m : Moment) (h s : ℕ) (p : Process) (a : Asked) : Type 0 where
+-- (a) The user access a of process p, in slot s, on hart h. If its page at 0x1000 begins with the byte 0x61, and its guard
+-- is after it, `load 0 0x1000 1` answers `value 0x61`; `load 0 0x2000 1` answers `fault 13`, and its
+-- service `ended 4 GuardPage`
+pub record AnswersUser (m : Moment) (h s : ℕ) (p : Process) (a : UserAccess) : Type 0 where
   -- No access is both granted and forbidden
   pub apart : process_in m.before s ≡ Some p → (rule : Rule) → IsGranted p a → Forbids p a rule → ⊥
   -- If it is granted and its page is resident, it is answered: a fetch or a load by a value, a store by `Stored`
   pub answered : Tries m h s p a → IsGranted p a → IsResident p a → IsAnswer a.access m.reply
-  -- Otherwise it faults, with the misaligned cause (0, 4, 6) or else the page fault's (12, 13, 15), and waits for service; nothing else of p
-  -- changes, and the hart is at the kernel's entry
-  pub faults : Tries m h s p a → (IsGranted p a → IsResident p a → ⊥) → (m.reply ≡ Fault (cause a)) × IsOn m.after h s (waiting p a) × IsIn m.after h Enter0
-  -- If the kernel serves a, for which p waits, and a is granted, then its page is resident, and one fault is enough unless p itself calls the
-  -- kernel first; or p ends by NoFrame
+  -- Otherwise it faults, with the misaligned cause (0, 4, 6) if it is misaligned, else with the page fault's (12, 13, 15),
+  -- and waits for service; nothing else of p changes, and the hart is at the first instruction of the kernel's entry
+  pub faults : Tries m h s p a → (IsGranted p a → IsResident p a → ⊥) → (m.reply ≡ Fault (cause a)) × IsOnHart m.after h s (with_pending_access p a) × IsInPhase m.after h Enter0
+  -- If the kernel serves a, for which p waits, and a is granted, then its page is resident, and one fault is enough unless p
+  -- itself calls the kernel first; or p ends by NoFrame
   pub served : Serves m h s p a → IsGranted p a → ((m.reply ≡ Ready) × ((q : Process) → process_in m.after s ≡ Some q → IsResident q a)) ⊎ (m.reply ≡ Ended NoFrame)
   -- If a is not granted, p ends by the first rule that forbids it
   pub ended : Serves m h s p a → (IsGranted p a → ⊥) → (rule : Rule) × (m.reply ≡ Ended rule) × Forbids p a rule
 
--- (b) A kernel copy of n bytes stops after k: all are copied; or the next is forbidden; or the next lacks a frame, and the reply to a copy of
--- it `alone`, made then, says so too. `copyin 0 0x1ffd 8`, whose last five bytes are the guard's, answers `short 4 GuardPage done 3 000000`
+-- (b) A kernel copy of n bytes stops after k: all are copied; or the next is forbidden; or the next lacks a frame, and the
+-- reply to a copy of it `alone`, made next, says so too. `copyin 0 0x1ffd 8`, whose last five bytes are the guard's, answers
+-- `short 4 GuardPage done 3 000000`
 pub data StopsAfter (p : Process) (access : Access) (address n k : ℕ) (alone : Reply) : Option Rule → Type 0 where
   whole : k ≡ n → StopsAfter p access address n k alone None
   forbidden : {rule : Rule} → k < n → Forbids p (byte access (address + k)) rule → StopsAfter p access address n k alone (Some rule)
-  no_frame : k < n → IsGranted p (byte access (address + k)) → tells_no_frame alone ≡ true → StopsAfter p access address n k alone (Some NoFrame)
+  no_frame : k < n → IsGranted p (byte access (address + k)) → is_no_frame_reply alone ≡ true → StopsAfter p access address n k alone (Some NoFrame)
 
+-- Each of the k bytes that are copied is granted, and the copy stops after them
 pub record Copies (p : Process) (access : Access) (address n k : ℕ) (alone : Reply) (stop : Option Rule) : Type 0 where
   pub granted : (i : ℕ) → i < k → IsGranted p (byte access (address + i))
   pub stops : StopsAfter p access address n k alone stop
 
--- A copy that stops early changes what a copy of the first k bytes changes: it neither undoes them nor takes a frame for the rest. (`one` is
--- any byte, and `front` the first k)
+-- A copy that stops early changes what a copy of the first k bytes changes: it neither undoes them nor takes a frame for the
+-- rest. (`one` is any byte, and `front` the first k)
 pub record CopiesForKernel (m : Moment) (h address k : ℕ) (p : Process) : Type 0 where
   pub from : (n : ℕ) → m.step ≡ CopyIn h address n → Copies p Load address n k (moment_of m.after (CopyIn h (address + k) 1)).reply (stopped_by m.reply)
   pub from_front : (n : ℕ) → m.step ≡ CopyIn h address n → m.after ≡ (moment_of m.before (CopyIn h address k)).after
   pub to : (bytes one : Bor (List ℕ)) → m.step ≡ CopyOut h address bytes → length one.now ≡ 1 → Copies p Store address (length bytes.now) k (moment_of m.after (CopyOut h (address + k) one)).reply (stopped_by m.reply)
   pub to_front : (bytes front : Bor (List ℕ)) → m.step ≡ CopyOut h address bytes → front.now ≡ take k bytes.now → m.after ≡ (moment_of m.before (CopyOut h address front)).after
 
--- (c) A reply says NoFrame exactly when fewer frames are free than the step needs, n; and n is the same however many frames the memory has
--- (`elsewhere`). Which n that is, the page leaves to the model: a start of nine pages in the first two megabytes needs 17, under Sv48 19
+-- (c) A reply says NoFrame exactly when fewer frames are free than the step needs, n; and n is the same however many frames
+-- the memory has (`with_frames`). Which number n is, this page leaves to the model: a start of nine pages in the first two
+-- megabytes needs 17, under Sv48 19
 abbrev pub IsDry : Moment → ℕ → Type 0
-IsDry m n = tells_no_frame m.reply ≡ nat_lt (free m.before) n
+IsDry m n = is_no_frame_reply m.reply ≡ nat_lt (free m.before) n
 
-abbrev pub Takes : Moment → ℕ → Type 0
-Takes m n = IsDry m n × (tells_no_frame m.reply ≡ false → free m.before - free m.after ≡ n)
+abbrev pub TakesExactly : Moment → ℕ → Type 0
+TakesExactly m n = IsDry m n × (is_no_frame_reply m.reply ≡ false → free m.before - free m.after ≡ n)
 
-abbrev pub elsewhere : Moment → ℕ → Moment
-elsewhere m frames = moment_of (in_memory m.before frames) m.step
+abbrev pub with_frames : Moment → ℕ → Moment
+with_frames m frames = moment_of (in_memory m.before frames) m.step
 
 pub record CountsFrames (m : Moment) : Type 0 where
-  -- A start, a service, a fork and a copy need the frames by which the free ones then fall, if the reply does not say NoFrame
-  pub takes : takes_frames m.step ≡ true → (n : ℕ) × Takes m n × ((frames : ℕ) → Takes (elsewhere m frames) n)
-  -- An exec that is done needs one less than a start of the same image in any world with a free slot, since the process keeps its trapframe;
-  -- the frames of its old pages do not count as free
-  pub replaces : (h : ℕ) (image : Image) → m.step ≡ Exec h image → (n : ℕ) × IsDry m n × ((frames : ℕ) → IsDry (elsewhere m frames) n)
+  -- A start, a service, a fork and a copy need the number of frames by which the free count then falls (0 if it grows), if
+  -- the reply does not say NoFrame
+  pub takes : takes_frames m.step ≡ true → (n : ℕ) × TakesExactly m n × ((frames : ℕ) → TakesExactly (with_frames m frames) n)
+  -- An exec that is done needs one less than a start of the same image in any world with a free slot, since the process
+  -- keeps its trapframe; the frames of its old pages do not count as free
+  pub replaces : (h : ℕ) (image : Image) → m.step ≡ Exec h image → (n : ℕ) × IsDry m n × ((frames : ℕ) → IsDry (with_frames m frames) n)
       × (m.reply ≡ Done → (u : World) (s : ℕ) → u.scheme ≡ (m.before).scheme → free_slot u ≡ Some s → IsDry (moment_of u (Start image)) (n + 1))
   -- No other step says NoFrame or takes a frame
-  pub no_other : takes_frames m.step ≡ false → ((h : ℕ) (image : Image) → m.step ≢ Exec h image) → (tells_no_frame m.reply ≡ false) × (free m.before ≤ free m.after)
+  pub no_other : takes_frames m.step ≡ false → ((h : ℕ) (image : Image) → m.step ≢ Exec h image) → (is_no_frame_reply m.reply ≡ false) × (free m.before ≤ free m.after)
 
--- (d) At each address a process has the latest byte that was left there since the page was settled, else the page's initial byte; none if
--- the page is not settled. These bytes are what is read. A forked child reads what its parent stored before the fork, and nothing that the
--- parent stores later
+-- (d) At each address a process has the latest byte that was left there since the page was settled, else the page's initial
+-- byte; none if the page is not settled. These bytes are what is read. A forked child reads what its parent stored before
+-- the fork, and nothing that the parent stores later
 pub record ReadsLatest (past : List Moment) (m : Moment) : Type 0 where
   pub has : (s a : ℕ) → byte_had (process_in m.after s) a ≡ latest (m ∷ past) s a
-  pub read : (h s v : ℕ) (a : Asked) (via : Option ℕ) → slot_on m.before h ≡ Some s → Asks h via a m.step → m.reply ≡ Value v → IsLatest past s a.address a.width v
+  pub read : (h s v : ℕ) (a : UserAccess) (via : Option ℕ) → slot_on m.before h ≡ Some s → IsAccessStep h via a m.step → m.reply ≡ Value v → IsLatest past s a.address a.width v
   pub brought : (h s address n : ℕ) → slot_on m.before h ≡ Some s → m.step ≡ CopyIn h address n → AreLatest (m ∷ past) s address (bytes_in m.reply)
 
--- (e) Only its own steps change a process q: its bytes, its regions and all else. (The bytes with which a page of a file will begin are
--- those that the file has then, and other processes change a file by what they write back)
+-- (e) Only its own steps change a process q: its bytes, its regions and all else. (The bytes with which a page of a file
+-- will begin are those that the file has then, and other processes change a file by what they write back)
 pub record LeavesOthers (m : Moment) : Type 0 where
-  pub kept : (s : ℕ) (q : Process) → ((h : ℕ) → maker m.step ≡ Some h → slot_on m.before h ≢ Some s) → process_in m.before s ≡ Some q → process_in m.after s ≡ Some q
+  pub kept : (s : ℕ) (q : Process) → ((h : ℕ) → hart_of_step m.step ≡ Some h → slot_on m.before h ≢ Some s) → process_in m.before s ≡ Some q → process_in m.after s ≡ Some q
   -- A refused step changes nothing
   pub refused : (e : Refusal) → m.reply ≡ Refused e → m.after ≡ m.before
   -- A slot stays empty but for a start and a fork
-  pub empty : (s : ℕ) → process_in m.before s ≡ None → is_born m.reply s ≡ false → process_in m.after s ≡ None
+  pub empty : (s : ℕ) → process_in m.before s ≡ None → starts_in_slot m.reply s ≡ false → process_in m.after s ≡ None
   -- A hart keeps its process and its phase but for its own switch, trap, step in the trampoline (`Next`), fault or end
   pub harts : (k : ℕ) → moved_hart m.step m.reply ≢ Some k → (slot_on m.after k ≡ slot_on m.before k) × (phase_on m.after k ≡ phase_on m.before k)
   -- A process is on one hart at a time
   pub one_hart : (h k s : ℕ) → slot_on m.after h ≡ Some s → slot_on m.after k ≡ Some s → h ≡ k
-  -- Files stay but for what munmap, exec, an exit and an end write back; the memory keeps its size, and the process table its slots
+  -- Files stay but for what munmap, exec, an exit and an end write back; the memory keeps its
+  -- size, and the process table its slots
   pub files : writes_back m.step m.reply ≡ false → (m.after).files ≡ (m.before).files
   pub memory : (m.after).frames ≡ (m.before).frames
   pub slots : length (m.after).slots ≡ length (m.before).slots
@@ -115,54 +125,60 @@ pub record LeavesOthers (m : Moment) : Type 0 where
 
 -- (f) By its own step on hart h a process p becomes q
 pub record Becomes (m : Moment) (h : ℕ) (p q : Process) : Type 0 where
-  -- It waits for service exactly if the step faulted
+  -- If the step is made, q waits for service exactly when the step faulted
   pub waits : IsMade m.reply → is_unserved_access q.pending ≡ is_fault m.reply
-  -- Each page keeps its grant (rights, kind of region, source of its initial bytes) and its stored mark, but those that exec, sbrk, mmap and
-  -- munmap remap
+  -- Each page keeps its grant (rights, kind of region, source of its initial bytes) and its stored mark, but those that
+  -- exec, sbrk, mmap and munmap remap
   pub stays : (page : ℕ) → is_remapped m.step m.reply page ≡ false → (grant q page ≡ grant p page) × (has_stored_mark p page ≡ true → has_stored_mark q page ≡ true)
-  -- Such a page has what the call gives; only exec puts one grant in the place of another; sbrk leaves the pages below the heap as they are,
-  -- mmap and munmap the heap too
+  -- Such a page has what the call gives; only exec puts one grant in the place of another; sbrk leaves the pages below the
+  -- heap as they are, mmap and munmap the heap too
   pub remapped : (page : ℕ) → is_remapped m.step m.reply page ≡ true → grant q page ≡ grant_after (m.before).scheme m.step m.reply page
   pub vacant : (page : ℕ) → is_remapped m.step m.reply page ≡ true → ((image : Image) → m.step ≢ Exec h image) → (grant p page ≡ None) ⊎ (grant q page ≡ None)
   pub below : (page : ℕ) → is_remapped m.step m.reply page ≡ true → may_remap p m.step page ≡ true
-  -- Only a fork adds a fork mark, and only the service of a store and a copy to the page take it away; these alone add a stored mark. After
-  -- exec there is neither
+  -- Only a fork adds a fork mark; on a page that is not remapped only the service of a store and a copy to the page remove
+  -- it. These two alone add a stored mark. After exec there is neither mark
   pub forked : m.step ≢ Fork h → (page : ℕ) → has_fork_mark q page ≡ true → has_fork_mark p page ≡ true
   pub unforked : (page : ℕ) → is_remapped m.step m.reply page ≡ false → has_fork_mark p page ≡ true → (has_fork_mark q page ≡ true) ⊎ (is_stored_to p m.step page ≡ true)
   pub stored : (page : ℕ) → has_stored_mark q page ≡ true → (has_stored_mark p page ≡ true) ⊎ (is_stored_to p m.step page ≡ true)
   pub cleared : (image : Image) → m.step ≡ Exec h image → m.reply ≡ Done → (page : ℕ) → (has_fork_mark q page ≡ false) × (has_stored_mark q page ≡ false)
-  -- The size is what sbrk or exec makes of it, else what it was; sbrk replies the old one. The heap's base stays but for exec
+  -- The size is what sbrk or exec makes of it, else what it was; sbrk replies the old one. The heap's base stays, but for
+  -- exec
   pub size : pos q.size ≡ size_after (m.before).scheme m.step m.reply p.size
   pub base : (q.heap_base ≡ p.heap_base) ⊎ ((image : Image) × (m.step ≡ Exec h image) × (q.heap_base ≡ q.size))
   pub old_size : (delta : ℤ) (n : ℕ) → m.step ≡ Sbrk h delta → m.reply ≡ OldSize n → n ≡ p.size
 
+-- What its own step on hart h does to process p, in slot s
 pub record ChangesOwn (m : Moment) (h s : ℕ) (p : Process) : Type 0 where
   -- Unless the reply says that it ended, it is still in its slot
   pub lives : is_end m.reply ≡ false → (q : Process) × (process_in m.after s ≡ Some q) × Becomes m h p q
   -- After an exit, and after an end by a rule, the slot is empty and the hart idle
-  pub gone : is_end m.reply ≡ true → (process_in m.after s ≡ None) × (slot_on m.after h ≡ None) × IsIn m.after h Idle
-  -- A byte of a file that changes becomes the byte that p had at that place, on a page with the stored mark of a writable shared mapping (of
-  -- the range, if the step is munmap). No file changes its length, or whether it may be written
+  pub gone : is_end m.reply ≡ true → (process_in m.after s ≡ None) × (slot_on m.after h ≡ None) × IsInPhase m.after h Idle
+  -- A byte of a file that changes becomes the byte that p had at that place, on a page with the stored mark of a writable
+  -- shared mapping (of the range, if the step is munmap). No file changes its length, or whether it may be written
   pub files : Written m.step p (m.before).files (m.after).files
-  -- A child is in the lowest free slot; it has its parent's regions and size, waits for nothing, and has nothing to write back
+  -- A child is in the lowest free slot; it has its parent's regions, heap base and size, waits
+  -- for nothing, and has no stored mark
   pub child : (t : ℕ) → m.step ≡ Fork h → m.reply ≡ Forked t → (free_slot m.before ≡ Some t) × (c : Process) × (process_in m.after t ≡ Some c) × IsChild p c
 
+-- Parts (a) to (g) hold of a moment, after those of the past
 pub record Holds (past : List Moment) (m : Moment) : Type 0 where
-  pub users : (h s : ℕ) (p : Process) (a : Asked) → AnswersUser m h s p a
-  pub copies : (h s address : ℕ) (p : Process) → IsOn m.before h s p → IsMade m.reply → CopiesForKernel m h address (copied m.reply) p
+  pub users : (h s : ℕ) (p : Process) (a : UserAccess) → AnswersUser m h s p a
+  pub copies : (h s address : ℕ) (p : Process) → IsOnHart m.before h s p → IsMade m.reply → CopiesForKernel m h address (copied m.reply) p
   pub frames : CountsFrames m
   pub bytes : ReadsLatest past m
   pub others : LeavesOthers m
-  pub own : (h s : ℕ) (p : Process) → IsOn m.before h s p → maker m.step ≡ Some h → ChangesOwn m h s p
-  pub made_own : (h s : ℕ) (p : Process) → IsOn m.before h s p → MakesOwn m h s p
+  pub own : (h s : ℕ) (p : Process) → IsOnHart m.before h s p → hart_of_step m.step ≡ Some h → ChangesOwn m h s p
+  pub made_own : (h s : ℕ) (p : Process) → IsOnHart m.before h s p → MakesOwn m h s p
   pub made : MakesSteps m
 
--- Of each step of a list, and its reply, from a world on
+-- Each step of a list, made from world w on, has one of the replies, in order, and no reply is left over; with its reply it
+-- meets the parts of the headline
 abbrev pub AllHold : List Moment → World → List Step → List Reply → Type 0
 AllHold past w [] rs = rs ≡ []
 AllHold past w (x ∷ xs) [] = ⊥
 AllHold past w (x ∷ xs) (r ∷ rs) = let m = record (moment_of w x) { reply = r } in Holds past m × AllHold (m ∷ past) m.after xs rs
 
--- After boot the harts made the steps `earlier`; to the steps that they make then, these are the replies
+-- After boot the harts made the steps `earlier`; of `steps`, which they make next, `replies` has the reply to each, and each
+-- meets the headline
 abbrev pub Headline : Config → List File → List Step → List Step → List Reply → Type 0
 Headline c files earlier steps replies = AllHold (moments_from [] (booted c files) earlier) (run (booted c files) earlier).world steps replies

@@ -1,5 +1,7 @@
--- The latest byte that was left at an address of a process: it is computed from the steps, their replies, and the regions, files and
--- waiting accesses before them, never from what the model has settled.
+-- `latest`: the byte that was last left at an address of a process. It is computed step by step (`left_by`) from the steps,
+-- their replies, and the regions, files and pending accesses before them, never from what the model has settled (put in
+-- memory). Also the bytes of an image and of a file mapping, the initial byte, the byte that a process has (`byte_had`), and
+-- `IsLatest`, for the value of a load.
 use Rattle.std.specs.Prelude.{◌≡◌, ℕ, ℤ, pos, ◌+ℤ◌, nat_abs, Bool, false, ◌+◌, ◌-◌, ◌*◌, ◌%◌, ◌<◌, nat_le, nat_lt, ◌==◌, ◌&&◌, Option, None, Some, Result, Ok, Err, List, [], ◌∷◌, length, get_or, slice_get, if◌then◌else◌}
 use Rattle.process_model.specs.Bytes.{low_bytes, number, pages_for}
 use Rattle.process_model.specs.Files.{File, bytes_of}
@@ -19,21 +21,23 @@ use Rattle.sv39_entry.specs.Address.{page_of}
 
 -- bytes
 
+-- byte i of a list, 0 past its end
 abbrev pub byte_at : List ℕ → ℕ → ℕ
 byte_at bytes i = get_or bytes i 0
 
--- the byte that an image has at an address: that of its segment, zero after the segment's bytes and in guard and stack; none outside its
--- pages
+-- the byte that an image has at an address: that of its segment, zero after the segment's bytes and in guard and stack; none
+-- outside its pages. `end` is the end page of the segments before those listed
 abbrev pub loads_byte : ℕ → List LoadSegment → ℕ → Option ℕ
 loads_byte end [] a = if is_between end (end + 2) (page_of a) then Some 0 else None
 loads_byte end (l ∷ ls) a =
     if is_between (page_of l.address) (page_of l.address + pages_for l.memory_size) (page_of a) then Some (byte_at l.bytes (a - 4096 * page_of l.address)) else loads_byte (end_page l) ls a
 
+-- the byte that an image has at an address; none for a bad image
 abbrev pub image_byte : Result (List LoadSegment) BadImage → ℕ → Option ℕ
 image_byte (Err e) a = None
 image_byte (Ok ls) a = loads_byte 0 ls a
 
--- the byte with which a page begins: in a mapping that of the file at this place, zero past its end; elsewhere zero
+-- byte i of the initial bytes of a page: in a mapping that of the file at this place, zero past its end; elsewhere zero
 abbrev pub source_byte : List File → Source → ℕ → ℕ
 source_byte files (file n offset) i = byte_at (bytes_of (slice_get files n)) (offset + i)
 source_byte files _ i = 0
@@ -42,11 +46,12 @@ abbrev pub grant_byte : List File → Option Grant → ℕ → ℕ
 grant_byte files None i = 0
 grant_byte files (Some g) i = source_byte files g.source i
 
+-- the initial byte at an address of a process
 abbrev pub initial_byte : List File → Option Process → ℕ → ℕ
 initial_byte files None a = 0
 initial_byte files (Some p) a = grant_byte files (grant p (page_of a)) (a % 4096)
 
--- the byte that a process has at an address; none if the page is not settled
+-- the byte that a process has at an address (`byte_had`); none if the page is not settled
 abbrev pub page_byte : Option Page → ℕ → Option ℕ
 page_byte None i = None
 page_byte (Some x) i = Some (byte_at x.bytes i)
@@ -61,11 +66,11 @@ byte_had (Some p) a = page_byte (get p.settled (page_of a)) (a % 4096)
 abbrev pub is_among : ℕ → ℕ → ℕ → Bool
 is_among first n a = nat_le first a && nat_lt a (first + n)
 
--- a is in a page of one of them
+-- a is in a page that has one of these addresses
 abbrev pub is_in_their_pages : ℕ → ℕ → ℕ → Bool
 is_in_their_pages first n a = has_some_of first n (page_of a)
 
--- a is in a page that sbrk releases: it changes the size n by `delta`
+-- a is in a page that sbrk releases, if it changes the size from n by `delta`
 abbrev pub is_released : ℕ → ℤ → ℕ → Bool
 is_released n delta a = nat_le (pages_for (nat_abs (pos n +ℤ delta))) (page_of a) && nat_lt (page_of a) (pages_for n)
 
@@ -78,6 +83,7 @@ abbrev pub is_in_pending : Option Pending → ℕ → Bool
 is_in_pending None a = false
 is_in_pending (Some x) a = page_of x.address == page_of a
 
+-- a is in the page of the pending access of the process
 abbrev pub is_in_served : Option Process → ℕ → Bool
 is_in_served None a = false
 is_in_served (Some p) a = is_in_pending p.pending a
@@ -85,34 +91,35 @@ is_in_served (Some p) a = is_in_pending p.pending a
 -- what is left at an address
 
 -- for each slot and address the latest byte, if there is one
-abbrev pub Knowledge : Type 0
-Knowledge = ℕ → ℕ → Option ℕ
+abbrev pub LatestBytes : Type 0
+LatestBytes = ℕ → ℕ → Option ℕ
 
-abbrev pub of_slot : Knowledge → Option ℕ → ℕ → Option ℕ
+-- the latest byte of the process in a slot; none without a slot
+abbrev pub of_slot : LatestBytes → Option ℕ → ℕ → Option ℕ
 of_slot old None a = None
 of_slot old (Some s) a = old s a
 
--- the latest byte, or else the initial one: the page is settled now
+-- the latest byte or, if there is none, the initial one: what an address has after its page is settled
 abbrev pub or_initial : World → ℕ → ℕ → Option ℕ → Option ℕ
 or_initial w s a (Some b) = Some b
 or_initial w s a None = Some (initial_byte w.files (process_in w s) a)
 
--- a copy settles the pages of n addresses from `first` on
-abbrev pub settled_by : World → ℕ → ℕ → ℕ → Knowledge → ℕ → ℕ → Option ℕ
+-- a copy on hart h settles the pages of n addresses from `first` on
+abbrev pub settled_by : World → ℕ → ℕ → ℕ → LatestBytes → ℕ → ℕ → Option ℕ
 settled_by w h first n old s a = if has_slot s (slot_on w h) && is_in_their_pages first n a then or_initial w s a (old s a) else old s a
 
--- and a copy to the process puts the first n of `bytes` there
-abbrev pub put_by : World → ℕ → ℕ → List ℕ → ℕ → Knowledge → ℕ → ℕ → Option ℕ
+-- a copy to the process settles these pages too, and puts the first n of `bytes` at the addresses
+abbrev pub put_by : World → ℕ → ℕ → List ℕ → ℕ → LatestBytes → ℕ → ℕ → Option ℕ
 put_by w h first bytes n old s a = if has_slot s (slot_on w h) && is_among first n a then Some (byte_at bytes (a - first)) else settled_by w h first n old s a
 
--- the process on the hart has no byte any more
-abbrev pub forgotten : World → ℕ → Knowledge → ℕ → ℕ → Option ℕ
+-- no byte is left to the process on hart h
+abbrev pub forgotten : World → ℕ → LatestBytes → ℕ → ℕ → Option ℕ
 forgotten w h old s a = if has_slot s (slot_on w h) then None else old s a
 
--- what a step with its reply leaves. A process begins with its image's bytes, a child with its parent's. A store and a copy to the process
--- put their bytes. A service and a copy settle pages. sbrk and munmap release pages; exec and an end release all. No other step changes a
--- byte or removes one
-abbrev pub left_by : World → Step → Reply → Knowledge → ℕ → ℕ → Option ℕ
+-- the latest byte after a step with its reply, `old` being those before it. A process begins with its image's bytes, a child
+-- with its parent's. A store and a copy to the process put their bytes. A service and a copy settle pages. sbrk and munmap
+-- release pages; exec and an end release all. No other step changes a byte or removes one
+abbrev pub left_by : World → Step → Reply → LatestBytes → ℕ → ℕ → Option ℕ
 left_by w (Start image) (Started t) old s a = if t == s then image_byte (image_loads w.scheme image) a else old s a
 left_by w (Exec h image) Done old s a = if has_slot s (slot_on w h) then image_byte (image_loads w.scheme image) a else old s a
 left_by w (Fork h) (Forked t) old s a = if t == s then of_slot old (slot_on w h) a else old s a
@@ -145,7 +152,7 @@ pub record IsLatest (past : List Moment) (s address width v : ℕ) : Type 0 wher
   pub theirs : v ≡ number bytes width
   pub latest_ones : AreLatest past s address bytes
 
--- the bytes that a copy from the process brought
+-- the bytes in the reply to a copy from the process
 abbrev pub bytes_in : Reply → List ℕ
 bytes_in (CopiedIn bytes) = bytes.items
 bytes_in (ShortIn r bytes) = bytes.items

@@ -1,8 +1,8 @@
-pub mod Denied
-pub mod Apart
-pub mod Numbered
+pub mod RuleDenials
+pub mod DisjointRegions
+pub mod CopyNumbers
 pub mod Headline
-pub mod Makes
+pub mod MadeSteps
 pub mod ScriptRuns
 pub mod Moments
 pub mod Pages

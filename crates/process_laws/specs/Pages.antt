@@ -1,4 +1,6 @@
--- What a process has at a page, and which pages a step remaps.
+-- Functions for one page of a process: its `Grant` (rights, kind of region, source of the initial bytes), whether it is
+-- ready for an access, its fork mark (left by a fork: copy first) and stored mark (D); then for one step which pages it
+-- remaps, the grants and the process's size after it, and which pages it makes ready for a store.
 use Rattle.std.specs.Prelude.{ℕ, ℤ, pos, ◌+ℤ◌, nat_abs, Bool, true, false, not, ◌+◌, ◌-◌, ◌*◌, ◌/◌, ◌%◌, ◌==◌, nat_le, nat_lt, ◌&&◌, ◌||◌, Option, None, Some, Result, Ok, Err, List, [], ◌∷◌, length, if◌then◌else◌}
 use Rattle.process_model.specs.Bytes.{pages_for}
 use Rattle.process_model.specs.Images.{end_of_loads, end_page, image_loads, LoadSegment}
@@ -15,8 +17,8 @@ use Rattle.sv39_entry.specs.declared.access.Access.{Access}
 use Rattle.sv39_entry.specs.declared.access.Access.TheVariants.{Store}
 use Rattle.sv39_entry.specs.declared.scheme.Scheme.{Scheme}
 
--- what a region gives to one page: rights, the region's kind, and the source of the page's initial bytes. Regions that are cut, moved or
--- merged give the same if each page's grant is the same
+-- what a region gives to one page: rights, the region's kind, and the source of the page's initial bytes. Regions that are
+-- cut, moved or merged give the same if each page's grant is the same
 pub record Grant : Type 0 where
   pub reads : Bool
   pub writes : Bool
@@ -24,7 +26,7 @@ pub record Grant : Type 0 where
   pub kind : RegionKind
   pub source : Source
 
--- the source, `pages` pages further on
+-- the source of a page that is `pages` pages into a region
 abbrev pub pages_on : Source → ℕ → Source
 pages_on (file n offset) pages = file n (offset + 4096 * pages)
 pages_on s pages = s
@@ -33,10 +35,12 @@ abbrev pub grant_in : Option Region → ℕ → Option Grant
 grant_in None page = None
 grant_in (Some r) page = Some (record { reads = r.reads; writes = r.writes; executes = r.executes; kind = r.kind; source = pages_on r.source (page - r.first) })
 
+-- what a process has at a page; None if no region holds the page
 abbrev pub grant : Process → ℕ → Option Grant
 grant p page = grant_in (region_at (regions p) page) page
 
--- a page is ready for an access if it is settled and, for a store, has no fork mark and, in a writable shared mapping, has the stored mark
+-- a page is ready for an access if it is settled and, for a store, has no fork mark and, in a writable shared mapping, has
+-- the stored mark
 abbrev pub is_ready : Access → Option Region → Page → Bool
 is_ready Store r x = not x.fork_mark && (x.stored_mark || not (keeps_stores r))
 is_ready _ r x = true
@@ -61,6 +65,7 @@ has_stored_mark p page = has_mark (λ x. x.stored_mark) (get p.settled page)
 
 -- runs of pages
 
+-- the page is `first` or after it, and before `end`
 abbrev pub is_between : ℕ → ℕ → ℕ → Bool
 is_between first end page = nat_le first page && nat_lt page end
 
@@ -68,7 +73,8 @@ is_between first end page = nat_le first page && nat_lt page end
 abbrev pub has_some_of : ℕ → ℕ → ℕ → Bool
 has_some_of first n page = nat_lt 0 n && nat_le (page_of first) page && nat_le page (page_of (first + n - 1))
 
--- the pages that a call maps or unmaps: exec all, sbrk those between the old size and the new, mmap and munmap those of their range
+-- the pages that a call maps or unmaps: exec all, sbrk those between the old size and the new,
+-- mmap and munmap those of their range
 abbrev pub is_remapped : Step → Reply → ℕ → Bool
 is_remapped (Exec h i) Done page = true
 is_remapped (Sbrk h delta) (OldSize n) page =
@@ -86,7 +92,7 @@ may_remap p (Mmap h len protection flags n) page = nat_le (pages_for p.size) pag
 may_remap p (Munmap h address len) page = nat_le (pages_for p.size) page
 may_remap p x page = true
 
--- and the grant of such a page after the call
+-- the grant of a remapped page after the call
 
 abbrev pub heap_grant : Grant
 heap_grant = record { reads = true; writes = true; executes = false; kind = heap; source = zeros }
@@ -101,7 +107,8 @@ mapping_grant protection flags n pages = record {
   source = file n (4096 * pages);
 }
 
--- an image: its segments, and after the last one a guard and a stack of one page each; a gap between segments grants nothing
+-- an image: its segments, and after the last one a guard and a stack of one page each; a gap between segments grants
+-- nothing. `end` is the end page of the segments before those listed
 abbrev pub loads_grant : ℕ → List LoadSegment → ℕ → Option Grant
 loads_grant end [] page =
     if page == end then Some (record { reads = false; writes = false; executes = false; kind = guard; source = zeros })

@@ -1,7 +1,9 @@
--- The words of the headline.
+-- The words of the headline, predicates and functions: steps, with their harts, phases (idle, user mode, kernel, the way
+-- between) and kinds; `UserAccess`, and whether it is granted, resident or forbidden; kinds of replies; which steps take
+-- frames; how a process or a forked child begins; and what a step writes back to files.
 use Rattle.std.specs.Prelude.{◌≡◌, ◌≢◌, ◌⊎◌, ℕ, Bool, true, false, ◌+◌, ◌<◌, ◌%◌, ◌==◌, Option, None, Some, List, length, is_some, option_map, pos, slice_get, if◌then◌else◌}
 use Rattle.std.specs.Borrow.{Bor}
-use Rattle.process_laws.specs.Denied.{IsFirst}
+use Rattle.process_laws.specs.RuleDenials.{IsFirst}
 use Rattle.process_laws.specs.Moments.{Moment, slot_on}
 use Rattle.process_laws.specs.FilePlaces.{file_bytes}
 use Rattle.process_laws.specs.Latest.{byte_at, byte_had}
@@ -35,33 +37,34 @@ abbrev pub IsMade : Reply → Type 0
 IsMade r = (e : Refusal) → r ≢ Refused e
 
 -- process p, in slot s, is on hart h
-pub record IsOn (w : World) (h s : ℕ) (p : Process) : Type 0 where
+pub record IsOnHart (w : World) (h s : ℕ) (p : Process) : Type 0 where
   pub there : slot_on w h ≡ Some s
   pub lives : process_in w s ≡ Some p
 
--- hart h is in that phase
+-- the phase of hart h; None if there is no such hart
 abbrev pub phase_on : World → ℕ → Option Phase
 phase_on w h = option_map (λ hart. hart.phase) (slice_get w.harts h)
 
-abbrev pub IsIn : World → ℕ → Phase → Type 0
-IsIn w h phase = phase_on w h ≡ Some phase
+-- hart h is in that phase
+abbrev pub IsInPhase : World → ℕ → Phase → Type 0
+IsInPhase w h phase = phase_on w h ≡ Some phase
 
--- the hart whose process makes the step, or for whose process the kernel does
-abbrev pub maker : Step → Option ℕ
-maker (Trap h) = Some h
-maker (Fetch h address via) = Some h
-maker (Load h address width via) = Some h
-maker (Store h address width value via) = Some h
-maker (Serve h) = Some h
-maker (Fork h) = Some h
-maker (Exec h image) = Some h
-maker (Sbrk h delta) = Some h
-maker (Mmap h len protection flags n) = Some h
-maker (Munmap h address len) = Some h
-maker (CopyIn h address n) = Some h
-maker (CopyOut h address bytes) = Some h
-maker (Exit h status) = Some h
-maker _ = None
+-- the hart whose process makes the step, or for whose process the kernel makes it; None for any other step
+abbrev pub hart_of_step : Step → Option ℕ
+hart_of_step (Trap h) = Some h
+hart_of_step (Fetch h address via) = Some h
+hart_of_step (Load h address width via) = Some h
+hart_of_step (Store h address width value via) = Some h
+hart_of_step (Serve h) = Some h
+hart_of_step (Fork h) = Some h
+hart_of_step (Exec h image) = Some h
+hart_of_step (Sbrk h delta) = Some h
+hart_of_step (Mmap h len protection flags n) = Some h
+hart_of_step (Munmap h address len) = Some h
+hart_of_step (CopyIn h address n) = Some h
+hart_of_step (CopyOut h address bytes) = Some h
+hart_of_step (Exit h status) = Some h
+hart_of_step _ = None
 
 -- the hart that makes the step; a start is made by none
 abbrev pub hart_of : Step → Option ℕ
@@ -70,9 +73,9 @@ hart_of (Next h) = Some h
 hart_of (Fill h address) = Some h
 hart_of (Evict h n) = Some h
 hart_of (TrampolineFetch h offset via) = Some h
-hart_of x = maker x
+hart_of x = hart_of_step x
 
--- the phases in which a step is made
+-- the phases in which a step may be made
 abbrev pub is_phase_for : Step → Phase → Bool
 is_phase_for (Switch h slot) phase = may_switch phase
 is_phase_for (Next h) phase = is_some (next_phase phase)
@@ -91,9 +94,9 @@ abbrev pub moved_hart : Step → Reply → Option ℕ
 moved_hart (Switch h slot) r = Some h
 moved_hart (Next h) r = Some h
 moved_hart (Trap h) r = Some h
-moved_hart x (Fault cause) = maker x
-moved_hart x (Ended rule) = maker x
-moved_hart x (Exited status) = maker x
+moved_hart x (Fault cause) = hart_of_step x
+moved_hart x (Ended rule) = hart_of_step x
+moved_hart x (Exited status) = hart_of_step x
 moved_hart x r = None
 
 -- the reply says that the process ended
@@ -114,26 +117,26 @@ writes_back (Exec h image) Done = true
 writes_back x r = is_end r
 
 -- the reply says that a process began in slot s
-abbrev pub is_born : Reply → ℕ → Bool
-is_born (Started t) s = t == s
-is_born (Forked t) s = t == s
-is_born r s = false
+abbrev pub starts_in_slot : Reply → ℕ → Bool
+starts_in_slot (Started t) s = t == s
+starts_in_slot (Forked t) s = t == s
+starts_in_slot r s = false
 
--- the kernel may be called for process p on hart h: the hart is in the kernel, and p waits for no service
+-- the kernel may be called for process p on hart h: the hart is in phase Kernel, and p waits for no service
 pub record MayCall (w : World) (h : ℕ) (p : Process) : Type 0 where
-  pub in_kernel : IsIn w h Kernel
+  pub in_kernel : IsInPhase w h Kernel
   pub quiet : is_unserved_access p.pending ≡ false
 
 -- the step is a kernel call for the process on hart h
-pub data Calls (h : ℕ) : Step → Type 0 where
-  fork : Calls h (Fork h)
-  exec : {image : _} → Calls h (Exec h image)
-  sbrk : {delta : _} → Calls h (Sbrk h delta)
-  mmap : {len protection flags n : ℕ} → Calls h (Mmap h len protection flags n)
-  munmap : {address len : ℕ} → Calls h (Munmap h address len)
-  copy_in : {address n : ℕ} → Calls h (CopyIn h address n)
-  copy_out : {address : ℕ} {bytes : _} → Calls h (CopyOut h address bytes)
-  exit : {status : _} → Calls h (Exit h status)
+pub data IsKernelCall (h : ℕ) : Step → Type 0 where
+  fork : IsKernelCall h (Fork h)
+  exec : {image : _} → IsKernelCall h (Exec h image)
+  sbrk : {delta : _} → IsKernelCall h (Sbrk h delta)
+  mmap : {len protection flags n : ℕ} → IsKernelCall h (Mmap h len protection flags n)
+  munmap : {address len : ℕ} → IsKernelCall h (Munmap h address len)
+  copy_in : {address n : ℕ} → IsKernelCall h (CopyIn h address n)
+  copy_out : {address : ℕ} {bytes : _} → IsKernelCall h (CopyOut h address bytes)
+  exit : {status : _} → IsKernelCall h (Exit h status)
 
 -- the step is a kernel copy of n bytes for the process on hart h
 pub data CopiesBytes (h : ℕ) : ℕ → Step → Type 0 where
@@ -141,67 +144,69 @@ pub data CopiesBytes (h : ℕ) : ℕ → Step → Type 0 where
   copy_out : {address : ℕ} {bytes : Bor (List ℕ)} → CopiesBytes h (length bytes.now) (CopyOut h address bytes)
 
 -- the step is a start or an exec of the image
-pub data Loads (image : Image) : Step → Type 0 where
-  start : Loads image (Start image)
-  exec : {h : ℕ} → Loads image (Exec h image)
+pub data LoadsImage (image : Image) : Step → Type 0 where
+  start : LoadsImage image (Start image)
+  exec : {h : ℕ} → LoadsImage image (Exec h image)
 
 -- accesses
 
 -- a fetch, a load or a store of `width` bytes at `address`
-pub record Asked : Type 0 where
+pub record UserAccess : Type 0 where
   pub access : Access
   pub address : ℕ
   pub width : ℕ
 
 -- the step is that user access on hart h: by buffer entry n (`Some n`), or by a walk (`None`)
-pub data Asks (h : ℕ) (via : Option ℕ) : Asked → Step → Type 0 where
-  fetch : {address : ℕ} → Asks h via (record { access = access.Fetch; address = address; width = 4 }) (Fetch h address via)
-  load : {address width : ℕ} → Asks h via (record { access = access.Load; address = address; width = width }) (Load h address width via)
-  store : {address width value : ℕ} → Asks h via (record { access = access.Store; address = address; width = width }) (Store h address width value via)
+pub data IsAccessStep (h : ℕ) (via : Option ℕ) : UserAccess → Step → Type 0 where
+  fetch : {address : ℕ} → IsAccessStep h via (record { access = access.Fetch; address = address; width = 4 }) (Fetch h address via)
+  load : {address width : ℕ} → IsAccessStep h via (record { access = access.Load; address = address; width = width }) (Load h address width via)
+  store : {address width value : ℕ} → IsAccessStep h via (record { access = access.Store; address = address; width = width }) (Store h address width value via)
 
+-- the region grants the right that the access needs
 abbrev pub has_right : Region → Access → Bool
 has_right r access.Fetch = r.executes
 has_right r access.Load = r.reads
 has_right r access.Store = r.writes
 
 -- a region of p holds the page and grants the right, and the address is a multiple of the width
-pub record IsGranted (p : Process) (a : Asked) : Type 0 where
+pub record IsGranted (p : Process) (a : UserAccess) : Type 0 where
   pub region : Region
   pub has : region_at (regions p) (page_of a.address) ≡ Some region
   pub right : has_right region a.access ≡ true
   pub aligned : a.address % a.width ≡ 0
 
 -- its page is settled and ready for it (`is_ready` in `Pages`)
-abbrev pub IsResident : Process → Asked → Type 0
+abbrev pub IsResident : Process → UserAccess → Type 0
 IsResident p a = is_ready_page p a.access (page_of a.address) ≡ true
 
--- the rule is the first of eight that forbids the access (`Denied`)
-abbrev pub Forbids : Process → Asked → Rule → Type 0
+-- the rule forbids the access, and no rule before it does (`RuleDenials`)
+abbrev pub Forbids : Process → UserAccess → Rule → Type 0
 Forbids p a rule = IsFirst p.scheme (regions p) a.access a.address a.width rule
 
 -- p, with the access a pending and not yet served
-abbrev pub waiting : Process → Asked → Process
-waiting p a = record p { pending = Some (record { access = a.access; address = a.address; width = a.width; served = false }) }
+abbrev pub with_pending_access : Process → UserAccess → Process
+with_pending_access p a = record p { pending = Some (record { access = a.access; address = a.address; width = a.width; served = false }) }
 
 -- process p makes the access, and it is not refused
-pub record Tries (m : Moment) (h s : ℕ) (p : Process) (a : Asked) : Type 0 where
-  pub on : IsOn m.before h s p
+pub record Tries (m : Moment) (h s : ℕ) (p : Process) (a : UserAccess) : Type 0 where
+  pub on : IsOnHart m.before h s p
   pub via : Option ℕ
-  pub asks : Asks h via a m.step
+  pub asks : IsAccessStep h via a m.step
   pub made : IsMade m.reply
 
 -- the kernel serves the access of p, and is not refused
-pub record Serves (m : Moment) (h s : ℕ) (p : Process) (a : Asked) : Type 0 where
-  pub on : IsOn m.before h s (waiting p a)
+pub record Serves (m : Moment) (h s : ℕ) (p : Process) (a : UserAccess) : Type 0 where
+  pub on : IsOnHart m.before h s (with_pending_access p a)
   pub serves : m.step ≡ Serve h
   pub made : IsMade m.reply
 
--- the cause of its fault: a misaligned access has that cause, any other the page fault's
-abbrev pub cause : Asked → ℕ
+-- the cause of a fault of the access: the misaligned one if the address is not a multiple of the width, else the page
+-- fault's
+abbrev pub cause : UserAccess → ℕ
 cause a = if a.address % a.width == 0 then page_fault_cause a.access else misaligned_cause a.access
 
 -- one byte of a kernel copy, as an access
-abbrev pub byte : Access → ℕ → Asked
+abbrev pub byte : Access → ℕ → UserAccess
 byte access address = record { access = access; address = address; width = 1 }
 
 -- replies
@@ -258,12 +263,13 @@ stopped_by _ = None
 
 -- frames
 
-abbrev pub tells_no_frame : Reply → Bool
-tells_no_frame (Refused refusal.NoFrame) = true
-tells_no_frame (Ended NoFrame) = true
-tells_no_frame (ShortIn NoFrame bytes) = true
-tells_no_frame (ShortOut NoFrame n) = true
-tells_no_frame _ = false
+-- the reply says NoFrame: a refusal, an end, or a copy that stopped
+abbrev pub is_no_frame_reply : Reply → Bool
+is_no_frame_reply (Refused refusal.NoFrame) = true
+is_no_frame_reply (Ended NoFrame) = true
+is_no_frame_reply (ShortIn NoFrame bytes) = true
+is_no_frame_reply (ShortOut NoFrame n) = true
+is_no_frame_reply _ = false
 
 -- the steps that take frames, exec aside
 abbrev pub takes_frames : Step → Bool
@@ -280,7 +286,8 @@ in_memory w n = record w { frames = n }
 
 -- processes that begin
 
--- a process that was started: each page has its image's grant, and no mark; it waits for nothing, and its heap is empty, above the stack
+-- a process that was started: each page has its image's grant, and no mark; it waits for nothing, and its heap is empty,
+-- above the stack
 pub record Begins (m : Moment) (p : Process) : Type 0 where
   pub grants : (page : ℕ) → grant_of p page ≡ grant_after (m.before).scheme m.step m.reply page
   pub unmarked : (page : ℕ) → (has_fork_mark p page ≡ false) × (has_stored_mark p page ≡ false)
@@ -299,11 +306,12 @@ pub record IsChild (p c : Process) : Type 0 where
 -- files
 
 -- the pages that a step writes back, if it does: munmap those that it unmaps, exec and an end all
-abbrev pub goes_back : Step → ℕ → Bool
-goes_back (Munmap h address len) page = is_between (page_of address) (page_of address + pages_for len) page
-goes_back x page = true
+abbrev pub is_page_written_back : Step → ℕ → Bool
+is_page_written_back (Munmap h address len) page = is_between (page_of address) (page_of address + pages_for len) page
+is_page_written_back x page = true
 
--- b is a byte of p on such a page with the stored mark, in a writable shared mapping, at the address that maps byte i of file n
+-- b is the byte that p has at an address that maps byte i of file n, in a writable shared mapping, on a page with the stored
+-- mark that step x writes back (`is_page_written_back`)
 pub record WroteBack (x : Step) (p : Process) (n i b : ℕ) : Type 0 where
   pub address : ℕ
   pub grant : Grant
@@ -313,11 +321,12 @@ pub record WroteBack (x : Step) (p : Process) (n i b : ℕ) : Type 0 where
   pub offset : ℕ
   pub of_file : grant.source ≡ file n offset
   pub place : offset + address % 4096 ≡ i
-  pub goes : goes_back x (page_of address) ≡ true
+  pub goes : is_page_written_back x (page_of address) ≡ true
   pub stored : has_stored_mark p (page_of address) ≡ true
   pub byte : byte_had (Some p) address ≡ Some b
 
--- each file keeps its length and whether it may be written, and each byte of it stays or becomes such a byte
+-- each file keeps its length and whether it may be written, and each byte of it stays or becomes
+-- one that p writes back (`WroteBack`)
 pub record Written (x : Step) (p : Process) (files later : List File) : Type 0 where
   pub mode : (n : ℕ) → is_writable (slice_get later n) ≡ is_writable (slice_get files n)
   pub long : (n : ℕ) → length (file_bytes later n) ≡ length (file_bytes files n)

@@ -1,11 +1,13 @@
-// What the headline refuses.
+// One law, `wrong_models_are_refused`: the parts of the headline exclude fourteen wrong behaviors of a kernel, such as a
+// second fault, a copy that stops although frames suffice, a byte lost at a trap, a released page that keeps bytes, a
+// misplaced grant or mark, or the start of a bad image.
 ghost use Rattle.std.specs.Prelude.{◌≡◌, ◌≢◌, ◌≤◌, ◌+◌, ◌-◌, ℕ, ℤ, Err, false, length, None, Some, true};
 ghost use Rattle.process_laws.specs.Headline.{AnswersUser, Becomes, ChangesOwn, CopiesForKernel, IsDry, ReadsLatest};
 ghost use Rattle.process_laws.specs.Latest.{byte_had, is_released, latest};
-ghost use Rattle.process_laws.specs.Makes.{MakesSteps};
+ghost use Rattle.process_laws.specs.MadeSteps.{MakesSteps};
 ghost use Rattle.process_laws.specs.Moments.{Moment, moment_of, slot_on};
 ghost use Rattle.process_laws.specs.Pages.{grant, has_fork_mark, has_stored_mark, is_between, is_store_at, mapping_grant};
-ghost use Rattle.process_laws.specs.Words.{Asked, cause, copied, IsGranted, IsResident, Tries};
+ghost use Rattle.process_laws.specs.Words.{UserAccess, cause, copied, IsGranted, IsResident, Tries};
 ghost use Rattle.process_model.specs.Bytes.{pages_for};
 ghost use Rattle.process_model.specs.Images.{image_loads};
 ghost use Rattle.process_model.specs.Process.{Process, regions};
@@ -17,18 +19,19 @@ ghost use Rattle.process_model.specs.declared.step.Step.TheVariants.{CopyIn, Cop
 ghost use Rattle.sv39_entry.specs.Address.{page_of};
 ghost use Rattle.sv39_entry.specs.declared.rule.Rule.TheVariants.{NoFrame};
 
-/// Of any moment, whatever the model is: if a part of the headline holds of it, this does not happen.
+/// For any moment of any model: if the part of the headline that a clause names holds of the moment, this does not happen:
 ///
-/// `second_fault`: a granted access of a resident page faults. `other_cause`: a fault has another cause than its own.
-/// `short_copy`: a copy stops by NoFrame though the next byte's frames are free. `trap`: a trap drops or changes a byte.
-/// `released`: a page above the new size has bytes. `place`: what munmap leaves of a mapping reads from another place of
-/// its file. `mapped`: a mapping grants what was not asked for. `over`: it lies over pages that are granted. `fork_mark`:
-/// service leaves a fork mark. `stored_mark`: service of a load leaves the stored mark. `child`: a child has other
-/// regions than its parent. `kind`: a copy to a process replies as one from it. `bad_image`: a bad image starts.
-/// `nobody`: a call is made on a hart without a process.
+/// `second_fault`: a granted access of a resident page faults. `other_cause`: an access that is not granted, or whose page
+/// is not resident, faults with another cause than its own. `short_copy`: copyin stops by NoFrame although the frames that
+/// the next byte alone needs are free. `trap`: a trap drops or changes a byte. `released`: a page that sbrk releases has
+/// bytes afterwards. `place`: munmap changes the grant of a page outside its range, such as its place in the file. `mapped`:
+/// a page of a new mapping has another grant than mmap was asked for. `over`: a new mapping lies over a page that had a
+/// grant. `fork_mark`: service sets a fork mark. `stored_mark`: service sets the stored mark on a page to which the pending
+/// access is no store. `child`: a child has other regions than its parent had. `kind`: copyout replies as copyin does.
+/// `bad_image`: a bad image starts. `nobody`: munmap is done on a hart without a process.
 pub fn wrong_models_are_refused()
-    ensures second_fault { (m : Moment) (h s cause : ℕ) (p : Process) (a : Asked) → AnswersUser m h s p a → Tries m h s p a → IsGranted p a → IsResident p a → m.reply ≢ Fault cause }
-    ensures other_cause { (m : Moment) (h s c : ℕ) (p : Process) (a : Asked) → AnswersUser m h s p a → Tries m h s p a → (IsGranted p a → IsResident p a → ⊥) → m.reply ≡ Fault c → c ≡ cause a }
+    ensures second_fault { (m : Moment) (h s cause : ℕ) (p : Process) (a : UserAccess) → AnswersUser m h s p a → Tries m h s p a → IsGranted p a → IsResident p a → m.reply ≢ Fault cause }
+    ensures other_cause { (m : Moment) (h s c : ℕ) (p : Process) (a : UserAccess) → AnswersUser m h s p a → Tries m h s p a → (IsGranted p a → IsResident p a → ⊥) → m.reply ≡ Fault c → c ≡ cause a }
     ensures short_copy { (m : Moment) (h address n need : ℕ) (p : Process) (bytes : _) → CopiesForKernel m h address (copied m.reply) p → m.step ≡ CopyIn h address n → m.reply ≡ ShortIn NoFrame bytes
         → (let alone = moment_of m.after (CopyIn h (address + length bytes.items) 1) in IsDry alone need → need ≤ free alone.before → ⊥) }
     ensures trap { (past : _) (m : Moment) → ReadsLatest past m → (h s a b : ℕ) → m.step ≡ Trap h → latest past s a ≡ Some b → byte_had (process_in m.after s) a ≡ Some b }

@@ -1,4 +1,5 @@
--- A number in hexadecimal digits, from the last to the first.
+-- Lemmas for `put_hexadecimal`: digits written from the last to the first, with what is left of the number (`IsLeft`), are
+-- in the end the number's digits (`ends`), at most 16.
 use Rattle.std.proofs.Common.{◌≡◌, ℕ, zero, suc, ◌+◌, ◌*◌, ◌/◌, ◌%◌, ◌^◌, ◌<◌, ◌≤◌, true, false, eqb, List, [], ◌∷◌, length, drop, set, length-set, length-drop, sym, ap, ◌∙◌, lit<, lit≤, arith}
 use Rattle.std.proofs.lemmas.List.{drop_all, drop-set}
 use Rattle.std.proofs.lemmas.Nat.{pow-add}

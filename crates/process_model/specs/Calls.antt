@@ -1,10 +1,11 @@
--- Processes that begin, fork, exec and change their regions.
+-- Start and the kernel calls exec, fork, sbrk, mmap, munmap, copyin and copyout as changes of the world (the model's whole
+-- state), each with its reply, or refused with the world unchanged. The exit is in Service.
 use Rattle.std.specs.Prelude.{ℕ, Bool, true, false, ◌+◌, ◌*◌, Option, None, Some, Result, Ok, Err, List, length}
 use Rattle.process_model.specs.Process.{Process, without_pending}
 use Rattle.process_model.specs.Residence.{marked, child_of}
 use Rattle.process_model.specs.Mappings.{Mapped, Unmapped, all_written_back}
 use Rattle.process_model.specs.Images.{LoadSegment}
-use Rattle.process_model.specs.Loading.{image_pages, process_of}
+use Rattle.process_model.specs.ImageProcess.{image_pages, process_of}
 use Rattle.process_model.specs.Frames.{start_need, exec_need, fork_need}
 use Rattle.process_model.specs.Copies.{Copied, in_reply, out_reply}
 use Rattle.process_model.specs.Service.{is_dry, with_progress}
@@ -14,11 +15,11 @@ use Rattle.process_model.specs.declared.step.Refusal.{Refusal}
 use Rattle.process_model.specs.declared.step.Refusal.TheVariants as refusal
 use Rattle.process_model.specs.declared.step.Reply.TheVariants.{Done, Started, Forked, OldSize, MappedAt}
 
--- the process of an image in a slot; its pages take copy numbers from the counter
+-- the world with the process of an image in slot s; its pages take their copy numbers from the counter
 abbrev pub with_image : World → ℕ → List LoadSegment → World
 with_image w s ls = record (with_process w s (process_of w.scheme w.counter ls)) { counter = w.counter + length (image_pages ls) }
 
--- start: refused by NoSlot, BadImage and NoFrame, in this order
+-- start: refused with NoSlot, BadImage or NoFrame, the first that applies in this order
 
 abbrev pub started_unless : World → ℕ → List LoadSegment → Bool → Outcome
 started_unless w s ls true = refuses w refusal.NoFrame
@@ -32,8 +33,8 @@ abbrev pub started : World → Result (List LoadSegment) BadImage → Option ℕ
 started w image None = refuses w refusal.NoSlot
 started w image (Some s) = started_as w s image
 
--- exec (the xv6 book, "Code: exec"): refused by BadImage and NoFrame, in this order; the frames of the old process do not count as
--- free
+-- exec (the xv6 book, "Code: exec"): refused with BadImage or NoFrame, the first that applies in this order. The frames of
+-- the old process do not count as free; its mappings are written back
 
 abbrev pub replaced_unless : World → ℕ → Process → List LoadSegment → Bool → Outcome
 replaced_unless w s p ls true = refuses w refusal.NoFrame
@@ -43,7 +44,8 @@ abbrev pub replaced : World → ℕ → Process → Result (List LoadSegment) Ba
 replaced w s p (Err e) = refuses w (refusal.BadImage e)
 replaced w s p (Ok ls) = replaced_unless w s p ls (is_dry w (exec_need w.scheme ls))
 
--- fork: refused by NoSlot and NoFrame, in this order; no frame has more sharers than there are slots, so SharersFull does not come
+-- fork: refused with NoSlot or NoFrame, the first that applies in this order. No frame has more sharers than there are
+-- slots, so the model never refuses with SharersFull
 
 abbrev pub forked_unless : World → ℕ → Process → ℕ → Bool → Outcome
 forked_unless w s p child true = refuses w refusal.NoFrame
@@ -53,7 +55,7 @@ abbrev pub forked : World → ℕ → Process → Option ℕ → Outcome
 forked w s p None = refuses w refusal.NoSlot
 forked w s p (Some child) = forked_unless w s p child (is_dry w (fork_need p))
 
--- changes of regions
+-- sbrk, mmap, munmap: the pending access is dropped if the call is not refused
 
 abbrev pub resized_to : World → ℕ → Process → Result Process Refusal → Outcome
 resized_to w s p (Err r) = refuses w r
@@ -67,10 +69,10 @@ abbrev pub unmapped_to : World → ℕ → Result Unmapped Refusal → Outcome
 unmapped_to w s (Err r) = refuses w r
 unmapped_to w s (Ok u) = answers (record (with_process w s (without_pending u.process)) { files = u.files }) Done
 
--- copies
+-- kernel copies
 
-abbrev pub told_in : World → ℕ → Copied → Outcome
-told_in w s c = answers (with_progress w s c.progress) (in_reply c.bytes c.stop)
+abbrev pub copy_in_outcome : World → ℕ → Copied → Outcome
+copy_in_outcome w s c = answers (with_progress w s c.progress) (in_reply c.bytes c.stop)
 
-abbrev pub told_out : World → ℕ → Copied → Outcome
-told_out w s c = answers (with_progress w s c.progress) (out_reply c.bytes c.stop)
+abbrev pub copy_out_outcome : World → ℕ → Copied → Outcome
+copy_out_outcome w s c = answers (with_progress w s c.progress) (out_reply c.bytes c.stop)

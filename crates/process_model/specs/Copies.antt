@@ -1,7 +1,8 @@
--- Kernel copies (copyin and copyout of xv6) of one process: addresses in ascending order, up to the first that is denied or has no
--- frame.
+-- Kernel copies (copyin and copyout of xv6) from and to one process, with their replies: byte by byte in ascending order, up
+-- to the first address that a rule denies or whose page needs more frames than are free. Also one byte of a process, read or
+-- replaced.
 use Rattle.std.specs.Prelude.{ℕ, ◌%◌, Option, None, Some, Result, Ok, Err, List, [], ◌∷◌, ◌++◌, length, fold, zip}
-use Rattle.process_model.specs.Around.{Around, Progress, reached}
+use Rattle.process_model.specs.Environment.{Environment, Progress, resident_at_address}
 use Rattle.process_model.specs.Bytes.{numbers_from}
 use Rattle.process_model.specs.PageMap.{get}
 use Rattle.process_model.specs.Regions.{copy_rule}
@@ -14,7 +15,8 @@ use Rattle.sv39_entry.specs.declared.rule.Rule.{Rule}
 use Rattle.process_model.specs.declared.step.Reply.{Reply}
 use Rattle.process_model.specs.declared.step.Reply.TheVariants.{CopiedIn, CopiedOut, ShortIn, ShortOut}
 
--- how far a copy came: the process then, what was copied, and the rule that stopped it
+-- the state of a copy: the process with the frames taken, the bytes copied, and the rule that stopped the copy, None if none
+-- did
 pub record Copied : Type 0 where
   pub progress : Progress
   pub bytes : List ℕ
@@ -23,11 +25,11 @@ pub record Copied : Type 0 where
 abbrev pub copy_begun : Progress → Copied
 copy_begun g = record { progress = g; bytes = []; stop = None }
 
--- an address is made resident, or the rule that forbids it
-abbrev pub reached_in : Around → Access → Progress → ℕ → Result Progress Rule
-reached_in a access g address = reached a access address g (copy_rule g.process.scheme (regions g.process) access address)
+-- the page of an address is made resident; or the rule that denies the access, or NoFrame
+abbrev pub reached_in : Environment → Access → Progress → ℕ → Result Progress Rule
+reached_in a access g address = resident_at_address a access address g (copy_rule g.process.scheme (regions g.process) access address)
 
--- one byte of a process
+-- one byte of a process: of a page that is not settled 0 is read, and nothing is written to it
 
 abbrev pub byte_of_page : Option Page → ℕ → ℕ
 byte_of_page None address = 0
@@ -43,13 +45,13 @@ with_byte_on p address b (Some page) = with_page p (page_of address) (stored pag
 abbrev pub with_byte : Process → ℕ → ℕ → Process
 with_byte p address b = with_byte_on p address b (get p.settled (page_of address))
 
--- one address more; a copy that was stopped takes none
+-- the next address of a copy; a copy that was stopped stays as it is
 
 abbrev pub one_in : Copied → ℕ → Result Progress Rule → Copied
 one_in c address (Err r) = record c { stop = Some r }
 one_in c address (Ok g) = record { progress = g; bytes = c.bytes ++ byte_of g.process address ∷ []; stop = None }
 
-abbrev pub next_in : Around → Copied → ℕ → Option Rule → Copied
+abbrev pub next_in : Environment → Copied → ℕ → Option Rule → Copied
 next_in a c address (Some r) = c
 next_in a c address None = one_in c address (reached_in a access.Load c.progress address)
 
@@ -57,16 +59,16 @@ abbrev pub one_out : Copied → ℕ → ℕ → Result Progress Rule → Copied
 one_out c address b (Err r) = record c { stop = Some r }
 one_out c address b (Ok g) = record { progress = record g { process = with_byte g.process address b }; bytes = c.bytes ++ b ∷ []; stop = None }
 
-abbrev pub next_out : Around → Copied → ℕ × ℕ → Option Rule → Copied
+abbrev pub next_out : Environment → Copied → ℕ × ℕ → Option Rule → Copied
 next_out a c x (Some r) = c
 next_out a c x None = one_out c x.0 x.1 (reached_in a access.Store c.progress x.0)
 
--- so many bytes from an address of the process
-unfoldable pub copied_in : Around → Progress → ℕ → ℕ → Copied
+-- copyin: n bytes of the process, from `address` on
+unfoldable pub copied_in : Environment → Progress → ℕ → ℕ → Copied
 copied_in a g address n = fold (λ c at. next_in a c at c.stop) (copy_begun g) (numbers_from address n)
 
--- bytes to an address of the process
-unfoldable pub copied_out : Around → Progress → ℕ → List ℕ → Copied
+-- copyout: the bytes to the process, from `address` on
+unfoldable pub copied_out : Environment → Progress → ℕ → List ℕ → Copied
 copied_out a g address bytes = fold (λ c x. next_out a c x c.stop) (copy_begun g) (zip (numbers_from address (length bytes)) bytes)
 
 abbrev pub in_reply : List ℕ → Option Rule → Reply

@@ -1,36 +1,37 @@
--- Copies of a run of bytes that lies in one page: they reach the page once, and then take or put all of the run; or they stop at its
--- first byte.
+-- Laws of kernel copies (copyin, copyout) within one page: such a copy makes the page resident (in memory and ready) once
+-- and copies the whole run of bytes, or stops at its first byte. Also: a copy continued over more addresses (`more_in`,
+-- `more_out`), which does nothing once stopped; and laws of bytes written over others.
 use Rattle.std.proofs.Common.{◌≡◌, ℕ, zero, suc, true, ◌+◌, ◌*◌, ◌%◌, ◌<◌, ◌≤◌, refl, ap, ap₂, sym, ◌∙◌, arith, List, [], ◌∷◌, ◌++◌, length, take, drop, get_or, append_assoc, append-nil, length-append, length-drop, drop-cons, Option, None, Some, Ok, Err}
 use Rattle.std.specs.Prelude.{fold, zip}
 use Rattle.std.proofs.lemmas.List.{length-take}
-use Rattle.process_model.specs.Around.{Around, Progress}
+use Rattle.process_model.specs.Environment.{Environment, Progress}
 use Rattle.process_model.specs.Bytes.{number, numbers_from, write_bytes}
 use Rattle.process_model.specs.Copies.{Copied, byte_of, byte_of_page, next_in, next_out, one_in, one_out, reached_in, with_byte_on}
-use Rattle.process_model.specs.Inserted.{inserted_here, put_again, put_back}
+use Rattle.process_model.specs.Insertion.{inserted_here, put_again, put_back}
 use Rattle.process_model.specs.PageMap.{PageMap, get}
 use Rattle.process_model.specs.Process.{Page, Process, regions}
-use Rattle.process_model.specs.ReachedPages.{granted_again, reached_again, reached_at_once, reached_serves, resident_again, stays_resident}
+use Rattle.process_model.specs.ResidenceLaws.{granted_again, reached_again, reached_at_once, reached_serves, resident_again, stays_resident}
 use Rattle.process_model.specs.Regions.{copy_rule}
 use Rattle.process_model.specs.Residence.{is_resident, stored, with_page}
 use Rattle.sv39_entry.specs.Address.{page_of}
 use Rattle.sv39_entry.specs.declared.access.Access.TheVariants as access
 use Rattle.sv39_entry.specs.declared.rule.Rule.{Rule}
 
--- how far a copy came
+-- a copy with this progress, these bytes and this stop
 abbrev pub so_far : Progress → List ℕ → Option Rule → Copied
 so_far g bytes stop = record { progress = g; bytes = bytes; stop = stop }
 
--- a copy goes on, over more addresses
+-- a copy continued over more addresses
 
-abbrev pub more_in : Around → Copied → List ℕ → Copied
+abbrev pub more_in : Environment → Copied → List ℕ → Copied
 more_in a c addresses = fold (λ d at. next_in a d at d.stop) c addresses
 
-abbrev pub more_out : Around → Copied → List (ℕ × ℕ) → Copied
+abbrev pub more_out : Environment → Copied → List (ℕ × ℕ) → Copied
 more_out a c places = fold (λ d x. next_out a d x d.stop) c places
 
--- ---- a copy that was stopped stays where it is
+-- ---- a stopped copy does not change
 
-module _ (a : Around) (r : Rule) (g : Progress) (bytes : List ℕ) where
+module _ (a : Environment) (r : Rule) (g : Progress) (bytes : List ℕ) where
   pub stopped_in : (addresses : List ℕ) → more_in a (so_far g bytes (Some r)) addresses ≡ so_far g bytes (Some r)
   stopped_in [] = refl
   stopped_in (x ∷ xs) = stopped_in xs
@@ -68,7 +69,7 @@ first_taken bs o n less = let next : o + 1 ≡ suc o = omega arith in rw next (a
 
 -- ---- bytes written over others
 
--- as many bytes as before
+-- bytes written inside a list leave its length
 pub length-write_bytes : (bs vs : List ℕ) (o : ℕ) → o + length vs ≤ length bs → length (write_bytes bs o vs) ≡ length bs
 length-write_bytes bs vs o h =
     omega (arith, length-append (take o bs ++ vs) (drop (o + length vs) bs), length-append (take o bs) vs, length-take o bs, length-drop (o + length vs) bs)
@@ -76,13 +77,13 @@ length-write_bytes bs vs o h =
 behind_first : (x : ℕ) (bs vs : List ℕ) (o : ℕ) → write_bytes (x ∷ bs) (suc o) vs ≡ x ∷ write_bytes bs o vs
 behind_first x bs vs o = let place : suc o + length vs ≡ suc (o + length vs) = omega arith in rw place refl
 
--- none of them
+-- writing no bytes changes nothing
 pub none_written : (bs : List ℕ) (o : ℕ) → write_bytes bs o [] ≡ bs
 none_written bs zero = refl
 none_written [] (suc o) = let place : suc o + 0 ≡ suc o = omega arith in rw place refl
 none_written (x ∷ bs) (suc o) = behind_first x bs [] o ∙ ap (λ xs. x ∷ xs) (none_written bs o)
 
--- one, and those behind it
+-- writing one byte and then the rest after it writes them all
 pub next_written : (bs : List ℕ) (o v : ℕ) (vs : List ℕ) → o < length bs → write_bytes (write_bytes bs o (v ∷ [])) (o + 1) vs ≡ write_bytes bs o (v ∷ vs)
 next_written [] o v vs less = absurd (omega (arith, less))
 next_written (x ∷ bs) zero v vs less =
@@ -97,9 +98,9 @@ next_written (x ∷ bs) (suc o) v vs less =
     ∙ ap (λ xs. x ∷ xs) (next_written bs o v vs (omega (arith, less)))
     ∙ sym (behind_first x bs (v ∷ vs) o)
 
--- ---- the page is resident: all of the run is taken
+-- ---- copyin from a resident page copies the whole run
 
-module _ (a : Around) (h : Progress) (page : ℕ) (s : Page) (there : get h.process.settled page ≡ Some s) (whole : length s.bytes ≡ 4096)
+module _ (a : Environment) (h : Progress) (page : ℕ) (s : Page) (there : get h.process.settled page ≡ Some s) (whole : length s.bytes ≡ 4096)
     (still : (y : ℕ) → page_of y ≡ page → reached_in a access.Load h y ≡ Ok h) where
   one_taken : (offset : ℕ) (bytes : List ℕ) → offset < 4096
       → one_in (so_far h bytes None) (4096 * page + offset) (reached_in a access.Load h (4096 * page + offset)) ≡ so_far h (bytes ++ get_or s.bytes offset 0 ∷ []) None
@@ -121,17 +122,18 @@ module _ (a : Around) (h : Progress) (page : ℕ) (s : Page) (there : get h.proc
       ∙ ap (λ bs. so_far h bs None) (append_assoc bytes (get_or s.bytes offset 0 ∷ []) (take n (drop (offset + 1) s.bytes)))
       ∙ ap (λ bs. so_far h (bytes ++ bs) None) (sym (first_taken s.bytes offset n (omega (arith, fits, whole))))
 
--- ---- the page is resident: all of the run is put
+-- ---- copyout to a resident page copies the whole run
 
-module _ (a : Around) (page : ℕ) where
-  -- what holds of the process from the first byte on
+module _ (a : Environment) (page : ℕ) where
+  -- what holds of the process from the first byte on: the page is settled with 4,096 bytes, stores to it are granted, and it
+  -- is resident for a store
   record Stands (h : Progress) (s : Page) : Type 0 where
     there : get h.process.settled page ≡ Some s
     whole : length s.bytes ≡ 4096
     granted : (y : ℕ) → page_of y ≡ page → copy_rule h.process.scheme (regions h.process) access.Store y ≡ None
     resident : is_resident h.process access.Store page ≡ true
 
-  -- the process with bytes put into the page
+  -- the progress after `given` is stored into the page at `offset`
   abbrev put_at : Progress → Page → ℕ → List ℕ → Progress
   put_at h s offset given = record h { process = with_page h.process page (stored s offset given) }
 
@@ -179,10 +181,10 @@ module _ (a : Around) (page : ℕ) where
       ∙ all_put given (put_at h s offset (b ∷ [])) (stored s offset (b ∷ [])) (offset + 1) (bytes ++ b ∷ []) one (omega (arith, fits))
       ∙ ap₂ (λ g bs. so_far g bs None) (put_more h s offset b given (omega (arith, fits, stands.whole))) (append_assoc bytes (b ∷ []) given)
 
--- ---- the run as a whole, where its page is yet to be reached
+-- ---- the whole run, from before its page is made resident
 
-module _ (a : Around) (g h : Progress) (bytes : List ℕ) (address : ℕ) where
-  -- the bytes of the page from the offset on, as many as are asked
+module _ (a : Environment) (g h : Progress) (bytes : List ℕ) (address : ℕ) where
+  -- copyin: n bytes of the page, from the address's offset on
   pub run_in : (n : ℕ) (s : Page) → 0 < n → address % 4096 + n ≤ 4096 → reached_in a access.Load g address ≡ Ok h
       → get h.process.settled (page_of address) ≡ Some s → length s.bytes ≡ 4096
       → more_in a (so_far g bytes None) (numbers_from address n) ≡ so_far h (bytes ++ take n (drop (address % 4096) s.bytes)) None
@@ -195,7 +197,7 @@ module _ (a : Around) (g h : Progress) (bytes : List ℕ) (address : ℕ) where
       ∙ ap (λ at. more_in a (so_far h bytes None) (numbers_from at (suc n))) (sym (in_its_page address))
       ∙ taken
 
-  -- all the given bytes are put into the page, at the offset
+  -- copyout: all the given bytes, stored into the page at the address's offset
   pub run_out : (s : Page) (given : List ℕ) → 0 < length given → address % 4096 + length given ≤ 4096 → reached_in a access.Store g address ≡ Ok h
       → get h.process.settled (page_of address) ≡ Some s → length s.bytes ≡ 4096
       → more_out a (so_far g bytes None) (zip (numbers_from address (length given)) given)
@@ -214,8 +216,8 @@ module _ (a : Around) (g h : Progress) (bytes : List ℕ) (address : ℕ) where
       ∙ ap (λ at. more_out a (so_far h bytes None) (zip (numbers_from at (suc (length given))) (b ∷ given))) (sym (in_its_page address))
       ∙ all_put a (page_of address) (b ∷ given) h s (address % 4096) bytes stands fits
 
--- its first address is denied, or has no frame
-module _ (a : Around) (g : Progress) (bytes : List ℕ) (address : ℕ) (r : Rule) where
+-- the first address is refused with rule r: the copy stops there
+module _ (a : Environment) (g : Progress) (bytes : List ℕ) (address : ℕ) (r : Rule) where
   pub run_in_stops : (n : ℕ) → 0 < n → reached_in a access.Load g address ≡ Err r → more_in a (so_far g bytes None) (numbers_from address n) ≡ so_far g bytes (Some r)
   run_in_stops zero some is = absurd (omega (arith, some))
   run_in_stops (suc n) some is =

@@ -1,4 +1,5 @@
--- What is found in a map where every value is anew.
+-- Laws of `with_values`, a function applied to every value of a page map (a map from page numbers): a lookup finds a value
+-- exactly when it found one before, and it is the function of that one.
 use Rattle.std.proofs.Common.{◌≡◌, ℕ, refl, ap, sym, ◌∙◌, inl, inr, List, [], ◌∷◌, Option, None, Some}
 use Rattle.std.specs.Cmp.{unsigned_tied}
 use Rattle.std.specs.FinMap.Entries.{find}

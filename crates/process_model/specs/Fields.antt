@@ -1,4 +1,5 @@
--- The words of the lines, and what the fields after a word say.
+-- The table of a script's words (`command_table`), each with the kinds of the fields after it (`Row`); and how fields are
+-- read by their kinds: the value of each (a number, bytes, a slot, a segment ..), or the cause (why the line is refused).
 use Rattle.std.specs.Prelude.{ℕ, Bool, true, false, not, List, [], ◌∷◌, Option, Some, None, Result, Ok, Err, codes, ◌++◌, ◌-◌, ◌||◌, ◌&&◌, length, replicate, nat_lt, ◌==◌, if◌then◌else◌}
 use Rattle.std.specs.Str.{bytes_eq}
 use Rattle.std.specs.List.{list_any}
@@ -18,7 +19,8 @@ use Rattle.process_model.specs.declared.script.Keyword.TheVariants as word
 use Rattle.process_model.specs.declared.script.Tail.{Tail}
 use Rattle.process_model.specs.declared.script.Tail.TheVariants as tail
 
--- a word, as it is written, the kinds of the fields that must follow it, and what may follow these
+-- a row of a table of words: the word as written, its keyword, the kinds of the fields that must follow it, and what may
+-- follow these
 pub record Row : Type 0 where
   pub text : List ℕ
   pub word : Keyword
@@ -73,20 +75,20 @@ command_table =
     ∷ row (codes "fix") word.Fix one_number tail.Nothing
     ∷ []
 
--- the row of a word
+-- the row of a word; None if the table lacks the word
 abbrev pub row_among : List Row → List ℕ → Option Row
 row_among [] text = None
 row_among (r ∷ rows) text = if bytes_eq r.text text then Some r else row_among rows text
 
--- the kinds of so many fields after a word; there are as many kinds as fields just where the number is right
+-- the kinds of n fields after a word; there are n kinds exactly when the word may have n fields
 abbrev pub kinds_for : List FieldKind → Tail → ℕ → List FieldKind
 kinds_for kinds tail.Nothing n = kinds
 kinds_for kinds (tail.Perhaps k) n = if n == length kinds then kinds else kinds ++ k ∷ []
 kinds_for kinds (tail.More k) n = kinds ++ replicate (n - length kinds) k
 
--- what a field says, by its kind
+-- the value of a field, by its kind
 
--- where a form is wrong, the field has this fault
+-- the value made of what was read; cause c if nothing could be read
 abbrev pub said_or : {A : Type 0} → Cause → (A → FieldValue) → Option A → Result FieldValue Cause
 said_or c make None = Err c
 said_or c make (Some x) = Ok (make x)
@@ -107,7 +109,7 @@ policy_value field = if bytes_eq field (codes "full") then Ok (value.Policy poli
 abbrev pub scheme_value : List ℕ → Result FieldValue Cause
 scheme_value field = if bytes_eq field (codes "sv39") then Ok (value.Scheme Sv39) else (if bytes_eq field (codes "sv48") then Ok (value.Scheme Sv48) else Err cause.Field)
 
--- @N
+-- the number in @N
 abbrev pub entry_number : List ℕ → Option ℕ
 entry_number [] = None
 entry_number (a ∷ digits) = if a == 64 then number_of digits else None
@@ -148,20 +150,20 @@ value_of kind.Scheme field = scheme_value field
 value_of kind.Segment field = said_or cause.Field value.Segment (segment_in (pieces_of field))
 value_of kind.Entry field = said_or cause.Field (λ n. value.Optional (Some n)) (entry_number field)
 
--- which of two causes of fields is told first. In each line numbers stand before fields of other forms, so the first of two faults is
--- also the one that stands first
+-- which of the causes of two fields is reported: Number, if one of them is. In each line numbers precede fields of other
+-- forms, so this is also the cause of the first field at fault
 abbrev pub first_cause : Cause → Cause → Cause
 first_cause cause.Number d = cause.Number
 first_cause c d = d
 
--- a fault of a number comes before one of another form
+-- the values so far and one more, or the cause that is reported
 abbrev pub and_then : Result (List FieldValue) Cause → Result FieldValue Cause → Result (List FieldValue) Cause
 and_then (Ok vs) (Ok v) = Ok (vs ++ v ∷ [])
 and_then (Ok vs) (Err c) = Err c
 and_then (Err c) (Ok v) = Err c
 and_then (Err c) (Err d) = Err (first_cause c d)
 
--- the values of fields, each read by its kind, after those so far
+-- the values so far, followed by those of the fields, each read by its kind
 abbrev pub values_from : Result (List FieldValue) Cause → List FieldKind → List (List ℕ) → Result (List FieldValue) Cause
 values_from so_far [] fields = so_far
 values_from so_far (k ∷ ks) [] = so_far
@@ -170,6 +172,6 @@ values_from so_far (k ∷ ks) (field ∷ fields) = values_from (and_then so_far 
 abbrev pub values_by : List FieldKind → List (List ℕ) → Result (List FieldValue) Cause
 values_by kinds fields = if length fields == length kinds then values_from (Ok []) kinds fields else Err cause.Count
 
--- the values of the fields after a word
+-- the values of the fields after a word, or the cause: Count if their number is wrong, else that of a field
 abbrev pub values_of : Row → List (List ℕ) → Result (List FieldValue) Cause
 values_of r fields = values_by (kinds_for r.kinds r.tail (length fields)) fields

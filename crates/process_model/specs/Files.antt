@@ -1,4 +1,5 @@
--- Files of a fixed length.
+-- `File`: a file of fixed length, its bytes and whether it may be written; reading a page of 4,096 bytes from an offset on,
+-- and writing one without changing the file's length.
 use Rattle.std.specs.Prelude.{ℕ, Bool, false, Option, None, Some, slice_get, slice_set, List, [], length, take, drop}
 use Rattle.process_model.specs.Bytes.{padded, write_bytes}
 
@@ -14,7 +15,7 @@ abbrev pub is_writable : Option File → Bool
 is_writable None = false
 is_writable (Some f) = f.writable
 
--- a page's worth of a file from an offset on, zeros past its end
+-- 4,096 bytes: those of file n from an offset on, zeros past its end
 abbrev pub file_page : List File → ℕ → ℕ → List ℕ
 file_page files n offset = padded 4096 (drop offset (bytes_of (slice_get files n)))
 
@@ -26,6 +27,6 @@ abbrev pub with_file_at : List File → ℕ → Option File → ℕ → List ℕ
 with_file_at files n None offset page = files
 with_file_at files n (Some f) offset page = slice_set files n (record f { bytes = written_over f.bytes offset page })
 
--- the files with a page written to one of them
+-- the files after a page is written to file n, from an offset on; unchanged if there is no file n
 abbrev pub with_page_written : List File → ℕ → ℕ → List ℕ → List File
 with_page_written files n offset page = with_file_at files n (slice_get files n) offset page

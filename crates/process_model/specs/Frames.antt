@@ -1,9 +1,11 @@
--- How many frames things take, and the accounts of a machine.
+-- Counts of frames: the page tables that a set of pages needs; what start, exec, fork and making one page resident (in
+-- memory and ready) need; what the kernel takes at boot, and which sizes can boot or be shared by threads; and of all
+-- processes, how many frames are free, held and shared, and how many references to frames there are (`accounts`).
 use Rattle.std.specs.Prelude.{ℕ, Bool, true, false, ◌+◌, ◌-◌, ◌/◌, ◌^◌, ◌==◌, max, nat_le, nat_lt, ◌&&◌, Option, None, Some, List, [], ◌∷◌, ◌++◌, length, map, filter, filter_map, flat_map, sum_by, if◌then◌else◌, ◌≡◌, refl}
 use Rattle.std.specs.List.{list_any}
 use Rattle.process_model.specs.PageMap.{get, keys, numbers, count}
 use Rattle.process_model.specs.Process.{Process, Page}
-use Rattle.process_model.specs.Residence.{goes_through, parts_from, region_on}
+use Rattle.process_model.specs.Residence.{can_complete, parts_from, region_on}
 use Rattle.process_model.specs.Regions.{guard_pages, stack_pages}
 use Rattle.process_model.specs.Images.{LoadSegment, end_page}
 use Rattle.sv39_entry.specs.Address.{page_of}
@@ -13,9 +15,9 @@ use Rattle.sv39_entry.specs.declared.scheme.Scheme.{Scheme}
 use Rattle.sv39_entry.specs.declared.scheme.Scheme.TheVariants.{Sv39, Sv48}
 use Rattle.process_model.specs.declared.step.Report.{Report}
 
--- tables
+-- page tables
 
--- how many pages a table of each level below the root's is for (the standard, 4.4 and 4.5), the uppermost first
+-- how many pages a table of each level below the root covers (the standard, 4.4 and 4.5), the uppermost level first
 abbrev pub table_sizes : Scheme → List ℕ
 table_sizes Sv39 = 2 ^ 18 ∷ 2 ^ 9 ∷ []
 table_sizes Sv48 = 2 ^ 27 ∷ 2 ^ 18 ∷ 2 ^ 9 ∷ []
@@ -24,12 +26,12 @@ abbrev pub tables_of_sizes : List ℕ → List ℕ → ℕ
 tables_of_sizes [] pages = 0
 tables_of_sizes (size ∷ sizes) pages = count (numbers (map (λ n. n / size) pages)) + tables_of_sizes sizes pages
 
--- the page tables for a set of pages: the root, and one for each run of so many pages that has one of them. The trampoline's page and the
--- trapframe's are always among them
+-- how many page tables a set of pages needs: the root, and for each size one for each aligned run of that many pages that
+-- has one of them. The trampoline's page and the trapframe's are always among the pages
 unfoldable pub tables_needed : Scheme → List ℕ → ℕ
 tables_needed s pages = 1 + tables_of_sizes (table_sizes s) (trampoline_page s ∷ trapframe_page s ∷ pages)
 
--- of one size the tables for a set of pages
+-- the tables that cover `size` pages each, for a set of pages
 abbrev pub sized_tables : Scheme → List ℕ → ℕ → ℕ
 sized_tables s pages size = count (numbers (map (λ n. n / size) (trampoline_page s ∷ trapframe_page s ∷ pages)))
 
@@ -42,43 +44,43 @@ pub three_sizes : (s : Scheme) (pages : List ℕ) → s ≡ Sv48
 unfolding tables_needed
 three_sizes s pages is = rw is refl
 
--- tables stay until exec or the end, so they are those of all tabled pages
+-- the page tables of a process: tables stay until exec or the end, so they are those of all tabled pages
 abbrev pub tables_of : Process → ℕ
 tables_of p = tables_needed p.scheme (keys p.tabled)
 
--- what a step takes
+-- how many frames a step needs
 
--- a page is settled: one frame for its bytes, and the tables that are missing
+-- a page is settled: one frame for its bytes, and one for each page table that is missing
 abbrev pub settle_need : Process → ℕ → ℕ
 settle_need p page = 1 + (tables_needed p.scheme (page ∷ keys p.tabled) - tables_of p)
 
--- a page is taken over: one frame where it parts from another process, and none for a mark
-abbrev pub part_need : Bool → ℕ
-part_need parts = if parts then 1 else 0
+-- a page is taken over: one frame if it has the fork mark and another process has its copy number (`parts_from`), else none
+abbrev pub take_over_need : Bool → ℕ
+take_over_need parts = if parts then 1 else 0
 
 abbrev pub unless_through : Bool → Bool → ℕ
 unless_through parts true = 0
-unless_through parts false = part_need parts
+unless_through parts false = take_over_need parts
 
 abbrev pub resident_need_of : Bool → Process → Access → ℕ → Option Page → ℕ
 resident_need_of shared p access page None = settle_need p page
-resident_need_of shared p access page (Some s) = unless_through (parts_from shared s) (goes_through access (region_on p page) s)
+resident_need_of shared p access page (Some s) = unless_through (parts_from shared s) (can_complete access (region_on p page) s)
 
 -- a page is made resident for an access; `shared` says whether another process has its copy number
 abbrev pub resident_need : Bool → Process → Access → ℕ → ℕ
 resident_need shared p access page = resident_need_of shared p access page (get p.settled page)
 
--- the child's trapframe and its tables, and no page
+-- fork: the child's trapframe and its page tables, and no page
 abbrev pub fork_need : Process → ℕ
 fork_need p = 1 + tables_needed p.scheme (keys p.settled)
 
--- the pages of an image are a few runs, each from a first page up to, and without, an end: so its need is counted run by run, and no
--- page is listed. It is the number of its pages and `tables_needed` by them (`exec_need_is`)
+-- a run of pages, from `first` up to, and without, `end`. The pages of an image are a few runs, so its need is counted run
+-- by run, and no page is listed: it is the number of the pages and `tables_needed` for them (`exec_need_is`)
 pub record PageRun : Type 0 where
   pub first : ℕ
   pub end : ℕ
 
--- in ascending order: the segments, and behind them guard and stack
+-- the runs of an image in ascending order: the segments, and after them guard and stack
 abbrev pub runs_between : ℕ → List LoadSegment → List PageRun
 runs_between end [] = record { first = end; end = end + (guard_pages + stack_pages) } ∷ []
 runs_between end (l ∷ ls) = record { first = page_of l.address; end = end_page l } ∷ runs_between (end_page l) ls
@@ -90,12 +92,13 @@ abbrev pub pages_in : List PageRun → ℕ
 pages_in [] = 0
 pages_in (r ∷ rs) = r.end - r.first + pages_in rs
 
--- the tables of so many pages each, from the first that was not counted before: two runs may have one in common
+-- how many tables that cover `size` pages each the runs touch, without those below number `counted`: two runs may have one
+-- in common
 abbrev pub tables_from : ℕ → ℕ → List PageRun → ℕ
 tables_from size counted [] = 0
 tables_from size counted (r ∷ rs) = let end = (r.end - 1) / size + 1 in end - max (r.first / size) counted + tables_from size end rs
 
--- the trapframe's page and the trampoline's, above all others
+-- the trapframe's page and the trampoline's: a run above all others
 abbrev pub kernel_run : Scheme → PageRun
 kernel_run s = record { first = trapframe_page s; end = trampoline_page s + 1 }
 
@@ -106,16 +109,17 @@ tables_by_sizes (size ∷ sizes) runs = tables_from size 0 runs + tables_by_size
 abbrev pub tables_in : Scheme → List PageRun → ℕ
 tables_in s rs = 1 + tables_by_sizes (table_sizes s) (rs ++ kernel_run s ∷ [])
 
--- the pages of the image, guard and stack among them, and their tables
+-- exec: the pages of the image, guard and stack among them, and their page tables
 abbrev pub exec_need : Scheme → List LoadSegment → ℕ
 exec_need s ls = let runs = image_runs ls in pages_in runs + tables_in s runs
 
--- and the trapframe
+-- start: what exec needs, and the trapframe
 abbrev pub start_need : Scheme → List LoadSegment → ℕ
 start_need s ls = 1 + exec_need s ls
 
--- what boot takes: the trampoline page, five tables of the kernel, six where the direct map passes two megabytes, and one
--- stack a slot (own choice: no device is mapped). Sv48 has two tables more, on the ways to the trampoline and to the direct map
+-- what boot takes: the trampoline page, five page tables of the kernel (six if the direct map is longer than two megabytes),
+-- and a stack for each slot (own choice: no device is mapped). Sv48 has two tables more, one above those of the trampoline
+-- and one above those of the direct map
 abbrev pub first_frames : Scheme → ℕ
 first_frames Sv39 = 6
 first_frames Sv48 = 8
@@ -127,7 +131,7 @@ abbrev pub can_boot : Scheme → ℕ → ℕ → ℕ → Bool
 can_boot s harts frames slots =
     nat_le 1 harts && nat_le harts 8 && nat_le 16 frames && nat_le frames 1024 && nat_le 1 slots && nat_le slots 64 && nat_le (kernel_frames s frames slots) frames
 
--- frames that threads share; processes on threads have Sv39
+-- whether threads can share these frames; processes on threads have Sv39
 abbrev pub can_share : ℕ → ℕ → Bool
 can_share frames slots =
     nat_le 16 frames && nat_le frames 256 && nat_le 1 slots && nat_le slots 64 && nat_le (kernel_frames Sv39 frames slots) frames
@@ -140,7 +144,7 @@ live slots = filter_map (λ p. p) slots
 abbrev pub copies_of : Process → List ℕ
 copies_of p = map (λ e. (e.1).copy) p.settled.entries
 
--- the different copy numbers of processes: each stands for one frame
+-- the different copy numbers of processes: one frame for each
 abbrev pub copies_in : List Process → List ℕ
 copies_in ps = keys (numbers (flat_map copies_of ps))
 
@@ -151,7 +155,7 @@ has_copy copy p = list_any (λ n. n == copy) (copies_of p)
 abbrev pub is_shared_copy : List Process → ℕ → Bool
 is_shared_copy ps copy = nat_le 2 (length (filter (has_copy copy) ps))
 
--- the trapframe and the tables of a process
+-- how many frames only this process has: its trapframe and its page tables
 abbrev pub own_frames : Process → ℕ
 own_frames p = 1 + tables_of p
 
@@ -159,12 +163,13 @@ abbrev pub free_frames : Scheme → ℕ → List (Option Process) → ℕ
 free_frames s frames slots =
     frames - kernel_frames s frames (length slots) - length (copies_in (live slots)) - sum_by own_frames (live slots)
 
--- what names a frame of a process: the leaves of TRAMPOLINE and TRAPFRAME, the root and the pointers to its other tables, and the
--- leaf of each settled page
+-- how many references to frames a process has: the leaves of TRAMPOLINE and TRAPFRAME, the root and the pointers to its
+-- other page tables, and the leaf of each settled page
 abbrev pub references_of : Process → ℕ
 references_of p = 2 + tables_of p + length p.settled.entries
 
--- the trampoline page is shared where a process lives
+-- how many frames are shared: one for each copy number that two processes or more have, and the trampoline's if there is a
+-- process
 abbrev pub shared_frames : List Process → ℕ
 shared_frames ps = length (filter (is_shared_copy ps) (copies_in ps)) + (if nat_lt 0 (length ps) then 1 else 0)
 

@@ -1,4 +1,6 @@
--- What an image needs, counted run by run, is the number of its pages and the tables needed by them.
+-- Laws of the number of frames that exec needs: if the image's segments are in order (`IsPlaced`), the count run by run of
+-- pages (`exec_need`) is the number of the image's pages and `tables_needed` for them. Before that, the page numbers of a
+-- run.
 use Rattle.std.proofs.Common.{◌≡◌, ℕ, zero, suc, ◌+◌, ◌-◌, ◌/◌, ◌<◌, ◌≤◌, refl, ap, sym, ◌∙◌, arith, List, [], ◌∷◌, ◌++◌, map, length}
 use Rattle.std.specs.Prelude.{flat_map}
 use Rattle.std.proofs.lemmas.List.{append-nil, append_assoc, length-append, map-append}
@@ -6,8 +8,8 @@ use Rattle.std.proofs.lemmas.List.Concat.{flat_map-cons}
 use Rattle.process_model.specs.Bytes.{numbers_from, pages_for}
 use Rattle.process_model.specs.Frames.{exec_need, image_runs, kernel_run, PageRun, pages_in, runs_between, tables_by_sizes, tables_from, tables_needed, tables_of_sizes, table_sizes}
 use Rattle.process_model.specs.Images.{LoadSegment, end_of_loads, end_page}
-use Rattle.process_model.specs.Inserted.{behind_more}
-use Rattle.process_model.specs.Loading.{load_pages, page_numbers, page_run}
+use Rattle.process_model.specs.Insertion.{behind_more}
+use Rattle.process_model.specs.ImageProcess.{load_pages, page_numbers, page_run}
 use Rattle.process_model.specs.Order.{InRow, IsPlaced}
 use Rattle.process_model.specs.PageMap.{count}
 use Rattle.process_model.specs.Regions.{guard_pages, stack_pages}
@@ -38,7 +40,7 @@ abbrev numbers_in : List PageRun → List ℕ
 numbers_in [] = []
 numbers_in (r ∷ rs) = run_pages r ++ numbers_in rs
 
--- each has a page at least, and begins where the one before it ends, or later
+-- each run has at least one page and begins at or above the end of the run before it, the first at or above page `low`
 abbrev AreRising : ℕ → List PageRun → Type 0
 AreRising low [] = Unit {0}
 AreRising low (r ∷ rs) = (low ≤ r.first) × (r.first < r.end) × AreRising r.end rs
@@ -55,7 +57,7 @@ pages_counted (r ∷ rs) =
     let both = length-append (run_pages r) (numbers_in rs) in
     omega (arith, rest, here, both)
 
--- tables of so many pages each
+-- tables that cover `size` pages each
 
 module _ (size : ℕ) (some : 0 < size) where
   abbrev group : ℕ → ℕ
@@ -73,7 +75,7 @@ module _ (size : ℕ) (some : 0 < size) where
       let rest = groups rs r.end up.2 (xs ++ run_pages r) _ _ more (omega (arith, far)) in
       ap (λ ys. count (values group ys)) (sym (append_assoc xs (run_pages r) (numbers_in rs))) ∙ rest ∙ omega arith
 
-  -- the kernel's two pages, which stand first where tables are needed, may stand last
+  -- the kernel's two pages, first in `tables_needed`, may as well be last
   kernel_last : (z : Scheme) (ns : List ℕ) → count (values group (trampoline_page z ∷ trapframe_page z ∷ ns)) ≡ count (values group (ns ++ trapframe_page z ∷ trampoline_page z ∷ []))
   kernel_last z ns =
       let last = trampoline_page z in
@@ -84,7 +86,7 @@ module _ (size : ℕ) (some : 0 < size) where
       ∙ same_count group (last ∷ front) (front ++ last ∷ []) (first_last front last) (last_first front last)
       ∙ ap (λ ys. count (values group ys)) (append_assoc ns (next ∷ []) (last ∷ []))
 
-  -- the run of these two pages has them
+  -- the pages of `kernel_run` are these two
   kernel_numbers : (z : Scheme) → numbers_in (kernel_run z ∷ []) ≡ trapframe_page z ∷ trampoline_page z ∷ []
   kernel_numbers Sv39 = refl
   kernel_numbers Sv48 = refl
@@ -97,7 +99,7 @@ module _ (size : ℕ) (some : 0 < size) where
       ∙ ap (λ ys. count (values group (numbers_in rs ++ ys))) (sym (kernel_numbers z))
       ∙ ap (λ ys. count (values group ys)) (sym (numbers_split rs (kernel_run z ∷ []))) ∙ all ∙ omega arith)
 
--- each of some sizes is that of one page at least
+-- every size of the list is at least one page
 abbrev AreSome : List ℕ → Type 0
 AreSome [] = Unit {0}
 AreSome (size ∷ sizes) = (0 < size) × AreSome sizes
@@ -119,7 +121,7 @@ sizes_counted z (size ∷ sizes) some rs up =
 abbrev number_of : ℕ × List ℕ → ℕ
 number_of e = e.0
 
--- what follows the segments
+-- the pages after the segments: guard and stack
 abbrev last_pages : ℕ → List (ℕ × List ℕ)
 last_pages end = page_run end [] (guard_pages + stack_pages)
 

@@ -1,4 +1,6 @@
--- The checks over an image, in their order: those of an ELF file (as xv6 reads one in exec), and those of a list of segments.
+-- Program images: the segments that an image loads (`LoadSegment`), or the first check that it fails (`BadImage`); for an
+-- ELF file (as xv6's exec reads it, `elf_loads`) and for a list of segments (`segment_loads`). Also the ELF header fields
+-- that are read.
 use Rattle.std.specs.Prelude.{ℕ, Bool, true, false, not, ◌+◌, ◌*◌, ◌/◌, ◌%◌, ◌^◌, nat_le, nat_lt, ◌==◌, ◌&&◌, if◌then◌else◌, Option, None, Some, Result, Ok, Err, List, [], ◌∷◌, take, drop, length, map, fold, ◌++◌}
 use Rattle.process_model.specs.Bytes.{pages_for, number, numbers_from, first_true}
 use Rattle.process_model.specs.Regions.{guard_pages, stack_pages}
@@ -11,7 +13,7 @@ use Rattle.process_model.specs.declared.image.Image.{Image}
 use Rattle.process_model.specs.declared.image.Image.TheVariants.{Elf, Segments}
 use Rattle.process_model.specs.declared.image.Segment.{Segment}
 
--- a segment to load: where it stands in memory, and the bytes that the image has for it
+-- a segment to load: its address and size in memory, its rights, and the bytes that the image has for it
 pub record LoadSegment : Type 0 where
   pub address : ℕ
   pub memory_size : ℕ
@@ -22,7 +24,7 @@ pub record LoadSegment : Type 0 where
   pub inside : Bool
   pub bytes : List ℕ
 
--- what a program header says: it lies outside the image, is of a type that exec passes over, or tells a segment to load
+-- a program header: it lies outside the image, is of a type that exec skips, or describes a segment to load
 pub data ProgramHeader : Type 0 where
   outside : ProgramHeader
   passed_over : ProgramHeader
@@ -31,11 +33,11 @@ pub data ProgramHeader : Type 0 where
 abbrev pub has_pages : LoadSegment → Bool
 has_pages l = nat_lt 0 l.memory_size
 
--- the page after its last one
+-- the page after the segment's last one
 abbrev pub end_page : LoadSegment → ℕ
 end_page l = pages_for (l.address + l.memory_size)
 
--- the page after the last of some segments, from the page after the one before them
+-- the page after the last of the segments; `end` if there are none
 abbrev pub end_of_loads : ℕ → List LoadSegment → ℕ
 end_of_loads end [] = end
 end_of_loads end (l ∷ ls) = end_of_loads (end_page l) ls
@@ -43,8 +45,8 @@ end_of_loads end (l ∷ ls) = end_of_loads (end_page l) ls
 abbrev pub most_segments : ℕ
 most_segments = 16
 
--- the checks that a segment may fail, after the segments with pages before it; below the trapframe there has to be room for the
--- guard and the stack
+-- the checks of a segment, each true if it fails, in their order; `before` has the segments with pages before it. Between it
+-- and the trapframe there has to be room for guard and stack (TooHigh)
 abbrev pub load_checks : Scheme → List LoadSegment → LoadSegment → List (Bool × BadImage)
 load_checks s before l =
     (nat_lt l.memory_size l.file_size, part.Sizes)
@@ -56,11 +58,11 @@ load_checks s before l =
     ∷ (has_pages l && nat_le most_segments (length before), part.TooMany)
     ∷ []
 
--- the first that it fails
+-- the first check that a segment fails; None if it passes all
 abbrev pub load_fault : Scheme → List LoadSegment → LoadSegment → Option BadImage
 load_fault s before l = first_true (load_checks s before l)
 
--- a segment without pages is passed over
+-- the segments with one more; a segment without pages is skipped
 abbrev pub with_load : List LoadSegment → LoadSegment → List LoadSegment
 with_load before l = if has_pages l then before ++ l ∷ [] else before
 
@@ -73,12 +75,12 @@ judged s before outside = Err part.ProgramHeader
 judged s before passed_over = Ok before
 judged s before (load l) = unless_faulty before l (load_fault s before l)
 
--- the headers in a row, up to the first fault
+-- one program header more, unless an earlier one failed a check
 abbrev pub next_judged : Scheme → Result (List LoadSegment) BadImage → ProgramHeader → Result (List LoadSegment) BadImage
 next_judged s (Ok before) h = judged s before h
 next_judged s (Err e) h = Err e
 
--- there has to be a segment with pages
+-- NoLoad if there is no segment with pages
 abbrev pub at_least_one : Result (List LoadSegment) BadImage → Result (List LoadSegment) BadImage
 at_least_one (Ok []) = Err part.NoLoad
 at_least_one (Ok (l ∷ ls)) = Ok (l ∷ ls)
@@ -92,8 +94,8 @@ all_judged s hs = at_least_one (fold (next_judged s) (Ok []) hs)
 abbrev pub field : List ℕ → ℕ → ℕ → ℕ
 field bytes at n = number (drop at bytes) n
 
--- a program header has 56 bytes: type at 0, flags at 4 (execute 1, write 2), offset at 8, address at 16, size in the file at 32,
--- size in memory at 40
+-- a program header has 56 bytes: type at 0, flags at 4 (execute 1, write 2), offset at 8, address at 16, size in the file
+-- at 32, size in memory at 40
 abbrev pub load_at : List ℕ → ℕ → LoadSegment
 load_at bytes at =
     let flags = field bytes (at + 4) 4 in
@@ -109,7 +111,7 @@ load_at bytes at =
       bytes = take file_size (drop offset bytes);
     }
 
--- only headers of type 1 (LOAD) count
+-- a header of type 1 (LOAD) describes a segment; the others are skipped
 abbrev pub header_if_load : List ℕ → ℕ → Bool → ProgramHeader
 header_if_load bytes at true = load (load_at bytes at)
 header_if_load bytes at false = passed_over
@@ -121,15 +123,15 @@ header_if_inside bytes at false = outside
 abbrev pub header_at : List ℕ → ℕ → ProgramHeader
 header_at bytes at = header_if_inside bytes at (nat_le (at + 56) (length bytes))
 
--- so many headers in a row, from an offset on
+-- n program headers, one after the other, from an offset on
 abbrev pub headers_from : List ℕ → ℕ → ℕ → List ProgramHeader
 headers_from bytes offset n = map (λ k. header_at bytes (offset + 56 * k)) (numbers_from 0 n)
 
--- 1 MiB
+-- the most bytes of an ELF file: 1 MiB
 abbrev pub longest_image : ℕ
 longest_image = 2 ^ 20
 
--- 7f 45 4c 46
+-- the bytes 7f 45 4c 46, as a little-endian number
 abbrev pub elf_magic : ℕ
 elf_magic = 0x464c457f
 
@@ -144,8 +146,8 @@ abbrev pub loads_unless : Scheme → List ℕ → Option BadImage → Result (Li
 loads_unless s bytes (Some e) = Err e
 loads_unless s bytes None = all_judged s (headers_from bytes (field bytes 32 8) (field bytes 56 2))
 
--- the segments of an ELF file, or the first check that it fails: the table of program headers begins at the offset in the 8
--- bytes at 32 of the file header, and has as many as the 2 bytes at 56 tell
+-- the segments of an ELF file, or the first check that it fails. In the file header, the 8 bytes at 32 are the offset of the
+-- program headers, and the 2 bytes at 56 their number
 unfoldable pub elf_loads : Scheme → List ℕ → Result (List LoadSegment) BadImage
 elf_loads s bytes = loads_unless s bytes (file_fault bytes)
 

@@ -1,4 +1,6 @@
--- Rows of mappings: one comes to its place, and a run of pages goes from one.
+-- Laws of a process's mappings in order of address (`Row`): mmap adds one, munmap removes a run of pages from one, and the
+-- order stays, as does what holds of each mapping (`IsMapping`). Also which mapping holds a page or a whole run, before and
+-- after.
 use Rattle.std.proofs.Common.{◌≡◌, ℕ, Bool, true, false, cond, ◌&&◌, ◌+◌, ◌-◌, ◌<◌, ◌≤◌, ◌⊎◌, inl, inr, refl, sym, ap, subst, ◌∙◌, arith, List, [], ◌∷◌, ◌++◌, None, Some}
 use Rattle.std.specs.Prelude.{◌==◌, nat_le, nat_lt}
 use Rattle.std.specs.List.{list_all}
@@ -18,16 +20,16 @@ pub above_limit : (s : Scheme) (low at : ℕ) (ms : List Region) → at ≤ heap
 above_limit s low at [] le row = le
 above_limit s low at (m ∷ ms) le row = (le, row.1, row.2)
 
--- ---- a mapping comes
+-- ---- mmap adds a mapping
 
--- a region is before another, or behind it
+-- pages that are apart from a region end at or below its first page, or begin at or above its end
 pub apart_sides : (first pages : ℕ) (m : Region) → is_apart first pages m ≡ true → (first + pages ≤ m.first) ⊎ (end_of m ≤ first)
 apart_sides first pages m e = elim (or_cases (nat_le (first + pages) m.first) (nat_le (end_of m) first) e) [
   | inl l ↦ inl (leb-true (first + pages) m.first l)
   | inr l ↦ inr (leb-true (end_of m) first l)
 ]
 
--- one that is apart from the others goes to its place
+-- adding a mapping that is apart from the others keeps the order
 pub with_mapping_row : (low high : ℕ) (r : Region) (ms : List Region) → low ≤ r.first → 1 ≤ r.pages → end_of r ≤ high → list_all (is_apart r.first r.pages) ms ≡ true
     → Row 1 low ms high → Row 1 low (with_mapping r ms) high
 with_mapping_row low high r [] from some to apart row = (from, some, to)
@@ -50,7 +52,7 @@ with_each P r [] here all = (here, tt)
 with_each P r (m ∷ ms) here all =
     elim (nat_lt r.first m.first) as (λ b. EachRegion P (cond b (r ∷ m ∷ ms) (m ∷ with_mapping r ms))) [ true ↦ (here, all) | false ↦ (all.0, with_each P r ms here all.1) ]
 
--- a page of another mapping stays where it is
+-- a page of another mapping stays in that mapping
 
 apart_found : (r : Region) (ms : List Region) (n : ℕ) (x : Region) → list_all (is_apart r.first r.pages) ms ≡ true → region_at ms n ≡ Some x → (n < r.first) ⊎ (end_of r ≤ n)
 apart_found r [] n x apart is = absurd (cc)
@@ -77,9 +79,9 @@ with_mapping_at r (m ∷ ms) n x apart is =
       ]
     ]
 
--- ---- the mapping around a run
+-- ---- the mapping that holds a run
 
--- it stands in the row
+-- it begins at or above the lower end of the row
 pub around_above : (low high first end : ℕ) (ms : List Region) (m : Region) → Row 1 low ms high → mapping_around ms first end ≡ Some m → low ≤ m.first
 around_above low high first end [] m row e = cc
 around_above low high first end (r ∷ rs) m row e =
@@ -106,7 +108,7 @@ around_holds first end (r ∷ rs) m e =
       | false ↦ λ t is. around_holds first end rs m is
     ] refl e
 
--- each page of the run is in it
+-- each page of the run is in that mapping
 pub around_at : (low high first end n : ℕ) (ms : List Region) (m : Region) → Row 1 low ms high → mapping_around ms first end ≡ Some m → first ≤ n → n < end
     → region_at ms n ≡ Some m
 around_at low high first end n [] m row e from to = absurd (cc)
@@ -123,9 +125,9 @@ around_at low high first end n (r ∷ rs) m row e from to =
           passed r rs n (not_held r n (inr (row_within 1 (end_of r) high n rs m row.2 rest).0)) ∙ rest
     ] refl e
 
--- ---- a run goes
+-- ---- munmap removes a run
 
--- what is left of a mapping stands where it stood
+-- what is left of a mapping is in order, between `low` and the mapping's end
 pub pieces_row : (m : Region) (low first end : ℕ) → low ≤ m.first → first ≤ end → m.first ≤ first → end ≤ end_of m → Row 1 low (front_of m first ++ back_of m end) (end_of m)
 pieces_row m low first end from le start stop =
     elim (nat_lt m.first first) as (λ b. nat_lt m.first first ≡ b → Row 1 low (cond b (record m { pages = first - m.first } ∷ []) [] ++ back_of m end) (end_of m)) [
@@ -164,7 +166,7 @@ instead_row low high first end (r ∷ rs) m le row e =
         (row_append 1 low (end_of r) high (front_of r first ++ back_of r end) rs
         (pieces_row r low first end row.0 le (leb-true r.first first parts.0) (leb-true end (end_of r) parts.1)) row.2)
 
--- and it is a mapping as the whole was
+-- what is left is a mapping as the whole was (`IsMapping`)
 
 less_reach : (s : Source) (few many : ℕ) → few ≤ many → IsInReach s many → IsInReach s few
 less_reach (file n offset) few many le reach = omega (arith, le, reach)
@@ -202,7 +204,7 @@ unmapped_each ms m first end le around all =
     let holds = around_holds first end ms m around in
     instead_each IsMapping ms m.first (front_of m first ++ back_of m end) all (pieces_are m first end holds.0 le holds.1 (around_each IsMapping first end ms m all around))
 
--- a page beside the run is in a region with the rights that it had
+-- a page outside the run is in a region with the rights and the kind that its region had
 
 none_in_front : (m : Region) (first n : ℕ) → first ≤ n → region_at (front_of m first) n ≡ None
 none_in_front m first n le =
@@ -231,7 +233,7 @@ pieces_at m first end n le from to (inr behind) =
       record { reads = refl; writes = refl; executes = refl; kind = refl },
     )
 
--- where the first mapping goes
+-- the run is in the first mapping
 instead_first : (low high first end n : ℕ) (r : Region) (rs : List Region) (x : Region) → first ≤ end → Row 1 low (r ∷ rs) high
     → (nat_le r.first first && nat_le end (end_of r)) ≡ true → (n < first) ⊎ (end ≤ n) → region_at (r ∷ rs) n ≡ Some x
     → (y : Region) × (region_at (with_instead (r ∷ rs) r.first (front_of r first ++ back_of r end)) n ≡ Some y) × SameRights x y
@@ -250,7 +252,7 @@ instead_first low high first end n r rs x le row t out is =
           (x, ap (λ ss. region_at ss n) now ∙ none_in_first left rs n (row_outside 1 r.first (end_of r) n left row_left (inr behind)) ∙ later.1, own_rights x)
     ]
 
--- where another one goes
+-- the run is in a later mapping
 instead_later : (n at : ℕ) (r : Region) (rs left : List Region) (x : Region) → (r.first ≡ at → ⊥) → region_at (r ∷ rs) n ≡ Some x
     → (region_at rs n ≡ Some x → (y : Region) × (region_at (with_instead rs at left) n ≡ Some y) × SameRights x y)
     → (y : Region) × (region_at (with_instead (r ∷ rs) at left) n ≡ Some y) × SameRights x y

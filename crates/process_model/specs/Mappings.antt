@@ -1,4 +1,6 @@
--- Mappings of files (the mmap lab of MIT 6.1810), and what is written back to the files.
+-- mmap (`mapped`) and munmap (`unmapped`) of files (the mmap lab of MIT 6.1810): where a mapping goes, what it grants, and
+-- when a call is refused. Write-back: which pages of a mapping are written to its file, by munmap, or of all mappings, at
+-- exec or the end.
 use Rattle.std.specs.Prelude.{ℕ, Bool, true, false, not, ◌+◌, ◌-◌, ◌*◌, ◌/◌, ◌%◌, ◌^◌, max, nat_le, nat_lt, ◌==◌, ◌&&◌, ◌||◌, Option, None, Some, is_none, unwrap_or, Result, Ok, Err, slice_get, List, [], ◌∷◌, ◌++◌, length, filter, map, fold, if◌then◌else◌}
 use Rattle.std.specs.List.{list_all}
 use Rattle.process_model.specs.Bytes.{pages_for, first_true}
@@ -16,7 +18,8 @@ use Rattle.process_model.specs.declared.step.Refusal.TheVariants.{NoRoom, BadArg
 abbrev pub is_apart : ℕ → ℕ → Region → Bool
 is_apart first pages m = nat_le (first + pages) m.first || nat_le (end_of m) first
 
--- whether a mapping of so many pages may begin at a page: above the heap, below the trapframe, and apart from the others
+-- whether a mapping of `pages` pages may begin at page `first`: above the heap, below the trapframe, and apart from the
+-- other mappings
 abbrev pub fits_at : Process → ℕ → ℕ → Bool
 fits_at p pages first = nat_le (pages_for p.size) first && nat_le (first + pages) (trapframe_page p.scheme) && list_all (is_apart first pages) p.mappings
 
@@ -24,11 +27,12 @@ abbrev pub greatest : List ℕ → Option ℕ
 greatest [] = None
 greatest (n ∷ ns) = Some (fold max n ns)
 
--- where it would begin if it ended at the trapframe, or just below a mapping: the greatest page at which it fits is one of these
+-- the pages at which a mapping of `pages` pages would begin if it ended at the trapframe, or just below a mapping: the
+-- greatest page at which it fits is one of these
 abbrev pub places : Process → ℕ → List ℕ
 places p pages = map (λ end. end - pages) (trapframe_page p.scheme ∷ map (λ m. m.first) p.mappings)
 
--- the greatest page at which it fits (own choice)
+-- where a new mapping of `pages` pages begins: the greatest page at which it fits (own choice); None if it fits nowhere
 abbrev pub mapping_place : Process → ℕ → Option ℕ
 mapping_place p pages = greatest (filter (fits_at p pages) (places p pages))
 
@@ -37,7 +41,7 @@ mapping_place p pages = greatest (filter (fits_at p pages) (places p pages))
 abbrev pub most_mappings : ℕ
 most_mappings = 16
 
--- 1 MiB
+-- the most bytes of a mapping: 1 MiB
 abbrev pub longest_mapping : ℕ
 longest_mapping = 2 ^ 20
 
@@ -54,7 +58,7 @@ asks_execute protection = protection / 4 % 2 == 1
 abbrev pub is_shared : ℕ → Bool
 is_shared flags = flags == 1
 
--- the mapping that is asked for, with its first page; what may be written may be read
+-- the requested mapping, from page `first` on, of file n from its beginning; one that may be written may be read
 abbrev pub mapping_of : ℕ → ℕ → ℕ → ℕ → ℕ → Region
 mapping_of first pages protection flags n = record {
   first = first;
@@ -78,12 +82,12 @@ map_refusal files p len protection flags n = first_true (
     ∷ (is_none (mapping_place p (pages_for len)), NoRoom)
     ∷ [])
 
--- what mmap gives: the process, and the page where the mapping begins
+-- what mmap gives: the process after it, and the page where the mapping begins
 pub record Mapped : Type 0 where
   pub process : Process
   pub first : ℕ
 
--- the mapping in its place by address
+-- the mappings with one more, in order of address
 abbrev pub with_mapping : Region → List Region → List Region
 with_mapping r [] = r ∷ []
 with_mapping r (m ∷ ms) = if nat_lt r.first m.first then r ∷ m ∷ ms else m ∷ with_mapping r ms
@@ -92,7 +96,7 @@ abbrev pub mapped_unless : Process → Region → Option Refusal → Result Mapp
 mapped_unless p r None = Ok (record { process = record p { mappings = with_mapping r p.mappings }; first = r.first })
 mapped_unless p r (Some e) = Err e
 
--- mmap: no frame is taken
+-- mmap: no frame is taken. Refused as in `map_refusal`
 unfoldable pub mapped : List File → Process → ℕ → ℕ → ℕ → ℕ → Result Mapped Refusal
 mapped files p len protection flags n =
     let pages = pages_for len in
@@ -100,7 +104,8 @@ mapped files p len protection flags n =
 
 -- write-back
 
--- whether a settled page of the region is written back to its file: one with the stored mark, of a shared mapping that may be written
+-- whether a settled page of the region is written back to its file: exactly if it has the stored mark and the region is a
+-- shared mapping that may be written
 abbrev pub is_written_back : Region → Page → Bool
 is_written_back m page = keeps_stores (Some m) && page.stored_mark
 
@@ -108,25 +113,26 @@ abbrev pub page_written : Source → List File → ℕ → List ℕ → List Fil
 page_written (file n offset) files at bytes = with_page_written files n (offset + at) bytes
 page_written _ files at bytes = files
 
--- the files with a settled page written back, if it lies in the run and is to be written back
+-- the files after one settled page is written back, if it lies in the run and has to be written back
 abbrev pub with_written : Region → ℕ → ℕ → List File → ℕ × Page → List File
 with_written m first end files e =
     if nat_le first e.0 && nat_lt e.0 end && is_written_back m e.1 then page_written m.source files (4096 * (e.0 - m.first)) (e.1).bytes else files
 
--- the settled pages of a mapping that are to be written back, from one page up to, and without, another, in ascending order
+-- the files after those settled pages of mapping m that have to be written back, from page `first` up to, and without,
+-- `end`, are written in ascending order
 abbrev pub written_back : List File → Process → Region → ℕ → ℕ → List File
 written_back files p m first end = fold (with_written m first end) files p.settled.entries
 
 abbrev pub mapping_written_back : Process → List File → Region → List File
 mapping_written_back p files m = written_back files p m m.first (end_of m)
 
--- at exec, exit and an end by a rule every mapping is written back, in order of address
+-- the files after every mapping is written back, in order of address: at exec, exit and an end by a rule
 abbrev pub all_written_back : List File → Process → List File
 all_written_back files p = fold (mapping_written_back p) files p.mappings
 
 -- munmap
 
--- what munmap gives
+-- what munmap gives: the process and the files after it
 pub record Unmapped : Type 0 where
   pub process : Process
   pub files : List File
@@ -135,19 +141,20 @@ abbrev pub moved_along : Source → ℕ → Source
 moved_along (file n offset) pages = file n (offset + 4096 * pages)
 moved_along s pages = s
 
--- what is left of a mapping after a run at its start or its end went
+-- what is left of a mapping below a run that begins at page `first`, and above a run that ends at page `end`: one region
+-- each, or none
 abbrev pub front_of : Region → ℕ → List Region
 front_of m first = if nat_lt m.first first then record m { pages = first - m.first } ∷ [] else []
 
 abbrev pub back_of : Region → ℕ → List Region
 back_of m end = if nat_lt end (end_of m) then record m { first = end; pages = end_of m - end; source = moved_along m.source (end - m.first) } ∷ [] else []
 
--- the mapping that holds a whole run
+-- the mapping that holds a whole run; None if none does
 abbrev pub mapping_around : List Region → ℕ → ℕ → Option Region
 mapping_around [] first end = None
 mapping_around (m ∷ ms) first end = if nat_le m.first first && nat_le end (end_of m) then Some m else mapping_around ms first end
 
--- the mappings with others in place of the one that begins at a page
+-- the mappings with others in place of the one that begins at page `at`
 abbrev pub with_instead : List Region → ℕ → List Region → List Region
 with_instead [] at rs = []
 with_instead (m ∷ ms) at rs = if m.first == at then rs ++ ms else m ∷ with_instead ms at rs
@@ -158,7 +165,7 @@ unmapped_from files p m first end = record {
   files = written_back files p m first end;
 }
 
--- the run touches neither the start nor the end
+-- whether the run touches neither the start nor the end of the mapping
 abbrev pub leaves_hole : Region → ℕ → ℕ → Bool
 leaves_hole m first end = nat_lt m.first first && nat_lt end (end_of m)
 
@@ -174,7 +181,8 @@ abbrev pub unmapped_if : List File → Process → ℕ → ℕ → Bool → Resu
 unmapped_if files p first end false = Err BadArgument
 unmapped_if files p first end true = unmapped_in files p first end (mapping_around p.mappings first end)
 
--- munmap: the length is rounded up to pages
+-- munmap: the length is rounded up to pages. Refused with BadArgument if the address is no multiple of 4,096, the length is
+-- 0, or the run is not inside one mapping; else with HoleInMapping if the run touches neither end of the mapping
 unfoldable pub unmapped : List File → Process → ℕ → ℕ → Result Unmapped Refusal
 unmapped files p address len =
     let first = page_of address in

@@ -1,4 +1,5 @@
--- Finite maps from numbers, and sets of numbers, as their entries in ascending order: two maps that answer alike are equal, and the
+-- `PageMap`: finite maps from page numbers, as lists of entries in ascending order: lookup, insertion, selection by key, a
+-- function on every value, keys. `NumberSet`: sets of numbers, as such maps. Two maps with equal lookups are equal, and the
 -- checker can compute with them.
 use Rattle.std.specs.Prelude.{◌≡◌, ℕ, Bool, ◌&&◌, T, List, [], ◌∷◌, map, length, is_some, Option}
 use Rattle.std.proofs.Common.{refl, ap, subst, sym, ◌∙◌}
@@ -10,7 +11,7 @@ pub record PageMap (X : Type 0) : Type 0 where
   pub entries : List (ℕ × X)
   pub sorted : T (is_sorted nat_cmp entries)
 
--- the same keys with other values are in order too
+-- a function applied to every value, with its key: the keys stay, so they stay in order
 module _ {X : Type 0} (f : ℕ → X → X) where
   abbrev pub each_value : List (ℕ × X) → List (ℕ × X)
   each_value [] = []
@@ -34,11 +35,11 @@ module _ {X : Type 0} where
   abbrev pub insert : PageMap X → ℕ → X → PageMap X
   insert m k v = record { entries = put nat_cmp k v m.entries; sorted = is_sorted-put nat_cmp nat_cmp_total k v m.entries m.sorted }
 
-  -- the entries whose keys pass
+  -- the entries whose keys pass a test
   abbrev pub only : (ℕ → Bool) → PageMap X → PageMap X
   only p m = record { entries = where_key nat_cmp p m.entries; sorted = is_sorted-where_key nat_cmp p m.entries m.sorted }
 
-  -- every value anew, by its key
+  -- the map with a function applied to every key and value
   abbrev pub with_values : (ℕ → X → X) → PageMap X → PageMap X
   with_values f m = record { entries = each_value f m.entries; sorted = each_sorted f m.entries m.sorted }
 

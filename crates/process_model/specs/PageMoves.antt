@@ -1,4 +1,6 @@
--- Pages that are read from files and written to them, one after another, and those that write-back writes.
+-- Page I/O of files: `PageMove`, a page that was read or written, and the files after a list of moves; the writes that a
+-- write-back makes, of a run, a mapping or all mappings. Laws: these writes leave the files as `written_back` and
+-- `all_written_back` say.
 use Rattle.std.proofs.Common.{◌≡◌, ℕ, Bool, true, false, ◌*◌, ◌+◌, ◌-◌, refl, ap, ◌∙◌, List, [], ◌∷◌, ◌++◌}
 use Rattle.std.specs.Prelude.{nat_le, nat_lt, ◌&&◌, fold, flat_map, if◌then◌else◌}
 use Rattle.process_model.specs.Files.{File, with_page_written}
@@ -6,7 +8,7 @@ use Rattle.process_model.specs.Mappings.{all_written_back, is_written_back, mapp
 use Rattle.process_model.specs.Process.{Page, Process}
 use Rattle.process_model.specs.Regions.{Region, Source, end_of, file, image, zeros}
 
--- a page's worth of a file, from an offset on: its bytes where it was read, and those that were written
+-- a page of file n, from an offset on: read, with the bytes that it had, or written, with the bytes that it got
 pub data PageMove : Type 0 where
   page_read : ℕ → ℕ → List ℕ → PageMove
   page_write : ℕ → ℕ → List ℕ → PageMove
@@ -21,27 +23,27 @@ files_after files moves = fold moved files moves
 
 -- what write-back writes
 
--- a page, so many bytes from the beginning of what its source has
+-- the write of a page that is `at` bytes past the beginning of its region; none if the region is of no file
 abbrev pub moves_to : Source → ℕ → List ℕ → List PageMove
 moves_to (file n offset) at bytes = page_write n (offset + at) bytes ∷ []
 moves_to _ at bytes = []
 
--- of a settled page, if it lies in the run and is to be written back
+-- the write of a settled page, if it lies in the run and has to be written back
 abbrev pub moves_of : Region → ℕ → ℕ → ℕ × Page → List PageMove
 moves_of m first end e = if nat_le first e.0 && nat_lt e.0 end && is_written_back m e.1 then moves_to m.source (4096 * (e.0 - m.first)) (e.1).bytes else []
 
--- of a run of a mapping, in ascending order
+-- the writes of a run of a mapping, in ascending order
 abbrev pub run_moves : Process → Region → ℕ → ℕ → List PageMove
 run_moves p m first end = flat_map (moves_of m first end) p.settled.entries
 
 abbrev pub mapping_moves : Process → Region → List PageMove
 mapping_moves p m = run_moves p m m.first (end_of m)
 
--- of every mapping, in order of address
+-- the writes of every mapping, in order of address
 abbrev pub all_moves : Process → List PageMove
 all_moves p = flat_map (mapping_moves p) p.mappings
 
--- they are what write-back does
+-- these moves are what write-back does to the files
 
 pub files_after-append : (files : List File) (ms ns : List PageMove) → files_after files (ms ++ ns) ≡ files_after (files_after files ms) ns
 files_after-append files [] ns = refl

@@ -1,10 +1,11 @@
--- The region of a process that holds a page, where the heap ends elsewhere, a mapping comes, or a run of pages goes from one.
+-- Laws of which region holds a page after sbrk, mmap or munmap: a page that the call does not touch keeps the rights and
+-- kind of its region. Before that: only mappings hold pages above the heap, and which mapping holds the pages of a run.
 use Rattle.std.proofs.Common.{◌≡◌, ℕ, ℤ, true, false, ◌&&◌, ◌+◌, ◌<◌, ◌≤◌, ◌⊎◌, inl, inr, ap, ◌∙◌, arith, List, ◌∷◌, ◌++◌, None, Some}
 use Rattle.std.specs.Prelude.{nat_abs, nat_le}
 use Rattle.std.specs.List.{list_all}
 use Rattle.std.proofs.lemmas.Bool.{and_parts}
 use Rattle.process_model.specs.Bytes.{pages_for}
-use Rattle.process_model.specs.Granted.{size_granted}
+use Rattle.process_model.specs.GrantLaws.{size_granted}
 use Rattle.process_model.specs.Heap.{size_refusal}
 use Rattle.process_model.specs.MappingRows.{above_limit, around_at, instead_at, with_mapping_at}
 use Rattle.process_model.specs.Mappings.{back_of, fits_at, front_of, is_apart, mapping_around, with_instead, with_mapping}
@@ -17,26 +18,27 @@ use Rattle.sv39_entry.specs.Schemes.{trapframe_page}
 
 -- ---- the mappings
 
--- only they hold pages behind the heap
+-- only mappings hold pages at or above the heap's end
 pub behind_heap : (least : ℕ) (p : Process) (n : ℕ) → HasOrder least p → pages_for p.size ≤ n → region_at (regions p) n ≡ region_at p.mappings n
 behind_heap least p n order above =
     let room = order.room in
     none_in_first p.parts (heap_of p ∷ p.mappings) n (row_outside least 0 (page_of p.heap_base) n p.parts order.parts (inr (omega (arith, room, above))))
     ∙ passed (heap_of p) p.mappings n (not_held (heap_of p) n (inr (omega (arith, room, above))))
 
--- no other region holds a page of a mapping
+-- the region that holds a page of a run inside a mapping is that mapping
 pub mapping_at : (least : ℕ) (p : Process) (first end n : ℕ) (m : Region) → HasOrder least p → mapping_around p.mappings first end ≡ Some m → first ≤ n → n < end
     → region_at (regions p) n ≡ Some m
 mapping_at least p first end n m order around from to =
     let there = around_at (pages_for p.size) (trapframe_page p.scheme) first end n p.mappings m order.above around from to in
     behind_heap least p n order (row_within 1 (pages_for p.size) (trapframe_page p.scheme) n p.mappings m order.above there).0 ∙ there
 
--- ---- the mappings become others
+-- ---- other mappings in place of the process's
 
 abbrev with_mappings : Process → List Region → Process
 with_mappings p ms = record p { mappings = ms }
 
--- a region is as it was, or it was a mapping and is to be looked for in those that there are now
+-- with other mappings, a page has the region that it had; or that was a mapping, and its region is to be looked up in the
+-- others
 mapping_or_same : (p : Process) (ms : List Region) (n : ℕ) (x : Region) → region_at (regions p) n ≡ Some x
     → (region_at (regions (with_mappings p ms)) n ≡ Some x)
     ⊎ ((region_at p.mappings n ≡ Some x) × (region_at (regions (with_mappings p ms)) n ≡ region_at ms n))
@@ -50,7 +52,7 @@ mapping_or_same p ms n x is = elim (first_or_second p.parts (heap_of p ∷ p.map
       ]
 ]
 
--- a mapping comes: each page has the region that it had
+-- mmap: each page that had a region keeps it
 pub region_with_mapping : (p : Process) (r : Region) (n : ℕ) (x : Region) → fits_at p r.pages r.first ≡ true → region_at (regions p) n ≡ Some x
     → region_at (regions (record p { mappings = with_mapping r p.mappings })) n ≡ Some x
 region_with_mapping p r n x fits is =
@@ -60,7 +62,7 @@ region_with_mapping p r n x fits is =
       | inr mapping ↦ mapping.1 ∙ with_mapping_at r p.mappings n x apart mapping.0
     ]
 
--- a run goes from a mapping: each page beside it is in a region with the rights that it had
+-- munmap: each page outside the run that had a region is in one with the same rights and kind
 pub region_left : (least : ℕ) (p : Process) (m : Region) (first end n : ℕ) (x : Region) → HasOrder least p → mapping_around p.mappings first end ≡ Some m → first ≤ end
     → (n < first) ⊎ (end ≤ n) → region_at (regions p) n ≡ Some x
     → (y : Region) × (region_at (regions (record p { mappings = with_instead p.mappings m.first (front_of m first ++ back_of m end) })) n ≡ Some y) × SameRights x y
@@ -72,9 +74,10 @@ region_left least p m first end n x order around le out is =
           (left.0, mapping.1 ∙ left.1, left.2)
     ]
 
--- ---- the heap ends elsewhere
+-- ---- sbrk moves the end of the heap
 
--- each page beside those that come or go is in a region with the rights that it had
+-- each page below the new end of the heap, or at or above the old one, that had a region is in one with the same rights and
+-- kind
 pub region_resized : (least : ℕ) (p : Process) (wanted : ℤ) (n : ℕ) (x : Region) → HasOrder least p → size_refusal p wanted ≡ None
     → (n < pages_for (nat_abs wanted)) ⊎ (pages_for p.size ≤ n) → region_at (regions p) n ≡ Some x
     → (y : Region) × (region_at (regions (record p { size = nat_abs wanted })) n ≡ Some y) × SameRights x y

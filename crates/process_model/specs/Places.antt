@@ -1,18 +1,19 @@
--- Where a mapping may stand, and that its place is the greatest page at which it fits.
+-- Laws of `mapping_place` (where mmap puts a mapping): a page is the place if and only if the mapping fits there (`Fits`)
+-- and at no greater page; there is no place if and only if it fits nowhere.
 use Rattle.std.proofs.Common.{◌≡◌, ℕ, zero, suc, Bool, true, false, cond, ◌&&◌, ◌||◌, ◌+◌, ◌-◌, ◌≤◌, ◌⊎◌, inl, inr, max, min, refl, sym, ap, ◌∙◌, arith, List, [], ◌∷◌, Option, None, Some, map}
 use Rattle.std.specs.Prelude.{nat_le, filter, fold, slice_get, if◌then◌else◌}
 use Rattle.std.specs.List.{list_all}
 use Rattle.std.proofs.lemmas.Bool.{and_parts}
 use Rattle.std.proofs.lemmas.Option.{same_Some}
 use Rattle.process_model.specs.Bytes.{pages_for}
-use Rattle.process_model.specs.Granted.{place_fits as place_passes}
+use Rattle.process_model.specs.GrantLaws.{place_fits as place_passes}
 use Rattle.process_model.specs.MappingRows.{apart_sides}
 use Rattle.process_model.specs.Regions.{Region, end_of}
 use Rattle.process_model.specs.Process.{Process}
 use Rattle.process_model.specs.Mappings.{fits_at, is_apart, greatest, places, mapping_place}
 use Rattle.sv39_entry.specs.Schemes.{trapframe_page}
 
--- so many pages from a page on are above the heap, below the trapframe, and meet no mapping
+-- `pages` pages from page `first` on are above the heap, below the trapframe, and meet no mapping: what `fits_at` tests
 pub record Fits (p : Process) (pages first : ℕ) : Type 0 where
   pub above : pages_for p.size ≤ first
   pub below : first + pages ≤ trapframe_page p.scheme
@@ -68,7 +69,7 @@ member_map f x [] i = absurd i
 member_map f x (y ∷ ys) (inl e) = inl (ap f e)
 member_map f x (y ∷ ys) (inr i) = inr (member_map f x ys i)
 
--- what the test of a place says
+-- `fits_at` and `Fits` agree
 
 apart_to : (first pages : ℕ) (m : Region) → (first + pages ≤ m.first) ⊎ (end_of m ≤ first) → is_apart first pages m ≡ true
 apart_to first pages m (inl l) = left _ _ (le_to (first + pages) m.first l)
@@ -92,7 +93,7 @@ fits_of p pages first fits =
 fits_to : (p : Process) (pages first : ℕ) → Fits p pages first → fits_at p pages first ≡ true
 fits_to p pages first f = both _ _ (both _ _ (le_to (pages_for p.size) first f.above) (le_to (first + pages) (trapframe_page p.scheme) f.below)) (all_apart_to first pages p.mappings f.apart)
 
--- the least end from `low` on, of e and the mappings' starts
+-- the least of `e` and those first pages of mappings that are `low` or above
 abbrev nearer : ℕ → ℕ → ℕ → ℕ
 nearer low e first = if nat_le low first then min e first else e
 
@@ -126,7 +127,7 @@ nearest_low : (low e : ℕ) (ms : List Region) → low ≤ e → low ≤ nearest
 nearest_low low e [] h = h
 nearest_low low e (m ∷ ms) h = nearest_low low (nearer low e m.first) ms (nearer_low low e m.first h)
 
--- it is below each start from `low` on
+-- it is at or below the first page of each mapping that begins at `low` or above
 nearest_first : (low e i : ℕ) (m : Region) (ms : List Region) → slice_get ms i ≡ Some m → low ≤ m.first → nearest low e ms ≤ m.first
 nearest_first low e i m [] is h = absurd (cc)
 nearest_first low e zero m (n ∷ ms) is h =
@@ -143,7 +144,7 @@ nearest_member low e (m ∷ ms) = elim (nearest_member low (nearer low e m.first
   | inl is ↦ elim (nearer_is low e m.first) [ inl same ↦ inl (is ∙ same) | inr same ↦ inr (inl (is ∙ same)) ]
 ]
 
--- where the run ends when it is moved up as far as nothing is in its way
+-- where the run ends if it is moved up until it meets a mapping or the trapframe
 abbrev end_above : Process → ℕ → ℕ → ℕ
 end_above p pages first = nearest (first + pages) (trapframe_page p.scheme) p.mappings
 
@@ -165,24 +166,24 @@ moved_up p pages first r is f =
       ];
     }
 
--- where a run fits, one at or above it is among those that are tried
+-- if a run fits, one at or above it is among those that are tried and fit
 tried : (p : Process) (pages first : ℕ) → Fits p pages first → Member (end_above p pages first - pages) (filter (fits_at p pages) (places p pages))
 tried p pages first f = member_filter (fits_at p pages) _ (places p pages)
     (member_map (λ end. end - pages) _ (trapframe_page p.scheme ∷ map (λ m. m.first) p.mappings) (nearest_member (first + pages) (trapframe_page p.scheme) p.mappings))
     (fits_to p pages _ (moved_up p pages first (end_above p pages first) refl f))
 
--- the place fits
+-- a mapping fits at its place
 pub place_fits : (p : Process) (pages first : ℕ) → mapping_place p pages ≡ Some first → Fits p pages first
 place_fits p pages first is = fits_of p pages first (place_passes p pages first is)
 
--- no page above it does
+-- it fits at no page above its place
 pub none_above : (p : Process) (pages first other : ℕ) → mapping_place p pages ≡ Some first → Fits p pages other → other ≤ first
 none_above p pages first other is f =
     let low : other + pages ≤ end_above p pages other = end_low p pages other f in
     let found : end_above p pages other - pages ≤ first = greatest_above (end_above p pages other - pages) first (filter (fits_at p pages) (places p pages)) (tried p pages other f) is in
     omega (low, found, arith)
 
--- where there is no place, no page fits
+-- if there is no place, it fits at no page
 pub none_fits : (p : Process) (pages first : ℕ) → mapping_place p pages ≡ None → Fits p pages first → ⊥
 none_fits p pages first is f = none_is_greatest _ (filter (fits_at p pages) (places p pages)) is (tried p pages first f)
 
@@ -194,7 +195,7 @@ module _ (p : Process) (pages first : ℕ) where
       let down = most other (place_fits p pages other is) in
       ap Some (omega (arith, up, down))
 
-  -- a page at which it fits is the place, where no greater one does
+  -- a page at which it fits is its place, if it fits at no greater one
   pub place_is : Fits p pages first → ((other : ℕ) → Fits p pages other → other ≤ first) → mapping_place p pages ≡ Some first
   place_is fits most = of_place (mapping_place p pages) refl fits most
 
@@ -203,6 +204,6 @@ module _ (p : Process) (pages : ℕ) where
   of_none None is none = refl
   of_none (Some other) is none = absurd (none other (place_fits p pages other is))
 
-  -- and where it fits at no page, there is no place
+  -- if it fits at no page, there is no place
   pub place_is_none : ((other : ℕ) → Fits p pages other → ⊥) → mapping_place p pages ≡ None
   place_is_none none = of_none (mapping_place p pages) refl none

@@ -1,4 +1,7 @@
--- A process: its regions and its pages, with no table and no count.
+-- Records `Process`: its regions, heap, settled pages (in memory) and pending access, no page table and no reference count;
+-- `Page`: a settled page, its bytes, copy number (names one copy in memory), fork mark (a store takes the page over first)
+-- and stored mark (a shared mapping's page was made ready for a store); `Pending`: an access that faulted. Also the heap as
+-- a region, and whether a page's region grants writing.
 use Rattle.std.specs.Prelude.{ℕ, Bool, true, false, not, ◌-◌, Option, None, List, ◌∷◌, ◌++◌}
 use Rattle.process_model.specs.Bytes.{pages_for}
 use Rattle.process_model.specs.PageMap.{PageMap, NumberSet}
@@ -8,9 +11,10 @@ use Rattle.sv39_entry.specs.declared.access.Access.{Access}
 use Rattle.sv39_entry.specs.declared.access.Access.TheVariants.{Store}
 use Rattle.sv39_entry.specs.declared.scheme.Scheme.{Scheme}
 
--- a settled page, with its 4,096 bytes as this process sees them. The copy number tells which pages of two processes are still one
--- in memory; the fork mark is on a page that a fork left so: a store must first make it the process's own (the xv6 book, "Page-fault
--- exceptions"). The stored mark is on a page whose stores go back to a file, from the service of the first one on (the mmap lab)
+-- a settled page, with its 4,096 bytes as this process sees them. Copy number: two settled pages are one copy in memory
+-- exactly when their copy numbers are equal. Fork mark: left by a fork; the next store takes the page over first (the xv6
+-- book, "Page-fault exceptions"). Stored mark: this page of a writable shared mapping was made ready for a store since it
+-- was settled (the mmap lab)
 pub record Page : Type 0 where
   pub bytes : List ℕ
   pub copy : ℕ
@@ -29,17 +33,17 @@ pub record Process : Type 0 where
   pub scheme : Scheme
   -- segments, guard and stack, in ascending order
   pub parts : List Region
-  -- in ascending order
+  -- in ascending order, and above the heap
   pub mappings : List Region
   pub heap_base : ℕ
-  -- the heap ends here; what the user asks to grow and shrink
+  -- the address at which the heap ends; sbrk changes it
   pub size : ℕ
   pub settled : PageMap Page
-  -- all pages that were settled since start or exec, of a child since the fork: their page tables stay
+  -- all pages that were settled since start or exec, in a child at the fork or since: their page tables stay
   pub tabled : NumberSet
   pub pending : Option Pending
 
--- the pages from the heap base up to the size rounded up
+-- the heap: the pages from the heap base up to the size rounded up
 abbrev pub heap_of : Process → Region
 heap_of p = record {
   first = page_of p.heap_base;
@@ -54,7 +58,7 @@ heap_of p = record {
 abbrev pub regions : Process → List Region
 regions p = p.parts ++ heap_of p ∷ p.mappings
 
--- whether the region of a page grants writing
+-- whether the page has a region that grants writing
 abbrev pub grants_write : Process → ℕ → Bool
 grants_write p page = not (lacks_right Store (region_at (regions p) page))
 

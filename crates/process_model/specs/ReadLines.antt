@@ -1,4 +1,5 @@
--- How the lines of a script are read, one after the other, whatever their words are.
+-- How the lines of a text are read one after the other, up to the first faulty line: what scripts and files for threads have
+-- in common. A line's item or its cause (why it is refused), in the order of the tests; comments; limits of length.
 use Rattle.std.specs.Prelude.{ℕ, Bool, false, List, [], ◌∷◌, Option, Some, None, Result, Ok, Err, length, ◌+◌, ◌==◌, nat_lt, nat_le, if◌then◌else◌}
 use Rattle.std.specs.List.{list_all}
 use Rattle.process_model.specs.Lines.{without_return, fields_of}
@@ -8,7 +9,7 @@ use Rattle.process_model.specs.declared.script.Cause.TheVariants as cause
 use Rattle.process_model.specs.declared.script.FieldValue.{FieldValue}
 use Rattle.process_model.specs.declared.script.Keyword.{Keyword}
 
--- steps that may fail, in a row
+-- steps that may fail, one after the other: the first fault is the result
 
 infixl 10 ◌>>=◌
 abbrev pub ◌>>=◌ : {A B : Type 0} → Result A Cause → (A → Result B Cause) → Result B Cause
@@ -25,8 +26,9 @@ row_named (Some r) = Ok r
 abbrev pub in_limits : {A : Type 0} → Bool → A → Result A Cause
 in_limits within x = if within then Ok x else Err cause.Limits
 
--- what a word and the fields after it say, by the table of the words, whether a line with a word may stand next, what the values after it
--- say, and whether there is room for that: the causes in the order in which they are tried
+-- the item that a word and the fields after it make, or the first cause, in this order: Word if the table lacks the word;
+-- Order if no line with the word may be next; the cause of the fields; the cause of the item; TooMany if there is no room
+-- for the item
 abbrev pub item_by : {I : Type 0} → List Row → (Keyword → Bool) → (Keyword → List FieldValue → Result I Cause) → (I → Bool) → List ℕ → List (List ℕ) → Result I Cause
 item_by table in_order item_of has_room text fields = do
   r ← row_named (row_among table text)
@@ -47,12 +49,12 @@ abbrev pub some_item : {I : Type 0} → Result I Cause → Result (Option I) Cau
 some_item (Ok i) = Ok (Some i)
 some_item (Err c) = Err c
 
--- an empty line and a comment say nothing; of other lines it is given what their word and the fields after it say
+-- None for an empty line and a comment; for any other line the item of its word and the fields after it
 abbrev pub fields_by : {I : Type 0} → (List ℕ → List (List ℕ) → Result I Cause) → List (List ℕ) → Result (Option I) Cause
 fields_by item_line [] = Ok None
 fields_by item_line (text ∷ fields) = if is_comment text then Ok None else some_item (item_line text fields)
 
--- how long a line may be, without its end, and how long a script
+-- the most bytes of a line, without its end, and of a script
 abbrev pub longest_line : ℕ
 longest_line = 2097664
 
@@ -65,7 +67,7 @@ line_by item_line line = do
   ascii ← test (is_ascii line) cause.NotAscii
   fields_by item_line (fields_of line)
 
--- what the lines so far say and how many they are, or a fault with the number of its line
+-- what was read so far and the number of lines, or the first fault with the number of its line
 abbrev pub ReadTo : Type 0 → Type 0
 ReadTo D = Result (D × ℕ) (ℕ × Cause)
 

@@ -1,4 +1,6 @@
--- Rows of regions: how they are put together, and which region of a row holds a page.
+-- Laws of lists of regions in order of address (`Row`): how rows are joined or widened, that their pages lie between the
+-- ends, what holds of each region (`EachRegion`), and which region of a list holds a page (`region_at`). Also `SameRights`:
+-- two regions grant alike.
 use Rattle.std.proofs.Common.{◌≡◌, ℕ, Bool, true, false, ◌<◌, ◌≤◌, ◌⊎◌, inl, inr, refl, subst, arith, List, [], ◌∷◌, ◌++◌, Option, None, Some}
 use Rattle.std.specs.Prelude.{nat_le, nat_lt, if◌then◌else◌}
 use Rattle.std.proofs.lemmas.Bool.{and_from, and_left, and_parts, and_right, cases_Bool, le-leb, le-ltb, leb-true, lt-leb, lt-ltb, ltb-true}
@@ -62,7 +64,7 @@ here r rs n held = rw held refl
 pub passed : (r : Region) (rs : List Region) (n : ℕ) → holds_page r n ≡ false → region_at (r ∷ rs) n ≡ region_at rs n
 passed r rs n other = rw other refl
 
--- it is the first one, or one of the others
+-- the region that holds a page is the first of a list, or the one that the rest gives
 pub here_or_later : (x : Region) (rs : List Region) (n : ℕ) (r : Region) → region_at (x ∷ rs) n ≡ Some r
     → ((holds_page x n ≡ true) × (x ≡ r)) ⊎ ((holds_page x n ≡ false) × (region_at rs n ≡ Some r))
 here_or_later x rs n r is = elim (cases_Bool (holds_page x n)) [
@@ -87,7 +89,7 @@ none_in_first (x ∷ rs) ss n none = elim (cases_Bool (holds_page x n)) [
 pub behind_all : (rs ss : List Region) (n : ℕ) (r : Region) → region_at rs n ≡ None → holds_page r n ≡ true → region_at (rs ++ r ∷ ss) n ≡ Some r
 behind_all rs ss n r none held = rw (none_in_first rs (r ∷ ss) n none) (here r ss n held)
 
--- of two lists it is in the first, or in the second and not in the first
+-- the region that holds a page in two lists joined is that of the first; or that of the second, if the first has none
 pub first_or_second : (rs ss : List Region) (n : ℕ) (r : Region) → region_at (rs ++ ss) n ≡ Some r
     → (region_at rs n ≡ Some r) ⊎ ((region_at rs n ≡ None) × (region_at ss n ≡ Some r))
 first_or_second [] ss n r is = inr (refl, is)
@@ -121,9 +123,9 @@ row_outside least low high n rs row out = go (region_at rs n) refl out
     go (Some r) is (inl below) = absurd (let within = row_within least low high n rs r row is in omega (arith, below, within.0))
     go (Some r) is (inr above) = absurd (let within = row_within least low high n rs r row is in omega (arith, above, within.1))
 
--- ---- regions alike
+-- ---- regions with the same rights
 
--- the one region grants what the other grants, and is there for the same
+-- y grants what x grants, and is of the same kind
 pub record SameRights (x y : Region) : Type 0 where
   pub reads : y.reads ≡ x.reads
   pub writes : y.writes ≡ x.writes

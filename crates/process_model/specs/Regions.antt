@@ -1,4 +1,6 @@
--- Regions of a process, and the first rule that denies an access.
+-- `Region`, a run of pages of a process with its rights, `RegionKind` and `Source` of bytes; which region holds a page; and
+-- the first rule by which regions deny a kernel copy (`copy_rule`) or a user access (`first_rule`), with the cause of the
+-- fault.
 use Rattle.std.specs.Prelude.{ℕ, Bool, true, false, not, ◌+◌, ◌%◌, nat_le, nat_lt, ◌==◌, ◌||◌, ◌&&◌, Option, None, Some, is_none, List, [], ◌∷◌, if◌then◌else◌}
 use Rattle.process_model.specs.Bytes.{first_true}
 use Rattle.sv39_entry.specs.Address.{page_of}
@@ -10,7 +12,7 @@ use Rattle.sv39_entry.specs.declared.rule.Rule.{Rule}
 use Rattle.sv39_entry.specs.declared.scheme.Scheme.{Scheme}
 use Rattle.sv39_entry.specs.declared.rule.Rule.TheVariants.{Misaligned, BeyondMax, KernelPage, GuardPage, NoRegion, NoRead, NoWrite, NoExec}
 
--- what a region is there for (the xv6 book, "Process address space"; mappings are those of the mmap lab)
+-- the kinds of regions (the xv6 book, "Process address space"; mappings are those of the mmap lab)
 pub data RegionKind : Type 0 where
   segment : RegionKind
   guard : RegionKind
@@ -35,14 +37,14 @@ pub record Region : Type 0 where
   pub kind : RegionKind
   pub source : Source
 
--- the page after the last one
+-- the page after the last one of a region
 abbrev pub end_of : Region → ℕ
 end_of r = r.first + r.pages
 
 abbrev pub holds_page : Region → ℕ → Bool
 holds_page r page = nat_le r.first page && nat_lt page (end_of r)
 
--- the region that holds a page; no page is in two
+-- the region that holds a page, None if none does; no page is in two regions of a process
 abbrev pub region_at : List Region → ℕ → Option Region
 region_at [] page = None
 region_at (r ∷ rs) page = if holds_page r page then Some r else region_at rs page
@@ -66,18 +68,19 @@ abbrev pub is_shared_kind : RegionKind → Bool
 is_shared_kind shared_mapping = true
 is_shared_kind _ = false
 
--- whether stores to the pages of a region go back to its file: those to a shared mapping that may be written
+-- whether stores to the pages of a region are written back to its file: exactly if it is a shared mapping that may be
+-- written
 abbrev pub keeps_stores : Option Region → Bool
 keeps_stores None = false
 keeps_stores (Some r) = r.writes && is_shared_kind r.kind
 
--- whether the pages of a region can have leaves (the standard, 4.3.1: without a right an entry is a pointer, and writing without
--- reading is reserved): the guard grants nothing, and any other region grants reading, or execution alone
+-- whether the rights of a region fit a leaf (the standard, 4.3.1: a PTE without R, W and X is a pointer, and W without R is
+-- reserved): a guard grants nothing (its leaf is the kernel's), any other region grants reading, or execution alone
 abbrev pub makes_leaf : Region → Bool
 makes_leaf r =
     (is_guard_kind r.kind && not r.reads && not r.writes && not r.executes) || (not (is_guard_kind r.kind) && (r.reads || (r.executes && not r.writes)))
 
--- whether the right is missing that the access needs
+-- whether the region lacks the right that the access needs; true if there is no region
 abbrev pub lacks_right : Access → Option Region → Bool
 lacks_right access None = true
 lacks_right Fetch (Some r) = not r.executes
@@ -89,7 +92,7 @@ right_rule Fetch = NoExec
 right_rule Load = NoRead
 right_rule Store = NoWrite
 
--- the rules that may deny a kernel copy at an address, in an order of our own
+-- the rules that may deny a kernel copy at an address, each with its test, in their order (own choice)
 abbrev pub copy_tests : Scheme → List Region → Access → ℕ → List (Bool × Rule)
 copy_tests s regions access address =
     let page = page_of address in
@@ -101,18 +104,19 @@ copy_tests s regions access address =
     ∷ (lacks_right access region, right_rule access)
     ∷ []
 
--- the first of them; None where it is granted
+-- the first of these rules that denies the copy; None if it is granted
 abbrev pub copy_rule : Scheme → List Region → Access → ℕ → Option Rule
 copy_rule s regions access address = first_true (copy_tests s regions access address)
 
 abbrev pub is_aligned : ℕ → ℕ → Bool
 is_aligned address width = address % width == 0
 
--- the first rule that denies an access of the user: alignment comes first, and then what denies a copy
+-- the first rule that denies a user access: Misaligned, then the first that denies a copy; None if it is granted
 abbrev pub first_rule : Scheme → List Region → Access → ℕ → ℕ → Option Rule
 first_rule s regions access address width = if is_aligned address width then copy_rule s regions access address else Some Misaligned
 
--- the cause of the fault of a denied access: a misaligned one is told before any other fault (own choice)
+-- the exception cause of a denied access: its misaligned cause if the rule is Misaligned (reported before any other, own
+-- choice), else its page-fault cause
 abbrev pub fault_cause : Access → Rule → ℕ
 fault_cause access Misaligned = misaligned_cause access
 fault_cause access _ = page_fault_cause access

@@ -1,4 +1,7 @@
--- Resident pages, what makes a page resident, and what an access does to one.
+-- Settled: a page is in memory. Resident for an access: settled and, for a store, without fork mark and, in a writable
+-- shared mapping, with the stored mark (`is_resident`). `made_resident`: the process with the page made so, in one fault;
+-- its initial bytes; loads and stores on it; parent and child after a fork (`marked`, `child_of`). Sources: the xv6 book,
+-- "Page-fault exceptions"; copy-on-write and mmap labs. Own choice: fork marks on shared mappings too.
 use Rattle.std.specs.Prelude.{ℕ, Bool, true, false, not, ◌-◌, ◌+◌, ◌*◌, ◌&&◌, ◌||◌, Option, None, Some, List, [], drop, if◌then◌else◌}
 use Rattle.process_model.specs.Bytes.{padded, number, low_bytes, write_bytes}
 use Rattle.process_model.specs.PageMap.{get, insert, with_values, keys, numbers}
@@ -10,8 +13,8 @@ use Rattle.sv39_entry.specs.declared.access.Access.TheVariants.{Store}
 use Rattle.process_model.specs.declared.step.Reply.{Reply}
 use Rattle.process_model.specs.declared.step.Reply.TheVariants.{Value, Stored}
 
--- the bytes that a source has for a page, so many bytes from its beginning. Pages of an image are settled when the process
--- begins, so only zeros and files are ever asked
+-- the 4,096 bytes that a source has `at` bytes past its beginning. Pages of an image are settled when the process starts, so
+-- only zeros and files are ever asked
 abbrev pub source_page : List File → Source → ℕ → List ℕ
 source_page files zeros at = padded 4096 []
 source_page files image at = padded 4096 []
@@ -21,54 +24,57 @@ abbrev pub region_page : List File → Option Region → ℕ → List ℕ
 region_page files None page = padded 4096 []
 region_page files (Some r) page = source_page files r.source (4096 * (page - r.first))
 
--- the initial page: what a page has when it is settled
+-- the initial bytes of a page: those that it gets when it is settled
 abbrev pub initial_page : List File → Process → ℕ → List ℕ
 initial_page files p page = region_page files (region_at (regions p) page) page
 
 abbrev pub region_on : Process → ℕ → Option Region
 region_on p page = region_at (regions p) page
 
--- a store goes through to a page without a fork mark; where stores go back to a file, only to one with the stored mark
-abbrev pub goes_through : Access → Option Region → Page → Bool
-goes_through Store r s = not s.fork_mark && (s.stored_mark || not (keeps_stores r))
-goes_through _ r s = true
+-- whether a granted access to a settled page s of region r completes without a fault: a store exactly if the page has no
+-- fork mark and, if stores to r are written back, has the stored mark; any other access always
+abbrev pub can_complete : Access → Option Region → Page → Bool
+can_complete Store r s = not s.fork_mark && (s.stored_mark || not (keeps_stores r))
+can_complete _ r s = true
 
 abbrev pub is_resident_page : Access → Option Region → Option Page → Bool
 is_resident_page access r None = false
-is_resident_page access r (Some s) = goes_through access r s
+is_resident_page access r (Some s) = can_complete access r s
 
--- a granted access is resident where its page is settled and it goes through
+-- whether a page is resident for an access: it is settled, and the access can complete
 abbrev pub is_resident : Process → Access → ℕ → Bool
 is_resident p access page = is_resident_page access (region_on p page) (get p.settled page)
 
 abbrev pub with_page : Process → ℕ → Page → Process
 with_page p n page = record p { settled = insert p.settled n page }
 
--- whether an access leaves the stored mark on a page of the region
+-- whether an access leaves the stored mark on a page of the region when it is settled
 abbrev pub leaves_mark : Access → Option Region → Bool
 leaves_mark Store r = keeps_stores r
 leaves_mark _ r = false
 
--- a page is settled, with its initial bytes
+-- the process after a page is settled: with its initial bytes, copy number `fresh`, no fork mark, and the stored mark if the
+-- access leaves one
 abbrev pub settled_anew : List File → ℕ → Process → Access → ℕ → Process
 settled_anew files fresh p access page = record p {
   settled = insert p.settled page (record { bytes = initial_page files p page; copy = fresh; fork_mark = false; stored_mark = leaves_mark access (region_on p page) });
   tabled = insert p.tabled page tt;
 }
 
--- a page with the fork mark parts from another process that has its copy number
+-- whether a page that is taken over needs a copy of its own: it has the fork mark, and another process has its copy number
+-- (`shared`)
 abbrev pub parts_from : Bool → Page → Bool
 parts_from shared s = s.fork_mark && shared
 
--- a page loses the fork mark, and gets a copy number of its own where another process has the present one
+-- the page without the fork mark; with copy number `fresh` if it had the mark and another process has its copy number
 abbrev pub unmarked : ℕ → Bool → Page → Page
 unmarked fresh shared s = record s { copy = if parts_from shared s then fresh else s.copy; fork_mark = false }
 
--- a page gets the stored mark, where stores go back to a file
+-- the page with the stored mark, if stores to its region are written back
 abbrev pub marked_stored : Option Region → Page → Page
 marked_stored r s = record s { stored_mark = s.stored_mark || keeps_stores r }
 
--- a page that is to be stored to: both in one service, so that one fault is enough
+-- a page taken over for a store: both in one service, so that one fault is enough
 abbrev pub taken_over : ℕ → Bool → Option Region → Page → Page
 taken_over fresh shared r s = marked_stored r (unmarked fresh shared s)
 
@@ -78,18 +84,18 @@ taken_over_unless fresh shared p page s false = with_page p page (taken_over fre
 
 abbrev pub made_resident_from : List File → ℕ → Bool → Process → Access → ℕ → Option Page → Process
 made_resident_from files fresh shared p access page None = settled_anew files fresh p access page
-made_resident_from files fresh shared p access page (Some s) = taken_over_unless fresh shared p page s (goes_through access (region_on p page) s)
+made_resident_from files fresh shared p access page (Some s) = taken_over_unless fresh shared p page s (can_complete access (region_on p page) s)
 
 -- the process after a page was made resident for an access; `fresh` is a copy number that no page has, and `shared` says
--- whether another process has the page's
+-- whether another process has the page's copy number
 abbrev pub made_resident : List File → ℕ → Bool → Process → Access → ℕ → Process
 made_resident files fresh shared p access page = made_resident_from files fresh shared p access page (get p.settled page)
 
--- the value that a load of that width answers, without sign
+-- the value of the `width` bytes at `offset` in the page: little-endian, without sign
 abbrev pub loaded : Page → ℕ → ℕ → ℕ
 loaded s offset width = number (drop offset s.bytes) width
 
--- the page with bytes in place of its own from an offset on
+-- the page with these bytes in place of its own, from an offset on
 abbrev pub stored : Page → ℕ → List ℕ → Page
 stored s offset bytes = record s { bytes = write_bytes s.bytes offset bytes }
 
@@ -98,18 +104,19 @@ abbrev pub access_answer : Access → Page → ℕ → ℕ → ℕ → Reply × 
 access_answer Store s offset width value = (Stored, stored s offset (low_bytes value width))
 access_answer _ s offset width value = (Value (loaded s offset width), s)
 
--- fork (the xv6 book, "Page-fault exceptions"): the mark is on every settled page whose region grants writing, in parent and child, a
--- shared mapping's too (own choice)
+-- fork (the xv6 book, "Page-fault exceptions"): parent and child have the fork mark on every settled page whose region
+-- grants writing, a shared mapping's too (own choice)
 abbrev pub marked_page : Process → ℕ → Page → Page
 marked_page p page s = record s { fork_mark = s.fork_mark || grants_write p page }
 
 abbrev pub marked : Process → Process
 marked p = record p { settled = with_values (marked_page p) p.settled; pending = None }
 
--- what the parent stored is the parent's to write back
+-- a page of the child has no stored mark: what the parent stored, the parent writes back
 abbrev pub child_page : Process → ℕ → Page → Page
 child_page p page s = record (marked_page p page s) { stored_mark = false }
 
--- the child has the parent's regions, size and pages, with the same copy numbers, and no stored mark
+-- the child has the parent's regions, size and settled pages, with the same copy numbers, and no stored mark; nothing is
+-- pending, and its tabled pages are the settled ones
 abbrev pub child_of : Process → Process
 child_of p = record p { settled = with_values (child_page p) p.settled; tabled = numbers (keys p.settled); pending = None }

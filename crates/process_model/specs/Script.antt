@@ -1,4 +1,5 @@
--- What a script says, or its first fault.
+-- What the bytes of a script mean (`script_of`): its files, images, configuration and commands (record `Script`), or its
+-- first faulty line with the cause. The order of lines, the item that each word makes of its fields, and the limits.
 use Rattle.std.specs.Prelude.{ℕ, ℤ, pos, negsuc, ◌++◌, Bool, true, false, not, List, [], ◌∷◌, Option, Some, None, is_some, Result, Ok, Err, length, slice_get, ◌+◌, ◌^◌, ◌&&◌, nat_lt, nat_le, if◌then◌else◌}
 use Rattle.process_model.specs.Bytes.{is_width, padded}
 use Rattle.process_model.specs.Lines.{raw_lines}
@@ -29,14 +30,14 @@ use Rattle.process_model.specs.declared.script.Keyword.TheVariants as word
 use Rattle.process_model.specs.declared.step.Step.{Step}
 use Rattle.process_model.specs.declared.step.Step.TheVariants as step
 
--- what the lines so far say
+-- what was read so far
 pub record Draft : Type 0 where
   pub files : List FileText
   pub images : List OwnedImage
   pub config : Option Config
   pub commands : List Command
 
--- what a whole script says
+-- a whole script, read
 pub record Script : Type 0 where
   pub files : List FileText
   pub images : List OwnedImage
@@ -64,7 +65,7 @@ comes_first _ = false
 abbrev pub in_order : Draft → Keyword → Bool
 in_order s w = if is_some s.config then not (comes_first w) else comes_first w
 
--- the values after a word, by their place; a value that is of another kind there counts as nothing
+-- the values after a word, by index; one that is missing or of another kind counts as 0, no bytes, None, false, full or Sv39
 
 abbrev pub as_number : Option FieldValue → ℕ
 as_number (Some (value.Number n)) = n
@@ -90,7 +91,7 @@ abbrev pub as_policy : Option FieldValue → Policy
 as_policy (Some (value.Policy p)) = p
 as_policy v = policy.Full
 
--- Sv39 where no scheme is named
+-- Sv39 if no scheme is named
 abbrev pub as_scheme : Option FieldValue → Scheme
 as_scheme (Some (value.Scheme z)) = z
 as_scheme v = Sv39
@@ -104,7 +105,7 @@ signed_at vs k = as_signed (slice_get vs k)
 abbrev pub bytes_at : List FieldValue → ℕ → List ℕ
 bytes_at vs k = as_bytes (slice_get vs k)
 
--- the slot, or the entry that is named; none where there is no such field
+-- the slot or the buffer entry that a field names; None if it names none or there is no such field
 abbrev pub optional_at : List FieldValue → ℕ → Option ℕ
 optional_at vs k = as_optional (slice_get vs k)
 
@@ -113,7 +114,7 @@ segments_in [] = []
 segments_in (value.Segment s ∷ vs) = s ∷ segments_in vs
 segments_in (v ∷ vs) = segments_in vs
 
--- the item that the values after a word make
+-- the item of a word and the values after it, or Limits if a value is outside its limits
 
 abbrev pub file_of_values : List FieldValue → FileText
 file_of_values vs = record { length = number_at vs 0; writable = as_writable (slice_get vs 1); bytes = bytes_at vs 2 }
@@ -123,7 +124,7 @@ config_of vs = record { scheme = as_scheme (slice_get vs 4); harts = number_at v
 
 -- limits
 
--- how many bytes a file may have
+-- the most bytes of a file
 abbrev pub longest_file : ℕ
 longest_file = 65536
 
@@ -136,7 +137,7 @@ has_image s n = nat_lt n (length s.images)
 abbrev pub has_file : Draft → ℕ → Bool
 has_file s n = nat_lt n (length s.files)
 
--- a status has 32 bits
+-- whether a status fits 32 bits, with its sign
 abbrev pub is_status : ℤ → Bool
 is_status (pos n) = nat_lt n (2 ^ 31)
 is_status (negsuc n) = nat_lt n (2 ^ 31)
@@ -193,7 +194,7 @@ has_room s (item.Image i) = nat_lt (length s.images) most_images
 has_room s (item.Boot c) = true
 has_room s (item.Command c) = nat_lt (length s.commands) most_commands
 
--- what a line with a word says
+-- the item of a line with a word, or the first cause
 unfoldable pub item_line : Draft → List ℕ → List (List ℕ) → Result Item Cause
 item_line s text fields = item_by command_table (in_order s) (item_of s) (has_room s) text fields
 
@@ -203,7 +204,7 @@ fields_line s fields = fields_by (item_line s) fields
 unfoldable pub line_of : Draft → List ℕ → Result (Option Item) Cause
 line_of s line = line_by (item_line s) line
 
--- what the lines so far say and how many they are, or a fault with the number of its line
+-- what was read so far and the number of lines, or the first fault with the number of its line
 abbrev pub Read : Type 0
 Read = ReadTo Draft
 
@@ -216,7 +217,7 @@ next_line read line = next_by line_of with_item read line
 abbrev pub read_lines : Read → List (List ℕ) → Read
 read_lines read lines = lines_by next_line read lines
 
--- a script has a boot; where there is none, the fault is in the line after the last
+-- the script that was read; if it has no boot, the fault is Order in the line after the last
 abbrev pub whole_with : Draft → ℕ → Option Config → Result Script (ℕ × Cause)
 whole_with s n None = Err (n + 1, cause.Order)
 whole_with s n (Some c) = Ok (record { files = s.files; images = s.images; config = c; commands = s.commands })
@@ -225,7 +226,7 @@ abbrev pub whole : Read → Result Script (ℕ × Cause)
 whole (Ok x) = whole_with x.0 x.1 (x.0).config
 whole (Err f) = Err f
 
--- what a script says, or its first fault: the line and the cause; a script that is too long has its fault in line 0
+-- the script of these bytes, or its first fault: the line and the cause; a script that is too long has its fault in line 0
 abbrev pub script_of : List ℕ → Result Script (ℕ × Cause)
 script_of bytes = if nat_le (length bytes) longest_script then whole (read_lines (Ok (no_lines, 0)) (raw_lines bytes)) else Err (0, cause.TooLong)
 

@@ -1,4 +1,5 @@
--- With address-space identifiers: the slots of which the buffers may have old entries after a step.
+-- Policy `asid`: which slots (places in the process table) may have stale buffer (TLB) entries after a step, since a process
+-- started there or its leaves changed; these are marked on every hart. Policy `full` marks none.
 use Rattle.std.specs.Prelude.{ℕ, Bool, true, false, not, ◌+◌, ◌==◌, ◌&&◌, ◌||◌, Option, None, Some, List, [], ◌∷◌, map, if◌then◌else◌}
 use Rattle.std.specs.List.{list_any}
 use Rattle.process_model.specs.Process.{Process, Page}
@@ -11,8 +12,8 @@ abbrev pub same_mark : Bool → Bool → Bool
 same_mark true b = b
 same_mark false b = not b
 
--- the leaf of a page follows from its copy number and its two marks. The rights of its region need not be compared: no call changes
--- those of a settled page but by letting it go, and exec, which gives new copy numbers
+-- whether two settled pages have the same number, copy number and marks, and so the same leaf. The rights of regions need
+-- not be compared: a call changes those of a settled page only if it releases the page or, as exec, gives new copy numbers
 abbrev pub same_leaf : ℕ × Page → ℕ × Page → Bool
 same_leaf a b =
     a.0 == b.0 && (a.1).copy == (b.1).copy && same_mark (a.1).fork_mark (b.1).fork_mark && same_mark (a.1).stored_mark (b.1).stored_mark
@@ -22,8 +23,8 @@ same_leaves [] [] = true
 same_leaves (a ∷ rest) (b ∷ others) = same_leaf a b && same_leaves rest others
 same_leaves _ _ = false
 
--- a process began in the slot, or its map from pages to copy numbers and marks changed. Exec is such a change: its pages, at
--- least three, have new copy numbers
+-- whether a process started in the slot, or its map from pages to copy numbers and marks changed. Exec is such a change: its
+-- pages, at least three, have new copy numbers. The end of a process is none
 abbrev pub is_changed : Option Process → Option Process → Bool
 is_changed before None = false
 is_changed None (Some q) = true
@@ -37,7 +38,8 @@ changed_slots n _ _ = []
 abbrev pub with_stale : List ℕ → Hart → Hart
 with_stale slots hart = record hart { stale = λ s. list_any (λ n. n == s) slots || hart.stale s }
 
--- every hart may have old entries of the changed slots
+-- policy asid: the changed slots are marked on every hart, whose buffer may have stale entries of them; policy full marks
+-- none
 abbrev pub with_stale_slots : Policy → World → Outcome → Outcome
 with_stale_slots Full before o = o
 with_stale_slots Asid before o = record o { world = record o.world { harts = map (with_stale (changed_slots 0 before.slots o.world.slots)) o.world.harts } }

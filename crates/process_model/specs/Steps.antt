@@ -1,12 +1,13 @@
--- What each step answers and changes, and lists of steps.
+-- The steps of the machine: `step` gives the reply to a step and the world (the model's whole state) after it, `run` the
+-- replies to a list of steps and the world after it.
 use Rattle.std.specs.Prelude.{ℕ, true, ◌+◌, ◌-◌, ◌*◌, ◌%◌, nat_le, nat_lt, ◌==◌, ◌&&◌, unwrap_or, List, [], ◌∷◌, length, remove}
 use Rattle.process_model.specs.Process.{without_pending}
 use Rattle.process_model.specs.Heap.{sbrk_result}
 use Rattle.process_model.specs.Mappings.{mapped, unmapped}
 use Rattle.process_model.specs.Images.{image_loads}
 use Rattle.process_model.specs.Copies.{copied_in, copied_out, longest_copy}
-use Rattle.process_model.specs.Calls.{started, replaced, forked, resized_to, mapped_to, unmapped_to, told_in, told_out}
-use Rattle.process_model.specs.Service.{access_step, around, begun, served, ended}
+use Rattle.process_model.specs.Calls.{started, replaced, forked, resized_to, mapped_to, unmapped_to, copy_in_outcome, copy_out_outcome}
+use Rattle.process_model.specs.Service.{access_step, environment_of, initial_progress, served, ended}
 use Rattle.process_model.specs.Stale.{with_stale_slots}
 use Rattle.process_model.specs.Harts.{Hart, next_phase, is_user, may_switch, in_trampoline, phase_for, present_asid, with_key, entry_serves, fenced}
 use Rattle.process_model.specs.World.{World, Outcome, answers, with_process, with_hart, free_slot, can_run, can_go_on, can_serve, always, on_hart, with_its_process, kernel_call}
@@ -32,7 +33,7 @@ evicted w h n hart = answers (with_hart w h (record hart { keys = remove hart.ke
 abbrev pub advanced : World → ℕ → Hart → Outcome
 advanced w h hart = answers (with_hart w h (record (fenced w.policy hart) { phase = unwrap_or (next_phase hart.phase) hart.phase })) Done
 
--- what the step itself answers and changes
+-- the reply to a step and the world after it, without the marks that may follow
 abbrev pub plain_step : World → Step → Outcome
 plain_step w (Start image) = started w (image_loads w.scheme image) (free_slot w)
 plain_step w (Switch h slot) =
@@ -55,12 +56,12 @@ plain_step w (Exec h image) = kernel_call w h true (λ hart s p. replaced w s p 
 plain_step w (Sbrk h delta) = kernel_call w h true (λ hart s p. resized_to w s p (sbrk_result p delta))
 plain_step w (Mmap h len protection flags n) = kernel_call w h true (λ hart s p. mapped_to w s (mapped w.files p len protection flags n))
 plain_step w (Munmap h address len) = kernel_call w h true (λ hart s p. unmapped_to w s (unmapped w.files p address len))
-plain_step w (CopyIn h address n) = kernel_call w h (nat_le n longest_copy) (λ hart s p. told_in w s (copied_in (around w s) (begun w (without_pending p)) address n))
+plain_step w (CopyIn h address n) = kernel_call w h (nat_le n longest_copy) (λ hart s p. copy_in_outcome w s (copied_in (environment_of w s) (initial_progress w (without_pending p)) address n))
 plain_step w (CopyOut h address bytes) =
-    kernel_call w h (nat_le (length bytes.now) longest_copy) (λ hart s p. told_out w s (copied_out (around w s) (begun w (without_pending p)) address bytes.now))
+    kernel_call w h (nat_le (length bytes.now) longest_copy) (λ hart s p. copy_out_outcome w s (copied_out (environment_of w s) (initial_progress w (without_pending p)) address bytes.now))
 plain_step w (Exit h status) = kernel_call w h true (λ hart s p. ended w h hart s p (Exited status))
 
--- a step: what it answers and changes, and the marks that follow
+-- the reply to a step and the world after it, with the marks of slots that may have stale buffer entries
 unfoldable pub step : World → Step → Outcome
 step w s = with_stale_slots w.policy w (plain_step w s)
 

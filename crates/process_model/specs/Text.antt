@@ -1,4 +1,5 @@
--- What playing a script writes.
+-- The text that playing a script writes (`text_of`): `ok` for its `boot`, and one line for each line after it. Also the
+-- lines that are several steps (`on`, `enter`, `leave`, `fix`) and the text of `show`.
 use Rattle.std.specs.Prelude.{ℕ, true, false, Bool, Option, Some, None, List, [], ◌∷◌, ◌++◌, length, take, drop, map, slice_get, codes}
 use Rattle.std.specs.Fmt.{decimal}
 use Rattle.process_model.specs.Files.{bytes_of}
@@ -27,12 +28,13 @@ abbrev pub unless_stopped : Bool → Outcome → Outcome → Outcome
 unless_stopped true o rest = o
 unless_stopped false o rest = rest
 
--- several steps with one reply: that of the first that is refused, and none is made after it; else the one given
+-- several steps with one reply: the first that is refused gives the reply, and no step after it is made; else the given
+-- reply
 abbrev pub series_of : World → List Step → Reply → Outcome
 series_of w [] reply = record { reply = reply; world = w }
 series_of w (s ∷ ss) reply = let o = step w s in unless_stopped (is_refused o.reply) o (series_of o.world ss reply)
 
--- the return to the user, and the entry into the kernel after a trap or a fault
+-- three instructions: all of the return to user mode, or of kernel entry after a trap or a fault
 abbrev pub three_next : ℕ → List Step
 three_next h = Next h ∷ Next h ∷ Next h ∷ []
 
@@ -46,7 +48,7 @@ abbrev pub is_ready : Reply → Bool
 is_ready Ready = true
 is_ready _ = false
 
--- after Ready the hart returns to user mode; all else ends the line
+-- after Ready the hart returns to user mode; any other reply ends the line
 abbrev pub back_if : ℕ → Outcome → Bool → Outcome
 back_if h o true = series_of o.world (three_next h) Ready
 back_if h o false = o
@@ -58,7 +60,7 @@ abbrev pub fixed_after : ℕ → Outcome → Bool → Outcome
 fixed_after h o true = o
 fixed_after h o false = after_service h (step o.world (Serve h))
 
--- the entry after a fault, its service, and after Ready the return
+-- `fix`: kernel entry after a fault, its service, and after Ready the return
 abbrev pub fixed : World → ℕ → Outcome
 fixed w h = let o = series_of w (three_next h) Done in fixed_after h o (is_refused o.reply)
 
@@ -81,34 +83,34 @@ image_at images n = lent (or_no_image (slice_get images n))
 -- the text of each line
 
 -- a line's text, and the world after it
-pub record Played : Type 0 where
+pub record LineResult : Type 0 where
   pub text : List ℕ
   pub world : World
 
-abbrev pub told : Outcome → Played
-told o = record { text = reply_text o.reply; world = o.world }
+abbrev pub line_result_of : Outcome → LineResult
+line_result_of o = record { text = reply_text o.reply; world = o.world }
 
 abbrev pub show_text : List ℕ → ℕ → ℕ → List ℕ
 show_text bytes offset n = codes "file " ++ decimal (length bytes) ++ codes " " ++ bytes_text (take n (drop offset bytes))
 
-abbrev pub played : List OwnedImage → World → Command → Played
-played images w (command.One s) = told (step w s)
-played images w (command.Start n) = told (step w (Start (image_at images n)))
-played images w (command.Exec h n) = told (step w (Exec h (image_at images n)))
-played images w (command.CopyOut h address bytes) = told (step w (CopyOut h address (record { ref_ptr = (0, 0); now = bytes })))
-played images w (command.On h s) = told (series_of w (on_steps h s) Done)
-played images w (command.Enter h) = told (series_of w (enter_steps h) Done)
-played images w (command.Leave h) = told (series_of w (three_next h) Done)
-played images w (command.Fix h) = told (fixed w h)
-played images w (command.Show f offset n) = record { text = show_text (bytes_of (slice_get w.files f)) offset n; world = w }
-played images w command.Audit = record { text = report_text (report w); world = w }
+abbrev pub line_result : List OwnedImage → World → Command → LineResult
+line_result images w (command.One s) = line_result_of (step w s)
+line_result images w (command.Start n) = line_result_of (step w (Start (image_at images n)))
+line_result images w (command.Exec h n) = line_result_of (step w (Exec h (image_at images n)))
+line_result images w (command.CopyOut h address bytes) = line_result_of (step w (CopyOut h address (record { ref_ptr = (0, 0); now = bytes })))
+line_result images w (command.On h s) = line_result_of (series_of w (on_steps h s) Done)
+line_result images w (command.Enter h) = line_result_of (series_of w (enter_steps h) Done)
+line_result images w (command.Leave h) = line_result_of (series_of w (three_next h) Done)
+line_result images w (command.Fix h) = line_result_of (fixed w h)
+line_result images w (command.Show f offset n) = record { text = show_text (bytes_of (slice_get w.files f)) offset n; world = w }
+line_result images w command.Audit = record { text = report_text (report w); world = w }
 
 abbrev pub line_text : List ℕ → List ℕ
 line_text t = t ++ 10 ∷ []
 
 abbrev pub commands_text : List OwnedImage → World → List Command → List ℕ
 commands_text images w [] = []
-commands_text images w (c ∷ cs) = let p = played images w c in line_text p.text ++ commands_text images p.world cs
+commands_text images w (c ∷ cs) = let p = line_result images w c in line_text p.text ++ commands_text images p.world cs
 
 -- what `play` writes for a script: a line for `boot`, and one for each line after it
 abbrev pub text_of : Script → List ℕ

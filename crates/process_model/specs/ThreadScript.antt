@@ -1,4 +1,6 @@
--- What a file for threads says, or its first fault: what it declares, the pool of frames, lists of calls, and processes to start.
+-- What the bytes of a file for threads mean (`thread_script_of`): its files, images, pool of frames, lists of calls and
+-- processes to start (record `ThreadScript`), or its first faulty line with the cause. The words, the order of lines, the
+-- item of each, the limits.
 use Rattle.std.specs.Prelude.{ℕ, ◌++◌, Bool, true, false, not, List, [], ◌∷◌, Option, Some, None, is_some, Result, Ok, Err, codes, length, map, get_or, ◌+◌, ◌==◌, ◌&&◌, nat_lt, nat_le, if◌then◌else◌}
 use Rattle.std.specs.Str.{bytes_eq}
 use Rattle.std.specs.List.{list_any}
@@ -31,7 +33,7 @@ use Rattle.process_model.specs.declared.script.Tail.TheVariants as tail
 use Rattle.process_model.specs.declared.script.ThreadItem.{ThreadItem}
 use Rattle.process_model.specs.declared.script.ThreadItem.TheVariants as item
 
--- the words; a call has no hart
+-- the words of a file for threads; unlike in a script, a call names no hart
 abbrev pub thread_table : List Row
 thread_table =
     row (codes "file") word.File (kind.Number ∷ kind.Mode ∷ kind.Hex ∷ []) tail.Nothing
@@ -53,20 +55,20 @@ thread_table =
     ∷ row (codes "fork") word.Fork one_number tail.Nothing
     ∷ []
 
--- what the lines so far say
+-- what was read so far
 pub record ThreadDraft : Type 0 where
-  -- for each number of a list, whether a line anywhere in the file begins that list
+  -- for each list number, whether a line anywhere in the file begins that list
   pub named : List Bool
   pub files : List FileText
   pub images : List OwnedImage
   pub pool : Option Pool
-  -- the last one is open
+  -- the last one is open: calls are added to it
   pub lists : List CallList
   pub starts : List ListedStart
   -- how many lines there are after the pool
   pub lines : ℕ
 
--- what a whole file says
+-- a whole file, read
 pub record ThreadScript : Type 0 where
   pub files : List FileText
   pub images : List OwnedImage
@@ -81,7 +83,7 @@ most_lists = 64
 abbrev pub most_calls : ℕ
 most_calls = 10000
 
--- the lists that a file has: a call may name one that begins further down
+-- the lists that a file begins: a fork may name one that begins further down
 
 abbrev pub is_number : ℕ → Option ℕ → Bool
 is_number k None = false
@@ -104,7 +106,7 @@ is_named named k = get_or named k false
 abbrev pub nothing_said : List Bool → ThreadDraft
 nothing_said named = record { named = named; files = []; images = []; pool = None; lists = []; starts = []; lines = 0 }
 
--- a call goes to the open list
+-- the lists with a call added to the open one
 abbrev pub with_call : List CallList → ListedCall → List CallList
 with_call [] c = []
 with_call (l ∷ []) c = record l { calls = l.calls ++ c ∷ [] } ∷ []
@@ -132,7 +134,7 @@ in_order s word.List = is_some s.pool && not (has_started s)
 in_order s word.Start = is_some s.pool
 in_order s _ = nat_lt 0 (length s.lists) && not (has_started s)
 
--- the item that the values after a word make
+-- the item of a word and the values after it, or Limits if a value is outside its limits
 
 abbrev pub pool_of : List FieldValue → Pool
 pool_of vs = record { frames = number_at vs 0; slots = number_at vs 1 }
@@ -184,14 +186,14 @@ has_room s (item.List k) = nat_lt s.lines most_commands
 has_room s (item.Call c) = nat_lt s.lines most_commands && nat_lt (open_calls s.lists) most_calls
 has_room s (item.Start x) = nat_lt s.lines most_commands
 
--- what a line with a word says
+-- the item of a line with a word, or the first cause
 unfoldable pub item_line : ThreadDraft → List ℕ → List (List ℕ) → Result ThreadItem Cause
 item_line s text fields = item_by thread_table (in_order s) (item_of s) (has_room s) text fields
 
 unfoldable pub line_of : ThreadDraft → List ℕ → Result (Option ThreadItem) Cause
 line_of s line = line_by (item_line s) line
 
--- what the lines so far say and how many they are, or a fault with the number of its line
+-- what was read so far and the number of lines, or the first fault with the number of its line
 abbrev pub Read : Type 0
 Read = ReadTo ThreadDraft
 
@@ -201,7 +203,7 @@ next_line read line = next_by line_of with_item read line
 abbrev pub read_lines : Read → List (List ℕ) → Read
 read_lines read lines = lines_by next_line read lines
 
--- a file has a pool; where there is none, the fault is in the line after the last
+-- the file that was read; if it has no pool, the fault is Order in the line after the last
 abbrev pub whole_with : ThreadDraft → ℕ → Option Pool → Result ThreadScript (ℕ × Cause)
 whole_with s n None = Err (n + 1, cause.Order)
 whole_with s n (Some p) = Ok (record { files = s.files; images = s.images; pool = p; lists = s.lists; starts = s.starts })
@@ -210,15 +212,16 @@ abbrev pub whole : Read → Result ThreadScript (ℕ × Cause)
 whole (Ok x) = whole_with x.0 x.1 (x.0).pool
 whole (Err f) = Err f
 
--- what a file says in these lines
+-- the file of these lines, or its first fault
 abbrev pub said_in : List (List ℕ) → Result ThreadScript (ℕ × Cause)
 said_in lines = whole (read_lines (Ok (nothing_said (lists_named lines), 0)) lines)
 
--- what a file for threads says, or its first fault: the line and the cause; a file that is too long has its fault in line 0
+-- the file for threads of these bytes, or its first fault: the line and the cause; a file that is too long has its fault in
+-- line 0
 abbrev pub thread_script_of : List ℕ → Result ThreadScript (ℕ × Cause)
 thread_script_of bytes = if nat_le (length bytes) longest_script then said_in (raw_lines bytes) else Err (0, cause.TooLong)
 
--- the calls of the list of a number
+-- the calls of list number k; None if there is no such list
 abbrev pub calls_of : List CallList → ℕ → Option (List ListedCall)
 calls_of [] k = None
 calls_of (l ∷ ls) k = if l.number == k then Some l.calls else calls_of ls k

@@ -1,4 +1,5 @@
--- The text of what processes on threads came to.
+-- The text of a run on threads: of a process, its name (numbers with dots) and how it ended, and of the frames that are free
+-- at the end.
 use Rattle.std.specs.Prelude.{ℕ, List, [], ◌∷◌, ◌++◌, codes}
 use Rattle.std.specs.Fmt.{decimal, signed_decimal}
 use Rattle.sv39_entry.specs.RuleText.{rule_text}
@@ -15,7 +16,8 @@ abbrev pub name_text : List ℕ → List ℕ
 name_text [] = []
 name_text (n ∷ ns) = decimal n ++ dotted_text ns
 
--- how a process ended, behind its name, with how many entries its journal has
+-- how a process ended, the text after its name: the number of entries in its journal and the outcome; for a refused start
+-- the refusal alone
 abbrev pub end_text : ℕ → Outcome → List ℕ
 end_text calls (outcome.Exited status) = codes " calls " ++ (decimal calls ++ (codes " exit " ++ signed_decimal status))
 end_text calls (outcome.Ended rule) = codes " calls " ++ (decimal calls ++ (codes " ended " ++ rule_text rule))
@@ -26,6 +28,6 @@ end_text calls outcome.JournalFull = codes " calls " ++ (decimal calls ++ codes 
 abbrev pub process_text : List ℕ → ℕ → Outcome → List ℕ
 process_text name calls o = codes "process " ++ (name_text name ++ end_text calls o)
 
--- the user frames that are free, of how many
+-- how many user frames are free, of `frames`
 abbrev pub free_text : ℕ → ℕ → List ℕ
 free_text free frames = codes "free " ++ (decimal free ++ (codes " of " ++ decimal frames))

@@ -1,4 +1,5 @@
--- Sets of the values of a function, counted.
+-- Laws of how many different values a function has on a list of numbers (`values`, `AreCounted`): by members, one more
+-- number, a run of numbers. With the quotient as function they count the page tables of a list of pages.
 use Rattle.std.proofs.Common.{◌≡◌, ℕ, zero, suc, true, false, cond, ◌+◌, ◌-◌, ◌/◌, ◌<◌, ◌≤◌, ◌⊎◌, inl, inr, refl, ap, sym, subst, ◌∙◌, arith, List, [], ◌∷◌, ◌++◌, map, length, max, Option, Some, None}
 use Rattle.std.proofs.lemmas.Bool.{cases_eq, cases_Bool}
 use Rattle.std.proofs.lemmas.List.{append_assoc}
@@ -12,7 +13,7 @@ use Rattle.std.specs.Ordering.{nat_cmp, eq_by_cmp}
 use Rattle.std.specs.Prelude.{Contains, is_some}
 use Rattle.process_model.specs.Bytes.{numbers_from}
 use Rattle.process_model.specs.PageMap.{NumberSet, contains, count, numbers}
-use Rattle.process_model.specs.Inserted.{behind, first_or, in_front}
+use Rattle.process_model.specs.Insertion.{behind, first_or, in_front}
 
 -- ---- members of lists
 
@@ -77,7 +78,7 @@ module _ (f : ℕ → ℕ) where
   pub count_next : (x : ℕ) (xs : List ℕ) → count (values (x ∷ xs)) ≡ cond (contains (values xs) (f x)) (count (values xs)) (count (values xs) + 1)
   count_next x xs = length-put nat_cmp nat_cmp_total (f x) tt (values xs).entries (values xs).sorted
 
-  -- so many values, all of them below a bound that is next to the greatest
+  -- f has n different values on xs, and `bound` is the greatest of them plus 1, or 0 if there are none
   pub record AreCounted (xs : List ℕ) (n bound : ℕ) : Type 0 where
     pub counted : count (values xs) ≡ n
     pub below : (x : ℕ) → Contains xs x → f x < bound
@@ -86,7 +87,7 @@ module _ (f : ℕ → ℕ) where
   pub none_counted : AreCounted [] 0 0
   none_counted = record { counted = refl; below = λ x h. absurd (none_in x h); last = inl refl }
 
-  -- the greatest value once more
+  -- one more number that has the greatest value adds no value
   greatest_again : (xs : List ℕ) (n bound y : ℕ) → AreCounted xs n bound → bound ≡ f y + 1 → count (values (y ∷ xs)) ≡ n
   greatest_again xs n bound y are is =
       let there : contains (values xs) (f y) ≡ true = elim are.last [
@@ -95,7 +96,7 @@ module _ (f : ℕ → ℕ) where
       ] in
       count_next y xs ∙ rw there are.counted
 
-  -- a value above all
+  -- one more number with a greater value adds one
   above_all : (xs : List ℕ) (n bound y : ℕ) → AreCounted xs n bound → bound ≤ f y → count (values (y ∷ xs)) ≡ n + 1
   above_all xs n bound y are le =
       count_next y xs ∙ elim (cases_Bool (contains (values xs) (f y))) [
@@ -129,7 +130,7 @@ module _ (f : ℕ → ℕ) where
   counted_as : (xs ys : List ℕ) (n m bound end : ℕ) → xs ≡ ys → n ≡ m → bound ≡ end → AreCounted xs n bound → AreCounted ys m end
   counted_as xs ys n m bound end list number is are = rw (← list, ← number, ← is) are
 
-  -- a run of pages: the values go up by one at most
+  -- a run of consecutive numbers, on which f never falls and rises by at most one at a time
   module _ (up : (m n : ℕ) → m ≤ n → f m ≤ f n) (near : (n : ℕ) → f (n + 1) ≤ f n + 1) where
     pub run_more : (k first : ℕ) (xs : List ℕ) (n bound : ℕ) → AreCounted xs n bound → bound ≤ f first + 1
         → AreCounted (xs ++ numbers_from first (suc k)) (n + (f (first + k) + 1 - max (f first) bound)) (f (first + k) + 1)
@@ -147,7 +148,7 @@ module _ (f : ℕ → ℕ) where
         let far_is : f (first + 1 + k) ≡ f (first + suc k) = ap f place in
         counted_as _ _ _ _ _ _ list (omega (arith, far_is, far, here, step, le)) (omega (arith, far_is)) rest
 
-    -- the same where the last page is told
+    -- a run given by its first number, its length and its last number
     pub run_counted : (first pages last : ℕ) (xs : List ℕ) (n bound : ℕ) → AreCounted xs n bound → bound ≤ f first + 1 → last + 1 ≡ first + pages → first ≤ last
         → AreCounted (xs ++ numbers_from first pages) (n + (f last + 1 - max (f first) bound)) (f last + 1)
     run_counted first zero last xs n bound are le is some = absurd (omega (arith, is, some))
@@ -155,7 +156,7 @@ module _ (f : ℕ → ℕ) where
         let place : first + k ≡ last = omega (arith, is) in
         subst (λ m. AreCounted (xs ++ numbers_from first (suc k)) (n + (f m + 1 - max (f first) bound)) (f m + 1)) place (run_more k first xs n bound are le)
 
-  -- two values on top that are equal
+  -- two more numbers that have one value
   pub two_more : (xs : List ℕ) (n bound y z : ℕ) → AreCounted xs n bound → bound ≤ f y + 1 → f z ≡ f y → count (values (z ∷ y ∷ xs)) ≡ n + (f y + 1 - max (f y) bound)
   two_more xs n bound y z are le same = greatest_again (y ∷ xs) _ _ z (one_more xs n bound y are le) (ap (λ m. m + 1) (sym same))
 

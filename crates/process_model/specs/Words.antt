@@ -1,4 +1,5 @@
--- The text of phases, checks, causes, refusals and replies.
+-- Definitions of printed text: phases, checks of images, causes, refusals, replies and reports; bytes and hexadecimal
+-- numbers.
 use Rattle.std.specs.Prelude.{ℕ, ◌/◌, ◌%◌, false, List, [], ◌∷◌, ◌++◌, length, codes}
 use Rattle.std.specs.Fmt.{decimal, signed_decimal, digits, digit_glyph}
 use Rattle.std.specs.List.{flat_map}
@@ -63,7 +64,7 @@ cause_text cause.Field = codes "Field"
 cause_text cause.Limits = codes "Limits"
 cause_text cause.TooMany = codes "TooMany"
 
--- the number and the name of a refusal
+-- the number and the name of a refusal, with its check or phase
 abbrev pub refusal_text : Refusal → List ℕ
 refusal_text refusal.NoFrame = codes "9 NoFrame"
 refusal_text refusal.NoSlot = codes "10 NoSlot"

@@ -1,4 +1,6 @@
--- The machine as processes, files and harts, and when a step is possible.
+-- Records `World`, the model's whole state (processes by slot, files, harts, number of frames, next copy number), and
+-- `Outcome`, a reply and the world after it. The world at boot, its parts with one replaced, its free slot and frames; and
+-- when a step on a hart, or a kernel call, is possible and with what it is refused otherwise.
 use Rattle.std.specs.Prelude.{ℕ, Bool, true, false, not, ◌+◌, ◌==◌, ◌&&◌, Option, None, Some, is_some, List, [], ◌∷◌, slice_get, slice_set, replicate}
 use Rattle.std.specs.List.{list_any}
 use Rattle.process_model.specs.Bytes.{first_true}
@@ -20,7 +22,7 @@ pub record World : Type 0 where
   -- the scheme by which addresses are translated, of all processes and of the kernel
   pub scheme : Scheme
   pub policy : Policy
-  -- how many the memory has
+  -- how many frames the memory has
   pub frames : ℕ
   pub slots : List (Option Process)
   pub files : List File
@@ -39,7 +41,7 @@ booted c files = record {
   harts = replicate c.harts idle_hart;
 }
 
--- what a step answers, and the world after it
+-- the reply to a step, and the world after it
 pub record Outcome : Type 0 where
   pub reply : Reply
   pub world : World
@@ -83,7 +85,7 @@ lowest_free n (Some p ∷ slots) = lowest_free (n + 1) slots
 abbrev pub free_slot : World → Option ℕ
 free_slot w = lowest_free 0 w.slots
 
--- whether a process of another slot has the page's copy number
+-- whether a process of a slot other than s has the copy number
 abbrev pub others_have : World → ℕ → ℕ → Bool
 others_have w s copy = list_any (has_copy copy) (live (without_process w s).slots)
 
@@ -100,7 +102,7 @@ abbrev pub has_slot : ℕ → Option ℕ → Bool
 has_slot s None = false
 has_slot s (Some t) = t == s
 
--- a process comes on one hart at a time
+-- whether a slot can be scheduled: it has a process, which is on no hart. None always can
 abbrev pub can_run : World → Option ℕ → Bool
 can_run w None = true
 can_run w (Some s) = is_some (process_in w s) && not (list_any (λ hart. has_slot s hart.slot) w.harts)
@@ -118,7 +120,8 @@ is_unserved (Some p) = is_unserved_access p.pending
 abbrev pub awaits_service : World → Hart → Bool
 awaits_service w hart = is_unserved (process_on w hart)
 
--- the next instruction of the trampoline
+-- whether an instruction of kernel entry or return is next; in Kernel, the return begins only while no access waits for its
+-- service
 abbrev pub can_go_on : World → Hart → Bool
 can_go_on w hart = is_some (next_phase hart.phase) && not (is_kernel hart.phase && awaits_service w hart)
 
@@ -128,12 +131,13 @@ can_call w hart = is_kernel hart.phase && not (awaits_service w hart)
 abbrev pub can_serve : World → Hart → Bool
 can_serve w hart = is_kernel hart.phase && awaits_service w hart
 
--- in every phase, and with any entry
+-- true of every hart: the step is possible in every phase, or names no buffer entry
 abbrev pub always : Hart → Bool
 always hart = true
 
--- the refusals that every step on a hart has, in their order: what is asked is not proper, is not possible in this phase, or
--- names an entry that is not there. A hart that does not exist is BadArgument before them
+-- the refusals that every step on a hart may have, in their order: BadArgument if the arguments are not proper, Impossible
+-- if it is not possible on the hart as it is, NoEntry if the buffer entry that it names does not serve. BadArgument for a
+-- hart that does not exist comes before these
 abbrev pub common_refusal : Hart → Bool → (Hart → Bool) → (Hart → Bool) → Option Refusal
 common_refusal hart proper possible entry = first_true (
     (not proper, BadArgument)
@@ -149,7 +153,7 @@ abbrev pub on_hart_at : World → Bool → (Hart → Bool) → (Hart → Bool) �
 on_hart_at w proper possible entry run None = refuses w BadArgument
 on_hart_at w proper possible entry run (Some hart) = unless_refused w run hart (common_refusal hart proper possible entry)
 
--- a step on the hart with a number, or its refusal
+-- a step on hart number h, or its refusal
 unfoldable pub on_hart : World → ℕ → Bool → (Hart → Bool) → (Hart → Bool) → (Hart → Outcome) → Outcome
 on_hart w h proper possible entry run = on_hart_at w proper possible entry run (slice_get w.harts h)
 
@@ -161,11 +165,11 @@ abbrev pub with_slot_of : World → Phase → (ℕ → Process → Outcome) → 
 with_slot_of w phase run None = refuses w (Impossible phase)
 with_slot_of w phase run (Some s) = with_process_of w phase run s (process_in w s)
 
--- what is done for the process of a hart; its slot comes with it. A hart that is not idle has a process, so the cases of none do not
--- come
+-- what is done for the process of a hart, given its slot and the process. A hart that is not idle has a process, so these
+-- two refusals do not occur in a run
 unfoldable pub with_its_process : World → Hart → (ℕ → Process → Outcome) → Outcome
 with_its_process w hart run = with_slot_of w hart.phase run hart.slot
 
--- a call of the kernel for the process of a hart
+-- a kernel call for the process of hart number h
 abbrev pub kernel_call : World → ℕ → Bool → (Hart → ℕ → Process → Outcome) → Outcome
 kernel_call w h proper run = on_hart w h proper (can_call w) always (λ hart. with_its_process w hart (run hart))

@@ -1,37 +1,43 @@
-// What a machine is booted with.
+// Struct `Config`, what a machine boots with: harts, frames, slots (places in the process table), TLB policy and translation
+// scheme, and whether it can boot; enum `Policy`, fences or ASIDs; and `kernel_frames`, how many frames the kernel takes at
+// boot.
 
 ghost use Rattle.std.specs.Prelude.{◌≡◌, ◌≤◌};
 ghost use Rattle.process_model.specs.Frames as model;
 
 use sv39_entry::Scheme;
 
-/// How the kernel keeps old translations out of the buffers.
+/// How the kernel keeps stale translations out of the buffers (the TLBs of the harts).
 #[derive(Clone, Copy, PartialEq, Eq, Debug)]
 pub enum Policy {
-    /// By fences that empty the buffer, before and after each write of satp (the standard, 4.2.1).
+    /// Every ASID is 0. Fences before and after each write of `satp` empty the buffer, as in xv6 (SFENCE.VMA, RISC-V
+    /// Privileged Architecture 20211203, 4.2.1).
     Full,
-    /// By an address-space identifier (ASID) of its own for each process, and a fence on it only where old entries may
-    /// stand.
+    /// The process in slot s has address-space identifier (ASID) s + 1, the kernel 0. Only the last fence of the return to
+    /// user mode removes entries: those of the process's ASID, if its slot is marked as stale on the hart.
     Asid,
 }
 
-/// What the machine is booted with.
+/// What a machine boots with.
 #[derive(Clone, Copy, PartialEq, Eq, Debug)]
 pub struct Config {
+    /// How many harts (hardware threads) there are.
     pub harts: usize,
     /// How many frames of 4,096 bytes the memory has.
     pub frames: usize,
-    /// How many processes there may be.
+    /// How many slots the process table has: the most processes at a time.
     pub slots: usize,
+    /// How stale translations are kept out of the buffers.
     pub policy: Policy,
-    /// The scheme by which addresses are translated.
+    /// The scheme by which addresses are translated, Sv39 or Sv48.
     pub scheme: Scheme,
 }
 
 impl Config {
     ghost use Rattle.process_model.specs.Frames.{can_boot};
 
-    /// Whether the sizes keep the limits, and there are frames enough for the kernel.
+    /// Whether a machine can boot with these sizes: 1 to 8 harts, 16 to 1,024 frames, 1 to 64 slots, and at least as many
+    /// frames as the kernel takes at boot (`kernel_frames`). The policy does not matter.
     pub fn is_bootable(&self) -> bool
         ensures { result ≡ can_boot self.now.scheme self.now.harts self.now.frames self.now.slots }
     {
@@ -42,8 +48,9 @@ impl Config {
     }
 }
 
-/// How many frames the kernel takes: the trampoline's, its page tables, and a stack for each slot. There are five tables under
-/// Sv39 and seven under Sv48, and one more where the frames fill more than two megabytes.
+/// Returns how many frames the kernel takes at boot: the trampoline's, its page tables, and a stack for each of the `slots`.
+/// There are five tables under Sv39 and seven under Sv48, and one more if memory has more than 512 `frames` (two megabytes).
+/// The caller gives at most 64 `slots`.
 pub fn kernel_frames(scheme: Scheme, frames: usize, slots: usize) -> usize
     requires few { slots ≤ 64 }
     ensures { result ≡ model.kernel_frames scheme frames slots }

@@ -1,11 +1,12 @@
-// Text that is put to a buffer with room for it.
+// Functions that append to a byte vector with room: bytes as they are, and numbers in decimal (signed ones too) or
+// hexadecimal digits; and `glyph`, the ASCII code of a hexadecimal digit.
 
 ghost use Rattle.std.specs.Prelude.{◌≡◌, ◌+◌, ◌<◌, ◌≤◌, ◌++◌, false, length, vec_len, vec_capacity};
 ghost use Rattle.std.specs.Fmt.{decimal, signed_decimal, digits, digit_glyph};
 
 use itoa::Buffer;
 
-/// Puts bytes.
+/// Appends `piece` to `text`. Requires room (unused capacity) for it.
 #[inline(always)]
 pub fn put(text: &mut Vec<u8>, piece: &[u8])
     requires room { vec_len text.old + length piece.now ≤ vec_capacity text.old }
@@ -18,7 +19,7 @@ pub fn put(text: &mut Vec<u8>, piece: &[u8])
     }
 }
 
-/// Puts a number in decimal digits.
+/// Appends `number` to `text` in decimal digits, at most 20. Requires room (unused capacity) for 20 bytes.
 #[inline(always)]
 pub fn put_decimal(text: &mut Vec<u8>, number: u64)
     requires room { vec_len text.old + 20 ≤ vec_capacity text.old }
@@ -34,7 +35,8 @@ pub fn put_decimal(text: &mut Vec<u8>, number: u64)
     put(text, buffer.format(number).as_bytes());
 }
 
-/// Puts a number in decimal digits, with a sign where it is below 0.
+/// Appends `number` to `text` in decimal digits, with `-` before them if it is negative: at most 11 bytes. Requires room
+/// (unused capacity) for 11.
 pub fn put_signed(text: &mut Vec<u8>, number: i32)
     requires room { vec_len text.old + 11 ≤ vec_capacity text.old }
     ensures text { text.new.items ≡ text.old.items ++ signed_decimal number }
@@ -45,7 +47,7 @@ pub fn put_signed(text: &mut Vec<u8>, number: i32)
     put(text, buffer.format(number).as_bytes());
 }
 
-/// The digit of a number below 16.
+/// Returns the ASCII code of the hexadecimal digit, in lower case, of `number`, which the caller keeps below 16.
 #[inline(always)]
 pub fn glyph(number: u8) -> u8
     requires { number < 16 }
@@ -58,7 +60,8 @@ pub fn glyph(number: u8) -> u8
     }
 }
 
-/// Puts a number in hexadecimal digits.
+/// Appends `number` to `text` in lower-case hexadecimal digits, at most 16, without `0x` and leading zeros. Requires room
+/// (unused capacity) for 16 bytes.
 #[inline(always)]
 pub fn put_hexadecimal(text: &mut Vec<u8>, number: u64)
     requires room { vec_len text.old + 16 ≤ vec_capacity text.old }

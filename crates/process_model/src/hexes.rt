@@ -1,4 +1,4 @@
-// Bytes in hexadecimal digits.
+// Function `put_bytes`: appends bytes as text, two hexadecimal digits each, or `-` for none, to a byte vector with room.
 
 ghost use Rattle.std.specs.Prelude.{◌≡◌, ◌+◌, ◌*◌, ◌≤◌, ◌++◌, length, vec_len, vec_capacity};
 ghost use Rattle.std.specs.List.{flat_map};
@@ -6,7 +6,7 @@ ghost use Rattle.process_model.specs.Words.{bytes_text, two_digits};
 
 use crate::digits::{glyph, put};
 
-/// Puts a few bytes, two digits each.
+/// Appends two digits for each of at most 32 bytes.
 #[inline(always)]
 fn put_few(text: &mut Vec<u8>, bytes: &[u8])
     requires few { length bytes.now ≤ 32 }
@@ -23,7 +23,8 @@ fn put_few(text: &mut Vec<u8>, bytes: &[u8])
     put(text, &digits[..2 * bytes.len()]);
 }
 
-/// Puts bytes, two lower-case digits each, `-` for none.
+/// Appends two lower-case hexadecimal digits to `text` for each of `bytes`, or `-` if there are none. Requires room (unused
+/// capacity) for `2 * bytes.len() + 1` bytes.
 pub fn put_bytes(text: &mut Vec<u8>, bytes: &[u8])
     requires room { vec_len text.old + (2 * length bytes.now + 1) ≤ vec_capacity text.old }
     ensures text { text.new.items ≡ text.old.items ++ bytes_text bytes.now }

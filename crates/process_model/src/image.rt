@@ -1,22 +1,25 @@
-// What a process is made of.
+// Program images to start or exec, each an ELF file or a list of segments: struct `Segment`; enums `Image` (as a step
+// borrows it), `OwnedImage` (as a script declares it) and `BadImage` (the checks that an image may fail).
 
 use crate::sequence::{Bytes, Sequence};
 
-/// A segment of an image that is given as a list: an address range, its rights beside reading, and the bytes it begins
-/// with.
+/// A segment of an image that is given as a list: a range of addresses, its rights and its first bytes. It may always be
+/// read.
 #[derive(Drop)]
 pub struct Segment {
-    /// The first address, in bytes.
+    /// The first address.
     pub address: u64,
-    /// How long the range is, in bytes.
+    /// The length of the range, in bytes.
     pub memory_size: u64,
+    /// Whether the process may write to it.
     pub writes: bool,
+    /// Whether the process may execute it.
     pub executes: bool,
-    /// What the range begins with; zeros stand after.
+    /// The first bytes of the range; zeros follow up to its length.
     pub bytes: Bytes,
 }
 
-/// An image as a step borrows it. It is judged in the step.
+/// An image as a step or call borrows it. The step that starts or executes it makes the checks.
 #[derive(Clone, Copy)]
 pub enum Image<'a> {
     /// The bytes of an ELF file.
@@ -24,38 +27,41 @@ pub enum Image<'a> {
     Segments(&'a [Segment]),
 }
 
-/// An image as a script declares it.
+/// An image as a script or a file for threads declares it, before any check.
 #[derive(Drop)]
 pub enum OwnedImage {
     Elf(Bytes),
     Segments(Sequence<Segment>),
 }
 
-/// The check that an image failed, in the order of the checks.
+/// The first check that an image failed. `TooLong`, `Header` and `Magic` are checks of an ELF file as a whole. Then
+/// `ProgramHeader` to `TooMany` are made for one segment after the other (in an ELF file, one program header after the
+/// other); those from `Contents` on only for a segment with bytes in memory. `NoLoad` is last.
 #[derive(Clone, Copy, PartialEq, Eq, Debug)]
 pub enum BadImage {
-    /// There are more than 1,048,576 bytes.
+    /// The ELF file has more than 1,048,576 bytes.
     TooLong,
-    /// There are fewer than the 64 bytes of a file header.
+    /// The ELF file has fewer bytes than its header, 64.
     Header,
-    /// The first four bytes are not those of an ELF file.
+    /// The ELF file does not begin with 7f 45 4c 46.
     Magic,
-    /// A program header does not lie inside the bytes.
+    /// A program header does not lie inside the ELF file.
     ProgramHeader,
-    /// A segment has more bytes in the file than in memory.
+    /// The segment has more bytes in the image than in memory.
     Sizes,
-    /// A segment ends at 2^64 or past it.
+    /// The segment ends at 2^64 or above: its address plus its size in memory.
     Wraps,
-    /// A segment does not begin on a page.
+    /// The segment's address is no multiple of 4,096.
     Align,
-    /// A segment's bytes do not lie inside the file.
+    /// The segment's bytes do not lie inside the ELF file.
     Contents,
-    /// A segment, rounded up to a page, and two pages more end above the trapframe's address.
+    /// Fewer than two pages, for guard and stack, are left between the segment's end, rounded up to a page, and the
+    /// trapframe.
     TooHigh,
-    /// A segment begins below the end of the one before it, rounded up to a page.
+    /// The segment begins below the end, rounded up to a page, of the last one before it that has pages.
     Order,
-    /// There is a 17th segment with pages.
+    /// The segment is the 17th that has pages.
     TooMany,
-    /// There is no segment with pages.
+    /// No segment has pages.
     NoLoad,
 }

@@ -1,23 +1,24 @@
-// Where a hart is.
+// Enum `Phase`: where a hart is between user mode and the kernel: idle, in user mode, in the kernel, or before one of the
+// instructions (fence, write of satp, fence) of kernel entry or of the return.
 
-/// Where a hart is between user mode and the kernel: before each instruction of the trampoline that changes the
-/// translation there is a stage of its own (the xv6 book, "Traps from user space").
+/// Where a hart is between user mode and the kernel. Kernel entry and the return are three instructions each, a fence, a
+/// write of `satp` and a fence, with a phase before each of them (the xv6 book, "Traps from user space").
 #[derive(Clone, Copy, PartialEq, Eq, Debug)]
 pub enum Phase {
-    /// The scheduler runs, and no process is on the hart.
+    /// No process is on the hart; the scheduler runs.
     Idle,
-    /// The process runs.
+    /// The process runs in user mode.
     User,
-    /// The process trapped, and the entry has not begun.
+    /// The process trapped; the first fence of kernel entry is next.
     Enter0,
-    /// The first fence of the entry is done.
+    /// The first fence of kernel entry is done; the write of `satp` is next.
     Enter1,
-    /// The kernel's table is on.
+    /// `satp` names the kernel's root; the second fence of kernel entry is next.
     Enter2,
     /// The kernel runs for the process.
     Kernel,
-    /// The first fence of the return is done.
+    /// The first fence of the return is done; the write of `satp` is next.
     Leave1,
-    /// The process's table is on.
+    /// `satp` names the process's root; the second fence of the return is next.
     Leave2,
 }

@@ -1,4 +1,6 @@
-// What a script says, line by line.
+// Enums for the lines of scripts and of files for threads (the input for processes on threads): the words (`Keyword`), the
+// kinds and values of the fields, what a line declares or commands (`Item`, `Command`, `ThreadItem`), and what may be wrong
+// with it (`Cause`).
 
 use crate::call::{ListedCall, ListedStart, Pool};
 use crate::config::{Config, Policy};
@@ -8,46 +10,55 @@ use crate::sequence::Bytes;
 use crate::step::Step;
 use sv39_entry::Scheme;
 
-/// What is wrong with a line of a script, in the order in which the causes are tried.
+/// What is wrong with a line of a script or of a file for threads. The first cause that applies, in this order, is reported.
 #[derive(Clone, Copy, PartialEq, Eq, Debug)]
 pub enum Cause {
-    /// The line or the whole script is too long.
+    /// The line has more than 2,097,664 bytes without its end, or the whole script more than 16,777,216.
     TooLong,
     /// A byte is above 127.
     NotAscii,
-    /// The first field is no command.
+    /// The first field is no word of this kind of file.
     Word,
-    /// A declaration after `boot`, a step before it, a second `boot`, or none; among lists of calls, a line out of their order.
+    /// A script: a declaration or a `boot` after `boot`, any other line before it, or no `boot`. A file for threads: a
+    /// declaration or a `pool` after `pool`, any other line before it, or no `pool`; a call before the first `list`; a call
+    /// or a `list` after a `start`.
     Order,
     /// The number of fields is wrong.
     Count,
-    /// A field that should be a number is none, or too large.
+    /// A field that must be a number, or a slot, is none, or is out of the range of its kind.
     Number,
-    /// Another field has a wrong form.
+    /// A field of another kind has a wrong form.
     Field,
     /// A value is outside its limits.
     Limits,
-    /// There are too many lines of this sort.
+    /// There are too many files, images, lines after `boot` or `pool`, or calls in a list.
     TooMany,
 }
 
-/// The first field of a line.
+/// The word of a line, its first field. Unless said otherwise the line is a declaration or the step or call of that name.
 #[derive(Clone, Copy, PartialEq, Eq, Debug)]
 pub enum Keyword {
     File,
     Image,
+    /// Declares an image by the bytes of an ELF file.
     Elf,
+    /// Declares what the machine boots with; the lines after it are commands.
     Boot,
     Start,
     Switch,
     Trap,
+    /// One instruction of kernel entry or return (`Step::Next`).
     Next,
+    /// Adds an entry to a hart's buffer, its TLB (`Step::Fill`).
     Fill,
+    /// Removes an entry of a hart's buffer (`Step::Evict`).
     Evict,
     Fetch,
     Load,
     Store,
+    /// The kernel fetches its code in the trampoline's page (`Step::TrampolineFetch`).
     Tramp,
+    /// The kernel serves the access that waits after a fault (`Step::Serve`).
     Serve,
     Fork,
     Exec,
@@ -57,110 +68,122 @@ pub enum Keyword {
     CopyIn,
     CopyOut,
     Exit,
+    /// Shows bytes of a file (`Command::Show`).
     Show,
+    /// Shows the counts of frames (`Command::Audit`).
     Audit,
+    /// Several steps: schedules a process and returns to user mode (`Command::On`).
     On,
+    /// Several steps: the process traps, and the hart enters the kernel (`Command::Enter`).
     Enter,
+    /// Several steps: three instructions of kernel entry or return (`Command::Leave`).
     Leave,
+    /// Several steps: after a fault, kernel entry, the service of the fault and, if the process goes on, the return to user
+    /// mode (`Command::Fix`).
     Fix,
+    /// In a file for threads: declares the frames and slots that the threads share.
     Pool,
+    /// In a file for threads: begins a list of calls.
     List,
 }
 
-/// How a further field is read.
+/// The form in which a field after the word is written.
 #[derive(Clone, Copy, PartialEq, Eq, Debug)]
 pub enum FieldKind {
-    /// From 0 to 2^64 - 1.
+    /// An unsigned number, from 0 to 2^64 - 1.
     Number,
-    /// From -2^63 to 2^63 - 1.
+    /// A signed number, from -2^63 to 2^63 - 1.
     Signed,
-    /// Two hexadecimal digits a byte, or `-` for none.
+    /// Bytes: two hexadecimal digits each, or `-` for no bytes.
     Hex,
-    /// A number, or `-` for none.
+    /// A slot by number, or `-` for none.
     Slot,
-    /// `rw` or `ro`.
+    /// Whether a file may be written: `rw` or `ro`.
     Mode,
-    /// `full` or `asid`.
+    /// A TLB policy: `full` or `asid`.
     Policy,
-    /// `sv39` or `sv48`.
+    /// A scheme of translation: `sv39` or `sv48`.
     Scheme,
-    /// `VADDR:MEMSZ:FLAGS:HEX`.
+    /// A segment: `VADDR:MEMSZ:FLAGS:HEX`.
     Segment,
-    /// `@N`.
+    /// A buffer entry by number: `@N`.
     Entry,
 }
 
-/// What may follow the fields that a line must have.
+/// Which fields may follow those that a line must have.
 #[derive(Clone, Copy, PartialEq, Eq, Debug)]
 pub enum Tail {
     Nothing,
-    /// One field of this kind.
+    /// At most one field of this kind.
     Perhaps(FieldKind),
     /// Any number of fields of this kind.
     More(FieldKind),
 }
 
-/// What a field says.
+/// The value of a field, as its kind (`FieldKind`) is read.
 #[derive(Drop)]
 pub enum FieldValue {
     Number(u64),
     Signed(i64),
     Hex(Bytes),
-    /// A slot or none, or the entry that is named.
+    /// The slot or the buffer entry that a field names, `None` for no slot.
     Optional(Option<u64>),
-    /// Whether a file may be written.
+    /// Whether a file may be written: `rw` is true, `ro` false.
     Writable(bool),
     Policy(Policy),
     Scheme(Scheme),
     Segment(Segment),
 }
 
-/// A line after `boot`.
+/// A line of a script after `boot`.
 #[derive(Drop)]
 pub enum Command {
     /// A step that borrows nothing.
     One(Step<'static>),
-    /// A process of an image, by the image's number from 0.
+    /// Starts a process of the declared image of this number, from 0.
     Start {
         image: usize,
     },
+    /// Replaces the process on the hart by one of the declared image of this number, from 0.
     Exec {
         hart: usize,
         image: usize,
     },
+    /// The kernel copies these bytes to the process on the hart, from `address` on.
     CopyOut {
         hart: usize,
         address: u64,
         bytes: Bytes,
     },
-    /// A process comes on a hart and runs.
+    /// Schedules the slot's process on the hart and returns to user mode.
     On {
         hart: usize,
         slot: usize,
     },
-    /// The process enters the kernel.
+    /// The process traps, and the hart enters the kernel.
     Enter {
         hart: usize,
     },
-    /// The process runs again.
+    /// The hart executes three instructions of kernel entry or return: from the kernel, the return to user mode.
     Leave {
         hart: usize,
     },
-    /// The process enters the kernel after a fault, is served, and runs again.
+    /// The hart enters the kernel after a fault; the kernel serves the fault; if the reply is `Ready`, the hart returns to
+    /// user mode.
     Fix {
         hart: usize,
     },
-    /// The file's length, and its bytes from an offset, at most so many.
+    /// Shows the file's length in bytes, and its bytes from `offset` on, at most `count` of them.
     Show {
         file: usize,
         offset: u64,
         count: usize,
     },
-    /// The accounts of the frames.
+    /// Shows the counts of frames (`Report`).
     Audit,
 }
 
-/// What a line says that is no comment.
+/// What a line of a script declares (a file, an image, the configuration) or commands. Empty lines and comments are skipped.
 #[derive(Drop)]
 pub enum Item {
     File(FileText),
@@ -169,13 +192,13 @@ pub enum Item {
     Command(Command),
 }
 
-/// What a line of a file for threads says that is no comment.
+/// What a line of a file for threads declares, each call included. Empty lines and comments are skipped.
 #[derive(Drop)]
 pub enum ThreadItem {
     File(FileText),
     Image(OwnedImage),
     Pool(Pool),
-    /// The list of this number begins.
+    /// Begins the list of this number.
     List(usize),
     /// A call of the list that was begun last.
     Call(ListedCall),

@@ -1,11 +1,12 @@
-// Lists that are kept.
+// Struct `Sequence`, a growable list on the heap, made of a vector, read as a slice and appended to; contracts see the list
+// of its items. Type `Bytes`, a sequence of bytes.
 
 ghost use Rattle.std.specs.Prelude.{◌≡◌, ◌++◌, ◌∷◌, [], List, OnOk, OnErr};
 
 use std::alloc::AllocError;
 use std::marker::Model;
 
-/// A list on the heap, which contracts see as a list.
+/// A growable list on the heap. Contracts see it as the list of its items.
 #[derive(Drop)]
 pub struct Sequence<T> {
     items: Vec<T>,
@@ -17,16 +18,18 @@ impl<T> Model for Sequence<T> {
     ghost view = { λ sequence. sequence.items.items };
 }
 
-/// Bytes that are kept.
+/// Bytes on the heap.
 pub type Bytes = Sequence<u8>;
 
 impl<T> Sequence<T> {
+    /// Returns the sequence with the items of a vector, in their order.
     pub fn from_vec(items: Vec<T>) -> Sequence<T>
         ensures { result ≡ items.items }
     {
         Sequence { items }
     }
 
+    /// Returns a slice of all the items, in order.
     pub fn as_slice(&self) -> &[T]
         ensures { result.now ≡ self.now }
     {
@@ -35,7 +38,10 @@ impl<T> Sequence<T> {
 }
 
 impl<T: Drop> Sequence<T> {
-    /// Puts an item behind the others. Where memory is refused, nothing changes.
+    /// Appends an item at the end.
+    ///
+    /// # Errors
+    /// `AllocError`: the host is out of memory. The sequence is unchanged.
     pub fn push(&mut self, item: T) -> Result<(), AllocError>
         ensures added { OnOk result (self.new ≡ self.old ++ item ∷ []) }
         ensures kept { OnErr result (self.new ≡ self.old) }

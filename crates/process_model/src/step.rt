@@ -1,4 +1,6 @@
-// The steps of the machine and their replies.
+// Enums `Step` (one step of the machine: a start, a switch, an access, a kernel call ..), `Refusal` (why a step is refused)
+// and `Reply`; struct `Report` (counts of frames); `is_width` (whether an access may have that many bytes) and
+// `LONGEST_COPY`.
 
 ghost use Rattle.std.specs.Prelude.{◌≡◌};
 ghost use Rattle.process_model.specs.Bytes.{is_width};
@@ -8,54 +10,56 @@ use crate::phase::Phase;
 use arrayvec::ArrayVec;
 use sv39_entry::Rule;
 
-/// How many bytes the kernel copies in one call, at most.
+/// The most bytes that the kernel copies in one call.
 pub const LONGEST_COPY: usize = 256;
 
-/// One event of the machine: one instruction of the trampoline, one access, one action of a buffer, or one kernel call.
+/// One step of the machine: a start, a switch, a trap, an instruction of kernel entry or return, a change of a buffer, an
+/// access, the service of a fault, or a whole kernel call. A refused step changes nothing.
 ///
-/// Addresses are in bytes. `via` names an entry of the hart's buffer, from 0 in the order of filling; without it the
-/// access walks the table.
+/// Addresses and lengths are in bytes. `via` names the entry of the hart's buffer that an access uses: 0 is the oldest.
+/// Without it the access walks the page table.
 #[derive(Clone, Copy)]
 pub enum Step<'a> {
-    /// A process of the image comes to be, in the lowest free slot.
+    /// Starts a process of the image in the lowest free slot.
     Start(Image<'a>),
-    /// The process of the slot comes on the hart, or none does.
+    /// Schedules the slot's process on the hart, in phase `Kernel`; `None` leaves the hart idle.
     Switch {
         hart: usize,
         slot: Option<usize>,
     },
-    /// The process enters the kernel of its own accord.
+    /// The process traps voluntarily; the hart is then in phase `Enter0`.
     Trap {
         hart: usize,
     },
-    /// The next instruction of the trampoline that changes the translation.
+    /// The hart executes the next instruction of kernel entry or return: a fence, or the write of `satp`.
     Next {
         hart: usize,
     },
-    /// The hart translates the page of an address, and keeps the outcome in its buffer.
+    /// The hart translates the page of `address` by the table that `satp` names, and keeps the outcome, a leaf or "no leaf",
+    /// as the newest entry of its buffer; a full buffer loses its oldest.
     Fill {
         hart: usize,
         address: u64,
     },
-    /// An entry leaves the buffer.
+    /// Removes an entry of the hart's buffer: 0 is the oldest.
     Evict {
         hart: usize,
         entry: usize,
     },
-    /// Four bytes are fetched.
+    /// Fetches the 4 bytes at `address`.
     Fetch {
         hart: usize,
         address: u64,
         via: Option<usize>,
     },
-    /// `width` is in bytes, 1, 2, 4 or 8.
+    /// Loads `width` bytes: 1, 2, 4 or 8.
     Load {
         hart: usize,
         address: u64,
         width: u64,
         via: Option<usize>,
     },
-    /// The low `width` bytes of `value` are stored, the lowest first.
+    /// Stores the low `width` bytes of `value`, the lowest first; `width` is 1, 2, 4 or 8.
     Store {
         hart: usize,
         address: u64,
@@ -63,30 +67,35 @@ pub enum Step<'a> {
         value: u64,
         via: Option<usize>,
     },
-    /// The kernel's code in the trampoline page is fetched at an offset, in supervisor mode.
+    /// The kernel fetches its code at `offset` in the trampoline's page, in supervisor mode. `offset` is a multiple of 4
+    /// below 4,096.
     TrampolineFetch {
         hart: usize,
         offset: u64,
         via: Option<usize>,
     },
-    /// The kernel serves the fault of the process.
+    /// The kernel serves the access that waits after a fault: it makes the page resident for it (in memory and ready, so if
+    /// made next, the access succeeds); or it ends the process, by the first rule that denies the access or, if frames are
+    /// too few, by `NoFrame`.
     Serve {
         hart: usize,
     },
+    /// Forks the process; the child is in the lowest free slot.
     Fork {
         hart: usize,
     },
+    /// Replaces the process by one of `image`. Its mappings are written back.
     Exec {
         hart: usize,
         image: Image<'a>,
     },
-    /// The heap grows or shrinks by so many bytes.
+    /// Grows the heap by `delta` bytes, or shrinks it if `delta` is negative.
     Sbrk {
         hart: usize,
         delta: i64,
     },
-    /// `length` is in bytes; `protection` is a sum of 1 (read), 2 (write) and 4 (execute); `flags` is 1 (shared) or
-    /// 2 (private).
+    /// Maps `length` bytes of a file, from its beginning; `file` is the file's index, from 0. `protection` is a sum of 1
+    /// (read), 2 (write) and 4 (execute); `flags` is 1 (shared) or 2 (private).
     Mmap {
         hart: usize,
         length: u64,
@@ -94,115 +103,128 @@ pub enum Step<'a> {
         flags: u64,
         file: usize,
     },
+    /// Unmaps `length` bytes from `address` on, rounded up to whole pages. Pages of a shared mapping that were made ready
+    /// for a store are written back.
     Munmap {
         hart: usize,
         address: u64,
         length: u64,
     },
-    /// The kernel copies bytes from the process.
+    /// The kernel copies `count` bytes, at most `LONGEST_COPY`, from the process, from `address` on (copyin of xv6).
     CopyIn {
         hart: usize,
         address: u64,
         count: usize,
     },
-    /// The kernel copies bytes to the process.
+    /// The kernel copies `bytes`, at most `LONGEST_COPY`, to the process, from `address` on (copyout of xv6).
     CopyOut {
         hart: usize,
         address: u64,
         bytes: &'a [u8],
     },
+    /// Ends the process with this status. Its mappings are written back.
     Exit {
         hart: usize,
         status: i32,
     },
 }
 
-/// Why a call was refused.
+/// Why a step of the machine, or a call of a process on threads, was refused.
 #[derive(Clone, Copy, PartialEq, Eq, Debug)]
 pub enum Refusal {
-    /// Too few frames are free.
+    /// It needs more frames than are free. On threads: the free count was read as 0 while fewer frames were reserved than it
+    /// needs.
     NoFrame,
     /// Every slot has a process.
     NoSlot,
-    /// A frame has as many sharers as can be counted.
+    /// A frame's reference count is the greatest that can be counted, 65,535. The model refuses no step by this.
     SharersFull,
-    /// The image does not pass this check.
+    /// The image fails this check.
     BadImage(BadImage),
     /// The heap would end below its base.
     BadSize,
-    /// There are no addresses left for it.
+    /// The heap would reach into the lowest mapping or the trapframe; or the mapping fits nowhere between heap and
+    /// trapframe.
     NoRoom,
-    /// There is no such hart, width, offset, file, protection or range, or a copy or a mapping is too long.
+    /// There is no such hart; a width is not 1, 2, 4 or 8; a trampoline offset is no multiple of 4 below 4,096; a copy is
+    /// longer than `LONGEST_COPY`. `Mmap`: the length is 0 or above 1,048,576, the protection is 0 or above 7, the flags are
+    /// neither 1 nor 2, or there is no such file. `Munmap`: the address is no multiple of 4,096, the length is 0, or the
+    /// pages are not all in one mapping.
     BadArgument,
-    /// A shared mapping may be written only where its file may.
+    /// The mapping would be shared and writable, and its file may not be written.
     FileNotWritable,
-    /// The process has all the mappings that it may have.
+    /// The process has 16 mappings, the most that it may have.
     MappingsFull,
-    /// A mapping would be left in two parts.
+    /// The pages to unmap touch neither end of their mapping, which would be left in two parts.
     HoleInMapping,
-    /// The step is not possible in this phase of the hart, or while an access waits for its service; or the process to
-    /// put on it is not there, or is on a hart.
+    /// The step is not possible in this phase of the hart. Or in phase `Kernel`: an access waits for its service, or for
+    /// `Serve` none does. `Switch`: the slot has no process, or its process is on a hart.
     Impossible(Phase),
-    /// The entry of the buffer that was named is not there, or is for another page.
+    /// There is no such buffer entry; or, for an access, it is for another page or another ASID.
     NoEntry,
-    /// The host has no memory for it.
+    /// The host is out of memory for it. The model refuses no step by this.
     Memory,
-    /// The history of calls has no room for it.
+    /// The history of the files has no room for the pages that it reads or writes. The model refuses no step by this.
     JournalFull,
 }
 
-/// What a step answers.
+/// The reply to a step.
 #[derive(Drop, PartialEq, Eq, Debug)]
 pub enum Reply {
+    /// The step is made, and has no other reply.
     Done,
     /// The slot of the new process.
     Started(usize),
-    /// The slot of the child.
+    /// The slot of the child. In a journal of a process on threads: the child's number among its parent's children, from 0.
     Forked(usize),
-    /// What was loaded or fetched, without sign.
+    /// The value that was loaded or fetched, little-endian and without sign.
     Value(u64),
+    /// The store is made.
     Stored,
-    /// The cause of the exception (RISC-V Privileged Architecture 20211203, 4.1.8).
+    /// The access faulted with this exception cause (RISC-V Privileged Architecture 20211203, 4.1.8).
     Fault(u64),
-    /// The number of the new entry of the buffer.
+    /// The number of the new buffer entry: 0 is the oldest.
     Filled(usize),
-    /// The translation added nothing to the buffer.
+    /// No buffer entry was added. No step of the model replies this: a fill adds an entry even if the walk finds no leaf.
     NothingFilled,
-    /// The frame in which the trampoline was found.
+    /// The frame that the trampoline's page is in: 0.
     InFrame(usize),
-    /// The access that faulted will now answer.
+    /// The page is resident for the access that faulted: if made next, the access succeeds.
     Ready,
-    /// The rule by which the process ended.
+    /// The kernel ended the process by this rule; by `NoFrame` if its access was granted but lacked a frame.
     Ended(Rule),
-    /// The size before the change.
+    /// The size before the change, in bytes: the address at which the heap ended.
     OldSize(u64),
     /// The address of the new mapping.
     MappedAt(u64),
+    /// All the bytes that were to be copied from the process.
     CopiedIn(ArrayVec<u8, 256>),
-    /// How many bytes were copied.
+    /// How many bytes were copied to the process: all.
     CopiedOut(usize),
-    /// The rule that stopped the copy, and the bytes before it.
+    /// The rule that stopped the copy from the process, and the bytes that were copied before it.
     ShortIn(Rule, ArrayVec<u8, 256>),
-    /// The rule that stopped the copy, and how many bytes were copied before it.
+    /// The rule that stopped the copy to the process, and how many bytes were copied before it.
     ShortOut(Rule, usize),
+    /// The process exited with this status.
     Exited(i32),
+    /// The step or call was refused.
     Refused(Refusal),
 }
 
-/// The accounts of the frames.
+/// The counts of a machine's frames, and of the references to them.
 #[derive(Clone, Copy, PartialEq, Eq, Debug)]
 pub struct Report {
-    /// Frames that nothing names.
+    /// Frames to which nothing refers.
     pub free: usize,
-    /// Frames that something names.
+    /// All other frames, the kernel's included.
     pub held: usize,
-    /// Frames that two or more entries name.
+    /// Frames that two or more processes have, and the trampoline's if there is a process.
     pub shared: usize,
-    /// All that name a frame: leaf entries, pointer entries and roots, but for the direct map.
+    /// References to frames: the leaves, pointers and roots of all page tables, those of the kernel's direct map aside.
     pub references: usize,
 }
 
-/// Whether loads and stores have this width, in bytes.
+/// Whether an access may have this width in bytes: 1, 2, 4 or 8.
 pub fn is_width(width: u64) -> bool
     ensures { result ≡ is_width width }
 {

@@ -1,26 +1,28 @@
-// How replies, refusals and causes are named and printed.
+// The printed text of replies and reports (counts of frames): `put_reply`, `put_scalar_reply` and `put_report` append it to
+// a byte vector with room for `LONGEST_TEXT` bytes; and `Display` of `Cause` (what is wrong with a line of a script).
 
 ghost use Rattle.std.specs.Prelude.{◌≡◌, ◌+◌, ◌≤◌, ◌++◌, false, Some, codes, length, vec_len, vec_capacity};
 ghost use Rattle.std.specs.Fmt.{decimal, digits};
 ghost use Rattle.sv39_entry.specs.RuleText.{rule_text};
-ghost use Rattle.process_model.specs.Briefs.{of_brief};
+ghost use Rattle.process_model.specs.ScalarReplies.{reply_of_scalar};
 ghost use Rattle.process_model.specs.Words as words;
 ghost use Rattle.process_model.specs.declared.step.Reply.TheVariants.{Exited, Refused};
 
-use crate::brief::Brief;
 use crate::digits::{put, put_decimal, put_hexadecimal, put_signed};
 use crate::hexes::put_bytes;
 use crate::image::BadImage;
 use crate::phase::Phase;
+use crate::scalar_reply::ScalarReply;
 use crate::script::Cause;
 use crate::step::{Refusal, Reply, Report};
 use std::fmt;
 use sv39_entry::Rule;
 
-/// How many bytes the text of a reply or a report has, at most.
+/// The room, in bytes, that each of `put_reply`, `put_scalar_reply` and `put_report` needs: no text of a reply or a report
+/// has more.
 pub const LONGEST_TEXT: usize = 700;
 
-/// The name of a phase.
+/// Returns the name of a phase.
 fn phase_name(phase: Phase) -> &'static str
     ensures text { result.now ≡ words.phase_text phase }
     ensures short { length result.now ≤ 6 }
@@ -37,7 +39,7 @@ fn phase_name(phase: Phase) -> &'static str
     }
 }
 
-/// The name of a check of an image.
+/// Returns the name of a check of an image.
 fn part_name(part: BadImage) -> &'static str
     ensures text { result.now ≡ words.part_text part }
     ensures short { length result.now ≤ 13 }
@@ -76,7 +78,7 @@ impl fmt::Display for Cause {
     }
 }
 
-/// The number and the name of a refusal, and what was refused in particular.
+/// Returns the number and the name of a refusal, and its detail: the check that the image fails, the phase, or nothing.
 pub(crate) fn refusal_words(refusal: Refusal) -> (&'static str, &'static str)
     ensures text { result.0.now ++ result.1.now ≡ words.refusal_text refusal }
     ensures short { length result.0.now + length result.1.now ≤ 26 }
@@ -99,7 +101,7 @@ pub(crate) fn refusal_words(refusal: Refusal) -> (&'static str, &'static str)
     }
 }
 
-/// Puts words and a number.
+/// Appends `name` and `count` in decimal digits.
 #[inline(always)]
 pub(crate) fn put_count(text: &mut Vec<u8>, name: &[u8], count: u64)
     requires short { length name.now ≤ 20 }
@@ -112,7 +114,7 @@ pub(crate) fn put_count(text: &mut Vec<u8>, name: &[u8], count: u64)
     put_decimal(text, count);
 }
 
-/// Puts words and a number in hexadecimal digits.
+/// Appends `name` and `value` in hexadecimal digits.
 #[inline(always)]
 fn put_value(text: &mut Vec<u8>, name: &[u8], value: u64)
     requires short { length name.now ≤ 20 }
@@ -125,7 +127,7 @@ fn put_value(text: &mut Vec<u8>, name: &[u8], value: u64)
     put_hexadecimal(text, value);
 }
 
-/// Puts words and a rule.
+/// Appends `name`, and the number and the name of a rule.
 pub(crate) fn put_rule(text: &mut Vec<u8>, name: &[u8], rule: Rule)
     requires short { length name.now ≤ 20 }
     requires room { vec_len text.old + 60 ≤ vec_capacity text.old }
@@ -138,7 +140,7 @@ pub(crate) fn put_rule(text: &mut Vec<u8>, name: &[u8], rule: Rule)
     put(text, rule.name().as_bytes());
 }
 
-/// Puts how many bytes there are, and the bytes.
+/// Appends `name`, the number of bytes, and the bytes in hexadecimal digits.
 fn put_counted(text: &mut Vec<u8>, name: &[u8], bytes: &[u8])
     requires short { length name.now ≤ 20 }
     requires few { length bytes.now ≤ 256 }
@@ -152,7 +154,7 @@ fn put_counted(text: &mut Vec<u8>, name: &[u8], bytes: &[u8])
     put_bytes(text, bytes);
 }
 
-/// Puts the status of a process that exited.
+/// Appends the text of `Reply::Exited`.
 fn put_exit(text: &mut Vec<u8>, status: i32)
     requires room { vec_len text.old + 40 ≤ vec_capacity text.old }
     ensures text { text.new.items ≡ text.old.items ++ words.reply_text (Exited status) }
@@ -163,7 +165,7 @@ fn put_exit(text: &mut Vec<u8>, status: i32)
     put_signed(text, status);
 }
 
-/// Puts a refusal.
+/// Appends the text of `Reply::Refused`.
 #[inline(always)]
 fn put_refusal(text: &mut Vec<u8>, refusal: Refusal)
     requires room { vec_len text.old + 60 ≤ vec_capacity text.old }
@@ -177,37 +179,43 @@ fn put_refusal(text: &mut Vec<u8>, refusal: Refusal)
     put(text, detail.as_bytes());
 }
 
-/// Puts the text of a reply that carries no bytes.
-pub fn put_brief(text: &mut Vec<u8>, brief: Brief)
+/// Appends the text of a reply that carries no bytes to `text`, without a line feed: at most `LONGEST_TEXT` bytes, for which
+/// `text` must have room (unused capacity).
+pub fn put_scalar_reply(text: &mut Vec<u8>, scalar: ScalarReply)
     requires room { vec_len text.old + LONGEST_TEXT ≤ vec_capacity text.old }
-    ensures text { text.new.items ≡ text.old.items ++ words.reply_text (of_brief brief) }
+    ensures text { text.new.items ≡ text.old.items ++ words.reply_text (reply_of_scalar scalar) }
     ensures len { vec_len text.new ≤ vec_len text.old + LONGEST_TEXT }
     ensures capacity { vec_capacity text.old ≤ vec_capacity text.new }
 {
-    match brief {
-        Brief::Done => put(text, b"ok"),
-        Brief::Started(slot) | Brief::Forked(slot) => put_count(text, b"slot ", slot as u64),
-        Brief::Value(value) => put_value(text, b"value 0x", value),
-        Brief::Stored => put(text, b"stored"),
-        Brief::Fault(cause) => put_count(text, b"fault ", cause),
-        Brief::Filled(entry) => put_count(text, b"entry ", entry as u64),
-        Brief::NothingFilled => put(text, b"nothing"),
-        Brief::InFrame(frame) => put_count(text, b"frame ", frame as u64),
-        Brief::Ready => put(text, b"ready"),
-        Brief::Ended(rule) => put_rule(text, b"ended ", rule),
-        Brief::OldSize(size) => put_value(text, b"old 0x", size),
-        Brief::MappedAt(address) => put_value(text, b"at 0x", address),
-        Brief::CopiedOut(count) => put_count(text, b"copied ", count as u64),
-        Brief::ShortOut(rule, count) => {
+    match scalar {
+        ScalarReply::Done => put(text, b"ok"),
+        ScalarReply::Started(slot) | ScalarReply::Forked(slot) => put_count(
+            text,
+            b"slot ",
+            slot as u64,
+        ),
+        ScalarReply::Value(value) => put_value(text, b"value 0x", value),
+        ScalarReply::Stored => put(text, b"stored"),
+        ScalarReply::Fault(cause) => put_count(text, b"fault ", cause),
+        ScalarReply::Filled(entry) => put_count(text, b"entry ", entry as u64),
+        ScalarReply::NothingFilled => put(text, b"nothing"),
+        ScalarReply::InFrame(frame) => put_count(text, b"frame ", frame as u64),
+        ScalarReply::Ready => put(text, b"ready"),
+        ScalarReply::Ended(rule) => put_rule(text, b"ended ", rule),
+        ScalarReply::OldSize(size) => put_value(text, b"old 0x", size),
+        ScalarReply::MappedAt(address) => put_value(text, b"at 0x", address),
+        ScalarReply::CopiedOut(count) => put_count(text, b"copied ", count as u64),
+        ScalarReply::ShortOut(rule, count) => {
             put_rule(text, b"short ", rule);
             put_count(text, b" done ", count as u64);
         }
-        Brief::Exited(status) => put_exit(text, status),
-        Brief::Refused(refusal) => put_refusal(text, refusal),
+        ScalarReply::Exited(status) => put_exit(text, status),
+        ScalarReply::Refused(refusal) => put_refusal(text, refusal),
     }
 }
 
-/// Puts the text of the reply.
+/// Appends the text of a reply to `text`, without a line feed: at most `LONGEST_TEXT` bytes, for which `text` must have room
+/// (unused capacity).
 pub fn put_reply(text: &mut Vec<u8>, reply: &Reply)
     requires room { vec_len text.old + LONGEST_TEXT ≤ vec_capacity text.old }
     ensures text { text.new.items ≡ text.old.items ++ words.reply_text reply.now }
@@ -215,32 +223,36 @@ pub fn put_reply(text: &mut Vec<u8>, reply: &Reply)
     ensures capacity { vec_capacity text.old ≤ vec_capacity text.new }
 {
     match reply {
-        Reply::Done => put_brief(text, Brief::Done),
-        Reply::Started(slot) => put_brief(text, Brief::Started(*slot)),
-        Reply::Forked(slot) => put_brief(text, Brief::Forked(*slot)),
-        Reply::Value(value) => put_brief(text, Brief::Value(*value)),
-        Reply::Stored => put_brief(text, Brief::Stored),
-        Reply::Fault(cause) => put_brief(text, Brief::Fault(*cause)),
-        Reply::Filled(entry) => put_brief(text, Brief::Filled(*entry)),
-        Reply::NothingFilled => put_brief(text, Brief::NothingFilled),
-        Reply::InFrame(frame) => put_brief(text, Brief::InFrame(*frame)),
-        Reply::Ready => put_brief(text, Brief::Ready),
-        Reply::Ended(rule) => put_brief(text, Brief::Ended(*rule)),
-        Reply::OldSize(size) => put_brief(text, Brief::OldSize(*size)),
-        Reply::MappedAt(address) => put_brief(text, Brief::MappedAt(*address)),
+        Reply::Done => put_scalar_reply(text, ScalarReply::Done),
+        Reply::Started(slot) => put_scalar_reply(text, ScalarReply::Started(*slot)),
+        Reply::Forked(slot) => put_scalar_reply(text, ScalarReply::Forked(*slot)),
+        Reply::Value(value) => put_scalar_reply(text, ScalarReply::Value(*value)),
+        Reply::Stored => put_scalar_reply(text, ScalarReply::Stored),
+        Reply::Fault(cause) => put_scalar_reply(text, ScalarReply::Fault(*cause)),
+        Reply::Filled(entry) => put_scalar_reply(text, ScalarReply::Filled(*entry)),
+        Reply::NothingFilled => put_scalar_reply(text, ScalarReply::NothingFilled),
+        Reply::InFrame(frame) => put_scalar_reply(text, ScalarReply::InFrame(*frame)),
+        Reply::Ready => put_scalar_reply(text, ScalarReply::Ready),
+        Reply::Ended(rule) => put_scalar_reply(text, ScalarReply::Ended(*rule)),
+        Reply::OldSize(size) => put_scalar_reply(text, ScalarReply::OldSize(*size)),
+        Reply::MappedAt(address) => put_scalar_reply(text, ScalarReply::MappedAt(*address)),
         Reply::CopiedIn(bytes) => put_counted(text, b"copied ", bytes.as_slice()),
-        Reply::CopiedOut(count) => put_brief(text, Brief::CopiedOut(*count)),
+        Reply::CopiedOut(count) => put_scalar_reply(text, ScalarReply::CopiedOut(*count)),
         Reply::ShortIn(rule, bytes) => {
             put_rule(text, b"short ", *rule);
             put_counted(text, b" done ", bytes.as_slice());
         }
-        Reply::ShortOut(rule, count) => put_brief(text, Brief::ShortOut(*rule, *count)),
-        Reply::Exited(status) => put_brief(text, Brief::Exited(*status)),
-        Reply::Refused(refusal) => put_brief(text, Brief::Refused(*refusal)),
+        Reply::ShortOut(rule, count) => put_scalar_reply(
+            text,
+            ScalarReply::ShortOut(*rule, *count),
+        ),
+        Reply::Exited(status) => put_scalar_reply(text, ScalarReply::Exited(*status)),
+        Reply::Refused(refusal) => put_scalar_reply(text, ScalarReply::Refused(*refusal)),
     }
 }
 
-/// Puts the text of the report.
+/// Appends the text of a report (its four counts, in decimal) to `text`, without a line feed: at most `LONGEST_TEXT` bytes,
+/// for which `text` must have room (unused capacity).
 pub fn put_report(text: &mut Vec<u8>, report: &Report)
     requires room { vec_len text.old + LONGEST_TEXT ≤ vec_capacity text.old }
     ensures text { text.new.items ≡ text.old.items ++ words.report_text report.now }

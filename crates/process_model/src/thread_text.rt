@@ -1,4 +1,5 @@
-// How it is told what processes on threads came to.
+// The printed text of a run on threads: `put_end` (how a process ended) and `put_free` (how many frames are free) append it
+// to a byte vector with room for `LONGEST_END` bytes.
 
 ghost use Rattle.std.specs.Prelude.{◌≡◌, ◌+◌, ◌≤◌, ◌++◌, codes, length, vec_len, vec_capacity};
 ghost use Rattle.std.specs.Fmt.{decimal};
@@ -8,10 +9,10 @@ use crate::call::Outcome;
 use crate::digits::{put, put_decimal, put_signed};
 use crate::text::{put_count, put_rule, refusal_words};
 
-/// How many bytes are put for the end of a process, or for the frames that are free, at most.
+/// The room, in bytes, that each of `put_end` and `put_free` needs: neither appends more.
 pub const LONGEST_END: usize = 160;
 
-/// Puts how many entries a journal has, and words.
+/// Appends ` calls `, the number `calls`, and `end`.
 fn put_calls(text: &mut Vec<u8>, calls: u64, end: &[u8])
     requires short { length end.now ≤ 40 }
     requires room { vec_len text.old + 80 ≤ vec_capacity text.old }
@@ -24,7 +25,9 @@ fn put_calls(text: &mut Vec<u8>, calls: u64, end: &[u8])
     put(text, end);
 }
 
-/// Puts how a process ended, to stand behind its name, with how many entries its journal has.
+/// Appends to `text` how a process ended, the text after its name, without a line feed: the number of calls in its journal
+/// (`calls`) and the outcome; for a refused start the refusal alone. Requires room (unused capacity) for `LONGEST_END`
+/// bytes.
 pub fn put_end(text: &mut Vec<u8>, calls: u64, outcome: Outcome)
     requires room { vec_len text.old + LONGEST_END ≤ vec_capacity text.old }
     ensures text { text.new.items ≡ text.old.items ++ words.end_text calls outcome }
@@ -51,7 +54,8 @@ pub fn put_end(text: &mut Vec<u8>, calls: u64, outcome: Outcome)
     }
 }
 
-/// Puts how many user frames are free, of how many.
+/// Appends to `text` how many user frames are free, of `frames`, without a line feed. Requires room (unused capacity) for
+/// `LONGEST_END` bytes.
 pub fn put_free(text: &mut Vec<u8>, free: u64, frames: u64)
     requires room { vec_len text.old + LONGEST_END ≤ vec_capacity text.old }
     ensures text { text.new.items ≡ text.old.items ++ words.free_text free frames }

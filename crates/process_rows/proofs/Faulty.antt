@@ -1,11 +1,13 @@
--- What is wrong with a line, and which cause is told first.
+-- Tests that fields are read as numbers and bytes (equations), that a faulty line is refused with the first cause that
+-- applies (`IsRefused`), and in which order steps are refused; status limits and segment flags (`Plays`, lines with
+-- answers).
 use Rattle.std.proofs.Common.{◌≡◌, refl, [], ◌∷◌}
 use Rattle.std.specs.Prelude.{None, Some, negsuc, pos, codes, replicate}
 use Rattle.std.specs.Fmt.{digits}
 use Rattle.process_model.specs.Bytes.{number, low_bytes}
 use Rattle.process_model.specs.Frames.{tables_needed}
 use Rattle.process_model.specs.Images.{segment_loads}
-use Rattle.process_model.specs.Loading.{process_of}
+use Rattle.process_model.specs.ImageProcess.{process_of}
 use Rattle.process_model.specs.Numbers.{number_of, signed_of, hex_of}
 use Rattle.process_model.specs.Script.{line_of, item_line}
 use Rattle.process_model.specs.Steps.{step}

@@ -1,4 +1,5 @@
--- Files and mappings.
+-- Tests that mmap of a file finds a place or is refused, munmap leaves no hole, and write-back takes only pages of shared
+-- mappings that were stored to, also after a fork, at exit and beside another process. Scripts with their answers (`Plays`).
 use Rattle.std.proofs.Common.{refl, [], ◌∷◌}
 use Rattle.std.specs.Fmt.{digits}
 use Rattle.process_model.specs.Bytes.{number, low_bytes}
@@ -6,10 +7,10 @@ use Rattle.process_model.specs.Copies.{copied_in, copied_out}
 use Rattle.process_model.specs.Frames.{tables_needed}
 use Rattle.process_model.specs.Heap.{sbrk_result}
 use Rattle.process_model.specs.Images.{elf_loads, segment_loads}
-use Rattle.process_model.specs.Loading.{process_of}
+use Rattle.process_model.specs.ImageProcess.{process_of}
 use Rattle.process_model.specs.Mappings.{mapped, unmapped}
 use Rattle.process_model.specs.Script.{item_line, line_of}
-use Rattle.process_model.specs.Around.{resident_at}
+use Rattle.process_model.specs.Environment.{resident_at}
 use Rattle.process_model.specs.Steps.{step}
 use Rattle.process_model.specs.World.{on_hart, with_its_process}
 use Rattle.process_rows.proofs.Playing.{Plays, silent, ◌⇒◌}

@@ -13,7 +13,7 @@ pub mod Tall
 pub mod Hostile
 pub mod Needs
 pub mod Faulty
-pub mod Fronts
-pub mod LongerFronts
+pub mod Prefixes
+pub mod LongerPrefixes
 pub mod Started
 pub mod BadImages

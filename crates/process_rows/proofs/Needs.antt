@@ -1,10 +1,11 @@
--- How many frames some things take, by computation.
+-- Tests that the counts of frames have given values, by computation: what start, exec, fork and one heap page need, what the
+-- kernel takes at boot and which sizes can boot; under Sv39 and Sv48. Equations, no scripts.
 use Rattle.std.proofs.Common.{◌≡◌, refl, ℕ, true, false, List, [], ◌∷◌}
 use Rattle.std.specs.Prelude.{Result, Ok, Err, Option, None, Some, pos}
 use Rattle.process_model.specs.Frames.{start_need, exec_need, fork_need, settle_need, tables_needed, kernel_frames, can_boot}
 use Rattle.process_model.specs.Heap.{sbrk_result}
 use Rattle.process_model.specs.Images.{LoadSegment, segment_loads}
-use Rattle.process_model.specs.Loading.{process_of}
+use Rattle.process_model.specs.ImageProcess.{process_of}
 use Rattle.process_model.specs.Process.{Process}
 use Rattle.sv39_entry.specs.declared.scheme.Scheme.TheVariants.{Sv39, Sv48}
 use Rattle.process_model.specs.declared.image.BadImage.{BadImage}

@@ -1,4 +1,5 @@
--- Scripts line by line, each with what it is answered.
+-- Row types of this crate's tests: `Line`, a line of a script with its answer, or silent; `Plays`: playing these lines
+-- writes their answers; `IsRefused`: the script is refused, with the number of its faulty line and the cause.
 use Prim.Native.String.{String}
 use Rattle.std.specs.Prelude.{◌≡◌, ℕ, List, [], ◌∷◌, map, Result, Ok, Err, codes, flat_map}
 use Rattle.process_model.specs.Script.{script_of, Script}

@@ -1,4 +1,4 @@
-//! Worked rows: whole scripts and the text that playing them writes, by computation from the definitions.
-//!
-//! The rows stand in `proofs/`, a file for each subject.
+//! Tests of the model (`process_model`): whole scripts, each with the text that playing it writes or the fault for which it
+//! is refused, and some equations, computed from the definitions. There is no code: the tests are in `proofs/`, one file for
+//! each subject; `proofs/Playing` defines their row types.
 #![tactic(auto)]

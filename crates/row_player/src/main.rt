@@ -1,10 +1,12 @@
-//! Plays the rows of the folder that it runs in, in the order of their names, and says of each whether it comes to what
-//! it should.
+//! The program `row_player`: plays all rows (test cases: a script or a file for threads, beside its expected output) in the
+//! folder where it runs, scripts first, each kind in the order of their names, and prints for each whether its output is the
+//! expected one.
 //!
-//! A row is a script, `NAME.script`, or a file for threads, `NAME.threads`, and beside it all that is written for it,
-//! `NAME.expect`, or the line on standard error by which it is refused, `NAME.refused`. A script whose `boot` names no scheme
-//! is played once more with `sv39`, and where its name begins with `asid-` with `sv48` too: such rows tell of no frames, so
-//! they come to the same under both schemes. A file for threads is played on one hart, on two and on eight.
+//! A row is a script, `NAME.script`, or a file for threads, `NAME.threads`. The expected output is beside it: all that is
+//! written, in `NAME.expect`, or, for a refused row, that and the line on standard error, in `NAME.refused`. A script whose
+//! `boot` names no scheme is played again with `sv39` and, if its name begins with `asid-`, with `sv48`: such rows show no
+//! counts of frames, so their output does not depend on the scheme. A file for threads is played on one hart, on two and on
+//! eight.
 #![tactic(auto)]
 
 ghost use Rattle.std.specs.Prelude.{◌≤◌};
@@ -15,7 +17,7 @@ use std::sync::Wait;
 use std::thread::Threads;
 use std::{fs, io};
 
-/// The names of the rows whose file ends so, in order.
+/// Returns the names of the rows whose file ends in `ending`, without it, sorted.
 fn names(rt: &HostRuntime, ending: &str) -> io::Result<Vec<String>> {
     let mut names = Vec::new(rt.alloc());
     for entry in fs::read_dir(rt, ".")? {
@@ -28,7 +30,8 @@ fn names(rt: &HostRuntime, ending: &str) -> io::Result<Vec<String>> {
     Ok(names)
 }
 
-/// What was written, or the line by which all was refused, and how the file ends that has to have it.
+/// Returns the extension of the file that has the expected output, and the output: the text, with the line on
+/// standard error if playing failed.
 fn ending(
     rt: &HostRuntime,
     played: Result<(), PlayError>,
@@ -44,7 +47,7 @@ fn ending(
     }
 }
 
-/// What a script comes to.
+/// Plays a script; returns the extension of the file that has the expected output, and the output.
 fn play_script<R: io::Read + Drop>(
     rt: &HostRuntime,
     script: R,
@@ -62,7 +65,7 @@ fn names_no_scheme(line: &[u8]) -> bool {
     line.starts_with(b"boot ") && words.filter(|word| !word.is_empty()).count() == 5
 }
 
-/// The script with a scheme as the last field of the first such line; `None` where it has none.
+/// Returns the script with a scheme as the last field of its first `boot` that names none. `None`: it has no such line.
 fn with_scheme(rt: &HostRuntime, script: &[u8], scheme: &str) -> io::Result<Option<Vec<u8>>> {
     let mut text = Vec::new(rt.alloc());
     let mut named = false;
@@ -75,12 +78,13 @@ fn with_scheme(rt: &HostRuntime, script: &[u8], scheme: &str) -> io::Result<Opti
         }
         text.push(b'\n')?;
     }
-    // the script ends as it did
+    // The last line got a line feed more than it had.
     text.pop();
     Ok(if named { Some(text) } else { None })
 }
 
-/// What the file for threads of this name comes to on so many harts, each a thread of the second handle.
+/// Plays the file for threads of this name on `harts` harts, each a thread that `threads` starts; returns the extension of
+/// the file that has the expected output, and the output.
 fn play_lists<T: Threads + Wait + Sync>(
     rt: &HostRuntime,
     threads: &T,
@@ -98,13 +102,14 @@ fn play_lists<T: Threads + Wait + Sync>(
     ending(rt, played, text)
 }
 
-/// The number of the first line in which two texts differ, from 1.
+/// Returns the number of the first line in which two texts differ, counted from 1.
 fn first_difference(got: &[u8], wanted: &[u8]) -> usize {
     let same = got.iter().zip(wanted).take_while(|(a, b)| a == b).count();
     1 + got.iter().take(same).filter(|byte| **byte == b'\n').count()
 }
 
-/// What is wrong with what the row of this name came to.
+/// Compares the output of the row of this name with the expected one. `None`: they are equal; else the
+/// text says where they differ, or that no expected output is there.
 fn difference(
     rt: &HostRuntime,
     name: &str,
@@ -122,7 +127,7 @@ fn difference(
     Ok(Some(format!(in rt.alloc(); "from line {line} of {file} on")?))
 }
 
-/// Says whether the row of this name came to what it should.
+/// Prints whether the row of this name had its expected output, and what was wrong if not.
 fn tell(rt: &HostRuntime, name: &str, wrong: Option<String>) -> io::Result<()> {
     match wrong {
         None => println!(rt; "{name}: ok"),
@@ -130,7 +135,8 @@ fn tell(rt: &HostRuntime, name: &str, wrong: Option<String>) -> io::Result<()> {
     }
 }
 
-/// What is wrong with a script when its `boot` names this scheme, if it names none.
+/// Plays a script with this scheme in its `boot`, and compares the output with the expected one. `None`: they are equal, or
+/// the `boot` of the script names a scheme already.
 fn difference_with(
     rt: &HostRuntime,
     name: &str,
@@ -147,7 +153,8 @@ fn difference_with(
     }
 }
 
-/// Plays the script of this name, as it is and with each scheme that may be added.
+/// Plays the script of this name, as it is and with each scheme that may be added, and prints whether
+/// all had the expected output.
 fn judge_script(rt: &HostRuntime, name: &str) -> io::Result<()> {
     let file = format!(in rt.alloc(); "{name}.script")?;
     let came = play_script(rt, fs::open(rt, file.as_str())?)?;

@@ -1,4 +1,4 @@
--- The lines of a text of ASCII are of ASCII.
+-- Lemma: if a text is ASCII, so is each of its lines (`AreAscii`).
 use Rattle.std.proofs.Common.{◌≡◌, ℕ, Bool, true, List, [], ◌∷◌, refl, inl, inr}
 use Rattle.std.specs.List.{onto_first}
 use Rattle.std.specs.Prelude.{◌&&◌, nat_lt}

@@ -1,4 +1,5 @@
--- The first piece of a field.
+-- Lemmas on the pieces of a field, which colons separate: the first piece and those after its colon; and a field of five
+-- pieces or more is no segment of an `image` line.
 use Rattle.std.proofs.Common.{◌≡◌, ℕ, suc, ◌+◌, Bool, true, false, not, cond, List, [], ◌∷◌, length, ◌≤◌, take, drop, refl, ap, arith, None}
 use Rattle.std.specs.List.{position_or_len, onto_first}
 use Rattle.process_model.specs.Fields.{segment_in}

@@ -1,4 +1,5 @@
--- The first line of a text, and the first field of a line.
+-- Lemmas on how text is cut: the first line of a text and the lines after it; the first field of a line, after blanks, and
+-- the fields after it.
 use Rattle.std.proofs.Common.{◌≡◌, ℕ, suc, ◌+◌, ◌<◌, ◌≤◌, Bool, true, false, not, cond, List, [], ◌∷◌, length, take, drop, refl, sym, ap, subst, ◌∙◌, arith, inl, inr}
 use Rattle.std.specs.List.{prefix_len, position_or_len, onto_first}
 use Rattle.std.proofs.lemmas.Bool.{cases_Bool}

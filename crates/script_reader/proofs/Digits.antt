@@ -1,4 +1,5 @@
--- Digits that say too much.
+-- Lemmas on parsing digits: once a byte is no digit, or the number is 2^64 or more, further digits cannot mend it, so the
+-- parser may stop; and the values of digits in the reader's table.
 use Rattle.std.proofs.Common.{◌≡◌, ℕ, ◌+◌, ◌*◌, ◌^◌, ◌-◌, ◌<◌, ◌≤◌, Bool, true, false, List, [], ◌∷◌, Option, Some, None, cond, subst, length, drop, get_or, refl, sym, ap, ◌∙◌, arith}
 use Rattle.std.proofs.lemmas.Bool.{and_parts, le-ltb, lt-ltb, ltb-true}
 use Rattle.std.proofs.lemmas.List.{at_drop_more, at_drop_all}

@@ -1,4 +1,5 @@
--- Texts that end with their last line.
+-- Lemmas for `PieceReader`: texts that end where a line ends (`EndsLines`); lines read in two parts; `HasRead` after one
+-- more piece and, at the end, the model's script; and the result with a first fault or without.
 use Rattle.std.proofs.Common.{◌≡◌, ℕ, zero, suc, ◌+◌, ◌<◌, true, false, List, [], ◌∷◌, ◌++◌, length, take, drop, refl, sym, subst, ap, ◌∙◌, append_assoc, length-append, ◌≤◌, Ok, arith, inl, inr}
 use Rattle.std.specs.Prelude.{Err, None, Option, Some, nat_le, nat_lt, slice_index}
 use Rattle.std.specs.List.{onto_first}
@@ -7,7 +8,7 @@ use Rattle.std.proofs.lemmas.List.{take-append-drop}
 use Rattle.process_model.specs.Lines.{is_line_end, raw_lines}
 use Rattle.process_model.specs.Script.{Draft, Read, longest_script, next_line, no_lines, read_lines, script_of, whole, whole_with}
 use Rattle.process_model.specs.declared.script.Cause.{Cause}
-use Rattle.script_reader.specs.Reading.{CutsLines, EndsLines, HasRead, Reading, read_with}
+use Rattle.script_reader.specs.Reading.{CutsLines, EndsLines, HasRead, PieceReader, read_with}
 
 -- the first line goes on, and the others stay
 abbrev IsSome : List (List ℕ) → Type 0
@@ -81,7 +82,7 @@ in_three xs ended rest first back n k e r f b =
     sym (append_assoc first back rest) ∙ ap (λ (ys : List ℕ). ys ++ rest) one ∙ two
 
 -- a next piece has come
-pub more_read : (bytes : List ℕ) (r : Reading) → HasRead bytes r → (piece first ended rest : List ℕ) → CutsLines piece first ended rest → (between : Read) (s : Reading) → between ≡ read_lines r.read (raw_lines (r.rest ++ first))
+pub more_read : (bytes : List ℕ) (r : PieceReader) → HasRead bytes r → (piece first ended rest : List ℕ) → CutsLines piece first ended rest → (between : Read) (s : PieceReader) → between ≡ read_lines r.read (raw_lines (r.rest ++ first))
     → s.read ≡ read_lines between (raw_lines ended) → s.rest ≡ rest → s.count ≤ r.count + length (r.rest ++ first) + length ended → s.length ≡ r.length + length piece → HasRead (bytes ++ piece) s
 more_read bytes r h piece first ended rest c between s one two left few long =
     let line = r.rest ++ first in
@@ -104,7 +105,7 @@ more_read bytes r h piece first ended rest c between s one two left few long =
     }
 
 -- all has come
-pub all_read : (bytes : List ℕ) (r : Reading) → HasRead bytes r → nat_lt longest_script r.length ≡ false → (final : Read) → final ≡ read_lines r.read (raw_lines r.rest) → script_of bytes ≡ whole final
+pub all_read : (bytes : List ℕ) (r : PieceReader) → HasRead bytes r → nat_lt longest_script r.length ≡ false → (final : Read) → final ≡ read_lines r.read (raw_lines r.rest) → script_of bytes ≡ whole final
 all_read bytes r h short final is =
     let within : nat_le (length bytes) longest_script ≡ true = le-leb (length bytes) longest_script (omega (arith, h.long, ltb-false longest_script r.length short)) in
     let lines : raw_lines bytes ≡ raw_lines h.ended ++ raw_lines r.rest = ap raw_lines (sym h.whole) ∙ h.ends r.rest in

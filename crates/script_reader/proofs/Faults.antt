@@ -1,10 +1,10 @@
--- A fault stays the first one.
+-- Lemmas: the first fault of a script or of a file for threads stays the result, whatever lines follow.
 use Rattle.std.proofs.Common.{◌≡◌, ℕ, List, [], ◌∷◌, Option, None, Some, true, Result, Err, refl, sym, ap, ◌∙◌}
 use Rattle.std.specs.Prelude.{is_some}
 use Rattle.process_model.specs.ReadLines.{ReadTo, lines_by, next_by}
 use Rattle.process_model.specs.Script.{Draft, Read, line_of, read_lines, with_item}
 use Rattle.process_model.specs.declared.script.Cause.{Cause}
-use Rattle.script_reader.specs.Gives.{Refuses}
+use Rattle.script_reader.specs.ReadResults.{GivesError}
 use Rattle.script_reader.specs.Reading.{read_with}
 use Rattle.script_reader.specs.declared.fault.ScriptError.{ScriptError}
 use Rattle.script_reader.specs.declared.fault.ScriptError.TheVariants as script
@@ -14,8 +14,8 @@ stays line_of with_item f [] = refl
 stays line_of with_item f (line ∷ lines) = stays line_of with_item f lines
 
 -- where a line is refused, so is every text that goes on from it
-pub refused : {D I : Type 0} (line_of : D → List ℕ → Result (Option I) Cause) (with_item : D → I → D) (e : ScriptError) (read : ReadTo D) (lines : List (List ℕ)) (total : ReadTo D) → Refuses e read
-    → lines_by (next_by line_of with_item) read lines ≡ total → Refuses e total
+pub refused : {D I : Type 0} (line_of : D → List ℕ → Result (Option I) Cause) (with_item : D → I → D) (e : ScriptError) (read : ReadTo D) (lines : List (List ℕ)) (total : ReadTo D) → GivesError e read
+    → lines_by (next_by line_of with_item) read lines ≡ total → GivesError e total
 refused line_of with_item script.Memory read lines total r says = tt
 refused {D} line_of with_item (script.Line n c) read lines total r says =
     sym says ∙ ap (λ (x : ReadTo D). lines_by (next_by line_of with_item) x lines) r ∙ stays line_of with_item (n, c) lines

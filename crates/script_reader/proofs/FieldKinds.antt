@@ -1,4 +1,5 @@
--- The kinds of fields by their places, against the kinds for as many fields as a line has.
+-- Lemmas: the kind that a word's row has for a field's place is the model's kind for that field; and the number of fields is
+-- wrong if no kind is found for one of them or a required one is missing, else right.
 use Rattle.std.proofs.Common.{◌≡◌, ℕ, ◌+◌, ◌-◌, ◌<◌, ◌≤◌, Bool, true, false, eqb, List, [], ◌∷◌, ◌++◌, length, get_or, replicate, Option, Some, None, refl, ◌∙◌, arith, length-append, inl, inr}
 use Rattle.std.specs.Prelude.{slice_get, if◌then◌else◌}
 use Rattle.std.proofs.Math.Seq.{get_or-append_seam}

@@ -1,4 +1,5 @@
--- The values of fields, one after the other.
+-- Lemmas: the values of a line's fields, read one after the other by the kinds at their places, are the model's; with a
+-- wrong number of fields the result is `Count`.
 use Rattle.std.proofs.Common.{◌≡◌, ℕ, ◌+◌, true, false, eqb, arith, List, [], ◌∷◌, length, drop, Result, Ok, Err, refl, sym, ap, ◌∙◌}
 use Rattle.std.proofs.lemmas.List.{at_drop_more}
 use Rattle.process_model.specs.Fields.{Row, kinds_for, values_from, values_of, value_of, and_then}

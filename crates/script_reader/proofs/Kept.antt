@@ -1,4 +1,6 @@
--- What holds of the lines so far goes on to hold, where each line keeps it.
+-- Lemmas on reading lines, for scripts and files for threads alike: what each accepted line keeps of a draft (what the lines
+-- so far declare) holds after all lines (`lines_kept`); and an item (what a line declares or commands) that is accepted
+-- keeps its limits and has room.
 use Rattle.std.proofs.Common.{◌≡◌, ℕ, ◌+◌, ◌<◌, ◌≤◌, Bool, true, false, List, [], ◌∷◌, ◌++◌, length, length-append, arith, Option, Some, None, Result, Ok, Err, refl}
 use Rattle.std.specs.Prelude.{IfOk, All, nat_lt, nat_le, if◌then◌else◌}
 use Rattle.std.proofs.lemmas.List.Elements.{All-nil, All-cons, All-append}

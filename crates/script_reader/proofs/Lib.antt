@@ -6,13 +6,13 @@ pub mod Ends
 pub mod Faults
 pub mod FieldKinds
 pub mod FieldValues
-pub mod FrontNumbers
+pub mod PrefixNumbers
 pub mod Kept
 pub mod OpenList
 pub mod Pairs
 pub mod Playable
-pub mod QuickLines
-pub mod WordFronts
+pub mod FastLineSteps
+pub mod WordPrefixes
 pub mod Splitting
 pub mod ThreadExamples
 pub mod ThreadsKept

@@ -1,4 +1,5 @@
--- The last list of a file is the open one.
+-- Lemmas: the open list of a file for threads, to which calls are added, is its last one; and a call pushed there is added
+-- as the model adds it (`with_call`).
 use Rattle.std.proofs.Common.{◌≡◌, ℕ, zero, suc, ◌+◌, ◌-◌, List, [], ◌∷◌, ◌++◌, length, Some, None, Result, Ok, Err, get_or, set, sym, ap, ◌∙◌, arith}
 use Rattle.std.specs.Prelude.{slice_get, OnOk}
 use Rattle.process_model.specs.ThreadScript.{open_calls, with_call}

@@ -1,4 +1,5 @@
--- Bytes from pairs of digits, one after the other.
+-- Lemma for the parser of HEX fields: bytes read so far and then the next one, against the model's reading of pairs of
+-- digits.
 use Rattle.std.proofs.Common.{◌≡◌, ℕ, List, [], ◌∷◌, ◌++◌, Option, Some, None, refl, ap, append_assoc}
 use Rattle.process_model.specs.Numbers.{then_bytes}
 

@@ -1,4 +1,5 @@
--- What is read as a script can be played: the machine boots, and what a line names was declared.
+-- Lemma: a script that the reader accepts can be played (`IsPlayable`): the machine can boot, files keep their limits, and
+-- what a line names is declared.
 use Rattle.std.proofs.Common.{◌≡◌, ℕ, ◌<◌, ◌≤◌, true, false, List, [], ◌∷◌, ◌++◌, length, Option, Some, None, Result, Ok, Err, refl, sym, subst, arith, get_or, length-append}
 use Rattle.std.specs.Prelude.{IfOk, All, nat_le, ◌&&◌, if◌then◌else◌}
 use Rattle.std.proofs.lemmas.List.Elements.{All-nil}
@@ -17,7 +18,7 @@ use Rattle.process_model.specs.declared.script.Item.{Item}
 use Rattle.process_model.specs.declared.script.Item.TheVariants as item
 use Rattle.process_model.specs.declared.script.Keyword.{Keyword}
 use Rattle.process_model.specs.declared.script.Keyword.TheVariants as word
-use Rattle.script_reader.specs.Gives.{Answers}
+use Rattle.script_reader.specs.ReadResults.{GivesScript}
 use Rattle.script_reader.specs.Playable.{CanBoot, FitsFile, IsDeclared, IsPlayable}
 use Rattle.script_reader.specs.declared.fault.ScriptError.{ScriptError}
 use Rattle.script_reader.proofs.Kept.{limited, below, at_most, all_and_one, one_file_more, HasPlace, item_has_place, IfItem, line_fits, IfRead, lines_kept}
@@ -135,6 +136,6 @@ script_playable bytes =
       | false ↦ tt
     ]
 
-pub answer_playable : (bytes : List ℕ) (r : Result Script ScriptError) → Answers (λ s. s) r (script_of bytes) → IfOk r IsPlayable
+pub answer_playable : (bytes : List ℕ) (r : Result Script ScriptError) → GivesScript (λ s. s) r (script_of bytes) → IfOk r IsPlayable
 answer_playable bytes (Ok s) e = let P : Result Script (ℕ × Cause) → Type 0 = λ r. IfOk r IsPlayable in subst P e (script_playable bytes)
 answer_playable bytes (Err e) h = tt

@@ -1,4 +1,5 @@
--- Files for threads by example: first faults, and what two files say.
+-- Examples of files for threads, by computation: the first fault of each of several files, and what one accepted file
+-- declares.
 use Rattle.std.proofs.Common.{◌≡◌, ℕ, List, [], ◌∷◌, Ok, Err, refl}
 use Rattle.std.specs.Prelude.{codes, negsuc}
 use Rattle.process_model.specs.ThreadScript.{item_line, line_of, thread_script_of}

@@ -1,4 +1,6 @@
--- What is read as a file for threads can be played: the pool can be shared, and what a line names is there.
+-- Lemmas: a file for threads that the reader accepts can be played (`IsThreadPlayable`): its pool can be shared, and the
+-- images and lists of calls that lines name are there; a line's item has room; the whole file by what its lines declare; and
+-- the lists that a file begins, as `lists_named` finds them.
 use Rattle.std.proofs.Common.{◌≡◌, ℕ, zero, suc, ◌+◌, ◌<◌, ◌≤◌, Bool, true, false, eqb, List, [], ◌∷◌, ◌++◌, length, Option, Some, None, Result, Ok, Err, refl, sym, ap, subst, ◌∙◌, arith, get_or, replicate, inl, inr, length-append}
 use Rattle.std.specs.Prelude.{IfOk, All, codes, map, nat_lt, nat_le, not, ◌&&◌, ◌||◌, if◌then◌else◌}
 use Rattle.std.specs.List.{AllByRecursion, IsDistinct, list_any}
@@ -33,7 +35,7 @@ use Rattle.process_model.specs.declared.script.Keyword.TheVariants as word
 use Rattle.process_model.specs.declared.script.Tail.TheVariants as tail
 use Rattle.process_model.specs.declared.script.ThreadItem.{ThreadItem}
 use Rattle.process_model.specs.declared.script.ThreadItem.TheVariants as item
-use Rattle.script_reader.specs.Gives.{Answers, Refuses}
+use Rattle.script_reader.specs.ReadResults.{GivesScript, GivesError}
 use Rattle.script_reader.specs.Playable.{FitsFile}
 use Rattle.script_reader.specs.ThreadsPlayable.{CanShare, IsDeclaredCall, IsDeclaredLine, IsList, IsThreadPlayable}
 use Rattle.script_reader.specs.declared.fault.ScriptError.{ScriptError}
@@ -422,7 +424,7 @@ said_playable lines =
 script_playable : (bytes : List ℕ) → IfOk (thread_script_of bytes) IsThreadPlayable
 script_playable bytes = elim (nat_le (length bytes) longest_script) as (λ b. IfOk (if b then said_in (raw_lines bytes) else Err (0, cause.TooLong)) IsThreadPlayable) [ true ↦ said_playable (raw_lines bytes) | false ↦ tt ]
 
-pub answer_playable : (bytes : List ℕ) (r : Result ThreadScript ScriptError) → Answers (λ s. s) r (thread_script_of bytes) → IfOk r IsThreadPlayable
+pub answer_playable : (bytes : List ℕ) (r : Result ThreadScript ScriptError) → GivesScript (λ s. s) r (thread_script_of bytes) → IfOk r IsThreadPlayable
 answer_playable bytes (Ok s) e = let P : Result ThreadScript (ℕ × Cause) → Type 0 = λ r. IfOk r IsThreadPlayable in subst P e (script_playable bytes)
 answer_playable bytes (Err e) h = tt
 
@@ -441,13 +443,13 @@ or_none false = refl
 
 -- the whole script, by what its lines say
 
-pub script_refused : (bytes : List ℕ) (e : ScriptError) → nat_le (length bytes) longest_script ≡ true → Refuses e (read_lines (Ok (nothing_said (lists_named (raw_lines bytes)), 0)) (raw_lines bytes))
-    → Refuses e (thread_script_of bytes)
+pub script_refused : (bytes : List ℕ) (e : ScriptError) → nat_le (length bytes) longest_script ≡ true → GivesError e (read_lines (Ok (nothing_said (lists_named (raw_lines bytes)), 0)) (raw_lines bytes))
+    → GivesError e (thread_script_of bytes)
 script_refused bytes script.Memory short r = tt
 script_refused bytes (script.Line n c) short r = rw (short, r) refl
 
 pub script_answers : (bytes : List ℕ) (r : Result ThreadScript ScriptError) (d : ThreadDraft) (n : ℕ) → nat_le (length bytes) longest_script ≡ true
-    → read_lines (Ok (nothing_said (lists_named (raw_lines bytes)), 0)) (raw_lines bytes) ≡ Ok (d, n) → Answers (λ s. s) r (whole_with d n d.pool) → Answers (λ s. s) r (thread_script_of bytes)
+    → read_lines (Ok (nothing_said (lists_named (raw_lines bytes)), 0)) (raw_lines bytes) ≡ Ok (d, n) → GivesScript (λ s. s) r (whole_with d n d.pool) → GivesScript (λ s. s) r (thread_script_of bytes)
 script_answers bytes r d n short is h = rw (short, is) h
 
 -- the lists that a file has, as they are found

@@ -1,4 +1,5 @@
--- What a word says that names nothing that was declared.
+-- `item_alone`: the item (what a line declares or commands) of a script line by its word and values, in the draft of no
+-- lines. For a word that names no image and no file it is the item in every draft.
 use Rattle.std.specs.Prelude.{List, Result}
 use Rattle.process_model.specs.Script.{item_of, no_lines}
 use Rattle.process_model.specs.declared.script.Cause.{Cause}

@@ -1,4 +1,5 @@
--- What a word of a file for threads says that names nothing that was declared.
+-- `call_alone`: the item (what a line declares or commands) of a line of a file for threads by its word and values, in the
+-- draft of no lines. For a word that names no image and no list it is the item in every draft.
 use Rattle.std.specs.Prelude.{List, [], Result}
 use Rattle.process_model.specs.ThreadScript.{item_of, nothing_said}
 use Rattle.process_model.specs.declared.script.Cause.{Cause}

@@ -1,4 +1,6 @@
--- What holds of each script that is read: nothing in it is left to be refused but by a step.
+-- Predicates that hold of each script that the reader accepts (`IsPlayable`): its configuration can boot (`CanBoot`), it has
+-- at most 16 files, which keep their limits (`FitsFile`), and what its lines name is declared, with at most 256 bytes in a
+-- `copyout` or a `show` (`IsDeclared`). So only a step can still be refused.
 use Rattle.std.specs.Prelude.{◌<◌, ◌≤◌, List, length, IsTrue, All}
 use Rattle.process_model.specs.Copies.{longest_copy}
 use Rattle.process_model.specs.Frames.{can_boot}
@@ -9,7 +11,8 @@ use Rattle.process_model.specs.declared.image.OwnedImage.{OwnedImage}
 use Rattle.process_model.specs.declared.script.Command.{Command}
 use Rattle.process_model.specs.declared.script.Command.TheVariants as command
 
--- the image or the file that a line names was declared, and what it copies or shows is short enough
+-- the image or the file that the line names was declared; a `copyout` has, and a `show` asks for, at
+-- most `longest_copy` bytes
 abbrev pub IsDeclared : List FileText → List OwnedImage → Command → Type 0
 IsDeclared files images (command.Start n) = n < length images
 IsDeclared files images (command.Exec h n) = n < length images

@@ -1,42 +1,44 @@
--- Scripts that come in pieces.
+-- What a `LineReader` and a `PieceReader` have read of a script (`lines_read`, `HasRead`, record `PieceReader`), what a line
+-- reader does with an error (`KeepsFault`), and how a piece of a script is cut at the ends of lines (`EndsLines`,
+-- `CutsLines`).
 use Rattle.std.specs.Prelude.{◌≡◌, ℕ, ◌≤◌, ◌++◌, List, Option, None, Some, Result, Ok, Err, length}
 use Rattle.process_model.specs.Lines.{raw_lines}
 use Rattle.process_model.specs.Script.{Draft, Read, no_lines, read_lines}
 use Rattle.process_model.specs.declared.script.Cause.{Cause}
 use Rattle.script_reader.specs.declared.fault.ScriptError.{ScriptError}
 use Rattle.script_reader.specs.declared.fault.ScriptError.TheVariants as script
-use Rattle.script_reader.specs.declared.said.Said.{Said}
+use Rattle.script_reader.specs.declared.line_reader.LineReader.{LineReader}
 
 abbrev pub read_with : Option (ℕ × Cause) → Draft → ℕ → Read
 read_with None d n = Ok (d, n)
 read_with (Some f) d n = Err f
 
--- what the lines so far say, or their first fault
-abbrev pub read_said : Said → Read
-read_said s = read_with s.fault s.draft s.count
+-- what a line reader has read: its draft and the number of lines, or the first fault
+abbrev pub lines_read : LineReader → Read
+lines_read s = read_with s.fault s.draft s.count
 
--- a fault of a line is kept
-abbrev pub IsKept : {E : Type 0} → ScriptError → Result (Unit {0}) E → Option (ℕ × Cause) → Type 0
-IsKept (script.Line n c) (Ok u) fault = fault ≡ Some (n, c)
-IsKept (script.Line n c) (Err e) fault = ⊥
-IsKept script.Memory (Ok u) fault = ⊥
-IsKept script.Memory (Err e) fault = Unit {0}
+-- what the line reader makes of an error: it keeps the fault of a line and returns `Ok`; for `Memory` it returns an error
+abbrev pub KeepsFault : {E : Type 0} → ScriptError → Result (Unit {0}) E → Option (ℕ × Cause) → Type 0
+KeepsFault (script.Line n c) (Ok u) fault = fault ≡ Some (n, c)
+KeepsFault (script.Line n c) (Err e) fault = ⊥
+KeepsFault script.Memory (Ok u) fault = ⊥
+KeepsFault script.Memory (Err e) fault = Unit {0}
 
-pub record Reading : Type 0 where
-  -- what the lines say that have ended, or the first fault among them, and how many were read
+pub record PieceReader : Type 0 where
+  -- what the lines that have ended declare and command, or the first fault among them; and how many were read
   pub read : Read
   pub count : ℕ
   -- the beginning of the next line
   pub rest : List ℕ
-  -- how many bytes have come
+  -- how many bytes were read
   pub length : ℕ
 
--- no line of a text goes on behind it
+-- the text ends where a line ends: with any text after it, the lines are those of the one and then those of the other
 abbrev pub EndsLines : List ℕ → Type 0
 EndsLines text = (more : List ℕ) → raw_lines (text ++ more) ≡ raw_lines text ++ raw_lines more
 
--- these bytes have come
-pub record HasRead (bytes : List ℕ) (r : Reading) : Type 0 where
+-- exactly these bytes were read: the lines of a part that ends where a line ends, and the beginning of the next line
+pub record HasRead (bytes : List ℕ) (r : PieceReader) : Type 0 where
   pub ended : List ℕ
   pub whole : ended ++ r.rest ≡ bytes
   pub ends : EndsLines ended
@@ -44,7 +46,8 @@ pub record HasRead (bytes : List ℕ) (r : Reading) : Type 0 where
   pub few : r.count ≤ length ended
   pub long : r.length ≡ length bytes
 
--- a piece in three: whatever stood before its first line, that line ends it
+-- a piece is cut in three: `first` ends a line, whatever text precedes the piece, `ended` ends where a
+-- line ends, and `rest` follows
 pub record CutsLines (piece first ended rest : List ℕ) : Type 0 where
   pub whole : first ++ (ended ++ rest) ≡ piece
   pub first_ends : (front : List ℕ) → EndsLines (front ++ first)

@@ -1,4 +1,5 @@
--- A row of the code's table, as the definition has it, and the kinds of the fields by their places.
+-- A row of the reader's table of words as a row of the model (`seen`), and the kind of each field after a word by its place
+-- (`kind_at`).
 use Rattle.std.specs.Prelude.{ℕ, ◌==◌, if◌then◌else◌, Option, None, Some, length, slice_get}
 use Rattle.process_model.specs.Fields as words
 use Rattle.process_model.specs.declared.script.FieldKind.{FieldKind}
@@ -9,7 +10,7 @@ use Rattle.script_reader.specs.declared.table.Row.{Row}
 abbrev pub seen : Row → words.Row
 seen r = words.row r.text.now r.word r.kinds.now r.tail
 
--- the kind of a field behind the fields that a line must have, of which there are so many
+-- the kind of a field past the `least` fields that a line must have; only for places from `least` on
 abbrev pub tail_at : ℕ → Tail → ℕ → Option FieldKind
 tail_at least tail.Nothing place = None
 tail_at least (tail.Perhaps k) place = if place == least then Some k else None

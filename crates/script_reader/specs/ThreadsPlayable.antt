@@ -1,4 +1,6 @@
--- What holds of each file for threads that is read: nothing in it is left to be refused but by a start or by a call.
+-- Predicates that hold of each file for threads that the reader accepts (`IsThreadPlayable`): its pool can be shared
+-- (`CanShare`), its files and its lists of calls keep their limits (`IsList`), and what its lines name is declared, with at
+-- most 256 bytes in a `copyout` (`IsDeclaredLine`, `IsStart`). So only a start or a call can still be refused.
 use Rattle.std.specs.Prelude.{ℕ, ◌<◌, ◌≤◌, List, length, IsTrue, All}
 use Rattle.process_model.specs.Copies.{longest_copy}
 use Rattle.process_model.specs.Frames.{can_share}
@@ -20,12 +22,12 @@ CanShare p = IsTrue (can_share p.frames p.slots)
 abbrev pub HasList : List CallList → ℕ → Type 0
 HasList lists k = IsTrue (has_list lists k)
 
--- the list that a fork names is there
+-- the list that a fork names is one of the file's
 abbrev pub IsDeclaredCall : List CallList → Call → Type 0
 IsDeclaredCall lists (call.Fork k) = HasList lists k
 IsDeclaredCall lists c = Unit {0}
 
--- so is the image that a line names, and what it copies is short enough
+-- the list or the image that the line names is declared; a `copyout` has at most `longest_copy` bytes
 abbrev pub IsDeclaredLine : List OwnedImage → List CallList → ListedCall → Type 0
 IsDeclaredLine images lists (listed.One c) = IsDeclaredCall lists c
 IsDeclaredLine images lists (listed.Exec n) = n < length images

@@ -1,12 +1,17 @@
-// Loads and stores. A width that is none is out of limits.
+// Parsers of the script lines `load` and `store`, a hart's user accesses: each makes the line's item (what it declares or
+// commands) from the values of its fields, and refuses a width other than 1, 2, 4 and 8 bytes.
 
 ghost use Rattle.std.specs.Prelude.{◌≡◌};
 ghost use Rattle.script_reader.specs.Alone.{item_alone};
 
+use crate::field_access::{index_at, number_at, optional_at};
 use crate::limits::{in_limits, one};
-use crate::places::{index_at, number_at, optional_at};
 use process_model::{Cause, FieldValue, Item, Keyword, Step, is_width};
 
+/// Makes the item of `load HART ADDRESS WIDTH [@ENTRY]`; without `@ENTRY` the access walks the page table.
+///
+/// # Errors
+/// `Limits`, exactly when WIDTH is none of 1, 2, 4 and 8 bytes.
 pub fn load(values: &[FieldValue]) -> Result<Item, Cause>
     ensures { result ≡ item_alone Keyword.Load values.now }
 {
@@ -20,6 +25,10 @@ pub fn load(values: &[FieldValue]) -> Result<Item, Cause>
     in_limits(is_width(width), one(step))
 }
 
+/// Makes the item of `store HART ADDRESS WIDTH VALUE [@ENTRY]`; without `@ENTRY` the access walks the page table.
+///
+/// # Errors
+/// `Limits`, exactly when WIDTH is none of 1, 2, 4 and 8 bytes.
 pub fn store(values: &[FieldValue]) -> Result<Item, Cause>
     ensures { result ≡ item_alone Keyword.Store values.now }
 {

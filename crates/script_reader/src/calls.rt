@@ -1,14 +1,17 @@
-// The calls of a process, and the service of its faults.
+// Parsers of the script lines that are a kernel call (`fork`, `sbrk`, `mmap`, `munmap`, `copyin`, `copyout`, `exit`) or
+// `serve`, the service of a fault: each makes a step of a hart, or the line's item (what it declares or commands), from the
+// values of its fields. The kernel call `exec` is in `compound_commands`.
 
 ghost use Rattle.std.specs.Prelude.{◌≡◌, Ok};
 ghost use Rattle.process_model.specs.Script as words;
 ghost use Rattle.script_reader.specs.Alone.{item_alone};
 
+use crate::field_access::{index_at, number_at, signed_at, take_bytes};
 use crate::limits::{in_limits, one};
-use crate::places::{index_at, number_at, signed_at, take_bytes};
 use process_model::{Cause, Command, FieldValue, Item, Keyword, LONGEST_COPY, Step};
 use std::alloc::Global;
 
+/// Makes the step of `serve HART`, the service of a fault.
 pub fn serve(values: &[FieldValue]) -> Step<'static>
     ensures { Ok (words.one result) ≡ item_alone Keyword.Serve values.now }
 {
@@ -17,6 +20,7 @@ pub fn serve(values: &[FieldValue]) -> Step<'static>
     }
 }
 
+/// Makes the step of `fork HART`.
 pub fn fork(values: &[FieldValue]) -> Step<'static>
     ensures { Ok (words.one result) ≡ item_alone Keyword.Fork values.now }
 {
@@ -25,6 +29,7 @@ pub fn fork(values: &[FieldValue]) -> Step<'static>
     }
 }
 
+/// Makes the step of `sbrk HART DELTA`, with a signed number of bytes.
 pub fn sbrk(values: &[FieldValue]) -> Step<'static>
     ensures { Ok (words.one result) ≡ item_alone Keyword.Sbrk values.now }
 {
@@ -34,6 +39,7 @@ pub fn sbrk(values: &[FieldValue]) -> Step<'static>
     }
 }
 
+/// Makes the step of `mmap HART LEN PROT FLAGS FILE`. The step checks the arguments.
 pub fn mmap(values: &[FieldValue]) -> Step<'static>
     ensures { Ok (words.one result) ≡ item_alone Keyword.Mmap values.now }
 {
@@ -46,6 +52,7 @@ pub fn mmap(values: &[FieldValue]) -> Step<'static>
     }
 }
 
+/// Makes the step of `munmap HART ADDRESS LEN`.
 pub fn munmap(values: &[FieldValue]) -> Step<'static>
     ensures { Ok (words.one result) ≡ item_alone Keyword.Munmap values.now }
 {
@@ -56,6 +63,10 @@ pub fn munmap(values: &[FieldValue]) -> Step<'static>
     }
 }
 
+/// Makes the item of `copyin HART ADDRESS COUNT`.
+///
+/// # Errors
+/// `Limits`, exactly when COUNT is above 256 bytes.
 pub fn copy_in(values: &[FieldValue]) -> Result<Item, Cause>
     ensures { result ≡ item_alone Keyword.CopyIn values.now }
 {
@@ -68,6 +79,10 @@ pub fn copy_in(values: &[FieldValue]) -> Result<Item, Cause>
     in_limits(count <= LONGEST_COPY, one(step))
 }
 
+/// Makes the item of `copyout HART ADDRESS HEX`.
+///
+/// # Errors
+/// `Limits`, exactly when HEX has more than 256 bytes.
 pub fn copy_out(alloc: Global, values: Vec<FieldValue>) -> Result<Item, Cause>
     ensures { result ≡ item_alone Keyword.CopyOut values.items }
 {
@@ -83,7 +98,10 @@ pub fn copy_out(alloc: Global, values: Vec<FieldValue>) -> Result<Item, Cause>
     in_limits(within, Item::Command(command))
 }
 
-/// A status has 32 bits.
+/// Makes the item of `exit HART STATUS`.
+///
+/// # Errors
+/// `Limits`, exactly when STATUS is below -2^31 or above 2^31 - 1.
 pub fn exit(values: &[FieldValue]) -> Result<Item, Cause>
     ensures { result ≡ item_alone Keyword.Exit values.now }
 {

@@ -1,16 +1,18 @@
-// The lines after `boot`, each in little room.
+// `Commands`, a struct: the list of a script's lines after `boot`, with `push`, `get` and `len`. Common lines with small
+// numbers are packed into 24 bytes each (`PackedCommand`, an enum), all others are kept whole. `CommandView`, an enum: a
+// line as `get` returns it.
 
 ghost use Rattle.std.specs.Prelude.{◌≡◌, ◌<◌, ◌++◌, ◌∷◌, [], length, map, IfSome, OnOk, OnErr, All, List, slice_index_or};
 ghost use Rattle.process_model.specs.declared.script.Command.TheVariants as command;
-ghost use Rattle.script_reader.specs.Packing as model;
+ghost use Rattle.script_reader.specs.PackedLines as model;
 
 use process_model::{Command, Step};
 use std::alloc::{AllocError, Global};
 use std::marker::Model;
 
-/// A line in little room, where its numbers are small; else its place among those that are kept whole.
+/// A packed line: one of the common kinds, with small numbers, or the place of a line among those that are kept whole.
 #[derive(Clone, Copy)]
-enum Packed {
+enum PackedCommand {
     Switch {
         hart: u16,
         slot: Option<u16>,
@@ -63,30 +65,31 @@ enum Packed {
 }
 
 // A script may have 100,000 lines after `boot`: each byte of a line counts.
-const _: () = prove!(size_of::<Packed>() == 24);
+const _: () = prove!(size_of::<PackedCommand>() == 24);
 
-/// A line after `boot`, as it is kept.
+/// A line after `boot`, as `Commands::get` returns it.
 #[derive(Drop)]
-pub enum Shown<'a> {
-    /// One step.
+pub enum CommandView<'a> {
+    /// A line that is one step, made again from its packed form.
     Step(Step<'static>),
-    /// A line that was made again of what is kept of it.
+    /// Any other line that was made again from its packed form.
     Made(Command),
-    /// A line that is kept whole.
+    /// A line that is kept whole; it may be one step too.
     Kept(&'a Command),
 }
 
-/// A list of the lines after `boot`. Those whose numbers are small take 24 bytes each.
+/// The list of the lines after `boot`. Each takes 24 bytes; one of a rarer kind, or with a large number,
+/// is kept whole beside them.
 #[derive(Drop)]
 pub struct Commands {
-    packed: Vec<Packed>,
+    packed: Vec<PackedCommand>,
     whole: Vec<Command>,
 }
 
 impl Model for Commands {
     ghost use Rattle.std.specs.Prelude.{List, map, length, All};
     ghost use Rattle.process_model.specs.declared.script.Command.{Command};
-    ghost use Rattle.script_reader.specs.Packing as model;
+    ghost use Rattle.script_reader.specs.PackedLines as model;
 
     ghost Value = { List Command };
 
@@ -95,14 +98,14 @@ impl Model for Commands {
     ghost invariant = { λ c. All (model.IsWithin (length c.whole.items)) c.packed.items };
 }
 
-/// A number in two bytes, where it fits.
+/// The number in two bytes, if it fits.
 fn small(number: usize) -> Option<u16>
     ensures { IfSome result (λ it. it ≡ number) }
 {
     u16::try_from(number).ok()
 }
 
-/// A slot or an entry in two bytes, where it fits.
+/// A slot or an entry, or none, in two bytes, if it fits.
 fn small_or_none(number: Option<usize>) -> Option<Option<u16>>
     ensures { IfSome result (λ it. it ≡ number) }
 {
@@ -112,7 +115,7 @@ fn small_or_none(number: Option<usize>) -> Option<Option<u16>>
     }
 }
 
-/// A slot or an entry.
+/// A slot or an entry, or none, from two bytes.
 fn wide_or_none(number: Option<u16>) -> Option<usize>
     ensures { result ≡ number }
 {
@@ -122,21 +125,21 @@ fn wide_or_none(number: Option<u16>) -> Option<usize>
     }
 }
 
-/// A step in little room, where it fits.
+/// Packs a step of a common kind, if its numbers fit.
 #[inline(always)]
-fn pack_step(step: &Step<'static>) -> Option<Packed>
+fn pack_step(step: &Step<'static>) -> Option<PackedCommand>
     ensures { IfSome result (λ packed. model.Says packed (command.One step.now)) }
 {
     match *step {
-        Step::Switch { hart, slot } => Some(Packed::Switch {
+        Step::Switch { hart, slot } => Some(PackedCommand::Switch {
             hart: small(hart)?,
             slot: small_or_none(slot)?,
         }),
-        Step::Fill { hart, address } => Some(Packed::Fill {
+        Step::Fill { hart, address } => Some(PackedCommand::Fill {
             hart: small(hart)?,
             address,
         }),
-        Step::Fetch { hart, address, via } => Some(Packed::Fetch {
+        Step::Fetch { hart, address, via } => Some(PackedCommand::Fetch {
             hart: small(hart)?,
             via: small_or_none(via)?,
             address,
@@ -146,7 +149,7 @@ fn pack_step(step: &Step<'static>) -> Option<Packed>
             address,
             width,
             via,
-        } => Some(Packed::Load {
+        } => Some(PackedCommand::Load {
             width: u8::try_from(width).ok()?,
             hart: small(hart)?,
             via: small_or_none(via)?,
@@ -158,7 +161,7 @@ fn pack_step(step: &Step<'static>) -> Option<Packed>
             width,
             value,
             via,
-        } => Some(Packed::Store {
+        } => Some(PackedCommand::Store {
             width: u8::try_from(width).ok()?,
             hart: small(hart)?,
             via: small_or_none(via)?,
@@ -169,7 +172,7 @@ fn pack_step(step: &Step<'static>) -> Option<Packed>
             hart,
             address,
             count,
-        } => Some(Packed::CopyIn {
+        } => Some(PackedCommand::CopyIn {
             hart: small(hart)?,
             count: small(count)?,
             address,
@@ -178,110 +181,111 @@ fn pack_step(step: &Step<'static>) -> Option<Packed>
     }
 }
 
-/// A line in little room, where it fits.
+/// Packs a line of a common kind, if its numbers fit.
 #[inline(always)]
-fn pack(line: &Command) -> Option<Packed>
+fn pack(line: &Command) -> Option<PackedCommand>
     ensures { IfSome result (λ packed. model.Says packed line.now) }
 {
     if let Command::One(step) = line {
         return pack_step(step);
     }
     match line {
-        Command::Exec { hart, image } => Some(Packed::Exec {
+        Command::Exec { hart, image } => Some(PackedCommand::Exec {
             hart: small(*hart)?,
             image: small(*image)?,
         }),
-        Command::On { hart, slot } => Some(Packed::On {
+        Command::On { hart, slot } => Some(PackedCommand::On {
             hart: small(*hart)?,
             slot: small(*slot)?,
         }),
-        Command::Enter { hart } => Some(Packed::Enter {
+        Command::Enter { hart } => Some(PackedCommand::Enter {
             hart: small(*hart)?,
         }),
-        Command::Leave { hart } => Some(Packed::Leave {
+        Command::Leave { hart } => Some(PackedCommand::Leave {
             hart: small(*hart)?,
         }),
-        Command::Fix { hart } => Some(Packed::Fix {
+        Command::Fix { hart } => Some(PackedCommand::Fix {
             hart: small(*hart)?,
         }),
         _ => None,
     }
 }
 
-/// The line that is kept so, with these kept whole.
-fn unpack(packed: Packed, whole: &[Command]) -> Shown<'_>
+/// Returns the line that a packed one means; `whole` has the lines that are kept whole.
+fn unpack(packed: PackedCommand, whole: &[Command]) -> CommandView<'_>
     requires { model.IsWithin (length whole.now) packed }
     ensures { model.shown result ≡ model.unpacked whole.now packed }
 {
     match packed {
-        Packed::Switch { hart, slot } => Shown::Step(Step::Switch {
+        PackedCommand::Switch { hart, slot } => CommandView::Step(Step::Switch {
             hart: usize::from(hart),
             slot: wide_or_none(slot),
         }),
-        Packed::Fill { hart, address } => Shown::Step(Step::Fill {
+        PackedCommand::Fill { hart, address } => CommandView::Step(Step::Fill {
             hart: usize::from(hart),
             address,
         }),
-        Packed::Fetch { hart, via, address } => Shown::Step(Step::Fetch {
+        PackedCommand::Fetch { hart, via, address } => CommandView::Step(Step::Fetch {
             hart: usize::from(hart),
             address,
             via: wide_or_none(via),
         }),
-        Packed::Load {
+        PackedCommand::Load {
             width,
             hart,
             via,
             address,
-        } => Shown::Step(Step::Load {
+        } => CommandView::Step(Step::Load {
             hart: usize::from(hart),
             address,
             width: u64::from(width),
             via: wide_or_none(via),
         }),
-        Packed::Store {
+        PackedCommand::Store {
             width,
             hart,
             via,
             address,
             value,
-        } => Shown::Step(Step::Store {
+        } => CommandView::Step(Step::Store {
             hart: usize::from(hart),
             address,
             width: u64::from(width),
             value,
             via: wide_or_none(via),
         }),
-        Packed::CopyIn {
+        PackedCommand::CopyIn {
             hart,
             count,
             address,
-        } => Shown::Step(Step::CopyIn {
+        } => CommandView::Step(Step::CopyIn {
             hart: usize::from(hart),
             address,
             count: usize::from(count),
         }),
-        Packed::Exec { hart, image } => Shown::Made(Command::Exec {
+        PackedCommand::Exec { hart, image } => CommandView::Made(Command::Exec {
             hart: usize::from(hart),
             image: usize::from(image),
         }),
-        Packed::On { hart, slot } => Shown::Made(Command::On {
+        PackedCommand::On { hart, slot } => CommandView::Made(Command::On {
             hart: usize::from(hart),
             slot: usize::from(slot),
         }),
-        Packed::Enter { hart } => Shown::Made(Command::Enter {
+        PackedCommand::Enter { hart } => CommandView::Made(Command::Enter {
             hart: usize::from(hart),
         }),
-        Packed::Leave { hart } => Shown::Made(Command::Leave {
+        PackedCommand::Leave { hart } => CommandView::Made(Command::Leave {
             hart: usize::from(hart),
         }),
-        Packed::Fix { hart } => Shown::Made(Command::Fix {
+        PackedCommand::Fix { hart } => CommandView::Made(Command::Fix {
             hart: usize::from(hart),
         }),
-        Packed::Whole(place) => Shown::Kept(&whole[place]),
+        PackedCommand::Whole(place) => CommandView::Kept(&whole[place]),
     }
 }
 
 impl Commands {
+    /// Returns an empty list.
     pub fn new(alloc: Global) -> Commands
         ensures { result ≡ [] }
     {
@@ -291,22 +295,22 @@ impl Commands {
         }
     }
 
+    /// Returns the number of lines after `boot`.
     pub fn len(&self) -> usize
         ensures { result ≡ length self.now }
     {
         self.packed.len()
     }
 
-    /// The line of this number, from 0.
-    pub fn get(&self, number: usize) -> Shown<'_>
+    /// Returns line `number`, counted from 0, which must be below `len`.
+    pub fn get(&self, number: usize) -> CommandView<'_>
         requires { number < length self.now }
         ensures { model.shown result ≡ slice_index_or self.now number (model.shown result) }
     {
         unpack(self.packed[number], self.whole.as_slice())
     }
 
-    /// Puts a line that is kept whole behind those before it. Where memory is refused, nothing changes. It stands apart,
-    /// since such a line is rare.
+    /// Appends a line that is kept whole; on `AllocError` the list is unchanged. Not inlined, since such a line is rare.
     #[cold]
     #[inline(never)]
     fn push_whole(&mut self, line: Command) -> Result<(), AllocError>
@@ -316,12 +320,14 @@ impl Commands {
         self.packed.reserve(1)?;
         let place = self.whole.len();
         self.whole.push(line)?;
-        self.packed.push_reserved(Packed::Whole(place));
+        self.packed.push_reserved(PackedCommand::Whole(place));
         Ok(())
     }
 
-    /// Puts a line behind those before it. Where memory is refused, nothing changes. A call would write the line to memory
-    /// once more, so it stands where it is called.
+    /// Appends a line. Inlined, since a call would write the line to memory once more.
+    ///
+    /// # Errors
+    /// `AllocError`: host memory was refused; the list is unchanged.
     #[inline(always)]
     pub fn push(&mut self, line: Command) -> Result<(), AllocError>
         ensures pushed { OnOk result (self.new ≡ self.old ++ line ∷ []) }

@@ -1,4 +1,6 @@
-// What the lines so far say.
+// `Draft`, a struct: the files, images, configuration and commands of the script lines read so far. Functions: whether the
+// next line may have a word (order), whether there is room for an item (what a line declares or commands), and adding one.
+// Constants: the most files, images and lines after `boot`.
 
 ghost use Rattle.std.specs.Prelude.{◌≡◌, ◌&&◌, OnOk, OnErr, is_some, length, nat_lt};
 ghost use Rattle.process_model.specs.declared.script.Item.TheVariants as item;
@@ -9,16 +11,16 @@ use process_model::{Command, Config, FileText, Item, Keyword, OwnedImage};
 use std::alloc::{AllocError, Global};
 use std::marker::Model;
 
-/// How many files a script may declare.
+/// The most files a script may declare.
 pub const MOST_FILES: usize = 16;
 
-/// How many images a script may declare.
+/// The most images a script may declare.
 pub const MOST_IMAGES: usize = 64;
 
-/// How many lines may stand after `boot`.
+/// The most lines a script may have after `boot`, without those that are skipped.
 pub const MOST_COMMANDS: usize = 100_000;
 
-/// What the lines so far say.
+/// What the lines of a script read so far declare and command.
 #[derive(Drop)]
 pub struct Draft {
     files: Vec<FileText>,
@@ -35,7 +37,7 @@ impl Model for Draft {
     ghost view = { λ d. record { files = d.files.items; images = d.images.items; config = d.config; commands = d.commands } };
 }
 
-/// Whether a word belongs before the steps.
+/// Whether lines with this word precede the steps: declarations, and `boot`.
 fn comes_first(word: Keyword) -> bool
     ensures { result ≡ words.comes_first word }
 {
@@ -46,6 +48,7 @@ fn comes_first(word: Keyword) -> bool
 }
 
 impl Draft {
+    /// Returns the draft of no lines.
     pub fn new(alloc: Global) -> Draft
         ensures { result ≡ words.no_lines }
     {
@@ -57,28 +60,28 @@ impl Draft {
         }
     }
 
-    /// Whether a line with this word may stand next.
+    /// Whether the next line may have this word: until `boot` was read a declaration or `boot`, from then on any other.
     pub fn in_order(&self, word: Keyword) -> bool
         ensures { result ≡ words.in_order self.now word }
     {
         comes_first(word) != self.config.is_some()
     }
 
-    /// Whether the image was declared.
+    /// Whether an image of this number was declared; they are numbered from 0.
     pub fn has_image(&self, number: usize) -> bool
         ensures { result ≡ words.has_image self.now number }
     {
         number < self.images.len()
     }
 
-    /// Whether the file was declared.
+    /// Whether a file of this number was declared; they are numbered from 0.
     pub fn has_file(&self, number: usize) -> bool
         ensures { result ≡ words.has_file self.now number }
     {
         number < self.files.len()
     }
 
-    /// Whether there may be one more line of this sort.
+    /// Whether the script may have one more item of this kind.
     pub fn has_room(&self, item: &Item) -> bool
         ensures { result ≡ words.has_room self.now item.now }
     {
@@ -90,7 +93,10 @@ impl Draft {
         }
     }
 
-    /// Puts what a line says after what the lines before it say. Where memory is refused, nothing changes.
+    /// Adds the item of a line after those of the lines before it.
+    ///
+    /// # Errors
+    /// `AllocError`: host memory was refused; the draft is unchanged.
     pub fn add(&mut self, item: Item) -> Result<(), AllocError>
         ensures added { OnOk result (self.new ≡ words.with_item self.old item) }
         ensures kept { OnErr result (self.new ≡ self.old) }
@@ -104,15 +110,17 @@ impl Draft {
         Ok(())
     }
 
-    /// Whether the machine was booted, and one more line may stand behind.
+    /// Whether `boot` was read, and the script may have one more line after it.
     pub fn takes_commands(&self) -> bool
         ensures { result ≡ (is_some (self.now).config && nat_lt (length (self.now).commands) words.most_commands) }
     {
         self.config.is_some() && self.commands.len() < MOST_COMMANDS
     }
 
-    /// Puts a line behind `boot` after those before it. Where memory is refused, nothing changes. It is made part of its caller
-    /// (`inline(always)`), who may know what the line is.
+    /// Adds a command after those of the lines before it. Inlined, since the caller may know which command it is.
+    ///
+    /// # Errors
+    /// `AllocError`: host memory was refused; the draft is unchanged.
     #[inline(always)]
     pub fn add_command(&mut self, command: Command) -> Result<(), AllocError>
         ensures added { OnOk result (self.new ≡ words.with_item self.old (item.Command command)) }
@@ -122,6 +130,7 @@ impl Draft {
         Ok(())
     }
 
+    /// Returns the files, the images, the configuration (`None` if no line was a `boot`) and the commands.
     pub fn into_parts(self) -> (Vec<FileText>, Vec<OwnedImage>, Option<Config>, Commands)
         ensures files { result.0.items ≡ self.files }
         ensures images { result.1.items ≡ self.images }

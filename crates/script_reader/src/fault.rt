@@ -1,12 +1,16 @@
-// Why a line, or a whole script, could not be read.
+// The reader's two error enums: `LineFault`, why one line was not read, and `ScriptError`, why a whole script or file for
+// threads was not (with the number of the line); each has a case for refused host memory. Conversions from `AllocError` and
+// `Cause` to `LineFault`.
 
 use process_model::Cause;
 use std::alloc::AllocError;
 
-/// Why a line could not be read.
+/// Why a line was not read.
 #[derive(Debug, Drop)]
 pub enum LineFault {
+    /// Host memory was refused.
     Memory,
+    /// The line has a fault.
     Cause(Cause),
 }
 
@@ -32,11 +36,12 @@ impl From<Cause> for LineFault {
     }
 }
 
-/// Why a script is refused.
+/// Why a script, or a file for threads, was not read.
 #[derive(Clone, Copy, PartialEq, Eq, Debug)]
 pub enum ScriptError {
     /// Host memory was refused.
     Memory,
-    /// The first line at fault, from 1, and its cause; line 0 is the script as a whole.
+    /// The first line with a fault, counted from 1, and its cause. Line 0, with `TooLong`: the text as a whole. The line
+    /// after the last, with `Order`: no line has a fault, and a script has no `boot`, or a file for threads no `pool`.
     Line(u64, Cause),
 }

@@ -1,4 +1,5 @@
-// Bytes, as pairs of hexadecimal digits spell them.
+// `hex`: parses a HEX field of a line into bytes: two hexadecimal digits for each byte, at least one byte, or `-` for no
+// bytes.
 
 ghost use Rattle.std.specs.Prelude.{◌≡◌, ◌+◌, ◌<◌, IfOk, MatchOption, None, Some, length};
 ghost use Rattle.process_model.specs.Numbers.{pairs_of, hex_of, then_bytes};
@@ -7,7 +8,7 @@ use crate::numbers::hexadecimal_value;
 use process_model::Bytes;
 use std::alloc::{AllocError, Global};
 
-/// The byte that the first two digits say, and what follows them.
+/// The byte of the first two digits, and what follows them. `None`: they are no two hexadecimal digits.
 fn first_byte(digits: &[u8]) -> Option<(u8, &[u8])>
     requires { 0 < length digits.now }
     ensures byte { MatchOption result (pairs_of digits.now ≡ None) (λ found. pairs_of digits.now ≡ then_bytes (Some found.0) (pairs_of found.1.now)) }
@@ -26,7 +27,7 @@ fn first_byte(digits: &[u8]) -> Option<(u8, &[u8])>
     }
 }
 
-/// The bytes that hexadecimal digits say, two a byte.
+/// The bytes of hexadecimal digits, two for each. `None`: the number of digits is odd, or a byte is no digit.
 fn pairs(alloc: Global, digits: &[u8]) -> Result<Option<Bytes>, AllocError>
     ensures { IfOk result (λ bytes. bytes ≡ pairs_of digits.now) }
 {
@@ -42,7 +43,11 @@ fn pairs(alloc: Global, digits: &[u8]) -> Result<Option<Bytes>, AllocError>
     Ok(Some(Bytes::from_vec(items)))
 }
 
-/// The bytes that a field says: `-` for none.
+/// Parses a HEX field: two hexadecimal digits of either case for each byte, at least one byte, or `-` for no bytes. `None`:
+/// the field has another form.
+///
+/// # Errors
+/// `AllocError`: host memory was refused.
 pub fn hex(alloc: Global, field: &[u8]) -> Result<Option<Bytes>, AllocError>
     ensures { IfOk result (λ bytes. bytes ≡ hex_of field.now) }
 {

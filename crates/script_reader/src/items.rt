@@ -1,27 +1,33 @@
-// What a line says, by its word and its values.
+// `make_item`: calls the parser that belongs to the word of a script line, and returns the line's item: a declared file or
+// image, the configuration of `boot`, or a command.
 
 ghost use Rattle.process_model.specs.Script as words;
-ghost use Rattle.script_reader.specs.Gives.{Gives};
+ghost use Rattle.script_reader.specs.ReadResults.{GivesLine};
 
 use crate::accesses::{load, store};
 use crate::calls::{copy_in, copy_out, exit, fork, mmap, munmap, sbrk, serve};
-use crate::declared::{boot, elf, file, image};
+use crate::compound_commands::{enter, exec, fix, leave, on, show, start};
+use crate::declarations::{boot, elf, file, image};
 use crate::draft::Draft;
 use crate::fault::LineFault;
 use crate::limits::one;
-use crate::named::{enter, exec, fix, leave, on, show, start};
 use crate::steps::{evict, fetch, fill, next, switch, tramp, trap};
 use process_model::{Cause, Command, FieldValue, Item, Keyword};
 use std::alloc::Global;
 
-/// The item that the values after a word make.
+/// Makes the item of a line from its word and the values after it. `draft` has what the lines before it declare: the images
+/// and files that `start`, `exec` and `show` may name.
+///
+/// # Errors
+/// `Cause(Limits)`: a value is outside its limits. `Cause(Word)`: `pool` and `list`, which only a file for threads may have.
+/// `Memory`: host memory was refused.
 pub fn make_item(
     alloc: Global,
     draft: &Draft,
     word: Keyword,
     values: Vec<FieldValue>,
 ) -> Result<Item, LineFault>
-    ensures { Gives (λ x. x) result (words.item_of draft.now word values.items) }
+    ensures { GivesLine (λ x. x) result (words.item_of draft.now word values.items) }
 {
     let v = values.as_slice();
     match word {

@@ -1,25 +1,27 @@
-//! Scripts, read whole: each line, the first fault, and what an accepted script says.
+//! Parses the two inputs of `xv6vm`: scripts, for `xv6vm play` (`Script`, and `PieceReader` for a script read in pieces),
+//! and files for threads, for `xv6vm threads` (`ThreadScript`). The result is a value that can be played, or `ScriptError`:
+//! the text's first fault, by line and cause, or host memory refused. `Commands`: the list of a script's lines after `boot`.
 #![tactic(auto)]
 
 mod accesses;
-mod adding;
 mod calls;
 mod commands;
-mod declared;
+mod compound_commands;
+mod declarations;
 mod draft;
+mod fast_lines;
+mod fast_path;
 mod fault;
-mod fronts;
+mod field_access;
 mod hex;
 mod items;
 mod limits;
+mod line_reader;
 mod lines;
-mod named;
+mod number_prefixes;
 mod numbers;
-mod piecewise;
-mod places;
-mod quick;
-mod reading;
-mod said;
+mod piece_reader;
+mod read_line;
 mod script;
 mod segments;
 mod steps;
@@ -32,8 +34,8 @@ mod thread_named;
 mod thread_script;
 mod values;
 
-pub use commands::{Commands, Shown};
+pub use commands::{CommandView, Commands};
 pub use fault::ScriptError;
-pub use piecewise::{LONGEST_SCRIPT, Reading};
+pub use piece_reader::{LONGEST_SCRIPT, PieceReader};
 pub use script::Script;
 pub use thread_script::ThreadScript;

@@ -1,17 +1,22 @@
-// What a line says, within its limits.
+// Two helpers of the parsers of single lines: `in_limits`, which returns cause `Limits` unless the values keep their limits,
+// and `one`, the item (what a line declares or commands) of a script line that is one step.
 
 ghost use Rattle.std.specs.Prelude.{◌≡◌};
 ghost use Rattle.process_model.specs.Script as words;
 
 use process_model::{Cause, Command, Item, Step};
 
+/// Returns `said`, the item of a line whose values were checked.
+///
+/// # Errors
+/// `Limits`, exactly when `within` is false.
 pub fn in_limits<T: Drop>(within: bool, said: T) -> Result<T, Cause>
     ensures { result ≡ words.in_limits within said }
 {
     if within { Ok(said) } else { Err(Cause::Limits) }
 }
 
-/// A line that is one step.
+/// Returns the item of a line that is one step.
 pub fn one(step: Step<'static>) -> Item
     ensures { result ≡ words.one step.entry }
 {

@@ -1,10 +1,11 @@
-// Numbers, as fields spell them.
+// Parsers of a field that is a number: `number`, decimal digits, or `0x` and hexadecimal digits, below 2^64; `signed`, of 64
+// bits. And the values of single digits.
 
 ghost use Rattle.std.specs.Prelude.{◌≡◌, ◌^◌, Some};
 ghost use Rattle.script_reader.specs.Digits.{value_or_255};
 ghost use Rattle.process_model.specs.Numbers.{digit_of, digits_in, if_below, number_of, signed_of, as_negative};
 
-/// The value of each byte as a hexadecimal digit of either case; of a byte that is none, 255.
+/// For each byte its value as a hexadecimal digit of either case, 255 if it is none.
 static HEXADECIMAL_DIGITS: [u8; 256] = [
     255, 255, 255, 255, 255, 255, 255, 255, 255, 255, 255, 255, 255, 255, 255, 255, 255, 255, 255,
     255, 255, 255, 255, 255, 255, 255, 255, 255, 255, 255, 255, 255, 255, 255, 255, 255, 255, 255,
@@ -22,14 +23,14 @@ static HEXADECIMAL_DIGITS: [u8; 256] = [
     255, 255, 255,
 ];
 
-/// The value of a byte as a hexadecimal digit; of a byte that is none, 255.
+/// Returns the value of a byte as a hexadecimal digit of either case, 255 if it is none.
 pub fn hexadecimal_value(byte: u8) -> u8
     ensures { result ≡ value_or_255 (digit_of 16 byte) }
 {
     HEXADECIMAL_DIGITS[byte as usize]
 }
 
-/// The value of a hexadecimal digit of either case.
+/// The value of a byte as a hexadecimal digit of either case, `None` if it is none.
 fn hexadecimal_digit(byte: u8) -> Option<u64>
     ensures { result ≡ digit_of 16 byte }
 {
@@ -41,7 +42,7 @@ fn hexadecimal_digit(byte: u8) -> Option<u64>
     }
 }
 
-/// The value of a byte as a decimal digit; of a byte that is none, 255.
+/// Returns the value of a byte as a decimal digit, 255 if it is none.
 pub fn decimal_value(byte: u8) -> u8
     ensures { result ≡ value_or_255 (digit_of 10 byte) }
 {
@@ -51,7 +52,7 @@ pub fn decimal_value(byte: u8) -> u8
     }
 }
 
-/// The value of a decimal digit.
+/// The value of a byte as a decimal digit, `None` if it is none.
 fn decimal_digit(byte: u8) -> Option<u64>
     ensures { result ≡ digit_of 10 byte }
 {
@@ -61,7 +62,7 @@ fn decimal_digit(byte: u8) -> Option<u64>
     }
 }
 
-/// The number that hexadecimal digits say, below 2^64.
+/// The number of hexadecimal digits. `None`: there is no digit, another byte, or the number is 2^64 or more.
 fn hexadecimal(digits: &[u8]) -> Option<u64>
     ensures { result ≡ if_below (2 ^ 64) (digits_in 16 digits.now) }
 {
@@ -79,7 +80,7 @@ fn hexadecimal(digits: &[u8]) -> Option<u64>
     Some(value)
 }
 
-/// The number that decimal digits say, below 2^64.
+/// The number of decimal digits. `None`: there is no digit, another byte, or the number is 2^64 or more.
 fn decimal(digits: &[u8]) -> Option<u64>
     ensures { result ≡ if_below (2 ^ 64) (digits_in 10 digits.now) }
 {
@@ -93,7 +94,8 @@ fn decimal(digits: &[u8]) -> Option<u64>
     Some(value)
 }
 
-/// Decimal digits, or `0x` and hexadecimal ones.
+/// Parses a number: decimal digits, or `0x` and hexadecimal digits. `None`: the field has another form, or
+/// the number is 2^64 or more.
 pub fn number(field: &[u8]) -> Option<u64>
     ensures { result ≡ number_of field.now }
 {
@@ -103,7 +105,8 @@ pub fn number(field: &[u8]) -> Option<u64>
     }
 }
 
-/// The same, where `-` may stand in front: from -2^63 to 2^63 - 1.
+/// Parses a signed number: a number, or `-` and a number. `None`: the field has another form, or is
+/// below -2^63 or above 2^63 - 1.
 pub fn signed(field: &[u8]) -> Option<i64>
     ensures { result ≡ signed_of field.now }
 {

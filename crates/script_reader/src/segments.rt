@@ -1,10 +1,11 @@
-// Segments, as fields spell them.
+// `read_segment`: parses a segment of an `image` line (address, size in memory, rights, bytes) from its field,
+// `VADDR:MEMSZ:FLAGS:HEX`.
 
 ghost use Rattle.std.specs.Prelude.{◌≡◌, IfOk};
 ghost use Rattle.process_model.specs.Fields as words;
 ghost use Rattle.process_model.specs.Lines.{pieces_of};
 ghost use Rattle.process_model.specs.Numbers.{number_of, hex_of};
-ghost use Rattle.script_reader.specs.Pieces.{FourPieces};
+ghost use Rattle.script_reader.specs.Pieces.{IsSegmentFields};
 
 use crate::hex::hex;
 use crate::lines::first_piece;
@@ -12,18 +13,18 @@ use crate::numbers::number;
 use process_model::Segment;
 use std::alloc::{AllocError, Global};
 
-/// The pieces of a segment's field.
+/// The four pieces of a segment's field, which colons separate.
 #[derive(Clone, Copy)]
-struct Pieces<'a> {
+struct SegmentFields<'a> {
     address: &'a [u8],
     memory_size: &'a [u8],
     flags: &'a [u8],
     bytes: &'a [u8],
 }
 
-/// A field of just four pieces.
-fn four_pieces(field: &[u8]) -> Option<Pieces<'_>>
-    ensures { FourPieces (pieces_of field.now) result }
+/// Splits a field into its four pieces. `None`: it has fewer or more, so it is no segment.
+fn four_pieces(field: &[u8]) -> Option<SegmentFields<'_>>
+    ensures { IsSegmentFields (pieces_of field.now) result }
 {
     let (address, rest) = first_piece(field);
     let (memory_size, rest) = first_piece(rest?);
@@ -31,7 +32,7 @@ fn four_pieces(field: &[u8]) -> Option<Pieces<'_>>
     let (bytes, rest) = first_piece(rest?);
     match rest {
         Some(_) => None,
-        None => Some(Pieces {
+        None => Some(SegmentFields {
             address,
             memory_size,
             flags,
@@ -46,7 +47,7 @@ fn has_letter(letter: u8, letters: &[u8]) -> bool
     letters.contains(&letter)
 }
 
-/// The letters r, w and x, each at most once.
+/// Whether each byte is one of the letters `r`, `w`, `x`, and none is there twice.
 fn are_letters(letters: &[u8]) -> bool
     ensures { result ≡ words.are_letters letters.now }
 {
@@ -58,14 +59,17 @@ fn are_letters(letters: &[u8]) -> bool
     }
 }
 
-/// The same, or `-` for none.
+/// Whether the flags are `-`, or one or more of the letters `r`, `w`, `x`, each at most once.
 fn are_flags(flags: &[u8]) -> bool
     ensures { result ≡ words.are_flags flags.now }
 {
     matches!(flags, b"-") || !flags.is_empty() && are_letters(flags)
 }
 
-/// The segment that a field `VADDR:MEMSZ:FLAGS:HEX` says, or nothing where it has another form.
+/// Parses a segment from its field `VADDR:MEMSZ:FLAGS:HEX`. `None`: the field has another form.
+///
+/// # Errors
+/// `AllocError`: host memory was refused.
 pub fn read_segment(alloc: Global, field: &[u8]) -> Result<Option<Segment>, AllocError>
     ensures { IfOk result (λ segment. segment ≡ words.segment_in (pieces_of field.now)) }
 {
@@ -75,7 +79,7 @@ pub fn read_segment(alloc: Global, field: &[u8]) -> Result<Option<Segment>, Allo
     }
 }
 
-fn from_pieces(alloc: Global, pieces: Pieces<'_>) -> Result<Option<Segment>, AllocError>
+fn from_pieces(alloc: Global, pieces: SegmentFields<'_>) -> Result<Option<Segment>, AllocError>
     ensures { IfOk result (λ segment. segment ≡ words.segment_with (number_of pieces.entry.address.now) (number_of pieces.entry.memory_size.now) pieces.entry.flags.now (words.are_flags pieces.entry.flags.now) (hex_of pieces.entry.bytes.now)) }
 {
     let (Some(address), Some(memory_size)) = (number(pieces.address), number(pieces.memory_size))

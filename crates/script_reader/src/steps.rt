@@ -1,12 +1,14 @@
-// The words of a hart, its buffer and its accesses, each one step.
+// Parsers of the script lines that are one step of a hart, without limits to check: `switch`, `trap`, `next`, `fill`,
+// `evict`, `fetch`, `tramp`. Each makes the step from the values of the line's fields.
 
 ghost use Rattle.std.specs.Prelude.{◌≡◌, Ok};
 ghost use Rattle.process_model.specs.Script as words;
 ghost use Rattle.script_reader.specs.Alone.{item_alone};
 
-use crate::places::{index_at, number_at, optional_at};
+use crate::field_access::{index_at, number_at, optional_at};
 use process_model::{FieldValue, Keyword, Step};
 
+/// Makes the step of `switch HART SLOT`; for a SLOT of `-` the slot is `None`.
 pub fn switch(values: &[FieldValue]) -> Step<'static>
     ensures { Ok (words.one result) ≡ item_alone Keyword.Switch values.now }
 {
@@ -16,6 +18,7 @@ pub fn switch(values: &[FieldValue]) -> Step<'static>
     }
 }
 
+/// Makes the step of `trap HART`.
 pub fn trap(values: &[FieldValue]) -> Step<'static>
     ensures { Ok (words.one result) ≡ item_alone Keyword.Trap values.now }
 {
@@ -24,6 +27,7 @@ pub fn trap(values: &[FieldValue]) -> Step<'static>
     }
 }
 
+/// Makes the step of `next HART`.
 pub fn next(values: &[FieldValue]) -> Step<'static>
     ensures { Ok (words.one result) ≡ item_alone Keyword.Next values.now }
 {
@@ -32,6 +36,7 @@ pub fn next(values: &[FieldValue]) -> Step<'static>
     }
 }
 
+/// Makes the step of `fill HART ADDRESS`.
 pub fn fill(values: &[FieldValue]) -> Step<'static>
     ensures { Ok (words.one result) ≡ item_alone Keyword.Fill values.now }
 {
@@ -41,6 +46,7 @@ pub fn fill(values: &[FieldValue]) -> Step<'static>
     }
 }
 
+/// Makes the step of `evict HART ENTRY`.
 pub fn evict(values: &[FieldValue]) -> Step<'static>
     ensures { Ok (words.one result) ≡ item_alone Keyword.Evict values.now }
 {
@@ -50,6 +56,7 @@ pub fn evict(values: &[FieldValue]) -> Step<'static>
     }
 }
 
+/// Makes the step of `fetch HART ADDRESS [@ENTRY]`; without `@ENTRY` the access walks the page table.
 pub fn fetch(values: &[FieldValue]) -> Step<'static>
     ensures { Ok (words.one result) ≡ item_alone Keyword.Fetch values.now }
 {
@@ -60,6 +67,7 @@ pub fn fetch(values: &[FieldValue]) -> Step<'static>
     }
 }
 
+/// Makes the step of `tramp HART OFFSET [@ENTRY]`; without `@ENTRY` the fetch walks the page table.
 pub fn tramp(values: &[FieldValue]) -> Step<'static>
     ensures { Ok (words.one result) ≡ item_alone Keyword.Tramp values.now }
 {

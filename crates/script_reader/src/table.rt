@@ -1,4 +1,6 @@
-// The table of the words that lines begin with: a new word is one row.
+// `Row`, a struct, and the tables of the words that lines may begin with, one row each: 29 for scripts, 17 for files for
+// threads. A row has the kinds of the fields after the word. Look-up of a row by its word, and of the kind of a field by its
+// place.
 
 ghost use Rattle.std.specs.Prelude.{◌≡◌, map};
 ghost use Rattle.std.specs.Option.{option_map};
@@ -8,7 +10,7 @@ ghost use Rattle.process_model.specs.ThreadScript.{thread_table};
 use process_model::FieldKind::{Entry, Hex, Mode, Number, Policy, Scheme, Segment, Signed, Slot};
 use process_model::{FieldKind, Keyword, Tail};
 
-/// A word, as it is written, the kinds of the fields that must follow it, and what may follow these.
+/// A word as it is written, its keyword, the kinds of the fields that must follow it, and what may follow these.
 #[derive(Clone, Copy)]
 pub struct Row {
     pub text: &'static [u8],
@@ -119,21 +121,21 @@ impl Row {
         None
     }
 
-    /// The row of a word.
+    /// Returns the row of a word of scripts. `None`: scripts have no such word.
     pub fn find(text: &[u8]) -> Option<Row>
         ensures { option_map seen result ≡ row_among command_table text.now }
     {
         Row::find_among(&Row::all(), text)
     }
 
-    /// The row of a word of a file for threads.
+    /// Returns the row of a word of files for threads. `None`: these files have no such word.
     pub fn find_for_threads(text: &[u8]) -> Option<Row>
         ensures { option_map seen result ≡ row_among thread_table text.now }
     {
         Row::find_among(&Row::all_for_threads(), text)
     }
 
-    /// The kind of a field by its place after the word; nothing where no field may stand.
+    /// Returns the kind of the field at a place after the word, counted from 0. `None`: the line may have no field there.
     pub fn kind_at(&self, place: usize) -> Option<FieldKind>
         ensures { result ≡ kind_at (seen self.now) place }
     {

@@ -1,23 +1,26 @@
-// The calls of processes on threads, each a line without a hart.
+// Parsers of the calls in a file for threads that name no image and no list: `fetch`, `load`, `store`, `sbrk`, `mmap`,
+// `munmap`, `copyin`, `copyout`, `exit`, written as in scripts but without their hart. Each makes the line's item (what it
+// declares or commands).
 
 ghost use Rattle.std.specs.Prelude.{◌≡◌, Ok};
 ghost use Rattle.process_model.specs.ThreadScript as words;
 ghost use Rattle.script_reader.specs.CallAlone.{call_alone};
 
+use crate::field_access::{index_at, number_at, signed_at, take_bytes};
 use crate::limits::in_limits;
-use crate::places::{index_at, number_at, signed_at, take_bytes};
 use process_model::{
     Call, Cause, FieldValue, Keyword, LONGEST_COPY, ListedCall, ThreadItem, is_width,
 };
 use std::alloc::Global;
 
-/// A line that is a call which borrows nothing.
+/// Returns the item of a call that borrows nothing.
 pub fn one(call: Call<'static>) -> ThreadItem
     ensures { result ≡ words.one call.entry }
 {
     ThreadItem::Call(ListedCall::One(call))
 }
 
+/// Makes the item of `fetch ADDRESS`.
 pub fn fetch(values: &[FieldValue]) -> ThreadItem
     ensures { Ok result ≡ call_alone Keyword.Fetch values.now }
 {
@@ -26,6 +29,10 @@ pub fn fetch(values: &[FieldValue]) -> ThreadItem
     })
 }
 
+/// Makes the item of `load ADDRESS WIDTH`.
+///
+/// # Errors
+/// `Limits`, exactly when WIDTH is none of 1, 2, 4 and 8 bytes.
 pub fn load(values: &[FieldValue]) -> Result<ThreadItem, Cause>
     ensures { result ≡ call_alone Keyword.Load values.now }
 {
@@ -37,6 +44,10 @@ pub fn load(values: &[FieldValue]) -> Result<ThreadItem, Cause>
     in_limits(is_width(width), one(call))
 }
 
+/// Makes the item of `store ADDRESS WIDTH VALUE`.
+///
+/// # Errors
+/// `Limits`, exactly when WIDTH is none of 1, 2, 4 and 8 bytes.
 pub fn store(values: &[FieldValue]) -> Result<ThreadItem, Cause>
     ensures { result ≡ call_alone Keyword.Store values.now }
 {
@@ -49,6 +60,7 @@ pub fn store(values: &[FieldValue]) -> Result<ThreadItem, Cause>
     in_limits(is_width(width), one(call))
 }
 
+/// Makes the item of `sbrk DELTA`, with a signed number of bytes.
 pub fn sbrk(values: &[FieldValue]) -> ThreadItem
     ensures { Ok result ≡ call_alone Keyword.Sbrk values.now }
 {
@@ -57,6 +69,7 @@ pub fn sbrk(values: &[FieldValue]) -> ThreadItem
     })
 }
 
+/// Makes the item of `mmap LEN PROT FLAGS FILE`. The call checks the arguments.
 pub fn mmap(values: &[FieldValue]) -> ThreadItem
     ensures { Ok result ≡ call_alone Keyword.Mmap values.now }
 {
@@ -68,6 +81,7 @@ pub fn mmap(values: &[FieldValue]) -> ThreadItem
     })
 }
 
+/// Makes the item of `munmap ADDRESS LEN`.
 pub fn munmap(values: &[FieldValue]) -> ThreadItem
     ensures { Ok result ≡ call_alone Keyword.Munmap values.now }
 {
@@ -77,6 +91,10 @@ pub fn munmap(values: &[FieldValue]) -> ThreadItem
     })
 }
 
+/// Makes the item of `copyin ADDRESS COUNT`.
+///
+/// # Errors
+/// `Limits`, exactly when COUNT is above 256 bytes.
 pub fn copy_in(values: &[FieldValue]) -> Result<ThreadItem, Cause>
     ensures { result ≡ call_alone Keyword.CopyIn values.now }
 {
@@ -88,6 +106,10 @@ pub fn copy_in(values: &[FieldValue]) -> Result<ThreadItem, Cause>
     in_limits(count <= LONGEST_COPY, one(call))
 }
 
+/// Makes the item of `copyout ADDRESS HEX`.
+///
+/// # Errors
+/// `Limits`, exactly when HEX has more than 256 bytes.
 pub fn copy_out(alloc: Global, values: Vec<FieldValue>) -> Result<ThreadItem, Cause>
     ensures { result ≡ call_alone Keyword.CopyOut values.items }
 {
@@ -98,7 +120,10 @@ pub fn copy_out(alloc: Global, values: Vec<FieldValue>) -> Result<ThreadItem, Ca
     in_limits(within, ThreadItem::Call(call))
 }
 
-/// A status has 32 bits.
+/// Makes the item of `exit STATUS`.
+///
+/// # Errors
+/// `Limits`, exactly when STATUS is below -2^31 or above 2^31 - 1.
 pub fn exit(values: &[FieldValue]) -> Result<ThreadItem, Cause>
     ensures { result ≡ call_alone Keyword.Exit values.now }
 {

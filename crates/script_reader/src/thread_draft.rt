@@ -1,4 +1,7 @@
-// What the lines so far of a file for threads say.
+// `ThreadDraft`, a struct: the files, images, pool (numbers of frames and slots), lists of calls and starts of the lines of
+// a file for threads read so far. Functions: whether the next line may have a word (order), room for an item (limits on the
+// numbers of files, images, calls and lines), adding one. Constant: the most lists. `Declared`, a struct: what all lines
+// declare.
 
 ghost use Rattle.std.specs.Prelude.{◌≡◌, OnOk, true};
 ghost use Rattle.process_model.specs.declared.script.ThreadItem.TheVariants as item;
@@ -11,13 +14,13 @@ use process_model::{
 use std::alloc::{AllocError, Global};
 use std::marker::Model;
 
-/// How many lists a file may have.
+/// The most lists a file for threads may have; their numbers are below it.
 pub const MOST_LISTS: usize = 64;
 
-/// How many calls a list may have.
+/// The most calls a list may have.
 const MOST_CALLS: usize = 10_000;
 
-/// What the lines so far say.
+/// What the lines of a file for threads read so far declare.
 #[derive(Drop)]
 pub struct ThreadDraft {
     alloc: Global,
@@ -38,7 +41,7 @@ impl Model for ThreadDraft {
     ghost view = { λ d. record { named = d.named; files = d.files.items; images = d.images.items; pool = d.pool; lists = d.lists.items; starts = d.starts.items; lines = d.lines } };
 }
 
-/// What the lines of a file declare.
+/// What all lines of a file for threads declare; the pool is `None` if no line was a `pool`.
 pub struct Declared {
     pub files: Vec<FileText>,
     pub images: Vec<OwnedImage>,
@@ -47,7 +50,7 @@ pub struct Declared {
     pub starts: Vec<ListedStart>,
 }
 
-/// Puts a call into the last list.
+/// Appends a call to the last list.
 fn push_call(lists: &mut Vec<CallList>, call: ListedCall) -> Result<(), AllocError>
     ensures { OnOk result (lists.new.items ≡ words.with_call lists.old.items call) }
 {
@@ -58,7 +61,8 @@ fn push_call(lists: &mut Vec<CallList>, call: ListedCall) -> Result<(), AllocErr
 }
 
 impl ThreadDraft {
-    /// Nothing is said; these are the numbers of the lists that the file has.
+    /// Returns the draft of no lines. `named` has for each number whether some line of the file begins a
+    /// list of that number.
     pub fn new(alloc: Global, named: [bool; 64]) -> ThreadDraft
         ensures { result ≡ words.nothing_said named }
     {
@@ -74,7 +78,8 @@ impl ThreadDraft {
         }
     }
 
-    /// Whether a line with this word may stand next.
+    /// Whether the next line may have this word. A declaration or `pool`: if no `pool` was read. `start`: if one was.
+    /// `list`: if a `pool` was read and no `start`. Any other word: if a `list` was read and no `start`.
     pub fn in_order(&self, word: Keyword) -> bool
         ensures { result ≡ words.in_order self.now word }
     {
@@ -87,21 +92,21 @@ impl ThreadDraft {
         }
     }
 
-    /// Whether the image was declared.
+    /// Whether an image of this number was declared; they are numbered from 0.
     pub fn has_image(&self, number: usize) -> bool
         ensures { result ≡ words.has_image self.now number }
     {
         number < self.images.len()
     }
 
-    /// Whether the list was begun.
+    /// Whether a line read so far began a list of this number.
     pub fn has_list(&self, number: usize) -> bool
         ensures { result ≡ words.has_list (self.now).lists number }
     {
         self.lists.iter().any(|list| list.number == number)
     }
 
-    /// Whether the file has a list of this number.
+    /// Whether some line of the file, read or not, begins a list of this number.
     pub fn is_named(&self, number: usize) -> bool
         ensures { result ≡ words.is_named (self.now).named number }
     {
@@ -111,7 +116,7 @@ impl ThreadDraft {
         }
     }
 
-    /// How many calls the open list has.
+    /// The number of calls of the open list, 0 if no list was begun.
     fn open_calls(&self) -> usize
         ensures { result ≡ words.open_calls (self.now).lists }
     {
@@ -121,7 +126,7 @@ impl ThreadDraft {
         }
     }
 
-    /// Whether there may be one more line of this sort.
+    /// Whether the file may have one more item of this kind.
     pub fn has_room(&self, item: &ThreadItem) -> bool
         ensures { result ≡ words.has_room self.now item.now }
     {
@@ -145,7 +150,7 @@ impl ThreadDraft {
         Ok(())
     }
 
-    /// Puts a call into the open list.
+    /// Appends a call to the open list.
     fn add_call(&mut self, call: ListedCall) -> Result<(), AllocError>
         requires { words.has_room self.old (item.Call call) ≡ true }
         ensures { OnOk result (self.new ≡ words.with_item self.old (item.Call call)) }
@@ -164,7 +169,11 @@ impl ThreadDraft {
         Ok(())
     }
 
-    /// Puts what a line says after what the lines before it say. Where memory is refused, the draft is lost.
+    /// Adds the item of a line after those of the lines before it. The caller must know that there is room for it
+    /// (`has_room`).
+    ///
+    /// # Errors
+    /// `AllocError`: host memory was refused; the draft is lost.
     pub fn add(&mut self, item: ThreadItem) -> Result<(), AllocError>
         requires { words.has_room self.old item ≡ true }
         ensures { OnOk result (self.new ≡ words.with_item self.old item) }
@@ -180,6 +189,7 @@ impl ThreadDraft {
         Ok(())
     }
 
+    /// Returns what the lines declare.
     pub fn into_declared(self) -> Declared
         ensures files { result.files.items ≡ self.files }
         ensures images { result.images.items ≡ self.images }

@@ -1,9 +1,10 @@
-// What a line of a file for threads says, by its word and its values.
+// `make_item`: calls the parser that belongs to the word of a line of a file for threads, and returns the line's item: a
+// file, an image, the pool (numbers of frames and slots), the beginning of a list, a call, or a start.
 
 ghost use Rattle.process_model.specs.ThreadScript as words;
-ghost use Rattle.script_reader.specs.Gives.{Gives};
+ghost use Rattle.script_reader.specs.ReadResults.{GivesLine};
 
-use crate::declared::{elf, file, image};
+use crate::declarations::{elf, file, image};
 use crate::fault::LineFault;
 use crate::thread_calls::{copy_in, copy_out, exit, fetch, load, mmap, munmap, sbrk, store};
 use crate::thread_draft::ThreadDraft;
@@ -11,14 +12,19 @@ use crate::thread_named::{exec, fork, list, pool, start};
 use process_model::{Cause, FieldValue, Keyword, ThreadItem};
 use std::alloc::Global;
 
-/// The item that the values after a word make.
+/// Makes the item of a line from its word and the values after it. `draft` has the images declared by the lines before it,
+/// the lists that they begin, and the numbers of all lists of the file.
+///
+/// # Errors
+/// `Cause(Limits)`: a value is outside its limits. `Cause(Word)`: only scripts have this word. `Memory`:
+/// host memory was refused.
 pub fn make_item(
     alloc: Global,
     draft: &ThreadDraft,
     word: Keyword,
     values: Vec<FieldValue>,
 ) -> Result<ThreadItem, LineFault>
-    ensures { Gives (λ x. x) result (words.item_of draft.now word values.items) }
+    ensures { GivesLine (λ x. x) result (words.item_of draft.now word values.items) }
 {
     let v = values.as_slice();
     match word {

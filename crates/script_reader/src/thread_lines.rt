@@ -1,15 +1,16 @@
-// The lines of a file for threads, one after the other.
+// `read_lines`: reads the lines of a file for threads into a draft (what they declare), up to the first fault.
+// `lists_named`: finds, before that, which lists of calls the file begins, since a fork may name a later list.
 
 ghost use Rattle.std.specs.Prelude.{◌≡◌, ◌≤◌, Ok, IfOk, IfSome, length, replicate, ℕ, false, true};
 ghost use Rattle.process_model.specs.Lines.{fields_of, raw_lines};
 ghost use Rattle.process_model.specs.ReadLines.{with_said};
 ghost use Rattle.process_model.specs.ThreadScript as words;
-ghost use Rattle.script_reader.specs.Gives.{Answers, Gives};
+ghost use Rattle.script_reader.specs.ReadResults.{GivesScript, GivesLine};
 
 use crate::fault::{LineFault, ScriptError};
 use crate::lines::{first_field, first_line, trim_return};
 use crate::numbers::number;
-use crate::reading::{read_word, test};
+use crate::read_line::{read_word, test};
 use crate::table::Row;
 use crate::thread_draft::{MOST_LISTS, ThreadDraft};
 use crate::thread_items::make_item;
@@ -17,7 +18,7 @@ use crate::values::read_values;
 use process_model::{Cause, ThreadItem};
 use std::alloc::Global;
 
-/// What a line with a word says.
+/// Parses a line whose first field is `text`, with the fields after it. Causes are tried in the order of `Cause`.
 #[tactic(auto, unfolding(process_model::specs::ThreadScript::item_line))]
 fn item_line(
     alloc: Global,
@@ -25,7 +26,7 @@ fn item_line(
     text: &[u8],
     fields: &[u8],
 ) -> Result<ThreadItem, LineFault>
-    ensures { Gives (λ x. x) result (words.item_line draft.now text.now (fields_of fields.now)) }
+    ensures { GivesLine (λ x. x) result (words.item_line draft.now text.now (fields_of fields.now)) }
 {
     let row = Row::find_for_threads(text).ok_or(LineFault::Cause(Cause::Word))?;
     test(draft.in_order(row.word), Cause::Order)?;
@@ -40,7 +41,7 @@ fn read_line(
     draft: &ThreadDraft,
     line: &[u8],
 ) -> Result<Option<ThreadItem>, LineFault>
-    ensures said { Gives (λ x. x) result (words.line_of draft.now line.now) }
+    ensures line { GivesLine (λ x. x) result (words.line_of draft.now line.now) }
     ensures room { IfOk result (λ said. IfSome said (λ item. words.has_room draft.now item ≡ true)) }
 {
     let Some((text, fields)) = read_word(line)? else {
@@ -50,14 +51,14 @@ fn read_line(
     Ok(Some(item))
 }
 
-/// Adds what a line says to the lines before it.
+/// Parses line `number` and adds its item to the draft; an empty line and a comment add nothing.
 fn add_line(
     alloc: Global,
     draft: &mut ThreadDraft,
     number: u64,
     line: &[u8],
 ) -> Result<(), ScriptError>
-    ensures { Answers (λ u. (draft.new, number)) result (with_said words.with_item draft.old number (words.line_of draft.old line.now)) }
+    ensures { GivesScript (λ u. (draft.new, number)) result (with_said words.with_item draft.old number (words.line_of draft.old line.now)) }
 {
     match read_line(alloc, draft, line) {
         Ok(None) => Ok(()),
@@ -70,9 +71,12 @@ fn add_line(
     }
 }
 
-/// Adds what the lines of a text say to an empty draft, and tells how many they are.
+/// Reads the lines of a text into a draft, and returns their number, skipped lines among them.
+///
+/// # Errors
+/// `Line(n, cause)`: the first fault, in line `n`, counted from 1. `Memory`: host memory was refused.
 pub fn read_lines(alloc: Global, draft: &mut ThreadDraft, text: &[u8]) -> Result<u64, ScriptError>
-    ensures read { Answers (λ lines. (draft.new, lines)) result (words.read_lines (Ok (draft.old, 0)) (raw_lines text.now)) }
+    ensures read { GivesScript (λ lines. (draft.new, lines)) result (words.read_lines (Ok (draft.old, 0)) (raw_lines text.now)) }
     ensures few { IfOk result (λ lines. lines ≤ length text.now) }
 {
     let mut number = 0u64;
@@ -86,7 +90,8 @@ pub fn read_lines(alloc: Global, draft: &mut ThreadDraft, text: &[u8]) -> Result
     Ok(number)
 }
 
-/// The number of the list that a line begins, whatever stands before it.
+/// The number of the list that a line `list K` begins, whether or not the lines before it permit that.
+/// `None`: it is no such line.
 fn list_begun(line: &[u8]) -> Option<usize>
     ensures { (k : ℕ) → words.is_number k result ≡ words.begins k (fields_of line.now) }
 {
@@ -107,7 +112,8 @@ fn none_named() -> [bool; 64]
     [false; 64]
 }
 
-/// For each number of a list, whether a line of a text begins that list.
+/// Returns for each number below 64 whether some line `list K` of the text begins a list of that number, permitted there or
+/// not.
 pub fn lists_named(text: &[u8]) -> [bool; 64]
     ensures { result ≡ words.lists_named (raw_lines text.now) }
 {

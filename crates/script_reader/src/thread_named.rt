@@ -1,15 +1,20 @@
-// Lines of a file for threads that name images and lists, and the pool.
+// Parsers of the lines of a file for threads that name images or lists of calls (`list`, `start`, `exec`, `fork`), and of
+// `pool`, the numbers of frames and slots. Each makes the line's item (what it declares or commands) and checks its limits.
 
 ghost use Rattle.std.specs.Prelude.{◌≡◌};
 ghost use Rattle.process_model.specs.ThreadScript as words;
 ghost use Rattle.script_reader.specs.CallAlone.{call_alone};
 
+use crate::field_access::index_at;
 use crate::limits::in_limits;
-use crate::places::index_at;
 use crate::thread_calls::one;
 use crate::thread_draft::{MOST_LISTS, ThreadDraft};
 use process_model::{Call, Cause, FieldValue, Keyword, ListedCall, ListedStart, Pool, ThreadItem};
 
+/// Makes the item of `pool FRAMES SLOTS`.
+///
+/// # Errors
+/// `Limits`, exactly when a size is out of range: 1 to 64 slots, 16 to 256 frames and no fewer than the kernel takes.
 pub fn pool(values: &[FieldValue]) -> Result<ThreadItem, Cause>
     ensures { result ≡ call_alone Keyword.Pool values.now }
 {
@@ -20,7 +25,10 @@ pub fn pool(values: &[FieldValue]) -> Result<ThreadItem, Cause>
     in_limits(pool.is_usable(), ThreadItem::Pool(pool))
 }
 
-/// A list has a number of its own.
+/// Makes the item of `list K`, after which the calls of list K follow.
+///
+/// # Errors
+/// `Limits`, exactly when K is above 63, or a line before it began list K.
 pub fn list(draft: &ThreadDraft, values: &[FieldValue]) -> Result<ThreadItem, Cause>
     ensures { result ≡ words.item_of draft.now Keyword.List values.now }
 {
@@ -29,6 +37,10 @@ pub fn list(draft: &ThreadDraft, values: &[FieldValue]) -> Result<ThreadItem, Ca
     in_limits(within, ThreadItem::List(number))
 }
 
+/// Makes the item of `start IMAGE K`: a process of the image, which makes the calls of list K.
+///
+/// # Errors
+/// `Limits`, exactly when no image of this number was declared, or no line of the file begins list K.
 pub fn start(draft: &ThreadDraft, values: &[FieldValue]) -> Result<ThreadItem, Cause>
     ensures { result ≡ words.item_of draft.now Keyword.Start values.now }
 {
@@ -38,6 +50,10 @@ pub fn start(draft: &ThreadDraft, values: &[FieldValue]) -> Result<ThreadItem, C
     in_limits(within, ThreadItem::Start(ListedStart { image, list }))
 }
 
+/// Makes the item of `exec IMAGE`.
+///
+/// # Errors
+/// `Limits`, exactly when no image of this number was declared.
 pub fn exec(draft: &ThreadDraft, values: &[FieldValue]) -> Result<ThreadItem, Cause>
     ensures { result ≡ words.item_of draft.now Keyword.Exec values.now }
 {
@@ -46,7 +62,10 @@ pub fn exec(draft: &ThreadDraft, values: &[FieldValue]) -> Result<ThreadItem, Ca
     in_limits(draft.has_image(image), ThreadItem::Call(call))
 }
 
-/// The child's list may begin further down.
+/// Makes the item of `fork K`: the child makes the calls of list K, which may be further down in the file.
+///
+/// # Errors
+/// `Limits`, exactly when no line of the file begins list K.
 pub fn fork(draft: &ThreadDraft, values: &[FieldValue]) -> Result<ThreadItem, Cause>
     ensures { result ≡ words.item_of draft.now Keyword.Fork values.now }
 {

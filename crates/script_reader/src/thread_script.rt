@@ -1,21 +1,22 @@
-// Files for threads, read whole before anything runs.
+// `ThreadScript`, a struct: a parsed file for threads (files, images, pool of frames and slots, lists of calls, processes to
+// start) with functions that return these parts, and `ThreadScript::read`, which parses a whole text.
 
 ghost use Rattle.std.specs.Prelude.{◌≡◌, ◌+◌, ◌<◌, IfOk};
 ghost use Rattle.std.specs.Option.{option_map};
 ghost use Rattle.process_model.specs.ReadLines.{longest_script};
 ghost use Rattle.process_model.specs.ThreadScript as words;
-ghost use Rattle.script_reader.specs.Gives.{Answers};
+ghost use Rattle.script_reader.specs.ReadResults.{GivesScript};
 ghost use Rattle.script_reader.specs.ThreadsPlayable.{IsThreadPlayable};
 
 use crate::fault::ScriptError;
-use crate::piecewise::LONGEST_SCRIPT;
+use crate::piece_reader::LONGEST_SCRIPT;
 use crate::thread_draft::{Declared, ThreadDraft};
 use crate::thread_lines::{lists_named, read_lines};
 use process_model::{CallList, Cause, FileText, ListedCall, ListedStart, OwnedImage, Pool};
 use std::alloc::Global;
 use std::marker::Model;
 
-/// A file for threads: files, images, the pool of frames, lists of calls, and processes to start.
+/// A parsed file for threads: files, images, the pool of frames and slots, lists of calls, and the processes to start.
 #[derive(Drop)]
 pub struct ThreadScript {
     files: Vec<FileText>,
@@ -34,9 +35,15 @@ impl Model for ThreadScript {
 }
 
 impl ThreadScript {
-    /// Reads a file whole, or finds its first fault. What is read can be played: only a start or a call can still be refused.
+    /// Parses a whole file for threads. One that is returned can be played (`IsThreadPlayable`): only a start or a
+    /// call can still be refused.
+    ///
+    /// # Errors
+    /// `Line(n, cause)`: the file's first fault, in line `n`, counted from 1. Line 0: the file has more than
+    /// 16,777,216 bytes. The line after the last, with `Order`: no line has a fault, and none is a `pool`.
+    /// `Memory`: host memory was refused.
     pub fn read(alloc: Global, bytes: &[u8]) -> Result<ThreadScript, ScriptError>
-        ensures read { Answers (λ s. s) result (words.thread_script_of bytes.now) }
+        ensures read { GivesScript (λ s. s) result (words.thread_script_of bytes.now) }
         ensures playable { IfOk result IsThreadPlayable }
     {
         if bytes.len() > LONGEST_SCRIPT {
@@ -47,10 +54,10 @@ impl ThreadScript {
         ThreadScript::of(draft, lines)
     }
 
-    /// What the lines of a file say, of which there are so many, where a pool is among them.
+    /// Makes the parsed file of a draft that was read from `lines` lines; `Order` in the line after these if it has no pool.
     fn of(draft: ThreadDraft, lines: u64) -> Result<ThreadScript, ScriptError>
         requires { lines < longest_script + 1 }
-        ensures { Answers (λ s. s) result (words.whole_with draft lines (draft.pool)) }
+        ensures { GivesScript (λ s. s) result (words.whole_with draft lines (draft.pool)) }
     {
         let Declared {
             files,
@@ -71,34 +78,35 @@ impl ThreadScript {
         }
     }
 
-    /// The files, in the order of their numbers.
+    /// Returns the declared files; the index is the file's number.
     pub fn files(&self) -> &[FileText]
         ensures { result.now ≡ (self.now).files }
     {
         self.files.as_slice()
     }
 
-    /// The images, in the order of their numbers.
+    /// Returns the declared images; the index is the image's number.
     pub fn images(&self) -> &[OwnedImage]
         ensures { result.now ≡ (self.now).images }
     {
         self.images.as_slice()
     }
 
+    /// Returns how many frames the threads share, and how many slots there are.
     pub fn pool(&self) -> Pool
         ensures { result ≡ (self.now).pool }
     {
         self.pool
     }
 
-    /// The lists, in the order of the file.
+    /// Returns the lists of calls, in the order of the file.
     pub fn lists(&self) -> &[CallList]
         ensures { result.now ≡ (self.now).lists }
     {
         self.lists.as_slice()
     }
 
-    /// The calls of the list of a number.
+    /// Returns the calls of the list of this number. `None`: the file has no such list.
     pub fn calls(&self, number: usize) -> Option<&[ListedCall]>
         ensures { option_map (λ calls. calls.now) result ≡ words.calls_of (self.now).lists number }
     {
@@ -110,7 +118,7 @@ impl ThreadScript {
         None
     }
 
-    /// The processes to start, in their order.
+    /// Returns the processes to start, in the order of the file.
     pub fn starts(&self) -> &[ListedStart]
         ensures { result.now ≡ (self.now).starts }
     {

@@ -1,10 +1,11 @@
-// The fields after a word.
+// `read_values`: parses the fields after a line's word into values (numbers, bytes, slots, segments and others), each by the
+// kind that the word's row has for its place, or returns the line's fault: `Count`, `Number` or `Field`.
 
 ghost use Rattle.std.specs.Prelude.{◌≡◌, IfOk};
 ghost use Rattle.process_model.specs.Fields as words;
 ghost use Rattle.process_model.specs.Fields.{value_of, values_of};
 ghost use Rattle.process_model.specs.Lines.{fields_of};
-ghost use Rattle.script_reader.specs.Listed.{listed};
+ghost use Rattle.script_reader.specs.ValueLists.{listed};
 ghost use Rattle.script_reader.specs.Rows.{seen};
 
 use crate::hex::hex;
@@ -16,7 +17,7 @@ use process_model::{Cause, FieldKind, FieldValue, Policy};
 use std::alloc::{AllocError, Global};
 use sv39_entry::Scheme;
 
-/// A number, or `-` for none.
+/// Parses a slot: a number, or `-` for none.
 fn read_slot(field: &[u8]) -> Result<FieldValue, Cause>
     ensures { result ≡ value_of FieldKind.Slot field.now }
 {
@@ -59,7 +60,7 @@ fn read_scheme(field: &[u8]) -> Result<FieldValue, Cause>
     }
 }
 
-/// A number behind an at sign.
+/// Parses `@N`, and returns N. `None`: the field has another form.
 fn entry_number(field: &[u8]) -> Option<u64>
     ensures { result ≡ words.entry_number field.now }
 {
@@ -78,7 +79,7 @@ fn read_entry(field: &[u8]) -> Result<FieldValue, Cause>
     }
 }
 
-/// What a field of a kind says.
+/// Parses a field of this kind. Its fault is `Number` for a number or a slot, and `Field` for every other kind.
 fn read_value(
     alloc: Global,
     kind: FieldKind,
@@ -102,7 +103,7 @@ fn read_value(
     Ok(value)
 }
 
-/// The values so far, and one more. A number that is none counts before a field of another wrong form.
+/// Appends a value to those so far. Of two faults, `Number` is reported before `Field`.
 fn and_then(
     so_far: Result<Vec<FieldValue>, Cause>,
     next: Result<FieldValue, Cause>,
@@ -122,7 +123,12 @@ fn and_then(
     Ok(read)
 }
 
-/// The values of the fields after a word. Its row tells how many there may be, and their kinds.
+/// Parses the fields after a word, by its row. The outer error is the host's; the inner one is the fault of the line:
+/// `Count`, if the row takes fewer fields or more; else `Number`, if a number or a slot has a wrong form or is out of range;
+/// else `Field`, if another field has a wrong form.
+///
+/// # Errors
+/// `AllocError`: host memory was refused.
 pub fn read_values(
     alloc: Global,
     row: &Row,

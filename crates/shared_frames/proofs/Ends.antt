@@ -1,4 +1,6 @@
--- The table at its start, and at its end.
+-- Lemmas: a new table of shared frames, with its first seat, meets the invariant (`begins`); what is read as it is closed
+-- are its totals (`totals`); if the closing seat has all references to frame 0, the frames of count 0 and those that it
+-- holds are all frames (`final`).
 use Rattle.std.proofs.Common.{◌≡◌, ◌≢◌, inl, inr, ℕ, zero, suc, ◌+◌, ◌-◌, ◌*◌, ◌<◌, ◌≤◌, List, [], ◌∷◌, length, get_or, set, replicate, refl, sym, ap, ◌∙◌, subst, arith, get_or-set_same, get_or-set_other, length-set, lit<}
 use Rattle.std.proofs.lemmas.Bool.Decides.{eqb_tells}
 use Rattle.std.proofs.lemmas.List.{get_or-replicate}
@@ -9,9 +11,9 @@ use lib.ListN.{get_elem?, length-replicate}
 use Rattle.atomic_table.specs.Table.{Final, Seen}
 use Rattle.frame_store.specs.View.{View, Hold, hold_of, not_held, sole_hold, references, IsHeld, empty_view, opening_view}
 use Rattle.frame_store.specs.Holds.{hold_of-with_hold_same, hold_of-with_hold_other, hold_of-empty}
-use Rattle.shared_frames.specs.Rule.{count_at, all_references, one_at_zero, zero_counts, FrameAgrees, ViewAgrees, IsKept, Kept}
+use Rattle.shared_frames.specs.Rule.{count_at, all_references, one_at_zero, zero_counts, FrameAgrees, ViewAgrees, IsSharedRule, Kept}
 use Rattle.shared_frames.specs.Totals.{AreTotals, first_words, held_frames}
-use Rattle.shared_frames.specs.Fits.{FrameFits, IsWithin}
+use Rattle.shared_frames.specs.SeatsOfTable.{FrameFits, IsWithin}
 use Rattle.shared_frames.proofs.Sums.{total-two, total-lone}
 use Rattle.shared_frames.proofs.Zeros.{one_at_zero-le}
 use Rattle.shared_frames.proofs.Changes.{not_held_agrees}
@@ -87,7 +89,7 @@ module _ (n : ℕ) (some_frame : 1 ≤ n) (few : n ≤ 256) where
   ]
 
   -- the rule holds at the start
-  pub begins : IsKept n (first_words n) (opening_view n ∷ [])
+  pub begins : IsSharedRule n (first_words n) (opening_view n ∷ [])
   begins = record {
     narrow = few;
     wide = wide;
@@ -102,7 +104,7 @@ module _ (n : ℕ) (some_frame : 1 ≤ n) (few : n ≤ 256) where
   }
 
 -- ---- the end
-module _ (n : ℕ) (words : List ℕ) (views : List View) (k : IsKept n words views) (id : ℕ) (v : View) (at : get_elem? views id ≡ some v) (own : get_or words 1 0 ≡ references v 0) where
+module _ (n : ℕ) (words : List ℕ) (views : List View) (k : IsSharedRule n words views) (id : ℕ) (v : View) (at : get_elem? views id ≡ some v) (own : get_or words 1 0 ≡ references v 0) where
   -- no other seat has a reference of frame 0, so that none has any
   alone : (f : ℕ) → all_references f views ≡ references v f
   alone f = total-lone (λ u. references u f) views id v at (λ j u ne e.

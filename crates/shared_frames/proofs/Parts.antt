@@ -1,4 +1,6 @@
--- A view that is cut in two, and two views that become one, keep the rule.
+-- Lemmas: the invariant of shared frames (`Kept`) is kept as a view (what a seat holds and knows) is split in two
+-- (`splits`) and as two become one (`joins`); and the frames that the parts, or the whole, hold have their words in the
+-- table (`IsWithin`).
 use Rattle.std.proofs.Common.{◌≡◌, ◌≢◌, ◌⊎◌, inl, inr, ⊎_elim, ℕ, zero, suc, ◌+◌, ◌-◌, ◌<◌, ◌≤◌, ◌==◌, Bool, true, false, cond, List, [], ◌∷◌, ◌++◌, slice_index, set, refl, sym, ap, ◌∙◌, subst, arith, Option, Some, None}
 use Rattle.std.specs.Prelude.{IsTrue, ◌||◌}
 use Rattle.std.proofs.lemmas.Bool.Decides.{eqb_tells}
@@ -10,10 +12,10 @@ use Rattle.atomic_table.proofs.Lists.{at_snoc, set_else}
 use Rattle.frame_store.specs.Laws.{IsAnchored}
 use Rattle.frame_store.specs.View.{View, Hold, hold_of, with_hold, without_hold, references, IsHeld, empty_view, added, either, joined, moved_from, moved_to, split_off, CanSplit}
 use Rattle.frame_store.specs.Holds.{hold_of-empty}
-use Rattle.frame_store.specs.Joins.{get-union, hold_of-joined}
-use Rattle.frame_store.specs.Puts.{Puts, fewer, stays, goes, moved_from-puts, moved_to-puts}
-use Rattle.shared_frames.specs.Fits.{FrameFits, IsWithin}
-use Rattle.shared_frames.specs.Rule.{memory_at, all_references, FrameAgrees, ViewAgrees, IsKept, Kept}
+use Rattle.frame_store.specs.ViewJoin.{get-union, hold_of-joined}
+use Rattle.frame_store.specs.ViewChanges.{SetsHold, fewer, stays, goes, moved_from-puts, moved_to-puts}
+use Rattle.shared_frames.specs.SeatsOfTable.{FrameFits, IsWithin}
+use Rattle.shared_frames.specs.Rule.{memory_at, all_references, FrameAgrees, ViewAgrees, IsSharedRule, Kept}
 use Rattle.shared_frames.proofs.Sums.{total-set, total-snoc, total-one, total-two}
 use Rattle.shared_frames.proofs.Changes.{each_set, not_held_agrees}
 use Rattle.shared_frames.proofs.Within.{within_puts, not_held_fits}
@@ -28,7 +30,7 @@ pub record AreParts (words : List ℕ) (all : ℕ → ℕ) (v a b : View) : Type
   pub left : (g : ℕ) → FrameAgrees words g (all g) (hold_of a g)
   pub right : (g : ℕ) → FrameAgrees words g (all g) (hold_of b g)
 
-put_agrees : (words : List ℕ) (all : ℕ → ℕ) (f : ℕ) (h : Hold) (v w : View) → Puts f h v w → FrameAgrees words f (all f) h → ((g : ℕ) → FrameAgrees words g (all g) (hold_of v g)) → (g : ℕ) → FrameAgrees words g (all g) (hold_of w g)
+put_agrees : (words : List ℕ) (all : ℕ → ℕ) (f : ℕ) (h : Hold) (v w : View) → SetsHold f h v w → FrameAgrees words f (all f) h → ((g : ℕ) → FrameAgrees words g (all g) (hold_of v g)) → (g : ℕ) → FrameAgrees words g (all g) (hold_of w g)
 put_agrees words all f h v w p here was g = elim (eqb_tells g f) as (λ _. FrameAgrees words g (all g) (hold_of w g)) [
   | inl e ↦ subst (λ m. FrameAgrees words m (all m) (hold_of w m)) (sym e.1) (subst (FrameAgrees words f (all f)) (sym p.here) here)
   | inr e ↦ subst (FrameAgrees words g (all g)) (sym (p.apart g e.1)) (was g)
@@ -82,8 +84,8 @@ each_snoc P views w mine others j u e = ⊎_elim (λ was. others j u was) (λ sa
 same_sums : (n : ℕ) (words : List ℕ) (all all' : ℕ → ℕ) (u : View) → ((g : ℕ) → all' g ≡ all g) → ViewAgrees n words all u → ViewAgrees n words all' u
 same_sums n words all all' u same a = record { within = a.within; anchored = a.anchored; frames = λ g. subst (λ t. FrameAgrees words g t (hold_of u g)) (sym (same g)) (a.frames g) }
 
-kept_split : (n : ℕ) (words : List ℕ) (views : List View) (id : ℕ) (v a b : View) → IsKept n words views → get_elem? views id ≡ some v
-    → AreParts words (λ f. all_references f views) v a b → IsAnchored a → IsAnchored b → IsKept n words (set views id a ++ b ∷ [])
+kept_split : (n : ℕ) (words : List ℕ) (views : List View) (id : ℕ) (v a b : View) → IsSharedRule n words views → get_elem? views id ≡ some v
+    → AreParts words (λ f. all_references f views) v a b → IsAnchored a → IsAnchored b → IsSharedRule n words (set views id a ++ b ∷ [])
 kept_split n words views id v a b k at p left right = record {
   narrow = k.narrow;
   wide = k.wide;

@@ -1,4 +1,5 @@
--- A word that is stored twice is the one that was stored last.
+-- Lemmas: of two words stored at one index of a frame the seat knows the later one alone (`stored_again`), and a store
+-- keeps its sole-holder flag.
 use Rattle.std.proofs.Common.{◌≡◌, ℕ, ◌==◌, Some, Option, Bool, true, false, cond, refl, ap, sym, ◌∙◌}
 use Rattle.std.specs.FinMap as map
 use Rattle.std.specs.Ordering.{nat_cmp}

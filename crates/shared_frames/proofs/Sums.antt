@@ -1,4 +1,6 @@
--- Sums along the list of views.
+-- Lemmas about `total`, the sum of a number over a list of views (what seats hold and know): after one view is replaced,
+-- after one is appended; no view, and no two views together, have more than the sum; a view has all of it if the others
+-- have 0.
 use Rattle.std.proofs.Common.{◌≡◌, ◌≢◌, ℕ, zero, suc, ◌+◌, ◌≤◌, List, [], ◌∷◌, ◌++◌, set, refl, sym, ap, arith}
 use mathlib.Core.Option.{some, some-injective, some-ne-none}
 use lib.ListN.{get_elem?}

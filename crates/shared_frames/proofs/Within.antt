@@ -1,16 +1,16 @@
--- What a seat holds after a step has its place among the words of the table.
-use Rattle.std.proofs.Common.{◌≡◌, ◌≢◌, inl, inr, ℕ, ◌+◌, ◌-◌, ◌*◌, ◌<◌, ◌==◌, Bool, true, false, cond, refl, sym, ap, ◌∙◌, subst, arith, lit<, List}
+-- Lemmas: after each step of a seat on the table of shared frames, the frames that it holds have their words in the table
+-- (`IsWithin`), and its view still has the number of frames (`size`).
+use Rattle.std.proofs.Common.{◌≡◌, ◌≢◌, inl, inr, ℕ, ◌+◌, ◌-◌, ◌*◌, ◌<◌, ◌==◌, true, false, cond, refl, sym, ap, ◌∙◌, subst, arith, lit<, List}
 use Rattle.std.proofs.lemmas.Bool.Decides.{eqb_tells}
-use Rattle.std.proofs.lemmas.Bool.{ne_eqb, eq-eqb}
 use Rattle.atomic_table.specs.Table.{Me}
-use Rattle.frame_store.specs.View.{View, Hold, hold_of, not_held, with_hold, without_hold, references, IsHeld, sole_hold, with_credits, with_word, without_credits, claimed, read_full, saw_none, shared, looked, released}
+use Rattle.frame_store.specs.View.{View, Hold, hold_of, not_held, with_hold, without_hold, references, IsHeld, sole_hold, with_credits, with_word, claimed, read_full, saw_none, shared, looked, released}
 use Rattle.frame_store.specs.Holds.{hold_of-frames}
-use Rattle.shared_frames.specs.Fits.{FrameFits, IsOfSize, IsSized, IsWithin}
-use Rattle.shared_frames.specs.Telling.{let_go, saw_free, unshared}
-use Rattle.frame_store.specs.Puts.{Puts, puts, left_of, released-puts}
+use Rattle.shared_frames.specs.SeatsOfTable.{FrameFits, IsOfSize, IsSized, IsWithin}
+use Rattle.shared_frames.specs.StepEffects.{let_go, saw_free, unshared}
+use Rattle.frame_store.specs.ViewChanges.{SetsHold, puts, left_of, released-puts}
 use Rattle.shared_frames.proofs.Moves.{unshared-frames}
 
-pub within_puts : (words f : ℕ) (h : Hold) (v w : View) → Puts f h v w → FrameFits words f h → IsWithin words v → IsWithin words w
+pub within_puts : (words f : ℕ) (h : Hold) (v w : View) → SetsHold f h v w → FrameFits words f h → IsWithin words v → IsWithin words w
 within_puts words f h v w p fits was g = elim (eqb_tells g f) as (λ _. FrameFits words g (hold_of w g)) [
   | inl e ↦ subst (λ m. FrameFits words m (hold_of w m)) (sym e.1) (subst (FrameFits words f) (sym p.here) fits)
   | inr e ↦ subst (FrameFits words g) (sym (p.apart g e.1)) (was g)
@@ -61,13 +61,6 @@ released-credits f v = elim (references v f == 1) as (λ b. (cond b (without_hol
 
 with_same : (f c : ℕ) (v : View) → c ≡ v.credits → record (released f v) { credits = c } ≡ released f v
 with_same f c v e = let k = released-credits f v in let same : c ≡ (released f v).credits = e ∙ sym k in λ i. record (released f v) { credits = same i }
-
--- a release that gives its frame back, and one that has none to give
-pub let_go-again : (f c : ℕ) (v : View) → c ≡ 1 → without_credits 1 (let_go f c v) ≡ released f v
-let_go-again f c v e = let a = ap (λ (t : Bool). cond {A = ℕ} t 1 0) (eq-eqb c 1 e) in with_same f _ v (omega (arith, a))
-
-pub let_go-less : (f c : ℕ) (v : View) → c ≢ 1 → let_go f c v ≡ released f v
-let_go-less f c v ne = let a = ap (λ (t : Bool). cond {A = ℕ} t 1 0) (ne_eqb c 1 ne) in with_same f _ v (omega (arith, a))
 
 -- what holds of the view that a seat was told holds of the seat
 pub told : (words : ℕ) (me : Me (Unit {0}) View) (u v : View) (c : List (ℕ × Unit {0})) → me ≡ (v, c) → IsWithin words v → v.size ≡ u.size → IsOfSize words u → IsWithin words me.0 × IsOfSize words me.0

@@ -1,4 +1,5 @@
--- The number of frames of count 0, as the words change.
+-- Lemmas about `zero_counts`, how many frames of a table of shared frames have count 0: it is at most the number of
+-- frames; it stays if the counts stay; how one changed count changes it.
 use Rattle.std.proofs.Common.{◌≡◌, ◌≢◌, ℕ, zero, suc, ◌+◌, ◌<◌, ◌≤◌, List, length, get_or, set, refl, ap, ◌∙◌, inl, inr, arith, get_or-set_same, get_or-set_other}
 use Rattle.std.proofs.lemmas.Bool.Decides.{eqb_tells}
 use Rattle.shared_frames.specs.Rule.{count_at, one_at_zero, zero_counts}

@@ -1,5 +1,5 @@
 pub mod Rule
-pub mod Telling
-pub mod Fits
+pub mod StepEffects
+pub mod SeatsOfTable
 pub mod Totals
 pub mod Pool

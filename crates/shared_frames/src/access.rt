@@ -1,17 +1,21 @@
-// The frames as one thread acts on them, with calls that wait for nobody.
+// `SharedAccess`, a struct: a thread's handle on frames that threads share in one table of atomic words. It has the calls
+// of `FrameAccess` (load, search, store, clear, fill, copy, look, release, give back, join), which neither wait nor
+// retry, and cannot allocate.
 
-ghost use Rattle.std.specs.Prelude.{◌≡◌, ℕ, ◌+◌, ◌-◌, ◌<◌, ◌≤◌, ◌==◌, ◌++◌, ◌∷◌, List};
+ghost use Rattle.std.specs.Prelude.{◌≡◌, ℕ, ◌+◌, ◌-◌, ◌<◌, ◌≤◌, ◌==◌, ◌++◌, ◌∷◌};
 ghost use Rattle.atomic_table.specs.Seated.{TableId};
-ghost use Rattle.shared_frames.specs.Fits.{IsSized};
+ghost use Rattle.shared_frames.specs.SeatsOfTable.{IsSized};
 
 use crate::seat::SharedSeat;
 use crate::table::Words;
-use crate::{cut, steps};
+use crate::{split_join, steps};
 use frame_store::FrameAccess;
 use std::marker::Model;
 use sv39_entry::FrameNo;
 
-/// A store that any thread may have. Its calls wait for nobody. Contracts see it as the name of its table.
+/// A handle on shared frames for any thread, with the calls of `FrameAccess`; none of them waits or retries. Contracts
+/// see it as the identity of its table. Other threads may change the store at any time (it is never `alone`), so
+/// contracts promise no exact counts.
 #[derive(Drop)]
 pub struct SharedAccess<'a> {
     table: &'a Words,
@@ -26,6 +30,7 @@ impl<'a> Model for SharedAccess<'a> {
 }
 
 impl<'a> SharedAccess<'a> {
+    /// Returns a handle on the table.
     pub(crate) fn new(table: &'a Words) -> SharedAccess<'a>
         requires { IsSized table.now.table_id.words table.now.key }
         ensures { result ≡ table.now.table_id }
@@ -37,7 +42,7 @@ impl<'a> SharedAccess<'a> {
 impl<'a> FrameAccess for SharedAccess<'a> {
     type Seat = SharedSeat;
 
-    ghost use Rattle.shared_frames.specs.Fits.{AllFit, held_within, to_front, to_back};
+    ghost use Rattle.shared_frames.specs.SeatsOfTable.{AllFit, held_within, to_front, to_back};
 
     ghost rule = { AllFit };
 
@@ -74,6 +79,6 @@ impl<'a> FrameAccess for SharedAccess<'a> {
     }
 
     fn join(&mut self, seat: &mut SharedSeat, other: SharedSeat) {
-        cut::join(self.table, seat, other);
+        split_join::join(self.table, seat, other);
     }
 }

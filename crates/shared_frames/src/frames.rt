@@ -1,9 +1,11 @@
-// The table with its memory: made, lent to threads, and closed.
+// Two structs. `SharedFrames`: owns the table of atomic words that holds the frames that threads share; `new` makes it,
+// `access` and `supply` give threads their handles, `close` ends it and returns `Totals`: how many frames are then free
+// and held, and the count of frame 0.
 
 ghost use Rattle.std.specs.Prelude.{◌≡◌, ℕ, ◌+◌, ◌-◌, ◌*◌, ◌<◌, ◌≤◌, [], IfOk};
 ghost use Rattle.std.specs.Slots.{IsFull, slots_items, slots_len};
 ghost use Rattle.frame_store.specs.View.{opening_view, references};
-ghost use Rattle.shared_frames.specs.Fits.{FitsIn, IsSized, view_of};
+ghost use Rattle.shared_frames.specs.SeatsOfTable.{FitsIn, IsSized, view_of};
 ghost use Rattle.shared_frames.specs.Pool.{Pool};
 ghost use Rattle.shared_frames.specs.Rule.{zero_counts};
 ghost use Rattle.shared_frames.specs.Totals.{AreTotals, first_words, held_frames};
@@ -17,7 +19,7 @@ use std::alloc::{AllocError, Global};
 use std::marker::Model;
 use std::sync::Wait;
 
-/// Frames that threads share. Contracts see them as the name of their table and how many there are.
+/// The frames that threads share, with their memory. Contracts see the identity of the table and the number of frames.
 #[derive(Drop)]
 pub struct SharedFrames {
     table: Table<(), Knowledge, usize, FramesRule, Global>,
@@ -32,16 +34,23 @@ impl Model for SharedFrames {
     ghost invariant = { λ f. (f.frames ≡ f.table.shared.key) × IsSized f.table.shared.table_id.words f.table.shared.key × (f.table.shared.table_id.slots ≡ 0) };
 }
 
-/// How many frames have count 0, how many have more, and the count of frame 0.
+/// What `SharedFrames::close` reads from the reference counts.
 #[derive(Clone, Copy, Debug, PartialEq, Eq, Drop)]
 pub struct Totals {
+    /// How many frames have count 0.
     pub free: usize,
+    /// How many frames have count 1 or more.
     pub held: usize,
+    /// The reference count of frame 0, which holds the trampoline's code.
     pub trampoline: u64,
 }
 
 impl SharedFrames {
-    /// So many frames, and a seat that is the sole holder of frame 0. All else is free.
+    /// Makes `frames` frames, 1 to 256, and returns them with the first seat: the sole holder of frame 0, with one
+    /// reference, which knows no word. The other frames are free.
+    ///
+    /// # Errors
+    /// `AllocError`: the host is out of memory.
     pub fn new(alloc: Global, frames: usize) -> Result<(SharedFrames, SharedSeat), AllocError>
         requires some { 1 ≤ frames }
         requires few { frames ≤ 256 }
@@ -54,21 +63,24 @@ impl SharedFrames {
         Ok((SharedFrames { table, frames }, SharedSeat { seat }))
     }
 
-    /// The calls that wait for nobody.
+    /// Returns a handle on these frames with the calls of `FrameAccess`, which neither wait nor retry.
     pub fn access(&self) -> SharedAccess<'_>
         ensures { result ≡ self.now.table }
     {
         SharedAccess::new(&self.table.shared)
     }
 
-    /// All calls.
+    /// Returns a handle on these frames with all calls of `FrameAccess` and `FrameSupply`. `rt` is the caller's
+    /// permission to wait: it lets a call retry without a limit.
     pub fn supply<'a, R: Wait>(&'a self, rt: &'a R) -> SharedSupply<'a, R>
         ensures { result ≡ self.now.table }
     {
         SharedSupply::new(rt, &self.table.shared, self.frames)
     }
 
-    /// The totals of the counts. Where all references of frame 0 are the seat's own, no frame is held but by this seat.
+    /// Closes the table with `seat`, which must be at this table, frees its memory, and returns the totals of its last
+    /// reference counts. If the count of frame 0 is the number of references that the seat has to it, then no other seat
+    /// holds a frame: `held` is how many frames this seat holds.
     pub fn close(self, seat: SharedSeat) -> Totals
         requires { FitsIn self.table seat }
         ensures totals { AreTotals self.frames (view_of seat) result.free result.trampoline }
@@ -89,7 +101,10 @@ impl SharedFrames {
     }
 }
 
-/// The free word and the counts, with memory of zeros.
+/// Returns the words of the table at the start: the free count `frames - 1`, count 1 for frame 0, and 0 elsewhere.
+///
+/// # Errors
+/// `AllocError`: the host is out of memory.
 fn words_of(alloc: Global, frames: usize) -> Result<Vec<u64>, AllocError>
     requires some { 1 ≤ frames }
     requires few { frames ≤ 256 }
@@ -101,7 +116,7 @@ fn words_of(alloc: Global, frames: usize) -> Result<Vec<u64>, AllocError>
     Ok(words)
 }
 
-/// How many frames have count 0.
+/// Returns how many frames have count 0.
 fn count_free(closed: &Closed<(), Global>, frames: usize) -> usize
     requires full { IsFull closed.now.words }
     requires sized { slots_len closed.now.words ≡ 513 * frames + 1 }

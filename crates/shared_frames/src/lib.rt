@@ -1,20 +1,23 @@
-//! Frames that threads share: counts, credits and words in one table of atomic words, with the laws of `frame_store`.
+//! A frame store that threads share: the free count, reference counts and words in one table of atomic words, with the
+//! laws of `frame_store`. Structs: `SharedFrames` owns the table, `SharedAccess` and `SharedSupply` are a thread's
+//! handles on it, `SharedSeat` is a seat (an owner's capability at the store), and `Totals` has the counts at the end.
 //!
-//! The table has the free word, and of each frame its count and its 512 words. Each step is one exchange of one word.
-//! Between any two steps the rule of `specs/Rule.antt` holds of the words and of what all seats know, and a step changes
-//! what its own seat knows and no other; `join` alone takes in another seat, and ends it. The rule is that of the table,
-//! so clauses of single calls say only that a seat is at this table (`specs/Fits.antt`).
+//! Word 0 of the table is the free count; then each frame has its reference count and its 512 words. Each step is one atomic
+//! operation on one word. Between any two steps the invariant of `specs/Rule.antt` holds of all words and of the views of
+//! all seats, and a step changes the view of its own seat alone; `split` also makes a seat, and `join` takes in another one
+//! and ends it. The invariant belongs to the table's type, so contracts of single calls say only that a seat is at this
+//! table (`specs/SeatsOfTable.antt`).
 #![tactic(auto)]
 
 mod access;
-mod cut;
 mod frames;
 mod retry;
 mod seat;
+mod split_join;
+mod step_kinds;
 mod steps;
 mod supply;
 mod table;
-mod telling;
 
 pub use access::SharedAccess;
 pub use frames::{SharedFrames, Totals};

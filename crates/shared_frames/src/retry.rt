@@ -1,9 +1,10 @@
-// The calls that try an exchange again until it succeeds.
+// Crate-internal functions `reserve`, `claim` and `share` over shared frames: loops that try an atomic exchange until one
+// succeeds or the call is refused (`NoFrame` of `reserve`, `SharersFull` of `share`; `claim` is never refused).
 
 ghost use Rattle.std.specs.Prelude.{◌≡◌, ◌≢◌, ℕ, ◌+◌, ◌-◌, ◌<◌, ◌≤◌, ◌==◌, IfOk, IfErr};
 ghost use Rattle.frame_store.specs.Laws.{IsDry};
 ghost use Rattle.frame_store.specs.View.{IsHeld, claimed, read_full, references, shared, with_credits};
-ghost use Rattle.shared_frames.specs.Fits.{FitsIn, IsSized, view_of};
+ghost use Rattle.shared_frames.specs.SeatsOfTable.{FitsIn, IsSized, view_of};
 
 use crate::seat::SharedSeat;
 use crate::steps;
@@ -12,10 +13,14 @@ use frame_store::{NoFrame, SharersFull};
 use std::sync::Wait;
 use sv39_entry::FrameNo;
 
-/// As many references as a frame can have.
+/// The most references that a frame can have.
 const MOST_REFERENCES: u64 = 65_535;
 
-/// Gathers so many credits, in one exchange or several. Where the free word is 0 before that, all go back.
+/// Reserves `count` credits for the seat, by one or several exchanges of the free count.
+///
+/// # Errors
+/// `NoFrame`: the free count was read as 0 before all credits were reserved. Those that were are given back, so the seat's
+/// references, known words and credits are unchanged (`IsDry`).
 pub fn reserve<R: Wait>(
     rt: &R,
     table: &Words,
@@ -33,7 +38,7 @@ pub fn reserve<R: Wait>(
         if got == count {
             return Ok(());
         }
-        let free = steps::see_free(table, seat);
+        let free = steps::load_free(table, seat);
         if free == 0 {
             break;
         }
@@ -46,7 +51,8 @@ pub fn reserve<R: Wait>(
     Err(NoFrame)
 }
 
-/// Spends a credit on the first frame that is found with count 0.
+/// Allocates a frame for one of the seat's credits, and returns its number. Tries frames from 0 on, and from 0 again after
+/// the last, until it finds one of count 0. The seat is then its sole holder, with no word known.
 pub fn claim<R: Wait>(rt: &R, table: &Words, frames: usize, seat: &mut SharedSeat) -> FrameNo
     requires sized { IsSized table.now.table_id.words table.now.key }
     requires frames { frames ≡ table.now.key }
@@ -71,7 +77,11 @@ pub fn claim<R: Wait>(rt: &R, table: &Words, frames: usize, seat: &mut SharedSea
     unreachable!()
 }
 
-/// Takes one more reference. Most frames that are shared have one before.
+/// Takes one more reference to a held frame. The first exchange expects count 1, which most frames have when they are
+/// shared.
+///
+/// # Errors
+/// `SharersFull`: the frame's count was read as 65,535, which the seat's tallies record; nothing else of its view changes.
 pub fn share<R: Wait>(
     rt: &R,
     table: &Words,

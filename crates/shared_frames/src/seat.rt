@@ -1,4 +1,5 @@
-// What stands for a seat in the table.
+// `SharedSeat`, a struct: a seat (an owner's capability) at shared frames. And two ghost structs, `Told` and `Knowledge`,
+// by which the table's types name its view (what the seat holds and knows).
 
 ghost use Rattle.std.specs.Borrow.{ftrue};
 ghost use Rattle.std.specs.Prelude.{◌≡◌, []};
@@ -8,7 +9,7 @@ use atomic_table::Seat;
 use frame_store::FrameSeat;
 use std::marker::{Model, PhantomData};
 
-/// A view, and nothing at run time.
+/// Holds a view for contracts to read. It takes no bytes at run time.
 struct Told {
     of: PhantomData<()>,
     pub ghost view: { View } by { view_code },
@@ -18,7 +19,7 @@ impl Model for Told {
     ghost also_owns = { λ _. ftrue };
 }
 
-/// A view, as the table's types name it. No value of it is made.
+/// The type by which the types of the table name a view. No value of it is made.
 pub struct Knowledge {
     told: Told,
 }
@@ -31,7 +32,8 @@ impl Model for Knowledge {
     ghost view = { λ k. k.told.view };
 }
 
-/// A seat at shared frames. It has no bytes, and may go to any thread.
+/// A seat at shared frames: one owner's capability, with its references to frames and its credits. It takes no bytes at
+/// run time, and may be sent to any thread.
 #[derive(Drop)]
 pub struct SharedSeat {
     pub(crate) seat: Seat<(), Knowledge>,

@@ -1,30 +1,35 @@
-// The steps, each a single exchange of the table.
+// Crate-internal functions, the steps on the table of shared frames: load the free count, try to reserve, to claim or to
+// share, give back, look, drop a reference, release, load a word, store a word. Each is one atomic operation, except
+// `release` and `store_word`, which make one or two.
 
 ghost use Rattle.std.specs.Prelude.{◌≡◌, ℕ, ◌+◌, ◌-◌, ◌*◌, ◌<◌, ◌≤◌, ◌==◌, cond, Some};
 ghost use Rattle.frame_store.specs.Laws.{IsAnchored};
 ghost use Rattle.frame_store.specs.View.{IsHeld, IsSole, known_word, references, claimed, looked, released, shared, with_credits, with_word, without_credits};
-ghost use Rattle.shared_frames.specs.Fits.{FitsIn, IsSized, view_of};
-ghost use Rattle.shared_frames.specs.Telling.{let_go, saw_free, unshared};
+ghost use Rattle.shared_frames.specs.SeatsOfTable.{FitsIn, IsSized, view_of};
+ghost use Rattle.shared_frames.specs.StepEffects.{let_go, saw_free, unshared};
 
 use crate::seat::SharedSeat;
+use crate::step_kinds::{
+    Claim, GiveBack, Learn, Load, LoadFree, Look, Release, Reserve, Share, Store,
+};
 use crate::table::Words;
-use crate::telling::{Claim, GiveBack, Learn, Load, Look, Release, Reserve, See, Share, Store};
 use sv39_entry::FrameNo;
 
-/// How many words of the table a frame has: its count, and its memory.
+/// Words of the table per frame: its count, then its 512 words.
 const FRAME_WORDS: usize = 513;
 
-/// Reads the free word. At 0 the seat notes it.
-pub fn see_free(table: &Words, seat: &mut SharedSeat) -> u64
+/// Loads the free count, and returns it. If it is 0, the seat's tallies record that, with the credits that the seat has.
+pub fn load_free(table: &Words, seat: &mut SharedSeat) -> u64
     requires sized { IsSized table.now.table_id.words table.now.key }
     requires fits { FitsIn table.now.table_id seat.old }
     ensures fits { FitsIn table.now.table_id seat.new }
     ensures view { view_of seat.new ≡ saw_free result (view_of seat.old) }
 {
-    table.load::<See>(&mut seat.seat, 0)
+    table.load::<LoadFree>(&mut seat.seat, 0)
 }
 
-/// Takes the free word from `old` to `new`, and has the difference as credits, where the word was `old`.
+/// Exchanges the free count for `new` if it is `old`, and returns the free count as it was. If that is `old`, the seat has
+/// `old - new` more credits; otherwise its view is unchanged.
 pub fn try_reserve(table: &Words, seat: &mut SharedSeat, old: u64, new: u64) -> u64
     requires sized { IsSized table.now.table_id.words table.now.key }
     requires fits { FitsIn table.now.table_id seat.old }
@@ -35,7 +40,7 @@ pub fn try_reserve(table: &Words, seat: &mut SharedSeat, old: u64, new: u64) -> 
     table.compare_exchange::<Reserve>(&mut seat.seat, 0, old, new)
 }
 
-/// Adds credits to the free word.
+/// Gives `count` of the seat's credits back: adds them to the free count.
 pub fn give_back(table: &Words, seat: &mut SharedSeat, count: u64)
     requires sized { IsSized table.now.table_id.words table.now.key }
     requires fits { FitsIn table.now.table_id seat.old }
@@ -46,7 +51,8 @@ pub fn give_back(table: &Words, seat: &mut SharedSeat, count: u64)
     table.fetch_add::<GiveBack>(&mut seat.seat, 0, count);
 }
 
-/// Spends a credit on the frame, where its count was 0.
+/// Exchanges the frame's count for 1 if it is 0, and returns the count as it was. If that is 0, a credit is spent and the
+/// seat is the frame's sole holder, with no word known; otherwise its view is unchanged.
 pub fn try_claim(table: &Words, seat: &mut SharedSeat, frame: FrameNo) -> u64
     requires sized { IsSized table.now.table_id.words table.now.key }
     requires fits { FitsIn table.now.table_id seat.old }
@@ -60,7 +66,9 @@ pub fn try_claim(table: &Words, seat: &mut SharedSeat, frame: FrameNo) -> u64
     table.compare_exchange::<Claim>(&mut seat.seat, FRAME_WORDS * frame.0 as usize + 1, 0, 1)
 }
 
-/// Takes one more reference, where the count was `old`.
+/// Exchanges the count of a held frame for `old + 1` if it is `old`, and returns the count as it was, at most 65,535. If
+/// that is `old`, the seat has one more reference; otherwise its view is unchanged, except that its tallies record a count
+/// of 65,535.
 pub fn try_share(table: &Words, seat: &mut SharedSeat, frame: FrameNo, old: u64) -> u64
     requires sized { IsSized table.now.table_id.words table.now.key }
     requires fits { FitsIn table.now.table_id seat.old }
@@ -78,7 +86,8 @@ pub fn try_share(table: &Words, seat: &mut SharedSeat, frame: FrameNo, old: u64)
     )
 }
 
-/// Reads a count. At 1 the seat has the mark.
+/// Loads the count of a held frame, 1 to 65,535, and returns it; the seat's tallies record it. If it is 1, the seat is known
+/// to be the sole holder.
 pub fn look(table: &Words, seat: &mut SharedSeat, frame: FrameNo) -> u64
     requires sized { IsSized table.now.table_id.words table.now.key }
     requires fits { FitsIn table.now.table_id seat.old }
@@ -91,7 +100,8 @@ pub fn look(table: &Words, seat: &mut SharedSeat, frame: FrameNo) -> u64
     table.load::<Look>(&mut seat.seat, FRAME_WORDS * frame.0 as usize + 1)
 }
 
-/// Lets a reference go. With the last one the seat has a credit for the frame.
+/// Drops one reference to a held frame, and returns the frame's count before. If that is 1, the seat has a credit for the
+/// frame.
 pub fn drop_reference(table: &Words, seat: &mut SharedSeat, frame: FrameNo) -> u64
     requires sized { IsSized table.now.table_id.words table.now.key }
     requires fits { FitsIn table.now.table_id seat.old }
@@ -103,8 +113,8 @@ pub fn drop_reference(table: &Words, seat: &mut SharedSeat, frame: FrameNo) -> u
     table.fetch_sub::<Release>(&mut seat.seat, FRAME_WORDS * frame.0 as usize + 1, 1)
 }
 
-/// Lets a reference go, and gives the frame back where it was the last one: two steps, between which the frame is not free,
-/// since the seat has a credit for it.
+/// Drops one reference to a held frame. If it was the frame's last, the frame becomes free by a second step; between the two
+/// it is not free, since the seat has a credit for it.
 pub fn release(table: &Words, seat: &mut SharedSeat, frame: FrameNo)
     requires sized { IsSized table.now.table_id.words table.now.key }
     requires fits { FitsIn table.now.table_id seat.old }
@@ -119,7 +129,7 @@ pub fn release(table: &Words, seat: &mut SharedSeat, frame: FrameNo)
     }
 }
 
-/// Reads a word of a held frame.
+/// Loads a word of a held frame, and returns it. If the seat knows that word, the result is this word.
 pub fn load_word(table: &Words, seat: &mut SharedSeat, frame: FrameNo, index: usize) -> u64
     requires sized { IsSized table.now.table_id.words table.now.key }
     requires fits { FitsIn table.now.table_id seat.old }
@@ -132,7 +142,7 @@ pub fn load_word(table: &Words, seat: &mut SharedSeat, frame: FrameNo, index: us
     table.load::<Load>(&mut seat.seat, FRAME_WORDS * frame.0 as usize + 2 + index)
 }
 
-/// Reads a word of a frame of which the seat is the sole holder. The seat knows it then.
+/// Loads a word of a frame of which the seat is the sole holder, and returns it. The seat knows it then.
 fn learn_word(table: &Words, seat: &mut SharedSeat, frame: FrameNo, index: usize) -> u64
     requires sized { IsSized table.now.table_id.words table.now.key }
     requires fits { FitsIn table.now.table_id seat.old }
@@ -144,7 +154,7 @@ fn learn_word(table: &Words, seat: &mut SharedSeat, frame: FrameNo, index: usize
     table.load::<Learn>(&mut seat.seat, FRAME_WORDS * frame.0 as usize + 2 + index)
 }
 
-/// Puts a word in the place of another of such a frame.
+/// Stores a word of a frame of which the seat is the sole holder. The seat knows it then.
 fn put_word(table: &Words, seat: &mut SharedSeat, frame: FrameNo, index: usize, value: u64)
     requires sized { IsSized table.now.table_id.words table.now.key }
     requires fits { FitsIn table.now.table_id seat.old }
@@ -160,8 +170,8 @@ fn put_word(table: &Words, seat: &mut SharedSeat, frame: FrameNo, index: usize, 
     );
 }
 
-/// Writes a word of a frame of which the seat is the sole holder. A store that all threads see at once takes many times as long as
-/// a load, so it is made only where the word is another: of a frame that is cleared most words are 0, as a rule.
+/// Stores a word of a frame of which the seat is the sole holder, but only if it differs from the word there: a store that
+/// all threads see at once costs many loads, and most words of a frame that is being cleared are 0 already.
 pub fn store_word(table: &Words, seat: &mut SharedSeat, frame: FrameNo, index: usize, value: u64)
     requires sized { IsSized table.now.table_id.words table.now.key }
     requires fits { FitsIn table.now.table_id seat.old }

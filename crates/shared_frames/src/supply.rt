@@ -1,19 +1,21 @@
-// The frames as one thread acts on them, with the calls that take frames. These may try again and again.
+// `SharedSupply`, a struct: a thread's handle on frames that threads share, with all calls of `FrameAccess` and
+// `FrameSupply`. Of these, `reserve`, `claim` and `share` retry until an exchange succeeds or the call is refused.
 
-ghost use Rattle.std.specs.Prelude.{◌≡◌, ◌≢◌, ℕ, ◌+◌, ◌-◌, ◌<◌, ◌≤◌, ◌==◌, ◌++◌, ◌∷◌, List, map};
+ghost use Rattle.std.specs.Prelude.{◌≡◌, ◌≢◌, ℕ, ◌+◌, ◌-◌, ◌<◌, ◌≤◌, ◌==◌, ◌++◌, ◌∷◌};
 ghost use Rattle.atomic_table.specs.Seated.{TableId};
-ghost use Rattle.shared_frames.specs.Fits.{IsSized};
+ghost use Rattle.shared_frames.specs.SeatsOfTable.{IsSized};
 
 use crate::seat::SharedSeat;
 use crate::table::Words;
-use crate::{cut, retry, steps};
+use crate::{retry, split_join, steps};
 use frame_store::{FrameAccess, FrameSupply, NoFrame, SharersFull};
 use std::marker::Model;
 use std::sync::Wait;
 use sv39_entry::FrameNo;
 
-/// A store that any thread may have. Its `reserve`, `claim` and `share` try again until an exchange succeeds. Contracts
-/// see it as the name of its table.
+/// A handle on shared frames for any thread, with all calls of `FrameAccess` and `FrameSupply`. `reserve`, `claim` and
+/// `share` retry until an exchange succeeds or the call is refused. Contracts see it as the identity of its table. Other
+/// threads may change the store at any time (it is never `alone`), so contracts promise no exact counts.
 #[derive(Drop)]
 pub struct SharedSupply<'a, R> {
     rt: &'a R,
@@ -30,6 +32,7 @@ impl<'a, R> Model for SharedSupply<'a, R> {
 }
 
 impl<'a, R> SharedSupply<'a, R> {
+    /// Returns a handle on the table of `frames` frames.
     pub(crate) fn new(rt: &'a R, table: &'a Words, frames: usize) -> SharedSupply<'a, R>
         requires sized { IsSized table.now.table_id.words table.now.key }
         requires counted { frames ≡ table.now.key }
@@ -42,7 +45,7 @@ impl<'a, R> SharedSupply<'a, R> {
 impl<'a, R> FrameAccess for SharedSupply<'a, R> {
     type Seat = SharedSeat;
 
-    ghost use Rattle.shared_frames.specs.Fits.{AllFit, held_within, to_front, to_back};
+    ghost use Rattle.shared_frames.specs.SeatsOfTable.{AllFit, held_within, to_front, to_back};
 
     ghost rule = { AllFit };
 
@@ -79,7 +82,7 @@ impl<'a, R> FrameAccess for SharedSupply<'a, R> {
     }
 
     fn join(&mut self, seat: &mut SharedSeat, other: SharedSeat) {
-        cut::join(self.table, seat, other);
+        split_join::join(self.table, seat, other);
     }
 }
 
@@ -97,6 +100,6 @@ impl<'a, R: Wait> FrameSupply for SharedSupply<'a, R> {
     }
 
     fn split(&mut self, seat: &mut SharedSeat, frames: &[FrameNo]) -> SharedSeat {
-        cut::split(self.table, seat, frames)
+        split_join::split(self.table, seat, frames)
     }
 }

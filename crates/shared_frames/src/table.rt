@@ -1,9 +1,10 @@
-// The rule of the table.
+// `FramesRule`, a ghost struct: the invariant of the table of shared frames, with the view (what a seat holds and knows)
+// of its first seat. `Words`, a type alias: the table as all handles on it see it.
 
 use crate::seat::Knowledge;
 use atomic_table::{Shared, TableRule};
 
-/// The rule of shared frames. The key is how many frames there are.
+/// The invariant of shared frames (`Kept`), with the view of the first seat. The table's key is the number of frames.
 pub struct FramesRule;
 
 impl TableRule<(), Knowledge, usize> for FramesRule {
@@ -15,4 +16,5 @@ impl TableRule<(), Knowledge, usize> for FramesRule {
     ghost first = { λ n. opening_view n };
 }
 
+/// The table of shared frames, as all handles on it see it.
 pub type Words = Shared<(), Knowledge, usize, FramesRule>;

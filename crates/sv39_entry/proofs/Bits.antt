@@ -1,4 +1,5 @@
--- The flags of an entry, by digits.
+-- Lemmas: for each of the flags V, R, W, X, U, A, D of a page table entry, the test of the flag's value by `&` is the test
+-- of its bit; and `flags`, the rule set of these equations for rewriting.
 use Rattle.std.proofs.Common.{◌≡◌, ℕ}
 use Rattle.sv39_entry.specs.Address.{has}
 use Rattle.sv39_entry.specs.Flags.{has_flag_is}

@@ -1,4 +1,5 @@
--- An address is canonical by its bits just where its upper part is all zeros or all ones.
+-- Lemma: a 64-bit address is canonical by its bits (each above the sign bit equals it, `IsCanonical`) if and only if its
+-- upper part is all zeros or all ones (`is_canonical`); for Sv39 and Sv48.
 use Rattle.std.proofs.Common.{◌≡◌, ℕ, zero, suc, Bool, true, false, ◌+◌, ◌-◌, ◌/◌, ◌%◌, ◌^◌, ◌<◌, ◌≤◌, ◌==◌, ◌||◌, inl, inr, refl, ap, sym, ◌∙◌, arith}
 use Rattle.std.specs.Prelude.{◌↔◌, IsTrue}
 use Rattle.std.proofs.lemmas.Bool.{cases_eq, cases_Bool, eq-eqb, ne_eqb, eqb-true, eqb-false}

@@ -1,4 +1,5 @@
--- What is read back from the words that the kernel writes.
+-- Lemmas: the page table entries that the kernel writes have the fields they were made with: a leaf its frame, and its flags
+-- as `IsLeafOf` says, a pointer the frame of its table (`IsPointerTo`).
 use Rattle.std.proofs.Common.{◌≡◌, ℕ, Bool, true, false, not, ◌&&◌, ◌+◌, ◌*◌, ◌/◌, ◌^◌, ◌<◌, ◌==◌, refl, ap, sym, ◌∙◌, arith}
 use Rattle.std.specs.Prelude.{nat_lt, if◌then◌else◌}
 use Rattle.std.proofs.lemmas.Bool.{eq-eqb, and_parts}

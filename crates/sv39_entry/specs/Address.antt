@@ -1,12 +1,12 @@
--- Virtual addresses (the standard, 4.4.1 and 4.5.1): the page offset in bits 11 to 0, and VPN[0], VPN[1] and so on above it, nine
--- bits each.
+-- Definitions for virtual addresses (RISC-V Privileged Architecture, 4.4.1 and 4.5.1): bit i of a number (`has`), the page
+-- of an address, its offset in bits 11 to 0, and VPN[level] of a page, nine bits each.
 use Rattle.std.specs.Prelude.{ℕ, Bool, ◌*◌, ◌/◌, ◌%◌, ◌^◌, ◌==◌}
 
--- bit i of a number
+-- whether bit i of a number is set
 abbrev pub has : ℕ → ℕ → Bool
 has n i = n / 2 ^ i % 2 == 1
 
--- the page that holds an address, of 4,096 bytes
+-- the number of the page, of 4,096 bytes, that holds an address
 abbrev pub page_of : ℕ → ℕ
 page_of a = a / 4096
 

@@ -1,4 +1,5 @@
--- The causes of exceptions, by the kind of access (the standard, 4.1.8).
+-- Definitions: the exception codes (scause) of misaligned accesses, access faults and page faults, by the kind of access
+-- (RISC-V Privileged Architecture, 4.1.8).
 use Rattle.std.specs.Prelude.{ℕ}
 use Rattle.sv39_entry.specs.declared.access.Access.{Access}
 use Rattle.sv39_entry.specs.declared.access.Access.TheVariants.{Fetch, Load, Store}

@@ -1,4 +1,5 @@
--- A flag of a word, by `&`, is a bit of it.
+-- Law of flags of a page table entry: a word has the flag of value 2 ^ k by the test with `&` (`has_flag`) if and only if
+-- bit k of the word is set (`has`).
 use Rattle.std.proofs.Common.{◌≡◌, ℕ, ◌/◌, ◌%◌, ◌^◌, inl, inr, sym, ◌∙◌, arith}
 use Rattle.std.proofs.lemmas.Bool.{cases_eq, eq-eqb, ne_eqb}
 use Rattle.std.proofs.lemmas.Nat.{pow_pos}

@@ -1,4 +1,5 @@
--- Rights as a set of bits: reading 0, writing 1, execution 2.
+-- Definitions of access rights, a number as a set of bits: bit 0 is reading, bit 1 writing, bit 2 execution; and whether a
+-- set has the right that a fetch, load or store needs (`grants`).
 use Rattle.std.specs.Prelude.{ℕ, Bool}
 use Rattle.sv39_entry.specs.Address.{has}
 use Rattle.sv39_entry.specs.declared.access.Access.{Access}
@@ -13,7 +14,7 @@ writes rights = has rights 1
 abbrev pub executes : ℕ → Bool
 executes rights = has rights 2
 
--- the right that an access needs is there
+-- whether the set has the right that an access needs
 abbrev pub grants : ℕ → Access → Bool
 grants rights Fetch = executes rights
 grants rights Load = reads rights

@@ -1,4 +1,5 @@
--- The number and the name of a rule.
+-- Definitions: the number (1 to 9) and the name of each rule that denies a user access or a kernel copy (`Rule`), and the
+-- text of both, as replies print it.
 use Rattle.std.specs.Prelude.{ℕ, List, ◌++◌, codes}
 use Rattle.std.specs.Fmt.{decimal}
 use Rattle.sv39_entry.specs.declared.rule.Rule.{Rule}

@@ -1,4 +1,5 @@
--- Words of satp (the standard, 4.1.11): MODE in bits 63 to 60, ASID in 59 to 44, PPN in 43 to 0.
+-- Definitions for satp (RISC-V Privileged Architecture, 4.1.11): the word made of MODE, ASID and the frame of a root table;
+-- and the fields of a word, MODE in bits 63 to 60, ASID in 59 to 44, PPN in 43 to 0.
 use Rattle.std.specs.Prelude.{ℕ, ◌+◌, ◌*◌, ◌/◌, ◌%◌, ◌^◌}
 use Rattle.sv39_entry.specs.Frame.{ppn_of}
 

@@ -1,9 +1,10 @@
-// Accesses, the privilege modes they are made in, and the causes of their exceptions.
+// Enums `Access` (fetch, load, store) and `Mode` (user, supervisor); and, for each access, the exception codes (scause) of a
+// misaligned address, an access fault (no memory there) and a page fault (no translation).
 
 ghost use Rattle.std.specs.Prelude.{◌≡◌};
 ghost use Rattle.sv39_entry.specs.Causes as causes;
 
-/// What an instruction asks of memory (RISC-V Privileged Architecture 20211203, 4.3.1).
+/// The kind of a memory access: an instruction fetch, a load or a store (RISC-V Privileged Architecture 20211203, 4.3.1).
 #[derive(Clone, Copy, PartialEq, Eq, Debug)]
 pub enum Access {
     Fetch,
@@ -11,7 +12,7 @@ pub enum Access {
     Store,
 }
 
-/// The privilege mode of an access (the standard, 1.2); the kernel runs in supervisor mode.
+/// The privilege mode of an access (the standard, 1.2). The kernel runs in supervisor mode.
 #[derive(Clone, Copy, PartialEq, Eq, Debug)]
 pub enum Mode {
     User,
@@ -19,7 +20,8 @@ pub enum Mode {
 }
 
 impl Access {
-    /// The cause of the exception where the address is not a multiple of the width (the standard, 4.1.8).
+    /// Returns the exception code for an address that is not a multiple of the access width: 0 for a fetch, 4 for a load, 6
+    /// for a store (scause; the standard, 4.1.8).
     pub fn misaligned_cause(self) -> u64
         ensures { result ≡ causes.misaligned_cause self }
     {
@@ -30,7 +32,8 @@ impl Access {
         }
     }
 
-    /// The cause of the exception where a word or a byte lies outside memory (the standard, 4.1.8).
+    /// Returns the exception code of an access fault, for a page table word or a byte outside memory: 1 for a fetch, 5 for a
+    /// load, 7 for a store (scause; the standard, 4.1.8).
     pub fn access_fault_cause(self) -> u64
         ensures { result ≡ causes.access_fault_cause self }
     {
@@ -41,7 +44,8 @@ impl Access {
         }
     }
 
-    /// The cause of the exception where the translation fails (the standard, 4.1.8).
+    /// Returns the exception code of a page fault, for an address without a leaf, or whose leaf does not permit the access:
+    /// 12 for a fetch, 13 for a load, 15 for a store (scause; the standard, 4.1.8).
     pub fn page_fault_cause(self) -> u64
         ensures { result ≡ causes.page_fault_cause self }
     {

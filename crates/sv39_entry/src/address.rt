@@ -1,4 +1,5 @@
-// Virtual addresses and their pages.
+// Structs `Va`, a virtual address, and `Vpn`, a virtual page number; `PAGE_SIZE`. The page and offset of an address, an
+// address in a page, and VPN[level]: which entry a page table of that level has for the page.
 
 ghost use Rattle.std.specs.Prelude.{◌≡◌, ◌<◌, ◌+◌, ◌*◌, ◌%◌, ◌^◌};
 ghost use Rattle.std.specs.Option.{SomeIff};
@@ -6,14 +7,15 @@ ghost use Rattle.sv39_entry.specs.Address as words;
 
 use std::marker::Model;
 
-/// How many bytes a page has (RISC-V Privileged Architecture 20211203, 4.4.1).
+/// The number of bytes in a page (RISC-V Privileged Architecture 20211203, 4.4.1).
 pub const PAGE_SIZE: u64 = 4096;
 
-/// A virtual address, of any 64 bits.
+/// A virtual address: any 64 bits, canonical or not.
 #[derive(Clone, Copy, PartialEq, Eq, PartialOrd, Ord, Debug)]
 pub struct Va(pub u64);
 
-/// The number of a page of virtual addresses: bits 63 to 12 of each of them.
+/// A virtual page number: bits 63 to 12 of the addresses in the page, so below 2^52. It keeps the bits above the table
+/// indices.
 #[derive(Clone, Copy, PartialEq, Eq, PartialOrd, Ord, Debug)]
 pub struct Vpn {
     number: u64,
@@ -33,7 +35,7 @@ impl Model for Vpn {
 }
 
 impl Va {
-    /// The page that holds the address.
+    /// Returns the page that holds the address.
     pub fn page(self) -> Vpn
         ensures number { result ≡ words.page_of self.0 }
         ensures whole { result * 2 ^ 12 + words.page_offset self.0 ≡ self.0 }
@@ -43,7 +45,7 @@ impl Va {
         }
     }
 
-    /// Where the address lies in its page, in bytes.
+    /// Returns the offset of the address in its page, in bytes, below 4,096.
     pub fn offset(self) -> u64
         ensures value { result ≡ words.page_offset self.0 }
         ensures small { result < 4096 }
@@ -53,7 +55,7 @@ impl Va {
 }
 
 impl Vpn {
-    /// The page with a number, where there is one: numbers are below 2^52.
+    /// Returns the page with this number, `None` exactly when the number is 2^52 or above.
     pub fn new(number: u64) -> Option<Vpn>
         ensures { SomeIff result (number < 2 ^ 52) number }
     {
@@ -64,6 +66,7 @@ impl Vpn {
         }
     }
 
+    /// Returns the page number, below 2^52.
     pub fn number(self) -> u64
         ensures value { result ≡ self }
         ensures small { result < 2 ^ 52 }
@@ -71,15 +74,17 @@ impl Vpn {
         self.number
     }
 
-    /// The address at an offset in the page, by the offset's low twelve bits.
+    /// Returns the address at a byte offset in the page. Only the low twelve bits of the offset count (it is taken modulo
+    /// 4,096).
     pub fn at(self, offset: u64) -> Va
         ensures { result.0 ≡ self * 2 ^ 12 + words.page_offset offset }
     {
         Va((self.number << 12) + offset % PAGE_SIZE)
     }
 
-    /// VPN[level] of each address of the page: which entry a table of that level has for it (the standard, 4.4.1).
-    /// Above level 5, where a page number has no bit left, it is 0.
+    /// Returns VPN[level], below 512: the index of the page's entry in a table of that level (the standard, 4.4.1). The last
+    /// tables have level 0.
+    /// Above level 5 a page number has no bit left, so it is 0.
     pub fn index(self, level: u32) -> usize
         ensures value { result ≡ words.vpn self level }
         ensures small { result < 512 }

@@ -1,12 +1,13 @@
-// The low ten bits of a page table entry.
+// Struct `EntryFlags`, a set of flag bits of a page table entry: V, R, W, X, U, G, A, D, and RSW bit 8, the software bit
+// that marks copy-on-write.
 
 ghost use Rattle.std.specs.Prelude.{⊤, ◌≡◌, [], ◌∷◌, codes};
 ghost use Rattle.sv39_entry.specs.Word.{if_set};
 
 use bitflags::{Flag, Flags, bitflag_items};
 
-/// The flags of a page table entry (RISC-V Privileged Architecture 20211203, 4.4.1), and the bit of those for
-/// software (RSW) that marks copy-on-write.
+/// The flags of a page table entry, bits 7 to 0 (RISC-V Privileged Architecture 20211203, 4.4.1), and RSW bit 8, which marks
+/// copy-on-write (own choice).
 #[derive(Clone, Copy, PartialEq, Eq, Debug)]
 pub struct EntryFlags(u64);
 
@@ -47,7 +48,7 @@ impl Flags for EntryFlags {
 }
 
 impl EntryFlags {
-    /// The flag's bits where it is wanted, else 0.
+    /// Returns the bits of the flag if `wanted`, else 0.
     pub fn only_if(self, wanted: bool) -> u64
         ensures { result ≡ if_set wanted self.0 }
     {

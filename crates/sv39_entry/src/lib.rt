@@ -1,5 +1,6 @@
-//! Addresses, page table entries and rights of Sv39 and Sv48, as the standard has them (RISC-V Privileged Architecture 20211203,
-//! chapter 4), and the addresses at which xv6 keeps things.
+//! Bit formats of Sv39 and Sv48 (RISC-V Privileged Architecture 20211203, chapter 4, "the standard"): virtual addresses,
+//! page table entries, rights, exception codes and satp; frame numbers and the addresses of xv6's memory layout; and the
+//! nine rules by which a user access or a kernel copy is denied (`Rule`).
 #![tactic(auto)]
 
 mod access;

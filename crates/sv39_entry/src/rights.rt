@@ -1,4 +1,5 @@
-// What pages may be used for.
+// Struct `Rights`, a set of access rights (read, write, execute), and whether a set has the right that an access needs
+// (`grants`).
 
 ghost use Rattle.std.specs.Prelude.{⊤, ◌≡◌, [], ◌∷◌, codes};
 ghost use Rattle.sv39_entry.specs.Rights.{grants};
@@ -6,7 +7,7 @@ ghost use Rattle.sv39_entry.specs.Rights.{grants};
 use crate::access::Access;
 use bitflags::{Flag, Flags, bitflag_items};
 
-/// What a page may be used for, as a set.
+/// A set of access rights: READ, WRITE, EXECUTE.
 #[derive(Clone, Copy, PartialEq, Eq, Debug)]
 pub struct Rights(u8);
 
@@ -41,7 +42,7 @@ impl Flags for Rights {
 }
 
 impl Rights {
-    /// Whether the right that an access needs is among them.
+    /// Whether the set has the right that an access needs: EXECUTE for a fetch, READ for a load, WRITE for a store.
     #[tactic(auto, using(crate::proofs::Bits::flags))]
     pub fn grants(self, access: Access) -> bool
         ensures { result ≡ grants self.0 access }

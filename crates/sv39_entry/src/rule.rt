@@ -1,15 +1,16 @@
-// Why an access or a kernel copy is denied.
+// Enum `Rule`: the nine rules by which a user access or a kernel copy (xv6's copyin, copyout) is denied, with their numbers,
+// 1 to 9, and their names.
 
 ghost use Rattle.std.specs.Prelude.{◌≡◌};
 ghost use Rattle.sv39_entry.specs.RuleText as words;
 
-/// Why an access or a kernel copy is denied, in the order in which the rules are tried. The order, the numbers and the
+/// Why a user access or a kernel copy is denied, in the order in which the rules are tried. The order, the numbers and the
 /// names are the project's own.
 #[derive(Clone, Copy, PartialEq, Eq, Debug)]
 pub enum Rule {
-    /// The address is not a multiple of the width. It is not asked of kernel copies.
+    /// The address is not a multiple of the access width. Kernel copies are not tested for this.
     Misaligned,
-    /// The address is at or above `MAXVA`.
+    /// The address is at or above MAXVA (`Scheme::maxva`).
     BeyondMax,
     /// The page is the trampoline's or the trapframe's.
     KernelPage,
@@ -17,18 +18,18 @@ pub enum Rule {
     GuardPage,
     /// No region holds the page.
     NoRegion,
-    /// The region does not grant reading.
+    /// A load, and the region does not grant reading.
     NoRead,
-    /// The region does not grant writing.
+    /// A store, and the region does not grant writing.
     NoWrite,
-    /// The region does not grant execution.
+    /// A fetch, and the region does not grant execution.
     NoExec,
-    /// The access is granted, frames are needed for it, and too few were free.
+    /// The access is granted, but it needs frames and too few were free.
     NoFrame,
 }
 
 impl Rule {
-    /// From 1, in the order in which the rules are tried.
+    /// Returns the number of the rule, 1 to 9, in the order in which the rules are tried.
     pub fn number(self) -> u64
         ensures { result ≡ words.rule_number self }
     {
@@ -45,6 +46,7 @@ impl Rule {
         }
     }
 
+    /// Returns the name of the rule, as replies print it.
     pub fn name(self) -> &'static str
         ensures { result.now ≡ words.rule_name self }
     {

@@ -1,4 +1,5 @@
-// The register that tells which table translates.
+// Struct `Satp`, a value of the satp register: made of a scheme, an ASID and the frame of a root table, or of 64 bits; and
+// its fields MODE, ASID and PPN.
 
 ghost use Rattle.std.specs.Prelude.{◌≡◌};
 ghost use Rattle.sv39_entry.specs.Frame.{ppn_of};
@@ -9,7 +10,8 @@ use crate::frame::FrameNo;
 use crate::scheme::Scheme;
 use std::marker::Model;
 
-/// The supervisor address translation and protection register (RISC-V Privileged Architecture 20211203, 4.1.11).
+/// A value of satp, the supervisor address translation and protection register (RISC-V Privileged
+/// Architecture 20211203, 4.1.11).
 #[derive(Clone, Copy, PartialEq, Eq, Debug)]
 pub struct Satp {
     word: u64,
@@ -27,7 +29,8 @@ impl Model for Satp {
 }
 
 impl Satp {
-    /// The register's value for a scheme, an address-space identifier and the frame of a root table.
+    /// Returns the register value for a scheme (MODE 8 or 9), an address-space identifier (ASID) and the frame of a root
+    /// table, whose physical page number is the PPN field.
     pub fn new(scheme: Scheme, asid: u16, root: FrameNo) -> Satp
         ensures word { result ≡ words.satp_word (mode_of scheme) asid root.0 }
         ensures mode { words.mode result ≡ mode_of scheme }
@@ -39,32 +42,35 @@ impl Satp {
         }
     }
 
+    /// Returns the register value with these 64 bits.
     pub fn from_word(word: u64) -> Satp
         ensures { result ≡ word }
     {
         Satp { word }
     }
 
+    /// Returns the 64 bits of the register.
     pub fn to_word(self) -> u64
         ensures { result ≡ self }
     {
         self.word
     }
 
+    /// Returns the MODE field, bits 63 to 60: 8 is Sv39, 9 is Sv48.
     pub fn mode(self) -> u64
         ensures { result ≡ words.mode self }
     {
         self.word >> 60
     }
 
-    /// The address space number.
+    /// Returns the ASID field, bits 59 to 44: the address-space identifier.
     pub fn asid(self) -> u16
         ensures { result ≡ words.asid self }
     {
         ((self.word >> 44) % (1 << 16)) as u16
     }
 
-    /// The physical page number of the root table.
+    /// Returns the PPN field, bits 43 to 0: the physical page number of the root table.
     pub fn ppn(self) -> u64
         ensures { result ≡ words.root_ppn self }
     {

@@ -1,10 +1,11 @@
--- A frame is claimed, and each of its words made 0.
+-- Lemmas about what a seat (an owner's capability at a frame store) holds and knows when a frame is claimed and cleared: it
+-- knows that each of the 512 words is 0, and has of every other frame what it had.
 use Rattle.std.proofs.Common.{◌≡◌, ℕ, zero, suc, ◌+◌, ◌-◌, ◌<◌, refl, ap, sym, subst, ◌∙◌, Some, IsTrue, inl, inr, arith}
 use Rattle.std.proofs.lemmas.Bool.{cases_eq}
 use Rattle.std.specs.FinMap as map
 use Rattle.std.specs.FinMap.{get}
 use Rattle.frame_store.specs.Holds.{hold_of-frames, hold_of-with_hold_other, hold_of-with_hold_same}
-use Rattle.frame_store.specs.Many.{put-more, put-none}
+use Rattle.frame_store.specs.StoredRuns.{put-more, put-none}
 use Rattle.frame_store.specs.View.{put_many, with_many, spent, Hold, View, claimed, hold_of, IsHeld, IsSole, known_word, references, sole_hold, with_hold}
 use Rattle.table_walk.specs.Tables.{blank_hold, zeros_to}
 use Rattle.table_walk.specs.Keys.{insert_other, insert_same}

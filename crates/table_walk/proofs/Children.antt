@@ -1,4 +1,6 @@
--- The tables on the way to a page, and what the words that lead to them say.
+-- Lemmas about the page tables on the way to a page: a pointer in a table names the frame of the table below, and any other
+-- word means that there is none; above a table there is one, below a missing one none; and the level of the deepest one's
+-- entries is the number of those missing.
 use Rattle.std.proofs.Common.{◌≡◌, ℕ, zero, suc, ◌+◌, ◌-◌, ◌*◌, ◌/◌, ◌%◌, ◌^◌, ◌<◌, ◌≤◌, inl, inr, refl, ap, sym, ◌∙◌, arith, Option, None, Some}
 use Rattle.std.specs.Prelude.{option_map}
 use Rattle.std.specs.FinMap.{get}

@@ -1,4 +1,6 @@
--- The tables of pages, counted by the upper bits of the pages.
+-- Lemmas for the law `missing_is_growth`: page tables on the ways to pages, counted by the upper bits of the pages, are
+-- missing for one more page by as many as `tables_needed` grows, and are its tables too once made; for a page counted
+-- already; and for the first page below a new root.
 use Rattle.std.proofs.Common.{◌≡◌, ℕ, Bool, true, false, cond, zero, suc, ◌+◌, ◌-◌, ◌/◌, ◌^◌, ◌<◌, ◌≤◌, ◌⊎◌, inl, inr, refl, ap, sym, subst, ◌∙◌, arith, List, [], ◌∷◌, map, length, Option, Some, None}
 use Rattle.std.specs.Prelude.{All, Contains, IsSome, is_some, if◌then◌else◌}
 use Rattle.std.specs.Cmp.{nat_cmp_total, Equal-is, eq_by_cmp_equiv}
@@ -11,7 +13,7 @@ use Rattle.process_model.specs.PageMap.{NumberSet, contains, count, numbers}
 use Rattle.sv39_entry.specs.Schemes.{of_scheme, page_limit, top_level, trampoline_page, trapframe_page}
 use Rattle.sv39_entry.specs.declared.scheme.Scheme.{Scheme}
 use Rattle.sv39_entry.specs.declared.scheme.Scheme.TheVariants.{Sv39, Sv48}
-use Rattle.table_walk.specs.Counted.{AreTablesOf}
+use Rattle.table_walk.specs.TableCounts.{AreTablesOf}
 use Rattle.table_walk.specs.Tables.{Tables, IsGrown, bare_root, missing, missing_to, node}
 use Rattle.table_walk.proofs.Roots.{no_table, one_table}
 use Rattle.table_walk.specs.Nodes.{one_depth}

@@ -1,4 +1,6 @@
--- One word of a last table is written, and one leaf changes.
+-- Lemmas about writing one word of a last-level page table: the seat (an owner's capability at a frame store) then has the
+-- tables with that leaf put (`put_page`) or removed (`drop_page`); and walks find that leaf for the page, or none, and for
+-- pages with other table indices what they found.
 use Rattle.std.proofs.Common.{◌≡◌, ℕ, ◌+◌, ◌*◌, ◌/◌, ◌<◌, ◌≤◌, inl, inr, refl, ap, sym, subst, ◌∙◌, arith, Option, Some, None, unwrap_or}
 use Rattle.std.proofs.lemmas.Bool.{cases_eq, cases_lt}
 use Rattle.std.proofs.lemmas.Option.{same_Some}
@@ -11,8 +13,8 @@ use Rattle.sv39_entry.specs.Schemes.{top_level}
 use Rattle.sv39_entry.specs.Word.{kind_of}
 use Rattle.sv39_entry.specs.declared.scheme.Scheme.{Scheme}
 use Rattle.sv39_entry.specs.declared.entry.Kind.TheVariants.{Leaf}
-use Rattle.table_walk.specs.Changed.{OthersStay}
-use Rattle.table_walk.specs.Held.{held_memory}
+use Rattle.table_walk.specs.TableChanges.{OthersStay}
+use Rattle.table_walk.specs.HeldMemory.{held_memory}
 use Rattle.table_walk.specs.Tables.{ChangesTables, HasTables, Tables, AreTables, first_leaf, last_table, walk_leaf, with_leaf, without_leaf, word_in}
 use Rattle.table_walk.specs.Walk.{Maps}
 use Rattle.table_walk.proofs.TableWords.{Writes, kind-zero, rewritten, with_word-writes, word_high, word_leaf}

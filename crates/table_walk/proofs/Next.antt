@@ -1,4 +1,6 @@
--- The first leaf from a place on, index by index.
+-- Lemmas about the search for the first leaf below a page table, index by index, among places (numbers of the pages below
+-- it): a leaf found below one index is the table's first if none is before it; a word that is 0, or names a frame of zeros,
+-- has no leaf below; and what holds when the search ends without one.
 use Rattle.std.proofs.Common.{◌≡◌, ℕ, zero, suc, ◌+◌, ◌-◌, ◌*◌, ◌/◌, ◌%◌, ◌^◌, ◌<◌, ◌≤◌, min, inl, inr, refl, ap, sym, subst, ◌∙◌, arith, Option, Some, None, option_map, unwrap_or}
 use Rattle.std.proofs.Math.Nat.{div-div-eq-div-mul, mul-le-mul_right}
 use Rattle.std.proofs.lemmas.Bool.{cases_lt}
@@ -11,10 +13,10 @@ use Rattle.sv39_entry.specs.Word.{kind_of, ppn}
 use Rattle.sv39_entry.specs.declared.entry.Kind.TheVariants.{Invalid}
 use Rattle.sv39_entry.specs.declared.frame.FrameNo.{FrameNo}
 use Rattle.sv39_entry.specs.declared.scheme.Scheme.{Scheme}
-use Rattle.table_walk.specs.Changed.{ArePassed, HasEntry, IsIdle, IsTableAt}
+use Rattle.table_walk.specs.TableChanges.{ArePassed, HasEntry, HasNoLeafBelow, IsTableAt}
 use Rattle.table_walk.specs.Tables.{Tables, AreTables, HasTables, first_leaf, pointer_or_zero, root_node}
-use Rattle.frame_store.specs.Next.{AreZeros, NamesZeros}
-use Rattle.table_walk.specs.Places.{IsBare, IsBareTo, IsFirstLeaf, IsFirstLeafTo}
+use Rattle.frame_store.specs.NextWord.{AreZeros, NamesZeros}
+use Rattle.table_walk.specs.Places.{HasNoLeaves, IsBareTo, IsFirstLeaf, IsFirstLeafBefore}
 use Rattle.table_walk.proofs.Children.{child_none, frame_named, pointer_ppn}
 use Rattle.table_walk.proofs.TableWords.{kind-zero, word_high, word_leaf}
 use Rattle.table_walk.specs.Nodes.{power_next, power_some, power_up, root_some}
@@ -38,7 +40,7 @@ at_index : (k i width m : ℕ) → k * (512 * width) + (i * width + m) ≡ (k * 
 at_index k i width m = omega arith
 
 -- no place of an index from one on and before another has a leaf
-index_bare : (t : Tables) (k width b from : ℕ) → 1 ≤ width → ((i : ℕ) → from / width ≤ i → i < b → IsBare t (k * 512 + i) width 0 width)
+index_bare : (t : Tables) (k width b from : ℕ) → 1 ≤ width → ((i : ℕ) → from / width ≤ i → i < b → HasNoLeaves t (k * 512 + i) width 0 width)
     → (n : ℕ) → from ≤ n → n < b * width → get t.leaves (k * (512 * width) + n) ≡ None
 index_bare t k width b from some each n le lt =
     let i = n / width in
@@ -70,7 +72,7 @@ module _ (t : Tables) (k width from i place end : ℕ) where
   ]
 
   pub first_more : (p : ℕ × ℕ) → IsBareTo t k (512 * width) from (i * width + place) end → from ≤ i * width + place → i < 512
-      → IsFirstLeafTo t (k * 512 + i) width place (end - i * width) (Some p) → IsFirstLeafTo t k (512 * width) from end (Some (i * width + p.0, p.1))
+      → IsFirstLeafBefore t (k * 512 + i) width place (end - i * width) (Some p) → IsFirstLeafBefore t k (512 * width) from end (Some (i * width + p.0, p.1))
   first_more p before on low here = (
     omega (arith, here.0, on),
     (let row = mul-le-mul_right {m = suc i} {n = 512} width (omega (arith, low)) in omega (arith, here.1, row)),
@@ -90,12 +92,12 @@ bare_none t k width from to end over n le lt _ = absurd (omega (arith, over, le,
 
 -- ---- up to an end
 
-pub up_to : (t : Tables) (k width from end : ℕ) (o : Option (ℕ × ℕ)) → IsFirstLeaf t k width from o → IsFirstLeafTo t k width from end o
+pub up_to : (t : Tables) (k width from end : ℕ) (o : Option (ℕ × ℕ)) → IsFirstLeaf t k width from o → IsFirstLeafBefore t k width from end o
 up_to t k width from end None first = λ n le lt _. first n le lt
 up_to t k width from end (Some p) first = (first.0, first.1, first.2, λ n le lt _. first.3 n le lt)
 
 -- where the end is behind all places
-pub of_all : (t : Tables) (k width from end : ℕ) (o : Option (ℕ × ℕ)) → width ≤ end → IsFirstLeafTo t k width from end o → IsFirstLeaf t k width from o
+pub of_all : (t : Tables) (k width from end : ℕ) (o : Option (ℕ × ℕ)) → width ≤ end → IsFirstLeafBefore t k width from end o → IsFirstLeaf t k width from o
 of_all t k width from end None all first = λ n le lt. first n le lt (omega (arith, all, lt))
 of_all t k width from end (Some p) all first = (
   first.0,
@@ -105,14 +107,8 @@ of_all t k width from end (Some p) all first = (
       λ n le lt. first.3 n le lt (omega (arith, all, lt, low)),
 )
 
-pub none_to : (t : Tables) (k width from end : ℕ) → end ≤ width → IsFirstLeafTo t k width from end None → IsBare t k width from end
+pub none_to : (t : Tables) (k width from end : ℕ) → end ≤ width → IsFirstLeafBefore t k width from end None → HasNoLeaves t k width from end
 none_to t k width from end low first n le lt = first n le (omega (arith, low, lt)) lt
-
-pub past_to : (t : Tables) (k width from end : ℕ) (p : ℕ × ℕ) → end ≤ p.0 → IsFirstLeafTo t k width from end (Some p) → IsBare t k width from end
-past_to t k width from end p past first n le lt = first.3 n le (omega (arith, past, lt)) lt
-
-pub before_to : (t : Tables) (k width from end : ℕ) (p : ℕ × ℕ) → p.0 < end → IsFirstLeafTo t k width from end (Some p) → IsFirstLeaf t k width from (Some p)
-before_to t k width from end p before first = (first.0, first.1, first.2, λ n le lt. first.3 n le lt (omega (arith, before, lt)))
 
 -- ---- levels
 
@@ -125,9 +121,9 @@ table_child k level i at low small some =
     let below : k * 512 + i < 2 * 512 ^ (3 - (level - 1)) = rw more (omega (arith, next, at.1, small)) in
     (omega (arith, far, at.1, small), (from, below))
 
-pub same_places : (t : Tables) (k v w from end : ℕ) (o : Option (ℕ × ℕ)) → v ≡ w → IsFirstLeafTo t k v from end o → IsFirstLeafTo t k w from end o
-same_places t k v w from end None same first = subst (λ (x : ℕ). IsFirstLeafTo t k x from end None) same first
-same_places t k v w from end (Some p) same first = subst (λ (x : ℕ). IsFirstLeafTo t k x from end (Some p)) same first
+pub same_places : (t : Tables) (k v w from end : ℕ) (o : Option (ℕ × ℕ)) → v ≡ w → IsFirstLeafBefore t k v from end o → IsFirstLeafBefore t k w from end o
+same_places t k v w from end None same first = subst (λ (x : ℕ). IsFirstLeafBefore t k x from end None) same first
+same_places t k v w from end (Some p) same first = subst (λ (x : ℕ). IsFirstLeafBefore t k x from end (Some p)) same first
 
 pub fits_word : (w i found : ℕ) → w ≤ 512 ^ 3 → i < 512 → found < w → i * w + found < 2 ^ 64
 fits_word w i found few low less = let row = mul-le-mul_right {m = suc i} {n = 512} w (omega (arith, low)) in omega (arith, few, less, row)
@@ -161,7 +157,7 @@ within_last n stop width some lt =
 
 -- where no word is left before the index behind the last one, no place before the end has a leaf
 pub bare_all : (t : Tables) (k level from last at stop end : ℕ) → stop ≡ min end (512 * 512 ^ level) → last ≡ (stop - 1) / 512 ^ level + 1
-    → IsBareTo t k (512 * 512 ^ level) from (last * 512 ^ level + (at - last * 512 ^ level)) end → IsFirstLeafTo t k (512 ^ suc level) from end None
+    → IsBareTo t k (512 * 512 ^ level) from (last * 512 ^ level + (at - last * 512 ^ level)) end → IsFirstLeafBefore t k (512 ^ suc level) from end None
 bare_all t k level from last at stop end is to_last skip n le lt to =
     let next = power_next level in
     let before = within_last n stop (512 ^ level) (power_some level) (omega (arith, is, next, lt, to)) in
@@ -199,7 +195,7 @@ module _ {s : Scheme} (m : ℕ → ℕ → Option ℕ) (root : ℕ) (t : Tables)
       let here = rw same at there.1 in
       absurd cc
 
-  pub no_table : (k l from : ℕ) → root_node s ≤ k → get t.tables k ≡ None → IsBare t k (512 ^ suc l) from (512 ^ suc l)
+  pub no_table : (k l from : ℕ) → root_node s ≤ k → get t.tables k ≡ None → HasNoLeaves t k (512 ^ suc l) from (512 ^ suc l)
   no_table k l from some none n le lt = no_leaf k l n (get t.leaves (k * 512 ^ suc l + n)) some none lt refl
 
   -- the word of an index of a last table
@@ -218,7 +214,7 @@ module _ {s : Scheme} (m : ℕ → ℕ → Option ℕ) (root : ℕ) (t : Tables)
       absurd cc
 
   module _ (k f i w : ℕ) (at : get t.tables k ≡ Some f) (low : 512 ^ 3 ≤ k) (small : i < 512) (read : (x : ℕ) → m f i ≡ Some x → w ≡ x) where
-    pub bare_word : (from : ℕ) → w ≡ 0 → IsBare t (k * 512 + i) 1 from 1
+    pub bare_word : (from : ℕ) → w ≡ 0 → HasNoLeaves t (k * 512 + i) 1 from 1
     bare_word from nil n le lt =
         let same : (k * 512 + i) * 1 + n ≡ k * 512 + i = omega (arith, lt) in
         ap (get t.leaves) same ∙ none_of (k * 512 + i) w (get t.leaves (k * 512 + i)) refl (one_word k f i w at low small read) nil
@@ -239,7 +235,7 @@ module _ {s : Scheme} (v : View) (root : ℕ) (t : Tables) (h : HasTables s v ro
   no_child k f i w at small high read nil = sym (child_none v root t h k f i at small high w read (λ is. (let invalid : kind_of w ≡ Invalid = ap kind_of nil ∙ kind-zero in cc)))
 
   pub bare_zero : (k f i level w : ℕ) → get t.tables k ≡ Some f → IsTableAt k level → level ≤ 3 → i < 512 → ((x : ℕ) → known_word v f i ≡ Some x → w ≡ x)
-      → (from : ℕ) → w ≡ 0 → IsBare t (k * 512 + i) (512 ^ level) from (512 ^ level)
+      → (from : ℕ) → w ≡ 0 → HasNoLeaves t (k * 512 + i) (512 ^ level) from (512 ^ level)
   bare_zero k f i zero w at is low small read from nil = bare_word (known_word v) root t h.known k f i w at is.0 small read from nil
   bare_zero k f i (suc l) w at is low small read from nil =
       let below = table_child k (suc l) i is low small (λ e. absurd (omega (arith, e))) in
@@ -253,13 +249,13 @@ module _ {s : Scheme} (v : View) (root : ℕ) (t : Tables) (h : HasTables s v ro
       no_child k f i 0 at inside (table_child k level i is low inside some).0 (λ x known. sym (zeros i x from before known)) refl
 
   -- a table of zeros has no leaf below it
-  zeros_bare : (k f level : ℕ) → get t.tables k ≡ Some f → IsTableAt k level → level ≤ 3 → AreZeros v f 0 512 → IsBare t k (512 * 512 ^ level) 0 (512 * 512 ^ level)
+  zeros_bare : (k f level : ℕ) → get t.tables k ≡ Some f → IsTableAt k level → level ≤ 3 → AreZeros v f 0 512 → HasNoLeaves t k (512 * 512 ^ level) 0 (512 * 512 ^ level)
   zeros_bare k f level at is low zeros = index_bare t k (512 ^ level) 512 0 (power_some level)
       (λ i from before. bare_zero k f i level 0 at is low before (λ x known. sym (zeros i x (omega arith) before known)) 0 refl)
 
   -- nor has a number whose word is 0, or names a frame of zeros
   named_bare : (k f i l w : ℕ) → get t.tables k ≡ Some f → IsTableAt k (suc l) → suc l ≤ 3 → i < 512 → known_word v f i ≡ Some w → NamesZeros v w
-      → (o : Option ℕ) → get t.tables (k * 512 + i) ≡ o → w ≡ pointer_or_zero o → IsBare t (k * 512 + i) (512 ^ suc l) 0 (512 ^ suc l)
+      → (o : Option ℕ) → get t.tables (k * 512 + i) ≡ o → w ≡ pointer_or_zero o → HasNoLeaves t (k * 512 + i) (512 ^ suc l) 0 (512 ^ suc l)
   named_bare k f i l w at is low small known names None there word =
       bare_zero k f i (suc l) w at is low small (λ x here. same_Some w x (sym known ∙ here)) 0 word
   named_bare k f i l w at is low small known names (Some g) there word =
@@ -270,10 +266,10 @@ module _ {s : Scheme} (v : View) (root : ℕ) (t : Tables) (h : HasTables s v ro
       let zeros : AreZeros v g 0 512 = subst (λ x. AreZeros v x 0 512) same names.2 in
       let width : 512 * 512 ^ l ≡ 512 ^ suc l = sym (power_next l) in
       let one : suc l - 1 ≡ l = omega arith in
-      subst (λ x. IsBare t (k * 512 + i) x 0 x) width (zeros_bare (k * 512 + i) g l there (subst (λ x. IsTableAt (k * 512 + i) x) one below.1) (omega (arith, low)) zeros)
+      subst (λ x. HasNoLeaves t (k * 512 + i) x 0 x) width (zeros_bare (k * 512 + i) g l there (subst (λ x. IsTableAt (k * 512 + i) x) one below.1) (omega (arith, low)) zeros)
 
-  idle_bare : (k f i level w : ℕ) → get t.tables k ≡ Some f → IsTableAt k level → level ≤ 3 → i < 512 → known_word v f i ≡ Some w → IsIdle v level w
-      → IsBare t (k * 512 + i) (512 ^ level) 0 (512 ^ level)
+  idle_bare : (k f i level w : ℕ) → get t.tables k ≡ Some f → IsTableAt k level → level ≤ 3 → i < 512 → known_word v f i ≡ Some w → HasNoLeafBelow v level w
+      → HasNoLeaves t (k * 512 + i) (512 ^ level) 0 (512 ^ level)
   idle_bare k f i level w at is low small known (inl nil) = bare_zero k f i level w at is low small (λ x here. same_Some w x (sym known ∙ here)) 0 nil
   idle_bare k f i zero w at is low small known (inr names) = absurd (omega (arith, names.0))
   idle_bare k f i (suc l) w at is low small known (inr names) =

@@ -1,4 +1,5 @@
--- A walk finds one thing, and an access is translated to one outcome.
+-- Lemmas, over any memory: a walk finds exactly one thing for an address (a `Found`), and an access is translated to exactly
+-- one outcome (a `Walk`).
 use Rattle.std.proofs.Common.{◌≡◌, ◌↔◌, ◌||◌, IsTrue, Bool, false, ℕ, zero, suc, ◌-◌, ◌*◌, ◌%◌, ◌^◌, ◌≤◌, true, cond, refl, ap, sym, ◌∙◌, inl, inr, arith, Option, Some, None}
 use Rattle.std.proofs.lemmas.Bool.{cases_Bool, cases_eq, false≢true}
 use Rattle.sv39_entry.specs.Address.{has, page_of, vpn}

@@ -1,4 +1,6 @@
--- Tables are let go one by one, each after those below it.
+-- Lemmas about release of page tables one by one, each after the tables below it and after the pointer to it is cleared, the
+-- root last: the seat (an owner's capability at a frame store) then holds none of their frames, and has the other frames,
+-- credits (reserved frames) and tallies that it had.
 use Rattle.std.proofs.Common.{◌≡◌, ℕ, zero, suc, ◌+◌, ◌-◌, ◌*◌, ◌/◌, ◌%◌, ◌^◌, ◌<◌, ◌≤◌, inl, inr, refl, ap, sym, subst, ◌∙◌, arith, cond, true, Option, Some, None}
 use Rattle.std.proofs.lemmas.Bool.{cases_eq, cases_lt, eq-eqb}
 use Rattle.std.proofs.lemmas.Option.{same_Some}
@@ -9,10 +11,10 @@ use Rattle.frame_store.specs.View.{Hold, View, hold_of, IsHeld, IsSole, known_wo
 use Rattle.sv39_entry.specs.Schemes.{top_level}
 use Rattle.sv39_entry.specs.Word.{pointer_word}
 use Rattle.sv39_entry.specs.declared.scheme.Scheme.{Scheme}
-use Rattle.table_walk.specs.Changed.{IsTableAt}
+use Rattle.table_walk.specs.TableChanges.{IsTableAt}
 use Rattle.table_walk.specs.Tables.{HasTables, Tables, AreTables, first_leaf, pointer_or_zero, root_node, word_in}
 use Rattle.table_walk.specs.Keys.{is_none, remove_other, remove_same}
-use Rattle.table_walk.specs.Released.{AreLast, LetsGo, SameTallies, without_table}
+use Rattle.table_walk.specs.TableRelease.{AreLast, ReleasesTables, SameTallies, without_table}
 use Rattle.table_walk.specs.Nodes.{power_next, root_some}
 use Rattle.table_walk.proofs.Next.{table_child}
 use Rattle.table_walk.proofs.TableWords.{rewritten, with_word-writes, word_high, word_leaf}
@@ -44,7 +46,7 @@ tallies_both u v w first second = record {
   tallies = second.tallies ∙ first.tallies;
 }
 
-pub lets_none : {z : Scheme} (v : View) (root k : ℕ) (t : Tables) → HasTables z v root t → LetsGo z v v root k t t
+pub lets_none : {z : Scheme} (v : View) (root k : ℕ) (t : Tables) → HasTables z v root t → ReleasesTables z v v root k t t
 lets_none v root k t has = record {
   tables = has;
   leaves = refl;
@@ -56,7 +58,7 @@ lets_none v root k t has = record {
   tallies = record { credits = refl; tallies = refl };
 }
 
-module _ {z : Scheme} (u v w : View) (root j k : ℕ) (r s t : Tables) (has : HasTables z u root r) (first : LetsGo z u v root j r s) (second : LetsGo z v w root k s t) where
+module _ {z : Scheme} (u v w : View) (root j k : ℕ) (r s t : Tables) (has : HasTables z u root r) (first : ReleasesTables z u v root j r s) (second : ReleasesTables z v w root k s t) where
   gone_in : (n f : ℕ) (o : Option ℕ) → get s.tables n ≡ o → get r.tables n ≡ Some f → get t.tables n ≡ None → hold_of w f ≡ not_held
   gone_in n f (Some x) is at none =
       let same : x ≡ f = same_Some x f (sym (first.fewer n x is) ∙ at) in
@@ -70,7 +72,7 @@ module _ {z : Scheme} (u v w : View) (root j k : ℕ) (r s t : Tables) (has : Ha
       second.apart f not_there ∙ first.gone n f at is
 
   -- what stays in both changes: tables with numbers up to both bounds
-  lets_both : (l : ℕ) → l ≤ j → l ≤ k → LetsGo z u w root l r t
+  lets_both : (l : ℕ) → l ≤ j → l ≤ k → ReleasesTables z u w root l r t
   lets_both l low small = record {
     tables = second.tables;
     leaves = second.leaves ∙ first.leaves;
@@ -83,7 +85,7 @@ module _ {z : Scheme} (u v w : View) (root j k : ℕ) (r s t : Tables) (has : Ha
   }
 
 -- those that are left may be let go too
-pub still_last : {z : Scheme} (v w : View) (root k : ℕ) (t u : Tables) → LetsGo z v w root k t u → AreLast v t → AreLast w u
+pub still_last : {z : Scheme} (v w : View) (root k : ℕ) (t u : Tables) → ReleasesTables z v w root k t u → AreLast v t → AreLast w u
 still_last v w root k t u goes last = record {
   bare = λ n. ap (λ leaves. get leaves n) goes.leaves ∙ last.bare n;
   once = λ j f at. goes.old j f at ∙ last.once j f (goes.fewer j f at);
@@ -104,9 +106,6 @@ module _ {z : Scheme} (v : View) (root : ℕ) (t : Tables) (has : HasTables z v 
 
   other_frame : (j x : ℕ) → get t.tables j ≡ Some x → (j ≡ k * 512 + i → ⊥) → x ≡ g → ⊥
   other_frame j x is ne e = ne (has.known.apart j (k * 512 + i) g (is ∙ ap Some e) there)
-
-  above_apart : f ≡ g → ⊥
-  above_apart = other_frame k f at (λ e. omega (arith, e, some))
 
   child_once : references (with_word f i 0 v) g ≡ 1
   child_once = same_references f i 0 v g ∙ last.once (k * 512 + i) g there
@@ -166,7 +165,7 @@ module _ {z : Scheme} (v : View) (root : ℕ) (t : Tables) (has : HasTables z v 
         subst (λ (h : Hold). (0 < h.references) × (h.sole ≡ true)) (sym (same_hold j x is)) own;
   }
 
-  lets_child : LetsGo z v (released g (with_word f i 0 v)) root k t (without_table t (k * 512 + i))
+  lets_child : ReleasesTables z v (released g (with_word f i 0 v)) root k t (without_table t (k * 512 + i))
   lets_child = record {
     tables = tables_left;
     leaves = refl;
@@ -196,11 +195,11 @@ module _ {z : Scheme} (v : View) (root : ℕ) (t : Tables) (has : HasTables z v 
 
 -- the tables at the first so many indices of table k, and those below them, are gone
 abbrev pub LetsGoTo : Scheme → View → View → ℕ → ℕ → Tables → ℕ → Type 0
-LetsGoTo z v w root k t n = (u : Tables) × LetsGo z v w root k t u × ((i : ℕ) → i < n → get u.tables (k * 512 + i) ≡ None)
+LetsGoTo z v w root k t n = (u : Tables) × ReleasesTables z v w root k t u × ((i : ℕ) → i < n → get u.tables (k * 512 + i) ≡ None)
 
 -- the next index
 pub lets_next : {z : Scheme} (u v w : View) (root k n : ℕ) (t : Tables) → HasTables z u root t → (below : LetsGoTo z u v root k t n)
-    → (here : (s : Tables) × LetsGo z v w root k below.0 s × (get s.tables (k * 512 + n) ≡ None)) → LetsGoTo z u w root k t (n + 1)
+    → (here : (s : Tables) × ReleasesTables z v w root k below.0 s × (get s.tables (k * 512 + n) ≡ None)) → LetsGoTo z u w root k t (n + 1)
 lets_next u v w root k n t has below here = (
   here.0,
   lets_both u v w root k k t below.0 here.0 has below.1 here.1 k (omega arith) (omega arith),
@@ -268,7 +267,7 @@ module _ {z : Scheme} (v w : View) (root k f g i : ℕ) (t : Tables) (a : AtInde
   pub index_anchored : IsAnchored (released g (with_word f i 0 w))
   index_anchored = child_anchored w root left a.below.1.tables last_left k f i g at_left a.low a.high there_left a.below.2
 
-  pub lets_index : (s : Tables) × LetsGo z v (released g (with_word f i 0 w)) root k t s × (get s.tables (k * 512 + i) ≡ None)
+  pub lets_index : (s : Tables) × ReleasesTables z v (released g (with_word f i 0 w)) root k t s × (get s.tables (k * 512 + i) ≡ None)
   lets_index = (
     without_table left (k * 512 + i),
     lets_both v w (released g (with_word f i 0 w)) root (k * 512 + i) k t left (without_table left (k * 512 + i)) a.has a.below.1

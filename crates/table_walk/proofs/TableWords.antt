@@ -1,4 +1,5 @@
--- What tables say of their words, and how one word that is written changes it.
+-- Lemmas about the words of page tables: the word at an index is that of the table or leaf with this number (`word_in`); and
+-- if one word is written and nothing else (`Writes`), all words are those of tables that differ at that one number.
 use Rattle.std.proofs.Common.{◌≡◌, ℕ, ◌+◌, ◌*◌, ◌<◌, ◌≤◌, ◌⊎◌, inl, inr, refl, ap, sym, subst, ◌∙◌, Option, Some, unwrap_or}
 use Rattle.std.proofs.lemmas.Bool.{cases_eq, le-ltb, lt-ltb}
 use Rattle.std.proofs.lemmas.Nat.{same_from_place}

@@ -1,4 +1,5 @@
--- What accesses over a seat's tables are translated to.
+-- Lemma: over the page tables that a seat (an owner's capability at a frame store) has, if each leaf names a frame, an
+-- access is translated to what the tables say (`walk_answer`): the leaf and the physical address, or a page fault.
 use Rattle.std.proofs.Common.{◌≡◌, ℕ, true, is_some, Option, None, option_map, Some, refl, ap, sym, ◌∙◌, inl, inr}
 use Rattle.std.proofs.lemmas.Bool.{cases_Bool}
 use Rattle.std.specs.FinMap.{get}
@@ -10,7 +11,7 @@ use Rattle.sv39_entry.specs.Word.{permits}
 use Rattle.sv39_entry.specs.declared.scheme.Scheme.{Scheme}
 use Rattle.sv39_entry.specs.declared.access.Access.{Access}
 use Rattle.sv39_entry.specs.declared.access.Mode.{Mode}
-use Rattle.table_walk.specs.Held.{held_memory}
+use Rattle.table_walk.specs.HeldMemory.{held_memory}
 use Rattle.table_walk.specs.Tables.{Tables, walk_leaf}
 use Rattle.table_walk.specs.Walk.{FindsLeaf, LeavesMemory, Maps, Translates}
 use Rattle.table_walk.specs.Leaves.{answer, frames_there, lands, LeavesAreThere, page_leaf, walk_answer}

@@ -1,4 +1,6 @@
--- What the tables that a seat has say of walks.
+-- Lemmas about walks over the page tables that a seat (an owner's capability at a frame store) has: they find exactly the
+-- tables' leaves, each at level 0; a leaf is global if and only if it has G itself; no walk leaves the memory; and all
+-- tables on a way may be read.
 use Rattle.std.proofs.Common.{◌≡◌, ◌↔◌, ℕ, zero, suc, ◌+◌, ◌-◌, ◌*◌, ◌/◌, ◌%◌, ◌^◌, ◌<◌, ◌≤◌, inl, inr, refl, ap, sym, subst, ◌∙◌, arith, true, false, Option, Some, None, IsSome, unwrap_or}
 use Rattle.std.specs.Prelude.{option_and_then}
 use Rattle.std.proofs.lemmas.Bool.{cases_eq, le-leb, lt-ltb}
@@ -12,7 +14,7 @@ use Rattle.sv39_entry.specs.Word.{kind_of, pointer_word, ppn}
 use Rattle.sv39_entry.specs.declared.scheme.Scheme.{Scheme}
 use Rattle.sv39_entry.specs.declared.entry.Kind.TheVariants.{Leaf, Pointer}
 use Rattle.sv39_entry.specs.declared.frame.FrameNo.{FrameNo}
-use Rattle.table_walk.specs.Held.{held_memory, IsReadable}
+use Rattle.table_walk.specs.HeldMemory.{held_memory, IsReadable}
 use Rattle.table_walk.specs.Tables.{HasTables, Tables, node, pointer_or_zero, walk_leaf, word_in}
 use Rattle.table_walk.specs.Walk.{CanWalk, IsAt, IsGlobal, LeavesMemory, Maps, Reads}
 use Rattle.table_walk.proofs.Children.{pointer_kind, pointer_ppn}

@@ -1,4 +1,5 @@
--- A walk ends once, so what it finds for a page is one thing.
+-- Lemmas about one walk over any memory: a page has at most one leaf, at one level; a walk that ends at an invalid word, a
+-- misaligned leaf or a pointer at level 0 finds none (`HasNoLeaf`); and whether a word with G was met so far (`HasMark`).
 use Rattle.std.proofs.Common.{◌≡◌, ◌↔◌, ◌||◌, IsTrue, Bool, true, false, ℕ, zero, suc, ◌-◌, ◌*◌, ◌%◌, ◌^◌, ◌<◌, refl, ap, sym, ◌∙◌, inl, inr, arith, Option, Some, None}
 use Rattle.std.proofs.lemmas.Bool.{cases_Bool, cases_eq, cases_order, false≢true}
 use Rattle.std.proofs.lemmas.Option.{same_Some}

@@ -1,4 +1,5 @@
--- Maps of numbers: at the key that changed, and at every other.
+-- Lemmas of finite maps from numbers to numbers: what is found at a key that was inserted or removed, and at every other
+-- key; and an option that is no `Some` is None.
 use Rattle.std.proofs.Common.{◌≡◌, ℕ, true, false, ◌∙◌, arith, Some, None, Option, refl}
 use Rattle.std.proofs.lemmas.Bool.Decides.{nat_tests}
 use Rattle.std.specs.Ordering.{nat_cmp, eq_by_cmp}

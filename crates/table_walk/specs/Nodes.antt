@@ -1,4 +1,5 @@
--- The numbers of tables and leaves.
+-- Lemmas about the numbers of page tables and leaves (`node` in `Tables`): bounds that keep each depth, and the leaves,
+-- apart; the number of the table above, and the index in it; and the numbers of a page's tables and leaf by its page number.
 use Rattle.std.proofs.Common.{◌≡◌, ℕ, zero, suc, ◌+◌, ◌-◌, ◌*◌, ◌/◌, ◌%◌, ◌^◌, ◌<◌, ◌≤◌, arith, inl, inr, rules, ap}
 use Rattle.std.proofs.lemmas.Bool.{cases_eq, cases_lt}
 use Rattle.sv39_entry.specs.Address.{vpn}
@@ -10,7 +11,7 @@ use Rattle.table_walk.specs.Tables.{first_leaf, last_table, leaf_node, node, roo
 pub vpn_low : (page level : ℕ) → vpn page level < 512
 vpn_low page level = omega arith
 
--- the numbers of each depth lie apart from those of the others
+-- the numbers of each depth are apart from those of the others: powers of 512 bound them
 pub power_next : (k : ℕ) → 512 ^ suc k ≡ 512 * 512 ^ k
 power_next k = search rules
 
@@ -25,7 +26,7 @@ power_up j (suc k) le = elim (cases_eq j (suc k)) [
   | inr ne ↦ let below = power_up j k (omega (arith, ne)) in let next = power_next k in omega (arith, below, next)
 ]
 
--- how many levels of the tree of four stand above a scheme's root
+-- how many levels of a tree of four are above the root of a scheme
 abbrev pub above_root : Scheme → ℕ
 above_root s = 3 - top_level s
 
@@ -53,7 +54,7 @@ node_below s page (suc k) =
     let more : above_root s + suc k ≡ suc (above_root s + k) = omega arith in
     rw more (omega (arith, above, next, low))
 
--- a table of a page is at one depth
+-- a table on the way to a page is at one depth
 pub one_depth : (s : Scheme) (page other j k : ℕ) → node s page j ≡ node s other k → j ≡ k
 one_depth s page other j k same = elim (cases_lt j k) [
   | inl less ↦ absurd (
@@ -75,11 +76,11 @@ one_depth s page other j k same = elim (cases_lt j k) [
   ]
 ]
 
--- the root is no other table
+-- no table below the root has the root's number
 pub not_root : (s : Scheme) (page k : ℕ) → node s page (suc k) ≡ root_node s → ⊥
 not_root s page k same = let depths = one_depth s page page (suc k) zero same in omega (arith, depths)
 
--- tables have numbers below the leaves
+-- the numbers of tables are below those of leaves
 pub table_number : (s : Scheme) (page k : ℕ) → k ≤ top_level s → node s page k < first_leaf
 table_number s page k low =
     let few = (of_scheme s).few_levels in
@@ -95,14 +96,14 @@ leaf_number s page =
     let all : above_root s + suc (top_level s) ≡ 4 = omega (arith, few) in
     rw all at (node_from s page (suc (top_level s)))
 
--- what stands above a node, and at which index
+-- the table that points to a node, and the index at which it does
 pub above : (s : Scheme) (page k : ℕ) → node s page (suc k) / 512 ≡ node s page k
 above s page k = let low = vpn_low page (top_level s - k) in omega (arith, low)
 
 pub index : (s : Scheme) (page k : ℕ) → node s page (suc k) % 512 ≡ vpn page (top_level s - k)
 index s page k = let low = vpn_low page (top_level s - k) in omega (arith, low)
 
--- pages are numbered by their indices
+-- the leaf that a walk of a page may find is that of the page number without its upper bits
 pub walk_leaf_is : (s : Scheme) (page : ℕ) → walk_leaf s page ≡ leaf_node (low_page s page)
 walk_leaf_is Sv39 page = omega arith
 walk_leaf_is Sv48 page = omega arith
@@ -111,7 +112,7 @@ pub low_leaf : (s : Scheme) (page : ℕ) → page < page_limit s → walk_leaf s
 low_leaf Sv39 page low = omega (arith, low)
 low_leaf Sv48 page low = omega (arith, low)
 
--- the table of a page is one of its level, by what the page's number is above that
+-- the number of the table that is d levels below the root on the way to page n
 pub node_at : (s : Scheme) (n d : ℕ) → d ≤ top_level s → n < page_limit s → node s n d ≡ 512 ^ (above_root s + d) + n / 512 ^ suc (top_level s - d)
 node_at Sv39 n zero deep low = omega (arith, low)
 node_at Sv39 n (suc zero) deep low = omega (arith, low)
@@ -134,13 +135,17 @@ in_level Sv48 n (suc (suc zero)) deep low = omega (arith, low)
 in_level Sv48 n (suc (suc (suc zero))) deep low = omega (arith, low)
 in_level Sv48 n (suc (suc (suc (suc d)))) deep low = absurd (omega (arith, deep))
 
--- the number of a page's leaf, from its last table on
+-- the number of a page's leaf, by that of the last table on the way to it
 pub walk_leaf_step : (s : Scheme) (page : ℕ) → last_table s page * 512 + vpn page 0 ≡ walk_leaf s page
 walk_leaf_step s page =
     let last : 0 ≡ top_level s - top_level s = omega arith in
     ap (λ (level : ℕ). last_table s page * 512 + vpn page level) last
 
--- so many levels below a root the numbers of leaves begin
+-- the number of the root, times 512 for each level, is where the numbers of leaves begin
 pub root_power : (s : Scheme) → root_node s * 512 ^ suc (top_level s) ≡ first_leaf
 root_power Sv39 = omega arith
 root_power Sv48 = omega arith
+
+-- two pages with one leaf are one page
+pub one_page : (m n : ℕ) → leaf_node m ≡ leaf_node n → m ≡ n
+one_page m n same = omega (arith, same)

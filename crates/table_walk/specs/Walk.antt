@@ -1,4 +1,6 @@
--- The walk of a scheme (the standard, 4.3.2), as a relation over a whole memory.
+-- The page table walk of a scheme over a whole memory, as relations (the standard, 4.3.2): the words that it reads, the leaf
+-- to which it maps a page (`Maps`), whether that is global, and which tables must be readable (`CanWalk`); what it finds for
+-- an address (`Finds`); and the outcome of an access (`Translates`).
 use Rattle.std.specs.Prelude.{◌≡◌, ◌⊎◌, ◌↔◌, IsTrue, ℕ, zero, suc, ◌-◌, ◌≤◌, ◌*◌, ◌%◌, ◌^◌, true, false, Option, None, Some}
 use Rattle.sv39_entry.specs.Address.{has, page_of, vpn}
 use Rattle.sv39_entry.specs.Causes.{access_fault_cause, page_fault_cause}
@@ -14,19 +16,20 @@ use Rattle.table_walk.specs.declared.walk.Found.TheVariants as found
 use Rattle.table_walk.specs.declared.walk.Walk.{Walk}
 use Rattle.table_walk.specs.declared.walk.Walk.TheVariants as walk
 
--- the walk of a page has come to this table, past so many pointers
+-- the walk of a page is at this table after k pointers
 abbrev pub IsAt : Scheme → Memory → ℕ → ℕ → ℕ → ℕ → Type 0
 IsAt s m root page zero table = table ≡ root
 IsAt s m root page (suc k) table = (above pointer : ℕ) × IsAt s m root page k above × (m above (vpn page (top_level s - k)) ≡ Some pointer) × (kind_of pointer ≡ Pointer) × (table ≡ ppn pointer)
 
--- the walk of a page comes to this word at a level; None: there it leaves the memory
+-- the walk of a page reads this word at a level; None: the word is outside the memory
 pub record Reads (s : Scheme) (m : Memory) (root page level : ℕ) (word : Option ℕ) : Type 0 where
   pub low : level ≤ top_level s
   pub table : ℕ
   pub way : IsAt s m root page (top_level s - level) table
   pub read : m table (vpn page level) ≡ word
 
--- the memory maps a page to a leaf at a level: the walk comes to its word there, and it begins at a multiple of its own size
+-- the memory maps a page to a leaf at a level: the walk reads it there, and its physical page number is a multiple of the
+-- pages that it maps
 pub record Maps (s : Scheme) (m : Memory) (root page leaf level : ℕ) : Type 0 where
   pub reads : Reads s m root page level (Some leaf)
   pub kind : kind_of leaf ≡ Leaf
@@ -37,7 +40,7 @@ abbrev pub IsGlobal : Scheme → Memory → ℕ → ℕ → ℕ → Type 0
 IsGlobal s m root page level =
     (k table word : ℕ) × (k ≤ top_level s - level) × IsAt s m root page k table × (m table (vpn page (top_level s - k)) ≡ Some word) × (has word 5 ≡ true)
 
--- a word on the way lies outside the memory
+-- a word on the way of the walk lies outside the memory
 abbrev pub LeavesMemory : Scheme → Memory → ℕ → ℕ → Type 0
 LeavesMemory s m root page = (level : ℕ) × Reads s m root page level None
 
@@ -45,7 +48,7 @@ LeavesMemory s m root page = (level : ℕ) × Reads s m root page level None
 abbrev pub CanWalk : Scheme → (ℕ → Type 0) → Memory → ℕ → ℕ → Type 0
 CanWalk s readable m root page = (k table : ℕ) → k ≤ top_level s → IsAt s m root page k table → readable table
 
--- the walk of an address comes to this leaf at a level
+-- the walk of an address, which is canonical, finds this leaf at a level
 abbrev pub FindsLeaf : Scheme → Memory → ℕ → ℕ → ℕ → ℕ → Type 0
 FindsLeaf s m root address leaf level = (is_canonical s address ≡ true) × Maps s m root (page_of address) leaf level
 
@@ -56,7 +59,7 @@ Finds s m root address found.Outside = (is_canonical s address ≡ true) × Leav
 Finds s m root address found.NoLeaf =
     (is_canonical s address ≡ false) ⊎ (((leaf level : ℕ) → Maps s m root (page_of address) leaf level → ⊥) × (LeavesMemory s m root (page_of address) → ⊥))
 
--- what an access is translated to. Rights are judged before the byte that they lead to is looked for
+-- the outcome of the translation of an access. Rights are judged before the byte that the leaf leads to is looked for
 abbrev pub Translates : Scheme → Memory → Extent → ℕ → ℕ → Access → Mode → Walk → Type 0
 Translates s m there root address access mode (walk.Leaf leaf level physical) =
     FindsLeaf s m root address leaf level × (permits mode access leaf ≡ true) × (physical ≡ physical_address leaf level address) × (has_byte there physical ≡ true)

@@ -1,17 +1,18 @@
-// The leaf of one page: what it is, and its changes.
+// Changes of one page's leaf in the page tables below a root: `map` puts it (and makes missing tables of reserved frames),
+// `protect` replaces it, `unmap` removes it (tables stay); and `leaf_of` looks it up.
 
 ghost use Rattle.std.specs.FinMap.{get};
 ghost use Rattle.std.specs.Prelude.{◌≡◌, ◌≤◌, ℕ, option_map, IfSome, IsSome, None, Some};
-ghost use Rattle.frame_store.specs.Laws.{Fits, Keeps};
+ghost use Rattle.frame_store.specs.Laws.{IsSeatOf, KeepsSeats};
 ghost use Rattle.frame_store.specs.View.{IsHeld, with_word};
 ghost use Rattle.sv39_entry.specs.Address.{vpn};
 ghost use Rattle.sv39_entry.specs.Frame.{ppn_of};
 ghost use Rattle.sv39_entry.specs.Schemes.{top_level};
 ghost use Rattle.sv39_entry.specs.Word.{kind_of};
 ghost use Rattle.sv39_entry.specs.declared.entry.Kind.TheVariants.{Leaf};
-ghost use Rattle.table_walk.specs.Backed.{IsBacked};
-ghost use Rattle.table_walk.specs.Changed.{OthersStay};
-ghost use Rattle.table_walk.specs.Held.{held_memory};
+ghost use Rattle.table_walk.specs.LeafBacking.{IsBacked};
+ghost use Rattle.table_walk.specs.TableChanges.{OthersStay};
+ghost use Rattle.table_walk.specs.HeldMemory.{held_memory};
 ghost use Rattle.table_walk.specs.Tables.{ChangesTables, HasTables, Tables, IsGrown, last_table, walk_leaf, missing, with_leaf, without_leaf};
 ghost use Rattle.table_walk.specs.Walk.{Maps};
 
@@ -20,8 +21,11 @@ use crate::tables::table_of;
 use frame_store::{FrameAccess, FrameSeat, FrameSupply};
 use sv39_entry::{Entry, FrameNo, Scheme, Vpn};
 
-/// Maps a page to a leaf. Tables that are missing on the way are made of credits: `missing_tables` says of how many. A leaf
-/// for the user is written last: its frame has its words, and no other process has it if the leaf has W.
+/// Maps `page` to `leaf`, in place of a leaf that it has. Missing tables on the way are made first, each with one credit
+/// (reserved frame) of the seat. Pages with other table indices stay mapped as they were. Makes no fence. Cannot fail.
+/// The seat must have the tables below `root`, at least as many credits as `missing_tables` returns, and hold frame 0.
+/// `leaf` must be a leaf. If it has U, the seat must know each word of the frame that it names and, if it has W too, be the
+/// frame's sole holder.
 pub fn map<F: FrameSupply>(
     store: &mut F,
     seat: &mut F::Seat,
@@ -30,7 +34,7 @@ pub fn map<F: FrameSupply>(
     page: Vpn,
     leaf: Entry,
 )
-    requires fits { Fits F.rule store.old seat.old }
+    requires fits { IsSeatOf F.rule store.old seat.old }
     requires anchored { IsHeld (F.Seat.view seat.old) 0 }
     requires leaf { kind_of leaf ≡ Leaf }
     requires backed { IsBacked (F.Seat.view seat.old) leaf }
@@ -39,14 +43,17 @@ pub fn map<F: FrameSupply>(
     ensures here { Maps scheme (held_memory (F.Seat.view seat.new)) (ppn_of root.0) page leaf 0 }
     ensures others { OthersStay scheme (held_memory (F.Seat.view seat.old)) (held_memory (F.Seat.view seat.new)) (ppn_of root.0) page }
     ensures anchored { IsHeld (F.Seat.view seat.new) 0 }
-    ensures keeps { Keeps F.rule store.old seat.old store.new seat.new }
+    ensures keeps { KeepsSeats F.rule store.old seat.old store.new seat.new }
     ensures free { F.alone → F.free store.new ≡ F.free store.old }
 {
     let table = grown_table(store, seat, scheme, root, page);
     store.store(seat, table, page.index(0), leaf.to_word());
 }
 
-/// Puts another leaf in the place of a page's leaf, as ready as one that `map` writes.
+/// Replaces the leaf of `page`, which must have one, by `leaf`. Takes no frame; pages with other table indices stay mapped
+/// as they were. Makes no fence. Cannot fail.
+/// The seat must have the tables below `root`. `leaf` must be a leaf. If it has U, the seat must know each word of the frame
+/// that it names and, if it has W too, be the frame's sole holder.
 pub fn protect<F: FrameAccess>(
     store: &mut F,
     seat: &mut F::Seat,
@@ -55,7 +62,7 @@ pub fn protect<F: FrameAccess>(
     page: Vpn,
     leaf: Entry,
 )
-    requires fits { Fits F.rule store.old seat.old }
+    requires fits { IsSeatOf F.rule store.old seat.old }
     requires leaf { kind_of leaf ≡ Leaf }
     requires backed { IsBacked (F.Seat.view seat.old) leaf }
     requires mapped { (t : Tables) × HasTables scheme (F.Seat.view seat.old) root.0 t × IsSome (get t.leaves (walk_leaf scheme page)) }
@@ -63,7 +70,7 @@ pub fn protect<F: FrameAccess>(
     ensures tables { (t : Tables) → HasTables scheme (F.Seat.view seat.old) root.0 t → HasTables scheme (F.Seat.view seat.new) root.0 (with_leaf t (walk_leaf scheme page) leaf) × ChangesTables (F.Seat.view seat.old) (F.Seat.view seat.new) t t 0 }
     ensures here { Maps scheme (held_memory (F.Seat.view seat.new)) (ppn_of root.0) page leaf 0 }
     ensures others { OthersStay scheme (held_memory (F.Seat.view seat.old)) (held_memory (F.Seat.view seat.new)) (ppn_of root.0) page }
-    ensures keeps { Keeps F.rule store.old seat.old store.new seat.new }
+    ensures keeps { KeepsSeats F.rule store.old seat.old store.new seat.new }
     ensures free { F.alone → F.free store.new ≡ F.free store.old }
     ensures counts { F.alone → (f : ℕ) → F.count store.new f ≡ F.count store.old f }
 {
@@ -72,7 +79,7 @@ pub fn protect<F: FrameAccess>(
     }
 }
 
-/// The leaf of a page, where it has one.
+/// Returns the leaf of `page` in the tables below `root`, which the seat must have; `None` if it has none. Changes nothing.
 pub fn leaf_of<F: FrameAccess>(
     store: &mut F,
     seat: &mut F::Seat,
@@ -80,18 +87,20 @@ pub fn leaf_of<F: FrameAccess>(
     root: FrameNo,
     page: Vpn,
 ) -> Option<Entry>
-    requires fits { Fits F.rule store.old seat.old }
+    requires fits { IsSeatOf F.rule store.old seat.old }
     requires held { (t : Tables) × HasTables scheme (F.Seat.view seat.old) root.0 t }
     ensures leaf { (t : Tables) → HasTables scheme (F.Seat.view seat.old) root.0 t → result ≡ get t.leaves (walk_leaf scheme page) }
     ensures view { F.Seat.view seat.new ≡ F.Seat.view seat.old }
     ensures same { store.new ≡ store.old }
-    ensures keeps { Keeps F.rule store.old seat.old store.new seat.new }
+    ensures keeps { KeepsSeats F.rule store.old seat.old store.new seat.new }
 {
     let (_, leaf) = leaf_in_table(store, seat, scheme, root, page)?;
     Some(leaf)
 }
 
-/// Takes a page's leaf away, and answers what it was. The tables stay.
+/// Removes the leaf of `page` from the tables below `root`, which the seat must have, and returns it; `None` if there is
+/// none, and then nothing changes for the seat. Tables stay, even empty, and so does the reference to the leaf's frame;
+/// pages with other table indices stay mapped as they were. Makes no fence.
 pub fn unmap<F: FrameAccess>(
     store: &mut F,
     seat: &mut F::Seat,
@@ -99,7 +108,7 @@ pub fn unmap<F: FrameAccess>(
     root: FrameNo,
     page: Vpn,
 ) -> Option<Entry>
-    requires fits { Fits F.rule store.old seat.old }
+    requires fits { IsSeatOf F.rule store.old seat.old }
     requires held { (t : Tables) × HasTables scheme (F.Seat.view seat.old) root.0 t }
     ensures leaf { (t : Tables) → HasTables scheme (F.Seat.view seat.old) root.0 t → result ≡ get t.leaves (walk_leaf scheme page) }
     ensures word { (t : Tables) (f : ℕ) → HasTables scheme (F.Seat.view seat.old) root.0 t → get t.tables (last_table scheme page) ≡ Some f → IsSome result → F.Seat.view seat.new ≡ with_word f (vpn page 0) 0 (F.Seat.view seat.old) }
@@ -107,7 +116,7 @@ pub fn unmap<F: FrameAccess>(
     ensures tables { (t : Tables) → HasTables scheme (F.Seat.view seat.old) root.0 t → HasTables scheme (F.Seat.view seat.new) root.0 (without_leaf t (walk_leaf scheme page)) × ChangesTables (F.Seat.view seat.old) (F.Seat.view seat.new) t t 0 }
     ensures here { (leaf level : ℕ) → Maps scheme (held_memory (F.Seat.view seat.new)) (ppn_of root.0) page leaf level → ⊥ }
     ensures others { OthersStay scheme (held_memory (F.Seat.view seat.old)) (held_memory (F.Seat.view seat.new)) (ppn_of root.0) page }
-    ensures keeps { Keeps F.rule store.old seat.old store.new seat.new }
+    ensures keeps { KeepsSeats F.rule store.old seat.old store.new seat.new }
     ensures free { F.alone → F.free store.new ≡ F.free store.old }
     ensures counts { F.alone → (f : ℕ) → F.count store.new f ≡ F.count store.old f }
 {
@@ -116,7 +125,7 @@ pub fn unmap<F: FrameAccess>(
     Some(leaf)
 }
 
-/// The last table on the way to a page, and the page's leaf in it, where it has one.
+/// Returns the last table on the way to `page`, and the page's leaf in it; `None` if the page has no leaf.
 fn leaf_in_table<F: FrameAccess>(
     store: &mut F,
     seat: &mut F::Seat,
@@ -124,13 +133,13 @@ fn leaf_in_table<F: FrameAccess>(
     root: FrameNo,
     page: Vpn,
 ) -> Option<(FrameNo, Entry)>
-    requires fits { Fits F.rule store.old seat.old }
+    requires fits { IsSeatOf F.rule store.old seat.old }
     requires held { (t : Tables) × HasTables scheme (F.Seat.view seat.old) root.0 t }
     ensures leaf { (t : Tables) → HasTables scheme (F.Seat.view seat.old) root.0 t → option_map (λ p. p.1) result ≡ get t.leaves (walk_leaf scheme page) }
     ensures table { (t : Tables) → HasTables scheme (F.Seat.view seat.old) root.0 t → IfSome result (λ p. get t.tables (last_table scheme page) ≡ Some p.0.0) }
     ensures view { F.Seat.view seat.new ≡ F.Seat.view seat.old }
     ensures same { store.new ≡ store.old }
-    ensures keeps { Keeps F.rule store.old seat.old store.new seat.new }
+    ensures keeps { KeepsSeats F.rule store.old seat.old store.new seat.new }
 {
     let table = table_of(store, seat, scheme, root, page)?;
     let word = store.load(seat, table, page.index(0));

@@ -1,4 +1,5 @@
-// The walk.
+// `lookup`: the page table walk of Sv39 and Sv48 for a virtual address, from a root to a leaf, before rights are judged
+// (RISC-V Privileged Architecture 20211203, 4.3.2, steps 1 to 4 and 6). Its result is a `Found`.
 
 ghost use Rattle.std.specs.Prelude.{◌≡◌, true};
 ghost use Rattle.sv39_entry.specs.Address.{page_of};
@@ -10,8 +11,10 @@ use crate::walk::Found;
 use crate::words::Words;
 use sv39_entry::{Entry, EntryFlags, Kind, Scheme, Va};
 
-/// Walks the tables below a root, which is given by its physical page number, to the leaf of an address (the standard,
-/// 4.3.2, steps 1 to 4 and 6).
+/// Walks the tables below the root with physical page number `root`, and returns what it finds for a virtual address,
+/// whatever the rights (the standard, 4.3.2, steps 1 to 4 and 6): `Leaf`; `Outside` if a word of a table on the way lies
+/// outside the memory; else `NoLeaf`, also if the address is not canonical. Each table on the way must be readable
+/// (`Words::readable`).
 pub fn lookup<M: Words>(words: &mut M, scheme: Scheme, root: u64, va: Va) -> Found
     requires { CanWalk scheme (M.readable words.old) (M.memory words.old) root (page_of va.0) }
     ensures found { Finds scheme (M.memory words.old) root va.0 result }
@@ -26,8 +29,8 @@ pub fn lookup<M: Words>(words: &mut M, scheme: Scheme, root: u64, va: Va) -> Fou
     }
 }
 
-/// The same of a canonical address, from the level of the root's entries on. That is a constant of the call, so that the walk of
-/// each scheme is compiled for itself, with as many steps as it has levels.
+/// `lookup` of a canonical address. The level of the root's entries is a constant of the call, so that the walk of each
+/// scheme is compiled for itself, with as many steps as it has levels.
 #[inline]
 fn lookup_from<M: Words, const TOP: u32>(words: &mut M, scheme: Scheme, root: u64, va: Va) -> Found
     requires walk { CanWalk scheme (M.readable words.old) (M.memory words.old) root (page_of va.0) }

@@ -1,16 +1,19 @@
-// The words of the frames that a seat holds.
+// `HeldWords`: a struct, a frame store and a seat (an owner's capability at a frame store) as a memory for walks. It
+// implements `Words`: a walk reads the words of the frames that the seat holds.
 
 use crate::words::Words;
 use frame_store::{FrameAccess, FrameSeat};
 use sv39_entry::FrameNo;
 
-/// A store and a seat at it, both lent. The memory is what the seat knows of the frames that it holds. Each page number
-/// that names a frame is taken to be there: a kernel writes no other into its tables.
+/// A frame store and a seat at it, both lent, as a memory for walks: its words are those that the seat knows, and a frame is
+/// readable if the seat holds it and knows each of its words. Each physical
+/// page number of a frame (`FrameNo::from_ppn`) counts as inside the memory, whatever the size of the store: a kernel writes
+/// no other into its tables.
 #[derive(Drop)]
 pub struct HeldWords<'a, F: FrameAccess> {
-    /// The store whose frames they are.
+    /// The store that has the frames.
     pub store: &'a mut F,
-    /// The seat that knows them.
+    /// The seat that holds the frames.
     pub seat: &'a mut F::Seat,
 }
 
@@ -18,16 +21,16 @@ impl<F: FrameAccess> Words for HeldWords<'_, F> {
     ghost use Rattle.std.proofs.Common.{◌≡◌, refl, ap, sym, ◌∙◌};
     ghost use Rattle.std.specs.Prelude.{is_some};
     ghost use Rattle.sv39_entry.specs.Frame.{frame_at};
-    ghost use Rattle.frame_store.specs.Laws.{Fits, Keeps, fits_after};
-    ghost use Rattle.table_walk.specs.Held.{held_memory, IsReadable, known_there};
+    ghost use Rattle.frame_store.specs.Laws.{IsSeatOf, KeepsSeats, fits_after};
+    ghost use Rattle.table_walk.specs.HeldMemory.{held_memory, IsReadable, known_there};
 
     ghost memory = { λ w. held_memory (F.Seat.view w.seat.now) };
 
-    ghost readable = { λ w ppn. Fits F.rule w.store.now w.seat.now × IsReadable (F.Seat.view w.seat.now) ppn };
+    ghost readable = { λ w ppn. IsSeatOf F.rule w.store.now w.seat.now × IsReadable (F.Seat.view w.seat.now) ppn };
 
     ghost there = { λ w ppn index. is_some (frame_at ppn) };
 
-    ghost stays = { λ a b. (b.store.ghost_name ≡ a.store.ghost_name) × (b.seat.ghost_name ≡ a.seat.ghost_name) × (b.store.now ≡ a.store.now) × (F.Seat.view b.seat.now ≡ F.Seat.view a.seat.now) × Keeps F.rule a.store.now a.seat.now b.store.now b.seat.now };
+    ghost stays = { λ a b. (b.store.ghost_name ≡ a.store.ghost_name) × (b.seat.ghost_name ≡ a.seat.ghost_name) × (b.store.now ≡ a.store.now) × (F.Seat.view b.seat.now ≡ F.Seat.view a.seat.now) × KeepsSeats F.rule a.store.now a.seat.now b.store.now b.seat.now };
 
     ghost stays_itself = { λ a. (refl, refl, refl, refl, λ others h. h) };
 

@@ -1,4 +1,5 @@
-// Leaves of a level.
+// Two functions of a leaf at a level (0 for a page, more for superpages): whether its physical page number is aligned, and
+// the physical address that it gives to a virtual one (RISC-V Privileged Architecture 20211203, 4.3.2, steps 6 and 8).
 
 ghost use Rattle.std.specs.Prelude.{◌≡◌, ◌≤◌, ◌*◌, ◌%◌, ◌^◌, ◌↔◌, IsTrue};
 ghost use Rattle.sv39_entry.specs.Word.{ppn};
@@ -6,8 +7,7 @@ ghost use Rattle.table_walk.specs.Memory as memory;
 
 use sv39_entry::{Entry, PAGE_SIZE, Va};
 
-/// Whether a leaf begins at a multiple of the size that it has at a level (RISC-V Privileged Architecture 20211203,
-/// 4.3.2, step 6).
+/// Whether a leaf at `level` is aligned: its physical page number is a multiple of the pages that it maps (4.3.2, step 6).
 #[tactic(auto, using(std::proofs::lemmas::Nat::one_shl))]
 pub(crate) fn is_aligned(leaf: Entry, level: u32) -> bool
     requires { level ≤ 3 }
@@ -16,7 +16,9 @@ pub(crate) fn is_aligned(leaf: Entry, level: u32) -> bool
     leaf.ppn() % (1 << (9 * level)) == 0
 }
 
-/// Where an address is, by the leaf that maps it (the standard, 4.3.2, step 8).
+/// Returns the physical address, in bytes, that a leaf at `level` gives to a virtual address: the address of the leaf's
+/// frame, plus the low 12 + 9 * level bits of `va` (4.3.2, step 8). `level` must be at most 3. Neither rights nor alignment
+/// are judged.
 #[tactic(auto, using(std::proofs::lemmas::Nat::one_shl))]
 pub fn physical_address(leaf: Entry, level: u32, va: Va) -> u64
     requires { level ≤ 3 }

@@ -1,23 +1,25 @@
-// The leaves below a root, in ascending order of page.
+// `next_leaf_before`: enumerates the leaves below a root in ascending order of page, one leaf at each call: the first one in
+// a range of pages, with its page.
 
 ghost use Rattle.std.specs.FinMap.{get};
 ghost use Rattle.std.specs.Prelude.{◌≡◌, ◌+◌, ◌*◌, ◌/◌, ◌^◌, ◌<◌, ◌≤◌, ℕ, Some};
-ghost use Rattle.frame_store.specs.Laws.{Fits, Keeps};
+ghost use Rattle.frame_store.specs.Laws.{IsSeatOf, KeepsSeats};
 ghost use Rattle.frame_store.specs.View.{IsHeld};
 ghost use Rattle.sv39_entry.specs.Schemes.{page_limit};
 ghost use Rattle.sv39_entry.specs.declared.scheme.Scheme.{Scheme};
-ghost use Rattle.table_walk.specs.Changed.{HasEntry, IsNextEntry, IsNextLeafBefore, IsTableAt, places};
+ghost use Rattle.table_walk.specs.TableChanges.{HasEntry, IsNextEntry, IsNextLeafBefore, IsTableAt, places};
 ghost use Rattle.table_walk.specs.Tables.{HasTables, Tables};
-ghost use Rattle.table_walk.specs.Places.{IsFirstLeafTo};
+ghost use Rattle.table_walk.specs.Places.{IsFirstLeafBefore};
 
 use crate::tables::table_in;
 use frame_store::{FrameAccess, FrameSeat};
 use sv39_entry::{Entry, FrameNo, Scheme, Vpn};
 
-/// The first leaf at or after `from` and before the page numbered `end`, and its page. Pages are numbered by their indices alone,
-/// which is the page number in the lower half of the addresses: of the pages of the upper half, which no process has, the result's
-/// number has the indices and not the upper bits. Reads only tables that exist and have a page before the end, and no table that
-/// the store knows to be empty.
+/// Returns the first leaf at page `from` or after it, and before the page with number `end`, with its page; `None` if there
+/// is none. Changes nothing. The seat must have the tables below `root`; `end` is at most 2^27 under Sv39, 2^36 under Sv48.
+/// Pages are numbered by their indices alone. In the lower half of the addresses that is the page number; a page of the
+/// upper half, which no process has, is returned without its upper bits.
+/// Reads only tables that exist and have a page before `end`, and no table that the store knows to be empty.
 pub fn next_leaf_before<F: FrameAccess>(
     store: &mut F,
     seat: &mut F::Seat,
@@ -26,13 +28,13 @@ pub fn next_leaf_before<F: FrameAccess>(
     from: Vpn,
     end: u64,
 ) -> Option<(Vpn, Entry)>
-    requires fits { Fits F.rule store.old seat.old }
+    requires fits { IsSeatOf F.rule store.old seat.old }
     requires held { (t : Tables) × HasTables scheme (F.Seat.view seat.old) root.0 t }
     requires low { end ≤ page_limit scheme }
     ensures leaf { (t : Tables) → HasTables scheme (F.Seat.view seat.old) root.0 t → IsNextLeafBefore scheme t from end result }
     ensures view { F.Seat.view seat.new ≡ F.Seat.view seat.old }
     ensures same { store.new ≡ store.old }
-    ensures keeps { Keeps F.rule store.old seat.old store.new seat.new }
+    ensures keeps { KeepsSeats F.rule store.old seat.old store.new seat.new }
 {
     let (number, word) = next_below(store, seat, root, scheme.top_level(), from.number(), end)?;
     if end <= number {
@@ -41,8 +43,9 @@ pub fn next_leaf_before<F: FrameAccess>(
     Some((Vpn::new(number)?, Entry::from_word(word)))
 }
 
-/// The same below a table of a level, by places: at level 0 those are the indices, and above it each index has 512 times as
-/// many as those of the level below. No word is read behind that of the index that has the last place before an end.
+/// `next_leaf_before` below one table, whose entries have level `level`, by places. At level 0 a place is an index; above it
+/// each index has 512 times as many places as one of the level below. A leaf that is returned may lie at `end` or after it:
+/// then there is none before `end`. No word is read after that of the index that has the last place before `end`.
 #[cycle(leaves)]
 fn next_below<F: FrameAccess>(
     store: &mut F,
@@ -52,13 +55,13 @@ fn next_below<F: FrameAccess>(
     from: u64,
     end: u64,
 ) -> Option<(u64, u64)>
-    requires fits { Fits F.rule store.old seat.old }
+    requires fits { IsSeatOf F.rule store.old seat.old }
     requires low { level ≤ 3 }
     requires held { (s : Scheme) × (root k : ℕ) × (t : Tables) × HasTables s (F.Seat.view seat.old) root t × (get t.tables k ≡ Some table.0) × IsTableAt k level }
-    ensures leaf { (s : Scheme) (root k : ℕ) (t : Tables) → HasTables s (F.Seat.view seat.old) root t → get t.tables k ≡ Some table.0 → IsTableAt k level → IsFirstLeafTo t k (places level) from end result }
+    ensures leaf { (s : Scheme) (root k : ℕ) (t : Tables) → HasTables s (F.Seat.view seat.old) root t → get t.tables k ≡ Some table.0 → IsTableAt k level → IsFirstLeafBefore t k (places level) from end result }
     ensures view { F.Seat.view seat.new ≡ F.Seat.view seat.old }
     ensures same { store.new ≡ store.old }
-    ensures keeps { Keeps F.rule store.old seat.old store.new seat.new }
+    ensures keeps { KeepsSeats F.rule store.old seat.old store.new seat.new }
 {
     let width = index_places(level);
     let stop = end.min(512 * width);
@@ -77,7 +80,7 @@ fn next_below<F: FrameAccess>(
     None
 }
 
-/// The same below an index of a table of a level, by the word there.
+/// `next_below` for one index of a table, by the word there. Places count from the first one of the index.
 #[cycle(leaves)]
 fn next_at<F: FrameAccess>(
     store: &mut F,
@@ -87,15 +90,15 @@ fn next_at<F: FrameAccess>(
     from: u64,
     end: u64,
 ) -> Option<(u64, u64)>
-    requires fits { Fits F.rule store.old seat.old }
+    requires fits { IsSeatOf F.rule store.old seat.old }
     requires low { level ≤ 3 }
     requires some { 0 < word }
     requires within { from < 512 ^ level }
     requires held { (s : Scheme) × (root k i : ℕ) × (t : Tables) × HasTables s (F.Seat.view seat.old) root t × HasEntry (F.Seat.view seat.old) t k level i word }
-    ensures leaf { (s : Scheme) (root k i : ℕ) (t : Tables) → HasTables s (F.Seat.view seat.old) root t → HasEntry (F.Seat.view seat.old) t k level i word → IsFirstLeafTo t (k * 512 + i) (512 ^ level) from end result }
+    ensures leaf { (s : Scheme) (root k i : ℕ) (t : Tables) → HasTables s (F.Seat.view seat.old) root t → HasEntry (F.Seat.view seat.old) t k level i word → IsFirstLeafBefore t (k * 512 + i) (512 ^ level) from end result }
     ensures view { F.Seat.view seat.new ≡ F.Seat.view seat.old }
     ensures same { store.new ≡ store.old }
-    ensures keeps { Keeps F.rule store.old seat.old store.new seat.new }
+    ensures keeps { KeepsSeats F.rule store.old seat.old store.new seat.new }
 {
     if level == 0 {
         return Some((0, word));
@@ -104,8 +107,9 @@ fn next_at<F: FrameAccess>(
     next_below(store, seat, next, level - 1, from, end)
 }
 
-/// A word of a table of a level that is not 0, from one index on and before another, and its index. No word before it is a leaf or
-/// has one below it. Passes over pointers to tables that the store knows to be empty.
+/// Returns a word of a table that is not 0, from index `first` up to, and without, `last`, with its index; `None` if none is
+/// left. No word before it is a leaf or has one below it: above level 0, pointers to tables that the store knows to be empty
+/// are passed over.
 fn next_entry<F: FrameAccess>(
     store: &mut F,
     seat: &mut F::Seat,
@@ -114,14 +118,14 @@ fn next_entry<F: FrameAccess>(
     first: usize,
     last: usize,
 ) -> Option<(usize, u64)>
-    requires fits { Fits F.rule store.old seat.old }
+    requires fits { IsSeatOf F.rule store.old seat.old }
     requires held { IsHeld (F.Seat.view seat.old) table.0 }
     requires low { first ≤ last }
     requires in_page { last ≤ 512 }
     ensures word { IsNextEntry (F.Seat.view seat.old) table.0 level first last result }
     ensures view { F.Seat.view seat.new ≡ F.Seat.view seat.old }
     ensures same { store.new ≡ store.old }
-    ensures keeps { Keeps F.rule store.old seat.old store.new seat.new }
+    ensures keeps { KeepsSeats F.rule store.old seat.old store.new seat.new }
 {
     if level == 0 {
         return store.next_word(seat, table, first, last);
@@ -129,7 +133,7 @@ fn next_entry<F: FrameAccess>(
     store.next_busy_word(seat, table, first, last)
 }
 
-/// The places of each index of a table of a level.
+/// Returns how many places each index of a table of this level has.
 #[tactic(auto, using(std::proofs::lemmas::Nat::one_shl))]
 fn index_places(level: u32) -> u64
     requires { level ≤ 3 }
@@ -140,7 +144,7 @@ fn index_places(level: u32) -> u64
     1 << (9 * level)
 }
 
-/// The index of a table of a level that has a place.
+/// Returns the index, in a table of this level, that has a place.
 #[tactic(auto, using(crate::proofs::Next::nine_bits))]
 fn index_of(place: u64, level: u32) -> usize
     requires low { level ≤ 3 }

@@ -1,4 +1,5 @@
-// A memory of words that are lent.
+// `PlainWords`: a struct, a borrowed slice of words as a memory for walks, with frame 0 first and 512 words a frame. It
+// implements `Words`; nothing else is in the memory.
 
 ghost use Rattle.std.specs.Prelude.{◌≡◌};
 
@@ -6,7 +7,8 @@ use crate::words::Words;
 use std::marker::Model;
 use sv39_entry::FrameNo;
 
-/// The words of the frames from frame 0 on, 512 of each, one frame after another. Beyond their end there is no memory.
+/// A memory for walks: the words of the frames from frame 0 on, 512 of each, one frame after another. What is past the end
+/// of the slice is outside the memory.
 #[derive(Drop)]
 pub struct PlainWords<'a> {
     words: &'a [u64],
@@ -22,7 +24,7 @@ impl<'a> Model for PlainWords<'a> {
 }
 
 impl<'a> PlainWords<'a> {
-    /// The memory of these words.
+    /// Returns the memory that has these words.
     pub fn new(words: &'a [u64]) -> PlainWords<'a>
         ensures { result ≡ words.now }
     {

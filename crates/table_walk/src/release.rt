@@ -1,46 +1,50 @@
-// Tables that are let go, at the end of a space.
+// `release_tables`: releases the frames of all page tables below a root, and the root's, at the end of an address space,
+// when the tables have no leaf any more.
 
 ghost use Rattle.std.specs.FinMap.{get};
 ghost use Rattle.std.specs.Prelude.{◌≡◌, ◌+◌, ◌*◌, ◌<◌, ◌≤◌, ℕ, None, Some};
-ghost use Rattle.frame_store.specs.Laws.{Fits, Keeps};
-ghost use Rattle.frame_store.specs.Next.{AreZeros};
+ghost use Rattle.frame_store.specs.Laws.{IsSeatOf, KeepsSeats};
+ghost use Rattle.frame_store.specs.NextWord.{AreZeros};
 ghost use Rattle.frame_store.specs.View.{hold_of, IsHeld, not_held};
 ghost use Rattle.sv39_entry.specs.declared.scheme.Scheme.{Scheme};
-ghost use Rattle.table_walk.specs.Changed.{IsTableAt};
+ghost use Rattle.table_walk.specs.TableChanges.{IsTableAt};
 ghost use Rattle.table_walk.specs.Tables.{HasTables, Tables};
-ghost use Rattle.table_walk.specs.Released.{AreLast, LetsGo, SameTallies};
+ghost use Rattle.table_walk.specs.TableRelease.{AreLast, ReleasesTables, SameTallies};
 
 use crate::tables::child;
 use frame_store::{FrameAccess, FrameSeat};
 use sv39_entry::{FrameNo, Scheme};
 
-/// Lets the tables below a root go, the root last. There must be no leaf any more, and each table be held once.
+/// Releases the frames of the tables below a root, the root's last. The tables must have no leaf, and the seat must hold
+/// each of their frames once, and frame 0 too, which is none of them. The seat then holds none of their frames; it keeps
+/// what it has of other frames, and its credits (reserved frames). Cannot fail.
 pub fn release_tables<F: FrameAccess>(
     store: &mut F,
     seat: &mut F::Seat,
     scheme: Scheme,
     root: FrameNo,
 )
-    requires fits { Fits F.rule store.old seat.old }
+    requires fits { IsSeatOf F.rule store.old seat.old }
     requires bare { (t : Tables) × HasTables scheme (F.Seat.view seat.old) root.0 t × AreLast (F.Seat.view seat.old) t }
     ensures gone { (t : Tables) → HasTables scheme (F.Seat.view seat.old) root.0 t → (k f : ℕ) → get t.tables k ≡ Some f → hold_of (F.Seat.view seat.new) f ≡ not_held }
     ensures others { (t : Tables) → HasTables scheme (F.Seat.view seat.old) root.0 t → (f : ℕ) → ((k : ℕ) → get t.tables k ≡ Some f → ⊥) → hold_of (F.Seat.view seat.new) f ≡ hold_of (F.Seat.view seat.old) f }
     ensures tallies { SameTallies (F.Seat.view seat.old) (F.Seat.view seat.new) }
-    ensures keeps { Keeps F.rule store.old seat.old store.new seat.new }
+    ensures keeps { KeepsSeats F.rule store.old seat.old store.new seat.new }
     ensures free { F.alone → F.free store.old ≤ F.free store.new }
 {
     release_below(store, seat, root, scheme.top_level());
     store.release(seat, root);
 }
 
-/// Lets the tables below a table of a level go, and takes the pointers to them away. The table itself stays.
+/// Releases the tables below `table`, whose entries have level `level`, and clears the pointers to them. The table itself
+/// stays.
 #[cycle(release)]
 fn release_below<F: FrameAccess>(store: &mut F, seat: &mut F::Seat, table: FrameNo, level: u32)
-    requires fits { Fits F.rule store.old seat.old }
+    requires fits { IsSeatOf F.rule store.old seat.old }
     requires low { level ≤ 3 }
     requires bare { (s : Scheme) × (root k : ℕ) × (t : Tables) × HasTables s (F.Seat.view seat.old) root t × AreLast (F.Seat.view seat.old) t × (get t.tables k ≡ Some table.0) × IsTableAt k level }
-    ensures below { (s : Scheme) (root k : ℕ) (t : Tables) → HasTables s (F.Seat.view seat.old) root t → AreLast (F.Seat.view seat.old) t → get t.tables k ≡ Some table.0 → IsTableAt k level → (u : Tables) × LetsGo s (F.Seat.view seat.old) (F.Seat.view seat.new) root k t u × ((i : ℕ) → i < 512 → get u.tables (k * 512 + i) ≡ None) }
-    ensures keeps { Keeps F.rule store.old seat.old store.new seat.new }
+    ensures below { (s : Scheme) (root k : ℕ) (t : Tables) → HasTables s (F.Seat.view seat.old) root t → AreLast (F.Seat.view seat.old) t → get t.tables k ≡ Some table.0 → IsTableAt k level → (u : Tables) × ReleasesTables s (F.Seat.view seat.old) (F.Seat.view seat.new) root k t u × ((i : ℕ) → i < 512 → get u.tables (k * 512 + i) ≡ None) }
+    ensures keeps { KeepsSeats F.rule store.old seat.old store.new seat.new }
     ensures free { F.alone → F.free store.old ≤ F.free store.new }
 {
     if level == 0 {
@@ -53,7 +57,8 @@ fn release_below<F: FrameAccess>(store: &mut F, seat: &mut F::Seat, table: Frame
     }
 }
 
-/// The same of the table that stands at an index of a table above level 0, and of those below it.
+/// Releases the table at an index of `table` and those below it, and clears the pointer to it. Does nothing if there is
+/// none.
 #[cycle(release)]
 fn release_at<F: FrameAccess>(
     store: &mut F,
@@ -62,13 +67,13 @@ fn release_at<F: FrameAccess>(
     level: u32,
     index: usize,
 )
-    requires fits { Fits F.rule store.old seat.old }
+    requires fits { IsSeatOf F.rule store.old seat.old }
     requires low { level ≤ 3 }
     requires above { 0 < level }
     requires in_table { index < 512 }
     requires bare { (s : Scheme) × (root k : ℕ) × (t : Tables) × HasTables s (F.Seat.view seat.old) root t × AreLast (F.Seat.view seat.old) t × (get t.tables k ≡ Some table.0) × IsTableAt k level }
-    ensures here { (s : Scheme) (root k : ℕ) (t : Tables) → HasTables s (F.Seat.view seat.old) root t → AreLast (F.Seat.view seat.old) t → get t.tables k ≡ Some table.0 → IsTableAt k level → (u : Tables) × LetsGo s (F.Seat.view seat.old) (F.Seat.view seat.new) root k t u × (get u.tables (k * 512 + index) ≡ None) }
-    ensures keeps { Keeps F.rule store.old seat.old store.new seat.new }
+    ensures here { (s : Scheme) (root k : ℕ) (t : Tables) → HasTables s (F.Seat.view seat.old) root t → AreLast (F.Seat.view seat.old) t → get t.tables k ≡ Some table.0 → IsTableAt k level → (u : Tables) × ReleasesTables s (F.Seat.view seat.old) (F.Seat.view seat.new) root k t u × (get u.tables (k * 512 + index) ≡ None) }
+    ensures keeps { KeepsSeats F.rule store.old seat.old store.new seat.new }
     ensures free { F.alone → F.free store.old ≤ F.free store.new }
 {
     if let Some(next) = child(store, seat, table, index) {
@@ -78,14 +83,14 @@ fn release_at<F: FrameAccess>(
     }
 }
 
-/// The first index of a table, from one on, whose word is not 0, or 512.
+/// Returns the first index of a table, from `first` on, whose word is not 0; 512 if there is none.
 fn next_entry<F: FrameAccess>(
     store: &mut F,
     seat: &mut F::Seat,
     table: FrameNo,
     first: usize,
 ) -> usize
-    requires fits { Fits F.rule store.old seat.old }
+    requires fits { IsSeatOf F.rule store.old seat.old }
     requires held { IsHeld (F.Seat.view seat.old) table.0 }
     requires low { first ≤ 512 }
     ensures from { first ≤ result }
@@ -93,7 +98,7 @@ fn next_entry<F: FrameAccess>(
     ensures zeros { AreZeros (F.Seat.view seat.old) table.0 first result }
     ensures view { F.Seat.view seat.new ≡ F.Seat.view seat.old }
     ensures same { store.new ≡ store.old }
-    ensures keeps { Keeps F.rule store.old seat.old store.new seat.new }
+    ensures keeps { KeepsSeats F.rule store.old seat.old store.new seat.new }
 {
     let Some((index, _)) = store.next_word(seat, table, first, 512) else {
         return 512;

@@ -1,7 +1,9 @@
-// The translation of accesses.
+// Translation of an access to a physical address or a fault: the walk, then the rights, then whether the byte is in memory.
+// `translate` is for any memory, `translate_held` for the page tables that a seat (an owner's capability at a frame store)
+// has; `has_byte` is the last of the three tests.
 
 ghost use Rattle.std.specs.Prelude.{◌≡◌};
-ghost use Rattle.frame_store.specs.Laws.{Fits, Keeps};
+ghost use Rattle.frame_store.specs.Laws.{IsSeatOf, KeepsSeats};
 ghost use Rattle.sv39_entry.specs.Address.{page_of};
 ghost use Rattle.table_walk.specs.Leaves.{LeavesAreThere, walk_answer};
 ghost use Rattle.table_walk.specs.Memory as memory;
@@ -17,8 +19,12 @@ use crate::words::Words;
 use frame_store::{FrameAccess, FrameSeat};
 use sv39_entry::{Access, Entry, FrameNo, Mode, PAGE_SIZE, Scheme, Va};
 
-/// Translates the address of an access, whose bytes lie in one word, by the tables below a root, which is given by its
-/// physical page number (RISC-V Privileged Architecture 20211203, 4.3.2).
+/// Translates the address of an access, by the tables below the root with physical page number `root` (RISC-V Privileged
+/// Architecture 20211203, 4.3.2). Returns the leaf and the physical address, or the fault with its cause: a page fault if
+/// the walk finds no leaf (or the address is not canonical), or the leaf's rights do not permit the access; an access fault
+/// if a table's word on the way, or the byte, is outside the memory. Rights are judged before the byte is looked for.
+/// Only the byte at the address is looked for, so the bytes of the access should lie in one word.
+/// Each table on the way must be readable (`Words::readable`).
 pub fn translate<M: Words>(
     words: &mut M,
     scheme: Scheme,
@@ -51,14 +57,16 @@ pub fn translate<M: Words>(
     }
 }
 
-/// Whether the byte at a physical address is there.
+/// Whether the byte at a physical address is inside the memory. It is not read.
 pub fn has_byte<M: Words>(words: &M, address: u64) -> bool
     ensures { result ≡ memory.has_byte (M.there words.now) address }
 {
     words.has_word(address / PAGE_SIZE, (address % PAGE_SIZE / 8) as usize)
 }
 
-/// Translates an access by the tables below a root, which a seat has.
+/// Translates an access by the tables below a root, which the seat must have. If each of their leaves names a frame, the
+/// result is what the tables say: the leaf at level 0 and the physical address, or a page fault with its cause if the page
+/// has no leaf, the address is not canonical, or the leaf's rights do not permit the access. Changes nothing.
 pub fn translate_held<F: FrameAccess>(
     store: &mut F,
     seat: &mut F::Seat,
@@ -68,14 +76,14 @@ pub fn translate_held<F: FrameAccess>(
     access: Access,
     mode: Mode,
 ) -> Walk
-    requires fits { Fits F.rule store.old seat.old }
+    requires fits { IsSeatOf F.rule store.old seat.old }
     requires held { (t : Tables) × HasTables scheme (F.Seat.view seat.old) root.0 t }
     ensures outcome { (t : Tables) → HasTables scheme (F.Seat.view seat.old) root.0 t → LeavesAreThere scheme t → result ≡ walk_answer scheme t va.0 access mode }
     ensures view { F.Seat.view seat.new ≡ F.Seat.view seat.old }
     ensures same { store.new ≡ store.old }
-    ensures keeps { Keeps F.rule store.old seat.old store.new seat.new }
+    ensures keeps { KeepsSeats F.rule store.old seat.old store.new seat.new }
 {
-    // the laws tell what walks over these tables find, and that an access is translated to one thing
+    // these laws say what walks over these tables find, and that an access is translated to one outcome
     walks_of_tables();
     one_outcome();
     let mut words = HeldWords { store, seat };

@@ -1,4 +1,6 @@
-// Cabinets, told by the calls.
+// Tests that `Cabinet` (the files of a machine) keeps the lengths and modes of sixteen files, and reads and writes pages at
+// the ends of files, past them, and of files that do not exist: rows of file, offset, place and byte. And builders of files
+// for other tests (`cabinet`, `three_files`).
 
 ghost use Rattle.std.specs.Prelude.{◌≡◌};
 ghost use Rattle.process_model.specs.Script.{fits_file};
@@ -8,7 +10,7 @@ use process_model::{Bytes, FileText};
 use std::alloc::{AllocError, Global};
 use std::test::Fail;
 
-/// A file of so many bytes, of which the first are declared: 0, 1, 2 and so on, and 0 again after 255.
+/// A file of `length` bytes that declares the first `bytes` of them: 0, 1, 2 and so on, with 0 again after 255.
 fn declared(
     alloc: Global,
     length: usize,
@@ -26,7 +28,7 @@ fn declared(
     })
 }
 
-/// Files of these lengths, all of whose bytes are declared. The even ones are writable.
+/// Files of these lengths that declare all their bytes. Those with an even number, counted from 0, are writable.
 fn filled(alloc: Global, lengths: &[usize]) -> Result<Vec<FileText>, AllocError> {
     let mut texts = Vec::new(alloc);
     for (number, length) in lengths.iter().enumerate() {
@@ -35,14 +37,17 @@ fn filled(alloc: Global, lengths: &[usize]) -> Result<Vec<FileText>, AllocError>
     Ok(texts)
 }
 
-/// Whether a file is short enough, and has no more bytes than its length.
+/// Whether a file has at most 65,536 bytes, and declares no more bytes than its length.
 fn fits(text: &FileText) -> bool
     ensures { result ≡ fits_file text.now }
 {
     text.length <= 65_536 && text.bytes.as_slice().len() <= text.length
 }
 
-/// The cabinet, if there may be one of these files.
+/// A cabinet of these files.
+///
+/// # Errors
+/// `Fail`: there are more than 16 files, one does not fit (`fits`), or the host is out of memory.
 pub(crate) fn cabinet(alloc: Global, texts: &[FileText]) -> Result<Cabinet, Fail> {
     if texts.len() > 16 || !texts.iter().all(fits) {
         return Err(Fail::from("too large"));
@@ -50,7 +55,11 @@ pub(crate) fn cabinet(alloc: Global, texts: &[FileText]) -> Result<Cabinet, Fail
     Ok(Cabinet::new(alloc, texts)?)
 }
 
-/// A file of 5,000 bytes of which 4,100 are declared, one of no bytes, and one of 65,536.
+/// A cabinet of three files: 0 is writable, with 5,000 bytes of which 4,100 are declared; 1 is read-only and has no bytes; 2
+/// is writable, with 65,536 bytes, all declared.
+///
+/// # Errors
+/// `Fail`: the host is out of memory.
 pub(crate) fn three_files(alloc: Global) -> Result<Cabinet, Fail> {
     let texts = vec![in alloc;
         declared(alloc, 5_000, true, 4_100)?,

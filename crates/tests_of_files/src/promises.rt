@@ -1,8 +1,10 @@
-// Promises that are kept, and those that are refused.
+// Tests that a cabinet makes each promise (a reservation of page I/O); that `copy_page` over files that refuse one promise
+// copies a page or is refused, by rows of files, offset, outcome and a byte then; and that each `PromiseError` becomes its
+// refusal.
 
 use crate::cabinets::three_files;
-use crate::copying::copy_page;
-use crate::stubborn::Stubborn;
+use crate::page_copies::copy_page;
+use crate::stubborn::RefusingFiles;
 use file_cabinet::{Files, PromiseError};
 use process_model::Refusal;
 use std::test::Fail;
@@ -18,7 +20,7 @@ fn promises_any_pages(rt: HostRuntime) -> Result<(), Fail> {
 
 #[test]
 fn copies_over_any_files(rt: HostRuntime) -> Result<(), Fail> {
-    let mut files = Stubborn {
+    let mut files = RefusingFiles {
         files: three_files(rt.alloc())?,
         until_refusal: Some(1),
     };

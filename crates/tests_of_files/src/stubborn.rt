@@ -1,16 +1,20 @@
-// Files that refuse a promise.
+// `RefusingFiles`, a struct: files that refuse one promise (a reservation of page I/O) and otherwise act as the files that
+// they wrap.
 
 use file_cabinet::{Files, PromiseError};
 
-/// Files that refuse one of their promises of a page or more for want of memory, and are like some others in all else.
+/// Files that refuse one promise, of those for a page or more, with `Memory`. In all else they act as the files that they
+/// wrap, `files`.
 #[derive(Drop)]
-pub struct Stubborn<F> {
+pub struct RefusingFiles<F> {
+    /// The files that it wraps.
     pub files: F,
-    /// How many promises are made before the one that is refused, or None where none is from now on.
+    /// How many promises for a page or more are passed on to `files` before the one that is refused; `None`: none is refused
+    /// from here on.
     pub until_refusal: Option<usize>,
 }
 
-impl<F: Files> Files for Stubborn<F> {
+impl<F: Files> Files for RefusingFiles<F> {
     ghost use Rattle.std.specs.Prelude.{◌≡◌, ◌⊎◌, ◌<◌};
     ghost use Rattle.file_cabinet.specs.declared.promise.PromiseError.TheVariants.{Memory};
 

@@ -1,14 +1,15 @@
--- The steps of the tests, call by call.
+-- Lemmas for the tests of clients of a frame store: what the places of a `Pool` hold and know after a fill and a close; the
+-- word known in a frame just filled; and a second seat (an owner's capability at the store), opened beside the first.
 use Rattle.std.proofs.Common.{◌≡◌, ℕ, List, [], ◌∷◌, Option, None, Some, replicate, ap, sym, subst, ◌∙◌}
 use Rattle.std.specs.Prelude.{slice_get, slice_index, slice_set, IsSome}
 use Rattle.std.proofs.lemmas.Option.{get_or_from_slice_get}
 use Rattle.frame_store.specs.View.{View, IsHeld, joined, known_word, opening_view}
-use Rattle.frame_store.specs.Laws.{Fits, Keeps}
+use Rattle.frame_store.specs.Laws.{IsSeatOf, KeepsSeats}
 use Rattle.frame_store.specs.Seats.{ComesFront, GoesBack}
-use Rattle.frame_clients.specs.Filled.{filled, filled_holds, known_word-filled}
-use Rattle.frame_store.specs.Opened.{opener, opened}
+use Rattle.frame_clients.specs.FilledFrames.{filled, filled_holds, known_word-filled}
+use Rattle.frame_store.specs.SeatOpening.{opener, opened}
 use Rattle.frame_clients.specs.Places.{view_at}
-use Rattle.frame_store.specs.Joined.{joined_second, joined_knows}
+use Rattle.frame_store.specs.SeatJoin.{joined_second, joined_knows}
 
 -- the places of the first test
 module _ {size : ℕ} (made two full : List (Option View)) (f : ℕ) (words : List ℕ)
@@ -52,8 +53,8 @@ known_by_filling words i f x v w is known = sym (get_or_from_slice_get words i x
 -- a seat opens a second one, which steps beside it
 module _ {Store Seat : Type 0} (rule : Store → List Seat → Type 0) {s t : Store} {a b new : Seat} (front : ComesFront (rule t))
     (opening : (others : List Seat) → rule s (a ∷ others) → rule t (b ∷ new ∷ others)) where
-  pub second_fits : Fits rule s a → Fits rule t new
+  pub second_fits : IsSeatOf rule s a → IsSeatOf rule t new
   second_fits fits = (b ∷ fits.0, front (b ∷ []) new fits.0 (opening fits.0 fits.1))
 
-  pub second_steps : {u : Store} {later : Seat} → GoesBack (rule u) → Keeps rule t new u later → (others : List Seat) → rule s (a ∷ others) → rule u (b ∷ later ∷ others)
+  pub second_steps : {u : Store} {later : Seat} → GoesBack (rule u) → KeepsSeats rule t new u later → (others : List Seat) → rule s (a ∷ others) → rule u (b ∷ later ∷ others)
   second_steps {later} back stepping others r = back (b ∷ []) later others (stepping (b ∷ others) (front (b ∷ []) new others (opening others r)))

@@ -1,12 +1,13 @@
--- What the seat of the tests owns, step by step.
+-- Lemmas for the byte tests: which frames their seat (an owner's capability at the store) holds, is the sole holder of, and
+-- knows the bytes of (`Owns`, `OwnsBoth`) when frames are reserved, claimed, filled or changed.
 use Rattle.std.proofs.Common.{◌≡◌, ◌≢◌, ℕ, ◌<◌, List, [], ◌∷◌, refl, ap, sym, subst, ◌∙◌, lit<, arith}
 use Rattle.std.specs.Prelude.{IsTrue}
-use Rattle.frame_store.specs.Plain.{Bank, BankRule}
+use Rattle.frame_store.specs.Plain.{PlainState, PlainStateRule}
 use Rattle.frame_store.specs.View.{View, Hold, hold_of, references, IsHeld, IsSole, sole_hold, opening_view, with_credits, claimed}
 use Rattle.frame_store.specs.Holds.{hold_of-with_hold_same, hold_of-with_hold_other, hold_of-frames, opening_holds}
 use Rattle.frame_bytes.specs.Contents.{HasBytes, ChangesWords}
 use Rattle.tests_of_frames.specs.Owned.{Owns, OwnsBoth}
-use Rattle.frame_bytes.specs.Changed.{changed_held, changed_sole, bytes_apart}
+use Rattle.frame_bytes.specs.StoredWords.{changed_held, changed_sole, bytes_apart}
 
 -- frame 0 is held once credits are reserved
 pub reserved_held : {size : ℕ} (n : ℕ) (v w : View) → v ≡ opening_view size → w ≡ with_credits n v → IsHeld w 0
@@ -47,11 +48,11 @@ module _ (f : ℕ) (v w : View) (changes : ChangesWords f v w) where
     known = (owns.known.0, bytes_apart f v w changes g apart owns.known.0 owns.known.1);
   }
 
-module _ (s : Bank) (v : View) (f g : ℕ) (owns : OwnsBoth s v f g) where
+module _ (s : PlainState) (v : View) (f g : ℕ) (owns : OwnsBoth s v f g) where
   pub owns_turned : OwnsBoth s v g f
   owns_turned = record { rule = owns.rule; one = owns.other; other = owns.one; apart = λ e. owns.apart (sym e) }
 
-  pub one_changed : (t : Bank) (w : View) → BankRule t (w ∷ []) → ChangesWords f v w → (bytes : List ℕ) → HasBytes w f bytes → OwnsBoth t w f g
+  pub one_changed : (t : PlainState) (w : View) → PlainStateRule t (w ∷ []) → ChangesWords f v w → (bytes : List ℕ) → HasBytes w f bytes → OwnsBoth t w f g
   one_changed t w rule changes bytes has = record {
     rule = rule;
     one = owns_changed f v w changes owns.one.held owns.one.sole bytes has;
@@ -71,7 +72,7 @@ module _ (f g : ℕ) (r a b : View) (first : a ≡ claimed f r) (fresh : referen
   other_sole w changes = changed_sole f b w changes g (claimed_sole g a b second)
 
   pub both_filled : (w x : View) (ones twos : List ℕ) → ChangesWords f b w → HasBytes w f ones → ChangesWords g w x → HasBytes x g twos
-      → (s : Bank) → BankRule s (x ∷ []) → OwnsBoth s x f g
+      → (s : PlainState) → PlainStateRule s (x ∷ []) → OwnsBoth s x f g
   both_filled w x ones twos fill_one has_one fill_other has_other s rule =
       let held : IsHeld b f = still_held g a b second f apart (claimed_held f r a first) in
       record {

@@ -1,27 +1,28 @@
--- What the seats of the tests hold, step by step.
+-- Lemmas for the tests of both frame stores: which frames a seat (an owner's capability) holds after each call (reserve,
+-- give back, claim, share, look, store, release), in a round of two frames (`Round`), and after a second seat is split off.
 use Rattle.std.proofs.Common.{◌≡◌, ◌≢◌, inl, inr, ℕ, ◌+◌, ◌-◌, ◌<◌, refl, ap, sym, ◌∙◌, subst, Result, Ok, Err, IfOk, IfErr, [], ◌∷◌, arith, lit<}
 use Rattle.std.specs.Prelude.{IsOk}
 use Rattle.std.proofs.lemmas.Bool.Decides.{eqb_tells}
 use Rattle.frame_store.specs.Laws.{IsAnchored, IsDry}
 use Rattle.frame_store.specs.View.{View, Hold, hold_of, references, IsHeld, IsSole, sole_hold, empty_view, with_credits, without_credits, with_word, claimed, shared, looked, read_full, released, split_off}
 use Rattle.frame_store.specs.Holds.{hold_of-frames, hold_of-empty}
-use Rattle.frame_store.specs.Plain.{Bank, BankRule, to_front}
-use Rattle.frame_store.specs.Puts.{Puts, puts, left_of, left-references, released-puts, stays, moved_from-puts, moved_to-puts}
+use Rattle.frame_store.specs.Plain.{PlainState, PlainStateRule, to_front}
+use Rattle.frame_store.specs.ViewChanges.{SetsHold, puts, left_of, left-references, released-puts, stays, moved_from-puts, moved_to-puts}
 
-here : (f : ℕ) (h : Hold) (v w : View) → Puts f h v w → references w f ≡ h.references
+here : (f : ℕ) (h : Hold) (v w : View) → SetsHold f h v w → references w f ≡ h.references
 here f h v w p = ap (λ (z : Hold). z.references) p.here
 
-apart : (f : ℕ) (h : Hold) (v w : View) → Puts f h v w → (g : ℕ) → g ≢ f → references w g ≡ references v g
+apart : (f : ℕ) (h : Hold) (v w : View) → SetsHold f h v w → (g : ℕ) → g ≢ f → references w g ≡ references v g
 apart f h v w p g ne = ap (λ (z : Hold). z.references) (p.apart g ne)
 
-claimed-is : (f : ℕ) (v w : View) → w ≡ claimed f v → Puts f sole_hold v w
-claimed-is f v w e = subst (Puts f sole_hold v) (sym e) (puts f sole_hold v _ refl)
+claimed-is : (f : ℕ) (v w : View) → w ≡ claimed f v → SetsHold f sole_hold v w
+claimed-is f v w e = subst (SetsHold f sole_hold v) (sym e) (puts f sole_hold v _ refl)
 
-shared-is : (f : ℕ) (v w : View) → w ≡ shared f v → Puts f (record (hold_of v f) { references = references v f + 1 }) v w
-shared-is f v w e = subst (Puts f _ v) (sym e) (puts f _ v v refl)
+shared-is : (f : ℕ) (v w : View) → w ≡ shared f v → SetsHold f (record (hold_of v f) { references = references v f + 1 }) v w
+shared-is f v w e = subst (SetsHold f _ v) (sym e) (puts f _ v v refl)
 
-released-is : (f : ℕ) (v w : View) → w ≡ released f v → Puts f (left_of f v) v w
-released-is f v w e = subst (Puts f (left_of f v) v) (sym e) (released-puts f v)
+released-is : (f : ℕ) (v w : View) → w ≡ released f v → SetsHold f (left_of f v) v w
+released-is f v w e = subst (SetsHold f (left_of f v) v) (sym e) (released-puts f v)
 
 -- what is held stays held
 abbrev pub Wider : View → View → Type 0
@@ -42,7 +43,7 @@ reserve-credits n v w (Err x) some is ok = absurd (cc)
 pub given-wider : (n : ℕ) (v w : View) → w ≡ without_credits n v → Wider v w
 given-wider n v w e = subst (Wider v) (sym e) (same_frames v (without_credits n v) refl)
 
-put_wider : (f : ℕ) (h : Hold) (v w : View) → Puts f h v w → (IsHeld v f → 0 < h.references) → Wider v w
+put_wider : (f : ℕ) (h : Hold) (v w : View) → SetsHold f h v w → (IsHeld v f → 0 < h.references) → Wider v w
 put_wider f h v w p more g held = elim (eqb_tells g f) as (λ _. IsHeld w g) [
   | inl e ↦ subst (IsHeld w) (sym e.1) (subst (λ (z : Hold). 0 < z.references) (sym p.here) (more (subst (IsHeld v) e.1 held)))
   | inr e ↦ subst (λ (z : Hold). 0 < z.references) (sym (p.apart g e.1)) held
@@ -147,5 +148,5 @@ pub release-anchored : (f : ℕ) (v : View) → 0 ≢ f → IsHeld v 0 → IsAnc
 release-anchored f v ne held g h = subst (λ (z : Hold). 0 < z.references) (sym ((released-puts f v).apart 0 ne)) held
 
 -- of two seats either may come first
-pub turn : (s : Bank) (v w : View) → BankRule s (v ∷ w ∷ []) → BankRule s (w ∷ v ∷ [])
+pub turn : (s : PlainState) (v w : View) → PlainStateRule s (v ∷ w ∷ []) → PlainStateRule s (w ∷ v ∷ [])
 turn s v w r = to_front s.words s.counts s.free (v ∷ []) w [] r

@@ -1,6 +1,8 @@
--- What the tests keep between their calls.
+-- Predicates on the seat (an owner's capability at a frame store) of the byte tests (`Bench`), by its view (what it holds
+-- and knows): it is the sole holder of a frame and knows its bytes (`Owns`), and so of two frames, between calls
+-- (`OwnsBoth`).
 use Rattle.std.specs.Prelude.{◌≢◌, ℕ, List, [], ◌∷◌}
-use Rattle.frame_store.specs.Plain.{Bank, BankRule}
+use Rattle.frame_store.specs.Plain.{PlainState, PlainStateRule}
 use Rattle.frame_store.specs.View.{View, IsHeld, IsSole}
 use Rattle.frame_bytes.specs.Contents.{HasBytes}
 
@@ -10,9 +12,9 @@ pub record Owns (v : View) (f : ℕ) : Type 0 where
   pub sole : IsSole v f
   pub known : (bytes : List ℕ) × HasBytes v f bytes
 
--- the only seat owns two frames
-pub record OwnsBoth (store : Bank) (v : View) (f g : ℕ) : Type 0 where
-  pub rule : BankRule store (v ∷ [])
+-- a plain store whose only seat, with view v, owns the frames f and g, which differ
+pub record OwnsBoth (store : PlainState) (v : View) (f g : ℕ) : Type 0 where
+  pub rule : PlainStateRule store (v ∷ [])
   pub one : Owns v f
   pub other : Owns v g
   pub apart : f ≢ g

@@ -1,7 +1,9 @@
-// What the seats of one store keep, and one client over two stores.
+// Tests that clients of a frame store read back what they wrote and are refused when no frame is left: several seats
+// (owners' capabilities at a store) at one `Pool`, and functions over any store run over plain and over shared frames. And
+// that both stores find the next word other than 0 in a frame (`next_word`, `next_busy_word`), by rows.
 
 ghost use Rattle.std.specs.Prelude.{◌≡◌, ◌<◌, IfOk, slice_index};
-ghost use Rattle.frame_store.specs.Laws.{Fits, Keeps};
+ghost use Rattle.frame_store.specs.Laws.{IsSeatOf, KeepsSeats};
 ghost use Rattle.frame_store.specs.View.{IsHeld};
 
 use frame_clients::{Pool, filled_frame, read_word};
@@ -58,37 +60,37 @@ impl From<SharersFull> for Refusal {
     }
 }
 
-/// Fills a frame, and reads the word at an index back.
+/// Takes a frame, fills it with `words`, and returns the word read back at `index`; `NoFrame` if no frame could be reserved.
 fn filled_word<F: FrameSupply>(
     store: &mut F,
     seat: &mut F::Seat,
     words: &[u64; 512],
     index: usize,
 ) -> Result<u64, NoFrame>
-    requires fits { Fits F.rule store.old seat.old }
+    requires fits { IsSeatOf F.rule store.old seat.old }
     requires anchored { IsHeld (F.Seat.view seat.old) 0 }
     requires in_page { index < 512 }
     ensures word { IfOk result (λ w. w ≡ slice_index words.now index) }
-    ensures keeps { Keeps F.rule store.old seat.old store.new seat.new }
+    ensures keeps { KeepsSeats F.rule store.old seat.old store.new seat.new }
 {
     let frame = filled_frame(store, seat, words)?;
     Ok(read_word(store, seat, frame, index))
 }
 
-/// Fills a frame through a new seat, and reads the word at an index back. The new seat then ends, filled frame or none,
-/// and the old one holds what it held.
+/// `filled_word` through a seat that is opened for it. That seat is then joined to `seat`, which holds what the other held:
+/// a reference of frame 0, and the filled frame if there is one.
 fn word_through_a_new_seat<F: FrameSupply>(
     store: &mut F,
     seat: &mut F::Seat,
     words: &[u64; 512],
     index: usize,
 ) -> Result<u64, Refusal>
-    requires fits { Fits F.rule store.old seat.old }
+    requires fits { IsSeatOf F.rule store.old seat.old }
     requires anchored { IsHeld (F.Seat.view seat.old) 0 }
     requires in_page { index < 512 }
     ensures word { IfOk result (λ w. w ≡ slice_index words.now index) }
     ensures anchored { IsHeld (F.Seat.view seat.new) 0 }
-    ensures keeps { Keeps F.rule store.old seat.old store.new seat.new }
+    ensures keeps { KeepsSeats F.rule store.old seat.old store.new seat.new }
 {
     let mut opened = opened_seat(store, seat)?;
     let word = filled_word(store, &mut opened, words, index);
@@ -106,7 +108,7 @@ fn runs_over_both_stores(rt: HostRuntime) -> Result<(), Fail> {
     assert_eq!(rt; word, 8);
     let refused = word_through_a_new_seat(&mut plain, &mut seat, &words, 511);
     assert_eq!(rt; refused, Err(Refusal::NoFrame));
-    // each seat that was opened left its reference of frame 0
+    // each opened seat left its reference of frame 0 to `seat`: three there, and one of the filled frame
     let report = plain.report();
     assert_eq!(rt; (report.free, report.held, report.references), (0, 2, 4));
 
@@ -122,12 +124,12 @@ fn runs_over_both_stores(rt: HostRuntime) -> Result<(), Fail> {
     Ok(())
 }
 
-/// Fills a frame of which few words are not 0, and tells whether the next of them is found from one index on and before another,
-/// for each case of a table.
+/// Fills a frame that has three words other than 0. Returns whether, for each case of a table, `next_word` and
+/// `next_busy_word` find the first of these words from index `first` on and below index `last`.
 fn finds_next_words<F: FrameSupply>(store: &mut F, seat: &mut F::Seat) -> Result<bool, NoFrame>
-    requires fits { Fits F.rule store.old seat.old }
+    requires fits { IsSeatOf F.rule store.old seat.old }
     requires anchored { IsHeld (F.Seat.view seat.old) 0 }
-    ensures keeps { Keeps F.rule store.old seat.old store.new seat.new }
+    ensures keeps { KeepsSeats F.rule store.old seat.old store.new seat.new }
 {
     let mut words = [0; 512];
     words[0] = 1;
@@ -149,7 +151,7 @@ fn finds_next_words<F: FrameSupply>(store: &mut F, seat: &mut F::Seat) -> Result
         if *first > *last || *last > 512 || store.next_word(seat, frame, *first, *last) != *next {
             return Ok(false);
         }
-        // none of these words names a frame
+        // none of the three words names a frame, so no word is skipped
         if store.next_busy_word(seat, frame, *first, *last) != *next {
             return Ok(false);
         }

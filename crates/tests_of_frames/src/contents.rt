@@ -1,4 +1,6 @@
-// The bytes of frames, told by the calls.
+// Tests that `frame_bytes` fills, loads, stores and copies frames, and reads and writes runs of their bytes, with the right
+// values, over plain frames. `Bench`, a struct: a store with two frames for the tests. `Access`, a row: an offset, a width
+// and the number that a load must return.
 
 ghost use Rattle.std.specs.Prelude.{◌≡◌, ◌%◌, ◌<◌, ◌≤◌, IsTrue, length};
 ghost use Rattle.process_model.specs.Bytes.{is_width};
@@ -12,10 +14,11 @@ use std::marker::Model;
 use std::test::Fail;
 use sv39_entry::FrameNo;
 
-/// An offset in the page, a width in bytes, and the number that stands there.
+/// An offset in the page, a width in bytes, and the number that a load there must return.
 type Access = (usize, usize, u64);
 
-/// Two frames of ones, to begin with, and a seat that is their sole holder. Contracts see the numbers of the frames.
+/// A store with one seat, which is the sole holder of two frames. Each of their bytes is 1 at first. Contracts see the
+/// numbers of the two frames.
 #[derive(Drop)]
 struct Bench {
     store: PlainFrames,
@@ -35,7 +38,7 @@ impl Model for Bench {
     ghost invariant = { λ b. OwnsBoth b.store b.seat b.first.0 b.second.0 };
 }
 
-/// Whether an access may have this width, and lies at a multiple of it in the page.
+/// Whether `width` is 1, 2, 4 or 8, and `offset` is a multiple of it below 4,096.
 fn is_access(offset: usize, width: usize) -> bool
     ensures width { IsTrue result → IsTrue (is_width width) }
     ensures inside { IsTrue result → offset < 4096 }
@@ -67,7 +70,7 @@ impl Bench {
         fill_frame(&mut self.store, &mut self.seat, self.first, bytes);
     }
 
-    /// What an access loads, if there is one of this width at this offset.
+    /// Loads `width` bytes at `offset` of the first frame; `None` if that is no access (`is_access`).
     fn load(&mut self, offset: usize, width: usize) -> Option<u64> {
         if !is_access(offset, width) {
             return None;
@@ -76,7 +79,7 @@ impl Bench {
         Some(number)
     }
 
-    /// The first of some accesses that does not load what it should.
+    /// The first access that does not load its number; `None` if all do.
     fn first_wrong(&mut self, accesses: &[Access]) -> Option<Access> {
         'accesses: for access in accesses {
             let (offset, width, number) = *access;
@@ -87,7 +90,7 @@ impl Bench {
         None
     }
 
-    /// Stores the low bytes of a number, if there is an access of this width at this offset.
+    /// Stores the low `width` bytes of `value` at `offset` of the first frame; does nothing if that is no access.
     fn store(&mut self, offset: usize, width: usize, value: u64) {
         if is_access(offset, width) {
             store_bytes(
@@ -101,21 +104,22 @@ impl Bench {
         }
     }
 
-    /// The 4,096 bytes of the first frame, over others that stood in the array.
+    /// The 4,096 bytes of the first frame, read into an array that had other bytes.
     fn page(&mut self) -> [u8; 4096] {
         let mut bytes = [0xee; 4096];
         read_frame(&mut self.store, &mut self.seat, self.first, &mut bytes);
         bytes
     }
 
-    /// Reads a run of the first frame, if it lies in the page.
+    /// Reads `bytes.len()` bytes of the first frame from `offset` on; does nothing if they are not all in the page.
     fn read(&mut self, offset: usize, bytes: &mut [u8]) {
         if offset <= 4096 && bytes.len() <= 4096 - offset {
             read_run(&mut self.store, &mut self.seat, self.first, offset, bytes);
         }
     }
 
-    /// Whether a run of at most 32 bytes of the counting page is read as it is there.
+    /// Whether the `length` bytes at `offset` of the first frame are those of `counting_page`. False if they are more than
+    /// 32 or not all in the page.
     fn reads_counting(&mut self, offset: usize, length: usize) -> bool {
         if length > 32 || offset > 4096 {
             return false;
@@ -130,19 +134,19 @@ impl Bench {
         true
     }
 
-    /// Writes a run of the first frame, if it lies in the page.
+    /// Writes `bytes` to the first frame from `offset` on; does nothing if they are not all in the page.
     fn write(&mut self, offset: usize, bytes: &[u8]) {
         if offset <= 4096 && bytes.len() <= 4096 - offset {
             write_run(&mut self.store, &mut self.seat, self.first, offset, bytes);
         }
     }
 
-    /// Copies the first frame into the second.
+    /// Copies the first frame to the second.
     fn copy(&mut self) {
         copy_frame(&mut self.store, &mut self.seat, self.first, self.second);
     }
 
-    /// The second frame is the first from now on.
+    /// Exchanges the two frames: the first becomes the second, and the second the first.
     fn turn(&mut self) {
         let first = self.first;
         self.first = self.second;
@@ -150,7 +154,7 @@ impl Bench {
     }
 }
 
-/// The numbers from 0 to 255, again and again.
+/// 600 bytes that count from 0 to 255, again and again.
 fn counting() -> [u8; 600] {
     let mut bytes = [0; 600];
     for at in 0..600 {
@@ -159,7 +163,7 @@ fn counting() -> [u8; 600] {
     bytes
 }
 
-/// A page in which no word is like the next one: the numbers from 0 to 250, again and again.
+/// A page whose bytes count from 0 to 250, again and again, so that no word equals the next one.
 fn counting_page() -> [u8; 4096] {
     let mut bytes = [0; 4096];
     for at in 0..4096 {

@@ -1,4 +1,6 @@
-// Vectors from outside: words, addresses and causes.
+// Tests that `sv39_entry` agrees with independent test vectors: words of PTEs and of satp, kinds of PTEs, rights, parts of
+// addresses, canonical addresses, numbers and special addresses of both schemes (Sv39, Sv48), exception causes, numbers and
+// names of rules.
 
 use std::test::Fail;
 use sv39_entry::{Access, Entry, FrameNo, Kind, Mode, Rights, Rule, Satp, Scheme, Va, Vpn};
@@ -80,12 +82,12 @@ fn judges_accesses(rt: HostRuntime) {
     assert!(rt; Rights::READ.grants(Access::Load) && !Rights::READ.grants(Access::Store));
 }
 
-/// The number of the page of an address, and its offset in it.
+/// The number of an address's page, and the offset in that page.
 fn parts(address: Va) -> (u64, u64) {
     (address.page().number(), address.offset())
 }
 
-/// The indices of a page in its tables, the highest first.
+/// The indices of a page in the tables of its walk, that of level 3 first.
 fn indices(page: Vpn) -> (usize, usize, usize, usize) {
     (page.index(3), page.index(2), page.index(1), page.index(0))
 }
@@ -134,7 +136,7 @@ fn knows_canonical_addresses(rt: HostRuntime) {
     }
 }
 
-/// Where a scheme has what: `maxva`, `trampoline`, `trapframe`, and the kernel stacks of slots 0, 1 and 55.
+/// Addresses of a scheme: `maxva`, `trampoline`, `trapframe`, and the kernel stacks of slots 0, 1 and 55.
 type Places = [u64; 6];
 
 #[test]

@@ -1,4 +1,6 @@
-//! Tests of entries, of frames and of their bytes, through what their crates export. Nothing stands on it.
+//! Tests that `sv39_entry` (page table entries, addresses, causes), `frame_bytes` (bytes of frames), `frame_clients` and
+//! both frame stores, `PlainFrames` and `SharedFrames`, return the right results through their public APIs. No crate depends
+//! on it.
 #![tactic(auto)]
 
 #[cfg(test)]

@@ -1,10 +1,12 @@
-// Counts, credits and words, told by the calls, and by the totals after many threads.
+// Tests that `SharedFrames` returns the right reference counts (up to 65,535), refusals of credits (reserved frames) and
+// words, and the right totals after four threads, each with its own seat (an owner's capability at the store), used the
+// frames. Helpers: `round` claims, shares and releases frames over any store, `work` does so 1,000 times.
 
 ghost use Rattle.std.specs.Prelude.{◌≡◌, ◌<◌, IfOk, IfSome};
 ghost use Rattle.std.specs.Thread.{IsSync};
-ghost use Rattle.frame_store.specs.Laws.{Fits, Keeps};
+ghost use Rattle.frame_store.specs.Laws.{IsSeatOf, KeepsSeats};
 ghost use Rattle.frame_store.specs.View.{IsHeld};
-ghost use Rattle.shared_frames.specs.Fits.{FitsIn, view_of};
+ghost use Rattle.shared_frames.specs.SeatsOfTable.{FitsIn, view_of};
 
 use frame_store::{FrameAccess, FrameSupply, NoFrame, PlainFrames, SharersFull};
 use shared_frames::{SharedFrames, SharedSeat};
@@ -31,11 +33,11 @@ impl From<SharersFull> for Refusal {
     }
 }
 
-/// Three credits, two frames and a sharer are taken and given back, at any store.
+/// Reserves three frames, claims two of them and shares one, then releases and gives back all of it. Works over any store.
 fn round<F: FrameSupply>(store: &mut F, seat: &mut F::Seat) -> Result<(), Refusal>
-    requires fits { Fits F.rule store.old seat.old }
+    requires fits { IsSeatOf F.rule store.old seat.old }
     requires base { IsHeld (F.Seat.view seat.old) 0 }
-    ensures keeps { Keeps F.rule store.old seat.old store.new seat.new }
+    ensures keeps { KeepsSeats F.rule store.old seat.old store.new seat.new }
     ensures base { IsHeld (F.Seat.view seat.new) 0 }
 {
     store.reserve(seat, 3)?;
@@ -49,7 +51,7 @@ fn round<F: FrameSupply>(store: &mut F, seat: &mut F::Seat) -> Result<(), Refusa
     Ok(())
 }
 
-/// A thousand rounds, and whether each was made.
+/// Makes 1,000 rounds. Returns the seat, and whether each round succeeded.
 fn work<R: Wait>(rt: &R, frames: &SharedFrames, mut seat: SharedSeat) -> (SharedSeat, bool)
     requires fits { FitsIn frames.now.table seat }
     requires base { IsHeld (view_of seat) 0 }
@@ -65,7 +67,8 @@ fn work<R: Wait>(rt: &R, frames: &SharedFrames, mut seat: SharedSeat) -> (Shared
     (seat, all)
 }
 
-/// Two threads work, and their seats become one.
+/// Runs `work` on two threads, each with its own seat. Returns the two seats joined to one, and whether each round
+/// succeeded.
 fn work_both<R: Threads + Wait + Sync>(
     rt: &R,
     frames: &SharedFrames,
@@ -91,7 +94,7 @@ fn work_both<R: Threads + Wait + Sync>(
     (seat, all && other_all)
 }
 
-/// A seat with a reference of frame 0.
+/// Takes one more reference of frame 0 and splits it off as a new seat; `SharersFull` if it is refused.
 fn another<R: Wait>(
     rt: &R,
     frames: &SharedFrames,
@@ -169,7 +172,7 @@ fn counts_to_65_535(rt: HostRuntime) -> Result<(), Fail> {
     Ok(())
 }
 
-/// A frame of the seat's own, with the word at its last place.
+/// Claims a frame and stores `word` at its last index, 511. The frame is `None` if none could be reserved.
 fn fill<R: Wait>(
     rt: &R,
     frames: &SharedFrames,
@@ -190,7 +193,7 @@ fn fill<R: Wait>(
     (seat, Some(frame))
 }
 
-/// The word at the last place of a held frame.
+/// The word at index 511 of a frame that the seat holds.
 fn last_word(frames: &SharedFrames, seat: &mut SharedSeat, frame: FrameNo) -> u64
     requires fits { FitsIn frames.now.table seat.old }
     requires held { IsHeld (view_of seat.old) frame.0 }

@@ -1,5 +1,6 @@
--- What a story knows of the space that it is of.
-use Rattle.std.proofs.Common.{◌≡◌, ℕ, ◌*◌, ◌/◌, ◌<◌, ◌≤◌, ◌==◌, Bool, true, false, inl, inr, refl, arith, subst, List, None, Option, Some, Result, Ok, Err}
+-- Lemmas on the space of a story (test case): it still agrees with some process of the model (`IsAlive`) after it was read,
+-- changed to another process, unmapped, or a page was settled (brought into memory); and when a page is not settled.
+use Rattle.std.proofs.Common.{◌≡◌, ℕ, ◌*◌, ◌/◌, ◌<◌, ◌≤◌, ◌==◌, Bool, true, false, inl, inr, refl, arith, List, None, Option, Some, Result, Ok, Err}
 use Rattle.std.specs.Prelude.{IfErr, IfOk}
 use Rattle.std.specs.Result.{is_err}
 use Rattle.process_model.specs.Bytes.{padded}
@@ -7,21 +8,20 @@ use Rattle.std.proofs.lemmas.Bool.{cases_lt, eqb-false}
 use Rattle.frame_store.specs.View.{View}
 use Rattle.frame_store.specs.declared.refusal.NoFrame.{NoFrame}
 use Rattle.process_model.specs.Files.{File}
-use Rattle.process_model.specs.Inserted.{inserted_here}
+use Rattle.process_model.specs.Insertion.{inserted_here}
 use Rattle.process_model.specs.PageMap.{get}
 use Rattle.process_model.specs.Process.{Page, Process}
 use Rattle.process_model.specs.declared.step.Refusal.{Refusal}
 use Rattle.sv39_entry.specs.Schemes.{trapframe_page}
 use Rattle.sv39_entry.specs.declared.frame.FrameNo.{FrameNo}
-use Rattle.sv39_entry.specs.declared.scheme.Scheme.{Scheme}
 use Rattle.table_walk.specs.Keys.{is_none}
 use Rattle.table_walk.specs.Tables.{Tables}
 use Rattle.address_space.specs.Agreement.{Body, body, IsSpace}
 use Rattle.address_space.specs.Layouts.{Layout}
-use Rattle.address_space.specs.Settled.{IsNextSettled}
+use Rattle.address_space.specs.SettledLists.{IsNextSettled}
 use Rattle.address_space.specs.Steps.{CanSettle, CanWrite, HasSettled, settled_with}
-use Rattle.address_space.specs.declared.settled.SettledPage.{SettledPage}
-use Rattle.mmap_regions.specs.Unmapped.{Unmaps}
+use Rattle.address_space.specs.declared.settled_pages.SettledPage.{SettledPage}
+use Rattle.mmap_regions.specs.MunmapEffect.{Unmaps}
 use Rattle.tests_of_mappings.specs.Alive.{IsAlive}
 
 -- a space that was only read
@@ -51,10 +51,6 @@ module _ (v w : View) (root root_after trapframe trapframe_after : FrameNo) (l m
 -- no page from the trapframe's on is settled
 high_vacant : (x : Body) (t : Tables) (p : Process) (n : ℕ) → IsSpace x t p → trapframe_page (x.layout).scheme ≤ n → get p.settled n ≡ None
 high_vacant x t p n agrees high = is_none (get p.settled n) (λ s at. let low = rw (agrees.lays.scheme) at (agrees.stands.shows.low n s at) in omega (arith, high, low))
-
--- the number of the trapframe's page, by the address at which it begins
-pub edge_at : (z y : Scheme) → y ≡ z → (page address : ℕ) → page ≡ address / 4096 → address ≡ 4096 * trapframe_page y → page ≡ trapframe_page z
-edge_at z y same page address is at = subst (λ s. page ≡ trapframe_page s) same (omega (arith, is, at))
 
 -- whether a page is the one that was found
 abbrev pub is_found : Option SettledPage → ℕ → Bool

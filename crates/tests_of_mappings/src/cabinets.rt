@@ -1,4 +1,5 @@
-// The files that stories begin with, and what became of them.
+// `three_files`: the files that each story (test case) begins with. `changes`: which of their bytes differ in the end, each
+// as a `Change` (file, offset, value).
 
 ghost use Rattle.std.specs.Prelude.{◌≡◌};
 ghost use Rattle.process_model.specs.Script.{fits_file};
@@ -8,13 +9,14 @@ use process_model::{Bytes, FileText};
 use std::alloc::{AllocError, Global};
 use std::test::Fail;
 
-/// A byte that was not there at the beginning: the number of the file, its place, and what it is.
+/// A byte of a file that differs from the beginning: the number of the file, the byte's offset, and its value.
 pub(crate) type Change = (usize, usize, u8);
 
-/// The lengths of the files, and whether they may be written.
+/// The length of each file in bytes, and whether it is writable.
 const FILES: [(usize, bool); 3] = [(5_000, true), (4_096, false), (10_003, true)];
 
-/// The byte of a file at a place: places are told apart by 256, and files by 64.
+/// The byte of `file` at offset `place` in the beginning: `place / 256 + 64 * file`, modulo 256. It differs from one block
+/// of 256 bytes to the next, and from file to file.
 fn byte_at(file: usize, place: usize) -> u8 {
     ((place / 256 + file % 4 * 64) % 256) as u8
 }
@@ -36,14 +38,17 @@ fn declared(
     })
 }
 
-/// Whether a file is short enough, and has no more bytes than its length.
+/// Whether a file has at most 65,536 bytes, and declares no more bytes than its length.
 fn fits(text: &FileText) -> bool
     ensures { result ≡ fits_file text.now }
 {
     text.length <= 65_536 && text.bytes.as_slice().len() <= text.length
 }
 
-/// A file of 5,000 bytes, one of 4,096 that may not be written, and one of 10,003.
+/// A cabinet of the files of `FILES`: 5,000 bytes, writable; 4,096 bytes, read-only; 10,003 bytes, writable.
+///
+/// # Errors
+/// `Fail`: the host is out of memory.
 pub(crate) fn three_files(alloc: Global) -> Result<Cabinet, Fail> {
     let mut texts = Vec::new(alloc);
     for (file, (length, writable)) in FILES.into_iter().enumerate() {
@@ -55,7 +60,11 @@ pub(crate) fn three_files(alloc: Global) -> Result<Cabinet, Fail> {
     Ok(Cabinet::new(alloc, &texts)?)
 }
 
-/// The bytes that changed. A file that is shorter or longer than it was has changed at its end.
+/// The bytes of the three files that differ from the beginning. A file whose length differs adds a change at its length,
+/// with value 0.
+///
+/// # Errors
+/// `AllocError`: the host is out of memory.
 pub(crate) fn changes(alloc: Global, files: &Cabinet) -> Result<Vec<Change>, AllocError> {
     let mut changes = Vec::new(alloc);
     for (file, (length, _)) in FILES.into_iter().enumerate() {

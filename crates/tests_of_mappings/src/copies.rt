@@ -1,24 +1,26 @@
-// What the kernel copies from mappings and to them, and where it stops. The byte of file 2 at a place is place / 256 + 128.
+// Tests that kernel copies (`copy_in`, `copy_out`) from mappings and to them cross the end of a page, and stop at the right
+// byte: by a rule, for want of a frame, or at a refused promise (a reservation of page I/O). Each is a `Story` (test case):
+// rows of an operation and its reply. The byte of file 2 at offset n is n / 256 + 128.
 
-use crate::copying::counted;
-use crate::deed::Deed::{CopyIn, CopyOut, Load, Map, Unmap};
-use crate::deed::Row;
-use crate::stores::{Story, first_fault};
+use crate::kernel_copies::counted;
+use crate::operation::Operation::{CopyIn, CopyOut, Load, Map, Unmap};
+use crate::operation::Row;
+use crate::stores::{Story, first_wrong_outcome};
 use process_model::{Refusal, Reply};
 use std::test::Fail;
 use sv39_entry::Rule;
 
-/// Two pages of file 2 are mapped, of which stores stay in the process, and 250 bytes are copied across the end of the first one.
+/// Maps two pages of file 2 privately, and copies 250 bytes to them and from them, across the end of the first page.
 fn across() -> [Row; 8] {
     [
         (Map(8_192, 3, 2, 2), Reply::MappedAt(0x3fffffc000)),
         (CopyOut(0x3fffffcf81, 1, 250), Reply::CopiedOut(250)),
         (CopyIn(0x3fffffcf81, 250), Reply::CopiedIn(counted(1, 250))),
-        // the bytes before and behind them are the file's
+        // the bytes just before the copied ones, and just after them, are the file's
         (Load(0x3fffffcf80, 2), Reply::Value(0x018f)),
         (Load(0x3fffffd07a, 2), Reply::Value(0x90fa)),
         (CopyIn(0x3fffffcf7f, 1), Reply::CopiedIn(counted(0x8f, 1))),
-        // no byte is copied from or to any address
+        // a copy of no bytes succeeds at any address
         (
             CopyIn(0x8000000000000000, 0),
             Reply::CopiedIn(counted(0, 0)),
@@ -27,7 +29,7 @@ fn across() -> [Row; 8] {
     ]
 }
 
-/// Copies that stop: behind the last page, at the trapframe, below which 16 bytes are left, and where nothing may be written.
+/// Copies that stop: after the process's only page; at TRAPFRAME, 16 bytes after the start; at a page that grants no stores.
 fn denied() -> [Row; 9] {
     [
         (CopyOut(0xff8, 0x41, 16), Reply::ShortOut(Rule::NoRegion, 8)),
@@ -57,7 +59,7 @@ fn denied() -> [Row; 9] {
     ]
 }
 
-/// There is a frame for the first of two pages alone: what was copied to it stays.
+/// One frame is free and a copy needs two: it stops at the second page, and the bytes in the first page stay copied.
 fn dry() -> [Row; 5] {
     [
         (Map(8_192, 3, 2, 2), Reply::MappedAt(0x3fffffc000)),
@@ -74,7 +76,8 @@ fn dry() -> [Row; 5] {
     ]
 }
 
-/// The files promise one page, refuse one, and promise all others: a refusal tells no byte, and what was copied stays.
+/// The files make one promise, refuse the second and make all others. The copy that needs the second is refused, without a
+/// count of bytes; what it copied before stays.
 fn unpromised() -> [Row; 8] {
     [
         (Map(8_192, 3, 2, 2), Reply::MappedAt(0x3fffffc000)),
@@ -111,7 +114,7 @@ fn copies_up_to_the_stop(rt: HostRuntime) -> Result<(), Fail> {
             rows,
             changes: &[],
         };
-        assert_eq!(rt; first_fault(&rt, rt.alloc(), &story)?, None);
+        assert_eq!(rt; first_wrong_outcome(&rt, rt.alloc(), &story)?, None);
     }
     Ok(())
 }

@@ -1,19 +1,22 @@
-//! Tests of mappings, and of the kernel's copies from and to them, through what their crates export: what a process does
-//! with them is data, with the replies that it is to get, and is played over both stores. Nothing stands on it.
+//! Tests that mmap, munmap, write-back and kernel copies work, through the public API of `mmap_regions` and `user_copy`. A
+//! test is a story: a list of rows, each an operation (a system call, a user access, a kernel copy, the service of a fault)
+//! with the reply that it must get, played over both frame stores. No crate depends on it.
 #![tactic(auto)]
 
-#[cfg(test)]
-mod beginning;
 #[cfg(test)]
 mod cabinets;
 #[cfg(test)]
 mod copies;
 #[cfg(test)]
-mod copying;
+mod fault_service;
 #[cfg(test)]
-mod deed;
+mod initial_parts;
 #[cfg(test)]
-mod deeds;
+mod kernel_copies;
+#[cfg(test)]
+mod operation;
+#[cfg(test)]
+mod perform;
 #[cfg(test)]
 mod places;
 #[cfg(test)]
@@ -21,8 +24,6 @@ mod refusals;
 #[cfg(test)]
 mod rights;
 #[cfg(test)]
-mod serving;
-#[cfg(test)]
 mod stores;
 #[cfg(test)]
-mod written;
+mod write_backs;

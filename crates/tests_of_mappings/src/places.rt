@@ -1,14 +1,17 @@
-// Where mappings go, and what of them can be taken away. The trapframe is at 0x3fffffe000.
+// Tests that mmap places mappings right, above the heap and at most sixteen of them, and reports refusals in order; and that
+// munmap takes only pages at an end of one mapping, whose addresses and frames can be used again. Each is a `Story` (test
+// case): rows of an operation and its reply. TRAPFRAME is at 0x3fffffe000.
 
-use crate::deed::Deed::{Map, Serve, Unmap};
-use crate::deed::Row;
-use crate::stores::{Story, first_fault};
+use crate::operation::Operation::{Map, Serve, Unmap};
+use crate::operation::Row;
+use crate::stores::{Story, first_wrong_outcome};
 use process_model::{Refusal, Reply};
 use std::alloc::{AllocError, Global};
 use std::test::Fail;
 use sv39_entry::Access;
 
-/// Sixteen mappings of a page, from below the trapframe down, and then what the process may not have beside them.
+/// Sixteen mappings of a page each, downwards from TRAPFRAME; mappings that are refused beside them; and one in the room of
+/// the sixteenth.
 fn sixteen(alloc: Global) -> Result<Vec<Row>, AllocError> {
     let mut rows = Vec::new(alloc);
     for below in 0..16 {
@@ -16,13 +19,13 @@ fn sixteen(alloc: Global) -> Result<Vec<Row>, AllocError> {
         rows.push((Map(4_096, 1, 2, 0), Reply::MappedAt(address)))?;
     }
     rows.push((Map(4_096, 1, 2, 0), Reply::Refused(Refusal::MappingsFull)))?;
-    // what is wrong with the request itself is told first
+    // a fault of the request itself is reported before `MappingsFull`
     rows.push((Map(0, 1, 2, 0), Reply::Refused(Refusal::BadArgument)))?;
     rows.push((
         Map(4_096, 3, 1, 1),
         Reply::Refused(Refusal::FileNotWritable),
     ))?;
-    // the sixteenth was at 0x3fffffd000 - 15 * 0x1000; the place that is given back is the only one left
+    // the sixteenth is at 0x3fffffd000 - 15 * 0x1000; its room is the highest that is free once it is unmapped
     rows.push((Unmap(0x3ffffee000, 4_096), Reply::Done))?;
     rows.push((Map(4_096, 1, 2, 0), Reply::MappedAt(0x3ffffee000)))?;
     Ok(rows)
@@ -31,7 +34,7 @@ fn sixteen(alloc: Global) -> Result<Vec<Row>, AllocError> {
 #[test]
 fn takes_sixteen_mappings(rt: HostRuntime) -> Result<(), Fail> {
     let rows = sixteen(rt.alloc())?;
-    // page 0x3ffffed ends where the sixteenth mapping begins: that there are sixteen is told before that there is no room
+    // page 0x3ffffed ends where the sixteenth mapping begins: `MappingsFull` is reported before `NoRoom`
     for page in [0, 0x3ffffed] {
         let story = Story {
             frames: 8,
@@ -40,7 +43,7 @@ fn takes_sixteen_mappings(rt: HostRuntime) -> Result<(), Fail> {
             rows: &rows,
             changes: &[],
         };
-        assert_eq!(rt; first_fault(&rt, rt.alloc(), &story)?, None);
+        assert_eq!(rt; first_wrong_outcome(&rt, rt.alloc(), &story)?, None);
     }
     Ok(())
 }
@@ -57,7 +60,7 @@ fn refuses_in_order(rt: HostRuntime) -> Result<(), Fail> {
         (Map(4_096, 1, 3, 0), bad()),
         (Map(4_096, 1, 2, 3), bad()),
         (Map(4_096, 3, 1, 3), bad()),
-        // file 1 may not be written
+        // file 1 is read-only
         (Map(0, 3, 1, 1), bad()),
         (
             Map(4_096, 3, 1, 1),
@@ -79,7 +82,7 @@ fn refuses_in_order(rt: HostRuntime) -> Result<(), Fail> {
         rows: &rows,
         changes: &[],
     };
-    assert_eq!(rt; first_fault(&rt, rt.alloc(), &story)?, None);
+    assert_eq!(rt; first_wrong_outcome(&rt, rt.alloc(), &story)?, None);
     Ok(())
 }
 
@@ -94,13 +97,13 @@ fn gives_room_back(rt: HostRuntime) -> Result<(), Fail> {
         ),
         (Unmap(0x3fffffb001, 4_096), bad()),
         (Unmap(0x3fffffb000, 0), bad()),
-        // a fourth page at its end or at its beginning
+        // a fourth page, after its end or before its beginning
         (Unmap(0x3fffffb000, 12_289), bad()),
         (Unmap(0x3fffffa000, 16_384), bad()),
         (Unmap(0x3fffffe000, 4_096), bad()),
         (Unmap(0, 4_096), bad()),
         (Unmap(0xfffffffffffff000, u64::MAX), bad()),
-        // a single byte takes a page
+        // one byte is rounded up to a page
         (Unmap(0x3fffffb000, 1), Reply::Done),
         (Unmap(0x3fffffb000, 1), bad()),
         (Unmap(0x3fffffc000, 8_192), Reply::Done),
@@ -108,7 +111,7 @@ fn gives_room_back(rt: HostRuntime) -> Result<(), Fail> {
         // the last page alone
         (Unmap(0x3fffffd000, 4_096), Reply::Done),
         (Map(8_192, 1, 2, 0), Reply::MappedAt(0x3fffff9000)),
-        // two pages of two mappings
+        // two pages, of different mappings
         (Unmap(0x3fffffa000, 8_192), bad()),
         (Map(4_096, 1, 2, 0), Reply::MappedAt(0x3fffffd000)),
     ];
@@ -119,7 +122,7 @@ fn gives_room_back(rt: HostRuntime) -> Result<(), Fail> {
         rows: &rows,
         changes: &[],
     };
-    assert_eq!(rt; first_fault(&rt, rt.alloc(), &story)?, None);
+    assert_eq!(rt; first_wrong_outcome(&rt, rt.alloc(), &story)?, None);
     Ok(())
 }
 
@@ -142,7 +145,7 @@ fn stays_above_the_heap(rt: HostRuntime) -> Result<(), Fail> {
         rows: &rows,
         changes: &[],
     };
-    assert_eq!(rt; first_fault(&rt, rt.alloc(), &story)?, None);
+    assert_eq!(rt; first_wrong_outcome(&rt, rt.alloc(), &story)?, None);
     Ok(())
 }
 
@@ -158,7 +161,8 @@ fn gives_frames_back(rt: HostRuntime) -> Result<(), Fail> {
         (Unmap(0x3fffffc000, 4_096), Reply::Done),
         (Serve(Access::Load, 0x3fffffd000), Reply::Ready),
     ];
-    // frame 0, the trapframe's, the page's and five tables, which pages below the trapframe share; and one more
+    // frame 0, the trapframe, the page of data and five page tables, which serve the mapping too; one of the nine frames is
+    // free
     let story = Story {
         frames: 9,
         page: 0,
@@ -166,6 +170,6 @@ fn gives_frames_back(rt: HostRuntime) -> Result<(), Fail> {
         rows: &rows,
         changes: &[],
     };
-    assert_eq!(rt; first_fault(&rt, rt.alloc(), &story)?, None);
+    assert_eq!(rt; first_wrong_outcome(&rt, rt.alloc(), &story)?, None);
     Ok(())
 }

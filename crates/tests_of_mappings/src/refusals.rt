@@ -1,16 +1,16 @@
-// Files that refuse a promise: what was asked for is refused, and nothing has changed. The byte of file 2 at a place is
-// place / 256 + 128.
+// Tests that munmap, write-back and the service of a fault change nothing if the files refuse a promise (a reservation of
+// page I/O), and succeed when they are repeated. Each is a `Story` (test case): rows of an operation and its reply. The byte
+// of file 2 at offset n is n / 256 + 128.
 
-use crate::deed::Deed::{Load, Look, Map, Serve, Store, Unmap, WriteBack};
-use crate::deed::Row;
-use crate::stores::{Story, first_fault};
+use crate::operation::Operation::{Load, Look, Map, Serve, Store, Unmap, WriteBack};
+use crate::operation::Row;
+use crate::stores::{Story, first_wrong_outcome};
 use process_model::{Refusal, Reply};
 use std::alloc::Global;
 use std::test::Fail;
 use sv39_entry::Access;
 
-/// Two pages of file 2 are mapped and stored to, and then so much more is done. The files have made two promises before
-/// that.
+/// Maps two pages of file 2 shared and stores a byte to each, which takes two promises; then the rows of `more`.
 fn after_stores(alloc: Global, more: Vec<Row>) -> Result<Vec<Row>, Fail> {
     let mut rows = vec![in alloc;
         (Map(8_192, 3, 1, 2), Reply::MappedAt(0x3fffffc000)),
@@ -28,7 +28,7 @@ fn after_stores(alloc: Global, more: Vec<Row>) -> Result<Vec<Row>, Fail> {
 #[test]
 fn unmaps_all_or_nothing(rt: HostRuntime) -> Result<(), Fail> {
     let memory = || Reply::Refused(Refusal::Memory);
-    // all of the mapping, and then the second of two runs
+    // the munmap of the whole mapping is refused; then, with one promise more, that of its second page alone
     let first_refused = after_stores(
         rt.alloc(),
         vec![in rt.alloc();
@@ -62,7 +62,7 @@ fn unmaps_all_or_nothing(rt: HostRuntime) -> Result<(), Fail> {
             rows,
             changes: &[(2, 0, 0xc1), (2, 4_096, 0xd1)],
         };
-        assert_eq!(rt; first_fault(&rt, rt.alloc(), &story)?, None);
+        assert_eq!(rt; first_wrong_outcome(&rt, rt.alloc(), &story)?, None);
     }
     Ok(())
 }
@@ -86,7 +86,7 @@ fn writes_all_or_nothing(rt: HostRuntime) -> Result<(), Fail> {
         rows: &rows,
         changes: &[(2, 0, 0xc1), (2, 1, 0xc2), (2, 4_096, 0xd1)],
     };
-    assert_eq!(rt; first_fault(&rt, rt.alloc(), &story)?, None);
+    assert_eq!(rt; first_wrong_outcome(&rt, rt.alloc(), &story)?, None);
     Ok(())
 }
 
@@ -108,6 +108,6 @@ fn gives_no_frame_without_a_promise(rt: HostRuntime) -> Result<(), Fail> {
         rows: &rows,
         changes: &[],
     };
-    assert_eq!(rt; first_fault(&rt, rt.alloc(), &story)?, None);
+    assert_eq!(rt; first_wrong_outcome(&rt, rt.alloc(), &story)?, None);
     Ok(())
 }

@@ -1,15 +1,16 @@
-// What the protection of a mapping grants.
+// Tests that each protection argument of mmap, from 1 to 7, grants the right fetches, loads and stores, and no others: one
+// `Story` (test case) of rows of an operation and its reply.
 
-use crate::deed::Deed::{Fetch, Load, Map, Serve, Store};
-use crate::deed::Row;
-use crate::stores::{Story, first_fault};
+use crate::operation::Operation::{Fetch, Load, Map, Serve, Store};
+use crate::operation::Row;
+use crate::stores::{Story, first_wrong_outcome};
 use process_model::Reply;
 use std::alloc::{AllocError, Global};
 use std::test::Fail;
 use sv39_entry::Access;
 
-/// A protection, where its mapping is, and whether it grants loads, stores and fetches: 1 is for the first, 2 for the first and
-/// the second, and 4 for the third.
+/// A protection, the address of its mapping, and whether it grants loads, stores and fetches: 1 grants loads, 2 grants loads
+/// and stores, 4 grants fetches, and a sum grants what its terms do.
 const PROTECTIONS: [(u64, u64, bool, bool, bool); 7] = [
     (1, 0x3fffffd000, true, false, false),
     (2, 0x3fffffc000, true, true, false),
@@ -20,8 +21,8 @@ const PROTECTIONS: [(u64, u64, bool, bool, bool); 7] = [
     (7, 0x3fffff7000, true, true, true),
 ];
 
-/// Each protection is asked for, and then each access is made. The causes of page faults are 12 for a fetch, 13 for a load
-/// and 15 for a store (RISC-V Privileged Architecture 20211203, 4.1.8).
+/// For each protection: maps a page privately, makes it ready, and makes each access. The causes of page faults are 12 for a
+/// fetch, 13 for a load and 15 for a store (RISC-V Privileged Architecture 20211203, 4.1.8).
 fn accesses(alloc: Global) -> Result<Vec<Row>, AllocError> {
     let mut rows = Vec::new(alloc);
     for (protection, address, loads, stores, fetches) in PROTECTIONS {
@@ -57,6 +58,6 @@ fn grants_what_was_asked(rt: HostRuntime) -> Result<(), Fail> {
         rows: &rows,
         changes: &[],
     };
-    assert_eq!(rt; first_fault(&rt, rt.alloc(), &story)?, None);
+    assert_eq!(rt; first_wrong_outcome(&rt, rt.alloc(), &story)?, None);
     Ok(())
 }

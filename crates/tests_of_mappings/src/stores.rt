@@ -1,16 +1,18 @@
-// Stories of one process, over both stores.
+// `Story`, a struct: a test case of one process: its frames, its page, the promises (reservations of page I/O) that the
+// files make, its rows (operations with replies), the bytes of files it must change. `first_wrong_outcome` plays it over
+// plain frames and over shared frames; `Outcome`, `End`, `StoreKind`: how it ended, and over which store.
 
 ghost use Rattle.std.specs.Prelude.{◌<◌, ◌≤◌, IfErr, IfOk};
 ghost use Rattle.address_space.specs.Agreement.{HoldsTrampoline};
 ghost use Rattle.address_space.specs.Steps.{IsBare};
-ghost use Rattle.frame_store.specs.Laws.{Fits, Keeps};
+ghost use Rattle.frame_store.specs.Laws.{IsSeatOf, KeepsSeats};
 ghost use Rattle.sv39_entry.specs.Schemes.{trapframe_page};
 ghost use Rattle.sv39_entry.specs.declared.scheme.Scheme.TheVariants.{Sv39};
 
-use crate::beginning::one_page;
 use crate::cabinets::{Change, changes, three_files};
-use crate::deed::Row;
-use crate::deeds::{Wrong, first_wrong};
+use crate::initial_parts::one_page;
+use crate::operation::Row;
+use crate::perform::{Wrong, first_wrong};
 use address_space::Space;
 use file_cabinet::Files;
 use frame_store::{FrameAccess, FrameSeat, FrameSupply, NoFrame, PlainFrames};
@@ -19,18 +21,18 @@ use std::alloc::{AllocError, Global};
 use std::sync::Wait;
 use std::test::Fail;
 use sv39_entry::Scheme;
-use tests_of_files::Stubborn;
+use tests_of_files::RefusingFiles;
 
-/// What a process with one page does, over so many frames.
+/// What a process that begins with one page does, over a store of `frames` frames.
 #[derive(Clone, Copy)]
 pub(crate) struct Story<'a> {
     pub frames: usize,
-    /// The number of its page. The heap is empty behind it.
+    /// The number of that page. The heap begins after it, empty.
     pub page: u64,
-    /// How many promises its files make before they refuse one, or None where they refuse none.
+    /// How many promises the files make before they refuse one; `None`: they refuse none.
     pub promises: Option<usize>,
     pub rows: &'a [Row],
-    /// What it changes in its files.
+    /// The bytes of the files that must differ in the end.
     pub changes: &'a [Change],
 }
 
@@ -40,15 +42,15 @@ pub(crate) enum StoreKind {
     Shared,
 }
 
-/// How a story ended: with the first wrong reply, or None where the process could not begin; and how many frames are free
-/// then.
+/// How a story ended. `wrong`: its first wrong reply, `Some(None)` if there is none, `None` if the process could not be
+/// built. `free`: the number of free frames, once the process is destroyed.
 #[derive(Drop, PartialEq, Eq, Debug)]
 pub(crate) struct End {
     pub wrong: Option<Wrong>,
     pub free: usize,
 }
 
-/// What came of a story over a store.
+/// The end of a story over a store of this kind, and the bytes of files that it changed.
 #[derive(Drop, PartialEq, Eq, Debug)]
 pub(crate) struct Outcome {
     pub kind: StoreKind,
@@ -56,9 +58,12 @@ pub(crate) struct Outcome {
     pub changes: Vec<Change>,
 }
 
-/// Plays a story over both stores, with the three files, and answers the first outcome that has a wrong reply or other
-/// changes, or after which a frame is not free.
-pub(crate) fn first_fault<R: Wait>(
+/// Plays a story with the three files over plain frames and over shared ones. Returns the first outcome that has a wrong
+/// reply or other changes of files, or after which not all frames are free; `None` if there is none.
+///
+/// # Errors
+/// `Fail`: the host is out of memory.
+pub(crate) fn first_wrong_outcome<R: Wait>(
     rt: &R,
     alloc: Global,
     story: &Story,
@@ -68,11 +73,11 @@ pub(crate) fn first_fault<R: Wait>(
     requires low { story.now.page < trapframe_page Sv39 }
 {
     for kind in [StoreKind::Plain, StoreKind::Shared] {
-        let mut files = Stubborn {
+        let mut files = RefusingFiles {
             files: three_files(alloc)?,
             until_refusal: story.promises,
         };
-        let end = told(rt, alloc, kind, story, &mut files)?;
+        let end = played(rt, alloc, kind, story, &mut files)?;
         let changes = changes(alloc, &files.files)?;
         let all_free = end.free == story.frames;
         if end.wrong != Some(None) || !all_free || changes.as_slice() != story.changes {
@@ -82,8 +87,8 @@ pub(crate) fn first_fault<R: Wait>(
     Ok(None)
 }
 
-/// How a story ends over a store of this kind.
-fn told<R: Wait, C: Files>(
+/// Plays a story over a store of this kind, and returns how it ended.
+fn played<R: Wait, C: Files>(
     rt: &R,
     alloc: Global,
     kind: StoreKind,
@@ -100,19 +105,20 @@ fn told<R: Wait, C: Files>(
     }
 }
 
-/// What is wrong with the replies to a process, which has ended then, and its seat.
+/// Builds the process, performs the rows and destroys it. Returns the first wrong reply and the seat, which holds nothing;
+/// `NoFrame` with the seat if too few frames are free to build it.
 fn lived<S: FrameSeat, F: FrameSupply<Seat = S>, C: Files>(
     store: &mut F,
     seat: S,
     story: &Story,
     files: &mut C,
 ) -> Result<(Wrong, S), (NoFrame, S)>
-    requires fits { Fits F.rule store.old seat }
+    requires fits { IsSeatOf F.rule store.old seat }
     requires opening { HoldsTrampoline (S.view seat) }
     requires low { story.now.page < trapframe_page Sv39 }
     ensures bare { IfOk result (λ r. IsBare (S.view r.1)) }
-    ensures keeps { IfOk result (λ r. Keeps F.rule store.old seat store.new r.1) }
-    ensures keeps_refused { IfErr result (λ e. Keeps F.rule store.old seat store.new e.1) }
+    ensures keeps { IfOk result (λ r. KeepsSeats F.rule store.old seat store.new r.1) }
+    ensures keeps_refused { IfErr result (λ e. KeepsSeats F.rule store.old seat store.new e.1) }
 {
     let mut space = Space::build(store, seat, Scheme::Sv39, &one_page(story.page))?;
     let wrong = first_wrong(&mut space, store, files, story.rows);

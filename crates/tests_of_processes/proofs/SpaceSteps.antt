@@ -1,4 +1,5 @@
--- What the tests of a space know of its process.
+-- Lemmas for the tests of `Space`: a page can be written, read or settled (brought into memory); the process of the tests
+-- (`Lives`) stays one after these; and a space built of the standard parts, whose heap has grown, is one.
 use Rattle.std.proofs.Common.{◌≡◌, ℕ, zero, suc, ◌+◌, ◌*◌, ◌<◌, ◌≤◌, Bool, true, false, inl, inr, refl, ap, sym, subst, ◌∙◌, arith, List, [], ◌∷◌, ◌++◌, map, Some, None, Result, Ok, Err}
 use Rattle.std.specs.Prelude.{Contains, IfErr, IfOk}
 use Rattle.std.specs.Result.{is_ok}
@@ -6,7 +7,7 @@ use Rattle.std.proofs.lemmas.Bool.{cases_eq}
 use Rattle.std.proofs.lemmas.Option.{same_Some}
 use Rattle.frame_store.specs.View.{View}
 use Rattle.frame_store.specs.declared.refusal.NoFrame.{NoFrame}
-use Rattle.process_model.specs.Loading.{numbered}
+use Rattle.process_model.specs.ImageProcess.{numbered}
 use Rattle.process_model.specs.Order.{HasOrder}
 use Rattle.process_model.specs.PageMap as pages
 use Rattle.process_model.specs.PageMap.{from_list}
@@ -20,9 +21,9 @@ use Rattle.sv39_entry.specs.declared.frame.FrameNo.{FrameNo}
 use Rattle.table_walk.specs.Tables.{Tables}
 use Rattle.address_space.specs.Agreement.{body, IsSpace}
 use Rattle.address_space.specs.Layouts.{Layout, last_page}
-use Rattle.process_model.specs.Inserted.{behind, first_or, in_front, inserted_here, inserted_other}
+use Rattle.process_model.specs.Insertion.{behind, first_or, in_front, inserted_here, inserted_other}
 use Rattle.address_space.specs.Parts.{numbers_of, pages_of, process_of_parts, regions_in}
-use Rattle.address_space.specs.Steps.{CanRead, CanRelay, CanSettle, CanWrite, Settles, settled_with}
+use Rattle.address_space.specs.Steps.{CanRead, CanReplaceLayout, CanSettle, CanWrite, Settles, settled_with}
 use Rattle.tests_of_processes.specs.Lives.{IsFar, IsVacant, IsWritable, Lives, standard_regions}
 use Rattle.address_space.specs.declared.part.Part.{Part}
 
@@ -209,7 +210,7 @@ module _ (z : Scheme) (ps : List Part) (is : regions_in ps ≡ standard_regions)
   base_is : last_page 0 (regions_in ps) ≡ 5
   base_is = ap (last_page 0) is
 
-  pub can_grow : HasOrder 0 (process_of_parts z 0 ps) → CanRelay (process_of_parts z 0 ps) sized
+  pub can_grow : HasOrder 0 (process_of_parts z 0 ps) → CanReplaceLayout (process_of_parts z 0 ps) sized
   can_grow order = record {
     settled = refl;
     tabled = refl;

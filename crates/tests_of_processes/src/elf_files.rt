@@ -1,4 +1,6 @@
-// A small file, edits of it, and the check that each fails.
+// Tests that `read_image` returns the right check (`BadImage`) for each prefix of a small ELF file, for edits of its fields
+// (`Row`: a field, its number and the check), for two program headers, and for a file of 1 MiB and of one byte more; and
+// that `start` makes the right regions of the file.
 
 use crate::SCHEMES;
 use address_space::Space;
@@ -9,13 +11,13 @@ use process_model::BadImage;
 use std::alloc::{AllocError, Global};
 use sv39_entry::{Access, Rule, Scheme, Va};
 
-/// A file header, one program header, and the four bytes of its segment: text at 0 that has one page.
+/// A file header, one program header, and the four bytes of its segment: code at 0, of one page.
 const FILE: &[u8; 124] = b"\x7fELF\x02\x01\x01\0\0\0\0\0\0\0\0\0\x02\0\xf3\0\x01\0\0\0\
     \0\0\0\0\0\0\0\0\x40\0\0\0\0\0\0\0\0\0\0\0\0\0\0\0\0\0\0\0\x40\0\x38\0\x01\0\0\0\0\0\0\0\
     \x01\0\0\0\x05\0\0\0\x78\0\0\0\0\0\0\0\0\0\0\0\0\0\0\0\0\0\0\0\0\0\0\0\
     \x04\0\0\0\0\0\0\0\0\x10\0\0\0\0\0\0\0\x10\0\0\0\0\0\0\x13\x05\0\0";
 
-// Where fields of it stand.
+// Offsets of its fields, in bytes.
 const TABLE: usize = 32;
 
 const COUNT: usize = 56;
@@ -30,7 +32,7 @@ const FILE_SIZE: usize = 96;
 
 const MEMORY_SIZE: usize = 104;
 
-/// The check that a file fails.
+/// The check that a file fails; `None` if it is accepted.
 fn refusal(scheme: Scheme, bytes: &[u8]) -> Option<BadImage> {
     match read_image(scheme, bytes) {
         Ok(_) => None,
@@ -38,14 +40,14 @@ fn refusal(scheme: Scheme, bytes: &[u8]) -> Option<BadImage> {
     }
 }
 
-/// Puts a number of eight bytes in its place, if it fits.
+/// Writes a number as eight bytes at `at`, the lowest first; does nothing if they do not fit.
 fn put(bytes: &mut [u8], at: usize, number: u64) {
     if at < bytes.len() && bytes.len() - at >= 8 {
         LittleEndian::write_u64(&mut bytes[at..], number);
     }
 }
 
-/// The check that the file fails with other numbers in two of its fields.
+/// The check that the file fails with these numbers written at two offsets.
 fn with_numbers(
     alloc: Global,
     scheme: Scheme,
@@ -58,7 +60,7 @@ fn with_numbers(
     Ok(refusal(scheme, &bytes))
 }
 
-/// The first front of the file that fails another check.
+/// The length of the first prefix of the file that fails another check than it must; `None` if there is none.
 fn wrong_front() -> Option<usize> {
     for count in 0..=124 {
         let told = match count {
@@ -79,7 +81,7 @@ fn judges_each_front(rt: HostRuntime) {
     assert_eq!(rt; wrong_front(), None);
 }
 
-/// A field, by where it stands, with another number in it, and the check that the file fails then.
+/// The offset of a field, the number written there, and the check that the file then fails.
 type Row = ((usize, u64), Option<BadImage>);
 
 fn rows(scheme: Scheme) -> [Row; 15] {
@@ -106,7 +108,7 @@ fn rows(scheme: Scheme) -> [Row; 15] {
     ]
 }
 
-/// The first row that fails another check.
+/// The first row whose file fails another check; `None` if there is none.
 fn wrong_row(alloc: Global, scheme: Scheme) -> Result<Option<Row>, AllocError> {
     for row in rows(scheme) {
         let (field, told) = row;
@@ -128,7 +130,7 @@ fn judges_each_field(rt: HostRuntime) {
     }
 }
 
-/// The file with its program header twice, and the address of the second.
+/// The check that the file fails with its program header twice, the second one with this address.
 fn with_two_headers(alloc: Global, address: u64) -> Result<Option<BadImage>, AllocError> {
     let file = FILE.as_slice();
     let mut bytes = Vec::from_slice(alloc, &file[..120])?;
@@ -151,7 +153,7 @@ fn judges_headers_in_a_row(rt: HostRuntime) {
     );
 }
 
-/// The check that the file fails with zeros behind it, up to a length.
+/// The check that the file fails with zeros appended up to a length in bytes.
 fn with_length(alloc: Global, length: usize) -> Result<Option<BadImage>, AllocError> {
     let mut bytes = Vec::from_slice(alloc, FILE)?;
     bytes.resize(length, 0)?;
@@ -169,8 +171,8 @@ fn takes_a_mebibyte(rt: HostRuntime) {
     );
 }
 
-/// What the process of the file is refused: a fetch and a store at the end of page 0, a load on page 1, and a store and a load
-/// on the pages after it.
+/// The rules that deny accesses to the process of the file, `None` for a granted one: a fetch and a store at the end of page
+/// 0, a load in page 1, a store in page 2, and a load in page 3.
 fn refused(space: &Space<PlainSeat>) -> [Option<Rule>; 5] {
     [
         space.grant(Access::Fetch, Va(0xffc), 4).err(),
@@ -181,7 +183,7 @@ fn refused(space: &Space<PlainSeat>) -> [Option<Rule>; 5] {
     ]
 }
 
-/// The same of a process that is started; none where it could not be.
+/// `refused` of the process that a start of the file over 64 frames makes; `None` if it could not be started.
 fn refused_when_started(alloc: Global) -> Result<Option<[Option<Rule>; 5]>, AllocError> {
     let Ok(image) = read_image(Scheme::Sv39, FILE) else {
         return Ok(None);

@@ -1,4 +1,5 @@
-// Which lists of segments are images, and what starting one takes.
+// Tests that `Image::from_segments` accepts a list of segments or returns the check that it fails (`Row`: a segment and the
+// check), and that `start` takes the right number of frames, and is refused with one fewer.
 
 ghost use Rattle.std.specs.Prelude.{◌<◌, ◌≤◌};
 
@@ -10,7 +11,7 @@ use process_model::{BadImage, Bytes, Segment};
 use std::alloc::{AllocError, Global};
 use sv39_entry::{Access, Rule, Scheme, Va};
 
-/// A segment of so many bytes in memory, that begins with so many of its own.
+/// A read-only segment of `memory_size` bytes at `address`, which begins with `bytes` bytes of 7.
 fn segment(
     alloc: Global,
     address: u64,
@@ -26,7 +27,7 @@ fn segment(
     })
 }
 
-/// The check that an image of these segments fails.
+/// The check that an image of these segments fails; `None` if it is accepted.
 fn refusal(scheme: Scheme, segments: &[Segment]) -> Option<BadImage> {
     match Image::from_segments(scheme, segments) {
         Ok(_) => None,
@@ -34,10 +35,10 @@ fn refusal(scheme: Scheme, segments: &[Segment]) -> Option<BadImage> {
     }
 }
 
-/// A segment: its address, its bytes in memory, and how many it has of its own.
+/// A segment: its address, its size in memory, and the number of bytes that it begins with.
 type Given = (u64, u64, usize);
 
-/// The check that an image of such segments fails.
+/// The check that an image of such segments fails; `None` if it is accepted.
 fn refusal_of(
     alloc: Global,
     scheme: Scheme,
@@ -50,11 +51,11 @@ fn refusal_of(
     Ok(refusal(scheme, &segments))
 }
 
-/// The only segment of an image, and the check that it fails.
+/// The only segment of an image, as in `Given`, and the check that the image fails.
 type Row = (u64, u64, usize, Option<BadImage>);
 
 fn rows(scheme: Scheme) -> [Row; 13] {
-    // with two pages for guard and stack, a segment ends 0x2000 below the trapframe's page at the latest
+    // guard and stack take two pages, so a segment ends at 0x2000 below TRAPFRAME at the latest
     let (last, other_last) = match scheme {
         Scheme::Sv39 => (0x3f_ffff_b000, 0x7fff_ffff_b000),
         Scheme::Sv48 => (0x7fff_ffff_b000, 0x3f_ffff_b000),
@@ -80,7 +81,7 @@ fn rows(scheme: Scheme) -> [Row; 13] {
     ]
 }
 
-/// The first row that fails another check.
+/// The first row whose image fails another check; `None` if there is none.
 fn wrong_row(alloc: Global, scheme: Scheme) -> Result<Option<Row>, AllocError> {
     for row in rows(scheme) {
         let (address, memory_size, bytes, told) = row;
@@ -116,7 +117,8 @@ fn judges_segments_in_a_row(rt: HostRuntime) {
     );
 }
 
-/// The first number of segments, each a page of its own, that fails another check.
+/// The first number of segments, each of one page, with which an image fails another check than it must; `None` if there is
+/// none.
 fn wrong_number(alloc: Global) -> Result<Option<u64>, AllocError> {
     let mut segments = Vec::new(alloc);
     for page in 0..=17 {
@@ -138,15 +140,16 @@ fn takes_sixteen_segments(rt: HostRuntime) {
     assert_eq!(rt; wrong_number(rt.alloc()), Ok(None));
 }
 
-/// Whether the last bytes of the data may be read and those of the stack written, and the page between is the guard.
+/// Whether the last eight bytes of the data may be loaded, those of the stack stored, and the page between them is the
+/// guard.
 fn has_its_pages(space: &Space<PlainSeat>) -> bool {
     space.grant(Access::Load, Va(0x2ff8), 8).is_ok()
         && space.grant(Access::Store, Va(0x4ff8), 8).is_ok()
         && space.grant(Access::Load, Va(0x3000), 8) == Err(Rule::GuardPage)
 }
 
-/// Whether a process with text at 0, data from 0x1000 to 0x2fff, guard and stack starts over so many frames, and how many are
-/// free then.
+/// Starts a process with a segment at 0, one from 0x1000 to 0x2fff, guard and stack over `frames` frames. Returns whether it
+/// started, with these pages, and the number of free frames then; `None` if the image is refused.
 fn started_over(
     alloc: Global,
     scheme: Scheme,
@@ -170,7 +173,7 @@ fn started_over(
     Ok(Some((started, store.report().free)))
 }
 
-/// Beside frame 0 there are five pages, the trapframe, and five tables or seven.
+/// Beside frame 0 the process takes five pages, the trapframe, and five page tables, seven under Sv48.
 #[test]
 fn starts_with_its_frames(rt: HostRuntime) {
     let (sv39, sv48) = (Scheme::Sv39, Scheme::Sv48);

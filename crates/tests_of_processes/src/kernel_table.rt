@@ -1,8 +1,10 @@
-// The kernel's table of a memory of 64 frames, over both stores, and how many frames the table takes.
+// Tests that `KernelTable`, xv6's `kvmmake`, leads addresses to the right frames (`Row`: an access, an address and its walk)
+// over both frame stores; maps each slot's kernel stack (slot: a place in the process table); takes the right number of
+// frames (`FreeRow`); and, if too few are free, returns its seat (an owner's capability at the store).
 
 ghost use Rattle.std.specs.Prelude.{◌≤◌, IfErr, IfOk};
 ghost use Rattle.address_space.specs.Agreement.{HoldsTrampoline};
-ghost use Rattle.frame_store.specs.Laws.{Fits, Keeps};
+ghost use Rattle.frame_store.specs.Laws.{IsSeatOf, KeepsSeats};
 
 use crate::SCHEMES;
 use address_space::KernelTable;
@@ -13,10 +15,11 @@ use std::sync::Wait;
 use sv39_entry::{Access, Scheme, Va};
 use table_walk::Walk;
 
-/// An access to an address, and what it leads to.
+/// An access to an address, and the outcome of its walk.
 type Row = (Access, u64, Walk);
 
-/// With 64 frames and four stacks. The last address is no canonical one of Sv39; Sv48 tells it from that of frame 5.
+/// For 64 frames and four stacks. The last address is not canonical in Sv39. In Sv48 it is, and another than that of frame
+/// 5.
 fn rows(scheme: Scheme) -> [Row; 14] {
     let (fetch, load, store) = (Access::Fetch, Access::Load, Access::Store);
     let (trampoline, trapframe, guard, below) = match scheme {
@@ -51,17 +54,18 @@ fn rows(scheme: Scheme) -> [Row; 14] {
     ]
 }
 
-/// The first row that a table of 64 frames and four stacks does not give, and the table's seat.
+/// Builds the table for 64 frames and four stacks. Returns the first row whose walk has another outcome, and the table's
+/// seat; `NoFrame` with the seat if too few frames are free.
 fn first_wrong<S: FrameSeat, F: FrameSupply<Seat = S>>(
     store: &mut F,
     seat: S,
     scheme: Scheme,
     rows: &[Row; 14],
 ) -> Result<(Option<Row>, S), (NoFrame, S)>
-    requires fits { Fits F.rule store.old seat }
+    requires fits { IsSeatOf F.rule store.old seat }
     requires opening { HoldsTrampoline (S.view seat) }
-    ensures keeps { IfOk result (λ r. Keeps F.rule store.old seat store.new r.1) }
-    ensures keeps_dry { IfErr result (λ e. Keeps F.rule store.old seat store.new e.1) }
+    ensures keeps { IfOk result (λ r. KeepsSeats F.rule store.old seat store.new r.1) }
+    ensures keeps_dry { IfErr result (λ e. KeepsSeats F.rule store.old seat store.new e.1) }
 {
     let mut kernel = KernelTable::build(store, seat, scheme, 64, 4)?;
     for row in rows {
@@ -73,7 +77,7 @@ fn first_wrong<S: FrameSeat, F: FrameSupply<Seat = S>>(
     Ok((None, kernel.seat))
 }
 
-/// The first wrong row, if the table could be built, and the frames that are free beside it.
+/// The first wrong row, or `NoFrame` if the table could not be built; and the number of free frames then.
 type Checked = (Result<Option<Row>, NoFrame>, usize);
 
 fn over_plain(alloc: Global, scheme: Scheme) -> Result<Checked, AllocError> {
@@ -106,7 +110,8 @@ fn maps_alike_over_both_stores(rt: HostRuntime) {
     }
 }
 
-/// Whether the stack of each slot is mapped, and to another frame than the one before it.
+/// Whether the table can be built, and each slot's kernel stack is mapped for stores, to another frame than that of the slot
+/// before.
 fn has_stacks(alloc: Global, scheme: Scheme) -> Result<bool, AllocError> {
     let (mut store, seat) = PlainFrames::new(alloc, 64)?;
     let Ok(mut kernel) = KernelTable::build(&mut store, seat, scheme, 64, 4) else {
@@ -135,7 +140,7 @@ fn finds_stacks(rt: HostRuntime) {
     }
 }
 
-/// How many frames are free beside the table; `None` where too few were.
+/// The number of frames that the kernel's table leaves free; `None` if too few are free to build it.
 fn free_beside(
     alloc: Global,
     scheme: Scheme,
@@ -154,7 +159,7 @@ fn free_beside(
     }
 }
 
-/// A scheme, frames and slots, and the frames that are free beside their table.
+/// A scheme, the numbers of frames and slots, and what `free_beside` must return.
 type FreeRow = (Scheme, u16, u16, Option<usize>);
 
 fn free_rows() -> [FreeRow; 16] {
@@ -179,11 +184,11 @@ fn free_rows() -> [FreeRow; 16] {
     ]
 }
 
-/// The first row that leaves another number of frames free.
+/// The first row for which `free_beside` returns something else; `None` if there is none.
 fn wrong_free(alloc: Global) -> Result<Option<FreeRow>, AllocError> {
     for row in free_rows() {
         let (scheme, frames, slots, told) = row;
-        // no row is changed by it: it shows the limits to the proof
+        // changes no row; it shows the limits to the proof
         let (frames, slots) = (frames.clamp(16, 1024), slots.clamp(1, 64));
         if free_beside(alloc, scheme, frames, slots)? != told {
             return Ok(Some(row));
@@ -197,11 +202,11 @@ fn takes_its_frames(rt: HostRuntime) {
     assert_eq!(rt; wrong_free(rt.alloc()), Ok(None));
 }
 
-/// What the accounts say after a refusal: the frames that are free and held, and the references.
+/// Numbers of free frames, held frames and references, after a refusal.
 type Accounts = (usize, usize, usize);
 
-/// The refusal where one frame is missing, the accounts then, and the frames that are free once the same seat has a
-/// smaller table.
+/// Builds a table that lacks one frame, and then a smaller one with the same seat. Returns the refusal, the accounts after
+/// it, and the number of free frames in the end; `None` if the first is not refused or the second is.
 fn built_after_refusal(alloc: Global) -> Result<Option<(NoFrame, Accounts, usize)>, AllocError> {
     let (mut store, seat) = PlainFrames::new(alloc, 16)?;
     let Err((refusal, seat)) = KernelTable::build(&mut store, seat, Scheme::Sv39, 16, 11) else {

@@ -1,8 +1,8 @@
-//! Tests of spaces, images and machines, through what these crates export. Nothing stands on it.
+//! Tests that `address_space` (spaces, layouts, the kernel's page table), `exec_segments` (images, ELF files, starts) and
+//! `hart_machine` (boot, runs, steps, accounts) return the right results through their public APIs. `SCHEMES`: Sv39 and
+//! Sv48. No crate depends on it.
 #![tactic(auto)]
 
-#[cfg(test)]
-mod building;
 #[cfg(test)]
 mod elf_files;
 #[cfg(test)]
@@ -14,11 +14,13 @@ mod machines;
 #[cfg(test)]
 mod rules;
 #[cfg(test)]
+mod space_frames;
+#[cfg(test)]
 mod spaces;
 
 #[cfg(test)]
 use sv39_entry::Scheme;
 
-/// Both schemes of translation.
+/// Both translation schemes.
 #[cfg(test)]
 pub(crate) const SCHEMES: [Scheme; 2] = [Scheme::Sv39, Scheme::Sv48];

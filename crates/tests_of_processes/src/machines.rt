@@ -1,7 +1,9 @@
-// What a machine is booted with, and steps of whole machines.
+// Tests that `Machine` boots within its limits (`Row`: harts, frames, slots and the error); that `run` and `step` return the
+// right replies on two harts, for eight and for thousands of steps, and for a heap page past 2^39; that a hart's buffer
+// (TLB) keeps entries by the policy; and that the accounts of frames (`Accounts`) are those counted by hand.
 
 ghost use Rattle.std.specs.Prelude.{IfSome};
-ghost use Rattle.hart_machine.specs.Serves.{IsIn};
+ghost use Rattle.hart_machine.specs.BufferEntries.{IsInWorld};
 ghost use Rattle.process_model.specs.World.{World};
 
 use crate::SCHEMES;
@@ -13,10 +15,10 @@ use sv39_entry::{Scheme, Va, Vpn};
 
 const POLICIES: [Policy; 2] = [Policy::Full, Policy::Asid];
 
-/// How many harts, frames and slots a machine is to have, and why it is not booted with them.
+/// The numbers of harts, frames and slots of a machine, and why it is not booted; `None`: it is.
 type Row = (usize, usize, usize, Option<BootError>);
 
-/// The kernel has a frame for each slot, and six more, or eight under Sv48.
+/// The kernel takes a frame for each slot and six more, eight under Sv48; above 512 frames, one more still.
 fn rows(scheme: Scheme) -> [Row; 14] {
     let refused = Some(BootError::BadArgument);
     let slots = match scheme {
@@ -41,7 +43,7 @@ fn rows(scheme: Scheme) -> [Row; 14] {
     ]
 }
 
-/// The first row that is booted or refused otherwise with this policy.
+/// The first row that is booted or refused otherwise, with this policy and scheme; `None` if there is none.
 fn wrong_row(alloc: Global, policy: Policy, scheme: Scheme) -> Option<Row> {
     for row in rows(scheme) {
         let (harts, frames, slots, refusal) = row;
@@ -72,9 +74,9 @@ fn boots_within_limits(rt: HostRuntime) {
     }
 }
 
-/// A machine with two harts, so many frames and room for some processes.
+/// A booted machine with two harts, `frames` frames, four slots and no files; `None` if it could not be booted.
 fn with_two_harts(alloc: Global, frames: usize, policy: Policy, scheme: Scheme) -> Option<Machine>
-    ensures { IfSome result (λ m. (w : World) × IsIn m w) }
+    ensures { IfSome result (λ m. (w : World) × IsInWorld m w) }
 {
     let files = Cabinet::new(alloc, &[]).ok()?;
     let config = Config {
@@ -90,7 +92,7 @@ fn with_two_harts(alloc: Global, frames: usize, policy: Policy, scheme: Scheme) 
     }
 }
 
-/// One writable page at 0x1000, which begins with two bytes.
+/// A segment of one writable page at 0x1000, which begins with two bytes of 7.
 fn page(alloc: Global) -> Result<Segment, AllocError> {
     Ok(Segment {
         address: 0x1000,
@@ -101,7 +103,7 @@ fn page(alloc: Global) -> Result<Segment, AllocError> {
     })
 }
 
-/// A load without the buffer.
+/// A load by a walk of the page table, not by a buffer entry.
 fn load<'a>(hart: usize, address: u64, width: u64) -> Step<'a> {
     Step::Load {
         hart,
@@ -122,7 +124,7 @@ fn switch<'a>(hart: usize, slot: usize) -> Step<'a> {
     }
 }
 
-/// Two processes of one image, each on a hart of its own.
+/// Steps of two processes of one image, each on a hart of its own.
 fn steps(image: Image<'_>) -> [Step<'_>; 23] {
     [
         Step::Start(image),
@@ -173,14 +175,15 @@ fn steps(image: Image<'_>) -> [Step<'_>; 23] {
     ]
 }
 
-/// What they are answered: the values are 0x55667788, 0x3344, 0x0707 and 0. The harts see different pages at one address,
-/// and the first has its entry when it enters the kernel.
+/// The replies to `steps`: the values are 0x55667788, 0x3344, 0x0707 and 0, as each hart reads the page of its own process
+/// at one address. Hart 0 faults at a fetch, so it is before the first fence of kernel entry, and its buffer keeps its
+/// entry.
 const REPLIES: &str =
     "[Started(0), Started(1), Done, Refused(Impossible(Idle)), Done, Done, Done, Done, \
     Stored, Value(1432778632), Filled(0), Value(13124), Fault(12), Refused(Impossible(Enter0)), Done, Done, Done, \
     Value(1799), Value(0), Done, InFrame(0), Refused(NoEntry), Refused(BadArgument)]";
 
-/// A process begins, comes on a hart and into user mode, stores, and loads what it stored, and two bytes of it.
+/// A process starts, is scheduled, returns to user mode, stores eight bytes, and loads them and two of them.
 fn first_steps(image: Image<'_>) -> [Step<'_>; 8] {
     [
         Step::Start(image),
@@ -200,14 +203,14 @@ fn first_steps(image: Image<'_>) -> [Step<'_>; 8] {
     ]
 }
 
-/// What they are answered: the values are 0x1122334455667788 and 0x3344.
+/// The replies to `first_steps`: the values are 0x1122334455667788 and 0x3344.
 const FIRST_REPLIES: &str =
     "[Started(0), Done, Done, Done, Done, Stored, Value(1234605616436508552), Value(13124)]";
 
-/// How many entries a buffer has, and the page of the first.
+/// The number of entries of a buffer, and the page of the oldest.
 type Buffered = (usize, Option<Vpn>);
 
-/// What the buffer of a hart has; none where there is no such hart.
+/// The number of entries of a hart's buffer and the page of the oldest; `None` if there is no such hart.
 fn buffered(machine: &Machine, hart: usize) -> Option<Buffered> {
     match machine.buffer(hart) {
         Some(buffer) => Some((buffer.len(), buffer.entry(0).map(|entry| entry.page))),
@@ -219,10 +222,10 @@ fn text_of(alloc: Global, replies: &[Reply]) -> Option<String> {
     format!(in alloc; "{replies:?}").ok()
 }
 
-/// The replies to steps that are made at once, as text.
-fn told_at_once(alloc: Global, machine: &mut Machine, steps: &[Step<'_>]) -> Option<String>
-    requires world { (w : World) × IsIn machine.old w }
-    ensures { (w : World) × IsIn machine.new w }
+/// The replies to steps that one `run` makes, as text; `None` if the host is out of memory.
+fn replies_of_run(alloc: Global, machine: &mut Machine, steps: &[Step<'_>]) -> Option<String>
+    requires world { (w : World) × IsInWorld machine.old w }
+    ensures { (w : World) × IsInWorld machine.new w }
 {
     match machine.run(alloc, steps) {
         Ok(told) => text_of(alloc, &told),
@@ -230,10 +233,10 @@ fn told_at_once(alloc: Global, machine: &mut Machine, steps: &[Step<'_>]) -> Opt
     }
 }
 
-/// The replies to the same steps, made one by one.
-fn told_singly(alloc: Global, machine: &mut Machine, steps: &[Step<'_>]) -> Option<String>
-    requires world { (w : World) × IsIn machine.old w }
-    ensures { (w : World) × IsIn machine.new w }
+/// The replies to steps, each made by a call of `step`, as text; `None` if the host is out of memory.
+fn replies_of_steps(alloc: Global, machine: &mut Machine, steps: &[Step<'_>]) -> Option<String>
+    requires world { (w : World) × IsInWorld machine.old w }
+    ensures { (w : World) × IsInWorld machine.new w }
 {
     let mut told = Vec::new(alloc);
     'steps: for step in steps {
@@ -242,27 +245,27 @@ fn told_singly(alloc: Global, machine: &mut Machine, steps: &[Step<'_>]) -> Opti
     text_of(alloc, &told)
 }
 
-/// The replies to steps that are made in the one way or the other.
+/// The replies to steps that `run` makes, if `at_once`, or else `step`.
 fn told(alloc: Global, machine: &mut Machine, steps: &[Step<'_>], at_once: bool) -> Option<String>
-    requires world { (w : World) × IsIn machine.old w }
-    ensures { (w : World) × IsIn machine.new w }
+    requires world { (w : World) × IsInWorld machine.old w }
+    ensures { (w : World) × IsInWorld machine.new w }
 {
     if at_once {
-        return told_at_once(alloc, machine, steps);
+        return replies_of_run(alloc, machine, steps);
     }
-    told_singly(alloc, machine, steps)
+    replies_of_steps(alloc, machine, steps)
 }
 
-/// What two harts are seen to do.
+/// What is observed of two harts.
 #[derive(Drop)]
 struct Outcome {
     replies: String,
-    /// The buffers of hart 0 and of a hart that is not there, and that of hart 0 after an eviction.
+    /// The buffers of hart 0 and of a hart that does not exist, and that of hart 0 after an eviction.
     buffers: [Option<Buffered>; 3],
     evicted: Reply,
 }
 
-/// The steps and then an eviction on a machine of their own; none where memory is missing.
+/// Boots a machine, makes `steps` and evicts entry 0 of hart 0; `None` if the host is out of memory.
 fn played(alloc: Global, policy: Policy, scheme: Scheme, at_once: bool) -> Option<Outcome> {
     let segments = [page(alloc).ok()?];
     let mut machine = with_two_harts(alloc, 64, policy, scheme)?;
@@ -304,11 +307,11 @@ fn steps_on_two_harts(rt: HostRuntime) {
     }
 }
 
-/// The replies to the first steps, in one run.
+/// The replies to `first_steps`, made by one `run`.
 fn first_replies(alloc: Global, scheme: Scheme) -> Option<String> {
     let segments = [page(alloc).ok()?];
     let mut machine = with_two_harts(alloc, 64, Policy::Full, scheme)?;
-    told_at_once(
+    replies_of_run(
         alloc,
         &mut machine,
         &first_steps(Image::Segments(&segments)),
@@ -323,7 +326,8 @@ fn runs_eight_steps_at_once(rt: HostRuntime) {
     }
 }
 
-/// A process comes on a hart and into user mode, its page is filled into the buffer, and it goes into the kernel and back.
+/// A process starts, is scheduled and returns to user mode; its page is filled into the buffer; it traps into the kernel and
+/// returns.
 fn there_and_back(image: Image<'_>) -> [Step<'_>; 13] {
     [
         Step::Start(image),
@@ -345,17 +349,17 @@ fn there_and_back(image: Image<'_>) -> [Step<'_>; 13] {
     ]
 }
 
-/// How many entries the buffer has then.
+/// The number of entries of hart 0's buffer after `there_and_back`.
 fn entries_left(alloc: Global, policy: Policy, scheme: Scheme) -> Option<usize> {
     let segments = [page(alloc).ok()?];
     let mut machine = with_two_harts(alloc, 64, policy, scheme)?;
     let steps = there_and_back(Image::Segments(&segments));
-    told_at_once(alloc, &mut machine, &steps)?;
+    replies_of_run(alloc, &mut machine, &steps)?;
     let (entries, _) = buffered(&machine, 0)?;
     Some(entries)
 }
 
-/// The fences of everything take the entry. With address-space identifiers no page of the process has changed, and it stays.
+/// With policy `full` the fences empty the buffer. With ASIDs the entry stays, since no leaf of the process has changed.
 #[test]
 fn keeps_entries_by_identifiers(rt: HostRuntime) {
     for scheme in SCHEMES {
@@ -364,12 +368,12 @@ fn keeps_entries_by_identifiers(rt: HostRuntime) {
     }
 }
 
-/// So many steps of an idle hart to the next phase.
+/// `count` times the step `Next` of hart 0, which is idle.
 fn idle_steps<'a>(alloc: Global, count: usize) -> Result<Vec<Step<'a>>, AllocError> {
     Vec::from_elem(alloc, Step::Next { hart: 0 }, count)
 }
 
-/// Whether all are refusals of an idle hart.
+/// Whether each reply is the refusal of a step on an idle hart.
 fn are_idle(replies: &[Reply]) -> bool {
     for reply in replies {
         if !matches!(reply, Reply::Refused(Refusal::Impossible(Phase::Idle))) {
@@ -379,9 +383,9 @@ fn are_idle(replies: &[Reply]) -> bool {
     true
 }
 
-/// How many replies steps have that are made at once, if each is the refusal of an idle hart.
+/// The number of replies to steps that one `run` makes; `None` if one of them is not the refusal of a step on an idle hart.
 fn idle_replies(alloc: Global, machine: &mut Machine, steps: &[Step<'_>]) -> Option<usize>
-    requires world { (w : World) × IsIn machine.old w }
+    requires world { (w : World) × IsInWorld machine.old w }
 {
     match machine.run(alloc, steps) {
         Ok(told) if are_idle(&told) => Some(told.len()),
@@ -389,7 +393,7 @@ fn idle_replies(alloc: Global, machine: &mut Machine, steps: &[Step<'_>]) -> Opt
     }
 }
 
-/// The same of so many steps of an idle hart.
+/// `idle_replies` for `count` steps on a machine that was just booted.
 fn replies_when_idle(alloc: Global, count: usize) -> Option<usize> {
     let mut machine = with_two_harts(alloc, 64, Policy::Full, Scheme::Sv48)?;
     match idle_steps(alloc, count) {
@@ -403,8 +407,8 @@ fn runs_thousands_of_steps(rt: HostRuntime) {
     assert_eq!(rt; replies_when_idle(rt.alloc(), 5000), Some(5000));
 }
 
-/// A process comes into user mode and back into the kernel, and its heap grows past 2^39; a load on a page there faults and is
-/// served.
+/// A process starts, grows its heap past 2^39 and returns to user mode; a load there faults, the fault is served, and the
+/// load is made again.
 fn far_steps(image: Image<'_>) -> [Step<'_>; 16] {
     [
         Step::Start(image),
@@ -432,21 +436,21 @@ fn far_steps(image: Image<'_>) -> [Step<'_>; 16] {
 const FAR_REPLIES: &str =
     "[Started(0), Done, OldSize(16384), Done, Done, Done, Fault(13), Done, Done, Done, Ready, Done, Done, Done, Value(0), Done]";
 
-/// The replies to them where too few frames are free for the page: the process ends, and the hart is idle.
+/// The replies to `far_steps` if too few frames are free for the page: the service ends the process, and the hart is idle.
 const ENDED_REPLIES: &str =
     "[Started(0), Done, OldSize(16384), Done, Done, Done, Fault(13), Done, Done, Done, Ended(NoFrame), \
     Refused(Impossible(Idle)), Refused(Impossible(Idle)), Refused(Impossible(Idle)), Refused(Impossible(Idle)), \
     Refused(Impossible(Idle))]";
 
-/// The replies on a machine of Sv48 with so many frames.
+/// The replies to `far_steps` on a machine of Sv48 with `frames` frames.
 fn far_replies(alloc: Global, frames: usize) -> Option<String> {
     let segments = [page(alloc).ok()?];
     let mut machine = with_two_harts(alloc, frames, Policy::Full, Scheme::Sv48)?;
-    told_at_once(alloc, &mut machine, &far_steps(Image::Segments(&segments)))
+    replies_of_run(alloc, &mut machine, &far_steps(Image::Segments(&segments)))
 }
 
-/// The kernel takes 12 frames and the process 11. The page needs one, and three more for its tables: with none to three of
-/// them free it gets none.
+/// The kernel takes 12 frames and the process 11. The page needs one, and three for its page tables: with none to three of
+/// them free the process ends.
 #[test]
 fn far_page_needs_four_frames(rt: HostRuntime) {
     for frames in 23..=27 {
@@ -460,7 +464,7 @@ fn far_page_needs_four_frames(rt: HostRuntime) {
     }
 }
 
-/// How many frames are free, held and shared, and how many references there are.
+/// Numbers of free, held and shared frames, and of references.
 type Accounts = (usize, usize, usize, usize);
 
 fn accounts(machine: &Machine) -> Accounts {
@@ -468,17 +472,17 @@ fn accounts(machine: &Machine) -> Accounts {
     (report.free, report.held, report.shared, report.references)
 }
 
-/// The accounts when a process has started, or was refused.
+/// The accounts after a start of the image, which may be refused.
 fn after_start(machine: &mut Machine, image: Image<'_>) -> Accounts
-    requires { (w : World) × IsIn machine.old w }
-    ensures { (w : World) × IsIn machine.new w }
+    requires { (w : World) × IsInWorld machine.old w }
+    ensures { (w : World) × IsInWorld machine.new w }
 {
     machine.step(Step::Start(image));
     accounts(machine)
 }
 
-/// The accounts of a machine of so many frames when it is booted, and after each of two starts of an image of one page;
-/// none where memory is missing.
+/// The accounts of a machine with `frames` frames after boot, and after each of two starts of an image of one page; `None`
+/// if it could not be booted.
 fn accounts_with(alloc: Global, scheme: Scheme, frames: usize) -> Option<[Accounts; 3]> {
     let segments = [page(alloc).ok()?];
     let mut machine = with_two_harts(alloc, frames, Policy::Full, scheme)?;
@@ -488,13 +492,12 @@ fn accounts_with(alloc: Global, scheme: Scheme, frames: usize) -> Option<[Accoun
     Some([booted, first, second])
 }
 
-/// The kernel has 10 frames, and one reference of each: frame 0 with the trampoline's code, four stacks, and five tables,
-/// which are the root, two on the way to the trampoline and the stacks, and two on the way to the frames at their own
-/// addresses. A process has 9: the pages of its segment, its guard and its stack, the trapframe, and five tables, which
-/// are the root, two on the way to these pages, and two on the way to the trapframe and the trampoline. With frame 0,
-/// which is shared then, these are 10 references. Of 19 frames none is left for the second process, and of 18 the first
-/// finds 8 free and is refused. Under Sv48 each of these ways has one table more: the kernel has 12 frames and a process
-/// 11.
+/// The kernel has 10 frames with one reference each: frame 0 with the trampoline's code, four stacks, and five page tables,
+/// which are the root, two for the trampoline and the stacks, and two for the frames at their own addresses. A process has
+/// 9: the pages of its segment, its guard and its stack, the trapframe, and five page tables, which are the root, two for
+/// these pages, and two for TRAPFRAME and the trampoline. With frame 0, which is shared then, these are 10 references. Of 19
+/// frames none is left for the second process; of 18 the first finds 8 free and is refused. Under Sv48 each two tables are
+/// three: the kernel has 12 frames and a process 11.
 #[test]
 fn accounts_are_counted_by_hand(rt: HostRuntime) {
     let (sv39, sv48) = (Scheme::Sv39, Scheme::Sv48);

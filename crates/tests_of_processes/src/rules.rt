@@ -1,4 +1,5 @@
-// The first rule on the pages of a process with text, data, guard and stack.
+// Tests that `Layout::grant` returns the first rule that denies an access (`Row`: access, address, width and rule) to a
+// layout (the regions of a process) of text, data, guard and stack, under both schemes.
 
 ghost use Rattle.std.specs.Prelude.{◌≡◌, ◌+◌, ◌≤◌, All};
 ghost use Rattle.sv39_entry.specs.Schemes.{trapframe_page};
@@ -8,7 +9,7 @@ use address_space::{Layout, Part, Region, RegionKind, Source};
 use bitflags::Flags;
 use sv39_entry::{Access, Rights, Rule, Scheme, Va};
 
-/// An access to an address by so many bytes, and the rule that denies it.
+/// An access, its address and its width in bytes, and the first rule that denies it; `None`: it is granted.
 type Row = (Access, u64, u64, Option<Rule>);
 
 fn part<'a>(first: u64, pages: u64, rights: Rights, kind: RegionKind) -> Part<'a>
@@ -25,7 +26,7 @@ fn part<'a>(first: u64, pages: u64, rights: Rights, kind: RegionKind) -> Part<'a
     Part { region, bytes: &[] }
 }
 
-/// Text, data, guard and stack.
+/// Text in page 0, data in pages 1 and 2, the guard in page 5 and the stack in page 6.
 fn parts<'a>() -> [Part<'a>; 4]
     ensures { (s : Scheme) → All (λ p. p.region.first + p.region.pages ≤ trapframe_page s) result }
 {
@@ -54,7 +55,7 @@ fn rows() -> [Row; 9] {
     ]
 }
 
-/// The trampoline's and the trapframe's page, and addresses past the end of a process.
+/// Accesses at TRAPFRAME and TRAMPOLINE, and past the end of a scheme's addresses.
 fn rows_at_the_end(scheme: Scheme) -> [Row; 7] {
     let (kernel, beyond) = (Some(Rule::KernelPage), Some(Rule::BeyondMax));
     match scheme {
@@ -79,7 +80,7 @@ fn rows_at_the_end(scheme: Scheme) -> [Row; 7] {
     }
 }
 
-/// The first row whose access is denied by another rule, or by none.
+/// The first row for which `grant` returns something else; `None` if there is none.
 fn wrong_row(layout: &Layout, rows: &[Row]) -> Option<Row> {
     for row in rows {
         let (access, address, width, rule) = *row;

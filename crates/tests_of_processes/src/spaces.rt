@@ -1,11 +1,14 @@
-// A space that lives over both stores: it is built, a far page of its heap is settled, and it ends.
+// Tests that a `Space` (a process in memory) keeps what is written to it and releases all its frames: over both frame stores
+// it is built, written and read, a far page of its heap is settled (brought into memory) or refused, and it is destroyed
+// (`Row`: scheme, frames, page, reads, free frames). And that its mappings can be added, cut and removed, and its layout
+// (the regions) copied.
 
 ghost use Rattle.std.specs.Prelude.{[], ◌∷◌, ◌≡◌, ◌%◌, ◌^◌, ◌<◌, ◌≤◌, false, IfErr, IfOk};
 ghost use Rattle.address_space.specs.Agreement.{body_of, IsSpace, HoldsTrampoline};
 ghost use Rattle.address_space.specs.Parts.{AreParts, numbers_of, regions_in};
 ghost use Rattle.address_space.specs.Steps.{IsBare};
 ghost use Rattle.tests_of_processes.specs.Lives.{IsWritable, Lives, standard_regions};
-ghost use Rattle.frame_store.specs.Laws.{Fits, Keeps};
+ghost use Rattle.frame_store.specs.Laws.{IsSeatOf, KeepsSeats};
 ghost use Rattle.process_model.specs.Process.{Page, Process};
 ghost use Rattle.process_model.specs.Residence.{with_page};
 ghost use Rattle.sv39_entry.specs.Address.{page_of};
@@ -20,15 +23,16 @@ use std::alloc::{AllocError, Global};
 use std::sync::Wait;
 use sv39_entry::{PAGE_SIZE, Rights, Scheme, Va, Vpn};
 
-/// What is written to the first page of the data before and after the far page is asked for, and to the far page.
+/// What is written to the first page of the data, before the far page is to be settled (`NEAR`) and after (`AGAIN`), and to
+/// the far page (`FAR`).
 const NEAR: u64 = 0x0123_4567_89ab_cdef;
 
 const AGAIN: u64 = 0x1122_3344_5566_7788;
 
 const FAR: u64 = 0xfedc_ba98_7654_3210;
 
-/// What was read: the first page of the data before and after the far page was asked for, and when it was written again;
-/// the far page, where it was settled, before and after it was written.
+/// What was read. Of the first page of the data: `NEAR`, before the far page was to be settled and after, and `AGAIN`. Of
+/// the far page, if it was settled: its first bytes, before and after `FAR` was written.
 #[derive(Clone, Copy, PartialEq, Eq, Debug)]
 struct Reads {
     before: u64,
@@ -37,7 +41,7 @@ struct Reads {
     far: Option<(u64, u64)>,
 }
 
-/// The reads of a space that could be built, and the frames that are free in the end.
+/// The reads, `None` if the space could not be built; and the number of free frames in the end.
 type Outcome = (Option<Reads>, usize);
 
 fn part<'a>(
@@ -60,7 +64,7 @@ fn part<'a>(
     Part { region, bytes }
 }
 
-/// Text, data, guard and stack.
+/// Text, two pages of data, guard and stack, from page 0 on.
 fn standard_parts<'a>() -> [Part<'a>; 4]
     ensures regions { regions_in result ≡ standard_regions }
     ensures numbers { numbers_of result ≡ 0 ∷ 1 ∷ 2 ∷ 3 ∷ 4 ∷ [] }
@@ -79,54 +83,54 @@ fn standard_parts<'a>() -> [Part<'a>; 4]
     ]
 }
 
-/// The standard space, with a heap that reaches past a page.
+/// Builds a space of the standard parts whose heap ends after `page`. `NoFrame` with the seat if too few frames are free.
 fn roomy<S: FrameSeat, F: FrameSupply<Seat = S>>(
     store: &mut F,
     seat: S,
     scheme: Scheme,
     page: u64,
 ) -> Result<Space<S>, (NoFrame, S)>
-    requires fits { Fits F.rule store.old seat }
+    requires fits { IsSeatOf F.rule store.old seat }
     requires opening { HoldsTrampoline (S.view seat) }
     requires in_heap { 5 ≤ page }
     requires low { page < trapframe_page scheme }
     ensures lives { IfOk result (λ s. Lives (S.view s.seat) s.root.0 s.trapframe.0 s.layout page false) }
     ensures scheme { IfOk result (λ s. s.layout.scheme ≡ scheme) }
-    ensures keeps { IfOk result (λ s. Keeps F.rule store.old seat store.new s.seat) }
-    ensures keeps_refused { IfErr result (λ e. Keeps F.rule store.old seat store.new e.1) }
+    ensures keeps { IfOk result (λ s. KeepsSeats F.rule store.old seat store.new s.seat) }
+    ensures keeps_refused { IfErr result (λ e. KeepsSeats F.rule store.old seat store.new e.1) }
 {
     let mut space = Space::build(store, seat, scheme, &standard_parts())?;
     space.set_size((page + 1) * PAGE_SIZE);
     Ok(space)
 }
 
-/// The number in the first eight bytes of a page.
+/// The number in the first eight bytes of a page, the lowest byte first.
 fn first_number(bytes: &[u8; 4096]) -> u64 {
     let mut first = [0; 8];
     first.copy_from_slice(&bytes[..8]);
     u64::from_le_bytes(first)
 }
 
-/// A number that was read in two ways; another one where they differ.
+/// A number that was read in two ways; if they differ, a number other than the first.
 fn if_both(one: u64, other: u64) -> u64 {
     if one == other { one } else { !one }
 }
 
-/// What is read where a number was written at the beginning of a page; another number, where the bytes of the whole page say
-/// another one.
+/// Writes a number to the beginning of a page, and returns what `read` then returns; another number, if the bytes of the
+/// whole page (`page_bytes`) begin with another one.
 fn kept<S: FrameSeat, F: FrameAccess<Seat = S>>(
     space: &mut Space<S>,
     store: &mut F,
     va: Va,
     value: u64,
 ) -> u64
-    requires fits { Fits F.rule store.old space.old.seat }
+    requires fits { IsSeatOf F.rule store.old space.old.seat }
     requires ready { (t : Tables) × (p : Process) × IsSpace (body_of S.view space.old) t p × IsWritable p (page_of va.0) }
     requires aligned { va.0 % 8 ≡ 0 }
     ensures agrees { (t : Tables) (p : Process) → IsSpace (body_of S.view space.old) t p → IsWritable p (page_of va.0) →
         (s : Page) × (s.fork_mark ≡ false) × IsSpace (body_of S.view space.new) t (with_page p (page_of va.0) s) }
     ensures layout { space.new.layout ≡ space.old.layout }
-    ensures keeps { Keeps F.rule store.old space.old.seat store.new space.new.seat }
+    ensures keeps { KeepsSeats F.rule store.old space.old.seat store.new space.new.seat }
 {
     space.write(store, va, 8, value);
     let read = space.read(store, va, 8);
@@ -135,33 +139,34 @@ fn kept<S: FrameSeat, F: FrameAccess<Seat = S>>(
     if_both(read, first_number(&bytes))
 }
 
-/// Asks for a page, and answers whether it was settled.
+/// Settles a page with zeros, and returns whether that was done.
 fn try_settle<S: FrameSeat, F: FrameSupply<Seat = S>>(
     space: &mut Space<S>,
     store: &mut F,
     page: Vpn,
 ) -> bool
-    requires fits { Fits F.rule store.old space.old.seat }
+    requires fits { IsSeatOf F.rule store.old space.old.seat }
     requires lives { Lives (S.view space.old.seat) space.old.root.0 space.old.trapframe.0 space.old.layout page false }
     ensures lives { Lives (S.view space.new.seat) space.new.root.0 space.new.trapframe.0 space.new.layout page result }
     ensures layout { space.new.layout ≡ space.old.layout }
-    ensures keeps { Keeps F.rule store.old space.old.seat store.new space.new.seat }
+    ensures keeps { KeepsSeats F.rule store.old space.old.seat store.new space.new.seat }
 {
     space.settle(store, page, &[]).is_ok()
 }
 
-/// What is read in a space, from which a far page is asked for.
+/// Writes and reads the first page of the data, before and after the far page is to be settled; and the far page, if it was
+/// settled.
 fn try_far<S: FrameSeat, F: FrameSupply<Seat = S>>(
     space: &mut Space<S>,
     store: &mut F,
     page: u64,
 ) -> Reads
-    requires fits { Fits F.rule store.old space.old.seat }
+    requires fits { IsSeatOf F.rule store.old space.old.seat }
     requires low { page < 2 ^ 36 }
     requires lives { Lives (S.view space.old.seat) space.old.root.0 space.old.trapframe.0 space.old.layout page false }
     ensures agrees { (t : Tables) × (p : Process) × IsSpace (body_of S.view space.new) t p }
     ensures layout { space.new.layout ≡ space.old.layout }
-    ensures keeps { Keeps F.rule store.old space.old.seat store.new space.new.seat }
+    ensures keeps { KeepsSeats F.rule store.old space.old.seat store.new space.new.seat }
 {
     let (near, far) = (Va(PAGE_SIZE), Va(page * PAGE_SIZE));
     let before = kept(space, store, near, NEAR);
@@ -186,20 +191,21 @@ fn try_far<S: FrameSeat, F: FrameSupply<Seat = S>>(
     }
 }
 
-/// What is read in the standard space, which has ended then, and its seat.
+/// Builds the standard space, makes the reads, releases the far page and destroys the space. Returns the reads and the seat,
+/// which holds nothing; `NoFrame` with the seat if too few frames are free to build it.
 fn settled_far<S: FrameSeat, F: FrameSupply<Seat = S>>(
     store: &mut F,
     seat: S,
     scheme: Scheme,
     page: u64,
 ) -> Result<(Reads, S), (NoFrame, S)>
-    requires fits { Fits F.rule store.old seat }
+    requires fits { IsSeatOf F.rule store.old seat }
     requires opening { HoldsTrampoline (S.view seat) }
     requires in_heap { 5 ≤ page }
     requires low { page < trapframe_page scheme }
     ensures bare { IfOk result (λ r. IsBare (S.view r.1)) }
-    ensures keeps { IfOk result (λ r. Keeps F.rule store.old seat store.new r.1) }
-    ensures keeps_refused { IfErr result (λ e. Keeps F.rule store.old seat store.new e.1) }
+    ensures keeps { IfOk result (λ r. KeepsSeats F.rule store.old seat store.new r.1) }
+    ensures keeps_refused { IfErr result (λ e. KeepsSeats F.rule store.old seat store.new e.1) }
 {
     let mut space = roomy(store, seat, scheme, page)?;
     let reads = try_far(&mut space, store, page);
@@ -263,7 +269,7 @@ const REFUSED: Reads = Reads {
     far: None,
 };
 
-/// What comes of it over plain frames, and over shared ones.
+/// The outcomes over plain frames and over shared frames.
 fn over_both<R: Wait>(
     rt: &R,
     alloc: Global,
@@ -281,12 +287,12 @@ fn over_both<R: Wait>(
     Ok([plain, shared])
 }
 
-/// A scheme, how many frames there are, the far page, what is read, and the frames that are free in the end.
+/// A scheme, the number of frames, the far page, the reads, and the number of free frames in the end.
 type Row = (Scheme, usize, u64, Option<Reads>, usize);
 
-/// Beside frame 0 the space has eleven frames: five tables, the trapframe's and those of its five pages. The far pages need one
-/// to three more, with their tables. Under Sv48 it has seven tables, and a page from 2^39 on, far behind the last page of Sv39,
-/// needs three of its own.
+/// Beside frame 0 the space takes eleven frames: five page tables, the trapframe and its five pages. The far pages take one
+/// to three more, missing page tables included. Under Sv48 it has seven page tables, and a page from 2^39 on, past the last
+/// page of Sv39, needs three page tables of its own.
 fn rows() -> [Row; 13] {
     let (refused, settled) = (Some(REFUSED), Some(SETTLED));
     let (sv39, sv48) = (Scheme::Sv39, Scheme::Sv48);
@@ -307,11 +313,11 @@ fn rows() -> [Row; 13] {
     ]
 }
 
-/// The first row of which another comes, over one store or the other.
+/// The first row with another outcome over one of the stores; `None` if there is none.
 fn wrong_row<R: Wait>(rt: &R, alloc: Global) -> Result<Option<Row>, AllocError> {
     for row in rows() {
         let (scheme, frames, page, reads, free) = row;
-        // no row is changed by it: it shows the limits to the proof
+        // changes no row; it shows the limits to the proof
         let last = scheme.trapframe().page().number() - 1;
         let (frames, page) = (frames.clamp(1, 256), page.clamp(0x5, last));
         if over_both(rt, alloc, scheme, frames, page)? != [(reads, free); 2] {
@@ -326,7 +332,8 @@ fn lives_over_both_stores(rt: HostRuntime) {
     assert_eq!(rt; wrong_row(&rt, rt.alloc()), Ok(None));
 }
 
-/// Where the regions begin that hold two pages: the first and the third of the mapping below.
+/// The first page of the region that has page 100, and of the region that has page 102: the first and the third page of the
+/// mapping below. `None`: no region has it.
 type Firsts = (Option<u64>, Option<u64>);
 
 fn first_at<S: FrameSeat>(space: &Space<S>, page: u64) -> Option<u64> {
@@ -340,7 +347,7 @@ fn firsts<S: FrameSeat>(space: &Space<S>) -> Firsts {
     (first_at(space, 100), first_at(space, 102))
 }
 
-/// A mapping of four pages from page 100 on.
+/// A shared, readable mapping of file 0, with `pages` pages from page `first` on.
 fn mapping(first: u64, pages: u64) -> Region {
     Region {
         first,
@@ -351,8 +358,8 @@ fn mapping(first: u64, pages: u64) -> Region {
     }
 }
 
-/// What a space says with the mapping, without its first two pages, and without it; of a child, what it says while the mapping
-/// is whole. None where it could not be built.
+/// Where regions begin (`Firsts`) in a space with the mapping of four pages, without its first two pages, and without it;
+/// and in a copy of its layout that was made while the mapping was whole. `None` if the space could not be built.
 fn mapped(alloc: Global) -> Result<Option<[Firsts; 4]>, AllocError> {
     let (mut store, seat) = PlainFrames::new(alloc, 64)?;
     let Ok(mut space) = Space::build(&mut store, seat, Scheme::Sv39, &standard_parts()) else {

@@ -1,4 +1,5 @@
--- What a story knows of the space that it is of.
+-- Lemmas on the space of a story (test case): it still agrees with some process of the model (`IsAlive`) after it was read,
+-- resized, unmapped, served, copied from or to, replaced by exec, or forked; and so does the child.
 use Rattle.std.proofs.Common.{◌≡◌, ℕ, ℤ, refl, List, None, Option, Some, Result, Ok, Err}
 use Rattle.std.specs.Prelude.{IfErr, IfOk}
 use Rattle.frame_store.specs.View.{View}
@@ -15,14 +16,14 @@ use Rattle.address_space.specs.Agreement.{Body, body, IsSpace}
 use Rattle.address_space.specs.Layouts.{Layout}
 use Rattle.cow_fork.specs.Forks.{HasForked}
 use Rattle.fault_rules.specs.Allowed.{can_reside}
-use Rattle.fault_rules.specs.Resides.{HasReside}
+use Rattle.fault_rules.specs.MadeResident.{HasMadeResident}
 use Rattle.fault_rules.specs.Serves.{DoesNothing, IsEnd}
 use Rattle.fault_rules.specs.declared.service.Served.{Served}
 use Rattle.fault_rules.specs.declared.service.Served.TheVariants.{Ended, Ready, Unserved}
-use Rattle.lazy_growth.specs.Resized.{Resizes}
-use Rattle.lazy_growth.specs.declared.refused.SizeError.{SizeError}
-use Rattle.mmap_regions.specs.Unmapped.{Unmaps}
-use Rattle.user_copy.specs.Reaching.{StillStands}
+use Rattle.lazy_growth.specs.SbrkEffect.{Resizes}
+use Rattle.lazy_growth.specs.declared.size_error.SizeError.{SizeError}
+use Rattle.mmap_regions.specs.MunmapEffect.{Unmaps}
+use Rattle.user_copy.specs.ReachedPage.{StillStands}
 use Rattle.tests_of_refusals.specs.Family.{IsAlive}
 
 -- a space that became another process
@@ -66,7 +67,7 @@ module _ (v w : View) (root root_after trapframe trapframe_after : FrameNo) (l m
   -- a space of which a fault was served
   pub alive_served : (files : List File) (access : Access) (address width : ℕ) (IsCount : ℕ → ℕ → Type 0) (r : Served)
       → ((t : Tables) (p : Process) → IsSpace (body v root.0 trapframe.0 l) t p → IsEnd (first_rule p.scheme (regions p) access address width) r)
-      → (r ≡ Ready → HasReside (body v root.0 trapframe.0 l) (body w root_after.0 trapframe_after.0 m) files access (page_of address) IsCount)
+      → (r ≡ Ready → HasMadeResident (body v root.0 trapframe.0 l) (body w root_after.0 trapframe_after.0 m) files access (page_of address) IsCount)
       → ((rule : Rule) → r ≡ Ended rule → (t : Tables) (p : Process) → IsSpace (body v root.0 trapframe.0 l) t p → IsSpace (body w root_after.0 trapframe_after.0 m) t p)
       → (DoesNothing r → w ≡ v) → root_after ≡ root → trapframe_after ≡ trapframe → m ≡ l
       → IsAlive (body v root.0 trapframe.0 l) → IsAlive (body w root_after.0 trapframe_after.0 m)

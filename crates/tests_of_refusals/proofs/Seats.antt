@@ -1,15 +1,17 @@
--- The seats of a process, of its child, and of the one that keeps frames.
+-- Lemmas on the seats (owners' capabilities at the store) of a process, of its child, and of the keeper, which reserves
+-- frames: frame 0 stays held, an opened seat is ready for a space, and a step of one keeps the store's invariant, wherever its
+-- seat is in the list of all. For the tests on threads: two seats at one table of frames (`fits_both`).
 use Rattle.std.proofs.Common.{◌≡◌, ℕ, ◌+◌, ◌<◌, false, ap, refl, subst, sym, ◌∙◌, List, [], ◌∷◌, ◌++◌, Option, None, Some, Result, Ok, Err, arith}
 use Rattle.std.specs.Prelude.{IfErr, IfOk, is_some, option_map, option_to_list}
 use Rattle.frame_store.specs.Holds.{hold_of-empty, hold_of-frames, hold_of-with_hold_other, hold_of-with_hold_same}
-use Rattle.frame_store.specs.Laws.{Fits, IsDry, Keeps}
-use Rattle.frame_store.specs.Opened.{opened}
-use Rattle.frame_store.specs.Puts.{puts}
+use Rattle.frame_store.specs.Laws.{IsSeatOf, IsDry, KeepsSeats}
+use Rattle.frame_store.specs.SeatOpening.{opened}
+use Rattle.frame_store.specs.ViewChanges.{puts}
 use Rattle.frame_store.specs.Seats.{ComesFront, GoesBack}
 use Rattle.frame_store.specs.View.{Hold, View, empty_view, hold_of, IsHeld, read_full, references, shared, with_credits}
 use Rattle.address_space.specs.Agreement.{HoldsTrampoline}
 use Rattle.address_space.specs.declared.space.Space.{Space}
-use Rattle.shared_frames.specs.Fits.{AllFit, FitsIn}
+use Rattle.shared_frames.specs.SeatsOfTable.{AllFit, FitsIn}
 use Rattle.shared_frames.specs.declared.seat.SharedSeat.{SharedSeat}
 use Rattle.atomic_table.specs.Seated.{TableId}
 
@@ -40,23 +42,23 @@ seats_beside c = option_to_list (option_map (λ y. y.seat) c)
 
 module _ {Store S : Type 0} (rule : Store → List S → Type 0) where
   -- a seat that was opened steps, and the one that opened it stands behind it
-  pub opened_fits : {s t : Store} {a b new : S} → ComesFront (rule t) → ((others : List S) → rule s (a ∷ others) → rule t (b ∷ new ∷ others)) → Fits rule s a → Fits rule t new
+  pub opened_fits : {s t : Store} {a b new : S} → ComesFront (rule t) → ((others : List S) → rule s (a ∷ others) → rule t (b ∷ new ∷ others)) → IsSeatOf rule s a → IsSeatOf rule t new
   opened_fits {b = b} {new = new} front opening fits = (b ∷ fits.0, front (b ∷ []) new fits.0 (opening fits.0 fits.1))
 
   pub opened_keeps : {s t u : Store} {a b new later : S} → ComesFront (rule t) → ((others : List S) → rule s (a ∷ others) → rule t (b ∷ new ∷ others))
-      → Keeps rule t new u later → (others : List S) → rule s (a ∷ others) → rule u (later ∷ b ∷ others)
+      → KeepsSeats rule t new u later → (others : List S) → rule s (a ∷ others) → rule u (later ∷ b ∷ others)
   opened_keeps {b = b} {new = new} front opening keeps others r = keeps (b ∷ others) (front (b ∷ []) new others (opening others r))
 
   -- a process steps, with its child beside it
 
-  pub keeps_alone : (s t : Store) (a b : S) (xs : List S) → Keeps rule s a t b → (others : List S) → rule s ((a ∷ xs) ++ others) → rule t ((b ∷ xs) ++ others)
+  pub keeps_alone : (s t : Store) (a b : S) (xs : List S) → KeepsSeats rule s a t b → (others : List S) → rule s ((a ∷ xs) ++ others) → rule t ((b ∷ xs) ++ others)
   keeps_alone s t a b xs keeps others r = keeps (xs ++ others) r
 
   -- a seat that stands behind both steps
-  pub keeper_fits : (s : Store) (first : List S) (k : S) (others : List S) → ComesFront (rule s) → rule s (first ++ k ∷ others) → Fits rule s k
+  pub keeper_fits : (s : Store) (first : List S) (k : S) (others : List S) → ComesFront (rule s) → rule s (first ++ k ∷ others) → IsSeatOf rule s k
   keeper_fits s first k others front r = (first ++ others, front first k others r)
 
-  pub keeper_keeps : (s t : Store) (first : List S) (k m : S) → ComesFront (rule s) → GoesBack (rule t) → Keeps rule s k t m → (others : List S) → rule s (first ++ k ∷ others) → rule t (first ++ m ∷ others)
+  pub keeper_keeps : (s t : Store) (first : List S) (k m : S) → ComesFront (rule s) → GoesBack (rule t) → KeepsSeats rule s k t m → (others : List S) → rule s (first ++ k ∷ others) → rule t (first ++ m ∷ others)
   keeper_keeps s t first k m front back keeps others r = back first m others (keeps (first ++ others) (front first k others r))
 
   -- a child came
@@ -65,11 +67,11 @@ module _ {Store S : Type 0} (rule : Store → List S → Type 0) where
   keeps_forked s t a b made c none kept others r = kept others (subst (λ d. rule s ((a ∷ seats_beside d) ++ others)) none r)
 
   -- the process ends alone
-  pub ended_alone : (s t : Store) (a k : S) (c : Option (Space S)) → c ≡ None → Keeps rule s a t k → (others : List S) → rule s ((a ∷ seats_beside c) ++ others) → rule t (k ∷ others)
+  pub ended_alone : (s t : Store) (a k : S) (c : Option (Space S)) → c ≡ None → KeepsSeats rule s a t k → (others : List S) → rule s ((a ∷ seats_beside c) ++ others) → rule t (k ∷ others)
   ended_alone s t a k c none keeps others r = keeps others (subst (λ d. rule s ((a ∷ seats_beside d) ++ others)) none r)
 
   -- the child's seat comes to the front, once the process has ended
-  pub child_front : (s t : Store) (a k : S) (z : Space S) (c : Option (Space S)) → c ≡ Some z → ComesFront (rule t) → Keeps rule s a t k
+  pub child_front : (s t : Store) (a k : S) (z : Space S) (c : Option (Space S)) → c ≡ Some z → ComesFront (rule t) → KeepsSeats rule s a t k
       → (others : List S) → rule s ((a ∷ seats_beside c) ++ others) → rule t (z.seat ∷ k ∷ others)
   child_front s t a k z c is front keeps others r = front (k ∷ []) z.seat others (keeps (z.seat ∷ others) (subst (λ d. rule s ((a ∷ seats_beside d) ++ others)) is r))
 

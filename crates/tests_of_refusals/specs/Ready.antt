@@ -1,11 +1,12 @@
--- A process on frames that threads share.
+-- Predicate `IsReady`: a process over frames that threads share: its seat (an owner's capability at the store) is at the
+-- store's table, and its space agrees with some process of the model.
 use Rattle.atomic_table.specs.Seated.{TableId}
-use Rattle.shared_frames.specs.Fits.{FitsIn, view_of}
+use Rattle.shared_frames.specs.SeatsOfTable.{FitsIn, view_of}
 use Rattle.shared_frames.specs.declared.seat.SharedSeat.{SharedSeat}
 use Rattle.address_space.specs.Agreement.{body_of}
 use Rattle.address_space.specs.declared.space.Space.{Space}
 use Rattle.tests_of_refusals.specs.Family.{IsAlive}
 
--- its seat is at the table of this name, and the space is a process
+-- its seat is at the atomic table with this identifier, and the space agrees with some process of the model
 abbrev pub IsReady : TableId → Space SharedSeat → Type 0
 IsReady table space = FitsIn table space.seat × IsAlive (body_of view_of space)

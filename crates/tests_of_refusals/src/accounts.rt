@@ -1,12 +1,14 @@
-// The accounts of a store, where it has any.
+// `Accounts`, a trait: the report of a store's frames and references; `None` for shared frames, whose counts other threads
+// may change.
 
 use frame_store::PlainFrames;
 use process_model::Report;
 use shared_frames::SharedSupply;
 use std::sync::Wait;
 
-/// A store that may tell how many references its frames have.
+/// A store that may be able to report on all its frames.
 pub(crate) trait Accounts {
+    /// The numbers of free, held and shared frames and of references; `None` if the store cannot count them.
     fn accounts(&self) -> Option<Report>;
 }
 
@@ -16,7 +18,7 @@ impl Accounts for PlainFrames {
     }
 }
 
-/// Of words that other threads may change there are no accounts.
+/// Shared frames have no report: other threads may change the counts at any time.
 impl<'a, R: Wait> Accounts for SharedSupply<'a, R> {
     fn accounts(&self) -> Option<Report> {
         None

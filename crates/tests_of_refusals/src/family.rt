@@ -1,23 +1,29 @@
-// A process with the child that it may have.
+// `first_wrong`: performs the rows of a story (operations of a test case) on a process that may have one child, and returns
+// the first with a wrong answer or observation. `fork` is performed here, all else by `call`. `ended`: destroys both
+// processes.
 
 ghost use Rattle.std.specs.Prelude.{◌∷◌, ◌++◌, List};
 ghost use Rattle.tests_of_refusals.specs.Family.{AreAlive, FamilyFits, FamilyKeeps, seats_of};
 
 use crate::accounts::Accounts;
 use crate::calls::call;
-use crate::deed::{Answer, Deed, Row};
-use crate::given::OneFile;
-use crate::seen::seen;
+use crate::images_and_file::OneFile;
+use crate::observation::seen;
+use crate::operation::{Answer, Operation, Row};
 use address_space::Space;
 use cow_fork::fork;
 use frame_store::{FrameAccess, FrameSeat, FrameSupply};
 use process_model::{Image, Refusal};
 use std::alloc::{AllocError, Global};
 
-/// The first row of which something else came: its number, what came, and whether all was as before.
+/// The first row with another answer or another observation: its number, the answer, and whether all was unchanged. `None`:
+/// no row is wrong.
 pub(crate) type Wrong = Option<(usize, Answer, bool)>;
 
-/// Does what the rows say, up to the first of which something else comes.
+/// Performs the rows in order, up to the first that is wrong. Returns that one, `None` if there is none.
+///
+/// # Errors
+/// `AllocError`: the host is out of memory for an observation.
 pub(crate) fn first_wrong<S: FrameSeat + Drop, F: FrameSupply<Seat = S> + Accounts>(
     alloc: Global,
     space: &mut Space<S>,
@@ -32,8 +38,8 @@ pub(crate) fn first_wrong<S: FrameSeat + Drop, F: FrameSupply<Seat = S> + Accoun
     ensures alive { AreAlive S.view space.new child.new }
     ensures keeps { FamilyKeeps F.rule store.old space.old child.old store.new space.new child.new }
 {
-    'rows: for (number, (deed, expected, same)) in rows.iter().enumerate() {
-        let (answer, as_before) = told(alloc, space, child, store, files, images, *deed)?;
+    'rows: for (number, (operation, expected, same)) in rows.iter().enumerate() {
+        let (answer, as_before) = played(alloc, space, child, store, files, images, *operation)?;
         if answer != *expected || as_before != *same {
             return Ok(Some((number, answer, as_before)));
         }
@@ -41,15 +47,15 @@ pub(crate) fn first_wrong<S: FrameSeat + Drop, F: FrameSupply<Seat = S> + Accoun
     Ok(None)
 }
 
-/// What comes of a deed, and whether all that is seen is then as before.
-fn told<S: FrameSeat + Drop, F: FrameSupply<Seat = S> + Accounts>(
+/// Performs an operation. Returns the answer, and whether all that is observed is unchanged.
+fn played<S: FrameSeat + Drop, F: FrameSupply<Seat = S> + Accounts>(
     alloc: Global,
     space: &mut Space<S>,
     child: &mut Option<Space<S>>,
     store: &mut F,
     files: &mut OneFile,
     images: &[Image],
-    deed: Deed,
+    operation: Operation,
 ) -> Result<(Answer, bool), AllocError>
     requires fits { FamilyFits F.rule store.old space.old child.old }
     requires alive { AreAlive S.view space.old child.old }
@@ -57,32 +63,32 @@ fn told<S: FrameSeat + Drop, F: FrameSupply<Seat = S> + Accounts>(
     ensures keeps { FamilyKeeps F.rule store.old space.old child.old store.new space.new child.new }
 {
     let before = seen(alloc, space, store, files)?;
-    let answer = act(space, child, store, files, images, deed);
+    let answer = act(space, child, store, files, images, operation);
     let after = seen(alloc, space, store, files)?;
     Ok((answer, before == after))
 }
 
-/// What comes of a deed.
+/// Performs an operation and returns the answer.
 fn act<S: FrameSeat + Drop, F: FrameSupply<Seat = S>>(
     space: &mut Space<S>,
     child: &mut Option<Space<S>>,
     store: &mut F,
     files: &mut OneFile,
     images: &[Image],
-    deed: Deed,
+    operation: Operation,
 ) -> Answer
     requires fits { FamilyFits F.rule store.old space.old child.old }
     requires alive { AreAlive S.view space.old child.old }
     ensures alive { AreAlive S.view space.new child.new }
     ensures keeps { FamilyKeeps F.rule store.old space.old child.old store.new space.new child.new }
 {
-    match deed {
-        Deed::Fork => fork_once(space, child, store),
-        _ => call(space, store, files, images, deed),
+    match operation {
+        Operation::Fork => fork_once(space, child, store),
+        _ => call(space, store, files, images, operation),
     }
 }
 
-/// Forks, where there is no child yet.
+/// Forks if there is no child yet; else refuses with `NoSlot`.
 fn fork_once<S: FrameSeat + Drop, F: FrameSupply<Seat = S>>(
     space: &mut Space<S>,
     child: &mut Option<Space<S>>,
@@ -105,7 +111,7 @@ fn fork_once<S: FrameSeat + Drop, F: FrameSupply<Seat = S>>(
     }
 }
 
-/// Ends both, and answers the one seat that is left.
+/// Destroys both spaces, joins their seats and returns the joined one.
 pub(crate) fn ended<S: FrameSeat, F: FrameAccess<Seat = S>>(
     space: Space<S>,
     child: Option<Space<S>>,

@@ -1,10 +1,12 @@
-// Frames that are refused in turn: below the need nothing changes, and with just as many as are needed it is done.
+// Tests that fork, exec and served faults are refused and change nothing with each number of free frames below their need,
+// and succeed with exactly their need (`Case`, a struct: an operation, its answers and its need); that a kernel copy stops
+// at the first page for which no frame is free; and that fork is refused at 65,535 references of frame 0.
 
-use crate::deed::Answer::{Copied, Done, Refused, Served, Short};
-use crate::deed::Deed::{CopyIn, CopyOut, Exec, Fork, Grow, Map, Serve};
-use crate::deed::{Answer, Deed, Row};
-use crate::given::STANDARD;
-use crate::stores::first_fault;
+use crate::images_and_file::STANDARD;
+use crate::operation::Answer::{Copied, Done, Refused, Served, Short};
+use crate::operation::Operation::{CopyIn, CopyOut, Exec, Fork, Grow, Map, Serve};
+use crate::operation::{Answer, Operation, Row};
+use crate::stores::first_wrong_outcome;
 use crate::stories::Story;
 use fault_rules::Served::{Ended, Ready};
 use process_model::Refusal::{NoFrame, SharersFull};
@@ -12,41 +14,42 @@ use std::test::Fail;
 use sv39_entry::{Access, Rule};
 use user_copy::Stop::Denied;
 
-/// A deed that needs frames.
+/// An operation that needs frames.
 #[derive(Clone, Copy)]
 struct Case {
-    /// What is done before it, and how many frames that takes.
+    /// The rows before it, and (`taken`) the number of frames that these take.
     before: [Row; 2],
     taken: u8,
-    deed: Deed,
-    /// What comes of it where there are frames, and where too few are.
+    operation: Operation,
+    /// Its answer if enough frames are free, and (`dry`) if too few are.
     done: Answer,
     dry: Answer,
-    /// How many it needs.
+    /// The number of frames that it needs.
     need: u8,
-    /// How many come back: those of the process in whose place another one comes.
+    /// The number of frames that are free after it, if just its need was: those of the process that exec replaces.
     back: usize,
 }
 
-/// No deed needs more.
+/// No case needs more frames.
 const MOST_NEEDED: u8 = 10;
 
-/// Bytes on both sides of the end of page 1.
-const ACROSS: Deed = CopyOut(0x1ffe, [1, 2, 3, 4]);
+/// A copy of two bytes to the end of page 1, and of two to the beginning of page 2.
+const ACROSS: Operation = CopyOut(0x1ffe, [1, 2, 3, 4]);
 
-/// The heap may reach far.
+/// Grows the heap by 1 GiB.
 const GROWN: Row = (Grow(0x4000_0000), Done, false);
 
-/// A fork takes a trapframe and five tables. The images have five pages and three, with five tables each; the process that goes
-/// has five pages, five tables and the page of its mapping, of which nothing is written back before all frames are there.
+/// A fork takes a trapframe and five page tables. The images have five pages and three, with five page tables each. The
+/// process that exec replaces has five pages, five page tables and the page of its mapping, which is not written back before
+/// all frames are reserved.
 fn cases() -> [Case; 6] {
-    let whole = |deed: Deed, need: u8, back: usize| Case {
+    let whole = |operation: Operation, need: u8, back: usize| Case {
         before: [
             (Map(0x1000), Done, false),
             (CopyOut(0x3f_ffff_d000, [1, 2, 3, 4]), Done, false),
         ],
         taken: 1,
-        deed,
+        operation,
         done: Done,
         dry: Refused(NoFrame),
         need,
@@ -55,7 +58,7 @@ fn cases() -> [Case; 6] {
     let page = |address: u64, need: u8| Case {
         before: [(ACROSS, Done, false), GROWN],
         taken: 0,
-        deed: Serve(Access::Store, address),
+        operation: Serve(Access::Store, address),
         done: Served(Ready),
         dry: Served(Ended(Rule::NoFrame)),
         need,
@@ -71,7 +74,7 @@ fn cases() -> [Case; 6] {
     ]
 }
 
-/// How many frames are left to a process that takes so many before a deed, and has so many for it.
+/// The number of frames to leave to a process that takes `taken` of them before an operation and has `left` for it.
 fn left_to(taken: u8, left: u8) -> usize {
     STANDARD + usize::from(taken) + usize::from(left)
 }
@@ -79,7 +82,11 @@ fn left_to(taken: u8, left: u8) -> usize {
 #[test]
 fn refuses_below_the_need(rt: HostRuntime) -> Result<(), Fail> {
     for case in cases() {
-        let Case { deed, need, .. } = case;
+        let Case {
+            operation,
+            need,
+            ..
+        } = case;
         for left in 0..=MOST_NEEDED {
             if left > need {
                 break;
@@ -94,18 +101,18 @@ fn refuses_below_the_need(rt: HostRuntime) -> Result<(), Fail> {
                 left: left_to(case.taken, left),
                 sharers: 0,
                 promises: None,
-                rows: &[first, second, (deed, answer, left < need)],
+                rows: &[first, second, (operation, answer, left < need)],
                 free,
             };
-            let fault = first_fault(&rt, rt.alloc(), &story)?;
-            assert_eq!(rt; fault, None, "{deed:?} with {left}");
+            let fault = first_wrong_outcome(&rt, rt.alloc(), &story)?;
+            assert_eq!(rt; fault, None, "{operation:?} with {left}");
         }
     }
     Ok(())
 }
 
-/// A child shares the pages of the data. With no frame nothing is copied, with one the two bytes in page 1, with two all four;
-/// and only a page that got a frame is then the process's own.
+/// A child shares the pages of the data. With no free frame nothing is copied, with one the two bytes in page 1, with two
+/// all four; then only the pages that got a frame can be written without another one.
 fn copies() -> [[Row; 5]; 3] {
     let fork = (Fork, Done, false);
     let short = |done: usize| Short(Denied(Rule::NoFrame), done, 0);
@@ -146,7 +153,7 @@ fn copies_to_pages_that_get_frames(rt: HostRuntime) -> Result<(), Fail> {
             rows,
             free: 0,
         };
-        let fault = first_fault(&rt, rt.alloc(), &story)?;
+        let fault = first_wrong_outcome(&rt, rt.alloc(), &story)?;
         assert_eq!(rt; fault, None, "with {left}");
     }
     Ok(())
@@ -154,7 +161,7 @@ fn copies_to_pages_that_get_frames(rt: HostRuntime) -> Result<(), Fail> {
 
 #[test]
 fn forks_while_frame_zero_can_be_shared(rt: HostRuntime) -> Result<(), Fail> {
-    // the second seat and the process have one reference each; there can be 65,535
+    // the keeper and the process have one reference each, beside `sharers`; the child needs one more, and 65,535 is the most
     for (sharers, answer, same, free) in [
         (65_532, Done, false, 0),
         (65_533, Refused(SharersFull), true, 6),
@@ -166,7 +173,7 @@ fn forks_while_frame_zero_can_be_shared(rt: HostRuntime) -> Result<(), Fail> {
             rows: &[(ACROSS, Done, false), (Fork, answer, same)],
             free,
         };
-        let fault = first_fault(&rt, rt.alloc(), &story)?;
+        let fault = first_wrong_outcome(&rt, rt.alloc(), &story)?;
         assert_eq!(rt; fault, None, "with {sharers}");
     }
     Ok(())

@@ -1,10 +1,12 @@
-// Promises of the file that are refused in turn: what was asked for is refused, and is done when it is asked for again.
+// Tests that a served fault, both kernel copies, munmap and exec are refused if the file refuses a promise (a reservation of
+// page I/O), keep what was copied before but change nothing else, and succeed when they are repeated if frames are free.
+// `Case`: promises and frames, four rows of an operation and its answer, and free frames in the end.
 
-use crate::deed::Answer::{Copied, Done, Refused, Served, Short};
-use crate::deed::Deed::{CopyIn, CopyOut, Exec, Map, Serve, Unmap};
-use crate::deed::Row;
-use crate::given::STANDARD;
-use crate::stores::first_fault;
+use crate::images_and_file::STANDARD;
+use crate::operation::Answer::{Copied, Done, Refused, Served, Short};
+use crate::operation::Operation::{CopyIn, CopyOut, Exec, Map, Serve, Unmap};
+use crate::operation::Row;
+use crate::stores::first_wrong_outcome;
 use crate::stories::Story;
 use fault_rules::Served::{Ready, Unserved};
 use process_model::Refusal::{Memory, NoFrame};
@@ -12,15 +14,16 @@ use std::test::Fail;
 use sv39_entry::Access;
 use user_copy::Stop::Unpromised;
 
-/// Where the mapping of two pages begins, and where its second page does.
+/// The addresses of the two pages of the mapping.
 const FIRST: u64 = 0x3f_ffff_c000;
 
 const SECOND: u64 = 0x3f_ffff_d000;
 
-/// How many promises the file makes, how many frames are free at first, what is done, and how many are free in the end.
+/// How many promises the file makes before it refuses one, the number of free frames at first, the rows, and the number of
+/// free frames in the end.
 type Case = (usize, usize, [Row; 4], usize);
 
-/// In the last case the promise of exec is refused and no frame is free either: the promise is judged first.
+/// In the last case exec's promise is refused, and no frame is free either: the promise is asked for first.
 fn cases() -> [Case; 9] {
     let map = (Map(0x2000), Done, false);
     let fault = Serve(Access::Store, FIRST);
@@ -123,7 +126,7 @@ fn cases() -> [Case; 9] {
     ]
 }
 
-/// How many frames are left to a process that has so many beside those of its start.
+/// The number of frames to leave to a process so that `beside` are free after its start.
 fn left_to(beside: usize) -> usize {
     STANDARD.saturating_add(beside)
 }
@@ -138,7 +141,7 @@ fn changes_nothing_without_a_promise(rt: HostRuntime) -> Result<(), Fail> {
             rows,
             free: *free,
         };
-        let fault = first_fault(&rt, rt.alloc(), &story)?;
+        let fault = first_wrong_outcome(&rt, rt.alloc(), &story)?;
         assert_eq!(rt; fault, None, "case {number}");
     }
     Ok(())

@@ -1,10 +1,12 @@
-// Requests that are refused for what they ask, while frames come and go.
+// Tests that wrong heap sizes, mappings and unmappings are refused, that accesses and copies that a rule denies get that
+// rule, and that a shrinking heap releases its frames: two stories (test cases), rows of an operation, its answer, and
+// whether it changes nothing.
 
-use crate::deed::Answer::{Copied, Done, Refused, Served, Short};
-use crate::deed::Deed::{CopyIn, CopyOut, Grow, Map, Serve, Unmap};
-use crate::deed::Row;
-use crate::given::STANDARD;
-use crate::stores::first_fault;
+use crate::images_and_file::STANDARD;
+use crate::operation::Answer::{Copied, Done, Refused, Served, Short};
+use crate::operation::Operation::{CopyIn, CopyOut, Grow, Map, Serve, Unmap};
+use crate::operation::Row;
+use crate::stores::first_wrong_outcome;
 use crate::stories::Story;
 use fault_rules::Served::{Ended, Ready};
 use process_model::Refusal::{BadArgument, BadSize, HoleInMapping, NoRoom};
@@ -15,8 +17,8 @@ use user_copy::Stop::Denied;
 /// How far the heap grows, in bytes.
 const FAR: i64 = 1 << 37;
 
-/// Pages of the heap. The lowest has its tables from the beginning, those in the middle and at the end have two more each, and
-/// that beside the lowest one.
+/// Addresses in pages of the heap. The page of `LOW` has its page tables from the start; those of `MIDDLE` and `HIGH` lack
+/// two each, and that of `BESIDE` one.
 const LOW: u64 = 0x5000;
 
 const MIDDLE: u64 = 1 << 30;
@@ -25,8 +27,8 @@ const HIGH: u64 = 1 << 37;
 
 const BESIDE: u64 = 1 << 21;
 
-/// The heap grows, three pages take all seven frames, it shrinks to one byte, so that two frames and no table come back, and it
-/// grows again.
+/// The heap grows, and three of its pages take all seven frames. It shrinks to one byte, which releases the frames of two
+/// pages and no page table, and grows again.
 fn heap() -> [Row; 18] {
     let served = |address: u64| (Serve(Access::Store, address), Served(Ready), false);
     let dry = (
@@ -56,7 +58,7 @@ fn heap() -> [Row; 18] {
     ]
 }
 
-/// Mappings that cannot be or cannot go, and accesses that a rule denies.
+/// Mappings and unmappings that are refused, and accesses and copies that a rule denies.
 fn denied() -> [Row; 12] {
     let (refused, first) = (Refused(BadArgument), 0x3f_ffff_b000);
     let ended = |access: Access, address: u64, rule: Rule| {
@@ -93,7 +95,7 @@ fn refuses_what_cannot_be(rt: HostRuntime) -> Result<(), Fail> {
             rows,
             free: 0,
         };
-        let fault = first_fault(&rt, rt.alloc(), &story)?;
+        let fault = first_wrong_outcome(&rt, rt.alloc(), &story)?;
         assert_eq!(rt; fault, None, "with {left}");
     }
     Ok(())

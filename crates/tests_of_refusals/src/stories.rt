@@ -1,42 +1,47 @@
-// Stories of one process beside a second seat, over any store.
+// `Story`, a struct: a test case of one process beside a second seat (an owner's capability at the store), the keeper:
+// frames left, references of frame 0, promises (reservations of page I/O), rows of operations, free frames after them.
+// `played_over` plays it over any store.
 
 ghost use Rattle.std.specs.Prelude.{IfOk};
-ghost use Rattle.frame_store.specs.Laws.{Fits, Keeps};
+ghost use Rattle.frame_store.specs.Laws.{IsSeatOf, KeepsSeats};
 ghost use Rattle.frame_store.specs.View.{IsHeld};
 
 use crate::accounts::Accounts;
-use crate::beginning::{begun, reserved_all};
-use crate::deed::Row;
 use crate::family::{Wrong, ended, first_wrong};
-use crate::given::OneFile;
+use crate::images_and_file::OneFile;
+use crate::initial_process::{begun, reserved_all};
+use crate::operation::Row;
 use frame_store::{FrameAccess, FrameSeat, FrameSupply};
 use process_model::Image;
 use std::alloc::Global;
 use std::test::Fail;
 use sv39_entry::Scheme;
 
-/// How many frames a store of a story has. Beside frame 0, the second seat reserves all but those that are left to the process.
+/// The number of frames of a story's store. The keeper reserves all but frame 0 and those that are left to the process.
 pub(crate) const FRAMES: usize = 64;
 
-/// What a process of the first image does, and what is left.
+/// What a process of the first image does, and how many frames are free after it.
 #[derive(Clone, Copy)]
 pub(crate) struct Story<'a> {
-    /// How many frames are left to the process.
+    /// The number of frames left to the process.
     pub left: usize,
-    /// How many more references of frame 0 the second seat has.
+    /// How many references of frame 0 the keeper takes beside its own.
     pub sharers: usize,
-    /// How many promises the file makes before it refuses one, or None where it refuses none.
+    /// How many promises the file makes before it refuses one; `None`: it refuses none.
     pub promises: Option<usize>,
     pub rows: &'a [Row],
-    /// How many of the frames are free in the end, while the process is there still.
+    /// The number of free frames after the rows, before the process is destroyed.
     pub free: usize,
 }
 
-/// What came of it: the first wrong row, and how many frames are free in the end.
+/// The first wrong row, and the number of free frames after the rows.
 pub(crate) type Told = (Wrong, usize);
 
-/// What comes of a story over a store, and its only seat.
-pub(crate) fn told_over<S: FrameSeat + Drop, F: FrameSupply<Seat = S> + Accounts>(
+/// Plays a story over a store whose only seat is the keeper. Returns its result, and the one seat in the end.
+///
+/// # Errors
+/// `Fail`: there is no image or it is not accepted, the process could not be started, or the host is out of memory.
+pub(crate) fn played_over<S: FrameSeat + Drop, F: FrameSupply<Seat = S> + Accounts>(
     alloc: Global,
     store: &mut F,
     mut keeper: S,
@@ -44,9 +49,9 @@ pub(crate) fn told_over<S: FrameSeat + Drop, F: FrameSupply<Seat = S> + Accounts
     images: &[Image],
     story: &Story,
 ) -> Result<(Told, S), Fail>
-    requires fits { Fits F.rule store.old keeper }
+    requires fits { IsSeatOf F.rule store.old keeper }
     requires anchored { IsHeld (S.view keeper) 0 }
-    ensures keeps { IfOk result (λ r. Keeps F.rule store.old keeper store.new r.1) }
+    ensures keeps { IfOk result (λ r. KeepsSeats F.rule store.old keeper store.new r.1) }
 {
     let Some(image) = images.first() else {
         return Err(Fail::from("no image"));

@@ -1,15 +1,17 @@
-// Children of one process, each on a thread of its own: they part from it while it goes on.
+// A test that copy-on-write works on threads: eight children and their parent, each on its own thread, store numbers to pages
+// that they share, each loads its own, and in the end all frames but frame 0 are free. `Job`, a struct: a process with the
+// addresses and the numbers that its thread stores.
 
 ghost use Rattle.std.specs.Prelude.{◌<◌, All, IfOk};
 ghost use Rattle.address_space.specs.Agreement.{body_of};
-ghost use Rattle.frame_store.specs.Laws.{Fits, Keeps};
-ghost use Rattle.shared_frames.specs.Fits.{FitsIn};
+ghost use Rattle.frame_store.specs.Laws.{IsSeatOf, KeepsSeats};
+ghost use Rattle.shared_frames.specs.SeatsOfTable.{FitsIn};
 ghost use Rattle.tests_of_refusals.specs.Family.{IsAlive};
 ghost use Rattle.tests_of_refusals.specs.Ready.{IsReady};
 
-use crate::beginning::begun;
-use crate::given::standard_segments;
-use address_space::{Asked, Space};
+use crate::images_and_file::standard_segments;
+use crate::initial_process::begun;
+use address_space::{AccessRequest, Space};
 use cow_fork::fork;
 use exec_segments::Image;
 use fault_rules::{Served, serve};
@@ -23,7 +25,8 @@ use std::test::Fail;
 use std::thread::{Threads, map_vec};
 use sv39_entry::{Access, Mode, Scheme, Va};
 
-/// A process on a thread: where it stores numbers, and which, from the first up to, and without, the last.
+/// A process for a thread: the addresses to which it stores numbers, and the numbers, from `first` up to but not including
+/// `last`.
 #[derive(Drop)]
 struct Job {
     space: Space<SharedSeat>,
@@ -33,7 +36,7 @@ struct Job {
     last: u64,
 }
 
-/// An access of the user to eight bytes.
+/// A user access to eight bytes, by a walk of the page table.
 fn access<S: FrameSeat, F: FrameAccess<Seat = S>>(
     space: &mut Space<S>,
     store: &mut F,
@@ -41,12 +44,12 @@ fn access<S: FrameSeat, F: FrameAccess<Seat = S>>(
     address: u64,
     value: u64,
 ) -> Reply
-    requires fits { Fits F.rule store.old space.old.seat }
+    requires fits { IsSeatOf F.rule store.old space.old.seat }
     requires alive { IsAlive (body_of S.view space.old) }
     ensures alive { IsAlive (body_of S.view space.new) }
-    ensures keeps { Keeps F.rule store.old space.old.seat store.new space.new.seat }
+    ensures keeps { KeepsSeats F.rule store.old space.old.seat store.new space.new.seat }
 {
-    let asked = Asked {
+    let asked = AccessRequest {
         access,
         va: Va(address),
         width: 8,
@@ -56,7 +59,7 @@ fn access<S: FrameSeat, F: FrameAccess<Seat = S>>(
     space.user_access(store, walk, asked)
 }
 
-/// Stores a number, once its fault is served where it has one, and says whether that was done.
+/// Stores a number; if the store faults, serves the fault and stores again. Returns whether it was stored.
 fn store_served<S: FrameSeat, F: FrameSupply<Seat = S>, C: Files>(
     space: &mut Space<S>,
     store: &mut F,
@@ -64,10 +67,10 @@ fn store_served<S: FrameSeat, F: FrameSupply<Seat = S>, C: Files>(
     address: u64,
     number: u64,
 ) -> bool
-    requires fits { Fits F.rule store.old space.old.seat }
+    requires fits { IsSeatOf F.rule store.old space.old.seat }
     requires alive { IsAlive (body_of S.view space.old) }
     ensures alive { IsAlive (body_of S.view space.new) }
-    ensures keeps { Keeps F.rule store.old space.old.seat store.new space.new.seat }
+    ensures keeps { KeepsSeats F.rule store.old space.old.seat store.new space.new.seat }
 {
     if access(space, store, Access::Store, address, number) == Reply::Stored {
         return true;
@@ -78,7 +81,7 @@ fn store_served<S: FrameSeat, F: FrameSupply<Seat = S>, C: Files>(
     access(space, store, Access::Store, address, number) == Reply::Stored
 }
 
-/// Stores a number at two addresses, reads both back, and says whether it was there.
+/// Stores a number at two addresses and loads both. Returns whether both stores were made and both loads read the number.
 fn keep<S: FrameSeat, F: FrameSupply<Seat = S>, C: Files>(
     space: &mut Space<S>,
     store: &mut F,
@@ -86,10 +89,10 @@ fn keep<S: FrameSeat, F: FrameSupply<Seat = S>, C: Files>(
     addresses: [u64; 2],
     number: u64,
 ) -> bool
-    requires fits { Fits F.rule store.old space.old.seat }
+    requires fits { IsSeatOf F.rule store.old space.old.seat }
     requires alive { IsAlive (body_of S.view space.old) }
     ensures alive { IsAlive (body_of S.view space.new) }
-    ensures keeps { Keeps F.rule store.old space.old.seat store.new space.new.seat }
+    ensures keeps { KeepsSeats F.rule store.old space.old.seat store.new space.new.seat }
 {
     let [one, other] = addresses;
     let first = store_served(space, store, files, one, number);
@@ -100,7 +103,7 @@ fn keep<S: FrameSeat, F: FrameSupply<Seat = S>, C: Files>(
     first && second && there == read && there_too == read
 }
 
-/// Does a job, and says whether each number was kept. The process has ended then.
+/// Does a job and destroys its space. Returns the seat, and whether each number was kept.
 fn done<R: Wait>(rt: &R, frames: &SharedFrames, job: Job) -> (SharedSeat, bool)
     requires ready { IsReady frames.now.table job.space }
     ensures { FitsIn frames.now.table result.0 }
@@ -122,7 +125,7 @@ fn done<R: Wait>(rt: &R, frames: &SharedFrames, job: Job) -> (SharedSeat, bool)
     (space.destroy(&mut store), all)
 }
 
-/// A child on the same frames, with its job: it stores its number at 0x1000 and at 0x2000.
+/// Forks a child over the same frames. Its job is to store `number` at 0x1000 and at 0x2000.
 fn child<R: Wait>(
     rt: &R,
     alloc: Global,
@@ -146,7 +149,7 @@ fn child<R: Wait>(
     })
 }
 
-/// The jobs of eight children, and last that of the parent, which stores a hundred thousand numbers at 0x1000.
+/// The jobs of eight children and, last, that of the parent, which stores 100,000 numbers at 0x1000.
 fn jobs<R: Wait>(
     rt: &R,
     alloc: Global,
@@ -170,7 +173,7 @@ fn jobs<R: Wait>(
     Ok(jobs)
 }
 
-/// Does all jobs, each on a thread of its own, and joins their seats to one. Says whether each number was kept.
+/// Does all jobs, each on its own thread, and joins their seats to `seat`. Returns whether each number was kept.
 fn join_all<R: Threads + Wait + Sync>(
     rt: &R,
     frames: &SharedFrames,
@@ -197,7 +200,8 @@ fn join_all<R: Threads + Wait + Sync>(
     Ok(all)
 }
 
-/// What the totals are when all processes have ended, if each number was kept.
+/// Starts a process, does the jobs of its children and its own, and returns the totals in the end; `None` if a number was
+/// not kept.
 fn totals_after<R: Threads + Wait + Sync>(rt: &R, alloc: Global) -> Result<Option<Totals>, Fail> {
     let segments = standard_segments(alloc)?;
     let image = Image::from_segments(Scheme::Sv39, &segments)?;
@@ -210,8 +214,8 @@ fn totals_after<R: Threads + Wait + Sync>(rt: &R, alloc: Global) -> Result<Optio
 }
 
 #[test]
-fn eight_children_part_at_once(rt: HostRuntime) -> Result<(), Fail> {
-    // frame 0 is held by the opening seat alone
+fn nine_threads_take_over_at_once(rt: HostRuntime) -> Result<(), Fail> {
+    // the only reference left is that of the first seat to frame 0
     let totals = Totals {
         free: 255,
         held: 1,

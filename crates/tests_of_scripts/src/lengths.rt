@@ -1,4 +1,6 @@
-// Scripts, images and texts up to their limits, and past them.
+// Tests that `play` takes 100,000 lines after `boot` and refuses one more; refuses lines and scripts above the greatest
+// length; takes an image of 17 pages; and writes a long text in few calls. `CountingWriter`, a struct: counts calls and
+// bytes.
 
 use audit_player::{PlayError, Reader, Writer, play};
 use process_model::Cause;
@@ -7,7 +9,7 @@ use std::io;
 use std::io::Write;
 use std::test::Fail;
 
-/// A writer that takes what it is given, and counts.
+/// A writer that takes all bytes that it is given, and counts calls and bytes.
 #[derive(Drop)]
 struct CountingWriter {
     calls: usize,
@@ -26,7 +28,7 @@ impl Write for CountingWriter {
     }
 }
 
-/// What playing a script answers, and how many calls wrote how many bytes.
+/// Plays a script. Returns the result, and how many calls wrote how many bytes.
 fn counted(alloc: Global, script: &[u8]) -> (Result<(), PlayError>, (usize, usize)) {
     let mut reader = Reader::new(script);
     let mut writer = Writer::new(CountingWriter { calls: 0, bytes: 0 });
@@ -35,7 +37,7 @@ fn counted(alloc: Global, script: &[u8]) -> (Result<(), PlayError>, (usize, usiz
     (result, (calls, bytes))
 }
 
-/// A text, so many times.
+/// Appends `piece` to `text`, `count` times.
 fn push_times(text: &mut String, piece: &str, count: usize) -> Result<(), AllocError> {
     for _ in 0..count {
         text.push_str(piece)?;
@@ -43,7 +45,7 @@ fn push_times(text: &mut String, piece: &str, count: usize) -> Result<(), AllocE
     Ok(())
 }
 
-/// More than 2 MiB of text, in pieces of at least 64 KiB and a last one.
+/// More than 2 MiB of text, written in pieces of at least 64 KiB and a last one.
 #[test]
 fn takes_a_hundred_thousand_lines(rt: HostRuntime) -> Result<(), Fail> {
     let mut script = String::from_str(rt.alloc(), "boot 1 16 1 full\n")?;
@@ -59,7 +61,7 @@ fn takes_a_hundred_thousand_lines(rt: HostRuntime) -> Result<(), Fail> {
     Ok(())
 }
 
-/// A line feed, and then this many blanks.
+/// A line feed, and then `count` spaces.
 fn blanks(alloc: Global, count: usize) -> Result<Vec<u8>, AllocError> {
     let mut bytes = vec![in alloc; b' '; count]?;
     bytes.insert(0, b'\n')?;
@@ -86,7 +88,7 @@ fn refuses_what_is_too_long(rt: HostRuntime) -> Result<(), Fail> {
     Ok(())
 }
 
-/// An image of 17 pages, each byte of which the script gives: the first and the last are read.
+/// An image of 17 pages, whose bytes are all in the script. The first and the last of them are loaded.
 #[test]
 fn takes_a_long_image(rt: HostRuntime) -> Result<(), Fail> {
     let mut script = String::from_str(rt.alloc(), "image 0x1000:0x11000:r:a5")?;

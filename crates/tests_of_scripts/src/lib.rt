@@ -1,18 +1,18 @@
-//! Tests of scripts and replies that rows cannot show: long scripts and texts, scripts that are cut, readers and
-//! writers that fail, files for threads at their limits, what a script says through its calls, and replies as they print.
-//! Nothing stands on it.
+//! Tests that `script_reader`, `audit_player` and the texts of replies are right where rows (scripts with their answers,
+//! `row_player`) cannot show it: long scripts and texts, scripts cut at each byte, readers and writers that fail, limits of
+//! files for threads, what a script declares. No crate depends on it.
 #![tactic(auto)]
 
 #[cfg(test)]
-mod cutting;
-#[cfg(test)]
-mod failing;
+mod broken_streams;
 #[cfg(test)]
 mod lengths;
 #[cfg(test)]
 mod mapped_file;
 #[cfg(test)]
-mod saying;
+mod script_items;
+#[cfg(test)]
+mod script_pieces;
 #[cfg(test)]
 mod texts;
 #[cfg(test)]

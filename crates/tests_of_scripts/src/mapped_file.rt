@@ -1,11 +1,12 @@
-// A script that maps a file, stores to it and shows what went back.
+// A script for other tests, which maps a file, stores to it and shows what was written back: `lines`, its lines with their
+// answers and the result of cutting each line at each byte; `script_and_text`, the whole script and its text.
 
 use std::alloc::{AllocError, Global};
 
-/// The lines of the script, each with what its beginnings are and with what it answers.
+/// The lines of the script. Each has a letter for each of its bytes, and its answer, which is empty for a declaration.
 ///
-/// The letter below a byte tells what the line is up to that byte: refused by `W` Word, `C` Count, `N` Number or
-/// `F` Field, or a dot where it stands. A line that stands after `boot` answers the same wherever it was cut.
+/// The letter says what the line is if it is cut after that byte: refused with cause `W` Word, `C` Count, `N` Number or `F`
+/// Field, or a dot: valid. After `boot`, a line that is valid when cut has the answer of the whole line.
 pub fn lines() -> [(&'static str, &'static str, &'static str); 19] {
     [
         ("file 5000 rw 6162", "WWWCCCCCCCCCCF.F.", ""),
@@ -62,7 +63,10 @@ pub fn lines() -> [(&'static str, &'static str, &'static str); 19] {
     ]
 }
 
-/// The whole script, and its text.
+/// The whole script, and the text that `play` writes for it.
+///
+/// # Errors
+/// `AllocError`: the host is out of memory.
 pub fn script_and_text(alloc: Global) -> Result<(String, String), AllocError> {
     let mut script = String::new(alloc);
     let mut text = String::new(alloc);

@@ -1,4 +1,5 @@
-// Replies as they are printed.
+// Tests that `put_reply`, `put_report` and the functions for numbers and bytes (`put_decimal`, `put`, `put_bytes`) write the
+// texts that are printed: rows of a reply and its text, the report of frames, the longest number and bytes.
 
 use arrayvec::ArrayVec;
 use process_model::{
@@ -61,7 +62,8 @@ fn prints_accounts(rt: HostRuntime) -> Result<(), Fail> {
     Ok(())
 }
 
-/// The longest number, and bytes of more than one piece, on a page with no more room.
+/// The longest decimal number, and bytes of more than one piece, into a vector of the least capacity that the contracts ask
+/// for.
 #[test]
 fn prints_numbers_and_bytes(rt: HostRuntime) -> Result<(), Fail> {
     let mut said = Vec::with_capacity(rt.alloc(), 22 + 2 * 33 + 1)?;

@@ -1,6 +1,7 @@
-// Files for threads: at their limits, and with readers and writers that fail.
+// Tests that `play_threads` returns `Io` at each failed read and write, ends a process whose journal (its calls with their
+// replies) is full, and refuses a list and a file for threads that are too long.
 
-use crate::failing::{FailingReader, FailingWriter};
+use crate::broken_streams::{FailingReader, FailingWriter};
 use audit_player::{PlayError, Reader, Writer, play_threads};
 use process_model::Cause;
 use std::alloc::{AllocError, Global};
@@ -8,13 +9,13 @@ use std::sync::Wait;
 use std::test::Fail;
 use std::thread::Threads;
 
-/// A parent and its child, and what they come to.
+/// A file for threads with a parent and its child, and (`FAMILY_TEXT`) the text that is written for it.
 const FAMILY: &str =
     "image 0x1000:0x1000:rw:-\npool 64 4\nlist 0\nfork 1\nstore 0x1000 8 1\nlist 1\nload 0x1000 8\nstart 0 0\n";
 
 const FAMILY_TEXT: &str = "process 0 calls 3 exit 0\nprocess 0.0 calls 2 exit 0\nfree 54 of 54\n";
 
-/// Each read fails in turn, the one that would tell the end too.
+/// Each read fails in turn, the one that would find the end of the file too.
 #[test]
 fn threads_tell_each_failed_read(rt: HostRuntime) -> Result<(), Fail> {
     let whole = FAMILY.as_bytes();
@@ -31,7 +32,7 @@ fn threads_tell_each_failed_read(rt: HostRuntime) -> Result<(), Fail> {
     Ok(())
 }
 
-/// Each write fails in turn, and behind the last none.
+/// Each write fails in turn; with room for the whole text none does.
 #[test]
 fn threads_tell_each_failed_write(rt: HostRuntime) -> Result<(), Fail> {
     let whole = FAMILY_TEXT.as_bytes();
@@ -56,7 +57,7 @@ fn threads_tell_each_failed_write(rt: HostRuntime) -> Result<(), Fail> {
     Ok(())
 }
 
-/// What a file comes to, and its text.
+/// Plays a file for threads on two harts. Returns the result, and the text that was written.
 fn played<T: Threads + Wait + Sync>(
     rt: &T,
     alloc: Global,
@@ -69,7 +70,7 @@ fn played<T: Threads + Wait + Sync>(
     (result, text)
 }
 
-/// A file with so many lines of calls in lists of so many, and one start.
+/// A file for threads with `lines` calls, in lists of `each` calls, and one start, of list 0.
 fn file_of_calls(alloc: Global, lines: usize, each: usize) -> Result<String, AllocError> {
     let mut file = String::new(alloc);
     file.push_str("image 0x1000:0x1000:rw:-\npool 64 4\n")?;
@@ -86,7 +87,8 @@ fn file_of_calls(alloc: Global, lines: usize, each: usize) -> Result<String, All
     Ok(file)
 }
 
-/// With 10,000 entries a journal is full, and so it is before the exit at the end of the list.
+/// A journal of 10,000 entries is full. So after 10,000 calls there is no room for the exit at the end of the list; after
+/// 9,999 there is.
 #[test]
 fn a_full_journal_ends_its_process(rt: HostRuntime) -> Result<(), Fail> {
     let file = file_of_calls(rt.alloc(), 10_000, 10_000)?;
@@ -102,7 +104,7 @@ fn a_full_journal_ends_its_process(rt: HostRuntime) -> Result<(), Fail> {
     Ok(())
 }
 
-/// The 10,001st call of a list, and the 100,001st line behind `pool`.
+/// The 10,001st call of a list, and the 100,001st line after `pool`.
 #[test]
 fn lists_and_files_may_be_too_long(rt: HostRuntime) -> Result<(), Fail> {
     for (lines, each, at) in [(10_001, 20_000, 10_004), (99_991, 10_000, 100_003)] {

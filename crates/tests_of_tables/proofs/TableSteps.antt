@@ -1,4 +1,6 @@
--- What the seats of the tests hold, step by step.
+-- Lemmas for the tests of page tables: what a seat (an owner's capability at a frame store) holds after a claim, a write and
+-- a release; enough credits (reserved frames) for each page that is mapped; a page that was found has a leaf; and tables
+-- without leaves can be released.
 use Rattle.std.proofs.Common.{◌≡◌, ℕ, zero, suc, ◌+◌, ◌-◌, ◌*◌, ◌<◌, ◌≤◌, ◌==◌, Bool, true, false, cond, refl, ap, sym, subst, ◌∙◌, arith, Option, None, Some, Result, Ok, Err, lit<, inl, inr}
 use Rattle.std.specs.Prelude.{if◌then◌else◌, is_ok, is_some, IfOk, IsSome}
 use Rattle.std.specs.FinMap as map
@@ -8,11 +10,11 @@ use Rattle.std.proofs.lemmas.Bool.{cases_eq}
 use Rattle.std.proofs.lemmas.Option.{same_Some}
 use Rattle.frame_store.specs.Holds.{opening_holds, hold_of-frames, hold_of-with_hold_other, hold_of-with_hold_same, hold_of-without_hold_other}
 use Rattle.frame_store.specs.View.{Hold, View, opening_view, with_credits, claimed, hold_of, IsHeld, IsSole, references, released, sole_hold, with_hold, with_word, without_hold}
-use Rattle.table_walk.specs.Changed.{IsNextLeafBefore, places}
+use Rattle.table_walk.specs.TableChanges.{IsNextLeafBefore, places}
 use Rattle.table_walk.specs.Tables.{HasTables, Tables, IsGrown, ChangesTables, bare_root, blank_hold, missing, missing_to, node, root_node, walk_leaf, with_leaf, without_leaf}
 use Rattle.table_walk.specs.Keys.{insert_other, insert_same, remove_other, remove_same}
-use Rattle.table_walk.specs.Same.{same_held}
-use Rattle.table_walk.specs.Released.{AreLast}
+use Rattle.table_walk.specs.SameFrames.{same_held}
+use Rattle.table_walk.specs.TableRelease.{AreLast}
 use Rattle.table_walk.specs.Nodes.{low_leaf}
 use Rattle.sv39_entry.specs.Schemes.{of_scheme, top_level}
 use Rattle.sv39_entry.specs.declared.scheme.Scheme.{Scheme}

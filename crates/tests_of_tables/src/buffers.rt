@@ -1,4 +1,6 @@
-// Fills, fences and uses over a memory of 1,024 frames with two tables.
+// Tests that `Buffer`, a hart's TLB, keeps, fences, evicts and uses entries as it must: whole superpages, entries that
+// record no leaf, at most 32 entries, nothing of access faults; over a memory of at most 1,024 frames with two page tables.
+// One test has rows of an entry, an access and its outcome.
 
 ghost use Rattle.std.specs.Prelude.{◌≡◌, ◌≤◌};
 ghost use Rattle.sv39_entry.specs.Satp as satps;
@@ -9,19 +11,19 @@ use std::test::Fail;
 use sv39_entry::{Access, FrameNo, Mode, Satp, Scheme, Va};
 use table_walk::{PlainWords, Walk};
 
-/// Word 0 of frame 1: a pointer to frame 2.
+/// Word 0 of frame 1, the root: a pointer to frame 2.
 const POINTER: u64 = 0x20000801;
 
-/// A leaf of frame 512 that a user may load and store, accessed and dirty.
+/// A leaf of frame 512 that grants user loads and stores. A and D are set.
 const DATA: u64 = 0x200800d7;
 
-/// The same, and global.
+/// `DATA` with G set.
 const GLOBAL: u64 = 0x200800f7;
 
-/// The same as `DATA`, but of the page at physical address 0, where there is no memory.
+/// `DATA` for the page at physical address 0, where there is no memory.
 const NOWHERE: u64 = 0x000000d7;
 
-/// The words of so many frames, all 0 but word 0 of frame 1 and the one at index 1 of frame 2.
+/// The words of `frames` frames: all are 0 but `POINTER`, and `word` at index 1 of frame 2.
 fn tables(alloc: Global, frames: usize, word: u64) -> Result<Vec<u64>, AllocError>
     requires some { 3 ≤ frames }
     requires few { frames ≤ 1024 }
@@ -32,7 +34,7 @@ fn tables(alloc: Global, frames: usize, word: u64) -> Result<Vec<u64>, AllocErro
     Ok(words)
 }
 
-/// Address space 7, with its root in frame 1.
+/// satp of Sv39 with ASID 7 and the root in frame 1.
 fn satp() -> Satp
     ensures mode { satps.mode result ≡ 8 }
 {
@@ -54,7 +56,7 @@ fn fences_whole_superpages(rt: HostRuntime) -> Result<(), Fail> {
     Ok(())
 }
 
-/// A leaf of the root of four levels is fenced by any address of its 512 GiB.
+/// A leaf in the root of Sv48 is removed by a fence of any address in its 512 GiB.
 #[test]
 fn fences_leaves_of_level_3(rt: HostRuntime) -> Result<(), Fail> {
     let mut words = vec![in rt.alloc(); 0; 1024 * 512]?;

@@ -1,4 +1,5 @@
-//! Tests of page tables, their walk and the translation buffer, through what their crates export. Nothing stands on it.
+//! Tests that `table_walk` (walks of Sv39 and Sv48, changes of page tables) and `hart_tlb` (a hart's TLB) return the right
+//! results through their public APIs. No crate depends on it.
 #![tactic(auto)]
 
 #[cfg(test)]

@@ -1,8 +1,10 @@
-// Vectors from outside: walks over a memory of 1,024 frames with a few tables, and changes of tables that a seat holds.
+// Tests that walks (RISC-V Privileged Architecture 20211203, 4.3.2) agree with independent test vectors (`Row`: a PTE, an
+// access and the outcome) over a memory of at most 1,024 frames with a few page tables, under Sv39 and Sv48; and that map,
+// protect, unmap, look-up and release work on page tables that a seat (an owner's capability at a frame store) holds.
 
 ghost use Rattle.std.specs.Prelude.{◌≡◌, ◌+◌, ◌≤◌, ◌<◌, [], ◌∷◌, ℕ, IfOk};
-ghost use Rattle.frame_store.specs.Laws.{Fits, Keeps};
-ghost use Rattle.frame_store.specs.Plain.{BankRule};
+ghost use Rattle.frame_store.specs.Laws.{IsSeatOf, KeepsSeats};
+ghost use Rattle.frame_store.specs.Plain.{PlainStateRule};
 ghost use Rattle.frame_store.specs.View.{hold_of, IsHeld};
 ghost use Rattle.table_walk.specs.Tables.{HasTables, Tables};
 
@@ -21,25 +23,25 @@ const POINTER: u64 = 0x20000801;
 /// Word 0 of frame 3: a pointer to frame 1.
 const UPPER: u64 = 0x20000401;
 
-/// The same tables below a root of three levels and of four.
+/// The roots of the same page tables: of three levels, and of four.
 const ROOTS: [(Scheme, FrameNo); 2] = [(Scheme::Sv39, FrameNo(1)), (Scheme::Sv48, FrameNo(3))];
 
-/// A leaf of frame 512 that a user may load and store, accessed and dirty.
+/// A leaf of frame 512 that grants user loads and stores. A and D are set.
 const DATA: u64 = 0x200800d7;
 
-/// The same, with a bit set that has to be clear.
+/// `DATA` with a reserved bit set.
 const RESERVED: u64 = 0x00400000200800d7;
 
-/// The same as `DATA`, but not dirty.
+/// `DATA` without D.
 const CLEAN: u64 = 0x20080057;
 
-/// The same as `DATA`, but for the kernel alone.
+/// `DATA` without U.
 const KERNEL: u64 = 0x200800c7;
 
-/// The word at index 1 of frame 2, an access to an address in a mode, and its outcome.
+/// The word at index 1 of frame 2; an access, its address and its mode; and the outcome of the walk.
 type Row = (u64, Access, u64, Mode, Walk);
 
-/// The words of so many frames, all 0 but the pointers of frames 1 and 3 and the one at index 1 of frame 2.
+/// The words of `frames` frames: all are 0 but `POINTER`, `UPPER`, and `word` at index 1 of frame 2.
 fn tables(alloc: Global, frames: usize, word: u64) -> Result<Vec<u64>, AllocError>
     requires some { 4 ≤ frames }
     requires few { frames ≤ 1024 }
@@ -92,8 +94,8 @@ fn translates_accesses(rt: HostRuntime) -> Result<(), Fail> {
     Ok(())
 }
 
-/// Leaves of a root of four levels: index 0 has one that begins at a multiple of its size, and so has index 256, the first of
-/// the upper half. That of index 1 does not.
+/// Leaves in the root of Sv48. The address of the one at index 0 is a multiple of its size, and so is that at index 256, the
+/// first of the upper half. That of the one at index 1 is not.
 #[test]
 fn walks_from_the_root(rt: HostRuntime) -> Result<(), Fail> {
     let mut words = vec![in rt.alloc(); 0; 1024 * 512]?;
@@ -164,7 +166,8 @@ fn finds_leaves(rt: HostRuntime) -> Result<(), Fail> {
 /// An address, the frame that its page is mapped to, and the word of the leaf.
 type Mapping = (Va, u16, u64);
 
-/// In ascending order; the last address is that of a scheme. The kernel alone may load there.
+/// Five mappings in ascending order; the address of the last one depends on the scheme. The leaves grant loads, to the
+/// kernel alone.
 const fn mappings(last: Va) -> [Mapping; 5] {
     [
         (Va(0), 9, 0x20002443),
@@ -175,20 +178,20 @@ const fn mappings(last: Va) -> [Mapping; 5] {
     ]
 }
 
-/// A scheme, the last of its lower pages, and how many tables are missing at each mapping.
+/// A scheme, the last page of its lower half, and the number of page tables that are missing at each mapping.
 const CASES: [(Scheme, Va, [usize; 5]); 2] = [
     (Scheme::Sv39, Va(0x3ffffff000), [2, 0, 1, 2, 2]),
     (Scheme::Sv48, Va(0x7ffffffff000), [3, 0, 1, 2, 3]),
 ];
 
-/// Leaves words in a free frame.
+/// Claims a frame, makes each of its words other than 0, and releases it: a table that reuses it must be cleared.
 fn leave_words<F: FrameSupply>(store: &mut F, seat: &mut F::Seat)
-    requires fits { Fits F.rule store.old seat.old }
+    requires fits { IsSeatOf F.rule store.old seat.old }
     requires anchored { IsHeld (F.Seat.view seat.old) 0 }
     requires credit { 0 < (F.Seat.view seat.old).credits }
     ensures kept { (f : ℕ) → IsHeld (F.Seat.view seat.old) f → hold_of (F.Seat.view seat.new) f ≡ hold_of (F.Seat.view seat.old) f }
     ensures credits { (F.Seat.view seat.new).credits + 1 ≡ (F.Seat.view seat.old).credits }
-    ensures keeps { Keeps F.rule store.old seat.old store.new seat.new }
+    ensures keeps { KeepsSeats F.rule store.old seat.old store.new seat.new }
 {
     let frame = store.claim(seat);
     for index in 0..512 {
@@ -197,13 +200,14 @@ fn leave_words<F: FrameSupply>(store: &mut F, seat: &mut F::Seat)
     store.release(seat, frame);
 }
 
-/// Tables of the mappings at a new store: its seat, the root, and how many tables were missing at each of them.
+/// Makes the five mappings at a new store. Returns the store, its seat, the root, and the number of page tables that were
+/// missing at each mapping.
 fn mapped(
     alloc: Global,
     scheme: Scheme,
     last: Va,
 ) -> Result<(PlainFrames, PlainSeat, FrameNo, [usize; 5]), AllocError>
-    ensures rule { IfOk result (λ r. BankRule r.0 (r.1 ∷ [])) }
+    ensures rule { IfOk result (λ r. PlainStateRule r.0 (r.1 ∷ [])) }
     ensures tables { IfOk result (λ r. (t : Tables) × HasTables scheme r.1 r.2.0 t) }
 {
     let (mut frames, mut seat) = PlainFrames::new(alloc, 32)?;
@@ -251,11 +255,11 @@ fn finds_what_is_mapped(rt: HostRuntime) -> Result<(), Fail> {
     Ok(())
 }
 
-/// The leaf that is dropped, what is dropped a second time, and what walks find then: at that page, and at the next one, which
-/// gets a leaf of frame 12.
+/// What unmapping a page returned, and unmapping it again; and what `lookup` then finds at that page, and at the next one,
+/// whose leaf was replaced.
 type Changed = (Option<Entry>, Option<Entry>, Found, Found);
 
-/// Changes two pages of the mappings.
+/// Makes the mappings, unmaps one of them and replaces the leaf of the next; `None` if there is no next one.
 fn changed(alloc: Global, scheme: Scheme, last: Va) -> Result<Option<Changed>, AllocError> {
     let (mut frames, mut seat, root, _) = mapped(alloc, scheme, last)?;
     let gone = Va(0x200000);

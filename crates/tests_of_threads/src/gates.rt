@@ -1,6 +1,8 @@
-// What a gate sees: each call once before it is made and once after, with no lock held.
+// Tests that a hook (`Gate`, run before and after each call) sees each call once before it is made and once after, on one
+// hart (`Pairs`, a struct); and that no lock is held then: while a hook holds a call, the other hart goes on (`HoldsZero`, a
+// struct).
 
-use crate::waiting::is_reached;
+use crate::bounded_waits::is_reached;
 use audit_player::{lend_lists, lend_starts, run_pool};
 use hart_threads::Gate;
 use process_model::Call;
@@ -8,7 +10,7 @@ use script_reader::ThreadScript;
 use std::sync::atomic::{AtomicU64, Ordering};
 use std::test::Fail;
 
-/// A number above 0 that tells calls of a file apart, by the process and by the call with its fields.
+/// A number above 0 by which to tell calls apart: made of the name of the process, the call and its fields.
 fn number_of(name: &[u64], call: Call<'_>) -> u64 {
     let (kind, first, second): (u64, u64, u64) = match call {
         Call::Load { address, width } => (1, address, width),
@@ -36,7 +38,7 @@ fn number_of(name: &[u64], call: Call<'_>) -> u64 {
     number.max(1)
 }
 
-/// Counts the calls that enter and leave in pairs, by hart, process and call.
+/// A hook that checks that calls enter and leave in pairs, by hart, process and call, and counts the pairs.
 #[derive(Drop)]
 struct Pairs {
     /// By hart, the call that has entered and not left; 0 for none.
@@ -46,7 +48,7 @@ struct Pairs {
 }
 
 impl Pairs {
-    /// Puts a number in the place of a hart, and counts what is wrong where another one than `before` was there.
+    /// Sets the number of a hart to `after`. Sets `wrong` if it was not `before`, or if there is no such hart.
     fn change(&self, hart: usize, before: u64, after: u64) {
         let is_right = match self.inside.get(hart) {
             Some(inside) => inside.swap(after, Ordering::SeqCst) == before,
@@ -69,7 +71,8 @@ impl Gate for Pairs {
     }
 }
 
-/// Seven processes. Four of them fork; the three youngest have a call refused and end by a rule.
+/// A file for threads of seven processes. Four of them fork; in each of the other three a call is refused, and the process
+/// ends by a rule.
 const FAMILIES: &str =
     "file 16 rw -\nimage 0x1000:0x1000:rw:-\npool 128 8\nlist 0\nfork 1\nmmap 16 3 1 0\nfork 1\nstore 0x1000 8 1\nlist 1\nload 0x1000 8\nstore 0x1000 8 2\nfork 2\nlist 2\nmmap 16 3 1 0\nmunmap 0x3fffffc000 32\nload 0x2000 1\nstart 0 0\nstart 0 1\n";
 
@@ -115,9 +118,10 @@ fn each_call_enters_and_leaves_once(rt: HostRuntime) -> Result<(), Fail> {
     Ok(())
 }
 
-/// Holds the first call of process 0 before it is made until process 2 has ended, and after it was made until process 4
-/// has. Process 1 waits for the first of these, and process 4 for the second. So during each of them the other hart forks, maps a
-/// file, ends a process, and takes the next one from the held hart's part of the run queue.
+/// A hook that holds the first call of process 0 twice: before it is made, until process 2 has ended, and after it was made,
+/// until process 4 has. Process 1 waits until the first hold begins, and process 4 until the second does. So during each
+/// hold the other hart forks, maps a file, ends a process, and takes the next one from the held hart's part of the run
+/// queue.
 #[derive(Drop)]
 struct HoldsZero<'r> {
     rt: &'r HostRuntime,
@@ -162,7 +166,8 @@ impl Gate for HoldsZero<'_> {
     }
 }
 
-/// Processes 0 and 1 begin on a hart each; 2 and 4 are behind process 0 in the run queue, and 3 behind process 1.
+/// A file for threads. Processes 0 and 1 run first, on a hart each; 2 and 4 come after process 0 in the run queue, and 3
+/// after process 1.
 const BEHIND: &str =
     "file 16 rw -\nimage 0x1000:0x1000:rw:-\npool 128 8\nlist 0\nload 0x1000 1\nlist 1\nfork 3\nmmap 16 3 1 0\nload 0x3fffffd000 1\nlist 3\nstart 0 0\nstart 0 1\nstart 0 1\nstart 0 3\nstart 0 1\n";
 

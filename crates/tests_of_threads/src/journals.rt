@@ -1,10 +1,11 @@
-// What journals tell.
+// Tests that the journal of a process (its calls with their replies) has the right reply on 1, 2 and 8 harts. `Row`: a file
+// for threads, the name of a process, the number of a call, and the reply.
 
 ghost use Rattle.std.specs.Prelude.{◌≤◌};
 
 use arrayvec::ArrayVec;
 use audit_player::{lend_lists, lend_starts, run_pool};
-use hart_calls::{Kept, KeptReply};
+use hart_calls::{JournalReply, StoredReply};
 use hart_threads::OpenGate;
 use process_model::{Refusal, Reply};
 use script_reader::ThreadScript;
@@ -13,15 +14,16 @@ use std::sync::Wait;
 use std::test::Fail;
 use std::thread::Threads;
 
-/// Whether a reply that a journal keeps is this one.
-fn is_reply(kept: &KeptReply, reply: &Reply) -> bool {
+/// Whether the reply that a journal keeps is this one.
+fn is_reply(kept: &JournalReply, reply: &Reply) -> bool {
     match kept.kept() {
-        Kept::Brief(brief) => brief.reply() == *reply,
-        Kept::Long(long) => **long == *reply,
+        StoredReply::ScalarReply(scalar) => scalar.reply() == *reply,
+        StoredReply::Long(long) => **long == *reply,
     }
 }
 
-/// Whether a call has this reply, by the name of its process and its number in the list; none where there is no such entry.
+/// Plays a file for threads on `harts` harts. Returns whether entry `number` of the journal of process `name` has this
+/// reply; `None` if there is no such process or entry.
 fn has_reply<R: Threads + Wait + Sync>(
     rt: &R,
     alloc: Global,
@@ -61,10 +63,10 @@ fn has_reply<R: Threads + Wait + Sync>(
     Ok(None)
 }
 
-/// A file, the name of a process, the number of a call of its list, and the reply.
+/// A file for threads, the name of a process, the number of a call of its list, and the reply.
 type Row = (&'static str, &'static [u64], usize, Reply);
 
-/// A reply with these bytes, copied from a process.
+/// The reply to a copy of these bytes from a process; at most 256.
 fn copied(bytes: &[u8]) -> Reply {
     let mut list = ArrayVec::new();
     for byte in bytes {
@@ -75,8 +77,9 @@ fn copied(bytes: &[u8]) -> Reply {
     Reply::CopiedIn(list)
 }
 
-/// A fork without a slot; a write-back that its own process finds; a parent and a child that part; a page that returns; bytes that
-/// were copied to a process, across the end of a page; the first bytes of a file.
+/// A fork without a free slot; a byte that its own process wrote back; a parent and a child that each store to a page they
+/// shared; a heap page that was released, and is zeros when it returns; bytes copied to a process across the end of a page;
+/// the first bytes of a file.
 fn rows() -> [Row; 11] {
     let alone = "image 0x1000:0x1000:rw:-\npool 64 1\nlist 0\nfork 0\nstart 0 0\n";
     let written =

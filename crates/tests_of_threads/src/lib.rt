@@ -1,8 +1,10 @@
-//! Tests of harts as threads: that they are threads, what a gate sees, which calls lock the shelf, and what journals tell.
+//! Tests that harts are threads, that a hook (`Gate`) sees each call with no lock held, which calls lock the shelf (the
+//! files that threads share), and that journals (a process's calls with their replies) are right, for `hart_threads` and
+//! `hart_calls`. No crate depends on it.
 #![tactic(auto)]
 
+mod bounded_waits;
 mod gates;
 mod journals;
-mod running;
 mod shelves;
-mod waiting;
+mod two_harts;

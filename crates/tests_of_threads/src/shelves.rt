@@ -1,4 +1,5 @@
-// Calls that need no files do without the shelf.
+// Tests that calls which need no files do not lock the shelf, the files that threads share: processes run to their end while
+// the test holds the lock.
 
 use audit_player::{lend_lists, lend_starts};
 use file_cabinet::Cabinet;
@@ -9,11 +10,11 @@ use shared_frames::SharedFrames;
 use std::sync::Mutex;
 use std::test::Fail;
 
-/// Three processes that map nothing: loads, stores, forks, a heap, copies and an exec.
+/// A file for threads of three processes that map nothing: loads, a store, a fork, a heap, copies and an exec.
 const NO_FILES: &str =
     "image 0x1000:0x1000:rw:-\npool 64 4\nlist 0\nfork 1\nstore 0x1000 8 1\nsbrk 0x1000\ncopyout 0x4000 0102\ncopyin 0x4000 2\nexec 0\nlist 1\nload 0x1000 8\nstart 0 0\nstart 0 1\n";
 
-/// The test holds the lock of the shelf while they run. A call that locked it would wait for ever.
+/// The test holds the lock of the shelf while the processes run. A call that locked it would wait for ever.
 #[test]
 fn without_files_nobody_locks_the_shelf(rt: HostRuntime) -> Result<(), Fail> {
     let Ok(script) = ThreadScript::read(rt.alloc(), NO_FILES.as_bytes()) else {

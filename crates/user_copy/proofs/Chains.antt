@@ -1,9 +1,10 @@
--- Copies of one run, and of runs one after the other.
+-- Lemmas on kernel copies (copyin, copyout) run by run (a run is the bytes in one page): one run that is copied or stopped,
+-- runs after others that were copied, none after a stop, and a copy of no bytes.
 use Rattle.std.proofs.Common.{◌≡◌, ℕ, zero, suc, Bool, false, true, ◌+◌, ◌<◌, refl, sym, ◌∙◌, arith, List, [], ◌∷◌, ◌++◌, length, Option, None, Some, Ok, Err}
 use Rattle.std.specs.Prelude.{◌==◌}
 use Rattle.std.proofs.lemmas.Bool.{eqb-false, eqb-true}
 use Rattle.sv39_entry.specs.declared.access.Access.TheVariants.{Load, Store}
-use Rattle.user_copy.specs.Reaching.{Place, Reaches, Words}
+use Rattle.user_copy.specs.ReachedPage.{Place, Reaches, StoreModel}
 use Rattle.user_copy.specs.Runs.{CopiesIn, CopiesOut, IsRead, Puts, some_bytes, some_run}
 use Rattle.user_copy.specs.declared.short.Stop.{Stop}
 
@@ -22,7 +23,7 @@ is_none bytes b is none = eqb-true (length bytes) 0 (sym is ∙ none)
 pub is_some : (bytes : List ℕ) (b : Bool) → b ≡ (length bytes == 0) → b ≡ false → 0 < length bytes
 is_some bytes b is some = let apart = eqb-false (length bytes) 0 (sym is ∙ some) in omega (arith, apart)
 
-module _ {Seat Frames Cabinet : Type 0} (l : Words Seat Frames Cabinet) where
+module _ {Seat Frames Cabinet : Type 0} (l : StoreModel Seat Frames Cabinet) where
   -- ---- from a process
 
   module _ (a b : Place Seat Frames Cabinet) (address n : ℕ) (some : 0 < n) (done : List ℕ) where

@@ -1,7 +1,8 @@
--- The bytes of a copy in the first page that it comes to, and those behind them.
+-- Lemmas on the two runs of a kernel copy (copyin, copyout), the bytes in the first page and the rest: the copy stops in the
+-- first run, is all in it, or goes on with the second. Also two lemmas that weaken a clause about a result.
 use Rattle.std.proofs.Common.{◌≡◌, ℕ, ◌+◌, ◌-◌, arith, refl, sym, subst, List, [], length, drop, take, Option, None, Some, Result, Ok, Err}
 use Rattle.std.specs.Prelude.{IfErr, IfOk}
-use Rattle.user_copy.specs.Reaching.{Place, Words}
+use Rattle.user_copy.specs.ReachedPage.{Place, StoreModel}
 use Rattle.user_copy.specs.Runs.{CopiesIn, CopiesOut, near, runs, runs_of, some_bytes, some_run}
 use Rattle.user_copy.specs.declared.short.Stop.{Stop}
 use Rattle.user_copy.proofs.Chains.{more_in, more_out, no_more_in, no_more_out, nothing_out}
@@ -24,7 +25,7 @@ module _ {A E : Type 0} (r : Result A E) where
 
 -- the bytes in the first page come first, and then the others
 
-module _ {Seat Frames Cabinet : Type 0} (l : Words Seat Frames Cabinet) (address n here : ℕ) (is : here ≡ near address n) where
+module _ {Seat Frames Cabinet : Type 0} (l : StoreModel Seat Frames Cabinet) (address n here : ℕ) (is : here ≡ near address n) where
   pub stops_here_in : (a b : Place Seat Frames Cabinet) (bytes : List ℕ) (s : Stop) → CopiesIn l (some_run address here) a b [] bytes (Some s)
       → CopiesIn l (runs address n) a b [] bytes (Some s)
   stops_here_in a b bytes s stops =
@@ -42,7 +43,7 @@ module _ {Seat Frames Cabinet : Type 0} (l : Words Seat Frames Cabinet) (address
       let none : n - here ≡ 0 = omega (arith, all) in
       both_in a b b bytes bytes None front (subst (λ k. CopiesIn l (some_run (address + here) k) b b bytes bytes None) (sym none) (refl, refl, refl))
 
-module _ {Seat Frames Cabinet : Type 0} (l : Words Seat Frames Cabinet) (address : ℕ) (bytes : List ℕ) (here : ℕ) (is : here ≡ near address (length bytes)) where
+module _ {Seat Frames Cabinet : Type 0} (l : StoreModel Seat Frames Cabinet) (address : ℕ) (bytes : List ℕ) (here : ℕ) (is : here ≡ near address (length bytes)) where
   pub stops_here_out : (a b : Place Seat Frames Cabinet) (count : ℕ) (s : Stop) → CopiesOut l (some_bytes address (take here bytes)) a b 0 count (Some s)
       → CopiesOut l (runs_of address bytes) a b 0 count (Some s)
   stops_here_out a b count s stops =

@@ -1,18 +1,18 @@
--- What a copy knows of a page that it has reached.
+-- Lemmas on a page that a kernel copy (copyin, copyout) has made resident (`Reaches`): its address is below MAXVA, it may be
+-- read (`may_load`), or after a store written (`may_store`). With or without success the space is still a process
+-- (`still_reaches`).
 use Rattle.std.proofs.Common.{◌≡◌, ℕ, Bool, false, true, not, ◌||◌, refl, ap, sym, subst, ◌∙◌, ◌<◌, List, Option, None, Some, Result, Ok, Err}
 use Rattle.std.proofs.lemmas.Bool.{and_parts, leb-false}
-use Rattle.address_space.specs.Agreement.{body_of, IsSpace}
+use Rattle.address_space.specs.Agreement.{IsSpace, same_body}
 use Rattle.address_space.specs.Steps.{CanRead, CanWrite}
-use Rattle.address_space.specs.declared.space.Space.{Space}
 use Rattle.fault_rules.specs.Allowed.{can_reside}
-use Rattle.fault_rules.specs.Resides.{CanReside}
+use Rattle.fault_rules.specs.MadeResident.{CanMakeResident}
 use Rattle.fault_rules.specs.Serves.{IsEnd}
 use Rattle.fault_rules.specs.declared.service.Served.TheVariants as served
-use Rattle.frame_store.specs.View.{View}
-use Rattle.process_model.specs.Granted.{none_true}
+use Rattle.process_model.specs.GrantLaws.{none_true}
 use Rattle.process_model.specs.PageMap.{get}
 use Rattle.process_model.specs.Process.{Page, Process, regions}
-use Rattle.process_model.specs.ReachedPages.{made_settles, no_alignment}
+use Rattle.process_model.specs.ResidenceLaws.{made_settles, no_alignment}
 use Rattle.process_model.specs.Regions.{copy_rule, copy_tests, keeps_stores, Region, region_at}
 use Rattle.process_model.specs.Residence.{is_resident, is_resident_page, made_resident, region_on}
 use Rattle.sv39_entry.specs.Address.{page_of}
@@ -22,19 +22,15 @@ use Rattle.sv39_entry.specs.declared.access.Access.TheVariants as access
 use Rattle.sv39_entry.specs.declared.rule.Rule.{Rule}
 use Rattle.sv39_entry.specs.declared.scheme.Scheme.{Scheme}
 use Rattle.table_walk.specs.Tables.{Tables}
-use Rattle.user_copy.specs.Reaching.{body_at, Place, Reaches, StillStands, Words}
+use Rattle.user_copy.specs.ReachedPage.{body_at, Place, Reaches, StillStands, StoreModel}
 use Rattle.user_copy.specs.declared.short.Stop.{Stop}
 use Rattle.user_copy.specs.declared.short.Stop.TheVariants.{Denied, Unpromised}
-
--- a space that is as it was
-same_body : {S : Type 0} (view : S → View) (x y : Space S) → view x.seat ≡ view y.seat → x.root ≡ y.root → x.trapframe ≡ y.trapframe → x.layout ≡ y.layout → body_of view x ≡ body_of view y
-same_body view x y seat root trapframe layout = λ i. record { view = seat i; root = (root i).0; trapframe = (trapframe i).0; layout = layout i }
 
 -- an address that no rule denies is low
 low : (z : Scheme) (rs : List Region) (access : Access) (address : ℕ) → copy_rule z rs access address ≡ None → address < maxva z
 low z rs access address none = let tests = none_true (copy_tests z rs access address) none in leb-false (maxva z) address tests.0
 
-module _ {Seat Frames Cabinet : Type 0} (l : Words Seat Frames Cabinet) (a b : Place Seat Frames Cabinet) (access : Access) (address : ℕ) where
+module _ {Seat Frames Cabinet : Type 0} (l : StoreModel Seat Frames Cabinet) (a b : Place Seat Frames Cabinet) (access : Access) (address : ℕ) where
   module _ (e : Reaches l a b access address (Ok tt)) (t : Tables) (p : Process) (space : IsSpace (body_at l a) t p) where
     -- no rule denies an address that was reached
     allowed : copy_rule p.scheme (regions p) access address ≡ None
@@ -44,7 +40,7 @@ module _ {Seat Frames Cabinet : Type 0} (l : Words Seat Frames Cabinet) (a b : P
         by None is = refl
         by (Some rule) is = absurd (cc)
 
-    can : CanReside (body_at l a) t p access (page_of address)
+    can : CanMakeResident (body_at l a) t p access (page_of address)
     can = can_reside (body_at l a) t p access address 1 space (no_alignment p.scheme (regions p) access address ∙ allowed)
 
     -- so it is low
@@ -65,7 +61,7 @@ module _ {Seat Frames Cabinet : Type 0} (l : Words Seat Frames Cabinet) (a b : P
   still_reaches (Err (Unpromised refusal)) e t p space =
       (t, p, subst (λ x. IsSpace x t p) (same_body l.view a.space b.space (sym (e.view_stays (λ is. cc, λ is. cc))) (sym e.root) (sym e.trapframe) (sym e.layout)) space)
 
-module _ {Seat Frames Cabinet : Type 0} (l : Words Seat Frames Cabinet) (a b : Place Seat Frames Cabinet) (address : ℕ) where
+module _ {Seat Frames Cabinet : Type 0} (l : StoreModel Seat Frames Cabinet) (a b : Place Seat Frames Cabinet) (address : ℕ) where
   -- a page that was reached for a store is the process's own
   pub may_store : Reaches l a b access.Store address (Ok tt) → (t : Tables) (p : Process) → IsSpace (body_at l a) t p
       → (u : Tables) × (q : Process) × (s : Page) × CanWrite (body_at l b) u q (page_of address) s

@@ -1,3 +1,3 @@
-pub mod Reaching
+pub mod ReachedPage
 pub mod Runs
-pub mod Nears
+pub mod FirstPageBytes

@@ -1,17 +1,18 @@
--- Kernel copies of one space (copyin and copyout of xv6), run by run. The bytes of a run lie in one page, so a copy comes to each page
--- once: it makes the page resident at the run's first address, and then copies the run, since all its bytes are granted alike. The first
--- run that is stopped ends the copy, and what stands before it stays copied.
+-- Kernel copies of one space (copyin, copyout) run by run; a run is the bytes of the copy in one page. The runs of a copy
+-- (`runs`, `runs_of`); what is done with one that is read (`IsRead`) or stored (`Puts`); the whole copy (`CopiesIn`,
+-- `CopiesOut`): each page is made resident (in memory and ready) once, at the run's first address, and then the run is
+-- copied. The first run that is stopped ends the copy; the runs before it stay copied.
 use Rattle.std.specs.Prelude.{◌≡◌, ℕ, zero, suc, ◌+◌, ◌-◌, ◌%◌, nat_le, Option, None, Some, Result, Ok, Err, List, [], ◌∷◌, ◌++◌, drop, length, take, if◌then◌else◌}
 use Rattle.address_space.specs.Agreement.{IsSpace}
-use Rattle.address_space.specs.Steps.{CanRead, CanWrite, Takes}
-use Rattle.frame_store.specs.Laws.{Keeps}
+use Rattle.address_space.specs.Steps.{CanRead, CanWrite, TakesFrames}
+use Rattle.frame_store.specs.Laws.{KeepsSeats}
 use Rattle.frame_store.specs.View.{IsSole}
 use Rattle.process_model.specs.Process.{Page, Process}
 use Rattle.process_model.specs.Residence.{stored, with_page}
 use Rattle.sv39_entry.specs.Address.{page_of}
 use Rattle.sv39_entry.specs.declared.access.Access.TheVariants.{Load, Store}
 use Rattle.table_walk.specs.Tables.{Tables}
-use Rattle.user_copy.specs.Reaching.{body_at, Place, Reaches, Words}
+use Rattle.user_copy.specs.ReachedPage.{body_at, Place, Reaches, StoreModel}
 use Rattle.user_copy.specs.declared.short.Stop.{Stop}
 
 -- ---- runs
@@ -20,19 +21,21 @@ use Rattle.user_copy.specs.declared.short.Stop.{Stop}
 abbrev pub near : ℕ → ℕ → ℕ
 near address n = let room = 4096 - address % 4096 in if nat_le n room then n else room
 
--- a run of no bytes comes to no page
+-- the run of n bytes at an address; none if n is 0, so that no page is made resident for it
 abbrev pub some_run : ℕ → ℕ → List (ℕ × ℕ)
 some_run address zero = []
 some_run address (suc n) = (address, suc n) ∷ []
 
--- at most 256 bytes lie in at most two pages
+-- the runs of a copy of n bytes, at most 256: these lie in at most two pages
 abbrev pub runs : ℕ → ℕ → List (ℕ × ℕ)
 runs address n = some_run address (near address n) ++ some_run (address + near address n) (n - near address n)
 
+-- the run of some bytes for an address; none if there are no bytes
 abbrev pub some_bytes : ℕ → List ℕ → List (ℕ × List ℕ)
 some_bytes address [] = []
 some_bytes address (b ∷ bytes) = (address, b ∷ bytes) ∷ []
 
+-- the runs of a copy of these bytes, at most 256, to an address
 abbrev pub runs_of : ℕ → List ℕ → List (ℕ × List ℕ)
 runs_of address bytes =
     let here = near address (length bytes) in
@@ -40,8 +43,8 @@ runs_of address bytes =
 
 -- ---- what is done with them
 
-module _ {Seat Frames Cabinet : Type 0} (l : Words Seat Frames Cabinet) where
-  -- the bytes of a settled page were read, and nothing changed
+module _ {Seat Frames Cabinet : Type 0} (l : StoreModel Seat Frames Cabinet) where
+  -- `got` are the n bytes at an address of a settled page, and nothing changed
   pub record IsRead (a b : Place Seat Frames Cabinet) (address n : ℕ) (got : List ℕ) : Type 0 where
     pub bytes : (t : Tables) (p : Process) (s : Page) → CanRead (body_at l a) t p (page_of address) s → got ≡ take n (drop (address % 4096) s.bytes)
     pub view : l.view b.space.seat ≡ l.view a.space.seat
@@ -50,30 +53,30 @@ module _ {Seat Frames Cabinet : Type 0} (l : Words Seat Frames Cabinet) where
     pub layout : b.space.layout ≡ a.space.layout
     pub store : b.store ≡ a.store
     pub files : b.files ≡ a.files
-    pub keeps : Keeps l.rule a.store a.space.seat b.store b.space.seat
+    pub keeps : KeepsSeats l.rule a.store a.space.seat b.store b.space.seat
 
-  -- bytes were put into a settled page that the process has alone, and no frame was taken
+  -- bytes were stored at an address of a settled page without fork mark whose region grants writing, and no frame was taken
   pub record Puts (a b : Place Seat Frames Cabinet) (address : ℕ) (bytes : List ℕ) : Type 0 where
     pub agrees : (t : Tables) (p : Process) (s : Page) → CanWrite (body_at l a) t p (page_of address) s
         → IsSpace (body_at l b) t (with_page p (page_of address) (stored s (address % 4096) bytes))
     pub soles : (f : ℕ) → IsSole (l.view a.space.seat) f → IsSole (l.view b.space.seat) f
-    pub takes : Takes (l.view a.space.seat) (l.view b.space.seat) 0 []
+    pub takes : TakesFrames (l.view a.space.seat) (l.view b.space.seat) 0 []
     pub free : l.alone → l.free b.store ≡ l.free a.store
     pub counts : l.alone → (f : ℕ) → l.count b.store f ≡ l.count a.store f
     pub root : b.space.root ≡ a.space.root
     pub trapframe : b.space.trapframe ≡ a.space.trapframe
     pub layout : b.space.layout ≡ a.space.layout
     pub files : b.files ≡ a.files
-    pub keeps : Keeps l.rule a.store a.space.seat b.store b.space.seat
+    pub keeps : KeepsSeats l.rule a.store a.space.seat b.store b.space.seat
 
-  -- ---- copies: `done` is what was copied before, and `stop` is what stopped it
+  -- ---- copies: `done` is what was copied before, `stop` is what stopped the copy, None if nothing did
 
-  -- what comes of a run, by whether its page was reached
+  -- what follows for a run, by whether its page was made resident
   abbrev pub IfReached : Result (Unit {0}) Stop → Type 0 → (Stop → Type 0) → Type 0
   IfReached (Ok u) Goes Stops = Goes
   IfReached (Err stop) Goes Stops = Stops stop
 
-  -- from the process: the bytes in all are told
+  -- a copy from the process, along the runs: `bytes` are all that were copied, with those before
   abbrev pub CopiesIn : List (ℕ × ℕ) → Place Seat Frames Cabinet → Place Seat Frames Cabinet → List ℕ → List ℕ → Option Stop → Type 0
   CopiesIn [] a c done bytes stop = (c ≡ a) × (bytes ≡ done) × (stop ≡ None)
   CopiesIn (run ∷ rest) a c done bytes stop =
@@ -81,7 +84,7 @@ module _ {Seat Frames Cabinet : Type 0} (l : Words Seat Frames Cabinet) where
       × IfReached r ((d : Place Seat Frames Cabinet) × (got : List ℕ) × IsRead b d run.0 run.1 got × CopiesIn rest d c (done ++ got) bytes stop)
       (λ s. (c ≡ b) × (bytes ≡ done) × (stop ≡ Some s))
 
-  -- to the process: how many bytes in all is told
+  -- a copy to the process, along the runs: `count` is how many bytes were copied, with those before
   abbrev pub CopiesOut : List (ℕ × List ℕ) → Place Seat Frames Cabinet → Place Seat Frames Cabinet → ℕ → ℕ → Option Stop → Type 0
   CopiesOut [] a c done count stop = (c ≡ a) × (count ≡ done) × (stop ≡ None)
   CopiesOut (run ∷ rest) a c done count stop =

@@ -1,14 +1,15 @@
-// Copies, page by page: of at most 256 bytes, which lie in at most two pages.
+// `copy_in` and `copy_out`, the kernel copies copyin and copyout of at most 256 bytes, which lie in at most two pages: each
+// page is made resident (in memory and ready for the access), and then its bytes are copied.
 
 ghost use Rattle.std.specs.Prelude.{[], ◌≡◌, ◌++◌, ◌+◌, ◌%◌, ◌<◌, ◌≤◌, IfErr, IfOk, length, None, Some};
 ghost use Rattle.address_space.specs.Agreement.{body_of, IsSpace};
-ghost use Rattle.frame_store.specs.Laws.{Fits, Keeps};
+ghost use Rattle.frame_store.specs.Laws.{IsSeatOf, KeepsSeats};
 ghost use Rattle.process_model.specs.Copies.{longest_copy};
 ghost use Rattle.process_model.specs.Process.{Process};
 ghost use Rattle.sv39_entry.specs.Schemes.{maxva};
 ghost use Rattle.sv39_entry.specs.declared.access.Access.TheVariants.{Load, Store};
 ghost use Rattle.table_walk.specs.Tables.{Tables};
-ghost use Rattle.user_copy.specs.Reaching.{place, Reaches, service, StillStands, words};
+ghost use Rattle.user_copy.specs.ReachedPage.{place, Reaches, served_of, StillStands, store_model};
 ghost use Rattle.user_copy.specs.Runs.{CopiesIn, CopiesOut, near, runs, runs_of, some_bytes, some_run};
 
 use crate::short::{Short, Stop};
@@ -19,10 +20,14 @@ use file_cabinet::Files;
 use frame_store::{FrameSeat, FrameSupply};
 use sv39_entry::{Access, PAGE_SIZE, Va};
 
-/// Copies `n` bytes, at most 256, from the memory of a process, from an address on. Pages are made resident for a load by
-/// the rules of a fault, in order of address; the copy stops at the first address that is denied, where too few frames
-/// are free, or where a page of a file is not promised. Alignment does not matter, and a copy of no bytes succeeds
-/// everywhere.
+/// Copies `n` bytes, at most 256, from a process's memory at `va`, and returns them (copyin of xv6). Each page is made
+/// resident for a load by the rules of a fault, in ascending order. Alignment does not matter, and a copy of no bytes
+/// succeeds at every address. Makes no fence: the caller must, if leaves changed.
+///
+/// # Errors
+/// `Short`: the copy stopped at the first address that a rule denies, for whose page too few frames could be reserved
+/// (`NoFrame`), or whose page of a file was not promised; `rule` says which. It has the bytes before that address, and how
+/// many these are. Pages made resident stay so, and the space is still a process.
 pub fn copy_in<S: FrameSeat, F: FrameSupply<Seat = S>, C: Files>(
     space: &mut Space<S>,
     store: &mut F,
@@ -30,14 +35,14 @@ pub fn copy_in<S: FrameSeat, F: FrameSupply<Seat = S>, C: Files>(
     va: Va,
     n: usize,
 ) -> Result<ArrayVec<u8, 256>, Short>
-    requires fits { Fits F.rule store.old space.old.seat }
+    requires fits { IsSeatOf F.rule store.old space.old.seat }
     requires ready { (t : Tables) × (p : Process) × IsSpace (body_of S.view space.old) t p }
     requires few { n ≤ longest_copy }
-    ensures copied { IfOk result (λ bytes. CopiesIn (words S.view F.rule F.alone F.free F.count C.files C.becomes C.can_refuse) (runs va.0 n) (place space.old store.old files.old) (place space.new store.new files.new) [] bytes.items None) }
-    ensures stopped { IfErr result (λ short. CopiesIn (words S.view F.rule F.alone F.free F.count C.files C.becomes C.can_refuse) (runs va.0 n) (place space.old store.old files.old) (place space.new store.new files.new) [] short.bytes.items (Some short.rule)) }
+    ensures copied { IfOk result (λ bytes. CopiesIn (store_model S.view F.rule F.alone F.free F.count C.files C.becomes C.can_refuse) (runs va.0 n) (place space.old store.old files.old) (place space.new store.new files.new) [] bytes.items None) }
+    ensures stopped { IfErr result (λ short. CopiesIn (store_model S.view F.rule F.alone F.free F.count C.files C.becomes C.can_refuse) (runs va.0 n) (place space.old store.old files.old) (place space.new store.new files.new) [] short.bytes.items (Some short.rule)) }
     ensures done { IfErr result (λ short. short.done ≡ length short.bytes.items) }
     ensures space { StillStands (body_of S.view space.old) (body_of S.view space.new) }
-    ensures keeps { Keeps F.rule store.old space.old.seat store.new space.new.seat }
+    ensures keeps { KeepsSeats F.rule store.old space.old.seat store.new space.new.seat }
 {
     let here = in_page(va, n);
     let bytes = read_page(space, store, files, va, here, ArrayVec::new())?;
@@ -48,8 +53,14 @@ pub fn copy_in<S: FrameSeat, F: FrameSupply<Seat = S>, C: Files>(
     read_page(space, store, files, next, n - here, bytes)
 }
 
-/// Copies at most 256 bytes to the memory of a process, from an address on, as `copy_in` does from it: pages are made
-/// resident for a store.
+/// Copies these bytes, at most 256, to a process's memory at `va` (copyout of xv6). Each page is made resident for a store
+/// by the rules of a fault, in ascending order. Alignment does not matter, and a copy of no bytes succeeds at every
+/// address. Makes no fence: the caller must, if leaves changed.
+///
+/// # Errors
+/// `Short`: the copy stopped at the first address that a rule denies, for whose page too few frames could be reserved
+/// (`NoFrame`), or whose page of a file was not promised; `rule` says which. It has how many bytes are before that address;
+/// these stay copied, their pages resident, and the space is still a process. Its list of bytes is empty.
 pub fn copy_out<S: FrameSeat, F: FrameSupply<Seat = S>, C: Files>(
     space: &mut Space<S>,
     store: &mut F,
@@ -57,14 +68,14 @@ pub fn copy_out<S: FrameSeat, F: FrameSupply<Seat = S>, C: Files>(
     va: Va,
     bytes: &[u8],
 ) -> Result<(), Short>
-    requires fits { Fits F.rule store.old space.old.seat }
+    requires fits { IsSeatOf F.rule store.old space.old.seat }
     requires ready { (t : Tables) × (p : Process) × IsSpace (body_of S.view space.old) t p }
     requires few { length bytes.now ≤ longest_copy }
-    ensures copied { IfOk result (λ _. CopiesOut (words S.view F.rule F.alone F.free F.count C.files C.becomes C.can_refuse) (runs_of va.0 bytes.now) (place space.old store.old files.old) (place space.new store.new files.new) 0 (length bytes.now) None) }
-    ensures stopped { IfErr result (λ short. CopiesOut (words S.view F.rule F.alone F.free F.count C.files C.becomes C.can_refuse) (runs_of va.0 bytes.now) (place space.old store.old files.old) (place space.new store.new files.new) 0 short.done (Some short.rule)) }
+    ensures copied { IfOk result (λ _. CopiesOut (store_model S.view F.rule F.alone F.free F.count C.files C.becomes C.can_refuse) (runs_of va.0 bytes.now) (place space.old store.old files.old) (place space.new store.new files.new) 0 (length bytes.now) None) }
+    ensures stopped { IfErr result (λ short. CopiesOut (store_model S.view F.rule F.alone F.free F.count C.files C.becomes C.can_refuse) (runs_of va.0 bytes.now) (place space.old store.old files.old) (place space.new store.new files.new) 0 short.done (Some short.rule)) }
     ensures none { IfErr result (λ short. short.bytes.items ≡ []) }
     ensures space { StillStands (body_of S.view space.old) (body_of S.view space.new) }
-    ensures keeps { Keeps F.rule store.old space.old.seat store.new space.new.seat }
+    ensures keeps { KeepsSeats F.rule store.old space.old.seat store.new space.new.seat }
 {
     let here = in_page(va, bytes.len());
     let (front, back) = bytes.split_at(here);
@@ -76,14 +87,14 @@ pub fn copy_out<S: FrameSeat, F: FrameSupply<Seat = S>, C: Files>(
     write_page(space, store, files, next, back, here)
 }
 
-/// How many of `n` bytes from an address on lie in its page.
+/// Returns how many of `n` bytes from `va` on lie in its page.
 fn in_page(va: Va, n: usize) -> usize
     ensures { result ≡ near va.0 n }
 {
     n.min((PAGE_SIZE - va.offset()) as usize)
 }
 
-/// Copies a run of bytes within one page from a process, behind those that were copied before.
+/// Copies `n` bytes from `va` on, all in one page, from a process, and appends them to those that were copied before.
 fn read_page<S: FrameSeat, F: FrameSupply<Seat = S>, C: Files>(
     space: &mut Space<S>,
     store: &mut F,
@@ -92,17 +103,17 @@ fn read_page<S: FrameSeat, F: FrameSupply<Seat = S>, C: Files>(
     n: usize,
     mut bytes: ArrayVec<u8, 256>,
 ) -> Result<ArrayVec<u8, 256>, Short>
-    requires fits { Fits F.rule store.old space.old.seat }
+    requires fits { IsSeatOf F.rule store.old space.old.seat }
     requires ready { (t : Tables) × (p : Process) × IsSpace (body_of S.view space.old) t p }
     requires inside { va.0 % 4096 + n ≤ 4096 }
     requires few { length bytes.items + n ≤ longest_copy }
-    ensures copied { IfOk result (λ all. CopiesIn (words S.view F.rule F.alone F.free F.count C.files C.becomes C.can_refuse) (some_run va.0 n) (place space.old store.old files.old) (place space.new store.new files.new) bytes.items all.items None) }
-    ensures stopped { IfErr result (λ short. CopiesIn (words S.view F.rule F.alone F.free F.count C.files C.becomes C.can_refuse) (some_run va.0 n) (place space.old store.old files.old) (place space.new store.new files.new) bytes.items short.bytes.items (Some short.rule)) }
+    ensures copied { IfOk result (λ all. CopiesIn (store_model S.view F.rule F.alone F.free F.count C.files C.becomes C.can_refuse) (some_run va.0 n) (place space.old store.old files.old) (place space.new store.new files.new) bytes.items all.items None) }
+    ensures stopped { IfErr result (λ short. CopiesIn (store_model S.view F.rule F.alone F.free F.count C.files C.becomes C.can_refuse) (some_run va.0 n) (place space.old store.old files.old) (place space.new store.new files.new) bytes.items short.bytes.items (Some short.rule)) }
     ensures done { IfErr result (λ short. short.done ≡ length short.bytes.items) }
     ensures more { IfOk result (λ all. length all.items ≡ length bytes.items + n) }
     ensures low { IfOk result (λ _. 0 < n → va.0 < maxva space.old.layout.scheme) }
     ensures space { StillStands (body_of S.view space.old) (body_of S.view space.new) }
-    ensures keeps { Keeps F.rule store.old space.old.seat store.new space.new.seat }
+    ensures keeps { KeepsSeats F.rule store.old space.old.seat store.new space.new.seat }
 {
     if n == 0 {
         return Ok(bytes);
@@ -120,7 +131,7 @@ fn read_page<S: FrameSeat, F: FrameSupply<Seat = S>, C: Files>(
     Ok(bytes)
 }
 
-/// Copies a run of bytes within one page to a process, of which `done` were copied before.
+/// Copies these bytes to a process, to `va` and on, all in one page. `done` bytes were copied before.
 fn write_page<S: FrameSeat, F: FrameSupply<Seat = S>, C: Files>(
     space: &mut Space<S>,
     store: &mut F,
@@ -129,15 +140,15 @@ fn write_page<S: FrameSeat, F: FrameSupply<Seat = S>, C: Files>(
     bytes: &[u8],
     done: usize,
 ) -> Result<(), Short>
-    requires fits { Fits F.rule store.old space.old.seat }
+    requires fits { IsSeatOf F.rule store.old space.old.seat }
     requires ready { (t : Tables) × (p : Process) × IsSpace (body_of S.view space.old) t p }
     requires inside { va.0 % 4096 + length bytes.now ≤ 4096 }
-    ensures copied { IfOk result (λ _. CopiesOut (words S.view F.rule F.alone F.free F.count C.files C.becomes C.can_refuse) (some_bytes va.0 bytes.now) (place space.old store.old files.old) (place space.new store.new files.new) done (done + length bytes.now) None) }
-    ensures stopped { IfErr result (λ short. CopiesOut (words S.view F.rule F.alone F.free F.count C.files C.becomes C.can_refuse) (some_bytes va.0 bytes.now) (place space.old store.old files.old) (place space.new store.new files.new) done short.done (Some short.rule)) }
+    ensures copied { IfOk result (λ _. CopiesOut (store_model S.view F.rule F.alone F.free F.count C.files C.becomes C.can_refuse) (some_bytes va.0 bytes.now) (place space.old store.old files.old) (place space.new store.new files.new) done (done + length bytes.now) None) }
+    ensures stopped { IfErr result (λ short. CopiesOut (store_model S.view F.rule F.alone F.free F.count C.files C.becomes C.can_refuse) (some_bytes va.0 bytes.now) (place space.old store.old files.old) (place space.new store.new files.new) done short.done (Some short.rule)) }
     ensures none { IfErr result (λ short. short.bytes.items ≡ []) }
     ensures low { IfOk result (λ _. 0 < length bytes.now → va.0 < maxva space.old.layout.scheme) }
     ensures space { StillStands (body_of S.view space.old) (body_of S.view space.new) }
-    ensures keeps { Keeps F.rule store.old space.old.seat store.new space.new.seat }
+    ensures keeps { KeepsSeats F.rule store.old space.old.seat store.new space.new.seat }
 {
     if bytes.is_empty() {
         return Ok(());
@@ -150,7 +161,7 @@ fn write_page<S: FrameSeat, F: FrameSupply<Seat = S>, C: Files>(
     Ok(())
 }
 
-/// Makes the page of an address resident, or tells what forbids it.
+/// Makes the page of an address resident for an access of one byte there, or returns what stops a copy.
 fn reach<S: FrameSeat, F: FrameSupply<Seat = S>, C: Files>(
     space: &mut Space<S>,
     store: &mut F,
@@ -158,17 +169,17 @@ fn reach<S: FrameSeat, F: FrameSupply<Seat = S>, C: Files>(
     va: Va,
     access: Access,
 ) -> Result<(), Stop>
-    requires fits { Fits F.rule store.old space.old.seat }
+    requires fits { IsSeatOf F.rule store.old space.old.seat }
     requires ready { (t : Tables) × (p : Process) × IsSpace (body_of S.view space.old) t p }
-    ensures reaches { Reaches (words S.view F.rule F.alone F.free F.count C.files C.becomes C.can_refuse) (place space.old store.old files.old) (place space.new store.new files.new) access va.0 result }
-    ensures keeps { Keeps F.rule store.old space.old.seat store.new space.new.seat }
+    ensures reaches { Reaches (store_model S.view F.rule F.alone F.free F.count C.files C.becomes C.can_refuse) (place space.old store.old files.old) (place space.new store.new files.new) access va.0 result }
+    ensures keeps { KeepsSeats F.rule store.old space.old.seat store.new space.new.seat }
 {
-    told(serve(space, store, files, va, 1, access))
+    stop_of(serve(space, store, files, va, 1, access))
 }
 
-/// What a service tells a copy.
-fn told(served: Served) -> Result<(), Stop>
-    ensures { service result ≡ served }
+/// Returns the outcome of the service of a fault as the result of a copy's step: `Ok` for `Ready`, else what stops the copy.
+fn stop_of(served: Served) -> Result<(), Stop>
+    ensures { served_of result ≡ served }
 {
     match served {
         Served::Ready => Ok(()),

@@ -1,70 +1,75 @@
--- Entries (who is out), lists of them, and what a seat at a desk knows.
+-- Records. `TokenEntry`, the entry of a token: an unfinished process, by its name, its list of calls and those of the
+-- children that it has named. `View`, the ghost state of an issuer or a token. Functions: equality of entries, the list
+-- without some (`without`, `minus`), membership (`Has`), and the views at first, after a token is issued, and after one
+-- is redeemed.
 use Rattle.std.specs.Prelude.{◌≡◌, ◌⊎◌, ℕ, ◌==◌, ◌&&◌, Bool, true, false, cond, List, [], ◌∷◌, refl}
 use Rattle.std.specs.Coded.{Coded, code_by, coded×, coded_ℕ, coded_bool, coded_list}
 
-pub record Entry : Type 0 where
+-- an unfinished process, as its token and the issuer's list name it
+pub record TokenEntry : Type 0 where
   pub name : List ℕ
-  -- the number of the list that it runs
+  -- the number of the list of calls that it runs
   pub list : ℕ
-  -- the lists of the children that it has named, in order
-  pub heirs : List ℕ
+  -- the lists of calls of the children that it has named, in order
+  pub child_lists : List ℕ
 
-abbrev pub entry : List ℕ → ℕ → List ℕ → Entry
-entry name list heirs = record { name = name; list = list; heirs = heirs }
+abbrev pub entry : List ℕ → ℕ → List ℕ → TokenEntry
+entry name list child_lists = record { name = name; list = list; child_lists = child_lists }
 
-abbrev pub entry_code : Coded Entry
-entry_code = code_by (List ℕ × (ℕ × List ℕ)) (coded× (coded_list coded_ℕ) (coded× coded_ℕ (coded_list coded_ℕ))) (λ e. (e.name, (e.list, e.heirs))) (λ p. record { name = p.0; list = p.1.0; heirs = p.1.1 }) (λ _. refl)
+abbrev pub entry_code : Coded TokenEntry
+entry_code = code_by (List ℕ × (ℕ × List ℕ)) (coded× (coded_list coded_ℕ) (coded× coded_ℕ (coded_list coded_ℕ))) (λ e. (e.name, (e.list, e.child_lists))) (λ p. record { name = p.0; list = p.1.0; child_lists = p.1.1 }) (λ _. refl)
 
--- the keeper knows what it gave and did not get back; a voucher holds its entry
+-- The view of an issuer or a token. `keeps`: it is an issuer's. `given`: the issuer's list, of entries issued and not
+-- redeemed. `held`: the entry that a token holds
 pub record View : Type 0 where
   pub keeps : Bool
-  pub given : List Entry
-  pub held : List Entry
-  -- what came back last, and what was given before
-  pub back : List Entry
-  pub before : List Entry
+  pub given : List TokenEntry
+  pub held : List TokenEntry
+  -- the entries redeemed last, and the issuer's list before that
+  pub back : List TokenEntry
+  pub before : List TokenEntry
 
 abbrev pub view_code : Coded View
-view_code = code_by (Bool × (List Entry × (List Entry × (List Entry × List Entry)))) (coded× coded_bool (coded× (coded_list entry_code) (coded× (coded_list entry_code) (coded× (coded_list entry_code) (coded_list entry_code)))))
+view_code = code_by (Bool × (List TokenEntry × (List TokenEntry × (List TokenEntry × List TokenEntry)))) (coded× coded_bool (coded× (coded_list entry_code) (coded× (coded_list entry_code) (coded× (coded_list entry_code) (coded_list entry_code)))))
     (λ v. (v.keeps, (v.given, (v.held, (v.back, v.before))))) (λ p. record { keeps = p.0; given = p.1.0; held = p.1.1.0; back = p.1.1.1.0; before = p.1.1.1.1 }) (λ _. refl)
 
--- equality, as a test
+-- equality of names and of entries, as a test
 abbrev pub same_name : List ℕ → List ℕ → Bool
 same_name [] [] = true
 same_name [] (y ∷ ys) = false
 same_name (x ∷ xs) [] = false
 same_name (x ∷ xs) (y ∷ ys) = (x == y) && same_name xs ys
 
-abbrev pub same : Entry → Entry → Bool
-same a b = (a.list == b.list) && (same_name a.heirs b.heirs && same_name a.name b.name)
+abbrev pub same : TokenEntry → TokenEntry → Bool
+same a b = (a.list == b.list) && (same_name a.child_lists b.child_lists && same_name a.name b.name)
 
--- the first of an entry is taken out
-abbrev pub without : Entry → List Entry → List Entry
+-- the list without the first occurrence of e
+abbrev pub without : TokenEntry → List TokenEntry → List TokenEntry
 without e [] = []
 without e (x ∷ xs) = cond (same e x) xs (x ∷ without e xs)
 
--- each of the second list is taken out of the first
-abbrev pub minus : List Entry → List Entry → List Entry
+-- the first list without one occurrence of each entry of the second
+abbrev pub minus : List TokenEntry → List TokenEntry → List TokenEntry
 minus xs [] = xs
 minus xs (e ∷ es) = minus (without e xs) es
 
--- an entry stands in a list
-abbrev pub Has : Entry → List Entry → Type 0
+-- e is in the list
+abbrev pub Has : TokenEntry → List TokenEntry → Type 0
 Has e [] = ⊥
 Has e (x ∷ xs) = (e ≡ x) ⊎ Has e xs
 
--- the keeper at the start, a voucher, and what is left of one that came back
+-- the view of a new issuer, of a token for e, and of a token that was redeemed
 abbrev pub keeper_view : View
 keeper_view = record { keeps = true; given = []; held = []; back = []; before = [] }
 
-abbrev pub voucher_view : Entry → View
+abbrev pub voucher_view : TokenEntry → View
 voucher_view e = record { keeps = false; given = []; held = e ∷ []; back = []; before = [] }
 
 abbrev pub spent_view : View
 spent_view = record { keeps = false; given = []; held = []; back = []; before = [] }
 
--- what giving out and taking back make of the keeper's view
-abbrev pub gave : Entry → View → View
+-- the issuer's view after it has issued a token for e, and after it has redeemed a token with the view w
+abbrev pub gave : TokenEntry → View → View
 gave e v = record { keeps = v.keeps; given = e ∷ v.given; held = v.held; back = v.back; before = v.before }
 
 abbrev pub took : View → View → View

@@ -1,8 +1,10 @@
--- Lists of entries: one that is taken out, and two lists behind one another. Crates above use these.
+-- Laws of lists of entries (each describes an unfinished process), for the crates above: the test `same` is true if and
+-- only if two entries are equal; what is in a list without the first occurrence of an entry (`without`), and how long it
+-- is; what is in two lists appended.
 use Rattle.std.proofs.Common.{◌≡◌, ◌⊎◌, inl, inr, ℕ, ◌+◌, ◌==◌, Bool, true, false, cond, List, [], ◌∷◌, ◌++◌, length, refl, sym, ap, ◌∙◌, subst, arith}
 use Rattle.std.specs.Prelude.{◌&&◌}
 use Rattle.std.proofs.lemmas.Bool.Decides.{eqb_tells}
-use Rattle.vouchers.specs.Entries.{Entry, entry, same, same_name, without, Has}
+use Rattle.vouchers.specs.Entries.{TokenEntry, entry, same, same_name, without, Has}
 
 name_is : (xs ys : List ℕ) → same_name xs ys ≡ true → xs ≡ ys
 name_is [] [] e = refl
@@ -17,17 +19,17 @@ both : (x y : Bool) → x && y ≡ true → (x ≡ true) × (y ≡ true)
 both true y e = (refl, e)
 both false y e = absurd (let no : false ≡ true = e in cc)
 
-pub same_is : (a b : Entry) → same a b ≡ true → a ≡ b
+pub same_is : (a b : TokenEntry) → same a b ≡ true → a ≡ b
 same_is a b e = elim (eqb_tells a.list b.list) as (λ _. a ≡ b) [
   | inl t ↦
-      (let rest : same_name a.heirs b.heirs && same_name a.name b.name ≡ true = sym (ap (λ q. q && (same_name a.heirs b.heirs && same_name a.name b.name)) t.0) ∙ e in
-      let two = both (same_name a.heirs b.heirs) (same_name a.name b.name) rest in
-      entry_is (name_is a.name b.name two.1) t.1 (name_is a.heirs b.heirs two.0))
-  | inr t ↦ absurd (let no : false ≡ true = sym (ap (λ q. q && (same_name a.heirs b.heirs && same_name a.name b.name)) t.0) ∙ e in cc)
+      (let rest : same_name a.child_lists b.child_lists && same_name a.name b.name ≡ true = sym (ap (λ q. q && (same_name a.child_lists b.child_lists && same_name a.name b.name)) t.0) ∙ e in
+      let two = both (same_name a.child_lists b.child_lists) (same_name a.name b.name) rest in
+      entry_is (name_is a.name b.name two.1) t.1 (name_is a.child_lists b.child_lists two.0))
+  | inr t ↦ absurd (let no : false ≡ true = sym (ap (λ q. q && (same_name a.child_lists b.child_lists && same_name a.name b.name)) t.0) ∙ e in cc)
 ]
   where
-    entry_is : a.name ≡ b.name → a.list ≡ b.list → a.heirs ≡ b.heirs → entry a.name a.list a.heirs ≡ entry b.name b.list b.heirs
-    entry_is n l h = ap (λ m. entry m a.list a.heirs) n ∙ (ap (λ k. entry b.name k a.heirs) l ∙ ap (λ k. entry b.name b.list k) h)
+    entry_is : a.name ≡ b.name → a.list ≡ b.list → a.child_lists ≡ b.child_lists → entry a.name a.list a.child_lists ≡ entry b.name b.list b.child_lists
+    entry_is n l h = ap (λ m. entry m a.list a.child_lists) n ∙ (ap (λ k. entry b.name k a.child_lists) l ∙ ap (λ k. entry b.name b.list k) h)
 
 name_same : (xs : List ℕ) → same_name xs xs ≡ true
 name_same [] = refl
@@ -36,9 +38,9 @@ name_same (x ∷ xs) = elim (eqb_tells x x) as (λ _. ((x == x) && same_name xs 
   | inr t ↦ absurd (t.1 refl)
 ]
 
-pub same_self : (a : Entry) → same a a ≡ true
-same_self a = elim (eqb_tells a.list a.list) as (λ _. ((a.list == a.list) && (same_name a.heirs a.heirs && same_name a.name a.name)) ≡ true) [
-  | inl t ↦ rw t.0 (rw (name_same a.heirs) (name_same a.name))
+pub same_self : (a : TokenEntry) → same a a ≡ true
+same_self a = elim (eqb_tells a.list a.list) as (λ _. ((a.list == a.list) && (same_name a.child_lists a.child_lists && same_name a.name a.name)) ≡ true) [
+  | inl t ↦ rw t.0 (rw (name_same a.child_lists) (name_same a.name))
   | inr t ↦ absurd (t.1 refl)
 ]
 
@@ -46,8 +48,8 @@ pub tells : (b : Bool) → (b ≡ true) ⊎ (b ≡ false)
 tells true = inl refl
 tells false = inr refl
 
--- what is left was there
-pub without_had : (e x : Entry) (xs : List Entry) → Has x (without e xs) → Has x xs
+-- what is in the list without e was in the list
+pub without_had : (e x : TokenEntry) (xs : List TokenEntry) → Has x (without e xs) → Has x xs
 without_had e x [] h = h
 without_had e x (y ∷ ys) h = elim (tells (same e y)) as (λ _. Has x (y ∷ ys)) [
   | inl t ↦ inr (subst (λ b. Has x (cond b ys (y ∷ without e ys))) t h)
@@ -58,8 +60,8 @@ without_had e x (y ∷ ys) h = elim (tells (same e y)) as (λ _. Has x (y ∷ ys
     later rest (inl is) = inl is
     later rest (inr r) = inr (rest r)
 
--- what was there is left, or is what was taken out
-pub had_without : (e x : Entry) (xs : List Entry) → Has x xs → (x ≡ e) ⊎ Has x (without e xs)
+-- what was in the list is e, or is in the list without e
+pub had_without : (e x : TokenEntry) (xs : List TokenEntry) → Has x xs → (x ≡ e) ⊎ Has x (without e xs)
 had_without e x [] h = absurd h
 had_without e x (y ∷ ys) h = elim (tells (same e y)) as (λ _. (x ≡ e) ⊎ Has x (without e (y ∷ ys))) [
   | inl t ↦ subst (λ b. (x ≡ e) ⊎ Has x (cond b ys (y ∷ without e ys))) (sym t) (taken t h)
@@ -78,7 +80,7 @@ had_without e x (y ∷ ys) h = elim (tells (same e y)) as (λ _. (x ≡ e) ⊎ H
     passed rest (inl is) = inr (inl is)
     passed rest (inr r) = further (rest r)
 
-pub length-without : (e : Entry) (xs : List Entry) → Has e xs → length (without e xs) + 1 ≡ length xs
+pub length-without : (e : TokenEntry) (xs : List TokenEntry) → Has e xs → length (without e xs) + 1 ≡ length xs
 length-without e [] h = absurd h
 length-without e (y ∷ ys) h = elim (tells (same e y)) as (λ _. length (without e (y ∷ ys)) + 1 ≡ length (y ∷ ys)) [
   | inl t ↦ rw t (omega arith)
@@ -89,17 +91,17 @@ length-without e (y ∷ ys) h = elim (tells (same e y)) as (λ _. length (withou
     there rest (inl is) t = absurd (let no : true ≡ false = sym (same_self e) ∙ (ap (same e) is ∙ t) in cc)
     there rest (inr r) t = let k = rest r in omega (arith, k)
 
--- two lists
-pub has_left : (x : Entry) (xs ys : List Entry) → Has x xs → Has x (xs ++ ys)
+-- what is in two lists that are appended
+pub has_left : (x : TokenEntry) (xs ys : List TokenEntry) → Has x xs → Has x (xs ++ ys)
 has_left x [] ys h = absurd h
 has_left x (z ∷ zs) ys (inl is) = inl is
 has_left x (z ∷ zs) ys (inr r) = inr (has_left x zs ys r)
 
-pub has_right : (x : Entry) (xs ys : List Entry) → Has x ys → Has x (xs ++ ys)
+pub has_right : (x : TokenEntry) (xs ys : List TokenEntry) → Has x ys → Has x (xs ++ ys)
 has_right x [] ys h = h
 has_right x (z ∷ zs) ys h = inr (has_right x zs ys h)
 
-pub has_either : (x : Entry) (xs ys : List Entry) → Has x (xs ++ ys) → Has x xs ⊎ Has x ys
+pub has_either : (x : TokenEntry) (xs ys : List TokenEntry) → Has x (xs ++ ys) → Has x xs ⊎ Has x ys
 has_either x [] ys h = inr h
 has_either x (z ∷ zs) ys (inl is) = inl (inl is)
 has_either x (z ∷ zs) ys (inr r) = further (has_either x zs ys r)

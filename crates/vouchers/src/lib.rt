@@ -1,14 +1,18 @@
-//! Vouchers: a keeper, who may stand under a lock, knows who is out, and whoever is out carries a voucher that says so.
+//! Vouchers: tokens that cannot be copied (`Token`), each for one entry on the list of an issuer (`TokenIssuer`), issued
+//! and redeemed at a table (`TokenTable`). `hart_threads` gives one to each unfinished process, so that none gets lost.
+//! The issuer may be kept under a lock; its list has the entry of each token that is issued and not yet redeemed. A token
+//! may be sent to any thread.
 //!
-//! What the keeper has given out is what the vouchers hold, counted: that is the rule of one table of atomic words
-//! (`specs/Kept.antt`), and no step breaks it. So whoever brings a voucher back shows that the keeper's list has its entry,
-//! and the list gets shorter by just that one. Keeper and vouchers have no bytes; the table has one word, which stays 0.
+//! The entries on the issuer's list are exactly those that tokens hold, counted with repetitions: this is the invariant of
+//! one table of atomic words (`specs/IssuerRule.antt`), and every step keeps it. So to redeem a token shows that its entry
+//! is on the issuer's list, and removes one occurrence of it. Issuer and tokens take no bytes at run time; the table has one
+//! word, which stays 0.
 #![tactic(auto)]
 
-mod desk;
 mod holders;
-mod told;
+mod seat_view;
+mod token_table;
 
-pub use desk::{Desk, Giving};
-pub use holders::{Keeper, Voucher};
-pub use told::Told;
+pub use holders::{Token, TokenIssuer};
+pub use seat_view::SeatView;
+pub use token_table::{Giving, TokenTable};

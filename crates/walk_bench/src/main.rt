@@ -1,7 +1,7 @@
-//! How fast walks of page tables are: those of `table_walk`, by tables of three levels and of four, beside the walk of three levels
-//! in plain code. All find the same pages.
-//!
-//! Standard output has the sums of the addresses that were found, which have to be equal, and standard error the rates.
+//! A benchmark: measures how many page table walks a second `translate` of `table_walk` makes, under Sv39 and under Sv48,
+//! and compares that with a walk of Sv39 in plain code. All three find the same pages.
+//! Prints the sums of the physical addresses found, which must be equal, on standard output; and the rates, in walks a
+//! second and in percent of the plain one, on standard error.
 #![tactic(auto)]
 
 mod plain;
@@ -14,10 +14,10 @@ use std::time::{Duration, Instant};
 use sv39_entry::{Access, FrameNo, Mode, Scheme, Va};
 use table_walk::{PlainWords, Walk, translate};
 
-/// How often all pages are walked to.
+/// The number of rounds; each walks once to every page.
 const ROUNDS: usize = 10_000;
 
-/// The sum of the addresses that all walks of a round find.
+/// Walks to all addresses with `translate`, as user loads; returns the sum of the physical addresses found, modulo 2^64.
 fn proved_round(scheme: Scheme, words: &[u64], root: u16, addresses: &[u64]) -> u64 {
     let mut memory = PlainWords::new(words);
     let mut sum = 0u64;
@@ -36,7 +36,8 @@ fn proved_round(scheme: Scheme, words: &[u64], root: u16, addresses: &[u64]) -> 
     sum
 }
 
-/// The sum of all rounds by the tables below a root.
+/// Makes all rounds with `translate`, by the tables below a root; returns the sum of the physical
+/// addresses found, modulo 2^64.
 fn proved_rounds(words: &[u64], root: u16, addresses: &[u64]) -> u64 {
     let scheme = scheme_of(words, root);
     let mut sum = 0u64;
@@ -46,7 +47,7 @@ fn proved_rounds(words: &[u64], root: u16, addresses: &[u64]) -> u64 {
     sum
 }
 
-/// The same by the plain walk.
+/// Makes all rounds with the plain walk, by the Sv39 tables; returns the sum of the physical addresses found, modulo 2^64.
 fn plain_rounds(words: &[u64], addresses: &[u64]) -> u64 {
     let mut sum = 0u64;
     for _ in 0..ROUNDS {
@@ -59,13 +60,13 @@ fn plain_rounds(words: &[u64], addresses: &[u64]) -> u64 {
     sum
 }
 
-/// Walks per second.
+/// Returns how many walks a second were made, if all rounds took this time; rounded down.
 fn rate(time: Duration) -> u64 {
     let nanos = time.as_nanos().max(1);
     ((ROUNDS * PAGES) as u128 * 1_000_000_000 / nanos) as u64
 }
 
-/// A rate for 100 plain walks.
+/// Returns `rate` in percent of the rate `plain`, rounded down.
 fn percent(rate: u64, plain: u64) -> u128 {
     rate as u128 * 100 / plain.max(1) as u128
 }

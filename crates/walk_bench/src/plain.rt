@@ -1,6 +1,8 @@
-// The walk of Sv39 in plain code, for loads of the user.
+// `plain_walk`: the walk of Sv39 for user loads in plain code, without contracts, to compare speed with (RISC-V Privileged
+// Architecture 20211203, 4.3.2 and 4.4.1).
 
-/// The physical address that an address is translated to.
+/// Translates a virtual address for a user load, by the tables below the root at this PPN, and returns the physical address.
+/// `None`: a page fault, or the walk or its result lies outside of memory.
 pub(crate) fn plain_walk(words: &[u64], root: u64, address: u64) -> Option<u64> {
     let high = address >> 38;
     if high != 0 && high != 0x3ffffff {
@@ -36,7 +38,7 @@ pub(crate) fn plain_walk(words: &[u64], root: u64, address: u64) -> Option<u64> 
     None
 }
 
-/// The word at an index of a frame.
+/// Returns the word at an index of a physical page. `None`: it is outside of memory.
 fn word_at(words: &[u64], ppn: u64, index: u64) -> Option<u64> {
     let frame = ppn.checked_sub(0x80000)?;
     words

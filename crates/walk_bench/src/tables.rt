@@ -1,18 +1,20 @@
-// The tables that are walked, and the order of the walks.
+// Builds the input of the benchmark: the words of page tables for Sv39 and Sv48 that map 1,000 pages, and the virtual
+// addresses, one on each page, in the order of the walks; and finds the scheme of a root (`scheme_of`).
 
 use std::alloc::{AllocError, Global};
 use sv39_entry::{Entry, FrameNo, Rights, Scheme};
 
-/// How many pages are mapped, from page 0 on.
+/// The number of mapped pages, from page 0 on.
 pub(crate) const PAGES: usize = 1000;
 
-/// The frame of the root of three levels. The table below it, and the two last tables, are in the frames after it.
+/// The frame of the Sv39 root. The table below it is in frame 2, and the two last-level tables are in frames 3 and 4.
 pub(crate) const ROOT: u16 = 1;
 
-/// The frame of a root of four levels, above that of three.
+/// The frame of the Sv48 root, whose entry 0 points to the Sv39 root.
 pub(crate) const TALL_ROOT: u16 = 1005;
 
-/// The scheme of a root, by its first entry: so it is not known when the program is built.
+/// Returns the scheme of a root by its entry 0, so that the compiler does not know the scheme: Sv48 if
+/// that points to the Sv39 root.
 pub(crate) fn scheme_of(words: &[u64], root: u16) -> Scheme {
     if words.get(usize::from(root) * 512) == Some(&Entry::pointer(FrameNo(ROOT)).to_word()) {
         Scheme::Sv48
@@ -21,7 +23,10 @@ pub(crate) fn scheme_of(words: &[u64], root: u16) -> Scheme {
     }
 }
 
-/// The words of all frames. Page n is mapped to frame 5 + n.
+/// Returns the words of 1,024 frames, 512 each: tables that map page n to frame 5 + n, and zeros.
+///
+/// # Errors
+/// `AllocError`: host memory was refused.
 pub(crate) fn words(alloc: Global) -> Result<Vec<u64>, AllocError> {
     let mut words = Vec::new(alloc);
     for frame in 0..1024 {
@@ -32,7 +37,7 @@ pub(crate) fn words(alloc: Global) -> Result<Vec<u64>, AllocError> {
     Ok(words)
 }
 
-/// The entry at an index of a frame: of the roots, the table below the lower of them, and the last tables.
+/// The page table entry at an index of a frame; 0 outside of the tables.
 fn word(frame: u16, index: u16) -> Entry {
     match (frame, index) {
         (ROOT, 0) => Entry::pointer(FrameNo(2)),
@@ -45,7 +50,7 @@ fn word(frame: u16, index: u16) -> Entry {
     }
 }
 
-/// A leaf that a user may load and store.
+/// A leaf that grants user loads and user stores.
 fn data(frame: u16) -> Entry {
     Entry::leaf(
         FrameNo(frame),
@@ -56,8 +61,11 @@ fn data(frame: u16) -> Entry {
     )
 }
 
-/// An address on each page, in an order that looks random: that of a linear generator of full period, of those numbers
-/// below 1,024 that are pages.
+/// Returns one virtual address on each mapped page, in an order that looks random: that of a linear congruential generator
+/// with full period 1,024, without the numbers that are no mapped page.
+///
+/// # Errors
+/// `AllocError`: host memory was refused.
 pub(crate) fn addresses(alloc: Global) -> Result<Vec<u64>, AllocError> {
     let mut addresses = Vec::new(alloc);
     let mut number = 1u64;

@@ -1,4 +1,4 @@
--- The exit status that a fault gives.
+-- `status_of`: the exit status of the program for each fault: 2 for a wrong command line, 1 for an error of the player.
 use Rattle.std.specs.Prelude.{ℕ}
 use Rattle.xv6vm.specs.declared.fault.Fault.{Fault}
 use Rattle.xv6vm.specs.declared.fault.Fault.TheVariants.{Usage, Play}

@@ -1,4 +1,6 @@
-//! `xv6vm` plays scripts of hart steps on the memory side of xv6-riscv.
+//! The program `xv6vm`: `play FILE` plays a script on the virtual memory of xv6-riscv; `threads FILE --harts N` plays a file
+//! for threads on harts that are threads. It reads FILE (`-`: standard input), writes to standard output, and reports a
+//! fault on standard error and by its exit status.
 #![tactic(auto)]
 
 mod fault;
@@ -14,9 +16,11 @@ use std::sync::Wait;
 use std::thread::Threads;
 use std::{fs, io};
 
-/// Plays what a reader has.
+/// Does the task with the bytes of a reader, and writes the answers. Input is read in blocks; answers are written in pieces
+/// of 64 KiB or more, the last of any length.
 ///
-/// A script is read in blocks, and its text is written in pieces of 64 KiB and more.
+/// # Errors
+/// Those of `play` and `play_threads`: the script is refused, host memory was refused, or the reader or the writer failed.
 fn play_from<T: Threads + Wait + Sync, R: Read + Drop, W: Write + Drop>(
     threads: &T,
     alloc: Global,
@@ -28,7 +32,7 @@ fn play_from<T: Threads + Wait + Sync, R: Read + Drop, W: Write + Drop>(
     let mut writer = Writer::new(writer);
     match task {
         Task::Play => play(alloc, &mut reader, &mut writer),
-        // The words keep to this range.
+        // The command line admits only this range, but no contract says so.
         Task::Threads(harts) => {
             let harts = harts.clamp(1, 8);
             play_threads(threads, alloc, &mut reader, &mut writer, harts)
@@ -36,7 +40,11 @@ fn play_from<T: Threads + Wait + Sync, R: Read + Drop, W: Write + Drop>(
     }
 }
 
-/// Plays the script of the file that the words name, `-` for standard input. Harts are threads of the second handle.
+/// Does what the command line says with the file that it names, `-` for standard input, and writes to standard output. Harts
+/// are threads that `threads` starts.
+///
+/// # Errors
+/// `Usage`: the command line is wrong. `Play`: the file cannot be opened (`Io`), or an error of the player.
 fn run<T: Threads + Wait + Sync>(rt: &HostRuntime, threads: &T) -> Result<(), Fault> {
     let words = Words::from_env(rt)?;
     let writer = io::writer(rt);
@@ -59,7 +67,7 @@ fn main(rt: HostRuntime) -> ExitCode {
         Ok(()) => ExitCode::SUCCESS,
         Err(fault) => {
             let status = fault.status();
-            // Where standard error fails too, the status alone tells.
+            // If standard error fails too, only the exit status reports the fault.
             let _ = eprintln!(rt; "xv6vm: {fault}");
             ExitCode::from(status)
         }

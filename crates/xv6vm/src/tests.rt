@@ -1,4 +1,5 @@
-// The words of the command line, and what is printed where the program ends early.
+// Tests that `Words::parse` accepts the right command lines and refuses the others, and that each `Fault` has its message
+// and exit status: 1 for an error of the player, 2 for a wrong command line.
 
 use crate::fault::Fault;
 use crate::words::{Task, Words};
@@ -8,7 +9,7 @@ use std::alloc::Global;
 use std::io;
 use std::test::Fail;
 
-/// What words ask for, or the status of the program.
+/// Parses a command line; the error is the exit status of the program, or 0 if the test has no memory.
 fn asked_or_status(alloc: Global, words: &[&str]) -> Result<Words, u8> {
     let mut owned = Vec::new(alloc);
     for word in words {
@@ -96,7 +97,7 @@ fn prints_what_ended_it(rt: HostRuntime) -> Result<(), Fail> {
         assert_eq!(rt; said.as_str(), text);
         assert_eq!(rt; fault.status(), status);
     }
-    // A word that is no text, and want of memory for one.
+    // A word that is not valid text, and memory refused for a word.
     let no_text = Fault::from(io::Error::from(io::ErrorKind::InvalidData));
     assert_eq!(rt; no_text.status(), 2);
     let no_memory = Fault::from(io::Error::from(io::ErrorKind::OutOfMemory));

@@ -1,4 +1,5 @@
-// The words of the command line.
+// `Words` (struct): a parsed command line, `xv6vm play FILE` or `xv6vm threads FILE --harts N`: its task (`Task`, enum) and
+// file; `parse` and `from_env` make one; conversions of errors of the host, the arguments and the parser to `Fault`.
 
 use crate::fault::Fault;
 use audit_player::PlayError;
@@ -7,19 +8,21 @@ use clap::{Arg, ArgAction, Command, Error, value_parser};
 use std::alloc::{AllocError, Global};
 use std::{env, io};
 
-/// What is done with a script.
+/// What the program does with the file.
 #[derive(Clone, Copy, PartialEq, Eq, Debug)]
 pub enum Task {
+    /// Plays a script.
     Play,
-    /// On so many harts, each of them a thread.
+    /// Plays a file for threads on this number of harts, each of them a thread.
     Threads(usize),
 }
 
-/// What the words ask for.
+/// A parsed command line.
 #[derive(Debug, Drop)]
 pub struct Words {
+    /// What to do with the file.
     pub task: Task,
-    /// The script's path, `-` for standard input.
+    /// The path of the script or of the file for threads, `-` for standard input.
     pub file: String,
 }
 
@@ -29,7 +32,7 @@ impl From<AllocError> for Fault {
     }
 }
 
-/// A word that is no text is a word that the parse refuses.
+/// A word that is not valid text makes the command line wrong.
 impl From<io::Error> for Fault {
     fn from(error: io::Error) -> Fault {
         match error.kind() {
@@ -48,14 +51,14 @@ impl From<Error> for Fault {
     }
 }
 
-/// The file of a script.
+/// The argument FILE.
 fn file<'a>(alloc: Global) -> Arg<'a> {
     Arg::new(alloc, "FILE")
         .required(true)
         .action(ArgAction::Set)
 }
 
-/// `xv6vm play FILE | xv6vm threads FILE --harts N`.
+/// The form of the command line: `xv6vm play FILE | xv6vm threads FILE --harts N`.
 fn command<'a>(alloc: Global) -> Result<Command<'a>, AllocError> {
     let harts = Arg::new(alloc, "harts")
         .long("harts")
@@ -71,14 +74,21 @@ fn command<'a>(alloc: Global) -> Result<Command<'a>, AllocError> {
 }
 
 impl Words {
-    /// Reads the words that the program was called with.
+    /// Returns the parsed command line with which the program was started.
+    ///
+    /// # Errors
+    /// `Usage`: it is wrong, or not valid text. `Play(Memory)`: host memory was refused.
     pub fn from_env(rt: &HostRuntime) -> Result<Words, Fault> {
         let all = env::args(rt)?;
         let words: Vec<String> = all.collect(rt.alloc())?;
         Words::parse(rt.alloc(), words.as_slice())
     }
 
-    /// Reads the words of a call, the program's name first.
+    /// Returns the parsed command line for its words, the program's name first: task and file of `xv6vm play FILE`, or of
+    /// `xv6vm threads FILE --harts N` with N from 1 to 8.
+    ///
+    /// # Errors
+    /// `Usage`: the words are none of these. `Play(Memory)`: host memory was refused.
     pub fn parse(alloc: Global, words: &[String]) -> Result<Words, Fault> {
         let matches = command(alloc)?.try_get_matches_from(words)?;
         let Some((name, given)) = matches.subcommand() else {

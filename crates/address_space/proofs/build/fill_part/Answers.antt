@@ -1,6 +1,6 @@
 use Rattle.std.proofs.Common.{◌≡◌, ◌+◌, ◌-◌, refl, ◌∙◌, arith, ap}
 use Rattle.frame_store.specs.Laws.{fits_after}
-use Rattle.process_model.specs.Loading.{page_run}
+use Rattle.process_model.specs.ImageProcess.{page_run}
 use Rattle.address_space.specs.Parts.{with_pages}
 use Rattle.address_space.proofs.BuildPages.{bytes_behind, bytes_here, same_scheme}
 use Rattle.address_space.proofs.BuildSteps.{can_add, enough_left, fills_none, next_fills, place}

@@ -1,19 +1,15 @@
 use Rattle.std.proofs.Common.{◌≡◌, ℕ, [], refl, ◌∙◌, arith, ◌*◌, ◌/◌}
 use Rattle.frame_store.specs.View.{hold_of, IsHeld}
-use Rattle.table_walk.specs.Backed.{kernel_backed}
+use Rattle.table_walk.specs.LeafBacking.{kernel_backed}
 use Rattle.table_walk.specs.Tables.{bare_root, ChangesTables, HasTables, Tables, IsGrown, leaf_node, missing, with_leaf}
-use Rattle.table_walk.specs.Mapped.{maps_place}
-use Rattle.sv39_entry.specs.Schemes.{top_level, trampoline_page, trapframe_page, of_scheme}
-use Rattle.address_space.specs.Agreement.{Names, Owns}
+use Rattle.table_walk.specs.LowPages.{maps_place}
+use Rattle.sv39_entry.specs.Schemes.{top_level, trampoline_page, trapframe_page, of_scheme, page_at}
+use Rattle.address_space.specs.Agreement.{NamesFrame, OwnsFrames}
 use Rattle.address_space.proofs.BuildTables.{HasTrampoline, first_enough, has_trampoline, open_spends, opens, root_owns, root_spends, second_enough, trampoline_saved, trapframe_as_was, trapframe_shares, trapframe_unnamed, trapframe_yet, top_missing, zero_unnamed}
 use Rattle.address_space.proofs.Owned.{both_of, same_sole}
 use Rattle.address_space.proofs.build.open_tables.Given as given
 use Rattle.address_space.proofs.build.open_tables.Goals as goal
 use Rattle.address_space.proofs.build.open_tables.Goals.{After-map}
-
--- the page at an address
-page_at : (page address place : ℕ) → page ≡ address / 4096 → address ≡ 4096 * place → page ≡ place
-page_at page address place is at = omega (arith, is, at)
 
 -- ---- TRAMPOLINE
 
@@ -38,13 +34,13 @@ module _ (g : given.Over) (c : After-map g) where
   root : ℕ
   root = c.new_table-root.result.0
 
-  rooted : Owns (g.F.Seat.FrameSeat.view c.new_table-root.new.seat) (bare_root c.args.scheme c.new_table-root.result.0) (both_of c.args.trapframe.0 0)
+  rooted : OwnsFrames (g.F.Seat.FrameSeat.view c.new_table-root.new.seat) (bare_root c.args.scheme c.new_table-root.result.0) (both_of c.args.trapframe.0 0)
   rooted = root_owns c.args.scheme _ _ c.new_table-root.result.0 _ c.requires.ready c.new_table-root.ensures.fresh c.new_table-root.ensures.view
 
-  zero_free : (k : ℕ) → Names (bare_root c.args.scheme c.new_table-root.result.0) 0 k → ⊥
+  zero_free : (k : ℕ) → NamesFrame (bare_root c.args.scheme c.new_table-root.result.0) 0 k → ⊥
   zero_free = zero_unnamed c.args.scheme _ _ c.new_table-root.result.0 _ c.requires.ready c.new_table-root.ensures.fresh c.new_table-root.ensures.view
 
-  waits : (k : ℕ) → Names (bare_root c.args.scheme c.new_table-root.result.0) c.args.trapframe.0 k → ⊥
+  waits : (k : ℕ) → NamesFrame (bare_root c.args.scheme c.new_table-root.result.0) c.args.trapframe.0 k → ⊥
   waits = trapframe_unnamed c.args.scheme _ _ c.new_table-root.result.0 _ c.requires.ready c.new_table-root.ensures.fresh c.new_table-root.ensures.view
 
   yet : IsHeld (g.F.Seat.FrameSeat.view c.new_table-root.new.seat) c.args.trapframe.0

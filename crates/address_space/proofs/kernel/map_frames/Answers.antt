@@ -1,7 +1,7 @@
 use Rattle.std.proofs.Common.{◌≡◌, ◌+◌, ◌<◌, refl, ◌∙◌, arith}
 use Rattle.frame_store.specs.Laws.{fits_after}
-use Rattle.table_walk.specs.Backed.{kernel_backed}
-use Rattle.table_walk.specs.Mapped.{maps_low}
+use Rattle.table_walk.specs.LeafBacking.{kernel_backed}
+use Rattle.table_walk.specs.LowPages.{maps_low}
 use Rattle.address_space.specs.Kernel.{first_direct}
 use Rattle.address_space.proofs.KernelFrames.{code_held, spends_none}
 use Rattle.address_space.proofs.KernelSteps.{frame_is_missing, frame_maps, frame_page_is, frame_spends}

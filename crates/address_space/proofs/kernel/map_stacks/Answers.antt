@@ -1,8 +1,8 @@
 use Rattle.std.proofs.Common.{◌≡◌, ℕ, ◌+◌, ◌<◌, [], ◌∷◌, ◌++◌, refl, ap, ◌∙◌, arith}
 use Rattle.std.proofs.lemmas.List.{length_push}
 use Rattle.frame_store.specs.Laws.{fits_after}
-use Rattle.table_walk.specs.Backed.{kernel_backed}
-use Rattle.table_walk.specs.Mapped.{maps_low}
+use Rattle.table_walk.specs.LeafBacking.{kernel_backed}
+use Rattle.table_walk.specs.LowPages.{maps_low}
 use Rattle.address_space.specs.Kernel.{stack_page}
 use Rattle.address_space.proofs.KernelFrames.{code_held, spends_is, spends_none, spends_on}
 use Rattle.address_space.proofs.KernelSteps.{stack_held, stack_maps, stack_none_missing, stack_page_is, stack_spends, stack_tables}

@@ -1,8 +1,8 @@
 use Rattle.std.proofs.Common.{ap, arith, ℕ, ◌≡◌, ◌<◌, ◌*◌, ◌/◌}
 use Rattle.frame_store.specs.View.{View}
-use Rattle.table_walk.specs.Backed.{kernel_backed}
+use Rattle.table_walk.specs.LeafBacking.{kernel_backed}
 use Rattle.table_walk.specs.Tables.{bare_root}
-use Rattle.table_walk.specs.Mapped.{maps_low}
+use Rattle.table_walk.specs.LowPages.{maps_low}
 use Rattle.address_space.proofs.KernelSteps.{root_maps, root_missing, root_spends}
 use Rattle.address_space.proofs.kernel.new_root.Goals as goal
 use Rattle.sv39_entry.specs.Schemes.{of_scheme, page_limit, trampoline_page}

@@ -2,8 +2,8 @@ use Rattle.std.proofs.Common.{arith, ◌<◌}
 use Rattle.frame_store.specs.Laws.{fits_after}
 use Rattle.process_model.specs.PageMap as pages
 use Rattle.table_walk.specs.Tables.{leaf_node, with_leaf}
-use Rattle.table_walk.specs.Mapped.{maps_low, maps_for, tables_of_scheme}
-use Rattle.address_space.specs.Agreement.{nothing}
+use Rattle.table_walk.specs.LowPages.{maps_low, maps_for, tables_of_scheme}
+use Rattle.address_space.specs.Agreement.{no_extra}
 use Rattle.address_space.specs.ProcessLeaves.{bytes_known, page_backed}
 use Rattle.address_space.proofs.AddingFrames.{Comes, claimed_comes, come_held, come_tables, filled_comes}
 use Rattle.address_space.proofs.AddingPages.{adds}
@@ -18,7 +18,7 @@ comes : (g : given.Over) (c : After-fill_frame g) → Comes (g.F.Seat.FrameSeat.
 comes g c = filled_comes _ _ _ _ (claimed_comes _ _ _ c.claim-frame.ensures.fresh c.claim-frame.ensures.view) c.fill_frame.ensures.others
 
 pub claim-frame-requires-clause-anchored : goal.claim-frame-requires-clause-anchored
-claim-frame-requires-clause-anchored g c = anchored _ c.args.root.0 c.requires.ready.0 nothing c.requires.ready.1 c.requires.ready.2 c.requires.ready.4.stands
+claim-frame-requires-clause-anchored g c = anchored _ c.args.root.0 c.requires.ready.0 no_extra c.requires.ready.1 c.requires.ready.2 c.requires.ready.4.stands
 
 pub fill_frame-requires-clause-fits : goal.fill_frame-requires-clause-fits
 fill_frame-requires-clause-fits g c = fits_after g.F.FrameAccess.rule c.claim-frame.ensures.keeps c.requires.fits
@@ -33,7 +33,7 @@ pub map-requires-clause-anchored : goal.map-requires-clause-anchored
 map-requires-clause-anchored g c =
     let after = (goal.at.map-requires-clause-anchored g c).After-fill_frame in
     let ready = c.requires.ready in
-    come_held _ _ _ (comes g after) 0 (anchored _ c.args.root.0 ready.0 nothing ready.1 ready.2 ready.4.stands)
+    come_held _ _ _ (comes g after) 0 (anchored _ c.args.root.0 ready.0 no_extra ready.1 ready.2 ready.4.stands)
 
 pub map-requires-clause-tables : goal.map-requires-clause-tables
 map-requires-clause-tables g c =

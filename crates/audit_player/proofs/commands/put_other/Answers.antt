@@ -1,6 +1,6 @@
-use Rattle.process_model.specs.Briefs.{of_brief}
+use Rattle.process_model.specs.ScalarReplies.{reply_of_scalar}
 use Rattle.audit_player.proofs.Lending.{told_by}
 use Rattle.audit_player.proofs.commands.put_other.Goals as goal
 
-pub returns-clause-told : goal.returns-clause-told
-returns-clause-told c w here = told_by _ (of_brief c.step_briefly.result) _ c.args.text.now.items _ (c.step_briefly.ensures.made w here) c.put_brief.ensures.text
+pub returns-clause-line_text : goal.returns-clause-line_text
+returns-clause-line_text c w here = told_by _ (reply_of_scalar c.step_scalar.result) _ c.args.text.now.items _ (c.step_scalar.ensures.made w here) c.put_scalar_reply.ensures.text

@@ -1,4 +1,4 @@
-use Rattle.shared_frames.specs.Fits.{fits_still}
+use Rattle.shared_frames.specs.SeatsOfTable.{fits_still}
 use Rattle.audit_player.proofs.Holdings.{kept_twice, still_held, sizes_agree}
 use Rattle.audit_player.proofs.kernel.reserve.Goals as goal
 

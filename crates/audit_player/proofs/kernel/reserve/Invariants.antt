@@ -1,5 +1,5 @@
 use Rattle.std.proofs.Common.{◌≡◌}
-use Rattle.shared_frames.specs.Fits.{FitsIn, view_of}
+use Rattle.shared_frames.specs.SeatsOfTable.{FitsIn, view_of}
 use Rattle.audit_player.specs.KernelFrames.{GainsCredits}
 use Rattle.audit_player.proofs.kernel.reserve.Given as goal
 

@@ -1,5 +1,5 @@
 use Rattle.std.proofs.Common.{◌-◌, rules}
-use Rattle.shared_frames.specs.Fits.{fits_still}
+use Rattle.shared_frames.specs.SeatsOfTable.{fits_still}
 use Rattle.audit_player.proofs.Holdings.{kernel_begins, kernel_takes}
 use Rattle.audit_player.proofs.kernel.take_kernel_frames.Goals as goal
 

@@ -1,6 +1,6 @@
 use Rattle.std.proofs.Common.{subst}
 use Rattle.std.specs.Io.KnownBytes.{Appends}
-use Rattle.audit_player.specs.Taken.{WroteSome}
+use Rattle.audit_player.specs.InputOutput.{WroteSome}
 use Rattle.audit_player.proofs.Paged.{page_written}
 use Rattle.audit_player.proofs.page.turn.Goals as goal
 

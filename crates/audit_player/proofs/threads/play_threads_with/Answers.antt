@@ -1,7 +1,7 @@
 use Rattle.std.proofs.Common.{◌≡◌, Ok, ap, subst, sym, ◌∙◌}
 use Rattle.process_model.specs.ThreadScript.{thread_script_of}
-use Rattle.script_reader.specs.Gives.{Refuses}
-use Rattle.audit_player.specs.PlayedThreads.{PlaysLists}
+use Rattle.script_reader.specs.ReadResults.{GivesError}
+use Rattle.audit_player.specs.ThreadRunResult.{PlaysLists}
 use Rattle.audit_player.proofs.PlayedLists.{lists_refused, lists_unread, played_lists}
 use Rattle.audit_player.proofs.threads.play_threads_with.Goals as goal
 
@@ -11,8 +11,8 @@ returns-in-Err-Io-clause-plays g c = lists_unread (g.R.Source.remaining c.args.r
 pub returns-in-Err-clause-plays : goal.returns-in-Err-clause-plays
 returns-in-Err-clause-plays g c =
     let bytes = c.in-Ok.bytes.items in
-    let refused = subst (λ bs. Refuses c.in-Err.error (thread_script_of bs)) c.as_slice.ensures.value c.in-Err.ensures.read in
-    rw c.told.ensures (lists_refused (g.R.Source.remaining c.args.reader.now) (g.W.Sink.contents c.args.writer.now) bytes c.in-Err.error c.in-Ok.ensures.bytes refused)
+    let refused = subst (λ bs. GivesError c.in-Err.error (thread_script_of bs)) c.as_slice.ensures.value c.in-Err.ensures.read in
+    rw c.play_error_of.ensures (lists_refused (g.R.Source.remaining c.args.reader.now) (g.W.Sink.contents c.args.writer.now) bytes c.in-Err.error c.in-Ok.ensures.bytes refused)
 
 pub returns-clause-plays : goal.returns-clause-plays
 returns-clause-plays g c =

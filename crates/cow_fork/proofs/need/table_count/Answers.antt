@@ -1,16 +1,15 @@
 use Rattle.std.proofs.Common.{◌≡◌, ℕ, ◌+◌, ◌/◌, ◌<◌, ◌≤◌, ◌∷◌, List, drop, length, ap, subst, sym, ◌∙◌, arith, ◌*◌}
 use Rattle.std.specs.Prelude.{slice_index_or}
 use Rattle.std.proofs.lemmas.List.{at_drop_all, at_drop_more}
-use Rattle.address_space.specs.Settled.{AreSettled, AreUnsettled}
-use Rattle.address_space.specs.declared.settled.SettledPage.{SettledPage}
+use Rattle.address_space.specs.SettledLists.{AreSettled, AreUnsettled}
+use Rattle.address_space.specs.declared.settled_pages.SettledPage.{SettledPage}
 use Rattle.process_model.specs.Process.{Process}
-use Rattle.sv39_entry.specs.Schemes.{trampoline_page, trapframe_page}
+use Rattle.sv39_entry.specs.Schemes.{trampoline_page, trapframe_page, edge_at}
 use Rattle.sv39_entry.specs.declared.scheme.Scheme.{Scheme}
 use Rattle.table_walk.specs.Tables.{Tables}
 use Rattle.cow_fork.proofs.Counting.{counts_more, counts_none, in_table, next_table, none_left, same_table, still_near, top_counted, top_new}
 use Rattle.cow_fork.proofs.need.table_count.Goals as goal
 use Rattle.cow_fork.proofs.need.table_count.Goals.{then-needed-table, else-needed-table}
-use Rattle.cow_fork.proofs.Walking.{edge_at}
 
 -- the next page of the list is the next settled one
 listed : (t : Tables) (p : Process) (first : ℕ) (settled : List SettledPage) (i : ℕ) (x : SettledPage) → i < length settled → x ≡ slice_index_or settled i x

@@ -1,5 +1,5 @@
 use Rattle.std.proofs.Common.{ℕ, ◌+◌, ◌*◌, ◌/◌, ◌≤◌, drop}
-use Rattle.address_space.specs.Settled.{AreSettled}
+use Rattle.address_space.specs.SettledLists.{AreSettled}
 use Rattle.process_model.specs.Process.{Process}
 use Rattle.table_walk.specs.Tables.{Tables}
 use Rattle.cow_fork.proofs.Counting.{CountsBelow}

@@ -1,14 +1,14 @@
 use Rattle.std.proofs.Common.{◌≡◌, ◌+◌, ◌-◌, ◌<◌, ap, refl, subst, ◌∙◌, arith, [], ◌∷◌, ◌++◌, length, List, sym}
 use Rattle.std.proofs.lemmas.List.{append_assoc, append-nil, length-map, map-append}
-use Rattle.address_space.specs.Settled.{AreSettled}
-use Rattle.address_space.specs.declared.settled.SettledPage.{SettledPage}
+use Rattle.address_space.specs.SettledLists.{AreSettled}
+use Rattle.address_space.specs.declared.settled_pages.SettledPage.{SettledPage}
 use Rattle.frame_store.specs.Laws.{fits_after}
-use Rattle.address_space.specs.Standing.{standing}
-use Rattle.cow_fork.specs.Sharing.{frames_of}
+use Rattle.address_space.specs.SpacesInCalls.{space_in_call}
+use Rattle.cow_fork.specs.ForkReferences.{frames_of}
 use Rattle.cow_fork.proofs.Going.{going_few, going_more, going_none}
-use Rattle.cow_fork.proofs.Walking.{same_body, edge_at}
 use Rattle.cow_fork.proofs.pages.list_settled.Goals as goal
-use Rattle.sv39_entry.specs.Schemes.{trapframe_page}
+use Rattle.sv39_entry.specs.Schemes.{trapframe_page, edge_at}
+use Rattle.address_space.specs.Agreement.{same_body}
 
 pub pages-init : goal.pages-init
 pages-init g c = record {
@@ -31,7 +31,7 @@ next_settled-requires-clause-ready g c =
     let r = c.requires.ready in
     let i = c.pages.invariant in
     let body = same_body g.S.FrameSeat.view c.pages.space c.args.space.now i.view i.root i.trapframe i.layout in
-    (r.0, r.1, standing (rw body r.2))
+    (r.0, r.1, space_in_call (rw body r.2))
 
 pub push-requires : goal.push-requires
 push-requires g c =
@@ -46,7 +46,7 @@ pages-smaller g c =
     let r = c.requires.ready in
     let i = c.pages.invariant in
     let body = same_body g.S.FrameSeat.view c.pages.space c.args.space.now i.view i.root i.trapframe i.layout in
-    let next = rw (c.in-Some.is, edge_at (r.2.lays.scheme ∙ sym c.scheme-scheme.ensures) _ _ c.page-end.ensures.number c.trapframe.ensures) at c.next_settled.ensures.page r.0 r.1 (standing (rw body r.2)) in
+    let next = rw (c.in-Some.is, edge_at (r.2.lays.scheme ∙ sym c.scheme-scheme.ensures) _ _ c.page-end.ensures.number c.trapframe.ensures) at c.next_settled.ensures.page r.0 r.1 (space_in_call (rw body r.2)) in
     let edge = ap trapframe_page r.2.lays.scheme in
     let less : trapframe_page c.args.space.now.layout.scheme - (c.number-from.result + 1) < trapframe_page c.args.space.now.layout.scheme - c.pages.from =
     omega (arith, c.number-from.ensures.value, next.0, next.1, edge) in
@@ -58,7 +58,7 @@ pages-preserved g c =
     let i = c.pages.invariant in
     let n = c.next_settled.ensures in
     let body = same_body g.S.FrameSeat.view c.pages.space c.args.space.now i.view i.root i.trapframe i.layout in
-    let near_next = rw (c.in-Some.is, edge_at (r.2.lays.scheme ∙ sym c.scheme-scheme.ensures) _ _ c.page-end.ensures.number c.trapframe.ensures) at n.page r.0 r.1 (standing (rw body r.2)) in
+    let near_next = rw (c.in-Some.is, edge_at (r.2.lays.scheme ∙ sym c.scheme-scheme.ensures) _ _ c.page-end.ensures.number c.trapframe.ensures) at n.page r.0 r.1 (space_in_call (rw body r.2)) in
     let items = c.push.ensures.items in
     record {
       near = omega (arith, c.number-from.ensures.value, near_next.1, ap trapframe_page r.2.lays.scheme);
@@ -69,12 +69,12 @@ pages-preserved g c =
       same = n.same ∙ i.same;
       keeps = λ others s. n.keeps others (i.keeps others s);
       going = λ t p space.
-          let next = rw (c.in-Some.is, edge_at (space.lays.scheme ∙ sym c.scheme-scheme.ensures) _ _ c.page-end.ensures.number c.trapframe.ensures) at n.page t p (standing (rw body space)) in
+          let next = rw (c.in-Some.is, edge_at (space.lays.scheme ∙ sym c.scheme-scheme.ensures) _ _ c.page-end.ensures.number c.trapframe.ensures) at n.page t p (space_in_call (rw body space)) in
           let longer : frames_of c.push.new.self.items ≡ frames_of c.pages.pages.items ++ (c.in-Some.found.frame).0 ∷ [] =
           ap frames_of items ∙ map-append (λ (x : SettledPage). (x.frame).0) c.pages.pages.items (c.in-Some.found ∷ []) in
           rw (c.number-from.ensures.value, longer) (going_more _ t p space c.pages.from (0 ∷ frames_of c.pages.pages.items) (i.going t p space) c.in-Some.found next);
       settled = λ t p space more rest.
-          let next = rw (c.in-Some.is, edge_at (space.lays.scheme ∙ sym c.scheme-scheme.ensures) _ _ c.page-end.ensures.number c.trapframe.ensures) at n.page t p (standing (rw body space)) in
+          let next = rw (c.in-Some.is, edge_at (space.lays.scheme ∙ sym c.scheme-scheme.ensures) _ _ c.page-end.ensures.number c.trapframe.ensures) at n.page t p (space_in_call (rw body space)) in
           let longer : c.push.new.self.items ++ more ≡ c.pages.pages.items ++ c.in-Some.found ∷ more =
           ap (λ (l : List SettledPage). l ++ more) items ∙ append_assoc c.pages.pages.items (c.in-Some.found ∷ []) more in
           rw longer (i.settled t p space (c.in-Some.found ∷ more) (next, rw c.number-from.ensures.value at rest));
@@ -84,7 +84,7 @@ pub returns-clause-settled : goal.returns-clause-settled
 returns-clause-settled g c t p space =
     let i = c.pages.invariant in
     let body = same_body g.S.FrameSeat.view c.pages.space c.args.space.now i.view i.root i.trapframe i.layout in
-    let none = rw (c.in_default.is, edge_at (space.lays.scheme ∙ sym c.scheme-scheme.ensures) _ _ c.page-end.ensures.number c.trapframe.ensures) at c.next_settled.ensures.page t p (standing (rw body space)) in
+    let none = rw (c.in_default.is, edge_at (space.lays.scheme ∙ sym c.scheme-scheme.ensures) _ _ c.page-end.ensures.number c.trapframe.ensures) at c.next_settled.ensures.page t p (space_in_call (rw body space)) in
     subst (AreSettled t p 0 (trapframe_page p.scheme)) (append-nil c.pages.pages.items) (i.settled t p space [] none)
 
 pub returns-clause-keeps : goal.returns-clause-keeps

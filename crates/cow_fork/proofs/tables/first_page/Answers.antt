@@ -1,8 +1,7 @@
 use Rattle.std.proofs.Common.{◌≡◌, ◌≤◌, rules, refl}
 use Rattle.cow_fork.proofs.Listing.{no_page, page_at_edge, page_before}
 use Rattle.cow_fork.proofs.tables.first_page.Goals as goal
-use Rattle.cow_fork.proofs.Walking.{edge_at, page_at}
-use Rattle.sv39_entry.specs.Schemes.{trapframe_page}
+use Rattle.sv39_entry.specs.Schemes.{trapframe_page, page_at, edge_at}
 
 pub returns-in-Some-clause-page : goal.returns-in-Some-clause-page
 returns-in-Some-clause-page g c t h edged =

@@ -1,12 +1,12 @@
 use Rattle.std.proofs.Common.{◌≡◌, ◌||◌, Some, None, [], refl, ap, sym, ◌∙◌, arith, subst}
 use Rattle.frame_store.specs.Laws.{fits_after}
 use Rattle.process_model.specs.PageMap as pages
-use Rattle.process_model.specs.OrderKept.{leafy_at}
+use Rattle.process_model.specs.OrderLaws.{leafy_at}
 use Rattle.process_model.specs.Process.{regions}
 use Rattle.process_model.specs.Regions.{region_at}
 use Rattle.process_model.specs.ValueSets.{none_in}
 use Rattle.table_walk.specs.Tables.{leaf_node, with_leaf}
-use Rattle.table_walk.specs.Mapped.{maps_low, maps_for, tables_of_scheme}
+use Rattle.table_walk.specs.LowPages.{maps_low, maps_for, tables_of_scheme}
 use Rattle.address_space.specs.Layouts.{LaysOut, region_of}
 use Rattle.address_space.specs.ProcessLeaves.{page_backed}
 use Rattle.cow_fork.proofs.Copying.{child_leaf, child_unwritable, copies_all, copies_more, done_low, enough, mark_had, mark_new, next_left, none_left, open_first, page_known, page_low, still_anchored, missing_of_scheme}

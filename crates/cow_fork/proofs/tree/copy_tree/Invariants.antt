@@ -1,5 +1,5 @@
 use Rattle.std.proofs.Common.{◌≡◌}
-use Rattle.frame_store.specs.Laws.{Keeps}
+use Rattle.frame_store.specs.Laws.{KeepsSeats}
 use Rattle.process_model.specs.Process.{Process}
 use Rattle.table_walk.specs.Tables.{Tables}
 use Rattle.cow_fork.specs.Children.{CanCopy}
@@ -12,7 +12,7 @@ invariant-pages g l = record {
   root : l.space.root ≡ l.fn.space.root;
   trapframe : l.space.trapframe ≡ l.fn.space.trapframe;
   layout : l.space.layout ≡ l.fn.space.layout;
-  keeps : Keeps g.F.FrameAccess.rule l.fn.store l.fn.space.seat l.store l.space.seat;
+  keeps : KeepsSeats g.F.FrameAccess.rule l.fn.store l.fn.space.seat l.store l.space.seat;
   free : g.F.FrameAccess.alone → g.F.FrameAccess.free l.store ≡ g.F.FrameAccess.free l.fn.store;
   copied : (t : Tables) (p : Process) → CanCopy (g.S.FrameSeat.view l.fn.space.seat) l.fn.space.layout t p l.fn.trapframe.0 l.settled
       → IsCopied (g.S.FrameSeat.view l.fn.space.seat) (g.S.FrameSeat.view l.space.seat) t p l.root.0 l.fn.trapframe.0 l.settled l.page-index;

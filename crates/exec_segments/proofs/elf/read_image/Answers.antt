@@ -5,7 +5,7 @@ use Rattle.process_model.specs.Images as model
 use Rattle.process_model.specs.Images.{LoadSegment, judged, load, outside, passed_over}
 use Rattle.process_model.specs.declared.image.BadImage.{BadImage}
 use Rattle.exec_segments.specs.Headers.{header_of}
-use Rattle.exec_segments.proofs.Files.{judges, no_header, no_magic, too_long}
+use Rattle.exec_segments.proofs.ElfChecks.{judges, no_header, no_magic, too_long}
 use Rattle.exec_segments.proofs.Headers.{all_numbers, at_index}
 use Rattle.exec_segments.proofs.Judged.{all_through, forward, judge, stopped, went_on}
 use Rattle.exec_segments.proofs.elf.read_image.Goals as goal

@@ -1,5 +1,5 @@
 use Rattle.std.proofs.Common.{◌∙◌, Some, ap, arith}
-use Rattle.frame_store.specs.Many.{is_known, many_at}
+use Rattle.frame_store.specs.StoredRuns.{is_known, many_at}
 use Rattle.frame_store.specs.View.{or_zero}
 use Rattle.frame_bytes.proofs.contents.copy_frame.Goals as goal
 

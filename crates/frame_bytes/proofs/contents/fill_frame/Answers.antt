@@ -1,5 +1,5 @@
 use Rattle.std.proofs.Common.{arith}
-use Rattle.frame_bytes.specs.Changed.{changes_both, changed_sole}
+use Rattle.frame_bytes.specs.StoredWords.{changes_both, changed_sole}
 use Rattle.frame_bytes.proofs.Filled.{filled}
 use Rattle.frame_bytes.proofs.contents.fill_frame.Goals as goal
 

@@ -1,7 +1,7 @@
 use Rattle.std.proofs.Common.{◌≡◌, ℕ, ◌-◌, ◌*◌, ◌/◌, ◌∙◌, Option, Some, length, drop, take, ap, arith, length-drop}
 use Rattle.std.proofs.lemmas.List.{take_all}
 use Rattle.process_model.specs.Bytes.{number}
-use Rattle.frame_bytes.specs.Changed.{changes_none, known_more}
+use Rattle.frame_bytes.specs.StoredWords.{changes_none, known_more}
 use Rattle.frame_bytes.proofs.contents.fill_part.Goals as goal
 
 pub returns-then-bytes-eq0-clause-others : goal.returns-then-bytes-eq0-clause-others

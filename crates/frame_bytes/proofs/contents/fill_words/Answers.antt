@@ -1,5 +1,5 @@
 use Rattle.std.proofs.Common.{◌*◌, ◌+◌, ◌≤◌, ◌∙◌, length, take, drop, Some, ap, refl, arith}
-use Rattle.frame_store.specs.Many.{many_at}
+use Rattle.frame_store.specs.StoredRuns.{many_at}
 use Rattle.frame_bytes.proofs.Writes.{word_of_eight}
 use Rattle.frame_bytes.proofs.contents.fill_words.Goals as goal
 

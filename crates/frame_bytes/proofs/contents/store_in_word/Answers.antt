@@ -1,7 +1,7 @@
 use Rattle.std.proofs.Common.{◌≡◌, ◌%◌, ◌∙◌, ap, refl, arith}
 use Rattle.std.specs.Int.{w64, from_le_bytes, to_le_bytes}
 use Rattle.process_model.specs.Bytes.{write_bytes}
-use Rattle.frame_bytes.specs.Changed.{changes_one, stored_as}
+use Rattle.frame_bytes.specs.StoredWords.{changes_one, stored_as}
 use Rattle.frame_bytes.proofs.Stored.{bytes_stored, word_stored}
 use Rattle.frame_bytes.proofs.contents.store_in_word.Goals as goal
 

@@ -1,6 +1,6 @@
 use Rattle.std.proofs.Common.{◌*◌, ◌∙◌, inl, inr, Some, ap, sym, arith}
 use Rattle.std.proofs.lemmas.Bool.{cases_lt}
-use Rattle.frame_store.specs.Many.{many_at, many_beside}
+use Rattle.frame_store.specs.StoredRuns.{many_at, many_beside}
 use Rattle.frame_bytes.proofs.Writes.{past_end}
 use Rattle.frame_bytes.proofs.contents.zero_words.Goals as goal
 

@@ -1,5 +1,5 @@
 use Rattle.std.proofs.Common.{◌≡◌, ℕ, ◌+◌, ◌-◌, ◌≤◌, ◌∙◌, length, refl, subst, sym, arith}
-use Rattle.frame_bytes.specs.Changed.{changes_none, changes_both, changed_sole, changed_held}
+use Rattle.frame_bytes.specs.StoredWords.{changes_none, changes_both, changed_sole, changed_held}
 use Rattle.frame_bytes.specs.Contents.{HasBytes}
 use Rattle.frame_bytes.proofs.Writes.{write_more, write_none}
 use Rattle.frame_bytes.proofs.runs.write_run.Goals as goal

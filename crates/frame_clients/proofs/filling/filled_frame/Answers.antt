@@ -1,6 +1,6 @@
 use Rattle.std.proofs.Common.{◌≡◌, ℕ, ◌<◌, ap, sym, subst, ◌∙◌}
 use Rattle.frame_store.specs.View.{View, Hold, IsHeld, references, with_credits}
-use Rattle.frame_clients.specs.Filled.{filled_held}
+use Rattle.frame_clients.specs.FilledFrames.{filled_held}
 use Rattle.frame_clients.proofs.Views.{hold_of-with_credits, dry_held}
 use Rattle.frame_clients.proofs.PageSteps.{claimed_alone, filled_by_steps}
 use Rattle.frame_clients.proofs.filling.filled_frame.Goals as goal

@@ -1,6 +1,6 @@
 use Rattle.std.proofs.Common.{◌∙◌, sym, subst}
 use Rattle.frame_store.specs.View.{IsHeld}
-use Rattle.frame_store.specs.Opened.{opener_held}
+use Rattle.frame_store.specs.SeatOpening.{opener_held}
 use Rattle.frame_store.proofs.SeatSteps.{can_split, full_held, left_anchored, right_anchored, split_left, split_right}
 use Rattle.frame_store.proofs.opening.opened_seat.Goals as goal
 

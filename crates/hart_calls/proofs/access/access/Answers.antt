@@ -1,8 +1,8 @@
 use Rattle.std.proofs.Common.{◌≡◌, true, ap, sym, ◌∙◌, subst, refl, inl, inr}
-use Rattle.address_space.specs.Accesses.{asked_of, gives_leaf}
+use Rattle.address_space.specs.Accesses.{request_of, gives_leaf}
 use Rattle.address_space.specs.Agreement.{body_of}
 use Rattle.fault_rules.specs.Allowed.{can_reside}
-use Rattle.fault_rules.specs.Resides.{is_shared_by}
+use Rattle.fault_rules.specs.MadeResident.{is_shared_by}
 use Rattle.fault_rules.specs.declared.service.Served.TheVariants as served
 use Rattle.address_space.specs.Steps.{RunsDry}
 use Rattle.frame_store.specs.Laws.{fits_after, keeps_both}
@@ -16,9 +16,9 @@ use Rattle.process_model.specs.Residence.{made_resident}
 use Rattle.sv39_entry.specs.Address.{page_of}
 use Rattle.hart_calls.proofs.access.access.Goals as goal
 
-pub returns-then-not-is_width-clause-came : goal.returns-then-not-is_width-clause-came
-returns-then-not-is_width-clause-came g c =
-    rw c.short.ensures (λ k is t p space. (tt, bad_width (g.C.Files.files c.args.files.now) p (asked_of c.args.asked) k is (let e = c.is_width.ensures in let f = c.if-not-is_width.true in cc) (body_of g.S.FrameSeat.view c.args.space.now) (body_of g.S.FrameSeat.view c.args.space.now) _ _ _ (t, space) (g.met.C.Files.stays c.args.files.now)))
+pub returns-then-not-is_width-clause-call_result : goal.returns-then-not-is_width-clause-call_result
+returns-then-not-is_width-clause-call_result g c =
+    rw c.short.ensures (λ k is t p space. (tt, bad_width (g.C.Files.files c.args.files.now) p (request_of c.args.request) k is (let e = c.is_width.ensures in let f = c.if-not-is_width.true in cc) (body_of g.S.FrameSeat.view c.args.space.now) (body_of g.S.FrameSeat.view c.args.space.now) _ _ _ (t, space) (g.met.C.Files.stays c.args.files.now)))
 
 pub accessed-requires-clause-fits : goal.accessed-requires-clause-fits
 accessed-requires-clause-fits g c = fits_after g.F.FrameAccess.rule c.translate-walk.ensures.keeps c.requires.fits
@@ -29,48 +29,48 @@ accessed-requires-clause-ready g c =
     let r = c.requires.ready in
     (r.0, r.1, still_space g.S.FrameSeat.view _ _ n.view n.root n.trapframe n.layout r.0 r.1 r.2, n.walk r.0 r.1 r.2)
 
-pub returns-then-is_permitted-clause-came : goal.returns-then-is_permitted-clause-came
-returns-then-is_permitted-clause-came g c = λ k is t p space.
+pub returns-then-is_permitted-clause-call_result : goal.returns-then-is_permitted-clause-call_result
+returns-then-is_permitted-clause-call_result g c = λ k is t p space.
     let n = c.translate-walk.ensures in
-    let a = asked_of c.args.asked in
+    let a = request_of c.args.request in
     let here = still_space g.S.FrameSeat.view _ _ n.view n.root n.trapframe n.layout t p space in
     let walk = n.walk t p space in
-    let law = c.walks_grant_what_is_resident.ensures (body_of g.S.FrameSeat.view c.args.space.now) t p c.args.asked.access c.args.asked.va.0 space in
+    let law = c.walks_grant_what_is_resident.ensures (body_of g.S.FrameSeat.view c.args.space.now) t p c.args.request.access c.args.request.va.0 space in
     let both = granted (g.C.Files.files c.args.files.now) p a (gives_leaf c.translate-walk.result) (sym c.is_permitted.ensures ∙ c.if-is_permitted.true) (rw walk law) in
-    let wide : is_width c.args.asked.width ≡ true = (let e = c.is_width.ensures in let f = c.if-not-is_width.false in cc) in
+    let wide : is_width c.args.request.width ≡ true = (let e = c.is_width.ensures in let f = c.if-not-is_width.false in cc) in
     made_at_once (g.C.Files.files c.args.files.now) p a k is wide (body_of g.S.FrameSeat.view c.args.space.now) (body_of g.S.FrameSeat.view c.accessed.new.space) _ _ _ both.0 both.1 c.accessed.result (c.accessed.ensures.reply t p here walk) (t, c.accessed.ensures.after t p here walk)
     (g.met.C.Files.stays c.args.files.now)
 
 pub returns-then-is_permitted-clause-keeps : goal.returns-then-is_permitted-clause-keeps
 returns-then-is_permitted-clause-keeps g c = keeps_both g.F.FrameAccess.rule c.translate-walk.ensures.keeps c.accessed.ensures.keeps
 
-pub returns-in-Ready-clause-came : goal.returns-in-Ready-clause-came
-returns-in-Ready-clause-came g c = λ k is t p space.
+pub returns-in-Ready-clause-call_result : goal.returns-in-Ready-clause-call_result
+returns-in-Ready-clause-call_result g c = λ k is t p space.
     let n = c.translate-walk.ensures in
-    let a = asked_of c.args.asked in
+    let a = request_of c.args.request in
     let files = g.C.Files.files c.args.files.now in
     let x = body_of g.S.FrameSeat.view c.args.space.now in
     let here = still_space g.S.FrameSeat.view _ _ n.view n.root n.trapframe n.layout t p space in
-    let law = c.walks_grant_what_is_resident.ensures x t p c.args.asked.access c.args.asked.va.0 space in
-    let wide : is_width c.args.asked.width ≡ true = (let e = c.is_width.ensures in let f = c.if-not-is_width.false in cc) in
+    let law = c.walks_grant_what_is_resident.ensures x t p c.args.request.access c.args.request.va.0 space in
+    let wide : is_width c.args.request.width ≡ true = (let e = c.is_width.ensures in let f = c.if-not-is_width.false in cc) in
     let none = ready_none files p a (c.in-Ready.ensures.ended t p here) in
     let not = not_granted files p a (gives_leaf c.translate-walk.result) (sym c.is_permitted.ensures ∙ c.if-is_permitted.false) (rw (n.walk t p space) law) none in
-    let r = c.in-Ready.ensures.ready refl t p (can_reside (body_of g.S.FrameSeat.view c.translate-walk.new.self) t p c.args.asked.access c.args.asked.va.0 c.args.asked.width here none) in
+    let r = c.in-Ready.ensures.ready refl t p (can_reside (body_of g.S.FrameSeat.view c.translate-walk.new.self) t p c.args.request.access c.args.request.va.0 c.args.request.width here none) in
     let there = as_told files p a (body_of g.S.FrameSeat.view c.serve.new.space) r.0 (is_shared_by r.1) (r.2.agrees 0) in
     made_later files p a k is wide x (body_of g.S.FrameSeat.view c.at_once.new.space) _ _ _ none not c.at_once.result (c.at_once.ensures.reply r.0 (q files p a) there) (r.0, c.at_once.ensures.after r.0 (q files p a) there)
     (c.in-Ready.ensures.moves ready_served t p here)
 
-pub returns-in-Ended-clause-came : goal.returns-in-Ended-clause-came
-returns-in-Ended-clause-came g c = λ k is t p space.
+pub returns-in-Ended-clause-call_result : goal.returns-in-Ended-clause-call_result
+returns-in-Ended-clause-call_result g c = λ k is t p space.
     let n = c.translate-walk.ensures in
-    let a = asked_of c.args.asked in
+    let a = request_of c.args.request in
     let files = g.C.Files.files c.args.files.now in
     let x = body_of g.S.FrameSeat.view c.args.space.now in
     let y = body_of g.S.FrameSeat.view c.serve.new.space in
     let e = c.in-Ended.ensures in
     let here = still_space g.S.FrameSeat.view _ _ n.view n.root n.trapframe n.layout t p space in
-    let law = c.walks_grant_what_is_resident.ensures x t p c.args.asked.access c.args.asked.va.0 space in
-    let wide : is_width c.args.asked.width ≡ true = (let e = c.is_width.ensures in let f = c.if-not-is_width.false in cc) in
+    let law = c.walks_grant_what_is_resident.ensures x t p c.args.request.access c.args.request.va.0 space in
+    let wide : is_width c.args.request.width ≡ true = (let e = c.is_width.ensures in let f = c.if-not-is_width.false in cc) in
     let whole = e.whole c.in-Ended.rule refl t p here in
     let moves = e.moves (ended_served c.in-Ended.rule) t p here in
     elim (ended_why files p a c.in-Ended.rule (e.ended t p here)) [
@@ -78,20 +78,20 @@ returns-in-Ended-clause-came g c = λ k is t p space.
       | inr both ↦
           let none = both.0 in
           let not = not_granted files p a (gives_leaf c.translate-walk.result) (sym c.is_permitted.ensures ∙ c.if-is_permitted.false) (rw (n.walk t p space) law) none in
-          let dry = e.dry (ap served.Ended both.1) t p (can_reside (body_of g.S.FrameSeat.view c.translate-walk.new.self) t p c.args.asked.access c.args.asked.va.0 c.args.asked.width here none) in
-          ends_dry_by files p a k is wide x y _ _ _ c.in-Ended.rule both.1 none not dry.0 dry.1 (subst (λ (v : View). RunsDry v (g.S.FrameSeat.view c.serve.new.space.seat) (resident_need (is_shared_by dry.0) p c.args.asked.access (page_of c.args.asked.va.0)) (option_to_list dry.0)) n.view dry.2) (t, whole) moves
+          let dry = e.dry (ap served.Ended both.1) t p (can_reside (body_of g.S.FrameSeat.view c.translate-walk.new.self) t p c.args.request.access c.args.request.va.0 c.args.request.width here none) in
+          ends_dry_by files p a k is wide x y _ _ _ c.in-Ended.rule both.1 none not dry.0 dry.1 (subst (λ (v : View). RunsDry v (g.S.FrameSeat.view c.serve.new.space.seat) (resident_need (is_shared_by dry.0) p c.args.request.access (page_of c.args.request.va.0)) (option_to_list dry.0)) n.view dry.2) (t, whole) moves
     ]
 
-pub returns-in-Unserved-clause-came : goal.returns-in-Unserved-clause-came
-returns-in-Unserved-clause-came g c = λ k is t p space.
+pub returns-in-Unserved-clause-call_result : goal.returns-in-Unserved-clause-call_result
+returns-in-Unserved-clause-call_result g c = λ k is t p space.
     let n = c.translate-walk.ensures in
     let e = c.in-Unserved.ensures in
     let here = still_space g.S.FrameSeat.view _ _ n.view n.root n.trapframe n.layout t p space in
     let x = e.unpromised c.in-Unserved.refusal refl in (
-      is_access_call k (asked_of c.args.asked) is,
+      is_access_call k (request_of c.args.request) is,
       record {
         could = (c.args.files.now, x.0, g.met.C.Files.stays c.args.files.now, x.1, x.2);
-        of_file = access_reads_file (g.C.Files.files c.args.files.now) p k (asked_of c.args.asked) is (let w = c.is_width.ensures in let f = c.if-not-is_width.false in cc) (e.of_file c.in-Unserved.refusal refl t p here);
+        of_file = access_reads_file (g.C.Files.files c.args.files.now) p k (request_of c.args.request) is (let w = c.is_width.ensures in let f = c.if-not-is_width.false in cc) (e.of_file c.in-Unserved.refusal refl t p here);
         space = (t, still_space g.S.FrameSeat.view c.translate-walk.new.self c.serve.new.space (e.view_stays ((λ is. cc), (λ is. cc))) e.root e.trapframe e.layout t p here);
         moves = e.files_stay c.in-Unserved.refusal refl;
       },
@@ -101,7 +101,7 @@ pub serve-requires-clause-fits : goal.serve-requires-clause-fits
 serve-requires-clause-fits g c = fits_after g.F.FrameAccess.rule c.translate-walk.ensures.keeps c.requires.fits
 
 pub serve-requires-clause-width : goal.serve-requires-clause-width
-serve-requires-clause-width g c = some_width c.args.asked.width (let e = c.is_width.ensures in let f = c.if-not-is_width.false in cc)
+serve-requires-clause-width g c = some_width c.args.request.width (let e = c.is_width.ensures in let f = c.if-not-is_width.false in cc)
 
 pub serve-requires-clause-ready : goal.serve-requires-clause-ready
 serve-requires-clause-ready g c =
@@ -117,9 +117,9 @@ at_once-requires-clause-ready g c =
     let n = c.translate-walk.ensures in
     let p = c.requires.ready in
     let here = still_space g.S.FrameSeat.view _ _ n.view n.root n.trapframe n.layout p.0 p.1 p.2 in
-    let none = ready_none (g.C.Files.files c.args.files.now) p.1 (asked_of c.args.asked) (c.in-Ready.ensures.ended p.0 p.1 here) in
-    let r = c.in-Ready.ensures.ready refl p.0 p.1 (can_reside (body_of g.S.FrameSeat.view c.translate-walk.new.self) p.0 p.1 c.args.asked.access c.args.asked.va.0 c.args.asked.width here none) in
-    (r.0, made_resident (g.C.Files.files c.args.files.now) 0 (is_shared_by r.1) p.1 c.args.asked.access (page_of c.args.asked.va.0), r.2.agrees 0)
+    let none = ready_none (g.C.Files.files c.args.files.now) p.1 (request_of c.args.request) (c.in-Ready.ensures.ended p.0 p.1 here) in
+    let r = c.in-Ready.ensures.ready refl p.0 p.1 (can_reside (body_of g.S.FrameSeat.view c.translate-walk.new.self) p.0 p.1 c.args.request.access c.args.request.va.0 c.args.request.width here none) in
+    (r.0, made_resident (g.C.Files.files c.args.files.now) 0 (is_shared_by r.1) p.1 c.args.request.access (page_of c.args.request.va.0), r.2.agrees 0)
 
 pub returns-in-Ready-clause-keeps : goal.returns-in-Ready-clause-keeps
 returns-in-Ready-clause-keeps g c = λ others r. c.at_once.ensures.keeps others (c.serve.ensures.keeps others (c.translate-walk.ensures.keeps others r))

@@ -1,5 +1,5 @@
 -- What `built` picks: the process that begins.
-use Rattle.process_model.specs.Loading.{process_of}
+use Rattle.process_model.specs.ImageProcess.{process_of}
 use Rattle.hart_threads.proofs.seats.built.Given as goal
 
 abbrev pub ghost-begun : goal.ghost-begun

@@ -1,6 +1,6 @@
 use Rattle.std.proofs.Common.{◌≡◌, ◌≤◌}
 use Rattle.frame_store.specs.View.{with_credits}
-use Rattle.shared_frames.specs.Fits.{FitsIn}
+use Rattle.shared_frames.specs.SeatsOfTable.{FitsIn}
 use Rattle.shared_frames.proofs.retry.reserve.Given as goal
 
 abbrev pub invariant-loop : goal.invariant-loop

@@ -1,7 +1,7 @@
 use Rattle.std.proofs.Common.{ap, sym, subst, ◌∙◌}
 use Rattle.std.specs.Prelude.{IsTrue}
 use Rattle.frame_store.specs.View.{IsSole, View, with_word}
-use Rattle.shared_frames.specs.Fits.{view_of}
+use Rattle.shared_frames.specs.SeatsOfTable.{view_of}
 use Rattle.shared_frames.proofs.Stored.{stored_again, stored_sole}
 use Rattle.shared_frames.proofs.steps.store_word.Goals as goal
 

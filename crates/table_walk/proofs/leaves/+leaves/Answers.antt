@@ -1,10 +1,10 @@
 use Rattle.std.proofs.Common.{◌≡◌, ℕ, suc, ◌+◌, ◌-◌, ◌*◌, ◌^◌, ◌<◌, None, Some, refl, ap, sym, subst, ◌∙◌, arith, rules}
-use Rattle.frame_store.specs.Laws.{Fits}
+use Rattle.frame_store.specs.Laws.{IsSeatOf}
 use Rattle.std.specs.FinMap.{get}
 use Rattle.sv39_entry.specs.declared.scheme.Scheme.{Scheme}
-use Rattle.table_walk.specs.Changed.{HasEntry, IsTableAt}
+use Rattle.table_walk.specs.TableChanges.{HasEntry, IsTableAt}
 use Rattle.table_walk.specs.Tables.{HasTables, Tables}
-use Rattle.table_walk.specs.Places.{IsBare, IsFirstLeaf}
+use Rattle.table_walk.specs.Places.{HasNoLeaves, IsFirstLeaf}
 use Rattle.table_walk.proofs.Next.{bare_all, bare_more, bare_none, bare_skip, entry_here, first_more, no_table, last_index, leaf_word, past_index, same_places, table_child, fits_word, up_to}
 use Rattle.table_walk.specs.Nodes.{power_next, power_some}
 use Rattle.table_walk.proofs.leaves.+leaves.Goals as goal
@@ -29,7 +29,7 @@ next_at-returns-in_err-next-clause-leaf g u c s root k i t has e =
     let high = (has.known.below k e.frame e.table).0 in
     let bare = no_table _ root t has.known (k * 512 + i) (c.args.level - 1) c.args.from (omega (arith, high)) none in
     rw c.from_residual.ensures
-    (up_to t (k * 512 + i) (512 ^ c.args.level) c.args.from c.args.end None (subst (λ (w : ℕ). IsBare t (k * 512 + i) w c.args.from w) width bare))
+    (up_to t (k * 512 + i) (512 ^ c.args.level) c.args.from c.args.end None (subst (λ (w : ℕ). HasNoLeaves t (k * 512 + i) w c.args.from w) width bare))
 
 pub next_at-next_below-requires : goal.next_at-next_below-requires
 next_at-next_below-requires g u c =
@@ -64,7 +64,7 @@ next_below-next_at-next-requires g u c =
     let h = c.requires.held in
     let n = c.in_ok-index.ensures.word in
     let index = c.in_ok-index.index in
-    let fits : Fits g.F.FrameAccess.rule c.next_entry.new.store c.next_entry.new.seat =
+    let fits : IsSeatOf g.F.FrameAccess.rule c.next_entry.new.store c.next_entry.new.seat =
     (c.requires.fits.0, c.next_entry.ensures.keeps c.requires.fits.0 (i.keeps c.requires.fits.0 c.requires.fits.1)) in
     let most = last_index c.index_of-last.result c.min-stop.result c.args.end (512 ^ c.args.level) (power_some c.args.level)
     (rw c.index_places-width.ensures.value at c.min-stop.ensures) c.index_of-last.ensures in

@@ -1,4 +1,4 @@
-use Rattle.table_walk.specs.Changed.{IsTableAt}
+use Rattle.table_walk.specs.TableChanges.{IsTableAt}
 use Rattle.table_walk.specs.Tables.{root_node}
 use Rattle.table_walk.proofs.Shed.{root_level}
 use Rattle.table_walk.proofs.leaves.next_leaf_before.Goals as goal

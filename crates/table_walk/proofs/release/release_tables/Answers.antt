@@ -1,4 +1,4 @@
-use Rattle.table_walk.specs.Changed.{IsTableAt}
+use Rattle.table_walk.specs.TableChanges.{IsTableAt}
 use Rattle.table_walk.specs.Tables.{root_node}
 use Rattle.table_walk.proofs.Shed.{LetsGoTo, all_gone, all_tallies, others_same, root_anchored, root_held, root_level}
 use Rattle.table_walk.proofs.release.release_tables.Given as given

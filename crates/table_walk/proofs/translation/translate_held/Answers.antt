@@ -1,6 +1,6 @@
 use Rattle.std.proofs.Common.{ℕ, sym, subst}
 use Rattle.sv39_entry.specs.Address.{page_of}
-use Rattle.table_walk.specs.Held.{held_memory}
+use Rattle.table_walk.specs.HeldMemory.{held_memory}
 use Rattle.table_walk.specs.Walk.{IsAt, Translates}
 use Rattle.table_walk.specs.Leaves.{frames_there, walk_answer}
 use Rattle.table_walk.proofs.WalkAnswers.{translates}

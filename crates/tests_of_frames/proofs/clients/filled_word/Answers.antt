@@ -2,7 +2,7 @@ use Rattle.std.proofs.Common.{refl, sym, subst, ◌∙◌, arith}
 use Rattle.std.specs.Prelude.{IsSome}
 use Rattle.std.proofs.lemmas.Option.{slice_get-get_or}
 use Rattle.frame_store.specs.View.{IsHeld, known_word}
-use Rattle.frame_clients.specs.Filled.{filled_holds, known_word-filled}
+use Rattle.frame_clients.specs.FilledFrames.{filled_holds, known_word-filled}
 use Rattle.tests_of_frames.proofs.ClientSteps.{known_by_filling}
 use Rattle.tests_of_frames.proofs.clients.filled_word.Goals as goal
 

@@ -1,4 +1,4 @@
-use Rattle.shared_frames.specs.Fits.{fits_still}
+use Rattle.shared_frames.specs.SeatsOfTable.{fits_still}
 use Rattle.tests_of_frames.proofs.clients.finds_next_words_of_both_stores.Goals as goal
 
 pub close-totals-requires : goal.close-totals-requires

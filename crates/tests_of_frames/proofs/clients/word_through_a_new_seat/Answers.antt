@@ -1,7 +1,7 @@
 use Rattle.std.proofs.Common.{sym, subst}
 use Rattle.frame_store.specs.View.{IsHeld}
-use Rattle.frame_store.specs.Opened.{opened_held}
-use Rattle.frame_store.specs.Joined.{joined_first}
+use Rattle.frame_store.specs.SeatOpening.{opened_held}
+use Rattle.frame_store.specs.SeatJoin.{joined_first}
 use Rattle.tests_of_frames.proofs.ClientSteps.{second_fits, second_steps}
 use Rattle.tests_of_frames.proofs.clients.word_through_a_new_seat.Goals as goal
 

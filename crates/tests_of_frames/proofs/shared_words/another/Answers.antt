@@ -1,5 +1,5 @@
 use Rattle.std.proofs.Common.{rules, refl}
-use Rattle.shared_frames.specs.Fits.{fits_still, may_step, fits_parted}
+use Rattle.shared_frames.specs.SeatsOfTable.{fits_still, may_step, fits_parted}
 use Rattle.tests_of_frames.proofs.SeatSteps.{share-wider, share-two, left-base, right-base}
 use Rattle.tests_of_frames.proofs.shared_words.another.Goals as goal
 

@@ -1,6 +1,6 @@
 use Rattle.frame_store.specs.Laws.{fits_after}
 use Rattle.frame_store.specs.Holds.{opening_holds}
-use Rattle.shared_frames.specs.Fits.{AllFit, may_step}
+use Rattle.shared_frames.specs.SeatsOfTable.{AllFit, may_step}
 use Rattle.tests_of_frames.proofs.SeatSteps.{reserve-wider, claim-sole, look-wider, share-wider}
 use Rattle.tests_of_frames.proofs.shared_words.counts_to_65_535.Goals as goal
 

@@ -1,5 +1,5 @@
 use Rattle.frame_store.specs.Holds.{opening_holds}
-use Rattle.shared_frames.specs.Fits.{may_join, fits_joined}
+use Rattle.shared_frames.specs.SeatsOfTable.{may_join, fits_joined}
 use Rattle.tests_of_frames.proofs.shared_words.four_threads_give_all_back.Goals as goal
 
 pub another-requires-clause-base : goal.another-requires-clause-base

@@ -1,4 +1,4 @@
-use Rattle.shared_frames.specs.Fits.{fits_still}
+use Rattle.shared_frames.specs.SeatsOfTable.{fits_still}
 use Rattle.tests_of_frames.proofs.shared_words.last_word.Goals as goal
 
 pub returns : goal.returns

@@ -1,6 +1,6 @@
 use Rattle.std.proofs.Common.{◌∙◌}
 use Rattle.frame_store.specs.Holds.{opening_holds}
-use Rattle.shared_frames.specs.Fits.{fits_still, fits_parted, may_step}
+use Rattle.shared_frames.specs.SeatsOfTable.{fits_still, fits_parted, may_step}
 use Rattle.tests_of_frames.proofs.SeatSteps.{empty-anchored}
 use Rattle.tests_of_frames.proofs.shared_words.refuses_what_is_reserved.Goals as goal
 

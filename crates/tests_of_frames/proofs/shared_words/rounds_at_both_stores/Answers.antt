@@ -1,4 +1,4 @@
-use Rattle.shared_frames.specs.Fits.{fits_still}
+use Rattle.shared_frames.specs.SeatsOfTable.{fits_still}
 use Rattle.tests_of_frames.proofs.shared_words.rounds_at_both_stores.Goals as goal
 
 pub close-requires : goal.close-requires

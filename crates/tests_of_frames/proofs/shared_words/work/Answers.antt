@@ -1,4 +1,4 @@
-use Rattle.shared_frames.specs.Fits.{fits_still, may_step}
+use Rattle.shared_frames.specs.SeatsOfTable.{fits_still, may_step}
 use Rattle.tests_of_frames.proofs.shared_words.work.Goals as goal
 
 pub round-requires-clause-fits : goal.round-requires-clause-fits

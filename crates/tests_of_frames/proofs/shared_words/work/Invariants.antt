@@ -1,6 +1,6 @@
 use Rattle.std.proofs.Common.{◌≡◌}
 use Rattle.frame_store.specs.View.{IsHeld}
-use Rattle.shared_frames.specs.Fits.{FitsIn, view_of}
+use Rattle.shared_frames.specs.SeatsOfTable.{FitsIn, view_of}
 use Rattle.tests_of_frames.proofs.shared_words.work.Given as goal
 
 abbrev pub invariant-loop : goal.invariant-loop

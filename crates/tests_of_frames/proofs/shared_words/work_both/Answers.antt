@@ -1,4 +1,4 @@
-use Rattle.shared_frames.specs.Fits.{may_join, fits_joined}
+use Rattle.shared_frames.specs.SeatsOfTable.{may_join, fits_joined}
 use Rattle.tests_of_frames.proofs.shared_words.work_both.Goals as goal
 
 pub join-requires : goal.join-requires

@@ -1,4 +1,4 @@
-use Rattle.shared_frames.specs.Fits.{fits_still, may_step}
+use Rattle.shared_frames.specs.SeatsOfTable.{fits_still, may_step}
 use Rattle.tests_of_processes.proofs.KernelSteps.{opens}
 use Rattle.tests_of_processes.proofs.spaces.over_shared.Goals.{in-Ok, in-Err}
 use Rattle.tests_of_processes.proofs.spaces.over_shared.Goals as goal

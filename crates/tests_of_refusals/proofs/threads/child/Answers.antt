@@ -1,4 +1,4 @@
-use Rattle.shared_frames.specs.Fits.{fits_still, may_step}
+use Rattle.shared_frames.specs.SeatsOfTable.{fits_still, may_step}
 use Rattle.tests_of_refusals.proofs.Living.{alive_forked}
 use Rattle.tests_of_refusals.proofs.Seats.{fits_both}
 use Rattle.tests_of_refusals.proofs.threads.child.Goals as goal

@@ -1,4 +1,4 @@
-use Rattle.shared_frames.specs.Fits.{fits_still, may_step}
+use Rattle.shared_frames.specs.SeatsOfTable.{fits_still, may_step}
 use Rattle.tests_of_refusals.proofs.threads.done.Goals as goal
 
 pub numbers-init : goal.numbers-init

@@ -1,6 +1,6 @@
 use Rattle.std.proofs.Common.{Bool, Some, arith, subst, sym}
 use Rattle.std.proofs.lemmas.List.Elements.{All-pop}
-use Rattle.shared_frames.specs.Fits.{FitsIn, fits_joined, may_join}
+use Rattle.shared_frames.specs.SeatsOfTable.{FitsIn, fits_joined, may_join}
 use Rattle.shared_frames.specs.declared.seat.SharedSeat.{SharedSeat}
 use Rattle.tests_of_refusals.specs.Ready.{IsReady}
 use Rattle.tests_of_refusals.specs.declared.threads.Job.{Job}

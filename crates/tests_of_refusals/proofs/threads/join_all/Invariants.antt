@@ -1,5 +1,5 @@
 use Rattle.std.proofs.Common.{All, vec_len}
-use Rattle.shared_frames.specs.Fits.{FitsIn}
+use Rattle.shared_frames.specs.SeatsOfTable.{FitsIn}
 use Rattle.tests_of_refusals.proofs.threads.join_all.Given as goal
 
 abbrev pub invariant-seats : goal.invariant-seats

@@ -1,5 +1,5 @@
 use Rattle.frame_store.specs.Holds.{opening_holds}
-use Rattle.shared_frames.specs.Fits.{may_step}
+use Rattle.shared_frames.specs.SeatsOfTable.{may_step}
 use Rattle.tests_of_refusals.proofs.Seats.{fits_both}
 use Rattle.tests_of_refusals.proofs.threads.totals_after.Goals as goal
 

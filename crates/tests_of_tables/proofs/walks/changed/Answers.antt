@@ -1,6 +1,6 @@
 use Rattle.std.proofs.Common.{ℕ, [], subst}
-use Rattle.table_walk.specs.Backed.{kernel_backed}
-use Rattle.table_walk.specs.Held.{held_memory}
+use Rattle.table_walk.specs.LeafBacking.{kernel_backed}
+use Rattle.table_walk.specs.HeldMemory.{held_memory}
 use Rattle.table_walk.specs.Tables.{walk_leaf, without_leaf}
 use Rattle.table_walk.specs.Walk.{IsAt}
 use Rattle.tests_of_tables.proofs.TableSteps.{found_leaf, same_view}

@@ -1,7 +1,7 @@
 use Rattle.std.proofs.Common.{◌+◌, ◌∙◌, ap}
 use Rattle.frame_store.specs.View.{View, hold_of}
 use Rattle.tests_of_tables.proofs.TableSteps.{claimed_other, fresh_apart, released_other, written_hold, written_other, taken_one, claimed_held}
-use Rattle.table_walk.specs.Same.{same_held}
+use Rattle.table_walk.specs.SameFrames.{same_held}
 use Rattle.tests_of_tables.proofs.walks.leave_words.Goals as goal
 
 pub loop-index-init : goal.loop-index-init

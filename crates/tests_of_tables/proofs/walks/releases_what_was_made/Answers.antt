@@ -1,6 +1,6 @@
 use Rattle.std.proofs.Common.{[], ap, arith, sym, ◌∙◌}
 use Rattle.frame_store.specs.View.{View}
-use Rattle.table_walk.specs.Backed.{kernel_backed}
+use Rattle.table_walk.specs.LeafBacking.{kernel_backed}
 use Rattle.table_walk.specs.Tables.{bare_root}
 use Rattle.tests_of_tables.proofs.TableSteps.{left_last, missing_low, of_ok, reserved_held}
 use Rattle.tests_of_tables.proofs.walks.releases_what_was_made.Goals as goal

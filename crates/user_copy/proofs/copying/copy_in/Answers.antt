@@ -2,7 +2,7 @@ use Rattle.std.proofs.Common.{arith}
 use Rattle.std.proofs.lemmas.Result.{err_from_is_err_and}
 use Rattle.frame_store.specs.Laws.{fits_after}
 use Rattle.sv39_entry.specs.Schemes.{of_scheme}
-use Rattle.user_copy.specs.Nears.{is_near}
+use Rattle.user_copy.specs.FirstPageBytes.{is_near}
 use Rattle.user_copy.proofs.Nearby.{all_in, both_in, if_err, if_ok, stops_here_in}
 use Rattle.user_copy.proofs.copying.copy_in.Goals as goal
 

@@ -3,7 +3,7 @@ use Rattle.std.proofs.lemmas.Result.{err_from_is_err_and}
 use Rattle.frame_store.specs.Laws.{fits_after}
 use Rattle.sv39_entry.specs.Schemes.{of_scheme}
 use Rattle.user_copy.proofs.Chains.{is_none, is_some}
-use Rattle.user_copy.specs.Nears.{is_near}
+use Rattle.user_copy.specs.FirstPageBytes.{is_near}
 use Rattle.user_copy.proofs.Nearby.{all_out, both_out, if_err, if_ok, stops_here_out}
 use Rattle.user_copy.proofs.copying.copy_out.Goals as goal
 

@@ -1,10 +1,10 @@
 use Rattle.process_model.specs.Process.{regions}
-use Rattle.process_model.specs.ReachedPages.{no_alignment}
+use Rattle.process_model.specs.ResidenceLaws.{no_alignment}
 use Rattle.user_copy.proofs.copying.reach.Goals as goal
 
 pub returns-clause-reaches : goal.returns-clause-reaches
 returns-clause-reaches g c =
-    let e = rw (← c.told.ensures) at c.serve.ensures in
+    let e = rw (← c.stop_of.ensures) at c.serve.ensures in
     record {
       ended = λ t p space. rw (← no_alignment p.scheme (regions p) c.args.access c.args.va.0) (e.ended t p space);
       ready = e.ready;

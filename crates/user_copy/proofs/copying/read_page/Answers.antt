@@ -1,6 +1,6 @@
 use Rattle.std.proofs.Common.{◌≡◌, ◌%◌, ap, ◌∙◌, arith, drop, length, refl, rules, take}
 use Rattle.frame_store.specs.Laws.{fits_after}
-use Rattle.user_copy.specs.Reaching.{place}
+use Rattle.user_copy.specs.ReachedPage.{place}
 use Rattle.user_copy.proofs.Chains.{runs_in, stops_in}
 use Rattle.user_copy.proofs.Reached.{may_load, reached_low, still_reaches}
 use Rattle.user_copy.proofs.copying.read_page.Goals as goal

@@ -1,6 +1,6 @@
 use Rattle.std.proofs.Common.{refl}
 use Rattle.frame_store.specs.Laws.{fits_after}
-use Rattle.user_copy.specs.Reaching.{place}
+use Rattle.user_copy.specs.ReachedPage.{place}
 use Rattle.user_copy.proofs.Chains.{is_none, is_some, nothing_out, runs_out, stops_out}
 use Rattle.user_copy.proofs.Reached.{may_store, reached_low, still_reaches}
 use Rattle.user_copy.proofs.copying.write_page.Goals as goal

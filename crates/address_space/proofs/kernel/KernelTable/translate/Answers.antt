@@ -1,7 +1,7 @@
 use Rattle.std.proofs.Common.{ℕ, sym, subst}
 use Rattle.sv39_entry.specs.Address.{page_of}
 use Rattle.sv39_entry.specs.declared.access.Mode.TheVariants.{Supervisor}
-use Rattle.table_walk.specs.Held.{held_memory}
+use Rattle.table_walk.specs.HeldMemory.{held_memory}
 use Rattle.table_walk.specs.Walk.{IsAt, Translates}
 use Rattle.address_space.specs.Kernel.{kernel_walk}
 use Rattle.address_space.proofs.KernelWalks.{extent, kernel_walks}

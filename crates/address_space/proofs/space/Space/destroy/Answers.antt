@@ -1,11 +1,11 @@
 use Rattle.std.proofs.Common.{◌∙◌, refl, arith}
 use Rattle.frame_store.specs.Laws.{fits_after}
-use Rattle.address_space.specs.Standing.{standing}
+use Rattle.address_space.specs.SpacesInCalls.{space_in_call}
 use Rattle.address_space.proofs.EndingSteps.{anchored_first, anchored_last, code_held, is_bare, saved_held, takes_last}
 use Rattle.address_space.proofs.space.Space.destroy.Goals as goal
 
 pub strip-seat-requires-clause-ready : goal.strip-seat-requires-clause-ready
-strip-seat-requires-clause-ready g c = let r = c.requires.ready in (r.0, r.1, standing r.2)
+strip-seat-requires-clause-ready g c = let r = c.requires.ready in (r.0, r.1, space_in_call r.2)
 
 pub release-requires-clause-fits : goal.release-requires-clause-fits
 release-requires-clause-fits g c = fits_after g.F.FrameAccess.rule c.strip-seat.ensures.keeps c.requires.fits

@@ -4,7 +4,7 @@ use Rattle.address_space.specs.Layouts.{region_of}
 use Rattle.address_space.proofs.ForkMarks.{fork_backed, fork_kept, fork_leafy, fork_mapped, fork_turned}
 use Rattle.address_space.proofs.space.Space.mark_forked.Goals as goal
 use Rattle.address_space.proofs.LowLeaves.{settled_number, number_of_scheme, last_of_scheme}
-use Rattle.table_walk.specs.Mapped.{tables_of_scheme}
+use Rattle.table_walk.specs.LowPages.{tables_of_scheme}
 
 pub unreachable-requires : goal.unreachable-requires
 unreachable-requires g c =

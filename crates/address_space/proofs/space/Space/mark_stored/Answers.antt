@@ -10,7 +10,7 @@ use Rattle.address_space.proofs.LowLeaves.{settled_number, number_of_scheme, las
 use Rattle.address_space.specs.Agreement.{Body}
 use Rattle.address_space.specs.Steps.{CanWrite}
 use Rattle.table_walk.specs.Tables.{walk_leaf, leaf_node, Tables}
-use Rattle.table_walk.specs.Mapped.{tables_of_scheme}
+use Rattle.table_walk.specs.LowPages.{tables_of_scheme}
 use Rattle.process_model.specs.Process.{Process, Page}
 
 -- the number of the page's leaf

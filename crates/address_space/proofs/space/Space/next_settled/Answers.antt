@@ -3,7 +3,7 @@ use Rattle.address_space.proofs.SettledPages.{low_page, names_frame, next_is, pa
 use Rattle.address_space.proofs.space.Space.next_settled.Goals as goal
 use Rattle.address_space.proofs.LowLeaves.{up_to_trapframe}
 use Rattle.sv39_entry.specs.Schemes.{trapframe_page, of_scheme}
-use Rattle.table_walk.specs.Mapped.{tables_of_scheme}
+use Rattle.table_walk.specs.LowPages.{tables_of_scheme}
 
 pub first_mapped-requires-clause-held : goal.first_mapped-requires-clause-held
 first_mapped-requires-clause-held g c = let r = c.requires.ready in (r.0, tables_of_scheme (r.2.lays.scheme ∙ sym c.scheme-scheme.ensures) r.2.stands.tables)

@@ -2,11 +2,11 @@ use Rattle.std.proofs.Common.{◌≡◌, ℕ, Some, ◌&&◌, false, true, refl,
 use Rattle.std.specs.Prelude.{is_ok, option_map}
 use Rattle.std.proofs.lemmas.Result.{err_from_is_err_and}
 use Rattle.frame_store.specs.Laws.{fits_after}
-use Rattle.process_model.specs.OrderKept.{leafy_at}
+use Rattle.process_model.specs.OrderLaws.{leafy_at}
 use Rattle.process_model.specs.Process.{Page, Process, regions}
 use Rattle.process_model.specs.Regions.{region_at}
 use Rattle.table_walk.specs.Tables.{Tables, walk_leaf, leaf_node}
-use Rattle.table_walk.specs.Mapped.{tables_of_scheme}
+use Rattle.table_walk.specs.LowPages.{tables_of_scheme}
 use Rattle.address_space.specs.Agreement.{body_of, is_dirty_page, Body}
 use Rattle.address_space.specs.Layouts.{region_of}
 use Rattle.address_space.specs.ProcessLeaves.{page_backed}

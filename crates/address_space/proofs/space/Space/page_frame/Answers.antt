@@ -2,7 +2,7 @@ use Rattle.address_space.proofs.Writing.{page_found, page_here, page_on}
 use Rattle.address_space.proofs.space.Space.page_frame.Goals as goal
 use Rattle.address_space.proofs.LowLeaves.{settled_number, number_of_scheme}
 use Rattle.std.proofs.Common.{sym, ◌∙◌}
-use Rattle.table_walk.specs.Mapped.{tables_of_scheme}
+use Rattle.table_walk.specs.LowPages.{tables_of_scheme}
 
 pub unreachable-requires : goal.unreachable-requires
 unreachable-requires g c =

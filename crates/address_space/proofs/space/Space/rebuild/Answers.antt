@@ -1,7 +1,7 @@
 use Rattle.std.proofs.Common.{◌≡◌, ◌∙◌, ℕ, ◌*◌, ◌/◌, subst, sym, arith}
 use Rattle.frame_store.specs.Laws.{fits_after}
 use Rattle.table_walk.specs.Tables.{Tables}
-use Rattle.address_space.specs.Ending.{DropsRun, Strips}
+use Rattle.address_space.specs.SpaceTeardown.{DropsRun, IsStripped}
 use Rattle.address_space.specs.Parts.{tree_need}
 use Rattle.address_space.proofs.BuildWhole.{agrees_whole, can_open, credits_left, saved_whole, stands_bare, takes_whole}
 use Rattle.address_space.proofs.DroppedLeaf.{takes_after, takes_then}
@@ -32,7 +32,7 @@ module _ (g : given.Over) (c : After-release_emptied g) where
       let same = r.2.0 ∙ sym c.scheme-scheme.ensures in
       rw (c.page.ensures.number, end_at _ _ _ same c.number.ensures.value c.page-2.ensures.number c.trapframe.ensures) at c.drop_run.ensures.dropped c.args.self.now.trapframe.0 r.0 r.1 same r.2.1
 
-  stripped : Strips (g.S.FrameSeat.view c.drop_run.new.seat) (g.S.FrameSeat.view c.release_emptied.new.seat) c.args.self.now.trapframe.0
+  stripped : IsStripped (g.S.FrameSeat.view c.drop_run.new.seat) (g.S.FrameSeat.view c.release_emptied.new.seat) c.args.self.now.trapframe.0
   stripped =
       let r = c.requires.ready in
       let same = r.2.0 ∙ sym c.scheme-scheme.ensures in

@@ -10,7 +10,7 @@ use Rattle.address_space.proofs.space.Space.settle.Goals.{After-missing_tables-m
 use Rattle.address_space.specs.Steps.{CanSettle}
 use Rattle.address_space.specs.Agreement.{body_of}
 use Rattle.table_walk.specs.Tables.{HasTables, missing, Tables}
-use Rattle.table_walk.specs.Mapped.{tables_of_scheme}
+use Rattle.table_walk.specs.LowPages.{tables_of_scheme}
 
 -- how many tables are missing, by the scheme of the process
 few_is : (g : given.Over) (c : After-missing_tables-missing g) (t : Tables) (p : Process) → CanSettle (body_of g.S.FrameSeat.view c.args.self.now) t p c.args.page

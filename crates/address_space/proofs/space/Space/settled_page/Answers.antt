@@ -3,7 +3,7 @@ use Rattle.address_space.proofs.SettledPages.{names_frame, no_leaf, page_is}
 use Rattle.address_space.proofs.space.Space.settled_page.Goals as goal
 use Rattle.address_space.proofs.LowLeaves.{up_number, below_trapframe, number_of_scheme}
 use Rattle.table_walk.specs.Tables.{walk_leaf, leaf_node}
-use Rattle.table_walk.specs.Mapped.{tables_of_scheme}
+use Rattle.table_walk.specs.LowPages.{tables_of_scheme}
 use Rattle.sv39_entry.specs.Schemes.{trapframe_page, of_scheme}
 use Rattle.sv39_entry.specs.declared.scheme.Scheme.{Scheme}
 

@@ -1,7 +1,7 @@
 use Rattle.std.proofs.Common.{◌∙◌, arith, sym}
 use Rattle.frame_store.specs.Laws.{fits_after}
 use Rattle.table_walk.specs.Tables.{Tables}
-use Rattle.address_space.specs.Ending.{DropsRun, Strips}
+use Rattle.address_space.specs.SpaceTeardown.{DropsRun, IsStripped}
 use Rattle.address_space.proofs.DroppedLeaf.{takes_then}
 use Rattle.address_space.proofs.EndingSteps.{below, emptied, emptied_of_scheme}
 use Rattle.address_space.proofs.space.Space.strip.Given as given
@@ -14,7 +14,7 @@ module _ (g : given.Over) (c : After-drop_run g) where
 
 module _ (g : given.Over) (c : After-release_emptied g) where
   stripped : (u : Tables) × DropsRun (g.S.FrameSeat.view c.args.self.seat) (g.S.FrameSeat.view c.drop_run.new.seat) c.args.self.root.0 c.args.self.trapframe.0 c.requires.ready.0 u c.requires.ready.1 0 c.end-end.result
-      × Strips (g.S.FrameSeat.view c.drop_run.new.seat) (g.S.FrameSeat.view c.release_emptied.new.seat) c.args.self.trapframe.0
+      × IsStripped (g.S.FrameSeat.view c.drop_run.new.seat) (g.S.FrameSeat.view c.release_emptied.new.seat) c.args.self.trapframe.0
   stripped =
       let r = c.requires.ready in
       let far = rw c.page.ensures.number at (c.drop_run.ensures.dropped c.args.self.trapframe.0 r.0 r.1 (r.2.lays.scheme ∙ sym c.scheme-scheme.ensures) r.2.stands) in

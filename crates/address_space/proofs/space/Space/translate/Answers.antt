@@ -2,7 +2,7 @@ use Rattle.std.specs.Prelude.{◌<◌, ◌^◌}
 use Rattle.std.proofs.Common.{arith, inr, sym, ◌∙◌, subst, ap}
 use Rattle.table_walk.specs.Tables.{leaf_node}
 use Rattle.table_walk.specs.Leaves.{LeavesAreThere, walk_answer}
-use Rattle.table_walk.specs.Mapped.{tables_of_scheme}
+use Rattle.table_walk.specs.LowPages.{tables_of_scheme}
 use Rattle.address_space.specs.ProcessLeaves.{process_there}
 use Rattle.address_space.proofs.space.Space.translate.Goals as goal
 use Rattle.sv39_entry.specs.Schemes.{trapframe_page}

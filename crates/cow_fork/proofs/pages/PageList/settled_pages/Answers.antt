@@ -1,6 +1,6 @@
 use Rattle.std.proofs.Common.{List, subst, sym}
-use Rattle.address_space.specs.Settled.{AreSettled}
-use Rattle.address_space.specs.declared.settled.SettledPage.{SettledPage}
+use Rattle.address_space.specs.SettledLists.{AreSettled}
+use Rattle.address_space.specs.declared.settled_pages.SettledPage.{SettledPage}
 use Rattle.cow_fork.proofs.pages.PageList.settled_pages.Goals as goal
 use Rattle.sv39_entry.specs.Schemes.{trapframe_page}
 

@@ -5,7 +5,7 @@ use Rattle.std.proofs.lemmas.Option.{slice_get-get_or, slice_get-map}
 use Rattle.std.proofs.lemmas.Result.{IfOk-weaker}
 use Rattle.process_model.specs.Images as model
 use Rattle.process_model.specs.Images.{judged, load}
-use Rattle.exec_segments.specs.Loads.{taken, loads_in}
+use Rattle.exec_segments.specs.Loads.{loads_after, loads_in}
 use Rattle.exec_segments.proofs.Judged.{all_through, judge, stopped, went_on}
 use Rattle.exec_segments.proofs.image.Image.from_segments.Goals as goal
 use Rattle.exec_segments.proofs.image.Image.from_segments.Goals.{After-judge}
@@ -23,7 +23,7 @@ this c =
     slice_get-map model.load_of c.args.segments.now c.segments.segment-index
     ∙ ap (option_map model.load_of) (slice_get-get_or c.args.segments.now c.segments.segment-index s c.segments-test.true ∙ ap Some (sym c.segment-item.is))
 
-one : (c : After-judge) → judged c.args.scheme c.segments.judging.loads (model.load_of c.segment-item.result) ≡ taken c.judge.result c.judge.new.self.loads
+one : (c : After-judge) → judged c.args.scheme c.segments.judging.loads (model.load_of c.segment-item.result) ≡ loads_after c.judge.result c.judge.new.self.loads
 one c =
     ap (λ z. judged z c.segments.judging.loads (model.load_of c.segment-item.result)) (sym c.segments.invariant.scheme)
     ∙ ap (λ l. judged c.segments.judging.scheme c.segments.judging.loads (load l)) (sym c.of.ensures.load) ∙ c.judge.ensures.judged

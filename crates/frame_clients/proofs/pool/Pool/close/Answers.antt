@@ -3,7 +3,7 @@ use Rattle.std.specs.Prelude.{slice_get}
 use Rattle.frame_store.specs.View.{IsHeld}
 use Rattle.frame_clients.specs.Places.{Holdings}
 use Rattle.frame_clients.proofs.PoolSteps.{seat_there, seat_still_there, join_fits, pool_join, close_written}
-use Rattle.frame_store.specs.Joined.{joined_first}
+use Rattle.frame_store.specs.SeatJoin.{joined_first}
 use Rattle.frame_clients.proofs.pool.Pool.close.Goals as goal
 use Rattle.frame_clients.proofs.pool.Pool.close.Goals.{In-Some, In-Some-index_mut}
 

@@ -2,7 +2,7 @@ use Rattle.std.proofs.Common.{◌≡◌, ap, Some, sym, subst, arith}
 use Rattle.std.specs.Prelude.{slice_get}
 use Rattle.std.proofs.lemmas.Result.{err_from_is_err_and}
 use Rattle.frame_store.specs.View.{IsHeld, read_full}
-use Rattle.frame_store.specs.Opened.{opened_held}
+use Rattle.frame_store.specs.SeatOpening.{opened_held}
 use Rattle.frame_clients.specs.Places.{Holdings}
 use Rattle.frame_clients.proofs.PoolSteps.{within, empty_there, seat_there, pool_fits, pool_step, pool_split, written, open_written}
 use Rattle.frame_clients.proofs.pool.Pool.open.Goals as goal

@@ -1,5 +1,5 @@
 use Rattle.std.proofs.Common.{◌≡◌, suc, ◌+◌, ◌∙◌, ap, refl, arith}
-use Rattle.frame_store.specs.Many.{many_none, many_more, many_sole, many_held, many_word_apart}
+use Rattle.frame_store.specs.StoredRuns.{many_none, many_more, many_sole, many_held, many_word_apart}
 use Rattle.frame_store.proofs.access.FrameAccess.copy.Goals as goal
 
 pub words-init : goal.words-init

@@ -1,5 +1,5 @@
 use Rattle.std.proofs.Common.{◌≡◌, suc, ◌+◌, ◌∙◌, refl, arith}
-use Rattle.frame_store.specs.Many.{many_none, many_more, many_sole}
+use Rattle.frame_store.specs.StoredRuns.{many_none, many_more, many_sole}
 use Rattle.frame_store.proofs.access.FrameAccess.fill.Goals as goal
 
 pub words-init : goal.words-init

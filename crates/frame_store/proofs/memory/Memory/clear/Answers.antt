@@ -1,6 +1,6 @@
 use Rattle.std.proofs.Common.{◌≡◌, ℕ, ◌+◌, ◌-◌, ◌*◌, ◌≤◌, ◌∙◌, arith, length, take, drop, ap, sym, slice_index, List}
 use Rattle.std.proofs.lemmas.Grind.{common_steps}
-use Rattle.frame_store.specs.Blank.{PutsMany}
+use Rattle.frame_store.specs.ZeroWords.{PutsMany}
 use Rattle.frame_store.proofs.Runs.{runs_cleared, runs_emptied}
 use Rattle.frame_store.proofs.Words.{back_inside, back_outside, index-zeros, length-part, length-put_back, put_back}
 use Rattle.frame_store.proofs.memory.Memory.clear.Goals as goal

@@ -2,7 +2,7 @@ use Rattle.std.proofs.Common.{◌≡◌, ℕ, ◌+◌, ◌-◌, ◌*◌, ◌/◌
 use Rattle.std.proofs.lemmas.Bool.{cases_lt}
 use Rattle.std.proofs.lemmas.Grind.{common_steps}
 use Rattle.std.specs.Int.{from_le_bytes, w64}
-use Rattle.frame_store.specs.Blank.{PutsMany}
+use Rattle.frame_store.specs.ZeroWords.{PutsMany}
 use Rattle.frame_store.proofs.Runs.{runs_filled}
 use Rattle.frame_store.proofs.Words.{back_inside, back_outside, index-part, length-part, length-put_back, put_back}
 use Rattle.frame_store.proofs.memory.Memory.fill.Goals as goal

@@ -1,7 +1,7 @@
 use Rattle.std.proofs.Common.{◌≡◌, ℕ, ◌+◌, ◌-◌, ◌*◌, ◌≤◌, ◌<◌, ◌∙◌, arith, ap, sym, slice_index, length, take, drop, List, ◌⊎◌, inl, inr}
 use Rattle.std.specs.Prelude.{max, min}
 use Rattle.std.proofs.lemmas.Grind.{common_steps}
-use Rattle.frame_store.specs.Blank.{Runs, ZerosIn}
+use Rattle.frame_store.specs.ZeroWords.{Runs, ZerosIn}
 use Rattle.frame_store.proofs.Words.{index-part, length-part}
 use Rattle.frame_store.proofs.Runs.{zeros_by}
 use Rattle.frame_store.proofs.memory.Memory.next.Goals as goal

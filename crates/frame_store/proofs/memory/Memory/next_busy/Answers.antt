@@ -1,7 +1,7 @@
 use Rattle.std.proofs.Common.{◌≡◌, ◌+◌, ◌*◌, ◌∙◌, arith, ap, inl, inr, sym, subst, slice_index}
 use Rattle.std.proofs.lemmas.Bool.{cases_lt}
 use Rattle.std.proofs.lemmas.Grind.{common_steps}
-use Rattle.frame_store.specs.Blank.{IsIdle}
+use Rattle.frame_store.specs.ZeroWords.{IsIdle}
 use Rattle.frame_store.proofs.memory.Memory.next_busy.Goals as goal
 
 pub words-init : goal.words-init

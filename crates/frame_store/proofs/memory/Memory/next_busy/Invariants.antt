@@ -1,5 +1,5 @@
 use Rattle.std.proofs.Common.{◌≤◌}
-use Rattle.frame_store.specs.Blank.{IdleIn}
+use Rattle.frame_store.specs.ZeroWords.{IdleIn}
 use Rattle.frame_store.proofs.memory.Memory.next_busy.Given as goal
 
 -- the words before an index are idle

@@ -1,8 +1,8 @@
 use Rattle.std.proofs.Common.{◌≡◌, ◌∙◌, ℤ, ap, sym, subst, w32, length, ◌<◌}
 use Rattle.std.proofs.lemmas.Int.{to_z-of_z}
-use Rattle.hart_calls.specs.Closed.{Closes}
+use Rattle.hart_calls.specs.ProcessEnd.{Closes}
 use Rattle.hart_calls.specs.Track.{next_of, Track}
-use Rattle.hart_calls.specs.Turns.{FiledOver, IsOver, most_entries}
+use Rattle.hart_calls.specs.TurnCases.{KeepsFilesByOutcome, IsOver, most_entries}
 use Rattle.process_model.specs.declared.call.Outcome.{Outcome}
 use Rattle.process_model.specs.declared.call.Outcome.TheVariants as outcome
 use Rattle.hart_calls.proofs.Parting.{exit_filed, exit_over}
@@ -25,5 +25,5 @@ returns-clause-files g c =
     let e = c.exit_entry-entry.ensures in
     let round = to_z-of_z w32 c.args.status c.ranges.status in
     let closes = subst (λ (o : Outcome). Closes c.self.inside.parts.present.state c.self.inside.parts.journal.items c.exit_entry-entry.result o c.close.result c.args.shelf.now c.close.new.shelf) (c.exited.ensures ∙ ap (λ (z : ℤ). outcome.Exited z) round) c.close.ensures.closes in
-    subst (λ (t : Track). FiledOver t c.close.result c.close.result.outcome c.args.shelf.now c.close.new.shelf) c.self.view_is
+    subst (λ (t : Track). KeepsFilesByOutcome t c.close.result c.close.result.outcome c.args.shelf.now c.close.new.shelf) c.self.view_is
     (exit_filed _ c.args.status c.exit_entry-entry.result (e.call ∙ ap (λ (z : ℤ). call.Exit z) round) (e.reply ∙ ap (λ (z : ℤ). reply.Exited z) round) e.pages e.file next c.self.invariant.2 (subst (λ (t : Track). length t.journal < most_entries) (sym c.self.view_is) c.requires.few) c.close.result c.close.ensures.name c.close.ensures.bare c.args.shelf.now c.close.new.shelf closes)

@@ -2,7 +2,7 @@ use Rattle.std.proofs.Common.{◌≡◌, ◌↔◌, ◌∙◌, ap, not, subst, s
 use Rattle.address_space.specs.Layouts.{region_of}
 use Rattle.address_space.specs.declared.space.Space.{Space}
 use Rattle.hart_calls.specs.Track.{Track}
-use Rattle.hart_calls.specs.Turns.{HasMapping}
+use Rattle.hart_calls.specs.TurnCases.{HasMapping}
 use Rattle.hart_calls.proofs.There.{has_mapping_is}
 use Rattle.shared_frames.specs.declared.seat.SharedSeat.{SharedSeat}
 use Rattle.hart_calls.proofs.tracked.Tracked.has_mapping.Goals as goal

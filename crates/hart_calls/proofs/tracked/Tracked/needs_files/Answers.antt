@@ -1,5 +1,5 @@
 use Rattle.std.proofs.Common.{inl, inr, subst, sym}
-use Rattle.hart_calls.specs.Turns.{IsMmap}
+use Rattle.hart_calls.specs.TurnCases.{IsMmap}
 use Rattle.hart_calls.proofs.tracked.Tracked.needs_files.Goals as goal
 
 pub returns-else-is_mmap : goal.returns-else-is_mmap

@@ -1,7 +1,7 @@
 use Rattle.std.proofs.Common.{arith, refl, sym, subst}
 use Rattle.address_space.specs.Agreement.{body_of, IsSpace}
 use Rattle.process_model.specs.Process.{Process}
-use Rattle.shared_frames.specs.Fits.{view_of}
+use Rattle.shared_frames.specs.SeatsOfTable.{view_of}
 use Rattle.hart_calls.proofs.tracked.Tracked.new.Goals as goal
 
 pub invariant_of-result : goal.invariant_of-result

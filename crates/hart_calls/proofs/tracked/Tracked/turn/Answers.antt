@@ -22,7 +22,7 @@ returns-in-Fork-clause-files g c =
 
 pub returns : goal.returns
 returns g c = record {
-  store = c.stay.ensures.store;
-  turned = turned_same _ _ c.with_room.ensures.same c.stay.result c.args.slot c.stay.ensures.turned;
-  files = filed_same _ _ c.with_room.ensures.same c.stay.result c.args.shelf.now c.stay.new.shelf c.stay.ensures.files;
+  store = c.plain_call.ensures.store;
+  turned = turned_same _ _ c.with_room.ensures.same c.plain_call.result c.args.slot c.plain_call.ensures.turned;
+  files = filed_same _ _ c.with_room.ensures.same c.plain_call.result c.args.shelf.now c.plain_call.new.shelf c.plain_call.ensures.files;
 }

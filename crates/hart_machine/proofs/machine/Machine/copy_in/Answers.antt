@@ -2,7 +2,7 @@ use Rattle.std.proofs.Common.{◌∙◌, arith, refl, subst, sym}
 use Rattle.process_model.specs.World.{Outcome}
 use Rattle.process_model.specs.declared.step.Refusal.TheVariants.{BadArgument}
 use Rattle.hart_machine.specs.Marks.{AreMarked}
-use Rattle.hart_machine.specs.Worlds.{KeepsTables, Makes}
+use Rattle.hart_machine.specs.Worlds.{KeepsTables, IsModelOutcome}
 use Rattle.hart_machine.proofs.CopySteps.{long_in, proper_in, step_in, too_long_in}
 use Rattle.hart_machine.proofs.HartSteps.{refused}
 use Rattle.hart_machine.proofs.KeptTables.{same_places}
@@ -10,23 +10,23 @@ use Rattle.hart_machine.proofs.SlotMarks.{refused_as}
 use Rattle.hart_machine.proofs.machine.Machine.copy_in.Goals as goal
 
 pub returns-then-count-gt-LONGEST_COPY-clause-made : goal.returns-then-count-gt-LONGEST_COPY-clause-made
-returns-then-count-gt-LONGEST_COPY-clause-made c w is = rw c.quiet.ensures (too_long_in c.args.self.now w is c.args.hart c.args.address c.args.count (omega (arith, c.if-count-gt-LONGEST_COPY.true)))
+returns-then-count-gt-LONGEST_COPY-clause-made c w is = rw c.without_change.ensures (too_long_in c.args.self.now w is c.args.hart c.args.address c.args.count (omega (arith, c.if-count-gt-LONGEST_COPY.true)))
 
 pub returns-then-count-gt-LONGEST_COPY-clause-changed : goal.returns-then-count-gt-LONGEST_COPY-clause-changed
 returns-then-count-gt-LONGEST_COPY-clause-changed c w is =
-    rw c.quiet.ensures (refused_as w _ BadArgument (long_in c.args.self.now w is c.args.hart c.args.address c.args.count (omega (arith, c.if-count-gt-LONGEST_COPY.true))))
+    rw c.without_change.ensures (refused_as w _ BadArgument (long_in c.args.self.now w is c.args.hart c.args.address c.args.count (omega (arith, c.if-count-gt-LONGEST_COPY.true))))
 
 pub returns-then-count-gt-LONGEST_COPY-clause-tables : goal.returns-then-count-gt-LONGEST_COPY-clause-tables
 returns-then-count-gt-LONGEST_COPY-clause-tables c w is = same_places c.args.self.now c.args.self.now _ _ (refl, refl)
 
 pub returns-in-Err-clause-made : goal.returns-in-Err-clause-made
 returns-in-Err-clause-made c w is =
-    rw c.quiet-in-Err.ensures (refused c.args.self.now w is c.in-Err.refusal _
+    rw c.without_change-in-Err.ensures (refused c.args.self.now w is c.in-Err.refusal _
     (proper_in c.args.self.now w is c.args.hart c.args.address c.args.count (omega (arith, c.if-count-gt-LONGEST_COPY.false)) ∙ c.in-Err.ensures.refused w _ is))
 
 pub returns-in-Err-clause-changed : goal.returns-in-Err-clause-changed
 returns-in-Err-clause-changed c w is =
-    rw c.quiet-in-Err.ensures (refused_as w _ c.in-Err.refusal
+    rw c.without_change-in-Err.ensures (refused_as w _ c.in-Err.refusal
     (proper_in c.args.self.now w is c.args.hart c.args.address c.args.count (omega (arith, c.if-count-gt-LONGEST_COPY.false)) ∙ c.in-Err.ensures.refused w _ is))
 
 pub returns-in-Err-clause-tables : goal.returns-in-Err-clause-tables
@@ -38,7 +38,7 @@ copy_from-requires-clause-world c = let r = c.requires.world in (r.0, c.args.har
 pub returns-clause-made : goal.returns-clause-made
 returns-clause-made c w is =
     let k = c.in-Ok.ensures.there w is in
-    subst (λ (o : Outcome). Makes c.copy_from.new.self c.copy_from.result.reply o) (sym (step_in c.args.self.now w is c.args.hart c.in-Ok.slot k c.args.address c.args.count (omega (arith, c.if-count-gt-LONGEST_COPY.false))))
+    subst (λ (o : Outcome). IsModelOutcome c.copy_from.new.self c.copy_from.result.reply o) (sym (step_in c.args.self.now w is c.args.hart c.in-Ok.slot k c.args.address c.args.count (omega (arith, c.if-count-gt-LONGEST_COPY.false))))
     (c.copy_from.ensures.made w c.args.hart is k)
 
 pub returns-clause-changed : goal.returns-clause-changed

@@ -1,9 +1,9 @@
 use Rattle.std.proofs.Common.{◌∙◌, arith, refl, subst, sym}
-use Rattle.process_model.specs.Briefs.{of_brief}
+use Rattle.process_model.specs.ScalarReplies.{reply_of_scalar}
 use Rattle.process_model.specs.World.{Outcome}
 use Rattle.process_model.specs.declared.step.Refusal.TheVariants.{BadArgument}
 use Rattle.hart_machine.specs.Marks.{AreMarked}
-use Rattle.hart_machine.specs.Worlds.{KeepsTables, Makes}
+use Rattle.hart_machine.specs.Worlds.{KeepsTables, IsModelOutcome}
 use Rattle.hart_machine.proofs.CopySteps.{long_out, proper_out, step_out, too_long_out}
 use Rattle.hart_machine.proofs.HartSteps.{refused}
 use Rattle.hart_machine.proofs.KeptTables.{same_places}
@@ -11,23 +11,23 @@ use Rattle.hart_machine.proofs.SlotMarks.{refused_as}
 use Rattle.hart_machine.proofs.machine.Machine.copy_out.Goals as goal
 
 pub returns-then-bytes-gt-LONGEST_COPY-clause-made : goal.returns-then-bytes-gt-LONGEST_COPY-clause-made
-returns-then-bytes-gt-LONGEST_COPY-clause-made c w is = rw c.quiet.ensures (too_long_out c.args.self.now w is c.args.hart c.args.address c.args.bytes (omega (arith, c.if-bytes-gt-LONGEST_COPY.true)))
+returns-then-bytes-gt-LONGEST_COPY-clause-made c w is = rw c.without_change.ensures (too_long_out c.args.self.now w is c.args.hart c.args.address c.args.bytes (omega (arith, c.if-bytes-gt-LONGEST_COPY.true)))
 
 pub returns-then-bytes-gt-LONGEST_COPY-clause-changed : goal.returns-then-bytes-gt-LONGEST_COPY-clause-changed
 returns-then-bytes-gt-LONGEST_COPY-clause-changed c w is =
-    rw c.quiet.ensures (refused_as w _ BadArgument (long_out c.args.self.now w is c.args.hart c.args.address c.args.bytes (omega (arith, c.if-bytes-gt-LONGEST_COPY.true))))
+    rw c.without_change.ensures (refused_as w _ BadArgument (long_out c.args.self.now w is c.args.hart c.args.address c.args.bytes (omega (arith, c.if-bytes-gt-LONGEST_COPY.true))))
 
 pub returns-then-bytes-gt-LONGEST_COPY-clause-tables : goal.returns-then-bytes-gt-LONGEST_COPY-clause-tables
 returns-then-bytes-gt-LONGEST_COPY-clause-tables c w is = same_places c.args.self.now c.args.self.now _ _ (refl, refl)
 
 pub returns-in-Err-clause-made : goal.returns-in-Err-clause-made
 returns-in-Err-clause-made c w is =
-    rw c.quiet-in-Err.ensures (refused c.args.self.now w is c.in-Err.refusal _
+    rw c.without_change-in-Err.ensures (refused c.args.self.now w is c.in-Err.refusal _
     (proper_out c.args.self.now w is c.args.hart c.args.address c.args.bytes (omega (arith, c.if-bytes-gt-LONGEST_COPY.false)) ∙ c.in-Err.ensures.refused w _ is))
 
 pub returns-in-Err-clause-changed : goal.returns-in-Err-clause-changed
 returns-in-Err-clause-changed c w is =
-    rw c.quiet-in-Err.ensures (refused_as w _ c.in-Err.refusal
+    rw c.without_change-in-Err.ensures (refused_as w _ c.in-Err.refusal
     (proper_out c.args.self.now w is c.args.hart c.args.address c.args.bytes (omega (arith, c.if-bytes-gt-LONGEST_COPY.false)) ∙ c.in-Err.ensures.refused w _ is))
 
 pub returns-in-Err-clause-tables : goal.returns-in-Err-clause-tables
@@ -39,7 +39,7 @@ copy_to-requires-clause-world c = let r = c.requires.world in (r.0, c.args.hart,
 pub returns-clause-made : goal.returns-clause-made
 returns-clause-made c w is =
     let k = c.in-Ok.ensures.there w is in
-    subst (λ (o : Outcome). Makes c.copy_to.new.self (of_brief c.copy_to.result.reply) o) (sym (step_out c.args.self.now w is c.args.hart c.in-Ok.slot k c.args.address c.args.bytes (omega (arith, c.if-bytes-gt-LONGEST_COPY.false))))
+    subst (λ (o : Outcome). IsModelOutcome c.copy_to.new.self (reply_of_scalar c.copy_to.result.reply) o) (sym (step_out c.args.self.now w is c.args.hart c.in-Ok.slot k c.args.address c.args.bytes (omega (arith, c.if-bytes-gt-LONGEST_COPY.false))))
     (c.copy_to.ensures.made w c.args.hart is k)
 
 pub returns-clause-changed : goal.returns-clause-changed

@@ -7,7 +7,7 @@ use Rattle.process_model.specs.Process.{Process}
 use Rattle.process_model.specs.Service.{ended}
 use Rattle.process_model.specs.World.{Outcome}
 use Rattle.process_model.specs.declared.step.Reply.TheVariants.{Exited}
-use Rattle.hart_machine.specs.Worlds.{Makes}
+use Rattle.hart_machine.specs.Worlds.{IsModelOutcome}
 use Rattle.hart_machine.proofs.Calling.{call_runs}
 use Rattle.hart_machine.proofs.HartSteps.{refused}
 use Rattle.hart_machine.proofs.KeptTables.{others_keep, same_places}
@@ -20,7 +20,7 @@ pub returns-in-Ok-clause-made : goal.returns-in-Ok-clause-made
 returns-in-Ok-clause-made c w is =
     let k = c.in-Ok.ensures.there w is in
     let reply = Exited c.args.status in
-    subst (λ (o : Outcome). Makes c.end.new.self (Exited (to_z w32 (of_z w32 c.args.status))) o) (sym (call_runs c.args.self.now w is c.args.hart c.in-Ok.slot false k (λ hart s p. ended w c.args.hart hart s p reply) k.process k.in_slot))
+    subst (λ (o : Outcome). IsModelOutcome c.end.new.self (Exited (to_z w32 (of_z w32 c.args.status))) o) (sym (call_runs c.args.self.now w is c.args.hart c.in-Ok.slot false k (λ hart s p. ended w c.args.hart hart s p reply) k.process k.in_slot))
     (ap Exited (to_z-of_z w32 c.args.status c.ranges.status), c.end.ensures.ended w false reply is k)
 
 pub returns-in-Err-clause-made : goal.returns-in-Err-clause-made

@@ -5,7 +5,7 @@ use Rattle.hart_machine.proofs.Trampolines.{beyond, elsewhere, fetches_code, fin
 use Rattle.hart_machine.proofs.machine.Machine.fetch_trampoline.Goals as goal
 use Rattle.hart_machine.proofs.machine.Machine.fetch_trampoline.Goals.{then-offset-ne0-via-then-offset-ne0, then-offset-ne0-via-else-offset-ne0+then-offset-ge-PAGE_SIZE}
 use Rattle.hart_machine.specs.Harts.{hart_of}
-use Rattle.hart_machine.specs.Tables.{IsServed}
+use Rattle.hart_machine.specs.Tables.{IsTranslated}
 use Rattle.sv39_entry.specs.Schemes.{trampoline_page}
 use Rattle.sv39_entry.specs.declared.scheme.Scheme.{Scheme}
 use Rattle.sv39_entry.specs.declared.access.Access.TheVariants.{Fetch}
@@ -39,27 +39,27 @@ returns-then-not-in_trampoline-clause-made c w buffered =
     elsewhere c.args.self.now w is c.args.hart c.args.offset c.args.via c.if-offset-ne0.false (omega (arith, c.if-offset-ge-PAGE_SIZE.false)) c.in-Some.phase has
     (sym c.in_trampoline.ensures ∙ c.if-not-in_trampoline.true)
 
-pub returns-in_default-translated-clause-made : goal.returns-in_default-translated-clause-made
-returns-in_default-translated-clause-made c w buffered =
+pub returns-in_default-translate_access-clause-made : goal.returns-in_default-translate_access-clause-made
+returns-in_default-translate_access-clause-made c w buffered =
     let is = buffered.world in
     let has = has_hart c.args.self.now w is c.args.hart c.in-Some.phase (sym c.in-Some.is ∙ c.phase_of.ensures) in
     no_entry c.args.self.now w is c.args.hart c.args.offset c.args.via c.if-offset-ne0.false (omega (arith, c.if-offset-ge-PAGE_SIZE.false)) c.in-Some.phase has
-    (sym c.in_trampoline.ensures ∙ c.if-not-in_trampoline.false) c.translated.new.self ((c.translated.ensures.world w is).0)
-    (ap (λ a. entry_serves c.args.self.now.policy (hart_of has.hart) a c.args.via) (sym (at_world _ w.scheme _ c.args.offset is.scheme c.trampoline-trampoline.ensures)) ∙ sym (c.translated.ensures.serves w has.hart is has.there) ∙ ap is_ok c.in_default-translated.is)
+    (sym c.in_trampoline.ensures ∙ c.if-not-in_trampoline.false) c.translate_access.new.self ((c.translate_access.ensures.world w is).0)
+    (ap (λ a. entry_serves c.args.self.now.policy (hart_of has.hart) a c.args.via) (sym (at_world _ w.scheme _ c.args.offset is.scheme c.trampoline-trampoline.ensures)) ∙ sym (c.translate_access.ensures.serves w has.hart is has.there) ∙ ap is_ok c.in_default-translate_access.is)
 
 pub unreachable-requires : goal.unreachable-requires
 unreachable-requires c =
     let r = c.requires.world in
     let has = has_hart c.args.self.now r.0 (r.1).world c.args.hart c.in-Some.phase (sym c.in-Some.is ∙ c.phase_of.ensures) in
     finds_leaf c.args.self.now.kernel.scheme c.args.offset (omega (arith, c.if-offset-ge-PAGE_SIZE.false)) c.args.self.now r.0 (r.1).world refl c.args.hart has.hart has.there c.in-Ok.walk
-    (subst (λ a. IsServed c.args.self.now.kernel.scheme has.hart (r.1).world.tables (r.1).world.kernel a Fetch Supervisor c.in-Ok.walk) (at_machine _ _ c.args.offset c.trampoline-trampoline.ensures) (c.in-Ok.ensures.walk r.0 r.1 has.hart has.there (inr (omega (arith, c.if-offset-ge-PAGE_SIZE.false, c.trampoline-trampoline.ensures))))) c.in_default-walk.not-Leaf
+    (subst (λ a. IsTranslated c.args.self.now.kernel.scheme has.hart (r.1).world.tables (r.1).world.kernel a Fetch Supervisor c.in-Ok.walk) (at_machine _ _ c.args.offset c.trampoline-trampoline.ensures) (c.in-Ok.ensures.walk r.0 r.1 has.hart has.there (inr (omega (arith, c.if-offset-ge-PAGE_SIZE.false, c.trampoline-trampoline.ensures))))) c.in_default-walk.not-Leaf
 
 pub unreachable-requires-in_default-from_ppn : goal.unreachable-requires-in_default-from_ppn
 unreachable-requires-in_default-from_ppn c =
     let r = c.requires.world in
     let has = has_hart c.args.self.now r.0 (r.1).world c.args.hart c.in-Some.phase (sym c.in-Some.is ∙ c.phase_of.ensures) in
     let code = finds_code c.args.self.now.kernel.scheme c.args.offset (omega (arith, c.if-offset-ge-PAGE_SIZE.false)) c.args.self.now r.0 (r.1).world refl c.args.hart has.hart has.there c.in-Ok.walk
-    (subst (λ a. IsServed c.args.self.now.kernel.scheme has.hart (r.1).world.tables (r.1).world.kernel a Fetch Supervisor c.in-Ok.walk) (at_machine _ _ c.args.offset c.trampoline-trampoline.ensures) (c.in-Ok.ensures.walk r.0 r.1 has.hart has.there (inr (omega (arith, c.if-offset-ge-PAGE_SIZE.false, c.trampoline-trampoline.ensures))))) c.in-Leaf.word c.in-Leaf.level c.in-Leaf.address c.in-Leaf.is in
+    (subst (λ a. IsTranslated c.args.self.now.kernel.scheme has.hart (r.1).world.tables (r.1).world.kernel a Fetch Supervisor c.in-Ok.walk) (at_machine _ _ c.args.offset c.trampoline-trampoline.ensures) (c.in-Ok.ensures.walk r.0 r.1 has.hart has.there (inr (omega (arith, c.if-offset-ge-PAGE_SIZE.false, c.trampoline-trampoline.ensures))))) c.in-Leaf.word c.in-Leaf.level c.in-Leaf.address c.in-Leaf.is in
     let both = sym c.in_default-from_ppn.is ∙ c.from_ppn.ensures ∙ code in
     cc
 
@@ -68,7 +68,7 @@ returns-clause-made c w buffered =
     let is = buffered.world in
     let has = has_hart c.args.self.now w is c.args.hart c.in-Some.phase (sym c.in-Some.is ∙ c.phase_of.ensures) in
     let code = finds_code c.args.self.now.kernel.scheme c.args.offset (omega (arith, c.if-offset-ge-PAGE_SIZE.false)) c.args.self.now w is refl c.args.hart has.hart has.there c.in-Ok.walk
-    (subst (λ a. IsServed c.args.self.now.kernel.scheme has.hart is.tables is.kernel a Fetch Supervisor c.in-Ok.walk) (at_machine _ _ c.args.offset c.trampoline-trampoline.ensures) (c.in-Ok.ensures.walk w buffered has.hart has.there (inr (omega (arith, c.if-offset-ge-PAGE_SIZE.false, c.trampoline-trampoline.ensures))))) c.in-Leaf.word c.in-Leaf.level c.in-Leaf.address c.in-Leaf.is in
+    (subst (λ a. IsTranslated c.args.self.now.kernel.scheme has.hart is.tables is.kernel a Fetch Supervisor c.in-Ok.walk) (at_machine _ _ c.args.offset c.trampoline-trampoline.ensures) (c.in-Ok.ensures.walk w buffered has.hart has.there (inr (omega (arith, c.if-offset-ge-PAGE_SIZE.false, c.trampoline-trampoline.ensures))))) c.in-Leaf.word c.in-Leaf.level c.in-Leaf.address c.in-Leaf.is in
     rw c.from.ensures (fetches_code c.args.self.now w is c.args.hart c.args.offset c.args.via c.if-offset-ne0.false (omega (arith, c.if-offset-ge-PAGE_SIZE.false)) c.in-Some.phase has
-    (sym c.in_trampoline.ensures ∙ c.if-not-in_trampoline.false) c.translated.new.self ((c.translated.ensures.world w is).0)
-    (ap (λ a. entry_serves c.args.self.now.policy (hart_of has.hart) a c.args.via) (sym (at_world _ w.scheme _ c.args.offset is.scheme c.trampoline-trampoline.ensures)) ∙ sym (c.translated.ensures.serves w has.hart is has.there) ∙ ap is_ok c.in-Ok.is) c.in-Some-from_ppn.frame (sym c.in-Some-from_ppn.is ∙ c.from_ppn.ensures ∙ code))
+    (sym c.in_trampoline.ensures ∙ c.if-not-in_trampoline.false) c.translate_access.new.self ((c.translate_access.ensures.world w is).0)
+    (ap (λ a. entry_serves c.args.self.now.policy (hart_of has.hart) a c.args.via) (sym (at_world _ w.scheme _ c.args.offset is.scheme c.trampoline-trampoline.ensures)) ∙ sym (c.translate_access.ensures.serves w has.hart is has.there) ∙ ap is_ok c.in-Ok.is) c.in-Some-from_ppn.frame (sym c.in-Some-from_ppn.is ∙ c.from_ppn.ensures ∙ code))

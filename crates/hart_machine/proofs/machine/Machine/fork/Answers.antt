@@ -8,7 +8,7 @@ pub returns-in-Err-clause-buffers : goal.returns-in-Err-clause-buffers
 returns-in-Err-clause-buffers c = same_harts c.args.self.now c.fork_into.new.self c.in-Err.ensures.harts
 
 pub returns-in-Err-clause-made : goal.returns-in-Err-clause-made
-returns-in-Err-clause-made c w is = rw c.quiet.ensures (c.in-Err.ensures.made w is)
+returns-in-Err-clause-made c w is = rw c.without_change.ensures (c.in-Err.ensures.made w is)
 
 pub returns-in-Err-clause-changed : goal.returns-in-Err-clause-changed
-returns-in-Err-clause-changed c w is = rw c.quiet.ensures (c.in-Err.ensures.changed w is)
+returns-in-Err-clause-changed c w is = rw c.without_change.ensures (c.in-Err.ensures.changed w is)

@@ -8,13 +8,13 @@ pub returns-in-Err-clause-buffers : goal.returns-in-Err-clause-buffers
 returns-in-Err-clause-buffers c = same_harts c.args.self.now c.unmap.new.self c.in-Err.ensures.harts
 
 pub returns-in-Ok-clause-made : goal.returns-in-Ok-clause-made
-returns-in-Ok-clause-made c w is = rw c.by.ensures (c.in-Ok.ensures.made w is)
+returns-in-Ok-clause-made c w is = rw c.with_change.ensures (c.in-Ok.ensures.made w is)
 
 pub returns-in-Err-clause-made : goal.returns-in-Err-clause-made
-returns-in-Err-clause-made c w is = rw c.quiet.ensures (c.in-Err.ensures.made w is)
+returns-in-Err-clause-made c w is = rw c.without_change.ensures (c.in-Err.ensures.made w is)
 
 pub returns-in-Ok-clause-changed : goal.returns-in-Ok-clause-changed
-returns-in-Ok-clause-changed c w is = rw c.by.ensures (c.in-Ok.ensures.changed w is)
+returns-in-Ok-clause-changed c w is = rw c.with_change.ensures (c.in-Ok.ensures.changed w is)
 
 pub returns-in-Err-clause-changed : goal.returns-in-Err-clause-changed
-returns-in-Err-clause-changed c w is = rw c.quiet.ensures (c.in-Err.ensures.changed w is)
+returns-in-Err-clause-changed c w is = rw c.without_change.ensures (c.in-Err.ensures.changed w is)

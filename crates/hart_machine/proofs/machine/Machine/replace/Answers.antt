@@ -2,7 +2,7 @@ use Rattle.std.proofs.Common.{◌≡◌, ◌∙◌, ◌<◌, true, false, Some, 
 use Rattle.std.specs.Prelude.{Err, Ok}
 use Rattle.std.proofs.lemmas.Option.{get_or_from_slice_get, slice_get_within}
 use Rattle.std.proofs.lemmas.Result.{err_from_is_err_and}
-use Rattle.process_model.specs.Loading.{process_of}
+use Rattle.process_model.specs.ImageProcess.{process_of}
 use Rattle.process_model.specs.Steps.{plain_step}
 use Rattle.process_model.specs.World.{refuses}
 use Rattle.process_model.specs.declared.step.Refusal.TheVariants as refusal
@@ -16,7 +16,7 @@ use Rattle.hart_machine.proofs.KeptTables.{one_below, same_places, same_tables}
 use Rattle.hart_machine.proofs.MarkedCalls.{exec_changes}
 use Rattle.hart_machine.proofs.SlotMarks.{refused_as, set_marks}
 use Rattle.hart_machine.proofs.machine.Machine.replace.Goals as goal
-use Rattle.hart_machine.specs.Tenants.{IsTenant}
+use Rattle.hart_machine.specs.SlotProcesses.{IsSlotProcess}
 use Rattle.exec_segments.specs.Loads.{loads_in}
 
 pub returns-in_err-slot-clause-made : goal.returns-in_err-slot-clause-made
@@ -39,7 +39,7 @@ pub unreachable-requires : goal.unreachable-requires
 unreachable-requires c =
     let r = c.requires.world in
     let caller = c.in_ok-slot.ensures.there r.0 r.1 in
-    let both = sym c.in_default.is ∙ c.index_mut.ensures.value ∙ get_or_from_slice_get c.args.self.now.slots.items c.in_ok-slot.slot (Some caller.tenant) _ caller.place in
+    let both = sym c.in_default.is ∙ c.index_mut.ensures.value ∙ get_or_from_slice_get c.args.self.now.slots.items c.in_ok-slot.slot (Some caller.slot_process) _ caller.place in
     cc
 
 pub exec-requires-clause-fits : goal.exec-requires-clause-fits
@@ -47,16 +47,16 @@ exec-requires-clause-fits c =
     let m = c.args.self.now in
     let r = c.requires.world in
     let caller = c.in_ok-slot.ensures.there r.0 r.1 in
-    let there = slot_has m.slots.items c.in_ok-slot.slot caller.tenant c.in-Some.tenant _ c.in-Some.is c.index_mut.ensures.value caller.place in
-    seat_fits m.frames m.kernel.seat m.slots.items c.in_ok-slot.slot c.in-Some.tenant there (r.1).rule
+    let there = slot_has m.slots.items c.in_ok-slot.slot caller.slot_process c.in-Some.slot_process _ c.in-Some.is c.index_mut.ensures.value caller.place in
+    seat_fits m.frames m.kernel.seat m.slots.items c.in_ok-slot.slot c.in-Some.slot_process there (r.1).rule
 
 pub exec-requires-clause-ready : goal.exec-requires-clause-ready
 exec-requires-clause-ready c =
     let m = c.args.self.now in
     let r = c.requires.world in
     let caller = c.in_ok-slot.ensures.there r.0 r.1 in
-    let there = slot_has m.slots.items c.in_ok-slot.slot caller.tenant c.in-Some.tenant _ c.in-Some.is c.index_mut.ensures.value caller.place in
-    let found = process_at m r.0 r.1 c.in_ok-slot.slot c.in-Some.tenant there in
+    let there = slot_has m.slots.items c.in_ok-slot.slot caller.slot_process c.in-Some.slot_process _ c.in-Some.is c.index_mut.ensures.value caller.place in
+    let found = process_at m r.0 r.1 c.in_ok-slot.slot c.in-Some.slot_process there in
     ((r.1).tables c.in_ok-slot.slot, found.0, found.2)
 
 pub returns-in_err-slot-clause-changed : goal.returns-in_err-slot-clause-changed
@@ -79,8 +79,8 @@ returns-in_err-exec-clause-made c w is =
     let m = c.args.self.now in
     let s = c.in_ok-slot.slot in
     let caller = c.in_ok-slot.ensures.there w is in
-    let x = c.in-Some.tenant in
-    let there = slot_has m.slots.items s caller.tenant x _ c.in-Some.is c.index_mut.ensures.value caller.place in
+    let x = c.in-Some.slot_process in
+    let there = slot_has m.slots.items s caller.slot_process x _ c.in-Some.is c.index_mut.ensures.value caller.place in
     let y = c.exec in
     let e = c.in_err-exec.ensures in
     let told = err_from_is_err_and c.from_residual-in_err-exec.result c.from_residual-in_err-exec.ensures.1 in
@@ -92,8 +92,8 @@ returns-in_err-exec-clause-changed c w is =
     let m = c.args.self.now in
     let s = c.in_ok-slot.slot in
     let caller = c.in_ok-slot.ensures.there w is in
-    let x = c.in-Some.tenant in
-    let there = slot_has m.slots.items s caller.tenant x _ c.in-Some.is c.index_mut.ensures.value caller.place in
+    let x = c.in-Some.slot_process in
+    let there = slot_has m.slots.items s caller.slot_process x _ c.in-Some.is c.index_mut.ensures.value caller.place in
     let y = c.exec in
     let told = err_from_is_err_and c.from_residual-in_err-exec.result c.from_residual-in_err-exec.ensures.1 in
     rw told.1 (refused_as w (plain_step w (step.Exec c.args.hart c.args.image)) refusal.NoFrame (exec_dry m w is c.args.hart s caller c.args.image c.in-Ok.image.loads (judged_is c.args.self.now w is c.args.image (sym (c.judged.ensures.loads) ∙ ap loads_in c.in-Ok.is)) x y.new.self there y.new.frames y.new.files (subst (λ k. m.frames.free < exec_need k c.in-Ok.image.loads) (c.in-Ok.ensures.scheme ∙ is.scheme) c.in_err-exec.ensures.dry.1)))
@@ -103,8 +103,8 @@ returns-in_err-exec-clause-tables c w is =
     let m = c.args.self.now in
     let s = c.in_ok-slot.slot in
     let caller = c.in_ok-slot.ensures.there w is in
-    let x = c.in-Some.tenant in
-    let there = slot_has m.slots.items s caller.tenant x _ c.in-Some.is c.index_mut.ensures.value caller.place in
+    let x = c.in-Some.slot_process in
+    let there = slot_has m.slots.items s caller.slot_process x _ c.in-Some.is c.index_mut.ensures.value caller.place in
     same_tables m _ _ _ (one_below m _ s x c.exec.new.self there refl refl (λ t p a. (p, c.in_err-exec.ensures.whole t p a)))
 
 pub returns-clause-made : goal.returns-clause-made
@@ -112,8 +112,8 @@ returns-clause-made c w is =
     let m = c.args.self.now in
     let s = c.in_ok-slot.slot in
     let caller = c.in_ok-slot.ensures.there w is in
-    let x = c.in-Some.tenant in
-    let there = slot_has m.slots.items s caller.tenant x _ c.in-Some.is c.index_mut.ensures.value caller.place in
+    let x = c.in-Some.slot_process in
+    let there = slot_has m.slots.items s caller.slot_process x _ c.in-Some.is c.index_mut.ensures.value caller.place in
     let y = c.exec in
     let e = c.in_ok-exec.ensures in
     executes m w is c.args.hart s caller c.args.image c.in-Ok.image.loads (judged_is c.args.self.now w is c.args.image (sym (c.judged.ensures.loads) ∙ ap loads_in c.in-Ok.is)) x y.new.self there y.new.frames y.new.files (Ok c.in_ok-exec.field-0)
@@ -124,8 +124,8 @@ returns-clause-changed c w is =
     let m = c.args.self.now in
     let s = c.in_ok-slot.slot in
     let caller = c.in_ok-slot.ensures.there w is in
-    let x = c.in-Some.tenant in
-    let there = slot_has m.slots.items s caller.tenant x _ c.in-Some.is c.index_mut.ensures.value caller.place in
+    let x = c.in-Some.slot_process in
+    let there = slot_has m.slots.items s caller.slot_process x _ c.in-Some.is c.index_mut.ensures.value caller.place in
     let y = c.exec in
     let e = c.in_ok-exec.ensures in
     let q = process_at m w is s x there in
@@ -138,13 +138,13 @@ returns-clause-tables c w is =
     let m = c.args.self.now in
     let s = c.in_ok-slot.slot in
     let caller = c.in_ok-slot.ensures.there w is in
-    let x = c.in-Some.tenant in
-    let there = slot_has m.slots.items s caller.tenant x _ c.in-Some.is c.index_mut.ensures.value caller.place in
+    let x = c.in-Some.slot_process in
+    let there = slot_has m.slots.items s caller.slot_process x _ c.in-Some.is c.index_mut.ensures.value caller.place in
     let y = c.exec in
     let e = c.in_ok-exec.ensures in
     let q = process_at m w is s x there in
     let has = e.executed (is.tables s) q.0 q.2 in
-    slot_keeps_by m _ w.slots _ s x y.new.self q.0 (process_of w.scheme w.counter c.in-Ok.image.loads) (is.tables s) has.tables q.2 (subst (λ k. IsTenant y.new.self has.tables (process_of k w.counter c.in-Ok.image.loads)) (is.schemes s q.0 q.1) (has.tenant w.counter)) there q.1 refl
+    slot_keeps_by m _ w.slots _ s x y.new.self q.0 (process_of w.scheme w.counter c.in-Ok.image.loads) (is.tables s) has.tables q.2 (subst (λ k. IsSlotProcess y.new.self has.tables (process_of k w.counter c.in-Ok.image.loads)) (is.schemes s q.0 q.1) (has.slot_process w.counter)) there q.1 refl
     (exec_sets m w is c.args.hart s caller c.args.image c.in-Ok.image.loads (judged_is c.args.self.now w is c.args.image (sym (c.judged.ensures.loads) ∙ ap loads_in c.in-Ok.is)) x y.new.self there y.new.frames y.new.files q.0 q.1 (subst (λ k. exec_need k c.in-Ok.image.loads ≤ m.frames.free) (c.in-Ok.ensures.scheme ∙ is.scheme) e.enough)) refl
     (λ unchanged. absurd (let both : true ≡ false = sym (exec_changes w.scheme q.0 w.counter c.in-Ok.image.loads (λ n a at. is.counted s n q.0 a q.1 at)) ∙ unchanged in cc))
 
@@ -153,6 +153,6 @@ exec-requires-clause-scheme c =
     let m = c.args.self.now in
     let r = c.requires.world in
     let caller = c.in_ok-slot.ensures.there r.0 r.1 in
-    let there = slot_has m.slots.items c.in_ok-slot.slot caller.tenant c.in-Some.tenant _ c.in-Some.is c.index_mut.ensures.value caller.place in
-    let found = process_at m r.0 r.1 c.in_ok-slot.slot c.in-Some.tenant there in
+    let there = slot_has m.slots.items c.in_ok-slot.slot caller.slot_process c.in-Some.slot_process _ c.in-Some.is c.index_mut.ensures.value caller.place in
+    let found = process_at m r.0 r.1 c.in_ok-slot.slot c.in-Some.slot_process there in
     c.in-Ok.ensures.scheme ∙ (r.1).scheme ∙ sym ((r.1).schemes c.in_ok-slot.slot found.0 found.1) ∙ (found.2).agrees.lays.scheme

@@ -9,9 +9,9 @@ use Rattle.frame_store.specs.Seats.{place_set_back}
 use Rattle.process_model.specs.Process.{without_pending}
 use Rattle.process_model.specs.World.{refuses}
 use Rattle.process_model.specs.declared.step.Reply.TheVariants.{OldSize, Refused}
-use Rattle.hart_machine.specs.declared.tenant.Tenant.{Tenant}
+use Rattle.hart_machine.specs.declared.slot_process.SlotProcess.{SlotProcess}
 use Rattle.process_model.specs.declared.step.Step.TheVariants as step
-use Rattle.hart_machine.specs.Worlds.{Makes}
+use Rattle.hart_machine.specs.Worlds.{IsModelOutcome}
 use Rattle.hart_machine.specs.declared.machine.Machine.{Machine}
 use Rattle.hart_machine.proofs.AccessingWorlds.{seat_fits, slot_has}
 use Rattle.hart_machine.proofs.HartSteps.{process_at, refused}
@@ -38,7 +38,7 @@ pub unreachable-requires : goal.unreachable-requires
 unreachable-requires c =
     let r = c.requires.world in
     let caller = c.in_ok-slot.ensures.there r.0 r.1 in
-    let both = sym c.in_default.is ∙ c.index_mut.ensures.value ∙ get_or_from_slice_get c.args.self.now.slots.items c.in_ok-slot.slot (Some caller.tenant) _ caller.place in
+    let both = sym c.in_default.is ∙ c.index_mut.ensures.value ∙ get_or_from_slice_get c.args.self.now.slots.items c.in_ok-slot.slot (Some caller.slot_process) _ caller.place in
     cc
 
 pub sbrk-requires-clause-fits : goal.sbrk-requires-clause-fits
@@ -46,16 +46,16 @@ sbrk-requires-clause-fits c =
     let m = c.args.self.now in
     let r = c.requires.world in
     let caller = c.in_ok-slot.ensures.there r.0 r.1 in
-    let there = slot_has m.slots.items c.in_ok-slot.slot caller.tenant c.in-Some.tenant _ c.in-Some.is c.index_mut.ensures.value caller.place in
-    seat_fits m.frames m.kernel.seat m.slots.items c.in_ok-slot.slot c.in-Some.tenant there (r.1).rule
+    let there = slot_has m.slots.items c.in_ok-slot.slot caller.slot_process c.in-Some.slot_process _ c.in-Some.is c.index_mut.ensures.value caller.place in
+    seat_fits m.frames m.kernel.seat m.slots.items c.in_ok-slot.slot c.in-Some.slot_process there (r.1).rule
 
 pub sbrk-requires-clause-ready : goal.sbrk-requires-clause-ready
 sbrk-requires-clause-ready c =
     let m = c.args.self.now in
     let r = c.requires.world in
     let caller = c.in_ok-slot.ensures.there r.0 r.1 in
-    let there = slot_has m.slots.items c.in_ok-slot.slot caller.tenant c.in-Some.tenant _ c.in-Some.is c.index_mut.ensures.value caller.place in
-    let found = process_at m r.0 r.1 c.in_ok-slot.slot c.in-Some.tenant there in
+    let there = slot_has m.slots.items c.in_ok-slot.slot caller.slot_process c.in-Some.slot_process _ c.in-Some.is c.index_mut.ensures.value caller.place in
+    let found = process_at m r.0 r.1 c.in_ok-slot.slot c.in-Some.slot_process there in
     ((r.1).tables c.in_ok-slot.slot, found.0, found.2)
 
 pub returns-in_err-slot-clause-changed : goal.returns-in_err-slot-clause-changed
@@ -71,15 +71,15 @@ returns-in_err-size-clause-made c w is =
     let m = c.args.self.now in
     let s = c.in_ok-slot.slot in
     let caller = c.in_ok-slot.ensures.there w is in
-    let x = c.in-Some.tenant in
-    let there = slot_has m.slots.items s caller.tenant x _ c.in-Some.is c.index_mut.ensures.value caller.place in
+    let x = c.in-Some.slot_process in
+    let there = slot_has m.slots.items s caller.slot_process x _ c.in-Some.is c.index_mut.ensures.value caller.place in
     let d = to_z w64 (of_z w64 c.args.delta) in
     let same = to_z-of_z w64 c.args.delta c.ranges.delta in
     let y = c.sbrk in
     let e = c.in_err-size.ensures in
     let told = err_from_is_err_and c.from_residual-in_err-size.result c.from_residual-in_err-size.ensures.1 in
     let n : Machine = record m { frames = y.new.frames; slots = with_item m.slots s (Some y.new.self) } in
-    rw (told.1, told.2) (subst (λ (z : ℤ). Makes n (Refused c.in_err-size.field-0.0) (plain_step w (step.Sbrk c.args.hart z))) same
+    rw (told.1, told.2) (subst (λ (z : ℤ). IsModelOutcome n (Refused c.in_err-size.field-0.0) (plain_step w (step.Sbrk c.args.hart z))) same
     (sizes m w is c.args.hart s caller x y.new.self there d y.new.frames {A = Option ℕ} (Err c.in_err-size.field-0.0) e.answer tt e.stays e.frames_stay y.ensures.keeps))
 
 pub returns-in_err-size-clause-changed : goal.returns-in_err-size-clause-changed
@@ -87,8 +87,8 @@ returns-in_err-size-clause-changed c w is =
     let m = c.args.self.now in
     let s = c.in_ok-slot.slot in
     let caller = c.in_ok-slot.ensures.there w is in
-    let x = c.in-Some.tenant in
-    let there = slot_has m.slots.items s caller.tenant x _ c.in-Some.is c.index_mut.ensures.value caller.place in
+    let x = c.in-Some.slot_process in
+    let there = slot_has m.slots.items s caller.slot_process x _ c.in-Some.is c.index_mut.ensures.value caller.place in
     let d = to_z w64 (of_z w64 c.args.delta) in
     let same = to_z-of_z w64 c.args.delta c.ranges.delta in
     let y = c.sbrk in
@@ -101,26 +101,26 @@ returns-in_err-size-clause-tables c w is =
     let m = c.args.self.now in
     let s = c.in_ok-slot.slot in
     let caller = c.in_ok-slot.ensures.there w is in
-    let x = c.in-Some.tenant in
-    let there = slot_has m.slots.items s caller.tenant x _ c.in-Some.is c.index_mut.ensures.value caller.place in
+    let x = c.in-Some.slot_process in
+    let there = slot_has m.slots.items s caller.slot_process x _ c.in-Some.is c.index_mut.ensures.value caller.place in
     let d = to_z w64 (of_z w64 c.args.delta) in
     let same = to_z-of_z w64 c.args.delta c.ranges.delta in
     let y = c.sbrk in
-    same_places m _ _ _ (ap (λ (z : Tenant). slice_set m.slots.items s (Some z)) c.in_err-size.ensures.stays ∙ place_set_back m.slots.items s (Some x) there, refl)
+    same_places m _ _ _ (ap (λ (z : SlotProcess). slice_set m.slots.items s (Some z)) c.in_err-size.ensures.stays ∙ place_set_back m.slots.items s (Some x) there, refl)
 
 pub returns-clause-made : goal.returns-clause-made
 returns-clause-made c w is =
     let m = c.args.self.now in
     let s = c.in_ok-slot.slot in
     let caller = c.in_ok-slot.ensures.there w is in
-    let x = c.in-Some.tenant in
-    let there = slot_has m.slots.items s caller.tenant x _ c.in-Some.is c.index_mut.ensures.value caller.place in
+    let x = c.in-Some.slot_process in
+    let there = slot_has m.slots.items s caller.slot_process x _ c.in-Some.is c.index_mut.ensures.value caller.place in
     let d = to_z w64 (of_z w64 c.args.delta) in
     let same = to_z-of_z w64 c.args.delta c.ranges.delta in
     let y = c.sbrk in
     let e = c.in_ok-size.ensures in
     let n : Machine = record m { frames = y.new.frames; slots = with_item m.slots s (Some y.new.self) } in
-    subst (λ (z : ℤ). Makes n (OldSize c.in_ok-size.size) (plain_step w (step.Sbrk c.args.hart z))) same
+    subst (λ (z : ℤ). IsModelOutcome n (OldSize c.in_ok-size.size) (plain_step w (step.Sbrk c.args.hart z))) same
     (sizes m w is c.args.hart s caller x y.new.self there d y.new.frames (Ok (c.in_ok-size.size, c.in_ok-size.released)) e.answer e.resized tt tt y.ensures.keeps)
 
 pub returns-clause-changed : goal.returns-clause-changed
@@ -128,8 +128,8 @@ returns-clause-changed c w is =
     let m = c.args.self.now in
     let s = c.in_ok-slot.slot in
     let caller = c.in_ok-slot.ensures.there w is in
-    let x = c.in-Some.tenant in
-    let there = slot_has m.slots.items s caller.tenant x _ c.in-Some.is c.index_mut.ensures.value caller.place in
+    let x = c.in-Some.slot_process in
+    let there = slot_has m.slots.items s caller.slot_process x _ c.in-Some.is c.index_mut.ensures.value caller.place in
     let d = to_z w64 (of_z w64 c.args.delta) in
     let same = to_z-of_z w64 c.args.delta c.ranges.delta in
     let y = c.sbrk in
@@ -145,15 +145,15 @@ returns-clause-tables c w is =
     let m = c.args.self.now in
     let s = c.in_ok-slot.slot in
     let caller = c.in_ok-slot.ensures.there w is in
-    let x = c.in-Some.tenant in
-    let there = slot_has m.slots.items s caller.tenant x _ c.in-Some.is c.index_mut.ensures.value caller.place in
+    let x = c.in-Some.slot_process in
+    let there = slot_has m.slots.items s caller.slot_process x _ c.in-Some.is c.index_mut.ensures.value caller.place in
     let d = to_z w64 (of_z w64 c.args.delta) in
     let same = to_z-of_z w64 c.args.delta c.ranges.delta in
     let y = c.sbrk in
     let e = c.in_ok-size.ensures in
     let q = process_at m w is s x there in
     let has = e.resized (is.tables s) q.0 q.2 in
-    slot_keeps_by m _ w.slots _ s x y.new.self q.0 (without_pending has.process) (is.tables s) has.tables q.2 has.tenant there q.1 refl
+    slot_keeps_by m _ w.slots _ s x y.new.self q.0 (without_pending has.process) (is.tables s) has.tables q.2 has.slot_process there q.1 refl
     (subst (λ (z : ℤ). ((plain_step w (step.Sbrk c.args.hart z)).world).slots ≡ slice_set w.slots s (Some (without_pending has.process))) same
     (size_sets m w is c.args.hart s caller x y.new.self there d y.new.frames q.0 has.process q.1 has.is)) refl
-    (λ unchanged. dropped_none x y.new.self (is.tables s) has.tables q.0 (without_pending has.process) q.2 has.tenant unchanged (sbrk_scheme q.0 _ has.process has.is) _ _ has.drops)
+    (λ unchanged. dropped_none x y.new.self (is.tables s) has.tables q.0 (without_pending has.process) q.2 has.slot_process unchanged (sbrk_scheme q.0 _ has.process has.is) _ _ has.drops)

@@ -1,5 +1,5 @@
 use Rattle.std.proofs.Common.{◌+◌, arith, drop, List, subst, sym}
-use Rattle.process_laws.proofs.Told.{headline_holds}
+use Rattle.process_laws.proofs.HeadlineProof.{headline_holds}
 use Rattle.process_laws.specs.Headline.{Headline}
 use Rattle.process_model.specs.Steps.{run}
 use Rattle.process_model.specs.World.{booted}

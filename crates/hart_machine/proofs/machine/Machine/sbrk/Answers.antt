@@ -4,7 +4,7 @@ use Rattle.process_model.specs.Steps.{plain_step}
 use Rattle.process_model.specs.declared.step.Reply.TheVariants.{OldSize, Refused}
 use Rattle.process_model.specs.declared.step.Step.TheVariants as step
 use Rattle.hart_machine.specs.Marks.{AreMarked}
-use Rattle.hart_machine.specs.Worlds.{KeepsTables, Makes}
+use Rattle.hart_machine.specs.Worlds.{KeepsTables, IsModelOutcome}
 use Rattle.hart_machine.proofs.BufferSteps.{same_harts}
 use Rattle.hart_machine.proofs.machine.Machine.sbrk.Goals as goal
 
@@ -16,19 +16,19 @@ returns-in-Err-clause-buffers c = same_harts c.args.self.now c.resize.new.self c
 
 pub returns-in-Ok-clause-made : goal.returns-in-Ok-clause-made
 returns-in-Ok-clause-made c w is =
-    rw c.by.ensures (subst (λ (z : ℤ). Makes c.resize.new.self (OldSize c.in-Ok.size) (plain_step w (step.Sbrk c.args.hart z))) (to_z-of_z w64 c.args.delta c.ranges.delta) (c.in-Ok.ensures.made w is))
+    rw c.with_change.ensures (subst (λ (z : ℤ). IsModelOutcome c.resize.new.self (OldSize c.in-Ok.size) (plain_step w (step.Sbrk c.args.hart z))) (to_z-of_z w64 c.args.delta c.ranges.delta) (c.in-Ok.ensures.made w is))
 
 pub returns-in-Err-clause-made : goal.returns-in-Err-clause-made
 returns-in-Err-clause-made c w is =
-    rw c.quiet.ensures (subst (λ (z : ℤ). Makes c.resize.new.self (Refused c.in-Err.refusal) (plain_step w (step.Sbrk c.args.hart z))) (to_z-of_z w64 c.args.delta c.ranges.delta) (c.in-Err.ensures.made w is))
+    rw c.without_change.ensures (subst (λ (z : ℤ). IsModelOutcome c.resize.new.self (Refused c.in-Err.refusal) (plain_step w (step.Sbrk c.args.hart z))) (to_z-of_z w64 c.args.delta c.ranges.delta) (c.in-Err.ensures.made w is))
 
 pub returns-in-Ok-clause-changed : goal.returns-in-Ok-clause-changed
 returns-in-Ok-clause-changed c w is =
-    rw c.by.ensures (subst (λ (z : ℤ). AreMarked w (plain_step w (step.Sbrk c.args.hart z)) c.in-Ok.changed None) (to_z-of_z w64 c.args.delta c.ranges.delta) (c.in-Ok.ensures.changed w is))
+    rw c.with_change.ensures (subst (λ (z : ℤ). AreMarked w (plain_step w (step.Sbrk c.args.hart z)) c.in-Ok.changed None) (to_z-of_z w64 c.args.delta c.ranges.delta) (c.in-Ok.ensures.changed w is))
 
 pub returns-in-Err-clause-changed : goal.returns-in-Err-clause-changed
 returns-in-Err-clause-changed c w is =
-    rw c.quiet.ensures (subst (λ (z : ℤ). AreMarked w (plain_step w (step.Sbrk c.args.hart z)) None None) (to_z-of_z w64 c.args.delta c.ranges.delta) (c.in-Err.ensures.changed w is))
+    rw c.without_change.ensures (subst (λ (z : ℤ). AreMarked w (plain_step w (step.Sbrk c.args.hart z)) None None) (to_z-of_z w64 c.args.delta c.ranges.delta) (c.in-Err.ensures.changed w is))
 
 pub returns-in-Ok-clause-tables : goal.returns-in-Ok-clause-tables
 returns-in-Ok-clause-tables c w is =

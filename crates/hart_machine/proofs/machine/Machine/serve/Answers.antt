@@ -10,7 +10,7 @@ use Rattle.process_model.specs.declared.step.Reply.TheVariants.{Ended, Ready}
 use Rattle.process_model.specs.declared.step.Step.TheVariants as step
 use Rattle.hart_machine.specs.Harts.{hart_of}
 use Rattle.hart_machine.specs.Marks.{AreMarked, slot_if}
-use Rattle.hart_machine.specs.Worlds.{IsWorld, KeepsTables, Makes}
+use Rattle.hart_machine.specs.Worlds.{IsWorld, KeepsTables, IsModelOutcome}
 use Rattle.hart_machine.specs.declared.hart.Hart.{Hart}
 use Rattle.hart_machine.proofs.Calling.{call_runs}
 use Rattle.hart_machine.proofs.HartSteps.{refused}
@@ -28,11 +28,11 @@ end-requires c =
     record { world = (r.0, true, ends.world, ends.there) }
 
 pub returns-in-Err-clause-made : goal.returns-in-Err-clause-made
-returns-in-Err-clause-made c w is = rw c.quiet.ensures (refused c.args.self.now w is c.in-Err.refusal _ (c.in-Err.ensures.refused w _ is))
+returns-in-Err-clause-made c w is = rw c.without_change.ensures (refused c.args.self.now w is c.in-Err.refusal _ (c.in-Err.ensures.refused w _ is))
 
 pub returns-in-Err-clause-changed : goal.returns-in-Err-clause-changed
 returns-in-Err-clause-changed c w is =
-    rw c.quiet.ensures (refused_as w (plain_step w (step.Serve c.args.hart)) c.in-Err.refusal (c.in-Err.ensures.refused w _ is))
+    rw c.without_change.ensures (refused_as w (plain_step w (step.Serve c.args.hart)) c.in-Err.refusal (c.in-Err.ensures.refused w _ is))
 
 pub returns-in-Err-clause-tables : goal.returns-in-Err-clause-tables
 returns-in-Err-clause-tables c w is = same_places c.args.self.now c.args.self.now _ _ (refl, refl)
@@ -40,7 +40,7 @@ returns-in-Err-clause-tables c w is = same_places c.args.self.now c.args.self.no
 pub returns-in-Ok-serve_fault-clause-made : goal.returns-in-Ok-serve_fault-clause-made
 returns-in-Ok-serve_fault-clause-made c w is =
     let k = c.in-Ok.ensures.there w is in
-    rw c.by.ensures (subst (λ (o : Outcome). Makes c.serve_fault.new.self Ready o) (sym (call_runs c.args.self.now w is c.args.hart c.in-Ok.slot true k (λ hart s p. served w c.args.hart hart s p p.pending) k.process k.in_slot))
+    rw c.with_change.ensures (subst (λ (o : Outcome). IsModelOutcome c.serve_fault.new.self Ready o) (sym (call_runs c.args.self.now w is c.args.hart c.in-Ok.slot true k (λ hart s p. served w c.args.hart hart s p p.pending) k.process k.in_slot))
     (c.in-Ok-serve_fault.ensures.ready w c.args.hart is k))
 
 pub returns-in-Ok-serve_fault-clause-changed : goal.returns-in-Ok-serve_fault-clause-changed
@@ -48,7 +48,7 @@ returns-in-Ok-serve_fault-clause-changed c w is =
     let k = c.in-Ok.ensures.there w is in
     let s = c.in-Ok.slot in
     let settled = c.in-Ok-serve_fault.settled in
-    rw (c.by.ensures, c.slot_if.ensures) (subst (λ (o : Outcome). AreMarked w o (slot_if s settled) None) (sym (call_runs c.args.self.now w is c.args.hart s true k (λ hart s p. served w c.args.hart hart s p p.pending) k.process k.in_slot))
+    rw (c.with_change.ensures, c.slot_if.ensures) (subst (λ (o : Outcome). AreMarked w o (slot_if s settled) None) (sym (call_runs c.args.self.now w is c.args.hart s true k (λ hart s p. served w c.args.hart hart s p p.pending) k.process k.in_slot))
     (c.in-Ok-serve_fault.ensures.changed w c.args.hart is k))
 
 pub returns-in-Ok-serve_fault-clause-tables : goal.returns-in-Ok-serve_fault-clause-tables
@@ -65,7 +65,7 @@ returns-in-Err-serve_fault-clause-made c w is =
     let k = c.in-Ok.ensures.there w is in
     let e = c.in-Err-serve_fault.ensures.must_end w h is k in
     let gone = c.end.ensures.ended w true (Ended rule) e.world e.there in
-    rw c.quiet-in-Err-serve_fault.ensures (subst (λ (o : Outcome). Makes c.end.new.self (Ended rule) o) (sym (call_runs c.args.self.now w is h s true k (λ hart n p. served w h hart n p p.pending) k.process k.in_slot ∙ e.ends)) (
+    rw c.without_change-in-Err-serve_fault.ensures (subst (λ (o : Outcome). IsModelOutcome c.end.new.self (Ended rule) o) (sym (call_runs c.args.self.now w is h s true k (λ hart n p. served w h hart n p p.pending) k.process k.in_slot ∙ e.ends)) (
       refl,
       subst (λ (p : Process). IsWorld c.end.new.self (ended w h (hart_of k.hart) s p (Ended rule)).world) e.process
           (subst (λ (x : Hart). IsWorld c.end.new.self (ended w h (hart_of x) s (e.there).process (Ended rule)).world) e.hart gone),
@@ -78,7 +78,7 @@ returns-in-Err-serve_fault-clause-changed c w is =
     let k = c.in-Ok.ensures.there w is in
     let e = c.in-Err-serve_fault.ensures.must_end w h is k in
     let runs = call_runs c.args.self.now w is h s true k (λ hart n p. served w h hart n p p.pending) k.process k.in_slot ∙ e.ends in
-    rw c.quiet-in-Err-serve_fault.ensures (gone_marks w (plain_step w (step.Serve h)) s k.process k.in_slot (ap (λ (o : Outcome). (o.world).slots) runs))
+    rw c.without_change-in-Err-serve_fault.ensures (gone_marks w (plain_step w (step.Serve h)) s k.process k.in_slot (ap (λ (o : Outcome). (o.world).slots) runs))
 
 pub returns-in-Err-serve_fault-clause-tables : goal.returns-in-Err-serve_fault-clause-tables
 returns-in-Err-serve_fault-clause-tables c w is =

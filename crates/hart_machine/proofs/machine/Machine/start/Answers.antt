@@ -5,7 +5,7 @@ use Rattle.std.proofs.lemmas.List.{length-set}
 use Rattle.frame_store.specs.Seats.{place_set_other}
 use Rattle.process_model.specs.Calls.{started, started_as}
 use Rattle.process_model.specs.Images.{image_loads}
-use Rattle.process_model.specs.Loading.{process_of}
+use Rattle.process_model.specs.ImageProcess.{process_of}
 use Rattle.process_model.specs.Steps.{plain_step}
 use Rattle.process_model.specs.declared.step.Refusal.TheVariants.{BadImage, NoFrame, NoSlot}
 use Rattle.process_model.specs.declared.step.Step.TheVariants as step
@@ -15,7 +15,7 @@ use Rattle.frame_store.specs.View.{View}
 use Rattle.process_model.specs.Frames.{start_need}
 use Rattle.hart_machine.specs.Worlds.{seats_of}
 use Rattle.hart_machine.specs.declared.machine.Machine.{Machine}
-use Rattle.hart_machine.specs.declared.tenant.Tenant.{Tenant}
+use Rattle.hart_machine.specs.declared.slot_process.SlotProcess.{SlotProcess}
 use Rattle.hart_machine.proofs.StartSlots.{free_is_empty, free_place, free_within}
 use Rattle.address_space.specs.Trampolines.{dry_holds}
 use Rattle.hart_machine.proofs.StartedSeats.{open_code, open_kernel, opened_holds, second_fits, second_steps}
@@ -25,7 +25,7 @@ use Rattle.hart_machine.proofs.KeptTables.{others_born, same_places, same_slots}
 use Rattle.hart_machine.proofs.SlotMarks.{born_marks, refused_as}
 use Rattle.hart_machine.proofs.machine.Machine.start.Goals as goal
 use Rattle.hart_machine.proofs.Executes.{judged_is}
-use Rattle.hart_machine.specs.Tenants.{body_in}
+use Rattle.hart_machine.specs.SlotProcesses.{body_in}
 use Rattle.exec_segments.specs.Loads.{loads_in}
 
 pub start-requires-clause-fits : goal.start-requires-clause-fits
@@ -63,7 +63,7 @@ returns-in-Ok-start-clause-made c w is =
     let o = c.open_seat-seat in
     let ok = c.in-Ok-start in
     let others = seats_of m.slots.items in
-    let y : Tenant = record { space = ok.space; pending = None } in
+    let y : SlotProcess = record { space = ok.space; pending = None } in
     let n : Machine = record { policy = o.new.self.policy; frames = c.start.new.store; kernel = o.new.self.kernel; slots = with_item o.new.self.slots s (Some y); harts = o.new.self.harts; files = o.new.self.files; pages = o.new.self.pages } in
     makes_started w s c.args.image c.in-Ok.image.loads (sym (c.free_slot.ensures w is) ∙ c.in-Some.is) (judged_is c.args.self.now w is c.args.image (sym (c.judged.ensures.loads) ∙ ap loads_in c.in-Ok.is))
     m n is o.ensures.size o.ensures.harts o.ensures.files o.ensures.policy (ap (λ k. k.scheme) o.ensures.opener) (open_kernel m o.new.self o.ensures.opener w.frames (length w.slots) is.stacks is.kernel is.of_kernel)
@@ -81,7 +81,7 @@ returns-in-Err-start-clause-made c w is =
     let others = seats_of m.slots.items in
     let n = c.close_seat.new.self in
     let opened = open_kernel m o.new.self o.ensures.opener w.frames (length w.slots) is.stacks is.kernel is.of_kernel in
-    rw c.quiet-in-Err-start.ensures (makes_refused w s c.args.image c.in-Ok.image.loads (sym (c.free_slot.ensures w is) ∙ c.in-Some.is) (judged_is c.args.self.now w is c.args.image (sym (c.judged.ensures.loads) ∙ ap loads_in c.in-Ok.is))
+    rw c.without_change-in-Err-start.ensures (makes_refused w s c.args.image c.in-Ok.image.loads (sym (c.free_slot.ensures w is) ∙ c.in-Some.is) (judged_is c.args.self.now w is c.args.image (sym (c.judged.ensures.loads) ∙ ap loads_in c.in-Ok.is))
     m n is (c.close_seat.ensures.size ∙ o.ensures.size) (c.close_seat.ensures.harts ∙ o.ensures.harts) (c.close_seat.ensures.files ∙ o.ensures.files) (c.close_seat.ensures.policy ∙ o.ensures.policy) (c.close_seat.ensures.scheme ∙ ap (λ k. k.scheme) o.ensures.opener)
     (c.close_seat.ensures.kernel w.frames (length w.slots) is.stacks is.kernel opened)
     (c.close_seat.ensures.slots ∙ o.ensures.slots)
@@ -91,12 +91,12 @@ returns-in-Err-start-clause-made c w is =
 pub returns-in_default-clause-made : goal.returns-in_default-clause-made
 returns-in_default-clause-made c w is =
     let none = sym (c.free_slot.ensures w is) ∙ c.in_default.is in
-    rw c.quiet.ensures (refused c.args.self.now w is NoSlot _ (ap (started w (image_loads w.scheme c.args.image)) none))
+    rw c.without_change.ensures (refused c.args.self.now w is NoSlot _ (ap (started w (image_loads w.scheme c.args.image)) none))
 
 pub returns-in_default-clause-changed : goal.returns-in_default-clause-changed
 returns-in_default-clause-changed c w is =
     let none = sym (c.free_slot.ensures w is) ∙ c.in_default.is in
-    rw c.quiet.ensures (refused_as w (plain_step w (step.Start c.args.image)) NoSlot (ap (started w (image_loads w.scheme c.args.image)) none))
+    rw c.without_change.ensures (refused_as w (plain_step w (step.Start c.args.image)) NoSlot (ap (started w (image_loads w.scheme c.args.image)) none))
 
 pub returns-in_default-clause-tables : goal.returns-in_default-clause-tables
 returns-in_default-clause-tables c w is = same_places c.args.self.now c.args.self.now _ _ (refl, refl)
@@ -105,13 +105,13 @@ pub returns-in-Err-clause-made : goal.returns-in-Err-clause-made
 returns-in-Err-clause-made c w is =
     let to = sym (c.free_slot.ensures w is) ∙ c.in-Some.is in
     let bad = judged_is c.args.self.now w is c.args.image (sym (c.judged.ensures.loads) ∙ ap loads_in c.in-Err.is) in
-    rw c.quiet-in-Err.ensures (refused c.args.self.now w is (BadImage c.in-Err.part) _ (ap (started w (image_loads w.scheme c.args.image)) to ∙ ap (started_as w c.in-Some.slot) bad))
+    rw c.without_change-in-Err.ensures (refused c.args.self.now w is (BadImage c.in-Err.part) _ (ap (started w (image_loads w.scheme c.args.image)) to ∙ ap (started_as w c.in-Some.slot) bad))
 
 pub returns-in-Err-clause-changed : goal.returns-in-Err-clause-changed
 returns-in-Err-clause-changed c w is =
     let to = sym (c.free_slot.ensures w is) ∙ c.in-Some.is in
     let bad = judged_is c.args.self.now w is c.args.image (sym (c.judged.ensures.loads) ∙ ap loads_in c.in-Err.is) in
-    rw c.quiet-in-Err.ensures (refused_as w (plain_step w (step.Start c.args.image)) (BadImage c.in-Err.part) (ap (started w (image_loads w.scheme c.args.image)) to ∙ ap (started_as w c.in-Some.slot) bad))
+    rw c.without_change-in-Err.ensures (refused_as w (plain_step w (step.Start c.args.image)) (BadImage c.in-Err.part) (ap (started w (image_loads w.scheme c.args.image)) to ∙ ap (started_as w c.in-Some.slot) bad))
 
 pub returns-in-Err-clause-tables : goal.returns-in-Err-clause-tables
 returns-in-Err-clause-tables c w is = same_places c.args.self.now c.args.self.now _ _ (refl, refl)
@@ -131,12 +131,12 @@ returns-in-Ok-start-clause-tables c w is =
     let s = c.in-Some.slot in
     let o = c.open_seat-seat in
     let to = sym (c.free_slot.ensures w is) ∙ c.in-Some.is in
-    let y : Tenant = record { space = c.in-Ok-start.space; pending = None } in
+    let y : SlotProcess = record { space = c.in-Ok-start.space; pending = None } in
     others_born m _ w.slots _ s
     (record {
-      many = length-set o.new.self.slots.items s (Some y) ∙ ap (λ (v : Vec (Option Tenant)). length v.items) o.ensures.slots;
+      many = length-set o.new.self.slots.items s (Some y) ∙ ap (λ (v : Vec (Option SlotProcess)). length v.items) o.ensures.slots;
       kernel = open_kernel m o.new.self o.ensures.opener;
-      others = λ r apart. place_set_other o.new.self.slots.items s r (Some y) apart ∙ ap (λ (v : Vec (Option Tenant)). slice_get v.items r) o.ensures.slots;
+      others = λ r apart. place_set_other o.new.self.slots.items s r (Some y) apart ∙ ap (λ (v : Vec (Option SlotProcess)). slice_get v.items r) o.ensures.slots;
     }) (free_place m w is s to)
 
 pub returns-in-Err-start-clause-changed : goal.returns-in-Err-start-clause-changed
@@ -146,12 +146,12 @@ returns-in-Err-start-clause-changed c w is =
     let o = c.open_seat-seat in
     let e = c.in-Err-start in
     let to = sym (c.free_slot.ensures w is) ∙ c.in-Some.is in
-    rw c.quiet-in-Err-start.ensures (refused_as w (plain_step w (step.Start c.args.image)) NoFrame (start_dry w s c.args.image c.in-Ok.image.loads to (judged_is c.args.self.now w is c.args.image (sym (c.judged.ensures.loads) ∙ ap loads_in c.in-Ok.is)) m is
+    rw c.without_change-in-Err-start.ensures (refused_as w (plain_step w (step.Start c.args.image)) NoFrame (start_dry w s c.args.image c.in-Ok.image.loads to (judged_is c.args.self.now w is c.args.image (sym (c.judged.ensures.loads) ∙ ap loads_in c.in-Ok.is)) m is
     (λ le. let ok = (e.ensures.exact tt).1 (subst (λ n. start_need c.in-Ok.image.scheme c.in-Ok.image.loads ≤ n) (sym o.ensures.free) (subst (λ k. start_need k c.in-Ok.image.loads ≤ m.frames.free) (sym (c.in-Ok.ensures.scheme ∙ is.scheme)) le)) in cc)))
 
 pub returns-in-Err-start-clause-tables : goal.returns-in-Err-start-clause-tables
 returns-in-Err-start-clause-tables c w is =
     let m = c.args.self.now in
     let o = c.open_seat-seat in
-    same_slots m c.close_seat.new.self w.slots _ (ap (λ (v : Vec (Option Tenant)). v.items) (c.close_seat.ensures.slots ∙ o.ensures.slots))
+    same_slots m c.close_seat.new.self w.slots _ (ap (λ (v : Vec (Option SlotProcess)). v.items) (c.close_seat.ensures.slots ∙ o.ensures.slots))
     (λ frames slots stacks t table. c.close_seat.ensures.kernel frames slots stacks t (open_kernel m o.new.self o.ensures.opener frames slots stacks t table))

@@ -1,5 +1,5 @@
 use Rattle.std.proofs.Common.{refl}
-use Rattle.process_model.specs.Briefs.{is_brief_step}
+use Rattle.process_model.specs.ScalarReplies.{is_scalar_step}
 use Rattle.process_model.specs.Steps.{plain_step}
 use Rattle.process_model.specs.declared.step.Step.TheVariants as step
 use Rattle.hart_machine.proofs.BufferChanges.{are_of, same_are}
@@ -8,14 +8,14 @@ use Rattle.hart_machine.proofs.MarkedWorlds.{born_low, changed_low}
 use Rattle.hart_machine.proofs.StepsMade.{keeps_by, made_by, marked_by}
 use Rattle.hart_machine.proofs.machine.Machine.step.Goals as goal
 
-pub step_briefly-requires-clause-brief : goal.step_briefly-requires-clause-brief
-step_briefly-requires-clause-brief c = is_brief_step c.args.step c.in_default.not-CopyIn
+pub step_scalar-requires-clause-scalar : goal.step_scalar-requires-clause-scalar
+step_scalar-requires-clause-scalar c = is_scalar_step c.args.step c.in_default.not-CopyIn
 
 pub returns-in_default-clause-made : goal.returns-in_default-clause-made
-returns-in_default-clause-made c w inn = rw c.reply.ensures (c.step_briefly.ensures.made w inn)
+returns-in_default-clause-made c w inn = rw c.reply.ensures (c.step_scalar.ensures.made w inn)
 
 pub returns-in_default-clause-each_buffer : goal.returns-in_default-clause-each_buffer
-returns-in_default-clause-each_buffer c w inn = rw c.reply.ensures (c.step_briefly.ensures.each_buffer w inn)
+returns-in_default-clause-each_buffer c w inn = rw c.reply.ensures (c.step_scalar.ensures.each_buffer w inn)
 
 pub mark-requires : goal.mark-requires
 mark-requires c s is =

@@ -1,7 +1,7 @@
 -- What the search left open of `admit`.
 use Rattle.std.proofs.Common.{◌≡◌, ◌+◌, ◌∙◌, [], ap, arith, length}
 use Rattle.vouchers.specs.Entries.{entry}
-use Rattle.vouchers.specs.Fits.{given_of}
+use Rattle.vouchers.specs.IssuerSeats.{given_of}
 use Rattle.hart_threads.proofs.Rosters.{rostered_admit}
 use Rattle.hart_threads.proofs.Slotting.{taken_more}
 use Rattle.hart_threads.proofs.roster.Roster.admit.Goals as goal
@@ -18,12 +18,12 @@ invariant_of-self-2 g c =
     let i = c.self.invariant in
     let l = c.reserve.ensures.len in
     let m = c.in-Ok.ensures.ok in
-    let n : length (given_of c.issue.new.keeper) ≡ length (given_of c.self.inside.keeper) + 1 = ap length c.issue.ensures.given ∙ omega arith in
+    let n : length (given_of c.issue.new.issuer) ≡ length (given_of c.self.inside.issuer) + 1 = ap length c.issue.ensures.given ∙ omega arith in
     rw c.reserve.ensures.items (
-      c.issue.ensures.keeper ∙ c.requires.desk,
+      c.issue.ensures.issuer ∙ c.requires.token_table,
       omega (arith, i.1, n),
-      (λ here. let was = i.2 here in (was.0, was.1, rw c.issue.ensures.given (rostered_admit g.B.Plan.plan _ (given_of c.self.inside.keeper) was.0 was.2), was.3)),
+      (λ here. let was = i.2 here in (was.0, was.1, rw c.issue.ensures.given (rostered_admit g.B.Plan.plan _ (given_of c.self.inside.issuer) was.0 was.2), was.3)),
       omega (arith, i.3, l, m),
       i.4,
-      rw c.issue.ensures.given (taken_more g.F.Fates.slots g.F.Fates.taken (entry [] 0 []) (given_of c.self.inside.keeper) (λ j is. absurd (cc)) i.5),
+      rw c.issue.ensures.given (taken_more g.F.StartOutcomes.slots g.F.StartOutcomes.taken (entry [] 0 []) (given_of c.self.inside.issuer) (λ j is. absurd (cc)) i.5),
     )

@@ -4,7 +4,7 @@ use Rattle.std.proofs.lemmas.List.Elements.{All-push}
 use Rattle.std.specs.Prelude.{slice_get}
 use Rattle.vouchers.specs.Entries.{entry}
 use Rattle.hart_threads.proofs.Rosters.{each_push, rostered_refuse}
-use Rattle.hart_threads.specs.Slots.{IsSettled}
+use Rattle.hart_threads.specs.Slots.{MatchesSlots}
 use Rattle.hart_threads.proofs.roster.Roster.refuse.Goals as goal
 
 pub invariant_of-self : goal.invariant_of-self
@@ -27,7 +27,7 @@ invariant_of-self g c =
             was.0 ++ entry f.name.items s.list [] ∷ [],
             each_push g.B.Plan.lists starts was.0 _ _ f was.1 c.requires.refused.2,
             rostered_refuse starts _ _ s (omega (arith, l, i.4)) at f.name.items named _ was.0 was.2,
-            All-push (IsSettled g.F.Fates.slots g.F.Fates.taken g.F.Fates.full) _ f was.3 c.requires.settled,
+            All-push (MatchesSlots g.F.StartOutcomes.slots g.F.StartOutcomes.taken g.F.StartOutcomes.full) _ f was.3 c.requires.settled,
           )),
       omega (arith, i.3, l, v, w),
       omega (arith, i.4),

@@ -1,7 +1,7 @@
 -- What the search left open of `start`.
 use Rattle.std.proofs.Common.{◌≡◌, ◌+◌, ◌-◌, ◌<◌, ◌∙◌, sym, ap, subst, ℕ, [], ◌∷◌, Some, arith, length}
 use Rattle.std.specs.Prelude.{slice_get}
-use Rattle.vouchers.specs.Fits.{given_of}
+use Rattle.vouchers.specs.IssuerSeats.{given_of}
 use Rattle.hart_threads.proofs.Rosters.{rostered_start}
 use Rattle.hart_threads.proofs.Names.{first_of}
 use Rattle.hart_threads.proofs.Slotting.{taken_more}
@@ -18,13 +18,13 @@ invariant_of-self g c =
     let s = c.requires.list.0 in
     let named : c.args.name.now ≡ (length starts - c.self.inside.left) ∷ [] = c.requires.name ∙ ap (λ (k : ℕ). (length starts - k) ∷ []) (sym v_is) in
     let at : slice_get starts (length starts - c.self.inside.left) ≡ Some s = ap (λ (k : ℕ). slice_get starts (length starts - k)) v_is ∙ c.requires.list.1 in
-    let n : length (given_of c.issue.new.keeper) ≡ length (given_of c.self.inside.keeper) + 1 = ap length c.issue.ensures.given ∙ omega arith in (
-      c.issue.ensures.keeper ∙ c.requires.desk,
+    let n : length (given_of c.issue.new.issuer) ≡ length (given_of c.self.inside.issuer) + 1 = ap length c.issue.ensures.given ∙ omega arith in (
+      c.issue.ensures.issuer ∙ c.requires.token_table,
       omega (arith, i.1, n),
       (λ here.
           let was = i.2 here in
-          (was.0, was.1, rw c.issue.ensures.given (rostered_start starts _ _ s (omega (arith, l, i.4)) at c.args.name.now c.args.list (given_of c.self.inside.keeper) was.0 named c.requires.list.2 was.2), was.3)),
+          (was.0, was.1, rw c.issue.ensures.given (rostered_start starts _ _ s (omega (arith, l, i.4)) at c.args.name.now c.args.list (given_of c.self.inside.issuer) was.0 named c.requires.list.2 was.2), was.3)),
       omega (arith, i.3, l),
       omega (arith, i.4),
-      rw c.issue.ensures.given (taken_more g.F.Fates.slots g.F.Fates.taken (entry c.args.name.now c.args.list []) (given_of c.self.inside.keeper) (λ j is. subst (λ (k : ℕ). IsTaken g.F.Fates.slots g.F.Fates.taken k) (ap first_of (sym c.requires.name ∙ is)) c.requires.taken) i.5),
+      rw c.issue.ensures.given (taken_more g.F.StartOutcomes.slots g.F.StartOutcomes.taken (entry c.args.name.now c.args.list []) (given_of c.self.inside.issuer) (λ j is. subst (λ (k : ℕ). IsTaken g.F.StartOutcomes.slots g.F.StartOutcomes.taken k) (ap first_of (sym c.requires.name ∙ is)) c.requires.taken) i.5),
     )

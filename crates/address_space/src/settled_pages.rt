@@ -1,0 +1,117 @@
+// Struct `SettledPage`: a settled page (one in memory) with its frame, its fork mark (the next store takes it over first)
+// and D; and two calls of `Space` that find such pages by their leaves: `settled_page` one page, `next_settled` the first of
+// a range.
+
+ghost use Rattle.std.specs.Prelude.{◌≡◌, ◌<◌, ◌≤◌, ℕ, IsSome, Some};
+ghost use Rattle.address_space.specs.Agreement.{body_of, no_extra};
+ghost use Rattle.address_space.specs.SettledLists.{IsNextSettled, IsSettled};
+ghost use Rattle.address_space.specs.SpacesInCalls.{IsSpaceInCall};
+ghost use Rattle.frame_store.specs.Laws.{IsSeatOf, KeepsSeats};
+ghost use Rattle.process_model.specs.Process.{Process};
+ghost use Rattle.sv39_entry.specs.Frame.{frame_at};
+ghost use Rattle.sv39_entry.specs.Word as word;
+ghost use Rattle.sv39_entry.specs.Schemes.{trapframe_page};
+ghost use Rattle.table_walk.specs.Tables.{Tables};
+
+use crate::space::Space;
+use crate::teardown::first_mapped;
+use frame_store::{FrameAccess, FrameSeat};
+use sv39_entry::{Entry, EntryFlags, FrameNo, Va, Vpn};
+use table_walk::leaf_of;
+
+/// A settled page: its number, its frame, whether it has the fork mark, and whether its leaf has D (RISC-V Privileged
+/// Architecture 20211203, 4.3.1). In a shared mapping that grants writing D is the stored mark; in any other region that
+/// grants writing it is set.
+#[derive(Clone, Copy)]
+pub struct SettledPage {
+    pub page: Vpn,
+    pub frame: FrameNo,
+    pub fork_mark: bool,
+    pub dirty: bool,
+}
+
+/// Filler for an unused place of a fixed-size list.
+impl Default for SettledPage {
+    ghost use Rattle.address_space.specs.SettledLists.{no_page};
+
+    ghost is_default = { λ x. x ≡ no_page };
+
+    fn default() -> SettledPage {
+        SettledPage {
+            page: Va(0).page(),
+            frame: FrameNo(0),
+            fork_mark: false,
+            dirty: false,
+        }
+    }
+}
+
+impl<S: FrameSeat> Space<S> {
+    /// Returns `page` with its frame and marks if it is settled, else `None`. `page` must be below TRAPFRAME. The seat may
+    /// have credits.
+    pub fn settled_page<F: FrameAccess<Seat = S>>(
+        &mut self,
+        store: &mut F,
+        page: Vpn,
+    ) -> Option<SettledPage>
+        requires fits { IsSeatOf F.rule store.old self.old.seat }
+        requires ready { (t : Tables) × (p : Process) × IsSpaceInCall (body_of S.view self.old) t p no_extra }
+        requires low { page < trapframe_page self.old.layout.scheme }
+        ensures page { (t : Tables) (p : Process) → IsSpaceInCall (body_of S.view self.old) t p no_extra → IsSettled t p page result }
+        ensures root { self.new.root ≡ self.old.root }
+        ensures trapframe { self.new.trapframe ≡ self.old.trapframe }
+        ensures layout { self.new.layout ≡ self.old.layout }
+        ensures view { S.view self.new.seat ≡ S.view self.old.seat }
+        ensures same { store.new ≡ store.old }
+        ensures keeps { KeepsSeats F.rule store.old self.old.seat store.new self.new.seat }
+    {
+        let scheme = self.layout.scheme();
+        let leaf = leaf_of(store, &mut self.seat, scheme, self.root, page)?;
+        Some(settled_by(page, leaf))
+    }
+
+    /// Returns the first settled page with a number from `first` up to, and without, `end`, with its frame and marks;
+    /// `None` if there is none. `end` is TRAPFRAME or below. Finds it by the leaves that exist, not page by page. The seat
+    /// may have credits.
+    pub fn next_settled<F: FrameAccess<Seat = S>>(
+        &mut self,
+        store: &mut F,
+        first: u64,
+        end: Vpn,
+    ) -> Option<SettledPage>
+        requires fits { IsSeatOf F.rule store.old self.old.seat }
+        requires ready { (t : Tables) × (p : Process) × IsSpaceInCall (body_of S.view self.old) t p no_extra }
+        requires low { end ≤ trapframe_page self.old.layout.scheme }
+        ensures page { (t : Tables) (p : Process) → IsSpaceInCall (body_of S.view self.old) t p no_extra → IsNextSettled t p first end result }
+        ensures root { self.new.root ≡ self.old.root }
+        ensures trapframe { self.new.trapframe ≡ self.old.trapframe }
+        ensures layout { self.new.layout ≡ self.old.layout }
+        ensures view { S.view self.new.seat ≡ S.view self.old.seat }
+        ensures same { store.new ≡ store.old }
+        ensures keeps { KeepsSeats F.rule store.old self.old.seat store.new self.new.seat }
+    {
+        let scheme = self.layout.scheme();
+        let end = end.number().min(self.layout.end());
+        let (page, leaf) = first_mapped(store, &mut self.seat, scheme, self.root, first, end)?;
+        Some(settled_by(page, leaf))
+    }
+}
+
+/// Returns what the leaf of a page says: its frame, fork mark and D.
+fn settled_by(page: Vpn, leaf: Entry) -> SettledPage
+    requires { IsSome (frame_at (word.ppn leaf)) }
+    ensures page { result.page ≡ page }
+    ensures frame { frame_at (word.ppn leaf) ≡ Some result.frame }
+    ensures fork_mark { result.fork_mark ≡ word.has_flag leaf 256 }
+    ensures dirty { result.dirty ≡ word.has_flag leaf 128 }
+{
+    let Some(frame) = FrameNo::from_ppn(leaf.ppn()) else {
+        unreachable!()
+    };
+    SettledPage {
+        page,
+        frame,
+        fork_mark: leaf.has(EntryFlags::COPY_ON_WRITE),
+        dirty: leaf.has(EntryFlags::DIRTY),
+    }
+}

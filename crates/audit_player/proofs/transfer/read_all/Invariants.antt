@@ -1,0 +1,16 @@
+use Rattle.std.proofs.Common.{◌≡◌, ◌-◌, ◌+◌, false, ℕ, List}
+use Rattle.std.specs.Io.KnownBytes.{Consumes}
+use Rattle.process_model.specs.Script.{longest_script}
+use Rattle.script_reader.specs.Reading.{HasRead}
+use Rattle.audit_player.proofs.transfer.read_all.Given as goal
+
+abbrev pub invariant-reading : goal.invariant-reading
+invariant-reading g l = record {
+  fine : g.S.Source.broken l.fn.source ≡ false → g.S.Source.broken l.source ≡ false;
+  bytes : List ℕ;
+  took : Consumes (g.S.Source.remaining l.fn.source) (g.S.Source.remaining l.source) bytes;
+  has : HasRead bytes l.reading;
+}
+
+abbrev pub decreases-reading : goal.decreases-reading
+decreases-reading g l = longest_script + 1 - (l.reading).length

@@ -1,6 +1,0 @@
--- `Opening` may go to any thread: it has no bytes.
-use denote.Param.Send.{IsSend, owning_send, sendable}
-use Rattle.hart_calls.specs.contracts.opening.Opening.{the_row, the_type}
-
-pub send : IsSend the_row
-send = owning_send the_type (search sendable, tt) (λ d. tt) (λ k x w. tt)

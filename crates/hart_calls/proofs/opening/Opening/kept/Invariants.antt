@@ -1,5 +1,0 @@
-use Rattle.hart_calls.proofs.opening.Opening.kept.Given as goal
-
--- the process that contracts see
-abbrev pub ghost-begun : goal.ghost-begun
-ghost-begun a = a.from.now.state

@@ -1,0 +1,244 @@
+// Ends of a process on threads: `Tracked::exit` (the call exit), `close` (exit and end by a rule: writes every mapping back,
+// releases the frames, appends the last journal entry) and `Tracked::cut` (outcome Memory or JournalFull: no entry more, no
+// write-back), with the steps and outcomes that they share.
+
+ghost use Rattle.std.specs.Prelude.{[], ◌≡◌, ◌<◌, IfErr, IfOk, length, None, vec_capacity, vec_len};
+ghost use Rattle.address_space.specs.Agreement.{body_of, IsSpace};
+ghost use Rattle.address_space.specs.Steps.{IsBare, TakesFrames};
+ghost use Rattle.file_shelf.specs.ShelfStates.{HasMoves, CanRefuse};
+ghost use Rattle.hart_calls.specs.ProcessEnd.{Closes, IsCause, outcome_of};
+ghost use Rattle.hart_calls.specs.Track.{next_of};
+ghost use Rattle.hart_calls.specs.TurnCases.{KeepsFilesByOutcome, LacksJournalRoom, IsOver, most_entries};
+ghost use Rattle.process_model.specs.declared.call.Outcome.TheVariants as outcome;
+ghost use Rattle.process_model.specs.Mappings.{all_written_back};
+ghost use Rattle.process_model.specs.PageMoves.{all_moves};
+ghost use Rattle.process_model.specs.Process.{Process};
+ghost use Rattle.process_model.specs.declared.call.Call.TheVariants as call;
+ghost use Rattle.process_model.specs.declared.step.Reply.TheVariants as reply;
+ghost use Rattle.shared_frames.specs.SeatsOfTable.{FitsIn, view_of};
+ghost use Rattle.table_walk.specs.Tables.{Tables};
+
+use crate::finished::Finished;
+use crate::journal_entry::JournalEntry;
+use crate::journal_reply::JournalReply;
+use crate::run_brand::RunBrand;
+use crate::tracked::{Tracked, TrackedParts};
+use address_space::Space;
+use file_cabinet::PromiseError;
+use file_shelf::Shelf;
+use mmap_regions::{promise_write_back, write_back};
+use process_model::{Call, Outcome, ScalarReply};
+use shared_frames::{SharedSeat, SharedSupply};
+use std::alloc::Global;
+use std::sync::Wait;
+
+impl<'a, B: RunBrand> Tracked<'a, B> {
+    /// Ends the process with no journal entry more and without write-back. `outcome` is `Memory` or `JournalFull`.
+    #[inline(never)]
+    pub(crate) fn cut<R: Wait>(
+        self,
+        store: &mut SharedSupply<'_, R>,
+        outcome: Outcome,
+    ) -> Finished<'a>
+        requires store { store.old ≡ B.table }
+        requires cause { IsCause outcome }
+        requires full { LacksJournalRoom self.state.mappings self.journal outcome }
+        ensures store { store.new ≡ B.table }
+        ensures over { IsOver self.entry result }
+        ensures outcome { result.outcome ≡ outcome }
+    {
+        let TrackedParts {
+            name,
+            journal,
+            space,
+            ..
+        } = self.parts;
+        let seat = leave::<B, R>(space, store);
+        Finished {
+            name,
+            outcome,
+            journal,
+            seat,
+        }
+    }
+
+    /// Makes the next call, an exit: ends the process by `close`.
+    #[inline(never)]
+    pub(crate) fn exit<R: Wait>(
+        self,
+        store: &mut SharedSupply<'_, R>,
+        shelf: &mut Shelf,
+        status: i32,
+    ) -> Finished<'a>
+        requires store { store.old ≡ B.table }
+        requires next { next_of self ≡ call.Exit status }
+        requires room { 0 < self.room }
+        requires few { length self.journal < most_entries }
+        ensures store { store.new ≡ B.table }
+        ensures over { IsOver self.entry result }
+        ensures files { KeepsFilesByOutcome self.entry result result.outcome shelf.old shelf.new }
+    {
+        let parts = self.parts;
+        let entry = exit_entry(parts.alloc, status);
+        close::<B, R>(parts, store, shelf, entry, exited(status))
+    }
+}
+
+/// The journal entry of an exit.
+fn exit_entry<'a>(alloc: Global, status: i32) -> JournalEntry<'a>
+    ensures call { result.call ≡ call.Exit status }
+    ensures reply { result.reply ≡ reply.Exited status }
+    ensures pages { result.pages.items ≡ [] }
+    ensures file { result.file ≡ None }
+{
+    JournalEntry {
+        call: Call::Exit { status },
+        reply: JournalReply::short(ScalarReply::Exited(status)),
+        pages: Vec::new(alloc),
+        file: None,
+    }
+}
+
+/// The outcome of a process that exits.
+fn exited(status: i32) -> Outcome
+    ensures { result ≡ outcome.Exited status }
+{
+    Outcome::Exited(status)
+}
+
+/// Ends a process: writes every mapping back, in order of address, releases all its frames and appends `entry` to its
+/// journal. If the files refuse to promise these pages, none is written, no entry is appended, and the outcome is `Memory`
+/// or `JournalFull`.
+#[inline(never)]
+pub(crate) fn close<'a, B: RunBrand, R: Wait>(
+    parts: TrackedParts<'a>,
+    store: &mut SharedSupply<'_, R>,
+    shelf: &mut Shelf,
+    entry: JournalEntry<'a>,
+    outcome: Outcome,
+) -> Finished<'a>
+    requires store { store.old ≡ B.table }
+    requires fits { FitsIn B.table parts.space.value.seat }
+    requires ready { (t : Tables) × IsSpace (body_of view_of parts.space.value) t parts.present.state }
+    requires room { vec_len parts.journal < vec_capacity parts.journal }
+    ensures store { store.new ≡ B.table }
+    ensures name { result.name.items ≡ parts.entry.name.items }
+    ensures bare { IsBare (view_of result.seat) }
+    ensures tallies { TakesFrames (view_of parts.entry.space.value.seat) (view_of result.seat) 0 [] }
+    ensures closes { Closes parts.entry.present.state parts.entry.journal.items entry.entry outcome result shelf.old shelf.new }
+{
+    let TrackedParts {
+        name,
+        mut journal,
+        mut space,
+        ..
+    } = parts;
+    let written = write_there::<B, R>(&mut space, store, shelf);
+    let seat = leave::<B, R>(space, store);
+    match written {
+        Ok(()) => {
+            journal.push_reserved(entry);
+            Finished {
+                name,
+                outcome,
+                journal,
+                seat,
+            }
+        }
+        Err(error) => Finished {
+            name,
+            outcome: outcome_of(error),
+            journal,
+            seat,
+        },
+    }
+}
+
+/// The outcome of a process that ends because the files refused to promise its write-back.
+pub(crate) fn outcome_of(error: PromiseError) -> Outcome
+    ensures { result ≡ outcome_of error }
+{
+    match error {
+        PromiseError::Memory => Outcome::Memory,
+        PromiseError::JournalFull => Outcome::JournalFull,
+    }
+}
+
+/// `write_all_back`, for a space in a box.
+fn write_there<B: RunBrand, R: Wait>(
+    space: &mut Box<Space<SharedSeat>>,
+    store: &mut SharedSupply<'_, R>,
+    shelf: &mut Shelf,
+) -> Result<(), PromiseError>
+    requires store { store.old ≡ B.table }
+    requires fits { FitsIn B.table space.old.value.seat }
+    requires ready { (t : Tables) × (p : Process) × IsSpace (body_of view_of space.old.value) t p }
+    ensures store { store.new ≡ B.table }
+    ensures fits { FitsIn B.table space.new.value.seat }
+    ensures still { (t : Tables) (p : Process) → IsSpace (body_of view_of space.old.value) t p → IsSpace (body_of view_of space.new.value) t p }
+    ensures view { view_of space.new.value.seat ≡ view_of space.old.value.seat }
+    ensures written { IfOk result (λ _. (t : Tables) (p : Process) → IsSpace (body_of view_of space.old.value) t p → HasMoves shelf.old (all_moves p) shelf.new) }
+    ensures files { IfOk result (λ _. (t : Tables) (p : Process) → IsSpace (body_of view_of space.old.value) t p → (shelf.new).files ≡ all_written_back (shelf.old).files p) }
+    ensures refused { IfErr result (λ e. (t : Tables) (p : Process) → IsSpace (body_of view_of space.old.value) t p → CanRefuse shelf.old (length (all_moves p)) e) }
+    ensures unwritten { IfErr result (λ _. HasMoves shelf.old [] shelf.new) }
+{
+    write_all_back::<B, R>(space, store, shelf)
+}
+
+/// Writes every mapping of a process back to its file, in order of address.
+///
+/// # Errors
+/// The files can refuse to promise these pages. Then no page is written.
+fn write_all_back<B: RunBrand, R: Wait>(
+    space: &mut Space<SharedSeat>,
+    store: &mut SharedSupply<'_, R>,
+    shelf: &mut Shelf,
+) -> Result<(), PromiseError>
+    requires store { store.old ≡ B.table }
+    requires fits { FitsIn B.table space.old.seat }
+    requires ready { (t : Tables) × (p : Process) × IsSpace (body_of view_of space.old) t p }
+    ensures store { store.new ≡ B.table }
+    ensures fits { FitsIn B.table space.new.seat }
+    ensures still { (t : Tables) (p : Process) → IsSpace (body_of view_of space.old) t p → IsSpace (body_of view_of space.new) t p }
+    ensures view { view_of space.new.seat ≡ view_of space.old.seat }
+    ensures written { IfOk result (λ _. (t : Tables) (p : Process) → IsSpace (body_of view_of space.old) t p → HasMoves shelf.old (all_moves p) shelf.new) }
+    ensures files { IfOk result (λ _. (t : Tables) (p : Process) → IsSpace (body_of view_of space.old) t p → (shelf.new).files ≡ all_written_back (shelf.old).files p) }
+    ensures refused { IfErr result (λ e. (t : Tables) (p : Process) → IsSpace (body_of view_of space.old) t p → CanRefuse shelf.old (length (all_moves p)) e) }
+    ensures unwritten { IfErr result (λ _. HasMoves shelf.old [] shelf.new) }
+{
+    if let Err(error) = promise_write_back(space, store, shelf) {
+        return Err(error);
+    }
+    write_back(space, store, shelf);
+    Ok(())
+}
+
+/// Releases all frames of a process, and the box of its space. Returns the seat, which holds nothing.
+pub(crate) fn leave<B: RunBrand, R: Wait>(
+    space: Box<Space<SharedSeat>>,
+    store: &mut SharedSupply<'_, R>,
+) -> SharedSeat
+    requires store { store.old ≡ B.table }
+    requires fits { FitsIn B.table space.value.seat }
+    requires ready { (t : Tables) × (p : Process) × IsSpace (body_of view_of space.value) t p }
+    ensures store { store.new ≡ B.table }
+    ensures bare { IsBare (view_of result) }
+    ensures tallies { TakesFrames (view_of space.value.seat) (view_of result) 0 [] }
+{
+    destroy::<B, R>(Box::into_inner(space), store)
+}
+
+/// Releases all frames of a process. Returns the seat, which holds nothing.
+pub(crate) fn destroy<B: RunBrand, R: Wait>(
+    space: Space<SharedSeat>,
+    store: &mut SharedSupply<'_, R>,
+) -> SharedSeat
+    requires store { store.old ≡ B.table }
+    requires fits { FitsIn B.table space.seat }
+    requires ready { (t : Tables) × (p : Process) × IsSpace (body_of view_of space) t p }
+    ensures store { store.new ≡ B.table }
+    ensures bare { IsBare (view_of result) }
+    ensures tallies { TakesFrames (view_of space.seat) (view_of result) 0 [] }
+{
+    space.destroy(store)
+}

@@ -1,0 +1,205 @@
+// The call fork on threads: `Tracked::fork` appends its journal entry and returns the child, by `cow_fork::fork`, or none if
+// it is refused (NoSlot, Memory, NoFrame, SharersFull); `Tracked::child_place` allocates host memory for the child's space
+// before.
+
+ghost use Rattle.std.specs.Prelude.{[], ◌∷◌, ◌≡◌, ◌≢◌, ◌<◌, IfErr, IfOk, length, List, None};
+ghost use Rattle.address_space.specs.Agreement.{body_of, IsSpace};
+ghost use Rattle.address_space.specs.Steps.{RunsDry, TakesFrames};
+ghost use Rattle.cow_fork.specs.Forks.{HasForked, IsSharersFullError, IsNoFrameError};
+ghost use Rattle.frame_store.specs.Laws.{IsSeatOf, KeepsSeats};
+ghost use Rattle.frame_store.specs.View.{IsHeld};
+ghost use Rattle.hart_calls.specs.Track.{child_name, next_of};
+ghost use Rattle.hart_calls.specs.TurnCases.{ForkAnswer, ContinuesTurn, IsNamed, most_entries};
+ghost use Rattle.hart_calls.specs.Shortages.{IsForkRefusal};
+ghost use Rattle.hart_calls.specs.declared.fork_slot.ForkSlot.TheVariants as slot;
+ghost use Rattle.process_model.specs.declared.call.Call.TheVariants as call;
+ghost use Rattle.process_model.specs.declared.step.Refusal.TheVariants.{NoFrame, SharersFull};
+ghost use Rattle.process_model.specs.declared.step.Reply.TheVariants as reply;
+ghost use Rattle.process_model.specs.ScalarReplies.{reply_of_scalar};
+ghost use Rattle.process_model.specs.Frames as model;
+ghost use Rattle.process_model.specs.Process.{Process};
+ghost use Rattle.shared_frames.specs.SeatsOfTable.{FitsIn, view_of};
+ghost use Rattle.table_walk.specs.Tables.{Tables};
+
+use crate::fork_slot::{ForkSlot, Place};
+use crate::journal_entry::JournalEntry;
+use crate::journal_reply::JournalReply;
+use crate::plain_call::append_entry;
+use crate::run_brand::RunBrand;
+use crate::tracked::Tracked;
+use address_space::Space;
+use cow_fork::ForkError;
+use frame_store::{FrameAccess, FrameSeat, FrameSupply};
+use process_model::{Call, Refusal, ScalarReply};
+use shared_frames::{SharedSeat, SharedSupply};
+use std::alloc::{AllocError, Global};
+use std::sync::Wait;
+
+impl<'a, B: RunBrand> Tracked<'a, B> {
+    /// Allocates a place for the space of the next child, which a fork needs (`ForkSlot::Free`). `store` must be at the
+    /// frame table of the run. The process is unchanged.
+    ///
+    /// # Errors
+    /// `AllocError`: the host is out of memory. The process is unchanged then too.
+    pub fn child_place<R: Wait>(
+        &mut self,
+        store: &mut SharedSupply<'_, R>,
+    ) -> Result<Place, AllocError>
+        requires store { store.old ≡ B.table }
+        ensures store { store.new ≡ B.table }
+        ensures same { self.new ≡ self.old }
+    {
+        let bare = bare_there(&mut self.parts.space, store);
+        Place::new(self.parts.alloc, bare)
+    }
+
+    /// Makes the next call, a fork. Returns the process with one journal entry more and, if the reply is `Forked`, its
+    /// child, which begins with list `list` as `child_of` the process. A refused fork leaves the process of the model as it
+    /// was.
+    #[inline(never)]
+    pub(crate) fn fork<R: Wait>(
+        self,
+        store: &mut SharedSupply<'_, R>,
+        list: usize,
+        slot: ForkSlot,
+    ) -> (Tracked<'a, B>, Option<Tracked<'a, B>>)
+        requires store { store.old ≡ B.table }
+        requires next { next_of self ≡ call.Fork list }
+        requires room { 0 < self.room }
+        requires few { length self.journal < most_entries }
+        requires slot { IsNamed slot (child_name self) }
+        ensures store { store.new ≡ B.table }
+        ensures goes { ContinuesTurn self.entry result.0 result.1 slot }
+    {
+        match slot {
+            ForkSlot::Free(name, place) => self.divide(store, list, name, place),
+            ForkSlot::NoSlot => (
+                self.unforked(list, Refusal::NoSlot, &ForkSlot::NoSlot),
+                None,
+            ),
+            ForkSlot::Memory => (
+                self.unforked(list, Refusal::Memory, &ForkSlot::Memory),
+                None,
+            ),
+        }
+    }
+
+    /// A fork with a slot: the child's name, and a place for its space.
+    fn divide<R: Wait>(
+        self,
+        store: &mut SharedSupply<'_, R>,
+        list: usize,
+        name: Vec<u64>,
+        place: Place,
+    ) -> (Tracked<'a, B>, Option<Tracked<'a, B>>)
+        requires store { store.old ≡ B.table }
+        requires next { next_of self ≡ call.Fork list }
+        requires room { 0 < self.room }
+        requires few { length self.journal < most_entries }
+        requires named { name.items ≡ child_name self }
+        ensures store { store.new ≡ B.table }
+        ensures goes { ContinuesTurn self.entry result.0 result.1 (slot.Free name place) }
+    {
+        let number = self.children();
+        let mut parts = self.parts;
+        match fork_there(&mut parts.space, store) {
+            Ok(space) => {
+                let entry = answer(parts.alloc, list, ScalarReply::Forked(number));
+                let opening = parts.present.of_child();
+                let space = place.fill(space);
+                let child = Tracked::new(parts.alloc, opening, space, name, parts.lists, list);
+                let present = parts.present.after_fork();
+                (append_entry(parts, present, entry), Some(child))
+            }
+            Err(error) => {
+                let entry = answer(parts.alloc, list, ScalarReply::Refused(error.into()));
+                let present = parts.present.kept();
+                (append_entry(parts, present, entry), None)
+            }
+        }
+    }
+
+    /// A fork that is refused for want of a slot or of host memory.
+    fn unforked(self, list: usize, refusal: Refusal, slot: &ForkSlot) -> Tracked<'a, B>
+        requires next { next_of self ≡ call.Fork list }
+        requires room { 0 < self.room }
+        requires few { length self.journal < most_entries }
+        requires refusal { IsForkRefusal refusal }
+        requires answer { ForkAnswer slot.now (reply.Refused refusal) }
+        requires framed { refusal ≢ NoFrame }
+        requires counted { refusal ≢ SharersFull }
+        ensures goes { ContinuesTurn self.entry result None slot.now }
+    {
+        let _ = slot;
+        let parts = self.parts;
+        let entry = answer(parts.alloc, list, ScalarReply::Refused(refusal));
+        let present = parts.present.kept();
+        append_entry(parts, present, entry)
+    }
+}
+
+/// `cow_fork::fork`, for a space in a box.
+fn fork_there<S: FrameSeat, F: FrameSupply<Seat = S>>(
+    space: &mut Box<Space<S>>,
+    store: &mut F,
+) -> Result<Space<S>, ForkError>
+    requires fits { IsSeatOf F.FrameAccess.rule store.old space.old.value.seat }
+    requires ready { (t : Tables) × (p : Process) × IsSpace (body_of S.view space.old.value) t p }
+    ensures forked { IfOk result (λ child. HasForked (body_of S.view space.old.value) (body_of S.view space.new.value) (body_of S.view child)) }
+    ensures whole { IfErr result (λ _. (t : Tables) (p : Process) → IsSpace (body_of S.view space.old.value) t p → IsSpace (body_of S.view space.new.value) t p) }
+    ensures dry { IsNoFrameError result → (t : Tables) (p : Process) → IsSpace (body_of S.view space.old.value) t p → RunsDry (S.view space.old.value.seat) (S.view space.new.value.seat) (model.fork_need p) [] }
+    ensures full { IsSharersFullError result → TakesFrames (S.view space.old.value.seat) (S.view space.new.value.seat) 0 (65535 ∷ []) }
+    ensures keeps { IfOk result (λ child. (others : List S) → F.FrameAccess.rule store.old (space.old.value.seat ∷ others) → F.FrameAccess.rule store.new (space.new.value.seat ∷ child.seat ∷ others)) }
+    ensures keeps_refused { IfErr result (λ _. KeepsSeats F.FrameAccess.rule store.old space.old.value.seat store.new space.new.value.seat) }
+{
+    cow_fork::fork(space, store)
+}
+
+/// Splits an empty seat off the seat of a space in a box.
+fn bare_there<R: Wait>(
+    space: &mut Box<Space<SharedSeat>>,
+    store: &mut SharedSupply<'_, R>,
+) -> SharedSeat
+    requires fits { FitsIn store.old space.old.value.seat }
+    requires ready { (t : Tables) × (p : Process) × IsSpace (body_of view_of space.old.value) t p }
+    ensures store { store.new ≡ store.old }
+    ensures fits { FitsIn store.old space.new.value.seat }
+    ensures view { view_of space.new.value.seat ≡ view_of space.old.value.seat }
+    ensures root { space.new.value.root ≡ space.old.value.root }
+    ensures trapframe { space.new.value.trapframe ≡ space.old.value.trapframe }
+    ensures layout { space.new.value.layout ≡ space.old.value.layout }
+{
+    bare_beside(space, store)
+}
+
+/// Splits an empty seat off the seat of a space.
+fn bare_beside<R: Wait>(
+    space: &mut Space<SharedSeat>,
+    store: &mut SharedSupply<'_, R>,
+) -> SharedSeat
+    requires fits { FitsIn store.old space.old.seat }
+    requires anchored { IsHeld (view_of space.old.seat) 0 }
+    ensures store { store.new ≡ store.old }
+    ensures fits { FitsIn store.old space.new.seat }
+    ensures view { view_of space.new.seat ≡ view_of space.old.seat }
+    ensures root { space.new.root ≡ space.old.root }
+    ensures trapframe { space.new.trapframe ≡ space.old.trapframe }
+    ensures layout { space.new.layout ≡ space.old.layout }
+{
+    store.split(&mut space.seat, &[])
+}
+
+/// The journal entry of a fork.
+fn answer<'a>(alloc: Global, list: usize, reply: ScalarReply) -> JournalEntry<'a>
+    ensures call { result.call ≡ call.Fork list }
+    ensures reply { result.reply ≡ reply_of_scalar reply }
+    ensures pages { result.pages.items ≡ [] }
+    ensures file { result.file ≡ None }
+{
+    JournalEntry {
+        call: Call::Fork { list },
+        reply: JournalReply::short(reply),
+        pages: Vec::new(alloc),
+        file: None,
+    }
+}

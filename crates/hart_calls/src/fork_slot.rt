@@ -1,0 +1,57 @@
+// `ForkSlot` (enum): what `next_call` is given for a fork's child: a name and a `Place`, or why the fork is refused (no free
+// slot, a place in the process table; no host memory). `Place` (struct): host memory for the child's space, with a filler
+// until then.
+
+ghost use Rattle.std.specs.Prelude.{◌≡◌};
+
+use address_space::{Layout, Space};
+use shared_frames::SharedSeat;
+use std::alloc::{AllocError, Global};
+use sv39_entry::{FrameNo, Scheme};
+
+/// Host memory for a child's space. It is allocated before the fork, so a fork for which the host has no memory changes
+/// nothing. Until the fork it has a filler, which is no process and whose seat holds nothing. `Tracked::child_place` makes
+/// one.
+#[derive(Drop)]
+pub struct Place {
+    pub(crate) space: Box<Space<SharedSeat>>,
+}
+
+impl Place {
+    /// Allocates a place, with a filler on the seat `bare`.
+    ///
+    /// # Errors
+    /// `AllocError`: the host is out of memory.
+    pub(crate) fn new(alloc: Global, bare: SharedSeat) -> Result<Place, AllocError> {
+        let nobody = Space {
+            seat: bare,
+            root: FrameNo(0),
+            trapframe: FrameNo(0),
+            layout: Layout::new(Scheme::Sv39, &[]),
+        };
+        let space = Box::new(alloc, nobody)?;
+        Ok(Place { space })
+    }
+
+    /// Puts the child's space in its place, and returns it there.
+    pub(crate) fn fill(self, child: Space<SharedSeat>) -> Box<Space<SharedSeat>>
+        ensures { result.value ≡ child }
+    {
+        let Place { mut space } = self;
+        let _nobody = Box::replace(&mut space, child);
+        space
+    }
+}
+
+/// What `Tracked::next_call` is given for the child of a fork: a slot, or the reason why the fork is refused. A call that is
+/// no fork needs no slot, and takes any of these.
+#[derive(Drop)]
+pub enum ForkSlot {
+    /// The child's name, which must be `Tracked::child_name`, and a place for its space, from `Tracked::child_place`. The
+    /// fork may still be refused, with `NoFrame` or `SharersFull`.
+    Free(Vec<u64>, Place),
+    /// Every slot is in use: a fork is refused with `NoSlot`.
+    NoSlot,
+    /// The host has no memory for another process: a fork is refused with `Memory`.
+    Memory,
+}

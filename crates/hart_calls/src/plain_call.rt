@@ -1,0 +1,286 @@
+// `Tracked::plain_call`: makes a process's next call if it is neither fork nor exit, then appends its journal entry or ends
+// the process. Helpers build and append the entry, and find the model's process after the call and the pages that it read.
+
+ghost use Rattle.std.specs.Prelude.{[], ◌∷◌, ◌++◌, ◌≡◌, ◌<◌, ◌≤◌, drop, length, List, vec_capacity, vec_len};
+ghost use Rattle.address_space.specs.Agreement.{body_of, IsSpace};
+ghost use Rattle.hart_calls.specs.CallKinds.{HasRoomFor, IsPlainCall, may_read, moves_read};
+ghost use Rattle.hart_calls.specs.ProcessEnd.{cause_of};
+ghost use Rattle.hart_calls.specs.CallResults.{shortage_of};
+ghost use Rattle.hart_calls.specs.Replay.{call_at, forks, IsReplayStep, list_at, Replays};
+ghost use Rattle.hart_calls.specs.CallOutcomes.{file_of, call_outcome};
+ghost use Rattle.hart_calls.specs.Track.{NameLists, next_of};
+ghost use Rattle.hart_calls.specs.TurnResults.{HasFilesAfter, HasTurned};
+ghost use Rattle.hart_calls.specs.TurnCases.{most_entries};
+ghost use Rattle.process_model.specs.Files.{File};
+ghost use Rattle.process_model.specs.declared.step.Reply.TheVariants as reply;
+ghost use Rattle.shared_frames.specs.SeatsOfTable.{FitsIn, view_of};
+ghost use Rattle.table_walk.specs.Tables.{Tables};
+
+use crate::call_result::CallResult;
+use crate::calls::make_there;
+use crate::exit::close;
+use crate::fork_slot::ForkSlot;
+use crate::journal_entry::JournalEntry;
+use crate::journal_reply::JournalReply;
+use crate::model_process::{ModelProcess, begun};
+use crate::run_brand::RunBrand;
+use crate::tracked::{Tracked, TrackedParts};
+use crate::turn::Turn;
+use file_cabinet::Files;
+use file_shelf::{PageUse, Shelf};
+use process_model::{Call, Outcome, Refusal, Reply, ScalarReply};
+use shared_frames::SharedSupply;
+use std::alloc::Global;
+use std::marker::PhantomData;
+use std::snapshot::Snapshot;
+use std::sync::Wait;
+use sv39_entry::Rule;
+
+impl<'a, B: RunBrand> Tracked<'a, B> {
+    /// Makes the next call, which is neither fork nor exit. `pages` and `room` are memory for its journal entry. `slot` is
+    /// for the contract alone: such a call needs none.
+    pub(crate) fn plain_call<R: Wait>(
+        self,
+        store: &mut SharedSupply<'_, R>,
+        shelf: &mut Shelf,
+        call: Call<'a>,
+        pages: Vec<PageUse>,
+        room: Option<Box<Reply>>,
+        slot: &ForkSlot,
+    ) -> Turn<'a, B>
+        requires store { store.old ≡ B.table }
+        requires next { call ≡ next_of self }
+        requires stays { IsPlainCall call }
+        requires room { 0 < self.room }
+        requires few { length self.journal < most_entries }
+        requires none { pages.items ≡ [] }
+        requires pages { 2 ≤ vec_capacity pages }
+        requires long { HasRoomFor call room }
+        ensures store { store.new ≡ B.table }
+        ensures turned { HasTurned self.entry result slot.now }
+        ensures files { HasFilesAfter self.entry result shelf.old shelf.new }
+    {
+        let _ = slot;
+        let mut parts = self.parts;
+        let before = Snapshot::of(&*shelf);
+        let mark = uses(shelf);
+        let file = mapped_file(shelf, call);
+        let call_result = make_there(&mut parts.space, store, shelf, call, room);
+        let pages = pages_read(shelf, mark, call, pages, parts.alloc, &mut parts.spare);
+        match call_result {
+            CallResult::Answered(reply) => {
+                let present = state_after(&parts.present, before, call, &reply, None);
+                let entry = entry_of(call, reply, pages, file);
+                Turn::Continues(append_entry(parts, present, entry), None)
+            }
+            CallResult::Stopped(refusal, done) => {
+                let reply = JournalReply::short(ScalarReply::Refused(refusal));
+                let present = state_after(&parts.present, before, call, &reply, Some(done));
+                let entry = entry_of(call, reply, pages, file);
+                Turn::Continues(append_entry(parts, present, entry), None)
+            }
+            CallResult::Ended(rule) => {
+                let entry = last_entry(call, rule, pages, file);
+                Turn::Over(close::<B, R>(parts, store, shelf, entry, Outcome::Ended(rule)))
+            }
+            CallResult::Cut(refusal) => {
+                let tracked: Tracked<'a, B> = Tracked {
+                    parts,
+                    of: PhantomData,
+                };
+                Turn::Over(tracked.cut(store, cause_of(refusal)))
+            }
+        }
+    }
+}
+
+/// The journal entry of a call.
+fn entry_of<'a>(
+    call: Call<'a>,
+    reply: JournalReply,
+    pages: Vec<PageUse>,
+    file: Option<bool>,
+) -> JournalEntry<'a>
+    ensures call { result.call ≡ call.entry }
+    ensures reply { result.reply ≡ reply }
+    ensures pages { result.pages.items ≡ pages.items }
+    ensures file { result.file ≡ file }
+{
+    JournalEntry {
+        call,
+        reply,
+        pages,
+        file,
+    }
+}
+
+/// The journal entry of a call that ended its process by a rule.
+fn last_entry<'a>(
+    call: Call<'a>,
+    rule: Rule,
+    pages: Vec<PageUse>,
+    file: Option<bool>,
+) -> JournalEntry<'a>
+    ensures call { result.call ≡ call.entry }
+    ensures reply { result.reply ≡ reply.Ended rule }
+    ensures pages { result.pages.items ≡ pages.items }
+    ensures file { result.file ≡ file }
+{
+    entry_of(
+        call,
+        JournalReply::short(ScalarReply::Ended(rule)),
+        pages,
+        file,
+    )
+}
+
+/// Appends the journal entry of a call that was made. `present` is the process after the call.
+pub(crate) fn append_entry<'a, B: RunBrand>(
+    mut parts: TrackedParts<'a>,
+    present: ModelProcess,
+    entry: JournalEntry<'a>,
+) -> Tracked<'a, B>
+    requires fits { FitsIn B.table parts.space.value.seat }
+    requires agrees { (t : Tables) × IsSpace (body_of view_of parts.space.value) t present.state }
+    requires replays { Replays parts.opening.state 0 0 (list_at parts.lists.now parts.list) parts.journal.items parts.present.state }
+    requires leads { (files : List File) × IsReplayStep files (forks parts.journal.items) parts.present.state entry present.state }
+    requires next { entry.call ≡ call_at (list_at parts.lists.now parts.list) (length parts.journal.items) }
+    requires named { NameLists parts.lists.now }
+    requires there { parts.list < length parts.lists.now }
+    requires room { vec_len parts.journal < vec_capacity parts.journal }
+    requires few { length parts.journal.items < most_entries }
+    requires children { parts.children ≡ forks parts.journal.items }
+    ensures name { result.name ≡ parts.entry.name.items }
+    ensures lists { result.lists ≡ parts.entry.lists.now }
+    ensures list { result.list ≡ parts.entry.list }
+    ensures opening { result.opening ≡ parts.entry.opening.state }
+    ensures state { result.state ≡ present.state }
+    ensures journal { result.journal ≡ parts.entry.journal.items ++ entry.entry ∷ [] }
+    ensures seat { result.seat ≡ view_of parts.entry.space.value.seat }
+{
+    let named = entry.reply.forked();
+    parts.journal.push_reserved(entry);
+    parts.children += named;
+    parts.present = present;
+    Tracked {
+        parts,
+        of: PhantomData,
+    }
+}
+
+/// What determines the model's process after a call.
+#[derive(Drop)]
+struct StateChange<'a> {
+    present: ModelProcess,
+    before: Snapshot<Shelf>,
+    call: Call<'a>,
+    reply: Snapshot<JournalReply>,
+    stopped: Option<usize>,
+}
+
+/// The model's process after a call with this reply. `stopped`: how many bytes a copy had copied when the files refused a
+/// promise; `None` if they refused none.
+fn state_after(
+    present: &ModelProcess,
+    before: Snapshot<Shelf>,
+    call: Call<'_>,
+    reply: &JournalReply,
+    stopped: Option<usize>,
+) -> ModelProcess
+    ensures { result.state ≡ (call_outcome (before.value).files (shortage_of stopped call.entry reply.now) 0 present.now.state call.entry).process }
+{
+    let made = StateChange {
+        present: present.kept(),
+        before,
+        call,
+        reply: Snapshot::of(reply),
+        stopped,
+    };
+    begun(&made)
+}
+
+/// For an mmap of a file that exists, whether that file may be written; else `None`.
+fn mapped_file(shelf: &Shelf, call: Call<'_>) -> Option<bool>
+    ensures { result ≡ file_of (shelf.now).files call.entry }
+{
+    match call {
+        Call::Mmap { file, .. } => {
+            shelf.length(file)?;
+            Some(shelf.writable(file))
+        }
+        _ => None,
+    }
+}
+
+/// How many entries the history of the files has.
+fn uses(shelf: &Shelf) -> usize
+    ensures { result ≡ length (shelf.now).history }
+{
+    shelf.history().len()
+}
+
+/// The pages that a call read from files: the history from entry `mark` on, or none if the call may read none. If there is
+/// no page, `room` is kept in `spare` for the next call.
+fn pages_read(
+    shelf: &Shelf,
+    mark: usize,
+    call: Call<'_>,
+    room: Vec<PageUse>,
+    alloc: Global,
+    spare: &mut Vec<PageUse>,
+) -> Vec<PageUse>
+    requires mark { mark ≤ length (shelf.now).history }
+    requires few { length (moves_read call (drop mark (shelf.now).history)) ≤ 2 }
+    requires none { room.items ≡ [] }
+    requires room { 2 ≤ vec_capacity room }
+    ensures { result.items ≡ moves_read call.entry (drop mark (shelf.now).history) }
+{
+    let pages = pages_since(shelf, mark, call, room);
+    if pages.is_empty() {
+        *spare = pages;
+        return Vec::new(alloc);
+    }
+    pages
+}
+
+/// The pages that a call read from files, copied to `pages`.
+fn pages_since(shelf: &Shelf, mark: usize, call: Call<'_>, mut pages: Vec<PageUse>) -> Vec<PageUse>
+    requires mark { mark ≤ length (shelf.now).history }
+    requires few { length (moves_read call (drop mark (shelf.now).history)) ≤ 2 }
+    requires none { pages.items ≡ [] }
+    requires room { 2 ≤ vec_capacity pages }
+    ensures { result.items ≡ moves_read call.entry (drop mark (shelf.now).history) }
+{
+    if !may_read(call) {
+        return pages;
+    }
+    let recent = &shelf.history()[mark..];
+    'uses: for page in recent {
+        pages.push_reserved(page.copied());
+    }
+    pages
+}
+
+/// Whether a call may read pages of files: an access or a copy may, since it may settle pages.
+fn may_read(call: Call<'_>) -> bool
+    ensures { result ≡ may_read call.entry }
+{
+    matches!(
+        call,
+        Call::Fetch { .. }
+            | Call::Load { .. }
+            | Call::Store { .. }
+            | Call::CopyIn { .. }
+            | Call::CopyOut { .. }
+    )
+}
+
+/// The outcome of a process that ends because the files refused a promise.
+fn cause_of(refusal: Refusal) -> Outcome
+    ensures { result ≡ cause_of refusal }
+{
+    match refusal {
+        Refusal::JournalFull => Outcome::JournalFull,
+        _ => Outcome::Memory,
+    }
+}

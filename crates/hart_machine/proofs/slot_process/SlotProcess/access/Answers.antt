@@ -1,0 +1,28 @@
+use Rattle.std.proofs.Common.{ap, sym, ◌∙◌}
+use Rattle.address_space.specs.Accesses.{request_of}
+use Rattle.hart_machine.specs.Accesses.{pending_after}
+use Rattle.hart_machine.proofs.AccessingPages.{access_pending, access_wide}
+use Rattle.hart_machine.proofs.slot_process.SlotProcess.access.Goals as goal
+
+pub user_access_scalar-reply-requires : goal.user_access_scalar-reply-requires
+user_access_scalar-reply-requires c = let r = c.requires.ready in record {
+  fits = c.requires.fits;
+  ready = (r.0, r.1, r.2.agrees, r.3);
+  width = c.requires.width;
+}
+
+pub returns-clause-reply : goal.returns-clause-reply
+returns-clause-reply c t p slot_process walks = c.user_access_scalar-reply.ensures.reply t p slot_process.agrees walks
+
+pub returns-clause-after : goal.returns-clause-after
+returns-clause-after c t p slot_process walks =
+    let reply = c.user_access_scalar-reply.ensures.reply t p slot_process.agrees walks in
+    record {
+      agrees = c.user_access_scalar-reply.ensures.after t p slot_process.agrees walks;
+      framed = rw c.user_access_scalar-reply.ensures.trapframe slot_process.framed;
+      pending = access_pending p (request_of c.args.request) ∙ sym (c.pending-self.ensures ∙ ap (pending_after (request_of c.args.request)) reply);
+      wide = access_wide p (request_of c.args.request) c.requires.width;
+    }
+
+pub returns-clause-keeps : goal.returns-clause-keeps
+returns-clause-keeps c others rule = c.user_access_scalar-reply.ensures.keeps others rule

@@ -1,0 +1,27 @@
+-- Fork of the process in a slot, a place in the process table: parent and child after it (`HasForkedProcess`), and the reply
+-- by the result (`forked_or_refused`).
+use Rattle.std.specs.Prelude.{◌≡◌, ℕ, Err, Ok, Result, Some}
+use Rattle.process_model.specs.PageMap as pages
+use Rattle.process_model.specs.Process.{Page, Process}
+use Rattle.process_model.specs.Residence.{child_of, marked}
+use Rattle.process_model.specs.declared.step.Refusal.{Refusal}
+use Rattle.process_model.specs.declared.step.Reply.{Reply}
+use Rattle.process_model.specs.declared.step.Reply.TheVariants.{Forked, Refused}
+use Rattle.table_walk.specs.Tables.{Tables}
+use Rattle.address_space.specs.Agreement.{IsFrameOfPage}
+use Rattle.hart_machine.specs.SlotProcesses.{IsSlotProcess}
+use Rattle.hart_machine.specs.declared.slot_process.SlotProcess.{SlotProcess}
+
+-- the reply to a fork, by its result: the child's slot, or the refusal
+abbrev pub forked_or_refused : {A : Type 0} → Result (ℕ × A) Refusal → Reply
+forked_or_refused (Ok x) = Forked x.0
+forked_or_refused (Err e) = Refused e
+
+-- parent and child are those of the model, and both have each settled page on the frame that the parent had
+pub record HasForkedProcess (y z : SlotProcess) (t : Tables) (p : Process) : Type 0 where
+  pub after : Tables
+  pub of_child : Tables
+  pub parent : IsSlotProcess y after (marked p)
+  pub child : IsSlotProcess z of_child (child_of p)
+  pub on_parent : (n f : ℕ) (a : Page) → pages.get p.settled n ≡ Some a → IsFrameOfPage after n f → IsFrameOfPage t n f
+  pub on_child : (n f : ℕ) (a : Page) → pages.get p.settled n ≡ Some a → IsFrameOfPage of_child n f → IsFrameOfPage t n f

@@ -1,0 +1,130 @@
+// Steps `Fetch`, `Load` and `Store`: a user access of the process on a hart, translated by a walk of its page table or by an
+// entry of the hart's buffer (TLB). After a fault the access is pending and the hart in kernel entry.
+
+ghost use Rattle.std.specs.Prelude.{◌≡◌, IsTrue, slice_get, Some};
+ghost use Rattle.frame_store.specs.Laws.{IsSeatOf, KeepsSeats};
+ghost use Rattle.frame_store.specs.Plain.{PlainStateRule};
+ghost use Rattle.address_space.specs.Accesses.{request_of};
+ghost use Rattle.hart_machine.specs.Accesses.{pending_after};
+ghost use Rattle.hart_machine.specs.Buffers.{SameBuffers};
+ghost use Rattle.hart_machine.specs.SlotProcesses.{IsSlotProcess, pending_of, view_of};
+ghost use Rattle.table_walk.specs.Leaves.{walk_answer};
+ghost use Rattle.hart_machine.specs.BufferEntries.{IsInWorld};
+ghost use Rattle.hart_machine.specs.Worlds.{IsWorld, IsModelOutcome, SameTables};
+ghost use Rattle.hart_machine.specs.declared.slot_process.SlotProcess.{SlotProcess};
+ghost use Rattle.process_model.specs.ScalarReplies.{reply_of_scalar};
+ghost use Rattle.process_model.specs.Bytes as bytes;
+ghost use Rattle.process_model.specs.Process.{Process};
+ghost use Rattle.process_model.specs.Service as service;
+ghost use Rattle.process_model.specs.World.{with_process, World};
+ghost use Rattle.sv39_entry.specs.declared.access.Mode.TheVariants.{User};
+ghost use Rattle.table_walk.specs.Tables.{Tables};
+
+use crate::hart::is_user;
+use crate::machine::Machine;
+use crate::slot_process::{Pending, SlotProcess};
+use address_space::AccessRequest;
+use frame_store::PlainFrames;
+use process_model::{Phase, Refusal, ScalarReply, is_width};
+use sv39_entry::Mode;
+use table_walk::Walk;
+
+impl Machine {
+    /// Makes a user access of the process on a hart, by the entry with number `via` of the hart's buffer, or by a walk if
+    /// `via` is `None`. The reply is `Value`, `Stored`, or `Fault` with the cause; after a fault the access is pending, and
+    /// the hart in `Enter0`. Refused, the first that applies: `BadArgument`, there is no such hart, or the width is not 1, 2,
+    /// 4 or 8; `Impossible`, the hart is not in `User`; `NoEntry`, the entry named is not there, or is for another page or
+    /// ASID.
+    pub(crate) fn access(
+        &mut self,
+        hart: usize,
+        request: AccessRequest,
+        via: Option<usize>,
+    ) -> ScalarReply
+        requires world { (w : World) × IsInWorld self.old w }
+        ensures made { (w : World) → IsInWorld self.old w → IsModelOutcome self.new (reply_of_scalar result) (service.access_step w hart request.access request.va.0 request.width request.value via) }
+        ensures buffers { SameBuffers self.old self.new }
+        ensures tables { SameTables self.old self.new }
+    {
+        let Some(phase) = self.phase_of(hart) else {
+            return ScalarReply::Refused(Refusal::BadArgument);
+        };
+        if !is_width(request.width) {
+            return ScalarReply::Refused(Refusal::BadArgument);
+        }
+        if !is_user(phase) {
+            return ScalarReply::Refused(Refusal::Impossible(phase));
+        }
+        let Some(slot) = self.slot_of(hart) else {
+            return ScalarReply::Refused(Refusal::Impossible(phase));
+        };
+        // the translation, which judges the rights, precedes every read or write of bytes
+        let Ok(walk) = self.translate_access(hart, via, request.va, request.access, Mode::User)
+        else {
+            return ScalarReply::Refused(Refusal::NoEntry);
+        };
+        let reply = self.answered(slot, walk, request);
+        if let ScalarReply::Fault(_) = reply {
+            self.harts[hart].phase = Phase::Enter0;
+        }
+        reply
+    }
+
+    /// Makes an access of the process in a slot, with what it was translated to, and returns the reply, a fault included.
+    fn answered(&mut self, slot: usize, walk: Walk, request: AccessRequest) -> ScalarReply
+        requires ready { (w : World) × (is : IsWorld self.old w) × (x : SlotProcess) × (slice_get self.old.slots.items slot ≡ Some (Some x)) × (walk ≡ walk_answer w.scheme (is.tables slot) request.va.0 request.access User) }
+        requires width { IsTrue (bytes.is_width request.width) }
+        ensures made { (w : World) (is : IsWorld self.old w) (p : Process) → slice_get w.slots slot ≡ Some (Some p)
+            → walk ≡ walk_answer w.scheme (is.tables slot) request.va.0 request.access User
+            → (reply_of_scalar result ≡ (service.user_access p (request_of request)).reply)
+            × IsWorld self.new (with_process w slot (service.user_access p (request_of request)).process) }
+        ensures harts { self.new.harts ≡ self.old.harts }
+        ensures tables { SameTables self.old self.new }
+    {
+        let frames = &mut self.frames;
+        let slots = &mut self.slots;
+        let Some(slot_process) = &mut slots[slot] else {
+            unreachable!()
+        };
+        slot_process.access(frames, walk, request)
+    }
+}
+
+impl SlotProcess {
+    /// Makes an access, with what it was translated to, and returns the reply. After a fault the access is pending, and after
+    /// an answer none is.
+    fn access(
+        &mut self,
+        frames: &mut PlainFrames,
+        walk: Walk,
+        request: AccessRequest,
+    ) -> ScalarReply
+        requires fits { IsSeatOf PlainStateRule frames.old (view_of self.old) }
+        requires ready { (t : Tables) × (p : Process) × IsSlotProcess self.old t p × (walk ≡ walk_answer p.scheme t request.va.0 request.access User) }
+        requires width { IsTrue (bytes.is_width request.width) }
+        ensures reply { (t : Tables) (p : Process) → IsSlotProcess self.old t p → walk ≡ walk_answer p.scheme t request.va.0 request.access User →
+            reply_of_scalar result ≡ (service.user_access p (request_of request)).reply }
+        ensures after { (t : Tables) (p : Process) → IsSlotProcess self.old t p → walk ≡ walk_answer p.scheme t request.va.0 request.access User →
+            IsSlotProcess self.new t (service.user_access p (request_of request)).process }
+        ensures keeps { KeepsSeats PlainStateRule frames.old (view_of self.old) frames.new (view_of self.new) }
+    {
+        let reply = self.space.user_access_scalar(frames, walk, request);
+        self.pending = pending(request, reply);
+        reply
+    }
+}
+
+/// The pending access of a process after this reply to a request: the request if it faulted, else none.
+fn pending(request: AccessRequest, reply: ScalarReply) -> Option<Pending>
+    ensures { pending_of result ≡ pending_after (request_of request) (reply_of_scalar reply) }
+{
+    match reply {
+        ScalarReply::Fault(_) => Some(Pending {
+            access: request.access,
+            va: request.va,
+            width: request.width,
+            served: false,
+        }),
+        _ => None,
+    }
+}

@@ -1,0 +1,38 @@
+// `SlotProcess`, a struct: the process in a slot (place in the process table), as its address space and its pending access;
+// and `Pending`, a struct: an access that faulted, and whether the kernel has served it.
+
+ghost use Rattle.std.specs.Prelude.{◌≡◌};
+ghost use Rattle.hart_machine.specs.SlotProcesses.{pending_of};
+ghost use Rattle.process_model.specs.World.{is_unserved_access};
+
+use address_space::Space;
+use frame_store::PlainSeat;
+use sv39_entry::{Access, Va};
+
+/// An access that faulted, and whether the kernel has served it.
+#[derive(Clone, Copy)]
+pub(crate) struct Pending {
+    pub(crate) access: Access,
+    pub(crate) va: Va,
+    pub(crate) width: u64,
+    pub(crate) served: bool,
+}
+
+/// The process in a slot: its address space, and its pending access, if there is one.
+#[derive(Drop)]
+pub(crate) struct SlotProcess {
+    pub(crate) space: Space<PlainSeat>,
+    pub(crate) pending: Option<Pending>,
+}
+
+impl SlotProcess {
+    /// Whether an access is pending and was not served.
+    pub(crate) fn is_unserved(&self) -> bool
+        ensures { result ≡ is_unserved_access (pending_of self.now.pending) }
+    {
+        match self.pending {
+            None => false,
+            Some(pending) => !pending.served,
+        }
+    }
+}

@@ -1,0 +1,231 @@
+-- Lemmas: what one call does to the life (the roster's record of a process) that a voucher has: unchanged without a child
+-- (`out_alone`), a birth for parent and child (`is_birth`, `elder_out`, `young_out`), an end (`over_back`); without a slot
+-- there is no child.
+use Rattle.std.proofs.Common.{◌≡◌, ◌⊎◌, inl, inr, ℕ, ◌+◌, List, [], ◌∷◌, ◌++◌, length, Option, None, Some, refl, sym, ap, ◌∙◌, subst, arith, true}
+use Rattle.std.proofs.lemmas.List.{append-nil, append_assoc}
+use Rattle.vouchers.specs.Entries.{TokenEntry as Life, entry}
+use Rattle.hart_calls.specs.Replay.{forked, forks, list_at, Replays}
+use Rattle.hart_threads.specs.ChildLists.{fork_list, heir, child_lists}
+use Rattle.hart_calls.specs.Track.{AppendsEntry, Track}
+use Rattle.hart_calls.specs.TurnCases.{BySlot, EndsBy, ContinuesTurn, LeavesRunning, LacksJournalRoom, IsOver, IsLastEntry}
+use Rattle.hart_calls.specs.declared.journal_entry.JournalEntry.{JournalEntry}
+use Rattle.hart_calls.specs.declared.finished.Finished.{Finished}
+use Rattle.hart_calls.specs.declared.fork_slot.ForkSlot.{ForkSlot}
+use Rattle.hart_calls.specs.declared.fork_slot.ForkSlot.TheVariants as slot
+use Rattle.frame_store.specs.View.{View}
+use Rattle.process_model.specs.Process.{Process}
+use Rattle.process_model.specs.declared.call.Call.{Call}
+use Rattle.process_model.specs.declared.call.Call.TheVariants as call
+use Rattle.process_model.specs.declared.call.Start.{Start}
+use Rattle.process_model.specs.declared.call.Outcome.{Outcome}
+use Rattle.process_model.specs.declared.call.Outcome.TheVariants as outcome
+use Rattle.process_model.specs.declared.step.Reply.{Reply}
+use Rattle.process_model.specs.declared.step.Reply.TheVariants as reply
+use Rattle.process_model.specs.declared.step.Refusal.{Refusal}
+use Rattle.process_model.specs.declared.step.Refusal.TheVariants as refusal
+use Rattle.shared_frames.specs.SeatsOfTable.{view_of}
+use Rattle.hart_threads.proofs.Names.{no_start, some_name}
+use Rattle.hart_threads.specs.Due.{IsNone}
+use Rattle.hart_threads.specs.Slots.{Unrefused}
+use Rattle.std.proofs.lemmas.Bool.{and_parts}
+use Rattle.hart_threads.specs.RosterState.{all_go_on, AsEnded, EndsIn, GoOn, HasRun, IsEndedWithToken, IsBirth, IsOut, lets_go_on, BeginsAsImage}
+
+-- a reply names a child, or none
+abbrev Names : Call → Reply → Type 0
+Names c r = ((n : ℕ) × (r ≡ reply.Forked n)) ⊎ ((forked r ≡ 0) × (heir c r ≡ []))
+
+names : (c : Call) (r : Reply) → Names c r
+names c reply.Done = inr (refl, refl)
+names c (reply.Started n) = inr (refl, refl)
+names c (reply.Forked n) = inl (n, refl)
+names c (reply.Value n) = inr (refl, refl)
+names c reply.Stored = inr (refl, refl)
+names c (reply.Fault n) = inr (refl, refl)
+names c (reply.Filled n) = inr (refl, refl)
+names c reply.NothingFilled = inr (refl, refl)
+names c (reply.InFrame n) = inr (refl, refl)
+names c reply.Ready = inr (refl, refl)
+names c (reply.Ended rule) = inr (refl, refl)
+names c (reply.OldSize n) = inr (refl, refl)
+names c (reply.MappedAt n) = inr (refl, refl)
+names c (reply.CopiedIn bytes) = inr (refl, refl)
+names c (reply.CopiedOut n) = inr (refl, refl)
+names c (reply.ShortIn rule bytes) = inr (refl, refl)
+names c (reply.ShortOut rule n) = inr (refl, refl)
+names c (reply.Exited status) = inr (refl, refl)
+names c (reply.Refused r) = inr (refl, refl)
+
+no_heir : (c : Call) (r : Reply) → forked r ≡ 0 → heir c r ≡ []
+no_heir c r none = elim (names c r) as (λ _. heir c r ≡ []) [
+  | inl one ↦ absurd (let is : forked r ≡ 1 = ap forked one.1 in omega (arith, is, none))
+  | inr is ↦ is.1
+]
+
+one_heir : (c : Call) (r : Reply) (k : ℕ) → c ≡ call.Fork k → forked r ≡ 1 → heir c r ≡ k ∷ []
+one_heir c r k is one = elim (names c r) as (λ _. heir c r ≡ k ∷ []) [
+  | inl fork ↦ ap (heir c) fork.1 ∙ ap (λ (x : Call). fork_list x ∷ []) is
+  | inr none ↦ absurd (let zero = none.0 in omega (arith, zero, one))
+]
+
+heirs_snoc : (es : List JournalEntry) (e : JournalEntry) → child_lists (es ++ e ∷ []) ≡ child_lists es ++ heir e.call e.reply
+heirs_snoc [] e = append-nil (heir e.call e.reply)
+heirs_snoc (x ∷ es) e = ap (λ hs. heir x.call x.reply ++ hs) (heirs_snoc es e) ∙ sym (append_assoc (heir x.call x.reply) (child_lists es) (heir e.call e.reply))
+
+heirs_after : (es fs : List JournalEntry) (e : JournalEntry) (hs : List ℕ) → fs ≡ es ++ e ∷ [] → heir e.call e.reply ≡ hs → child_lists fs ≡ child_lists es ++ hs
+heirs_after es fs e hs is h = ap child_lists is ∙ (heirs_snoc es e ∙ ap (λ ys. child_lists es ++ ys) h)
+
+-- as many as the journal names
+add_lengths : (xs ys : List ℕ) → length (xs ++ ys) ≡ length xs + length ys
+add_lengths [] ys = omega arith
+add_lengths (x ∷ xs) ys = let r = add_lengths xs ys in omega (arith, r)
+
+heir_counts : (c : Call) (r : Reply) → length (heir c r) ≡ forked r
+heir_counts c r = elim (names c r) as (λ _. length (heir c r) ≡ forked r) [
+  | inl one ↦ (let a : length (heir c r) ≡ 1 = ap (λ q. length (heir c q)) one.1 in let b : forked r ≡ 1 = ap forked one.1 in a ∙ sym b)
+  | inr none ↦ (let a : length (heir c r) ≡ 0 = ap length none.1 in a ∙ sym none.0)
+]
+
+heirs_count : (es : List JournalEntry) → length (child_lists es) ≡ forks es
+heirs_count [] = refl
+heirs_count (e ∷ es) =
+    let a = add_lengths (heir e.call e.reply) (child_lists es) in
+    let b = heir_counts e.call e.reply in
+    let c = heirs_count es in
+    omega (arith, a, b, c)
+
+entry_by : (m n : List ℕ) (j k : ℕ) (gs hs : List ℕ) → m ≡ n → j ≡ k → gs ≡ hs → entry m j gs ≡ entry n k hs
+entry_by m n j k gs hs a b c = ap (λ x. entry x j gs) a ∙ (ap (λ y. entry n y gs) b ∙ ap (λ y. entry n k y) c)
+
+-- one more call that lets its process go on
+lets : (r : Reply) → LeavesRunning r → lets_go_on r ≡ true
+lets reply.Done on = refl
+lets (reply.Started n) on = refl
+lets (reply.Forked n) on = refl
+lets (reply.Value n) on = refl
+lets reply.Stored on = refl
+lets (reply.Fault n) on = refl
+lets (reply.Filled n) on = refl
+lets reply.NothingFilled on = refl
+lets (reply.InFrame n) on = refl
+lets reply.Ready on = refl
+lets (reply.Ended r) on = absurd on
+lets (reply.OldSize n) on = refl
+lets (reply.MappedAt n) on = refl
+lets (reply.CopiedIn b) on = refl
+lets (reply.CopiedOut n) on = refl
+lets (reply.ShortIn r b) on = refl
+lets (reply.ShortOut r n) on = refl
+lets (reply.Exited n) on = absurd on
+lets (reply.Refused r) on = refl
+
+go_on : (es : List JournalEntry) (e : JournalEntry) → GoOn es → LeavesRunning e.reply → GoOn (es ++ e ∷ [])
+go_on [] e go on = rw (lets e.reply on) refl
+go_on (x ∷ es) e go on = let both = and_parts (lets_go_on x.reply) (all_go_on es) go in rw both.0 (go_on es e both.1 on)
+
+module _ (lists : List (List Call)) (starts : List Start) (held : List Life) (t : Track) (o : IsOut lists starts held t) where
+  opens_still : (u : Track) → u.name ≡ t.name → u.opening ≡ t.opening → BeginsAsImage starts u.name u.opening
+  opens_still u name opening = subst (λ (p : Process). BeginsAsImage starts u.name p) (sym opening) (subst (λ (m : List ℕ). BeginsAsImage starts m t.opening) (sym name) o.opens)
+
+  -- it goes on, and its voucher tells of it
+  goes_out : (given : List Life) (u : Track) (e : JournalEntry) → AppendsEntry t u e → LeavesRunning e.reply → given ≡ entry u.name u.list (child_lists u.journal) ∷ [] → IsOut lists starts given u
+  goes_out given u e adds on holds = record {
+    holds = holds;
+    lists = adds.lists ∙ o.lists;
+    named = λ none. o.named (sym adds.name ∙ none);
+    opens = opens_still u adds.name adds.opening;
+    goes = subst GoOn (sym adds.journal) (go_on t.journal e o.goes on);
+  }
+
+  -- without a child the voucher is the same
+  pub out_alone : (u : Track) (c : Option Track) (s : ForkSlot) → ContinuesTurn t u c s → c ≡ None → IsOut lists starts held u
+  out_alone u c s went is =
+      let g : ContinuesTurn t u None s = subst (λ (x : Option Track). ContinuesTurn t u x s) is went in
+      let same : child_lists u.journal ≡ child_lists t.journal = heirs_after t.journal u.journal g.entry [] g.adds.journal (no_heir g.entry.call g.entry.reply g.child) ∙ append-nil (child_lists t.journal) in
+      goes_out held u g.entry g.adds g.on (o.holds ∙ ap (λ (l : Life). l ∷ []) (entry_by _ _ _ _ _ _ (sym g.adds.name) (sym g.adds.list) (sym same)))
+
+  -- a child was named
+  module _ (u child : Track) (c : Option Track) (s : ForkSlot) (went : ContinuesTurn t u c s) (is : c ≡ Some child) where
+    here : ContinuesTurn t u (Some child) s
+    here = subst (λ (x : Option Track). ContinuesTurn t u x s) is went
+
+    pub is_birth : IsBirth held u child
+    is_birth =
+        let g = here in
+        let k = g.child.1.0 in
+        let young = g.child.1.2 in
+        record {
+          before = child_lists t.journal;
+          holds = o.holds ∙ ap (λ (l : Life). l ∷ []) (entry_by _ _ _ _ _ _ (sym g.adds.name) (sym g.adds.list) refl);
+          named = λ none. o.named (sym g.adds.name ∙ none);
+          journal = heirs_after t.journal u.journal g.entry (child.list ∷ []) g.adds.journal (one_heir g.entry.call g.entry.reply k g.child.1.1 g.child.0 ∙ ap (λ (n : ℕ). n ∷ []) (sym young.list));
+          name = young.name ∙ (ap (λ (m : List ℕ). m ++ forks t.journal ∷ []) (sym g.adds.name) ∙ ap (λ (n : ℕ). u.name ++ n ∷ []) (sym (heirs_count t.journal)));
+          none = young.journal;
+        }
+
+    pub elder_out : (given : List Life) → given ≡ entry u.name u.list (child_lists u.journal) ∷ [] → IsOut lists starts given u
+    elder_out given holds = goes_out given u here.entry here.adds here.on holds
+
+    pub young_out : (given : List Life) → given ≡ entry child.name child.list (child_lists child.journal) ∷ [] → IsOut lists starts given child
+    young_out given holds =
+        let young = here.child.1.2 in
+        record {
+          holds = holds;
+          lists = young.lists ∙ o.lists;
+          named = λ none. some_name t.name (forks t.journal) (sym young.name ∙ none);
+          opens = λ st of. absurd (no_start t.name (forks t.journal) of.0 o.named (sym young.name ∙ of.1));
+          goes = subst GoOn (sym young.journal) refl;
+        }
+
+  ends_in : (f : Finished) (r : Reply) → EndsBy t f r → EndsIn r f.journal.items
+  ends_in f r e = (t.journal, e.entry, e.journal, e.reply, o.goes)
+
+  -- an end names no child
+  ends_heirs : (f : Finished) (r : Reply) → forked r ≡ 0 → EndsBy t f r → child_lists f.journal.items ≡ child_lists t.journal
+  ends_heirs f r none e = heirs_after t.journal f.journal.items e.entry [] e.journal (no_heir e.entry.call e.entry.reply (ap forked e.reply ∙ none)) ∙ append-nil (child_lists t.journal)
+
+  last_heirs : (f : Finished) (x : Outcome) → IsLastEntry t f x → child_lists f.journal.items ≡ child_lists t.journal
+  last_heirs f (outcome.Exited status) l = ends_heirs f (reply.Exited status) refl l
+  last_heirs f (outcome.Ended rule) l = ends_heirs f (reply.Ended rule) refl l
+  last_heirs f (outcome.Refused r) l = absurd l
+  last_heirs f outcome.Memory l = ap child_lists l
+  last_heirs f outcome.JournalFull l = ap child_lists l
+
+  last_began : (f : Finished) (x : Outcome) → IsLastEntry t f x → Unrefused x
+  last_began f (outcome.Refused r) l = absurd l
+  last_began f x l = tt
+
+  module _ (calls : List Call) (f : Finished) (q : Process) (opens : BeginsAsImage starts t.name t.opening) (replays : Replays t.opening 0 0 calls f.journal.items q) where
+    ran : HasRun starts calls t.name f.journal.items
+    ran = (t.opening, q, opens, replays)
+
+    as_ended : (v : View) (x : Outcome) → IsLastEntry t f x → LacksJournalRoom q.mappings f.journal.items x → AsEnded starts calls v x t.name f.journal.items
+    as_ended v (outcome.Exited status) l full = (ran, ends_in f (reply.Exited status) l)
+    as_ended v (outcome.Ended rule) l full = (ran, ends_in f (reply.Ended rule) l)
+    as_ended v (outcome.Refused r) l full = absurd l
+    as_ended v outcome.Memory l full = (ran, subst GoOn (sym l) o.goes)
+    as_ended v outcome.JournalFull l full = ((t.opening, q, opens, replays, full), subst GoOn (sym l) o.goes)
+
+  pub over_back : (f : Finished) → IsOver t f → IsEndedWithToken lists starts held f
+  over_back f over =
+      let replays = subst (λ (ls : List (List Call)). Replays t.opening 0 0 (list_at ls t.list) f.journal.items over.state) o.lists over.replays in (
+        entry t.name t.list (child_lists t.journal),
+        o.holds,
+        o.named,
+        record { name = over.name; child_lists = last_heirs f f.outcome over.last; bare = over.bare; ended = as_ended (list_at lists t.list) f over.state o.opens replays (view_of f.seat) f.outcome over.last over.full; few = over.few },
+        last_began f f.outcome over.last,
+      )
+
+-- without a slot there is no child
+no_child : (t u c : Track) (s : ForkSlot) → IsNone s → ContinuesTurn t u (Some c) s → ⊥
+no_child t u c (slot.Free name place) none g = none
+no_child t u c slot.NoSlot none g = refused refusal.NoSlot (subst (λ (k : Call). BySlot slot.NoSlot k g.entry.reply) g.child.1.1 g.slot)
+  where
+    refused : (r : Refusal) → g.entry.reply ≡ reply.Refused r → ⊥
+    refused r is = let one : forked g.entry.reply ≡ 1 = g.child.0 in let none : forked g.entry.reply ≡ 0 = ap forked is in omega (arith, one, none)
+no_child t u c slot.Memory none g = refused refusal.Memory (subst (λ (k : Call). BySlot slot.Memory k g.entry.reply) g.child.1.1 g.slot)
+  where
+    refused : (r : Refusal) → g.entry.reply ≡ reply.Refused r → ⊥
+    refused r is = let one : forked g.entry.reply ≡ 1 = g.child.0 in let none : forked g.entry.reply ≡ 0 = ap forked is in omega (arith, one, none)
+
+pub unslotted : (t u c : Track) (o : Option Track) (s : ForkSlot) → IsNone s → ContinuesTurn t u o s → o ≡ Some c → ⊥
+unslotted t u c o s none g is = no_child t u c s none (subst (λ (x : Option Track). ContinuesTurn t u x s) is g)

@@ -1,0 +1,31 @@
+-- What the search left open of `enlist`.
+use Rattle.std.proofs.Common.{◌≡◌, ◌-◌, List, ℕ, [], ◌∷◌, ap, length, refl, ◌∙◌}
+use Rattle.hart_threads.proofs.Beginning.{begun_out, unbegun_ended}
+use Rattle.hart_threads.proofs.Slotting.{unbegun_settled}
+use Rattle.vouchers.specs.Entries.{entry}
+use Rattle.vouchers.specs.IssuerSeats.{held_of}
+use Rattle.hart_threads.proofs.enlist.Enlister.enlist.Goals as goal
+
+pub invariant_of-put : goal.invariant_of-put
+invariant_of-put g c =
+    let made = rw c.in-Begun.is at c.requires.made in
+    let e = c.new-tracked.ensures in
+    let k = c.args.start.list in
+    let holds : held_of c.start-token.result ≡ entry c.in-Begun.name.items k [] ∷ [] = c.start-token.ensures.holds ∙ ap (λ (m : List ℕ). entry m k [] ∷ []) c.as_slice.ensures.value in
+    record {
+      at = c.start-token.ensures.at;
+      out = begun_out g.B.Plan.lists g.B.Plan.plan (length g.B.Plan.plan - c.args.roster.now) c.args.start c.requires.start c.in-Begun.name.items made.1 (held_of c.start-token.result) k c.new-tracked.result c.in-Begun.opening.state refl made.3
+          holds e.name (e.lists ∙ c.args.self.now.of_lists) e.list e.opening e.journal;
+    }
+
+pub refuse-requires-clause-refused : goal.refuse-requires-clause-refused
+refuse-requires-clause-refused g c =
+    let made = rw c.in-Over.is at c.requires.made in
+    (c.args.start, c.requires.start, unbegun_ended g.B.Plan.lists g.B.Plan.plan (length g.B.Plan.plan - c.args.roster.now) c.args.start c.requires.start _ refl _ _ c.in-Over.finished made)
+
+pub refuse-requires-clause-settled : goal.refuse-requires-clause-settled
+refuse-requires-clause-settled g c =
+    let made = rw c.in-Over.is at c.requires.made in
+    let taken = rw c.in-Over.is at c.requires.taken in
+    let full = rw c.in-Over.is at c.requires.full in
+    unbegun_settled g.F.StartOutcomes.slots g.F.StartOutcomes.taken g.F.StartOutcomes.full (length g.B.Plan.plan - c.args.roster.now) c.args.start c.in-Over.finished made taken full

@@ -1,7 +1,0 @@
--- What the search left open of `unbegun`.
-use Rattle.std.proofs.Common.{refl}
-use Rattle.shared_frames.specs.Fits.{fits_still}
-use Rattle.hart_threads.proofs.seats.unbegun.Goals as goal
-
-pub returns-clause-store : goal.returns-clause-store
-returns-clause-store g c = (fits_still _ _ _ c.args.space.seat c.destroy.result refl c.destroy.ensures.keeps c.requires.begun.0).0

@@ -1,0 +1,45 @@
+-- What the search left open of `make`.
+use Rattle.std.proofs.Common.{refl, sym, subst}
+use Rattle.std.proofs.lemmas.Bool.{ltb-true}
+use Rattle.address_space.specs.declared.space.Space.{Space}
+use Rattle.atomic_table.specs.Seated.{TableId}
+use Rattle.hart_threads.proofs.Lending.{fits_at}
+use Rattle.hart_threads.specs.StartEffects.{IsWhy}
+use Rattle.hart_threads.specs.Slots.{FindsSlot}
+use Rattle.hart_threads.specs.Starts.{IsBegun}
+use Rattle.process_model.specs.declared.call.Outcome.{Outcome}
+use Rattle.shared_frames.specs.SeatsOfTable.{view_of}
+use Rattle.shared_frames.specs.declared.seat.SharedSeat.{SharedSeat}
+use Rattle.hart_threads.proofs.start.StartContext.make.Goals as goal
+
+pub end_unstarted-requires : goal.end_unstarted-requires
+end_unstarted-requires g c = record {
+  begun = subst (λ (s : Space SharedSeat). IsBegun c.started.new.store s c.in-Ok.opening) (sym c.in-Err-new.ensures.value_returned)
+      (subst (λ (t : TableId). IsBegun t c.in-Ok.space c.in-Ok.opening) (sym c.started.ensures.store) c.in-Ok.ensures.started);
+}
+
+pub returns-in-Ok-new-clause-made : goal.returns-in-Ok-new-clause-made
+returns-in-Ok-new-clause-made g c = (
+  ltb-true c.args.taken c.args.slots c.in-Ok.ensures.begins.0,
+  refl,
+  subst (λ (s : Space SharedSeat). IsBegun c.args.self.now.frames.now.table s c.in-Ok.opening) (sym c.in-Ok-new.ensures.ok)
+      (subst (λ (t : TableId). IsBegun t c.in-Ok.space c.in-Ok.opening) c.supply-store.ensures c.in-Ok.ensures.started),
+  c.in-Ok.ensures.process,
+)
+
+pub returns-in-Err-new-clause-made : goal.returns-in-Err-new-clause-made
+returns-in-Err-new-clause-made g c =
+    let e = c.end_unstarted.ensures in
+    record {
+      named = e.name;
+      journal = e.journal;
+      bare = e.bare;
+      finds = subst (λ (o : Outcome). FindsSlot c.args.slots c.args.taken o) (sym e.outcome) (ltb-true c.args.taken c.args.slots c.in-Ok.ensures.begins.0);
+      why = subst (λ (o : Outcome). IsWhy c.args.start (view_of c.end_unstarted.result.seat) o) (sym e.outcome) (c.in-Ok.opening.state, c.in-Ok.ensures.process);
+    }
+
+pub returns-in-Ok-new-clause-fits : goal.returns-in-Ok-new-clause-fits
+returns-in-Ok-new-clause-fits g c = fits_at _ _ c.started.new.kernel (sym c.supply-store.ensures) c.started.ensures.fits
+
+pub returns-in-Err-new-clause-fits : goal.returns-in-Err-new-clause-fits
+returns-in-Err-new-clause-fits g c = fits_at _ _ c.started.new.kernel (sym c.supply-store.ensures) c.started.ensures.fits

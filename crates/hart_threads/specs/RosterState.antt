@@ -1,0 +1,194 @@
+-- Predicates on lives (a life is the roster's record of a process: its name, its list, its children's lists): the roster's
+-- invariant (`IsRostered`), what `run_harts` returns (`ComesBack`), the end of a life (`IsEnded`: name, journal by outcome,
+-- bare seat), why a start is refused (`RefusesStart`), what a voucher proves (`IsOut`, `IsEndedWithToken`, `IsBirth`).
+use Rattle.std.specs.Prelude.{◌≡◌, ◌⊎◌, ℕ, ◌+◌, ◌<◌, ◌≤◌, ◌∷◌, [], ◌++◌, cond, List, length, Some, Ok, Err, slice_get, Bool, true, false, ◌&&◌}
+use Rattle.address_space.specs.Steps.{IsBare}
+use Rattle.atomic_table.specs.Seated.{TableId}
+use Rattle.frame_store.specs.View.{View}
+use Rattle.shared_frames.specs.SeatsOfTable.{view_of}
+use Rattle.process_model.specs.Frames.{start_need}
+use Rattle.process_model.specs.Images.{image_loads, LoadSegment}
+use Rattle.process_model.specs.declared.call.Outcome.{Outcome}
+use Rattle.process_model.specs.declared.call.Outcome.TheVariants as outcome
+use Rattle.process_model.specs.declared.call.Start.{Start}
+use Rattle.process_model.specs.declared.image.Image.{Image}
+use Rattle.process_model.specs.declared.step.Refusal.{Refusal}
+use Rattle.process_model.specs.declared.step.Refusal.TheVariants as refusal
+use Rattle.sv39_entry.specs.declared.scheme.Scheme.TheVariants.{Sv39}
+use Rattle.vouchers.specs.Entries.{TokenEntry as Life, entry, Has, same_name}
+use Rattle.vouchers.specs.IssuerSeats.{HoldsAt, held_of}
+use Rattle.hart_calls.specs.declared.journal_entry.JournalEntry.{JournalEntry}
+use Rattle.hart_calls.specs.declared.finished.Finished.{Finished}
+use Rattle.hart_calls.specs.Replay.{list_at, Replays}
+use Rattle.hart_calls.specs.TurnCases.{LacksJournalRoom, most_entries}
+use Rattle.hart_threads.specs.ChildLists.{child_lists}
+use Rattle.hart_calls.specs.Track.{Track}
+use Rattle.process_model.specs.Process.{Process}
+use Rattle.process_model.specs.declared.call.Call.{Call}
+use Rattle.process_model.specs.declared.step.Reply.{Reply}
+use Rattle.process_model.specs.declared.step.Reply.TheVariants as reply
+use Rattle.hart_threads.specs.Slots.{Unrefused}
+use Rattle.hart_threads.specs.Starts.{IsProcessOf}
+use Rattle.hart_threads.specs.declared.roster.Admission.{Admission}
+use Rattle.hart_threads.specs.declared.roster.Admission.TheVariants as admission
+
+-- one of the lives has this name and this list
+abbrev pub Knows : List Life → List ℕ → ℕ → Type 0
+Knows lives name list = (lists : List ℕ) × Has (entry name list lists) lives
+
+-- each child that a life has named is among the lives, with the list of its fork
+abbrev pub Closed : List Life → Type 0
+Closed lives = (l : Life) (j list : ℕ) → Has l lives → slice_get l.child_lists j ≡ Some list → Knows lives (l.name ++ j ∷ []) list
+
+-- the first n starts are among the lives, each with its number as name and with its list
+abbrev pub Started : List Start → ℕ → List Life → Type 0
+Started starts n lives = (i : ℕ) (s : Start) → i < n → slice_get starts i ≡ Some s → Knows lives (i ∷ []) s.list
+
+-- the name is the number of this start
+abbrev pub IsOfStart : List Start → List ℕ → Start → Type 0
+IsOfStart starts name s = (i : ℕ) × (name ≡ i ∷ []) × (slice_get starts i ≡ Some s)
+
+-- l is a child that m has named: m's name with the child's number after it, and the list of the fork
+pub record IsChildOf (m l : Life) : Type 0 where
+  pub number : ℕ
+  pub name : l.name ≡ m.name ++ number ∷ []
+  pub list : slice_get m.child_lists number ≡ Some l.list
+
+-- l is a start with its list, or a child of one of the lives
+abbrev pub IsStartOrChild : List Start → List Life → Life → Type 0
+IsStartOrChild starts lives l = ((s : Start) × IsOfStart starts l.name s × (l.list ≡ s.list)) ⊎ ((m : Life) × Has m lives × IsChildOf m l)
+
+-- each life that has a name is a start with its list, or a child of one of the lives; a slot that is kept for a fork has no
+-- name
+abbrev pub AreStartsOrChildren : List Start → List Life → Type 0
+AreStartsOrChildren starts lives = (l : Life) → Has l lives → (l.name ≡ [] → ⊥) → IsStartOrChild starts lives l
+
+-- each life has a name
+abbrev pub AreNamed : List Life → Type 0
+AreNamed lives = (l : Life) → Has l lives → l.name ≡ [] → ⊥
+
+-- how many lives have the name
+abbrev pub times : List ℕ → List Life → ℕ
+times name [] = 0
+times name (l ∷ ls) = cond (same_name name l.name) 1 0 + times name ls
+
+-- no two lives have one name, except slots that are kept, which have none
+abbrev pub AreApart : List Life → Type 0
+AreApart lives = (name : List ℕ) → (name ≡ [] → ⊥) → times name lives ≤ 1
+
+-- of the starts only the first n are among the lives
+abbrev pub AreBelow : ℕ → List Life → Type 0
+AreBelow n lives = (l : Life) (i : ℕ) → Has l lives → l.name ≡ i ∷ [] → i < n
+
+-- n starts were made or refused: they, and the children that lives have named, are unfinished (`out`) or have ended, each
+-- once, and there are no others
+pub record IsRostered (starts : List Start) (n : ℕ) (out ended : List Life) : Type 0 where
+  pub started : Started starts n (out ++ ended)
+  pub closed : Closed (out ++ ended)
+  pub kin : AreStartsOrChildren starts (out ++ ended)
+  pub named : AreNamed ended
+  pub below : AreBelow n (out ++ ended)
+  pub once : AreApart (out ++ ended)
+
+-- why a start may be refused, by its image and the view of the seat that is left. NoSlot, SharersFull: nothing is said here.
+-- BadImage: the image fails this check. NoFrame: it passes all, and the free count was read as 0 with fewer frames reserved
+-- than it needs. There is no other reason
+abbrev pub RefusesStart : Image → View → Refusal → Type 0
+RefusesStart image v refusal.NoSlot = Unit {0}
+RefusesStart image v refusal.SharersFull = Unit {0}
+RefusesStart image v (refusal.BadImage part) = image_loads Sv39 image ≡ Err part
+RefusesStart image v refusal.NoFrame = (ls : List LoadSegment) × (image_loads Sv39 image ≡ Ok ls) × (0 < v.tallies.zeros) × (v.tallies.short < start_need Sv39 ls)
+RefusesStart image v r = ⊥
+
+-- if the name is that of a start, the process is that of the start's image
+abbrev pub BeginsAsImage : List Start → List ℕ → Process → Type 0
+BeginsAsImage starts name p = (s : Start) → IsOfStart starts name s → ∥ IsProcessOf s.image p ∥₁
+
+-- the journal is of the first calls of the list, and replays from the process of the start's image; for a child, from some
+-- process
+abbrev pub HasRun : List Start → List Call → List ℕ → List JournalEntry → Type 0
+HasRun starts calls name journal = (p q : Process) × BeginsAsImage starts name p × Replays p 0 0 calls journal q
+
+-- `HasRun`, and at the end the journal has 10,000 entries or the process has a mapping (only pages of mappings are added to
+-- the files' history)
+abbrev pub HasRunFull : List Start → List Call → List ℕ → List JournalEntry → Type 0
+HasRunFull starts calls name journal = (p q : Process) × BeginsAsImage starts name p × Replays p 0 0 calls journal q × LacksJournalRoom q.mappings journal outcome.JournalFull
+
+-- the reply does not end the process; `GoOn`: no reply of the journal does
+abbrev pub lets_go_on : Reply → Bool
+lets_go_on (reply.Ended rule) = false
+lets_go_on (reply.Exited status) = false
+lets_go_on r = true
+
+abbrev pub all_go_on : List JournalEntry → Bool
+all_go_on [] = true
+all_go_on (e ∷ es) = lets_go_on e.reply && all_go_on es
+
+abbrev pub GoOn : List JournalEntry → Type 0
+GoOn es = all_go_on es ≡ true
+
+-- the last entry has this reply, and none before it ends the process
+abbrev pub EndsIn : Reply → List JournalEntry → Type 0
+EndsIn r journal = (es : List JournalEntry) × (e : JournalEntry) × (journal ≡ es ++ e ∷ []) × (e.reply ≡ r) × GoOn es
+
+-- the journal by the outcome: a process that was started has made the first calls of its list; only a start is refused, and
+-- then it has made no call
+abbrev pub AsEnded : List Start → List Call → View → Outcome → List ℕ → List JournalEntry → Type 0
+AsEnded starts calls v (outcome.Exited status) name journal = HasRun starts calls name journal × EndsIn (reply.Exited status) journal
+AsEnded starts calls v (outcome.Ended rule) name journal = HasRun starts calls name journal × EndsIn (reply.Ended rule) journal
+AsEnded starts calls v (outcome.Refused r) name journal = (journal ≡ []) × ((s : Start) × IsOfStart starts name s × RefusesStart s.image v r)
+AsEnded starts calls v outcome.Memory name journal = HasRun starts calls name journal × GoOn journal
+AsEnded starts calls v outcome.JournalFull name journal = HasRunFull starts calls name journal × GoOn journal
+
+-- f is the end of life l, which may be a start that was refused: it has the name, its journal is as the outcome says and
+-- names the life's children, and its seat holds nothing
+pub record IsEnded (lists : List (List Call)) (starts : List Start) (l : Life) (f : Finished) : Type 0 where
+  pub name : f.name.items ≡ l.name
+  pub child_lists : child_lists f.journal.items ≡ l.child_lists
+  pub bare : IsBare (view_of f.seat)
+  pub ended : AsEnded starts (list_at lists l.list) (view_of f.seat) f.outcome l.name f.journal.items
+  pub few : length f.journal.items ≤ most_entries
+
+-- the ends are those of the lives, one for each, in the same order
+abbrev pub Each : List (List Call) → List Start → List Life → List Finished → Type 0
+Each lists starts [] [] = Unit {0}
+Each lists starts (l ∷ ls) (f ∷ fs) = IsEnded lists starts l f × Each lists starts ls fs
+Each lists starts ls fs = ⊥
+
+-- The processes are the ends of lives: of each start with its list, of each child that a journal names with the list of its
+-- fork, and of no others. No two have one name.
+pub record ComesBack (lists : List (List Call)) (starts : List Start) (ended : List Finished) : Type 0 where
+  pub lives : List Life
+  pub each : Each lists starts lives ended
+  pub started : Started starts (length starts) lives
+  pub children : Closed lives
+  pub kin : (l : Life) → Has l lives → IsStartOrChild starts lives l
+  pub once : (name : List ℕ) → times name lives ≤ 1
+
+-- if a slot is kept, its voucher is of this table and has no name
+abbrev pub IsAdmitted : TableId → Admission → Type 0
+IsAdmitted token_table (admission.Kept v) = HoldsAt token_table v × (held_of v ≡ entry [] 0 [] ∷ [])
+IsAdmitted token_table a = Unit {0}
+
+-- an unfinished process and what its voucher has: its name, its list and the lists of its children. A start began as the
+-- process of its image, and no call has ended the process
+pub record IsOut (all : List (List Call)) (starts : List Start) (held : List Life) (t : Track) : Type 0 where
+  pub holds : held ≡ entry t.name t.list (child_lists t.journal) ∷ []
+  pub lists : t.lists ≡ all
+  pub named : t.name ≡ [] → ⊥
+  pub opens : BeginsAsImage starts t.name t.opening
+  pub goes : GoOn t.journal
+
+-- an ended process and the life that its voucher has: it is the end of that life, which has a name, and its outcome is no
+-- refusal
+abbrev pub IsEndedWithToken : List (List Call) → List Start → List Life → Finished → Type 0
+IsEndedWithToken lists starts held f = (l : Life) × (held ≡ l ∷ []) × (l.name ≡ [] → ⊥) × IsEnded lists starts l f × Unrefused f.outcome
+
+-- the parent has named the child, which the parent's voucher does not list yet
+pub record IsBirth (held : List Life) (parent child : Track) : Type 0 where
+  pub before : List ℕ
+  pub holds : held ≡ entry parent.name parent.list before ∷ []
+  pub named : parent.name ≡ [] → ⊥
+  pub journal : child_lists parent.journal ≡ before ++ child.list ∷ []
+  pub name : child.name ≡ parent.name ++ length before ∷ []
+  pub none : child.journal ≡ []

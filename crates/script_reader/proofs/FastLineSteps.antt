@@ -1,0 +1,118 @@
+-- Lemmas for the reader's fast path: the command that it makes of a word and the fields after it is the model's
+-- (`SaysCommand`), and a line whose command it adds to a draft (what the lines so far declare and command) is added as the
+-- model adds it.
+use Rattle.std.proofs.Common.{◌≡◌, ℕ, suc, ◌≤◌, List, [], ◌∷◌, ◌++◌, length, Option, None, Some, Ok, false, true, eqb, refl, sym, ap, ◌∙◌, append_assoc, inl, inr, subst}
+use Rattle.std.specs.Prelude.{◌&&◌, Err, IfSome, OnOk, Result, codes, is_some, nat_le, nat_lt}
+use Rattle.std.proofs.lemmas.Bool.{and_parts, cases_Bool, eq-eqb, eqb-true, le-leb}
+use Rattle.std.proofs.lemmas.List.{append-nil}
+use Rattle.process_model.specs.Bytes.{is_width}
+use Rattle.process_model.specs.Copies.{longest_copy}
+use Rattle.process_model.specs.Fields.{Row, command_table, four_numbers, kinds_for, one_number, row, row_among, three_numbers, two_numbers, values_from, values_of}
+use Rattle.process_model.specs.Lines.{fields_of}
+use Rattle.process_model.specs.Script.{Draft, comes_first, in_order, is_ascii, is_comment, item_line, item_of, line_of, longest_line, most_commands, with_line}
+use Rattle.process_model.specs.declared.script.Command.{Command}
+use Rattle.process_model.specs.declared.script.Command.TheVariants as command
+use Rattle.process_model.specs.declared.script.FieldKind.{FieldKind}
+use Rattle.process_model.specs.declared.script.FieldKind.TheVariants as kind
+use Rattle.process_model.specs.declared.script.FieldValue.{FieldValue}
+use Rattle.process_model.specs.declared.script.FieldValue.TheVariants as value
+use Rattle.process_model.specs.declared.script.Item.TheVariants as item
+use Rattle.process_model.specs.declared.script.Keyword.{Keyword}
+use Rattle.process_model.specs.declared.script.Keyword.TheVariants as word
+use Rattle.process_model.specs.declared.script.Tail.TheVariants as tail
+use Rattle.process_model.specs.declared.step.Step.TheVariants as step
+use Rattle.script_reader.specs.FastLines.{AddsCommand}
+use Rattle.script_reader.specs.FastPath.{EndsWith, IsNext, ReadsFields, SaysCommand}
+
+-- there are as many fields as values
+counted : (line : List ℕ) (ks : List FieldKind) (vs : List FieldValue) → ReadsFields line ks vs → length (fields_of line) ≡ length ks
+counted line [] [] none = ap length none
+counted line [] (v ∷ vs) none = elim none [ ]
+counted line (k ∷ ks) [] r = elim r [ ]
+counted line (k ∷ ks) (v ∷ vs) r = ap length (r.1).fields ∙ ap suc (counted r.0 ks vs r.2)
+
+said_from : (line : List ℕ) (ks : List FieldKind) (vs so_far : List FieldValue) → ReadsFields line ks vs → values_from (Ok so_far) ks (fields_of line) ≡ Ok (so_far ++ vs)
+said_from line [] [] so_far none = ap (λ (xs : List FieldValue). Ok xs) (sym (append-nil so_far))
+said_from line [] (v ∷ vs) so_far none = elim none [ ]
+said_from line (k ∷ ks) [] so_far r = elim r [ ]
+said_from line (k ∷ ks) (v ∷ vs) so_far r =
+    let n : IsNext line r.0 k v = r.1 in
+    rw (n.fields, n.value) (said_from r.0 ks vs (so_far ++ v ∷ []) r.2 ∙ ap (λ (xs : List FieldValue). Ok xs) (simp append_assoc))
+
+said : (r : Row) (line : List ℕ) (ks : List FieldKind) (vs : List FieldValue) → ReadsFields line ks vs → kinds_for r.kinds r.tail (length ks) ≡ ks → values_of r (fields_of line) ≡ Ok vs
+said r line ks vs reads kinds =
+    let n = counted line ks vs reads in
+    rw (n, kinds, eq-eqb (length ks) (length ks) refl) (said_from line ks vs [] reads)
+
+pub says : (text line : List ℕ) (r : Row) (ks : List FieldKind) (vs : List FieldValue) (c : Command) → row_among command_table text ≡ Some r → kinds_for r.kinds r.tail (length ks) ≡ ks
+    → ((s : Draft) → item_of s r.word vs ≡ Ok (item.Command c)) → comes_first r.word ≡ false → ReadsFields line ks vs → SaysCommand text line c
+says text line r ks vs c found kinds makes later reads = record { row = r; found = found; values = vs; said = said r line ks vs reads kinds; item = makes; later = later }
+
+abbrev Next : List ℕ → List ℕ → ℕ → Type 0
+Next line rest n = IsNext line rest kind.Number (value.Number n)
+
+pub says_fetch : (line m n : List ℕ) (h a : ℕ) (via : Option ℕ) → Next line m h → Next m n a → EndsWith n via → SaysCommand (codes "fetch") line (command.One (step.Fetch h a via))
+says_fetch line m n h a None x y e =
+    says (codes "fetch") line (row (codes "fetch") word.Fetch two_numbers (tail.Perhaps kind.Entry)) two_numbers (value.Number h ∷ value.Number a ∷ []) _ refl refl (λ s. refl) refl (m, x, (n, y, e))
+says_fetch line m n h a (Some i) x y e =
+    says (codes "fetch") line (row (codes "fetch") word.Fetch two_numbers (tail.Perhaps kind.Entry)) (kind.Number ∷ kind.Number ∷ kind.Entry ∷ [])
+    (value.Number h ∷ value.Number a ∷ value.Optional (Some i) ∷ []) _ refl refl (λ s. refl) refl (m, x, (n, y, e))
+
+pub says_load : (line m n o : List ℕ) (h a w : ℕ) (via : Option ℕ) → is_width w ≡ true → Next line m h → Next m n a → Next n o w → EndsWith o via
+    → SaysCommand (codes "load") line (command.One (step.Load h a w via))
+says_load line m n o h a w None width x y z e =
+    says (codes "load") line (row (codes "load") word.Load three_numbers (tail.Perhaps kind.Entry)) three_numbers (value.Number h ∷ value.Number a ∷ value.Number w ∷ []) _ refl refl
+    (λ s. rw width refl) refl (m, x, (n, y, (o, z, e)))
+says_load line m n o h a w (Some i) width x y z e =
+    says (codes "load") line (row (codes "load") word.Load three_numbers (tail.Perhaps kind.Entry)) (kind.Number ∷ kind.Number ∷ kind.Number ∷ kind.Entry ∷ [])
+    (value.Number h ∷ value.Number a ∷ value.Number w ∷ value.Optional (Some i) ∷ []) _ refl refl (λ s. rw width refl) refl (m, x, (n, y, (o, z, e)))
+
+pub says_store : (line m n o p : List ℕ) (h a w v : ℕ) (via : Option ℕ) → is_width w ≡ true → Next line m h → Next m n a → Next n o w → Next o p v → EndsWith p via
+    → SaysCommand (codes "store") line (command.One (step.Store h a w v via))
+says_store line m n o p h a w v None width x y z t e =
+    says (codes "store") line (row (codes "store") word.Store four_numbers (tail.Perhaps kind.Entry)) four_numbers (value.Number h ∷ value.Number a ∷ value.Number w ∷ value.Number v ∷ []) _ refl refl
+    (λ s. rw width refl) refl (m, x, (n, y, (o, z, (p, t, e))))
+says_store line m n o p h a w v (Some i) width x y z t e =
+    says (codes "store") line (row (codes "store") word.Store four_numbers (tail.Perhaps kind.Entry)) (kind.Number ∷ kind.Number ∷ kind.Number ∷ kind.Number ∷ kind.Entry ∷ [])
+    (value.Number h ∷ value.Number a ∷ value.Number w ∷ value.Number v ∷ value.Optional (Some i) ∷ []) _ refl refl (λ s. rw width refl) refl (m, x, (n, y, (o, z, (p, t, e))))
+
+pub says_copy_in : (line m n : List ℕ) (h a k : ℕ) → k ≤ longest_copy → Next line m h → Next m n a → ReadsFields n one_number (value.Number k ∷ [])
+    → SaysCommand (codes "copyin") line (command.One (step.CopyIn h a k))
+says_copy_in line m n h a k short x y z =
+    says (codes "copyin") line (row (codes "copyin") word.CopyIn three_numbers tail.Nothing) three_numbers (value.Number h ∷ value.Number a ∷ value.Number k ∷ []) _ refl refl
+    (λ s. rw (le-leb k longest_copy short) refl) refl (m, x, (n, y, z))
+
+none_some : (r : Row) → None ≡ Some r → ⊥
+none_some r e = cc
+
+-- a word is no comment
+no_comment : (text : List ℕ) (r : Row) → row_among command_table text ≡ Some r → is_comment text ≡ false
+no_comment [] r e = refl
+no_comment (b ∷ text) r e =
+    elim (cases_Bool (eqb b 35)) [
+      | inl is ↦ absurd (none_some r (subst (λ (n : ℕ). row_among command_table (n ∷ text) ≡ Some r) (eqb-true b 35 is) e))
+      | inr isnt ↦ isnt
+    ]
+
+ordered : (s : Draft) (w : Keyword) → is_some s.config ≡ true → comes_first w ≡ false → in_order s w ≡ true
+ordered s w some later = rw (some, later) refl
+
+item_says : (s : Draft) (text line : List ℕ) (c : Command) → SaysCommand text line c → is_some s.config ≡ true → nat_lt (length s.commands) most_commands ≡ true
+    → item_line s text (fields_of line) ≡ Ok (item.Command c)
+unfolding item_line
+item_says s text line c says some room = rw (says.found, ordered s (says.row).word some says.later, says.said, says.item s, room) refl
+
+pub line_says : (s : Draft) (line text fields : List ℕ) (c : Command) → fields_of line ≡ text ∷ fields_of fields → SaysCommand text fields c
+    → (is_some s.config && nat_lt (length s.commands) most_commands) ≡ true → nat_le (length line) longest_line ≡ true → is_ascii line ≡ true → line_of s line ≡ Ok (Some (item.Command c))
+unfolding line_of
+line_says s line text fields c cut says takes short ascii =
+    let parts = and_parts (is_some s.config) (nat_lt (length s.commands) most_commands) takes in
+    rw (short, ascii, cut, no_comment text says.row says.found, item_says s text fields c says parts.0 parts.1) refl
+
+-- a line whose word was added with the fields after it was added
+pub line_added : {E : Type 0} (s t : Draft) (line text fields : List ℕ) (done : Option (Result (Unit {0}) E)) → fields_of line ≡ text ∷ fields_of fields
+    → (is_some s.config && nat_lt (length s.commands) most_commands) ≡ true → nat_le (length line) longest_line ≡ true → is_ascii line ≡ true
+    → IfSome done (λ d. OnOk d (AddsCommand s t text fields)) → IfSome done (λ d. OnOk d ((n : ℕ) → with_line s n (line_of s line) ≡ Ok (t, n)))
+line_added s t line text fields None cut takes short ascii adds = adds
+line_added s t line text fields (Some (Err e)) cut takes short ascii adds = adds
+line_added s t line text fields (Some (Ok u)) cut takes short ascii adds = λ n. rw (line_says s line text fields adds.command cut adds.says takes short ascii, adds.added) refl

@@ -1,0 +1,12 @@
+use Rattle.std.proofs.Common.{[], ◌∷◌, refl}
+use Rattle.std.specs.Prelude.{codes}
+use Rattle.process_model.specs.Fields.{row, one_number}
+use Rattle.process_model.specs.declared.script.Command.TheVariants as command
+use Rattle.process_model.specs.declared.script.FieldValue.TheVariants as value
+use Rattle.process_model.specs.declared.script.Keyword.TheVariants as word
+use Rattle.process_model.specs.declared.script.Tail.TheVariants as tail
+use Rattle.script_reader.proofs.FastLineSteps.{says}
+use Rattle.script_reader.proofs.fast_path.leave.Goals as goal
+
+pub returns : goal.returns
+returns c = says (codes "leave") c.args.line.now (row (codes "leave") word.Leave one_number tail.Nothing) one_number (value.Number c.in_ok-hart.hart ∷ []) (command.Leave c.in_ok-hart.hart) refl refl (λ s. refl) refl c.in_ok-hart.ensures

@@ -1,9 +1,0 @@
-use Rattle.std.proofs.Common.{◌<◌, ◌^◌, length}
-use Rattle.script_reader.specs.NumberFronts.{IsFront}
-use Rattle.script_reader.proofs.fronts.decimal_front.Given as goal
-
-abbrev pub invariant-digits : goal.invariant-digits
-invariant-digits l = record { front : IsFront 10 l.text l.rest l.value; small : l.value < 2 ^ 64 }
-
-abbrev pub decreases-digits : goal.decreases-digits
-decreases-digits l = length l.rest

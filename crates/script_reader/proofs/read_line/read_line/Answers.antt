@@ -1,0 +1,24 @@
+use Rattle.std.proofs.lemmas.Result.{err_from_is_err_and}
+use Rattle.process_model.specs.Script.{item_line, line_of}
+use Rattle.script_reader.proofs.Splitting.{err_said, none_said, item_err, item_said}
+use Rattle.script_reader.proofs.read_line.read_line.Goals as goal
+
+pub returns-in_err-text : goal.returns-in_err-text
+unfolding line_of
+returns-in_err-text c =
+    let p = err_from_is_err_and c.from_residual.result c.from_residual.ensures.1 in
+    rw (p.1, p.2) (err_said (item_line c.args.draft.now) c.args.line.now c.in_err-text.field-0.0 c.in_err-text.ensures)
+
+pub returns-in_default : goal.returns-in_default
+unfolding line_of
+returns-in_default c = none_said (item_line c.args.draft.now) c.args.line.now (rw c.in_default.is at c.in_ok-text.ensures)
+
+pub returns-in_err-item : goal.returns-in_err-item
+unfolding line_of
+returns-in_err-item c =
+    let p = err_from_is_err_and c.from_residual-in_err-item.result c.from_residual-in_err-item.ensures.1 in
+    rw (p.1, p.2) (item_err (item_line c.args.draft.now) c.args.line.now _ _ c.in_err-item.field-0.0 (rw c.in-Some.is at c.in_ok-text.ensures) c.in_err-item.ensures)
+
+pub returns : goal.returns
+unfolding line_of
+returns c = item_said (item_line c.args.draft.now) c.args.line.now _ _ c.in_ok-item.item (rw c.in-Some.is at c.in_ok-text.ensures) c.in_ok-item.ensures

@@ -1,8 +1,0 @@
--- Values, as their list.
-use Rattle.std.specs.Prelude.{List, Result, Ok, Err, Vec}
-use Rattle.process_model.specs.declared.script.Cause.{Cause}
-use Rattle.process_model.specs.declared.script.FieldValue.{FieldValue}
-
-abbrev pub listed : {A : Type 0} → Result (Vec FieldValue A) Cause → Result (List FieldValue) Cause
-listed (Ok values) = Ok values.items
-listed (Err c) = Err c

@@ -1,5 +1,0 @@
-use Rattle.std.proofs.Common.{map}
-use Rattle.shared_frames.proofs.cut.split.Given as goal
-
-abbrev pub ghosts-split_as : goal.ghosts-split_as
-ghosts-split_as a = record { frames = map (λ f. f.0) a.frames.now }

@@ -1,0 +1,34 @@
+// `Operation`, an enum: one operation in a story (test case): mmap, munmap, a user access, a kernel copy, the service of a
+// fault, write-back, or a read of a file. `Row`: an operation and the reply that it must get.
+
+use process_model::Reply;
+use sv39_entry::Access;
+
+/// One operation of a process, or of the kernel for it. Lengths, counts and widths are in bytes.
+#[derive(Clone, Copy, Debug)]
+pub(crate) enum Operation {
+    /// mmap: the length, the protection, the flags and the number of the file.
+    Map(u64, u64, u64, usize),
+    /// munmap: the address and the length.
+    Unmap(u64, u64),
+    /// Settles the page of an address with the bytes of its file, as the service of a fault by this access does. For a store
+    /// it sets the stored mark too.
+    Serve(Access, u64),
+    /// A user fetch of the four bytes at an address.
+    Fetch(u64),
+    /// A user load: the address and the width.
+    Load(u64, u64),
+    /// A user store: the address, the width and the value, whose lowest byte is stored first.
+    Store(u64, u64, u64),
+    /// A kernel copy from the process: the address and the count.
+    CopyIn(u64, usize),
+    /// A kernel copy to the process: the address, the first byte and the count. The bytes count up from the first one.
+    CopyOut(u64, u8, usize),
+    /// Write-back of all mappings; their pages stay.
+    WriteBack,
+    /// A read of eight bytes of a file, beside the process: the file's number and the offset.
+    Look(usize, usize),
+}
+
+/// An operation, and the reply that it must get.
+pub(crate) type Row = (Operation, Reply);

@@ -1,7 +1,0 @@
-use Rattle.tests_of_processes.proofs.machines.told_singly.Goals as goal
-
-pub steps-preserved : goal.steps-preserved
-steps-preserved c = let before = c.steps.invariant in let made = c.step.ensures.made before.0 before.1 in (_, made.1)
-
-pub returns-in_err-ok : goal.returns-in_err-ok
-returns-in_err-ok c = let before = c.steps.invariant in let made = c.step.ensures.made before.0 before.1 in (_, made.1)

@@ -1,0 +1,137 @@
+// Tests that `frames_needed` returns how many frames a process with two runs of pages takes (`Row`: scheme, the two runs,
+// the number), and that `Space::build` builds a space with exactly the frames that it needs and refuses with one fewer.
+
+ghost use Rattle.std.specs.Prelude.{◌≡◌, ◌+◌, ◌<◌, ◌≤◌, false, IsTrue, true};
+ghost use Rattle.address_space.specs.Layouts.{region_of};
+ghost use Rattle.address_space.specs.Parts.{AreParts};
+ghost use Rattle.process_model.specs.Order.{is_file};
+ghost use Rattle.process_model.specs.Regions.{makes_leaf};
+
+use address_space::{Part, Region, RegionKind, Source, Space, frames_needed};
+use frame_store::PlainFrames;
+use std::alloc::{AllocError, Global};
+use sv39_entry::{Access, Rights, Rule, Scheme, Va};
+
+/// A readable segment of `pages` pages from page `first` on, which begins with `bytes`.
+fn readable<'a>(first: u64, pages: u64, bytes: &'a [u8]) -> Part<'a>
+    ensures first { result.region.first ≡ first }
+    ensures pages { result.region.pages ≡ pages }
+    ensures leafy { makes_leaf (region_of result.region) ≡ true }
+    ensures without_file { is_file (region_of result.region).source ≡ false }
+{
+    let region = Region {
+        first,
+        pages,
+        rights: Rights::READ,
+        kind: RegionKind::Segment,
+        source: Source::Image,
+    };
+    Part { region, bytes }
+}
+
+/// A run of pages: its first page, and the number of pages.
+type Run = (u64, u32);
+
+/// Whether a run of pages ends at or before page `end`.
+fn is_before(run: Run, end: u64) -> bool
+    ensures { IsTrue result → run.0 + run.1 ≤ end }
+{
+    let (first, pages) = (run.0, u64::from(run.1));
+    first <= end && pages <= end - first
+}
+
+/// The number of frames that a process with two runs of pages takes; `None` unless `lower` ends at or before `upper` begins,
+/// and `upper` ends at or before TRAPFRAME.
+fn needed(scheme: Scheme, lower: Run, upper: Run) -> Option<usize> {
+    if !is_before(lower, upper.0) || !is_before(upper, scheme.trapframe().page().number()) {
+        return None;
+    }
+    let parts = [
+        readable(lower.0, u64::from(lower.1), &[]),
+        readable(upper.0, u64::from(upper.1), &[]),
+    ];
+    Some(frames_needed(scheme, &parts))
+}
+
+/// A scheme, two runs of pages, and what `needed` must return.
+type Row = (Scheme, Run, Run, Option<usize>);
+
+/// Beside its pages a process takes a trapframe, a root table, and the tables between the root and TRAPFRAME: two, or three
+/// under Sv48. A run takes one table for each aligned group of 512 pages that it touches, one for each of 2^18, and under
+/// Sv48 one for each of 2^27. Each table counts once.
+fn rows() -> [Row; 17] {
+    let (sv39, sv48) = (Scheme::Sv39, Scheme::Sv48);
+    [
+        (sv39, (0, 1), (1, 1), Some(8)),
+        (sv39, (0, 1), (2, 3), Some(10)),
+        (sv39, (0, 512), (512, 1), Some(520)),
+        (sv39, (0, 0), (511, 2), Some(9)),
+        (sv39, (5, 0), (7, 0), Some(4)),
+        (sv39, (0, 262_145), (262_145, 1), Some(262_665)),
+        (sv39, (0, 1), (262_144, 600), Some(610)),
+        (sv39, (510, 1), (67_108_350, 512), Some(520)),
+        (sv39, (0, 1), (67_108_860, 2), Some(9)),
+        (sv39, (3, 1), (262_143, 2), Some(12)),
+        (sv39, (0, 1), (134_217_728, 1), None),
+        (sv48, (0, 1), (1, 1), Some(10)),
+        (sv48, (5, 0), (7, 0), Some(5)),
+        (sv48, (3, 1), (262_143, 2), Some(14)),
+        (sv48, (0, 1), (134_217_728, 1), Some(13)),
+        (sv48, (134_217_727, 2), (34_359_737_854, 512), Some(526)),
+        (sv48, (0, 1), (34_359_738_366, 1), None),
+    ]
+}
+
+/// The first row for which `needed` returns something else; `None` if there is none.
+fn wrong_row() -> Option<Row> {
+    for row in rows() {
+        let (scheme, lower, upper, count) = row;
+        if needed(scheme, lower, upper) != count {
+            return Some(row);
+        }
+    }
+    None
+}
+
+#[test]
+fn counts_frames(rt: HostRuntime) {
+    assert_eq!(rt; wrong_row(), None);
+}
+
+/// Two pages from page 0 on, which begin with 5,000 bytes, and page 4.
+fn parts<'a>() -> [Part<'a>; 2]
+    ensures { (s : Scheme) → AreParts s result }
+{
+    [readable(0, 2, &[7; 5000]), readable(4, 1, &[])]
+}
+
+/// If a space could be built, the rules that deny a load in its second page and one in the page after it, `None` for a
+/// granted load; and the number of free frames then.
+type Built = (Option<[Option<Rule>; 2]>, usize);
+
+fn built_over(alloc: Global, scheme: Scheme, frames: usize) -> Result<Built, AllocError>
+    requires some { 0 < frames }
+    requires few { frames ≤ 256 }
+{
+    let (mut store, seat) = PlainFrames::new(alloc, frames)?;
+    let refused = match Space::build(&mut store, seat, scheme, &parts()) {
+        Ok(space) => Some([
+            space.grant(Access::Load, Va(0x1ff8), 8).err(),
+            space.grant(Access::Load, Va(0x2000), 8).err(),
+        ]),
+        Err(_) => None,
+    };
+    Ok((refused, store.report().free))
+}
+
+/// Beside frame 0 the space takes three pages, the trapframe, and five page tables, seven under Sv48.
+#[test]
+fn builds_a_space(rt: HostRuntime) {
+    let built = Some([None, Some(Rule::NoRegion)]);
+    let alloc = rt.alloc();
+    let (sv39, sv48) = (Scheme::Sv39, Scheme::Sv48);
+    assert_eq!(rt; built_over(alloc, sv39, 10), Ok((built, 0)));
+    assert_eq!(rt; built_over(alloc, sv39, 9), Ok((None, 8)));
+    assert_eq!(rt; built_over(alloc, sv48, 12), Ok((built, 0)));
+    assert_eq!(rt; built_over(alloc, sv48, 11), Ok((None, 10)));
+}

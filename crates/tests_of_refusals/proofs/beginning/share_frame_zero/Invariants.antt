@@ -1,9 +1,0 @@
-use Rattle.frame_store.specs.Laws.{Keeps}
-use Rattle.frame_store.specs.View.{IsHeld}
-use Rattle.tests_of_refusals.proofs.beginning.share_frame_zero.Given as goal
-
-abbrev pub invariant-times : goal.invariant-times
-invariant-times g l = record {
-  anchored : IsHeld (g.S.FrameSeat.view l.keeper) 0;
-  keeps : Keeps g.F.FrameAccess.rule l.fn.store l.fn.keeper l.store l.keeper;
-}
