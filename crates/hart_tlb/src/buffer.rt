@@ -139,13 +139,10 @@ impl<const N: usize> Buffer<N> {
         ensures permitted { IfOk result (λ w. (s : Scheme) (m : Memory) (there : Extent) (root space : ℕ) (e : TlbEntry) → slice_get self.now n ≡ Some e
             → IsPermitted s m there root space e → LeadsToWhole there va.0 e.leaf → Translates s m there root va.0 access mode w) }
     {
-        let Some(entry) = self.entry(n) else {
-            return Err(NoEntry);
-        };
-        if !entry.matches(va, asid) {
-            return Err(NoEntry);
+        match self.entry(n) {
+            Some(entry) => entry.translate(va, asid, access, mode),
+            None => Err(NoEntry),
         }
-        Ok(entry.answer(va, access, mode))
     }
 
     /// SFENCE.VMA (RISC-V Privileged Architecture 20211203, 4.2.1). Removes the entries that match both arguments; the

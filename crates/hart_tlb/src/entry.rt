@@ -1,10 +1,15 @@
 // `TlbEntry`: a struct, one TLB entry: its page, its ASID, whether it is global, and the leaf that the walk found, if any.
 // Its methods: which accesses it may serve, how it translates them, and which fences remove it.
 
-ghost use Rattle.std.specs.Prelude.{◌≡◌};
+ghost use Rattle.std.specs.Prelude.{◌≡◌, ◌↔◌, ℕ, IfOk, IsOk, IsTrue};
 ghost use Rattle.hart_tlb.specs.Entries as entries;
+ghost use Rattle.hart_tlb.specs.Outcome.{IsPermitted, LeadsToWhole};
+ghost use Rattle.sv39_entry.specs.declared.scheme.Scheme.{Scheme};
 ghost use Rattle.table_walk.specs.Leaves.{answer};
+ghost use Rattle.table_walk.specs.Memory.{Extent, Memory};
+ghost use Rattle.table_walk.specs.Walk.{Translates};
 
+use crate::buffer::NoEntry;
 use crate::leaf::TlbLeaf;
 use sv39_entry::{Access, Entry, Mode, Va, Vpn};
 use table_walk::Walk;
@@ -42,7 +47,7 @@ impl Default for TlbEntry {
 
 impl TlbEntry {
     /// Whether the entry may serve an access to an address under an ASID: it is for that page, and for that ASID or global.
-    pub(crate) fn matches(&self, va: Va, asid: u16) -> bool
+    pub fn matches(&self, va: Va, asid: u16) -> bool
         ensures { result ≡ entries.matches va.0 asid self.now }
     {
         self.page == va.page() && (self.asid == asid || self.global)
@@ -66,9 +71,29 @@ impl TlbEntry {
         }
     }
 
+    /// Translates an access by this entry, whose rights are judged at this use. Returns the leaf and the physical address; or
+    /// a page fault with its cause if the entry records no leaf, or the leaf's rights do not permit the access. Never an
+    /// access fault.
+    ///
+    /// # Errors
+    /// `NoEntry` exactly when the entry is for another page, or it is for another ASID and not global.
+    pub fn translate(&self, va: Va, asid: u16, access: Access, mode: Mode) -> Result<Walk, NoEntry>
+        ensures there { IsOk result ↔ IsTrue (entries.matches va.0 asid self.now) }
+        ensures ok { IfOk result (λ w. w ≡ answer self.now.leaf va.0 access mode) }
+        // A walk over any memory that permits the entry translates the access to the result, if the frame that the leaf
+        // leads to is inside that memory as a whole or not at all.
+        ensures permitted { IfOk result (λ w. (s : Scheme) (m : Memory) (there : Extent) (root space : ℕ) → IsPermitted s m there root space self.now
+            → LeadsToWhole there va.0 self.now.leaf → Translates s m there root va.0 access mode w) }
+    {
+        if !self.matches(va, asid) {
+            return Err(NoEntry);
+        }
+        Ok(self.answer(va, access, mode))
+    }
+
     /// Whether a fence for an address and an ASID removes the entry; `None` means every address, or every ASID and the
     /// global entries.
-    pub(crate) fn is_fenced(&self, va: Option<Va>, asid: Option<u16>) -> bool
+    pub fn is_fenced(&self, va: Option<Va>, asid: Option<u16>) -> bool
         ensures { result ≡ entries.is_fenced va asid self.now }
     {
         self.is_in_space(asid) && self.is_in_reach(va)

@@ -32,7 +32,8 @@ impl Model for TlbLeaf {
 }
 
 impl TlbLeaf {
-    pub(crate) fn new(word: u64, level: u32) -> TlbLeaf
+    /// Returns the leaf with this word, a page table entry, and level, at most 3.
+    pub fn new(word: u64, level: u32) -> TlbLeaf
         requires { level ≤ 3 }
         ensures word { result.word ≡ word }
         ensures level { result.level ≡ level }

@@ -1,0 +1,2 @@
+mod Permits
+mod Walks
