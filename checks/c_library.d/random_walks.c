@@ -1,0 +1,107 @@
+/* Random accesses to random page tables: xv6vm_translate and xv6vm_lookup must return what the plain walk does. */
+#include "check.h"
+#include <stdio.h>
+
+enum { MEMORIES = 200000, ACCESSES = 20 };
+
+static const char *const WHY[WHYS] = {
+    "a leaf",
+    "MODE 0",
+    "an argument without meaning",
+    "a table outside the memory",
+    "a byte outside the memory",
+    "an address that is not canonical",
+    "V clear",
+    "W without R",
+    "a reserved bit",
+    "U, A or D in a pointer",
+    "a pointer at level 0",
+    "a misaligned superpage",
+    "U against the mode",
+    "no right for the access",
+    "A clear",
+    "D clear",
+};
+
+static unsigned long long whys[2][WHYS], levels[2][4], causes[16], global_leaves, bare_leaves, no_leaves, outside, unknown_modes;
+
+static void count(uint64_t satp, struct xv6vm_outcome outcome, enum why why) {
+    if (why == NO_TRANSLATION || why == BAD_ARGUMENT) {
+        whys[0][why]++;
+        return;
+    }
+    whys[satp >> 60 == 9][why]++;
+    if (outcome.status == XV6VM_LEAF)
+        levels[satp >> 60 == 9][outcome.level]++;
+    else
+        causes[outcome.cause]++;
+}
+
+static void count_leaf(struct xv6vm_leaf leaf) {
+    bare_leaves += leaf.status == XV6VM_BARE;
+    no_leaves += leaf.status == XV6VM_NO_LEAF;
+    outside += leaf.status == XV6VM_ACCESS_FAULT;
+    unknown_modes += leaf.status == XV6VM_UNKNOWN;
+    global_leaves += leaf.global == 1;
+}
+
+static void try_access(const struct memory *memory) {
+    uint64_t satp = random_satp(memory), address = random_address(satp);
+    uint32_t access = (uint32_t)(one_in(64) ? any_number() : below(3));
+    uint32_t mode = (uint32_t)(one_in(64) ? any_number() : below(4) / 3);
+    enum why why;
+    struct xv6vm_outcome want = plain_translate(memory, satp, address, access, mode, &why);
+    struct xv6vm_outcome got = CALL(translate)(memory->words, memory->count, memory->base_ppn, satp, address, access, mode);
+    count(satp, want, why);
+    if (!same_outcome(got, want))
+        differs("%zu words from page %#" PRIx64 ", satp %#" PRIx64 ", address %#" PRIx64 ", access %" PRIu32 ", mode %" PRIu32
+                ": %s in place of %s",
+                memory->count, memory->base_ppn, satp, address, access, mode, outcome_text(got), outcome_text(want));
+    struct xv6vm_leaf leaf = plain_lookup(memory, satp, address);
+    struct xv6vm_leaf found = CALL(lookup)(memory->words, memory->count, memory->base_ppn, satp, address);
+    count_leaf(leaf);
+    if (!same_leaf(found, leaf))
+        differs("%zu words from page %#" PRIx64 ", satp %#" PRIx64 ", address %#" PRIx64 ": %s in place of %s", memory->count,
+                memory->base_ppn, satp, address, leaf_text(found), leaf_text(leaf));
+}
+
+static void print_counts(void) {
+    static const char *const SCHEMES[2] = {"Sv39", "Sv48"};
+    char what[80];
+    printf("random memories %d\n", MEMORIES);
+    printf("random accesses %d\n", MEMORIES * ACCESSES);
+    for (int scheme = 0; scheme < 2; scheme++) {
+        for (int level = 0; level < 3 + scheme; level++) {
+            snprintf(what, sizeof what, "%s: leaves of level %d", SCHEMES[scheme], level);
+            often(what, levels[scheme][level]);
+        }
+        for (int why = TABLE_OUTSIDE; why < WHYS; why++) {
+            snprintf(what, sizeof what, "%s: faults by %s", SCHEMES[scheme], WHY[why]);
+            often(what, whys[scheme][why]);
+        }
+    }
+    static const uint64_t CAUSES[6] = {1, 5, 7, 12, 13, 15};
+    for (int i = 0; i < 6; i++) {
+        snprintf(what, sizeof what, "faults of cause %" PRIu64, CAUSES[i]);
+        often(what, causes[CAUSES[i]]);
+    }
+    for (int why = NO_TRANSLATION; why <= BAD_ARGUMENT; why++) {
+        snprintf(what, sizeof what, "accesses with %s", WHY[why]);
+        often(what, whys[0][why]);
+    }
+    often("look-ups of no leaf", no_leaves);
+    often("look-ups of a table outside the memory", outside);
+    often("look-ups of a global leaf", global_leaves);
+    often("look-ups with MODE 0", bare_leaves);
+    often("look-ups with a MODE without meaning", unknown_modes);
+}
+
+int main(void) {
+    for (int i = 0; i < MEMORIES; i++) {
+        struct memory memory = random_memory();
+        for (int n = 0; n < ACCESSES; n++)
+            try_access(&memory);
+    }
+    print_counts();
+    return report();
+}
