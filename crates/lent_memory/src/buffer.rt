@@ -43,7 +43,7 @@ pub fn fill<M: Words>(
     ensures fills { Fills scheme (M.memory words.old) (M.there words.old) (satps.root_ppn satp) (satps.asid satp) va.0 (length places.old) (entries_of places.old) (entries_of places.new) }
     ensures stays { M.stays words.old words.new }
     ensures added { result ≡ true → (e : TlbEntry) × IsOutcome scheme (M.memory words.old) (M.there words.old) (satps.root_ppn satp) (satps.asid satp) va.0 e × IsLast e places.new }
-    ensures fault { result ≡ false → EndsInAccessFault scheme (M.memory words.old) (M.there words.old) (satps.root_ppn satp) va.0 }
+    ensures fault { result ≡ false → EndsInAccessFault scheme (M.memory words.old) (M.there words.old) (satps.root_ppn satp) va.0 × (places.new ≡ places.old) }
 {
     let mut found: Buffer<1> = Buffer::new();
     found.fill(words, scheme, satp, va);

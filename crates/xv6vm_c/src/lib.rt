@@ -104,7 +104,7 @@ pub extern "C" fn xv6vm_tlb_fill(
         Fills s (lent_memory (record { base = base_ppn; words = words.now })) (lent_extent (record { base = base_ppn; words = words.now })) (root_ppn satp) (asid satp) address (length entries.old) (entries_of entries.old) (entries_of entries.new) }
     ensures stays { scheme_of satp ≡ None → entries.new ≡ entries.old }
     ensures added { result ≡ 0 → (s : Scheme) × (scheme_of satp ≡ Some s) × ((e : TlbEntry) × IsOutcome s (lent_memory (record { base = base_ppn; words = words.now })) (lent_extent (record { base = base_ppn; words = words.now })) (root_ppn satp) (asid satp) address e × IsLast e entries.new) }
-    ensures fault { result ≡ 2 → (s : Scheme) × (scheme_of satp ≡ Some s) × EndsInAccessFault s (lent_memory (record { base = base_ppn; words = words.now })) (lent_extent (record { base = base_ppn; words = words.now })) (root_ppn satp) address }
+    ensures fault { result ≡ 2 → (s : Scheme) × (scheme_of satp ≡ Some s) × EndsInAccessFault s (lent_memory (record { base = base_ppn; words = words.now })) (lent_extent (record { base = base_ppn; words = words.now })) (root_ppn satp) address × (entries.new ≡ entries.old) }
     ensures bare { result ≡ 3 ↔ (is_bare satp ≡ true) }
     ensures unknown { result ≡ 6 → scheme_of satp ≡ None }
     ensures code { (result ≡ 0) ⊎ ((result ≡ 2) ⊎ ((result ≡ 3) ⊎ (result ≡ 6))) }

@@ -5,7 +5,7 @@ use Rattle.sv39_entry.specs.Satp.{asid}
 use Rattle.sv39_entry.specs.declared.access.Access.{Access}
 use Rattle.sv39_entry.specs.declared.access.Mode.{Mode}
 use Rattle.xv6vm_c.specs.Answers.{Caches}
-use Rattle.xv6vm_c.specs.Codes.{access_of, mode_of, scheme_of}
+use Rattle.xv6vm_c.specs.Codes.{scheme_of}
 use Rattle.xv6vm_c.proofs.Permits.{all_equal, one_translation, some_scheme}
 use Rattle.xv6vm_c.proofs.xv6vm_permits.Goals as goal
 
