@@ -121,6 +121,22 @@ impl Layout {
         self.mappings.as_slice()
     }
 
+    /// Returns all regions: the parts, the heap, which may have no pages, and the mappings. In the layout of a space that is a
+    /// process they are in ascending order of address.
+    pub fn regions(&self) -> ArrayVec<Region, 35>
+        ensures { (p : Process) → LaysOut self.now p → map region_of result.items ≡ regions p }
+    {
+        let mut all = ArrayVec::new();
+        if all.try_extend_from_slice(self.parts.as_slice()).is_err() {
+            unreachable!()
+        }
+        all.push(self.heap());
+        if all.try_extend_from_slice(self.mappings.as_slice()).is_err() {
+            unreachable!()
+        }
+        all
+    }
+
     /// Returns the process's scheme of translation.
     pub fn scheme(&self) -> Scheme
         ensures { result ≡ self.now.scheme }

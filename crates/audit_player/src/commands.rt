@@ -26,7 +26,7 @@ use process_model::{
 use script_reader::CommandView;
 
 /// Borrows an image of a script for a step or a call. It loads as the script's image does.
-pub(crate) fn lend(image: &OwnedImage) -> Image<'_>
+pub fn lend(image: &OwnedImage) -> Image<'_>
     ensures loads { (scheme : Scheme) → image_loads scheme result ≡ image_loads scheme (words.lent image.now) }
 {
     match image {
@@ -200,8 +200,14 @@ fn put_step(machine: &mut Machine, step: Step<'_>, text: &mut Vec<u8>)
     }
 }
 
-/// Plays a line after `boot`: makes its steps, and appends its answer without a line end.
-fn put_answer(machine: &mut Machine, images: &[OwnedImage], command: &Command, text: &mut Vec<u8>)
+/// Plays a line after `boot`: makes its steps, and appends its answer without a line end. The text must have room for
+/// `LONGEST_TEXT` bytes more, and the image that the line names must be declared.
+pub fn put_answer(
+    machine: &mut Machine,
+    images: &[OwnedImage],
+    command: &Command,
+    text: &mut Vec<u8>,
+)
     requires world { (w : World) × IsInWorld machine.old w }
     requires declared { (files : List FileText) × IsDeclared files images.now command.now }
     requires room { vec_len text.old + LONGEST_TEXT ≤ vec_capacity text.old }

@@ -19,6 +19,7 @@ mod threads;
 mod transfer;
 
 pub use answer::audit;
+pub use commands::{lend, put_answer};
 pub use fault::PlayError;
 pub use player::play;
 pub use sink::{Sink, Writer};

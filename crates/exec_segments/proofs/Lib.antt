@@ -4,3 +4,4 @@ pub mod Headers
 pub mod Judged
 pub mod LittleNumbers
 pub mod Reserved
+pub mod FirstFaults

@@ -1,3 +1,4 @@
 pub mod Loads
 pub mod Headers
 pub mod ExecRefusals
+pub mod FirstFaults

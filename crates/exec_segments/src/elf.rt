@@ -15,15 +15,16 @@ use process_model::BadImage;
 use sv39_entry::Scheme;
 
 /// Maximum length of a file, in bytes: 1 MiB.
-const LONGEST_IMAGE: usize = 1 << 20;
+pub const LONGEST_IMAGE: usize = 1 << 20;
 
-/// Length of the file header and length of each program header, in bytes.
-const FILE_HEADER: usize = 64;
+/// Length of the file header, in bytes.
+pub const FILE_HEADER: usize = 64;
 
-const PROGRAM_HEADER: u64 = 56;
+/// Length of each program header, in bytes.
+pub const PROGRAM_HEADER: u64 = 56;
 
 /// The first four bytes of a file, 7f 45 4c 46, as a little-endian number.
-const MAGIC: u32 = 0x464c_457f;
+pub(crate) const MAGIC: u32 = 0x464c_457f;
 
 /// PT_LOAD: the type of a program header that describes a segment to load.
 const LOAD: u32 = 1;
@@ -83,7 +84,7 @@ pub fn read_image(scheme: Scheme, bytes: &[u8]) -> Result<Image<'_>, BadImage>
 }
 
 /// The program header with number `index`, from 0, of those that begin at offset `table` of the file.
-fn header_at(bytes: &[u8], table: u64, index: u16) -> Header<'_>
+pub(crate) fn header_at(bytes: &[u8], table: u64, index: u16) -> Header<'_>
     requires { length bytes.now ≤ model.longest_image }
     ensures header { header_of result ≡ model.header_at bytes.now (table + 56 * index) }
     ensures fits { HasAtMostFileSize result }
@@ -98,7 +99,7 @@ fn header_at(bytes: &[u8], table: u64, index: u16) -> Header<'_>
 }
 
 /// The offset in the file of that program header; `None` if its 56 bytes do not all lie inside the file.
-fn place(bytes: &[u8], table: u64, index: u16) -> Option<usize>
+pub(crate) fn place(bytes: &[u8], table: u64, index: u16) -> Option<usize>
     requires { length bytes.now ≤ model.longest_image }
     ensures { IsHeaderPlace bytes.now (table + 56 * index) result }
 {

@@ -45,6 +45,13 @@ impl<'a> ImageBuilder<'a> {
         }
     }
 
+    /// The number of the page after the last segment that was kept, 0 if none was.
+    pub(crate) fn end_page(&self) -> u64
+        ensures { result ≡ model.end_of_loads 0 self.now.loads }
+    {
+        self.end
+    }
+
     /// Checks the next segment, and keeps it if it has pages.
     ///
     /// # Errors

@@ -10,10 +10,10 @@ use process_model::{BadImage, Segment};
 use sv39_entry::{PAGE_SIZE, Scheme};
 
 /// Number of pages of the guard, which follows the last segment (the xv6 book, "Code: exec").
-pub(crate) const GUARD_PAGES: u64 = 1;
+pub const GUARD_PAGES: u64 = 1;
 
 /// Number of pages of the stack, which follows the guard.
-pub(crate) const STACK_PAGES: u64 = 1;
+pub const STACK_PAGES: u64 = 1;
 
 /// A segment to load, as the image describes it.
 #[derive(Clone, Copy)]

@@ -39,6 +39,13 @@ impl Model for Memory {
 }
 
 impl Memory {
+    /// Returns all words, frame by frame.
+    pub(crate) fn as_slice(&self) -> &[u64]
+        ensures { result.now ≡ self.now }
+    {
+        self.words.as_slice()
+    }
+
     /// Returns `frames` frames, at most 1,024, whose words are all 0.
     ///
     /// # Errors

@@ -94,6 +94,20 @@ impl PlainFrames {
         Ok((store, seat))
     }
 
+    /// Returns the words of all frames, 512 of each, those of frame 0 first.
+    pub fn words(&self) -> &[u64]
+        ensures { result.now ≡ self.now.words }
+    {
+        self.words.as_slice()
+    }
+
+    /// Returns the reference counts of all frames, by their numbers.
+    pub fn counts(&self) -> &[u16]
+        ensures { result.now ≡ self.now.counts }
+    {
+        self.counts.as_slice()
+    }
+
     /// Returns how many frames have count 0 (`free`, reserved ones included), count 1 or more (`held`) and count 2 or more
     /// (`shared`), and the sum of all counts (`references`).
     pub fn report(&self) -> Report

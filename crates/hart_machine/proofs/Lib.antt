@@ -73,3 +73,5 @@ pub mod MapElements
 pub mod MarkedHarts
 pub mod MarkedWorlds
 pub mod MarkedSteps
+pub mod SeenWords
+pub mod SlotCounts

@@ -8,6 +8,7 @@ pub mod Harts
 pub mod Marks
 pub mod Runs
 pub mod BufferEntries
+pub mod SeenTables
 pub mod ServeEffect
 pub mod Slots
 pub mod Tables

@@ -1,6 +1,6 @@
 //! `Machine`, a struct: frames, the kernel's page table, processes in slots (places in the process table), harts with TLBs,
 //! and files. Its steps reply what the model replies, and leave the machine in the state that the model has. Also
-//! `BootError`, why a machine was not booted, and `BUFFER_SIZE`, the capacity of a TLB.
+//! `BootError`, why a machine was not booted; `BUFFER_SIZE`, the capacity of a TLB; and `Pending`, an access that faulted.
 #![tactic(auto)]
 
 mod access;
@@ -24,7 +24,9 @@ mod step;
 mod switch;
 mod tables;
 mod trampoline;
+mod views;
 
 pub use boot::BootError;
 pub use hart::BUFFER_SIZE;
 pub use machine::Machine;
+pub use slot_process::Pending;

@@ -9,13 +9,15 @@ use address_space::Space;
 use frame_store::PlainSeat;
 use sv39_entry::{Access, Va};
 
-/// An access that faulted, and whether the kernel has served it.
-#[derive(Clone, Copy)]
-pub(crate) struct Pending {
-    pub(crate) access: Access,
-    pub(crate) va: Va,
-    pub(crate) width: u64,
-    pub(crate) served: bool,
+/// An access that faulted.
+#[derive(Clone, Copy, PartialEq, Eq, Debug)]
+pub struct Pending {
+    pub access: Access,
+    pub va: Va,
+    /// Its width in bytes.
+    pub width: u64,
+    /// Whether the kernel has served it.
+    pub served: bool,
 }
 
 /// The process in a slot: its address space, and its pending access, if there is one.

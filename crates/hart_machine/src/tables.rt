@@ -31,7 +31,7 @@ pub(crate) enum SatpTable {
 
 impl Hart {
     /// The page table that the hart's `satp` names in its phase.
-    fn table(&self) -> SatpTable
+    pub(crate) fn table(&self) -> SatpTable
         ensures { result ≡ present_table self.now }
     {
         match self.slot {

@@ -29,5 +29,5 @@ pub use scalar_reply::ScalarReply;
 pub use script::{Cause, Command, FieldKind, FieldValue, Item, Keyword, Tail, ThreadItem};
 pub use sequence::{Bytes, Sequence};
 pub use step::{LONGEST_COPY, Refusal, Reply, Report, Step, is_width};
-pub use text::{LONGEST_TEXT, put_reply, put_report, put_scalar_reply};
+pub use text::{LONGEST_TEXT, phase_name, put_reply, put_report, put_scalar_reply};
 pub use thread_text::{LONGEST_END, put_end, put_free};

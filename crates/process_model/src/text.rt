@@ -22,8 +22,8 @@ use sv39_entry::Rule;
 /// has more.
 pub const LONGEST_TEXT: usize = 700;
 
-/// Returns the name of a phase.
-fn phase_name(phase: Phase) -> &'static str
+/// Returns the name of a phase, as answers have it.
+pub fn phase_name(phase: Phase) -> &'static str
     ensures text { result.now ≡ words.phase_text phase }
     ensures short { length result.now ≤ 6 }
 {

@@ -19,26 +19,9 @@ use Rattle.process_model.specs.declared.script.Item.TheVariants as item
 use Rattle.process_model.specs.declared.script.Keyword.{Keyword}
 use Rattle.process_model.specs.declared.script.Keyword.TheVariants as word
 use Rattle.script_reader.specs.ReadResults.{GivesScript}
-use Rattle.script_reader.specs.Playable.{CanBoot, FitsFile, IsDeclared, IsPlayable}
+use Rattle.script_reader.specs.Playable.{CanBootIf, FitsFile, FitsItem, IsDeclared, IsPlayable, IsSound}
 use Rattle.script_reader.specs.declared.fault.ScriptError.{ScriptError}
 use Rattle.script_reader.proofs.Kept.{limited, below, at_most, all_and_one, one_file_more, HasPlace, item_has_place, IfItem, line_fits, IfRead, lines_kept}
-
--- what holds of the lines so far, of an item after them, and of what a line says
-abbrev CanBootIf : Option Config → Type 0
-CanBootIf None = Unit {0}
-CanBootIf (Some c) = CanBoot c
-
-record IsSound (d : Draft) : Type 0 where
-  pub boots : CanBootIf d.config
-  pub few : length d.files ≤ most_files
-  pub files : All FitsFile d.files
-  pub commands : All (IsDeclared d.files d.images) d.commands
-
-abbrev Fits : Draft → Item → Type 0
-Fits d (item.File f) = FitsFile f
-Fits d (item.Image i) = Unit {0}
-Fits d (item.Boot c) = CanBoot c
-Fits d (item.Command c) = IsDeclared d.files d.images c
 
 -- more files and images keep what is said of them
 still_declared : (fs gs : List FileText) (is js : List OwnedImage) (c : Command) → length fs ≤ length gs → length is ≤ length js → IsDeclared fs is c → IsDeclared gs js c
@@ -56,7 +39,7 @@ still_declared fs gs is js command.Audit l m h = tt
 all_declared : (fs gs : List FileText) (is js : List OwnedImage) (cs : List Command) → length fs ≤ length gs → length is ≤ length js → All (IsDeclared fs is) cs → All (IsDeclared gs js) cs
 all_declared fs gs is js cs l m h = λ k d lt. still_declared fs gs is js (get_or cs k d) l m (h k d lt)
 
-item_kept : (d : Draft) (i : Item) → IsSound d → HasPlace (Fits d) (has_room d) i → IsSound (with_item d i)
+item_kept : (d : Draft) (i : Item) → IsSound d → HasPlace (FitsItem d) (has_room d) i → IsSound (with_item d i)
 item_kept d (item.File f) s fits = record {
   boots = s.boots;
   few = one_file_more d.files f fits.1;
@@ -76,31 +59,31 @@ shown : (d : Draft) (n count most : ℕ) → (has_file d n && nat_le count most)
 shown d n count most e = (grind arith, grind arith)
 
 -- an item fits the lines before it
-item_fits : (d : Draft) (w : Keyword) (vs : List FieldValue) → IfOk (item_of d w vs) (Fits d)
-item_fits d word.File vs = limited (Fits d) _ _ (λ e. e)
+item_fits : (d : Draft) (w : Keyword) (vs : List FieldValue) → IfOk (item_of d w vs) (FitsItem d)
+item_fits d word.File vs = limited (FitsItem d) _ _ (λ e. e)
 item_fits d word.Image vs = tt
 item_fits d word.Elf vs = tt
-item_fits d word.Boot vs = limited (Fits d) _ _ (λ e. e)
-item_fits d word.Start vs = limited (Fits d) _ _ (λ e. below _ _ e)
+item_fits d word.Boot vs = limited (FitsItem d) _ _ (λ e. e)
+item_fits d word.Start vs = limited (FitsItem d) _ _ (λ e. below _ _ e)
 item_fits d word.Switch vs = tt
 item_fits d word.Trap vs = tt
 item_fits d word.Next vs = tt
 item_fits d word.Fill vs = tt
 item_fits d word.Evict vs = tt
 item_fits d word.Fetch vs = tt
-item_fits d word.Load vs = limited (Fits d) _ _ (λ e. tt)
-item_fits d word.Store vs = limited (Fits d) _ _ (λ e. tt)
+item_fits d word.Load vs = limited (FitsItem d) _ _ (λ e. tt)
+item_fits d word.Store vs = limited (FitsItem d) _ _ (λ e. tt)
 item_fits d word.Tramp vs = tt
 item_fits d word.Serve vs = tt
 item_fits d word.Fork vs = tt
-item_fits d word.Exec vs = limited (Fits d) _ _ (λ e. below _ _ e)
+item_fits d word.Exec vs = limited (FitsItem d) _ _ (λ e. below _ _ e)
 item_fits d word.Sbrk vs = tt
 item_fits d word.Mmap vs = tt
 item_fits d word.Munmap vs = tt
-item_fits d word.CopyIn vs = limited (Fits d) _ _ (λ e. tt)
-item_fits d word.CopyOut vs = limited (Fits d) _ _ (λ e. at_most _ _ e)
-item_fits d word.Exit vs = limited (Fits d) _ _ (λ e. tt)
-item_fits d word.Show vs = limited (Fits d) _ _ (λ e. shown d _ _ _ e)
+item_fits d word.CopyIn vs = limited (FitsItem d) _ _ (λ e. tt)
+item_fits d word.CopyOut vs = limited (FitsItem d) _ _ (λ e. at_most _ _ e)
+item_fits d word.Exit vs = limited (FitsItem d) _ _ (λ e. tt)
+item_fits d word.Show vs = limited (FitsItem d) _ _ (λ e. shown d _ _ _ e)
 item_fits d word.Audit vs = tt
 item_fits d word.On vs = tt
 item_fits d word.Enter vs = tt
@@ -109,13 +92,13 @@ item_fits d word.Fix vs = tt
 item_fits d word.Pool vs = tt
 item_fits d word.List vs = tt
 
-item_line_fits : (d : Draft) (text : List ℕ) (fields : List (List ℕ)) → IfOk (item_line d text fields) (HasPlace (Fits d) (has_room d))
+item_line_fits : (d : Draft) (text : List ℕ) (fields : List (List ℕ)) → IfOk (item_line d text fields) (HasPlace (FitsItem d) (has_room d))
 unfolding item_line
-item_line_fits d text fields = item_has_place command_table (in_order d) (item_of d) (has_room d) (Fits d) (item_fits d) text fields
+item_line_fits d text fields = item_has_place command_table (in_order d) (item_of d) (has_room d) (FitsItem d) (item_fits d) text fields
 
-line_has_place : (d : Draft) (line : List ℕ) → IfOk (line_of d line) (IfItem (HasPlace (Fits d) (has_room d)))
+line_has_place : (d : Draft) (line : List ℕ) → IfOk (line_of d line) (IfItem (HasPlace (FitsItem d) (has_room d)))
 unfolding line_of
-line_has_place d line = line_fits (item_line d) (HasPlace (Fits d) (has_room d)) (item_line_fits d) line
+line_has_place d line = line_fits (item_line d) (HasPlace (FitsItem d) (has_room d)) (item_line_fits d) line
 
 whole_with_playable : (d : Draft) (n : ℕ) (c : Option Config) → c ≡ d.config → IsSound d → IfOk (whole_with d n c) IsPlayable
 whole_with_playable d n None e s = tt
@@ -125,17 +108,26 @@ whole_playable : (read : Read) → IfRead IsSound read → IfOk (whole read) IsP
 whole_playable (Ok x) s = whole_with_playable x.0 x.1 (x.0).config refl s
 whole_playable (Err f) s = tt
 
-nothing_said : IsSound no_lines
+pub nothing_said : IsSound no_lines
 nothing_said = record { boots = tt; few = omega arith; files = All-nil FitsFile; commands = All-nil (IsDeclared [] []) }
 
 -- what is read as a script can be played
 script_playable : (bytes : List ℕ) → IfOk (script_of bytes) IsPlayable
 script_playable bytes =
     elim (nat_le (length bytes) longest_script) as (λ b. IfOk (if b then whole (read_lines (Ok (no_lines, 0)) (raw_lines bytes)) else Err (0, cause.TooLong)) IsPlayable) [
-      | true ↦ whole_playable (read_lines (Ok (no_lines, 0)) (raw_lines bytes)) (lines_kept line_of with_item IsSound (λ d i. HasPlace (Fits d) (has_room d) i) line_has_place item_kept (Ok (no_lines, 0)) (raw_lines bytes) nothing_said)
+      | true ↦ whole_playable (read_lines (Ok (no_lines, 0)) (raw_lines bytes)) (lines_kept line_of with_item IsSound (λ d i. HasPlace (FitsItem d) (has_room d) i) line_has_place item_kept (Ok (no_lines, 0)) (raw_lines bytes) nothing_said)
       | false ↦ tt
     ]
 
 pub answer_playable : (bytes : List ℕ) (r : Result Script ScriptError) → GivesScript (λ s. s) r (script_of bytes) → IfOk r IsPlayable
 answer_playable bytes (Ok s) e = let P : Result Script (ℕ × Cause) → Type 0 = λ r. IfOk r IsPlayable in subst P e (script_playable bytes)
 answer_playable bytes (Err e) h = tt
+
+item_of_line : (d : Draft) (i : Item) (said : Result (Option Item) Cause) → said ≡ Ok (Some i) → IfOk said (IfItem (HasPlace (FitsItem d) (has_room d))) → HasPlace (FitsItem d) (has_room d) i
+item_of_line d i said is has = subst (λ (x : Result (Option Item) Cause). IfOk x (IfItem (HasPlace (FitsItem d) (has_room d)))) is has
+
+pub line_item_fits : (d : Draft) (line : List ℕ) (i : Item) → line_of d line ≡ Ok (Some i) → FitsItem d i
+line_item_fits d line i is = (item_of_line d i (line_of d line) is (line_has_place d line)).0
+
+pub sound_with : (d : Draft) (line : List ℕ) (i : Item) → line_of d line ≡ Ok (Some i) → IsSound d → IsSound (with_item d i)
+sound_with d line i is s = item_kept d i s (item_of_line d i (line_of d line) is (line_has_place d line))

@@ -13,7 +13,7 @@ use process_model::{Cause, Config, FieldValue, FileText, Item, Keyword, OwnedIma
 use std::alloc::{AllocError, Global};
 
 /// The most bytes a file may have.
-const LONGEST_FILE: usize = 65_536;
+pub const LONGEST_FILE: usize = 65_536;
 
 /// Makes the file of `file LEN MODE HEX`.
 ///

@@ -60,6 +60,20 @@ impl Draft {
         }
     }
 
+    /// Returns the files that were declared.
+    pub fn files(&self) -> &[FileText]
+        ensures { result.now ≡ (self.now).files }
+    {
+        self.files.as_slice()
+    }
+
+    /// Returns the images that were declared.
+    pub fn images(&self) -> &[OwnedImage]
+        ensures { result.now ≡ (self.now).images }
+    {
+        self.images.as_slice()
+    }
+
     /// Whether the next line may have this word: until `boot` was read a declaration or `boot`, from then on any other.
     pub fn in_order(&self, word: Keyword) -> bool
         ensures { result ≡ words.in_order self.now word }

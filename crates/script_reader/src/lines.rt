@@ -1,7 +1,7 @@
 // Splits text without copying it: a text into lines, a line into fields (by spaces or tabs), a field into pieces (by
 // colons). And drops the carriage return at a line's end.
 
-ghost use Rattle.std.specs.Prelude.{◌≡◌, ◌<◌, ◌∷◌, [], length, MatchOption};
+ghost use Rattle.std.specs.Prelude.{◌≡◌, ◌<◌, ◌-◌, ◌++◌, ◌∷◌, [], drop, length, IfSome, MatchOption};
 ghost use Rattle.std.specs.List.{position_or_len, prefix_len};
 ghost use Rattle.process_model.specs.Lines as words;
 
@@ -62,6 +62,7 @@ fn field_len(line: &[u8]) -> usize
 pub fn first_field(line: &[u8]) -> Option<(&[u8], &[u8])>
     ensures field { MatchOption result (words.fields_of line.now ≡ []) (λ found. words.fields_of line.now ≡ found.0.now ∷ words.fields_of found.1.now) }
     ensures less { MatchOption result (Unit {0}) (λ found. length found.1.now < length line.now) }
+    ensures place { IfSome result (λ found. found.0.now ++ found.1.now ≡ drop (length line.now - length (found.0.now ++ found.1.now)) line.now) }
 {
     let (_, line) = line.split_at(blank_len(line));
     if line.is_empty() {

@@ -85,7 +85,11 @@ pub fn read_word(line: &[u8]) -> Result<Option<(&[u8], &[u8])>, LineFault>
     Ok(word_of_fields(line))
 }
 
-fn read_line(alloc: Global, draft: &Draft, line: &[u8]) -> Result<Option<Item>, LineFault>
+/// Returns what a line, without its end, declares or commands after those of the draft; `None` for an empty line and a comment.
+///
+/// # Errors
+/// `Cause`: the line has a fault, the first in the order of `Cause`. `Memory`: host memory was refused.
+pub fn line_item(alloc: Global, draft: &Draft, line: &[u8]) -> Result<Option<Item>, LineFault>
     ensures { GivesLine (λ x. x) result (words.line_of draft.now line.now) }
 {
     let Some((text, fields)) = read_word(line)? else {
@@ -107,7 +111,7 @@ pub fn add_line(
 ) -> Result<(), ScriptError>
     ensures { GivesScript (λ u. (draft.new, number)) result (words.with_line draft.old number (words.line_of draft.old line.now)) }
 {
-    match read_line(alloc, draft, line) {
+    match line_item(alloc, draft, line) {
         Ok(None) => Ok(()),
         Ok(Some(item)) => match draft.add(item) {
             Ok(()) => Ok(()),

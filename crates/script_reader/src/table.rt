@@ -36,7 +36,8 @@ fn make_row(text: &'static [u8], word: Keyword, kinds: &'static [FieldKind], tai
 impl Row {
     ghost use Rattle.script_reader.specs.Rows.{seen, kind_at};
 
-    fn all() -> [Row; 29]
+    /// Returns the rows of all words of scripts, in the order of the table.
+    pub fn all() -> [Row; 29]
         ensures { map seen result ≡ command_table }
     {
         let none = Tail::Nothing;

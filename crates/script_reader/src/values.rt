@@ -79,8 +79,12 @@ fn read_entry(field: &[u8]) -> Result<FieldValue, Cause>
     }
 }
 
-/// Parses a field of this kind. Its fault is `Number` for a number or a slot, and `Field` for every other kind.
-fn read_value(
+/// Parses a field of this kind. The outer error is the host's; the inner one is the fault of the field: `Number` for a number or a
+/// slot, and `Field` for every other kind.
+///
+/// # Errors
+/// `AllocError`: host memory was refused.
+pub fn read_value(
     alloc: Global,
     kind: FieldKind,
     field: &[u8],

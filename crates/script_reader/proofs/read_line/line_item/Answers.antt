@@ -1,7 +1,7 @@
 use Rattle.std.proofs.lemmas.Result.{err_from_is_err_and}
 use Rattle.process_model.specs.Script.{item_line, line_of}
 use Rattle.script_reader.proofs.Splitting.{err_said, none_said, item_err, item_said}
-use Rattle.script_reader.proofs.read_line.read_line.Goals as goal
+use Rattle.script_reader.proofs.read_line.line_item.Goals as goal
 
 pub returns-in_err-text : goal.returns-in_err-text
 unfolding line_of

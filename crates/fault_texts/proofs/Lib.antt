@@ -1,0 +1,11 @@
+pub mod Ends
+pub mod Drops
+pub mod Pieces
+pub mod Rows
+pub mod Causes
+pub mod Refusals
+pub mod Found
+pub mod PlacesOfKinds
+pub mod Awaits
+pub mod Rooms
+pub mod RefusedLines

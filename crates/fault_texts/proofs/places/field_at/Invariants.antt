@@ -1,0 +1,11 @@
+use Rattle.std.proofs.Common.{◌≡◌, drop}
+use Rattle.process_model.specs.Lines.{fields_of}
+use Rattle.fault_texts.specs.Columns.{IsEndOf}
+use Rattle.fault_texts.proofs.places.field_at.Given as goal
+
+-- the fields so far are passed over
+abbrev pub invariant-fields : goal.invariant-fields
+invariant-fields l = record {
+  end : IsEndOf l.line l.rest;
+  passed : drop l._index (fields_of l.line) ≡ fields_of l.rest;
+}

@@ -1,0 +1,7 @@
+pub mod Causes
+pub mod Columns
+pub mod Counts
+pub mod Limits
+pub mod Mistakes
+pub mod Refused
+pub mod Unknown

@@ -1,0 +1,18 @@
+-- Whether a machine can boot with the values of a `boot` line (`boots`), and whether a script may have one more line with a word
+-- (`has_room_for`).
+use Rattle.std.specs.Prelude.{Bool, true, List, length, nat_lt, slice_get}
+use Rattle.process_model.specs.Frames.{can_boot}
+use Rattle.process_model.specs.Script.{Draft, as_scheme, most_commands, most_files, most_images, number_at}
+use Rattle.process_model.specs.declared.script.FieldValue.{FieldValue}
+use Rattle.process_model.specs.declared.script.Keyword.{Keyword}
+use Rattle.process_model.specs.declared.script.Keyword.TheVariants as word
+
+abbrev pub boots : List FieldValue → Bool
+boots vs = can_boot (as_scheme (slice_get vs 4)) (number_at vs 0) (number_at vs 1) (number_at vs 2)
+
+abbrev pub has_room_for : Draft → Keyword → Bool
+has_room_for d word.File = nat_lt (length d.files) most_files
+has_room_for d word.Image = nat_lt (length d.images) most_images
+has_room_for d word.Elf = nat_lt (length d.images) most_images
+has_room_for d word.Boot = true
+has_room_for d _ = nat_lt (length d.commands) most_commands

@@ -1,0 +1,19 @@
+//! Why a line of a script was refused, and what would be right, in words for people: `explain` and `find_mistake`, for a line and its
+//! cause; `explain_end` and `explain_length`, for a script as a whole. And which check a program image fails: `explain_image`.
+#![tactic(auto)]
+
+mod explaining;
+mod field_count;
+mod field_forms;
+mod image_texts;
+mod limit_texts;
+mod mistake;
+mod near_words;
+mod places;
+mod quoting;
+mod segment_forms;
+
+pub use explaining::{explain, explain_end, explain_length, find_mistake};
+pub use field_count::field_names;
+pub use image_texts::explain_image;
+pub use mistake::Mistake;

@@ -1,0 +1,3 @@
+pub mod Still
+mod Items
+mod Lines

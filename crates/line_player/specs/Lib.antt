@@ -1,0 +1,2 @@
+pub mod PlayedLines
+pub mod Answers

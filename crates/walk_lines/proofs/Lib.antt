@@ -1,0 +1,7 @@
+mod Entries
+mod Examples
+mod Found
+mod Listed
+mod OneListing
+mod Pages
+mod Wide

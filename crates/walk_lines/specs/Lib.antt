@@ -1,0 +1,4 @@
+pub mod Walks
+pub mod Listings
+pub mod Below
+pub mod Texts
