@@ -1,0 +1,118 @@
+// `Fault` (enum): why the program ends early, with the text that it prints on standard error and its exit status.
+
+use crate::screen::Screen;
+use clap::error::ErrorKind;
+use std::alloc::{AllocError, Global};
+use std::{fmt, io};
+
+/// Why the program ends before its end.
+#[derive(Debug, Drop)]
+pub enum Fault {
+    /// The command line is wrong, or asks for help.
+    Words(clap::Error),
+    /// The host is out of memory.
+    Memory,
+    /// A script cannot be opened or read.
+    File(String, io::Error),
+    /// A script cannot be read, of which only the reader is known.
+    Read(io::Error),
+    /// Printing fails.
+    Io(io::Error),
+    /// A script is refused, or answers differ; it was told.
+    Told,
+}
+
+impl Fault {
+    /// Returns the exit status: 2 for a wrong command line, 0 if it asks for help, else 1.
+    pub fn status(&self) -> u8 {
+        match self {
+            Fault::Words(error) if error.exit_code() == 0 => 0,
+            Fault::Words(_) => 2,
+            Fault::Memory | Fault::File(_, _) | Fault::Read(_) | Fault::Io(_) | Fault::Told => 1,
+        }
+    }
+}
+
+impl Fault {
+    /// Tells why the program ends, unless it was told.
+    ///
+    /// # Errors
+    /// `Io`: printing failed. `Memory`: the host is out of memory.
+    pub fn tell<S: Screen>(&self, alloc: Global, screen: &mut S) -> Result<(), Fault> {
+        match self {
+            Fault::Told => Ok(()),
+            Fault::Words(error) if error.exit_code() == 0 => {
+                screen.out(format!(in alloc; "{error}")?.as_str())
+            }
+            Fault::Words(error) => screen.err(format!(in alloc; "{error}")?.as_str()),
+            fault => screen.err(format!(in alloc; "{fault}\n")?.as_str()),
+        }
+    }
+}
+
+/// What failed, in words.
+#[derive(Clone, Copy)]
+struct Because<'a>(&'a io::Error);
+
+impl fmt::Display for Because<'_> {
+    fn fmt<W: fmt::Write>(&self, f: &mut fmt::Formatter<W>) -> fmt::Result {
+        match self.0.kind() {
+            io::ErrorKind::NotFound => write!(f, "No such file or directory"),
+            io::ErrorKind::PermissionDenied => write!(f, "Permission denied"),
+            io::ErrorKind::IsADirectory => write!(f, "Is a directory"),
+            _ => {
+                let error = self.0;
+                write!(f, "{error}")
+            }
+        }
+    }
+}
+
+impl fmt::Display for Fault {
+    fn fmt<W: fmt::Write>(&self, f: &mut fmt::Formatter<W>) -> fmt::Result {
+        match self {
+            Fault::Words(error) => write!(f, "{error}"),
+            Fault::Memory => write!(f, "xv6lab: out of memory"),
+            Fault::File(name, error) => {
+                let (name, because) = (name.as_str(), Because(error));
+                write!(f, "{name}: {because}")
+            }
+            Fault::Read(error) | Fault::Io(error) => {
+                let because = Because(error);
+                write!(f, "xv6lab: {because}")
+            }
+            Fault::Told => Ok(()),
+        }
+    }
+}
+
+impl From<AllocError> for Fault {
+    fn from(_e: AllocError) -> Fault {
+        Fault::Memory
+    }
+}
+
+impl From<io::Error> for Fault {
+    fn from(error: io::Error) -> Fault {
+        match error.kind() {
+            io::ErrorKind::OutOfMemory => Fault::Memory,
+            _ => Fault::Io(error),
+        }
+    }
+}
+
+impl From<clap::Error> for Fault {
+    fn from(error: clap::Error) -> Fault {
+        match error.kind() {
+            ErrorKind::OutOfMemory => Fault::Memory,
+            _ => Fault::Words(error),
+        }
+    }
+}
+
+/// A text in memory is written as JSON: no other error than of memory can come.
+impl From<serde_json::Error> for Fault {
+    fn from(_e: serde_json::Error) -> Fault {
+        Fault::Memory
+    }
+}

@@ -1,0 +1,132 @@
+// `do_words`: does what a command line of `xv6lab` says, with the files and the standard input of a `Host`.
+
+use crate::check::{BareLines, CheckLines, Tally};
+use crate::fault::Fault;
+use crate::play::{Listener, each_line};
+use crate::repl::ReplLines;
+use crate::run::RunLines;
+use crate::screen::Screen;
+use crate::show::ShowLines;
+use crate::trace::TraceLines;
+use crate::words::{Task, Words};
+use std::alloc::Global;
+use std::fs;
+use std::io::Read;
+use std::rt::Files;
+
+/// Where scripts come from.
+#[derive(Drop)]
+pub struct Host<'a, F: Files, I: Read + Drop> {
+    pub files: &'a F,
+    pub alloc: Global,
+    /// Standard input, until it was read.
+    pub input: Option<I>,
+}
+
+impl<F: Files, I: Read + Drop> Host<'_, F, I> {
+    /// Gives the lines of a script to a listener; `-` is standard input.
+    ///
+    /// # Errors
+    /// `File`: the script cannot be opened or read. Those of the listener.
+    fn play<S: Screen, L: Listener>(
+        &mut self,
+        screen: &mut S,
+        name: &str,
+        listener: &mut L,
+    ) -> Result<(), Fault> {
+        let alloc = self.alloc;
+        if name == "-" {
+            return match self.input.take() {
+                Some(input) => each_line(alloc, input, screen, listener),
+                None => each_line(alloc, b"".as_slice(), screen, listener),
+            };
+        }
+        let played = match fs::open(self.files, name) {
+            Ok(file) => each_line(alloc, file, screen, listener),
+            Err(error) => Err(Fault::Read(error)),
+        };
+        match played {
+            Err(Fault::Read(error)) => Err(Fault::File(String::from_str(alloc, name)?, error)),
+            played => played,
+        }
+    }
+
+    /// Does a task with one script.
+    fn do_one<S: Screen>(&mut self, screen: &mut S, task: Task, file: &str) -> Result<(), Fault> {
+        let alloc = self.alloc;
+        match task {
+            Task::Run => self.play(screen, file, &mut RunLines { alloc, file }),
+            Task::Bare => self.play(screen, file, &mut BareLines { alloc }),
+            Task::Show => self.play(screen, file, &mut ShowLines { alloc, file }),
+            Task::Trace(json) => self.play(screen, file, &mut TraceLines { alloc, file, json }),
+            Task::Check | Task::Repl => {
+                let mut listener = ReplLines::new(alloc, screen)?;
+                self.play(screen, "-", &mut listener)
+            }
+        }
+    }
+
+    /// Compares the answers of scripts with those that their lines expect, and prints how many differ.
+    ///
+    /// # Errors
+    /// `Told`: an answer differs, or a script is refused.
+    fn check<S: Screen>(&mut self, screen: &mut S, files: &[String]) -> Result<(), Fault> {
+        let alloc = self.alloc;
+        let mut tally = Tally {
+            files: 0,
+            answers: 0,
+            differ: 0,
+        };
+        for file in files {
+            let mut checked = CheckLines {
+                alloc,
+                file: file.as_str(),
+                tally,
+                differed: false,
+            };
+            self.play(screen, file.as_str(), &mut checked)?;
+            tally = checked.tally;
+            tally.files = tally.files.saturating_add(1);
+        }
+        screen.out(format!(in alloc; "{tally}\n")?.as_str())?;
+        if tally.differ > 0 {
+            return Err(Fault::Told);
+        }
+        Ok(())
+    }
+
+    /// Does what a command line says.
+    fn do_all<S: Screen>(&mut self, screen: &mut S, words: &Words) -> Result<(), Fault> {
+        match words.task {
+            Task::Check => self.check(screen, words.files.as_slice()),
+            Task::Repl => self.do_one(screen, Task::Repl, "-"),
+            task => {
+                for file in words.files.as_slice() {
+                    self.do_one(screen, task, file.as_str())?;
+                }
+                Ok(())
+            }
+        }
+    }
+}
+
+/// Does what a command line says, the program's name first, and tells on the screen why it ends early. Returns the exit status: 0; 1 if
+/// a script is refused, an answer differs, or the host fails; 2 if the command line is wrong.
+pub fn do_words<F: Files, I: Read + Drop, S: Screen>(
+    mut host: Host<'_, F, I>,
+    screen: &mut S,
+    words: &[String],
+) -> u8 {
+    let done = match Words::parse(host.alloc, words) {
+        Ok(words) => host.do_all(screen, &words),
+        Err(fault) => Err(fault),
+    };
+    match done {
+        Ok(()) => 0,
+        Err(fault) => {
+            // If printing fails too, only the exit status tells.
+            let _ = fault.tell(host.alloc, screen);
+            fault.status()
+        }
+    }
+}

@@ -1,0 +1,23 @@
+//! The words of the program `xv6lab`, which plays scripts of `xv6vm` for people: `run` prints the answers beside the lines, `check`
+//! compares them with those that the lines expect, `trace` tells what happens on each line, `show` answers questions about the
+//! machine between lines, and `repl` takes lines one by one. `do_words` does what a command line says; text goes to a `Screen`.
+#![tactic(auto)]
+
+mod check;
+mod expected;
+mod fault;
+mod lab;
+mod looks;
+mod mistakes;
+mod play;
+mod repl;
+mod run;
+mod screen;
+mod show;
+mod trace;
+mod words;
+
+pub use expected::{Expected, split};
+pub use fault::Fault;
+pub use lab::{Host, do_words};
+pub use screen::Screen;

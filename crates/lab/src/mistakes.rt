@@ -1,0 +1,73 @@
+// Why a script is refused, told on standard error as `FILE:LINE:COLUMN: TEXT`.
+
+ghost use Rattle.line_player.specs.Answers.{HasPlayed};
+ghost use Rattle.line_player.specs.PlayedLines.{Played};
+
+use crate::fault::Fault;
+use crate::screen::Screen;
+use fault_texts::{Mistake, explain, explain_end};
+use line_player::LinePlayer;
+use process_model::Cause;
+use script_reader::trim_return;
+use std::alloc::{AllocError, Global};
+use std::fmt;
+
+/// Where a line of a script is, as `FILE:LINE`.
+#[derive(Clone, Copy, Debug)]
+pub struct Place<'a> {
+    pub file: &'a str,
+    /// The number of the line, from 1.
+    pub line: u64,
+}
+
+impl fmt::Display for Place<'_> {
+    fn fmt<W: fmt::Write>(&self, f: &mut fmt::Formatter<W>) -> fmt::Result {
+        let (file, line) = (self.file, self.line);
+        write!(f, "{file}:{line}")
+    }
+}
+
+/// Returns a mistake of the line at a place, as it is told.
+fn told(alloc: Global, place: Place<'_>, mistake: &Mistake) -> Result<String, AllocError> {
+    let text = mistake.text.as_str();
+    match mistake.column {
+        Some(column) => format!(in alloc; "{place}:{column}: {text}\n"),
+        None => format!(in alloc; "{place}: {text}\n"),
+    }
+}
+
+/// Tells why a line is refused, and returns `Told`.
+pub fn tell_refused<S: Screen>(
+    alloc: Global,
+    screen: &mut S,
+    place: Place<'_>,
+    player: &LinePlayer,
+    line: &[u8],
+    cause: Cause,
+) -> Result<(), Fault> {
+    let mistake = explain(alloc, player.draft(), trim_return(line), cause)?;
+    screen.err(told(alloc, place, &mistake)?.as_str())?;
+    Err(Fault::Told)
+}
+
+/// Tells that a script has no `boot`, and returns `Told`, if that is so.
+pub fn tell_end<S: Screen>(
+    alloc: Global,
+    screen: &mut S,
+    file: &str,
+    player: &LinePlayer,
+    lines: u64,
+) -> Result<(), Fault>
+    requires played { (s : Played) × HasPlayed player.now s }
+{
+    if player.machine().is_some() {
+        return Ok(());
+    }
+    let place = Place {
+        file,
+        line: lines.saturating_add(1),
+    };
+    let text = explain_end();
+    screen.err(format!(in alloc; "{place}: {text}\n")?.as_str())?;
+    Err(Fault::Told)
+}

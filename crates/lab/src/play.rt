@@ -1,0 +1,84 @@
+// `each_line`: reads a script line by line and gives each line to a `Listener`.
+
+ghost use Rattle.std.specs.Prelude.{IfOk};
+ghost use Rattle.line_player.specs.Answers.{HasPlayed};
+ghost use Rattle.line_player.specs.PlayedLines.{Played};
+
+use crate::fault::Fault;
+use crate::screen::Screen;
+use line_player::LinePlayer;
+use std::alloc::Global;
+use std::io;
+use std::io::{BufRead, BufReader, Read};
+
+/// What is done with the lines of a script.
+pub trait Listener {
+    /// Does what is to be done with a line, without its line feed; it is the `number`th, from 1.
+    fn line<S: Screen>(
+        &mut self,
+        screen: &mut S,
+        player: &mut LinePlayer,
+        number: u64,
+        line: &[u8],
+    ) -> Result<(), Fault>
+        requires played { (s : Played) × HasPlayed player.old s }
+        ensures played { IfOk result (λ _. (s : Played) × HasPlayed player.new s) };
+
+    /// Does what is to be done after the last line; `lines` is how many there were.
+    fn end<S: Screen>(
+        &mut self,
+        screen: &mut S,
+        player: &LinePlayer,
+        lines: u64,
+    ) -> Result<(), Fault>
+        requires played { (s : Played) × HasPlayed player.now s };
+}
+
+/// Returns a line without its line feed.
+fn without_feed(line: &[u8]) -> &[u8] {
+    match line {
+        [front @ .., b'\n'] => front,
+        _ => line,
+    }
+}
+
+/// Reads the next line with its line feed, and returns how many bytes it has: 0 at the end.
+///
+/// # Errors
+/// `Read`: the reader failed. `Memory`: the host is out of memory.
+fn read_line<R: Read + Drop>(
+    reader: &mut BufReader<R>,
+    line: &mut Vec<u8>,
+) -> Result<usize, Fault> {
+    reader
+        .read_until(b'\n', line)
+        .map_err(|error| match error.kind() {
+            io::ErrorKind::OutOfMemory => Fault::Memory,
+            _ => Fault::Read(error),
+        })
+}
+
+/// Reads a script to its end and gives each of its lines to the listener, with a player that has taken no line at first.
+///
+/// # Errors
+/// The first of the listener; `Read`: the reader failed; `Memory`: the host is out of memory.
+pub fn each_line<R: Read + Drop, S: Screen, L: Listener>(
+    alloc: Global,
+    reader: R,
+    screen: &mut S,
+    listener: &mut L,
+) -> Result<(), Fault> {
+    let mut player = LinePlayer::new(alloc)?;
+    let mut reader = BufReader::new(alloc, reader)?;
+    let mut line = Vec::new(alloc);
+    let mut lines = 0;
+    'lines: for number in 1..u64::MAX {
+        line.clear();
+        if read_line(&mut reader, &mut line)? == 0 {
+            break;
+        }
+        lines = number;
+        listener.line(screen, &mut player, number, without_feed(line.as_slice()))?;
+    }
+    listener.end(screen, &player, lines)
+}

@@ -1,0 +1,197 @@
+// `ReplLines`: each line is answered at once. A faulty line is forgotten with its error; `?` tells the lines, `undo` takes the last
+// back, and questions about the machine are answered.
+
+ghost use Rattle.std.specs.Prelude.{IfOk};
+ghost use Rattle.line_player.specs.Answers.{HasPlayed};
+ghost use Rattle.line_player.specs.PlayedLines.{Played};
+
+use crate::expected::split;
+use crate::fault::Fault;
+use crate::looks::{Asked, Look, NO_MACHINE, look_of, put_look};
+use crate::play::Listener;
+use crate::screen::Screen;
+use fault_texts::{explain, field_names};
+use line_player::{LinePlayer, LineReply};
+use line_traces::image_note;
+use process_model::Cause;
+use script_reader::{Row, trim_return};
+use std::alloc::{AllocError, Global};
+
+/// What is printed, on standard error, when a line may be typed.
+const PROMPT: &str = "> ";
+
+/// What `?` tells of the lines that are no lines of a script.
+const OWN_LINES: &str = "  regions SLOT\n  vmprint SLOT\n  tlb HART\n  frames\n  undo\n  ?\n";
+
+/// Answers each line at once.
+#[derive(Drop)]
+pub struct ReplLines {
+    alloc: Global,
+    /// The lines that were taken, of which `undo` takes the last back.
+    taken: Vec<Vec<u8>>,
+}
+
+/// Returns a player that has taken these lines.
+///
+/// # Errors
+/// `AllocError`: the host is out of memory.
+fn replayed(alloc: Global, lines: &[Vec<u8>]) -> Result<LinePlayer, AllocError>
+    ensures { IfOk result (λ player. (s : Played) × HasPlayed player s) }
+{
+    let mut player = LinePlayer::new(alloc)?;
+    'lines: for line in lines {
+        player.line(line.as_slice())?;
+    }
+    Ok(player)
+}
+
+impl ReplLines {
+    /// Asks for the first line.
+    ///
+    /// # Errors
+    /// `Io`: printing failed.
+    pub fn new<S: Screen>(alloc: Global, screen: &mut S) -> Result<ReplLines, Fault> {
+        screen.err(PROMPT)?;
+        Ok(ReplLines {
+            alloc,
+            taken: Vec::new(alloc),
+        })
+    }
+
+    /// Prints the words of lines with their fields.
+    fn tell_lines<S: Screen>(&self, screen: &mut S) -> Result<(), Fault> {
+        let mut text = String::new(self.alloc);
+        for row in Row::all().as_slice() {
+            let word = std::str::from_utf8(row.text).unwrap_or("?");
+            let fields = field_names(row.word);
+            if row.kinds.is_empty() {
+                writeln!(&mut text, "  {word}")?;
+            } else {
+                writeln!(&mut text, "  {word} {fields}")?;
+            }
+        }
+        text.push_str(OWN_LINES)?;
+        screen.out(text.as_str())
+    }
+
+    /// Takes the last line back.
+    fn undo<S: Screen>(&mut self, screen: &mut S, player: &mut LinePlayer) -> Result<(), Fault>
+        requires played { (s : Played) × HasPlayed player.old s }
+        ensures played { IfOk result (λ _. (s : Played) × HasPlayed player.new s) }
+    {
+        let Some(last) = self.taken.pop() else {
+            return screen.out("there is no line to take back\n");
+        };
+        *player = replayed(self.alloc, self.taken.as_slice())?;
+        let text = std::str::from_utf8(last.as_slice()).unwrap_or("?");
+        screen.out(format!(in self.alloc; "took back: {text}\n")?.as_str())
+    }
+
+    /// Prints the answer to a question about the machine.
+    fn look<S: Screen>(&self, screen: &mut S, player: &LinePlayer, look: Look) -> Result<(), Fault>
+        requires played { (s : Played) × HasPlayed player.now s }
+    {
+        let Some(machine) = player.machine() else {
+            return screen.out(format!(in self.alloc; "{NO_MACHINE}\n")?.as_str());
+        };
+        let mut text = String::new(self.alloc);
+        put_look(&mut text, machine, look)?;
+        screen.out(text.as_str())
+    }
+
+    /// Prints why a line is refused.
+    fn tell<S: Screen>(
+        &self,
+        screen: &mut S,
+        player: &LinePlayer,
+        line: &[u8],
+        cause: Cause,
+    ) -> Result<(), Fault> {
+        let mistake = explain(self.alloc, player.draft(), trim_return(line), cause)?;
+        let text = mistake.text.as_str();
+        let told = match mistake.column {
+            Some(column) => format!(in self.alloc; "column {column}: {text}\n")?,
+            None => format!(in self.alloc; "{text}\n")?,
+        };
+        screen.out(told.as_str())
+    }
+
+    /// Keeps a line that was taken.
+    fn keep(&mut self, line: &[u8]) -> Result<(), AllocError> {
+        let line = Vec::from_slice(self.alloc, line)?;
+        self.taken.push(line).map_err(AllocError::from)
+    }
+
+    /// Plays a line of a script, and prints its answer.
+    fn play<S: Screen>(
+        &mut self,
+        screen: &mut S,
+        player: &mut LinePlayer,
+        line: &[u8],
+    ) -> Result<(), Fault>
+        requires played { (s : Played) × HasPlayed player.old s }
+        ensures played { IfOk result (λ _. (s : Played) × HasPlayed player.new s) }
+    {
+        match player.line(line)? {
+            LineReply::Refused(cause) => self.tell(screen, player, line, cause),
+            LineReply::Nothing => {
+                self.keep(line)?;
+                Ok(())
+            }
+            LineReply::Text => {
+                self.keep(line)?;
+                let answer = std::str::from_utf8(player.answer()).unwrap_or("?");
+                screen.out(format!(in self.alloc; "{answer}\n")?.as_str())?;
+                match image_note(self.alloc, player, line)? {
+                    Some(note) => screen.out(format!(in self.alloc; "{note}\n")?.as_str()),
+                    None => Ok(()),
+                }
+            }
+        }
+    }
+
+    /// Does what a line asks for.
+    fn answer<S: Screen>(
+        &mut self,
+        screen: &mut S,
+        player: &mut LinePlayer,
+        line: &[u8],
+    ) -> Result<(), Fault>
+        requires played { (s : Played) × HasPlayed player.old s }
+        ensures played { IfOk result (λ _. (s : Played) × HasPlayed player.new s) }
+    {
+        match line.trim_ascii() {
+            b"?" => self.tell_lines(screen),
+            b"undo" => self.undo(screen, player),
+            _ => match look_of(line) {
+                Asked::No => self.play(screen, player, line),
+                Asked::Yes(look) => self.look(screen, player, look),
+                Asked::Wrong(text) => {
+                    screen.out(format!(in self.alloc; "column 1: {text}\n")?.as_str())
+                }
+            },
+        }
+    }
+}
+
+impl Listener for ReplLines {
+    fn line<S: Screen>(
+        &mut self,
+        screen: &mut S,
+        player: &mut LinePlayer,
+        _number: u64,
+        line: &[u8],
+    ) -> Result<(), Fault> {
+        self.answer(screen, player, split(line).line)?;
+        screen.err(PROMPT)
+    }
+
+    fn end<S: Screen>(
+        &mut self,
+        screen: &mut S,
+        _player: &LinePlayer,
+        _lines: u64,
+    ) -> Result<(), Fault> {
+        screen.err("\n")
+    }
+}

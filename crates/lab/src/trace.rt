@@ -1,0 +1,67 @@
+// `TraceLines`: what happens on each line is printed, as text or as JSON.
+
+ghost use Rattle.std.specs.Prelude.{IfOk};
+ghost use Rattle.line_player.specs.Answers.{HasPlayed};
+ghost use Rattle.line_player.specs.PlayedLines.{Played};
+
+use crate::expected::split;
+use crate::fault::Fault;
+use crate::mistakes::{Place, tell_end, tell_refused};
+use crate::play::Listener;
+use crate::screen::Screen;
+use line_player::{LinePlayer, LineReply};
+use line_traces::{LineTrace, put_trace, trace_line};
+use std::alloc::Global;
+
+/// Prints what happens on each line.
+#[derive(Drop)]
+pub struct TraceLines<'a> {
+    pub alloc: Global,
+    pub file: &'a str,
+    /// Whether one JSON object a line is printed in place of text.
+    pub json: bool,
+}
+
+impl TraceLines<'_> {
+    /// Prints what happened on a line.
+    fn print<S: Screen>(&self, screen: &mut S, trace: &LineTrace) -> Result<(), Fault> {
+        let mut text = String::new(self.alloc);
+        if self.json {
+            text.push_str(serde_json::to_string(self.alloc, trace)?.as_str())?;
+            text.push_str("\n")?;
+        } else {
+            put_trace(&mut text, trace)?;
+        }
+        screen.out(text.as_str())
+    }
+}
+
+impl Listener for TraceLines<'_> {
+    fn line<S: Screen>(
+        &mut self,
+        screen: &mut S,
+        player: &mut LinePlayer,
+        number: u64,
+        line: &[u8],
+    ) -> Result<(), Fault> {
+        let bare = split(line).line;
+        let trace = trace_line(self.alloc, player, number, bare)?;
+        if let LineReply::Refused(cause) = trace.reply {
+            let place = Place {
+                file: self.file,
+                line: number,
+            };
+            return tell_refused(self.alloc, screen, place, player, bare, cause);
+        }
+        self.print(screen, &trace)
+    }
+
+    fn end<S: Screen>(
+        &mut self,
+        screen: &mut S,
+        player: &LinePlayer,
+        lines: u64,
+    ) -> Result<(), Fault> {
+        tell_end(self.alloc, screen, self.file, player, lines)
+    }
+}

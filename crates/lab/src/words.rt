@@ -1,0 +1,127 @@
+// `Words` (struct): a parsed command line of `xv6lab`: its task (`Task`, enum) with its files; `parse` makes one.
+
+use crate::fault::Fault;
+use clap::{Arg, ArgAction, ArgMatches, Command};
+use std::alloc::{AllocError, Global};
+
+/// What the program does.
+#[derive(Clone, Copy, PartialEq, Eq, Debug)]
+pub enum Task {
+    /// Plays a script and prints each line with its answer.
+    Run,
+    /// Plays scripts and compares the answers with those that their lines expect.
+    Check,
+    /// Prints a script without the answers that its lines expect.
+    Bare,
+    /// Plays a script and prints what happens on each line; as one JSON object a line, if so.
+    Trace(bool),
+    /// Plays a script, some of whose lines may ask for a look at the machine.
+    Show,
+    /// Plays the lines of standard input one by one.
+    Repl,
+}
+
+/// A parsed command line.
+#[derive(Debug, Drop)]
+pub struct Words {
+    pub task: Task,
+    /// The paths of the scripts, `-` for standard input; none for `Repl`.
+    pub files: Vec<String>,
+}
+
+/// Returns the argument FILE of a word that takes one script.
+fn file<'a>(alloc: Global) -> Arg<'a> {
+    Arg::new(alloc, "FILE")
+        .required(true)
+        .action(ArgAction::Set)
+        .help("The script; - is standard input")
+}
+
+/// Returns the word `check`.
+fn check<'a>(alloc: Global) -> Result<Command<'a>, AllocError> {
+    let files = Arg::new(alloc, "FILE")
+        .required(true)
+        .action(ArgAction::Append)
+        .num_args(1..)
+        .help("The scripts; - is standard input");
+    let bare = Arg::new(alloc, "bare")
+        .long("bare")
+        .action(ArgAction::SetTrue)
+        .help("Print the scripts without their => ANSWER, for xv6vm play");
+    Command::new(alloc, "check")
+        .about("Compare answers: a line may end with => ANSWER")
+        .arg(files)?
+        .arg(bare)
+}
+
+/// Returns the word `trace`.
+fn trace<'a>(alloc: Global) -> Result<Command<'a>, AllocError> {
+    let json = Arg::new(alloc, "json")
+        .long("json")
+        .action(ArgAction::SetTrue)
+        .help("Print one JSON object a line");
+    Command::new(alloc, "trace")
+        .about("See what happens on each line: regions, rules, walks, buffers, frames")
+        .arg(file(alloc))?
+        .arg(json)
+}
+
+/// Returns the form of the command line.
+fn command<'a>(alloc: Global) -> Result<Command<'a>, AllocError> {
+    let run = Command::new(alloc, "run")
+        .about("Play a script and print each line with its answer")
+        .arg(file(alloc))?;
+    let show = Command::new(alloc, "show")
+        .about("Play a script that may also ask: regions S, vmprint S, tlb H, frames")
+        .arg(file(alloc))?;
+    let repl = Command::new(alloc, "repl").about(
+        "Play the lines of standard input one by one; ? tells the lines",
+    );
+    Command::new(alloc, "xv6lab")
+        .about(
+            "Plays scripts against the virtual memory of xv6-riscv, for people. docs/WORKBENCH.md has an example of each word",
+        )
+        .subcommand_required(true)
+        .subcommand(run)?
+        .subcommand(check(alloc)?)?
+        .subcommand(trace(alloc)?)?
+        .subcommand(show)?
+        .subcommand(repl)
+}
+
+/// Returns the task of a word, with its flags.
+fn task_of(name: &str, given: &ArgMatches<'_>) -> Task {
+    match name {
+        "run" => Task::Run,
+        "check" if given.get_flag("bare") => Task::Bare,
+        "check" => Task::Check,
+        "trace" => Task::Trace(given.get_flag("json")),
+        "show" => Task::Show,
+        _ => Task::Repl,
+    }
+}
+
+impl Words {
+    /// Returns the parsed command line for its words, the program's name first.
+    ///
+    /// # Errors
+    /// `Words`: they are wrong, or ask for help. `Memory`: the host is out of memory.
+    pub fn parse(alloc: Global, words: &[String]) -> Result<Words, Fault> {
+        let matches = command(alloc)?.try_get_matches_from(words)?;
+        let mut files = Vec::new(alloc);
+        let Some((name, given)) = matches.subcommand() else {
+            return Ok(Words {
+                task: Task::Repl,
+                files,
+            });
+        };
+        let task = task_of(name, given);
+        if let Some(given) = given.get_strs("FILE") {
+            for file in given {
+                let file = String::from_str(alloc, file)?;
+                files.push(file).map_err(AllocError::from)?;
+            }
+        }
+        Ok(Words { task, files })
+    }
+}

@@ -1,0 +1,147 @@
+// `AccessLine`: a user access with the region that grants it or the rule that denies it; and `reason`, why an access faults that a
+// region grants.
+
+use crate::numbers::Hex;
+use crate::regions::RegionLine;
+use crate::walks::WalkLine;
+use hart_machine::Machine;
+use serde::Serialize;
+use std::fmt;
+use sv39_entry::{Access, Entry, EntryFlags, Kind, Rule, Va};
+
+/// A rule that denies an access.
+#[derive(Clone, Copy, PartialEq, Eq, Debug, Serialize)]
+pub struct RuleLine {
+    /// Its number, 1 to 9.
+    pub number: u64,
+    pub name: &'static str,
+}
+
+/// A user access, and how the regions of the process decide it.
+#[derive(Clone, Copy, PartialEq, Eq, Debug, Serialize)]
+pub struct AccessLine {
+    /// `fetch`, `load` or `store`.
+    pub access: &'static str,
+    pub address: Hex,
+    /// In bytes.
+    pub width: u64,
+    /// The region that holds the address.
+    #[serde(skip_serializing_if = "Option::is_none")]
+    pub region: Option<RegionLine>,
+    /// The first rule that denies the access; none if the region grants it.
+    #[serde(skip_serializing_if = "Option::is_none")]
+    pub rule: Option<RuleLine>,
+}
+
+/// Returns the name of an access, as a line begins.
+pub fn access_name(access: Access) -> &'static str {
+    match access {
+        Access::Fetch => "fetch",
+        Access::Load => "load",
+        Access::Store => "store",
+    }
+}
+
+impl AccessLine {
+    /// Returns an access of `width` bytes by the process in a slot, and how its regions decide it; `None` if the slot has no process,
+    /// or `width` is 0.
+    pub fn of(
+        machine: &Machine,
+        slot: usize,
+        access: Access,
+        va: Va,
+        width: u64,
+    ) -> Option<AccessLine> {
+        if width == 0 {
+            return None;
+        }
+        let rule = match machine.granted(slot, access, va, width)? {
+            Ok(()) => None,
+            Err(rule) => Some(RuleLine {
+                number: rule.number(),
+                name: rule.name(),
+            }),
+        };
+        Some(AccessLine {
+            access: access_name(access),
+            address: Hex(va.0),
+            width,
+            region: machine.region(slot, va).map(RegionLine::of),
+            rule,
+        })
+    }
+}
+
+/// A region as text after a comma; nothing for none.
+#[derive(Clone, Copy)]
+struct InRegion(Option<RegionLine>);
+
+impl fmt::Display for InRegion {
+    fn fmt<W: fmt::Write>(&self, f: &mut fmt::Formatter<W>) -> fmt::Result {
+        match self.0 {
+            Some(region) => write!(f, ", in {region}"),
+            None => Ok(()),
+        }
+    }
+}
+
+/// For example `regions: store of 1 byte at 0x1000 granted, in segment 0x1000..0x2000 rw-`.
+impl fmt::Display for AccessLine {
+    fn fmt<W: fmt::Write>(&self, f: &mut fmt::Formatter<W>) -> fmt::Result {
+        let AccessLine {
+            access,
+            address,
+            width,
+            ..
+        } = *self;
+        let (bytes, region) = (
+            if width == 1 { "byte" } else { "bytes" },
+            InRegion(self.region),
+        );
+        match self.rule {
+            Some(RuleLine { number, name }) => write!(
+                f,
+                "regions: {access} of {width} {bytes} at {address} denied by rule {number} {name}{region}"
+            ),
+            None => write!(
+                f,
+                "regions: {access} of {width} {bytes} at {address} granted{region}"
+            ),
+        }
+    }
+}
+
+/// Returns why an access faults that the regions grant: by the word of the leaf that it uses, and by how many references the leaf's frame
+/// has. `None` if the leaf permits it.
+pub fn reason(access: Access, leaf: Option<u64>, references: Option<u16>) -> Option<&'static str> {
+    let Some(word) = leaf else {
+        return Some("the page has no leaf: to serve the fault is to give it a frame");
+    };
+    let entry = Entry::from_word(word);
+    if access != Access::Store {
+        return None;
+    }
+    if entry.has(EntryFlags::COPY_ON_WRITE) {
+        return Some(match references {
+            Some(1) =>
+                "the leaf lacks W and has C (copy-on-write), and its frame has no other reference: to serve the fault is to set W again",
+            _ =>
+                "the leaf lacks W and has C (copy-on-write), and its frame has another reference: to serve the fault is to copy the page",
+        });
+    }
+    if !entry.has(EntryFlags::DIRTY) {
+        return Some(
+            "the leaf lacks D: to serve the fault is to mark the page to be written back to its file",
+        );
+    }
+    None
+}
+
+/// Returns the word of the leaf in which a walk ends, `None` if it finds none.
+pub fn leaf_of(walk: &[WalkLine]) -> Option<u64> {
+    let word = walk.last()?.entry.word?;
+    match Entry::from_word(word).kind() {
+        Kind::Leaf => Some(word),
+        Kind::Invalid | Kind::Pointer => None,
+    }
+}

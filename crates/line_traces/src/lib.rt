@@ -1,0 +1,29 @@
+//! What happens on a line of a script, as data, as text for people and as JSON: where the hart is, the region that grants an access or the
+//! rule that denies it, what the page table walk reads, which entry of the buffer (TLB) was used, which frames were taken and given
+//! back, which leaves changed, and what the buffer holds after it.
+#![tactic(auto)]
+
+mod accesses;
+mod buffers;
+mod frames;
+mod leaves;
+mod notes;
+mod numbers;
+mod places;
+mod regions;
+mod requests;
+mod text;
+mod traces;
+mod walks;
+
+pub use accesses::{AccessLine, RuleLine};
+pub use buffers::{BufferLine, LeafLine, buffer_of};
+pub use frames::{FrameChanges, Recount, frame_page};
+pub use leaves::{LeafChange, LeafWord};
+pub use notes::image_note;
+pub use numbers::{Hex, Letters};
+pub use places::{HartPlace, scheme_name};
+pub use regions::{RegionLine, rights_text};
+pub use text::put_trace;
+pub use traces::{LineTrace, trace_line};
+pub use walks::WalkLine;

@@ -1,0 +1,54 @@
+// `Hex`: a number that text and JSON have as `0x` and hexadecimal digits; and `Letters`, a page table entry that they have as its
+// flags.
+
+use serde::{Described, Serialize, Serializer};
+use std::fmt;
+use walk_lines::Flags;
+
+/// A number that is written in hexadecimal digits, as `0x1000`, in JSON as a text: many readers of JSON keep only 53 bits of a number.
+#[derive(Clone, Copy, PartialEq, Eq, Debug)]
+pub struct Hex(pub u64);
+
+impl fmt::Display for Hex {
+    ghost use Rattle.std.specs.Prelude.{Some};
+    ghost use Rattle.walk_lines.specs.Texts.{hexadecimal};
+
+    ghost output = { λ number. Some (hexadecimal number.0) };
+
+    fn fmt<W: fmt::Write>(&self, f: &mut fmt::Formatter<W>) -> fmt::Result {
+        let number = self.0;
+        write!(f, "0x{number:x}")
+    }
+}
+
+impl Described for Hex {}
+
+impl Serialize for Hex {
+    fn serialize<S: Serializer>(&self, out: &mut S) -> Result<(), S::Error> {
+        out.collect_str(self)
+    }
+}
+
+/// A page table entry, of which only the flags are written, by letters (`walk_lines::Flags`).
+#[derive(Clone, Copy, PartialEq, Eq, Debug)]
+pub struct Letters(pub u64);
+
+impl fmt::Display for Letters {
+    ghost use Rattle.std.specs.Prelude.{Some};
+    ghost use Rattle.walk_lines.specs.Texts.{flags_text};
+
+    ghost output = { λ letters. Some (flags_text letters.0) };
+
+    fn fmt<W: fmt::Write>(&self, f: &mut fmt::Formatter<W>) -> fmt::Result {
+        let flags = Flags(self.0);
+        write!(f, "{flags}")
+    }
+}
+
+impl Described for Letters {}
+
+impl Serialize for Letters {
+    fn serialize<S: Serializer>(&self, out: &mut S) -> Result<(), S::Error> {
+        out.collect_str(self)
+    }
+}

@@ -1,0 +1,129 @@
+// `WalkLine`: a word that a page table walk read, with the number of references to the frame of a leaf; and `walk_of`, those of the
+// walk of an address.
+
+use crate::numbers::{Hex, Letters};
+use serde::{Described, Serialize, Serializer};
+use std::alloc::{AllocError, Global};
+use std::fmt;
+use sv39_entry::{Entry, FrameNo, Kind, Scheme, Va};
+use table_walk::PlainWords;
+use walk_lines::{WalkEntry, walk_entries};
+
+/// A word that a page table walk read.
+#[derive(Clone, Copy, PartialEq, Eq, Debug)]
+pub struct WalkLine {
+    pub entry: WalkEntry,
+    /// How many references the frame of a leaf has; `None` if the word is no leaf.
+    pub references: Option<u16>,
+}
+
+/// A word that a page table walk read, as JSON has it.
+#[derive(Clone, Copy, Serialize)]
+struct WalkObject {
+    level: u32,
+    /// The physical page number of the table, and the index in it.
+    table: Hex,
+    index: usize,
+    #[serde(skip_serializing_if = "Option::is_none")]
+    word: Option<Hex>,
+    #[serde(skip_serializing_if = "Option::is_none")]
+    flags: Option<Letters>,
+    kind: &'static str,
+    /// The physical page number of the table or the page that the word leads to.
+    #[serde(skip_serializing_if = "Option::is_none")]
+    ppn: Option<Hex>,
+    #[serde(skip_serializing_if = "Option::is_none")]
+    references: Option<u16>,
+}
+
+/// Returns what a word is to a walk, and the page number to which it leads.
+fn meaning(word: u64) -> (&'static str, Option<Hex>) {
+    let entry = Entry::from_word(word);
+    match entry.kind() {
+        Kind::Invalid => ("no leaf", None),
+        Kind::Pointer => ("table", Some(Hex(entry.ppn()))),
+        Kind::Leaf => ("leaf", Some(Hex(entry.ppn()))),
+    }
+}
+
+impl Described for WalkLine {}
+
+impl Serialize for WalkLine {
+    fn serialize<S: Serializer>(&self, out: &mut S) -> Result<(), S::Error> {
+        let entry = self.entry;
+        let (kind, ppn) = match entry.word {
+            Some(word) => meaning(word),
+            None => ("outside the memory", None),
+        };
+        let object = WalkObject {
+            level: entry.level,
+            table: Hex(entry.table),
+            index: entry.index,
+            word: entry.word.map(Hex),
+            flags: entry.word.map(Letters),
+            kind,
+            ppn,
+            references: self.references,
+        };
+        object.serialize(out)
+    }
+}
+
+/// How many references as text, after a comma; nothing for none.
+#[derive(Clone, Copy)]
+struct References(Option<u16>);
+
+impl fmt::Display for References {
+    fn fmt<W: fmt::Write>(&self, f: &mut fmt::Formatter<W>) -> fmt::Result {
+        match self.0 {
+            Some(1) => write!(f, ", 1 reference"),
+            Some(count) => write!(f, ", {count} references"),
+            None => Ok(()),
+        }
+    }
+}
+
+/// For example `level 0: 0x80012[1] = 0x200051d3 VR--U-A-C leaf 0x80014, 2 references`.
+impl fmt::Display for WalkLine {
+    fn fmt<W: fmt::Write>(&self, f: &mut fmt::Formatter<W>) -> fmt::Result {
+        let (entry, references) = (self.entry, References(self.references));
+        write!(f, "{entry}{references}")
+    }
+}
+
+/// Returns how many references the frame of a leaf has; `None` if the word is no leaf, or its page is outside the memory.
+pub fn reference_count(counts: &[u16], word: Option<u64>) -> Option<u16> {
+    let entry = Entry::from_word(word?);
+    match entry.kind() {
+        Kind::Leaf => {
+            let frame = FrameNo::from_ppn(entry.ppn())?;
+            counts.get(frame.0 as usize).copied()
+        }
+        Kind::Invalid | Kind::Pointer => None,
+    }
+}
+
+/// Returns the words that the walk of an address reads from a root on, the root's first. `words` are those of all frames, 512 of
+/// each, and `counts` the frames' reference counts.
+///
+/// # Errors
+/// `AllocError`: the host is out of memory.
+pub fn walk_of(
+    alloc: Global,
+    words: &[u64],
+    counts: &[u16],
+    scheme: Scheme,
+    root: u64,
+    va: Va,
+) -> Result<Vec<WalkLine>, AllocError> {
+    let mut memory = PlainWords::new(words);
+    let entries = walk_entries(&mut memory, scheme, root, va);
+    let mut lines = Vec::new(alloc);
+    for entry in entries.as_slice() {
+        lines.push(WalkLine {
+            entry: *entry,
+            references: reference_count(counts, entry.word),
+        })?;
+    }
+    Ok(lines)
+}
