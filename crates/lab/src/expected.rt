@@ -1,5 +1,10 @@
 // A line with the answer that it expects: `split` takes `LINE => ANSWER` apart.
 
+ghost use Rattle.std.specs.Prelude.{◌≡◌, ◌↔◌, IsTrue, MatchOption};
+ghost use Rattle.lab.specs.Expected.{IsComment, IsWhole, IsApart};
+
+use memchr::memmem;
+
 /// A line without the answer that it expects, and that answer. Blanks around both are dropped.
 #[derive(Clone, Copy, PartialEq, Eq, Debug)]
 pub struct Expected<'a> {
@@ -9,29 +14,26 @@ pub struct Expected<'a> {
 }
 
 /// Whether a line is a comment: its first byte that is no blank is `#`.
-fn is_comment(line: &[u8]) -> bool {
+fn is_comment(line: &[u8]) -> bool
+    ensures { IsTrue result ↔ IsComment line.now }
+{
     line.trim_ascii_start().starts_with(b"#")
 }
 
-/// Returns where `=>` begins in a line.
-fn arrow(line: &[u8]) -> Option<usize> {
-    line.windows(2).position(|two| two == b"=>".as_slice())
-}
-
 /// Splits a line, without its end, at its first `=>`. A comment has none.
-pub fn split(line: &[u8]) -> Expected<'_> {
+pub fn split(line: &[u8]) -> Expected<'_>
+    ensures { MatchOption result.answer (IsWhole line.now result.line.now) (λ answer. IsApart line.now result.line.now answer.now) }
+{
     let whole = Expected { line, answer: None };
     if is_comment(line) {
         return whole;
     }
-    let Some(at) = arrow(line) else {
+    let Some(at) = memmem::find(line, b"=>") else {
         return whole;
     };
-    let (Some(front), Some(back)) = (line.get(..at), line.get(at.saturating_add(2)..)) else {
-        return whole;
-    };
+    let (_, after) = line.split_at(at + 2);
     Expected {
-        line: front.trim_ascii_end(),
-        answer: Some(back.trim_ascii()),
+        line: line[..at].trim_ascii_end(),
+        answer: Some(after.trim_ascii()),
     }
 }

@@ -1,5 +1,7 @@
 // `Fault` (enum): why the program ends early, with the text that it prints on standard error and its exit status.
 
+ghost use Rattle.std.specs.Prelude.{◌≤◌};
+
 use crate::screen::Screen;
 use clap::error::ErrorKind;
 use std::alloc::{AllocError, Global};
@@ -24,7 +26,9 @@ pub enum Fault {
 
 impl Fault {
     /// Returns the exit status: 2 for a wrong command line, 0 if it asks for help, else 1.
-    pub fn status(&self) -> u8 {
+    pub fn status(&self) -> u8
+        ensures { result ≤ 2 }
+    {
         match self {
             Fault::Words(error) if error.exit_code() == 0 => 0,
             Fault::Words(_) => 2,

@@ -1,5 +1,7 @@
 // `do_words`: does what a command line of `xv6lab` says, with the files and the standard input of a `Host`.
 
+ghost use Rattle.std.specs.Prelude.{◌≤◌};
+
 use crate::check::{BareLines, CheckLines, Tally};
 use crate::fault::Fault;
 use crate::play::{Listener, each_line};
@@ -116,7 +118,9 @@ pub fn do_words<F: Files, I: Read + Drop, S: Screen>(
     mut host: Host<'_, F, I>,
     screen: &mut S,
     words: &[String],
-) -> u8 {
+) -> u8
+    ensures { result ≤ 2 }
+{
     let done = match Words::parse(host.alloc, words) {
         Ok(words) => host.do_all(screen, &words),
         Err(fault) => Err(fault),

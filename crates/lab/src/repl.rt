@@ -1,9 +1,9 @@
 // `ReplLines`: each line is answered at once. A faulty line is forgotten with its error; `?` tells the lines, `undo` takes the last
 // back, and questions about the machine are answered.
 
-ghost use Rattle.std.specs.Prelude.{IfOk};
+ghost use Rattle.std.specs.Prelude.{◌≡◌, ◌-◌, ◌<◌, IfOk, length, map, take};
 ghost use Rattle.line_player.specs.Answers.{HasPlayed};
-ghost use Rattle.line_player.specs.PlayedLines.{Played};
+ghost use Rattle.line_player.specs.PlayedLines.{Played, nothing_played, played_lines};
 
 use crate::expected::split;
 use crate::fault::Fault;
@@ -31,12 +31,12 @@ pub struct ReplLines {
     taken: Vec<Vec<u8>>,
 }
 
-/// Returns a player that has taken these lines.
+/// Returns a player that has taken these lines, and no others.
 ///
 /// # Errors
 /// `AllocError`: the host is out of memory.
 fn replayed(alloc: Global, lines: &[Vec<u8>]) -> Result<LinePlayer, AllocError>
-    ensures { IfOk result (λ player. (s : Played) × HasPlayed player s) }
+    ensures { IfOk result (λ player. HasPlayed player (played_lines nothing_played (map (λ line. line.items) lines.now))) }
 {
     let mut player = LinePlayer::new(alloc)?;
     'lines: for line in lines {
@@ -74,10 +74,12 @@ impl ReplLines {
         screen.out(text.as_str())
     }
 
-    /// Takes the last line back.
+    /// Takes the last line back: the player has then taken those before it, and no others.
     fn undo<S: Screen>(&mut self, screen: &mut S, player: &mut LinePlayer) -> Result<(), Fault>
         requires played { (s : Played) × HasPlayed player.old s }
         ensures played { IfOk result (λ _. (s : Played) × HasPlayed player.new s) }
+        ensures undone { IfOk result (λ _. 0 < length self.old.taken.items →
+            (self.new.taken.items ≡ take (length self.old.taken.items - 1) self.old.taken.items) × HasPlayed player.new (played_lines nothing_played (map (λ line. line.items) self.new.taken.items))) }
     {
         let Some(last) = self.taken.pop() else {
             return screen.out("there is no line to take back\n");

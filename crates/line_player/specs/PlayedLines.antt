@@ -1,5 +1,5 @@
 -- A script that is played line by line: what the lines so far declared and the world of the machine (`Played`), what one more line
--- makes of that and how it is answered (`next_answer`), and the answers of many lines (`played_text`).
+-- makes of that and how it is answered (`next_answer`), what many lines make of it (`played_lines`), and their answers (`played_text`).
 use Rattle.std.specs.Prelude.{ℕ, List, [], ◌∷◌, ◌++◌, Option, None, Some, Result, Ok, Err, map, codes}
 use Rattle.process_model.specs.Lines.{without_return}
 use Rattle.process_model.specs.Script.{Draft, file_of, line_of, no_lines, with_item}
@@ -56,3 +56,8 @@ reply_line (Refused c) = []
 abbrev pub played_text : Played → List (List ℕ) → List ℕ
 played_text s [] = []
 played_text s (line ∷ lines) = let a = next_answer s line in reply_line a.reply ++ played_text a.after lines
+
+-- what lines make of what was played before them, one after the other
+abbrev pub played_lines : Played → List (List ℕ) → Played
+played_lines s [] = s
+played_lines s (line ∷ lines) = played_lines (next_answer s line).after lines

@@ -1,23 +1,12 @@
 // `BufferLine`: an entry of a hart's buffer (TLB), as text and as JSON; and `buffer_of`, all of a hart.
 
-use crate::numbers::{Hex, Letters};
+use crate::leaves::LeafLine;
+use crate::numbers::Hex;
 use hart_machine::Machine;
 use hart_tlb::TlbEntry;
 use serde::Serialize;
 use std::alloc::{AllocError, Global};
 use std::fmt;
-use sv39_entry::{Entry, PAGE_SIZE};
-
-/// The leaf that an entry of a buffer records.
-#[derive(Clone, Copy, PartialEq, Eq, Debug, Serialize)]
-pub struct LeafLine {
-    /// Its level: 0 for a page of 4,096 bytes, 1 to 3 for superpages.
-    pub level: u32,
-    pub word: Hex,
-    pub flags: Letters,
-    /// The physical page number in it.
-    pub ppn: Hex,
-}
 
 /// An entry of a hart's buffer (TLB).
 #[derive(Clone, Copy, PartialEq, Eq, Debug, Serialize)]
@@ -37,17 +26,12 @@ impl BufferLine {
     /// Returns an entry as it is shown, with its number.
     pub fn of(number: usize, entry: TlbEntry) -> BufferLine {
         let leaf = match entry.leaf {
-            Some(leaf) => Some(LeafLine {
-                level: leaf.level(),
-                word: Hex(leaf.word()),
-                flags: Letters(leaf.word()),
-                ppn: Hex(Entry::from_word(leaf.word()).ppn()),
-            }),
+            Some(leaf) => Some(LeafLine::of(leaf.level(), leaf.word())),
             None => None,
         };
         BufferLine {
             number,
-            page: Hex(entry.page.number().wrapping_mul(PAGE_SIZE)),
+            page: Hex(entry.page.at(0).0),
             asid: entry.asid,
             global: entry.global,
             leaf,

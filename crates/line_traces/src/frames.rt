@@ -43,7 +43,7 @@ pub fn frame_page(number: usize) -> Option<Hex> {
 ///
 /// # Errors
 /// `AllocError`: the host is out of memory.
-pub fn changes(
+pub fn changed_frames(
     alloc: Global,
     before: &[u16],
     after: &[u16],

@@ -1,4 +1,5 @@
-// `LeafChange`: a leaf that a line changed; `leaves_of`, the leaves of a process; and `changed_leaves`, those that differ.
+// `LeafLine`: a leaf; `LeafChange`: a leaf that a line changed; `leaves_of`, the leaves of a process; and `changed_leaves`, those that
+// differ.
 
 ghost use Rattle.hart_machine.specs.BufferEntries.{IsInWorld};
 ghost use Rattle.process_model.specs.World.{World};
@@ -14,7 +15,9 @@ use walk_lines::{TableEntry, table_entries};
 
 /// A leaf, by its flags and the page to which it leads.
 #[derive(Clone, Copy, PartialEq, Eq, Debug, Serialize)]
-pub struct LeafWord {
+pub struct LeafLine {
+    /// Its level: 0 for a page of 4,096 bytes, 1 to 3 for superpages.
+    pub level: u32,
     pub word: Hex,
     pub flags: Letters,
     /// The physical page number in it.
@@ -26,13 +29,15 @@ pub struct LeafWord {
 pub struct LeafChange {
     /// The first address that it maps.
     pub address: Hex,
-    pub before: Option<LeafWord>,
-    pub after: Option<LeafWord>,
+    pub before: Option<LeafLine>,
+    pub after: Option<LeafLine>,
 }
 
-impl LeafWord {
-    fn of(word: u64) -> LeafWord {
-        LeafWord {
+impl LeafLine {
+    /// Returns the leaf of a level and a word, as it is shown.
+    pub fn of(level: u32, word: u64) -> LeafLine {
+        LeafLine {
+            level,
             word: Hex(word),
             flags: Letters(word),
             ppn: Hex(Entry::from_word(word).ppn()),
@@ -65,12 +70,12 @@ pub fn leaves_of(
     Ok(leaves)
 }
 
-/// Returns the word of the leaf of a page in a list of leaves; `None` if it has none.
-fn word_of(leaves: &[TableEntry], page: u64) -> Option<u64> {
+/// Returns the leaf of a page in a list of leaves; `None` if it has none.
+fn leaf_at(leaves: &[TableEntry], page: u64) -> Option<LeafLine> {
     leaves
         .iter()
         .find(|leaf| leaf.page == page)
-        .map(|leaf| leaf.word)
+        .map(|leaf| LeafLine::of(leaf.level, leaf.word))
 }
 
 /// Adds the leaves of one list that the other has otherwise; `lost` says that they are those from before the line, of which only the
@@ -83,11 +88,11 @@ fn add_changes(
     lost: bool,
 ) -> Result<(), AllocError> {
     for leaf in leaves {
-        let other = word_of(others, leaf.page);
-        if other == Some(leaf.word) || (lost && other.is_some()) {
+        let this = Some(LeafLine::of(leaf.level, leaf.word));
+        let other = leaf_at(others, leaf.page);
+        if other == this || (lost && other.is_some()) {
             continue;
         }
-        let (this, other) = (Some(LeafWord::of(leaf.word)), other.map(LeafWord::of));
         changes.push(LeafChange {
             address: Hex(leaf.first_address(machine.scheme()).0),
             before: if lost { this } else { other },
@@ -115,7 +120,7 @@ pub fn changed_leaves(
 
 /// A leaf as text, or that there is none.
 #[derive(Clone, Copy)]
-struct LeafText(Option<LeafWord>);
+struct LeafText(Option<LeafLine>);
 
 impl fmt::Display for LeafText {
     fn fmt<W: fmt::Write>(&self, f: &mut fmt::Formatter<W>) -> fmt::Result {

@@ -5,25 +5,29 @@
 
 mod accesses;
 mod buffers;
+mod changes;
 mod frames;
 mod leaves;
 mod notes;
 mod numbers;
 mod places;
 mod regions;
+mod request_traces;
 mod requests;
 mod text;
 mod traces;
 mod walks;
 
 pub use accesses::{AccessLine, RuleLine};
-pub use buffers::{BufferLine, LeafLine, buffer_of};
+pub use buffers::{BufferLine, buffer_of};
+pub use changes::Changes;
 pub use frames::{FrameChanges, Recount, frame_page};
-pub use leaves::{LeafChange, LeafWord};
+pub use leaves::{LeafChange, LeafLine};
 pub use notes::image_note;
 pub use numbers::{Hex, Letters};
 pub use places::{HartPlace, scheme_name};
 pub use regions::{RegionLine, rights_text};
+pub use request_traces::RequestTrace;
 pub use text::put_trace;
 pub use traces::{LineTrace, trace_line};
 pub use walks::WalkLine;

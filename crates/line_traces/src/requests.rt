@@ -1,6 +1,7 @@
 // What a line of a script asks of a hart: which hart it names (`hart_of`), and which access it makes or which page it fills
 // (`Request`).
 
+use hart_machine::Machine;
 use process_model::{Command, Step};
 use sv39_entry::{Access, Mode, Scheme, Va};
 
@@ -16,6 +17,8 @@ pub struct Request {
     pub width: u64,
     /// The entry of the buffer that serves the access; `None` for a walk.
     pub via: Option<usize>,
+    /// Whether the line serves this access, which faulted.
+    pub serves: bool,
 }
 
 /// Returns the hart that a line names, if it names one.
@@ -57,11 +60,34 @@ fn hart_of_step(step: &Step<'_>) -> Option<usize> {
 }
 
 /// Whether a line serves the fault of a hart's process.
-pub fn serves(command: &Command) -> bool {
+fn serves(command: &Command) -> bool {
     matches!(
         command,
         Command::Fix { .. } | Command::One(Step::Serve { .. })
     )
+}
+
+/// Returns the access that faulted, of the process on the hart that a line names, if there is one.
+fn faulted(machine: &Machine, command: &Command) -> Option<Request> {
+    let hart = hart_of(command)?;
+    let pending = machine.pending(machine.slot(hart)?)?;
+    Some(Request {
+        hart,
+        access: Some(pending.access),
+        mode: Mode::User,
+        va: pending.va,
+        width: pending.width,
+        via: None,
+        serves: true,
+    })
+}
+
+/// Returns the request of a line: its access, its fill or, if it serves a fault, the access that faulted.
+pub fn request_of(machine: &Machine, command: &Command) -> Option<Request> {
+    if serves(command) {
+        return faulted(machine, command);
+    }
+    made_by(machine.scheme(), command)
 }
 
 /// Returns the access of a user that a line makes.
@@ -79,11 +105,12 @@ fn user_access(
         va: Va(address),
         width,
         via,
+        serves: false,
     }
 }
 
 /// Returns the access or the fill of a line, if it makes one, on a machine of this scheme.
-pub fn request_of(scheme: Scheme, command: &Command) -> Option<Request> {
+fn made_by(scheme: Scheme, command: &Command) -> Option<Request> {
     let Command::One(step) = command else {
         return None;
     };
@@ -111,6 +138,7 @@ pub fn request_of(scheme: Scheme, command: &Command) -> Option<Request> {
             va: Va(scheme.trampoline().0.wrapping_add(offset)),
             width: 4,
             via,
+            serves: false,
         }),
         Step::Fill { hart, address } => Some(Request {
             hart,
@@ -119,6 +147,7 @@ pub fn request_of(scheme: Scheme, command: &Command) -> Option<Request> {
             va: Va(address),
             width: 0,
             via: None,
+            serves: false,
         }),
         _ => None,
     }

@@ -1,9 +1,11 @@
 // `put_trace`: what happens on a line as text.
 
 use crate::buffers::BufferLine;
+use crate::changes::Changes;
 use crate::frames::{FrameChanges, Recount};
 use crate::leaves::LeafChange;
 use crate::numbers::Hex;
+use crate::request_traces::RequestTrace;
 use crate::traces::LineTrace;
 use std::alloc::AllocError;
 use std::fmt;
@@ -85,31 +87,46 @@ fn put_head(out: &mut String, trace: &LineTrace) -> Result<(), AllocError> {
     }
 }
 
-/// Puts what is seen of the access of a line.
-fn put_access(out: &mut String, trace: &LineTrace) -> Result<(), AllocError> {
-    if let Some(access) = trace.access {
+/// Puts what is seen of the access or the fill of a line.
+fn put_request(out: &mut String, request: &RequestTrace) -> Result<(), AllocError> {
+    if let Some(access) = request.access {
         writeln!(out, "        {access}")?;
     }
-    if trace.serves && !trace.walk.is_empty() {
+    if request.serves && !request.walk.is_empty() {
         writeln!(out, "        the walk of that access, once it is served:")?;
     }
-    if let Some(entry) = trace.entry {
+    if let Some(entry) = request.entry {
         writeln!(out, "        uses {entry}")?;
     }
-    for word in trace.walk.as_slice() {
+    for word in request.walk.as_slice() {
         writeln!(out, "        {word}")?;
     }
-    if let Some(reason) = trace.reason {
+    if let Some(reason) = request.reason {
         writeln!(out, "        {reason}")?;
     }
-    if let Some(note) = &trace.note {
-        let note = note.as_str();
-        writeln!(out, "        {note}")?;
-    }
-    if trace.serves && trace.frames.is_none() {
-        writeln!(out, "        frames taken: none")?;
-    }
     Ok(())
+}
+
+/// Puts what is other after a line; `serves` says that the line served an access.
+fn put_changes(
+    out: &mut String,
+    changes: &Changes,
+    hart: usize,
+    serves: bool,
+) -> Result<(), AllocError> {
+    match &changes.frames {
+        Some(frames) => put_frames(out, frames)?,
+        None if serves => writeln!(out, "        frames taken: none")?,
+        None => {}
+    }
+    put_leaves(out, changes.leaves.as_slice())?;
+    if let Some(after) = changes.after {
+        writeln!(out, "        then {after}")?;
+    }
+    match &changes.buffer {
+        Some(buffer) => put_buffer(out, hart, buffer.as_slice()),
+        None => Ok(()),
+    }
 }
 
 /// Puts what happens on a line: the line with its answer and, indented below it, what is seen before it, of its access, and what
@@ -122,18 +139,17 @@ pub fn put_trace(out: &mut String, trace: &LineTrace) -> Result<(), AllocError> 
     if let Some(before) = trace.before {
         writeln!(out, "        {before}")?;
     }
-    put_access(out, trace)?;
-    if let Some(frames) = &trace.frames {
-        put_frames(out, frames)?;
+    if let Some(request) = &trace.request {
+        put_request(out, request)?;
     }
-    if let Some(leaves) = &trace.leaves {
-        put_leaves(out, leaves.as_slice())?;
+    if let Some(note) = &trace.note {
+        let note = note.as_str();
+        writeln!(out, "        {note}")?;
     }
-    if let Some(after) = trace.after {
-        writeln!(out, "        then {after}")?;
-    }
-    if let (Some(before), Some(buffer)) = (trace.before, &trace.buffer) {
-        put_buffer(out, before.hart, buffer.as_slice())?;
+    if let Some(changes) = &trace.changes {
+        let hart = trace.before.map_or(0, |before| before.hart);
+        let serves = trace.request.as_ref().is_some_and(|request| request.serves);
+        put_changes(out, changes, hart, serves)?;
     }
     Ok(())
 }
