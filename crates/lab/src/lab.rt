@@ -3,6 +3,7 @@
 ghost use Rattle.std.specs.Prelude.{◌≤◌};
 
 use crate::check::{BareLines, CheckLines, Tally};
+use crate::draw::DrawLines;
 use crate::fault::Fault;
 use crate::play::{Listener, each_line};
 use crate::repl::ReplLines;
@@ -61,7 +62,7 @@ impl<F: Files, I: Read + Drop> Host<'_, F, I> {
             Task::Bare => self.play(screen, file, &mut BareLines { alloc }),
             Task::Show => self.play(screen, file, &mut ShowLines { alloc, file }),
             Task::Trace(json) => self.play(screen, file, &mut TraceLines { alloc, file, json }),
-            Task::Check | Task::Repl => {
+            Task::Check | Task::Draw(_) | Task::Repl => {
                 let mut listener = ReplLines::new(alloc, screen)?;
                 self.play(screen, "-", &mut listener)
             }
@@ -97,11 +98,41 @@ impl<F: Files, I: Read + Drop> Host<'_, F, I> {
         Ok(())
     }
 
+    /// Writes what was drawn to a file, or to standard output for `-`.
+    fn write<S: Screen>(&self, screen: &mut S, out: &str, text: &str) -> Result<(), Fault> {
+        if out == "-" {
+            return screen.out(text);
+        }
+        match fs::write(self.files, out, text.as_bytes()) {
+            Ok(()) => Ok(()),
+            Err(error) => Err(Fault::File(String::from_str(self.alloc, out)?, error)),
+        }
+    }
+
+    /// Draws the machine of a script, and writes what was drawn if the script is played to its end.
+    fn draw<S: Screen>(
+        &mut self,
+        screen: &mut S,
+        steps: bool,
+        file: &str,
+        out: &str,
+    ) -> Result<(), Fault> {
+        let mut drawn = DrawLines::new(self.alloc, file, steps)?;
+        self.play(screen, file, &mut drawn)?;
+        self.write(screen, out, drawn.text.as_str())
+    }
+
     /// Does what a command line says.
     fn do_all<S: Screen>(&mut self, screen: &mut S, words: &Words) -> Result<(), Fault> {
         match words.task {
             Task::Check => self.check(screen, words.files.as_slice()),
             Task::Repl => self.do_one(screen, Task::Repl, "-"),
+            Task::Draw(steps) => {
+                for file in words.files.as_slice() {
+                    self.draw(screen, steps, file.as_str(), words.out.as_str())?;
+                }
+                Ok(())
+            }
             task => {
                 for file in words.files.as_slice() {
                     self.do_one(screen, task, file.as_str())?;

@@ -1,9 +1,10 @@
 //! The words of the program `xv6lab`, which plays scripts of `xv6vm` for people: `run` prints the answers beside the lines, `check`
-//! compares them with those that the lines expect, `trace` tells what happens on each line, `show` answers questions about the
-//! machine between lines, and `repl` takes lines one by one. `do_words` does what a command line says; text goes to a `Screen`.
+//! compares them with those that the lines expect, `trace` tells what happens on each line, `draw` draws the machine, `show`
+//! answers questions about it between lines, and `repl` takes lines one by one. `do_words` does what a command line says; text goes to a `Screen`.
 #![tactic(auto)]
 
 mod check;
+mod draw;
 mod expected;
 mod fault;
 mod lab;

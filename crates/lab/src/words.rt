@@ -15,6 +15,8 @@ pub enum Task {
     Bare,
     /// Plays a script and prints what happens on each line; as one JSON object a line, if so.
     Trace(bool),
+    /// Draws the machine after the last line of a script; after each line, in a page to step through, if so.
+    Draw(bool),
     /// Plays a script, some of whose lines may ask for a look at the machine.
     Show,
     /// Plays the lines of standard input one by one.
@@ -27,6 +29,8 @@ pub struct Words {
     pub task: Task,
     /// The paths of the scripts, `-` for standard input; none for `Repl`.
     pub files: Vec<String>,
+    /// The path of the file to which `Draw` writes, `-` for standard output; empty otherwise.
+    pub out: String,
 }
 
 /// Returns the argument FILE of a word that takes one script.
@@ -66,6 +70,26 @@ fn trace<'a>(alloc: Global) -> Result<Command<'a>, AllocError> {
         .arg(json)
 }
 
+/// Returns the word `draw`.
+fn draw<'a>(alloc: Global) -> Result<Command<'a>, AllocError> {
+    let out = Arg::new(alloc, "OUT")
+        .short('o')
+        .long("out")
+        .required(true)
+        .action(ArgAction::Set)
+        .value_name("OUT")
+        .help("The file to write; - is standard output");
+    let steps = Arg::new(alloc, "steps")
+        .long("steps")
+        .action(ArgAction::SetTrue)
+        .help("Write a page (HTML) to step from line to line, in place of a picture (SVG)");
+    Command::new(alloc, "draw")
+        .about("Draw the machine after the last line: regions, pages, tables, frames, buffers")
+        .arg(file(alloc))?
+        .arg(out)?
+        .arg(steps)
+}
+
 /// Returns the form of the command line.
 fn command<'a>(alloc: Global) -> Result<Command<'a>, AllocError> {
     let run = Command::new(alloc, "run")
@@ -85,6 +109,7 @@ fn command<'a>(alloc: Global) -> Result<Command<'a>, AllocError> {
         .subcommand(run)?
         .subcommand(check(alloc)?)?
         .subcommand(trace(alloc)?)?
+        .subcommand(draw(alloc)?)?
         .subcommand(show)?
         .subcommand(repl)
 }
@@ -96,6 +121,7 @@ fn task_of(name: &str, given: &ArgMatches<'_>) -> Task {
         "check" if given.get_flag("bare") => Task::Bare,
         "check" => Task::Check,
         "trace" => Task::Trace(given.get_flag("json")),
+        "draw" => Task::Draw(given.get_flag("steps")),
         "show" => Task::Show,
         _ => Task::Repl,
     }
@@ -113,15 +139,24 @@ impl Words {
             return Ok(Words {
                 task: Task::Repl,
                 files,
+                out: String::new(alloc),
             });
         };
         let task = task_of(name, given);
+        let out = match task {
+            Task::Draw(_) => given.get_str("OUT").unwrap_or("-"),
+            _ => "",
+        };
         if let Some(given) = given.get_strs("FILE") {
             for file in given {
                 let file = String::from_str(alloc, file)?;
                 files.push(file).map_err(AllocError::from)?;
             }
         }
-        Ok(Words { task, files })
+        Ok(Words {
+            task,
+            files,
+            out: String::from_str(alloc, out)?,
+        })
     }
 }

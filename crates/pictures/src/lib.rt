@@ -1,0 +1,17 @@
+//! Pictures of a machine: its harts with their buffers (TLBs), its processes with their regions, pages and page tables, and its frames;
+//! as SVG (`put_picture`), and a page of HTML in which a reader steps from line to line of a script (`put_page_start`, `put_step`,
+//! `put_page_end`).
+#![tactic(auto)]
+
+mod cells;
+mod escape;
+mod frames;
+mod harts;
+mod legend;
+mod page;
+mod picture;
+mod processes;
+mod uses;
+
+pub use page::{put_page_end, put_page_start, put_step};
+pub use picture::put_picture;
