@@ -1,15 +1,15 @@
 -- How a line is taken apart that expects an answer, as `LINE => ANSWER`.
-use Rattle.std.specs.Prelude.{◌≡◌, ◌+◌, ℕ, List, [], ◌∷◌, Some, None, take, drop}
+use Rattle.std.specs.Prelude.{◌≡◌, ◌+◌, ◌++◌, ℕ, List, Some, None, codes, take, drop}
 use Rattle.std.specs.Str.{IsTrimAsciiStart, IsTrimAsciiEnd, IsTrimAscii}
 use Rattle.memchr.specs.Find.{FindsNeedle}
 
 -- `=>`
 abbrev pub arrow : List ℕ
-arrow = 61 ∷ 62 ∷ []
+arrow = codes "=>"
 
 -- the first byte of the line that is no blank is `#`
 abbrev pub IsComment : List ℕ → Type 0
-IsComment line = (rest : List ℕ) × IsTrimAsciiStart line (35 ∷ rest)
+IsComment line = (rest : List ℕ) × IsTrimAsciiStart line (codes "#" ++ rest)
 
 -- the line expects no answer, since it is a comment or has no `=>`, and the bare line is the whole
 pub record IsWhole (line bare : List ℕ) : Type 0 where

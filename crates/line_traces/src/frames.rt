@@ -1,5 +1,8 @@
 // `FrameChanges`: which frames a line took and gave back, and of which it changed the references.
 
+ghost use Rattle.std.specs.Prelude.{◌≡◌, ◌↔◌, ◌<◌, ◌^◌, IfSome, IsSome};
+ghost use Rattle.sv39_entry.specs.Frame.{ppn_of};
+
 use crate::numbers::Hex;
 use process_model::Report;
 use serde::Serialize;
@@ -32,7 +35,10 @@ pub struct FrameChanges {
 }
 
 /// Returns the physical page number of a frame by its number, `None` past the last that there may be.
-pub fn frame_page(number: usize) -> Option<Hex> {
+pub fn frame_page(number: usize) -> Option<Hex>
+    ensures there { IsSome result ↔ number < 2 ^ 16 }
+    ensures page { IfSome result (λ page. page.0 ≡ ppn_of number) }
+{
     match u16::try_from(number) {
         Ok(number) => Some(Hex(FrameNo(number).ppn())),
         Err(_) => None,

@@ -31,7 +31,7 @@ pub struct HartPlace {
 }
 
 /// Returns the name of a scheme, as `boot` has it.
-pub fn scheme_name(scheme: Scheme) -> &'static str {
+fn scheme_name(scheme: Scheme) -> &'static str {
     match scheme {
         Scheme::Sv39 => "sv39",
         Scheme::Sv48 => "sv48",

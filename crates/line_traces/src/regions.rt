@@ -36,7 +36,7 @@ fn kind_name(kind: RegionKind) -> &'static str {
 }
 
 /// Returns rights by letters, as `r-x`.
-pub fn rights_text(rights: Rights) -> &'static str {
+fn rights_text(rights: Rights) -> &'static str {
     let reads = rights.contains(Rights::READ);
     let writes = rights.contains(Rights::WRITE);
     let executes = rights.contains(Rights::EXECUTE);

@@ -2,7 +2,7 @@
 
 ghost use Rattle.std.specs.Prelude.{◌≡◌, IfOk, OnErr};
 ghost use Rattle.hart_machine.specs.BufferEntries.{IsInWorld};
-ghost use Rattle.line_player.specs.Answers.{HasPlayed};
+ghost use Rattle.line_player.specs.Answers.{Answers, HasPlayed};
 ghost use Rattle.line_player.specs.PlayedLines.{next_answer, Played};
 ghost use Rattle.process_model.specs.World.{World};
 
@@ -181,6 +181,8 @@ pub fn trace_line(
     requires played { (s : Played) × HasPlayed player.old s }
     ensures played { IfOk result (λ _. (s : Played) → HasPlayed player.old s → HasPlayed player.new (next_answer s line.now).after) }
     ensures plays { IfOk result (λ _. (s : Played) × HasPlayed player.new s) }
+    ensures answered { IfOk result (λ trace. (s : Played) → HasPlayed player.old s → Answers player.new trace.reply (next_answer s line.now)) }
+    ensures number { IfOk result (λ trace. trace.line ≡ number) }
 {
     let before = look_before(alloc, player, line)?;
     let reply = player.line(line)?;

@@ -1,6 +1,11 @@
 // `WalkLine`: a word that a page table walk read, with the number of references to the frame of a leaf; and `walk_of`, those of the
 // walk of an address.
 
+ghost use Rattle.std.specs.Prelude.{◌≡◌, ◌≢◌, ℕ, None, Some, option_and_then, slice_get};
+ghost use Rattle.sv39_entry.specs.Frame.{frame_at};
+ghost use Rattle.sv39_entry.specs.Word.{kind_of, ppn};
+ghost use Rattle.sv39_entry.specs.declared.entry.Kind.TheVariants as kind;
+
 use crate::numbers::{Hex, Letters};
 use serde::{Described, Serialize, Serializer};
 use std::alloc::{AllocError, Global};
@@ -92,7 +97,10 @@ impl fmt::Display for WalkLine {
 }
 
 /// Returns how many references the frame of a leaf has; `None` if the word is no leaf, or its page is outside the memory.
-pub fn reference_count(counts: &[u16], word: Option<u64>) -> Option<u16> {
+pub fn reference_count(counts: &[u16], word: Option<u64>) -> Option<u16>
+    ensures leaf { (w : ℕ) → word ≡ Some w → kind_of w ≡ kind.Leaf → result ≡ option_and_then (λ frame. slice_get counts.now frame.0) (frame_at (ppn w)) }
+    ensures other { (w : ℕ) → word ≡ Some w → kind_of w ≢ kind.Leaf → result ≡ None }
+{
     let entry = Entry::from_word(word?);
     match entry.kind() {
         Kind::Leaf => {

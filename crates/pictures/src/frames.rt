@@ -18,7 +18,7 @@ const MOST_CELLS: usize = 512;
 
 /// How a frame looks.
 #[derive(Clone, Copy, PartialEq, Eq)]
-enum Look {
+enum Class {
     Free,
     /// It has two or more references.
     Shared,
@@ -54,14 +54,14 @@ impl Frame {
         })
     }
 
-    fn look(self) -> Look {
+    fn class(self) -> Class {
         match self.of_process {
-            _ if self.count == 0 => Look::Free,
-            _ if self.count > 1 => Look::Shared,
-            None => Look::Kernel,
+            _ if self.count == 0 => Class::Free,
+            _ if self.count > 1 => Class::Shared,
+            None => Class::Kernel,
             Some(it) => match it.holds {
-                Holds::Root | Holds::Table(_) => Look::Table,
-                Holds::Page(_) => Look::Page(it.slot),
+                Holds::Root | Holds::Table(_) => Class::Table,
+                Holds::Page(_) => Class::Page(it.slot),
             },
         }
     }
@@ -93,14 +93,14 @@ impl fmt::Display for Frame {
 
 /// Returns how many frames from this one on have one cell together.
 fn run_of(machine: &Machine, uses: &[Option<FrameUse>], frame: Frame) -> usize {
-    let look = frame.look();
-    if !matches!(look, Look::Free | Look::Page(_)) {
+    let class = frame.class();
+    if !matches!(class, Class::Free | Class::Page(_)) {
         return 1;
     }
     let mut run = 0usize;
     for number in frame.number..machine.counts().len() {
         match Frame::at(machine, uses, number) {
-            Some(other) if other.look() == look => run = run.saturating_add(1),
+            Some(other) if other.class() == class => run = run.saturating_add(1),
             _ => break,
         }
     }
@@ -110,12 +110,12 @@ fn run_of(machine: &Machine, uses: &[Option<FrameUse>], frame: Frame) -> usize {
 /// Puts the cell of one frame.
 fn put_frame(out: &mut String, grid: Grid, frame: Frame) -> Result<Grid, AllocError> {
     let alloc = *out.allocator();
-    let class = match frame.look() {
-        Look::Free => "free",
-        Look::Shared => "shared",
-        Look::Kernel => "kernel",
-        Look::Table => "table",
-        Look::Page(_) => "page",
+    let name = match frame.class() {
+        Class::Free => "free",
+        Class::Shared => "shared",
+        Class::Kernel => "kernel",
+        Class::Table => "table",
+        Class::Page(_) => "page",
     };
     let (page, count) = (frame.page, frame.count);
     let key = format!(in alloc; "f{page}")?;
@@ -128,7 +128,7 @@ fn put_frame(out: &mut String, grid: Grid, frame: Frame) -> Result<Grid, AllocEr
     put_cell(
         out,
         grid,
-        class,
+        name,
         key.as_str(),
         first.as_str(),
         second.as_str(),
@@ -141,8 +141,8 @@ fn put_run(out: &mut String, grid: Grid, frame: Frame, run: usize) -> Result<Gri
     let page = frame.page;
     let key = format!(in alloc; "f{page}")?;
     let first = format!(in alloc; "{page} ..")?;
-    match frame.look() {
-        Look::Page(slot) => {
+    match frame.class() {
+        Class::Page(slot) => {
             let second = format!(in alloc; "{slot}: {run} pages")?;
             put_cell(
                 out,

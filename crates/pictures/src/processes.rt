@@ -7,10 +7,10 @@ use crate::cells::{Grid, SPACE, put_cell, put_label, put_row};
 use crate::uses::entries_of;
 use address_space::{Region, RegionKind};
 use hart_machine::Machine;
-use line_traces::{Hex, RegionLine};
+use line_traces::{Hex, RegionLine, reference_count};
 use std::alloc::{AllocError, Global};
 use std::fmt;
-use sv39_entry::{Entry, EntryFlags, FrameNo, Kind};
+use sv39_entry::{Entry, EntryFlags, Kind};
 use walk_lines::TableEntry;
 
 /// The most pages of a region that are put.
@@ -42,17 +42,6 @@ impl fmt::Display for Marks {
     }
 }
 
-/// Returns how many references the frame of a leaf has, 0 if it is outside the memory.
-fn references(machine: &Machine, entry: Entry) -> u16 {
-    match FrameNo::from_ppn(entry.ppn()) {
-        Some(frame) => match machine.counts().get(frame.0 as usize) {
-            Some(count) => *count,
-            None => 0,
-        },
-        None => 0,
-    }
-}
-
 /// Puts the cell of a page of a region, or of none.
 fn put_page(
     out: &mut String,
@@ -71,7 +60,7 @@ fn put_page(
     let marks = Marks {
         copy_on_write: entry.has(EntryFlags::COPY_ON_WRITE),
         stored: kind == Some(RegionKind::SharedMapping) && entry.has(EntryFlags::DIRTY),
-        references: references(machine, entry),
+        references: reference_count(machine.counts(), Some(leaf.word)).unwrap_or(0),
     };
     let class = match kind {
         Some(RegionKind::Guard) => "guard",
