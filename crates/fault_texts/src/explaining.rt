@@ -11,7 +11,7 @@ ghost use Rattle.fault_texts.specs.Causes.{AfterWord};
 ghost use Rattle.fault_texts.specs.Mistakes.{IsOfLine};
 ghost use Rattle.fault_texts.specs.Refused.{after_word};
 
-use crate::field_count::wrong_count;
+use crate::counted::wrong_count;
 use crate::field_forms::refused_field;
 use crate::limit_texts::{no_room, outside_limits};
 use crate::mistake::Mistake;

@@ -2,8 +2,8 @@
 //! cause; `explain_end` and `explain_length`, for a script as a whole. And which check a program image fails: `explain_image`.
 #![tactic(auto)]
 
+mod counted;
 mod explaining;
-mod field_count;
 mod field_forms;
 mod image_texts;
 mod limit_texts;
@@ -13,7 +13,10 @@ mod places;
 mod quoting;
 mod segment_forms;
 
+pub use counted::field_names;
 pub use explaining::{explain, explain_end, explain_length, find_mistake};
-pub use field_count::field_names;
+pub use field_forms::wrong_number;
 pub use image_texts::explain_image;
 pub use mistake::Mistake;
+pub use places::{Place, field_at, field_count};
+pub use quoting::quoted;

@@ -13,7 +13,7 @@ impl Mistake {
     ghost use Rattle.std.specs.Prelude.{◌≡◌, None, Some};
 
     /// Returns the mistake of a field, or a byte, at this column.
-    pub(crate) fn at(column: usize, text: String) -> Mistake
+    pub fn at(column: usize, text: String) -> Mistake
         ensures { result.column ≡ Some column }
     {
         Mistake {
@@ -23,7 +23,7 @@ impl Mistake {
     }
 
     /// Returns the mistake of a line as a whole.
-    pub(crate) fn of_line(text: String) -> Mistake
+    pub fn of_line(text: String) -> Mistake
         ensures { result.column ≡ None }
     {
         Mistake { column: None, text }

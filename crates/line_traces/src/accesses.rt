@@ -1,13 +1,13 @@
 // `AccessLine`: a user access with the region that grants it or the rule that denies it; and `reason`, why an access faults that a
 // region grants.
 
-use crate::numbers::Hex;
 use crate::regions::RegionLine;
 use crate::walks::WalkLine;
 use hart_machine::Machine;
 use serde::Serialize;
 use std::fmt;
 use sv39_entry::{Access, Entry, EntryFlags, Kind, Rule, Va};
+use walk_lines::Hex;
 
 /// A rule that denies an access.
 #[derive(Clone, Copy, PartialEq, Eq, Debug, Serialize)]

@@ -3,14 +3,14 @@
 ghost use Rattle.hart_machine.specs.BufferEntries.{IsInWorld};
 ghost use Rattle.process_model.specs.World.{World};
 
-use crate::buffers::{BufferLine, buffer_of};
+use crate::buffers::buffer_of;
 use crate::frames::{FrameChanges, changed_frames};
 use crate::leaves::{LeafChange, changed_leaves, leaves_of};
 use crate::places::HartPlace;
 use hart_machine::Machine;
 use serde::Serialize;
 use std::alloc::{AllocError, Global};
-use walk_lines::TableEntry;
+use walk_lines::{BufferLine, TableEntry};
 
 /// What is seen of a machine, and of a hart, before a line.
 #[derive(Drop)]

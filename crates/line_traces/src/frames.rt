@@ -3,12 +3,12 @@
 ghost use Rattle.std.specs.Prelude.{◌≡◌, ◌↔◌, ◌<◌, ◌^◌, IfSome, IsSome};
 ghost use Rattle.sv39_entry.specs.Frame.{ppn_of};
 
-use crate::numbers::Hex;
 use process_model::Report;
 use serde::Serialize;
 use std::alloc::{AllocError, Global};
 use std::fmt;
 use sv39_entry::FrameNo;
+use walk_lines::Hex;
 
 /// A frame whose number of references is another after a line.
 #[derive(Clone, Copy, PartialEq, Eq, Debug, Serialize)]

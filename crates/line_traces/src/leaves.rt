@@ -1,28 +1,16 @@
-// `LeafLine`: a leaf; `LeafChange`: a leaf that a line changed; `leaves_of`, the leaves of a process; and `changed_leaves`, those that
+// `LeafChange`: a leaf that a line changed; `leaves_of`, the leaves of a process; and `changed_leaves`, those that
 // differ.
 
 ghost use Rattle.hart_machine.specs.BufferEntries.{IsInWorld};
 ghost use Rattle.process_model.specs.World.{World};
 
-use crate::numbers::{Hex, Letters};
 use hart_machine::Machine;
 use serde::Serialize;
 use std::alloc::{AllocError, Global};
 use std::fmt;
 use sv39_entry::{Entry, Kind};
 use table_walk::PlainWords;
-use walk_lines::{TableEntry, table_entries};
-
-/// A leaf, by its flags and the page to which it leads.
-#[derive(Clone, Copy, PartialEq, Eq, Debug, Serialize)]
-pub struct LeafLine {
-    /// Its level: 0 for a page of 4,096 bytes, 1 to 3 for superpages.
-    pub level: u32,
-    pub word: Hex,
-    pub flags: Letters,
-    /// The physical page number in it.
-    pub ppn: Hex,
-}
+use walk_lines::{Hex, LeafLine, TableEntry, table_entries};
 
 /// A leaf that a line changed: what it was and what it is; none if there was none, or is none.
 #[derive(Clone, Copy, PartialEq, Eq, Debug, Serialize)]
@@ -31,18 +19,6 @@ pub struct LeafChange {
     pub address: Hex,
     pub before: Option<LeafLine>,
     pub after: Option<LeafLine>,
-}
-
-impl LeafLine {
-    /// Returns the leaf of a level and a word, as it is shown.
-    pub fn of(level: u32, word: u64) -> LeafLine {
-        LeafLine {
-            level,
-            word: Hex(word),
-            flags: Letters(word),
-            ppn: Hex(Entry::from_word(word).ppn()),
-        }
-    }
 }
 
 /// Returns the leaves of the page tables of the process in a slot, in the order of their addresses; none if the slot has no process.

@@ -4,12 +4,12 @@ ghost use Rattle.std.specs.Prelude.{◌≡◌};
 ghost use Rattle.hart_machine.specs.BufferEntries.{IsInWorld};
 ghost use Rattle.process_model.specs.World.{World};
 
-use crate::numbers::Hex;
 use hart_machine::Machine;
 use process_model::phase_name;
 use serde::Serialize;
 use std::fmt;
 use sv39_entry::Scheme;
+use walk_lines::Hex;
 
 /// Where a hart is, and what its satp names.
 #[derive(Clone, Copy, PartialEq, Eq, Debug, Serialize)]

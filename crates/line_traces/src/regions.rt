@@ -1,11 +1,11 @@
 // `RegionLine`: a region of a process, as text and as JSON.
 
-use crate::numbers::Hex;
 use address_space::{Region, RegionKind, Source};
 use bitflags::Flags;
 use serde::Serialize;
 use std::fmt;
 use sv39_entry::{PAGE_SIZE, Rights};
+use walk_lines::Hex;
 
 /// A region of a process.
 #[derive(Clone, Copy, PartialEq, Eq, Debug, Serialize)]

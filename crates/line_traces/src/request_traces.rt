@@ -5,7 +5,6 @@ ghost use Rattle.hart_machine.specs.BufferEntries.{IsInWorld};
 ghost use Rattle.process_model.specs.World.{World};
 
 use crate::accesses::{AccessLine, leaf_of, reason};
-use crate::buffers::BufferLine;
 use crate::places::HartPlace;
 use crate::requests::Request;
 use crate::walks::{WalkLine, reference_count, walk_of};
@@ -13,6 +12,7 @@ use hart_machine::Machine;
 use serde::Serialize;
 use std::alloc::{AllocError, Global};
 use sv39_entry::{Mode, Va};
+use walk_lines::BufferLine;
 
 /// The access or the fill of a line.
 #[derive(Drop, Serialize)]

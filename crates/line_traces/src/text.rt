@@ -1,14 +1,13 @@
 // `put_trace`: what happens on a line as text.
 
-use crate::buffers::BufferLine;
 use crate::changes::Changes;
 use crate::frames::{FrameChanges, Recount};
 use crate::leaves::LeafChange;
-use crate::numbers::Hex;
 use crate::request_traces::RequestTrace;
 use crate::traces::LineTrace;
 use std::alloc::AllocError;
 use std::fmt;
+use walk_lines::{BufferLine, Hex};
 
 /// The most frames that one line of a trace lists.
 const MOST_LISTED: usize = 16;

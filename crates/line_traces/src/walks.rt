@@ -6,13 +6,12 @@ ghost use Rattle.sv39_entry.specs.Frame.{frame_at};
 ghost use Rattle.sv39_entry.specs.Word.{kind_of, ppn};
 ghost use Rattle.sv39_entry.specs.declared.entry.Kind.TheVariants as kind;
 
-use crate::numbers::{Hex, Letters};
 use serde::{Described, Serialize, Serializer};
 use std::alloc::{AllocError, Global};
 use std::fmt;
 use sv39_entry::{Entry, FrameNo, Kind, Scheme, Va};
 use table_walk::PlainWords;
-use walk_lines::{WalkEntry, walk_entries};
+use walk_lines::{Flags, Hex, WalkEntry, walk_entries};
 
 /// A word that a page table walk read.
 #[derive(Clone, Copy, PartialEq, Eq, Debug)]
@@ -32,7 +31,7 @@ struct WalkObject {
     #[serde(skip_serializing_if = "Option::is_none")]
     word: Option<Hex>,
     #[serde(skip_serializing_if = "Option::is_none")]
-    flags: Option<Letters>,
+    flags: Option<Flags>,
     kind: &'static str,
     /// The physical page number of the table or the page that the word leads to.
     #[serde(skip_serializing_if = "Option::is_none")]
@@ -65,7 +64,7 @@ impl Serialize for WalkLine {
             table: Hex(entry.table),
             index: entry.index,
             word: entry.word.map(Hex),
-            flags: entry.word.map(Letters),
+            flags: entry.word.map(Flags),
             kind,
             ppn,
             references: self.references,

@@ -6,9 +6,10 @@ ghost use Rattle.process_model.specs.World.{World};
 use crate::cells::{Grid, SPACE, put_cell, put_row};
 use crate::uses::{FrameUse, Holds, frame_uses};
 use hart_machine::Machine;
-use line_traces::{Hex, frame_page};
+use line_traces::frame_page;
 use std::alloc::AllocError;
 use std::fmt;
+use walk_lines::Hex;
 
 /// Up to this many frames, each has a cell; above it, frames in a row have one together if they are free, or pages of one process.
 const MOST_UNFOLDED: usize = 64;

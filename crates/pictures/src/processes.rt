@@ -7,11 +7,11 @@ use crate::cells::{Grid, SPACE, put_cell, put_label, put_row};
 use crate::uses::entries_of;
 use address_space::{Region, RegionKind};
 use hart_machine::Machine;
-use line_traces::{Hex, RegionLine, reference_count};
+use line_traces::{RegionLine, reference_count};
 use std::alloc::{AllocError, Global};
 use std::fmt;
 use sv39_entry::{Entry, EntryFlags, Kind};
-use walk_lines::TableEntry;
+use walk_lines::{Hex, TableEntry};
 
 /// The most pages of a region that are put.
 const MOST_PAGES: usize = 20;

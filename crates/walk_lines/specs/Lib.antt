@@ -2,3 +2,4 @@ pub mod Walks
 pub mod Listings
 pub mod Below
 pub mod Texts
+pub mod Buffers

@@ -5,6 +5,7 @@ ghost use Rattle.sv39_entry.specs.Address.{has};
 ghost use Rattle.walk_lines.specs.Texts as texts;
 
 use crate::walk::WalkEntry;
+use serde::{Described, Serialize, Serializer};
 use std::fmt;
 use sv39_entry::{Entry, Kind};
 
@@ -17,7 +18,7 @@ fn letter(word: u64, bit: u32, letter: &'static str) -> &'static str
 }
 
 /// The flags of a page table entry, printed by letters: `VRWXUGADC`, with a dash for each that is clear. C is bit 8, by which the
-/// kernel marks copy-on-write.
+/// kernel marks copy-on-write. JSON has them as this text.
 #[derive(Clone, Copy, PartialEq, Eq, Debug)]
 pub struct Flags(pub u64);
 
@@ -41,6 +42,14 @@ impl fmt::Display for Flags {
             letter(self.0, 7, "D"),
             letter(self.0, 8, "C"),
         )
+    }
+}
+
+impl Described for Flags {}
+
+impl Serialize for Flags {
+    fn serialize<S: Serializer>(&self, out: &mut S) -> Result<(), S::Error> {
+        out.collect_str(self)
     }
 }
 
